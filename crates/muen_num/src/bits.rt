@@ -1,0 +1,39 @@
+ghost use Rattle.std.specs.Prelude.{◌≡◌};
+
+/// How many bytes an access touches: 1, 2, 4 or 8 (this project's own instruction set).
+#[derive(Clone, Copy, Debug, PartialEq, Eq)]
+pub enum Size {
+    One,
+    Two,
+    Four,
+    Eight,
+}
+
+impl Size {
+    ghost use Rattle.muen_num.specs.Size.{bytes_of};
+
+    /// The number of bytes.
+    pub fn bytes(self) -> u8
+        ensures { result ≡ bytes_of self }
+    {
+        match self {
+            Size::One => 1,
+            Size::Two => 2,
+            Size::Four => 4,
+            Size::Eight => 8,
+        }
+    }
+}
+
+/// How an event reaches its target (Muen's event modes).
+#[derive(Clone, Copy, Debug, PartialEq, Eq)]
+pub enum Mode {
+    /// Deliverable at any turn of the target.
+    Asap,
+    /// Deliverable at the first tick of a minor frame, and after an exit.
+    Async,
+    /// The source raises it at itself; spelled `self` in a policy.
+    Own,
+    /// The target also becomes the active member of its scheduling group.
+    Switch,
+}

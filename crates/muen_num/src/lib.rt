@@ -1,0 +1,14 @@
+//! What every other crate stands on: names, lists that contracts see as their items, sizes of
+//! access, and texts in fixed buffers.
+#![tactic(auto)]
+
+pub mod bits;
+pub mod name;
+pub mod seq;
+pub mod tag;
+pub mod text;
+
+pub use bits::{Mode, Size};
+pub use name::Name;
+pub use seq::{NoMemory, Seq};
+pub use tag::{Part, Tag};
