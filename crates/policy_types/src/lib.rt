@@ -1,13 +1,12 @@
-// A library with one function.
+//! The source policy of a system, why a policy is refused, and the definitions that read a policy:
+//! what a document says, which windows a subject is granted, what it may touch, what memory holds
+//! at the start, and the frames of the scheduling plan.
 #![tactic(auto)]
 
-ghost use Rattle.std.specs.Prelude.{◌≡◌};
-ghost use Rattle.policy_types.specs.Echo.{echo_of};
+pub mod refusal;
+pub mod rights;
+pub mod source;
 
-// The `ensures` clause is the contract: what `echo` returns is `echo_of` of its argument, a definition
-// in `specs/Echo.antt`, which a caller's clause can cite too.
-pub fn echo(x: usize) -> usize
-    ensures { result ≡ echo_of x }
-{
-    x
-}
+pub use refusal::{Fault, Path, Refusal, Want};
+pub use rights::{Caching, MsrRights, Rights, Role};
+pub use source::Source;
