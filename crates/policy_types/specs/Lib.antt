@@ -1,0 +1,4 @@
+pub mod Document
+pub mod Keys
+pub mod Reading
+pub mod Schema
