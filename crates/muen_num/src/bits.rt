@@ -37,3 +37,28 @@ pub enum Mode {
     /// The target also becomes the active member of its scheduling group.
     Switch,
 }
+
+/// What an access of memory does (the rights of an EPT entry, Intel SDM volume 3).
+#[derive(Clone, Copy, Debug, PartialEq, Eq)]
+pub enum Kind {
+    Read,
+    Write,
+    /// An instruction is fetched.
+    Fetch,
+}
+
+impl Kind {
+    ghost use Rattle.muen_num.specs.Access.{kind_bit};
+
+    /// The bit of the right that it needs, which is also its bit in the qualification of an EPT
+    /// violation.
+    pub fn bit(self) -> u8
+        ensures { result ≡ kind_bit self }
+    {
+        match self {
+            Kind::Read => 1,
+            Kind::Write => 2,
+            Kind::Fetch => 4,
+        }
+    }
+}

@@ -8,7 +8,7 @@ pub mod seq;
 pub mod tag;
 pub mod text;
 
-pub use bits::{Mode, Size};
+pub use bits::{Kind, Mode, Size};
 pub use name::Name;
 pub use seq::{NoMemory, Seq};
 pub use tag::{Part, Tag};

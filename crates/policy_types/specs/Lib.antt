@@ -1,4 +1,9 @@
+pub mod Contents
 pub mod Document
+pub mod Events
+pub mod Frames
 pub mod Keys
 pub mod Reading
 pub mod Schema
+pub mod Thing
+pub mod Windows
