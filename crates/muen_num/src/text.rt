@@ -26,6 +26,26 @@ pub fn append_decimal(out: &mut [u8], at: usize, n: u64) -> usize
     append(out, at, buffer.format(n).as_bytes())
 }
 
+/// Writes a number below 2^32 in decimal digits, at most 10.
+pub fn append_decimal32(out: &mut [u8], at: usize, n: u32) -> usize
+    requires { at + 10 ≤ length out.old }
+    ensures end { result ≤ at + 10 }
+    ensures text { take result out.new ≡ take at out.old ++ decimal n }
+{
+    let mut buffer = Buffer::new();
+    append(out, at, buffer.format(n).as_bytes())
+}
+
+/// Writes a byte in decimal digits, at most 3.
+pub fn append_decimal8(out: &mut [u8], at: usize, n: u8) -> usize
+    requires { at + 3 ≤ length out.old }
+    ensures end { result ≤ at + 3 }
+    ensures text { take result out.new ≡ take at out.old ++ decimal n }
+{
+    let mut buffer = Buffer::new();
+    append(out, at, buffer.format(n).as_bytes())
+}
+
 /// Writes a number in sixteen hexadecimal digits, in lower case.
 pub fn append_hex16(out: &mut [u8], at: usize, n: u64) -> usize
     requires { at + 16 ≤ length out.old }

@@ -1,13 +1,8 @@
-// A library with one function.
+//! The commands of the program `muen`.
 #![tactic(auto)]
 
-ghost use Rattle.std.specs.Prelude.{◌≡◌};
-ghost use Rattle.muen_top.specs.Echo.{echo_of};
-
-// The `ensures` clause is the contract: what `echo` returns is `echo_of` of its argument, a definition
-// in `specs/Echo.antt`, which a caller's clause can cite too.
-pub fn echo(x: usize) -> usize
-    ensures { result ≡ echo_of x }
-{
-    x
-}
+pub mod guest_isa;
+pub mod record_text;
+pub mod state_page;
+mod thin;
+pub mod view_text;

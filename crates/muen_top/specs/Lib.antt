@@ -1,0 +1,9 @@
+pub mod GuestIsa
+pub mod RecordText
+pub mod Run
+pub mod Slot
+pub mod Solo
+pub mod StatePage
+pub mod System
+pub mod Thin
+pub mod ViewText

@@ -1,0 +1,69 @@
+-- The device record of a run (this project's own).
+use Rattle.std.specs.Prelude.{◌≡◌, ℕ, ◌+◌, ◌-◌, ◌*◌, ◌==◌, ◌&&◌, ◌||◌, not, Bool, nat_lt, nat_le, List, [], ◌∷◌, length, take, drop, slice_index, codes, Option, Some, None, option_and_then, Result, Ok, Err, if◌then◌else◌}
+use Rattle.std.specs.Char.{is_ascii_digit}
+use Rattle.std.specs.Str.{bytes_eq}
+use Rattle.muen_top.specs.declared.record_text.Record.{Record}
+use Rattle.muen_top.specs.declared.record_text.RecordFault.{RecordFault}
+use Rattle.muen_top.specs.declared.record_text.RecordFault.TheVariants.{NotYetBuilt}
+
+-- what a device does in a tick, in the names of the policy
+pub data Input : Type 0 where
+  -- the input byte of a device's port
+  port_input : List ℕ → ℕ → ℕ → Input
+  -- bytes written into a device's memory at an offset
+  memory_input : List ℕ → List ℕ → ℕ → List ℕ → Input
+  -- an interrupt line of a device is raised
+  irq_input : List ℕ → List ℕ → Input
+
+-- the inputs by tick, in order; the order of the CPUs in some ticks; how many ticks the run has
+pub record DeviceRecord : Type 0 where
+  pub end : ℕ
+  pub inputs : List (ℕ × Input)
+  pub orders : List (ℕ × List ℕ)
+
+-- ---- the text
+
+-- the number that digits spell, with n before them
+abbrev pub digits_from : ℕ → List ℕ → Option ℕ
+digits_from n [] = Some n
+digits_from n (c ∷ cs) = if is_ascii_digit c then digits_from (10 * n + (c - 48)) cs else None
+
+-- no digit, or a leading zero
+abbrev pub is_badly_begun : List ℕ → Bool
+is_badly_begun word = (length word == 0) || (nat_lt 1 (length word) && (slice_index word 0 == 48))
+
+-- a number in decimal digits, without leading zeros
+abbrev pub number_of : List ℕ → Option ℕ
+number_of word = if is_badly_begun word then None else digits_from 0 word
+
+abbrev pub within_ticks : ℕ → Option ℕ
+within_ticks n = if nat_le n 100000 then Some n else None
+
+-- a number of ticks, at most 100,000
+unfoldable pub ticks_of : List ℕ → Option ℕ
+ticks_of word = option_and_then within_ticks (number_of word)
+
+-- the bytes without a line feed at their end
+abbrev pub line_of : List ℕ → List ℕ
+line_of bytes =
+    if nat_lt 0 (length bytes) && (slice_index bytes (length bytes - 1) == 10) then take (length bytes - 1) bytes else bytes
+
+abbrev pub end_line : List ℕ → Option ℕ
+end_line line = if bytes_eq (take 4 line) (codes "end ") then ticks_of (drop 4 line) else None
+
+-- a record of ticks alone
+abbrev pub only_ticks : ℕ → DeviceRecord
+only_ticks n = record { end = n; inputs = []; orders = [] }
+
+abbrev pub record_from : Option ℕ → Result DeviceRecord RecordFault
+record_from None = Err (NotYetBuilt 1)
+record_from (Some n) = Ok (only_ticks n)
+
+-- the device record of a text, or why it is none: one line `end T`
+unfoldable pub record_of : List ℕ → Result DeviceRecord RecordFault
+record_of bytes = record_from (end_line (line_of bytes))
+
+-- the answer of a call that reads a record
+abbrev pub Records : Result DeviceRecord RecordFault → Result Record RecordFault → Type 0
+Records wanted (Ok r) = wanted ≡ Ok (only_ticks r.end)
+Records wanted (Err f) = wanted ≡ Err f
