@@ -1,4 +1,5 @@
 pub mod GuestIsa
+pub mod Machine
 pub mod RecordText
 pub mod Run
 pub mod Slot

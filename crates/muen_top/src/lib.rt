@@ -2,6 +2,8 @@
 #![tactic(auto)]
 
 pub mod guest_isa;
+mod machine;
+mod memory;
 pub mod record_text;
 pub mod state_page;
 mod thin;

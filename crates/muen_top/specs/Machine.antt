@@ -1,0 +1,96 @@
+-- The machine of one subject, over the list of its windows: a private part until tables are walked.
+use Rattle.std.specs.Prelude.{◌≡◌, ℕ, suc, zero, ◌+◌, ◌%◌, ◌<◌, false, List, [], ◌∷◌, ◌++◌, length, map, slice_index_or, All, Option, Some, None, option_map, option_to_list}
+use Rattle.std.specs.List.{flat_map}
+use Rattle.sha2.specs.Sha256.{sha256}
+use Rattle.muen_num.specs.declared.tag.Tag.{Tag}
+use Rattle.muen_num.specs.declared.tag.Part.TheVariants.{Whole}
+use Rattle.policy_types.specs.Windows.{Window as WindowOf, Access as AccessTo, byte, violation, window}
+use Rattle.policy_types.specs.declared.rights.Rights.{Rights}
+use Rattle.muen_top.specs.ViewText.{turn_text, region_text}
+use Rattle.muen_top.specs.Solo.{Answer, turn_over}
+use Rattle.muen_top.specs.System.{line_at}
+use Rattle.muen_top.specs.Run.{rows_text}
+use Rattle.muen_top.specs.declared.state_page.SubjectState.{SubjectState}
+use Rattle.muen_top.specs.declared.view_text.Line.{Line}
+use Rattle.muen_top.specs.declared.view_text.What.{What}
+use Rattle.muen_top.specs.declared.memory.Window.{Window}
+use Rattle.muen_top.specs.declared.memory.Holding.{Holding}
+use Rattle.muen_top.specs.declared.memory.Access.{Access}
+use Rattle.muen_top.specs.declared.memory.Access.TheVariants.{Byte, Violation}
+use Rattle.muen_top.specs.declared.machine.Turn.{Turn}
+
+-- ---- memory
+
+-- a window on a region, by the region's place in the list
+abbrev pub window_on : Window → WindowOf ℕ
+window_on w = window w.guest w.size w.rights.0 w.place
+
+abbrev pub windows_on : List Window → List (WindowOf ℕ)
+windows_on windows = map window_on windows
+
+abbrev pub access_to : Access → AccessTo ℕ
+access_to (Byte place offset) = byte place offset
+access_to (Violation found) = violation found
+
+abbrev pub nothing : Holding
+nothing = record { name = []; bytes = [] }
+
+-- the bytes of the region at a place
+abbrev pub bytes_at : List Holding → ℕ → List ℕ
+bytes_at holdings place = (slice_index_or holdings place nothing).bytes
+
+-- a window shows the whole of a region that is there, and lies in whole groups of eight bytes
+pub record WindowFits (holdings : List Holding) (w : WindowOf ℕ) : Type 0 where
+  pub place : w.thing < length holdings
+  pub size : length (bytes_at holdings w.thing) ≡ w.size
+  pub guest : w.guest % 8 ≡ 0
+  pub whole : w.size % 8 ≡ 0
+
+abbrev pub AllFit : List Holding → List (WindowOf ℕ) → Type 0
+AllFit holdings [] = Unit {0}
+AllFit holdings (w ∷ ws) = WindowFits holdings w × AllFit holdings ws
+
+-- ---- the machine
+
+pub record Machine : Type 0 where
+  pub name : List ℕ
+  pub windows : List (WindowOf ℕ)
+  pub holdings : List Holding
+  pub state : SubjectState
+
+abbrev pub answer_of : Turn → Answer ℕ
+answer_of t = record { state = t.state; what = t.what; stored = None; taken = None; raised = None }
+
+-- no event is ever pending, and there is no trap entry
+abbrev pub machine_answer : Machine → Answer ℕ
+machine_answer m = turn_over [] m.windows (bytes_at m.holdings) m.state [] [] false
+
+unfoldable pub machine_after : Machine → Machine
+machine_after m = record m { state = (machine_answer m).state }
+
+unfoldable pub machine_line : Machine → ℕ → Option Line
+machine_line m tick = option_map (line_at tick 0 m.name m.state.pc) (machine_answer m).what
+
+-- ---- a run
+
+pub record MachineRan : Type 0 where
+  pub lines : List Line
+  pub machine : Machine
+
+-- the run of the first n ticks
+abbrev pub machine_run_to : Machine → ℕ → MachineRan
+machine_run_to m zero = record { lines = []; machine = m }
+machine_run_to m (suc n) = record {
+  lines = (machine_run_to m n).lines ++ option_to_list (machine_line (machine_run_to m n).machine n);
+  machine = machine_after (machine_run_to m n).machine;
+}
+
+abbrev pub holding_text : Holding → List ℕ
+holding_text h = region_text (record { owner = h.name; part = Whole }) false (sha256 h.bytes)
+
+unfoldable pub machine_final_text : Machine → List ℕ
+machine_final_text m = rows_text m.name m.state ++ flat_map holding_text m.holdings
+
+-- the text of a run
+unfoldable pub machine_text : Machine → ℕ → List ℕ
+machine_text m n = flat_map turn_text (machine_run_to m n).lines ++ machine_final_text (machine_run_to m n).machine
