@@ -1,11 +1,18 @@
 -- The machine of one subject, over the list of its windows: a private part until tables are walked.
-use Rattle.std.specs.Prelude.{◌≡◌, ℕ, suc, zero, ◌+◌, ◌%◌, ◌<◌, false, List, [], ◌∷◌, ◌++◌, length, map, slice_index_or, All, Option, Some, None, option_map, option_to_list}
+use Rattle.std.specs.Prelude.{◌≡◌, ℕ, suc, zero, ◌+◌, ◌%◌, ◌<◌, false, List, [], ◌∷◌, ◌++◌, length, map, replicate, slice_index_or, All, Option, Some, None, option_map, option_to_list}
 use Rattle.std.specs.List.{flat_map}
 use Rattle.sha2.specs.Sha256.{sha256}
 use Rattle.muen_num.specs.declared.tag.Tag.{Tag}
 use Rattle.muen_num.specs.declared.tag.Part.TheVariants.{Whole}
 use Rattle.policy_types.specs.Windows.{Window as WindowOf, Access as AccessTo, byte, violation, window}
 use Rattle.policy_types.specs.declared.rights.Rights.{Rights}
+use Rattle.policy_types.specs.Contents.{padded}
+use Rattle.policy_types.specs.declared.source.Subject.{Subject}
+use Rattle.policy_types.specs.declared.source.Region.{Region}
+use Rattle.policy_types.specs.declared.source.Mapping.{Mapping}
+use Rattle.policy_types.specs.declared.source.Content.{Content}
+use Rattle.policy_types.specs.declared.source.Content.TheVariants.{Zero, Fill, Inline, File}
+use Rattle.muen_top.specs.StatePage.{started}
 use Rattle.muen_top.specs.ViewText.{turn_text, region_text}
 use Rattle.muen_top.specs.Solo.{Answer, turn_over}
 use Rattle.muen_top.specs.System.{line_at}
@@ -52,7 +59,7 @@ AllFit holdings (w ∷ ws) = WindowFits holdings w × AllFit holdings ws
 
 -- ---- the machine
 
-pub record Machine : Type 0 where
+pub record MachineState : Type 0 where
   pub name : List ℕ
   pub windows : List (WindowOf ℕ)
   pub holdings : List Holding
@@ -61,24 +68,40 @@ pub record Machine : Type 0 where
 abbrev pub answer_of : Turn → Answer ℕ
 answer_of t = record { state = t.state; what = t.what; stored = None; taken = None; raised = None }
 
+-- what a region holds at the start, where no file is asked for
+abbrev pub plain_bytes : ℕ → Content → List ℕ
+plain_bytes size Zero = replicate size 0
+plain_bytes size (Fill b) = replicate size b
+plain_bytes size (Inline bytes) = padded size bytes
+plain_bytes size (File name offset most) = []
+
+-- the machine of a subject with a window on a region, at the start
+unfoldable pub machine_of : Subject → Region → Mapping → MachineState
+machine_of s r m = record {
+  name = s.name;
+  windows = window m.virtual_address r.size m.rights.0 0 ∷ [];
+  holdings = record { name = r.name; bytes = plain_bytes r.size r.content } ∷ [];
+  state = started s.entry;
+}
+
 -- no event is ever pending, and there is no trap entry
-abbrev pub machine_answer : Machine → Answer ℕ
+abbrev pub machine_answer : MachineState → Answer ℕ
 machine_answer m = turn_over [] m.windows (bytes_at m.holdings) m.state [] [] false
 
-unfoldable pub machine_after : Machine → Machine
+unfoldable pub machine_after : MachineState → MachineState
 machine_after m = record m { state = (machine_answer m).state }
 
-unfoldable pub machine_line : Machine → ℕ → Option Line
+unfoldable pub machine_line : MachineState → ℕ → Option Line
 machine_line m tick = option_map (line_at tick 0 m.name m.state.pc) (machine_answer m).what
 
 -- ---- a run
 
 pub record MachineRan : Type 0 where
   pub lines : List Line
-  pub machine : Machine
+  pub machine : MachineState
 
 -- the run of the first n ticks
-abbrev pub machine_run_to : Machine → ℕ → MachineRan
+abbrev pub machine_run_to : MachineState → ℕ → MachineRan
 machine_run_to m zero = record { lines = []; machine = m }
 machine_run_to m (suc n) = record {
   lines = (machine_run_to m n).lines ++ option_to_list (machine_line (machine_run_to m n).machine n);
@@ -88,9 +111,9 @@ machine_run_to m (suc n) = record {
 abbrev pub holding_text : Holding → List ℕ
 holding_text h = region_text (record { owner = h.name; part = Whole }) false (sha256 h.bytes)
 
-unfoldable pub machine_final_text : Machine → List ℕ
+unfoldable pub machine_final_text : MachineState → List ℕ
 machine_final_text m = rows_text m.name m.state ++ flat_map holding_text m.holdings
 
 -- the text of a run
-unfoldable pub machine_text : Machine → ℕ → List ℕ
+unfoldable pub machine_text : MachineState → ℕ → List ℕ
 machine_text m n = flat_map turn_text (machine_run_to m n).lines ++ machine_final_text (machine_run_to m n).machine

@@ -1,0 +1,138 @@
+-- The run of a thin policy is the run of the machine of its subject.
+use Rattle.std.proofs.Common.{◌≡◌, ℕ, zero, suc, ◌+◌, ◌-◌, ◌%◌, ◌<◌, ◌≤◌, Bool, true, false, cond, List, [], ◌∷◌, ◌++◌, length, map, Option, Some, None, refl, sym, ap, ◌∙◌, subst, arith, length-append}
+use Rattle.std.specs.Prelude.{◌==◌, slice_get, option_map, option_and_then, option_to_list, unwrap_or}
+use Rattle.std.specs.List.{find, flat_map, cons_option}
+use Rattle.std.specs.Str.{bytes_eq}
+use Rattle.std.specs.Cmp.Lexicographic.{nat_list_eq_equiv}
+use Rattle.std.proofs.lemmas.List.{append-nil, length-map}
+use Rattle.std.proofs.lemmas.Option.{slice_get-map, slice_get-get_or}
+use Rattle.muen_num.specs.Range.{numbers_below}
+use Rattle.policy_types.specs.Thing.{Thing, region, same_thing, things_of}
+use Rattle.policy_types.specs.Windows.{Window, window, holds, windows_of}
+use Rattle.policy_types.specs.Contents.{Held, content_bytes, initial_bytes}
+use Rattle.policy_types.specs.Frames.{frames_of}
+use Rattle.policy_types.specs.declared.source.Source.{Source}
+use Rattle.policy_types.specs.declared.source.Content.{Content}
+use Rattle.policy_types.specs.declared.source.Content.TheVariants.{Zero, Fill, Inline, File}
+use Rattle.muen_top.specs.StatePage.{started}
+use Rattle.muen_top.specs.ViewText.{turn_text, region_text}
+use Rattle.muen_top.specs.RecordText.{only_ticks}
+use Rattle.muen_top.specs.Slot.{Slot, slot_at, slots_from, frame_slots}
+use Rattle.muen_top.specs.Solo.{Answer, bytes_in, own_of, solo_turn, turn_over}
+use Rattle.muen_top.specs.System.{System, Turned, Turner, start_of, inbox_of, turner_in, turned_by, turn_answered, system_turn}
+use Rattle.muen_top.specs.Run.{Ran, run_to, run_of, final_text, trace_of}
+use Rattle.muen_top.specs.Thin.{fits_in, is_region, is_thin}
+use Rattle.muen_top.specs.Machine.{MachineState, MachineRan, bytes_at, plain_bytes, machine_answer, machine_after, machine_line, machine_run_to, machine_final_text, machine_text, machine_of}
+use Rattle.muen_top.specs.declared.state_page.SubjectState.{SubjectState}
+use Rattle.muen_top.specs.declared.memory.Holding.{Holding}
+use Rattle.muen_top.specs.declared.view_text.Line.{Line}
+use Rattle.muen_top.proofs.Alone.{silent, SameBytes, turn_silent}
+use Rattle.muen_top.proofs.ThinParts.{Parts, the_mapping, the_subject, the_policy, HasParts, parts_of, both}
+
+self : (x : List ℕ) → bytes_eq x x ≡ true
+self x = nat_list_eq_equiv.refl x
+
+-- ---- the frame slot
+
+length-numbers_below : (n : ℕ) → length (numbers_below n) ≡ n
+length-numbers_below zero = refl
+length-numbers_below (suc n) =
+    omega (arith, length-append (numbers_below n) (n ∷ []), length-numbers_below n)
+
+-- a slot of the one group
+record OneSlot (o : Option Slot) : Type 0 where
+  slot : Slot
+  is : o ≡ Some slot
+  group : slot.group ≡ 0
+
+one_slot : (ks : List ℕ) (f : ℕ → Slot) (i : ℕ) → i < length ks → ((k : ℕ) → (f k).group ≡ 0) → OneSlot (slice_get (map f ks) i)
+one_slot ks f i h group =
+    let k = Rattle.std.proofs.Common.get_or ks i 0 in
+    record {
+      slot = f k;
+      is = slice_get-map f ks i ∙ ap (option_map f) (slice_get-get_or ks i 0 h);
+      group = group k;
+    }
+
+module _ (q : Parts) where
+  p : Source
+  p = the_policy q
+
+  abbrev slots : List Slot
+  slots = map (λ k. record { major = 0; group = 0; first = k == 0; left = q.ticks - k }) (numbers_below q.ticks)
+
+  slots_are : slots_from 0 0 (frames_of p) ≡ slots
+  unfolding frames_of p
+  slots_are = rw (self q.group, append-nil, append-nil) refl
+
+  length-slots : length slots ≡ q.ticks
+  length-slots =
+      let f : ℕ → Slot = λ k. record { major = 0; group = 0; first = k == 0; left = q.ticks - k } in
+      length-map (numbers_below q.ticks) f ∙ length-numbers_below q.ticks
+
+  slot_is : 1 ≤ q.ticks → (tick : ℕ) → OneSlot (slot_at (frames_of p) 0 tick)
+  unfolding slot_at
+  slot_is some tick =
+      rw slots_are (one_slot (numbers_below q.ticks) (λ k. record { major = 0; group = 0; first = k == 0; left = q.ticks - k }) (tick % length slots) (omega (arith, length-slots, length-numbers_below q.ticks)) (λ k. refl))
+
+  -- ---- the turn
+
+  windows_are : windows_of p (the_subject q) ≡ window q.guest q.region.size q.rights.0 (region q.region.name) ∷ []
+  unfolding windows_of p
+  windows_are = rw (self q.region.name) refl
+
+  -- the system while the subject's region holds these bytes
+  abbrev pub system_with : List ℕ → SubjectState → System
+  system_with bytes s = record {
+    states = (q.name, s) ∷ [];
+    things = (region q.region.name, bytes) ∷ [];
+    now = (q.name, []) ∷ [];
+    later = (q.name, []) ∷ [];
+    active = q.name ∷ [];
+  }
+
+  abbrev pub machine_with : List ℕ → SubjectState → MachineState
+  machine_with bytes s = record {
+    name = q.name;
+    windows = window q.guest q.region.size q.rights.0 0 ∷ [];
+    holdings = record { name = q.region.name; bytes = bytes } ∷ [];
+    state = s;
+  }
+
+  abbrev the_window : Window ℕ
+  the_window = window q.guest q.region.size q.rights.0 0
+
+  abbrev the_thing : ℕ → Thing
+  the_thing i = region q.region.name
+
+  same_bytes : (bytes : List ℕ) → SameBytes the_thing (bytes_at (record { name = q.region.name; bytes = bytes } ∷ [])) (bytes_in ((region q.region.name, bytes) ∷ [])) (the_window ∷ [])
+  unfolding SameBytes
+  same_bytes bytes address w e =
+      (elim (holds the_window address) as (λ b. cond b (Some the_window) None ≡ Some w → bytes_in ((region q.region.name, bytes) ∷ []) (region q.region.name) ≡ bytes_at (record { name = q.region.name; bytes = bytes } ∷ []) w.thing) [
+        | true ↦ λ e.
+          let same : the_window ≡ w = cc in
+          let i : the_window.thing ≡ w.thing = ap (λ (x : Window ℕ). x.thing) same in
+          rw (self q.region.name) (ap (bytes_at (record { name = q.region.name; bytes = bytes } ∷ [])) i)
+        | false ↦ λ e. absurd (cc)
+      ]) e
+
+  solo_is : (bytes : List ℕ) (s : SubjectState) (first : Bool) (tick : ℕ) → solo_turn (own_of p (the_subject q)) s (inbox_of p (system_with bytes s) (the_subject q) first tick) ≡ silent (machine_answer (machine_with bytes s))
+  unfolding solo_turn own_of inbox_of
+  solo_is bytes s first tick =
+      rw (windows_are, self q.region.name, self q.name) (turn_silent the_thing _ _ s (window q.guest q.region.size q.rights.0 0 ∷ []) first (same_bytes bytes))
+
+  turner_is : (bytes : List ℕ) (s : SubjectState) (slot : Slot) → slot.group ≡ 0 → turner_in p (system_with bytes s) slot ≡ Some (record { slot = slot; subject = the_subject q; state = s })
+  unfolding p
+  turner_is bytes s slot h = rw (h, self q.name, self q.name) refl
+
+  answered_is : (bytes : List ℕ) (s : SubjectState) (tick : ℕ) (a : Answer Thing) → a ≡ silent (machine_answer (machine_with bytes s)) → turn_answered p (system_with bytes s) 0 tick (the_subject q) s a ≡ record { system = system_with bytes (machine_after (machine_with bytes s)).state; line = machine_line (machine_with bytes s) tick }
+  unfolding machine_after machine_line
+  answered_is bytes s tick a e = rw (e, self q.name) refl
+
+  turn_is : 1 ≤ q.ticks → (bytes : List ℕ) (s : SubjectState) (tick : ℕ) → system_turn p (system_with bytes s) 0 tick ≡ record { system = system_with bytes (machine_after (machine_with bytes s)).state; line = machine_line (machine_with bytes s) tick }
+  unfolding system_turn
+  turn_is some bytes s tick =
+      let o = slot_is some tick in
+      ap (λ x. turned_by p (system_with bytes s) 0 tick (option_and_then (turner_in p (system_with bytes s)) x)) o.is
+      ∙ ap (turned_by p (system_with bytes s) 0 tick) (turner_is bytes s o.slot o.group)
+      ∙ answered_is bytes s tick _ (solo_is bytes s o.slot.first tick)
