@@ -52,8 +52,8 @@ module _ {A B : Type 0} (g : A → B) (from : A → List ℕ) (to : B → List �
   fetched_by s address kind (Some w) h =
       elim (allows w.rights kind) as (λ b. fetched [] to s (cond b (byte (g w.thing) (address - w.guest)) (violation w.rights)) ≡ silent (fetched [] from s (cond b (byte w.thing (address - w.guest)) (violation w.rights)))) [
         | true ↦
-          ap (λ bs. executed {X = B} [] s (decode_of (take 8 (drop (address - w.guest) bs)))) (h w refl)
-          ∙ executed_silent s (decode_of (take 8 (drop (address - w.guest) (from w.thing))))
+            ap (λ bs. executed {X = B} [] s (decode_of (take 8 (drop (address - w.guest) bs)))) (h w refl)
+            ∙ executed_silent s (decode_of (take 8 (drop (address - w.guest) (from w.thing))))
         | false ↦ refl
       ]
 
@@ -90,7 +90,7 @@ module _ {A B : Type 0} (g : A → B) (from : A → List ℕ) (to : B → List �
       elim s.stopped as (λ b. cond b (idle {X = B} s) (unless_delivered s (deliverable s [] [] first) (cond s.halted (idle s) (attempted [] (map relabelled ws) to s))) ≡ silent (cond b (idle {X = A} s) (unless_delivered s (deliverable s [] [] false) (cond s.halted (idle s) (attempted [] ws from s))))) [
         | true ↦ refl
         | false ↦
-          ap (λ o. unless_delivered s o (cond s.halted (idle s) (attempted [] (map relabelled ws) to s))) (none_deliverable s first)
-          ∙ unless_silent s ws h
-          ∙ sym (ap (λ o. silent {A = A} {B = B} (unless_delivered s o (cond s.halted (idle s) (attempted [] ws from s)))) (none_deliverable s false))
+            ap (λ o. unless_delivered s o (cond s.halted (idle s) (attempted [] (map relabelled ws) to s))) (none_deliverable s first)
+            ∙ unless_silent s ws h
+            ∙ sym (ap (λ o. silent {A = A} {B = B} (unless_delivered s o (cond s.halted (idle s) (attempted [] ws from s)))) (none_deliverable s false))
       ]

@@ -23,12 +23,12 @@ found holdings address [] w fits e = absurd (cc)
 found holdings address (v ∷ vs) w fits e =
     (elim (holds v address) as (λ b. holds v address ≡ b → cond b (Some v) (find (λ w. holds w address) vs) ≡ Some w → Found holdings address w) [
       | true ↦ λ h e.
-        let same : v ≡ w = cc in
-        subst (Found holdings address) same (record {
-          fits = fits.0;
-          from = (holding v address h).0;
-          below = (holding v address h).1;
-        })
+          let same : v ≡ w = cc in
+          subst (Found holdings address) same (record {
+            fits = fits.0;
+            from = (holding v address h).0;
+            below = (holding v address h).1;
+          })
       | false ↦ λ h e. found holdings address vs w fits.1 e
     ]) refl e
 
@@ -48,9 +48,9 @@ reached_by holdings address place offset kind None h e = absurd (cc)
 reached_by holdings address place offset kind (Some w) h e =
     (elim (allows w.rights kind) as (λ b. cond b (byte w.thing (address - w.guest)) (violation w.rights) ≡ byte place offset → Reached holdings place offset) [
       | true ↦ λ e.
-        let x : w.thing ≡ place = cc in
-        let o : address - w.guest ≡ offset = cc in
-        subst (λ p. Reached holdings p offset) x (subst (Reached holdings w.thing) o (h w refl))
+          let x : w.thing ≡ place = cc in
+          let o : address - w.guest ≡ offset = cc in
+          subst (λ p. Reached holdings p offset) x (subst (Reached holdings w.thing) o (h w refl))
       | false ↦ λ e. absurd (cc)
     ]) e
 

@@ -199,7 +199,7 @@ plan_is plan subject h =
     let c = the_only m.item.cpus (λ c. is_frame_of c g.item.name) m.passes in
     let f = frames_are c.item g.item.name c.passes in
     let major : m.item ≡ record { cpus = record { cpu = 0; minor_frames = record { group = g.item.name; ticks = f.ticks } ∷ [] } ∷ [] } =
-        λ i. record { cpus = (c.is ∙ ap (λ x. x ∷ []) f.is) i } in
+    λ i. record { cpus = (c.is ∙ ap (λ x. x ∷ []) f.is) i } in
     record {
       group = g.item.name;
       ticks = f.ticks;
@@ -228,7 +228,7 @@ memory_is regions mappings h =
     let x = both _ _ m.passes in
     let y = both _ _ x.0 in
     let mapping : m.item ≡ record { region = r.item.name; virtual_address = m.item.virtual_address; rights = m.item.rights } =
-        λ i. record { region = same_text m.item.region r.item.name y.0 i; virtual_address = m.item.virtual_address; rights = m.item.rights } in
+    λ i. record { region = same_text m.item.region r.item.name y.0 i; virtual_address = m.item.virtual_address; rights = m.item.rights } in
     record {
       region = r.item;
       guest = m.item.virtual_address;

@@ -20,7 +20,7 @@ use Rattle.muen_top.specs.RecordText.{only_ticks}
 use Rattle.muen_top.specs.Slot.{Slot, slot_at, slots_from, frame_slots}
 use Rattle.muen_top.specs.Solo.{Answer, bytes_in, own_of, solo_turn, turn_over}
 use Rattle.muen_top.specs.System.{System, Turned, Turner, start_of, inbox_of, turner_in, turned_by, turn_answered, system_turn}
-use Rattle.muen_top.specs.Run.{Ran, run_to, run_of, final_text, trace_of}
+use Rattle.muen_top.specs.Run.{Ran, then_line, tick_of, after_lines, run_to, run_of, final_text, trace_of}
 use Rattle.muen_top.specs.Thin.{fits_in, is_region, is_thin}
 use Rattle.muen_top.specs.Machine.{MachineState, MachineRan, bytes_at, plain_bytes, machine_answer, machine_after, machine_line, machine_run_to, machine_final_text, machine_text, machine_of}
 use Rattle.muen_top.specs.declared.state_page.SubjectState.{SubjectState}
@@ -110,9 +110,9 @@ module _ (q : Parts) where
   same_bytes bytes address w e =
       (elim (holds the_window address) as (λ b. cond b (Some the_window) None ≡ Some w → bytes_in ((region q.region.name, bytes) ∷ []) (region q.region.name) ≡ bytes_at (record { name = q.region.name; bytes = bytes } ∷ []) w.thing) [
         | true ↦ λ e.
-          let same : the_window ≡ w = cc in
-          let i : the_window.thing ≡ w.thing = ap (λ (x : Window ℕ). x.thing) same in
-          rw (self q.region.name) (ap (bytes_at (record { name = q.region.name; bytes = bytes } ∷ [])) i)
+            let same : the_window ≡ w = cc in
+            let i : the_window.thing ≡ w.thing = ap (λ (x : Window ℕ). x.thing) same in
+            rw (self q.region.name) (ap (bytes_at (record { name = q.region.name; bytes = bytes } ∷ [])) i)
         | false ↦ λ e. absurd (cc)
       ]) e
 
@@ -136,3 +136,89 @@ module _ (q : Parts) where
       ap (λ x. turned_by p (system_with bytes s) 0 tick (option_and_then (turner_in p (system_with bytes s)) x)) o.is
       ∙ ap (turned_by p (system_with bytes s) 0 tick) (turner_is bytes s o.slot o.group)
       ∙ answered_is bytes s tick _ (solo_is bytes s o.slot.first tick)
+
+  -- ---- the run
+
+  machine_after-with : (bytes : List ℕ) (s : SubjectState) → machine_after (machine_with bytes s) ≡ machine_with bytes (machine_after (machine_with bytes s)).state
+  unfolding machine_after
+  machine_after-with bytes s = refl
+
+  machine_kept : (bytes : List ℕ) (s : SubjectState) (n : ℕ) → (machine_run_to (machine_with bytes s) n).machine ≡ machine_with bytes (machine_run_to (machine_with bytes s) n).machine.state
+  machine_kept bytes s zero = refl
+  machine_kept bytes s (suc n) =
+      let t = (machine_run_to (machine_with bytes s) n).machine.state in
+      let e : (machine_run_to (machine_with bytes s) n).machine ≡ machine_with bytes t = machine_kept bytes s n in
+      ap machine_after e ∙ machine_after-with bytes t ∙ sym (ap (λ m. machine_with bytes (machine_after m).state) e)
+
+  cons_option-none : (o : Option Line) → cons_option o [] ≡ option_to_list o
+  cons_option-none None = refl
+  cons_option-none (Some x) = refl
+
+  start_is : (files : Held) → start_of p files ≡ system_with (content_bytes files q.region.size q.region.content) (started q.entry)
+  unfolding start_of things_of initial_bytes p
+  start_is files = rw (self q.region.name) refl
+
+  -- what a tick prints and leaves
+  tick_is : 1 ≤ q.ticks → (bytes : List ℕ) (s : SubjectState) (end tick : ℕ) → tick_of p (only_ticks end) tick (system_with bytes s) ≡ record { lines = option_to_list (machine_line (machine_with bytes s) tick); system = system_with bytes (machine_after (machine_with bytes s)).state }
+  unfolding p
+  tick_is some bytes s end tick =
+      ap (λ t. then_line t.line (record { lines = []; system = t.system })) (turn_is some bytes s tick)
+      ∙ ap (λ lines. record { lines = lines; system = system_with bytes (machine_after (machine_with bytes s)).state }) (cons_option-none (machine_line (machine_with bytes s) tick))
+
+  -- the machine at the start
+  abbrev pub loaded : Held → MachineState
+  loaded files = machine_with (content_bytes files q.region.size q.region.content) (started q.entry)
+
+  abbrev ran_as : MachineRan → List ℕ → Ran
+  ran_as r bytes = record { lines = r.lines; system = system_with bytes r.machine.state }
+
+  run_is : 1 ≤ q.ticks → (files : Held) (end n : ℕ) → run_to p files (only_ticks end) n ≡ ran_as (machine_run_to (loaded files) n) (content_bytes files q.region.size q.region.content)
+  run_is some files end zero = λ i. record { lines = []; system = start_is files i }
+  run_is some files end (suc n) =
+      let bytes = content_bytes files q.region.size q.region.content in
+      let before = machine_run_to (loaded files) n in
+      let same : machine_with bytes before.machine.state ≡ before.machine = sym (machine_kept bytes (started q.entry) n) in
+      ap (λ ran. after_lines ran.lines (tick_of p (only_ticks end) n ran.system)) (run_is some files end n)
+      ∙ ap (after_lines before.lines) (tick_is some bytes before.machine.state end n)
+      ∙ ap (λ m. record { lines = before.lines ++ option_to_list (machine_line m n); system = system_with bytes (machine_after m).state }) same
+
+  final_is : (bytes : List ℕ) (s : SubjectState) → final_text p (system_with bytes s) ≡ machine_final_text (machine_with bytes s)
+  unfolding final_text machine_final_text p
+  final_is bytes s = rw (self q.name, append-nil) refl
+
+  -- the text of a run
+  trace_is : 1 ≤ q.ticks → (files : Held) (end : ℕ) → trace_of p files (only_ticks end) ≡ machine_text (loaded files) end
+  unfolding trace_of machine_text run_of
+  trace_is some files end =
+      let bytes = content_bytes files q.region.size q.region.content in
+      let ran = machine_run_to (loaded files) end in
+      ap (λ r. flat_map turn_text r.lines ++ final_text p r.system) (run_is some files end end)
+      ∙ ap (λ text. flat_map turn_text ran.lines ++ text) (final_is bytes ran.machine.state ∙ ap machine_final_text (sym (machine_kept bytes (started q.entry) end)))
+
+-- contents that are no file's are the same whatever files hold
+pub plain-content : (files : Held) (size : ℕ) (content : Content) → fits_in content size ≡ true → content_bytes files size content ≡ plain_bytes size content
+plain-content files size Zero h = refl
+plain-content files size (Fill b) h = refl
+plain-content files size (Inline bytes) h = refl
+plain-content files size (File name offset most) h = absurd (cc)
+
+content_fits : (q : Parts) → is_region q.region ≡ true → fits_in q.region.content q.region.size ≡ true
+unfolding is_region
+content_fits q h = (both _ _ h).1
+
+-- the machine of a thin policy's parts
+abbrev pub machine_for : Parts → MachineState
+machine_for q = machine_of (the_subject q) q.region (the_mapping q)
+
+loaded_is : (q : Parts) (files : Held) → is_region q.region ≡ true → loaded q files ≡ machine_for q
+unfolding machine_of
+loaded_is q files h =
+    ap (λ bytes. machine_with q bytes (started q.entry)) (plain-content files q.region.size q.region.content (content_fits q h))
+
+-- the text of a thin policy's run is that of its machine, whatever files hold
+pub thin_trace : (source : Source) (h : HasParts source) (files : Held) (end : ℕ) → trace_of source files (only_ticks end) ≡ machine_text (machine_for h.parts) end
+unfolding p
+thin_trace source h files end =
+    ap (λ x. trace_of x files (only_ticks end)) h.is
+    ∙ trace_is h.parts h.ticks files end
+    ∙ ap (λ m. machine_text m end) (loaded_is h.parts files h.region)

@@ -1,23 +1,48 @@
 // The private machine.
-ghost use Rattle.std.specs.Prelude.{◌≡◌, ◌+◌, ◌%◌, ◌<◌, ◌≤◌, length, take, drop, [], false};
+ghost use Rattle.std.specs.Prelude.{◌≡◌, ◌+◌, ◌%◌, ◌<◌, ◌≤◌, length, take, drop, [], true, false, IfOk};
 ghost use Rattle.muen_num.specs.declared.bits.Kind.TheVariants.{Fetch};
 ghost use Rattle.policy_types.specs.Windows.{access_of};
 ghost use Rattle.muen_top.specs.GuestIsa.{decode_of};
 ghost use Rattle.muen_top.specs.Solo.{faulted, performed, executed, fetched, attempted, turn_over};
-ghost use Rattle.muen_top.specs.Machine.{windows_on, bytes_at, AllFit, answer_of};
+ghost use Rattle.muen_top.specs.Thin.{fits_in, is_region, is_window_on};
+ghost use Rattle.muen_top.specs.Machine.{windows_on, bytes_at, AllFit, answer_of, plain_bytes};
 
 use crate::guest_isa::{Wish, ask, decode};
 use crate::memory::{Access, Holding, Window, access_at};
 use crate::state_page::SubjectState;
-use crate::view_text::{End, What};
-use muen_num::Kind;
+use crate::view_text::{End, Line, What};
+use muen_num::{Kind, Name, Seq};
+use policy_types::source::{Content, Mapping, Region, Subject};
+use std::alloc::{AllocError, Global};
+use std::marker::Model;
 
 const GUEST_END: u64 = 1 << 48;
 
 // Exit reasons (Intel SDM volume 3, basic exit reasons; 0 is this machine's for what it can't run).
 const OUTSIDE_THE_TABLE: u8 = 0;
+
 const HLT: u8 = 12;
+
 const EPT_VIOLATION: u8 = 48;
+
+/// The subject, its windows on regions of memory, and its state.
+#[derive(Drop)]
+pub(crate) struct Machine {
+    name: Name,
+    windows: Vec<Window>,
+    holdings: Vec<Holding>,
+    state: SubjectState,
+}
+
+impl Model for Machine {
+    ghost use Rattle.muen_top.specs.Machine.{MachineState, windows_on, AllFit};
+
+    ghost Value = { MachineState };
+
+    ghost view = { λ m. record { name = m.name; windows = windows_on m.windows.items; holdings = m.holdings.items; state = m.state } };
+
+    ghost invariant = { λ m. AllFit m.holdings.items (windows_on m.windows.items) };
+}
 
 /// What a turn does: the state after it, and what its line says, if it has one.
 #[derive(Clone, Copy)]
@@ -113,9 +138,7 @@ fn fetch(windows: &[Window], holdings: &[Holding], s: &SubjectState) -> Turn
     ensures { answer_of result ≡ fetched [] (bytes_at holdings.now) s.now (access_of (windows_on windows.now) s.now.pc Fetch) }
 {
     match access_at(windows, s.pc, Kind::Fetch) {
-        Access::Violation { found } => {
-            fault(s, EPT_VIOLATION, 4 + 8 * u64::from(found), s.pc)
-        }
+        Access::Violation { found } => { fault(s, EPT_VIOLATION, 4 + 8 * u64::from(found), s.pc) }
         Access::Byte { place, offset } => {
             let bytes = eight(holdings[place].bytes.items(), offset as usize);
             execute(s, &bytes)
@@ -150,4 +173,92 @@ fn take_turn(windows: &[Window], holdings: &[Holding], s: &SubjectState) -> Turn
         };
     }
     attempt(windows, holdings, s)
+}
+
+// What a region holds at the start, where no file is asked for.
+fn plain_bytes(alloc: Global, size: u64, content: &Content) -> Result<Vec<u8>, AllocError>
+    requires { fits_in content.now size ≡ true }
+    ensures { IfOk result (λ v. v.items ≡ plain_bytes size content.now) }
+{
+    match content {
+        Content::Zero => vec![in alloc; 0; size as usize],
+        Content::Inline(bytes) => {
+            let mut all = Vec::from_slice(alloc, bytes.items())?;
+            all.resize(size as usize, 0)?;
+            Ok(all)
+        }
+        Content::Fill(_) | Content::File { .. } => unreachable!(),
+    }
+}
+
+// A region with its bytes at the start.
+#[tactic(auto, unfolding(crate::specs::Thin::is_region))]
+fn hold(alloc: Global, region: &Region) -> Result<Holding, AllocError>
+    requires { is_region region.now ≡ true }
+    ensures { IfOk result (λ h. h ≡ record { name = region.now.name; bytes = plain_bytes region.now.size region.now.content }) }
+{
+    let bytes = plain_bytes(alloc, region.size, &region.content)?;
+    Ok(Holding {
+        name: region.name,
+        bytes: Seq::of(bytes),
+    })
+}
+
+// The window of a mapping on the first region.
+fn window_of(region: &Region, mapping: &Mapping) -> Window
+    ensures { result ≡ record { guest = mapping.now.virtual_address; size = region.now.size; rights = mapping.now.rights; place = 0 } }
+{
+    Window {
+        guest: mapping.virtual_address,
+        size: region.size,
+        rights: mapping.rights,
+        place: 0,
+    }
+}
+
+impl Machine {
+    ghost use Rattle.muen_top.specs.Machine.{machine_of, machine_after, machine_line};
+
+    #[tactic(auto, using(crate::proofs::Loaded::all_fit), unfolding(crate::specs::Machine::machine_of))]
+    /// The machine of a subject with this window on this region, at the start.
+    pub(crate) fn load(
+        alloc: Global,
+        subject: &Subject,
+        region: &Region,
+        mapping: &Mapping,
+    ) -> Result<Machine, AllocError>
+        requires region { is_region region.now ≡ true }
+        requires window { is_window_on mapping.now region.now ≡ true }
+        ensures { IfOk result (λ m. m ≡ machine_of subject.now region.now mapping.now) }
+    {
+        let holdings = vec![in alloc; hold(alloc, region)?]?;
+        let windows = vec![in alloc; window_of(region, mapping)]?;
+        Ok(Machine {
+            name: subject.name,
+            windows,
+            holdings,
+            state: SubjectState::start(subject.entry),
+        })
+    }
+
+    #[tactic(auto, unfolding(crate::specs::Machine::machine_after, crate::specs::Machine::machine_line))]
+    /// The turn of a tick, and its line, if it has one.
+    pub(crate) fn tick(&mut self, tick: u32) -> Option<Line>
+        ensures after { self.new ≡ machine_after self.old }
+        ensures line { result ≡ machine_line self.old tick }
+    {
+        let turn = take_turn(&self.windows, &self.holdings, &self.state);
+        let pc = self.state.pc;
+        self.state = turn.state;
+        match turn.what {
+            Some(what) => Some(Line {
+                tick,
+                cpu: 0,
+                subject: self.name,
+                pc,
+                what,
+            }),
+            None => None,
+        }
+    }
 }

@@ -4,13 +4,14 @@ ghost use Rattle.muen_top.specs.Thin.{is_bare, is_bare_subject, is_group_of, is_
 
 use muen_num::Name;
 use policy_types::Source;
-use policy_types::source::{
-    Content, CpuFrames, Group, Mapping, Region, Scheduling, Subject,
-};
+use policy_types::source::{Content, CpuFrames, Group, Mapping, Region, Scheduling, Subject};
 
 const PAGE: u64 = 4096;
+
 const MOST_MEMORY: u64 = 1 << 26;
+
 const GUEST_END: u64 = 1 << 48;
+
 const MOST_TICKS: u64 = 100_000;
 
 // One CPU and one block of memory, and none of the elements that aren't built.

@@ -25,15 +25,31 @@ pub enum What {
     /// An instruction ran that is none of the next four.
     Ran,
     /// A register was written.
-    Set { reg: u8, value: u64 },
+    Set {
+        reg: u8,
+        value: u64,
+    },
     /// Memory was written at a guest address.
-    Stored { size: Size, addr: u64, value: u64 },
+    Stored {
+        size: Size,
+        addr: u64,
+        value: u64,
+    },
     /// A port was written.
-    Out { size: Size, port: u16, value: u32 },
+    Out {
+        size: Size,
+        port: u16,
+        value: u32,
+    },
     /// An MSR was written.
-    WroteMsr { index: u32, value: u64 },
+    WroteMsr {
+        index: u32,
+        value: u64,
+    },
     /// An event was delivered.
-    Inject { vector: u8 },
+    Inject {
+        vector: u8,
+    },
     /// The subject left to the kernel (exit reasons of Intel SDM volume 3).
     Exit {
         reason: u8,

@@ -14,7 +14,7 @@ returns-in-Byte c =
     let r = reached holdings c.args.s.now.pc c.in-Byte.place c.in-Byte.offset Fetch (windows_on c.args.windows.now) c.requires.aligned c.requires.fit (sym c.in-Byte.ensures) in
     let there : c.in-Byte.place < length holdings = r.there in
     let same : c.items.result.now ≡ bytes_at holdings c.in-Byte.place =
-        c.items.ensures ∙ ap (λ (h : Holding). h.bytes) (get_or_default _ _ _ nothing there) in
+    c.items.ensures ∙ ap (λ (h : Holding). h.bytes) (get_or_default _ _ _ nothing there) in
     c.execute.ensures
     ∙ ap (λ b. executed [] c.args.s.now (decode_of b)) (c.eight-bytes.ensures ∙ ap (λ b. take 8 (drop c.in-Byte.offset b)) same)
     ∙ ap (fetched [] (bytes_at holdings) c.args.s.now) c.in-Byte.ensures
