@@ -1,0 +1,15 @@
+-- Files of a folder as their callers see them, and what a read with a limit takes.
+use Rattle.std.specs.Prelude.{ℕ, ◌+◌, List, length, None, if◌then◌else◌, nat_lt}
+use Rattle.muen_outside.specs.Outside.{FilesState}
+use Rattle.muen_outside.specs.Store.{Reading, whole, long}
+
+pub record Counted : Type 0 where
+  pub faults : ℕ
+  pub misses : ℕ
+
+abbrev pub files_of : Counted → FilesState
+files_of c = record { held = None; faults = c.faults; misses = c.misses }
+
+-- what is seen of the bytes where no more than one above the limit is taken
+abbrev pub capped : List ℕ → ℕ → Reading
+capped bytes most = if nat_lt most (length bytes) then long (most + 1) else whole bytes
