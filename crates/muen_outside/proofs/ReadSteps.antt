@@ -3,7 +3,7 @@ use Rattle.std.proofs.Common.{◌≡◌, ℕ, ◌+◌, ◌≤◌, ◌<◌, List,
 use Rattle.std.proofs.lemmas.Bool.Decides.{nat_tests}
 use Rattle.std.specs.Io.KnownBytes.{Consumes, IsAtEnd, Keeps}
 use Rattle.muen_outside.specs.Store.{Reading, whole, long}
-use Rattle.muen_outside.specs.Folder.{capped}
+use Rattle.muen_outside.specs.Folder.{capped, TakesAtMost}
 
 pub consumes_none : (k : Option (List ℕ)) → Consumes k k []
 consumes_none None = tt
@@ -35,4 +35,15 @@ told_above None l most a p h = tt
 told_above (Some u) None most a p h = absurd p
 told_above (Some u) (Some v) most a p h = sym (capped_above u most (omega (arith, ap length p, length-append a v)))
 
-pub ruleset reads = (consumes_none, consumes_then, told_at_end, told_above)
+pub takes_few : (n : ℕ) (k l : Option (List ℕ)) (a : List ℕ) → Consumes k l a → length a ≤ n → TakesAtMost n k l
+takes_few n None l a p h = tt
+takes_few n (Some u) None a p h = absurd p
+takes_few n (Some u) (Some v) a p h = omega (arith, ap length p, length-append a v, h)
+
+pub takes_kept : (n : ℕ) (k l m : Option (List ℕ)) → TakesAtMost n k l → Keeps l m → TakesAtMost n k m
+takes_kept n None l m p q = tt
+takes_kept n (Some u) None m p q = absurd p
+takes_kept n (Some u) (Some v) None p q = absurd q
+takes_kept n (Some u) (Some v) (Some w) p q = omega (arith, p, ap length q)
+
+pub ruleset reads = (consumes_none, consumes_then, told_at_end, told_above, takes_few, takes_kept)

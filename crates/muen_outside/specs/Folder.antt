@@ -1,5 +1,5 @@
 -- Files of a folder as their callers see them, and what a read with a limit takes.
-use Rattle.std.specs.Prelude.{ℕ, ◌+◌, List, length, None, if◌then◌else◌, nat_lt}
+use Rattle.std.specs.Prelude.{ℕ, ◌+◌, ◌≤◌, List, length, Option, Some, None, ⊤, if◌then◌else◌, nat_lt}
 use Rattle.muen_outside.specs.Outside.{FilesState}
 use Rattle.muen_outside.specs.Store.{Reading, whole, long}
 
@@ -13,3 +13,9 @@ files_of c = record { held = None; faults = c.faults; misses = c.misses }
 -- what is seen of the bytes where no more than one above the limit is taken
 abbrev pub capped : List ℕ → ℕ → Reading
 capped bytes most = if nat_lt most (length bytes) then long (most + 1) else whole bytes
+
+-- no more than n of the known bytes were taken
+abbrev pub TakesAtMost : ℕ → Option (List ℕ) → Option (List ℕ) → Type 0
+TakesAtMost n None new = ⊤
+TakesAtMost n (Some xs) None = ⊥
+TakesAtMost n (Some xs) (Some ys) = length xs ≤ length ys + n

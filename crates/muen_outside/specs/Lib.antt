@@ -7,3 +7,4 @@ pub mod Entries
 pub mod MemFiles
 pub mod MemSink
 pub mod Folder
+pub mod FileCounts

@@ -1,6 +1,11 @@
-ghost use Rattle.std.specs.Prelude.{◌≡◌, IfOk, IfSome};
-ghost use Rattle.muen_outside.specs.Found.{seen, IsWithin};
-ghost use Rattle.muen_outside.specs.Folder.{files_of, capped};
+ghost use Rattle.std.specs.Prelude.{◌≡◌, ◌≢◌, ◌≤◌, ◌+◌, ◌↔◌, Ok, Err, OnOk, IfOk, IfErr, IfSome, IsErr, IsErrAnd};
+ghost use Rattle.std.specs.FinMap as map;
+ghost use Rattle.std.specs.IoError.{error_kind};
+ghost use Rattle.muen_outside.specs.Counts.{Rose};
+ghost use Rattle.muen_outside.specs.Store.{reading_of, KeepsOthers, insert_known};
+ghost use Rattle.muen_outside.specs.Found.{seen, IsMiss, IsWithin};
+ghost use Rattle.muen_outside.specs.FileCounts.{misses_after, faults_after};
+ghost use Rattle.muen_outside.specs.Folder.{files_of, capped, TakesAtMost};
 
 use crate::files::{FileEnd, Files, Found};
 use crate::sink::SinkFault;
@@ -8,7 +13,8 @@ use crate::std_sink::write_through;
 use muen_num::Seq;
 use std::alloc::Global;
 use std::fs::{File, Files as SystemFiles};
-use std::io::{ErrorKind, Read};
+use std::io;
+use std::io::{ErrorKind, Read, Write};
 use std::marker::Model;
 
 /// The files of the system: a name is a path from the current folder. It tells nothing of what they
@@ -47,6 +53,8 @@ impl<R: SystemFiles> FolderFiles<R> {
 fn read_all<I: Read>(alloc: Global, from: &mut I, most: usize) -> Result<Found, FileEnd>
     ensures within { IfOk result (IsWithin most) }
     ensures told { IfOk result (λ found. IfSome (I.remaining from.old) (λ all. seen found ≡ capped all most)) }
+    ensures opened { result ≢ Ok Found.Missing }
+    ensures taken { TakesAtMost (most + 1) (I.remaining from.old) (I.remaining from.new) }
 {
     let mut bytes = Vec::new(alloc);
     let mut buffer = [0u8; 4096];
@@ -68,28 +76,31 @@ fn read_all<I: Read>(alloc: Global, from: &mut I, most: usize) -> Result<Found, 
     Err(FileEnd::Failed)
 }
 
-fn open_and_read<R: SystemFiles>(
-    rt: &R,
+// What is read of the file, if it was opened.
+fn read_opened<I: Read + Drop>(
     alloc: Global,
-    name: &str,
+    opened: io::Result<I>,
     most: usize,
 ) -> Result<Found, FileEnd>
     ensures within { IfOk result (IsWithin most) }
+    ensures told { IfOk opened (λ file. IfOk result (λ found. IfSome (I.remaining file) (λ all. seen found ≡ capped all most))) }
+    ensures missing { (result ≡ Ok Found.Missing) ↔ IsErrAnd opened (λ e. error_kind e ≡ ErrorKind.NotFound) }
+    ensures unopened { IfErr opened (λ e. error_kind e ≢ ErrorKind.NotFound → result ≡ Err FileEnd.Failed) }
 {
-    match File::open(rt, name) {
+    match opened {
         Ok(mut file) => read_all(alloc, &mut file, most),
-        Err(e) => {
-            if e.kind() == ErrorKind::NotFound {
-                Ok(Found::Missing)
-            } else {
-                Err(FileEnd::Failed)
-            }
-        }
+        Err(e) => match e.kind() {
+            ErrorKind::NotFound => Ok(Found::Missing),
+            _ => Err(FileEnd::Failed),
+        },
     }
 }
 
-fn create_and_write<R: SystemFiles>(rt: &R, name: &str, bytes: &[u8]) -> Result<(), SinkFault> {
-    match File::create(rt, name) {
+// Writes the bytes into the file, if it was made.
+fn write_made<W: Write + Drop>(made: io::Result<W>, bytes: &[u8]) -> Result<(), SinkFault>
+    ensures { IsErr made → IsErr result }
+{
+    match made {
         Ok(mut file) => write_through(&mut file, bytes),
         Err(_) => Err(SinkFault),
     }
@@ -98,8 +109,20 @@ fn create_and_write<R: SystemFiles>(rt: &R, name: &str, bytes: &[u8]) -> Result<
 impl<R: SystemFiles> Files for FolderFiles<R> {
     ghost state = { files_of };
 
-    fn read(&mut self, alloc: Global, name: &str, most: usize) -> Result<Found, FileEnd> {
-        let got = open_and_read(&self.rt, alloc, name, most);
+    fn read(&mut self, alloc: Global, name: &str, most: usize) -> Result<Found, FileEnd>
+        ensures held { (files_of self.new).held ≡ (files_of self.old).held }
+        ensures faults { self.old.faults ≤ self.new.faults }
+        ensures misses { self.old.misses ≤ self.new.misses }
+        ensures told { IfOk result (λ found. IfSome (files_of self.old).held (λ m. seen found ≡ reading_of (map.get m name.now) most)) }
+        ensures within { IfOk result (IsWithin most) }
+        ensures miss { IfOk result (λ found. IsMiss found → Rose self.old.misses self.new.misses) }
+        ensures failed { result ≡ Err FileEnd.Failed → Rose self.old.faults self.new.faults }
+
+        // What is counted.
+        ensures missed { self.new.misses ≡ misses_after self.old.misses result }
+        ensures fault { self.new.faults ≡ faults_after self.old.faults result }
+    {
+        let got = read_opened(alloc, File::open(&self.rt, name), most);
         match &got {
             Ok(Found::Bytes(_)) | Err(FileEnd::NoMemory) => {}
             Ok(_) => self.misses = self.misses.saturating_add(1),
@@ -108,8 +131,19 @@ impl<R: SystemFiles> Files for FolderFiles<R> {
         got
     }
 
-    fn write(&mut self, _alloc: Global, name: &str, bytes: &[u8]) -> Result<(), FileEnd> {
-        match create_and_write(&self.rt, name, bytes) {
+    fn write(&mut self, _alloc: Global, name: &str, bytes: &[u8]) -> Result<(), FileEnd>
+        ensures faults { self.old.faults ≤ self.new.faults }
+        ensures misses { self.old.misses ≤ self.new.misses }
+        ensures ok { OnOk result ((files_of self.new).held ≡ insert_known (files_of self.old).held name.now bytes.now) }
+        ensures others { KeepsOthers name.now (files_of self.old).held (files_of self.new).held }
+        ensures failed { result ≡ Err FileEnd.Failed → Rose self.old.faults self.new.faults }
+
+        // What is counted. It takes no memory.
+        ensures missed { self.new.misses ≡ self.old.misses }
+        ensures fault { self.new.faults ≡ faults_after self.old.faults result }
+        ensures err { result ≢ Err FileEnd.NoMemory }
+    {
+        match write_made(File::create(&self.rt, name), bytes) {
             Ok(()) => Ok(()),
             Err(SinkFault) => {
                 self.faults = self.faults.saturating_add(1);

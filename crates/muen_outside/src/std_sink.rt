@@ -1,9 +1,10 @@
-ghost use Rattle.std.specs.Prelude.{◌≡◌, OnOk, OnErr};
+ghost use Rattle.std.specs.Prelude.{◌≡◌, None, OnOk, OnErr};
 ghost use Rattle.std.specs.Io.KnownBytes.{Appends};
-ghost use Rattle.muen_outside.specs.Puts.{AppendedFront};
+ghost use Rattle.muen_outside.specs.Puts.{AppendedFront, Puts};
+ghost use Rattle.muen_outside.specs.Counts.{counted};
 
 use crate::sink::{Sink, SinkFault};
-use std::io::Write;
+use std::io::{Stderr, Stdout, Write};
 use std::marker::Model;
 
 /// A sink over a writer, which tells what the writer tells. Every error of the writer is a fault,
@@ -28,6 +29,24 @@ impl<W: Write> StdSink<W> {
         ensures { result ≡ record { written = W.contents writer; faults = 0 } }
     {
         StdSink { writer, faults: 0 }
+    }
+}
+
+impl StdSink<Stdout> {
+    /// Over the standard output of this runtime, and a count of 0.
+    pub fn output(rt: &HostRuntime) -> StdSink<Stdout>
+        ensures { result ≡ record { written = None; faults = 0 } }
+    {
+        StdSink::new(rt.stdout())
+    }
+}
+
+impl StdSink<Stderr> {
+    /// Over the standard error of this runtime, and a count of 0.
+    pub fn error(rt: &HostRuntime) -> StdSink<Stderr>
+        ensures { result ≡ record { written = None; faults = 0 } }
+    {
+        StdSink::new(rt.stderr())
     }
 }
 
@@ -71,7 +90,13 @@ pub(crate) fn write_through<W: Write>(writer: &mut W, bytes: &[u8]) -> Result<()
 impl<W: Write> Sink for StdSink<W> {
     ghost state = { λ s. s };
 
-    fn put(&mut self, bytes: &[u8]) -> Result<(), SinkFault> {
+    fn put(&mut self, bytes: &[u8]) -> Result<(), SinkFault>
+        ensures puts { Puts bytes.now self.old self.new result }
+
+        // What is counted.
+        ensures fault { OnErr result (self.new.faults ≡ counted self.old.faults) }
+        ensures quiet { OnOk result (self.new.faults ≡ self.old.faults) }
+    {
         match write_through(&mut self.writer, bytes) {
             Ok(()) => Ok(()),
             Err(SinkFault) => {
