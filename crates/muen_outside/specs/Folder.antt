@@ -1,5 +1,6 @@
 -- Files of a folder as their callers see them, and what a read with a limit takes.
-use Rattle.std.specs.Prelude.{ℕ, ◌+◌, ◌≤◌, List, length, Option, Some, None, ⊤, if◌then◌else◌, nat_lt}
+use Rattle.std.specs.Prelude.{ℕ, ◌+◌, ◌≤◌, List, length, Option, Some, None, Result, Ok, Err, ⊤, if◌then◌else◌, nat_lt}
+use Rattle.std.specs.Io.KnownBytes.{Appends}
 use Rattle.muen_outside.specs.Outside.{FilesState}
 use Rattle.muen_outside.specs.Store.{Reading, whole, long}
 
@@ -19,3 +20,9 @@ abbrev pub TakesAtMost : ℕ → Option (List ℕ) → Option (List ℕ) → Typ
 TakesAtMost n None new = ⊤
 TakesAtMost n (Some xs) None = ⊥
 TakesAtMost n (Some xs) (Some ys) = length xs ≤ length ys + n
+
+-- the file was made, and its known bytes grew by these
+abbrev pub MadeAppends : {X E : Type 0} → (X → Option (List ℕ)) → Result X E → Result X E → List ℕ → Type 0
+MadeAppends contents (Ok old) (Ok new) bytes = Appends (contents old) (contents new) bytes
+MadeAppends contents (Ok old) (Err e) bytes = ⊥
+MadeAppends contents (Err e) new bytes = ⊥

@@ -1,11 +1,11 @@
-ghost use Rattle.std.specs.Prelude.{◌≡◌, ◌≢◌, ◌≤◌, ◌+◌, ◌↔◌, Ok, Err, OnOk, IfOk, IfErr, IfSome, IsErr, IsErrAnd};
+ghost use Rattle.std.specs.Prelude.{◌≡◌, ◌≢◌, ◌≤◌, ◌+◌, ◌↔◌, Ok, Err, OnOk, IfOk, IfErr, IfSome, IsErrAnd};
 ghost use Rattle.std.specs.FinMap as map;
 ghost use Rattle.std.specs.IoError.{error_kind};
 ghost use Rattle.muen_outside.specs.Counts.{Rose};
 ghost use Rattle.muen_outside.specs.Store.{reading_of, KeepsOthers, insert_known};
 ghost use Rattle.muen_outside.specs.Found.{seen, IsMiss, IsWithin};
 ghost use Rattle.muen_outside.specs.FileCounts.{misses_after, faults_after};
-ghost use Rattle.muen_outside.specs.Folder.{files_of, capped, TakesAtMost};
+ghost use Rattle.muen_outside.specs.Folder.{files_of, capped, TakesAtMost, MadeAppends};
 
 use crate::files::{FileEnd, Files, Found};
 use crate::sink::SinkFault;
@@ -97,11 +97,11 @@ fn read_opened<I: Read + Drop>(
 }
 
 // Writes the bytes into the file, if it was made.
-fn write_made<W: Write + Drop>(made: io::Result<W>, bytes: &[u8]) -> Result<(), SinkFault>
-    ensures { IsErr made → IsErr result }
+fn write_made<W: Write>(made: &mut io::Result<W>, bytes: &[u8]) -> Result<(), SinkFault>
+    ensures { OnOk result (MadeAppends W.contents made.old made.new bytes.now) }
 {
     match made {
-        Ok(mut file) => write_through(&mut file, bytes),
+        Ok(file) => write_through(file, bytes),
         Err(_) => Err(SinkFault),
     }
 }
@@ -143,7 +143,8 @@ impl<R: SystemFiles> Files for FolderFiles<R> {
         ensures fault { self.new.faults ≡ faults_after self.old.faults result }
         ensures err { result ≢ Err FileEnd.NoMemory }
     {
-        match write_made(File::create(&self.rt, name), bytes) {
+        let mut made = File::create(&self.rt, name);
+        match write_made(&mut made, bytes) {
             Ok(()) => Ok(()),
             Err(SinkFault) => {
                 self.faults = self.faults.saturating_add(1);

@@ -10,6 +10,9 @@ mod mem_sink;
 mod sink;
 mod std_sink;
 
+#[cfg(test)]
+mod tests;
+
 pub use files::{FileEnd, Files, Found};
 pub use folder::FolderFiles;
 pub use lines::{Line, put_lines};
