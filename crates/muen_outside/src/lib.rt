@@ -9,7 +9,6 @@ mod mem_files;
 mod mem_sink;
 mod sink;
 mod std_sink;
-
 #[cfg(test)]
 mod tests;
 

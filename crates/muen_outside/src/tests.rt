@@ -1,27 +1,27 @@
 //! Runs of the traits' four implementations.
-ghost use Rattle.std.specs.Prelude.{codes};
+ghost use Rattle.std.specs.Prelude.{[], ◌∷◌};
 
-use crate::{FileEnd, Files, Found, FolderFiles, Line, MemFiles, MemSink, Sink, SinkFault, StdSink, put_lines};
+use crate::{
+    FileEnd, Files, FolderFiles, Found, Line, MemFiles, MemSink, Sink, SinkFault, StdSink,
+    put_lines,
+};
 use std::alloc::Global;
-use std::fs;
-use std::io;
 use std::io::{ErrorKind, Write};
 use std::test::Fail;
+use std::{fs, io};
 
 // One file `a` of three bytes, and these failing calls.
 fn one_file(alloc: Global, fails: &[u64]) -> Result<MemFiles, Fail> {
     let mut held = Vec::new(alloc);
-    held.push((String::from_str(alloc, "a")?, Vec::from_slice(alloc, b"xyz")?))?;
+    held.push((
+        String::from_str(alloc, "a")?,
+        Vec::from_slice(alloc, b"xyz")?,
+    ))?;
     Ok(MemFiles::make(held, Vec::from_slice(alloc, fails)?))
 }
 
 // The bytes found, or `missing`, `long` or the error.
-fn shown<F: Files>(
-    alloc: Global,
-    files: &mut F,
-    name: &str,
-    most: usize,
-) -> Result<Vec<u8>, Fail> {
+fn shown<F: Files>(alloc: Global, files: &mut F, name: &str, most: usize) -> Result<Vec<u8>, Fail> {
     let text = match files.read(alloc, name, most) {
         Ok(Found::Bytes(bytes)) => return Ok(bytes.into_vec()),
         Ok(Found::Missing) => format!(in alloc; "missing")?,
@@ -90,6 +90,7 @@ fn sink_in_memory(rt: HostRuntime) -> Result<(), Fail> {
     Ok(())
 }
 
+#[derive(Drop)]
 struct Numbered {
     digit: u8,
 }
@@ -105,6 +106,7 @@ impl Line for Numbered {
 }
 
 // Takes two bytes a call, and has an error at one of its calls.
+#[derive(Drop)]
 struct Choppy {
     text: Vec<u8>,
     left: u64,
@@ -136,14 +138,15 @@ fn sink_over_a_writer(rt: HostRuntime) -> Result<(), Fail> {
     drop(sink);
     assert_eq!(rt; text.as_slice(), b"1\n2\n".as_slice());
 
-    let mut writer = Choppy { text: Vec::new(alloc), left: 2 };
+    let mut writer = Choppy {
+        text: Vec::new(alloc),
+        left: 2,
+    };
     let mut sink = StdSink::new(&mut writer);
     assert_eq!(rt; sink.put(b"abc"), Ok(()));
     assert_eq!(rt; sink.put(b"d"), Err(SinkFault));
     drop(sink);
     assert_eq!(rt; writer.text.as_slice(), b"abc".as_slice());
-    let Choppy { text, left: _ } = writer;
-    drop(text);
     Ok(())
 }
 
