@@ -1,5 +1,5 @@
 -- What a write to the first entry of a name leaves.
-use Rattle.std.proofs.Common.{◌≡◌, ℕ, ◌+◌, ◌<◌, Bool, true, cond, List, [], ◌∷◌, ◌++◌, length, get_or, set, take, drop, map, Vec, String, string_bytes, sym, ap, ◌∙◌, suc}
+use Rattle.std.proofs.Common.{◌≡◌, ℕ, ◌<◌, true, cond, List, ◌∷◌, ◌++◌, length, get_or, set, take, drop, Vec, String, string_bytes, sym, ap, ◌∙◌, suc}
 use Rattle.std.proofs.lemmas.List.{set_split, map-append}
 use Rattle.std.proofs.Math.Seq.{drop-cons}
 use Rattle.std.specs.declared.alloc.Global.{Global}

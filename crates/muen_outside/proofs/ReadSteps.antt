@@ -1,8 +1,8 @@
 -- One read after another, up to a limit.
-use Rattle.std.proofs.Common.{◌≡◌, ℕ, ◌+◌, ◌≤◌, ◌<◌, List, [], ◌++◌, length, take, Option, Some, None, IfSome, refl, sym, ap, ◌∙◌, append_assoc, append-nil, arith, length-append}
+use Rattle.std.proofs.Common.{◌≡◌, ℕ, ◌+◌, ◌≤◌, ◌<◌, List, [], ◌++◌, length, Option, Some, None, IfSome, refl, sym, ap, ◌∙◌, append_assoc, append-nil, arith, length-append}
 use Rattle.std.proofs.lemmas.Bool.Decides.{nat_tests}
 use Rattle.std.specs.Io.KnownBytes.{Consumes, IsAtEnd, Keeps}
-use Rattle.muen_outside.specs.Store.{Reading, whole, long}
+use Rattle.muen_outside.specs.Store.{whole, long}
 use Rattle.muen_outside.specs.Folder.{capped, TakesAtMost}
 
 pub consumes_none : (k : Option (List ℕ)) → Consumes k k []

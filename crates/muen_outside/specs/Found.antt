@@ -1,5 +1,5 @@
 -- What a read has found.
-use Rattle.std.specs.Prelude.{ℕ, ◌<◌, ◌≤◌, List, length, Result, Ok, Err}
+use Rattle.std.specs.Prelude.{ℕ, ◌<◌, ◌≤◌, length}
 use Rattle.muen_outside.specs.declared.files.Found.{Found}
 use Rattle.muen_outside.specs.declared.files.Found.TheVariants.{Bytes, Missing, TooLong}
 use Rattle.muen_outside.specs.Store.{Reading, whole, absent, long}

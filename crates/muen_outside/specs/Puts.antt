@@ -1,5 +1,5 @@
 -- What a put does to a sink.
-use Rattle.std.specs.Prelude.{◌≡◌, ℕ, ◌≤◌, List, Option, Result, Ok, Err, length, take}
+use Rattle.std.specs.Prelude.{ℕ, ◌≤◌, List, Option, Result, Ok, Err, length, take}
 use Rattle.std.specs.Io.KnownBytes.{Appends}
 use Rattle.muen_outside.specs.Counts.{Rose}
 use Rattle.muen_outside.specs.Outside.{SinkState}

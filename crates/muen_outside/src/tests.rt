@@ -5,6 +5,7 @@ use crate::{
     FileEnd, Files, FolderFiles, Found, Line, MemFiles, MemSink, Sink, SinkFault, StdSink,
     put_lines,
 };
+use muen_num::text::append;
 use std::alloc::Global;
 use std::io::{ErrorKind, Write};
 use std::test::Fail;
@@ -50,8 +51,8 @@ fn files_in_memory(rt: HostRuntime) -> Result<(), Fail> {
     assert_eq!(rt; files.write(alloc, "b", b"lost"), Err(FileEnd::Failed));
     assert_eq!(rt; files.write(alloc, "a", b""), Ok(()));
     assert_eq!(rt; files.get("b"), Some(b"new".as_slice()));
-    assert_eq!(rt; files.get("a"), Some(b"".as_slice()));
-    assert_eq!(rt; files.get("c"), None);
+    assert!(rt; files.get("a").is_some_and(|bytes| bytes.is_empty()));
+    assert!(rt; files.get("c").is_none());
     Ok(())
 }
 
@@ -99,9 +100,7 @@ impl Line for Numbered {
     ghost text = { λ n. n.digit ∷ 10 ∷ [] };
 
     fn write(&self, buffer: &mut [u8; 256]) -> usize {
-        buffer[0] = self.digit;
-        buffer[1] = b'\n';
-        2
+        append(buffer, 0, &[self.digit, b'\n'])
     }
 }
 

@@ -1,8 +1,6 @@
-use Rattle.std.proofs.Common.{◌≡◌, ◌∙◌, sym, ap, arith, get_or, ◌<◌, length, string_bytes, true}
+use Rattle.std.proofs.Common.{◌≡◌, ◌∙◌, sym, arith, ◌<◌, length, string_bytes, true}
 use Rattle.std.specs.Str.{bytes_eq}
 use Rattle.std.proofs.lemmas.List.{get_or_default}
-use Rattle.muen_outside.specs.Store.{put_entry}
-use Rattle.muen_outside.specs.Entries.{entry_list}
 use Rattle.muen_outside.proofs.PutEntry.{put_here}
 use Rattle.muen_outside.proofs.mem_files.put_file.Goals as goal
 
