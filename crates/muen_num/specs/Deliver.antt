@@ -6,9 +6,9 @@ abbrev pub greatest : List ℕ → Option ℕ
 greatest [] = None
 greatest (v ∷ vs) = greater v (greatest vs)
   where
-  greater : ℕ → Option ℕ → Option ℕ
-  greater v None = Some v
-  greater v (Some w) = Some (max v w)
+    greater : ℕ → Option ℕ → Option ℕ
+    greater v None = Some v
+    greater v (Some w) = Some (max v w)
 
 -- the vector that is delivered: the greatest of those that are deliverable at any turn, and where `entry` holds
 -- of those that are deliverable later too

@@ -1,13 +1,21 @@
-// A library with one function.
+//! Where a program reads and writes: files under names, and sinks of bytes, each as a trait, in
+//! memory, and over the system.
 #![tactic(auto)]
 
-ghost use Rattle.std.specs.Prelude.{◌≡◌};
-ghost use Rattle.muen_outside.specs.Echo.{echo_of};
+mod files;
+mod folder;
+mod lines;
+mod mem_files;
+mod mem_sink;
+mod sink;
+mod std_sink;
+#[cfg(test)]
+mod tests;
 
-// The `ensures` clause is the contract: what `echo` returns is `echo_of` of its argument, a definition
-// in `specs/Echo.antt`, which a caller's clause can cite too.
-pub fn echo(x: usize) -> usize
-    ensures { result ≡ echo_of x }
-{
-    x
-}
+pub use files::{FileEnd, Files, Found};
+pub use folder::FolderFiles;
+pub use lines::{Line, put_lines};
+pub use mem_files::MemFiles;
+pub use mem_sink::MemSink;
+pub use sink::{Sink, SinkFault};
+pub use std_sink::StdSink;

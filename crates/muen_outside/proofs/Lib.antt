@@ -1,0 +1,4 @@
+pub mod HeldMap
+pub mod PutEntry
+pub mod Puts
+pub mod ReadSteps

@@ -1,0 +1,10 @@
+pub mod Counts
+pub mod Store
+pub mod Outside
+pub mod Found
+pub mod Puts
+pub mod Entries
+pub mod MemFiles
+pub mod MemSink
+pub mod Folder
+pub mod FileCounts

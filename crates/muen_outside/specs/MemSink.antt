@@ -1,0 +1,31 @@
+-- A sink in memory as its callers see it.
+use Rattle.std.specs.Prelude.{ℕ, ◌-◌, List, length, Bool, ◌||◌, min, nat_lt, ◌==◌, if◌then◌else◌, Some}
+use Rattle.std.specs.List.{list_any}
+use Rattle.muen_outside.specs.Outside.{SinkState}
+
+pub record Filling : Type 0 where
+  pub text : List ℕ
+  -- how many bytes it can hold
+  pub room : ℕ
+  -- the numbers of the calls that fail
+  pub fails : List ℕ
+  -- how many bytes such a call appends at most
+  pub keep : ℕ
+  -- how many calls there were
+  pub calls : ℕ
+  pub faults : ℕ
+
+-- the next call's number is listed
+abbrev pub fails_next : Filling → Bool
+fails_next s = list_any (λ n. n == s.calls) s.fails
+
+-- how many of n bytes the next call appends
+abbrev pub taken : Filling → ℕ → ℕ
+taken s n = min (min (if fails_next s then s.keep else n) n) (s.room - length s.text)
+
+-- the next call fails on n bytes
+abbrev pub fails_at : Filling → ℕ → Bool
+fails_at s n = fails_next s || nat_lt (taken s n) n
+
+abbrev pub sink_of : Filling → SinkState
+sink_of s = record { written = Some s.text; faults = s.faults }

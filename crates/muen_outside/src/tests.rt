@@ -1,0 +1,158 @@
+//! Runs of the traits' four implementations.
+ghost use Rattle.std.specs.Prelude.{[], ◌∷◌};
+
+use crate::{
+    FileEnd, Files, FolderFiles, Found, Line, MemFiles, MemSink, Sink, SinkFault, StdSink,
+    put_lines,
+};
+use muen_num::text::append;
+use std::alloc::Global;
+use std::io::{ErrorKind, Write};
+use std::test::Fail;
+use std::{fs, io};
+
+// One file `a` of three bytes, and these failing calls.
+fn one_file(alloc: Global, fails: &[u64]) -> Result<MemFiles, Fail> {
+    let mut held = Vec::new(alloc);
+    held.push((
+        String::from_str(alloc, "a")?,
+        Vec::from_slice(alloc, b"xyz")?,
+    ))?;
+    Ok(MemFiles::make(held, Vec::from_slice(alloc, fails)?))
+}
+
+// The bytes found, or `missing`, `long` or the error.
+fn shown<F: Files>(alloc: Global, files: &mut F, name: &str, most: usize) -> Result<Vec<u8>, Fail> {
+    let text = match files.read(alloc, name, most) {
+        Ok(Found::Bytes(bytes)) => return Ok(bytes.into_vec()),
+        Ok(Found::Missing) => format!(in alloc; "missing")?,
+        Ok(Found::TooLong(n)) => format!(in alloc; "long {n}")?,
+        Err(e) => format!(in alloc; "{e}")?,
+    };
+    Ok(text.into_bytes())
+}
+
+#[test]
+fn files_in_memory(rt: HostRuntime) -> Result<(), Fail> {
+    let alloc = rt.alloc();
+    let mut files = one_file(alloc, &[4, 6])?;
+    let cases: [(&str, usize, &[u8]); 5] = [
+        ("a", 3, b"xyz"),
+        ("a", 2, b"long 3"),
+        ("b", 9, b"missing"),
+        ("a", 9, b"xyz"),
+        ("a", 9, b"file fault"),
+    ];
+    for (name, most, want) in cases {
+        let got = shown(alloc, &mut files, name, most)?;
+        assert_eq!(rt; got.as_slice(), want);
+    }
+    assert_eq!(rt; files.write(alloc, "b", b"new"), Ok(()));
+    assert_eq!(rt; files.write(alloc, "b", b"lost"), Err(FileEnd::Failed));
+    assert_eq!(rt; files.write(alloc, "a", b""), Ok(()));
+    assert_eq!(rt; files.get("b"), Some(b"new".as_slice()));
+    assert!(rt; files.get("a").is_some_and(|bytes| bytes.is_empty()));
+    assert!(rt; files.get("c").is_none());
+    Ok(())
+}
+
+#[test]
+fn files_in_a_folder(rt: HostRuntime) -> Result<(), Fail> {
+    let alloc = rt.alloc();
+    let name = "muen_outside_test";
+    let mut files = FolderFiles::new(rt);
+    assert_eq!(rt; files.write(alloc, name, b"lost"), Ok(()));
+    assert_eq!(rt; files.write(alloc, name, b"xyz"), Ok(()));
+    let cases: [(&str, usize, &[u8]); 4] = [
+        (name, 3, b"xyz"),
+        (name, 1, b"long 2"),
+        ("muen_outside_none", 9, b"missing"),
+        (".", 9, b"file fault"),
+    ];
+    for (name, most, want) in cases {
+        let got = shown(alloc, &mut files, name, most)?;
+        assert_eq!(rt; got.as_slice(), want);
+    }
+    assert_eq!(rt; files.write(alloc, ".", b"xyz"), Err(FileEnd::Failed));
+    fs::remove_file(&rt, name)?;
+    Ok(())
+}
+
+#[test]
+fn sink_in_memory(rt: HostRuntime) -> Result<(), Fail> {
+    let alloc = rt.alloc();
+    let mut sink = MemSink::make(alloc, 8, Vec::from_slice(alloc, &[1])?, 2)?;
+    assert_eq!(rt; sink.put(b"abc"), Ok(()));
+    assert_eq!(rt; sink.put(b"def"), Err(SinkFault));
+    assert_eq!(rt; sink.text(), b"abcde".as_slice());
+    assert_eq!(rt; sink.put(b"fghi"), Err(SinkFault));
+    assert_eq!(rt; sink.text(), b"abcdefgh".as_slice());
+    assert_eq!(rt; sink.put(b""), Ok(()));
+    Ok(())
+}
+
+#[derive(Drop)]
+struct Numbered {
+    digit: u8,
+}
+
+impl Line for Numbered {
+    ghost text = { λ n. n.digit ∷ 10 ∷ [] };
+
+    fn write(&self, buffer: &mut [u8; 256]) -> usize {
+        append(buffer, 0, &[self.digit, b'\n'])
+    }
+}
+
+// Takes two bytes a call, and has an error at one of its calls.
+#[derive(Drop)]
+struct Choppy {
+    text: Vec<u8>,
+    left: u64,
+}
+
+impl Write for Choppy {
+    fn write(&mut self, buf: &[u8]) -> io::Result<usize> {
+        if self.left == 0 {
+            return Err(io::Error::from(ErrorKind::Interrupted));
+        }
+        self.left -= 1;
+        let n = buf.len().min(2);
+        self.text.extend_from_slice(&buf[..n])?;
+        Ok(n)
+    }
+
+    fn flush(&mut self) -> io::Result<()> {
+        Ok(())
+    }
+}
+
+#[test]
+fn sink_over_a_writer(rt: HostRuntime) -> Result<(), Fail> {
+    let alloc = rt.alloc();
+    let mut text = Vec::new(alloc);
+    let mut sink = StdSink::new(&mut text);
+    let lines = [Numbered { digit: b'1' }, Numbered { digit: b'2' }];
+    assert_eq!(rt; put_lines(&lines, &mut sink), Ok(()));
+    drop(sink);
+    assert_eq!(rt; text.as_slice(), b"1\n2\n".as_slice());
+
+    let mut writer = Choppy {
+        text: Vec::new(alloc),
+        left: 2,
+    };
+    let mut sink = StdSink::new(&mut writer);
+    assert_eq!(rt; sink.put(b"abc"), Ok(()));
+    assert_eq!(rt; sink.put(b"d"), Err(SinkFault));
+    drop(sink);
+    assert_eq!(rt; writer.text.as_slice(), b"abc".as_slice());
+    Ok(())
+}
+
+#[test]
+fn standard_streams(rt: HostRuntime) {
+    let mut out = StdSink::output(&rt);
+    assert_eq!(rt; out.put(b""), Ok(()));
+    let mut err = StdSink::error(&rt);
+    assert_eq!(rt; err.put(b""), Ok(()));
+}
