@@ -4,6 +4,7 @@
 pub mod guest_isa;
 mod machine;
 mod memory;
+mod print;
 pub mod record_text;
 pub mod state_page;
 mod thin;

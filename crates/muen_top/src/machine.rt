@@ -219,8 +219,8 @@ fn window_of(region: &Region, mapping: &Mapping) -> Window
 impl Machine {
     ghost use Rattle.muen_top.specs.Machine.{machine_of, machine_after, machine_line};
 
-    #[tactic(auto, using(crate::proofs::Loaded::all_fit), unfolding(crate::specs::Machine::machine_of))]
     /// The machine of a subject with this window on this region, at the start.
+    #[tactic(auto, using(crate::proofs::Loaded::all_fit), unfolding(crate::specs::Machine::machine_of))]
     pub(crate) fn load(
         alloc: Global,
         subject: &Subject,
@@ -241,8 +241,29 @@ impl Machine {
         })
     }
 
-    #[tactic(auto, unfolding(crate::specs::Machine::machine_after, crate::specs::Machine::machine_line))]
+    /// The subject's name.
+    pub(crate) fn name(&self) -> &Name
+        ensures { result.now ≡ self.now.name }
+    {
+        &self.name
+    }
+
+    /// The subject's state.
+    pub(crate) fn state(&self) -> &SubjectState
+        ensures { result.now ≡ self.now.state }
+    {
+        &self.state
+    }
+
+    /// The regions with their bytes.
+    pub(crate) fn holdings(&self) -> &[Holding]
+        ensures { result.now ≡ self.now.holdings }
+    {
+        &self.holdings
+    }
+
     /// The turn of a tick, and its line, if it has one.
+    #[tactic(auto, unfolding(crate::specs::Machine::machine_after, crate::specs::Machine::machine_line))]
     pub(crate) fn tick(&mut self, tick: u32) -> Option<Line>
         ensures after { self.new ≡ machine_after self.old }
         ensures line { result ≡ machine_line self.old tick }
