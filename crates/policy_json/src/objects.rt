@@ -11,7 +11,7 @@ use crate::keys::{
     read_subject_keys, read_system_keys,
 };
 use crate::kinds::read_hexadecimal;
-use crate::shape::{Shape, read_optional, read_required, read_unbuilt};
+use crate::shape::{Shape, read_list, read_optional, read_required, read_unbuilt};
 use muen_num::Seq;
 use policy_types::source::{Block, Content, Mapping, Processor, Region, Subject};
 use policy_types::{Caching, Source, Want};
@@ -172,7 +172,7 @@ impl Shape for Subject {
         let cpu = read_required(alloc, value, "cpu")?;
         let entry = read_required(alloc, value, "entry")?;
         read_unbuilt(alloc, value, "component")?;
-        let memory = read_optional(alloc, value, "memory", Seq::new(alloc))?;
+        let memory = read_list(alloc, value, "memory")?;
         read_unbuilt(alloc, value, "channels")?;
         read_unbuilt(alloc, value, "devices")?;
         read_unbuilt(alloc, value, "msrs")?;
@@ -202,13 +202,13 @@ impl Shape for Source {
     fn read(alloc: Global, value: &Value) -> Result<Source, ReadEnd> {
         read_system_keys(alloc, value)?;
         let processor = read_required(alloc, value, "processor")?;
-        let memory_blocks = read_optional(alloc, value, "memoryBlocks", Seq::new(alloc))?;
+        let memory_blocks = read_list(alloc, value, "memoryBlocks")?;
         read_unbuilt(alloc, value, "devices")?;
-        let memory = read_optional(alloc, value, "memory", Seq::new(alloc))?;
+        let memory = read_list(alloc, value, "memory")?;
         read_unbuilt(alloc, value, "channels")?;
         read_unbuilt(alloc, value, "components")?;
         read_unbuilt(alloc, value, "events")?;
-        let subjects = read_optional(alloc, value, "subjects", Seq::new(alloc))?;
+        let subjects = read_list(alloc, value, "subjects")?;
         let scheduling = read_required(alloc, value, "scheduling")?;
         Ok(Source {
             processor,

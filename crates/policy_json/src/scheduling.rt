@@ -3,8 +3,7 @@ use crate::keys::{
     read_cpu_frames_keys, read_group_keys, read_major_frame_keys, read_minor_frame_keys,
     read_scheduling_keys,
 };
-use crate::shape::{Shape, read_optional, read_required};
-use muen_num::Seq;
+use crate::shape::{Shape, read_list, read_required};
 use policy_types::source::{CpuFrames, Group, MajorFrame, MinorFrame, Scheduling};
 use serde_json::Value;
 use std::alloc::Global;
@@ -19,7 +18,7 @@ impl Shape for Group {
         read_group_keys(alloc, value)?;
         let name = read_required(alloc, value, "name")?;
         let cpu = read_required(alloc, value, "cpu")?;
-        let subjects = read_optional(alloc, value, "subjects", Seq::new(alloc))?;
+        let subjects = read_list(alloc, value, "subjects")?;
         Ok(Group {
             name,
             cpu,
@@ -51,7 +50,7 @@ impl Shape for CpuFrames {
     fn read(alloc: Global, value: &Value) -> Result<CpuFrames, ReadEnd> {
         read_cpu_frames_keys(alloc, value)?;
         let cpu = read_required(alloc, value, "cpu")?;
-        let minor_frames = read_optional(alloc, value, "minorFrames", Seq::new(alloc))?;
+        let minor_frames = read_list(alloc, value, "minorFrames")?;
         Ok(CpuFrames { cpu, minor_frames })
     }
 }
@@ -64,7 +63,7 @@ impl Shape for MajorFrame {
     #[tactic(auto, unfolding(policy_types::specs::Document::read_major_frame))]
     fn read(alloc: Global, value: &Value) -> Result<MajorFrame, ReadEnd> {
         read_major_frame_keys(alloc, value)?;
-        let cpus = read_optional(alloc, value, "cpus", Seq::new(alloc))?;
+        let cpus = read_list(alloc, value, "cpus")?;
         Ok(MajorFrame { cpus })
     }
 }
@@ -77,8 +76,8 @@ impl Shape for Scheduling {
     #[tactic(auto, unfolding(policy_types::specs::Document::read_scheduling))]
     fn read(alloc: Global, value: &Value) -> Result<Scheduling, ReadEnd> {
         read_scheduling_keys(alloc, value)?;
-        let groups = read_optional(alloc, value, "groups", Seq::new(alloc))?;
-        let major_frames = read_optional(alloc, value, "majorFrames", Seq::new(alloc))?;
+        let groups = read_list(alloc, value, "groups")?;
+        let major_frames = read_list(alloc, value, "majorFrames")?;
         Ok(Scheduling {
             groups,
             major_frames,

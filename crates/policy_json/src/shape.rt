@@ -1,4 +1,4 @@
-ghost use Rattle.std.specs.Prelude.{◌≡◌, map, Result};
+ghost use Rattle.std.specs.Prelude.{◌≡◌, map, Result, []};
 ghost use Rattle.std.specs.Str.{bytes_eq};
 ghost use Rattle.std.specs.List.{list_any};
 ghost use Rattle.serde_json.specs.Data.{Data};
@@ -135,4 +135,11 @@ impl<T: Shape> Shape for Seq<T> {
             Some(items) => read_items(alloc, items),
         }
     }
+}
+
+/// The list under a key, or the empty list where the key is absent.
+pub fn read_list<T: Shape>(alloc: Global, value: &Value, key: &str) -> Result<Seq<T>, ReadEnd>
+    ensures { Gives (optional key.now [] (read_list T.reads) (view value.now)) result }
+{
+    read_optional(alloc, value, key, Seq::new(alloc))
 }
