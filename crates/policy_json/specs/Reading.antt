@@ -11,6 +11,12 @@ Gives wanted (Ok x) = wanted ≡ Ok x
 Gives wanted (Err (Fault f)) = wanted ≡ Err f
 Gives wanted (Err NoMemory) = Unit {0}
 
+-- it is what is wanted, and takes no memory
+abbrev pub Finds : {X : Type 0} → Result X Place → Result X ReadEnd → Type 0
+Finds wanted (Ok x) = wanted ≡ Ok x
+Finds wanted (Err (Fault f)) = wanted ≡ Err f
+Finds wanted (Err NoMemory) = ⊥
+
 -- the end is this fault
 abbrev pub IsFault : List ℕ → Want → ReadEnd → Type 0
 IsFault place want (Fault f) = (f.place ≡ place) × (f.want ≡ want)

@@ -3,7 +3,7 @@ ghost use Rattle.serde_json.specs.View.{view};
 ghost use Rattle.policy_types.specs.Schema.{optional};
 ghost use Rattle.policy_types.specs.Document.{is_one_content, one_content, read_inline};
 ghost use Rattle.policy_types.specs.declared.source.Content.TheVariants.{Zero};
-ghost use Rattle.policy_json.specs.Reading.{Gives};
+ghost use Rattle.policy_json.specs.Reading.{Finds, Gives};
 
 use crate::fault::{ReadEnd, fault_under, make_fault};
 use crate::keys::{
@@ -67,7 +67,7 @@ fn is_one_content(value: &Value) -> bool
 
 #[tactic(auto, unfolding(policy_types::specs::Document::one_content))]
 fn read_one_content(alloc: Global, value: &Value) -> Result<(), ReadEnd>
-    ensures { Gives (one_content (view value.now)) result }
+    ensures { Finds (one_content (view value.now)) result }
 {
     if is_one_content(value) {
         Ok(())

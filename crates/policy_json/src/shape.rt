@@ -4,7 +4,7 @@ ghost use Rattle.std.specs.List.{list_any};
 ghost use Rattle.serde_json.specs.Data.{Data};
 ghost use Rattle.serde_json.specs.View.{view, items_view, members_view};
 ghost use Rattle.policy_types.specs.Schema.{read_list, read_items, object_of, only_keys, required, optional, unbuilt};
-ghost use Rattle.policy_json.specs.Reading.{Gives};
+ghost use Rattle.policy_json.specs.Reading.{Finds, Gives};
 
 use crate::fault::{ReadEnd, fault_under, make_fault};
 use itoa::Buffer;
@@ -48,7 +48,7 @@ fn has_only(members: &Map<String, Value>, keys: &[&str]) -> bool
 /// An object with no key but these.
 #[tactic(auto, unfolding(policy_types::specs::Schema::object_of))]
 pub fn read_object(alloc: Global, value: &Value, keys: &[&str]) -> Result<(), ReadEnd>
-    ensures { Gives (object_of (map (λ k. k.now) keys.now) (view value.now)) result }
+    ensures { Finds (object_of (map (λ k. k.now) keys.now) (view value.now)) result }
 {
     match value.as_object() {
         None => Err(make_fault(alloc, Want::Object)),
