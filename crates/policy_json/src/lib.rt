@@ -1,13 +1,49 @@
-// A library with one function.
+//! Reads a policy document, a JSON text, and finds the first place where it breaks the schema.
 #![tactic(auto)]
 
-ghost use Rattle.std.specs.Prelude.{◌≡◌};
-ghost use Rattle.policy_json.specs.Echo.{echo_of};
+ghost use Rattle.policy_types.specs.Document.{policy_of};
+ghost use Rattle.policy_types.specs.Reading.{Answers};
 
-// The `ensures` clause is the contract: what `echo` returns is `echo_of` of its argument, a definition
-// in `specs/Echo.antt`, which a caller's clause can cite too.
-pub fn echo(x: usize) -> usize
-    ensures { result ≡ echo_of x }
+mod fault;
+mod keys;
+mod kinds;
+mod objects;
+mod scheduling;
+mod shape;
+
+use crate::fault::ReadEnd;
+use crate::shape::Shape;
+use policy_types::{Fault, Refusal, Source};
+use serde_json::Value;
+use std::alloc::Global;
+
+/// The source policy of a document.
+///
+/// Answers `NotJson` where the bytes are no JSON text, `Shape` with the first place that breaks the
+/// schema and what was wanted there, and `NoMemory` where memory was refused.
+#[tactic(auto, using(crate::proofs::Text::texts), unfolding(policy_types::specs::Document::policy_of, policy_types::specs::Document::json_of))]
+pub fn read(alloc: Global, bytes: &[u8]) -> Result<Source, Refusal>
+    ensures { Answers (policy_of bytes.now) result }
 {
-    x
+    let value = match Value::from_slice(alloc, bytes) {
+        Ok(value) => value,
+        Err(e) => {
+            return Err(if e.is_memory() {
+                Refusal::NoMemory
+            } else {
+                Refusal::NotJson
+            });
+        }
+    };
+    match <Source as Shape>::read(alloc, &value) {
+        Ok(source) => Ok(source),
+        Err(ReadEnd::Fault(fault)) => {
+            let Fault { place, want } = fault;
+            Err(Refusal::Shape { place, want })
+        }
+        Err(ReadEnd::NoMemory) => Err(Refusal::NoMemory),
+    }
 }
+
+#[cfg(test)]
+mod tests;

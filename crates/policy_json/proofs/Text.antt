@@ -1,0 +1,4 @@
+-- Bytes that are a text.
+use Rattle.std.proofs.lemmas.Str.{IsUtf8-from_is_utf8, is_utf8-from_IsUtf8}
+
+pub ruleset texts = (IsUtf8-from_is_utf8, is_utf8-from_IsUtf8)

@@ -1,0 +1,84 @@
+ghost use Rattle.std.specs.Prelude.{◌≡◌, option_and_then};
+ghost use Rattle.serde_json.specs.View.{view};
+ghost use Rattle.policy_types.specs.Schema.{read_number, read_name, read_rights, read_hexadecimal, rights_from};
+ghost use Rattle.policy_json.specs.Reading.{Gives};
+
+use crate::fault::{ReadEnd, make_fault};
+use crate::shape::Shape;
+use bitflags::Flags;
+use hex::FromHexError;
+use muen_num::{Name, Seq};
+use policy_types::{Rights, Want};
+use serde_json::Value;
+use std::alloc::Global;
+
+impl Shape for u64 {
+    ghost reads = { read_number };
+
+    #[tactic(auto, unfolding(policy_types::specs::Schema::read_number))]
+    fn read(alloc: Global, value: &Value) -> Result<u64, ReadEnd> {
+        match value.as_u64() {
+            Some(n) => Ok(n),
+            None => Err(make_fault(alloc, Want::Number)),
+        }
+    }
+}
+
+impl Shape for Name {
+    ghost reads = { read_name };
+
+    #[tactic(auto, unfolding(policy_types::specs::Schema::read_name))]
+    fn read(alloc: Global, value: &Value) -> Result<Name, ReadEnd> {
+        match value.as_str() {
+            None => Err(make_fault(alloc, Want::Name)),
+            Some(text) => match Name::read(text.as_bytes()) {
+                Some(name) => Ok(name),
+                None => Err(make_fault(alloc, Want::Name)),
+            },
+        }
+    }
+}
+
+fn rights_of(text: &str) -> Option<Rights>
+    ensures { result ≡ rights_from text.now }
+{
+    match text {
+        "r" => Some(Rights::READ),
+        "rw" => Some(Rights::from_bits_retain(Rights::READ.bits() | Rights::WRITE.bits())),
+        "rx" => Some(Rights::from_bits_retain(Rights::READ.bits() | Rights::EXECUTE.bits())),
+        "rwx" => Some(Rights::from_bits_retain(
+            Rights::READ.bits() | Rights::WRITE.bits() | Rights::EXECUTE.bits(),
+        )),
+        _ => None,
+    }
+}
+
+impl Shape for Rights {
+    ghost reads = { read_rights };
+
+    #[tactic(auto, unfolding(policy_types::specs::Schema::read_rights))]
+    fn read(alloc: Global, value: &Value) -> Result<Rights, ReadEnd> {
+        match value.as_str() {
+            None => Err(make_fault(alloc, Want::Rights)),
+            Some(text) => match rights_of(text) {
+                Some(rights) => Ok(rights),
+                None => Err(make_fault(alloc, Want::Rights)),
+            },
+        }
+    }
+}
+
+/// The bytes that a text of hexadecimal digits spells.
+#[tactic(auto, unfolding(policy_types::specs::Schema::read_hexadecimal))]
+pub fn read_hexadecimal(alloc: Global, value: &Value) -> Result<Seq<u8>, ReadEnd>
+    ensures { Gives (read_hexadecimal (view value.now)) result }
+{
+    match value.as_str() {
+        None => Err(make_fault(alloc, Want::Hexadecimal)),
+        Some(text) => match hex::decode(alloc, text.as_bytes()) {
+            Ok(bytes) => Ok(Seq::of(bytes)),
+            Err(FromHexError::OutOfMemory) => Err(ReadEnd::NoMemory),
+            Err(_) => Err(make_fault(alloc, Want::Hexadecimal)),
+        },
+    }
+}
