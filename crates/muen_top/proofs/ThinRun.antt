@@ -1,5 +1,5 @@
 -- The run of a thin policy is the run of the machine of its subject.
-use Rattle.std.proofs.Common.{◌≡◌, ℕ, zero, suc, ◌+◌, ◌-◌, ◌%◌, ◌<◌, ◌≤◌, Bool, true, false, cond, List, [], ◌∷◌, ◌++◌, length, map, Option, Some, None, refl, sym, ap, ◌∙◌, subst, arith, length-append}
+use Rattle.std.proofs.Common.{◌≡◌, ℕ, zero, suc, ◌+◌, ◌-◌, ◌%◌, ◌<◌, ◌≤◌, Bool, true, false, cond, List, [], ◌∷◌, ◌++◌, length, get_or, map, Option, Some, None, Result, Ok, Err, IfOk, refl, sym, ap, ◌∙◌, subst, arith, length-append}
 use Rattle.std.specs.Prelude.{◌==◌, slice_get, option_map, option_and_then, option_to_list, unwrap_or}
 use Rattle.std.specs.List.{find, flat_map, cons_option}
 use Rattle.std.specs.Str.{bytes_eq}
@@ -12,6 +12,9 @@ use Rattle.policy_types.specs.Windows.{Window, window, holds, windows_of}
 use Rattle.policy_types.specs.Contents.{Held, content_bytes, initial_bytes}
 use Rattle.policy_types.specs.Frames.{frames_of}
 use Rattle.policy_types.specs.declared.source.Source.{Source}
+use Rattle.policy_types.specs.declared.source.Subject.{Subject}
+use Rattle.policy_types.specs.declared.source.Region.{Region}
+use Rattle.policy_types.specs.declared.source.Mapping.{Mapping}
 use Rattle.policy_types.specs.declared.source.Content.{Content}
 use Rattle.policy_types.specs.declared.source.Content.TheVariants.{Zero, Fill, Inline, File}
 use Rattle.muen_top.specs.StatePage.{started}
@@ -21,7 +24,7 @@ use Rattle.muen_top.specs.Slot.{Slot, slot_at, slots_from, frame_slots}
 use Rattle.muen_top.specs.Solo.{Answer, bytes_in, own_of, solo_turn, turn_over}
 use Rattle.muen_top.specs.System.{System, Turned, Turner, start_of, inbox_of, turner_in, turned_by, turn_answered, system_turn}
 use Rattle.muen_top.specs.Run.{Ran, then_line, tick_of, after_lines, run_to, run_of, final_text, trace_of}
-use Rattle.muen_top.specs.Thin.{fits_in, is_region, is_thin}
+use Rattle.muen_top.specs.Thin.{fits_in, is_region, is_window_on, is_thin}
 use Rattle.muen_top.specs.Machine.{MachineState, MachineRan, bytes_at, plain_bytes, machine_answer, machine_after, machine_line, machine_run_to, machine_final_text, machine_text, machine_of}
 use Rattle.muen_top.specs.declared.state_page.SubjectState.{SubjectState}
 use Rattle.muen_top.specs.declared.memory.Holding.{Holding}
@@ -47,7 +50,7 @@ record OneSlot (o : Option Slot) : Type 0 where
 
 one_slot : (ks : List ℕ) (f : ℕ → Slot) (i : ℕ) → i < length ks → ((k : ℕ) → (f k).group ≡ 0) → OneSlot (slice_get (map f ks) i)
 one_slot ks f i h group =
-    let k = Rattle.std.proofs.Common.get_or ks i 0 in
+    let k = get_or ks i 0 in
     record {
       slot = f k;
       is = slice_get-map f ks i ∙ ap (option_map f) (slice_get-get_or ks i 0 h);
@@ -222,3 +225,46 @@ thin_trace source h files end =
     ap (λ x. trace_of x files (only_ticks end)) h.is
     ∙ trace_is h.parts h.ticks files end
     ∙ ap (λ m. machine_text m end) (loaded_is h.parts files h.region)
+
+-- what the first items of a thin policy are
+pub record Loads (source : Source) (s : Subject) (r : Region) (m : Mapping) : Type 0 where
+  pub region : is_region r ≡ true
+  pub window : is_window_on m r ≡ true
+  pub trace : (files : Held) (end : ℕ) → trace_of source files (only_ticks end) ≡ machine_text (machine_of s r m) end
+
+pub loads : (source : Source) (s : Subject) (r : Region) (m : Mapping) → is_thin source ≡ true → s ≡ get_or source.subjects 0 s → r ≡ get_or source.memory 0 r → m ≡ get_or s.memory 0 m → Loads source s r m
+loads source s r m thin s_first r_first m_first =
+    let h = parts_of source thin in
+    let q = h.parts in
+    let s_is : s ≡ the_subject q = s_first ∙ ap (λ (x : Source). get_or x.subjects 0 s) h.is in
+    let r_is : r ≡ q.region = r_first ∙ ap (λ (x : Source). get_or x.memory 0 r) h.is in
+    let m_is : m ≡ the_mapping q = m_first ∙ ap (λ (x : Subject). get_or x.memory 0 m) s_is in
+    record {
+      region = ap is_region r_is ∙ h.region;
+      window = (λ i. is_window_on (m_is i) (r_is i)) ∙ h.window;
+      trace = λ files end. thin_trace source h files end ∙ ap (λ x. machine_text x end) (sym (λ i. machine_of (s_is i) (r_is i) (m_is i)));
+    }
+
+pub has_subject : (source : Source) → is_thin source ≡ true → 0 < length source.subjects
+has_subject source thin =
+    let h = parts_of source thin in
+    let e : length source.subjects ≡ 1 = ap (λ (x : Source). length x.subjects) h.is in
+    omega arith
+
+pub has_region : (source : Source) → is_thin source ≡ true → 0 < length source.memory
+has_region source thin =
+    let h = parts_of source thin in
+    let e : length source.memory ≡ 1 = ap (λ (x : Source). length x.memory) h.is in
+    omega arith
+
+pub has_mapping : (source : Source) (s : Subject) → is_thin source ≡ true → s ≡ get_or source.subjects 0 s → 0 < length s.memory
+has_mapping source s thin s_first =
+    let h = parts_of source thin in
+    let s_is : s ≡ the_subject h.parts = s_first ∙ ap (λ (x : Source). get_or x.subjects 0 s) h.is in
+    let e : length s.memory ≡ 1 = ap (λ (x : Subject). length x.memory) s_is in
+    omega arith
+
+-- what a machine of these items prints
+pub prints : {E : Type 0} (source : Source) (s : Subject) (r : Region) (m : Mapping) (result : Result MachineState E) → Loads source s r m → IfOk result (λ x. x ≡ machine_of s r m) → IfOk result (λ x. (files : Held) (end : ℕ) → trace_of source files (only_ticks end) ≡ machine_text x end)
+prints source s r m (Ok x) l e = λ files end. l.trace files end ∙ ap (λ y. machine_text y end) (sym e)
+prints source s r m (Err x) l e = e

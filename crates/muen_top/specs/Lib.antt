@@ -1,3 +1,4 @@
+pub mod Ended
 pub mod GuestIsa
 pub mod Machine
 pub mod RecordText
@@ -7,4 +8,5 @@ pub mod Solo
 pub mod StatePage
 pub mod System
 pub mod Thin
+pub mod Thinly
 pub mod ViewText

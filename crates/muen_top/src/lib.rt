@@ -1,6 +1,8 @@
 //! The commands of the program `muen`.
 #![tactic(auto)]
 
+mod boot;
+mod end;
 pub mod guest_isa;
 mod machine;
 mod memory;
