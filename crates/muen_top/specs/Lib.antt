@@ -2,6 +2,7 @@ pub mod Ended
 pub mod GuestIsa
 pub mod Machine
 pub mod RecordText
+pub mod Report
 pub mod Run
 pub mod Slot
 pub mod Solo

@@ -8,6 +8,7 @@ mod machine;
 mod memory;
 mod print;
 pub mod record_text;
+mod report;
 pub mod state_page;
 mod thin;
 pub mod view_text;

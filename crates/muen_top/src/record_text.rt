@@ -12,11 +12,43 @@ pub struct Record {
     pub end: u32,
 }
 
-/// Why bytes are no record.
+/// What a word of a record's line should have been.
+#[derive(Clone, Copy, Debug, PartialEq, Eq)]
+pub enum LineWant {
+    /// One of the words that a line begins with.
+    Word,
+    /// Another number of words.
+    Count,
+    /// A number.
+    Number,
+    /// A number within its range.
+    Range,
+    /// 1 to 64 bytes in hexadecimal digits.
+    Hex,
+    /// Each CPU once, and one order for a tick.
+    Order,
+}
+
+/// Why bytes are no record. Lines are counted from 1. As far as records are built, `NotYetBuilt` is
+/// the one that comes.
 #[derive(Clone, Copy, Debug, PartialEq, Eq)]
 pub enum RecordFault {
-    /// What stands from this line on, counted from 1, isn't built.
+    /// The line has a byte above 127.
+    NotAscii { line: u64 },
+    /// The line follows the one that ends the record.
+    TooMany { line: u64 },
+    /// A word of the line isn't what it should have been.
+    Line { line: u64, want: LineWant },
+    /// The tick is less than that of the line before.
+    Back { line: u64 },
+    /// There is no such device, port, memory or interrupt.
+    Unknown { line: u64 },
+    /// No line ends the record.
+    NoEnd { line: u64 },
+    /// What stands from this line on isn't built.
     NotYetBuilt { line: u64 },
+    /// Memory was refused.
+    NoMemory,
 }
 
 // Whether the word is empty, or has a leading zero.
