@@ -11,3 +11,4 @@ pub mod System
 pub mod Thin
 pub mod Thinly
 pub mod ViewText
+pub mod Wanted

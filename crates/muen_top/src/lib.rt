@@ -2,6 +2,7 @@
 #![tactic(auto)]
 
 mod boot;
+mod command;
 mod end;
 pub mod guest_isa;
 mod machine;
