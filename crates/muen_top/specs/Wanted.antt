@@ -12,7 +12,7 @@ use Rattle.muen_top.specs.Thin.{is_thin, thin_policy_of}
 use Rattle.muen_top.specs.RecordText.{DeviceRecord, record_of}
 use Rattle.muen_top.specs.Run.{trace_of}
 use Rattle.muen_top.specs.Ended.{Command, boots, command_of, policy_most, record_most, Follows, HasCause}
-use Rattle.muen_top.specs.Report.{status_of, Reported}
+use Rattle.muen_top.specs.Report.{refusal_message, fault_message, line_of, status_of, Told, Reported}
 use Rattle.muen_top.specs.declared.record_text.RecordFault.{RecordFault}
 use Rattle.muen_top.specs.declared.end.Input.TheVariants.{Policy, Record}
 use Rattle.muen_top.specs.declared.end.Stop.{Stop}
@@ -65,19 +65,41 @@ pub record Ends (words : List (List ℕ)) (err err' : SinkState) (status : ℕ) 
   pub status_is : status ≡ status_of end
   pub report : Reported words err err' end
 
--- A thin policy and a record were read, from files that hold them where files tell it, and the text of the policy's run on
--- the record, whatever files hold, was printed so.
-pub record Prints (words : List (List ℕ)) (held : Option Store) (prints : List ℕ → Type 0) : Type 0 where
+-- The words name a policy's file that has these bytes, where files tell it.
+pub record Names (words : List (List ℕ)) (held : Option Store) : Type 0 where
   pub policy : List ℕ
   pub inputs : List ℕ
   pub words_are : command_of words ≡ Some (boots policy inputs)
-  pub policy_bytes : List ℕ
-  pub policy_told : IfSome held (λ m. whole policy_bytes ≡ reading_of (get m policy) policy_most)
+  pub bytes : List ℕ
+  pub told : IfSome held (λ m. whole bytes ≡ reading_of (get m policy) policy_most)
+
+-- A thin policy and a record were read, and the text of the policy's run on the record, whatever files hold, was printed
+-- so.
+pub record Prints (words : List (List ℕ)) (held : Option Store) (prints : List ℕ → Type 0) : Type 0 where
+  pub named : Names words held
   pub source : Source
-  pub policy_is : policy_of policy_bytes ≡ Ok source
+  pub policy_is : policy_of named.bytes ≡ Ok source
   pub thin : is_thin source ≡ true
   pub record_bytes : List ℕ
-  pub record_told : IfSome held (λ m. whole record_bytes ≡ reading_of (get m inputs) record_most)
+  pub record_told : IfSome held (λ m. whole record_bytes ≡ reading_of (get m named.inputs) record_most)
   pub run : DeviceRecord
   pub record_is : record_of record_bytes ≡ Ok run
   pub text : (files : Held) → prints (trace_of source files run)
+
+-- A policy was read that is refused, and the line of its refusal was put.
+pub record RefusesPolicy (words : List (List ℕ)) (held : Option Store) (err err' : SinkState) : Type 0 where
+  pub named : Names words held
+  pub refusal : Refusal
+  pub answer : thin_policy_of named.bytes ≡ Err refusal
+  pub line : Told (line_of (refusal_message refusal)) err err'
+
+-- A thin policy was read, and a record that is refused, and the line of its fault was put.
+pub record RefusesRecord (words : List (List ℕ)) (held : Option Store) (err err' : SinkState) : Type 0 where
+  pub named : Names words held
+  pub source : Source
+  pub answer : thin_policy_of named.bytes ≡ Ok source
+  pub record_bytes : List ℕ
+  pub record_told : IfSome held (λ m. whole record_bytes ≡ reading_of (get m named.inputs) record_most)
+  pub fault : RecordFault
+  pub record_answer : record_of record_bytes ≡ Err fault
+  pub line : Told (line_of (fault_message fault)) err err'
