@@ -96,7 +96,7 @@ module _ (m : Store) where
   boot_wanted policy inputs old new out out' (Stopped FileFault) h b = inl (inl refl)
   boot_wanted policy inputs old new out out' (Stopped NoMemory) h b = inl (inr (inr refl))
 
-  wanted : (command : Option Command) (old new : FilesState) (out out' : SinkState) (end : End) → old.held ≡ Some m → HasCause command old new out out' end → IsFault (status_of end) ⊎ (end ≡ end_wanted command m)
+  pub wanted : (command : Option Command) (old new : FilesState) (out out' : SinkState) (end : End) → old.held ≡ Some m → HasCause command old new out out' end → IsFault (status_of end) ⊎ (end ≡ end_wanted command m)
   wanted None old new out out' end h cause = inr cause.0
   wanted (Some (boots policy inputs)) old new out out' end h cause = boot_wanted policy inputs old new out out' end h cause
 
@@ -109,7 +109,7 @@ tested : (q p : Source) (t : Bool) → is_thin q ≡ t → cond t (Ok q) (Err ru
 tested q p true h e = (e, subst (λ x. is_thin x ≡ true) (ok_is q p e) h)
 tested q p false h e = absurd (cc)
 
-thin_ok : (answer : Result Source Refusal) (p : Source) → thin_alone answer ≡ Ok p → (answer ≡ Ok p) × (is_thin p ≡ true)
+pub thin_ok : (answer : Result Source Refusal) (p : Source) → thin_alone answer ≡ Ok p → (answer ≡ Ok p) × (is_thin p ≡ true)
 thin_ok (Ok q) p e = tested q p (is_thin q) refl e
 thin_ok (Err NotJson) p e = absurd (cc)
 thin_ok (Err (Shape place want)) p e = absurd (cc)
@@ -137,11 +137,11 @@ thin_err (Err (NoRoom region size)) r e = let f : rule_0 ≡ r = cc in ap refusa
 thin_err (Err NoMemoryFor) r e = let f : rule_0 ≡ r = cc in ap refusal_status (sym f)
 
 -- a refusal that was seen: its answer, or want of memory
-data Seen (bytes : List ℕ) (r : Refusal) : Type 0 where
+pub data Seen (bytes : List ℕ) (r : Refusal) : Type 0 where
   answered : thin_policy_of bytes ≡ Err r → Seen bytes r
   out_of_memory : r ≡ NoMemoryFor → Seen bytes r
 
-seen : (bytes : List ℕ) (r : Refusal) → Answers (thin_policy_of bytes) (Err r) → Seen bytes r
+pub seen : (bytes : List ℕ) (r : Refusal) → Answers (thin_policy_of bytes) (Err r) → Seen bytes r
 seen bytes NotJson a = answered a
 seen bytes (Shape place want) a = answered a
 seen bytes (Rule n x y) a = answered a
@@ -151,7 +151,7 @@ seen bytes (FileFit region room n) a = answered a
 seen bytes (NoRoom region size) a = answered a
 seen bytes NoMemoryFor a = out_of_memory refl
 
-refused_status : (bytes : List ℕ) (r : Refusal) → Seen bytes r → (refusal_status r ≡ 2) ⊎ (refusal_status r ≡ 8)
+pub refused_status : (bytes : List ℕ) (r : Refusal) → Seen bytes r → (refusal_status r ≡ 2) ⊎ (refusal_status r ≡ 8)
 unfolding thin_policy_of
 refused_status bytes r (answered a) = inl (thin_err (policy_of bytes) r a)
 refused_status bytes r (out_of_memory e) = inr (ap refusal_status e)

@@ -1,6 +1,12 @@
 //! The commands of the program `muen`.
 #![tactic(auto)]
 
+ghost use Rattle.std.specs.Prelude.{◌≡◌, ◌≢◌, ◌⊎◌, IfSome, None, map, string_bytes};
+ghost use Rattle.muen_outside.specs.Counts.{Rose};
+ghost use Rattle.muen_outside.specs.Puts.{Appended, Failed};
+ghost use Rattle.muen_top.specs.Ended.{command_of, Follows};
+ghost use Rattle.muen_top.specs.Wanted.{end_wanted, IsFault, Ends, Prints, RefusesPolicy, RefusesRecord};
+
 mod boot;
 mod command;
 mod end;
@@ -13,3 +19,54 @@ mod report;
 pub mod state_page;
 mod thin;
 pub mod view_text;
+
+use muen_outside::{Files, Sink};
+use std::alloc::Global;
+
+/// Does what the words after the program's name ask for, and answers the status.
+///
+/// `boot POLICY RECORD` reads a policy and a device record, runs the policy's system on the record,
+/// and puts the text of the run to `out`. No other command is built. On every status but 0 one line
+/// that begins with `muen: ` is put to `err`; a fault of `err` changes no status.
+///
+/// | Status | Comes | Line |
+/// |---|---|---|
+/// | 0 | the text was put | |
+/// | 1 | the words are none of the forms | `usage: ..` |
+/// | 2 | the policy is no JSON text, or isn't built | `not JSON`, `rule 0: policy policy` |
+/// | 3 | a file isn't there, or is longer than 4 MiB (policy) or 16 MiB (record) | `missing file NAME`, `file NAME has LENGTH bytes` |
+/// | 4 | a call on `files` failed | `file fault` |
+/// | 6 | the record isn't built | `record refused at line 1: not yet built` |
+/// | 7 | a call on `out` failed; a front of the text was put | `output fault` |
+/// | 8 | memory was refused, before the first turn | `out of memory` |
+pub fn muen<F: Files, S: Sink, E: Sink>(
+    alloc: Global,
+    words: &[String],
+    files: &mut F,
+    out: &mut S,
+    err: &mut E,
+) -> u8
+    // The headline: the text of the policy's run on the record, in which each subject takes its
+    // turns alone, was put to `out`.
+    ensures prints { result ≡ 0 → Prints (map string_bytes words.now) (F.state files.old).held (λ text. Appended text (S.state out.old) (S.state out.new)) }
+
+    // Where files tell what they hold, the call ends as they and the words call for, but for a
+    // fault or want of memory.
+    ensures told { IsFault result ⊎ IfSome (F.state files.old).held (λ m. Ends (map string_bytes words.now) (E.state err.old) (E.state err.new) result (end_wanted (command_of (map string_bytes words.now)) m)) }
+    ensures usage { result ≡ 1 → command_of (map string_bytes words.now) ≡ None }
+    ensures no_command { command_of (map string_bytes words.now) ≡ None → (result ≡ 1) × (F.state files.new ≡ F.state files.old) }
+    ensures refuses_policy { result ≡ 2 → RefusesPolicy (map string_bytes words.now) (F.state files.old).held (E.state err.old) (E.state err.new) }
+    ensures missed { result ≡ 3 → Rose (F.state files.old).misses (F.state files.new).misses }
+    ensures failed { result ≡ 4 → Rose (F.state files.old).faults (F.state files.new).faults }
+    ensures refuses_record { result ≡ 6 → RefusesRecord (map string_bytes words.now) (F.state files.old).held (E.state err.old) (E.state err.new) }
+    ensures out_rose { result ≡ 7 → Rose (S.state out.old).faults (S.state out.new).faults }
+    ensures prefix { result ≡ 7 → Prints (map string_bytes words.now) (F.state files.old).held (λ text. Failed text (S.state out.old) (S.state out.new)) }
+
+    // Files stay, and nothing is put where nothing is to be.
+    ensures follows { Follows (F.state files.old) (F.state files.new) }
+    ensures quiet_out { result ≢ 0 → result ≢ 7 → S.state out.new ≡ S.state out.old }
+    ensures quiet_err { result ≡ 0 → E.state err.new ≡ E.state err.old }
+{
+    command::run(alloc, words, files, out, err)
+}
+
