@@ -1,12 +1,12 @@
 -- A turn over one labelling of things is the turn over another.
-use Rattle.std.proofs.Common.{◌≡◌, ℕ, ◌+◌, ◌-◌, ◌*◌, ◌%◌, ◌^◌, Bool, true, false, cond, List, [], ◌∷◌, map, take, drop, Option, Some, None, refl, sym, ap, ◌∙◌}
+use Rattle.std.proofs.Common.{◌≡◌, ℕ, ◌-◌, ◌%◌, ◌^◌, Bool, true, false, cond, List, [], ◌∷◌, map, take, drop, Option, Some, None, refl, sym, ap, ◌∙◌}
 use Rattle.std.specs.Prelude.{◌==◌, ◌||◌, nat_le, option_map}
 use Rattle.std.specs.List.{find}
 use Rattle.muen_num.specs.Access.{allows}
 use Rattle.muen_num.specs.Deliver.{delivered}
 use Rattle.muen_num.specs.declared.bits.Kind.{Kind}
 use Rattle.muen_num.specs.declared.bits.Kind.TheVariants.{Fetch}
-use Rattle.policy_types.specs.Windows.{Window, window, Access, byte, violation, holds, access_by, access_of}
+use Rattle.policy_types.specs.Windows.{Window, window, byte, violation, holds, access_by, access_of}
 use Rattle.muen_top.specs.GuestIsa.{decode_of, effect_of}
 use Rattle.muen_top.specs.Solo.{Answer, idle, faulted, performed, executed, fetched, attempted, deliverable, unless_delivered, turn_over}
 use Rattle.muen_top.specs.declared.state_page.SubjectState.{SubjectState}

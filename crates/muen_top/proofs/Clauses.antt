@@ -1,28 +1,24 @@
 -- The clauses of a whole call.
-use Rattle.std.proofs.Common.{◌≡◌, inl, inr, ◌⊎◌, ◌≢◌, ℕ, ◌+◌, ◌-◌, ◌^◌, ◌≤◌, min, List, [], Option, Some, None, Result, Ok, Err, IfSome, refl, sym, ap, subst, ◌∙◌, arith, true}
+use Rattle.std.proofs.Common.{◌≡◌, inl, inr, ◌⊎◌, ◌≢◌, ℕ, List, [], Option, Some, None, Err, IfSome, refl, sym, ap, subst, ◌∙◌, arith}
 use Rattle.std.specs.FinMap.{get, from_entries}
 use Rattle.muen_outside.specs.Counts.{Rose}
 use Rattle.muen_outside.specs.Store.{Store, whole, reading_of}
 use Rattle.muen_outside.specs.Outside.{FilesState, SinkState}
 use Rattle.muen_outside.specs.Puts.{Appended, Failed}
-use Rattle.policy_types.specs.Contents.{Held}
 use Rattle.policy_types.specs.Document.{policy_of}
 use Rattle.policy_types.specs.declared.refusal.Refusal.{Refusal}
-use Rattle.policy_types.specs.declared.source.Source.{Source}
-use Rattle.muen_top.specs.Thin.{is_thin, thin_policy_of}
-use Rattle.muen_top.specs.RecordText.{DeviceRecord, record_of, record_from, end_line, line_of as line_in}
-use Rattle.muen_top.specs.Run.{trace_of}
-use Rattle.muen_top.specs.Ended.{Command, boots, command_of, policy_most, record_most, SawPolicy, SawRecord, AfterPolicy, Booted, BootCause, HasCause}
-use Rattle.muen_top.specs.Report.{status_of, stop_status, refusal_status, fault_status, Reported}
-use Rattle.muen_top.specs.Wanted.{end_wanted, Ran, IsFault, Ends, Names, Prints, RefusesPolicy, RefusesRecord}
+use Rattle.muen_top.specs.Thin.{thin_policy_of}
+use Rattle.muen_top.specs.RecordText.{record_of, record_from, end_line, line_of as line_in}
+use Rattle.muen_top.specs.Ended.{Command, boots, command_of, record_most, SawPolicy, SawRecord, AfterPolicy, Booted, BootCause, HasCause}
+use Rattle.muen_top.specs.Report.{status_of, refusal_status, fault_status, Reported}
+use Rattle.muen_top.specs.Wanted.{end_wanted, Ran, IsFault, Ends, Prints, RefusesPolicy, RefusesRecord}
 use Rattle.muen_top.specs.declared.record_text.RecordFault.{RecordFault}
 use Rattle.muen_top.specs.declared.record_text.RecordFault.TheVariants.{NotYetBuilt}
 use Rattle.muen_top.specs.declared.end.Input.TheVariants.{Policy, Record}
-use Rattle.muen_top.specs.declared.end.Stop.{Stop}
 use Rattle.muen_top.specs.declared.end.Stop.TheVariants.{Usage, Refused, Missing, TooLong, FileFault, RecordRefused, NoMemory}
 use Rattle.muen_top.specs.declared.end.End.{End}
 use Rattle.muen_top.specs.declared.end.End.TheVariants.{Done, Stopped, OutFault}
-use Rattle.muen_top.proofs.Promises.{wanted, thin_ok, Seen, answered, out_of_memory, seen, refused_status}
+use Rattle.muen_top.proofs.Promises.{wanted, thin_ok, answered, out_of_memory, seen, refused_status}
 
 -- a record's fault is of status 6
 fault_from : (o : Option ℕ) (f : RecordFault) → record_from o ≡ Err f → fault_status f ≡ 6

@@ -1,16 +1,15 @@
 -- The windows of a machine fit at the start.
-use Rattle.std.proofs.Common.{◌≡◌, ℕ, ◌+◌, ◌-◌, ◌%◌, ◌<◌, ◌≤◌, true, List, [], ◌∷◌, length, refl, sym, ap, ◌∙◌, arith, length-append}
-use Rattle.std.specs.Prelude.{◌==◌, ◌&&◌, replicate, nat_le}
+use Rattle.std.proofs.Common.{◌≡◌, ℕ, ◌-◌, ◌%◌, ◌≤◌, true, List, [], ◌∷◌, length, arith, length-append}
+use Rattle.std.specs.Prelude.{replicate}
 use Rattle.std.proofs.lemmas.List.{length-replicate}
 use Rattle.std.proofs.lemmas.Bool.Decides.{nat_tests}
-use Rattle.policy_types.specs.declared.rights.Rights.{Rights}
 use Rattle.policy_types.specs.declared.source.Region.{Region}
 use Rattle.policy_types.specs.declared.source.Mapping.{Mapping}
 use Rattle.policy_types.specs.declared.source.Content.{Content}
 use Rattle.policy_types.specs.declared.source.Content.TheVariants.{Zero, Fill, Inline, File}
 use Rattle.policy_types.specs.Windows.{window}
 use Rattle.muen_top.specs.Thin.{fits_in, is_region, is_window_on}
-use Rattle.muen_top.specs.Machine.{plain_bytes, WindowFits, AllFit, windows_on}
+use Rattle.muen_top.specs.Machine.{plain_bytes, AllFit, windows_on}
 use Rattle.muen_top.specs.declared.memory.Holding.{Holding}
 use Rattle.muen_top.specs.declared.memory.Window.{Window}
 use Rattle.muen_top.proofs.ThinParts.{both, same_number}

@@ -1,14 +1,14 @@
 -- Lines that were printed are a front of all lines.
-use Rattle.std.proofs.Common.{◌≡◌, inl, inr, ℕ, zero, suc, ◌+◌, ◌<◌, List, [], ◌∷◌, ◌++◌, Option, Some, None, Result, Ok, Err, IsErr, refl, sym, ap, subst, ◌∙◌, append_assoc, append-nil, arith}
+use Rattle.std.proofs.Common.{◌≡◌, inl, inr, ℕ, zero, suc, ◌<◌, List, [], ◌++◌, Option, Result, IsErr, sym, ap, subst, ◌∙◌, append_assoc, append-nil, arith}
 use Rattle.std.specs.Prelude.{option_to_list}
 use Rattle.std.specs.List.{flat_map}
 use Rattle.std.proofs.lemmas.Bool.{cases_eq}
 use Rattle.std.proofs.lemmas.Grind.{flat_map-append}
 use Rattle.muen_outside.specs.Outside.{SinkState}
 use Rattle.muen_outside.specs.Puts.{Appended, Failed, Puts}
-use Rattle.muen_outside.proofs.Puts.{failed_then, puts_exit, puts_then}
+use Rattle.muen_outside.proofs.Puts.{failed_then, puts_exit}
 use Rattle.muen_top.specs.ViewText.{turn_text}
-use Rattle.muen_top.specs.Machine.{MachineState, machine_line, machine_run_to, machine_final_text, machine_text}
+use Rattle.muen_top.specs.Machine.{MachineState, machine_line, machine_run_to}
 use Rattle.muen_top.specs.declared.view_text.Line.{Line}
 
 -- the lines of a run, with those of the first n ticks and of the tick after them in front
@@ -23,17 +23,17 @@ front m n (suc k) h =
     let last = option_to_list (machine_line (machine_run_to m k).machine k) in
     elim (cases_eq n k) [
       | inl e ↦
-        record {
-          rest = [];
-          is = ap (λ i. (machine_run_to m i).lines ++ option_to_list (machine_line (machine_run_to m i).machine i)) (sym e) ∙ ap (λ x. (machine_run_to m n).lines ++ x) (sym (append-nil here));
-        }
+          record {
+            rest = [];
+            is = ap (λ i. (machine_run_to m i).lines ++ option_to_list (machine_line (machine_run_to m i).machine i)) (sym e) ∙ ap (λ x. (machine_run_to m n).lines ++ x) (sym (append-nil here));
+          }
       | inr ne ↦
-        let lt : n < k = omega arith in
-        let f = front m n k lt in
-        record {
-          rest = f.rest ++ last;
-          is = ap (λ x. x ++ last) f.is ∙ append_assoc (machine_run_to m n).lines (here ++ f.rest) last ∙ ap (λ x. (machine_run_to m n).lines ++ x) (append_assoc here f.rest last);
-        }
+          let lt : n < k = omega arith in
+          let f = front m n k lt in
+          record {
+            rest = f.rest ++ last;
+            is = ap (λ x. x ++ last) f.is ∙ append_assoc (machine_run_to m n).lines (here ++ f.rest) last ∙ ap (λ x. (machine_run_to m n).lines ++ x) (append_assoc here f.rest last);
+          }
     ]
 
 -- a turn's line met a fault
@@ -43,7 +43,7 @@ turn_failed m n end s t u r line h is before here err =
     let f = front m n end h in
     let lines = (machine_run_to m n).lines in
     let whole : flat_map turn_text (machine_run_to m end).lines ≡ flat_map turn_text lines ++ (flat_map turn_text (option_to_list line) ++ flat_map turn_text f.rest) =
-        ap (flat_map turn_text) f.is
-        ∙ flat_map-append turn_text lines _
-        ∙ ap (λ x. flat_map turn_text lines ++ x) (flat_map-append turn_text _ f.rest ∙ ap (λ o. flat_map turn_text (option_to_list o) ++ flat_map turn_text f.rest) (sym is)) in
+    ap (flat_map turn_text) f.is
+    ∙ flat_map-append turn_text lines _
+    ∙ ap (λ x. flat_map turn_text lines ++ x) (flat_map-append turn_text _ f.rest ∙ ap (λ o. flat_map turn_text (option_to_list o) ++ flat_map turn_text f.rest) (sym is)) in
     puts_exit _ s u r err (subst (λ x. Failed x s u) (sym whole) (failed_then _ _ _ s t u before here))

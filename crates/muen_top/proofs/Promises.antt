@@ -1,23 +1,19 @@
 -- What a whole call promises, read off the causes of its end.
-use Rattle.std.proofs.Common.{◌≡◌, inl, inr, ◌⊎◌, ◌≢◌, ℕ, List, Option, Some, None, Result, Ok, Err, IfSome, refl, sym, ap, subst, ◌∙◌, arith, true, Bool, cond, false}
-use Rattle.std.specs.FinMap.{get, from_entries}
-use Rattle.muen_outside.specs.Counts.{Rose}
+use Rattle.std.proofs.Common.{◌≡◌, inl, inr, ◌⊎◌, ℕ, List, Option, Some, None, Result, Ok, Err, IfSome, refl, sym, ap, subst, ◌∙◌, true, Bool, cond, false}
+use Rattle.std.specs.FinMap.{get}
 use Rattle.muen_outside.specs.Store.{Store, Reading, whole, absent, long, reading_of}
 use Rattle.muen_outside.specs.Outside.{FilesState, SinkState}
-use Rattle.muen_outside.specs.Puts.{Appended, Failed}
 use Rattle.policy_types.specs.Document.{policy_of}
 use Rattle.policy_types.specs.declared.refusal.Refusal.{Refusal}
 use Rattle.policy_types.specs.declared.refusal.Refusal.TheVariants.{NotJson, Shape, Rule, Missing as MissingFile, TooLong as TooLongFile, FileFit, NoRoom, NoMemory as NoMemoryFor}
 use Rattle.policy_types.specs.declared.source.Source.{Source}
 use Rattle.policy_types.specs.Reading.{Answers}
 use Rattle.muen_top.specs.Thin.{is_thin, rule_0, thin_alone, thin_policy_of}
-use Rattle.muen_top.specs.RecordText.{DeviceRecord, record_of}
-use Rattle.muen_top.specs.Ended.{Command, boots, command_of, policy_most, record_most, Saw, SawPolicy, SawRecord, AfterPolicy, Booted, BootCause, HasCause}
-use Rattle.muen_top.specs.Report.{status_of, stop_status, refusal_status, Told, Reported}
-use Rattle.muen_top.specs.Wanted.{record_wanted, record_read, policy_wanted, policy_read, end_wanted, Ran, IsFault, Ends, Names, Prints, RefusesPolicy, RefusesRecord}
+use Rattle.muen_top.specs.RecordText.{DeviceRecord}
+use Rattle.muen_top.specs.Ended.{Command, boots, policy_most, record_most, Saw, SawPolicy, SawRecord, BootCause, HasCause}
+use Rattle.muen_top.specs.Report.{status_of, refusal_status}
+use Rattle.muen_top.specs.Wanted.{record_wanted, record_read, policy_wanted, policy_read, end_wanted, IsFault}
 use Rattle.muen_top.specs.declared.record_text.RecordFault.{RecordFault}
-use Rattle.muen_top.specs.declared.record_text.RecordFault.TheVariants.{NotAscii, TooMany, Line, Back, Unknown, NoEnd, NotYetBuilt, NoMemory as NoMemoryForRecord}
-use Rattle.muen_top.specs.declared.end.Stop.{Stop}
 use Rattle.muen_top.specs.declared.end.Input.TheVariants.{Policy, Record}
 use Rattle.muen_top.specs.declared.end.Stop.TheVariants.{Usage, Refused, Missing, TooLong, FileFault, RecordRefused, NoMemory}
 use Rattle.muen_top.specs.declared.end.End.{End}

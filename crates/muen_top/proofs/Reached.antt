@@ -1,11 +1,10 @@
 -- What an access reaches lies in a region.
-use Rattle.std.proofs.Common.{◌≡◌, ℕ, ◌+◌, ◌-◌, ◌%◌, ◌<◌, ◌≤◌, Bool, true, false, cond, List, [], ◌∷◌, length, Option, Some, None, refl, sym, ap, ◌∙◌, subst, arith}
-use Rattle.std.specs.Prelude.{nat_le, nat_lt, ◌&&◌}
+use Rattle.std.proofs.Common.{◌≡◌, ℕ, ◌+◌, ◌-◌, ◌%◌, ◌<◌, ◌≤◌, true, false, cond, List, [], ◌∷◌, length, Option, Some, None, refl, subst, arith}
 use Rattle.std.specs.List.{find}
 use Rattle.std.proofs.lemmas.Bool.Decides.{nat_tests}
 use Rattle.muen_num.specs.Access.{allows}
 use Rattle.muen_num.specs.declared.bits.Kind.{Kind}
-use Rattle.policy_types.specs.Windows.{Window, Access, byte, violation, holds, access_by, access_of}
+use Rattle.policy_types.specs.Windows.{Window, byte, violation, holds, access_by, access_of}
 use Rattle.muen_top.specs.Machine.{bytes_at, WindowFits, AllFit}
 use Rattle.muen_top.specs.declared.memory.Holding.{Holding}
 

@@ -1,13 +1,13 @@
 -- The run of a thin policy is the run of the machine of its subject.
-use Rattle.std.proofs.Common.{◌≡◌, ℕ, zero, suc, ◌+◌, ◌-◌, ◌%◌, ◌<◌, ◌≤◌, Bool, true, false, cond, List, [], ◌∷◌, ◌++◌, length, get_or, map, Option, Some, None, Result, Ok, Err, IfOk, refl, sym, ap, ◌∙◌, subst, arith, length-append}
-use Rattle.std.specs.Prelude.{◌==◌, slice_get, option_map, option_and_then, option_to_list, unwrap_or}
-use Rattle.std.specs.List.{find, flat_map, cons_option}
+use Rattle.std.proofs.Common.{◌≡◌, ℕ, zero, suc, ◌-◌, ◌%◌, ◌<◌, ◌≤◌, Bool, true, false, cond, List, [], ◌∷◌, ◌++◌, length, get_or, map, Option, Some, None, Result, Ok, Err, IfOk, refl, sym, ap, ◌∙◌, arith, length-append}
+use Rattle.std.specs.Prelude.{◌==◌, slice_get, option_map, option_and_then, option_to_list}
+use Rattle.std.specs.List.{flat_map, cons_option}
 use Rattle.std.specs.Str.{bytes_eq}
 use Rattle.std.specs.Cmp.Lexicographic.{nat_list_eq_equiv}
 use Rattle.std.proofs.lemmas.List.{append-nil, length-map}
 use Rattle.std.proofs.lemmas.Option.{slice_get-map, slice_get-get_or}
 use Rattle.muen_num.specs.Range.{numbers_below}
-use Rattle.policy_types.specs.Thing.{Thing, region, same_thing, things_of}
+use Rattle.policy_types.specs.Thing.{Thing, region, things_of}
 use Rattle.policy_types.specs.Windows.{Window, window, holds, windows_of}
 use Rattle.policy_types.specs.Contents.{Held, content_bytes, initial_bytes}
 use Rattle.policy_types.specs.Frames.{frames_of}
@@ -18,16 +18,15 @@ use Rattle.policy_types.specs.declared.source.Mapping.{Mapping}
 use Rattle.policy_types.specs.declared.source.Content.{Content}
 use Rattle.policy_types.specs.declared.source.Content.TheVariants.{Zero, Fill, Inline, File}
 use Rattle.muen_top.specs.StatePage.{started}
-use Rattle.muen_top.specs.ViewText.{turn_text, region_text}
+use Rattle.muen_top.specs.ViewText.{turn_text}
 use Rattle.muen_top.specs.RecordText.{only_ticks}
-use Rattle.muen_top.specs.Slot.{Slot, slot_at, slots_from, frame_slots}
-use Rattle.muen_top.specs.Solo.{Answer, bytes_in, own_of, solo_turn, turn_over}
-use Rattle.muen_top.specs.System.{System, Turned, Turner, start_of, inbox_of, turner_in, turned_by, turn_answered, system_turn}
+use Rattle.muen_top.specs.Slot.{Slot, slot_at, slots_from}
+use Rattle.muen_top.specs.Solo.{Answer, bytes_in, own_of, solo_turn}
+use Rattle.muen_top.specs.System.{System, start_of, inbox_of, turner_in, turned_by, turn_answered, system_turn}
 use Rattle.muen_top.specs.Run.{Ran, then_line, tick_of, after_lines, run_to, run_of, final_text, trace_of}
 use Rattle.muen_top.specs.Thin.{fits_in, is_region, is_window_on, is_thin}
 use Rattle.muen_top.specs.Machine.{MachineState, MachineRan, bytes_at, plain_bytes, machine_answer, machine_after, machine_line, machine_run_to, machine_final_text, machine_text, machine_of}
 use Rattle.muen_top.specs.declared.state_page.SubjectState.{SubjectState}
-use Rattle.muen_top.specs.declared.memory.Holding.{Holding}
 use Rattle.muen_top.specs.declared.view_text.Line.{Line}
 use Rattle.muen_top.proofs.Alone.{silent, SameBytes, turn_silent}
 use Rattle.muen_top.proofs.ThinParts.{Parts, the_mapping, the_subject, the_policy, HasParts, parts_of, both}

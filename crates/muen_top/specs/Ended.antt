@@ -1,9 +1,9 @@
 -- How a command ends, and why.
-use Rattle.std.specs.Prelude.{◌≡◌, ℕ, ◌+◌, ◌^◌, ◌≤◌, List, [], ◌∷◌, ◌++◌, Some, None, Option, Result, Ok, Err, IfSome, codes, decimal, ◌⊎◌, if◌then◌else◌}
+use Rattle.std.specs.Prelude.{◌≡◌, ℕ, ◌^◌, ◌≤◌, List, [], ◌∷◌, Some, None, Option, Result, Ok, Err, IfSome, codes, if◌then◌else◌}
 use Rattle.std.specs.Str.{bytes_eq}
 use Rattle.std.specs.FinMap.{get}
 use Rattle.muen_outside.specs.Counts.{Rose}
-use Rattle.muen_outside.specs.Store.{Store, Reading, whole, absent, long, reading_of}
+use Rattle.muen_outside.specs.Store.{Reading, whole, absent, long, reading_of}
 use Rattle.muen_outside.specs.Found.{IsMissed}
 use Rattle.muen_outside.specs.Outside.{FilesState, SinkState}
 use Rattle.muen_outside.specs.Puts.{Appended, Failed}
@@ -12,7 +12,7 @@ use Rattle.policy_types.specs.Reading.{Answers}
 use Rattle.policy_types.specs.declared.refusal.Refusal.{Refusal}
 use Rattle.policy_types.specs.declared.source.Source.{Source}
 use Rattle.muen_top.specs.Thin.{thin_policy_of}
-use Rattle.muen_top.specs.RecordText.{DeviceRecord, record_of, only_ticks}
+use Rattle.muen_top.specs.RecordText.{DeviceRecord, record_of}
 use Rattle.muen_top.specs.Run.{trace_of}
 use Rattle.muen_top.specs.declared.record_text.RecordFault.{RecordFault}
 use Rattle.muen_top.specs.declared.end.Input.{Input}

@@ -1,11 +1,9 @@
 -- The machine of one subject, over the list of its windows: a private part until tables are walked.
-use Rattle.std.specs.Prelude.{◌≡◌, ℕ, suc, zero, ◌+◌, ◌%◌, ◌<◌, false, List, [], ◌∷◌, ◌++◌, length, map, replicate, slice_index_or, All, Option, Some, None, option_map, option_to_list}
+use Rattle.std.specs.Prelude.{◌≡◌, ℕ, suc, zero, ◌%◌, ◌<◌, false, List, [], ◌∷◌, ◌++◌, length, map, replicate, slice_index_or, Option, None, option_map, option_to_list}
 use Rattle.std.specs.List.{flat_map}
 use Rattle.sha2.specs.Sha256.{sha256}
-use Rattle.muen_num.specs.declared.tag.Tag.{Tag}
 use Rattle.muen_num.specs.declared.tag.Part.TheVariants.{Whole}
 use Rattle.policy_types.specs.Windows.{Window as WindowOf, Access as AccessTo, byte, violation, window}
-use Rattle.policy_types.specs.declared.rights.Rights.{Rights}
 use Rattle.policy_types.specs.Contents.{padded}
 use Rattle.policy_types.specs.declared.source.Subject.{Subject}
 use Rattle.policy_types.specs.declared.source.Region.{Region}
@@ -19,7 +17,6 @@ use Rattle.muen_top.specs.System.{line_at}
 use Rattle.muen_top.specs.Run.{rows_text}
 use Rattle.muen_top.specs.declared.state_page.SubjectState.{SubjectState}
 use Rattle.muen_top.specs.declared.view_text.Line.{Line}
-use Rattle.muen_top.specs.declared.view_text.What.{What}
 use Rattle.muen_top.specs.declared.memory.Window.{Window}
 use Rattle.muen_top.specs.declared.memory.Holding.{Holding}
 use Rattle.muen_top.specs.declared.memory.Access.{Access}

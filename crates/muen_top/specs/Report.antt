@@ -1,5 +1,5 @@
 -- The line that tells how a command ended, and its status (this project's own).
-use Rattle.std.specs.Prelude.{◌≡◌, ℕ, List, [], ◌∷◌, ◌++◌, codes, decimal, Option, ◌⊎◌}
+use Rattle.std.specs.Prelude.{◌≡◌, ℕ, List, [], ◌∷◌, ◌++◌, codes, decimal, ◌⊎◌}
 use Rattle.muen_num.specs.Tag.{tag_text}
 use Rattle.muen_outside.specs.Outside.{SinkState}
 use Rattle.muen_outside.specs.Puts.{Appended, Failed}

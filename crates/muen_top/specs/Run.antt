@@ -1,5 +1,5 @@
 -- A run of the abstract system on a device record, and its text.
-use Rattle.std.specs.Prelude.{ℕ, zero, suc, ◌==◌, Bool, true, false, List, [], ◌∷◌, ◌++◌, map, filter, Option, Some, None, unwrap_or, option_map, if◌then◌else◌}
+use Rattle.std.specs.Prelude.{ℕ, zero, suc, ◌==◌, Bool, true, false, List, [], ◌∷◌, ◌++◌, Option, Some, None, unwrap_or, if◌then◌else◌}
 use Rattle.std.specs.Option.{option_map_or}
 use Rattle.std.specs.List.{find, flat_map, cons_option}
 use Rattle.sha2.specs.Sha256.{sha256}
@@ -14,8 +14,7 @@ use Rattle.policy_types.specs.declared.source.Subject.{Subject}
 use Rattle.muen_top.specs.RecordText.{Input, port_input, memory_input, irq_input, DeviceRecord}
 use Rattle.muen_top.specs.StatePage.{started}
 use Rattle.muen_top.specs.ViewText.{turn_text, state_text, region_text}
-use Rattle.muen_top.specs.Solo.{Things}
-use Rattle.muen_top.specs.System.{System, Turned, named, change_first, overwritten, pends_now, start_of, system_turn}
+use Rattle.muen_top.specs.System.{System, named, change_first, overwritten, pends_now, start_of, system_turn}
 use Rattle.muen_top.specs.declared.state_page.SubjectState.{SubjectState}
 use Rattle.muen_top.specs.declared.view_text.Line.{Line}
 

@@ -17,7 +17,6 @@ use Rattle.muen_top.specs.declared.state_page.SubjectState.{SubjectState}
 use Rattle.muen_top.specs.declared.guest_isa.Instr.{Instr}
 use Rattle.muen_top.specs.declared.guest_isa.Wish.{Wish}
 use Rattle.muen_top.specs.declared.guest_isa.Wish.TheVariants.{Nothing, Set as Sets, Halt as Halts}
-use Rattle.muen_top.specs.declared.guest_isa.Asked.{Asked}
 use Rattle.muen_top.specs.declared.view_text.What.{What}
 use Rattle.muen_top.specs.declared.view_text.What.TheVariants.{Ran, Set, Inject, Exit}
 use Rattle.muen_top.specs.declared.view_text.End.TheVariants.{Halt, Trap, Stop}

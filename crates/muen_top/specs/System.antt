@@ -1,6 +1,6 @@
 -- The abstract system: each subject with its own state, the things by name, the pending events, and the active member of
 -- each scheduling group. There is no kernel in it, no table and no place.
-use Rattle.std.specs.Prelude.{ℕ, ◌==◌, not, Bool, true, false, List, [], ◌∷◌, ◌++◌, map, filter, length, take, drop, slice_get, slice_set, position, Option, Some, None, option_map, option_and_then, if◌then◌else◌}
+use Rattle.std.specs.Prelude.{ℕ, ◌==◌, not, Bool, List, [], ◌∷◌, ◌++◌, map, filter, length, take, drop, slice_get, slice_set, position, Option, Some, None, option_map, option_and_then, if◌then◌else◌}
 use Rattle.std.specs.Option.{option_map_or}
 use Rattle.std.specs.List.{find, list_any}
 use Rattle.std.specs.Str.{bytes_eq}

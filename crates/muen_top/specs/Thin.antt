@@ -3,7 +3,7 @@ use Rattle.std.specs.Prelude.{ℕ, ◌+◌, ◌%◌, ◌^◌, ◌==◌, ◌&&◌
 use Rattle.std.specs.Str.{bytes_eq}
 use Rattle.policy_types.specs.Document.{policy_of}
 use Rattle.policy_types.specs.declared.refusal.Refusal.{Refusal}
-use Rattle.policy_types.specs.declared.refusal.Refusal.TheVariants.{NotJson, Shape, Rule}
+use Rattle.policy_types.specs.declared.refusal.Refusal.TheVariants.{NotJson, Rule}
 use Rattle.policy_types.specs.declared.source.Source.{Source}
 use Rattle.policy_types.specs.declared.source.Region.{Region}
 use Rattle.policy_types.specs.declared.source.Content.{Content}
@@ -12,7 +12,6 @@ use Rattle.policy_types.specs.declared.source.Subject.{Subject}
 use Rattle.policy_types.specs.declared.source.Mapping.{Mapping}
 use Rattle.policy_types.specs.declared.source.Scheduling.{Scheduling}
 use Rattle.policy_types.specs.declared.source.Group.{Group}
-use Rattle.policy_types.specs.declared.source.MajorFrame.{MajorFrame}
 use Rattle.policy_types.specs.declared.source.CpuFrames.{CpuFrames}
 
 -- the list has one item, and it passes

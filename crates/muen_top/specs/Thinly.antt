@@ -1,5 +1,5 @@
 -- Why the run of a policy ends so.
-use Rattle.std.specs.Prelude.{◌≡◌, ℕ, List}
+use Rattle.std.specs.Prelude.{◌≡◌}
 use Rattle.muen_outside.specs.Outside.{SinkState}
 use Rattle.muen_outside.specs.Puts.{Appended, Failed}
 use Rattle.policy_types.specs.Contents.{Held}
@@ -7,7 +7,7 @@ use Rattle.policy_types.specs.declared.source.Source.{Source}
 use Rattle.muen_top.specs.RecordText.{DeviceRecord}
 use Rattle.muen_top.specs.Run.{trace_of}
 use Rattle.muen_top.specs.declared.end.Stop.{Stop}
-use Rattle.muen_top.specs.declared.end.Stop.TheVariants.{Usage, Refused, Missing, TooLong, FileFault, RecordRefused, NoMemory}
+use Rattle.muen_top.specs.declared.end.Stop.TheVariants.{NoMemory}
 use Rattle.muen_top.specs.declared.end.End.{End}
 use Rattle.muen_top.specs.declared.end.End.TheVariants.{Done, Stopped, OutFault}
 

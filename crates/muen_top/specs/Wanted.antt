@@ -3,7 +3,6 @@ use Rattle.std.specs.Prelude.{◌≡◌, ℕ, true, List, Option, Some, None, If
 use Rattle.std.specs.FinMap.{get}
 use Rattle.muen_outside.specs.Store.{Store, Reading, whole, absent, long, reading_of}
 use Rattle.muen_outside.specs.Outside.{FilesState, SinkState}
-use Rattle.muen_outside.specs.Puts.{Appended, Failed}
 use Rattle.policy_types.specs.Contents.{Held}
 use Rattle.policy_types.specs.Document.{policy_of}
 use Rattle.policy_types.specs.declared.refusal.Refusal.{Refusal}
@@ -11,11 +10,10 @@ use Rattle.policy_types.specs.declared.source.Source.{Source}
 use Rattle.muen_top.specs.Thin.{is_thin, thin_policy_of}
 use Rattle.muen_top.specs.RecordText.{DeviceRecord, record_of}
 use Rattle.muen_top.specs.Run.{trace_of}
-use Rattle.muen_top.specs.Ended.{Command, boots, command_of, policy_most, record_most, Follows, HasCause}
+use Rattle.muen_top.specs.Ended.{Command, boots, command_of, policy_most, record_most, HasCause}
 use Rattle.muen_top.specs.Report.{refusal_message, fault_message, line_of, status_of, Told, Reported}
 use Rattle.muen_top.specs.declared.record_text.RecordFault.{RecordFault}
 use Rattle.muen_top.specs.declared.end.Input.TheVariants.{Policy, Record}
-use Rattle.muen_top.specs.declared.end.Stop.{Stop}
 use Rattle.muen_top.specs.declared.end.Stop.TheVariants.{Usage, Refused, Missing, TooLong, RecordRefused}
 use Rattle.muen_top.specs.declared.end.End.{End}
 use Rattle.muen_top.specs.declared.end.End.TheVariants.{Done, Stopped}

@@ -17,6 +17,7 @@ mod print;
 pub mod record_text;
 mod report;
 pub mod state_page;
+pub mod subject_model;
 mod thin;
 pub mod view_text;
 
@@ -70,3 +71,5 @@ pub fn muen<F: Files, S: Sink, E: Sink>(
     command::run(alloc, words, files, out, err)
 }
 
+#[cfg(test)]
+mod tests;

@@ -60,11 +60,31 @@ fn put_state<S: Sink>(subject: &Name, state: &SubjectState, out: &mut S) -> Resu
     let state = *state;
     put_lines(
         &[
-            StateRow { subject, state, row: 0 },
-            StateRow { subject, state, row: 1 },
-            StateRow { subject, state, row: 2 },
-            StateRow { subject, state, row: 3 },
-            StateRow { subject, state, row: 4 },
+            StateRow {
+                subject,
+                state,
+                row: 0,
+            },
+            StateRow {
+                subject,
+                state,
+                row: 1,
+            },
+            StateRow {
+                subject,
+                state,
+                row: 2,
+            },
+            StateRow {
+                subject,
+                state,
+                row: 3,
+            },
+            StateRow {
+                subject,
+                state,
+                row: 4,
+            },
         ],
         out,
     )

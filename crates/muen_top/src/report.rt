@@ -11,7 +11,8 @@ use muen_num::text::{append, append_decimal, append_decimal8};
 use muen_outside::{Sink, SinkFault};
 use policy_types::{Refusal, Want};
 
-const USAGE: &[u8] = b"usage: build POLICY IMAGE, run IMAGE RECORD, boot POLICY RECORD, map POLICY, flows POLICY, load NUMBER";
+const USAGE: &[u8] =
+    b"usage: build POLICY IMAGE, run IMAGE RECORD, boot POLICY RECORD, map POLICY, flows POLICY, load NUMBER";
 
 fn want_word(want: Want) -> &'static [u8]
     ensures value { result.now ≡ want_text want }
@@ -209,7 +210,12 @@ fn write_back(words: &[String], stop: &Stop, out: &mut [u8; 64]) -> usize
 }
 
 // Three texts, one after another.
-fn put_three<S: Sink>(front: &[u8], middle: &[u8], back: &[u8], err: &mut S) -> Result<(), SinkFault>
+fn put_three<S: Sink>(
+    front: &[u8],
+    middle: &[u8],
+    back: &[u8],
+    err: &mut S,
+) -> Result<(), SinkFault>
     ensures { Puts (front.now ++ middle.now ++ back.now) (S.state err.old) (S.state err.new) result }
 {
     err.put(front)?;

@@ -11,7 +11,7 @@ bounds-items-0-2 c = rw c.items-2.ensures (has_region _ c.requires)
 pub bounds-items-0-3 : goal.bounds-items-0-3
 bounds-items-0-3 c =
     let s_first : c.index-items-0.result ≡ get_or c.args.source.now.subjects 0 c.index-items-0.result =
-        c.index-items-0.is ∙ ap (λ xs. get_or xs 0 c.index-items-0.result) c.items.ensures in
+    c.index-items-0.is ∙ ap (λ xs. get_or xs 0 c.index-items-0.result) c.items.ensures in
     rw c.items-3.ensures (has_mapping c.args.source.now _ c.requires s_first)
 
 -- what the first items are
@@ -31,7 +31,7 @@ load-requires-clause-window c = (loaded c).window
 pub returns : goal.returns
 returns c =
     let l = loads c.args.source.now c.index-items-0.result c.index-items-0-2.result c.index-items-0-3.result c.requires
-        (c.index-items-0.is ∙ ap (λ xs. get_or xs 0 c.index-items-0.result) c.items.ensures)
-        (c.index-items-0-2.is ∙ ap (λ xs. get_or xs 0 c.index-items-0-2.result) c.items-2.ensures)
-        (c.index-items-0-3.is ∙ ap (λ xs. get_or xs 0 c.index-items-0-3.result) c.items-3.ensures) in
+    (c.index-items-0.is ∙ ap (λ xs. get_or xs 0 c.index-items-0.result) c.items.ensures)
+    (c.index-items-0-2.is ∙ ap (λ xs. get_or xs 0 c.index-items-0-2.result) c.items-2.ensures)
+    (c.index-items-0-3.is ∙ ap (λ xs. get_or xs 0 c.index-items-0-3.result) c.items-3.ensures) in
     prints _ _ _ _ c.load.result l c.load.ensures

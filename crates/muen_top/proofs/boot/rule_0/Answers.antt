@@ -1,6 +1,5 @@
 use Rattle.std.proofs.Common.{refl}
-use Rattle.std.specs.Prelude.{is_some, codes}
-use Rattle.muen_num.specs.Naming.{is_name, name_of}
+use Rattle.muen_num.specs.Naming.{is_name}
 use Rattle.muen_top.proofs.boot.rule_0.Goals as goal
 
 pub unwrap-policy-requires : goal.unwrap-policy-requires

@@ -1,4 +1,4 @@
-use Rattle.std.proofs.Common.{◌≡◌, arith, ap, ◌∙◌}
+use Rattle.std.proofs.Common.{arith, ap, ◌∙◌}
 use Rattle.muen_top.specs.Machine.{machine_line}
 use Rattle.muen_top.proofs.Printed.{turn_failed}
 use Rattle.muen_top.proofs.print.put_turns.Goals as goal

@@ -1,6 +1,5 @@
 use Rattle.std.proofs.Common.{◌+◌, ◌*◌, drop, sym, arith}
 use Rattle.std.proofs.lemmas.Grind.{common_steps}
-use Rattle.muen_top.specs.RecordText.{digits_from}
 use Rattle.muen_top.proofs.Digits.{beyond_is}
 use Rattle.muen_top.proofs.record_text.digits_within.Goals as goal
 

@@ -1,0 +1,183 @@
+//! Whole calls over files and sinks in memory.
+use crate::muen;
+use muen_outside::{MemFiles, MemSink};
+use std::alloc::Global;
+use std::test::Fail;
+
+const POLICY: &[u8] = b"{\"processor\":{\"logicalCpus\":1},\
+\"memoryBlocks\":[{\"name\":\"ram\",\"physicalAddress\":1048576,\"size\":65536}],\
+\"memory\":[{\"name\":\"code\",\"size\":4096,\"content\":{\"hex\":\"01100000050000001700000000000000\"}}],\
+\"subjects\":[{\"name\":\"one\",\"cpu\":0,\"entry\":4194304,\
+\"memory\":[{\"region\":\"code\",\"virtualAddress\":4194304,\"rights\":\"rx\"}]}],\
+\"scheduling\":{\"groups\":[{\"name\":\"g\",\"cpu\":0,\"subjects\":[\"one\"]}],\
+\"majorFrames\":[{\"cpus\":[{\"cpu\":0,\"minorFrames\":[{\"group\":\"g\",\"ticks\":10}]}]}]}}";
+
+const THREE_TICKS: &[u8] = b"0 0 one 0000000000400000 r1=0000000000000005\n\
+1 0 one 0000000000400008 exit 12 0000000000000000 0000000000000000 halt\n\
+end one 0000000000400010 0000000000000000 0000000000000000 10\n\
+regs one 0 0000000000000000 0000000000000005 0000000000000000 0000000000000000\n\
+regs one 4 0000000000000000 0000000000000000 0000000000000000 0000000000000000\n\
+regs one 8 0000000000000000 0000000000000000 0000000000000000 0000000000000000\n\
+regs one 12 0000000000000000 0000000000000000 0000000000000000 0000000000000000\n\
+region code d4837ed1427735f0510903e5523cb11cd438da2eb85d4aaea180ec5efa8719aa\n";
+
+const NO_TICK: &[u8] = b"end one 0000000000400000 0000000000000000 0000000000000000 8\n\
+regs one 0 0000000000000000 0000000000000000 0000000000000000 0000000000000000\n\
+regs one 4 0000000000000000 0000000000000000 0000000000000000 0000000000000000\n\
+regs one 8 0000000000000000 0000000000000000 0000000000000000 0000000000000000\n\
+regs one 12 0000000000000000 0000000000000000 0000000000000000 0000000000000000\n\
+region code d4837ed1427735f0510903e5523cb11cd438da2eb85d4aaea180ec5efa8719aa\n";
+
+const USAGE: &[u8] =
+    b"muen: usage: build POLICY IMAGE, run IMAGE RECORD, boot POLICY RECORD, map POLICY, flows POLICY, load NUMBER\n";
+
+// How a call ends: its status, and what the sinks hold.
+#[derive(Drop)]
+struct Ended {
+    status: u8,
+    out: Vec<u8>,
+    err: Vec<u8>,
+}
+
+fn file(alloc: Global, name: &str, bytes: &[u8]) -> Result<(String, Vec<u8>), Fail> {
+    Ok((
+        String::from_str(alloc, name)?,
+        Vec::from_slice(alloc, bytes)?,
+    ))
+}
+
+// The files `p`, `zero`, `three`, `broken`, `list` and `late`; the calls of these numbers fail.
+fn files(alloc: Global, fails: &[u64]) -> Result<MemFiles, Fail> {
+    let mut held = Vec::new(alloc);
+    held.push(file(alloc, "p", POLICY)?)?;
+    held.push(file(alloc, "zero", b"end 0")?)?;
+    held.push(file(alloc, "three", b"end 3\n")?)?;
+    held.push(file(alloc, "broken", b"{")?)?;
+    held.push(file(alloc, "list", b"[]")?)?;
+    held.push(file(alloc, "late", b"end 100001\n")?)?;
+    Ok(MemFiles::make(held, Vec::from_slice(alloc, fails)?))
+}
+
+fn call(
+    alloc: Global,
+    words: &[&str],
+    files: &mut MemFiles,
+    out: &mut MemSink,
+) -> Result<Ended, Fail> {
+    let mut list = Vec::new(alloc);
+    for word in words {
+        list.push(String::from_str(alloc, word)?)?;
+    }
+    let mut err = MemSink::make(alloc, 200, Vec::new(alloc), 0)?;
+    let status = muen(alloc, &list, files, out, &mut err);
+    Ok(Ended {
+        status,
+        out: out.text().to_vec(alloc)?,
+        err: err.text().to_vec(alloc)?,
+    })
+}
+
+#[test]
+fn answers(rt: HostRuntime) -> Result<(), Fail> {
+    let alloc = rt.alloc();
+    let cases: [(&[&str], u8, &[u8], &[u8]); 12] = [
+        (&["boot", "p", "three"], 0, THREE_TICKS, b""),
+        (&["boot", "p", "zero"], 0, NO_TICK, b""),
+        (&[], 1, b"", USAGE),
+        (&["run", "p"], 1, b"", USAGE),
+        (&["boot", "p", "three", "more"], 1, b"", USAGE),
+        (&["Boot", "p", "three"], 1, b"", USAGE),
+        (&["boot", "broken", "three"], 2, b"", b"muen: not JSON\n"),
+        (
+            &["boot", "list", "three"],
+            2,
+            b"",
+            b"muen: rule 0: policy policy\n",
+        ),
+        (
+            &["boot", "absent", "three"],
+            3,
+            b"",
+            b"muen: missing file absent\n",
+        ),
+        (
+            &["boot", "p", "nothing"],
+            3,
+            b"",
+            b"muen: missing file nothing\n",
+        ),
+        (
+            &["boot", "p", "late"],
+            6,
+            b"",
+            b"muen: record refused at line 1: not yet built\n",
+        ),
+        (&["boot", "broken", "nothing"], 2, b"", b"muen: not JSON\n"),
+    ];
+    for (words, status, text, line) in cases {
+        let mut files = files(alloc, &[])?;
+        let mut out = MemSink::make(alloc, 1000, Vec::new(alloc), 0)?;
+        let ended = call(alloc, words, &mut files, &mut out)?;
+        assert_eq!(rt; ended.status, status);
+        assert_eq!(rt; ended.out.as_slice(), text);
+        assert_eq!(rt; ended.err.as_slice(), line);
+    }
+    Ok(())
+}
+
+#[test]
+fn faults(rt: HostRuntime) -> Result<(), Fail> {
+    let alloc = rt.alloc();
+    for number in [0, 1] {
+        let mut files = files(alloc, &[number])?;
+        let mut out = MemSink::make(alloc, 1000, Vec::new(alloc), 0)?;
+        let ended = call(alloc, &["boot", "p", "three"], &mut files, &mut out)?;
+        assert_eq!(rt; ended.status, 4);
+        assert_eq!(rt; ended.out.as_slice(), b"".as_slice());
+        assert_eq!(rt; ended.err.as_slice(), b"muen: file fault\n".as_slice());
+    }
+    let mut held = files(alloc, &[])?;
+    let mut failing = MemSink::make(alloc, 1000, Vec::from_slice(alloc, &[0])?, 3)?;
+    let cut = call(alloc, &["boot", "p", "three"], &mut held, &mut failing)?;
+    assert_eq!(rt; cut.status, 7);
+    assert_eq!(rt; cut.out.as_slice(), b"0 0".as_slice());
+    assert_eq!(rt; cut.err.as_slice(), b"muen: output fault\n".as_slice());
+    let mut small = MemSink::make(alloc, 60, Vec::new(alloc), 0)?;
+    let full = call(alloc, &["boot", "p", "three"], &mut held, &mut small)?;
+    assert_eq!(rt; full.status, 7);
+    assert_eq!(rt;
+        full.out.as_slice(),
+        b"0 0 one 0000000000400000 r1=0000000000000005\n1 0 one 0000000".as_slice()
+    );
+    Ok(())
+}
+
+#[test]
+fn long_files(rt: HostRuntime) -> Result<(), Fail> {
+    let alloc = rt.alloc();
+    let mut held = Vec::new(alloc);
+    held.push((
+        String::from_str(alloc, "long")?,
+        vec![in alloc; b' '; 4_194_305]?,
+    ))?;
+    held.push(file(alloc, "p", POLICY)?)?;
+    held.push((
+        String::from_str(alloc, "longer")?,
+        vec![in alloc; b' '; 16_777_217]?,
+    ))?;
+    let mut files = MemFiles::make(held, Vec::new(alloc));
+    let mut out = MemSink::make(alloc, 10, Vec::new(alloc), 0)?;
+    let policy = call(alloc, &["boot", "long", "p"], &mut files, &mut out)?;
+    assert_eq!(rt; policy.status, 3);
+    assert_eq!(rt;
+        policy.err.as_slice(),
+        b"muen: file long has 4194305 bytes\n".as_slice()
+    );
+    let inputs = call(alloc, &["boot", "p", "longer"], &mut files, &mut out)?;
+    assert_eq!(rt; inputs.status, 3);
+    assert_eq!(rt;
+        inputs.err.as_slice(),
+        b"muen: file longer has 16777217 bytes\n".as_slice()
+    );
+    Ok(())
+}
