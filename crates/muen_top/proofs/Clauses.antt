@@ -264,6 +264,9 @@ module _ (words : List (List ℕ)) (old new : FilesState) (out out' err err' : S
     pub refuses_record : status ≡ 6 → RefusesRecord words old.held err err'
     refuses_record e = faulty_by (command_of words) r.end refl r.cause r.report (is_status 6 e)
 
+    pub reports : (end : End) × Ends words err err' status end
+    reports = (r.end, record { status_is = r.status_is; report = r.report })
+
     -- a fault of the output is counted
     pub out_rose : status ≡ 7 → Rose out.faults out'.faults
     out_rose e = ((prefix e).text (from_entries [])).rose

@@ -4,6 +4,7 @@
 ghost use Rattle.std.specs.Prelude.{◌≡◌, ◌≢◌, ◌⊎◌, IfSome, None, map, string_bytes};
 ghost use Rattle.muen_outside.specs.Counts.{Rose};
 ghost use Rattle.muen_outside.specs.Puts.{Appended, Failed};
+ghost use Rattle.muen_top.specs.declared.end.End.{End};
 ghost use Rattle.muen_top.specs.Ended.{command_of, Follows};
 ghost use Rattle.muen_top.specs.Wanted.{end_wanted, IsFault, Ends, Prints, RefusesPolicy, RefusesRecord};
 
@@ -62,6 +63,9 @@ pub fn muen<F: Files, S: Sink, E: Sink>(
     ensures refuses_record { result ≡ 6 → RefusesRecord (map string_bytes words.now) (F.state files.old).held (E.state err.old) (E.state err.new) }
     ensures out_rose { result ≡ 7 → Rose (S.state out.old).faults (S.state out.new).faults }
     ensures prefix { result ≡ 7 → Prints (map string_bytes words.now) (F.state files.old).held (λ text. Failed text (S.state out.old) (S.state out.new)) }
+
+    // The line is that of an end with this status; on 0 there is none.
+    ensures reports { (end : End) × Ends (map string_bytes words.now) (E.state err.old) (E.state err.new) result end }
 
     // Files stay, and nothing is put where nothing is to be.
     ensures follows { Follows (F.state files.old) (F.state files.new) }

@@ -1,4 +1,4 @@
-use Rattle.muen_top.proofs.Clauses.{prints, told, usage, no_command, refuses_policy, missed, failed, refuses_record, out_rose, prefix, quiet_out, quiet_err}
+use Rattle.muen_top.proofs.Clauses.{prints, told, usage, no_command, refuses_policy, missed, failed, refuses_record, out_rose, prefix, quiet_out, quiet_err, reports}
 use Rattle.muen_top.proofs.muen.Goals as goal
 
 pub returns-clause-prints : goal.returns-clause-prints
@@ -36,3 +36,6 @@ returns-clause-quiet_out g c = quiet_out _ _ _ _ _ _ _ _ c.run.ensures.ran
 
 pub returns-clause-quiet_err : goal.returns-clause-quiet_err
 returns-clause-quiet_err g c = quiet_err _ _ _ _ _ _ _ _ c.run.ensures.ran
+
+pub returns-clause-reports : goal.returns-clause-reports
+returns-clause-reports g c = reports _ _ _ _ _ _ _ _ c.run.ensures.ran
