@@ -1,8 +1,10 @@
--- Names, accesses, deliveries and ranges, worked out.
+-- Names, numbers, accesses, deliveries and ranges, worked out.
 use Rattle.std.proofs.Common.{◌≡◌, true, false, [], ◌∷◌, refl}
 use Rattle.std.specs.Prelude.{Some, None, codes, replicate}
+use Rattle.hex.specs.Hex.{encode_with}
 use Rattle.muen_num.specs.Access.{allows}
 use Rattle.muen_num.specs.Deliver.{delivered}
+use Rattle.muen_num.specs.Fixed.{hex4}
 use Rattle.muen_num.specs.Naming.{is_name}
 use Rattle.muen_num.specs.Range.{numbers_below}
 use Rattle.muen_num.specs.Tag.{tag_text}
@@ -35,7 +37,7 @@ above_ascii : is_name (195 ∷ 164 ∷ []) ≡ false
 unfolding is_name
 above_ascii = refl
 
--- ---- printed names
+-- ---- printed names and numbers
 
 whole : tag_text (record { owner = codes "code"; part = Whole }) ≡ codes "code"
 whole = refl
@@ -45,6 +47,10 @@ named = refl
 
 tables : tag_text (record { owner = codes "one"; part = Ept }) ≡ codes "one:ept"
 tables = refl
+
+high_byte_first : hex4 768 ≡ codes "0300"
+unfolding encode_with
+high_byte_first = refl
 
 -- ---- accesses
 

@@ -2,18 +2,13 @@
 use Rattle.std.proofs.Common.{◌≡◌, ℕ, List, [], ◌∷◌, refl}
 use Rattle.std.specs.Prelude.{Some, None, codes}
 use Rattle.std.specs.FinMap.{get}
-use Rattle.serde_json.specs.Data.{Data, null, number, unsigned, string, object, no_members, member}
 use Rattle.muen_num.specs.declared.bits.Kind.TheVariants.{Read, Write, Fetch}
 use Rattle.muen_num.specs.declared.bits.Mode.TheVariants.{Asap, Async}
 use Rattle.policy_types.specs.Contents.{Held, initial_bytes}
-use Rattle.policy_types.specs.Document.{is_one_content, one_content, read_content}
 use Rattle.policy_types.specs.Events.{event_of, irq_of, traps_of}
 use Rattle.policy_types.specs.Frames.{frames_of}
-use Rattle.policy_types.specs.Keys.{content_keys}
-use Rattle.policy_types.specs.Schema.{fault, object_of, unbuilt}
 use Rattle.policy_types.specs.Thing.{Thing, region, channel, provided, device_memory, things_of}
 use Rattle.policy_types.specs.Windows.{Window, window, windows_of, access_of, byte, violation}
-use Rattle.policy_types.specs.declared.refusal.Want.TheVariants.{OneContent, NotYetBuilt, KnownKeys}
 use Rattle.policy_types.specs.declared.rights.Rights.{Rights}
 use Rattle.policy_types.specs.declared.rights.Caching.TheVariants.{Wb}
 use Rattle.policy_types.specs.declared.rights.Role.TheVariants.{Writer, Reader}
@@ -259,24 +254,3 @@ frames : frames_of system ≡
     ∷ record { cpu = 0; frames = record { group = 0; ticks = 2 } ∷ record { group = 0; ticks = 3 } ∷ [] } ∷ []) ∷ []
 unfolding frames_of
 frames = refl
-
--- ---- faults of a document, the first one alone
-
-abbrev fill_and_hex : Data
-fill_and_hex = object (member (codes "fill") (number (unsigned 300)) (member (codes "hex") (string (codes "00")) no_members))
-
-two_kinds : read_content fill_and_hex ≡ fault [] OneContent
-unfolding read_content object_of content_keys one_content is_one_content
-two_kinds = refl
-
-foreign_key : read_content (object (member (codes "zero") null no_members)) ≡ fault [] KnownKeys
-unfolding read_content object_of content_keys
-foreign_key = refl
-
-offset_alone : read_content (object (member (codes "hex") (string []) (member (codes "offset") null no_members))) ≡ fault [] OneContent
-unfolding read_content object_of content_keys one_content is_one_content
-offset_alone = refl
-
-fill_alone : read_content (object (member (codes "fill") null no_members)) ≡ fault (codes "/fill") NotYetBuilt
-unfolding read_content object_of content_keys one_content is_one_content unbuilt
-fill_alone = refl
