@@ -1,11 +1,10 @@
 -- How a name is kept.
-use Rattle.std.proofs.Common.{◌≡◌, ℕ, ◌≤◌, ◌+◌, ◌-◌, true, List, ◌++◌, length, take, arith, refl, sym, ap, subst, ◌∙◌, length-append}
+use Rattle.std.proofs.Common.{◌≡◌, ℕ, ◌≤◌, ◌-◌, true, List, length, take, arith, sym, ap, ◌∙◌, length-append}
 use Rattle.std.specs.Prelude.{replicate, Option, Some}
 use Rattle.std.proofs.lemmas.List.{length-replicate}
 use Rattle.std.proofs.Math.Seq.{take-append_seam}
 use Rattle.muen_num.specs.Naming.{is_name, name_of, name_room}
 use Rattle.muen_num.specs.NameStored.{IsStored}
-use Rattle.muen_num.specs.declared.name.Name.TheInside.{Inside}
 
 pub take-name_room : (text : List ℕ) → take (length text) (name_room text) ≡ text
 unfolding name_room

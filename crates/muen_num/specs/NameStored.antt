@@ -1,6 +1,6 @@
 -- How a name is kept.
-use Rattle.std.specs.Prelude.{◌≡◌, ℕ, ◌-◌, ◌≤◌, true, List, ◌++◌, length, take, replicate}
-use Rattle.std.proofs.Common.{ap, arith, sym, ◌∙◌, length-take-le}
+use Rattle.std.specs.Prelude.{◌≡◌, ◌≤◌, true, length, take}
+use Rattle.std.proofs.Common.{arith, length-take-le}
 use Rattle.muen_num.specs.Naming.{is_name, name_length, name_room}
 use Rattle.muen_num.specs.declared.name.Name.TheInside.{Inside}
 

@@ -12,3 +12,6 @@ pub use bits::{Kind, Mode, Size};
 pub use name::Name;
 pub use seq::{NoMemory, Seq};
 pub use tag::{Part, Tag};
+
+#[cfg(test)]
+mod tests;

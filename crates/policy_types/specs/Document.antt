@@ -1,13 +1,13 @@
 -- What a document says of a system: the source policy, or the first place that breaks the schema.
 -- One definition for each object, and in it one line for each key, in order.
 -- This project's own spelling of the elements of a Muen system policy.
-use Rattle.std.specs.Prelude.{ℕ, List, [], ◌∷◌, Bool, true, false, not, ◌&&◌, ◌||◌, Option, Some, None, is_some, Result, Ok, Err, codes, if◌then◌else◌}
+use Rattle.std.specs.Prelude.{ℕ, List, [], Bool, not, ◌&&◌, Option, Some, None, is_some, Result, Ok, Err, codes, if◌then◌else◌}
 use Rattle.std.specs.Str.{is_utf8}
 use Rattle.serde_json.specs.Data.{Data}
 use Rattle.serde_json.specs.Find.{get}
 use Rattle.serde_json.specs.Read.{read}
 use Rattle.policy_types.specs.Keys.{system_keys, processor_keys, block_keys, region_keys, content_keys, subject_keys, mapping_keys, scheduling_keys, group_keys, major_frame_keys, cpu_frames_keys, minor_frame_keys}
-use Rattle.policy_types.specs.Schema.{◌>>=◌, fault, under, object_of, required, optional, unbuilt, read_number, read_name, read_rights, read_hexadecimal, read_list}
+use Rattle.policy_types.specs.Schema.{◌>>=◌, fault, object_of, required, optional, unbuilt, read_number, read_name, read_rights, read_hexadecimal, read_list}
 use Rattle.policy_types.specs.declared.refusal.Fault.{Fault}
 use Rattle.policy_types.specs.declared.refusal.Refusal.{Refusal}
 use Rattle.policy_types.specs.declared.refusal.Refusal.TheVariants.{NotJson, Shape}

@@ -1,6 +1,6 @@
 -- Which event a subject raises in a way, and where an interrupt goes (Muen system policy: events, channels with events,
 -- device interrupts).
-use Rattle.std.specs.Prelude.{ℕ, ◌==◌, ◌&&◌, Bool, true, false, List, [], ◌++◌, map, filter, slice_get, Option, Some, None, option_map, option_and_then}
+use Rattle.std.specs.Prelude.{ℕ, ◌==◌, ◌&&◌, Bool, false, List, [], ◌++◌, map, filter, slice_get, Option, Some, None, option_map, option_and_then}
 use Rattle.std.specs.Option.{option_or}
 use Rattle.std.specs.List.{find, filter_map, flat_map}
 use Rattle.std.specs.Str.{bytes_eq}
@@ -12,8 +12,6 @@ use Rattle.policy_types.specs.declared.rights.Role.TheVariants.{Writer, Reader}
 use Rattle.policy_types.specs.declared.source.Source.{Source}
 use Rattle.policy_types.specs.declared.source.Subject.{Subject}
 use Rattle.policy_types.specs.declared.source.Component.{Component}
-use Rattle.policy_types.specs.declared.source.ComponentChannel.{ComponentChannel}
-use Rattle.policy_types.specs.declared.source.EventSource.{EventSource}
 use Rattle.policy_types.specs.declared.source.SourceWay.{SourceWay}
 use Rattle.policy_types.specs.declared.source.SourceWay.TheVariants.{Call, Trap}
 

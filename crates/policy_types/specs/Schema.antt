@@ -1,10 +1,10 @@
 -- What a JSON value is read as, or its first fault: the kinds of values, and the parts of an object.
 -- This project's own spelling of the elements of a Muen system policy.
-use Rattle.std.specs.Prelude.{ℕ, ◌+◌, List, [], ◌∷◌, ◌++◌, Bool, true, ◌&&◌, codes, Option, Some, None, option_and_then, option_map, Result, Ok, Err, decimal, if◌then◌else◌, IsUtf8}
+use Rattle.std.specs.Prelude.{ℕ, ◌+◌, List, [], ◌∷◌, ◌++◌, Bool, true, ◌&&◌, codes, Option, Some, None, option_and_then, Result, Ok, Err, decimal, if◌then◌else◌}
 use Rattle.std.specs.Str.{bytes_eq}
 use Rattle.std.specs.List.{list_any}
 use Rattle.std.specs.Result.{result_ok}
-use Rattle.serde_json.specs.Data.{Num, Data, null, boolean, number, string, array, object, Items, no_items, item, Members, no_members, member}
+use Rattle.serde_json.specs.Data.{Data, Items, no_items, item, Members, no_members, member}
 use Rattle.serde_json.specs.Find.{get, as_number, as_u64, as_str, as_object, as_array}
 use Rattle.hex.specs.Hex.{decode_of}
 use Rattle.muen_num.specs.Naming.{name_of}

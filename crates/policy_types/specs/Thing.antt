@@ -1,10 +1,9 @@
 -- What a window shows: a thing, by its kind and its names in the source policy (Muen system policy: memory, channels,
 -- components, devices).
-use Rattle.std.specs.Prelude.{ℕ, ◌&&◌, Bool, true, false, List, [], ◌++◌, map, Option, Some, None}
+use Rattle.std.specs.Prelude.{ℕ, ◌&&◌, Bool, false, List, [], ◌++◌, map, Option, Some, None}
 use Rattle.std.specs.List.{find, flat_map}
 use Rattle.std.specs.Str.{bytes_eq}
 use Rattle.policy_types.specs.declared.source.Source.{Source}
-use Rattle.policy_types.specs.declared.source.Subject.{Subject}
 use Rattle.policy_types.specs.declared.source.Component.{Component}
 use Rattle.policy_types.specs.declared.source.ComponentUse.{ComponentUse}
 
@@ -35,7 +34,8 @@ abbrev pub provided_by : List ℕ → Option Component → List Thing
 provided_by subject None = []
 provided_by subject (Some c) = map (λ x. provided subject x.logical) c.provides
 
--- all things of a policy, by number: regions, channels, each subject's provided regions, the devices' memory
+-- all things of a policy, in the order of their numbers: regions, channels, each subject's provided regions, the
+-- devices' memory
 unfoldable pub things_of : Source → List Thing
 things_of p =
     map (λ r. region r.name) p.memory

@@ -6,7 +6,6 @@ use Rattle.std.specs.Str.{bytes_eq}
 use Rattle.muen_num.specs.Access.{allows}
 use Rattle.muen_num.specs.declared.bits.Kind.{Kind}
 use Rattle.policy_types.specs.Thing.{Thing, region, channel, provided, device_memory, component_by}
-use Rattle.policy_types.specs.declared.rights.Rights.{Rights}
 use Rattle.policy_types.specs.declared.rights.Role.{Role}
 use Rattle.policy_types.specs.declared.rights.Role.TheVariants.{Writer, Reader}
 use Rattle.policy_types.specs.declared.source.Source.{Source}
@@ -15,10 +14,7 @@ use Rattle.policy_types.specs.declared.source.Component.{Component}
 use Rattle.policy_types.specs.declared.source.ComponentUse.{ComponentUse}
 use Rattle.policy_types.specs.declared.source.ComponentChannel.{ComponentChannel}
 use Rattle.policy_types.specs.declared.source.Required.{Required}
-use Rattle.policy_types.specs.declared.source.Mapping.{Mapping}
 use Rattle.policy_types.specs.declared.source.MapEntry.{MapEntry}
-use Rattle.policy_types.specs.declared.source.ChannelUse.{ChannelUse}
-use Rattle.policy_types.specs.declared.source.DeviceUse.{DeviceUse}
 use Rattle.policy_types.specs.declared.source.DeviceMapping.{DeviceMapping}
 
 -- a range of guest addresses that shows the whole of a thing from its first byte, with these rights

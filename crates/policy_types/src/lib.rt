@@ -10,3 +10,6 @@ pub mod source;
 pub use refusal::{Fault, Path, Refusal, Want};
 pub use rights::{Caching, MsrRights, Rights, Role};
 pub use source::Source;
+
+#[cfg(test)]
+mod tests;

@@ -1,0 +1,89 @@
+-- Names, numbers, accesses, deliveries and ranges, worked out.
+use Rattle.std.proofs.Common.{◌≡◌, true, false, [], ◌∷◌, refl}
+use Rattle.std.specs.Prelude.{Some, None, codes, replicate}
+use Rattle.hex.specs.Hex.{encode_with}
+use Rattle.muen_num.specs.Access.{allows}
+use Rattle.muen_num.specs.Deliver.{delivered}
+use Rattle.muen_num.specs.Fixed.{hex4}
+use Rattle.muen_num.specs.Naming.{is_name}
+use Rattle.muen_num.specs.Range.{numbers_below}
+use Rattle.muen_num.specs.Tag.{tag_text}
+use Rattle.muen_num.specs.declared.bits.Kind.TheVariants.{Read, Write, Fetch}
+use Rattle.muen_num.specs.declared.tag.Part.TheVariants.{Whole, Named, Ept}
+
+-- ---- names
+
+every_kind_of_byte : is_name (codes "A-z_0.9") ≡ true
+unfolding is_name
+every_kind_of_byte = refl
+
+longest : is_name (replicate 63 97) ≡ true
+unfolding is_name
+longest = refl
+
+too_long : is_name (replicate 64 97) ≡ false
+unfolding is_name
+too_long = refl
+
+empty : is_name [] ≡ false
+unfolding is_name
+empty = refl
+
+slash : is_name (codes "a/b") ≡ false
+unfolding is_name
+slash = refl
+
+above_ascii : is_name (195 ∷ 164 ∷ []) ≡ false
+unfolding is_name
+above_ascii = refl
+
+-- ---- printed names and numbers
+
+whole : tag_text (record { owner = codes "code"; part = Whole }) ≡ codes "code"
+whole = refl
+
+named : tag_text (record { owner = codes "plain"; part = Named (codes "text") }) ≡ codes "plain|text"
+named = refl
+
+tables : tag_text (record { owner = codes "one"; part = Ept }) ≡ codes "one:ept"
+tables = refl
+
+high_byte_first : hex4 768 ≡ codes "0300"
+unfolding encode_with
+high_byte_first = refl
+
+-- ---- accesses
+
+may_write : allows 3 Write ≡ true
+may_write = refl
+
+may_not_write : allows 5 Write ≡ false
+may_not_write = refl
+
+may_fetch : allows 5 Fetch ≡ true
+may_fetch = refl
+
+may_not_read : allows 0 Read ≡ false
+may_not_read = refl
+
+-- ---- deliveries
+
+greatest_now : delivered (40 ∷ 50 ∷ 45 ∷ []) (60 ∷ []) false ≡ Some 50
+greatest_now = refl
+
+later_too : delivered (40 ∷ 50 ∷ []) (60 ∷ 32 ∷ []) true ≡ Some 60
+later_too = refl
+
+now_above_later : delivered (70 ∷ []) (60 ∷ []) true ≡ Some 70
+now_above_later = refl
+
+only_later : delivered [] (60 ∷ []) false ≡ None
+only_later = refl
+
+-- ---- ranges
+
+three : numbers_below 3 ≡ 0 ∷ 1 ∷ 2 ∷ []
+three = refl
+
+no_number : numbers_below 0 ≡ []
+no_number = refl

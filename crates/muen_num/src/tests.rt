@@ -1,0 +1,116 @@
+//! Runs of the calls that others make.
+use crate::text::{
+    append, append_decimal, append_decimal8, append_decimal32, append_hex4, append_hex8,
+    append_hex16, append_hex32,
+};
+use crate::{Kind, Name, Part, Seq, Size, Tag};
+use std::test::Fail;
+
+fn name(text: &[u8]) -> Result<Name, Fail> {
+    match Name::read(text) {
+        Some(name) => Ok(name),
+        None => Err(Fail::new("no name")),
+    }
+}
+
+#[test]
+fn reads_names(rt: HostRuntime) {
+    let longest = [b'a'; 63];
+    let too_long = [b'a'; 64];
+    let cases: [(&[u8], bool); 11] = [
+        (b"", false),
+        (b"a", true),
+        (b"A-z_0.9", true),
+        (longest.as_slice(), true),
+        (too_long.as_slice(), false),
+        (b"a b", false),
+        (b"a/b", false),
+        (b"a:b", false),
+        (b"a|b", false),
+        (b"\xc3\xa4", false),
+        (b"a\0", false),
+    ];
+    for (text, wanted) in cases {
+        match Name::read(text) {
+            Some(name) => {
+                assert!(rt; wanted);
+                assert_eq!(rt; name.bytes(), text);
+            }
+            None => assert!(rt; !wanted),
+        }
+    }
+}
+
+#[test]
+fn compares_names(rt: HostRuntime) -> Result<(), Fail> {
+    let one = name(b"ab")?;
+    assert!(rt; one == name(b"ab")?);
+    assert!(rt; one != name(b"abc")?);
+    assert!(rt; one != name(b"aB")?);
+    Ok(())
+}
+
+#[test]
+fn writes_tags(rt: HostRuntime) -> Result<(), Fail> {
+    let cases: [(Part, &[u8]); 7] = [
+        (Part::Whole, b"net"),
+        (Part::Named(name(b"ring")?), b"net|ring"),
+        (Part::State, b"net:state"),
+        (Part::Ept, b"net:ept"),
+        (Part::Iobm, b"net:iobm"),
+        (Part::Msrbm, b"net:msrbm"),
+        (Part::Msrs, b"net:msrs"),
+    ];
+    let owner = name(b"net")?;
+    for (part, wanted) in cases {
+        let mut out = [0u8; 128];
+        let end = Tag { owner, part }.write(&mut out);
+        assert_eq!(rt; &out[..end], wanted);
+    }
+    Ok(())
+}
+
+#[test]
+fn writes_numbers(rt: HostRuntime) {
+    let mut out = [0u8; 256];
+    let at = append(&mut out, 0, b"= ");
+    let at = append_decimal(&mut out, at, u64::MAX);
+    let at = append_decimal32(&mut out, at, u32::MAX);
+    let at = append_decimal8(&mut out, at, u8::MAX);
+    assert_eq!(rt;
+        &out[..at],
+        b"= 184467440737095516154294967295255".as_slice()
+    );
+    let at = append_hex16(&mut out, 0, 0x10e);
+    let at = append_hex8(&mut out, at, 0xdead_beef);
+    let at = append_hex4(&mut out, at, 768);
+    assert_eq!(rt; &out[..at], b"000000000000010edeadbeef0300".as_slice());
+    let at = append_hex32(&mut out, 0, &[0xa5; 32]);
+    assert_eq!(rt;
+        &out[..at],
+        b"a5a5a5a5a5a5a5a5a5a5a5a5a5a5a5a5a5a5a5a5a5a5a5a5a5a5a5a5a5a5a5a5".as_slice()
+    );
+}
+
+#[test]
+fn keeps_a_list(rt: HostRuntime) -> Result<(), Fail> {
+    let mut list: Seq<u8> = Seq::new(rt.alloc());
+    assert!(rt; list.is_empty());
+    list.push(7)?;
+    list.push(9)?;
+    assert_eq!(rt; list.items(), [7, 9].as_slice());
+    assert_eq!(rt; list.len(), 2);
+    let other = Seq::of(Vec::from_slice(rt.alloc(), &[7, 9])?);
+    assert!(rt; list == other);
+    let items = list.into_vec();
+    assert_eq!(rt; items.as_slice(), [7, 9].as_slice());
+    Ok(())
+}
+
+#[test]
+fn counts_bytes_and_rights(rt: HostRuntime) {
+    let sizes = [Size::One, Size::Two, Size::Four, Size::Eight].map(|size| size.bytes());
+    assert_eq!(rt; sizes, [1, 2, 4, 8]);
+    let bits = [Kind::Read, Kind::Write, Kind::Fetch].map(|kind| kind.bit());
+    assert_eq!(rt; bits, [1, 2, 4]);
+}

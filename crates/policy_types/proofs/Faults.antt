@@ -1,0 +1,39 @@
+-- Parts of a document: what they are read as, or their first fault alone.
+use Rattle.std.proofs.Common.{◌≡◌, [], ◌∷◌, refl}
+use Rattle.std.specs.Fmt.{digits}
+use Rattle.std.specs.Prelude.{Ok, codes}
+use Rattle.serde_json.specs.Data.{Data, null, number, unsigned, string, array, object, no_items, item, no_members, member}
+use Rattle.hex.specs.Hex.{decode_pairs}
+use Rattle.muen_num.specs.Naming.{is_name}
+use Rattle.policy_types.specs.Document.{is_one_content, one_content, read_content, read_inline}
+use Rattle.policy_types.specs.Keys.{content_keys}
+use Rattle.policy_types.specs.Schema.{fault, object_of, optional, unbuilt, read_hexadecimal, read_list, read_name}
+use Rattle.policy_types.specs.declared.refusal.Want.TheVariants.{Name, OneContent, NotYetBuilt, KnownKeys}
+use Rattle.policy_types.specs.declared.source.Content.TheVariants.{Inline}
+
+abbrev fill_and_hex : Data
+fill_and_hex = object (member (codes "fill") (number (unsigned 300)) (member (codes "hex") (string (codes "00")) no_members))
+
+two_kinds : read_content fill_and_hex ≡ fault [] OneContent
+unfolding read_content object_of content_keys one_content is_one_content
+two_kinds = refl
+
+foreign_key : read_content (object (member (codes "zero") null no_members)) ≡ fault [] KnownKeys
+unfolding read_content object_of content_keys
+foreign_key = refl
+
+offset_alone : read_content (object (member (codes "hex") (string []) (member (codes "offset") null no_members))) ≡ fault [] OneContent
+unfolding read_content object_of content_keys one_content is_one_content
+offset_alone = refl
+
+fill_alone : read_content (object (member (codes "fill") null no_members)) ≡ fault (codes "/fill") NotYetBuilt
+unfolding read_content object_of content_keys one_content is_one_content unbuilt
+fill_alone = refl
+
+digits_of_either_case : read_content (object (member (codes "hex") (string (codes "01aF")) no_members)) ≡ Ok (Inline (1 ∷ 175 ∷ []))
+unfolding read_content object_of content_keys one_content is_one_content unbuilt optional read_inline read_hexadecimal decode_pairs
+digits_of_either_case = refl
+
+second_item : read_list read_name (array (item (string (codes "a")) (item null no_items))) ≡ fault (codes "/1") Name
+unfolding read_list read_name is_name digits
+second_item = refl
