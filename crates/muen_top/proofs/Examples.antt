@@ -109,9 +109,9 @@ two = record {
   components = [];
   events = record { name = codes "go"; mode = Switch } ∷ [];
   subjects =
-    subject (codes "a") (record { event = codes "go"; way = ByTrap 0 } ∷ []) []
-    ∷ subject (codes "b") [] (record { event = codes "go"; vector = Some 40 } ∷ [])
-    ∷ [];
+      subject (codes "a") (record { event = codes "go"; way = ByTrap 0 } ∷ []) []
+      ∷ subject (codes "b") [] (record { event = codes "go"; vector = Some 40 } ∷ [])
+      ∷ [];
   scheduling = record {
     groups = record { name = codes "g"; cpu = 0; subjects = codes "a" ∷ codes "b" ∷ [] } ∷ [];
     major_frames = record { cpus = record { cpu = 0; minor_frames = record { group = codes "g"; ticks = 2 } ∷ [] } ∷ [] } ∷ [];
