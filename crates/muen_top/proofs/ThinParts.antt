@@ -4,7 +4,6 @@ use Rattle.std.specs.Prelude.{◌==◌, ◌&&◌, nat_le, is_none}
 use Rattle.std.specs.Str.{bytes_eq}
 use Rattle.std.proofs.lemmas.Slice.Eq.{bytes_eq-Decides}
 use Rattle.std.proofs.lemmas.Bool.Decides.{nat_tests}
-use Rattle.policy_types.specs.declared.rights.Rights.{Rights}
 use Rattle.policy_types.specs.declared.source.Source.{Source}
 use Rattle.policy_types.specs.declared.source.Block.{Block}
 use Rattle.policy_types.specs.declared.source.Region.{Region}
@@ -13,7 +12,7 @@ use Rattle.policy_types.specs.declared.source.Mapping.{Mapping}
 use Rattle.policy_types.specs.declared.source.Scheduling.{Scheduling}
 use Rattle.policy_types.specs.declared.source.Group.{Group}
 use Rattle.policy_types.specs.declared.source.CpuFrames.{CpuFrames}
-use Rattle.muen_top.specs.Thin.{only, is_bare, is_bare_subject, is_group_of, is_frame_of, is_plan_of, is_region, is_window_on, is_memory_of, is_thin}
+use Rattle.muen_top.specs.Thin.{only, is_bare, is_bare_subject, is_group_of, is_frame_of, is_plan_of, is_memory_of, is_thin}
 
 -- ---- tests that pass
 
@@ -55,16 +54,12 @@ the_only (x ∷ y ∷ xs) test h = absurd (cc)
 -- what a thin policy doesn't share with all others
 pub record Parts : Type 0 where
   pub blocks : List Block
-  pub region : Region
+  pub regions : List Region
   pub name : List ℕ
   pub entry : ℕ
-  pub guest : ℕ
-  pub rights : Rights
+  pub mappings : List Mapping
   pub group : List ℕ
   pub ticks : ℕ
-
-abbrev pub the_mapping : Parts → Mapping
-the_mapping q = record { region = q.region.name; virtual_address = q.guest; rights = q.rights }
 
 abbrev pub the_subject : Parts → Subject
 the_subject q = record {
@@ -72,7 +67,7 @@ the_subject q = record {
   cpu = 0;
   entry = q.entry;
   component = None;
-  memory = the_mapping q ∷ [];
+  memory = q.mappings;
   channels = [];
   devices = [];
   msrs = [];
@@ -91,7 +86,7 @@ the_policy q = record {
   processor = record { logical_cpus = 1 };
   memory_blocks = q.blocks;
   devices = [];
-  memory = q.region ∷ [];
+  memory = q.regions;
   channels = [];
   components = [];
   events = [];
@@ -111,22 +106,21 @@ record Bare (p : Source) : Type 0 where
 bare : (p : Source) → is_bare p ≡ true → Bare p
 unfolding is_bare
 bare p h =
-    let e = both _ _ h in
-    let d = both _ _ e.0 in
+    let d = both _ _ h in
     let c = both _ _ d.0 in
     let b = both _ _ c.0 in
     let a = both _ _ b.0 in
     record {
       cpus = λ i. record { logical_cpus = same_number p.processor.logical_cpus 1 a.0 i };
-      devices = no_items p.devices b.1;
-      channels = no_items p.channels c.1;
-      components = no_items p.components d.1;
-      events = no_items p.events e.1;
+      devices = no_items p.devices a.1;
+      channels = no_items p.channels b.1;
+      components = no_items p.components c.1;
+      events = no_items p.events d.1;
     }
 
-bare_subject : (s : Subject) (m : Mapping) → is_bare_subject s ≡ true → s.memory ≡ m ∷ [] → s ≡ record { name = s.name; cpu = 0; entry = s.entry; component = None; memory = m ∷ []; channels = []; devices = []; msrs = []; sources = []; targets = [] }
+bare_subject : (s : Subject) → is_bare_subject s ≡ true → s ≡ record { name = s.name; cpu = 0; entry = s.entry; component = None; memory = s.memory; channels = []; devices = []; msrs = []; sources = []; targets = [] }
 unfolding is_bare_subject
-bare_subject s m h memory =
+bare_subject s h =
     let f = both _ _ h in
     let e = both _ _ f.0 in
     let d = both _ _ e.0 in
@@ -138,7 +132,7 @@ bare_subject s m h memory =
       cpu = same_number s.cpu 0 a.0 i;
       entry = s.entry;
       component = nothing_in s.component a.1 i;
-      memory = memory i;
+      memory = s.memory;
       channels = no_items s.channels b.1 i;
       devices = no_items s.devices c.1 i;
       msrs = no_items s.msrs d.1 i;
@@ -205,42 +199,12 @@ plan_is plan subject h =
       };
     }
 
-pub record Mapped (regions : List Region) (mappings : List Mapping) : Type 0 where
-  pub region : Region
-  pub guest : ℕ
-  pub rights : Rights
-  pub regions_are : regions ≡ region ∷ []
-  pub mappings_are : mappings ≡ record { region = region.name; virtual_address = guest; rights = rights } ∷ []
-  pub is_region : is_region region ≡ true
-  pub is_window : is_window_on (record { region = region.name; virtual_address = guest; rights = rights }) region ≡ true
-
-memory_is : (regions : List Region) (mappings : List Mapping) → is_memory_of regions mappings ≡ true → Mapped regions mappings
-unfolding is_memory_of is_window_on
-memory_is regions mappings h =
-    let r = the_only regions (λ r. is_region r && only mappings (λ m. is_window_on m r)) h in
-    let a = both _ _ r.passes in
-    let m = the_only mappings (λ m. is_window_on m r.item) a.1 in
-    let x = both _ _ m.passes in
-    let y = both _ _ x.0 in
-    let mapping : m.item ≡ record { region = r.item.name; virtual_address = m.item.virtual_address; rights = m.item.rights } =
-    λ i. record { region = same_text m.item.region r.item.name y.0 i; virtual_address = m.item.virtual_address; rights = m.item.rights } in
-    record {
-      region = r.item;
-      guest = m.item.virtual_address;
-      rights = m.item.rights;
-      regions_are = r.is;
-      mappings_are = m.is ∙ ap (λ x. x ∷ []) mapping;
-      is_region = a.0;
-      is_window = ap (λ x. is_window_on x r.item) (sym mapping) ∙ m.passes;
-    }
-
 -- a thin policy has these parts
 pub record HasParts (p : Source) : Type 0 where
   pub parts : Parts
   pub is : p ≡ the_policy parts
   pub ticks : 1 ≤ parts.ticks
-  pub region : is_region parts.region ≡ true
-  pub window : is_window_on (the_mapping parts) parts.region ≡ true
+  pub memory : is_memory_of parts.regions parts.mappings ≡ true
 
 pub parts_of : (p : Source) → is_thin p ≡ true → HasParts p
 unfolding is_thin
@@ -251,15 +215,13 @@ parts_of p h =
     let c = both _ _ b.0 in
     let x = bare p a.0 in
     let plan = plan_is p.scheduling s.item.name c.1 in
-    let memory = memory_is p.memory s.item.memory b.1 in
     record {
       parts = record {
         blocks = p.memory_blocks;
-        region = memory.region;
+        regions = p.memory;
         name = s.item.name;
         entry = s.item.entry;
-        guest = memory.guest;
-        rights = memory.rights;
+        mappings = s.item.memory;
         group = plan.group;
         ticks = plan.ticks;
       };
@@ -267,14 +229,13 @@ parts_of p h =
         processor = x.cpus i;
         memory_blocks = p.memory_blocks;
         devices = x.devices i;
-        memory = memory.regions_are i;
+        memory = p.memory;
         channels = x.channels i;
         components = x.components i;
         events = x.events i;
-        subjects = (s.is ∙ ap (λ y. y ∷ []) (bare_subject s.item _ c.0 memory.mappings_are)) i;
+        subjects = (s.is ∙ ap (λ y. y ∷ []) (bare_subject s.item c.0)) i;
         scheduling = plan.is i;
       };
       ticks = plan.some;
-      region = memory.is_region;
-      window = memory.is_window;
+      memory = b.1;
     }

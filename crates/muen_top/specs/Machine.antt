@@ -1,6 +1,7 @@
 -- The machine of one subject, over the list of its windows: a private part until tables are walked.
-use Rattle.std.specs.Prelude.{◌≡◌, ℕ, suc, zero, ◌%◌, ◌<◌, false, List, [], ◌∷◌, ◌++◌, length, map, replicate, slice_index_or, Option, None, option_map, option_to_list}
+use Rattle.std.specs.Prelude.{◌≡◌, ℕ, suc, zero, ◌%◌, ◌<◌, false, List, [], ◌∷◌, ◌++◌, length, map, replicate, slice_index_or, position, Option, None, option_map, option_to_list, unwrap_or}
 use Rattle.std.specs.List.{flat_map}
+use Rattle.std.specs.Str.{bytes_eq}
 use Rattle.sha2.specs.Sha256.{sha256}
 use Rattle.muen_num.specs.declared.tag.Part.TheVariants.{Whole}
 use Rattle.policy_types.specs.Windows.{Window as WindowOf, Access as AccessTo, byte, violation, window}
@@ -15,6 +16,7 @@ use Rattle.muen_top.specs.ViewText.{turn_text, region_text}
 use Rattle.muen_top.specs.Solo.{Answer, turn_over}
 use Rattle.muen_top.specs.System.{line_at}
 use Rattle.muen_top.specs.Run.{rows_text}
+use Rattle.muen_top.specs.Thin.{size_or_none}
 use Rattle.muen_top.specs.declared.state_page.SubjectState.{SubjectState}
 use Rattle.muen_top.specs.declared.view_text.Line.{Line}
 use Rattle.muen_top.specs.declared.memory.Window.{Window}
@@ -72,12 +74,24 @@ plain_bytes size (Fill b) = replicate size b
 plain_bytes size (Inline bytes) = padded size bytes
 plain_bytes size (File name offset most) = []
 
--- the machine of a subject with a window on a region, at the start
-unfoldable pub machine_of : Subject → Region → Mapping → MachineState
-machine_of s r m = record {
+-- a region with its bytes at the start
+abbrev pub held_at_start : Region → Holding
+held_at_start r = record { name = r.name; bytes = plain_bytes r.size r.content }
+
+-- the place of the first region of this name, 0 where there is none
+abbrev pub place_of : List Region → List ℕ → ℕ
+place_of regions name = unwrap_or (position (λ r. bytes_eq r.name name) regions) 0
+
+-- the window of a mapping
+abbrev pub window_in : List Region → Mapping → WindowOf ℕ
+window_in regions m = window m.virtual_address (size_or_none regions m) m.rights.0 (place_of regions m.region)
+
+-- the machine of a subject with windows on these regions, at the start
+unfoldable pub machine_of : List Region → Subject → MachineState
+machine_of regions s = record {
   name = s.name;
-  windows = window m.virtual_address r.size m.rights.0 0 ∷ [];
-  holdings = record { name = r.name; bytes = plain_bytes r.size r.content } ∷ [];
+  windows = map (window_in regions) s.memory;
+  holdings = map held_at_start regions;
   state = started s.entry;
 }
 

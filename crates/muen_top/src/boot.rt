@@ -65,24 +65,11 @@ fn read_thin(alloc: Global, bytes: &[u8]) -> Result<Source, Refusal>
     ensures answer { Answers (thin_policy_of bytes.now) result }
     ensures thin { IfOk result (λ p. is_thin p ≡ true) }
 {
-    match policy_json::read(alloc, bytes) {
-        Ok(source) => {
-            if is_thin(&source) {
-                Ok(source)
-            } else {
-                Err(rule_0())
-            }
-        }
-        Err(Refusal::NotJson) => Err(Refusal::NotJson),
-        Err(Refusal::NoMemory) => Err(Refusal::NoMemory),
-        Err(
-            Refusal::Shape { .. }
-            | Refusal::Rule { .. }
-            | Refusal::Missing { .. }
-            | Refusal::TooLong { .. }
-            | Refusal::FileFit { .. }
-            | Refusal::NoRoom { .. },
-        ) => Err(rule_0()),
+    let source = policy_json::read(alloc, bytes)?;
+    if is_thin(&source) {
+        Ok(source)
+    } else {
+        Err(rule_0())
     }
 }
 
@@ -124,10 +111,7 @@ fn load_thin(alloc: Global, source: &Source) -> Result<Machine, AllocError>
     requires { is_thin source.now ≡ true }
     ensures { IfOk result (λ m. (files : Held) (end : ℕ) → trace_of source.now files (only_ticks end) ≡ machine_text m end) }
 {
-    let subject = &source.subjects.items()[0];
-    let region = &source.memory.items()[0];
-    let mapping = &subject.memory.items()[0];
-    Machine::load(alloc, subject, region, mapping)
+    Machine::load(alloc, source.memory.items(), &source.subjects.items()[0])
 }
 
 // Runs a thin policy.

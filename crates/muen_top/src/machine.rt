@@ -1,15 +1,17 @@
 // The private machine.
-ghost use Rattle.std.specs.Prelude.{◌≡◌, ◌+◌, ◌%◌, ◌<◌, ◌≤◌, length, take, drop, [], true, false, IfOk};
+ghost use Rattle.std.specs.Prelude.{◌≡◌, ◌+◌, ◌%◌, ◌<◌, ◌≤◌, length, map, take, drop, [], true, false, IfOk};
+ghost use Rattle.std.specs.List.{list_all};
 ghost use Rattle.muen_num.specs.declared.bits.Kind.TheVariants.{Fetch};
 ghost use Rattle.policy_types.specs.Windows.{access_of};
 ghost use Rattle.muen_top.specs.GuestIsa.{decode_of};
 ghost use Rattle.muen_top.specs.Solo.{faulted, performed, executed, fetched, attempted, turn_over};
-ghost use Rattle.muen_top.specs.Thin.{fits_in, is_region, is_window_on};
-ghost use Rattle.muen_top.specs.Machine.{windows_on, bytes_at, AllFit, answer_of, plain_bytes};
+ghost use Rattle.muen_top.specs.Thin.{fits_in, is_region};
+ghost use Rattle.muen_top.specs.Machine.{window_on, windows_on, bytes_at, AllFit, answer_of, plain_bytes, held_at_start, place_of, window_in};
 
 use crate::guest_isa::{Wish, ask, decode};
 use crate::memory::{Access, Holding, Window, access_at};
 use crate::state_page::SubjectState;
+use crate::thin::size_or_none;
 use crate::view_text::{End, Line, What};
 use muen_num::{Kind, Name, Seq};
 use policy_types::source::{Content, Mapping, Region, Subject};
@@ -182,12 +184,13 @@ fn plain_bytes(alloc: Global, size: u64, content: &Content) -> Result<Vec<u8>, A
 {
     match content {
         Content::Zero => vec![in alloc; 0; size as usize],
+        Content::Fill(byte) => vec![in alloc; *byte; size as usize],
         Content::Inline(bytes) => {
             let mut all = Vec::from_slice(alloc, bytes.items())?;
             all.resize(size as usize, 0)?;
             Ok(all)
         }
-        Content::Fill(_) | Content::File { .. } => unreachable!(),
+        Content::File { .. } => unreachable!(),
     }
 }
 
@@ -195,7 +198,7 @@ fn plain_bytes(alloc: Global, size: u64, content: &Content) -> Result<Vec<u8>, A
 #[tactic(auto, unfolding(crate::specs::Thin::is_region))]
 fn hold(alloc: Global, region: &Region) -> Result<Holding, AllocError>
     requires { is_region region.now ≡ true }
-    ensures { IfOk result (λ h. h ≡ record { name = region.now.name; bytes = plain_bytes region.now.size region.now.content }) }
+    ensures { IfOk result (λ h. h ≡ held_at_start region.now) }
 {
     let bytes = plain_bytes(alloc, region.size, &region.content)?;
     Ok(Holding {
@@ -204,35 +207,69 @@ fn hold(alloc: Global, region: &Region) -> Result<Holding, AllocError>
     })
 }
 
-// The window of a mapping on the first region.
-fn window_of(region: &Region, mapping: &Mapping) -> Window
-    ensures { result ≡ record { guest = mapping.now.virtual_address; size = region.now.size; rights = mapping.now.rights; place = 0 } }
+fn hold_all(alloc: Global, regions: &[Region]) -> Result<Vec<Holding>, AllocError>
+    requires { list_all is_region regions.now ≡ true }
+    ensures { IfOk result (λ all. all.items ≡ map held_at_start regions.now) }
+{
+    let mut all = Vec::new(alloc);
+    for region in regions {
+        all.push(hold(alloc, region)?)?;
+    }
+    Ok(all)
+}
+
+// The place of the first region of this name.
+fn place_of(regions: &[Region], name: &Name) -> usize
+    ensures { result ≡ place_of regions.now name.now }
+{
+    regions
+        .iter()
+        .position(|region| region.name == *name)
+        .unwrap_or(0)
+}
+
+// The window of a mapping.
+fn window_in(regions: &[Region], mapping: &Mapping) -> Window
+    ensures { window_on result ≡ window_in regions.now mapping.now }
 {
     Window {
         guest: mapping.virtual_address,
-        size: region.size,
+        size: size_or_none(regions, mapping),
         rights: mapping.rights,
-        place: 0,
+        place: place_of(regions, &mapping.region),
     }
 }
 
+fn windows_in(
+    alloc: Global,
+    regions: &[Region],
+    mappings: &[Mapping],
+) -> Result<Vec<Window>, AllocError>
+    ensures { IfOk result (λ windows. windows_on windows.items ≡ map (window_in regions.now) mappings.now) }
+{
+    let mut windows = Vec::new(alloc);
+    for mapping in mappings {
+        windows.push(window_in(regions, mapping))?;
+    }
+    Ok(windows)
+}
+
 impl Machine {
+    ghost use Rattle.muen_top.specs.Thin.{is_memory_of};
     ghost use Rattle.muen_top.specs.Machine.{machine_of, machine_after, machine_line};
 
-    /// The machine of a subject with this window on this region, at the start.
+    /// The machine of a subject with windows on these regions, at the start.
     #[tactic(auto, using(crate::proofs::Loaded::all_fit), unfolding(crate::specs::Machine::machine_of))]
     pub(crate) fn load(
         alloc: Global,
+        regions: &[Region],
         subject: &Subject,
-        region: &Region,
-        mapping: &Mapping,
     ) -> Result<Machine, AllocError>
-        requires region { is_region region.now ≡ true }
-        requires window { is_window_on mapping.now region.now ≡ true }
-        ensures { IfOk result (λ m. m ≡ machine_of subject.now region.now mapping.now) }
+        requires { is_memory_of regions.now subject.now.memory ≡ true }
+        ensures { IfOk result (λ m. m ≡ machine_of regions.now subject.now) }
     {
-        let holdings = vec![in alloc; hold(alloc, region)?]?;
-        let windows = vec![in alloc; window_of(region, mapping)]?;
+        let holdings = hold_all(alloc, regions)?;
+        let windows = windows_in(alloc, regions, subject.memory.items())?;
         Ok(Machine {
             name: subject.name,
             windows,

@@ -1,6 +1,7 @@
 // Which policies are built: thin ones, with one subject on one CPU.
-ghost use Rattle.std.specs.Prelude.{◌≡◌};
-ghost use Rattle.muen_top.specs.Thin.{is_bare, is_bare_subject, is_group_of, is_frame_of, is_plan_of, fits_in, is_region, is_window_on, is_memory_of, is_thin};
+ghost use Rattle.std.specs.Prelude.{◌≡◌, ◌+◌, ◌^◌, nat_le, sum_by};
+ghost use Rattle.std.specs.List.{list_all};
+ghost use Rattle.muen_top.specs.Thin.{each_two, is_bare, is_bare_subject, is_group_of, is_frame_of, is_plan_of, fits_in, is_region, are_other_names, are_regions, region_size, is_mapped, size_or_none, are_apart, are_windows, is_memory_of, is_thin};
 
 use muen_num::Name;
 use policy_types::Source;
@@ -14,13 +15,16 @@ const GUEST_END: u64 = 1 << 48;
 
 const MOST_TICKS: u64 = 100_000;
 
-// One CPU and one block of memory, and none of the elements that aren't built.
+const MOST_REGIONS: usize = 1024;
+
+const MOST_WINDOWS: usize = 128;
+
+// One CPU, and none of the elements that aren't built.
 #[tactic(auto, unfolding(crate::specs::Thin::is_bare))]
 fn is_bare(source: &Source) -> bool
     ensures { result ≡ is_bare source.now }
 {
     source.processor.logical_cpus == 1
-        && source.memory_blocks.len() == 1
         && source.devices.is_empty()
         && source.channels.is_empty()
         && source.components.is_empty()
@@ -82,48 +86,179 @@ fn is_plan_of(plan: &Scheduling, subject: &Name) -> bool
     }
 }
 
-// Zeros, or bytes that fit.
+// Zeros, a byte repeated, or bytes that fit.
 fn fits_in(content: &Content, size: u64) -> bool
     ensures { result ≡ fits_in content.now size }
 {
     match content {
-        Content::Zero => true,
+        Content::Zero | Content::Fill(_) => true,
         Content::Inline(bytes) => bytes.len() as u64 <= size,
-        Content::Fill(_) | Content::File { .. } => false,
+        Content::File { .. } => false,
     }
 }
 
-// Whole pages, at least one, at most 64 MiB, with contents that fit.
+// Whole pages, at least one, with contents that fit.
 #[tactic(auto, unfolding(crate::specs::Thin::is_region))]
 fn is_region(region: &Region) -> bool
     ensures { result ≡ is_region region.now }
 {
-    region.size % PAGE == 0
-        && 0 < region.size
-        && region.size <= MOST_MEMORY
-        && fits_in(&region.content, region.size)
+    region.size % PAGE == 0 && 0 < region.size && fits_in(&region.content, region.size)
 }
 
-// A window on this region, at a page, with its end at most 2^48.
-#[tactic(auto, unfolding(crate::specs::Thin::is_window_on))]
-fn is_window_on(mapping: &Mapping, region: &Region) -> bool
-    ensures { result ≡ is_window_on mapping.now region.now }
+fn are_all_regions(regions: &[Region]) -> bool
+    ensures { result ≡ list_all is_region regions.now }
 {
-    mapping.region == region.name
-        && mapping.virtual_address % PAGE == 0
-        && mapping.virtual_address <= GUEST_END
-        && region.size <= GUEST_END - mapping.virtual_address
+    for region in regions {
+        if !is_region(region) {
+            return false;
+        }
+    }
+    true
 }
 
-// One region, and one window on it.
+// Together at most 64 MiB.
+fn fit_memory(regions: &[Region]) -> bool
+    ensures { result ≡ nat_le (sum_by (λ r. r.size) regions.now) (2 ^ 26) }
+{
+    let mut total: u64 = 0;
+    for region in regions {
+        if region.size > MOST_MEMORY - total {
+            return false;
+        }
+        total += region.size;
+    }
+    true
+}
+
+fn is_other_name(region: &Region, others: &[Region]) -> bool
+    ensures { result ≡ list_all (are_other_names region.now) others.now }
+{
+    for other in others {
+        if region.name == other.name {
+            return false;
+        }
+    }
+    true
+}
+
+fn are_all_other_names(regions: &[Region]) -> bool
+    ensures { result ≡ each_two are_other_names regions.now }
+{
+    let mut rest = regions;
+    while let [region, others @ ..] = rest {
+        if !is_other_name(region, others) {
+            return false;
+        }
+        rest = others;
+    }
+    true
+}
+
+// At most 1,024 regions, of different names, together at most 64 MiB.
+#[tactic(auto, unfolding(crate::specs::Thin::are_regions))]
+fn are_regions(regions: &[Region]) -> bool
+    ensures { result ≡ are_regions regions.now }
+{
+    regions.len() <= MOST_REGIONS
+        && are_all_regions(regions)
+        && fit_memory(regions)
+        && are_all_other_names(regions)
+}
+
+// The size of the region of this name in bytes, if there is one.
+fn region_size(regions: &[Region], name: &Name) -> Option<u64>
+    ensures { result ≡ region_size regions.now name.now }
+{
+    for region in regions {
+        if region.name == *name {
+            return Some(region.size);
+        }
+    }
+    None
+}
+
+// On a region, at a page, with its end at most 2^48.
+fn is_mapped(regions: &[Region], mapping: &Mapping) -> bool
+    ensures { result ≡ is_mapped regions.now mapping.now }
+{
+    match region_size(regions, &mapping.region) {
+        None => false,
+        Some(size) => {
+            mapping.virtual_address % PAGE == 0
+                && mapping.virtual_address <= GUEST_END
+                && size <= GUEST_END - mapping.virtual_address
+        }
+    }
+}
+
+fn are_all_mapped(regions: &[Region], mappings: &[Mapping]) -> bool
+    ensures { result ≡ list_all (is_mapped regions.now) mappings.now }
+{
+    for mapping in mappings {
+        if !is_mapped(regions, mapping) {
+            return false;
+        }
+    }
+    true
+}
+
+/// The size of a mapping's region in bytes, 0 where there is no such region.
+pub(crate) fn size_or_none(regions: &[Region], mapping: &Mapping) -> u64
+    ensures { result ≡ size_or_none regions.now mapping.now }
+{
+    region_size(regions, &mapping.region).unwrap_or(0)
+}
+
+// Whether so many bytes from an address on end at another or before.
+fn ends_before(address: u64, size: u64, other: u64) -> bool
+    ensures { result ≡ nat_le (address + size) other }
+{
+    address <= other && size <= other - address
+}
+
+fn is_apart(regions: &[Region], mapping: &Mapping, others: &[Mapping]) -> bool
+    ensures { result ≡ list_all (are_apart regions.now mapping.now) others.now }
+{
+    let size = size_or_none(regions, mapping);
+    for other in others {
+        let other_size = size_or_none(regions, other);
+        if !ends_before(mapping.virtual_address, size, other.virtual_address)
+            && !ends_before(other.virtual_address, other_size, mapping.virtual_address)
+        {
+            return false;
+        }
+    }
+    true
+}
+
+fn are_all_apart(regions: &[Region], mappings: &[Mapping]) -> bool
+    ensures { result ≡ each_two (are_apart regions.now) mappings.now }
+{
+    let mut rest = mappings;
+    while let [mapping, others @ ..] = rest {
+        if !is_apart(regions, mapping, others) {
+            return false;
+        }
+        rest = others;
+    }
+    true
+}
+
+// At most 128 windows, each on a region, none over another.
+#[tactic(auto, unfolding(crate::specs::Thin::are_windows))]
+fn are_windows(regions: &[Region], mappings: &[Mapping]) -> bool
+    ensures { result ≡ are_windows regions.now mappings.now }
+{
+    mappings.len() <= MOST_WINDOWS
+        && are_all_mapped(regions, mappings)
+        && are_all_apart(regions, mappings)
+}
+
 #[tactic(auto, unfolding(crate::specs::Thin::is_memory_of))]
 fn is_memory_of(regions: &[Region], mappings: &[Mapping]) -> bool
     ensures { result ≡ is_memory_of regions.now mappings.now }
 {
-    match (regions, mappings) {
-        ([region], [mapping]) => is_region(region) && is_window_on(mapping, region),
-        _ => false,
-    }
+    are_regions(regions) && are_windows(regions, mappings)
 }
 
 /// Whether the policy is thin.

@@ -1,0 +1,10 @@
+use Rattle.std.proofs.Common.{◌≡◌, length}
+use Rattle.muen_top.specs.Thin.{each_two, are_apart}
+use Rattle.muen_top.proofs.thin.are_all_apart.Given as goal
+
+abbrev pub invariant-loop-rest : goal.invariant-loop-rest
+invariant-loop-rest l =
+    each_two (are_apart l.regions) l.rest ≡ each_two (are_apart l.regions) l.mappings
+
+abbrev pub decreases-loop-rest : goal.decreases-loop-rest
+decreases-loop-rest l = length l.rest

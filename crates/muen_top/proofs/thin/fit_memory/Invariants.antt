@@ -1,0 +1,10 @@
+use Rattle.std.proofs.Common.{◌≡◌, ◌+◌, ◌≤◌, ◌^◌, drop}
+use Rattle.std.specs.Prelude.{sum_by}
+use Rattle.muen_top.proofs.thin.fit_memory.Given as goal
+
+abbrev pub invariant-loop-region : goal.invariant-loop-region
+invariant-loop-region l =
+    record {
+      total : l.total + sum_by (λ r. r.size) (drop l.region-index l.regions) ≡ sum_by (λ r. r.size) l.regions;
+      within : l.total ≤ 2 ^ 26;
+    }
