@@ -1,14 +1,15 @@
 ghost use Rattle.std.specs.Prelude.{◌≡◌, option_and_then};
 ghost use Rattle.serde_json.specs.View.{view};
-ghost use Rattle.policy_types.specs.Schema.{read_number, read_name, read_rights, read_hexadecimal, rights_from};
+ghost use Rattle.policy_types.specs.Schema.{read_number, read_byte, read_name, read_rights, read_caching, read_hexadecimal, rights_from, caching_from};
 ghost use Rattle.policy_json.specs.Reading.{Gives};
 
 use crate::fault::{ReadEnd, make_fault};
+use crate::number::number_of;
 use crate::shape::Shape;
 use bitflags::Flags;
 use hex::FromHexError;
 use muen_num::{Name, Seq};
-use policy_types::{Rights, Want};
+use policy_types::{Caching, Rights, Want};
 use serde_json::Value;
 use std::alloc::Global;
 
@@ -17,9 +18,21 @@ impl Shape for u64 {
 
     #[tactic(auto, unfolding(policy_types::specs::Schema::read_number))]
     fn read(alloc: Global, value: &Value) -> Result<u64, ReadEnd> {
-        match value.as_u64() {
+        match number_of(value) {
             Some(n) => Ok(n),
             None => Err(make_fault(alloc, Want::Number)),
+        }
+    }
+}
+
+impl Shape for u8 {
+    ghost reads = { read_byte };
+
+    #[tactic(auto, unfolding(policy_types::specs::Schema::read_byte))]
+    fn read(alloc: Global, value: &Value) -> Result<u8, ReadEnd> {
+        match number_of(value) {
+            Some(n) if n < 256 => Ok(n as u8),
+            _ => Err(make_fault(alloc, Want::Byte)),
         }
     }
 }
@@ -63,6 +76,34 @@ impl Shape for Rights {
             Some(text) => match rights_of(text) {
                 Some(rights) => Ok(rights),
                 None => Err(make_fault(alloc, Want::Rights)),
+            },
+        }
+    }
+}
+
+fn caching_of(text: &str) -> Option<Caching>
+    ensures { result ≡ caching_from text.now }
+{
+    match text {
+        "UC" => Some(Caching::Uc),
+        "WC" => Some(Caching::Wc),
+        "WT" => Some(Caching::Wt),
+        "WP" => Some(Caching::Wp),
+        "WB" => Some(Caching::Wb),
+        _ => None,
+    }
+}
+
+impl Shape for Caching {
+    ghost reads = { read_caching };
+
+    #[tactic(auto, unfolding(policy_types::specs::Schema::read_caching))]
+    fn read(alloc: Global, value: &Value) -> Result<Caching, ReadEnd> {
+        match value.as_str() {
+            None => Err(make_fault(alloc, Want::Caching)),
+            Some(text) => match caching_of(text) {
+                Some(caching) => Ok(caching),
+                None => Err(make_fault(alloc, Want::Caching)),
             },
         }
     }

@@ -7,6 +7,7 @@ ghost use Rattle.policy_types.specs.Reading.{Answers};
 mod fault;
 mod keys;
 mod kinds;
+mod number;
 mod objects;
 mod scheduling;
 mod shape;

@@ -1,7 +1,7 @@
 ghost use Rattle.std.specs.Prelude.{◌≡◌, codes};
 ghost use Rattle.serde_json.specs.View.{view};
 ghost use Rattle.policy_types.specs.Schema.{optional};
-ghost use Rattle.policy_types.specs.Document.{is_one_content, one_content, read_inline};
+ghost use Rattle.policy_types.specs.Document.{is_one_content, one_content, read_fill, read_inline};
 ghost use Rattle.policy_types.specs.declared.source.Content.TheVariants.{Zero};
 ghost use Rattle.policy_json.specs.Reading.{Finds, Gives};
 
@@ -76,6 +76,16 @@ fn read_one_content(alloc: Global, value: &Value) -> Result<(), ReadEnd>
     }
 }
 
+#[tactic(auto, unfolding(policy_types::specs::Document::read_fill))]
+fn read_fill(alloc: Global, value: &Value) -> Result<Content, ReadEnd>
+    ensures { Gives (read_fill (view value.now)) result }
+{
+    match <u8 as Shape>::read(alloc, value) {
+        Ok(byte) => Ok(Content::Fill(byte)),
+        Err(end) => Err(end),
+    }
+}
+
 #[tactic(auto, unfolding(policy_types::specs::Document::read_inline))]
 fn read_inline(alloc: Global, value: &Value) -> Result<Content, ReadEnd>
     ensures { Gives (read_inline (view value.now)) result }
@@ -86,13 +96,27 @@ fn read_inline(alloc: Global, value: &Value) -> Result<Content, ReadEnd>
     }
 }
 
-// Bytes that are spelled in the document, or zeros where there are none.
+// The byte that fills the content, or zeros where there is none.
 #[tactic(auto, unfolding(policy_types::specs::Schema::optional))]
-fn read_spelled(alloc: Global, value: &Value) -> Result<Content, ReadEnd>
-    ensures { Gives (optional (codes "hex") Zero read_inline (view value.now)) result }
+fn read_filled(alloc: Global, value: &Value) -> Result<Content, ReadEnd>
+    ensures { Gives (optional (codes "fill") Zero read_fill (view value.now)) result }
+{
+    match value.get("fill") {
+        None => Ok(Content::Zero),
+        Some(found) => match read_fill(alloc, found) {
+            Ok(content) => Ok(content),
+            Err(end) => Err(fault_under(alloc, b"fill", end)),
+        },
+    }
+}
+
+// The bytes that are spelled in the document, or the default where there are none.
+#[tactic(auto, unfolding(policy_types::specs::Schema::optional))]
+fn read_spelled(alloc: Global, value: &Value, default: Content) -> Result<Content, ReadEnd>
+    ensures { Gives (optional (codes "hex") default read_inline (view value.now)) result }
 {
     match value.get("hex") {
-        None => Ok(Content::Zero),
+        None => Ok(default),
         Some(found) => match read_inline(alloc, found) {
             Ok(content) => Ok(content),
             Err(end) => Err(fault_under(alloc, b"hex", end)),
@@ -109,9 +133,11 @@ impl Shape for Content {
     fn read(alloc: Global, value: &Value) -> Result<Content, ReadEnd> {
         read_content_keys(alloc, value)?;
         read_one_content(alloc, value)?;
-        read_unbuilt(alloc, value, "fill")?;
-        let content = read_spelled(alloc, value)?;
+        let fill = read_filled(alloc, value)?;
+        let content = read_spelled(alloc, value, fill)?;
         read_unbuilt(alloc, value, "file")?;
+        read_unbuilt(alloc, value, "offset")?;
+        read_unbuilt(alloc, value, "length")?;
         Ok(content)
     }
 }
@@ -126,14 +152,14 @@ impl Shape for Region {
         read_region_keys(alloc, value)?;
         let name = read_required(alloc, value, "name")?;
         let size = read_required(alloc, value, "size")?;
-        read_unbuilt(alloc, value, "caching")?;
+        let caching = read_optional(alloc, value, "caching", Caching::Wb)?;
         read_unbuilt(alloc, value, "alignment")?;
         read_unbuilt(alloc, value, "physicalAddress")?;
         let content = read_optional(alloc, value, "content", Content::Zero)?;
         Ok(Region {
             name,
             size,
-            caching: Caching::Wb,
+            caching,
             alignment: 4096,
             physical_address: None,
             content,

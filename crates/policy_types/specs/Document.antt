@@ -7,7 +7,7 @@ use Rattle.serde_json.specs.Data.{Data}
 use Rattle.serde_json.specs.Find.{get}
 use Rattle.serde_json.specs.Read.{read}
 use Rattle.policy_types.specs.Keys.{system_keys, processor_keys, block_keys, region_keys, content_keys, subject_keys, mapping_keys, scheduling_keys, group_keys, major_frame_keys, cpu_frames_keys, minor_frame_keys}
-use Rattle.policy_types.specs.Schema.{◌>>=◌, fault, object_of, required, optional, unbuilt, read_number, read_name, read_rights, read_hexadecimal, read_list}
+use Rattle.policy_types.specs.Schema.{◌>>=◌, fault, object_of, required, optional, unbuilt, read_number, read_byte, read_name, read_rights, read_caching, read_hexadecimal, read_list}
 use Rattle.policy_types.specs.declared.refusal.Fault.{Fault}
 use Rattle.policy_types.specs.declared.refusal.Refusal.{Refusal}
 use Rattle.policy_types.specs.declared.refusal.Refusal.TheVariants.{NotJson, Shape}
@@ -18,7 +18,7 @@ use Rattle.policy_types.specs.declared.source.Processor.{Processor}
 use Rattle.policy_types.specs.declared.source.Block.{Block}
 use Rattle.policy_types.specs.declared.source.Region.{Region}
 use Rattle.policy_types.specs.declared.source.Content.{Content}
-use Rattle.policy_types.specs.declared.source.Content.TheVariants.{Zero, Inline}
+use Rattle.policy_types.specs.declared.source.Content.TheVariants.{Zero, Fill, Inline}
 use Rattle.policy_types.specs.declared.source.Subject.{Subject}
 use Rattle.policy_types.specs.declared.source.Mapping.{Mapping}
 use Rattle.policy_types.specs.declared.source.Scheduling.{Scheduling}
@@ -55,6 +55,9 @@ is_one_content d =
 unfoldable pub one_content : Data → Result (Unit {0}) Fault
 one_content d = if is_one_content d then Ok tt else fault [] OneContent
 
+unfoldable pub read_fill : Data → Result Content Fault
+read_fill d = read_byte d >>= λ byte. Ok (Fill byte)
+
 unfoldable pub read_inline : Data → Result Content Fault
 read_inline d = read_hexadecimal d >>= λ bytes. Ok (Inline bytes)
 
@@ -62,9 +65,11 @@ unfoldable pub read_content : Data → Result Content Fault
 read_content d = do
   known ← object_of content_keys d
   one ← one_content d
-  fill ← unbuilt (codes "fill") d
-  content ← optional (codes "hex") Zero read_inline d
+  fill ← optional (codes "fill") Zero read_fill d
+  content ← optional (codes "hex") fill read_inline d
   file ← unbuilt (codes "file") d
+  offset ← unbuilt (codes "offset") d
+  length ← unbuilt (codes "length") d
   Ok content
 
 unfoldable pub read_region : Data → Result Region Fault
@@ -72,11 +77,11 @@ read_region d = do
   known ← object_of region_keys d
   name ← required (codes "name") read_name d
   size ← required (codes "size") read_number d
-  caching ← unbuilt (codes "caching") d
+  caching ← optional (codes "caching") Wb read_caching d
   alignment ← unbuilt (codes "alignment") d
   physical_address ← unbuilt (codes "physicalAddress") d
   content ← optional (codes "content") Zero read_content d
-  Ok (record { name = name; size = size; caching = Wb; alignment = 4096; physical_address = None; content = content })
+  Ok (record { name = name; size = size; caching = caching; alignment = 4096; physical_address = None; content = content })
 
 unfoldable pub read_mapping : Data → Result Mapping Fault
 read_mapping d = do

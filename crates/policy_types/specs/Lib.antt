@@ -1,3 +1,4 @@
+pub mod Based
 pub mod Contents
 pub mod Document
 pub mod Events

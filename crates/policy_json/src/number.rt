@@ -1,0 +1,62 @@
+ghost use Rattle.std.specs.Prelude.{◌≡◌};
+ghost use Rattle.hex.specs.Hex.{hex_digit_value};
+ghost use Rattle.serde_json.specs.View.{view};
+ghost use Rattle.policy_types.specs.Based.{based};
+ghost use Rattle.policy_types.specs.Schema.{number_of};
+
+use serde_json::Value;
+
+fn hex_digit(c: u8) -> Option<u8>
+    ensures { result ≡ hex_digit_value c }
+{
+    match c {
+        b'A'..=b'F' => Some(c - 55),
+        b'a'..=b'f' => Some(c - 87),
+        b'0'..=b'9' => Some(c - 48),
+        _ => None,
+    }
+}
+
+// A number such as `16#00ff_ff00#`.
+fn read_based(text: &[u8]) -> Option<u64>
+    ensures { result ≡ based text.now }
+{
+    if text.len() < 3 || &text[..3] != b"16#".as_slice() {
+        return None;
+    }
+    let mut rest = &text[3..];
+    let mut n: u64 = 0;
+    let mut digit = false;
+    while let [c, after @ ..] = rest {
+        if *c == b'#' {
+            return if digit && after.is_empty() {
+                Some(n)
+            } else {
+                None
+            };
+        }
+        if *c == b'_' {
+            if !digit {
+                return None;
+            }
+            digit = false;
+        } else {
+            let v = u64::from(hex_digit(*c)?);
+            n = n.checked_mul(16)?.checked_add(v)?;
+            digit = true;
+        }
+        rest = after;
+    }
+    None
+}
+
+/// A JSON number below 2^64, or such a number as a text.
+pub fn number_of(value: &Value) -> Option<u64>
+    ensures { result ≡ number_of (view value.now) }
+{
+    match value {
+        Value::Number(n) => n.as_u64(),
+        Value::String(text) => read_based(text.as_bytes()),
+        _ => None,
+    }
+}
