@@ -1,6 +1,7 @@
 -- The windows of a machine fit at the start.
 use Rattle.std.proofs.Common.{◌≡◌, ℕ, ◌-◌, ◌%◌, ◌≤◌, true, List, [], ◌∷◌, length, map, sym, ap, ◌∙◌, arith, length-append}
 use Rattle.std.specs.Prelude.{replicate}
+use Rattle.std.specs.List.{list_all}
 use Rattle.std.proofs.lemmas.List.{length-replicate}
 use Rattle.std.proofs.lemmas.Bool.Decides.{nat_tests}
 use Rattle.policy_types.specs.declared.source.Region.{Region}
@@ -51,3 +52,6 @@ each_fits regions (m ∷ ms) h = (fits regions m h.0, each_fits regions ms h.1)
 
 pub all_fit : (regions : List Region) (ms : List Mapping) → is_memory_of regions ms ≡ true → AllFit (map held_at_start regions) (map (window_in regions) ms)
 all_fit regions ms h = each_fits regions ms (memory_is regions ms h).here
+
+pub all_regions : (regions : List Region) (ms : List Mapping) → is_memory_of regions ms ≡ true → list_all is_region regions ≡ true
+all_regions regions ms h = (memory_is regions ms h).each

@@ -3,7 +3,9 @@ use Rattle.std.proofs.Common.{◌≡◌, inl, inr, ◌⊎◌, ℕ, List, Option,
 use Rattle.std.specs.FinMap.{get}
 use Rattle.muen_outside.specs.Store.{Store, Reading, whole, absent, long, reading_of}
 use Rattle.muen_outside.specs.Outside.{FilesState, SinkState}
-use Rattle.policy_types.specs.Document.{policy_of}
+use Rattle.serde_json.specs.Data.{Data}
+use Rattle.policy_types.specs.Document.{read_system, json_of, shape_refused, policy_from, policy_of}
+use Rattle.policy_types.specs.declared.refusal.Fault.{Fault}
 use Rattle.policy_types.specs.declared.refusal.Refusal.{Refusal}
 use Rattle.policy_types.specs.declared.refusal.Refusal.TheVariants.{NotJson, Shape, Rule, Missing as MissingFile, TooLong as TooLongFile, FileFit, NoRoom, NoMemory as NoMemoryFor}
 use Rattle.policy_types.specs.declared.source.Source.{Source}
@@ -107,30 +109,20 @@ tested q p false h e = absurd (cc)
 
 pub thin_ok : (answer : Result Source Refusal) (p : Source) → thin_alone answer ≡ Ok p → (answer ≡ Ok p) × (is_thin p ≡ true)
 thin_ok (Ok q) p e = tested q p (is_thin q) refl e
-thin_ok (Err NotJson) p e = absurd (cc)
-thin_ok (Err (Shape place want)) p e = absurd (cc)
-thin_ok (Err (Rule n a b)) p e = absurd (cc)
-thin_ok (Err (MissingFile file)) p e = absurd (cc)
-thin_ok (Err (TooLongFile file n)) p e = absurd (cc)
-thin_ok (Err (FileFit region room n)) p e = absurd (cc)
-thin_ok (Err (NoRoom region size)) p e = absurd (cc)
-thin_ok (Err NoMemoryFor) p e = absurd (cc)
+thin_ok (Err r) p e = absurd (cc)
 
 -- a policy's refusal is of status 2
 refusal_is : (t : Bool) (q : Source) (r : Refusal) → cond t (Ok q) (Err rule_0) ≡ Err r → refusal_status r ≡ 2
 refusal_is true q r e = absurd (cc)
 refusal_is false q r e = let f : rule_0 ≡ r = cc in ap refusal_status (sym f)
 
-thin_err : (answer : Result Source Refusal) (r : Refusal) → thin_alone answer ≡ Err r → refusal_status r ≡ 2
-thin_err (Ok q) r e = refusal_is (is_thin q) q r e
-thin_err (Err NotJson) r e = let f : NotJson ≡ r = cc in ap refusal_status (sym f)
-thin_err (Err (Shape place want)) r e = let f : rule_0 ≡ r = cc in ap refusal_status (sym f)
-thin_err (Err (Rule n a b)) r e = let f : rule_0 ≡ r = cc in ap refusal_status (sym f)
-thin_err (Err (MissingFile file)) r e = let f : rule_0 ≡ r = cc in ap refusal_status (sym f)
-thin_err (Err (TooLongFile file n)) r e = let f : rule_0 ≡ r = cc in ap refusal_status (sym f)
-thin_err (Err (FileFit region room n)) r e = let f : rule_0 ≡ r = cc in ap refusal_status (sym f)
-thin_err (Err (NoRoom region size)) r e = let f : rule_0 ≡ r = cc in ap refusal_status (sym f)
-thin_err (Err NoMemoryFor) r e = let f : rule_0 ≡ r = cc in ap refusal_status (sym f)
+shape_err : (answer : Result Source Fault) (r : Refusal) → thin_alone (shape_refused answer) ≡ Err r → refusal_status r ≡ 2
+shape_err (Ok q) r e = refusal_is (is_thin q) q r e
+shape_err (Err f) r e = let g : Shape f.place f.want ≡ r = cc in ap refusal_status (sym g)
+
+thin_err : (document : Option Data) (r : Refusal) → thin_alone (policy_from document) ≡ Err r → refusal_status r ≡ 2
+thin_err None r e = let f : NotJson ≡ r = cc in ap refusal_status (sym f)
+thin_err (Some d) r e = shape_err (read_system d) r e
 
 -- a refusal that was seen: its answer, or want of memory
 pub data Seen (bytes : List ℕ) (r : Refusal) : Type 0 where
@@ -148,6 +140,6 @@ seen bytes (NoRoom region size) a = answered a
 seen bytes NoMemoryFor a = out_of_memory refl
 
 pub refused_status : (bytes : List ℕ) (r : Refusal) → Seen bytes r → (refusal_status r ≡ 2) ⊎ (refusal_status r ≡ 8)
-unfolding thin_policy_of
-refused_status bytes r (answered a) = inl (thin_err (policy_of bytes) r a)
+unfolding thin_policy_of policy_of
+refused_status bytes r (answered a) = inl (thin_err (json_of bytes) r a)
 refused_status bytes r (out_of_memory e) = inr (ap refusal_status e)

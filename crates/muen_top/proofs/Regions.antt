@@ -1,6 +1,6 @@
 -- Regions and windows of a thin policy: by name in the policy, by place in the machine.
-use Rattle.std.proofs.Common.{◌≡◌, ℕ, suc, ◌<◌, Bool, true, false, cond, not, List, [], ◌∷◌, length, get_or, map, Option, Some, None, refl, sym, ap, ◌∙◌, subst, arith}
-use Rattle.std.specs.Prelude.{◌==◌, ◌&&◌, nat_le, nat_lt, filter, option_map, slice_get, slice_index_or, position, unwrap_or}
+use Rattle.std.proofs.Common.{◌≡◌, ℕ, suc, ◌%◌, ◌<◌, Bool, true, false, cond, not, List, [], ◌∷◌, length, get_or, map, Option, Some, None, refl, sym, ap, ◌∙◌, subst, arith}
+use Rattle.std.specs.Prelude.{◌==◌, ◌&&◌, ◌||◌, nat_le, nat_lt, filter, option_map, slice_get, slice_index_or, position, unwrap_or}
 use Rattle.std.specs.List.{find, list_all, list_any, filter_map, cons_option, position_or_len}
 use Rattle.std.specs.Str.{bytes_eq}
 use Rattle.std.specs.Cmp.Lexicographic.{nat_list_eq_equiv}
@@ -138,7 +138,7 @@ all_first (r ∷ rs) all h =
 -- ---- the parts of a memory
 
 pub record Memory (regions : List Region) (mappings : List Mapping) : Type 0 where
-  pub regions : list_all is_region regions ≡ true
+  pub each : list_all is_region regions ≡ true
   pub first : AllFirst regions regions
   pub here : AllHere regions mappings
 
@@ -152,7 +152,7 @@ memory_is regions mappings h =
     let e = both _ _ a.1 in
     let f = both _ _ e.0 in
     record {
-      regions = b.1;
+      each = b.1;
       first = all_first regions b.1 d.1;
       here = all_here regions mappings b.1 f.1;
     }
@@ -218,7 +218,11 @@ found_shown g name address (v ∷ vs) w is e =
           let it : same_thing (g v.thing) (region (name w.thing)) ≡ true =
           ap (λ x. same_thing x (region (name w.thing))) (is v.thing ∙ ap (λ (x : Window ℕ). region (name x.thing)) same) ∙ same_self (name w.thing) in
           rw it refl
-      | false ↦ λ e. rw (found_shown g name address vs w is e) refl
+      | false ↦ λ e.
+          (elim (same_thing (g v.thing) (region (name w.thing))) as (λ b. (b || is_shown (map (relabelled g) vs) (region (name w.thing))) ≡ true) [
+            | true ↦ refl
+            | false ↦ found_shown g name address vs w is e
+          ])
     ]) e
 
 -- the windows of the machine, as the policy has them

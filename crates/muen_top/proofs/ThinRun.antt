@@ -107,7 +107,7 @@ module _ (q : Parts) where
 
   windows_are : AllHere q.regions q.mappings → windows_of p (the_subject q) ≡ map (relabelled (thing_at held)) windows
   unfolding windows_of p
-  windows_are h = rw append-nil (windows_here p q.mappings h)
+  windows_are h = rw (append-nil, append-nil, append-nil) (windows_here p q.mappings h)
 
   -- the system while the subject has this state
   abbrev pub system_with : SubjectState → System
@@ -160,9 +160,15 @@ module _ (q : Parts) where
   cons_option-none None = refl
   cons_option-none (Some x) = refl
 
+  things_are : things_of p ≡ map (λ r. region r.name) q.regions
+  unfolding things_of p
+  things_are = append-nil _ ∙ append-nil _ ∙ append-nil _
+
   start_is : (files : Held) → AllFirst q.regions q.regions → start_of p files ≡ system_with (started q.entry)
-  unfolding start_of things_of p
-  start_is files h = rw (append-nil, things_among files q.regions h) refl
+  unfolding start_of p
+  start_is files h =
+      let things = ap (map (λ x. (x, initial_bytes p files x))) things_are ∙ things_among files q.regions h in
+      λ i. record (system_with (started q.entry)) { things = things i }
 
   -- what a tick prints and leaves
   tick_is : 1 ≤ q.ticks → AllHere q.regions q.mappings → (s : SubjectState) (end tick : ℕ) → tick_of p (only_ticks end) tick (system_with s) ≡ record { lines = option_to_list (machine_line (machine_with s) tick); system = system_with (machine_after (machine_with s)).state }

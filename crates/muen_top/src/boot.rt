@@ -111,7 +111,8 @@ fn load_thin(alloc: Global, source: &Source) -> Result<Machine, AllocError>
     requires { is_thin source.now ≡ true }
     ensures { IfOk result (λ m. (files : Held) (end : ℕ) → trace_of source.now files (only_ticks end) ≡ machine_text m end) }
 {
-    Machine::load(alloc, source.memory.items(), &source.subjects.items()[0])
+    let subject = &source.subjects.items()[0];
+    Machine::load(alloc, source.memory.items(), subject)
 }
 
 // Runs a thin policy.

@@ -1,6 +1,7 @@
 // The private machine.
 ghost use Rattle.std.specs.Prelude.{◌≡◌, ◌+◌, ◌%◌, ◌<◌, ◌≤◌, length, map, take, drop, [], true, false, IfOk};
-ghost use Rattle.std.specs.List.{list_all};
+ghost use Rattle.std.specs.List.{list_all, position};
+ghost use Rattle.std.specs.Str.{bytes_eq};
 ghost use Rattle.muen_num.specs.declared.bits.Kind.TheVariants.{Fetch};
 ghost use Rattle.policy_types.specs.Windows.{access_of};
 ghost use Rattle.muen_top.specs.GuestIsa.{decode_of};
@@ -218,14 +219,17 @@ fn hold_all(alloc: Global, regions: &[Region]) -> Result<Vec<Holding>, AllocErro
     Ok(all)
 }
 
+fn find_place(regions: &[Region], name: &Name) -> Option<usize>
+    ensures { result ≡ position (λ r. bytes_eq r.name name.now) regions.now }
+{
+    regions.iter().position(|region| region.name == *name)
+}
+
 // The place of the first region of this name.
 fn place_of(regions: &[Region], name: &Name) -> usize
     ensures { result ≡ place_of regions.now name.now }
 {
-    regions
-        .iter()
-        .position(|region| region.name == *name)
-        .unwrap_or(0)
+    find_place(regions, name).unwrap_or(0)
 }
 
 // The window of a mapping.
@@ -259,7 +263,7 @@ impl Machine {
     ghost use Rattle.muen_top.specs.Machine.{machine_of, machine_after, machine_line};
 
     /// The machine of a subject with windows on these regions, at the start.
-    #[tactic(auto, using(crate::proofs::Loaded::all_fit), unfolding(crate::specs::Machine::machine_of))]
+    #[tactic(auto, using(crate::proofs::Loaded::all_fit, crate::proofs::Loaded::all_regions), unfolding(crate::specs::Machine::machine_of))]
     pub(crate) fn load(
         alloc: Global,
         regions: &[Region],

@@ -28,6 +28,43 @@ regs one 8 0000000000000000 0000000000000000 0000000000000000 0000000000000000\n
 regs one 12 0000000000000000 0000000000000000 0000000000000000 0000000000000000\n\
 region code d4837ed1427735f0510903e5523cb11cd438da2eb85d4aaea180ec5efa8719aa\n";
 
+// The policy with its block's address as a text.
+const SPACED: &[u8] = b"{\"processor\":{\"logicalCpus\":1},\
+\"memoryBlocks\":[{\"name\":\"ram\",\"physicalAddress\":\"16#0010_0000#\",\"size\":65536}],\
+\"memory\":[{\"name\":\"code\",\"size\":4096,\"content\":{\"hex\":\"01100000050000001700000000000000\"}}],\
+\"subjects\":[{\"name\":\"one\",\"cpu\":0,\"entry\":4194304,\
+\"memory\":[{\"region\":\"code\",\"virtualAddress\":4194304,\"rights\":\"rx\"}]}],\
+\"scheduling\":{\"groups\":[{\"name\":\"g\",\"cpu\":0,\"subjects\":[\"one\"]}],\
+\"majorFrames\":[{\"cpus\":[{\"cpu\":0,\"minorFrames\":[{\"group\":\"g\",\"ticks\":10}]}]}]}}";
+
+const UNDERSCORED: &[u8] = b"{\"processor\":{\"logicalCpus\":1},\
+\"memoryBlocks\":[{\"name\":\"ram\",\"physicalAddress\":\"16#10__0#\",\"size\":65536}],\"memory\":[{}]}";
+
+// No block; three regions, two of them in windows, of which the second follows on the first.
+const SEVERAL: &[u8] = b"{\"processor\":{\"logicalCpus\":1},\"memory\":[\
+{\"name\":\"spare\",\"size\":4096,\"content\":{\"fill\":255}},\
+{\"name\":\"code\",\"size\":4096,\"content\":{\"hex\":\"01100000050000001700000000000000\"}},\
+{\"name\":\"lead\",\"size\":4096,\"caching\":\"UC\"}],\
+\"subjects\":[{\"name\":\"one\",\"cpu\":0,\"entry\":\"16#3f_fff8#\",\"memory\":[\
+{\"region\":\"code\",\"virtualAddress\":\"16#40_0000#\",\"rights\":\"rx\"},\
+{\"region\":\"lead\",\"virtualAddress\":\"16#3f_f000#\",\"rights\":\"rx\"}]}],\
+\"scheduling\":{\"groups\":[{\"name\":\"g\",\"cpu\":0,\"subjects\":[\"one\"]}],\
+\"majorFrames\":[{\"cpus\":[{\"cpu\":0,\"minorFrames\":[{\"group\":\"g\",\"ticks\":10}]}]}]}}";
+
+const SEVERAL_RAN: &[u8] = b"0 0 one 00000000003ffff8 -\n\
+1 0 one 0000000000400000 r1=0000000000000005\n\
+2 0 one 0000000000400008 exit 12 0000000000000000 0000000000000000 halt\n\
+end one 0000000000400010 0000000000000000 0000000000000000 10\n\
+regs one 0 0000000000000000 0000000000000005 0000000000000000 0000000000000000\n\
+regs one 4 0000000000000000 0000000000000000 0000000000000000 0000000000000000\n\
+regs one 8 0000000000000000 0000000000000000 0000000000000000 0000000000000000\n\
+regs one 12 0000000000000000 0000000000000000 0000000000000000 0000000000000000\n\
+region spare f47a8ec3e9aff2318d896942282ad4fe37d6391c82914f54a5da8a37de1300c6\n\
+region code d4837ed1427735f0510903e5523cb11cd438da2eb85d4aaea180ec5efa8719aa\n\
+region lead ad7facb2586fc6e966c004d7d1d16b024f5805ff7cb47c7a85dabd8b48892ca7\n";
+
+const TWO_CPUS: &[u8] = b"{\"processor\":{\"logicalCpus\":2},\"scheduling\":{}}";
+
 const USAGE: &[u8] =
     b"muen: usage: build POLICY IMAGE, run IMAGE RECORD, boot POLICY RECORD, map POLICY, flows POLICY, load NUMBER\n";
 
@@ -46,7 +83,7 @@ fn file(alloc: Global, name: &str, bytes: &[u8]) -> Result<(String, Vec<u8>), Fa
     ))
 }
 
-// The files `p`, `zero`, `three`, `broken`, `list` and `late`; the calls of these numbers fail.
+// The files of the calls below; the calls of these numbers fail.
 fn files(alloc: Global, fails: &[u64]) -> Result<MemFiles, Fail> {
     let mut held = Vec::new(alloc);
     held.push(file(alloc, "p", POLICY)?)?;
@@ -54,6 +91,10 @@ fn files(alloc: Global, fails: &[u64]) -> Result<MemFiles, Fail> {
     held.push(file(alloc, "three", b"end 3\n")?)?;
     held.push(file(alloc, "broken", b"{")?)?;
     held.push(file(alloc, "list", b"[]")?)?;
+    held.push(file(alloc, "spaced", SPACED)?)?;
+    held.push(file(alloc, "underscored", UNDERSCORED)?)?;
+    held.push(file(alloc, "several", SEVERAL)?)?;
+    held.push(file(alloc, "two", TWO_CPUS)?)?;
     held.push(file(alloc, "late", b"end 100001\n")?)?;
     Ok(MemFiles::make(held, Vec::from_slice(alloc, fails)?))
 }
@@ -80,9 +121,11 @@ fn call(
 #[test]
 fn answers(rt: HostRuntime) -> Result<(), Fail> {
     let alloc = rt.alloc();
-    let cases: [(&[&str], u8, &[u8], &[u8]); 12] = [
+    let cases: [(&[&str], u8, &[u8], &[u8]); 16] = [
         (&["boot", "p", "three"], 0, THREE_TICKS, b""),
         (&["boot", "p", "zero"], 0, NO_TICK, b""),
+        (&["boot", "spaced", "three"], 0, THREE_TICKS, b""),
+        (&["boot", "several", "three"], 0, SEVERAL_RAN, b""),
         (&[], 1, b"", USAGE),
         (&["run", "p"], 1, b"", USAGE),
         (&["boot", "p", "three", "more"], 1, b"", USAGE),
@@ -90,6 +133,18 @@ fn answers(rt: HostRuntime) -> Result<(), Fail> {
         (&["boot", "broken", "three"], 2, b"", b"muen: not JSON\n"),
         (
             &["boot", "list", "three"],
+            2,
+            b"",
+            b"muen: shape at : want object\n",
+        ),
+        (
+            &["boot", "underscored", "three"],
+            2,
+            b"",
+            b"muen: shape at /memoryBlocks/0/physicalAddress: want number\n",
+        ),
+        (
+            &["boot", "two", "three"],
             2,
             b"",
             b"muen: rule 0: policy policy\n",
