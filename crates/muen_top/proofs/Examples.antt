@@ -1,8 +1,8 @@
 -- The definitions at work on small systems, where they compute.
-use Rattle.std.proofs.Common.{◌≡◌, ℕ, true, false, List, [], ◌∷◌, ◌++◌, Option, Some, None, refl}
+use Rattle.std.proofs.Common.{◌≡◌, ℕ, true, false, List, [], ◌∷◌, Some, None, refl}
 use Rattle.std.specs.Prelude.{codes, map, replicate}
 use Rattle.std.specs.FinMap.{from_entries}
-use Rattle.muen_num.specs.declared.bits.Mode.TheVariants.{Asap, Switch}
+use Rattle.muen_num.specs.declared.bits.Mode.TheVariants.{Switch}
 use Rattle.policy_types.specs.Contents.{Held, initial_bytes}
 use Rattle.policy_types.specs.Frames.{CpuPlan, frames_of}
 use Rattle.policy_types.specs.Thing.{things_of}
@@ -18,13 +18,12 @@ use Rattle.policy_types.specs.declared.source.EventTarget.{EventTarget}
 use Rattle.policy_types.specs.declared.source.SourceWay.TheVariants.{Trap as ByTrap}
 use Rattle.muen_top.specs.StatePage.{started}
 use Rattle.muen_top.specs.GuestIsa.{decode_of}
-use Rattle.muen_top.specs.RecordText.{DeviceRecord, only_ticks, record_of, ticks_of}
-use Rattle.muen_top.specs.Slot.{Slot, slot_at}
+use Rattle.muen_top.specs.RecordText.{only_ticks, ticks_of}
+use Rattle.muen_top.specs.Slot.{slot_at}
 use Rattle.muen_top.specs.Solo.{own_of, solo_turn}
-use Rattle.muen_top.specs.System.{System, start_of, inbox_of, system_turn}
+use Rattle.muen_top.specs.System.{start_of, inbox_of, system_turn}
 use Rattle.muen_top.specs.Run.{run_to}
 use Rattle.muen_top.specs.declared.guest_isa.Instr.TheVariants.{Li}
-use Rattle.muen_top.specs.declared.view_text.Line.{Line}
 use Rattle.muen_top.specs.declared.view_text.What.TheVariants.{Ran, Exit}
 use Rattle.muen_top.specs.declared.view_text.End.TheVariants.{Trap, Stop}
 

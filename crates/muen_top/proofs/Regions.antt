@@ -1,7 +1,7 @@
 -- Regions and windows of a thin policy: by name in the policy, by place in the machine.
-use Rattle.std.proofs.Common.{◌≡◌, ℕ, suc, ◌%◌, ◌<◌, Bool, true, false, cond, not, List, [], ◌∷◌, length, get_or, map, Option, Some, None, refl, sym, ap, ◌∙◌, subst, arith}
-use Rattle.std.specs.Prelude.{◌==◌, ◌&&◌, ◌||◌, nat_le, nat_lt, filter, option_map, slice_get, slice_index_or, position, unwrap_or}
-use Rattle.std.specs.List.{find, list_all, list_any, filter_map, cons_option, position_or_len}
+use Rattle.std.proofs.Common.{◌≡◌, ℕ, ◌%◌, ◌<◌, Bool, true, false, cond, not, List, [], ◌∷◌, length, map, Some, None, refl, sym, ap, ◌∙◌, subst, arith}
+use Rattle.std.specs.Prelude.{◌==◌, ◌||◌, nat_lt, filter, option_map, slice_get, slice_index_or, unwrap_or}
+use Rattle.std.specs.List.{find, list_all, filter_map, cons_option, position_or_len}
 use Rattle.std.specs.Str.{bytes_eq}
 use Rattle.std.specs.Cmp.Lexicographic.{nat_list_eq_equiv}
 use Rattle.std.proofs.lemmas.Option.{slice_get-map, slice_get_within, get_or_from_slice_get}
@@ -12,13 +12,13 @@ use Rattle.policy_types.specs.Windows.{Window, window, holds, region_window}
 use Rattle.policy_types.specs.declared.source.Source.{Source}
 use Rattle.policy_types.specs.declared.source.Region.{Region}
 use Rattle.policy_types.specs.declared.source.Mapping.{Mapping}
-use Rattle.muen_top.specs.Solo.{Things, bytes_in}
+use Rattle.muen_top.specs.Solo.{bytes_in}
 use Rattle.muen_top.specs.System.{is_shown}
-use Rattle.muen_top.specs.Thin.{each_two, is_region, are_other_names, are_regions, region_size, is_placed, is_mapped, size_or_none, are_windows, is_memory_of}
-use Rattle.muen_top.specs.Machine.{bytes_at, plain_bytes, nothing, held_at_start, place_of, window_in}
+use Rattle.muen_top.specs.Thin.{each_two, is_region, are_other_names, are_regions, is_placed, is_mapped, size_or_none, are_windows, is_memory_of}
+use Rattle.muen_top.specs.Machine.{bytes_at, nothing, held_at_start, place_of, window_in}
 use Rattle.muen_top.specs.declared.memory.Holding.{Holding}
 use Rattle.muen_top.proofs.Alone.{relabelled, SameBytes}
-use Rattle.muen_top.proofs.ThinParts.{both, same_number, same_text}
+use Rattle.muen_top.proofs.ThinParts.{both, same_text}
 
 pub same_self : (x : List ℕ) → bytes_eq x x ≡ true
 same_self x = nat_list_eq_equiv.refl x
@@ -117,8 +117,7 @@ passed_over x r h =
 pushed : (x : Region) (whole rs : List Region) → list_all (are_other_names x) rs ≡ true → AllFirst whole rs → AllFirst (x ∷ whole) rs
 pushed x whole [] h f = tt
 pushed x whole (r ∷ rs) h f =
-    let a = both _ _ h in
-    (
+    let a = both _ _ h in (
       ap (λ b. cond b (Some x) (find (λ x. bytes_eq x.name r.name) whole)) (passed_over x r a.0) ∙ f.0,
       f.1,
       pushed x whole rs a.1 f.2,
@@ -128,8 +127,7 @@ all_first : (rs : List Region) → list_all is_region rs ≡ true → each_two a
 all_first [] all h = tt
 all_first (r ∷ rs) all h =
     let a = both _ _ all in
-    let b = both _ _ h in
-    (
+    let b = both _ _ h in (
       ap (λ b. cond b (Some r) (find (λ x. bytes_eq x.name r.name) rs)) (same_self r.name),
       a.0,
       pushed r rs rs b.0 (all_first rs a.1 b.1),
