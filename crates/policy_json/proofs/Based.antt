@@ -11,7 +11,8 @@ use Rattle.std.proofs.lemmas.List.Splits.{length-slice_split}
 use Rattle.hex.specs.Hex.{hex_digit_value, is_hex_digit}
 use Rattle.policy_types.specs.Based.{underscore, groups_of, middle_of, is_framed, is_group, with_digit, value_of, number_of_groups, based}
 
--- the number once these characters are read too: the digits before them are worth n, and `begun` says whether their group has one
+-- the number once these characters are read too, where the digits before them are worth n,
+-- and `begun` says whether the group that goes on here has a digit
 abbrev pub read_on : ℕ → Bool → List ℕ → Option ℕ
 read_on n begun [] = if begun then Some n else None
 read_on n begun (c ∷ rest) =
@@ -97,7 +98,7 @@ one_digit n begun c v gs h d =
 spelled : (n : ℕ) (begun : Bool) (c : ℕ) (rest : List ℕ) (digit : Option ℕ) → hex_digit_value c ≡ digit
     → ((m : ℕ) → m < 2 ^ 64 → read_on m true rest ≡ number_after m true (groups_of rest))
     → option_and_then (λ v. if nat_lt (n * 16 + v) (2 ^ 64) then read_on (n * 16 + v) true rest else None) digit
-      ≡ number_after n begun (onto_first c (groups_of rest))
+    ≡ number_after n begun (onto_first c (groups_of rest))
 spelled n begun c rest None d e = sym (no_digit n begun c (groups_of rest) (some_group rest) d)
 spelled n begun c rest (Some v) d e = go_on n v rest _ refl (e (n * 16 + v)) ∙ sym (one_digit n begun c v (groups_of rest) (some_group rest) d)
 
@@ -105,9 +106,9 @@ pub read_on_is : (n : ℕ) (begun : Bool) (cs : List ℕ) → n < 2 ^ 64 → rea
 read_on_is n begun [] h = ended n begun h
 read_on_is n begun (c ∷ rest) h =
     elim (c == underscore)
-      as (λ b. (if b then (if begun then read_on n false rest else None)
-          else option_and_then (λ v. if nat_lt (n * 16 + v) (2 ^ 64) then read_on (n * 16 + v) true rest else None) (hex_digit_value c))
-        ≡ number_after n begun (cond b ([] ∷ groups_of rest) (onto_first c (groups_of rest)))) [
+    as (λ b. (if b then (if begun then read_on n false rest else None)
+    else option_and_then (λ v. if nat_lt (n * 16 + v) (2 ^ 64) then read_on (n * 16 + v) true rest else None) (hex_digit_value c))
+    ≡ number_after n begun (cond b ([] ∷ groups_of rest) (onto_first c (groups_of rest)))) [
       | true ↦ parted n begun rest (read_on_is n false rest h)
       | false ↦ spelled n begun c rest (hex_digit_value c) refl (λ m k. read_on_is m true rest k)
     ]
@@ -126,8 +127,8 @@ framed : (m : List ℕ) → based (codes "16#" ++ (m ++ codes "#")) ≡ number_o
 framed m =
     let e = middle_is m in
     let same : is_framed (codes "16#" ++ (m ++ codes "#")) ≡ true =
-      (bytes_eq-Decides (codes "16#" ++ (m ++ codes "#")) (codes "16#" ++ (middle_of (codes "16#" ++ (m ++ codes "#")) ++ codes "#"))).1
-      (ap (λ l. codes "16#" ++ (l ++ codes "#")) (sym e)) in
+    (bytes_eq-Decides (codes "16#" ++ (m ++ codes "#")) (codes "16#" ++ (middle_of (codes "16#" ++ (m ++ codes "#")) ++ codes "#"))).1
+    (ap (λ l. codes "16#" ++ (l ++ codes "#")) (sym e)) in
     ap (λ b. if b then number_of_groups (groups_of (middle_of (codes "16#" ++ (m ++ codes "#")))) else None) same
     ∙ ap (λ l. number_of_groups (groups_of l)) e
 
@@ -154,10 +155,10 @@ pub not_closed : (text rest : List ℕ) → rest ≡ drop 3 text → bytes_eq (d
 not_closed text rest e b =
     elim (is_framed text) as (λ f. f ≡ is_framed text → (if f then number_of_groups (groups_of (middle_of text)) else None) ≡ None) [
       | true ↦ λ f.
-        let t = (bytes_eq-Decides text (codes "16#" ++ (middle_of text ++ codes "#"))).0 (sym f) in
-        let r : rest ≡ middle_of text ++ codes "#" = e ∙ ap (drop 3) t in
-        let closed : bytes_eq (drop (length rest - 1) rest) (codes "#") ≡ true =
+          let t = (bytes_eq-Decides text (codes "16#" ++ (middle_of text ++ codes "#"))).0 (sym f) in
+          let r : rest ≡ middle_of text ++ codes "#" = e ∙ ap (drop 3) t in
+          let closed : bytes_eq (drop (length rest - 1) rest) (codes "#") ≡ true =
           (bytes_eq-Decides (drop (length rest - 1) rest) (codes "#")).1 (ap (λ l. drop (length l - 1) l) r ∙ end_is (middle_of text)) in
-        cc
+          cc
       | false ↦ λ f. refl
     ] refl

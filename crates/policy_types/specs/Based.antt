@@ -23,6 +23,7 @@ groups_of middle = slice_split (λ c. c == underscore) middle
 abbrev pub is_group : List ℕ → Bool
 is_group group = nat_lt 0 (length group) && list_all is_hex_digit group
 
+-- n with the digit c behind it
 abbrev pub with_digit : ℕ → ℕ → ℕ
 with_digit n c = n * 16 + unwrap_or (hex_digit_value c) 0
 
