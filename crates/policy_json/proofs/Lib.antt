@@ -1,3 +1,4 @@
+pub mod Based
 pub mod Front
 pub mod Known
 pub mod Text

@@ -1,7 +1,7 @@
 ghost use Rattle.std.specs.Prelude.{◌≡◌};
 ghost use Rattle.hex.specs.Hex.{hex_digit_value};
 ghost use Rattle.serde_json.specs.View.{view};
-ghost use Rattle.policy_types.specs.Based.{based};
+ghost use Rattle.policy_types.specs.Based.{based, groups_of, number_of_groups};
 ghost use Rattle.policy_types.specs.Schema.{number_of};
 
 use serde_json::Value;
@@ -17,24 +17,13 @@ fn hex_digit(c: u8) -> Option<u8>
     }
 }
 
-// A number such as `16#00ff_ff00#`.
-fn read_based(text: &[u8]) -> Option<u64>
-    ensures { result ≡ based text.now }
+// The digits of a number, such as `00ff_ff00`.
+fn read_groups(middle: &[u8]) -> Option<u64>
+    ensures { result ≡ number_of_groups (groups_of middle.now) }
 {
-    if text.len() < 3 || &text[..3] != b"16#".as_slice() {
-        return None;
-    }
-    let mut rest = &text[3..];
     let mut n: u64 = 0;
     let mut digit = false;
-    while let [c, after @ ..] = rest {
-        if *c == b'#' {
-            return if digit && after.is_empty() {
-                Some(n)
-            } else {
-                None
-            };
-        }
+    for c in middle {
         if *c == b'_' {
             if !digit {
                 return None;
@@ -45,9 +34,15 @@ fn read_based(text: &[u8]) -> Option<u64>
             n = n.checked_mul(16)?.checked_add(v)?;
             digit = true;
         }
-        rest = after;
     }
-    None
+    digit.then_some(n)
+}
+
+// A number such as `16#00ff_ff00#`.
+fn read_based(text: &[u8]) -> Option<u64>
+    ensures { result ≡ based text.now }
+{
+    read_groups(text.strip_prefix(b"16#")?.strip_suffix(b"#")?)
 }
 
 /// A JSON number below 2^64, or such a number as a text.
