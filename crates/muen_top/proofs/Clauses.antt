@@ -7,7 +7,7 @@ use Rattle.muen_outside.specs.Outside.{FilesState, SinkState}
 use Rattle.muen_outside.specs.Puts.{Appended, Failed}
 use Rattle.policy_types.specs.Document.{policy_of}
 use Rattle.policy_types.specs.declared.refusal.Refusal.{Refusal}
-use Rattle.muen_top.specs.Thin.{thin_policy_of}
+use Rattle.policy_thin.specs.Thin.{thin_policy_of}
 use Rattle.muen_top.specs.RecordText.{record_of, record_from, end_line, line_of as line_in}
 use Rattle.muen_top.specs.Ended.{Command, boots, command_of, record_most, SawPolicy, SawRecord, AfterPolicy, Booted, BootCause, HasCause}
 use Rattle.muen_top.specs.Report.{status_of, refusal_status, fault_status, Reported}

@@ -8,10 +8,10 @@ use Rattle.policy_types.specs.declared.source.Region.{Region}
 use Rattle.policy_types.specs.declared.source.Mapping.{Mapping}
 use Rattle.policy_types.specs.declared.source.Content.{Content}
 use Rattle.policy_types.specs.declared.source.Content.TheVariants.{Zero, Fill, Inline, File}
-use Rattle.muen_top.specs.Thin.{fits_in, is_region, is_memory_of}
+use Rattle.policy_thin.specs.Thin.{fits_in, is_region, is_memory_of}
 use Rattle.muen_top.specs.Machine.{WindowFits, plain_bytes, AllFit, held_at_start, window_in}
 use Rattle.muen_top.specs.declared.memory.Holding.{Holding}
-use Rattle.muen_top.proofs.ThinParts.{both, same_number}
+use Rattle.policy_thin.proofs.ThinParts.{both, same_number}
 use Rattle.muen_top.proofs.Regions.{Here, AllHere, memory_is}
 
 length-plain_bytes : (size : ℕ) (content : Content) → fits_in content size ≡ true → length (plain_bytes size content) ≡ size

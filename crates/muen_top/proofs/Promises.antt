@@ -10,7 +10,7 @@ use Rattle.policy_types.specs.declared.refusal.Refusal.{Refusal}
 use Rattle.policy_types.specs.declared.refusal.Refusal.TheVariants.{NotJson, Shape, Rule, Missing as MissingFile, TooLong as TooLongFile, FileFit, NoRoom, NoMemory as NoMemoryFor}
 use Rattle.policy_types.specs.declared.source.Source.{Source}
 use Rattle.policy_types.specs.Reading.{Answers}
-use Rattle.muen_top.specs.Thin.{is_thin, rule_0, thin_alone, thin_policy_of}
+use Rattle.policy_thin.specs.Thin.{is_thin, rule_0, thin_alone, thin_policy_of}
 use Rattle.muen_top.specs.RecordText.{DeviceRecord}
 use Rattle.muen_top.specs.Ended.{Command, boots, policy_most, record_most, Saw, SawPolicy, SawRecord, BootCause, HasCause}
 use Rattle.muen_top.specs.Report.{status_of, refusal_status}

@@ -14,11 +14,11 @@ use Rattle.policy_types.specs.declared.source.Region.{Region}
 use Rattle.policy_types.specs.declared.source.Mapping.{Mapping}
 use Rattle.muen_top.specs.Solo.{bytes_in}
 use Rattle.muen_top.specs.System.{is_shown}
-use Rattle.muen_top.specs.Thin.{each_two, is_region, are_other_names, are_regions, is_placed, is_mapped, size_or_none, are_windows, is_memory_of}
+use Rattle.policy_thin.specs.Thin.{each_two, is_region, are_other_names, are_regions, is_placed, is_mapped, size_or_none, are_windows, is_memory_of}
 use Rattle.muen_top.specs.Machine.{bytes_at, nothing, held_at_start, place_of, window_in}
 use Rattle.muen_top.specs.declared.memory.Holding.{Holding}
 use Rattle.muen_top.proofs.Alone.{relabelled, SameBytes}
-use Rattle.muen_top.proofs.ThinParts.{both, same_text}
+use Rattle.policy_thin.proofs.ThinParts.{both, same_text}
 
 pub same_self : (x : List ℕ) → bytes_eq x x ≡ true
 same_self x = nat_list_eq_equiv.refl x

@@ -22,13 +22,13 @@ use Rattle.muen_top.specs.Slot.{Slot, slot_at, slots_from}
 use Rattle.muen_top.specs.Solo.{Answer, bytes_in, own_of, solo_turn}
 use Rattle.muen_top.specs.System.{System, is_shown, start_of, inbox_of, turner_in, turned_by, turn_answered, system_turn}
 use Rattle.muen_top.specs.Run.{Ran, then_line, tick_of, after_lines, run_to, run_of, thing_text, final_text, trace_of}
-use Rattle.muen_top.specs.Thin.{fits_in, is_region, is_memory_of, is_thin}
+use Rattle.policy_thin.specs.Thin.{fits_in, is_region, is_memory_of, is_thin}
 use Rattle.muen_top.specs.Machine.{MachineState, MachineRan, bytes_at, plain_bytes, held_at_start, window_in, machine_answer, machine_after, machine_line, machine_run_to, holding_text, machine_final_text, machine_text, machine_of}
 use Rattle.muen_top.specs.declared.state_page.SubjectState.{SubjectState}
 use Rattle.muen_top.specs.declared.view_text.Line.{Line}
 use Rattle.muen_top.specs.declared.memory.Holding.{Holding}
 use Rattle.muen_top.proofs.Alone.{silent, relabelled, turn_silent}
-use Rattle.muen_top.proofs.ThinParts.{Parts, the_subject, the_policy, HasParts, parts_of, both}
+use Rattle.policy_thin.proofs.ThinParts.{Parts, the_subject, the_policy, HasParts, parts_of, both}
 use Rattle.muen_top.proofs.Regions.{same_self, AllFirst, AllHere, Memory, memory_is, thing_of, thing_at, windows_here, same_here}
 
 -- ---- the frame slot

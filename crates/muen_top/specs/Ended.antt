@@ -11,7 +11,7 @@ use Rattle.policy_types.specs.Contents.{Held}
 use Rattle.policy_types.specs.Reading.{Answers}
 use Rattle.policy_types.specs.declared.refusal.Refusal.{Refusal}
 use Rattle.policy_types.specs.declared.source.Source.{Source}
-use Rattle.muen_top.specs.Thin.{thin_policy_of}
+use Rattle.policy_thin.specs.Thin.{thin_policy_of}
 use Rattle.muen_top.specs.RecordText.{DeviceRecord, record_of}
 use Rattle.muen_top.specs.Run.{trace_of}
 use Rattle.muen_top.specs.declared.record_text.RecordFault.{RecordFault}

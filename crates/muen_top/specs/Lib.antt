@@ -8,7 +8,6 @@ pub mod Slot
 pub mod Solo
 pub mod StatePage
 pub mod System
-pub mod Thin
 pub mod Thinly
 pub mod ViewText
 pub mod Wanted

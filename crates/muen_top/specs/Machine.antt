@@ -16,7 +16,7 @@ use Rattle.muen_top.specs.ViewText.{turn_text, region_text}
 use Rattle.muen_top.specs.Solo.{Answer, turn_over}
 use Rattle.muen_top.specs.System.{line_at}
 use Rattle.muen_top.specs.Run.{rows_text}
-use Rattle.muen_top.specs.Thin.{size_or_none}
+use Rattle.policy_thin.specs.Thin.{size_or_none}
 use Rattle.muen_top.specs.declared.state_page.SubjectState.{SubjectState}
 use Rattle.muen_top.specs.declared.view_text.Line.{Line}
 use Rattle.muen_top.specs.declared.memory.Window.{Window}

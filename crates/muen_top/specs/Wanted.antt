@@ -7,7 +7,7 @@ use Rattle.policy_types.specs.Contents.{Held}
 use Rattle.policy_types.specs.Document.{policy_of}
 use Rattle.policy_types.specs.declared.refusal.Refusal.{Refusal}
 use Rattle.policy_types.specs.declared.source.Source.{Source}
-use Rattle.muen_top.specs.Thin.{is_thin, thin_policy_of}
+use Rattle.policy_thin.specs.Thin.{is_thin, thin_policy_of}
 use Rattle.muen_top.specs.RecordText.{DeviceRecord, record_of}
 use Rattle.muen_top.specs.Run.{trace_of}
 use Rattle.muen_top.specs.Ended.{Command, boots, command_of, policy_most, record_most, HasCause}

@@ -3,7 +3,7 @@ ghost use Rattle.std.specs.Prelude.{◌≡◌, ℕ, Ok, true, IfOk, IfErr};
 ghost use Rattle.muen_outside.specs.Store.{whole};
 ghost use Rattle.policy_types.specs.Contents.{Held};
 ghost use Rattle.policy_types.specs.Reading.{Answers};
-ghost use Rattle.muen_top.specs.Thin.{is_thin, thin_policy_of, rule_0};
+ghost use Rattle.policy_thin.specs.Thin.{is_thin, thin_policy_of, rule_0};
 ghost use Rattle.muen_top.specs.RecordText.{only_ticks};
 ghost use Rattle.muen_top.specs.Run.{trace_of};
 ghost use Rattle.muen_top.specs.Machine.{machine_text};
@@ -15,7 +15,7 @@ use crate::machine::Machine;
 use crate::print::print_run;
 use crate::record_text;
 use crate::record_text::Record;
-use crate::thin::is_thin;
+use policy_thin::is_thin;
 use muen_num::{Name, Seq};
 use muen_outside::{FileEnd, Files, Found, Sink, SinkFault};
 use policy_types::{Refusal, Source};
@@ -60,7 +60,7 @@ fn rule_0() -> Refusal
 }
 
 // The thin policy of a document.
-#[tactic(auto, unfolding(crate::specs::Thin::thin_policy_of))]
+#[tactic(auto, unfolding(policy_thin::specs::Thin::thin_policy_of))]
 fn read_thin(alloc: Global, bytes: &[u8]) -> Result<Source, Refusal>
     ensures answer { Answers (thin_policy_of bytes.now) result }
     ensures thin { IfOk result (λ p. is_thin p ≡ true) }

@@ -19,7 +19,6 @@ pub mod record_text;
 mod report;
 pub mod state_page;
 pub mod subject_model;
-mod thin;
 pub mod view_text;
 
 use muen_outside::{Files, Sink};
@@ -35,7 +34,7 @@ use std::alloc::Global;
 /// |---|---|---|
 /// | 0 | the text was put | |
 /// | 1 | the words are none of the forms | `usage: ..` |
-/// | 2 | the policy is no JSON text, or isn't built | `not JSON`, `rule 0: policy policy` |
+/// | 2 | the policy is no JSON text, breaks the schema, or isn't built | `not JSON`, `shape at PLACE: want WANT`, `rule 0: policy policy` |
 /// | 3 | a file isn't there, or is longer than 4 MiB (policy) or 16 MiB (record) | `missing file NAME`, `file NAME has LENGTH bytes` |
 /// | 4 | a call on `files` failed | `file fault` |
 /// | 6 | the record isn't built | `record refused at line 1: not yet built` |

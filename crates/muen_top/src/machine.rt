@@ -6,13 +6,13 @@ ghost use Rattle.muen_num.specs.declared.bits.Kind.TheVariants.{Fetch};
 ghost use Rattle.policy_types.specs.Windows.{access_of};
 ghost use Rattle.muen_top.specs.GuestIsa.{decode_of};
 ghost use Rattle.muen_top.specs.Solo.{faulted, performed, executed, fetched, attempted, turn_over};
-ghost use Rattle.muen_top.specs.Thin.{fits_in, is_region};
+ghost use Rattle.policy_thin.specs.Thin.{fits_in, is_region};
 ghost use Rattle.muen_top.specs.Machine.{window_on, windows_on, bytes_at, AllFit, answer_of, plain_bytes, held_at_start, place_of, window_in};
 
 use crate::guest_isa::{Wish, ask, decode};
 use crate::memory::{Access, Holding, Window, access_at};
 use crate::state_page::SubjectState;
-use crate::thin::size_or_none;
+use policy_thin::size_or_none;
 use crate::view_text::{End, Line, What};
 use muen_num::{Kind, Name, Seq};
 use policy_types::source::{Content, Mapping, Region, Subject};
@@ -196,7 +196,7 @@ fn plain_bytes(alloc: Global, size: u64, content: &Content) -> Result<Vec<u8>, A
 }
 
 // A region with its bytes at the start.
-#[tactic(auto, unfolding(crate::specs::Thin::is_region))]
+#[tactic(auto, unfolding(policy_thin::specs::Thin::is_region))]
 fn hold(alloc: Global, region: &Region) -> Result<Holding, AllocError>
     requires { is_region region.now ≡ true }
     ensures { IfOk result (λ h. h ≡ held_at_start region.now) }
@@ -259,7 +259,7 @@ fn windows_in(
 }
 
 impl Machine {
-    ghost use Rattle.muen_top.specs.Thin.{is_memory_of};
+    ghost use Rattle.policy_thin.specs.Thin.{is_memory_of};
     ghost use Rattle.muen_top.specs.Machine.{machine_of, machine_after, machine_line};
 
     /// The machine of a subject with windows on these regions, at the start.

@@ -1,5 +1,5 @@
 use Rattle.std.proofs.Common.{◌≡◌, ◌∙◌, IfOk, ap, subst, get_or}
-use Rattle.muen_top.specs.Thin.{is_memory_of}
+use Rattle.policy_thin.specs.Thin.{is_memory_of}
 use Rattle.muen_top.specs.Machine.{machine_of}
 use Rattle.muen_top.proofs.ThinRun.{Loads, loads, prints, has_subject}
 use Rattle.muen_top.proofs.boot.load_thin.Goals as goal

@@ -1,6 +1,6 @@
 use Rattle.std.proofs.Common.{◌≡◌, true, map, take, drop}
 use Rattle.std.specs.List.{list_all}
-use Rattle.muen_top.specs.Thin.{is_region}
+use Rattle.policy_thin.specs.Thin.{is_region}
 use Rattle.muen_top.specs.Machine.{held_at_start}
 use Rattle.muen_top.proofs.machine.hold_all.Given as goal
 

@@ -1,6 +1,6 @@
 use Rattle.std.proofs.Common.{◌≡◌, ◌+◌, ◌≤◌, ◌^◌, drop}
 use Rattle.std.specs.Prelude.{sum_by}
-use Rattle.muen_top.proofs.thin.fit_memory.Given as goal
+use Rattle.policy_thin.proofs.thin.fit_memory.Given as goal
 
 abbrev pub invariant-loop-region : goal.invariant-loop-region
 invariant-loop-region l =

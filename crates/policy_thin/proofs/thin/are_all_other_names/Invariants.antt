@@ -1,6 +1,6 @@
 use Rattle.std.proofs.Common.{◌≡◌, length}
-use Rattle.muen_top.specs.Thin.{each_two, are_other_names}
-use Rattle.muen_top.proofs.thin.are_all_other_names.Given as goal
+use Rattle.policy_thin.specs.Thin.{each_two, are_other_names}
+use Rattle.policy_thin.proofs.thin.are_all_other_names.Given as goal
 
 abbrev pub invariant-loop-rest : goal.invariant-loop-rest
 invariant-loop-rest l =

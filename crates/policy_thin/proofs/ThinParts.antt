@@ -12,7 +12,7 @@ use Rattle.policy_types.specs.declared.source.Mapping.{Mapping}
 use Rattle.policy_types.specs.declared.source.Scheduling.{Scheduling}
 use Rattle.policy_types.specs.declared.source.Group.{Group}
 use Rattle.policy_types.specs.declared.source.CpuFrames.{CpuFrames}
-use Rattle.muen_top.specs.Thin.{only, is_bare, is_bare_subject, is_group_of, is_frame_of, is_plan_of, is_memory_of, is_thin}
+use Rattle.policy_thin.specs.Thin.{only, is_bare, is_bare_subject, is_group_of, is_frame_of, is_plan_of, is_memory_of, is_thin}
 
 -- ---- tests that pass
 

@@ -1,7 +1,7 @@
 // Which policies are built: thin ones, with one subject on one CPU.
 ghost use Rattle.std.specs.Prelude.{◌≡◌, ◌+◌, ◌^◌, nat_le, sum_by};
 ghost use Rattle.std.specs.List.{list_all};
-ghost use Rattle.muen_top.specs.Thin.{each_two, is_bare, is_bare_subject, is_group_of, is_frame_of, is_plan_of, fits_in, is_region, are_other_names, are_regions, region_size, is_mapped, size_or_none, are_apart, are_windows, is_memory_of, is_thin};
+ghost use Rattle.policy_thin.specs.Thin.{each_two, is_bare, is_bare_subject, is_group_of, is_frame_of, is_plan_of, fits_in, is_region, are_other_names, are_regions, region_size, is_mapped, size_or_none, are_apart, are_windows, is_memory_of, is_thin};
 
 use muen_num::Name;
 use policy_types::Source;
@@ -108,12 +108,7 @@ fn is_region(region: &Region) -> bool
 fn are_all_regions(regions: &[Region]) -> bool
     ensures { result ≡ list_all is_region regions.now }
 {
-    for region in regions {
-        if !is_region(region) {
-            return false;
-        }
-    }
-    true
+    regions.iter().all(|region| is_region(region))
 }
 
 // Together at most 64 MiB.
@@ -133,12 +128,7 @@ fn fit_memory(regions: &[Region]) -> bool
 fn is_other_name(region: &Region, others: &[Region]) -> bool
     ensures { result ≡ list_all (are_other_names region.now) others.now }
 {
-    for other in others {
-        if region.name == other.name {
-            return false;
-        }
-    }
-    true
+    others.iter().all(|other| region.name != other.name)
 }
 
 fn are_all_other_names(regions: &[Region]) -> bool
@@ -169,12 +159,8 @@ fn are_regions(regions: &[Region]) -> bool
 fn region_size(regions: &[Region], name: &Name) -> Option<u64>
     ensures { result ≡ region_size regions.now name.now }
 {
-    for region in regions {
-        if region.name == *name {
-            return Some(region.size);
-        }
-    }
-    None
+    let region = regions.iter().find(|region| region.name == *name)?;
+    Some(region.size)
 }
 
 // On a region, at a page, with its end at most 2^48.
@@ -194,16 +180,11 @@ fn is_mapped(regions: &[Region], mapping: &Mapping) -> bool
 fn are_all_mapped(regions: &[Region], mappings: &[Mapping]) -> bool
     ensures { result ≡ list_all (is_mapped regions.now) mappings.now }
 {
-    for mapping in mappings {
-        if !is_mapped(regions, mapping) {
-            return false;
-        }
-    }
-    true
+    mappings.iter().all(|mapping| is_mapped(regions, mapping))
 }
 
 /// The size of a mapping's region in bytes, 0 where there is no such region.
-pub(crate) fn size_or_none(regions: &[Region], mapping: &Mapping) -> u64
+pub fn size_or_none(regions: &[Region], mapping: &Mapping) -> u64
     ensures { result ≡ size_or_none regions.now mapping.now }
 {
     region_size(regions, &mapping.region).unwrap_or(0)
@@ -216,19 +197,27 @@ fn ends_before(address: u64, size: u64, other: u64) -> bool
     address <= other && size <= other - address
 }
 
+// One window ends before the other begins.
+fn are_apart(regions: &[Region], mapping: &Mapping, other: &Mapping) -> bool
+    ensures { result ≡ are_apart regions.now mapping.now other.now }
+{
+    ends_before(
+        mapping.virtual_address,
+        size_or_none(regions, mapping),
+        other.virtual_address,
+    ) || ends_before(
+        other.virtual_address,
+        size_or_none(regions, other),
+        mapping.virtual_address,
+    )
+}
+
 fn is_apart(regions: &[Region], mapping: &Mapping, others: &[Mapping]) -> bool
     ensures { result ≡ list_all (are_apart regions.now mapping.now) others.now }
 {
-    let size = size_or_none(regions, mapping);
-    for other in others {
-        let other_size = size_or_none(regions, other);
-        if !ends_before(mapping.virtual_address, size, other.virtual_address)
-            && !ends_before(other.virtual_address, other_size, mapping.virtual_address)
-        {
-            return false;
-        }
-    }
-    true
+    others
+        .iter()
+        .all(|other| are_apart(regions, mapping, other))
 }
 
 fn are_all_apart(regions: &[Region], mappings: &[Mapping]) -> bool
@@ -263,7 +252,7 @@ fn is_memory_of(regions: &[Region], mappings: &[Mapping]) -> bool
 
 /// Whether the policy is thin.
 #[tactic(auto, unfolding(crate::specs::Thin::is_thin))]
-pub(crate) fn is_thin(source: &Source) -> bool
+pub fn is_thin(source: &Source) -> bool
     ensures { result ≡ is_thin source.now }
 {
     match source.subjects.items() {
