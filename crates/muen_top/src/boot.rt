@@ -15,9 +15,9 @@ use crate::machine::Machine;
 use crate::print::print_run;
 use crate::record_text;
 use crate::record_text::Record;
-use policy_thin::is_thin;
 use muen_num::{Name, Seq};
 use muen_outside::{FileEnd, Files, Found, Sink, SinkFault};
+use policy_thin::is_thin;
 use policy_types::{Refusal, Source};
 use std::alloc::{AllocError, Global};
 

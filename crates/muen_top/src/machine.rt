@@ -12,9 +12,9 @@ ghost use Rattle.muen_top.specs.Machine.{window_on, windows_on, bytes_at, AllFit
 use crate::guest_isa::{Wish, ask, decode};
 use crate::memory::{Access, Holding, Window, access_at};
 use crate::state_page::SubjectState;
-use policy_thin::size_or_none;
 use crate::view_text::{End, Line, What};
 use muen_num::{Kind, Name, Seq};
+use policy_thin::size_or_none;
 use policy_types::source::{Content, Mapping, Region, Subject};
 use std::alloc::{AllocError, Global};
 use std::marker::Model;
