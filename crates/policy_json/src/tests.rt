@@ -324,3 +324,56 @@ fn reads_numbers_as_texts(rt: HostRuntime) -> Result<(), Fail> {
     }
     Ok(())
 }
+
+#[test]
+fn names_the_first_fault(rt: HostRuntime) -> Result<(), Fail> {
+    let alloc = rt.alloc();
+    let cases: [(&[u8], &[u8], Option<Want>); 12] = [
+        (b"{", b"", None),
+        (b"{\"processor\":\"\xff\"}", b"", None),
+        (b"[]", b"", Some(Want::Object)),
+        (b"{}", b"/processor", Some(Want::Present)),
+        (b"{\"processor\":1}", b"/processor", Some(Want::Object)),
+        (
+            b"{\"processor\":{\"logicalCpus\":-1},\"more\":1}",
+            b"",
+            Some(Want::KnownKeys),
+        ),
+        (
+            b"{\"processor\":{\"logicalCpus\":18446744073709551616}}",
+            b"/processor/logicalCpus",
+            Some(Want::Number),
+        ),
+        (
+            b"{\"processor\":{\"logicalCpus\":1},\"memoryBlocks\":[{\"name\":\"a\",\"physicalAddress\":0,\"size\":1},{\"name\":\"b\",\"size\":1}]}",
+            b"/memoryBlocks/1/physicalAddress",
+            Some(Want::Present),
+        ),
+        (
+            b"{\"processor\":{\"logicalCpus\":1},\"memoryBlocks\":[{\"name\":\"a b\"}]}",
+            b"/memoryBlocks/0/name",
+            Some(Want::Name),
+        ),
+        (
+            b"{\"processor\":{\"logicalCpus\":1},\"channels\":[],\"memory\":[{\"name\":\"a\",\"size\":4096,\"content\":{\"hex\":\"0\"}}]}",
+            b"/memory/0/content/hex",
+            Some(Want::Hexadecimal),
+        ),
+        (
+            b"{\"processor\":{\"logicalCpus\":1},\"memory\":[{\"name\":\"a\",\"size\":4096,\"content\":{\"hex\":\"00\",\"fill\":0}}]}",
+            b"/memory/0/content",
+            Some(Want::OneContent),
+        ),
+        (
+            b"{\"processor\":{\"logicalCpus\":1},\"devices\":[],\"subjects\":1}",
+            b"/devices",
+            Some(Want::NotYetBuilt),
+        ),
+    ];
+    for (text, place, want) in cases {
+        let (found, found_want) = fault_of(alloc, text)?;
+        assert_eq!(rt; found.as_slice(), place);
+        assert_eq!(rt; found_want, want);
+    }
+    Ok(())
+}

@@ -1,7 +1,8 @@
 -- What a document says of a system: the source policy, or the first place that breaks the schema.
 -- One definition for each object, and in it one line for each key, in order.
 -- This project's own spelling of the elements of a Muen system policy.
-use Rattle.std.specs.Prelude.{ℕ, List, [], Bool, not, ◌&&◌, Option, Some, None, is_some, Result, Ok, Err, codes, if◌then◌else◌}
+use Rattle.std.specs.Prelude.{ℕ, ◌==◌, List, [], ◌∷◌, Bool, not, ◌&&◌, ◌||◌, Option, Some, None, is_some, Result, Ok, Err, codes, if◌then◌else◌}
+use Rattle.std.specs.List.{count_by}
 use Rattle.std.specs.Str.{is_utf8}
 use Rattle.serde_json.specs.Data.{Data}
 use Rattle.serde_json.specs.Find.{get}
@@ -47,10 +48,8 @@ has key d = is_some (get key d)
 -- exactly one of `fill`, `hex` and `file`, and `offset` and `length` with `file` alone
 unfoldable pub is_one_content : Data → Bool
 is_one_content d =
-    if has (codes "file") d
-    then not (has (codes "fill") d) && not (has (codes "hex") d)
-    else (not (has (codes "offset") d) && not (has (codes "length") d)
-    && (if has (codes "fill") d then not (has (codes "hex") d) else has (codes "hex") d))
+    (count_by (λ key. has key d) (codes "fill" ∷ codes "hex" ∷ codes "file" ∷ []) == 1)
+    && (has (codes "file") d || not (has (codes "offset") d || has (codes "length") d))
 
 unfoldable pub one_content : Data → Result (Unit {0}) Fault
 one_content d = if is_one_content d then Ok tt else fault [] OneContent
