@@ -1,4 +1,4 @@
-ghost use Rattle.std.specs.Prelude.{◌≡◌, ◌++◌, ◌==◌, [], ◌∷◌, length, OnOk, OnErr};
+ghost use Rattle.std.specs.Prelude.{◌≡◌, ◌+◌, ◌≤◌, ◌++◌, ◌==◌, [], ◌∷◌, length, take, drop, OnOk, OnErr};
 
 use std::alloc::{AllocError, AllocFailed, Global};
 use std::marker::Model;
@@ -92,6 +92,16 @@ impl<T: Drop> Seq<T> {
     {
         self.vec.push(x)?;
         Ok(())
+    }
+}
+
+impl<T: Copy> Seq<T> {
+    /// Writes these items over those from `at` on.
+    pub fn overwrite(&mut self, at: usize, items: &[T])
+        requires { at + length items.now ≤ length self.old }
+        ensures { self.new ≡ take at self.old ++ items.now ++ drop (at + length items.now) self.old }
+    {
+        self.vec[at..at + items.len()].copy_from_slice(items);
     }
 }
 

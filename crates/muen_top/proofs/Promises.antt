@@ -11,7 +11,7 @@ use Rattle.policy_types.specs.declared.refusal.Refusal.TheVariants.{NotJson, Sha
 use Rattle.policy_types.specs.declared.source.Source.{Source}
 use Rattle.policy_types.specs.Reading.{Answers}
 use Rattle.policy_thin.specs.Thin.{is_thin, rule_0, thin_alone, thin_policy_of}
-use Rattle.muen_top.specs.RecordText.{DeviceRecord}
+use Rattle.subject_model.specs.DeviceRecord.{DeviceRecord}
 use Rattle.muen_top.specs.Ended.{Command, boots, policy_most, record_most, Saw, SawPolicy, SawRecord, BootCause, HasCause}
 use Rattle.muen_top.specs.Report.{status_of, refusal_status}
 use Rattle.muen_top.specs.Wanted.{record_wanted, record_read, policy_wanted, policy_read, end_wanted, IsFault}

@@ -12,8 +12,9 @@ use Rattle.policy_types.specs.Reading.{Answers}
 use Rattle.policy_types.specs.declared.refusal.Refusal.{Refusal}
 use Rattle.policy_types.specs.declared.source.Source.{Source}
 use Rattle.policy_thin.specs.Thin.{thin_policy_of}
-use Rattle.muen_top.specs.RecordText.{DeviceRecord, record_of}
-use Rattle.muen_top.specs.Run.{trace_of}
+use Rattle.subject_model.specs.DeviceRecord.{DeviceRecord}
+use Rattle.muen_top.specs.RecordText.{record_of}
+use Rattle.subject_model.specs.Run.{trace_of}
 use Rattle.muen_top.specs.declared.record_text.RecordFault.{RecordFault}
 use Rattle.muen_top.specs.declared.end.Input.{Input}
 use Rattle.muen_top.specs.declared.end.Input.TheVariants.{Policy, Record}

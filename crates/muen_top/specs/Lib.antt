@@ -1,13 +1,5 @@
 pub mod Ended
-pub mod GuestIsa
-pub mod Machine
 pub mod RecordText
 pub mod Report
-pub mod Run
-pub mod Slot
-pub mod Solo
-pub mod StatePage
-pub mod System
 pub mod Thinly
-pub mod ViewText
 pub mod Wanted

@@ -2,26 +2,10 @@
 use Rattle.std.specs.Prelude.{◌≡◌, ℕ, ◌+◌, ◌-◌, ◌*◌, ◌==◌, ◌&&◌, ◌||◌, Bool, nat_lt, nat_le, List, [], ◌∷◌, length, take, drop, slice_index, codes, Option, Some, None, option_and_then, Result, Ok, Err, if◌then◌else◌}
 use Rattle.std.specs.Char.{is_ascii_digit}
 use Rattle.std.specs.Str.{bytes_eq}
+use Rattle.subject_model.specs.DeviceRecord.{DeviceRecord, only_ticks}
 use Rattle.muen_top.specs.declared.record_text.Record.{Record}
 use Rattle.muen_top.specs.declared.record_text.RecordFault.{RecordFault}
 use Rattle.muen_top.specs.declared.record_text.RecordFault.TheVariants.{NotYetBuilt}
-
--- what a device does in a tick, in the names of the policy
-pub data Input : Type 0 where
-  -- the input byte of a device's port
-  port_input : List ℕ → ℕ → ℕ → Input
-  -- bytes written into a device's memory at an offset
-  memory_input : List ℕ → List ℕ → ℕ → List ℕ → Input
-  -- an interrupt line of a device is raised
-  irq_input : List ℕ → List ℕ → Input
-
--- the inputs by tick, in order; the order of the CPUs in some ticks; how many ticks the run has
-pub record DeviceRecord : Type 0 where
-  pub end : ℕ
-  pub inputs : List (ℕ × Input)
-  pub orders : List (ℕ × List ℕ)
-
--- ---- the text
 
 -- the number that digits spell, with n before them
 abbrev pub digits_from : ℕ → List ℕ → Option ℕ
@@ -50,10 +34,6 @@ line_of bytes =
 
 abbrev pub end_line : List ℕ → Option ℕ
 end_line line = if bytes_eq (take 4 line) (codes "end ") then ticks_of (drop 4 line) else None
-
--- a record of ticks alone
-abbrev pub only_ticks : ℕ → DeviceRecord
-only_ticks n = record { end = n; inputs = []; orders = [] }
 
 abbrev pub record_from : Option ℕ → Result DeviceRecord RecordFault
 record_from None = Err (NotYetBuilt 1)

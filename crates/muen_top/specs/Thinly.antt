@@ -4,8 +4,8 @@ use Rattle.muen_outside.specs.Outside.{SinkState}
 use Rattle.muen_outside.specs.Puts.{Appended, Failed}
 use Rattle.policy_types.specs.Contents.{Held}
 use Rattle.policy_types.specs.declared.source.Source.{Source}
-use Rattle.muen_top.specs.RecordText.{DeviceRecord}
-use Rattle.muen_top.specs.Run.{trace_of}
+use Rattle.subject_model.specs.DeviceRecord.{DeviceRecord}
+use Rattle.subject_model.specs.Run.{trace_of}
 use Rattle.muen_top.specs.declared.end.Stop.{Stop}
 use Rattle.muen_top.specs.declared.end.Stop.TheVariants.{NoMemory}
 use Rattle.muen_top.specs.declared.end.End.{End}

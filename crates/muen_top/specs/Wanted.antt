@@ -8,8 +8,9 @@ use Rattle.policy_types.specs.Document.{policy_of}
 use Rattle.policy_types.specs.declared.refusal.Refusal.{Refusal}
 use Rattle.policy_types.specs.declared.source.Source.{Source}
 use Rattle.policy_thin.specs.Thin.{is_thin, thin_policy_of}
-use Rattle.muen_top.specs.RecordText.{DeviceRecord, record_of}
-use Rattle.muen_top.specs.Run.{trace_of}
+use Rattle.subject_model.specs.DeviceRecord.{DeviceRecord}
+use Rattle.muen_top.specs.RecordText.{record_of}
+use Rattle.subject_model.specs.Run.{trace_of}
 use Rattle.muen_top.specs.Ended.{Command, boots, command_of, policy_most, record_most, HasCause}
 use Rattle.muen_top.specs.Report.{refusal_message, fault_message, line_of, status_of, Told, Reported}
 use Rattle.muen_top.specs.declared.record_text.RecordFault.{RecordFault}

@@ -1,25 +1,21 @@
 // The command `boot`: a policy and a record are read, and the run is printed.
-ghost use Rattle.std.specs.Prelude.{◌≡◌, ℕ, Ok, true, IfOk, IfErr};
+ghost use Rattle.std.specs.Prelude.{◌≡◌, Ok, true, IfOk, IfErr};
 ghost use Rattle.muen_outside.specs.Store.{whole};
-ghost use Rattle.policy_types.specs.Contents.{Held};
 ghost use Rattle.policy_types.specs.Reading.{Answers};
 ghost use Rattle.policy_thin.specs.Thin.{is_thin, thin_policy_of, rule_0};
-ghost use Rattle.muen_top.specs.RecordText.{only_ticks};
-ghost use Rattle.muen_top.specs.Run.{trace_of};
-ghost use Rattle.muen_top.specs.Machine.{machine_text};
+ghost use Rattle.subject_model.specs.DeviceRecord.{only_ticks};
 ghost use Rattle.muen_top.specs.Ended.{Follows, Saw, LoadStops, SawPolicy, PolicyStops, SawRecord, RecordStops, BootCause};
 ghost use Rattle.muen_top.specs.Thinly.{RunCause};
 
 use crate::end::{End, Input, Stop};
-use crate::machine::Machine;
-use crate::print::print_run;
 use crate::record_text;
 use crate::record_text::Record;
 use muen_num::{Name, Seq};
 use muen_outside::{FileEnd, Files, Found, Sink, SinkFault};
 use policy_thin::is_thin;
 use policy_types::{Refusal, Source};
-use std::alloc::{AllocError, Global};
+use std::alloc::Global;
+use window_machine::print_run;
 
 /// The most bytes of a policy's file: 4 MiB.
 const POLICY_MOST: usize = 1 << 22;
@@ -106,21 +102,12 @@ fn read_record<F: Files>(alloc: Global, name: &str, files: &mut F) -> Result<Rec
     }
 }
 
-// The machine of a thin policy. What it prints is the text of the policy's run.
-fn load_thin(alloc: Global, source: &Source) -> Result<Machine, AllocError>
-    requires { is_thin source.now ≡ true }
-    ensures { IfOk result (λ m. (files : Held) (end : ℕ) → trace_of source.now files (only_ticks end) ≡ machine_text m end) }
-{
-    let subject = &source.subjects.items()[0];
-    Machine::load(alloc, source.memory.items(), subject)
-}
-
 // Runs a thin policy.
 fn run_thin<S: Sink>(alloc: Global, source: &Source, run: Record, out: &mut S) -> End
     requires { is_thin source.now ≡ true }
     ensures { RunCause source.now (only_ticks run.end) (S.state out.old) (S.state out.new) result }
 {
-    let mut machine = match load_thin(alloc, source) {
+    let mut machine = match window_machine::load(alloc, source) {
         Ok(machine) => machine,
         Err(_) => return End::Stopped(Stop::NoMemory),
     };

@@ -11,15 +11,8 @@ ghost use Rattle.muen_top.specs.Wanted.{end_wanted, IsFault, Ends, Prints, Refus
 mod boot;
 mod command;
 mod end;
-pub mod guest_isa;
-mod machine;
-mod memory;
-mod print;
 pub mod record_text;
 mod report;
-pub mod state_page;
-pub mod subject_model;
-pub mod view_text;
 
 use muen_outside::{Files, Sink};
 use std::alloc::Global;

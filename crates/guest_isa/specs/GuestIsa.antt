@@ -1,0 +1,194 @@
+-- The instructions of the guests: this project's own table, as far as it is built.
+use Rattle.std.specs.Prelude.{ℕ, ℤ, ◌+◌, ◌-◌, ◌*◌, ◌/◌, ◌%◌, ◌^◌, ◌<◌, ◌==◌, ◌&&◌, ◌||◌, Bool, true, false, not, List, [], ◌∷◌, slice_index, slice_set, nat_lt, bit_and, bit_or, bit_xor, Option, Some, None, option_and_then, if◌then◌else◌}
+use Rattle.std.specs.Int.{w32, w64, from_le_bytes, cast_signed, cast_unsigned}
+use Rattle.muen_num.specs.Size.{bytes_of}
+use Rattle.muen_num.specs.declared.bits.Size.{Size}
+use Rattle.muen_num.specs.declared.bits.Size.TheVariants.{One, Two, Four, Eight}
+use Rattle.state_page.specs.declared.SubjectState.{SubjectState}
+use Rattle.guest_isa.specs.declared.spelling.Fields.{Fields}
+use Rattle.guest_isa.specs.declared.spelling.Named.{Named}
+use Rattle.guest_isa.specs.declared.instr.Instr.{Instr}
+use Rattle.guest_isa.specs.declared.instr.Instr.TheVariants.{Nop, Li, Lih, Mov, Add, Sub, And, Or, Xor, Shl, Shr, Load, Store, Jmp, Jz, Jnz, Jb, Hlt}
+use Rattle.guest_isa.specs.declared.instr.Wish.{Wish}
+use Rattle.guest_isa.specs.declared.instr.Wish.TheVariants.{Nothing, Set as Sets, Load as Loads, Store as Stores, Halt as Halts}
+use Rattle.guest_isa.specs.declared.instr.Asked.{Asked}
+
+-- ---- the spelling
+
+-- opcode; rd and rs, a nibble each; size code; zero; a little-endian immediate
+abbrev pub fields_of : List ℕ → Fields
+fields_of b = record {
+  opcode = slice_index b 0;
+  rd = slice_index b 1 / 16;
+  rs = slice_index b 1 % 16;
+  size = slice_index b 2;
+  zero = slice_index b 3;
+  imm = from_le_bytes w32 (slice_index b 4 ∷ slice_index b 5 ∷ slice_index b 6 ∷ slice_index b 7 ∷ []);
+}
+
+-- which fields a row of the table names
+abbrev pub names : Bool → Bool → Bool → Bool → Named
+names rd rs size imm = record { rd = rd; rs = rs; size = size; imm = imm }
+
+-- every field that isn't named is 0
+abbrev pub are_unset : Fields → Named → Bool
+are_unset f n =
+    (n.rd || (f.rd == 0)) && (n.rs || (f.rs == 0)) && (n.size || (f.size == 0)) && (n.imm || (f.imm == 0)) && (f.zero == 0)
+
+-- a row: the fields that it names, and its instruction
+abbrev pub row : Fields → Named → Instr → Option Instr
+row f n i = if are_unset f n then Some i else None
+
+-- the size of an access, by its code
+abbrev pub size_of : ℕ → Option Size
+size_of code =
+    if code == 0 then Some One
+    else (if code == 1 then Some Two
+    else (if code == 2 then Some Four
+    else (if code == 3 then Some Eight else None)))
+
+-- a row of an instruction with a size
+abbrev pub sized_row : Fields → Named → (Size → Instr) → Option Instr
+sized_row f n i = option_and_then (λ size. row f n (i size)) (size_of f.size)
+
+abbrev pub imm_of : Fields → ℤ
+imm_of f = cast_signed w32 f.imm
+
+-- the fields that the rows name
+abbrev pub none : Named
+none = names false false false false
+
+abbrev pub rd_imm : Named
+rd_imm = names true false false true
+
+abbrev pub rd_rs : Named
+rd_rs = names true true false false
+
+abbrev pub access : Named
+access = names true true true true
+
+abbrev pub imm_alone : Named
+imm_alone = names false false false true
+
+abbrev pub rd_rs_imm : Named
+rd_rs_imm = names true true false true
+
+-- the table, by opcode (00 NOP, 01 LI, 02 LIH, 03 MOV, 04 ADD, 05 SUB, 06 AND, 07 OR, 08 XOR, 09 SHL, 0A SHR, 0B LOAD,
+-- 0C STORE, 0D JMP, 0E JZ, 0F JNZ, 10 JB, 17 HLT, in hexadecimal)
+abbrev pub instruction_of : Fields → Option Instr
+instruction_of f =
+    if f.opcode == 0 then row f none Nop
+    else (if f.opcode == 1 then row f rd_imm (Li f.rd (imm_of f))
+    else (if f.opcode == 2 then row f rd_imm (Lih f.rd (imm_of f))
+    else (if f.opcode == 3 then row f rd_rs (Mov f.rd f.rs)
+    else (if f.opcode == 4 then row f rd_rs (Add f.rd f.rs)
+    else (if f.opcode == 5 then row f rd_rs (Sub f.rd f.rs)
+    else (if f.opcode == 6 then row f rd_rs (And f.rd f.rs)
+    else (if f.opcode == 7 then row f rd_rs (Or f.rd f.rs)
+    else (if f.opcode == 8 then row f rd_rs (Xor f.rd f.rs)
+    else (if f.opcode == 9 then row f rd_rs (Shl f.rd f.rs)
+    else (if f.opcode == 10 then row f rd_rs (Shr f.rd f.rs)
+    else (if f.opcode == 11 then sized_row f access (λ size. Load f.rd f.rs size (imm_of f))
+    else (if f.opcode == 12 then sized_row f access (λ size. Store f.rd f.rs size (imm_of f))
+    else (if f.opcode == 13 then row f imm_alone (Jmp (imm_of f))
+    else (if f.opcode == 14 then row f rd_imm (Jz f.rd (imm_of f))
+    else (if f.opcode == 15 then row f rd_imm (Jnz f.rd (imm_of f))
+    else (if f.opcode == 16 then row f rd_rs_imm (Jb f.rd f.rs (imm_of f))
+    else (if f.opcode == 23 then row f none Hlt
+    else None)))))))))))))))))
+
+-- the instruction that eight bytes spell, if they spell one
+unfoldable pub decode_of : List ℕ → Option Instr
+decode_of b = instruction_of (fields_of b)
+
+-- register numbers are below 16
+abbrev pub AreTwo : ℕ → ℕ → Type 0
+AreTwo rd rs = (rd < 16) × (rs < 16)
+
+abbrev pub IsFine : Instr → Type 0
+IsFine Nop = Unit {0}
+IsFine (Li rd imm) = rd < 16
+IsFine (Lih rd imm) = rd < 16
+IsFine (Mov rd rs) = AreTwo rd rs
+IsFine (Add rd rs) = AreTwo rd rs
+IsFine (Sub rd rs) = AreTwo rd rs
+IsFine (And rd rs) = AreTwo rd rs
+IsFine (Or rd rs) = AreTwo rd rs
+IsFine (Xor rd rs) = AreTwo rd rs
+IsFine (Shl rd rs) = AreTwo rd rs
+IsFine (Shr rd rs) = AreTwo rd rs
+IsFine (Load rd rs size imm) = AreTwo rd rs
+IsFine (Store rd rs size imm) = AreTwo rd rs
+IsFine (Jmp imm) = Unit {0}
+IsFine (Jz rd imm) = rd < 16
+IsFine (Jnz rd imm) = rd < 16
+IsFine (Jb rd rs imm) = AreTwo rd rs
+IsFine Hlt = Unit {0}
+
+abbrev pub AreFine : Option Instr → Type 0
+AreFine None = Unit {0}
+AreFine (Some i) = IsFine i
+
+-- a register to be loaded is below 16
+abbrev pub IsFineWish : Wish → Type 0
+IsFineWish (Loads reg addr size) = reg < 16
+IsFineWish _ = Unit {0}
+
+-- ---- the effect: exact numbers, reduced modulo 2^64
+
+abbrev pub register : SubjectState → ℕ → ℕ
+register s r = slice_index s.regs r
+
+abbrev pub advanced : SubjectState → SubjectState
+advanced s = record s { pc = (s.pc + 8) % 2 ^ 64 }
+
+abbrev pub with_register : SubjectState → ℕ → ℕ → SubjectState
+with_register s reg value = record s { regs = slice_set s.regs reg value }
+
+-- an immediate, sign-extended, modulo 2^64
+abbrev pub extended : ℤ → ℕ
+extended imm = cast_unsigned w64 imm
+
+-- the sum modulo 2^64 of a number and an immediate
+abbrev pub offset_by : ℕ → ℤ → ℕ
+offset_by n imm = (n + extended imm) % 2 ^ 64
+
+-- the lowest bytes of a value, so many as an access has
+abbrev pub low_bytes : Size → ℕ → ℕ
+low_bytes size value = value % 256 ^ bytes_of size
+
+abbrev pub passed : SubjectState → Wish → Asked
+passed s wish = record { after = advanced s; wish = wish }
+
+abbrev pub set_register : SubjectState → ℕ → ℕ → Asked
+set_register s reg value = record { after = advanced (with_register s reg value); wish = Sets reg value }
+
+-- from the instruction's own address
+abbrev pub jumped : SubjectState → ℤ → Asked
+jumped s imm = record { after = record s { pc = offset_by s.pc imm }; wish = Nothing }
+
+abbrev pub jumped_if : Bool → SubjectState → ℤ → Asked
+jumped_if true s imm = jumped s imm
+jumped_if false s imm = passed s Nothing
+
+-- the state after an instruction where its wish doesn't exit, and its wish
+abbrev pub effect_of : SubjectState → Instr → Asked
+effect_of s Nop = passed s Nothing
+effect_of s (Li rd imm) = set_register s rd (extended imm)
+effect_of s (Lih rd imm) = set_register s rd (register s rd % 2 ^ 32 + cast_unsigned w32 imm * 2 ^ 32)
+effect_of s (Mov rd rs) = set_register s rd (register s rs)
+effect_of s (Add rd rs) = set_register s rd ((register s rd + register s rs) % 2 ^ 64)
+effect_of s (Sub rd rs) = set_register s rd ((register s rd + 2 ^ 64 - register s rs) % 2 ^ 64)
+effect_of s (And rd rs) = set_register s rd (bit_and (register s rd) (register s rs))
+effect_of s (Or rd rs) = set_register s rd (bit_or (register s rd) (register s rs))
+effect_of s (Xor rd rs) = set_register s rd (bit_xor (register s rd) (register s rs))
+effect_of s (Shl rd rs) = set_register s rd ((register s rd * 2 ^ (register s rs % 64)) % 2 ^ 64)
+effect_of s (Shr rd rs) = set_register s rd (register s rd / 2 ^ (register s rs % 64))
+effect_of s (Load rd rs size imm) = passed s (Loads rd (offset_by (register s rs) imm) size)
+effect_of s (Store rd rs size imm) =
+    passed s (Stores (offset_by (register s rs) imm) size (low_bytes size (register s rd)))
+effect_of s (Jmp imm) = jumped s imm
+effect_of s (Jz rd imm) = jumped_if (register s rd == 0) s imm
+effect_of s (Jnz rd imm) = jumped_if (not (register s rd == 0)) s imm
+effect_of s (Jb rd rs imm) = jumped_if (nat_lt (register s rd) (register s rs)) s imm
+effect_of s Hlt = passed s Halts

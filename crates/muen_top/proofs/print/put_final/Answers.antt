@@ -1,8 +1,0 @@
-use Rattle.muen_outside.proofs.Puts.{puts_then}
-use Rattle.muen_top.specs.Machine.{machine_final_text}
-use Rattle.muen_top.proofs.print.put_final.Goals as goal
-
-pub returns : goal.returns
-unfolding machine_final_text
-returns g c =
-    rw (← c.name.ensures, ← c.state.ensures, ← c.holdings.ensures) (puts_then _ _ _ _ _ c.put_lines.result c.in_ok-put_state.ensures c.put_lines.ensures)

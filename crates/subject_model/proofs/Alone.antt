@@ -1,0 +1,212 @@
+-- A turn over one labelling of things is the turn over another.
+use Rattle.std.proofs.Common.{◌≡◌, ℕ, ◌+◌, ◌*◌, ◌-◌, ◌%◌, ◌^◌, Bool, true, false, cond, List, [], ◌∷◌, map, take, drop, Option, Some, None, refl, sym, ap, ◌∙◌}
+use Rattle.std.specs.Prelude.{◌==◌, ◌||◌, nat_le, option_map}
+use Rattle.std.specs.List.{find}
+use Rattle.muen_num.specs.Access.{kind_bit, allows}
+use Rattle.muen_num.specs.Deliver.{delivered}
+use Rattle.muen_num.specs.Size.{bytes_of as count}
+use Rattle.muen_num.specs.declared.bits.Kind.{Kind}
+use Rattle.muen_num.specs.declared.bits.Kind.TheVariants.{Read, Write, Fetch}
+use Rattle.muen_num.specs.declared.bits.Size.{Size}
+use Rattle.policy_types.specs.Windows.{Window, window, byte, violation, holds, access_by, access_of}
+use Rattle.guest_isa.specs.GuestIsa.{decode_of, effect_of}
+use Rattle.guest_isa.specs.declared.instr.Instr.{Instr}
+use Rattle.guest_isa.specs.declared.instr.Wish.{Wish}
+use Rattle.guest_isa.specs.declared.instr.Wish.TheVariants.{Nothing, Set, Load, Store, Halt}
+use Rattle.state_page.specs.declared.SubjectState.{SubjectState}
+use Rattle.subject_model.specs.Solo.{Stored, Answer, Reach, reached, refused, idle, reach_by, reach_of, store_at, loaded, stored_to, performed, executed, fetched, attempted, deliverable, unless_delivered, turn_over}
+
+-- where no event is pending, none is delivered
+pub none_deliverable : (s : SubjectState) (first : Bool) → deliverable s [] [] first ≡ None
+none_deliverable s first =
+    elim s.interrupts as (λ i. cond i (delivered [] [] (first || s.exited)) None ≡ None) [
+      | true ↦ elim (first || s.exited) as (λ b. delivered [] [] b ≡ None) [ true ↦ refl | false ↦ refl ]
+      | false ↦ refl
+    ]
+
+-- ---- things that are reached are those of windows
+
+-- what the windows show has this property
+abbrev pub AllShown : {A : Type 0} → (A → Type 0) → List (Window A) → Type 0
+AllShown P [] = Unit {0}
+AllShown P (w ∷ ws) = P w.thing × AllShown P ws
+
+abbrev pub LeadsTo : {A : Type 0} → (A → ℕ → Type 0) → Reach A → Type 0
+LeadsTo P (reached x offset) = P x offset
+LeadsTo P (refused reason qualification address) = Unit {0}
+
+module _ {A : Type 0} (P : A → Type 0) where
+  leads_by : (kind : Kind) (address : ℕ) (ws : List (Window A)) → AllShown P ws → LeadsTo (λ x _. P x) (reach_by kind address (access_by (find (λ w. holds w address) ws) address kind))
+  leads_by kind address [] h = tt
+  leads_by kind address (w ∷ ws) h =
+      elim (holds w address) as (λ b. LeadsTo (λ x _. P x) (reach_by kind address (access_by (cond b (Some w) (find (λ w. holds w address) ws)) address kind))) [
+        | true ↦ elim (allows w.rights kind) as (λ b. LeadsTo (λ x _. P x) (reach_by kind address (cond b (byte w.thing (address - w.guest)) (violation w.rights)))) [ true ↦ h.0 | false ↦ tt ]
+        | false ↦ leads_by kind address ws h.1
+      ]
+
+  pub leads : (ws : List (Window A)) (kind : Kind) (size address : ℕ) → AllShown P ws → LeadsTo (λ x _. P x) (reach_of ws kind size address)
+  leads ws kind size address h =
+      elim (address % size == 0) as (λ b. LeadsTo (λ x _. P x) (cond b (cond (nat_le (2 ^ 48) address) (refused 48 (kind_bit kind) address) (reach_by kind address (access_of ws address kind))) (refused 0 0 0))) [
+        | true ↦ elim (nat_le (2 ^ 48) address) as (λ b. LeadsTo (λ x _. P x) (cond b (refused 48 (kind_bit kind) address) (reach_by kind address (access_of ws address kind)))) [
+          | true ↦ tt
+          | false ↦ leads_by kind address ws h
+        ]
+        | false ↦ tt
+      ]
+
+-- ---- other labels
+
+abbrev pub relabelled : {A B : Type 0} → (A → B) → Window A → Window B
+relabelled g w = window w.guest w.size w.rights (g w.thing)
+
+abbrev pub store_of : {A B : Type 0} → (A → B) → Stored A → Stored B
+store_of g w = record { thing = g w.thing; offset = w.offset; bytes = w.bytes }
+
+-- an answer that takes no event and raises none
+abbrev pub answer_of : {A B : Type 0} → (A → B) → Answer A → Answer B
+answer_of g a = record {
+  state = a.state;
+  what = a.what;
+  stored = option_map (store_of g) a.stored;
+  taken = None;
+  raised = None;
+}
+
+abbrev pub reach_for : {A B : Type 0} → (A → B) → Reach A → Reach B
+reach_for g (reached x offset) = reached (g x) offset
+reach_for g (refused reason qualification address) = refused reason qualification address
+
+module _ {A B : Type 0} (g : A → B) (from : A → List ℕ) (to : B → List ℕ) where
+  find-relabelled : (address : ℕ) (ws : List (Window A)) → find (λ w. holds w address) (map (relabelled g) ws) ≡ option_map (relabelled g) (find (λ w. holds w address) ws)
+  find-relabelled address [] = refl
+  find-relabelled address (w ∷ ws) =
+      elim (holds w address) as (λ b. cond b (Some (relabelled g w)) (find (λ w. holds w address) (map (relabelled g) ws)) ≡ option_map (relabelled g) (cond b (Some w) (find (λ w. holds w address) ws))) [
+        | true ↦ refl
+        | false ↦ find-relabelled address ws
+      ]
+
+  reach-by : (kind : Kind) (address : ℕ) (o : Option (Window A)) → reach_by kind address (access_by (option_map (relabelled g) o) address kind) ≡ reach_for g (reach_by kind address (access_by o address kind))
+  reach-by kind address None = refl
+  reach-by kind address (Some w) =
+      elim (allows w.rights kind) as (λ b. reach_by kind address (cond b (byte (g w.thing) (address - w.guest)) (violation w.rights)) ≡ reach_for g (reach_by kind address (cond b (byte w.thing (address - w.guest)) (violation w.rights)))) [ true ↦ refl | false ↦ refl ]
+
+  reach-access : (ws : List (Window A)) (kind : Kind) (address : ℕ) → reach_by kind address (access_of (map (relabelled g) ws) address kind) ≡ reach_for g (reach_by kind address (access_of ws address kind))
+  reach-access ws kind address =
+      ap (λ o. reach_by kind address (access_by o address kind)) (find-relabelled address ws)
+      ∙ reach-by kind address (find (λ w. holds w address) ws)
+
+  pub reach-relabelled : (ws : List (Window A)) (kind : Kind) (size address : ℕ) → reach_of (map (relabelled g) ws) kind size address ≡ reach_for g (reach_of ws kind size address)
+  reach-relabelled ws kind size address =
+      elim (address % size == 0) as (λ b. cond b (cond (nat_le (2 ^ 48) address) (refused 48 (kind_bit kind) address) (reach_by kind address (access_of (map (relabelled g) ws) address kind))) (refused 0 0 0) ≡ reach_for g (cond b (cond (nat_le (2 ^ 48) address) (refused 48 (kind_bit kind) address) (reach_by kind address (access_of ws address kind))) (refused 0 0 0))) [
+        | true ↦ elim (nat_le (2 ^ 48) address) as (λ b. cond b (refused 48 (kind_bit kind) address) (reach_by kind address (access_of (map (relabelled g) ws) address kind)) ≡ reach_for g (cond b (refused 48 (kind_bit kind) address) (reach_by kind address (access_of ws address kind)))) [
+          | true ↦ refl
+          | false ↦ reach-access ws kind address
+        ]
+        | false ↦ refl
+      ]
+
+  -- both labels show the same bytes
+  abbrev pub Same : A → Type 0
+  Same x = to (g x) ≡ from x
+
+  loaded_same : (s after : SubjectState) (reg : ℕ) (size : Size) (r : Reach A) → LeadsTo (λ x _. Same x) r → loaded [] to s after reg size (reach_for g r) ≡ answer_of g (loaded [] from s after reg size r)
+  loaded_same s after reg size (reached x offset) h =
+      ap (λ bs. loaded {X = B} [] (λ _. bs) s after reg size (reached (g x) offset)) h
+  loaded_same s after reg size (refused reason qualification address) h = refl
+
+  stored_same : (s after : SubjectState) (address : ℕ) (size : Size) (value : ℕ) (r : Reach A) → stored_to [] s after address size value (reach_for g r) ≡ answer_of g (stored_to [] s after address size value r)
+  stored_same s after address size value (reached x offset) = refl
+  stored_same s after address size value (refused reason qualification guest) = refl
+
+  module _ (ws : List (Window A)) (same : AllShown Same ws) where
+    performed_same : (s after : SubjectState) (wish : Wish) → performed [] (map (relabelled g) ws) to s after wish ≡ answer_of g (performed [] ws from s after wish)
+    performed_same s after Nothing = refl
+    performed_same s after (Set reg value) = refl
+    performed_same s after (Load reg address size) =
+        ap (loaded [] to s after reg size) (reach-relabelled ws Read (count size) address)
+        ∙ loaded_same s after reg size (reach_of ws Read (count size) address) (leads Same ws Read (count size) address same)
+    performed_same s after (Store address size value) =
+        ap (stored_to [] s after address size value) (reach-relabelled ws Write (count size) address)
+        ∙ stored_same s after address size value (reach_of ws Write (count size) address)
+    performed_same s after Halt = refl
+
+    executed_same : (s : SubjectState) (i : Option Instr) → executed [] (map (relabelled g) ws) to s i ≡ answer_of g (executed [] ws from s i)
+    executed_same s None = refl
+    executed_same s (Some i) = performed_same s (effect_of s i).after (effect_of s i).wish
+
+    fetched_same : (s : SubjectState) (r : Reach A) → LeadsTo (λ x _. Same x) r → fetched [] (map (relabelled g) ws) to s (reach_for g r) ≡ answer_of g (fetched [] ws from s r)
+    fetched_same s (reached x offset) h =
+        ap (λ bs. executed [] (map (relabelled g) ws) to s (decode_of (take 8 (drop offset bs)))) h
+        ∙ executed_same s (decode_of (take 8 (drop offset (from x))))
+    fetched_same s (refused reason qualification address) h = refl
+
+    attempted_same : (s : SubjectState) → attempted [] (map (relabelled g) ws) to s ≡ answer_of g (attempted [] ws from s)
+    attempted_same s =
+        ap (fetched [] (map (relabelled g) ws) to s) (reach-relabelled ws Fetch 8 s.pc)
+        ∙ fetched_same s (reach_of ws Fetch 8 s.pc) (leads Same ws Fetch 8 s.pc same)
+
+    unless_same : (s : SubjectState) → cond s.halted (idle {X = B} s) (attempted [] (map (relabelled g) ws) to s) ≡ answer_of g (cond s.halted (idle {X = A} s) (attempted [] ws from s))
+    unless_same s =
+        elim s.halted as (λ b. cond b (idle {X = B} s) (attempted [] (map (relabelled g) ws) to s) ≡ answer_of g (cond b (idle {X = A} s) (attempted [] ws from s))) [
+          | true ↦ refl
+          | false ↦ attempted_same s
+        ]
+
+    -- a turn with no trap entry and no pending event
+    pub turn_same : (s : SubjectState) (first : Bool) → turn_over [] (map (relabelled g) ws) to s [] [] first ≡ answer_of g (turn_over [] ws from s [] [] false)
+    turn_same s first =
+        elim s.stopped as (λ b. cond b (idle {X = B} s) (unless_delivered s (deliverable s [] [] first) (cond s.halted (idle s) (attempted [] (map (relabelled g) ws) to s))) ≡ answer_of g (cond b (idle {X = A} s) (unless_delivered s (deliverable s [] [] false) (cond s.halted (idle s) (attempted [] ws from s))))) [
+          | true ↦ refl
+          | false ↦
+              ap (λ o. unless_delivered s o (cond s.halted (idle s) (attempted [] (map (relabelled g) ws) to s))) (none_deliverable s first)
+              ∙ unless_same s
+              ∙ sym (ap (λ o. answer_of g (unless_delivered s o (cond s.halted (idle s) (attempted [] ws from s)))) (none_deliverable s false))
+        ]
+
+-- ---- what a turn stores
+
+abbrev pub StoresSo : {A : Type 0} → (Stored A → Type 0) → Option (Stored A) → Type 0
+StoresSo P None = Unit {0}
+StoresSo P (Some w) = P w
+
+-- where a write may lead, a store has this property
+abbrev pub MayStore : {A : Type 0} → (Stored A → Type 0) → List (Window A) → Type 0
+MayStore P ws =
+    (size : Size) (address value : ℕ) → LeadsTo (λ x offset. P (store_at x offset size value)) (reach_of ws Write (count size) address)
+
+module _ {A : Type 0} (P : Stored A → Type 0) (from : A → List ℕ) (ws : List (Window A)) (may : MayStore P ws) where
+  loaded_stores : (s after : SubjectState) (reg : ℕ) (size : Size) (r : Reach A) → StoresSo P (loaded [] from s after reg size r).stored
+  loaded_stores s after reg size (reached x offset) = tt
+  loaded_stores s after reg size (refused reason qualification address) = tt
+
+  stored_stores : (s after : SubjectState) (address : ℕ) (size : Size) (value : ℕ) (r : Reach A) → LeadsTo (λ x offset. P (store_at x offset size value)) r → StoresSo P (stored_to [] s after address size value r).stored
+  stored_stores s after address size value (reached x offset) h = h
+  stored_stores s after address size value (refused reason qualification guest) h = tt
+
+  performed_stores : (s after : SubjectState) (wish : Wish) → StoresSo P (performed [] ws from s after wish).stored
+  performed_stores s after Nothing = tt
+  performed_stores s after (Set reg value) = tt
+  performed_stores s after (Load reg address size) =
+      loaded_stores s after reg size (reach_of ws Read (count size) address)
+  performed_stores s after (Store address size value) =
+      stored_stores s after address size value (reach_of ws Write (count size) address) (may size address value)
+  performed_stores s after Halt = tt
+
+  executed_stores : (s : SubjectState) (i : Option Instr) → StoresSo P (executed [] ws from s i).stored
+  executed_stores s None = tt
+  executed_stores s (Some i) = performed_stores s (effect_of s i).after (effect_of s i).wish
+
+  fetched_stores : (s : SubjectState) (r : Reach A) → StoresSo P (fetched [] ws from s r).stored
+  fetched_stores s (reached x offset) = executed_stores s (decode_of (take 8 (drop offset (from x))))
+  fetched_stores s (refused reason qualification address) = tt
+
+  pub turn_stores : (s : SubjectState) → StoresSo P (turn_over [] ws from s [] [] false).stored
+  turn_stores s =
+      elim s.stopped as (λ b. StoresSo P (cond b (idle {X = A} s) (unless_delivered s (deliverable s [] [] false) (cond s.halted (idle s) (attempted [] ws from s)))).stored) [
+        | true ↦ tt
+        | false ↦
+            rw (none_deliverable s false) (elim s.halted as (λ b. StoresSo P (cond b (idle {X = A} s) (attempted [] ws from s)).stored) [
+              | true ↦ tt
+              | false ↦ fetched_stores s (reach_of ws Fetch 8 s.pc)
+            ])
+      ]

@@ -1,0 +1,116 @@
+-- The definitions at work on small systems, where they compute.
+use Rattle.std.proofs.Common.{◌≡◌, ℕ, true, false, List, [], ◌∷◌, Some, None, refl}
+use Rattle.std.specs.Prelude.{codes, map, replicate}
+use Rattle.std.specs.FinMap.{from_entries}
+use Rattle.muen_num.specs.declared.bits.Mode.TheVariants.{Switch}
+use Rattle.policy_types.specs.Contents.{Held, initial_bytes}
+use Rattle.policy_types.specs.Frames.{CpuPlan, frames_of}
+use Rattle.policy_types.specs.Thing.{things_of}
+use Rattle.policy_types.specs.Windows.{windows_of}
+use Rattle.policy_types.specs.Events.{event_of}
+use Rattle.policy_types.specs.declared.rights.Caching.TheVariants.{Wb}
+use Rattle.policy_types.specs.declared.source.Source.{Source}
+use Rattle.policy_types.specs.declared.source.Region.{Region}
+use Rattle.policy_types.specs.declared.source.Content.TheVariants.{Inline}
+use Rattle.policy_types.specs.declared.source.Subject.{Subject}
+use Rattle.policy_types.specs.declared.source.EventSource.{EventSource}
+use Rattle.policy_types.specs.declared.source.EventTarget.{EventTarget}
+use Rattle.policy_types.specs.declared.source.SourceWay.TheVariants.{Trap as ByTrap}
+use Rattle.state_page.specs.StatePage.{started}
+use Rattle.guest_isa.specs.GuestIsa.{decode_of}
+use Rattle.subject_model.specs.DeviceRecord.{only_ticks}
+use Rattle.subject_model.specs.Slot.{slot_at}
+use Rattle.subject_model.specs.Solo.{own_of, solo_turn}
+use Rattle.subject_model.specs.System.{start_of, inbox_of, system_turn}
+use Rattle.subject_model.specs.Run.{run_to}
+use Rattle.view_text.specs.declared.What.TheVariants.{Ran, Exit}
+use Rattle.view_text.specs.declared.End.TheVariants.{Trap, Stop}
+
+-- ---- frame slots: two major frames, of 3 and 2 ticks, on one CPU
+
+plan : List (List CpuPlan)
+plan =
+    (record { cpu = 0; frames = record { group = 0; ticks = 1 } ∷ record { group = 1; ticks = 2 } ∷ [] } ∷ [])
+    ∷ (record { cpu = 0; frames = record { group = 1; ticks = 2 } ∷ [] } ∷ [])
+    ∷ []
+
+slot_in_second_frame : slot_at plan 0 2 ≡ Some (record { major = 0; group = 1; first = false; left = 1 })
+unfolding slot_at plan
+slot_in_second_frame = refl
+
+slot_in_second_major : slot_at plan 0 3 ≡ Some (record { major = 1; group = 1; first = true; left = 2 })
+unfolding slot_at plan
+slot_in_second_major = refl
+
+slot_begins_anew : slot_at plan 0 10 ≡ Some (record { major = 0; group = 0; first = true; left = 1 })
+unfolding slot_at plan
+slot_begins_anew = refl
+
+slot_of_no_cpu : slot_at plan 1 0 ≡ None
+unfolding slot_at plan
+slot_of_no_cpu = refl
+
+-- ---- a handover: the first subject's exit 0 raises a `switch` event, so that the second member of its group goes on
+
+abbrev nop : List ℕ
+nop = replicate 8 0
+
+subject : List ℕ → List EventSource → List EventTarget → Subject
+subject name sources targets = record {
+  name = name;
+  cpu = 0;
+  entry = 4096;
+  component = None;
+  memory = record { region = name; virtual_address = 4096; rights = record { 0 = 5 } } ∷ [];
+  channels = [];
+  devices = [];
+  msrs = [];
+  sources = sources;
+  targets = targets;
+}
+
+code : List ℕ → List ℕ → Region
+code name bytes = record {
+  name = name;
+  size = 8;
+  caching = Wb;
+  alignment = 4096;
+  physical_address = None;
+  content = Inline bytes;
+}
+
+two : Source
+two = record {
+  processor = record { logical_cpus = 1 };
+  memory_blocks = [];
+  devices = [];
+  memory = code (codes "a") (255 ∷ []) ∷ code (codes "b") nop ∷ [];
+  channels = [];
+  components = [];
+  events = record { name = codes "go"; mode = Switch } ∷ [];
+  subjects =
+      subject (codes "a") (record { event = codes "go"; way = ByTrap 0 } ∷ []) []
+      ∷ subject (codes "b") [] (record { event = codes "go"; vector = Some 40 } ∷ [])
+      ∷ [];
+  scheduling = record {
+    groups = record { name = codes "g"; cpu = 0; subjects = codes "a" ∷ codes "b" ∷ [] } ∷ [];
+    major_frames = record { cpus = record { cpu = 0; minor_frames = record { group = codes "g"; ticks = 2 } ∷ [] } ∷ [] } ∷ [];
+  };
+}
+
+nothing : Held
+nothing = from_entries []
+
+-- the first subject traps, then the second runs, and then leaves its window
+handover : (run_to two nothing (only_ticks 3) 3).lines ≡ record { tick = 0; cpu = 0; subject = codes "a"; pc = 4096; what = Exit 0 0 0 Trap } ∷ record { tick = 1; cpu = 0; subject = codes "b"; pc = 4096; what = Ran } ∷ record { tick = 2; cpu = 0; subject = codes "b"; pc = 4104; what = Exit 48 4 4104 Stop } ∷ []
+unfolding two subject code nothing start_of things_of initial_bytes started system_turn slot_at frames_of own_of windows_of inbox_of solo_turn decode_of event_of
+handover = refl
+
+-- its vector stays pending, for it doesn't let events in
+pending_after : (run_to two nothing (only_ticks 3) 3).system.now ≡ (codes "a", []) ∷ (codes "b", 40 ∷ []) ∷ []
+unfolding two subject code nothing start_of things_of initial_bytes started system_turn slot_at frames_of own_of windows_of inbox_of solo_turn decode_of event_of
+pending_after = refl
+
+active_after : (run_to two nothing (only_ticks 3) 3).system.active ≡ codes "b" ∷ []
+unfolding two subject code nothing start_of things_of initial_bytes started system_turn slot_at frames_of own_of windows_of inbox_of solo_turn decode_of event_of
+active_after = refl

@@ -1,0 +1,3 @@
+pub mod Alone
+mod Examples
+pub mod SoloLaws

@@ -1,0 +1,5 @@
+pub mod DeviceRecord
+pub mod Run
+pub mod Slot
+pub mod Solo
+pub mod System

@@ -1,0 +1,66 @@
+-- The lines that a run prints (this project's own).
+use Rattle.std.specs.Prelude.{ℕ, ◌+◌, ◌-◌, ◌*◌, ◌==◌, Bool, true, false, List, ◌++◌, slice_index, codes, decimal, if◌then◌else◌}
+use Rattle.hex.specs.Hex.{encode_lower}
+use Rattle.muen_num.specs.Fixed.{hex4, hex8, hex16}
+use Rattle.muen_num.specs.Size.{bytes_of}
+use Rattle.muen_num.specs.Tag.{tag_text}
+use Rattle.muen_num.specs.declared.tag.Tag.{Tag}
+use Rattle.state_page.specs.declared.SubjectState.{SubjectState}
+use Rattle.view_text.specs.declared.Line.{Line}
+use Rattle.view_text.specs.declared.What.{What}
+use Rattle.view_text.specs.declared.What.TheVariants.{Ran, Set, Stored, Out, WroteMsr, Inject, Exit}
+use Rattle.view_text.specs.declared.End.{End}
+use Rattle.view_text.specs.declared.End.TheVariants.{On, Halt, Trap, Stop}
+
+abbrev pub end_text : End → List ℕ
+end_text On = codes "on"
+end_text Halt = codes "halt"
+end_text Trap = codes "trap"
+end_text Stop = codes "stop"
+
+abbrev pub what_text : What → List ℕ
+what_text Ran = codes "-"
+what_text (Set reg value) = codes "r" ++ decimal reg ++ codes "=" ++ hex16 value
+what_text (Stored size addr value) = codes "store " ++ decimal (bytes_of size) ++ codes " " ++ hex16 addr ++ codes " " ++ hex16 value
+what_text (Out size port value) = codes "out " ++ decimal (bytes_of size) ++ codes " " ++ hex4 port ++ codes " " ++ hex8 value
+what_text (WroteMsr index value) = codes "wrmsr " ++ hex8 index ++ codes " " ++ hex16 value
+what_text (Inject vector) = codes "inject " ++ decimal vector
+what_text (Exit reason qualification addr end) =
+    codes "exit " ++ decimal reason ++ codes " " ++ hex16 qualification ++ codes " " ++ hex16 addr ++ codes " " ++ end_text end
+
+-- the line of a turn
+unfoldable pub turn_text : Line → List ℕ
+turn_text l =
+    decimal l.tick ++ codes " " ++ decimal l.cpu ++ codes " " ++ l.subject ++ codes " " ++ hex16 l.pc ++ codes " " ++ what_text l.what ++ codes "\n"
+
+abbrev pub flag : Bool → ℕ → ℕ
+flag false n = 0
+flag true n = n
+
+-- interrupts 1, halted 2, stopped 4, exited 8
+abbrev pub flags_of : SubjectState → ℕ
+flags_of s = flag s.interrupts 1 + flag s.halted 2 + flag s.stopped 4 + flag s.exited 8
+
+unfoldable pub end_line_text : List ℕ → SubjectState → List ℕ
+end_line_text subject s =
+    codes "end " ++ subject ++ codes " " ++ hex16 s.pc ++ codes " " ++ hex16 s.epc ++ codes " " ++ hex16 s.vbase ++ codes " " ++ decimal (flags_of s) ++ codes "\n"
+
+unfoldable pub registers_text : List ℕ → List ℕ → ℕ → List ℕ
+registers_text subject regs first =
+    codes "regs " ++ subject ++ codes " " ++ decimal first
+    ++ codes " " ++ hex16 (slice_index regs first) ++ codes " " ++ hex16 (slice_index regs (first + 1))
+    ++ codes " " ++ hex16 (slice_index regs (first + 2)) ++ codes " " ++ hex16 (slice_index regs (first + 3)) ++ codes "\n"
+
+-- a row of a subject's final state: row 0, or the four registers from 4 * (row - 1)
+abbrev pub state_text : List ℕ → SubjectState → ℕ → List ℕ
+state_text subject s row =
+    if row == 0 then end_line_text subject s else registers_text subject s.regs (4 * (row - 1))
+
+abbrev pub kind_word : Bool → List ℕ
+kind_word true = codes "device"
+kind_word false = codes "region"
+
+-- the final line of a region of memory, or of a device's window
+unfoldable pub region_text : Tag → Bool → List ℕ → List ℕ
+region_text tag device digest =
+    kind_word device ++ codes " " ++ tag_text tag ++ codes " " ++ encode_lower digest ++ codes "\n"

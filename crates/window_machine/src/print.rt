@@ -1,0 +1,139 @@
+// What a run prints: a line for each turn that has one, then the final lines.
+ghost use Rattle.std.specs.Prelude.{◌≡◌, ◌≤◌, ◌++◌, option_to_list, OnOk};
+ghost use Rattle.std.specs.List.{flat_map};
+ghost use Rattle.muen_outside.specs.Puts.{Puts};
+ghost use Rattle.view_text.specs.ViewText.{turn_text};
+ghost use Rattle.subject_model.specs.Run.{rows_text};
+ghost use Rattle.window_machine.specs.Machine.{machine_run_to, machine_final_text, machine_text};
+
+use crate::machine::Machine;
+use crate::memory::Holding;
+use muen_num::{Name, Part, Tag};
+use muen_outside::{Line, Sink, SinkFault, put_lines};
+use sha2::{Digest, Sha256};
+use state_page::SubjectState;
+use view_text::{region_line, state_line, turn_line};
+
+impl Line for Holding {
+    ghost use Rattle.window_machine.specs.Machine.{holding_text};
+
+    ghost text = { holding_text };
+
+    fn write(&self, buffer: &mut [u8; 256]) -> usize {
+        let tag = Tag {
+            owner: self.name,
+            part: Part::Whole,
+        };
+        let digest = Sha256::digest(self.bytes.items());
+        region_line(&tag, false, &digest, buffer)
+    }
+}
+
+// A row of a subject's final state.
+#[derive(Clone, Copy)]
+struct StateRow {
+    subject: Name,
+    state: SubjectState,
+    row: u8,
+    ghost in_range: { row ≤ 4 },
+}
+
+impl Line for StateRow {
+    ghost use Rattle.view_text.specs.ViewText.{state_text};
+
+    ghost text = { λ r. state_text r.subject r.state r.row };
+
+    fn write(&self, buffer: &mut [u8; 256]) -> usize {
+        let mut line = [0u8; 160];
+        let n = state_line(&self.subject, &self.state, self.row, &mut line);
+        buffer[..n].copy_from_slice(&line[..n]);
+        n
+    }
+}
+
+// The five lines of a subject's final state.
+fn put_state<S: Sink>(subject: &Name, state: &SubjectState, out: &mut S) -> Result<(), SinkFault>
+    ensures { Puts (rows_text subject.now state.now) (S.state out.old) (S.state out.new) result }
+{
+    let subject = *subject;
+    let state = *state;
+    put_lines(
+        &[
+            StateRow {
+                subject,
+                state,
+                row: 0,
+            },
+            StateRow {
+                subject,
+                state,
+                row: 1,
+            },
+            StateRow {
+                subject,
+                state,
+                row: 2,
+            },
+            StateRow {
+                subject,
+                state,
+                row: 3,
+            },
+            StateRow {
+                subject,
+                state,
+                row: 4,
+            },
+        ],
+        out,
+    )
+}
+
+// The line of a turn, if it has one.
+fn put_turn<S: Sink>(line: Option<view_text::Line>, out: &mut S) -> Result<(), SinkFault>
+    ensures { Puts (flat_map turn_text (option_to_list line)) (S.state out.old) (S.state out.new) result }
+{
+    match line {
+        None => Ok(()),
+        Some(line) => {
+            let mut buffer = [0u8; 160];
+            let n = turn_line(&line, &mut buffer);
+            out.put(&buffer[..n])
+        }
+    }
+}
+
+// The turns of these ticks.
+fn put_turns<S: Sink>(machine: &mut Machine, end: u32, out: &mut S) -> Result<(), SinkFault>
+    ensures lines { Puts (flat_map turn_text (machine_run_to machine.old end).lines) (S.state out.old) (S.state out.new) result }
+    ensures after { OnOk result (machine.new ≡ (machine_run_to machine.old end).machine) }
+{
+    for tick in 0..end {
+        let line = machine.tick(tick);
+        put_turn(line, out)?;
+    }
+    Ok(())
+}
+
+// The final lines: the subject's state, and the digest of each region.
+#[tactic(auto, unfolding(crate::specs::Machine::machine_final_text))]
+fn put_final<S: Sink>(machine: &Machine, out: &mut S) -> Result<(), SinkFault>
+    ensures { Puts (machine_final_text machine.now) (S.state out.old) (S.state out.new) result }
+{
+    put_state(machine.name(), machine.state(), out)?;
+    put_lines(machine.holdings(), out)
+}
+
+/// Runs the machine for these ticks, and prints each turn's line, and at the end the subject's
+/// state and the digest of each region.
+#[tactic(auto, unfolding(crate::specs::Machine::machine_text))]
+pub fn print_run<S: Sink>(
+    machine: &mut Machine,
+    end: u32,
+    out: &mut S,
+) -> Result<(), SinkFault>
+    ensures { Puts (machine_text machine.old end) (S.state out.old) (S.state out.new) result }
+{
+    put_turns(machine, end, out)?;
+    put_final(machine, out)
+}

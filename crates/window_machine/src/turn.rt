@@ -1,0 +1,225 @@
+// A turn of the subject.
+ghost use Rattle.std.specs.Prelude.{◌≡◌, ◌+◌, ◌<◌, ◌≤◌, length, take, drop, [], true, false};
+ghost use Rattle.muen_num.specs.Size.{bytes_of};
+ghost use Rattle.muen_num.specs.declared.bits.Kind.TheVariants.{Read, Write};
+ghost use Rattle.guest_isa.specs.GuestIsa.{decode_of, IsFineWish};
+ghost use Rattle.subject_model.specs.Solo.{reach_of, shown, faulted, loaded, stored_to, performed, executed, attempted, turn_over};
+ghost use Rattle.window_machine.specs.Machine.{windows_on, bytes_at, sizes_of, AllFit, answer_of};
+
+use crate::memory::{Holding, NOT_RUN, Reach, Store, Window, reach_of, value_at};
+use guest_isa::{Wish, ask, decode, with_register};
+use muen_num::{Kind, Size};
+use state_page::SubjectState;
+use view_text::{End, What};
+
+// The exit of an instruction that halts (Intel SDM volume 3, basic exit reasons).
+const HLT: u8 = 12;
+
+/// What a turn does: the state after it, what its line says, if it has one, and its store, if it
+/// has one.
+#[derive(Clone, Copy)]
+pub(crate) struct Turn {
+    pub state: SubjectState,
+    pub what: Option<What>,
+    pub stored: Option<Store>,
+}
+
+// A turn with a line, and without a store.
+fn shown(state: SubjectState, what: What) -> Turn
+    ensures { answer_of result ≡ shown state what }
+{
+    Turn {
+        state,
+        what: Some(what),
+        stored: None,
+    }
+}
+
+// An exit without a trap entry: the subject stops, and `pc` stays.
+fn fault(s: &SubjectState, reason: u8, qualification: u64, addr: u64) -> Turn
+    ensures { answer_of result ≡ faulted [] s.now reason qualification addr }
+{
+    let mut state = *s;
+    state.stopped = true;
+    state.exited = true;
+    shown(
+        state,
+        What::Exit {
+            reason,
+            qualification,
+            addr,
+            end: End::Stop,
+        },
+    )
+}
+
+// The kernel halts the subject.
+fn halt(after: &SubjectState) -> Turn
+    ensures { answer_of result ≡ shown (record after.now { halted = true; exited = true }) (What.Exit 12 0 0 End.Halt) }
+{
+    let mut state = *after;
+    state.halted = true;
+    state.exited = true;
+    shown(
+        state,
+        What::Exit {
+            reason: HLT,
+            qualification: 0,
+            addr: 0,
+            end: End::Halt,
+        },
+    )
+}
+
+// An instruction that didn't leave.
+fn ran(after: &SubjectState, what: What) -> Turn
+    ensures { answer_of result ≡ shown (record after.now { exited = false }) what }
+{
+    let mut state = *after;
+    state.exited = false;
+    shown(state, what)
+}
+
+// A register is loaded, or the access faults.
+#[tactic(auto, using(crate::proofs::Reached::reached_within))]
+fn load(
+    windows: &[Window],
+    holdings: &[Holding],
+    s: &SubjectState,
+    after: &SubjectState,
+    reg: u8,
+    size: Size,
+    addr: u64,
+) -> Turn
+    requires reg { reg < 16 }
+    requires fit { AllFit (sizes_of holdings.now) (windows_on windows.now) }
+    ensures { answer_of result ≡ loaded [] (bytes_at holdings.now) s.now after.now reg size (reach_of (windows_on windows.now) Read (bytes_of size) addr) }
+{
+    match reach_of(windows, Kind::Read, size, addr) {
+        Reach::Refused {
+            reason,
+            qualification,
+            addr,
+        } => fault(s, reason, qualification, addr),
+        Reach::Reached { place, offset } => {
+            let value = value_at(size, holdings[place].bytes.items(), offset as usize);
+            ran(&with_register(after, reg, value), What::Set { reg, value })
+        }
+    }
+}
+
+// A value is stored, or the access faults.
+fn store(
+    windows: &[Window],
+    s: &SubjectState,
+    after: &SubjectState,
+    addr: u64,
+    size: Size,
+    value: u64,
+) -> Turn
+    ensures { answer_of result ≡ stored_to [] s.now after.now addr size value (reach_of (windows_on windows.now) Write (bytes_of size) addr) }
+{
+    match reach_of(windows, Kind::Write, size, addr) {
+        Reach::Refused {
+            reason,
+            qualification,
+            addr,
+        } => fault(s, reason, qualification, addr),
+        Reach::Reached { place, offset } => {
+            let mut state = *after;
+            state.exited = false;
+            Turn {
+                state,
+                what: Some(What::Stored { size, addr, value }),
+                stored: Some(Store {
+                    place,
+                    offset,
+                    size,
+                    value,
+                }),
+            }
+        }
+    }
+}
+
+// The wish of an instruction is met, or it leaves with the fault of its access.
+fn perform(
+    windows: &[Window],
+    holdings: &[Holding],
+    s: &SubjectState,
+    after: &SubjectState,
+    wish: Wish,
+) -> Turn
+    requires fine { IsFineWish wish }
+    requires fit { AllFit (sizes_of holdings.now) (windows_on windows.now) }
+    ensures { answer_of result ≡ performed [] (windows_on windows.now) (bytes_at holdings.now) s.now after.now wish }
+{
+    match wish {
+        Wish::Nothing => ran(after, What::Ran),
+        Wish::Set { reg, value } => ran(after, What::Set { reg, value }),
+        Wish::Load { reg, addr, size } => load(windows, holdings, s, after, reg, size, addr),
+        Wish::Store { addr, size, value } => store(windows, s, after, addr, size, value),
+        Wish::Halt => halt(after),
+    }
+}
+
+// The instruction that the bytes spell.
+fn execute(windows: &[Window], holdings: &[Holding], s: &SubjectState, bytes: [u8; 8]) -> Turn
+    requires { AllFit (sizes_of holdings.now) (windows_on windows.now) }
+    ensures { answer_of result ≡ executed [] (windows_on windows.now) (bytes_at holdings.now) s.now (decode_of bytes) }
+{
+    match decode(bytes) {
+        None => fault(s, NOT_RUN, 0, 0),
+        Some(i) => {
+            let asked = ask(s, i);
+            perform(windows, holdings, s, &asked.after, asked.wish)
+        }
+    }
+}
+
+// Eight bytes from this offset on.
+fn eight(bytes: &[u8], offset: usize) -> [u8; 8]
+    requires { offset + 8 ≤ length bytes.now }
+    ensures { result ≡ take 8 (drop offset bytes.now) }
+{
+    let (_, rest) = bytes.split_at(offset);
+    let (front, _) = rest.split_at(8);
+    let mut eight = [0u8; 8];
+    eight.copy_from_slice(front);
+    eight
+}
+
+// One instruction, or the first of its faults: those of the fetch, bytes outside the table, those of
+// the access.
+#[tactic(auto, using(crate::proofs::Reached::fetched_within))]
+fn attempt(windows: &[Window], holdings: &[Holding], s: &SubjectState) -> Turn
+    requires { AllFit (sizes_of holdings.now) (windows_on windows.now) }
+    ensures { answer_of result ≡ attempted [] (windows_on windows.now) (bytes_at holdings.now) s.now }
+{
+    match reach_of(windows, Kind::Fetch, Size::Eight, s.pc) {
+        Reach::Refused {
+            reason,
+            qualification,
+            addr,
+        } => fault(s, reason, qualification, addr),
+        Reach::Reached { place, offset } => {
+            let bytes = eight(holdings[place].bytes.items(), offset as usize);
+            execute(windows, holdings, s, bytes)
+        }
+    }
+}
+
+/// A turn: nothing where the subject is stopped or halted, for no event is ever pending.
+pub(crate) fn take_turn(windows: &[Window], holdings: &[Holding], s: &SubjectState) -> Turn
+    requires { AllFit (sizes_of holdings.now) (windows_on windows.now) }
+    ensures { answer_of result ≡ turn_over [] (windows_on windows.now) (bytes_at holdings.now) s.now [] [] false }
+{
+    if s.stopped || s.halted {
+        return Turn {
+            state: *s,
+            what: None,
+            stored: None,
+        };
+    }
+    attempt(windows, holdings, s)
+}
