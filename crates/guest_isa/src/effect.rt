@@ -92,7 +92,11 @@ fn jump(s: &SubjectState, imm: i32) -> Asked
 fn jump_if(test: bool, s: &SubjectState, imm: i32) -> Asked
     ensures { result ≡ jumped_if test s.now imm }
 {
-    if test { jump(s, imm) } else { pass(s, Wish::Nothing) }
+    if test {
+        jump(s, imm)
+    } else {
+        pass(s, Wish::Nothing)
+    }
 }
 
 // The value with other bits 63:32.

@@ -10,25 +10,55 @@ pub enum Instr {
     /// Does nothing.
     Nop,
     /// Loads the immediate into register `rd`.
-    Li { rd: u8, imm: i32 },
+    Li {
+        rd: u8,
+        imm: i32,
+    },
     /// Sets bits 63:32 of register `rd` to the immediate's 32 bits.
-    Lih { rd: u8, imm: i32 },
+    Lih {
+        rd: u8,
+        imm: i32,
+    },
     /// Copies register `rs` to `rd`.
-    Mov { rd: u8, rs: u8 },
+    Mov {
+        rd: u8,
+        rs: u8,
+    },
     /// Adds register `rs` to `rd`.
-    Add { rd: u8, rs: u8 },
+    Add {
+        rd: u8,
+        rs: u8,
+    },
     /// Subtracts register `rs` from `rd`.
-    Sub { rd: u8, rs: u8 },
+    Sub {
+        rd: u8,
+        rs: u8,
+    },
     /// Keeps the bits of register `rd` that are set in `rs`.
-    And { rd: u8, rs: u8 },
+    And {
+        rd: u8,
+        rs: u8,
+    },
     /// Sets the bits of register `rd` that are set in `rs`.
-    Or { rd: u8, rs: u8 },
+    Or {
+        rd: u8,
+        rs: u8,
+    },
     /// Turns the bits of register `rd` that are set in `rs`.
-    Xor { rd: u8, rs: u8 },
+    Xor {
+        rd: u8,
+        rs: u8,
+    },
     /// Shifts register `rd` left by `rs` modulo 64.
-    Shl { rd: u8, rs: u8 },
+    Shl {
+        rd: u8,
+        rs: u8,
+    },
     /// Shifts register `rd` right by `rs` modulo 64; zeros come in.
-    Shr { rd: u8, rs: u8 },
+    Shr {
+        rd: u8,
+        rs: u8,
+    },
     /// Loads the bytes at `rs + imm`, zero-extended, into register `rd`.
     Load {
         rd: u8,
@@ -44,13 +74,25 @@ pub enum Instr {
         imm: i32,
     },
     /// Jumps by the immediate from its own address.
-    Jmp { imm: i32 },
+    Jmp {
+        imm: i32,
+    },
     /// Jumps where register `rd` is 0.
-    Jz { rd: u8, imm: i32 },
+    Jz {
+        rd: u8,
+        imm: i32,
+    },
     /// Jumps where register `rd` isn't 0.
-    Jnz { rd: u8, imm: i32 },
+    Jnz {
+        rd: u8,
+        imm: i32,
+    },
     /// Jumps where register `rd` is below `rs`, both unsigned.
-    Jb { rd: u8, rs: u8, imm: i32 },
+    Jb {
+        rd: u8,
+        rs: u8,
+        imm: i32,
+    },
     /// Halts.
     Hlt,
 }
@@ -60,22 +102,11 @@ pub enum Instr {
 pub enum Wish {
     Nothing,
     /// The register was written, and holds this value.
-    Set {
-        reg: u8,
-        value: u64,
-    },
+    Set { reg: u8, value: u64 },
     /// The register is to be loaded, zero-extended, from this guest address.
-    Load {
-        reg: u8,
-        addr: u64,
-        size: Size,
-    },
+    Load { reg: u8, addr: u64, size: Size },
     /// This value, which has so many bytes, is to be stored at this guest address.
-    Store {
-        addr: u64,
-        size: Size,
-        value: u64,
-    },
+    Store { addr: u64, size: Size, value: u64 },
     /// The subject halts.
     Halt,
 }

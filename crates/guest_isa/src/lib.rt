@@ -9,3 +9,5 @@ pub use effect::{ask, with_register};
 pub use instr::{Asked, Instr, Wish};
 pub use spelling::decode;
 
+#[cfg(test)]
+mod tests;

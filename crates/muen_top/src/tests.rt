@@ -63,6 +63,46 @@ region spare f47a8ec3e9aff2318d896942282ad4fe37d6391c82914f54a5da8a37de1300c6\n\
 region code d4837ed1427735f0510903e5523cb11cd438da2eb85d4aaea180ec5efa8719aa\n\
 region lead ad7facb2586fc6e966c004d7d1d16b024f5805ff7cb47c7a85dabd8b48892ca7\n";
 
+// A load from the first address past the guest addresses.
+const PAST: &[u8] = b"{\"processor\":{\"logicalCpus\":1},\
+\"memoryBlocks\":[{\"name\":\"ram\",\"physicalAddress\":1048576,\"size\":65536}],\
+\"memory\":[{\"name\":\"code\",\"size\":4096,\"content\":{\"hex\":\"02200000000001000b12030000000000\"}},\
+{\"name\":\"past\",\"size\":4096}],\
+\"subjects\":[{\"name\":\"one\",\"cpu\":0,\"entry\":4194304,\
+\"memory\":[{\"region\":\"code\",\"virtualAddress\":4194304,\"rights\":\"rx\"},{\"region\":\"past\",\"virtualAddress\":281474976706560,\"rights\":\"r\"}]}],\
+\"scheduling\":{\"groups\":[{\"name\":\"g\",\"cpu\":0,\"subjects\":[\"one\"]}],\
+\"majorFrames\":[{\"cpus\":[{\"cpu\":0,\"minorFrames\":[{\"group\":\"g\",\"ticks\":10}]}]}]}}";
+
+const PAST_RAN: &[u8] = b"0 0 one 0000000000400000 r2=0001000000000000\n\
+1 0 one 0000000000400008 exit 48 0000000000000001 0001000000000000 stop\n\
+end one 0000000000400008 0000000000000000 0000000000000000 12\n\
+regs one 0 0000000000000000 0000000000000000 0001000000000000 0000000000000000\n\
+regs one 4 0000000000000000 0000000000000000 0000000000000000 0000000000000000\n\
+regs one 8 0000000000000000 0000000000000000 0000000000000000 0000000000000000\n\
+regs one 12 0000000000000000 0000000000000000 0000000000000000 0000000000000000\n\
+region code 2532b3dd774bdde1e568bcefd153005732096282e213a71bf47ba1546d4e7a6b\n\
+region past ad7facb2586fc6e966c004d7d1d16b024f5805ff7cb47c7a85dabd8b48892ca7\n";
+
+// A store without the right to write.
+const READ_ONLY: &[u8] = b"{\"processor\":{\"logicalCpus\":1},\
+\"memoryBlocks\":[{\"name\":\"ram\",\"physicalAddress\":1048576,\"size\":65536}],\
+\"memory\":[{\"name\":\"code\",\"size\":4096,\"content\":{\"hex\":\"01200000000050000c12030000000000\"}},\
+{\"name\":\"ro\",\"size\":4096}],\
+\"subjects\":[{\"name\":\"one\",\"cpu\":0,\"entry\":4194304,\
+\"memory\":[{\"region\":\"code\",\"virtualAddress\":4194304,\"rights\":\"rx\"},{\"region\":\"ro\",\"virtualAddress\":5242880,\"rights\":\"r\"}]}],\
+\"scheduling\":{\"groups\":[{\"name\":\"g\",\"cpu\":0,\"subjects\":[\"one\"]}],\
+\"majorFrames\":[{\"cpus\":[{\"cpu\":0,\"minorFrames\":[{\"group\":\"g\",\"ticks\":10}]}]}]}}";
+
+const READ_ONLY_RAN: &[u8] = b"0 0 one 0000000000400000 r2=0000000000500000\n\
+1 0 one 0000000000400008 exit 48 000000000000000a 0000000000500000 stop\n\
+end one 0000000000400008 0000000000000000 0000000000000000 12\n\
+regs one 0 0000000000000000 0000000000000000 0000000000500000 0000000000000000\n\
+regs one 4 0000000000000000 0000000000000000 0000000000000000 0000000000000000\n\
+regs one 8 0000000000000000 0000000000000000 0000000000000000 0000000000000000\n\
+regs one 12 0000000000000000 0000000000000000 0000000000000000 0000000000000000\n\
+region code 9e1d3ca39f4f9aa7496f453a1083800ae8d4c1dc60807ce8585fce6f629a66b9\n\
+region ro ad7facb2586fc6e966c004d7d1d16b024f5805ff7cb47c7a85dabd8b48892ca7\n";
+
 const TWO_CPUS: &[u8] = b"{\"processor\":{\"logicalCpus\":2},\"scheduling\":{}}";
 
 const USAGE: &[u8] =
@@ -94,6 +134,8 @@ fn files(alloc: Global, fails: &[u64]) -> Result<MemFiles, Fail> {
     held.push(file(alloc, "spaced", SPACED)?)?;
     held.push(file(alloc, "underscored", UNDERSCORED)?)?;
     held.push(file(alloc, "several", SEVERAL)?)?;
+    held.push(file(alloc, "past", PAST)?)?;
+    held.push(file(alloc, "ro", READ_ONLY)?)?;
     held.push(file(alloc, "two", TWO_CPUS)?)?;
     held.push(file(alloc, "late", b"end 100001\n")?)?;
     Ok(MemFiles::make(held, Vec::from_slice(alloc, fails)?))
@@ -121,11 +163,13 @@ fn call(
 #[test]
 fn answers(rt: HostRuntime) -> Result<(), Fail> {
     let alloc = rt.alloc();
-    let cases: [(&[&str], u8, &[u8], &[u8]); 16] = [
+    let cases: [(&[&str], u8, &[u8], &[u8]); 18] = [
         (&["boot", "p", "three"], 0, THREE_TICKS, b""),
         (&["boot", "p", "zero"], 0, NO_TICK, b""),
         (&["boot", "spaced", "three"], 0, THREE_TICKS, b""),
         (&["boot", "several", "three"], 0, SEVERAL_RAN, b""),
+        (&["boot", "past", "three"], 0, PAST_RAN, b""),
+        (&["boot", "ro", "three"], 0, READ_ONLY_RAN, b""),
         (&[], 1, b"", USAGE),
         (&["run", "p"], 1, b"", USAGE),
         (&["boot", "p", "three", "more"], 1, b"", USAGE),

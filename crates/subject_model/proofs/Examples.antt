@@ -1,6 +1,6 @@
 -- The definitions at work on small systems, where they compute.
 use Rattle.std.proofs.Common.{◌≡◌, ℕ, true, false, List, [], ◌∷◌, Some, None, refl}
-use Rattle.std.specs.Prelude.{codes, map, replicate}
+use Rattle.std.specs.Prelude.{codes, replicate}
 use Rattle.std.specs.FinMap.{from_entries}
 use Rattle.muen_num.specs.declared.bits.Mode.TheVariants.{Switch}
 use Rattle.policy_types.specs.Contents.{Held, initial_bytes}

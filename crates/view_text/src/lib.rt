@@ -211,7 +211,10 @@ fn flags(s: &SubjectState) -> u8
     ensures value { result ≡ flags_of s.now }
     ensures within { result ≤ 15 }
 {
-    u8::from(s.interrupts) + 2 * u8::from(s.halted) + 4 * u8::from(s.stopped) + 8 * u8::from(s.exited)
+    u8::from(s.interrupts)
+        + 2 * u8::from(s.halted)
+        + 4 * u8::from(s.stopped)
+        + 8 * u8::from(s.exited)
 }
 
 #[tactic(auto, unfolding(crate::specs::ViewText::end_line_text))]

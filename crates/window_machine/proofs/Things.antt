@@ -1,5 +1,5 @@
 -- What a subject's windows show: things by name in the policy, regions by place in the machine.
-use Rattle.std.proofs.Common.{◌≡◌, ℕ, zero, suc, ◌+◌, ◌<◌, Bool, true, false, cond, not, List, [], ◌∷◌, length, map, Option, Some, None, refl, sym, ap, ◌∙◌, subst, arith}
+use Rattle.std.proofs.Common.{◌≡◌, ℕ, zero, suc, ◌+◌, ◌<◌, Bool, true, false, cond, not, List, [], ◌∷◌, length, map, Option, Some, None, refl, sym, ap, ◌∙◌, arith}
 use Rattle.std.specs.Prelude.{◌||◌, filter, option_map, slice_get, slice_index_or, slice_set}
 use Rattle.std.specs.List.{find, filter_map, cons_option, position_or_len}
 use Rattle.std.specs.Str.{bytes_eq}
@@ -17,7 +17,6 @@ use Rattle.subject_model.specs.System.{is_shown, change_first, overwritten, with
 use Rattle.subject_model.proofs.Alone.{relabelled, store_of, AllShown, StoresSo}
 use Rattle.window_machine.specs.Machine.{bytes_at, nothing, window_in, with_stored}
 use Rattle.window_machine.specs.declared.memory.Holding.{Holding}
-use Rattle.window_machine.proofs.Reached.{at-map}
 use Rattle.window_machine.proofs.Regions.{same_self, position-map, names_of, name_at, IsFirst, AllHere}
 
 -- a region of the machine as a thing

@@ -14,9 +14,8 @@ mod print;
 mod turn;
 
 pub use machine::Machine;
-pub use print::print_run;
-
 use policy_types::Source;
+pub use print::print_run;
 use std::alloc::{AllocError, Global};
 
 /// The machine of a thin policy, at the start. What it prints is the text of the policy's run,

@@ -49,7 +49,10 @@ enum Access {
 #[derive(Clone, Copy)]
 pub(crate) enum Reach {
     /// The bytes of a region from this offset on.
-    Reached { place: usize, offset: u64 },
+    Reached {
+        place: usize,
+        offset: u64,
+    },
     /// An exit: its reason, its qualification, and the guest address.
     Refused {
         reason: u8,

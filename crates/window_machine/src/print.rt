@@ -127,11 +127,7 @@ fn put_final<S: Sink>(machine: &Machine, out: &mut S) -> Result<(), SinkFault>
 /// Runs the machine for these ticks, and prints each turn's line, and at the end the subject's
 /// state and the digest of each region.
 #[tactic(auto, unfolding(crate::specs::Machine::machine_text))]
-pub fn print_run<S: Sink>(
-    machine: &mut Machine,
-    end: u32,
-    out: &mut S,
-) -> Result<(), SinkFault>
+pub fn print_run<S: Sink>(machine: &mut Machine, end: u32, out: &mut S) -> Result<(), SinkFault>
     ensures { Puts (machine_text machine.old end) (S.state out.old) (S.state out.new) result }
 {
     put_turns(machine, end, out)?;
