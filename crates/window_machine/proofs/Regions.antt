@@ -30,7 +30,7 @@ find-passes test (y ∷ ys) x e =
 find-all : {X : Type 0} (test every : X → Bool) (xs : List X) (x : X) → list_all every xs ≡ true → find test xs ≡ Some x → every x ≡ true
 find-all test every [] x h e = absurd (cc)
 find-all test every (y ∷ ys) x h e =
-    let a = both _ _ h in
+    let a : (every y ≡ true) × (list_all every ys ≡ true) = both _ _ h in
     (elim (test y) as (λ b. cond b (Some y) (find test ys) ≡ Some x → every x ≡ true) [
       | true ↦ λ e.
           let same : y ≡ x = cc in
