@@ -5,6 +5,8 @@ pub mod Events
 pub mod Frames
 pub mod Keys
 pub mod Reading
+pub mod Rules
 pub mod Schema
+pub mod Search
 pub mod Thing
 pub mod Windows

@@ -3,10 +3,12 @@
 //! at the start, and the frames of the scheduling plan.
 #![tactic(auto)]
 
+pub mod offence;
 pub mod refusal;
 pub mod rights;
 pub mod source;
 
+pub use offence::{Extent, Offence};
 pub use refusal::{Fault, Path, Refusal, Want};
 pub use rights::{Caching, MsrRights, Rights, Role};
 pub use source::Source;

@@ -1,0 +1,4 @@
+//! The rules that a policy must keep beyond its names and references.
+#![tactic(auto)]
+
+mod overlap;

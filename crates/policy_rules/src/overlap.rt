@@ -1,0 +1,1 @@
+// Which two of many ranges overlap first.
