@@ -4,7 +4,9 @@ pub mod Document
 pub mod Events
 pub mod Frames
 pub mod Keys
+pub mod Lawful
 pub mod Reading
+pub mod Resolution
 pub mod Rules
 pub mod Schema
 pub mod Search

@@ -5,11 +5,13 @@
 
 pub mod offence;
 pub mod refusal;
+pub mod resolved;
 pub mod rights;
 pub mod source;
 
 pub use offence::{Extent, Offence};
 pub use refusal::{Fault, Path, Refusal, Want};
+pub use resolved::Resolved;
 pub use rights::{Caching, MsrRights, Rights, Role};
 pub use source::Source;
 

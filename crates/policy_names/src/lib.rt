@@ -1,0 +1,2 @@
+//! References of a policy, resolved.
+#![tactic(auto)]

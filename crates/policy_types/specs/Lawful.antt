@@ -1,0 +1,42 @@
+-- Which rule a policy breaks, and the policies that break none.
+use Rattle.std.specs.Prelude.{◌≡◌, ℕ, List, [], ◌∷◌, Option, Some, None, Result, Ok, Err, option_map}
+use Rattle.policy_types.specs.Rules.{offence_1, offence_2, offence_3, offence_4, offence_5, offence_8, offence_16, offence_17, offence_18, offence_20}
+use Rattle.policy_types.specs.Search.{first_of}
+use Rattle.policy_types.specs.Resolution.{Resolution, source_of}
+use Rattle.policy_types.specs.declared.offence.Offence.{Offence}
+use Rattle.policy_types.specs.declared.refusal.Refusal.{Refusal}
+use Rattle.policy_types.specs.declared.refusal.Refusal.TheVariants.{Rule}
+use Rattle.policy_types.specs.declared.source.Source.{Source}
+
+-- the refusal of a rule that is broken
+abbrev pub broken : ℕ → Option Offence → Option Refusal
+broken number o = option_map (λ x. Rule number x.first x.second) o
+
+-- the least of rules 1 and 2 that is broken: names and references
+unfoldable pub names_broken : Source → Option Refusal
+names_broken p = first_of (broken 1 (offence_1 p) ∷ broken 2 (offence_2 p) ∷ [])
+
+-- the least of the other rules that is broken
+unfoldable pub rules_broken : Source → Option Refusal
+rules_broken p =
+    first_of (
+      broken 3 (offence_3 p)
+      ∷ broken 4 (offence_4 p)
+      ∷ broken 5 (offence_5 p)
+      ∷ broken 8 (offence_8 p)
+      ∷ broken 16 (offence_16 p)
+      ∷ broken 17 (offence_17 p)
+      ∷ broken 18 (offence_18 p)
+      ∷ broken 20 (offence_20 p)
+      ∷ []
+    )
+
+-- a policy that keeps the rules, else why not
+abbrev pub kept_or : Source → Option Refusal → Result Source Refusal
+kept_or p None = Ok p
+kept_or p (Some refusal) = Err refusal
+
+-- what a call that resolves or checks has kept, as a source policy
+abbrev pub kept_source : Result Resolution Refusal → Result Source Refusal
+kept_source (Ok r) = Ok (source_of r)
+kept_source (Err refusal) = Err refusal
