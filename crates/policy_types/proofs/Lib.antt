@@ -1,2 +1,3 @@
 mod Examples
 mod Faults
+pub mod Places

@@ -195,9 +195,15 @@ shown_name (channel name) = name
 shown_name (provided subject logical) = logical
 shown_name (device_memory device memory) = memory
 
+abbrev pub window_extent : Window Thing → Extent
+window_extent w = record { name = shown_name w.thing; address = w.guest; size = w.size }
+
+-- the windows of a subject, as named ranges of guest addresses
+unfoldable pub window_extents : Source → Subject → List Extent
+window_extents p s = map window_extent (windows_of p s)
+
 abbrev pub window_offence : Source → Subject → Option Offence
-window_offence p s =
-    first_in (λ w. unless (is_guest w.guest w.size) (two s.name (shown_name w.thing))) (windows_of p s)
+window_offence p s = first_in (λ e. unless (is_guest e.address e.size) (two s.name e.name)) (window_extents p s)
 
 unfoldable pub offence_4 : Source → Option Offence
 offence_4 p =
@@ -224,11 +230,8 @@ overlapping a b = unless (are_apart a b) (two a.name b.name)
 unfoldable pub first_overlap : List Extent → Option Offence
 first_overlap extents = first_pair overlapping extents
 
-abbrev pub window_extent : Window Thing → Extent
-window_extent w = record { name = shown_name w.thing; address = w.guest; size = w.size }
-
 unfoldable pub offence_5 : Source → Option Offence
-offence_5 p = first_in (λ s. first_overlap (map window_extent (windows_of p s))) p.subjects
+offence_5 p = first_in (λ s. first_overlap (window_extents p s)) p.subjects
 
 -- ---- rule 8: what one subject may write, no other maps
 
@@ -327,7 +330,7 @@ abbrev pub msrs_in : Subject → ℕ
 msrs_in s = sum_by (λ r. (r.end + 1) - r.start) s.msrs
 
 abbrev pub subject_limit : Source → Subject → Option Offence
-subject_limit p s = unless (nat_le (length (windows_of p s)) 128 && nat_le (msrs_in s) 64) (alone s.name)
+subject_limit p s = unless (nat_le (length (window_extents p s)) 128 && nat_le (msrs_in s) 64) (alone s.name)
 
 -- the regions that a subject adds: those that its component provides, and five of the kernel
 abbrev pub regions_for : Source → Subject → ℕ

@@ -3,12 +3,14 @@
 //! at the start, and the frames of the scheduling plan.
 #![tactic(auto)]
 
+pub mod lawful;
 pub mod offence;
 pub mod refusal;
 pub mod resolved;
 pub mod rights;
 pub mod source;
 
+pub use lawful::Lawful;
 pub use offence::{Extent, Offence};
 pub use refusal::{Fault, Path, Refusal, Want};
 pub use resolved::Resolved;

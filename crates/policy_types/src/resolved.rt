@@ -1,5 +1,7 @@
 //! The elements of a policy whose references are resolved: where the document names a declared
 //! thing, its place in the list that declares it stands. All else is as in the document.
+ghost use Rattle.std.specs.Prelude.{◌≡◌};
+
 use crate::rights::{Rights, Role};
 use crate::source::{
     Block, Channel, Component, Device, Event, Msrs, Processor, Region, SourceWay,
@@ -194,4 +196,69 @@ pub struct MinorFrame {
     /// The group's place.
     pub group: usize,
     pub ticks: u64,
+}
+
+impl Resolved {
+    /// The processor.
+    pub fn processor(&self) -> &Processor
+        ensures { result.now ≡ self.now.processor }
+    {
+        &self.processor
+    }
+
+    /// The blocks of physical memory.
+    pub fn memory_blocks(&self) -> &[Block]
+        ensures { result.now ≡ self.now.memory_blocks }
+    {
+        self.memory_blocks.items()
+    }
+
+    /// The devices.
+    pub fn devices(&self) -> &[Device]
+        ensures { result.now ≡ self.now.devices }
+    {
+        self.devices.items()
+    }
+
+    /// The regions of memory.
+    pub fn memory(&self) -> &[Region]
+        ensures { result.now ≡ self.now.memory }
+    {
+        self.memory.items()
+    }
+
+    /// The channels.
+    pub fn channels(&self) -> &[Channel]
+        ensures { result.now ≡ self.now.channels }
+    {
+        self.channels.items()
+    }
+
+    /// The components.
+    pub fn components(&self) -> &[Component]
+        ensures { result.now ≡ self.now.components }
+    {
+        self.components.items()
+    }
+
+    /// The events.
+    pub fn events(&self) -> &[Event]
+        ensures { result.now ≡ self.now.events }
+    {
+        self.events.items()
+    }
+
+    /// The subjects.
+    pub fn subjects(&self) -> &[Subject]
+        ensures { result.now ≡ self.now.subjects }
+    {
+        self.subjects.items()
+    }
+
+    /// The scheduling plan.
+    pub fn scheduling(&self) -> &Scheduling
+        ensures { result.now ≡ self.now.scheduling }
+    {
+        &self.scheduling
+    }
 }
