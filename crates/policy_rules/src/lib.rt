@@ -1,4 +1,5 @@
 //! The rules that a policy must keep beyond its names and references.
 #![tactic(auto)]
 
-mod overlap;
+mod addresses;
+mod windows;
