@@ -1,3 +1,3 @@
-pub mod Apart
+pub mod Overlaps
 pub mod Searches
 pub mod Spans

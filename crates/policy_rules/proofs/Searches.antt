@@ -1,8 +1,8 @@
 -- What the searches in the document's order find in a list that is joined of two, and when they find nothing.
-use Rattle.std.proofs.Common.{◌≡◌, ℕ, zero, suc, ◌+◌, ◌<◌, List, [], ◌∷◌, ◌++◌, length, get_or, Option, Some, None, refl, sym, ap, ◌∙◌, arith}
-use Rattle.std.specs.Option.{option_or}
+use Rattle.std.proofs.Common.{◌≡◌, ℕ, zero, suc, ◌+◌, ◌<◌, true, List, [], ◌∷◌, ◌++◌, length, get_or, take, drop, Option, Some, None, refl, sym, ap, ◌∙◌, arith}
+use Rattle.std.specs.Option.{option_or, is_some}
 use Rattle.std.specs.List.{AllPairs}
-use Rattle.std.proofs.lemmas.List.{append-nil, append_assoc, get_or_append_left, length_push}
+use Rattle.std.proofs.lemmas.List.{append-nil, append_assoc, get_or_append_left, length_push, take-append-drop, take_more}
 use Rattle.policy_types.specs.Search.{first_in, first_after, first_pair}
 
 -- ---- one answer or another
@@ -37,8 +37,8 @@ first_after-append : {X O : Type 0} (at : List X → X → Option O) (before xs 
 first_after-append at before [] ys = ap (λ b. first_after at b ys) (sym (append-nil before))
 first_after-append at before (x ∷ xs) ys =
     ap (option_or (at before x)) (
-      first_after-append at (before ++ x ∷ []) xs ys
-      ∙ ap (λ b. option_or (first_after at (before ++ x ∷ []) xs) (first_after at b ys)) (append_assoc before (x ∷ []) xs)
+    first_after-append at (before ++ x ∷ []) xs ys
+    ∙ ap (λ b. option_or (first_after at (before ++ x ∷ []) xs) (first_after at b ys)) (append_assoc before (x ∷ []) xs)
     )
     ∙ option_or_assoc (at before x) (first_after at (before ++ x ∷ []) xs) (first_after at (before ++ x ∷ xs) ys)
 
@@ -71,8 +71,8 @@ no_pair_from at before (x ∷ xs) h =
     none_from (λ b. at b x) before (λ k d l. ap (λ b. at b x) (sym (get_or_append_left before (x ∷ xs) d k l)) ∙ h k 0 d (omega arith) (omega arith)) in
     let rest : first_after (λ before x. first_in (λ b. at b x) before) (before ++ x ∷ []) xs ≡ None =
     no_pair_from at (before ++ x ∷ []) xs (λ i j d l m.
-      ap (λ whole. at (get_or whole i d) (get_or xs j d)) (append_assoc before (x ∷ []) xs)
-      ∙ h i (suc j) d (omega (arith, length_push before x)) (omega arith)) in
+    ap (λ whole. at (get_or whole i d) (get_or xs j d)) (append_assoc before (x ∷ []) xs)
+    ∙ h i (suc j) d (omega (arith, length_push before x)) (omega arith)) in
     ap (λ o. option_or o (first_after (λ before x. first_in (λ b. at b x) before) (before ++ x ∷ []) xs)) here ∙ rest
 
 -- no pair is found just where no two elements offend, the earlier first
@@ -81,3 +81,19 @@ pairs_at at xs e i j d l m = no_pair_after at [] xs e i j d (omega arith) m
 
 pub pairs_from : {X O : Type 0} (at : X → X → Option O) (xs : List X) → AllPairs (λ a b. at a b ≡ None) xs → first_pair at xs ≡ None
 pairs_from at xs h = no_pair_from at [] xs (λ i j d l m. h i j d (omega arith) m)
+
+some_first : {O : Type 0} (a b : Option O) → is_some a ≡ true → option_or a b ≡ a
+some_first None b e = absurd (cc)
+some_first (Some x) b e = refl
+
+-- the later one of the first pair is the last element of the least front that has a pair
+pub first_pair-last : {X O : Type 0} (at : X → X → Option O) (xs : List X) (n : ℕ) (d : X) → n < length xs → first_pair at (take n xs) ≡ None → is_some (first_pair at (take (n + 1) xs)) ≡ true → first_pair at xs ≡ first_in (λ b. at b (get_or xs n d)) (take n xs)
+first_pair-last at xs n d l none some =
+    let front : first_pair at (take (n + 1) xs) ≡ first_in (λ b. at b (get_or xs n d)) (take n xs) =
+    ap (first_pair at) (take_more xs n d l)
+    ∙ first_pair-push at (take n xs) (get_or xs n d)
+    ∙ ap (λ o. option_or o (first_in (λ b. at b (get_or xs n d)) (take n xs))) none in
+    ap (first_pair at) (sym (take-append-drop (n + 1) xs))
+    ∙ first_pair-append at (take (n + 1) xs) (drop (n + 1) xs)
+    ∙ some_first _ _ some
+    ∙ front

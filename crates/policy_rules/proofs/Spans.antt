@@ -1,15 +1,16 @@
 -- Ranges in any order that share no address, and those that rise.
-use Rattle.std.proofs.Common.{◌≡◌, ℕ, ◌+◌, ◌<◌, ◌≤◌, ◌≢◌, ◌⊎◌, inl, inr, List, length, get_or, refl, sym, ap, ◌∙◌, subst, arith}
+use Rattle.std.proofs.Common.{◌≡◌, ℕ, ◌+◌, ◌<◌, ◌≤◌, ◌≢◌, ◌⊎◌, ◌↔◌, inl, inr, Bool, true, false, leb, List, length, get_or, refl, sym, ap, ◌∙◌, subst, arith}
 use Rattle.std.specs.List as words
-use Rattle.std.specs.List.{AllAdjacentBelow, All}
+use Rattle.std.specs.List.{AllAdjacentBelow, IsAllAdjacentAnswer, All}
 use Rattle.std.specs.List.Sorted.{IsPermutation, IsNonDecreasingBy}
-use Rattle.std.proofs.lemmas.Bool.{cases_eq, cases_order}
+use Rattle.std.proofs.lemmas.Bool.{cases_eq, cases_order, leb-true, le-leb, false≢true}
 use Rattle.std.proofs.lemmas.List.Edits.{Swapped, swapped_from_swap, length-swap}
 use Rattle.std.proofs.lemmas.List.Sorted.{IsPermutation-keeps}
+use Rattle.policy_rules.specs.declared.overlap.Span.{Span}
 use Rattle.policy_rules.specs.Span.{IsBelow}
 
 -- two ranges share no address
-abbrev pub IsApart : ℕ × ℕ → ℕ × ℕ → Type 0
+abbrev pub IsApart : Span → Span → Type 0
 IsApart a b = IsBelow a b ⊎ IsBelow b a
 
 -- each two elements are related, in both orders
@@ -46,25 +47,35 @@ EachTwo-permutation R xs ys p h = IsPermutation-keeps xs (EachTwo R) h (λ l i j
 -- ---- in the order of their addresses
 
 -- where each ends before the next begins, each two are apart
-pub apart_from_neighbours : (xs : List (ℕ × ℕ)) → IsNonDecreasingBy (λ s. s.0) xs → AllAdjacentBelow IsBelow xs (length xs) → EachTwo IsApart xs
+pub apart_from_neighbours : (xs : List Span) → IsNonDecreasingBy (λ s. s.address) xs → AllAdjacentBelow IsBelow xs (length xs) → EachTwo IsApart xs
 apart_from_neighbours xs up near i j d li lj n =
     elim (cases_order i j) [
       | inl e ↦ absurd (n e)
       | inr m ↦ elim m [
         | inl l ↦
-          let here = near i d (omega arith) in
-          let on = up (i + 1) j d (omega arith) lj in
-          inl (omega arith)
+            let here = near i d (omega arith) in
+            let on = up (i + 1) j d (omega arith) lj in
+            inl (omega arith)
         | inr l ↦
-          let here = near j d (omega arith) in
-          let on = up (j + 1) i d (omega arith) li in
-          inr (omega arith)
+            let here = near j d (omega arith) in
+            let on = up (j + 1) i d (omega arith) li in
+            inr (omega arith)
       ]
     ]
 
 -- and back, where none is empty
-pub neighbours_from_apart : (xs : List (ℕ × ℕ)) → All (λ s. 0 < s.1) xs → IsNonDecreasingBy (λ s. s.0) xs → EachTwo IsApart xs → AllAdjacentBelow IsBelow xs (length xs)
+pub neighbours_from_apart : (xs : List Span) → All (λ s. 0 < s.size) xs → IsNonDecreasingBy (λ s. s.address) xs → EachTwo IsApart xs → AllAdjacentBelow IsBelow xs (length xs)
 neighbours_from_apart xs full up h k d l =
     let on = up k (k + 1) d (omega arith) l in
     let some = full (k + 1) d l in
     elim (h k (k + 1) d (omega arith) l (omega arith)) [ inl e ↦ e | inr e ↦ absurd (omega arith) ]
+
+-- what a test of neighbours answers
+pub below_is : (xs : List Span) (r : Bool) → IsAllAdjacentAnswer (λ a b t. t ≡ leb (a.address + a.size) b.address) xs r → (r ≡ true) ↔ AllAdjacentBelow IsBelow xs (length xs)
+below_is xs true h = (λ e k d l. leb-true _ _ (sym (h k d l)), λ all. refl)
+below_is xs false h = (
+  λ e. absurd (false≢true e),
+  λ all.
+      let none : Span = record { address = 0; size = 0 } in
+      absurd (false≢true (h.2 none ∙ le-leb _ _ (all h.0 none h.1))),
+)

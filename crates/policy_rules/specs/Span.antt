@@ -1,11 +1,12 @@
 -- Ranges of addresses without their names.
 use Rattle.std.specs.Prelude.{ℕ, ◌+◌, ◌≤◌}
 use Rattle.policy_types.specs.declared.offence.Extent.{Extent}
+use Rattle.policy_rules.specs.declared.overlap.Span.{Span}
 
--- the address and the size of a range
-abbrev pub span_of : Extent → ℕ × ℕ
-span_of e = (e.address, e.size)
+-- a range without its name
+abbrev pub span_of : Extent → Span
+span_of e = record { address = e.address; size = e.size }
 
--- the first range ends at or before the address of the second
-abbrev pub IsBelow : ℕ × ℕ → ℕ × ℕ → Type 0
-IsBelow a b = a.0 + a.1 ≤ b.0
+-- the first ends at or before the address of the second
+abbrev pub IsBelow : Span → Span → Type 0
+IsBelow a b = a.address + a.size ≤ b.address
