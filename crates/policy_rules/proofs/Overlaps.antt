@@ -1,16 +1,15 @@
 -- When ranges overlap, told by their addresses in order; and which pair is the first.
-use Rattle.std.proofs.Common.{◌≡◌, ℕ, ◌+◌, ◌<◌, ◌≤◌, ◌⊎◌, ◌↔◌, inl, inr, Bool, true, false, ltb, leb, not, List, [], ◌∷◌, length, get_or, take, map, Option, Some, None, refl, sym, ap, ◌∙◌, arith}
-use Rattle.std.specs.Prelude.{◌||◌, ◌&&◌, is_some}
-use Rattle.std.specs.List.{AllAdjacentBelow, AllPairs, All, list_all}
+use Rattle.std.proofs.Common.{◌≡◌, ℕ, ◌+◌, ◌<◌, ◌↔◌, inl, inr, Bool, true, false, leb, not, List, [], ◌∷◌, length, get_or, take, map, Some, None, refl, sym, ap, ◌∙◌, arith}
+use Rattle.std.specs.Prelude.{◌||◌, is_some}
+use Rattle.std.specs.List.{AllAdjacentBelow, All}
 use Rattle.std.specs.List.Sorted.{IsPermutation, IsNonDecreasingBy}
-use Rattle.std.proofs.lemmas.Bool.{leb-true, leb-false, le-leb, ltb-true, or_cases, or_right, and_parts, cases_order, false≢true}
+use Rattle.std.proofs.lemmas.Bool.{leb-true, le-leb, or_cases, or_right, cases_order, false≢true}
 use Rattle.std.proofs.lemmas.List.{length-map, get_or-map}
-use Rattle.std.proofs.lemmas.List.Elements.{All-map, All-nil, All-cons}
+use Rattle.std.proofs.lemmas.List.Elements.{All-map}
 use Rattle.std.proofs.lemmas.List.Sorted.{IsPermutation-sym, All-permutation}
-use Rattle.policy_types.specs.Search.{unless, two, first_in, first_pair}
+use Rattle.policy_types.specs.Search.{unless, two, first_in}
 use Rattle.policy_types.specs.Rules.{are_apart, overlapping, first_overlap}
 use Rattle.policy_types.specs.declared.offence.Extent.{Extent}
-use Rattle.policy_types.specs.declared.offence.Offence.{Offence}
 use Rattle.policy_rules.specs.declared.overlap.Span.{Span}
 use Rattle.policy_rules.specs.Span.{span_of, IsBelow}
 use Rattle.policy_rules.proofs.Searches.{pairs_at, pairs_from, first_pair-last}
@@ -83,13 +82,18 @@ overlap_is xs ys false full moved up h =
       | Some o ↦ λ e. refl
     ]) refl
 
-pub first_overlap-last : (xs : List Extent) (n : ℕ) (d : Extent) → n < length xs → first_overlap (take n xs) ≡ None → is_some (first_overlap (take (n + 1) xs)) ≡ true → first_overlap xs ≡ first_in (λ b. overlapping b (get_or xs n d)) (take n xs)
+-- what `last` overlaps first, where it ends the least front in which some two overlap
+pub first_overlap-last : (xs : List Extent) (n : ℕ) (last : Extent) → n < length xs → last ≡ get_or xs n last → first_overlap (take n xs) ≡ None → is_some (first_overlap (take (n + 1) xs)) ≡ true → first_in (λ b. overlapping b last) (take n xs) ≡ first_overlap xs
 unfolding first_overlap
-first_overlap-last xs n d l none some = first_pair-last overlapping xs n d l none some
+first_overlap-last xs n last l here none some =
+    ap (λ x. first_in (λ b. overlapping b x) (take n xs)) here ∙ sym (first_pair-last overlapping xs n last l none some)
 
--- sizes that a test finds above 0
-pub sizes_above : (xs : List Extent) → list_all (λ e. ltb 0 e.size) xs ≡ true → All (λ e. 0 < e.size) xs
-sizes_above [] h = All-nil _
-sizes_above (x ∷ xs) h =
-    let parts = and_parts (ltb 0 x.size) (list_all (λ e. ltb 0 e.size) xs) h in
-    All-cons (λ e. 0 < e.size) x xs (ltb-true 0 x.size parts.0) (sizes_above xs parts.1)
+-- ---- the steps of the searches
+
+pub first_overlap-nil : first_overlap [] ≡ None
+unfolding first_overlap
+first_overlap-nil = refl
+
+pub some_within : (xs : List Extent) → is_some (first_overlap xs) ≡ true → 0 < length xs
+some_within [] e = absurd (false≢true (sym (ap is_some first_overlap-nil) ∙ e))
+some_within (x ∷ xs) e = omega arith

@@ -1,5 +1,5 @@
 -- Ranges in any order that share no address, and those that rise.
-use Rattle.std.proofs.Common.{◌≡◌, ℕ, ◌+◌, ◌<◌, ◌≤◌, ◌≢◌, ◌⊎◌, ◌↔◌, inl, inr, Bool, true, false, leb, List, length, get_or, refl, sym, ap, ◌∙◌, subst, arith}
+use Rattle.std.proofs.Common.{◌≡◌, ℕ, ◌+◌, ◌<◌, ◌≢◌, ◌⊎◌, ◌↔◌, inl, inr, Bool, true, false, leb, List, length, get_or, refl, sym, ap, ◌∙◌, arith}
 use Rattle.std.specs.List as words
 use Rattle.std.specs.List.{AllAdjacentBelow, IsAllAdjacentAnswer, All}
 use Rattle.std.specs.List.Sorted.{IsPermutation, IsNonDecreasingBy}

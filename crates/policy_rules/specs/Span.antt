@@ -1,5 +1,5 @@
 -- Ranges of addresses without their names.
-use Rattle.std.specs.Prelude.{ℕ, ◌+◌, ◌≤◌}
+use Rattle.std.specs.Prelude.{◌+◌, ◌≤◌}
 use Rattle.policy_types.specs.declared.offence.Extent.{Extent}
 use Rattle.policy_rules.specs.declared.overlap.Span.{Span}
 

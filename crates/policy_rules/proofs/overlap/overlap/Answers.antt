@@ -1,5 +1,4 @@
 -- In the order of addresses only neighbours are compared.
-use Rattle.std.proofs.Common.{rules}
 use Rattle.policy_rules.proofs.Overlaps.{overlap_is}
 use Rattle.policy_rules.proofs.overlap.overlap.Goals as goal
 
