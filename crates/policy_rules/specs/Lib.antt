@@ -1,1 +1,3 @@
 pub mod ByPlace
+pub mod Keys
+pub mod Span

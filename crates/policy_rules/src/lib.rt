@@ -2,4 +2,9 @@
 #![tactic(auto)]
 
 mod addresses;
+mod apart;
+mod cpus;
+mod frame_names;
+mod keys;
+mod overlap;
 mod windows;

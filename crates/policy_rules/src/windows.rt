@@ -3,10 +3,11 @@ ghost use Rattle.std.specs.Prelude.{◌≡◌, map, true, IfOk, length, nat_lt};
 ghost use Rattle.std.specs.List.{list_all};
 ghost use Rattle.policy_types.specs.Search.{two, unless, first_in};
 ghost use Rattle.policy_types.specs.Resolution.{source_of, subject_named};
-ghost use Rattle.policy_types.specs.Rules.{is_guest, window_extents, window_offence};
+ghost use Rattle.policy_types.specs.Rules.{is_guest, window_extents, window_offence, offence_4};
 ghost use Rattle.policy_types.specs.Built.{is_built};
 ghost use Rattle.policy_rules.specs.ByPlace.{mapping_extent, is_ready};
 
+use crate::addresses;
 use crate::addresses::is_guest;
 use muen_num::{Name, NoMemory};
 use policy_types::resolved::{Mapping, Resolved, Subject};
@@ -82,4 +83,21 @@ pub(crate) fn first_outside(alloc: Global, r: &Resolved) -> Result<Option<Offenc
         }
     }
     Ok(None)
+}
+
+/// Rule 4: the first address or size that isn't one.
+#[tactic(auto, using(crate::proofs::AsBuilt::addresses_built), unfolding(policy_types::specs::Resolution::source_of))]
+pub(crate) fn addresses(alloc: Global, r: &Resolved) -> Result<Option<Offence>, NoMemory>
+    requires built { is_built (source_of r.now) ≡ true }
+    ensures { IfOk result (λ o. o ≡ offence_4 (source_of r.now)) }
+{
+    let block = addresses::blocks(r.memory_blocks());
+    if block.is_some() {
+        return Ok(block);
+    }
+    let region = addresses::regions(r.memory());
+    if region.is_some() {
+        return Ok(region);
+    }
+    first_outside(alloc, r)
 }

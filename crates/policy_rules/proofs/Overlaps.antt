@@ -1,0 +1,99 @@
+-- When ranges overlap, told by their addresses in order; and which pair is the first.
+use Rattle.std.proofs.Common.{◌≡◌, ℕ, ◌+◌, ◌<◌, ◌↔◌, inl, inr, Bool, true, false, leb, not, List, [], ◌∷◌, length, get_or, take, map, Some, None, refl, sym, ap, ◌∙◌, arith}
+use Rattle.std.specs.Prelude.{◌||◌, is_some}
+use Rattle.std.specs.List.{AllAdjacentBelow, All}
+use Rattle.std.specs.List.Sorted.{IsPermutation, IsNonDecreasingBy}
+use Rattle.std.proofs.lemmas.Bool.{leb-true, le-leb, or_cases, or_right, cases_order, false≢true}
+use Rattle.std.proofs.lemmas.List.{length-map, get_or-map}
+use Rattle.std.proofs.lemmas.List.Elements.{All-map}
+use Rattle.std.proofs.lemmas.List.Sorted.{IsPermutation-sym, All-permutation}
+use Rattle.policy_types.specs.Search.{unless, two, first_in}
+use Rattle.policy_types.specs.Rules.{are_apart, overlapping, first_overlap}
+use Rattle.policy_types.specs.declared.offence.Extent.{Extent}
+use Rattle.policy_rules.specs.declared.overlap.Span.{Span}
+use Rattle.policy_rules.specs.Span.{span_of, IsBelow}
+use Rattle.policy_rules.proofs.Searches.{pairs_at, pairs_from, first_pair-last}
+use Rattle.policy_rules.proofs.Spans.{IsApart, EachTwo, EachTwo-permutation, apart_from_neighbours, neighbours_from_apart}
+
+-- ---- two ranges
+
+unless-None : {O : Type 0} (b : Bool) (o : O) → unless b o ≡ None → b ≡ true
+unless-None true o e = refl
+unless-None false o e = absurd (cc)
+
+apart_at : (a b : Extent) → overlapping a b ≡ None → IsApart (span_of a) (span_of b)
+apart_at a b e =
+    elim (or_cases _ _ (unless-None (are_apart a b) (two a.name b.name) e)) [
+      | inl f ↦ inl (leb-true _ _ f)
+      | inr f ↦ inr (leb-true _ _ f)
+    ]
+
+apart_from : (a b : Extent) → IsApart (span_of a) (span_of b) → overlapping a b ≡ None
+apart_from a b (inl h) = ap (λ t. unless (t || leb (b.address + b.size) a.address) (two a.name b.name)) (le-leb _ _ h)
+apart_from a b (inr h) =
+    ap (λ t. unless t (two a.name b.name)) (or_right (leb (a.address + a.size) b.address) (leb (b.address + b.size) a.address) (le-leb _ _ h))
+
+apart_back : (a b : Span) → IsApart a b → IsApart b a
+apart_back a b (inl h) = inr h
+apart_back a b (inr h) = inl h
+
+-- ---- many
+
+nowhere : Extent
+nowhere = record { name = []; address = 0; size = 0 }
+
+spans_apart : (xs : List Extent) → first_overlap xs ≡ None → EachTwo IsApart (map span_of xs)
+unfolding first_overlap
+spans_apart xs e i j d li lj n =
+    let many : length (map span_of xs) ≡ length xs = length-map xs span_of in
+    let ki : i < length xs = omega arith in
+    let kj : j < length xs = omega arith in
+    let pairs = pairs_at overlapping xs e in
+    rw (get_or-map span_of xs i nowhere d ki, get_or-map span_of xs j nowhere d kj) (
+    elim (cases_order i j) [
+      | inl same ↦ absurd (n same)
+      | inr apart ↦ elim apart [
+        | inl l ↦ apart_at _ _ (pairs i j nowhere l kj)
+        | inr l ↦ apart_back _ _ (apart_at _ _ (pairs j i nowhere l ki))
+      ]
+    ]
+    )
+
+overlap_none : (xs : List Extent) → EachTwo IsApart (map span_of xs) → first_overlap xs ≡ None
+unfolding first_overlap
+overlap_none xs h =
+    pairs_from overlapping xs (λ i j d l m.
+    let many : length (map span_of xs) ≡ length xs = length-map xs span_of in
+    let k : i < length xs = omega arith in
+    let apart = h i j (span_of d) (omega arith) (omega arith) (omega arith) in
+    apart_from _ _ (rw (get_or-map span_of xs i d (span_of d) k, get_or-map span_of xs j d (span_of d) m) at apart))
+
+-- some two overlap just where, in the order of addresses, one doesn't end before the next begins
+pub overlap_is : (xs : List Extent) (ys : List Span) (r : Bool) → All (λ e. 0 < e.size) xs → IsPermutation (map span_of xs) ys → IsNonDecreasingBy (λ s. s.address) ys → (r ≡ true) ↔ AllAdjacentBelow IsBelow ys (length ys) → not r ≡ is_some (first_overlap xs)
+overlap_is xs ys true full moved up h =
+    let apart = EachTwo-permutation IsApart ys (map span_of xs) (IsPermutation-sym _ _ moved) (apart_from_neighbours ys up (h.0 refl)) in
+    ap is_some (sym (overlap_none xs apart))
+overlap_is xs ys false full moved up h =
+    (elim (first_overlap xs) as (λ o. first_overlap xs ≡ o → true ≡ is_some o) [
+      | None ↦ λ e.
+          let apart = EachTwo-permutation IsApart (map span_of xs) ys moved (spans_apart xs e) in
+          let some = All-permutation (λ s. 0 < s.size) (map span_of xs) ys moved (All-map (λ s. 0 < s.size) span_of xs full) in
+          absurd (false≢true (h.1 (neighbours_from_apart ys some up apart)))
+      | Some o ↦ λ e. refl
+    ]) refl
+
+-- what `last` overlaps first, where it ends the least front in which some two overlap
+pub first_overlap-last : (xs : List Extent) (n : ℕ) (last : Extent) → n < length xs → last ≡ get_or xs n last → first_overlap (take n xs) ≡ None → is_some (first_overlap (take (n + 1) xs)) ≡ true → first_in (λ b. overlapping b last) (take n xs) ≡ first_overlap xs
+unfolding first_overlap
+first_overlap-last xs n last l here none some =
+    ap (λ x. first_in (λ b. overlapping b x) (take n xs)) here ∙ sym (first_pair-last overlapping xs n last l none some)
+
+-- ---- the steps of the searches
+
+pub first_overlap-nil : first_overlap [] ≡ None
+unfolding first_overlap
+first_overlap-nil = refl
+
+pub some_within : (xs : List Extent) → is_some (first_overlap xs) ≡ true → 0 < length xs
+some_within [] e = absurd (false≢true (sym (ap is_some first_overlap-nil) ∙ e))
+some_within (x ∷ xs) e = omega arith

@@ -1,0 +1,12 @@
+-- Ranges of addresses without their names.
+use Rattle.std.specs.Prelude.{◌+◌, ◌≤◌}
+use Rattle.policy_types.specs.declared.offence.Extent.{Extent}
+use Rattle.policy_rules.specs.declared.overlap.Span.{Span}
+
+-- a range without its name
+abbrev pub span_of : Extent → Span
+span_of e = record { address = e.address; size = e.size }
+
+-- the first ends at or before the address of the second
+abbrev pub IsBelow : Span → Span → Type 0
+IsBelow a b = a.address + a.size ≤ b.address

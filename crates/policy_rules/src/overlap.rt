@@ -1,0 +1,125 @@
+// Which two of many ranges overlap first.
+ghost use Rattle.std.specs.Prelude.{◌≡◌, ℕ, ◌+◌, ◌<◌, ◌↔◌, true, length, map, take, nat_lt, nat_le, is_some, None, IfOk, IsTrue};
+ghost use Rattle.std.specs.List.{All, AllAdjacentBelow, list_all};
+ghost use Rattle.std.specs.List.Sorted.{IsPermutation, IsNonDecreasingBy};
+ghost use Rattle.policy_types.specs.Search.{first_in};
+ghost use Rattle.policy_types.specs.Rules.{are_apart, overlapping, first_overlap};
+ghost use Rattle.policy_rules.specs.Span.{span_of, IsBelow};
+
+use muen_num::NoMemory;
+use policy_types::{Extent, Offence};
+use std::alloc::{AllocError, Global};
+
+// A range without its name.
+#[derive(Clone, Copy)]
+struct Span {
+    address: u64,
+    size: u64,
+}
+
+impl Span {
+    fn of(extent: &Extent) -> Span
+        ensures { result ≡ span_of extent.now }
+    {
+        Span {
+            address: extent.address,
+            size: extent.size,
+        }
+    }
+
+    // Whether it ends at or before the address of the other.
+    fn is_below(self, other: Span) -> bool
+        ensures { result ≡ nat_le (self.address + self.size) other.address }
+    {
+        self.address as u128 + self.size as u128 <= other.address as u128
+    }
+}
+
+fn are_apart(a: &Extent, b: &Extent) -> bool
+    ensures { result ≡ are_apart a.now b.now }
+{
+    let (a, b) = (Span::of(a), Span::of(b));
+    a.is_below(b) || b.is_below(a)
+}
+
+fn spans(alloc: Global, extents: &[Extent]) -> Result<Vec<Span>, AllocError>
+    ensures { IfOk result (λ v. v.items ≡ map span_of extents.now) }
+{
+    extents.iter().map(Span::of).collect(alloc)
+}
+
+// The ranges in the order of their addresses.
+fn rising(alloc: Global, extents: &[Extent]) -> Result<Vec<Span>, AllocError>
+    ensures moved { IfOk result (λ v. IsPermutation (map span_of extents.now) v.items) }
+    ensures rising { IfOk result (λ v. IsNonDecreasingBy (λ s. s.address) v.items) }
+{
+    let mut rising = spans(alloc, extents)?;
+    rising.sort_unstable_by_key(|s| s.address);
+    Ok(rising)
+}
+
+// Whether each ends at or before the address of the next.
+fn are_below(spans: &[Span]) -> bool
+    ensures { IsTrue result ↔ AllAdjacentBelow IsBelow spans.now (length spans.now) }
+{
+    spans.is_sorted_by(|a, b| a.is_below(*b))
+}
+
+// Whether any two share an address.
+fn overlap(alloc: Global, extents: &[Extent]) -> Result<bool, NoMemory>
+    requires { All (λ e. 0 < e.size) extents.now }
+    ensures { IfOk result (λ b. b ≡ is_some (first_overlap extents.now)) }
+{
+    let spans = rising(alloc, extents)?;
+    let below = are_below(&spans);
+    Ok(!below)
+}
+
+// How many of the first ranges share no address, where one more does.
+fn longest_apart(alloc: Global, extents: &[Extent]) -> Result<usize, NoMemory>
+    requires sizes { All (λ e. 0 < e.size) extents.now }
+    requires some { is_some (first_overlap extents.now) ≡ true }
+    ensures within { IfOk result (λ n. n < length extents.now) }
+    ensures apart { IfOk result (λ n. first_overlap (take n extents.now) ≡ None) }
+    ensures one_more { IfOk result (λ n. is_some (first_overlap (take (n + 1) extents.now)) ≡ true) }
+{
+    let mut apart = 0;
+    let mut end = extents.len();
+    while end - apart > 1 {
+        let middle = apart + (end - apart) / 2;
+        if overlap(alloc, &extents[..middle])? {
+            end = middle;
+        } else {
+            apart = middle;
+        }
+    }
+    Ok(apart)
+}
+
+// The first of these ranges that shares an address with the last.
+fn earlier(before: &[Extent], last: &Extent) -> Option<Offence>
+    ensures { result ≡ first_in (λ b. overlapping b last.now) before.now }
+{
+    for b in before {
+        if !are_apart(b, last) {
+            return Some(Offence {
+                first: b.name,
+                second: last.name,
+            });
+        }
+    }
+    None
+}
+
+/// The first two of these ranges that share an address: of those with the least later one, the
+/// one with the least earlier one.
+pub(crate) fn first_overlap(alloc: Global, extents: &[Extent]) -> Result<Option<Offence>, NoMemory>
+    requires { list_all (λ e. nat_lt 0 e.size) extents.now ≡ true }
+    ensures { IfOk result (λ o. o ≡ first_overlap extents.now) }
+{
+    if !overlap(alloc, extents)? {
+        return Ok(None);
+    }
+    let last = longest_apart(alloc, extents)?;
+    Ok(earlier(&extents[..last], &extents[last]))
+}
