@@ -2,3 +2,6 @@
 #![tactic(auto)]
 
 mod overlap;
+
+#[cfg(test)]
+mod tests;
