@@ -2,6 +2,5 @@
 #![tactic(auto)]
 
 mod overlap;
-
 #[cfg(test)]
 mod tests;

@@ -46,7 +46,13 @@ fn finds_the_first_overlap(rt: HostRuntime) -> Result<(), Fail> {
     let last = extent(b"last", u64::MAX - 1, 2)?;
     let past = extent(b"past", u64::MAX, u64::MAX)?;
 
-    let apart: [&[Extent]; 5] = [&[], &[low], &[next, low], &[past, low, next], &[last, across]];
+    let apart: [&[Extent]; 5] = [
+        &[],
+        &[low],
+        &[next, low],
+        &[past, low, next],
+        &[last, across],
+    ];
     for extents in apart {
         assert!(rt; found(rt.alloc(), extents)?.is_none());
     }
