@@ -42,6 +42,7 @@ apart_back a b (inr h) = inl h
 nowhere : Extent
 nowhere = record { name = []; address = 0; size = 0 }
 
+-- no two overlap just where each two are apart
 spans_apart : (xs : List Extent) → first_overlap xs ≡ None → EachTwo IsApart (map span_of xs)
 unfolding first_overlap
 spans_apart xs e i j d li lj n =
@@ -88,7 +89,7 @@ unfolding first_overlap
 first_overlap-last xs n last l here none some =
     ap (λ x. first_in (λ b. overlapping b x) (take n xs)) here ∙ sym (first_pair-last overlapping xs n last l none some)
 
--- ---- the steps of the searches
+-- ---- where the search begins
 
 pub first_overlap-nil : first_overlap [] ≡ None
 unfolding first_overlap

@@ -19,7 +19,7 @@ both_none : {O : Type 0} (a b : Option O) → option_or a b ≡ None → (a ≡ 
 both_none None b e = (refl, e)
 both_none (Some x) b e = absurd (cc)
 
--- ---- the first element
+-- ---- the first element, and that none is found just where none offends
 
 pub none_at : {X O : Type 0} (at : X → Option O) (xs : List X) → first_in at xs ≡ None → (k : ℕ) (d : X) → k < length xs → at (get_or xs k d) ≡ None
 none_at at [] e k d h = absurd (omega arith)
@@ -33,47 +33,52 @@ none_from at (x ∷ xs) h =
 
 -- ---- the first pair
 
+-- an element with the first of those before it that it offends with
+abbrev pub with_earlier : {X O : Type 0} → (X → X → Option O) → List X → X → Option O
+with_earlier at before x = first_in (λ b. at b x) before
+
 first_after-append : {X O : Type 0} (at : List X → X → Option O) (before xs ys : List X) → first_after at before (xs ++ ys) ≡ option_or (first_after at before xs) (first_after at (before ++ xs) ys)
 first_after-append at before [] ys = ap (λ b. first_after at b ys) (sym (append-nil before))
 first_after-append at before (x ∷ xs) ys =
-    ap (option_or (at before x)) (
+    let rest : first_after at (before ++ x ∷ []) (xs ++ ys) ≡ option_or (first_after at (before ++ x ∷ []) xs) (first_after at (before ++ x ∷ xs) ys) =
     first_after-append at (before ++ x ∷ []) xs ys
-    ∙ ap (λ b. option_or (first_after at (before ++ x ∷ []) xs) (first_after at b ys)) (append_assoc before (x ∷ []) xs)
-    )
+    ∙ ap (λ b. option_or (first_after at (before ++ x ∷ []) xs) (first_after at b ys)) (append_assoc before (x ∷ []) xs) in
+    ap (option_or (at before x)) rest
     ∙ option_or_assoc (at before x) (first_after at (before ++ x ∷ []) xs) (first_after at (before ++ x ∷ xs) ys)
 
 -- a pair that is found stays the first, whatever follows
-pub first_pair-append : {X O : Type 0} (at : X → X → Option O) (xs ys : List X) → first_pair at (xs ++ ys) ≡ option_or (first_pair at xs) (first_after (λ before x. first_in (λ b. at b x) before) xs ys)
-first_pair-append at xs ys = first_after-append (λ before x. first_in (λ b. at b x) before) [] xs ys
+pub first_pair-append : {X O : Type 0} (at : X → X → Option O) (xs ys : List X) → first_pair at (xs ++ ys) ≡ option_or (first_pair at xs) (first_after (with_earlier at) xs ys)
+first_pair-append at xs ys = first_after-append (with_earlier at) [] xs ys
 
 -- one more element may be the later one of a pair
 pub first_pair-push : {X O : Type 0} (at : X → X → Option O) (xs : List X) (x : X) → first_pair at (xs ++ x ∷ []) ≡ option_or (first_pair at xs) (first_in (λ b. at b x) xs)
 first_pair-push at xs x =
     first_pair-append at xs (x ∷ []) ∙ ap (option_or (first_pair at xs)) (option_or-None (first_in (λ b. at b x) xs))
 
--- what was before is listed in front of what is searched
-no_pair_after : {X O : Type 0} (at : X → X → Option O) (before xs : List X) → first_after (λ before x. first_in (λ b. at b x) before) before xs ≡ None → (i j : ℕ) (d : X) → i < length before + j → j < length xs → at (get_or (before ++ xs) i d) (get_or xs j d) ≡ None
+-- where no pair is found, and some elements stood before, no two elements offend of which the later one was searched
+no_pair_after : {X O : Type 0} (at : X → X → Option O) (before xs : List X) → first_after (with_earlier at) before xs ≡ None → (i j : ℕ) (d : X) → i < length before + j → j < length xs → at (get_or (before ++ xs) i d) (get_or xs j d) ≡ None
 no_pair_after at before [] e i j d l m = absurd (omega arith)
 no_pair_after at before (x ∷ xs) e i zero d l m =
-    let here : first_in (λ b. at b x) before ≡ None = (both_none (first_in (λ b. at b x) before) (first_after (λ before x. first_in (λ b. at b x) before) (before ++ x ∷ []) xs) e).0 in
+    let here : first_in (λ b. at b x) before ≡ None = (both_none (with_earlier at before x) (first_after (with_earlier at) (before ++ x ∷ []) xs) e).0 in
     let k : i < length before = omega arith in
     ap (λ b. at b x) (get_or_append_left before (x ∷ xs) d i k) ∙ none_at (λ b. at b x) before here i d k
 no_pair_after at before (x ∷ xs) e i (suc j) d l m =
-    let rest : first_after (λ before x. first_in (λ b. at b x) before) (before ++ x ∷ []) xs ≡ None = (both_none (first_in (λ b. at b x) before) (first_after (λ before x. first_in (λ b. at b x) before) (before ++ x ∷ []) xs) e).1 in
+    let rest : first_after (with_earlier at) (before ++ x ∷ []) xs ≡ None = (both_none (with_earlier at before x) (first_after (with_earlier at) (before ++ x ∷ []) xs) e).1 in
     let k : i < length (before ++ x ∷ []) + j = omega (arith, length_push before x) in
     ap (λ whole. at (get_or whole i d) (get_or xs j d)) (sym (append_assoc before (x ∷ []) xs))
     ∙ no_pair_after at (before ++ x ∷ []) xs rest i j d k (omega arith)
 
-no_pair_from : {X O : Type 0} (at : X → X → Option O) (before xs : List X) → ((i j : ℕ) (d : X) → i < length before + j → j < length xs → at (get_or (before ++ xs) i d) (get_or xs j d) ≡ None) → first_after (λ before x. first_in (λ b. at b x) before) before xs ≡ None
+-- and back
+no_pair_from : {X O : Type 0} (at : X → X → Option O) (before xs : List X) → ((i j : ℕ) (d : X) → i < length before + j → j < length xs → at (get_or (before ++ xs) i d) (get_or xs j d) ≡ None) → first_after (with_earlier at) before xs ≡ None
 no_pair_from at before [] h = refl
 no_pair_from at before (x ∷ xs) h =
     let here : first_in (λ b. at b x) before ≡ None =
     none_from (λ b. at b x) before (λ k d l. ap (λ b. at b x) (sym (get_or_append_left before (x ∷ xs) d k l)) ∙ h k 0 d (omega arith) (omega arith)) in
-    let rest : first_after (λ before x. first_in (λ b. at b x) before) (before ++ x ∷ []) xs ≡ None =
+    let rest : first_after (with_earlier at) (before ++ x ∷ []) xs ≡ None =
     no_pair_from at (before ++ x ∷ []) xs (λ i j d l m.
     ap (λ whole. at (get_or whole i d) (get_or xs j d)) (append_assoc before (x ∷ []) xs)
     ∙ h i (suc j) d (omega (arith, length_push before x)) (omega arith)) in
-    ap (λ o. option_or o (first_after (λ before x. first_in (λ b. at b x) before) (before ++ x ∷ []) xs)) here ∙ rest
+    ap (λ o. option_or o (first_after (with_earlier at) (before ++ x ∷ []) xs)) here ∙ rest
 
 -- no pair is found just where no two elements offend, the earlier first
 pub pairs_at : {X O : Type 0} (at : X → X → Option O) (xs : List X) → first_pair at xs ≡ None → AllPairs (λ a b. at a b ≡ None) xs

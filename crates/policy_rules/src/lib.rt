@@ -8,3 +8,5 @@ mod frame_names;
 mod keys;
 mod overlap;
 mod windows;
+#[cfg(test)]
+mod tests;

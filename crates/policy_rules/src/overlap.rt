@@ -18,6 +18,7 @@ struct Span {
 }
 
 impl Span {
+    // The range of an extent.
     fn of(extent: &Extent) -> Span
         ensures { result ≡ span_of extent.now }
     {
@@ -31,10 +32,11 @@ impl Span {
     fn is_below(self, other: Span) -> bool
         ensures { result ≡ nat_le (self.address + self.size) other.address }
     {
-        self.address as u128 + self.size as u128 <= other.address as u128
+        u128::from(self.address) + u128::from(self.size) <= u128::from(other.address)
     }
 }
 
+// Whether two ranges share no address.
 fn are_apart(a: &Extent, b: &Extent) -> bool
     ensures { result ≡ are_apart a.now b.now }
 {
@@ -42,6 +44,7 @@ fn are_apart(a: &Extent, b: &Extent) -> bool
     a.is_below(b) || b.is_below(a)
 }
 
+// The ranges in their order, without their names.
 fn spans(alloc: Global, extents: &[Extent]) -> Result<Vec<Span>, AllocError>
     ensures { IfOk result (λ v. v.items ≡ map span_of extents.now) }
 {

@@ -1,4 +1,4 @@
--- None of the ranges share nothing, and all of them do.
+-- The front of no range has no two that overlap; the front of all has two, as is required.
 use Rattle.std.proofs.Common.{ap, ◌∙◌, length, is_some, arith}
 use Rattle.std.proofs.lemmas.List.{take_all}
 use Rattle.policy_types.specs.Rules.{first_overlap}
