@@ -1,0 +1,3 @@
+pub mod Searching
+pub mod ByPlace
+pub mod Naming
