@@ -1,21 +1,20 @@
 -- Rules 16 and 17 by places are the rules by names, where names are unique and places are in their lists.
-use Rattle.std.proofs.Common.{◌≡◌, ℕ, zero, suc, ◌+◌, ◌<◌, Bool, true, false, cond, List, [], ◌∷◌, ◌++◌, length, map, Option, Some, None, refl, sym, ap, ◌∙◌, arith}
-use Rattle.std.specs.Prelude.{◌==◌, ◌&&◌, not, nat_lt, slice_get, slice_index_or, option_map}
+use Rattle.std.proofs.Common.{◌≡◌, ℕ, ◌+◌, ◌<◌, min, Bool, true, cond, List, [], ◌∷◌, ◌++◌, length, map, Option, Some, None, refl, sym, ap, ◌∙◌, arith}
+use Rattle.std.specs.Prelude.{◌==◌, ◌&&◌, not, nat_lt, slice_get, slice_index, option_map}
 use Rattle.std.specs.Option.{option_or, option_map_or}
-use Rattle.std.specs.List.{find, list_any, list_all, flat_map, sum_by, count_by, enumerate_from, position_or_len}
+use Rattle.std.specs.List.{find, list_any, list_all, flat_map, count_by, enumerate_from, position_or_len}
 use Rattle.std.specs.Str.{bytes_eq}
-use Rattle.std.proofs.lemmas.Bool.{ltb-true, and_parts, cases_eq}
+use Rattle.std.proofs.lemmas.Bool.{ltb-true, and_parts}
 use Rattle.std.proofs.lemmas.Bool.Decides.{same_from_decides, Decides-eqb, nat_tests}
 use Rattle.std.proofs.lemmas.Slice.Eq.{bytes_eq-Decides}
 use Rattle.std.proofs.lemmas.List.{length-map, get_or-map}
 use Rattle.std.proofs.lemmas.List.Folds.{list_all-map}
-use Rattle.std.proofs.lemmas.Option.{slice_get-map, slice_get_within, get_or_from_slice_get}
+use Rattle.std.proofs.lemmas.Option.{slice_get_within, get_or_from_slice_get}
 use Rattle.muen_num.specs.Range.{numbers_below}
-use Rattle.policy_types.specs.Search.{alone, two, unless, first_of, first_in, first_after}
+use Rattle.policy_types.specs.Search.{alone, two, unless, first_in, first_after}
 use Rattle.policy_types.specs.Rules as rules
 use Rattle.policy_types.specs.Rules.{repeated, device_kinds, logical_names, major_name, cpu_name, group_cpu, subject_cpu, is_on, times_listed, majors_of, offence_1, offence_16, offence_17}
 use Rattle.policy_types.specs.Resolution.{Resolution, IsResolved, are_placed, name_at, source_of, subject_named, group_named, cpu_named, major_named, subject_placed, group_placed, major_placed}
-use Rattle.policy_types.specs.declared.offence.Offence.{Offence}
 use Rattle.policy_types.specs.declared.source.Source.{Source}
 use Rattle.policy_types.specs.declared.source.MinorFrame.{MinorFrame}
 use Rattle.policy_types.specs.declared.resolved.Subject.{Subject as PlacedSubject}
@@ -24,8 +23,8 @@ use Rattle.policy_types.specs.declared.resolved.MajorFrame.{MajorFrame as Placed
 use Rattle.policy_types.specs.declared.resolved.CpuFrames.{CpuFrames as PlacedCpu}
 use Rattle.policy_types.specs.declared.resolved.MinorFrame.{MinorFrame as PlacedFrame}
 use Rattle.policy_types.proofs.Places.{none_both, found_at_place, position_is}
-use Rattle.policy_rules.specs.Placed.{cpu_of_group, is_frame, ticks_in, has_first_ticks, is_listed, is_entry, entry_offence, missing_offence, major_offence, first_major, cpu_of_subject, is_member, is_group, group_offence, times_among, times_in, member_offence}
-use Rattle.policy_rules.proofs.Searching.{none_in_last, first_in_same, first_in-map, first_numbered-map, first_numbered_same, first_over-map, first_after-map, list_all_same, sum_by-map, sum_by_same, list_any-map, find-map, map-map}
+use Rattle.policy_rules.specs.Placed.{cpu_of_group, is_frame, ticks_in, has_first_ticks, is_entry, entry_offence, missing_offence, major_offence, first_major, cpu_of_subject, is_member, is_group, group_offence, times_among, times_in, member_offence, groups_offence, counted_offence}
+use Rattle.policy_rules.proofs.Searching.{none_in_last, first_in_same, first_in-map, first_numbered-map, first_numbered_same, both_numbered, first_over-map, first_after-map, list_all_same, sum_by-map, sum_by_same, list_any-map, find-map, map-map}
 
 -- ---- unique names
 
@@ -222,7 +221,7 @@ same_member r unique placed k s at =
     ap (λ n. unless (n == 1) (alone s.name)) times
 
 pub groups_by_place : (r : Resolution) → IsResolved r
-    → first_of (first_in (group_offence r.subjects) r.scheduling.groups ∷ first_in (member_offence r.scheduling.groups) (enumerate_from 0 r.subjects) ∷ []) ≡ offence_17 (source_of r)
+    → groups_offence r.subjects r.scheduling.groups ≡ offence_17 (source_of r)
 unfolding offence_17 source_of
 groups_by_place r resolved =
     let unique = are_unique r resolved.names in
@@ -237,3 +236,22 @@ groups_by_place r resolved =
       ap (λ o. option_or o (option_or (first_in (λ s. unless (times_listed (source_of r) s.name == 1) (alone s.name)) (map (subject_named r) r.subjects)) None)) first
       ∙ ap (λ o. option_or (first_in (group_offence r.subjects) r.scheduling.groups) (option_or o None)) later
     )
+
+-- counts up to 2 tell which subject isn't listed once
+once : (m n : ℕ) → min 2 m ≡ min 2 n → (m == 1) ≡ (n == 1)
+once m n h = grind (arith, nat_tests)
+
+pub by_counts : (subjects : List PlacedSubject) (groups : List PlacedGroup) (times : List ℕ)
+    → ((k : ℕ) → k < length subjects → min 2 (slice_index times k) ≡ min 2 (times_in groups k))
+    → first_in (counted_offence times) (enumerate_from 0 subjects) ≡ first_in (member_offence groups) (enumerate_from 0 subjects)
+by_counts subjects groups times counted =
+    let same : (k : ℕ) (s : PlacedSubject) → k < length subjects → counted_offence times (0 + k, s) ≡ member_offence groups (0 + k, s) = λ k s l.
+        let e : 0 + k ≡ k = omega arith in
+        ap (λ i. counted_offence times (i, s)) e
+        ∙ ap (λ b. unless b (alone s.name)) (once (slice_index times k) (times_in groups k) (counted k l))
+        ∙ sym (ap (λ i. member_offence groups (i, s)) e) in
+    both_numbered (counted_offence times) (member_offence groups) 0 subjects same
+
+pub or_none : {O : Type 0} (o : Option O) → option_or o None ≡ o
+or_none None = refl
+or_none (Some x) = refl

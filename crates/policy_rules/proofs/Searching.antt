@@ -2,7 +2,7 @@
 use Rattle.std.proofs.Common.{◌≡◌, ℕ, zero, suc, ◌+◌, ◌<◌, Bool, true, false, cond, List, [], ◌∷◌, ◌++◌, length, map, get_or, take, drop, Option, Some, None, refl, sym, ap, ◌∙◌, subst, inl, inr, add-one, arith}
 use Rattle.std.specs.Prelude.{◌&&◌, ◌||◌, slice_get, option_map}
 use Rattle.std.specs.Option.{option_or}
-use Rattle.std.specs.List.{find, list_any, list_all, sum_by, count_by, enumerate_from}
+use Rattle.std.specs.List.{find, list_any, list_all, sum_by, enumerate_from}
 use Rattle.std.proofs.lemmas.Bool.{and_parts, cases_eq}
 use Rattle.std.proofs.lemmas.List.{take_more, drop_more, map_push}
 use Rattle.std.proofs.lemmas.List.Sums.{sum_by-cons}

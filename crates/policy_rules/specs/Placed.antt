@@ -5,7 +5,6 @@ use Rattle.std.specs.List.{list_any, list_all, sum_by, count_by, enumerate_from}
 use Rattle.muen_num.specs.Range.{numbers_below}
 use Rattle.policy_types.specs.Search.{alone, two, unless, first_of, first_in, first_after}
 use Rattle.policy_types.specs.Rules.{major_name, cpu_name, is_on}
-use Rattle.policy_types.specs.Resolution.{Resolution}
 use Rattle.policy_types.specs.declared.offence.Offence.{Offence}
 use Rattle.policy_types.specs.declared.resolved.Subject.{Subject}
 use Rattle.policy_types.specs.declared.resolved.Group.{Group}
@@ -71,7 +70,7 @@ is_group subjects g = not (length g.subjects == 0) && list_all (is_member subjec
 abbrev pub group_offence : List Subject → Group → Option Offence
 group_offence subjects g = unless (is_group subjects g) (alone g.name)
 
--- how often a place stands among these, and how often among the members of these groups
+-- how often a place stands among these, and among the members of these groups
 abbrev pub times_among : List ℕ → ℕ → ℕ
 times_among places place = count_by (λ i. i == place) places
 
@@ -82,6 +81,15 @@ times_in groups place = sum_by (λ g. times_among g.subjects place) groups
 abbrev pub member_offence : List Group → ℕ × Subject → Option Offence
 member_offence groups (place, s) = unless (times_in groups place == 1) (alone s.name)
 
--- the same, by a list of how often each place was met
+-- the groups, then the subjects
+abbrev pub groups_offence : List Subject → List Group → Option Offence
+groups_offence subjects groups =
+    first_of (
+      first_in (group_offence subjects) groups
+      ∷ first_in (member_offence groups) (enumerate_from 0 subjects)
+      ∷ []
+    )
+
+-- a subject with its place, that wasn't met once by these counts
 abbrev pub counted_offence : List ℕ → ℕ × Subject → Option Offence
 counted_offence times (place, s) = unless (slice_index times place == 1) (alone s.name)

@@ -1,6 +1,7 @@
 //! The elements of a policy whose references are resolved: where the document names a declared
 //! thing, its place in the list that declares it stands. All else is as in the document.
 ghost use Rattle.std.specs.Prelude.{◌≡◌};
+ghost use Rattle.policy_types.specs.Resolution.{IsResolved};
 
 use crate::rights::{Rights, Role};
 use crate::source::{
@@ -257,7 +258,8 @@ impl Resolved {
 
     /// The scheduling plan.
     pub fn scheduling(&self) -> &Scheduling
-        ensures { result.now ≡ self.now.scheduling }
+        ensures value { result.now ≡ self.now.scheduling }
+        ensures resolved { IsResolved self.now }
     {
         &self.scheduling
     }
