@@ -23,7 +23,7 @@ use Rattle.policy_types.specs.declared.resolved.MajorFrame.{MajorFrame as Placed
 use Rattle.policy_types.specs.declared.resolved.CpuFrames.{CpuFrames as PlacedCpu}
 use Rattle.policy_types.specs.declared.resolved.MinorFrame.{MinorFrame as PlacedFrame}
 use Rattle.policy_types.proofs.Places.{none_both, found_at_place, position_is}
-use Rattle.policy_rules.specs.Placed.{cpu_of_group, is_frame, ticks_in, has_first_ticks, is_entry, entry_offence, missing_offence, major_offence, first_major, cpu_of_subject, is_member, is_group, group_offence, times_among, times_in, member_offence, groups_offence, counted_offence}
+use Rattle.policy_rules.specs.Placed.{cpu_of_group, is_frame, ticks_in, has_first_ticks, is_entry, entry_offence, missing_offence, major_offence, first_major, cpu_of_subject, is_member, is_group, group_offence, times_among, times_in, member_offence, AreTimes, groups_offence, counted_offence}
 use Rattle.policy_rules.proofs.Searching.{none_in_last, first_in_same, first_in-map, first_numbered-map, first_numbered_same, both_numbered, first_over-map, first_after-map, list_all_same, sum_by-map, sum_by_same, list_any-map, find-map, map-map}
 
 -- ---- unique names
@@ -242,7 +242,7 @@ once : (m n : ℕ) → min 2 m ≡ min 2 n → (m == 1) ≡ (n == 1)
 once m n h = grind (arith, nat_tests)
 
 pub by_counts : (subjects : List PlacedSubject) (groups : List PlacedGroup) (times : List ℕ)
-    → ((k : ℕ) → k < length subjects → min 2 (slice_index times k) ≡ min 2 (times_in groups k))
+    → AreTimes times (length subjects) groups
     → first_in (counted_offence times) (enumerate_from 0 subjects) ≡ first_in (member_offence groups) (enumerate_from 0 subjects)
 by_counts subjects groups times counted =
     let same : (k : ℕ) (s : PlacedSubject) → k < length subjects → counted_offence times (0 + k, s) ≡ member_offence groups (0 + k, s) = λ k s l.

@@ -1,5 +1,5 @@
 -- The rules on major frames and on groups, of a resolved policy: groups and subjects by their places.
-use Rattle.std.specs.Prelude.{ℕ, ◌==◌, ◌&&◌, not, Bool, true, List, [], ◌∷◌, length, slice_get, slice_index, nat_lt, Option, option_map}
+use Rattle.std.specs.Prelude.{◌≡◌, ◌+◌, ◌<◌, min, ℕ, ◌==◌, ◌&&◌, not, Bool, true, List, [], ◌∷◌, length, slice_get, slice_index, nat_lt, Option, option_map}
 use Rattle.std.specs.Option.{option_map_or}
 use Rattle.std.specs.List.{list_any, list_all, sum_by, count_by, enumerate_from}
 use Rattle.muen_num.specs.Range.{numbers_below}
@@ -80,6 +80,14 @@ times_in groups place = sum_by (λ g. times_among g.subjects place) groups
 -- a subject with its place, that isn't listed once
 abbrev pub member_offence : List Group → ℕ × Subject → Option Offence
 member_offence groups (place, s) = unless (times_in groups place == 1) (alone s.name)
+
+-- new counts are the old ones and so much more at each place; counts of 2 and more are alike
+abbrev pub Adds : List ℕ → List ℕ → (ℕ → ℕ) → Type 0
+Adds old new more = (k : ℕ) → k < length old → min 2 (slice_index new k) ≡ min 2 (slice_index old k + more k)
+
+-- so many counts are of the members of these groups; counts of 2 and more are alike
+abbrev pub AreTimes : List ℕ → ℕ → List Group → Type 0
+AreTimes times count groups = (k : ℕ) → k < count → min 2 (slice_index times k) ≡ min 2 (times_in groups k)
 
 -- the groups, then the subjects
 abbrev pub groups_offence : List Subject → List Group → Option Offence

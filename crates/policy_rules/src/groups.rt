@@ -1,10 +1,10 @@
 //! Rule 17: each group has members, all on its CPU, and each subject is a member once.
-ghost use Rattle.std.specs.Prelude.{◌≡◌, ◌==◌, ◌+◌, ◌<◌, ℕ, min, length, slice_index, IfOk, if◌then◌else◌};
+ghost use Rattle.std.specs.Prelude.{◌≡◌, ◌==◌, IfOk, if◌then◌else◌};
 ghost use Rattle.std.specs.List.{list_all, enumerate_from};
-ghost use Rattle.policy_types.specs.Search.{alone, first_in};
+ghost use Rattle.policy_types.specs.Search.{first_in};
 ghost use Rattle.policy_types.specs.Rules.{offence_17};
 ghost use Rattle.policy_types.specs.Resolution.{source_of};
-ghost use Rattle.policy_rules.specs.Placed.{is_member, is_group, group_offence, times_among, times_in, groups_offence, counted_offence};
+ghost use Rattle.policy_rules.specs.Placed.{is_member, is_group, group_offence, times_among, times_in, Adds, AreTimes, groups_offence, counted_offence};
 
 use muen_num::NoMemory;
 use policy_types::resolved::{Group, Subject};
@@ -50,7 +50,7 @@ fn first_group(subjects: &[Subject], groups: &[Group]) -> Option<Offence>
 
 // Counts this place on. Counts of 2 and more are alike.
 fn count_place(place: usize, times: &mut [u8])
-    ensures { (k : ℕ) → k < length times.old → min 2 (slice_index times.new k) ≡ min 2 (slice_index times.old k + (if place == k then 1 else 0)) }
+    ensures { Adds times.old times.new (λ k. if place == k then 1 else 0) }
 {
     if place < times.len() {
         times[place] = times[place].saturating_add(1);
@@ -59,7 +59,7 @@ fn count_place(place: usize, times: &mut [u8])
 
 // Counts each place on by how often it stands here.
 fn count_places(places: &[usize], times: &mut [u8])
-    ensures { (k : ℕ) → k < length times.old → min 2 (slice_index times.new k) ≡ min 2 (slice_index times.old k + times_among places.now k) }
+    ensures { Adds times.old times.new (times_among places.now) }
 {
     for place in places {
         count_place(*place, times);
@@ -68,7 +68,7 @@ fn count_places(places: &[usize], times: &mut [u8])
 
 // Counts each place on by how often it stands among the members of the groups.
 fn count_members(groups: &[Group], times: &mut [u8])
-    ensures { (k : ℕ) → k < length times.old → min 2 (slice_index times.new k) ≡ min 2 (slice_index times.old k + times_in groups.now k) }
+    ensures { Adds times.old times.new (times_in groups.now) }
 {
     for group in groups {
         count_places(group.subjects.items(), times);
@@ -78,7 +78,7 @@ fn count_members(groups: &[Group], times: &mut [u8])
 // How often each of so many places stands among the members of the groups; counts of 2 and more are
 // alike.
 fn times_of(alloc: Global, groups: &[Group], count: usize) -> Result<Vec<u8>, AllocError>
-    ensures { IfOk result (λ times. (k : ℕ) → k < count → min 2 (slice_index times.items k) ≡ min 2 (times_in groups.now k)) }
+    ensures { IfOk result (λ times. AreTimes times.items count groups.now) }
 {
     let mut times = vec![in alloc; 0u8; count]?;
     count_members(groups, &mut times);

@@ -1,6 +1,6 @@
 //! Rule 16: in each major frame every CPU is listed once, with minor frames of its own groups that
 //! have ticks, and the ticks of all CPUs are the same.
-ghost use Rattle.std.specs.Prelude.{◌≡◌, None, [], ◌∷◌, ◌+◌, sum_by};
+ghost use Rattle.std.specs.Prelude.{◌≡◌, None, [], sum_by};
 ghost use Rattle.std.specs.List.{list_all};
 ghost use Rattle.muen_num.specs.Range.{numbers_below};
 ghost use Rattle.policy_types.specs.Search.{two, first_in, first_after};
