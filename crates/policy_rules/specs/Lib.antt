@@ -1,3 +1,4 @@
 pub mod ByPlace
 pub mod Keys
+pub mod Placed
 pub mod Span

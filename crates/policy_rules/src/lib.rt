@@ -6,6 +6,8 @@ mod apart;
 mod cpus;
 mod frame_names;
 mod keys;
+mod groups;
+mod major_frames;
 mod overlap;
 mod windows;
 #[cfg(test)]

@@ -1,6 +1,7 @@
 //! The elements of a policy whose references are resolved: where the document names a declared
 //! thing, its place in the list that declares it stands. All else is as in the document.
 ghost use Rattle.std.specs.Prelude.{◌≡◌};
+ghost use Rattle.policy_types.specs.Resolution.{IsResolved};
 
 use crate::rights::{Rights, Role};
 use crate::source::{

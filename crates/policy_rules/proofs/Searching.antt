@@ -1,0 +1,153 @@
+-- Searches, tests and sums over lists: parts, one step more, and the same over another list.
+use Rattle.std.proofs.Common.{◌≡◌, ℕ, zero, suc, ◌+◌, ◌<◌, Bool, true, false, cond, List, [], ◌∷◌, ◌++◌, length, map, get_or, take, drop, Option, Some, None, refl, sym, ap, ◌∙◌, subst, inl, inr, add-one, arith}
+use Rattle.std.specs.Prelude.{◌&&◌, ◌||◌, slice_get, option_map}
+use Rattle.std.specs.Option.{option_or}
+use Rattle.std.specs.List.{find, list_any, list_all, sum_by, enumerate_from}
+use Rattle.std.proofs.lemmas.Bool.{and_parts, cases_eq}
+use Rattle.std.proofs.lemmas.List.{take_more, drop_more, map_push}
+use Rattle.std.proofs.lemmas.List.Sums.{sum_by-cons}
+use Rattle.muen_num.specs.Range.{numbers_below}
+use Rattle.policy_types.specs.Search.{first_in, first_after}
+use Rattle.policy_types.proofs.Places.{none_both}
+
+-- ---- parts of a search
+
+option_or_assoc : {O : Type 0} (a b c : Option O) → option_or (option_or a b) c ≡ option_or a (option_or b c)
+option_or_assoc None b c = refl
+option_or_assoc (Some x) b c = refl
+
+pub first_in-append : {X O : Type 0} (at : X → Option O) (xs ys : List X) → first_in at (xs ++ ys) ≡ option_or (first_in at xs) (first_in at ys)
+first_in-append at [] ys = refl
+first_in-append at (x ∷ xs) ys =
+    ap (option_or (at x)) (first_in-append at xs ys) ∙ sym (option_or_assoc (at x) (first_in at xs) (first_in at ys))
+
+pub none_in_last : {X O : Type 0} (at : X → Option O) (xs ys : List X) → first_in at (xs ++ ys) ≡ None → first_in at ys ≡ None
+none_in_last at xs ys h = (none_both (first_in at xs) (first_in at ys) (sym (first_in-append at xs ys) ∙ h)).1
+
+-- ---- one element more
+
+pub first_in_more : {X O : Type 0} (at : X → Option O) (xs : List X) (i : ℕ) (x : X) → i < length xs → x ≡ get_or xs i x → first_in at (drop i xs) ≡ option_or (at x) (first_in at (drop (i + 1) xs))
+first_in_more at xs i x h e = ap (first_in at) (drop_more xs i x h) ∙ ap (λ y. option_or (at y) (first_in at (drop (i + 1) xs))) (sym e)
+
+pub first_numbered_more : {X O : Type 0} (at : ℕ × X → Option O) (xs : List X) (i : ℕ) (x : X) → i < length xs → x ≡ get_or xs i x
+    → first_in at (enumerate_from i (drop i xs)) ≡ option_or (at (i, x)) (first_in at (enumerate_from (i + 1) (drop (i + 1) xs)))
+first_numbered_more at xs i x h e =
+    ap (λ ys. first_in at (enumerate_from i ys)) (drop_more xs i x h)
+    ∙ ap (λ y. option_or (at (i, y)) (first_in at (enumerate_from (i + 1) (drop (i + 1) xs)))) (sym e)
+
+pub first_after_more : {X O : Type 0} (at : List X → X → Option O) (xs : List X) (i : ℕ) (x : X) → i < length xs → x ≡ get_or xs i x
+    → first_after at (take i xs) (drop i xs) ≡ option_or (at (take i xs) x) (first_after at (take (i + 1) xs) (drop (i + 1) xs))
+first_after_more at xs i x h e =
+    ap (first_after at (take i xs)) (drop_more xs i x h)
+    ∙ ap (λ y. option_or (at (take i xs) y) (first_after at (take i xs ++ y ∷ []) (drop (i + 1) xs))) (sym e)
+    ∙ ap (λ ys. option_or (at (take i xs) x) (first_after at ys (drop (i + 1) xs))) (ap (λ y. take i xs ++ y ∷ []) e ∙ sym (take_more xs i x h))
+
+-- numbers below a bound: none so far, then one that is found
+pub numbers_none_more : {O : Type 0} (at : ℕ → Option O) (i : ℕ) → first_in at (numbers_below i) ≡ None → at i ≡ None → first_in at (numbers_below (i + 1)) ≡ None
+numbers_none_more at i none here =
+    ap (λ n. first_in at (numbers_below n)) (add-one i)
+    ∙ first_in-append at (numbers_below i) (i ∷ [])
+    ∙ ap (λ o. option_or o (option_or (at i) None)) none
+    ∙ ap (λ o. option_or o None) here
+
+pub number_found : {O : Type 0} (at : ℕ → Option O) (n i : ℕ) (o : O) → i < n → first_in at (numbers_below i) ≡ None → at i ≡ Some o → first_in at (numbers_below n) ≡ Some o
+number_found at zero i o l none here = absurd (omega arith)
+number_found at (suc n) i o l none here =
+    first_in-append at (numbers_below n) (n ∷ [])
+    ∙ elim (cases_eq i n) as (λ _. option_or (first_in at (numbers_below n)) (option_or (at n) None) ≡ Some o) [
+        | inl e ↦
+            let none' : first_in at (numbers_below n) ≡ None = subst (λ m. first_in at (numbers_below m) ≡ None) e none in
+            let here' : at n ≡ Some o = subst (λ m. at m ≡ Some o) e here in
+            ap (λ p. option_or p (option_or (at n) None)) none' ∙ ap (λ p. option_or p None) here'
+        | inr ne ↦
+            let l' : i < n = omega arith in
+            ap (λ p. option_or p (option_or (at n) None)) (number_found at n i o l' none here)
+      ]
+
+-- ---- over another list
+
+pub first_in_same : {X O : Type 0} (at by : X → Option O) → ((x : X) → at x ≡ by x) → (xs : List X) → first_in at xs ≡ first_in by xs
+first_in_same at by same [] = refl
+first_in_same at by same (x ∷ xs) = ap (λ o. option_or o (first_in at xs)) (same x) ∙ ap (option_or (by x)) (first_in_same at by same xs)
+
+pub first_in-map : {X Y O : Type 0} (f : X → Y) (at : Y → Option O) (by : X → Option O) (ok : X → Bool) → ((x : X) → ok x ≡ true → at (f x) ≡ by x)
+    → (xs : List X) → list_all ok xs ≡ true → first_in at (map f xs) ≡ first_in by xs
+first_in-map f at by ok same [] all = refl
+first_in-map f at by ok same (x ∷ xs) all =
+    let parts = and_parts (ok x) (list_all ok xs) all in
+    ap (λ o. option_or o (first_in at (map f xs))) (same x parts.0) ∙ ap (option_or (by x)) (first_in-map f at by ok same xs parts.1)
+
+pub first_over-map : {X Y O : Type 0} (f : X → Y) (at : Y → Option O) (xs : List X) → first_in at (map f xs) ≡ first_in (λ x. at (f x)) xs
+first_over-map f at [] = refl
+first_over-map f at (x ∷ xs) = ap (option_or (at (f x))) (first_over-map f at xs)
+
+pub first_numbered-map : {X Y O : Type 0} (f : X → Y) (at : ℕ × Y → Option O) (by : ℕ × X → Option O) (ok : X → Bool) → ((n : ℕ) (x : X) → ok x ≡ true → at (n, f x) ≡ by (n, x))
+    → (n : ℕ) (xs : List X) → list_all ok xs ≡ true → first_in at (enumerate_from n (map f xs)) ≡ first_in by (enumerate_from n xs)
+first_numbered-map f at by ok same n [] all = refl
+first_numbered-map f at by ok same n (x ∷ xs) all =
+    let parts = and_parts (ok x) (list_all ok xs) all in
+    ap (λ o. option_or o (first_in at (enumerate_from (n + 1) (map f xs)))) (same n x parts.0)
+    ∙ ap (option_or (by (n, x))) (first_numbered-map f at by ok same (n + 1) xs parts.1)
+
+-- the same at each element with its place
+pub first_numbered_same : {X O : Type 0} (at : X → Option O) (by : ℕ × X → Option O) (n : ℕ) (xs : List X) → ((k : ℕ) (x : X) → slice_get xs k ≡ Some x → at x ≡ by (n + k, x))
+    → first_in at xs ≡ first_in by (enumerate_from n xs)
+first_numbered_same at by n [] same = refl
+first_numbered_same {X} at by n (x ∷ xs) same =
+    let here : at x ≡ by (n, x) = same 0 x refl ∙ ap (λ m. by (m, x)) (omega arith) in
+    let later : (k : ℕ) (y : X) → slice_get xs k ≡ Some y → at y ≡ by (n + 1 + k, y) = λ k y e. same (suc k) y e ∙ ap (λ m. by (m, y)) (omega arith) in
+    ap (λ o. option_or o (first_in at xs)) here ∙ ap (option_or (by (n, x))) (first_numbered_same at by (n + 1) xs later)
+
+pub both_numbered : {X O : Type 0} (at by : ℕ × X → Option O) (n : ℕ) (xs : List X) → ((k : ℕ) (x : X) → k < length xs → at (n + k, x) ≡ by (n + k, x))
+    → first_in at (enumerate_from n xs) ≡ first_in by (enumerate_from n xs)
+both_numbered at by n [] same = refl
+both_numbered {X} at by n (x ∷ xs) same =
+    let here : at (n, x) ≡ by (n, x) = ap (λ m. at (m, x)) (omega arith) ∙ same 0 x (omega arith) ∙ ap (λ m. by (m, x)) (omega arith) in
+    let later : (k : ℕ) (y : X) → k < length xs → at (n + 1 + k, y) ≡ by (n + 1 + k, y) =
+        λ k y l. ap (λ m. at (m, y)) (omega arith) ∙ same (suc k) y (omega arith) ∙ ap (λ m. by (m, y)) (omega arith) in
+    ap (λ o. option_or o (first_in at (enumerate_from (n + 1) xs))) here ∙ ap (option_or (by (n, x))) (both_numbered at by (n + 1) xs later)
+
+pub first_after-map : {X Y O : Type 0} (f : X → Y) (at : List Y → Y → Option O) (by : List X → X → Option O) (ok : X → Bool)
+    → ((before : List X) (x : X) → ok x ≡ true → at (map f before) (f x) ≡ by before x)
+    → (before xs : List X) → list_all ok xs ≡ true → first_after at (map f before) (map f xs) ≡ first_after by before xs
+first_after-map f at by ok same before [] all = refl
+first_after-map f at by ok same before (x ∷ xs) all =
+    let parts = and_parts (ok x) (list_all ok xs) all in
+    ap (λ o. option_or o (first_after at (map f before ++ f x ∷ []) (map f xs))) (same before x parts.0)
+    ∙ ap (λ ys. option_or (by before x) (first_after at ys (map f xs))) (sym (map_push f before x))
+    ∙ ap (option_or (by before x)) (first_after-map f at by ok same (before ++ x ∷ []) xs parts.1)
+
+-- ---- tests and sums
+
+pub list_all_same : {X : Type 0} (p q ok : X → Bool) → ((x : X) → ok x ≡ true → p x ≡ q x) → (xs : List X) → list_all ok xs ≡ true → list_all p xs ≡ list_all q xs
+list_all_same p q ok same [] all = refl
+list_all_same p q ok same (x ∷ xs) all =
+    let parts = and_parts (ok x) (list_all ok xs) all in
+    ap (λ b. b && list_all p xs) (same x parts.0) ∙ ap (λ b. q x && b) (list_all_same p q ok same xs parts.1)
+
+pub sum_by-map : {X Y : Type 0} (f : Y → ℕ) (g : X → Y) (xs : List X) → sum_by f (map g xs) ≡ sum_by (λ x. f (g x)) xs
+sum_by-map f g [] = refl
+sum_by-map f g (x ∷ xs) =
+    sum_by-cons f (g x) (map g xs) ∙ ap (λ n. f (g x) + n) (sum_by-map f g xs) ∙ sym (sum_by-cons (λ y. f (g y)) x xs)
+
+pub sum_by_same : {X : Type 0} (f g : X → ℕ) (ok : X → Bool) → ((x : X) → ok x ≡ true → f x ≡ g x) → (xs : List X) → list_all ok xs ≡ true → sum_by f xs ≡ sum_by g xs
+sum_by_same f g ok same [] all = refl
+sum_by_same f g ok same (x ∷ xs) all =
+    let parts = and_parts (ok x) (list_all ok xs) all in
+    sum_by-cons f x xs ∙ ap (λ n. n + sum_by f xs) (same x parts.0) ∙ ap (λ n. g x + n) (sum_by_same f g ok same xs parts.1) ∙ sym (sum_by-cons g x xs)
+
+pub list_any-map : {X Y : Type 0} (p : Y → Bool) (f : X → Y) (xs : List X) → list_any p (map f xs) ≡ list_any (λ x. p (f x)) xs
+list_any-map p f [] = refl
+list_any-map p f (x ∷ xs) = ap (λ b. p (f x) || b) (list_any-map p f xs)
+
+pub find-map : {X Y : Type 0} (test : Y → Bool) (f : X → Y) (xs : List X) → find test (map f xs) ≡ option_map f (find (λ x. test (f x)) xs)
+find-map test f [] = refl
+find-map test f (x ∷ xs) =
+    elim (test (f x)) as (λ b. cond b (Some (f x)) (find test (map f xs)) ≡ option_map f (cond b (Some x) (find (λ y. test (f y)) xs))) [
+      | true ↦ refl
+      | false ↦ find-map test f xs
+    ]
+
+pub map-map : {X Y Z : Type 0} (g : Y → Z) (f : X → Y) (xs : List X) → map g (map f xs) ≡ map (λ x. g (f x)) xs
+map-map g f [] = refl
+map-map g f (x ∷ xs) = ap (λ ys. g (f x) ∷ ys) (map-map g f xs)

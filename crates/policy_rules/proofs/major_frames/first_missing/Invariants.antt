@@ -1,0 +1,8 @@
+use Rattle.std.proofs.Common.{◌≡◌, None}
+use Rattle.muen_num.specs.Range.{numbers_below}
+use Rattle.policy_types.specs.Search.{first_in}
+use Rattle.policy_rules.specs.Placed.{missing_offence}
+use Rattle.policy_rules.proofs.major_frames.first_missing.Given as goal
+
+abbrev pub invariant-loop-cpu : goal.invariant-loop-cpu
+invariant-loop-cpu l = first_in (missing_offence l.cpus l.place) (numbers_below l.cpu) ≡ None

@@ -1,0 +1,10 @@
+use Rattle.std.proofs.Common.{◌≡◌, ◌*◌, ◌^◌, ◌≤◌, take}
+use Rattle.std.specs.List.{sum_by}
+use Rattle.policy_rules.proofs.major_frames.sum_of_ticks.Given as goal
+
+abbrev pub invariant-loop-frame : goal.invariant-loop-frame
+invariant-loop-frame l =
+    record {
+      total : l.total ≡ sum_by (λ f. f.ticks) (take l.frame-index l.frames);
+      within : l.total ≤ l.frame-index * 2 ^ 64;
+    }

@@ -1,0 +1,126 @@
+//! Rule 17: each group has members, all on its CPU, and each subject is a member once.
+ghost use Rattle.std.specs.Prelude.{◌≡◌, ◌==◌, IfOk, if◌then◌else◌};
+ghost use Rattle.std.specs.List.{list_all, enumerate_from};
+ghost use Rattle.policy_types.specs.Search.{first_in};
+ghost use Rattle.policy_types.specs.Rules.{offence_17};
+ghost use Rattle.policy_types.specs.Resolution.{source_of};
+ghost use Rattle.policy_rules.specs.Placed.{is_member, is_group, group_offence, times_among, times_in, Adds, AreTimes, groups_offence, counted_offence};
+
+use muen_num::NoMemory;
+use policy_types::resolved::{Group, Subject};
+use policy_types::{Offence, Resolved};
+use std::alloc::{AllocError, Global};
+
+// Whether the subject at a place is on this CPU.
+fn is_member(subjects: &[Subject], cpu: u64, place: usize) -> bool
+    ensures { result ≡ is_member subjects.now cpu place }
+{
+    match subjects.get(place) {
+        None => false,
+        Some(subject) => subject.cpu == cpu,
+    }
+}
+
+fn are_members(subjects: &[Subject], cpu: u64, places: &[usize]) -> bool
+    ensures { result ≡ list_all (is_member subjects.now cpu) places.now }
+{
+    places.iter().all(|place| is_member(subjects, cpu, *place))
+}
+
+// It has members, and all are on its CPU.
+fn is_group(subjects: &[Subject], group: &Group) -> bool
+    ensures { result ≡ is_group subjects.now group.now }
+{
+    !group.subjects.is_empty() && are_members(subjects, group.cpu, group.subjects.items())
+}
+
+fn first_group(subjects: &[Subject], groups: &[Group]) -> Option<Offence>
+    ensures { result ≡ first_in (group_offence subjects.now) groups.now }
+{
+    for group in groups {
+        if !is_group(subjects, group) {
+            return Some(Offence {
+                first: group.name,
+                second: group.name,
+            });
+        }
+    }
+    None
+}
+
+// Counts this place on. Counts of 2 and more are alike.
+fn count_place(place: usize, times: &mut [u8])
+    ensures { Adds times.old times.new (λ k. if place == k then 1 else 0) }
+{
+    if place < times.len() {
+        times[place] = times[place].saturating_add(1);
+    }
+}
+
+// Counts each place on by how often it stands here.
+fn count_places(places: &[usize], times: &mut [u8])
+    ensures { Adds times.old times.new (times_among places.now) }
+{
+    for place in places {
+        count_place(*place, times);
+    }
+}
+
+// Counts each place on by how often it stands among the members of the groups.
+fn count_members(groups: &[Group], times: &mut [u8])
+    ensures { Adds times.old times.new (times_in groups.now) }
+{
+    for group in groups {
+        count_places(group.subjects.items(), times);
+    }
+}
+
+// How often each of so many places stands among the members of the groups; counts of 2 and more are
+// alike.
+fn times_of(alloc: Global, groups: &[Group], count: usize) -> Result<Vec<u8>, AllocError>
+    ensures { IfOk result (λ times. AreTimes times.items count groups.now) }
+{
+    let mut times = vec![in alloc; 0u8; count]?;
+    count_members(groups, &mut times);
+    Ok(times)
+}
+
+// The first subject that wasn't met once.
+fn first_counted(subjects: &[Subject], times: &[u8]) -> Option<Offence>
+    ensures { result ≡ first_in (counted_offence times.now) (enumerate_from 0 subjects.now) }
+{
+    for (place, subject) in subjects.iter().enumerate() {
+        if times.get(place).copied().unwrap_or(0) != 1 {
+            return Some(Offence {
+                first: subject.name,
+                second: subject.name,
+            });
+        }
+    }
+    None
+}
+
+// The first group that offends, else the first subject that isn't listed once.
+fn of_groups(
+    alloc: Global,
+    subjects: &[Subject],
+    groups: &[Group],
+) -> Result<Option<Offence>, AllocError>
+    ensures { IfOk result (λ o. o ≡ groups_offence subjects.now groups.now) }
+{
+    match first_group(subjects, groups) {
+        Some(offence) => Ok(Some(offence)),
+        None => {
+            let times = times_of(alloc, groups, subjects.len())?;
+            Ok(first_counted(subjects, &times))
+        }
+    }
+}
+
+/// The first offence against rule 17, if any.
+pub(crate) fn groups(alloc: Global, r: &Resolved) -> Result<Option<Offence>, NoMemory>
+    ensures { IfOk result (λ o. o ≡ offence_17 (source_of r.now)) }
+{
+    let offence = of_groups(alloc, r.subjects(), r.scheduling().groups.items())?;
+    Ok(offence)
+}

@@ -1,0 +1,148 @@
+//! Rule 16: in each major frame every CPU is listed once, with minor frames of its own groups that
+//! have ticks, and the ticks of all CPUs are the same.
+ghost use Rattle.std.specs.Prelude.{◌≡◌, None, [], sum_by};
+ghost use Rattle.std.specs.List.{list_all};
+ghost use Rattle.muen_num.specs.Range.{numbers_below};
+ghost use Rattle.policy_types.specs.Search.{two, first_in, first_after};
+ghost use Rattle.policy_types.specs.Rules.{major_name, cpu_name, is_on, offence_3, offence_16};
+ghost use Rattle.policy_types.specs.Resolution.{source_of};
+ghost use Rattle.policy_rules.specs.Placed.{cpu_of_group, is_frame, ticks_in, has_first_ticks, is_listed, is_entry, entry_offence, missing_offence, major_offence, first_major};
+
+use crate::frame_names::{cpu_name, major_name};
+use policy_types::resolved::{CpuFrames, Group, MajorFrame, MinorFrame};
+use policy_types::{Offence, Resolved};
+
+// Whether the group at a place is on this CPU.
+fn is_on(groups: &[Group], place: usize, cpu: u64) -> bool
+    ensures { result ≡ is_on (cpu_of_group groups.now place) cpu }
+{
+    match groups.get(place) {
+        None => false,
+        Some(group) => group.cpu == cpu,
+    }
+}
+
+// A minor frame of this CPU: it has ticks, and its group is on the CPU.
+fn is_frame(groups: &[Group], cpu: u64, frame: &MinorFrame) -> bool
+    ensures { result ≡ is_frame groups.now cpu frame.now }
+{
+    0 < frame.ticks && is_on(groups, frame.group, cpu)
+}
+
+fn are_frames(groups: &[Group], cpu: u64, frames: &[MinorFrame]) -> bool
+    ensures { result ≡ list_all (is_frame groups.now cpu) frames.now }
+{
+    frames.iter().all(|frame| is_frame(groups, cpu, frame))
+}
+
+// All ticks of these minor frames, below 2^64 for each.
+fn sum_of_ticks(frames: &[MinorFrame]) -> u128
+    ensures { result ≡ sum_by (λ f. f.ticks) frames.now }
+{
+    let mut total: u128 = 0;
+    for frame in frames {
+        total += frame.ticks as u128;
+    }
+    total
+}
+
+fn ticks_in(entry: &CpuFrames) -> u128
+    ensures { result ≡ ticks_in entry.now }
+{
+    sum_of_ticks(entry.minor_frames.items())
+}
+
+// As many ticks as the first of these entries has, if there is one.
+fn has_first_ticks(before: &[CpuFrames], entry: &CpuFrames) -> bool
+    ensures { result ≡ has_first_ticks before.now entry.now }
+{
+    match before.first() {
+        None => true,
+        Some(first) => ticks_in(first) == ticks_in(entry),
+    }
+}
+
+fn is_listed(cpus: &[CpuFrames], cpu: u64) -> bool
+    ensures { result ≡ is_listed cpus.now cpu }
+{
+    cpus.iter().any(|entry| entry.cpu == cpu)
+}
+
+// An entry behind these: its CPU isn't among theirs; it has a minor frame; each is one of its CPU;
+// its ticks are those of the first entry.
+fn is_entry(groups: &[Group], before: &[CpuFrames], entry: &CpuFrames) -> bool
+    ensures { result ≡ is_entry groups.now before.now entry.now }
+{
+    !is_listed(before, entry.cpu)
+        && !entry.minor_frames.is_empty()
+        && are_frames(groups, entry.cpu, entry.minor_frames.items())
+        && has_first_ticks(before, entry)
+}
+
+fn at_cpu(place: usize, cpu: u64) -> Offence
+    ensures { result ≡ two (major_name place) (cpu_name cpu) }
+{
+    Offence {
+        first: major_name(place),
+        second: cpu_name(cpu),
+    }
+}
+
+// The first entry that offends. Each is held against those before it, which are of different CPUs,
+// so with CPUs below 8 at most nine are looked at.
+fn first_entry(groups: &[Group], place: usize, cpus: &[CpuFrames]) -> Option<Offence>
+    ensures { result ≡ first_after (entry_offence groups.now place) [] cpus.now }
+{
+    for (i, entry) in cpus.iter().enumerate() {
+        if !is_entry(groups, &cpus[..i], entry) {
+            return Some(at_cpu(place, entry.cpu));
+        }
+    }
+    None
+}
+
+// The first of so many CPUs that isn't listed.
+fn first_missing(cpus: &[CpuFrames], place: usize, count: u64) -> Option<Offence>
+    ensures { result ≡ first_in (missing_offence cpus.now place) (numbers_below count) }
+{
+    for cpu in 0..count {
+        if !is_listed(cpus, cpu) {
+            return Some(at_cpu(place, cpu));
+        }
+    }
+    None
+}
+
+// Of a major frame at its place: the first entry that offends, else the first CPU that isn't listed.
+fn of_major(groups: &[Group], count: u64, place: usize, frame: &MajorFrame) -> Option<Offence>
+    ensures { result ≡ major_offence groups.now count (place, frame.now) }
+{
+    match first_entry(groups, place, frame.cpus.items()) {
+        Some(offence) => Some(offence),
+        None => first_missing(frame.cpus.items(), place, count),
+    }
+}
+
+fn first_major(groups: &[Group], count: u64, frames: &[MajorFrame]) -> Option<Offence>
+    ensures { result ≡ first_major groups.now count frames.now }
+{
+    for (place, frame) in frames.iter().enumerate() {
+        if let Some(offence) = of_major(groups, count, place, frame) {
+            return Some(offence);
+        }
+    }
+    None
+}
+
+/// The first offence against rule 16, if any.
+pub(crate) fn major_frames(r: &Resolved) -> Option<Offence>
+    requires cpus { offence_3 (source_of r.now) ≡ None }
+    ensures { result ≡ offence_16 (source_of r.now) }
+{
+    let plan = r.scheduling();
+    first_major(
+        plan.groups.items(),
+        r.processor().logical_cpus,
+        plan.major_frames.items(),
+    )
+}
