@@ -1,1 +1,2 @@
+pub mod SharedRegions
 pub mod WindowsByPlace
