@@ -1,23 +1,25 @@
--- The windows of a subject of a built policy, by the places of its regions.
-use Rattle.std.proofs.Common.{◌≡◌, ℕ, zero, suc, ◌<◌, Bool, true, false, List, [], ◌∷◌, ◌++◌, length, map, Option, Some, None, refl, ap, ◌∙◌, arith, append-nil}
-use Rattle.std.specs.Prelude.{◌==◌, ◌&&◌, not, is_some, nat_lt, slice_get, slice_index_or, option_map}
+-- The windows of a subject of a built policy are its mappings, each on the region at its place.
+use Rattle.std.proofs.Common.{◌≡◌, ℕ, ◌<◌, Bool, true, false, cond, not, List, [], ◌∷◌, ◌++◌, length, map, Option, Some, None, refl, sym, ap, ◌∙◌, subst, arith, append-nil}
+use Rattle.std.specs.Prelude.{◌==◌, ◌&&◌, nat_lt, slice_get, is_some, option_map}
 use Rattle.std.specs.Option.{option_or}
-use Rattle.std.specs.List.{filter_map, list_all, All, flat_map}
+use Rattle.std.specs.List.{find, list_all, filter_map, flat_map, cons_option}
 use Rattle.std.specs.Str.{bytes_eq}
+use Rattle.std.proofs.lemmas.Option.{slice_get-get_or}
 use Rattle.std.proofs.lemmas.Bool.Decides.{nat_tests}
-use Rattle.std.proofs.lemmas.List.Elements.{All-nil, All-cons}
-use Rattle.policy_types.specs.Search.{alone, unless, first_in, first_after}
-use Rattle.policy_types.specs.Rules.{repeated, device_kinds, logical_names, offence_1}
-use Rattle.policy_types.specs.Thing.{Thing, region}
-use Rattle.policy_types.specs.Windows.{Window, window, region_window, windows_of}
+use Rattle.policy_types.specs.Search.{first_in}
+use Rattle.policy_types.specs.Rules.{repeated, kinds_of_names, device_kinds, logical_names, window_extent, window_extents, offence_1}
 use Rattle.policy_types.specs.Built.{is_plain, is_built}
-use Rattle.policy_types.specs.Resolution.{Resolution, IsResolved, name_at, subject_named, mapping_named, subject_placed, source_of, are_placed}
+use Rattle.policy_types.specs.Resolution.{Resolution, name_at, mapping_named, subject_named, source_of, subject_placed, are_placed}
+use Rattle.policy_types.specs.Thing.{region}
+use Rattle.policy_types.specs.Windows.{window, region_window, windows_of}
 use Rattle.policy_types.specs.declared.source.Source.{Source}
 use Rattle.policy_types.specs.declared.source.Region.{Region}
-use Rattle.policy_types.specs.declared.source.Subject.{Subject}
-use Rattle.policy_types.specs.declared.resolved.Mapping.{Mapping as PlacedMapping}
-use Rattle.policy_types.specs.declared.resolved.Subject.{Subject as PlacedSubject}
+use Rattle.policy_types.specs.declared.source.Channel.{Channel}
+use Rattle.policy_types.specs.declared.source.Subject.{Subject as NamedSubject}
+use Rattle.policy_types.specs.declared.resolved.Mapping.{Mapping}
+use Rattle.policy_types.specs.declared.resolved.Subject.{Subject}
 use Rattle.policy_types.proofs.Places.{none_both, found_at_place}
+use Rattle.policy_rules.specs.ByPlace.{no_region, region_at, mapping_extent, is_ready}
 
 -- ---- tests that pass
 
@@ -25,133 +27,158 @@ pub both : (a b : Bool) → (a && b) ≡ true → (a ≡ true) × (b ≡ true)
 both true b h = (refl, h)
 both false b h = absurd (cc)
 
-no_items : {X : Type 0} (xs : List X) → (length xs == 0) ≡ true → xs ≡ []
+pub both_pass : (a b : Bool) → a ≡ true → b ≡ true → (a && b) ≡ true
+both_pass true b h k = k
+both_pass false b h k = absurd (cc)
+
+pub no_items : {X : Type 0} (xs : List X) → (length xs == 0) ≡ true → xs ≡ []
 no_items [] h = refl
-no_items (x ∷ xs) h = absurd (grind (arith, nat_tests))
+no_items (x ∷ xs) h = let e : length (x ∷ xs) ≡ 0 = grind (arith, nat_tests) in absurd (omega arith)
 
-no_value : {X : Type 0} (o : Option X) → not (is_some o) ≡ true → o ≡ None
-no_value None h = refl
-no_value (Some x) h = absurd (cc)
+pub none_map : {X Y : Type 0} (f : X → Y) (xs : List X) → map f xs ≡ [] → xs ≡ []
+none_map f [] h = refl
+none_map f (x ∷ xs) h = absurd (cc)
 
--- ---- the names of regions are unique
+pub none_some : {X : Type 0} (o : Option X) → not (is_some o) ≡ true → o ≡ None
+none_some None h = refl
+none_some (Some x) h = absurd (cc)
 
-pub none_apart : {X O : Type 0} (at : X → Option O) (xs ys : List X) → first_in at (xs ++ ys) ≡ None → (first_in at xs ≡ None) × (first_in at ys ≡ None)
-none_apart at [] ys h = (refl, h)
-none_apart at (x ∷ xs) ys h =
-    let here = none_both (at x) (first_in at (xs ++ ys)) h in
-    let rest = none_apart at xs ys here.1 in
-    (ap (λ o. option_or o (first_in at xs)) here.0 ∙ rest.0, rest.1)
+-- ---- what a plain subject lacks
 
-none_amid : {X O : Type 0} (at : X → Option O) (front : List X) (z : X) (zs later last : List X) → first_in at (front ++ (z ∷ zs) ++ later ++ last) ≡ None → at z ≡ None
-none_amid at front z zs later last h =
-    let first = none_apart at (front ++ (z ∷ zs) ++ later) last h in
-    let second = none_apart at (front ++ (z ∷ zs)) later first.0 in
-    let third = none_apart at front (z ∷ zs) second.0 in
-    (none_both (at z) (first_in at zs) third.1).0
+pub record IsPlain (s : NamedSubject) : Type 0 where
+  pub component : s.component ≡ None
+  pub channels : s.channels ≡ []
+  pub devices : s.devices ≡ []
+  pub msrs : s.msrs ≡ []
 
-pub none_in_front : {X O : Type 0} (at : List X → X → Option O) (before xs ys : List X) → first_after at before (xs ++ ys) ≡ None → first_after at before xs ≡ None
-none_in_front at before [] ys h = refl
-none_in_front at before (x ∷ xs) ys h =
-    let here = none_both (at before x) (first_after at (before ++ x ∷ []) (xs ++ ys)) h in
-    ap (λ o. option_or o (first_after at (before ++ x ∷ []) xs)) here.0 ∙ none_in_front at (before ++ x ∷ []) xs ys here.1
-
-pub unique_regions : (p : Source) → offence_1 p ≡ None → repeated (map (λ r. r.name) p.memory) ≡ None
-unfolding offence_1
-unique_regions p h =
-    let front = (map (λ b. b.name) p.memory_blocks ∷ map (λ d. d.name) p.devices ∷ []) ++ flat_map device_kinds p.devices in
-    let regions = map (λ r. r.name) p.memory in
-    let channels = map (λ c. c.name) p.channels in
-    let last = map (λ e. e.name) p.events ∷ map (λ s. s.name) p.subjects ∷ map (λ g. g.name) p.scheduling.groups ∷ [] in
-    none_in_front (λ before x. first_in (λ b. unless (not (bytes_eq b x)) (alone x)) before) [] regions channels
-    (none_amid repeated front (regions ++ channels) (map (λ c. c.name) p.components ∷ []) (map logical_names p.components) last h)
-
--- ---- each subject of a built policy
-
--- its places are there, and it uses nothing that isn't built
-pub record IsPlain (r : Resolution) (s : PlacedSubject) : Type 0 where
-  pub places : list_all (λ m. nat_lt m.region (length r.memory)) s.memory ≡ true
-  pub plain : is_plain (subject_named r s) ≡ true
-
-each_plain : (r : Resolution) (ss : List PlacedSubject) → list_all (subject_placed r) ss ≡ true → list_all is_plain (map (subject_named r) ss) ≡ true → All (IsPlain r) ss
-each_plain r [] places plain = All-nil (IsPlain r)
-each_plain r (s ∷ ss) places plain =
-    let here = both _ _ places in
-    let now = both _ _ plain in
-    let e = both _ _ here.0 in
+pub plain : (s : NamedSubject) → is_plain s ≡ true → IsPlain s
+plain s h =
+    let e = both _ _ h in
     let d = both _ _ e.0 in
     let c = both _ _ d.0 in
     let b = both _ _ c.0 in
     let a = both _ _ b.0 in
-    All-cons (IsPlain r) s ss (record { places = a.1; plain = now.0 }) (each_plain r ss here.1 now.1)
+    record {
+      component = none_some s.component a.0;
+      channels = no_items s.channels a.1;
+      devices = no_items s.devices b.1;
+      msrs = no_items s.msrs c.1;
+    }
 
-pub plain_subjects : (r : Resolution) → IsResolved r → is_built (source_of r) ≡ true → All (IsPlain r) r.subjects
-unfolding is_built source_of are_placed
-plain_subjects r h built =
-    let placed = both _ _ h.placed in
-    each_plain r r.subjects (both _ _ placed.0).0 (both _ _ built).1
+-- ---- names of regions
 
--- names of regions are unique
-pub unique_names : (r : Resolution) → IsResolved r → repeated (map (λ x. x.name) r.memory) ≡ None
-unfolding source_of
-unique_names r h = unique_regions (source_of r) h.names
+pub none_append : {X O : Type 0} (at : X → Option O) (xs ys : List X) → first_in at (xs ++ ys) ≡ None → (first_in at xs ≡ None) × (first_in at ys ≡ None)
+none_append at [] ys h = (refl, h)
+none_append at (x ∷ xs) ys h =
+    let a = none_both (at x) (first_in at (xs ++ ys)) h in
+    let b = none_append at xs ys a.1 in
+    (rw a.0 b.0, b.1)
 
--- ---- windows
+-- the names of each kind are unique
+pub record Unique (p : Source) : Type 0 where
+  pub blocks : repeated (map (λ b. b.name) p.memory_blocks) ≡ None
+  pub regions : repeated (map (λ r. r.name) p.memory ++ map (λ c. c.name) p.channels) ≡ None
+  pub subjects : repeated (map (λ s. s.name) p.subjects) ≡ None
+  pub groups : repeated (map (λ g. g.name) p.scheduling.groups) ≡ None
 
--- the window that a mapping gives
-abbrev pub window_at : Resolution → PlacedMapping → Option (Window Thing)
-window_at r m = option_map (λ x. window m.virtual_address x.size m.rights.0 (region x.name)) (slice_get r.memory m.region)
+pub unique : (p : Source) → offence_1 p ≡ None → Unique p
+unfolding offence_1
+unique p h =
+    let front = map (λ b. b.name) p.memory_blocks ∷ map (λ d. d.name) p.devices ∷ [] in
+    let devices = flat_map device_kinds p.devices in
+    let middle = (map (λ r. r.name) p.memory ++ map (λ c. c.name) p.channels) ∷ map (λ c. c.name) p.components ∷ [] in
+    let logical = map logical_names p.components in
+    let back = map (λ e. e.name) p.events ∷ map (λ s. s.name) p.subjects ∷ map (λ g. g.name) p.scheduling.groups ∷ [] in
+    let d = none_append repeated (((front ++ devices) ++ middle) ++ logical) back h in
+    let c = none_append repeated ((front ++ devices) ++ middle) logical d.0 in
+    let b = none_append repeated (front ++ devices) middle c.0 in
+    let a = none_append repeated front devices b.0 in
+    record {
+      blocks = (none_both _ _ a.0).0;
+      regions = (none_both _ _ b.1).0;
+      subjects = (none_both _ _ (none_both _ _ d.1).1).0;
+      groups = (none_both _ _ (none_both _ _ (none_both _ _ d.1).1).1).0;
+    }
 
--- a subject with nothing that isn't built has the windows of its mappings alone
-pub plain_windows : (p : Source) (s : Subject) → is_plain s ≡ true → windows_of p s ≡ filter_map (λ m. region_window p m.region m.virtual_address m.rights.0) s.memory
-unfolding windows_of
-plain_windows p s h =
+pub record HasNoOther (p : Source) : Type 0 where
+  pub devices : p.devices ≡ []
+  pub channels : p.channels ≡ []
+  pub components : p.components ≡ []
+  pub events : p.events ≡ []
+  pub subjects : list_all is_plain p.subjects ≡ true
+
+pub built : (p : Source) → is_built p ≡ true → HasNoOther p
+unfolding is_built
+built p h =
     let d = both _ _ h in
     let c = both _ _ d.0 in
     let b = both _ _ c.0 in
     let a = both _ _ b.0 in
-    let f = both _ _ a.0 in
-    let component : s.component ≡ None = no_value s.component f.0 in
-    let channels : s.channels ≡ [] = no_items s.channels f.1 in
-    let devices : s.devices ≡ [] = no_items s.devices a.1 in
-    rw (component, channels, devices) (simp append-nil)
+    record {
+      devices = no_items p.devices a.0;
+      channels = no_items p.channels a.1;
+      components = no_items p.components b.1;
+      events = no_items p.events c.1;
+      subjects = d.1;
+    }
 
--- the region that is found by its name is the one at its place
-region_at : (r : Resolution) (m : PlacedMapping) → repeated (map (λ x. x.name) r.memory) ≡ None → nat_lt m.region (length r.memory) ≡ true → region_window (source_of r) (mapping_named r m).region m.virtual_address m.rights.0 ≡ window_at r m
+-- ---- windows
+
+module _ (p : Source) (regions : List Region) (same : p.memory ≡ regions) (names : repeated (map (λ r. r.name) regions) ≡ None) where
+  region_placed : (k guest rights : ℕ) → k < length regions → region_window p (name_at (map (λ r. r.name) regions) k) guest rights ≡ Some (window guest (region_at regions k).size rights (region (region_at regions k).name))
+  region_placed k guest rights h =
+      ap (λ rs. option_map (λ r. window guest r.size rights (region r.name)) (find (λ r. bytes_eq r.name (name_at (map (λ r. r.name) regions) k)) rs)) same
+      ∙ ap (option_map (λ (r : Region). window guest r.size rights (region r.name))) (found_at_place (λ (r : Region). r.name) regions k names h ∙ slice_get-get_or regions k no_region h)
+
+pub is_below : (a b : ℕ) → nat_lt a b ≡ true → a < b
+is_below a b h = grind (arith, nat_tests)
+
+module _ (r : Resolution) (names : repeated (map (λ x. x.name) r.memory) ≡ None) where
+  p : Source
+  p = source_of r
+
+  memory_is : p.memory ≡ r.memory
+  unfolding p source_of
+  memory_is = refl
+
+  mappings_placed : (ms : List Mapping) → list_all (λ m. nat_lt m.region (length r.memory)) ms ≡ true → map window_extent (filter_map (λ m. region_window p m.region m.virtual_address m.rights.0) (map (mapping_named r) ms)) ≡ map (mapping_extent r.memory) ms
+  mappings_placed [] h = refl
+  mappings_placed (m ∷ ms) h =
+      let a : (nat_lt m.region (length r.memory) ≡ true) × (list_all (λ m. nat_lt m.region (length r.memory)) ms ≡ true) = both _ _ h in
+      let one = region_placed p r.memory memory_is names m.region m.virtual_address m.rights.0 (is_below m.region (length r.memory) a.0) in
+      ap (λ o. map window_extent (cons_option o (filter_map (λ m. region_window p m.region m.virtual_address m.rights.0) (map (mapping_named r) ms)))) one
+      ∙ ap (λ es. mapping_extent r.memory m ∷ es) (mappings_placed ms a.1)
+
+  windows_are : (s : Subject) → is_plain (subject_named r s) ≡ true → windows_of p (subject_named r s) ≡ filter_map (λ m. region_window p m.region m.virtual_address m.rights.0) (map (mapping_named r) s.memory)
+  unfolding windows_of
+  windows_are s h =
+      let q = plain (subject_named r s) h in
+      rw (q.component, q.channels, q.devices, append-nil, append-nil, append-nil) refl
+
+  pub extents_placed : (s : Subject) → is_plain (subject_named r s) ≡ true → list_all (λ m. nat_lt m.region (length r.memory)) s.memory ≡ true → window_extents (source_of r) (subject_named r s) ≡ map (mapping_extent r.memory) s.memory
+  unfolding window_extents p
+  extents_placed s h placed = ap (map window_extent) (windows_are s h) ∙ mappings_placed s.memory placed
+
+-- ---- subjects of a built policy
+
+pub regions_unique : (r : Resolution) → is_built (source_of r) ≡ true → offence_1 (source_of r) ≡ None → repeated (map (λ x. x.name) r.memory) ≡ None
 unfolding source_of
-region_at r m unique placed =
-    let within : m.region < length r.memory = grind (arith, nat_tests) in
-    ap (option_map (λ x. window m.virtual_address x.size m.rights.0 (region x.name))) (found_at_place (λ x. x.name) r.memory m.region unique within)
+regions_unique r b h =
+    let none : r.channels ≡ [] = (built (source_of r) b).channels in
+    let regions : repeated (map (λ x. x.name) r.memory ++ map (λ c. c.name) r.channels) ≡ None = (unique (source_of r) h).regions in
+    sym (ap repeated (ap (λ cs. map (λ (x : Region). x.name) r.memory ++ map (λ (c : Channel). c.name) cs) none ∙ append-nil _)) ∙ regions
 
-each_window : (r : Resolution) (ms : List PlacedMapping) → repeated (map (λ x. x.name) r.memory) ≡ None → list_all (λ m. nat_lt m.region (length r.memory)) ms ≡ true → filter_map (λ m. region_window (source_of r) m.region m.virtual_address m.rights.0) (map (mapping_named r) ms) ≡ filter_map (window_at r) ms
-each_window r [] unique placed = refl
-each_window r (m ∷ ms) unique placed =
-    let parts = both _ _ placed in
-    rw (region_at r m unique parts.0, each_window r ms unique parts.1) refl
+each_ready : (r : Resolution) (ss : List Subject) → list_all is_plain (map (subject_named r) ss) ≡ true → list_all (subject_placed r) ss ≡ true → list_all (is_ready r) ss ≡ true
+each_ready r [] h k = refl
+each_ready r (s ∷ ss) h k =
+    let a : (is_plain (subject_named r s) ≡ true) × (list_all is_plain (map (subject_named r) ss) ≡ true) = both _ _ h in
+    let b : (subject_placed r s ≡ true) × (list_all (subject_placed r) ss ≡ true) = both _ _ k in
+    let e = both _ _ b.0 in
+    let d = both _ _ e.0 in
+    let c = both _ _ d.0 in
+    let m = both _ _ c.0 in
+    both_pass _ _ (both_pass _ _ a.0 (both _ _ m.0).1) (each_ready r ss a.1 b.1)
 
--- the windows of a subject are those that its mappings give, each on the region at its place
-pub windows_by_place : (r : Resolution) (s : PlacedSubject) → repeated (map (λ x. x.name) r.memory) ≡ None → IsPlain r s → windows_of (source_of r) (subject_named r s) ≡ filter_map (window_at r) s.memory
-windows_by_place r s unique h = plain_windows (source_of r) (subject_named r s) h.plain ∙ each_window r s.memory unique h.places
-
--- the same with a size and a name for each place, which is there
-abbrev pub window_shown : Resolution → PlacedMapping → Window Thing
-window_shown r m =
-    window m.virtual_address (slice_index_or (map (λ x. x.size) r.memory) m.region 0) m.rights.0 (region (name_at (map (λ x. x.name) r.memory) m.region))
-
-shown_in : (guest rights : ℕ) (xs : List Region) (k : ℕ) → k < length xs → option_map (λ x. window guest x.size rights (region x.name)) (slice_get xs k) ≡ Some (window guest (slice_index_or (map (λ x. x.size) xs) k 0) rights (region (name_at (map (λ x. x.name) xs) k)))
-shown_in guest rights [] k h = absurd (omega arith)
-shown_in guest rights (x ∷ xs) zero h = refl
-shown_in guest rights (x ∷ xs) (suc k) h = shown_in guest rights xs k (omega arith)
-
-is_shown : (r : Resolution) (m : PlacedMapping) → nat_lt m.region (length r.memory) ≡ true → window_at r m ≡ Some (window_shown r m)
-is_shown r m placed =
-    let within : m.region < length r.memory = grind (arith, nat_tests) in
-    shown_in m.virtual_address m.rights.0 r.memory m.region within
-
-each_shown : (r : Resolution) (ms : List PlacedMapping) → list_all (λ m. nat_lt m.region (length r.memory)) ms ≡ true → filter_map (window_at r) ms ≡ map (window_shown r) ms
-each_shown r [] placed = refl
-each_shown r (m ∷ ms) placed =
-    let parts = both _ _ placed in
-    rw (is_shown r m parts.0, each_shown r ms parts.1) refl
-
-pub windows_shown : (r : Resolution) (s : PlacedSubject) → repeated (map (λ x. x.name) r.memory) ≡ None → IsPlain r s → windows_of (source_of r) (subject_named r s) ≡ map (window_shown r) s.memory
-windows_shown r s unique h = windows_by_place r s unique h ∙ each_shown r s.memory h.places
+pub all_ready : (r : Resolution) → is_built (source_of r) ≡ true → are_placed r ≡ true → list_all (is_ready r) r.subjects ≡ true
+unfolding source_of are_placed
+all_ready r b h = each_ready r r.subjects (built (source_of r) b).subjects (both _ _ (both _ _ h).0).0

@@ -1,5 +1,6 @@
 //! The rules that a policy must keep beyond its names and references.
 #![tactic(auto)]
 
-mod overlap;
+mod addresses;
+mod windows;
 mod writers;

@@ -199,6 +199,8 @@ pub struct MinorFrame {
 }
 
 impl Resolved {
+    ghost use Rattle.policy_types.specs.Resolution.{IsResolved};
+
     /// The processor.
     pub fn processor(&self) -> &Processor
         ensures { result.now ≡ self.now.processor }
@@ -222,7 +224,8 @@ impl Resolved {
 
     /// The regions of memory.
     pub fn memory(&self) -> &[Region]
-        ensures { result.now ≡ self.now.memory }
+        ensures value { result.now ≡ self.now.memory }
+        ensures resolved { IsResolved self.now }
     {
         self.memory.items()
     }
@@ -250,14 +253,16 @@ impl Resolved {
 
     /// The subjects.
     pub fn subjects(&self) -> &[Subject]
-        ensures { result.now ≡ self.now.subjects }
+        ensures value { result.now ≡ self.now.subjects }
+        ensures resolved { IsResolved self.now }
     {
         self.subjects.items()
     }
 
     /// The scheduling plan.
     pub fn scheduling(&self) -> &Scheduling
-        ensures { result.now ≡ self.now.scheduling }
+        ensures value { result.now ≡ self.now.scheduling }
+        ensures resolved { IsResolved self.now }
     {
         &self.scheduling
     }

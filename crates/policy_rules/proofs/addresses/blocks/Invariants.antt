@@ -1,0 +1,9 @@
+use Rattle.std.proofs.Common.{◌≡◌, drop}
+use Rattle.policy_types.specs.Search.{alone, unless, first_in}
+use Rattle.policy_types.specs.Rules.{is_physical}
+use Rattle.policy_rules.proofs.addresses.blocks.Given as goal
+
+abbrev pub invariant-loop-block : goal.invariant-loop-block
+invariant-loop-block l =
+    first_in (λ b. unless (is_physical b.physical_address b.size) (alone b.name)) (drop l.block-index l.blocks)
+    ≡ first_in (λ b. unless (is_physical b.physical_address b.size) (alone b.name)) l.blocks

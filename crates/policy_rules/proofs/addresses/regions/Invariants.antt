@@ -1,0 +1,9 @@
+use Rattle.std.proofs.Common.{◌≡◌, drop}
+use Rattle.policy_types.specs.Search.{alone, unless, first_in}
+use Rattle.policy_types.specs.Rules.{is_laid}
+use Rattle.policy_rules.proofs.addresses.regions.Given as goal
+
+abbrev pub invariant-loop-region : goal.invariant-loop-region
+invariant-loop-region l =
+    first_in (λ r. unless (is_laid r) (alone r.name)) (drop l.region-index l.regions)
+    ≡ first_in (λ r. unless (is_laid r) (alone r.name)) l.regions

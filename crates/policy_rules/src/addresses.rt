@@ -1,0 +1,105 @@
+// Rule 4: addresses and sizes.
+ghost use Rattle.std.specs.Prelude.{◌≡◌, ◌+◌, true};
+ghost use Rattle.policy_types.specs.Search.{alone, unless, first_in};
+ghost use Rattle.policy_types.specs.Rules.{is_page_aligned, is_page_size, is_physical, is_guest, is_alignment, is_fixed, is_laid};
+
+use muen_num::Name;
+use policy_types::Offence;
+use policy_types::source::{Block, Region};
+
+const PAGE: u64 = 4096;
+
+const LARGE_PAGE: u64 = 1 << 21;
+
+const PHYSICAL_END: u128 = 1 << 40;
+
+const GUEST_END: u128 = 1 << 48;
+
+/// An offence that names one thing alone.
+pub(crate) fn alone(name: Name) -> Offence
+    ensures { result ≡ alone name }
+{
+    Offence {
+        first: name,
+        second: name,
+    }
+}
+
+fn is_page_aligned(n: u64) -> bool
+    ensures { result ≡ is_page_aligned n }
+{
+    n % PAGE == 0
+}
+
+fn is_page_size(n: u64) -> bool
+    ensures { result ≡ is_page_size n }
+{
+    is_page_aligned(n) && n > 0
+}
+
+fn end(address: u64, size: u64) -> u128
+    ensures { result ≡ address + size }
+{
+    u128::from(address) + u128::from(size)
+}
+
+// Whether this is a range of physical memory.
+fn is_physical(address: u64, size: u64) -> bool
+    ensures { result ≡ is_physical address size }
+{
+    is_page_aligned(address) && is_page_size(size) && end(address, size) <= PHYSICAL_END
+}
+
+/// Whether this is a range of guest addresses.
+pub(crate) fn is_guest(address: u64, size: u64) -> bool
+    ensures { result ≡ is_guest address size }
+{
+    is_page_aligned(address) && is_page_size(size) && end(address, size) <= GUEST_END
+}
+
+fn is_alignment(n: u64) -> bool
+    ensures { result ≡ is_alignment n }
+{
+    n == PAGE || n == LARGE_PAGE
+}
+
+// Whether a region is where it has to be, if it has to be anywhere. Its alignment is one of the two.
+fn is_fixed(region: &Region) -> bool
+    requires { is_alignment region.now.alignment ≡ true }
+    ensures { result ≡ is_fixed region.now region.now.physical_address }
+{
+    match region.physical_address {
+        None => true,
+        Some(address) => is_physical(address, region.size) && address % region.alignment == 0,
+    }
+}
+
+fn is_laid(region: &Region) -> bool
+    ensures { result ≡ is_laid region.now }
+{
+    is_page_size(region.size) && is_alignment(region.alignment) && is_fixed(region)
+}
+
+/// The first block that isn't a range of physical memory.
+pub(crate) fn blocks(blocks: &[Block]) -> Option<Offence>
+    ensures { result ≡ first_in (λ b. unless (is_physical b.physical_address b.size) (alone b.name)) blocks.now }
+{
+    for block in blocks {
+        if !is_physical(block.physical_address, block.size) {
+            return Some(alone(block.name));
+        }
+    }
+    None
+}
+
+/// The first region whose size, alignment or address isn't one.
+pub(crate) fn regions(regions: &[Region]) -> Option<Offence>
+    ensures { result ≡ first_in (λ r. unless (is_laid r) (alone r.name)) regions.now }
+{
+    for region in regions {
+        if !is_laid(region) {
+            return Some(alone(region.name));
+        }
+    }
+    None
+}

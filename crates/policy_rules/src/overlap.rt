@@ -1,1 +1,0 @@
-// Which two of many ranges overlap first.
