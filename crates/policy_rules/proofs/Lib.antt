@@ -4,5 +4,6 @@ pub mod Naming
 pub mod Overlaps
 pub mod Searches
 pub mod Searching
+pub mod SharedRegions
 pub mod Spans
 pub mod WindowsByPlace

@@ -1,4 +1,5 @@
 pub mod ByPlace
 pub mod Keys
 pub mod Placed
+pub mod Shared
 pub mod Span

@@ -12,3 +12,4 @@ mod overlap;
 mod windows;
 #[cfg(test)]
 mod tests;
+mod writers;
