@@ -1,5 +1,6 @@
 pub mod AsBuilt
 pub mod ByPlace
+pub mod NamedParts
 pub mod Naming
 pub mod Overlaps
 pub mod Searches

@@ -1,5 +1,6 @@
 pub mod ByPlace
 pub mod Keys
+pub mod Limits
 pub mod Placed
 pub mod Shared
 pub mod Span

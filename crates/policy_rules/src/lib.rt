@@ -5,11 +5,12 @@ mod addresses;
 mod apart;
 mod cpus;
 mod frame_names;
-mod keys;
 mod groups;
+mod keys;
 mod major_frames;
 mod overlap;
 mod windows;
+mod writers;
+
 #[cfg(test)]
 mod tests;
-mod writers;

@@ -1,0 +1,99 @@
+-- Rules 3 and 20 of a resolved policy: its elements have the names and numbers of the source policy's.
+use Rattle.std.proofs.Common.{◌≡◌, ℕ, ◌+◌, ◌*◌, Bool, true, List, [], ◌∷◌, length, map, Option, Some, None, refl, sym, ap, ◌∙◌}
+use Rattle.std.specs.Prelude.{◌&&◌, nat_lt, nat_le, codes}
+use Rattle.std.specs.Option.{option_or}
+use Rattle.std.specs.List.{list_all, sum_by, enumerate_from}
+use Rattle.std.proofs.lemmas.List.{length-map}
+use Rattle.std.proofs.lemmas.List.Sums.{sum_by-cons}
+use Rattle.policy_types.specs.Search.{alone, two, unless, first_of, first_in}
+use Rattle.policy_types.specs.Rules.{major_name, cpu_name, ticks_in, at_most, subject_limit, major_limit, offence_1, offence_3, offence_20}
+use Rattle.policy_types.specs.Built.{is_built}
+use Rattle.policy_types.specs.Resolution.{Resolution, subject_named, group_named, cpu_named, major_named, source_of, are_placed, IsResolved}
+use Rattle.policy_types.specs.declared.offence.Offence.{Offence}
+use Rattle.policy_types.specs.declared.source.MinorFrame.{MinorFrame}
+use Rattle.policy_types.specs.declared.source.CpuFrames.{CpuFrames as NamedCpu}
+use Rattle.policy_types.specs.declared.resolved.Subject.{Subject}
+use Rattle.policy_types.specs.declared.resolved.MajorFrame.{MajorFrame}
+use Rattle.policy_types.specs.declared.resolved.CpuFrames.{CpuFrames}
+use Rattle.policy_types.specs.declared.resolved.MinorFrame.{MinorFrame as PlacedMinor}
+use Rattle.policy_rules.specs.ByPlace.{is_ready}
+use Rattle.policy_rules.specs.Limits.{cpus_offence, entry_within, major_within, limits_offence}
+use Rattle.policy_rules.specs.Placed.{ticks_in as placed_ticks}
+use Rattle.policy_rules.proofs.AsBuilt.{limits_built, windows_limit}
+use Rattle.policy_rules.proofs.WindowsByPlace.{both, all_ready}
+
+-- ---- searches over what is named
+
+pub first_map : {X Y O : Type 0} (at : Y → Option O) (f : X → Y) (xs : List X) → first_in at (map f xs) ≡ first_in (λ x. at (f x)) xs
+first_map at f [] = refl
+first_map at f (x ∷ xs) = ap (option_or (at (f x))) (first_map at f xs)
+
+-- the same answer at each numbered element
+pub first_numbered : {X Y O : Type 0} (at : ℕ × Y → Option O) (to : ℕ × X → Option O) (f : X → Y) → ((k : ℕ) (x : X) → at (k, f x) ≡ to (k, x)) → (k : ℕ) (xs : List X) → first_in at (enumerate_from k (map f xs)) ≡ first_in to (enumerate_from k xs)
+first_numbered at to f same k [] = refl
+first_numbered at to f same k (x ∷ xs) =
+    λ i. option_or (same k x i) (first_numbered at to f same (k + 1) xs i)
+
+-- ---- rule 3
+
+module _ (r : Resolution) where
+  major_cpus : (cpus k : ℕ) (m : MajorFrame) → first_in {O = Offence} (λ c. unless (nat_lt c.cpu cpus) (two (major_name k) (cpu_name c.cpu))) (major_named r m).cpus ≡ first_in (λ c. unless (nat_lt c.cpu cpus) (two (major_name k) (cpu_name c.cpu))) m.cpus
+  major_cpus cpus k m =
+      first_map (λ (c : NamedCpu). unless {O = Offence} (nat_lt c.cpu cpus) (two (major_name k) (cpu_name c.cpu))) (cpu_named r) m.cpus
+
+  pub cpus_named : offence_3 (source_of r) ≡ cpus_offence r
+  unfolding offence_3 source_of
+  cpus_named =
+      let cpus = r.processor.logical_cpus in
+      let subjects = first_map (λ (s : Rattle.policy_types.specs.declared.source.Subject.Subject). unless {O = Offence} (nat_lt s.cpu cpus) (alone s.name)) (subject_named r) r.subjects in
+      let groups = first_map (λ (g : Rattle.policy_types.specs.declared.source.Group.Group). unless {O = Offence} (nat_lt g.cpu cpus) (alone g.name)) (group_named r) r.scheduling.groups in
+      let majors = first_numbered (λ m. first_in (λ c. unless (nat_lt c.cpu cpus) (two (major_name m.0) (cpu_name c.cpu))) m.1.cpus) (λ m. first_in (λ c. unless (nat_lt c.cpu cpus) (two (major_name m.0) (cpu_name c.cpu))) m.1.cpus) (major_named r) (λ k m. major_cpus cpus k m) 0 r.scheduling.major_frames in
+      λ i. first_of (
+        unless (nat_le 1 cpus && nat_le cpus 8) (alone (codes "processor"))
+        ∷ subjects i
+        ∷ groups i
+        ∷ majors i
+        ∷ []
+      )
+
+  -- ---- rule 20
+
+  ticks_named : (fs : List PlacedMinor) → sum_by (λ f. f.ticks) (cpu_named r (record { cpu = 0; minor_frames = fs })).minor_frames ≡ sum_by (λ f. f.ticks) fs
+  ticks_named [] = refl
+  ticks_named (f ∷ fs) =
+      sum_by-cons (λ (f : MinorFrame). f.ticks) _ _
+      ∙ ap (λ n. f.ticks + n) (ticks_named fs)
+      ∙ sym (sum_by-cons (λ (f : PlacedMinor). f.ticks) f fs)
+
+  entries_named : (cs : List CpuFrames) → list_all (λ c. nat_le (ticks_in c) 100000 && nat_le (length c.minor_frames) 64) (map (cpu_named r) cs) ≡ list_all entry_within cs
+  entries_named [] = refl
+  entries_named (c ∷ cs) =
+      λ i. (nat_le (ticks_named c.minor_frames i) 100000 && nat_le (length-map c.minor_frames (λ f. record { group = Rattle.policy_types.specs.Resolution.name_at (map (λ g. g.name) r.scheduling.groups) f.group; ticks = f.ticks }) i) 64) && entries_named cs i
+
+  major_limit_named : (k : ℕ) (m : MajorFrame) → major_limit (k, major_named r m) ≡ major_within (k, m)
+  major_limit_named k m = ap (λ b. unless b (alone (major_name k))) (entries_named m.cpus)
+
+  subjects_within : is_built (source_of r) ≡ true → offence_1 (source_of r) ≡ None → (ss : List Subject) → list_all (is_ready r) ss ≡ true → first_in (subject_limit (source_of r)) (map (subject_named r) ss) ≡ first_in (λ s. unless (nat_le (length s.memory) 128) (alone s.name)) ss
+  subjects_within b names [] h = refl
+  subjects_within b names (s ∷ ss) h =
+      let a : (is_ready r s ≡ true) × (list_all (is_ready r) ss ≡ true) = both _ _ h in
+      λ i. option_or (windows_limit r s b names a.0 i) (subjects_within b names ss a.1 i)
+
+  pub limits_named : is_built (source_of r) ≡ true → IsResolved r → offence_20 (source_of r) ≡ limits_offence r
+  unfolding source_of
+  limits_named b q =
+      let many = length-map r.subjects (subject_named r) in
+      let majors = length-map r.scheduling.major_frames (major_named r) in
+      let windows = subjects_within b q.names r.subjects (all_ready r b q.placed) in
+      let within = first_numbered major_limit major_within (major_named r) major_limit_named 0 r.scheduling.major_frames in
+      limits_built (source_of r) b
+      ∙ (λ i. first_of (
+        at_most (length r.memory_blocks) 16 (codes "memoryBlocks")
+        ∷ at_most (sum_by (λ b. b.size) r.memory_blocks) 67108864 (codes "memoryBlocks")
+        ∷ unless (nat_le 1 (many i) && nat_le (many i) 32) (alone (codes "subjects"))
+        ∷ windows i
+        ∷ at_most (length r.memory + 5 * many i) 1024 (codes "memory")
+        ∷ unless (nat_le 1 (majors i) && nat_le (majors i) 16) (alone (codes "majorFrames"))
+        ∷ within i
+        ∷ []
+      ))
