@@ -28,7 +28,7 @@ use Rattle.policy_rules.proofs.WindowsByPlace.{both, is_below, plain, regions_un
 
 -- ---- searches
 
-pub find-map : {X Y : Type 0} (test : Y → Bool) (f : X → Y) (xs : List X) → find test (map f xs) ≡ option_map f (find (λ x. test (f x)) xs)
+find-map : {X Y : Type 0} (test : Y → Bool) (f : X → Y) (xs : List X) → find test (map f xs) ≡ option_map f (find (λ x. test (f x)) xs)
 find-map test f [] = refl
 find-map test f (x ∷ xs) =
     elim (test (f x)) as (λ b. cond b (Some (f x)) (find test (map f xs)) ≡ option_map f (cond b (Some x) (find (λ x. test (f x)) xs))) [
@@ -37,13 +37,13 @@ find-map test f (x ∷ xs) =
     ]
 
 -- two tests that agree on each element
-pub same_find : {X : Type 0} (P : X → Type 0) (test other : X → Bool) → ((x : X) → P x → test x ≡ other x) → (xs : List X) → All P xs → find test xs ≡ find other xs
+same_find : {X : Type 0} (P : X → Type 0) (test other : X → Bool) → ((x : X) → P x → test x ≡ other x) → (xs : List X) → All P xs → find test xs ≡ find other xs
 same_find P test other same [] h = refl
 same_find P test other same (x ∷ xs) h =
     ap (λ b. cond b (Some x) (find test xs)) (same x (All-head P x xs h))
     ∙ ap (cond (other x) (Some x)) (same_find P test other same xs (All-tail P x xs h))
 
-pub none_found : {X : Type 0} (xs : List X) → find (λ x. false) xs ≡ None
+none_found : {X : Type 0} (xs : List X) → find (λ x. false) xs ≡ None
 none_found [] = refl
 none_found (x ∷ xs) = none_found xs
 
@@ -54,7 +54,7 @@ list_any-map test f (x ∷ xs) = ap (λ b. test (f x) || b) (list_any-map test f
 -- ---- windows
 
 -- the window that a mapping gives: on the region at its place
-abbrev pub window_shown : Resolution → Mapping → Window Thing
+abbrev window_shown : Resolution → Mapping → Window Thing
 window_shown r m =
     window m.virtual_address (slice_index_or (map (λ x. x.size) r.memory) m.region 0) m.rights.0 (region (name_at (map (λ x. x.name) r.memory) m.region))
 
@@ -73,7 +73,7 @@ each_shown r (m ∷ ms) unique placed =
     rw (found, shown_in m.virtual_address m.rights.0 r.memory m.region within, each_shown r ms unique parts.1) refl
 
 -- the windows of a subject are those of its mappings
-pub windows_shown : (r : Resolution) (s : Subject) → repeated (map (λ x. x.name) r.memory) ≡ None → is_ready r s ≡ true → windows_of (source_of r) (subject_named r s) ≡ map (window_shown r) s.memory
+windows_shown : (r : Resolution) (s : Subject) → repeated (map (λ x. x.name) r.memory) ≡ None → is_ready r s ≡ true → windows_of (source_of r) (subject_named r s) ≡ map (window_shown r) s.memory
 unfolding windows_of
 windows_shown r s unique ready =
     let parts = both (is_plain (subject_named r s)) (list_all (λ m. nat_lt m.region (length r.memory)) s.memory) ready in
@@ -101,7 +101,7 @@ on_region names n k f (m ∷ ms) unique many within placed =
     let b : k < length names = omega arith in
     rw (same_name names m.region k unique a b, on_region names n k f ms unique many within parts.1) refl
 
-pub maps_at : (r : Resolution) (s : Subject) (k : ℕ) → repeated (map (λ x. x.name) r.memory) ≡ None → is_ready r s ≡ true → k < length r.memory → maps (source_of r) (name_at (map (λ x. x.name) r.memory) k) (subject_named r s) ≡ shows k s
+maps_at : (r : Resolution) (s : Subject) (k : ℕ) → repeated (map (λ x. x.name) r.memory) ≡ None → is_ready r s ≡ true → k < length r.memory → maps (source_of r) (name_at (map (λ x. x.name) r.memory) k) (subject_named r s) ≡ shows k s
 maps_at r s k unique h within =
     let placed = (both (is_plain (subject_named r s)) (list_all (λ m. nat_lt m.region (length r.memory)) s.memory) h).1 in
     let names = map (λ x. x.name) r.memory in
@@ -109,7 +109,7 @@ maps_at r s k unique h within =
     ∙ (list_any-map (λ w. same_thing w.thing (region (name_at names k))) (window_shown r) s.memory
     ∙ on_region names (length r.memory) k (λ b m. b) s.memory unique (length-map r.memory (λ x. x.name)) within placed)
 
-pub writes_at : (r : Resolution) (s : Subject) (k : ℕ) → repeated (map (λ x. x.name) r.memory) ≡ None → is_ready r s ≡ true → k < length r.memory → writes (source_of r) (name_at (map (λ x. x.name) r.memory) k) (subject_named r s) ≡ alters k s
+writes_at : (r : Resolution) (s : Subject) (k : ℕ) → repeated (map (λ x. x.name) r.memory) ≡ None → is_ready r s ≡ true → k < length r.memory → writes (source_of r) (name_at (map (λ x. x.name) r.memory) k) (subject_named r s) ≡ alters k s
 writes_at r s k unique h within =
     let placed = (both (is_plain (subject_named r s)) (list_all (λ m. nat_lt m.region (length r.memory)) s.memory) h).1 in
     let names = map (λ x. x.name) r.memory in
@@ -167,13 +167,6 @@ shared_offence r writers others h built w o =
 
 -- ---- notes, one after another
 
-pub noted_both : (old : Option (List ℕ)) (a b : Bool) (name : List ℕ) → noted (noted old a name) b name ≡ noted old (a || b) name
-noted_both old false b name = refl
-noted_both None true false name = refl
-noted_both None true true name = refl
-noted_both (Some x) true false name = refl
-noted_both (Some x) true true name = refl
-
 noted_found : (o : Option Subject) (b : Bool) (s : Subject) → option_map (λ s. s.name) (option_or o (cond b (Some s) None)) ≡ noted (option_map (λ s. s.name) o) b s.name
 noted_found None true s = refl
 noted_found None false s = refl
@@ -181,7 +174,7 @@ noted_found (Some x) true s = refl
 noted_found (Some x) false s = refl
 
 -- one more subject
-pub found_more : (test : Subject → Bool) (ss : List Subject) (i : ℕ) (s : Subject) → i < length ss → s ≡ get_or ss i s → option_map (λ s. s.name) (find test (take (i + 1) ss)) ≡ noted (option_map (λ s. s.name) (find test (take i ss))) (test s) s.name
+found_more : (test : Subject → Bool) (ss : List Subject) (i : ℕ) (s : Subject) → i < length ss → s ≡ get_or ss i s → option_map (λ s. s.name) (find test (take (i + 1) ss)) ≡ noted (option_map (λ s. s.name) (find test (take i ss))) (test s) s.name
 found_more test ss i s within is =
     let found : find test (take (i + 1) ss) ≡ option_or (find test (take i ss)) (cond (test (get_or ss i s)) (Some (get_or ss i s)) None) =
     ap (find test) (take_more ss i s within) ∙ find-append test (take i ss) (get_or ss i s ∷ []) in

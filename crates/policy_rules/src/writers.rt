@@ -1,4 +1,4 @@
-// What one subject may write, no other maps.
+// Rule 8: what one subject may write, no other maps.
 ghost use Rattle.std.specs.Prelude.{◌≡◌, ℕ, ◌<◌, ◌==◌, ◌&&◌, true, None, length, slice_index_or, IfOk};
 ghost use Rattle.std.specs.List.{All};
 ghost use Rattle.policy_types.specs.Built.{is_built};
@@ -112,7 +112,7 @@ fn first_named(regions: &[Region], names: &[Option<Name>]) -> Option<Offence>
     None
 }
 
-// The first region that one subject may write and another maps, and the first of these others.
+/// The first region that one subject may write and another maps, and the first of these others.
 pub(crate) fn writers(alloc: Global, r: &Resolved) -> Result<Option<Offence>, NoMemory>
     requires { is_built (source_of r.now) ≡ true }
     ensures { IfOk result (λ o. o ≡ offence_8 (source_of r.now)) }
