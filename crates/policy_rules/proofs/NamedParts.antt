@@ -8,7 +8,7 @@ use Rattle.std.proofs.lemmas.List.Sums.{sum_by-cons}
 use Rattle.policy_types.specs.Search.{alone, two, unless, first_of, first_in}
 use Rattle.policy_types.specs.Rules.{major_name, cpu_name, ticks_in, at_most, subject_limit, major_limit, offence_1, offence_3, offence_20}
 use Rattle.policy_types.specs.Built.{is_built}
-use Rattle.policy_types.specs.Resolution.{Resolution, subject_named, group_named, cpu_named, major_named, source_of, are_placed, IsResolved}
+use Rattle.policy_types.specs.Resolution.{Resolution, name_at, subject_named, group_named, cpu_named, major_named, source_of, are_placed, IsResolved}
 use Rattle.policy_types.specs.declared.offence.Offence.{Offence}
 use Rattle.policy_types.specs.declared.source.MinorFrame.{MinorFrame}
 use Rattle.policy_types.specs.declared.source.CpuFrames.{CpuFrames as NamedCpu}
@@ -61,14 +61,15 @@ module _ (r : Resolution) where
   ticks_named : (fs : List PlacedMinor) → sum_by (λ f. f.ticks) (cpu_named r (record { cpu = 0; minor_frames = fs })).minor_frames ≡ sum_by (λ f. f.ticks) fs
   ticks_named [] = refl
   ticks_named (f ∷ fs) =
-      sum_by-cons (λ (f : MinorFrame). f.ticks) _ _
+      sum_by-cons (λ (f : MinorFrame). f.ticks) (record { group = name_at (map (λ g. g.name) r.scheduling.groups) f.group; ticks = f.ticks }) (cpu_named r (record { cpu = 0; minor_frames = fs })).minor_frames
       ∙ ap (λ n. f.ticks + n) (ticks_named fs)
       ∙ sym (sum_by-cons (λ (f : PlacedMinor). f.ticks) f fs)
 
   entries_named : (cs : List CpuFrames) → list_all (λ c. nat_le (ticks_in c) 100000 && nat_le (length c.minor_frames) 64) (map (cpu_named r) cs) ≡ list_all entry_within cs
   entries_named [] = refl
   entries_named (c ∷ cs) =
-      λ i. (nat_le (ticks_named c.minor_frames i) 100000 && nat_le (length-map c.minor_frames (λ f. record { group = Rattle.policy_types.specs.Resolution.name_at (map (λ g. g.name) r.scheduling.groups) f.group; ticks = f.ticks }) i) 64) && entries_named cs i
+      let many : length (cpu_named r c).minor_frames ≡ length c.minor_frames = length-map {B = MinorFrame} c.minor_frames _ in
+      λ i. (nat_le (ticks_named c.minor_frames i) 100000 && nat_le (many i) 64) && entries_named cs i
 
   major_limit_named : (k : ℕ) (m : MajorFrame) → major_limit (k, major_named r m) ≡ major_within (k, m)
   major_limit_named k m = ap (λ b. unless b (alone (major_name k))) (entries_named m.cpus)
@@ -97,3 +98,21 @@ module _ (r : Resolution) where
         ∷ within i
         ∷ []
       ))
+
+  -- the limits on blocks, on subjects and on frames
+  pub limits_grouped : is_built (source_of r) ≡ true → IsResolved r → option_or (option_or (option_or (at_most (length r.memory_blocks) 16 (codes "memoryBlocks")) (at_most (sum_by (λ b. b.size) r.memory_blocks) 67108864 (codes "memoryBlocks"))) (option_or (unless (nat_le 1 (length r.subjects) && nat_le (length r.subjects) 32) (alone (codes "subjects"))) (option_or (first_in (λ s. unless (nat_le (length s.memory) 128) (alone s.name)) r.subjects) (at_most (length r.memory + 5 * length r.subjects) 1024 (codes "memory"))))) (option_or (unless (nat_le 1 (length r.scheduling.major_frames) && nat_le (length r.scheduling.major_frames) 16) (alone (codes "majorFrames"))) (first_in major_within (enumerate_from 0 r.scheduling.major_frames))) ≡ offence_20 (source_of r)
+  limits_grouped b q =
+      grouped _ _ _ _ _ _ _ ∙ sym (limits_named b q)
+    where
+      last : {O : Type 0} (f : Option O) → option_or f None ≡ f
+      last None = refl
+      last (Some x) = refl
+
+      grouped : {O : Type 0} (a1 a2 s1 s2 s3 f1 f2 : Option O) → option_or (option_or (option_or a1 a2) (option_or s1 (option_or s2 s3))) (option_or f1 f2) ≡ first_of (a1 ∷ a2 ∷ s1 ∷ s2 ∷ s3 ∷ f1 ∷ f2 ∷ [])
+      grouped (Some x) a2 s1 s2 s3 f1 f2 = refl
+      grouped None (Some x) s1 s2 s3 f1 f2 = refl
+      grouped None None (Some x) s2 s3 f1 f2 = refl
+      grouped None None None (Some x) s3 f1 f2 = refl
+      grouped None None None None (Some x) f1 f2 = refl
+      grouped None None None None None (Some x) f2 = refl
+      grouped None None None None None None f2 = sym (last f2)

@@ -1,4 +1,5 @@
 pub mod ByPlace
+pub mod Keeping
 pub mod Keys
 pub mod Limits
 pub mod Placed

@@ -1,14 +1,16 @@
 // Rule 3: CPUs.
-ghost use Rattle.std.specs.Prelude.{◌≡◌, nat_lt};
+ghost use Rattle.std.specs.Prelude.{◌≡◌, ◌&&◌, nat_lt, nat_le, codes};
 ghost use Rattle.std.specs.List.{enumerate_from};
 ghost use Rattle.policy_types.specs.Search.{alone, two, unless, first_in};
-ghost use Rattle.policy_types.specs.Rules.{major_name, cpu_name};
+ghost use Rattle.policy_types.specs.Resolution.{source_of};
+ghost use Rattle.policy_types.specs.Rules.{major_name, cpu_name, offence_3};
 
 use crate::addresses::alone;
 use crate::frame_names::{cpu_name, major_name};
+use crate::keys::Key;
 use muen_num::Name;
 use policy_types::Offence;
-use policy_types::resolved::{CpuFrames, Group, MajorFrame, Subject};
+use policy_types::resolved::{CpuFrames, Group, MajorFrame, Resolved, Subject};
 
 // The first subject whose CPU there isn't.
 fn subjects(subjects: &[Subject], cpus: u64) -> Option<Offence>
@@ -60,4 +62,35 @@ fn majors(majors: &[MajorFrame], cpus: u64) -> Option<Offence>
         }
     }
     None
+}
+
+// There are 1 to 8 CPUs.
+fn number(cpus: u64) -> Option<Offence>
+    ensures { result ≡ unless (nat_le 1 cpus && nat_le cpus 8) (alone (codes "processor")) }
+{
+    if cpus >= 1 && cpus <= 8 {
+        return None;
+    }
+    Some(alone(Key::Processor.name()))
+}
+
+/// Rule 3: the number of CPUs, and the CPUs of subjects, groups and frames.
+#[tactic(auto, using(crate::proofs::NamedParts::cpus_named))]
+pub(crate) fn cpus(r: &Resolved) -> Option<Offence>
+    ensures { result ≡ offence_3 (source_of r.now) }
+{
+    let cpus = r.processor().logical_cpus;
+    let offence = number(cpus);
+    if offence.is_some() {
+        return offence;
+    }
+    let offence = subjects(r.subjects(), cpus);
+    if offence.is_some() {
+        return offence;
+    }
+    let offence = groups(r.scheduling().groups.items(), cpus);
+    if offence.is_some() {
+        return offence;
+    }
+    majors(r.scheduling().major_frames.items(), cpus)
 }

@@ -3,14 +3,18 @@
 
 mod addresses;
 mod apart;
+mod check;
 mod cpus;
 mod frame_names;
 mod groups;
 mod keys;
+mod limits;
 mod major_frames;
 mod overlap;
 mod windows;
 mod writers;
+
+pub use check::check;
 
 #[cfg(test)]
 mod tests;

@@ -46,7 +46,8 @@ fn sum_of_ticks(frames: &[MinorFrame]) -> u128
     total
 }
 
-fn ticks_in(entry: &CpuFrames) -> u128
+/// The ticks of an entry.
+pub(crate) fn ticks_in(entry: &CpuFrames) -> u128
     ensures { result ≡ ticks_in entry.now }
 {
     sum_of_ticks(entry.minor_frames.items())

@@ -1,0 +1,77 @@
+// The rules by their numbers.
+ghost use Rattle.std.specs.Prelude.{◌≡◌, None, true, OnOk};
+ghost use Rattle.policy_types.specs.Built.{is_built};
+ghost use Rattle.policy_types.specs.Lawful.{broken, kept_or, kept_source, rules_broken};
+ghost use Rattle.policy_types.specs.Reading.{Answers};
+ghost use Rattle.policy_types.specs.Resolution.{source_of};
+ghost use Rattle.policy_types.specs.Rules.{offence_3, offence_4};
+ghost use Rattle.policy_rules.specs.Keeping.{Keeps, memory_broken, plan_broken};
+
+use crate::apart::{blocks_apart, windows_apart};
+use crate::cpus::cpus;
+use crate::groups::groups;
+use crate::limits::limits;
+use crate::major_frames::major_frames;
+use crate::windows::addresses;
+use crate::writers::writers;
+use muen_num::NoMemory;
+use policy_types::{Lawful, Offence, Refusal, Resolved};
+use std::alloc::Global;
+
+// The refusal of a broken rule.
+fn refuse(number: u8, offence: Offence) -> Refusal
+    ensures { result ≡ Refusal.Rule number offence.first offence.second }
+{
+    Refusal::Rule {
+        number,
+        first: offence.first,
+        second: offence.second,
+    }
+}
+
+// What a rule answers: nothing where it is kept.
+fn keep(number: u8, offence: Option<Offence>) -> Result<(), Refusal>
+    ensures { Keeps (broken number offence) result }
+{
+    match offence {
+        None => Ok(()),
+        Some(offence) => Err(refuse(number, offence)),
+    }
+}
+
+// The least of rules 3, 4, 5 and 8 that is broken.
+fn memory_rules(alloc: Global, r: &Resolved) -> Result<(), Refusal>
+    requires { is_built (source_of r.now) ≡ true }
+    ensures keeps { Keeps (memory_broken (source_of r.now)) result }
+    ensures cpus { OnOk result (offence_3 (source_of r.now) ≡ None) }
+    ensures laid { OnOk result (offence_4 (source_of r.now) ≡ None) }
+{
+    keep(3, cpus(r))?;
+    keep(4, addresses(alloc, r)?)?;
+    keep(5, windows_apart(alloc, r)?)?;
+    keep(8, writers(alloc, r)?)
+}
+
+// The least of rules 16, 17, 18 and 20 that is broken.
+fn plan_rules(alloc: Global, r: &Resolved) -> Result<(), Refusal>
+    requires built { is_built (source_of r.now) ≡ true }
+    requires cpus { offence_3 (source_of r.now) ≡ None }
+    requires laid { offence_4 (source_of r.now) ≡ None }
+    ensures keeps { Keeps (plan_broken (source_of r.now)) result }
+{
+    keep(16, major_frames(r))?;
+    keep(17, groups(alloc, r)?)?;
+    keep(18, blocks_apart(alloc, r)?)?;
+    keep(20, limits(r))
+}
+
+/// The policy, where it keeps every rule from 3 on; else the least rule that is broken, with its two
+/// names. A refused policy is dropped.
+pub fn check(alloc: Global, r: Resolved) -> Result<Lawful, Refusal>
+    requires { is_built (source_of r) ≡ true }
+    ensures { Answers (kept_or (source_of r) (rules_broken (source_of r))) (kept_source result) }
+{
+    memory_rules(alloc, &r)?;
+    plan_rules(alloc, &r)?;
+    Ok(Lawful::make(r))
+}
