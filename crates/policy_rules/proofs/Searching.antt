@@ -1,10 +1,10 @@
--- Searches, tests and sums over lists: parts, one step more, and the same over another list.
-use Rattle.std.proofs.Common.{◌≡◌, ℕ, zero, suc, ◌+◌, ◌<◌, Bool, true, false, cond, List, [], ◌∷◌, ◌++◌, length, map, get_or, take, drop, Option, Some, None, refl, sym, ap, ◌∙◌, subst, inl, inr, add-one, arith}
+-- Searches, tests and sums over lists: parts, numbers below a bound, and the same over another list.
+use Rattle.std.proofs.Common.{◌≡◌, ℕ, zero, suc, ◌+◌, ◌<◌, Bool, true, false, cond, List, [], ◌∷◌, ◌++◌, length, map, Option, Some, None, refl, sym, ap, ◌∙◌, subst, inl, inr, add-one, arith}
 use Rattle.std.specs.Prelude.{◌&&◌, ◌||◌, slice_get, option_map}
 use Rattle.std.specs.Option.{option_or}
 use Rattle.std.specs.List.{find, list_any, list_all, sum_by, enumerate_from}
 use Rattle.std.proofs.lemmas.Bool.{and_parts, cases_eq}
-use Rattle.std.proofs.lemmas.List.{take_more, drop_more, map_push}
+use Rattle.std.proofs.lemmas.List.{map_push}
 use Rattle.std.proofs.lemmas.List.Sums.{sum_by-cons}
 use Rattle.muen_num.specs.Range.{numbers_below}
 use Rattle.policy_types.specs.Search.{first_in, first_after}
@@ -16,7 +16,7 @@ option_or_assoc : {O : Type 0} (a b c : Option O) → option_or (option_or a b) 
 option_or_assoc None b c = refl
 option_or_assoc (Some x) b c = refl
 
-pub first_in-append : {X O : Type 0} (at : X → Option O) (xs ys : List X) → first_in at (xs ++ ys) ≡ option_or (first_in at xs) (first_in at ys)
+first_in-append : {X O : Type 0} (at : X → Option O) (xs ys : List X) → first_in at (xs ++ ys) ≡ option_or (first_in at xs) (first_in at ys)
 first_in-append at [] ys = refl
 first_in-append at (x ∷ xs) ys =
     ap (option_or (at x)) (first_in-append at xs ys) ∙ sym (option_or_assoc (at x) (first_in at xs) (first_in at ys))
@@ -24,25 +24,8 @@ first_in-append at (x ∷ xs) ys =
 pub none_in_last : {X O : Type 0} (at : X → Option O) (xs ys : List X) → first_in at (xs ++ ys) ≡ None → first_in at ys ≡ None
 none_in_last at xs ys h = (none_both (first_in at xs) (first_in at ys) (sym (first_in-append at xs ys) ∙ h)).1
 
--- ---- one element more
+-- ---- numbers below a bound
 
-pub first_in_more : {X O : Type 0} (at : X → Option O) (xs : List X) (i : ℕ) (x : X) → i < length xs → x ≡ get_or xs i x → first_in at (drop i xs) ≡ option_or (at x) (first_in at (drop (i + 1) xs))
-first_in_more at xs i x h e = ap (first_in at) (drop_more xs i x h) ∙ ap (λ y. option_or (at y) (first_in at (drop (i + 1) xs))) (sym e)
-
-pub first_numbered_more : {X O : Type 0} (at : ℕ × X → Option O) (xs : List X) (i : ℕ) (x : X) → i < length xs → x ≡ get_or xs i x
-    → first_in at (enumerate_from i (drop i xs)) ≡ option_or (at (i, x)) (first_in at (enumerate_from (i + 1) (drop (i + 1) xs)))
-first_numbered_more at xs i x h e =
-    ap (λ ys. first_in at (enumerate_from i ys)) (drop_more xs i x h)
-    ∙ ap (λ y. option_or (at (i, y)) (first_in at (enumerate_from (i + 1) (drop (i + 1) xs)))) (sym e)
-
-pub first_after_more : {X O : Type 0} (at : List X → X → Option O) (xs : List X) (i : ℕ) (x : X) → i < length xs → x ≡ get_or xs i x
-    → first_after at (take i xs) (drop i xs) ≡ option_or (at (take i xs) x) (first_after at (take (i + 1) xs) (drop (i + 1) xs))
-first_after_more at xs i x h e =
-    ap (first_after at (take i xs)) (drop_more xs i x h)
-    ∙ ap (λ y. option_or (at (take i xs) y) (first_after at (take i xs ++ y ∷ []) (drop (i + 1) xs))) (sym e)
-    ∙ ap (λ ys. option_or (at (take i xs) x) (first_after at ys (drop (i + 1) xs))) (ap (λ y. take i xs ++ y ∷ []) e ∙ sym (take_more xs i x h))
-
--- numbers below a bound: none so far, then one that is found
 pub numbers_none_more : {O : Type 0} (at : ℕ → Option O) (i : ℕ) → first_in at (numbers_below i) ≡ None → at i ≡ None → first_in at (numbers_below (i + 1)) ≡ None
 numbers_none_more at i none here =
     ap (λ n. first_in at (numbers_below n)) (add-one i)

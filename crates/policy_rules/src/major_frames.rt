@@ -114,7 +114,8 @@ fn first_missing(cpus: &[CpuFrames], place: usize, count: u64) -> Option<Offence
     None
 }
 
-// Of a major frame at its place: the first entry that offends, else the first CPU that isn't listed.
+// Of a major frame and its place: the first entry that offends, else the first CPU that isn't
+// listed.
 fn of_major(groups: &[Group], count: u64, place: usize, frame: &MajorFrame) -> Option<Offence>
     ensures { result ≡ major_offence groups.now count (place, frame.now) }
 {
