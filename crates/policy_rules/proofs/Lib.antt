@@ -1,5 +1,6 @@
 pub mod AsBuilt
 pub mod ByPlace
+pub mod Kept
 pub mod NamedParts
 pub mod Naming
 pub mod Overlaps

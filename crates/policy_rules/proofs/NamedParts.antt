@@ -102,7 +102,15 @@ module _ (r : Resolution) where
   -- the limits on blocks, on subjects and on frames
   pub limits_grouped : is_built (source_of r) ≡ true → IsResolved r → option_or (option_or (option_or (at_most (length r.memory_blocks) 16 (codes "memoryBlocks")) (at_most (sum_by (λ b. b.size) r.memory_blocks) 67108864 (codes "memoryBlocks"))) (option_or (unless (nat_le 1 (length r.subjects) && nat_le (length r.subjects) 32) (alone (codes "subjects"))) (option_or (first_in (λ s. unless (nat_le (length s.memory) 128) (alone s.name)) r.subjects) (at_most (length r.memory + 5 * length r.subjects) 1024 (codes "memory"))))) (option_or (unless (nat_le 1 (length r.scheduling.major_frames) && nat_le (length r.scheduling.major_frames) 16) (alone (codes "majorFrames"))) (first_in major_within (enumerate_from 0 r.scheduling.major_frames))) ≡ offence_20 (source_of r)
   limits_grouped b q =
-      grouped _ _ _ _ _ _ _ ∙ sym (limits_named b q)
+      grouped
+      (at_most (length r.memory_blocks) 16 (codes "memoryBlocks"))
+      (at_most (sum_by (λ b. b.size) r.memory_blocks) 67108864 (codes "memoryBlocks"))
+      (unless (nat_le 1 (length r.subjects) && nat_le (length r.subjects) 32) (alone (codes "subjects")))
+      (first_in (λ s. unless (nat_le (length s.memory) 128) (alone s.name)) r.subjects)
+      (at_most (length r.memory + 5 * length r.subjects) 1024 (codes "memory"))
+      (unless (nat_le 1 (length r.scheduling.major_frames) && nat_le (length r.scheduling.major_frames) 16) (alone (codes "majorFrames")))
+      (first_in major_within (enumerate_from 0 r.scheduling.major_frames))
+      ∙ sym (limits_named b q)
     where
       last : {O : Type 0} (f : Option O) → option_or f None ≡ f
       last None = refl

@@ -3,7 +3,6 @@
 
 mod addresses;
 mod apart;
-mod check;
 mod cpus;
 mod frame_names;
 mod groups;
@@ -11,10 +10,11 @@ mod keys;
 mod limits;
 mod major_frames;
 mod overlap;
+mod rules;
 mod windows;
 mod writers;
 
-pub use check::check;
+pub use rules::check;
 
 #[cfg(test)]
 mod tests;

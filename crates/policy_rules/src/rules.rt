@@ -1,5 +1,6 @@
 // The rules by their numbers.
 ghost use Rattle.std.specs.Prelude.{◌≡◌, None, true, OnOk};
+ghost use Rattle.std.specs.Option.{option_or};
 ghost use Rattle.policy_types.specs.Built.{is_built};
 ghost use Rattle.policy_types.specs.Lawful.{broken, kept_or, kept_source, rules_broken};
 ghost use Rattle.policy_types.specs.Reading.{Answers};
@@ -65,13 +66,25 @@ fn plan_rules(alloc: Global, r: &Resolved) -> Result<(), Refusal>
     keep(20, limits(r))
 }
 
+// The least rule from 3 on that is broken.
+#[tactic(auto, using(crate::proofs::Kept::rules_joined))]
+fn all_rules(alloc: Global, r: &Resolved) -> Result<(), Refusal>
+    requires { is_built (source_of r.now) ≡ true }
+    ensures { Keeps (option_or (memory_broken (source_of r.now)) (plan_broken (source_of r.now))) result }
+{
+    memory_rules(alloc, r)?;
+    plan_rules(alloc, r)
+}
+
 /// The policy, where it keeps every rule from 3 on; else the least rule that is broken, with its two
 /// names. A refused policy is dropped.
+#[tactic(auto, using(crate::proofs::Kept::rules_joined, crate::proofs::Kept::refused))]
 pub fn check(alloc: Global, r: Resolved) -> Result<Lawful, Refusal>
     requires { is_built (source_of r) ≡ true }
     ensures { Answers (kept_or (source_of r) (rules_broken (source_of r))) (kept_source result) }
 {
-    memory_rules(alloc, &r)?;
-    plan_rules(alloc, &r)?;
-    Ok(Lawful::make(r))
+    match all_rules(alloc, &r) {
+        Ok(()) => Ok(Lawful::make(r)),
+        Err(refusal) => Err(refusal),
+    }
 }
