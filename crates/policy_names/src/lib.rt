@@ -1,2 +1,5 @@
 //! References of a policy, resolved.
 #![tactic(auto)]
+
+mod index;
+mod scope;

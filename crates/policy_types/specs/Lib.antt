@@ -1,4 +1,5 @@
 pub mod Based
+pub mod Built
 pub mod Contents
 pub mod Document
 pub mod Events

@@ -1,4 +1,8 @@
-use muen_num::{Name, Seq, Tag};
+ghost use Rattle.std.specs.Prelude.{◌≡◌};
+ghost use Rattle.policy_types.specs.declared.refusal.Refusal.TheVariants.{NoMemory as OutOfMemory};
+
+use muen_num::{Name, NoMemory, Seq, Tag};
+use std::alloc::{AllocError, AllocFailed};
 
 /// The keys and item numbers from the top of a document to a value, each after a `/`; empty for the
 /// whole document.
@@ -74,4 +78,28 @@ pub enum Refusal {
     },
     /// Memory was refused.
     NoMemory,
+}
+
+impl From<NoMemory> for Refusal {
+    ghost from_gives = { λ _ refusal. refusal ≡ OutOfMemory };
+
+    fn from(_: NoMemory) -> Self {
+        Refusal::NoMemory
+    }
+}
+
+impl From<AllocError> for Refusal {
+    ghost from_gives = { λ _ refusal. refusal ≡ OutOfMemory };
+
+    fn from(_: AllocError) -> Self {
+        Refusal::NoMemory
+    }
+}
+
+impl<T: Drop> From<AllocFailed<T>> for Refusal {
+    ghost from_gives = { λ _ refusal. refusal ≡ OutOfMemory };
+
+    fn from(_: AllocFailed<T>) -> Self {
+        Refusal::NoMemory
+    }
 }

@@ -1,0 +1,5 @@
+pub mod Elements
+pub mod Places
+pub mod References
+pub mod Repeats
+pub mod Whys

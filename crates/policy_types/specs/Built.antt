@@ -1,0 +1,28 @@
+-- The parts of a policy that this project builds so far.
+use Rattle.std.specs.Prelude.{◌&&◌, not, Bool, true, false, List, [], ◌∷◌, is_some}
+use Rattle.std.specs.List.{list_all}
+use Rattle.policy_types.specs.declared.source.Source.{Source}
+use Rattle.policy_types.specs.declared.source.Subject.{Subject}
+
+abbrev pub is_empty : {X : Type 0} → List X → Bool
+is_empty [] = true
+is_empty (x ∷ xs) = false
+
+-- a subject with memory alone
+abbrev pub is_built_subject : Subject → Bool
+is_built_subject s =
+    not (is_some s.component)
+    && is_empty s.channels
+    && is_empty s.devices
+    && is_empty s.msrs
+    && is_empty s.sources
+    && is_empty s.targets
+
+-- no devices, channels, components or events, and no subject has a part of these
+unfoldable pub is_built : Source → Bool
+is_built p =
+    is_empty p.devices
+    && is_empty p.channels
+    && is_empty p.components
+    && is_empty p.events
+    && list_all is_built_subject p.subjects
