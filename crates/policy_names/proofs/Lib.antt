@@ -1,4 +1,5 @@
 pub mod Elements
+pub mod Majors
 pub mod Places
 pub mod References
 pub mod Repeats

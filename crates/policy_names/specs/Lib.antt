@@ -1,3 +1,4 @@
 pub mod Answered
+pub mod Parts
 pub mod Places
 pub mod Repeats

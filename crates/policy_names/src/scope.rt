@@ -52,9 +52,13 @@ pub trait Place<C>: Drop {
     /// The places are there.
     ghost is_placed: { C → Self.Placed → Bool };
 
+    /// It has only what is built.
+    ghost is_built: { Self → Bool };
+
     /// Finds the places. Answers the refusal of the first name that isn't declared, and `NoMemory`
     /// where memory was refused.
     fn place(&self, alloc: Global, scope: &C) -> Result<Self::Placed, Refusal>
+        requires { is_built self.now ≡ true }
         ensures { Keeps (broken 2 (first_in undeclared (references scope.now self.now))) (λ x. (named scope.now x ≡ self.now) × (is_placed scope.now x ≡ true)) result };
 }
 
@@ -67,6 +71,7 @@ pub fn place_all<C, T: Place<C>>(
     scope: &C,
     items: &[T],
 ) -> Result<Seq<T::Placed>, Refusal>
+    requires { list_all T.is_built items.now ≡ true }
     ensures { Keeps (broken 2 (first_in undeclared (flat_map (T.references scope.now) items.now))) (λ xs. (map (T.named scope.now) xs ≡ items.now) × (list_all (T.is_placed scope.now) xs ≡ true)) result }
 {
     let mut placed = Seq::new(alloc);
