@@ -8,7 +8,7 @@ use Rattle.std.proofs.lemmas.Option.{slice_get-get_or}
 use Rattle.std.proofs.lemmas.Bool.Decides.{nat_tests}
 use Rattle.policy_types.specs.Search.{first_in}
 use Rattle.policy_types.specs.Rules.{repeated, kinds_of_names, device_kinds, logical_names, window_extent, window_extents, offence_1}
-use Rattle.policy_types.specs.Built.{is_plain, is_built}
+use Rattle.policy_types.specs.Built.{is_empty, is_plain, is_built}
 use Rattle.policy_types.specs.Resolution.{Resolution, name_at, mapping_named, subject_named, source_of, subject_placed, are_placed}
 use Rattle.policy_types.specs.Thing.{region}
 use Rattle.policy_types.specs.Windows.{window, region_window, windows_of}
@@ -31,9 +31,9 @@ pub both_pass : (a b : Bool) → a ≡ true → b ≡ true → (a && b) ≡ true
 both_pass true b h k = k
 both_pass false b h k = absurd (cc)
 
-pub no_items : {X : Type 0} (xs : List X) → (length xs == 0) ≡ true → xs ≡ []
+pub no_items : {X : Type 0} (xs : List X) → is_empty xs ≡ true → xs ≡ []
 no_items [] h = refl
-no_items (x ∷ xs) h = let e : length (x ∷ xs) ≡ 0 = grind (arith, nat_tests) in absurd (omega arith)
+no_items (x ∷ xs) h = absurd (cc)
 
 pub none_map : {X Y : Type 0} (f : X → Y) (xs : List X) → map f xs ≡ [] → xs ≡ []
 none_map f [] h = refl

@@ -1,22 +1,28 @@
--- Which elements of a policy are built: no devices, channels, components and events, and nothing of them in a subject.
-use Rattle.std.specs.Prelude.{ℕ, ◌==◌, ◌&&◌, not, Bool, length, is_some}
+-- The parts of a policy that this project builds so far.
+use Rattle.std.specs.Prelude.{◌&&◌, not, Bool, true, false, List, [], ◌∷◌, is_some}
 use Rattle.std.specs.List.{list_all}
 use Rattle.policy_types.specs.declared.source.Source.{Source}
 use Rattle.policy_types.specs.declared.source.Subject.{Subject}
 
+abbrev pub is_empty : {X : Type 0} → List X → Bool
+is_empty [] = true
+is_empty (x ∷ xs) = false
+
+-- a subject with memory alone
 abbrev pub is_plain : Subject → Bool
 is_plain s =
     not (is_some s.component)
-    && (length s.channels == 0)
-    && (length s.devices == 0)
-    && (length s.msrs == 0)
-    && (length s.sources == 0)
-    && (length s.targets == 0)
+    && is_empty s.channels
+    && is_empty s.devices
+    && is_empty s.msrs
+    && is_empty s.sources
+    && is_empty s.targets
 
+-- no devices, channels, components or events, and no subject has a part of these
 unfoldable pub is_built : Source → Bool
 is_built p =
-    (length p.devices == 0)
-    && (length p.channels == 0)
-    && (length p.components == 0)
-    && (length p.events == 0)
+    is_empty p.devices
+    && is_empty p.channels
+    && is_empty p.components
+    && is_empty p.events
     && list_all is_plain p.subjects

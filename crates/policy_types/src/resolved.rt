@@ -10,6 +10,9 @@ use crate::source::{
 use muen_num::{Name, Seq};
 use std::marker::Model;
 
+ghost use Rattle.std.specs.Prelude.{◌≡◌};
+ghost use Rattle.policy_types.specs.Resolution.{IsResolved};
+
 /// A policy whose references are resolved: names are unique for each kind, and each reference names
 /// a declared thing.
 #[derive(Drop)]
@@ -53,6 +56,56 @@ impl Model for Resolved {
         subjects = r.subjects;
         scheduling = r.scheduling;
     }) };
+}
+
+impl Resolved {
+    /// The policy of these elements.
+    pub fn make(
+        processor: Processor,
+        memory_blocks: Seq<Block>,
+        devices: Seq<Device>,
+        memory: Seq<Region>,
+        channels: Seq<Channel>,
+        components: Seq<Component>,
+        events: Seq<Event>,
+        subjects: Seq<Subject>,
+        scheduling: Scheduling,
+    ) -> Resolved
+        requires { IsResolved (record {
+            processor = processor;
+            memory_blocks = memory_blocks;
+            devices = devices;
+            memory = memory;
+            channels = channels;
+            components = components;
+            events = events;
+            subjects = subjects;
+            scheduling = scheduling;
+        }) }
+        ensures { result ≡ record {
+            processor = processor;
+            memory_blocks = memory_blocks;
+            devices = devices;
+            memory = memory;
+            channels = channels;
+            components = components;
+            events = events;
+            subjects = subjects;
+            scheduling = scheduling;
+        } }
+    {
+        Resolved {
+            processor,
+            memory_blocks,
+            devices,
+            memory,
+            channels,
+            components,
+            events,
+            subjects,
+            scheduling,
+        }
+    }
 }
 
 /// A subject.

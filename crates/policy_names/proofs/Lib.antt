@@ -1,0 +1,10 @@
+pub mod Answering
+pub mod Built
+pub mod Elements
+pub mod Firsts
+pub mod Majors
+pub mod Places
+pub mod References
+pub mod Repeats
+pub mod Whole
+pub mod Whys

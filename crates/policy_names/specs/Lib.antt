@@ -1,0 +1,6 @@
+pub mod Answered
+pub mod Firsts
+pub mod Parts
+pub mod Places
+pub mod Repeats
+pub mod Whole
