@@ -1,6 +1,8 @@
 //! Reads a policy document, a JSON text, and finds the first place where it breaks the schema.
 #![tactic(auto)]
 
+ghost use Rattle.std.specs.Prelude.{◌≡◌, true, IfOk};
+ghost use Rattle.policy_types.specs.Built.{is_built};
 ghost use Rattle.policy_types.specs.Document.{policy_of};
 ghost use Rattle.policy_types.specs.Reading.{Answers};
 
@@ -21,10 +23,12 @@ use std::alloc::Global;
 /// The source policy of a document.
 ///
 /// Answers `NotJson` where the bytes are no JSON text, `Shape` with the first place that breaks the
-/// schema and what was wanted there, and `NoMemory` where memory was refused.
+/// schema and what was wanted there, and `NoMemory` where memory was refused. A policy that is read
+/// has only elements that are built.
 #[tactic(auto, using(crate::proofs::Text::texts), unfolding(policy_types::specs::Document::policy_of, policy_types::specs::Document::json_of))]
 pub fn read(alloc: Global, bytes: &[u8]) -> Result<Source, Refusal>
-    ensures { Answers (policy_of bytes.now) result }
+    ensures answer { Answers (policy_of bytes.now) result }
+    ensures built { IfOk result (λ p. is_built p ≡ true) }
 {
     let value = match Value::from_slice(alloc, bytes) {
         Ok(value) => value,

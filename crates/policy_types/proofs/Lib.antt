@@ -1,3 +1,4 @@
 mod Examples
 mod Faults
 pub mod Places
+pub mod ReadBuilt

@@ -1,0 +1,100 @@
+-- What a document says has only elements that are built.
+use Rattle.std.proofs.Common.{◌≡◌, ℕ, ◌+◌, Bool, true, List, [], ◌∷◌, Option, Some, None, Result, Ok, Err, IfOk, refl, ap, ◌∙◌, subst}
+use Rattle.std.specs.Prelude.{codes, decimal}
+use Rattle.std.specs.List.{list_all}
+use Rattle.serde_json.specs.Data.{Data, Items, no_items, item}
+use Rattle.serde_json.specs.Find.{get, as_array}
+use Rattle.policy_types.specs.Built.{is_plain, is_built}
+use Rattle.policy_types.specs.Document.{read_processor, read_block, read_region, read_mapping, read_subject, read_scheduling, read_system, policy_from, policy_of, shape_refused, json_of}
+use Rattle.policy_types.specs.Keys.{subject_keys, system_keys}
+use Rattle.policy_types.specs.Schema.{◌>>=◌, under, or_want, object_of, required, optional, optional_from, unbuilt, read_number, read_name, read_items, read_list}
+use Rattle.policy_types.specs.declared.refusal.Fault.{Fault}
+use Rattle.policy_types.specs.declared.refusal.Refusal.{Refusal}
+use Rattle.policy_types.specs.declared.refusal.Want.{Want}
+use Rattle.policy_types.specs.declared.refusal.Want.TheVariants.{List as WantList}
+use Rattle.policy_types.specs.declared.source.Source.{Source}
+use Rattle.policy_types.specs.declared.source.Subject.{Subject}
+
+-- ---- what is read in steps
+
+after : {A B : Type 0} (P : B → Type 0) (o : Result A Fault) (f : A → Result B Fault) → ((a : A) → IfOk (f a) P) → IfOk (o >>= f) P
+after P (Ok a) f h = h a
+after P (Err e) f h = tt
+
+after_so : {A B : Type 0} (Q : A → Type 0) (P : B → Type 0) (o : Result A Fault) (f : A → Result B Fault) → IfOk o Q → ((a : A) → Q a → IfOk (f a) P) → IfOk (o >>= f) P
+after_so Q P (Ok a) f q h = h a q
+after_so Q P (Err e) f q h = tt
+
+under_so : {A : Type 0} (P : A → Type 0) (step : List ℕ) (o : Result A Fault) → IfOk o P → IfOk (under step o) P
+under_so P step (Ok a) h = h
+under_so P step (Err e) h = tt
+
+-- ---- lists
+
+module _ {X : Type 0} (test : X → Bool) (read : Data → Result X Fault) (each : (d : Data) → IfOk (read d) (λ x. test x ≡ true)) where
+  items_so : (i : ℕ) (ds : Items) → IfOk (read_items read i ds) (λ xs. list_all test xs ≡ true)
+  items_so i no_items = refl
+  items_so i (item d ds) =
+      after_so (λ x. test x ≡ true) (λ xs. list_all test xs ≡ true) (under (decimal i) (read d)) (λ x. read_items read (i + 1) ds >>= λ xs. Ok (x ∷ xs)) (under_so (λ x. test x ≡ true) (decimal i) (read d) (each d))
+      (λ x q. after_so (λ xs. list_all test xs ≡ true) (λ xs. list_all test xs ≡ true) (read_items read (i + 1) ds) (λ xs. Ok (x ∷ xs)) (items_so (i + 1) ds) (λ xs r. rw q r))
+
+  list_so : (d : Data) → IfOk (read_list read d) (λ xs. list_all test xs ≡ true)
+  unfolding read_list
+  list_so d = after (λ xs. list_all test xs ≡ true) (or_want WantList (as_array d)) (read_items read 0) (items_so 0)
+
+  from_so : (key : List ℕ) (o : Option Data) → IfOk (optional_from key [] (read_list read) o) (λ xs. list_all test xs ≡ true)
+  from_so key None = refl
+  from_so key (Some d) = under_so (λ xs. list_all test xs ≡ true) key (read_list read d) (list_so d)
+
+  pub optional_so : (key : List ℕ) (d : Data) → IfOk (optional key [] (read_list read) d) (λ xs. list_all test xs ≡ true)
+  unfolding optional
+  optional_so key d = from_so key (get key d)
+
+-- ---- objects
+
+subject_so : (d : Data) → IfOk (read_subject d) (λ s. is_plain s ≡ true)
+unfolding read_subject
+subject_so d =
+    let P : Subject → Type 0 = λ s. is_plain s ≡ true in
+    after P (object_of subject_keys d) _ (λ known.
+    after P (required (codes "name") read_name d) _ (λ name.
+    after P (required (codes "cpu") read_number d) _ (λ cpu.
+    after P (required (codes "entry") read_number d) _ (λ entry.
+    after P (unbuilt (codes "component") d) _ (λ component.
+    after P (optional (codes "memory") [] (read_list read_mapping) d) _ (λ memory.
+    after P (unbuilt (codes "channels") d) _ (λ channels.
+    after P (unbuilt (codes "devices") d) _ (λ devices.
+    after P (unbuilt (codes "msrs") d) _ (λ msrs.
+    after P (unbuilt (codes "sources") d) _ (λ sources.
+    after P (unbuilt (codes "targets") d) _ (λ targets. refl)))))))))))
+
+system_so : (d : Data) → IfOk (read_system d) (λ p. is_built p ≡ true)
+unfolding read_system is_built
+system_so d =
+    let P : Source → Type 0 = λ p. is_built p ≡ true in
+    after P (object_of system_keys d) _ (λ known.
+    after P (required (codes "processor") read_processor d) _ (λ processor.
+    after P (optional (codes "memoryBlocks") [] (read_list read_block) d) _ (λ blocks.
+    after P (unbuilt (codes "devices") d) _ (λ devices.
+    after P (optional (codes "memory") [] (read_list read_region) d) _ (λ memory.
+    after P (unbuilt (codes "channels") d) _ (λ channels.
+    after P (unbuilt (codes "components") d) _ (λ components.
+    after P (unbuilt (codes "events") d) _ (λ events.
+    after_so (λ ss. list_all is_plain ss ≡ true) P (optional (codes "subjects") [] (read_list read_subject) d) _ (optional_so is_plain read_subject subject_so (codes "subjects") d) (λ subjects plain.
+    after P (required (codes "scheduling") read_scheduling d) _ (λ scheduling. plain))))))))))
+
+refused_so : (o : Result Source Fault) → IfOk o (λ p. is_built p ≡ true) → IfOk (shape_refused o) (λ p. is_built p ≡ true)
+refused_so (Ok p) h = h
+refused_so (Err f) h = tt
+
+from_document : (o : Option Data) → IfOk (policy_from o) (λ p. is_built p ≡ true)
+from_document None = tt
+from_document (Some d) = refused_so (read_system d) (system_so d)
+
+-- the policy of a document
+pub policy_built : (bytes : List ℕ) (p : Source) → policy_of bytes ≡ Ok p → is_built p ≡ true
+unfolding policy_of
+policy_built bytes p e = subst (λ o. IfOk o (λ p. is_built p ≡ true)) e (from_document (json_of bytes))
+
+pub system_built : (d : Data) (p : Source) → read_system d ≡ Ok p → is_built p ≡ true
+system_built d p e = subst (λ o. IfOk o (λ p. is_built p ≡ true)) e (system_so d)
