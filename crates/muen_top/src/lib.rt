@@ -70,4 +70,6 @@ pub fn muen<F: Files, S: Sink, E: Sink>(
 #[cfg(test)]
 mod instruction_tests;
 #[cfg(test)]
+mod rules_tests;
+#[cfg(test)]
 mod tests;
