@@ -1,7 +1,7 @@
 ghost use Rattle.std.specs.Prelude.{◌≡◌, option_and_then};
 ghost use Rattle.serde_json.specs.View.{view};
 ghost use Rattle.policy_types.specs.Schema.{read_number, read_byte, read_name, read_rights, read_caching, read_hexadecimal, rights_from, caching_from};
-ghost use Rattle.policy_json.specs.Reading.{Gives};
+ghost use Rattle.policy_json.specs.Reading.{Finds, Gives};
 
 use crate::fault::{ReadEnd, make_fault};
 use crate::number::number_of;
@@ -17,7 +17,9 @@ impl Shape for u64 {
     ghost reads = { read_number };
 
     #[tactic(auto, unfolding(policy_types::specs::Schema::read_number))]
-    fn read(alloc: Global, value: &Value) -> Result<u64, ReadEnd> {
+    fn read(alloc: Global, value: &Value) -> Result<u64, ReadEnd>
+        ensures { Finds (read_number (view value.now)) result }
+    {
         match number_of(value) {
             Some(n) => Ok(n),
             None => Err(make_fault(alloc, Want::Number)),
@@ -29,7 +31,9 @@ impl Shape for u8 {
     ghost reads = { read_byte };
 
     #[tactic(auto, unfolding(policy_types::specs::Schema::read_byte))]
-    fn read(alloc: Global, value: &Value) -> Result<u8, ReadEnd> {
+    fn read(alloc: Global, value: &Value) -> Result<u8, ReadEnd>
+        ensures { Finds (read_byte (view value.now)) result }
+    {
         match number_of(value) {
             Some(n) if n < 256 => Ok(n as u8),
             _ => Err(make_fault(alloc, Want::Byte)),
@@ -41,7 +45,9 @@ impl Shape for Name {
     ghost reads = { read_name };
 
     #[tactic(auto, unfolding(policy_types::specs::Schema::read_name))]
-    fn read(alloc: Global, value: &Value) -> Result<Name, ReadEnd> {
+    fn read(alloc: Global, value: &Value) -> Result<Name, ReadEnd>
+        ensures { Finds (read_name (view value.now)) result }
+    {
         match value.as_str() {
             None => Err(make_fault(alloc, Want::Name)),
             Some(text) => match Name::read(text.as_bytes()) {
@@ -70,7 +76,9 @@ impl Shape for Rights {
     ghost reads = { read_rights };
 
     #[tactic(auto, unfolding(policy_types::specs::Schema::read_rights))]
-    fn read(alloc: Global, value: &Value) -> Result<Rights, ReadEnd> {
+    fn read(alloc: Global, value: &Value) -> Result<Rights, ReadEnd>
+        ensures { Finds (read_rights (view value.now)) result }
+    {
         match value.as_str() {
             None => Err(make_fault(alloc, Want::Rights)),
             Some(text) => match rights_of(text) {
@@ -98,7 +106,9 @@ impl Shape for Caching {
     ghost reads = { read_caching };
 
     #[tactic(auto, unfolding(policy_types::specs::Schema::read_caching))]
-    fn read(alloc: Global, value: &Value) -> Result<Caching, ReadEnd> {
+    fn read(alloc: Global, value: &Value) -> Result<Caching, ReadEnd>
+        ensures { Finds (read_caching (view value.now)) result }
+    {
         match value.as_str() {
             None => Err(make_fault(alloc, Want::Caching)),
             Some(text) => match caching_of(text) {

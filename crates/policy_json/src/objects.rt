@@ -78,7 +78,7 @@ fn read_one_content(alloc: Global, value: &Value) -> Result<(), ReadEnd>
 
 #[tactic(auto, unfolding(policy_types::specs::Document::read_fill))]
 fn read_fill(alloc: Global, value: &Value) -> Result<Content, ReadEnd>
-    ensures { Gives (read_fill (view value.now)) result }
+    ensures { Finds (read_fill (view value.now)) result }
 {
     match <u8 as Shape>::read(alloc, value) {
         Ok(byte) => Ok(Content::Fill(byte)),

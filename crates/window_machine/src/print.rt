@@ -128,7 +128,8 @@ fn put_final<S: Sink>(machine: &Machine, out: &mut S) -> Result<(), SinkFault>
 /// state and the digest of each region.
 #[tactic(auto, unfolding(crate::specs::Machine::machine_text))]
 pub fn print_run<S: Sink>(machine: &mut Machine, end: u32, out: &mut S) -> Result<(), SinkFault>
-    ensures { Puts (machine_text machine.old end) (S.state out.old) (S.state out.new) result }
+    ensures text { Puts (machine_text machine.old end) (S.state out.old) (S.state out.new) result }
+    ensures after { OnOk result (machine.new ≡ (machine_run_to machine.old end).machine) }
 {
     put_turns(machine, end, out)?;
     put_final(machine, out)
