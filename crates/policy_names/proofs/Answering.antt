@@ -1,6 +1,6 @@
 -- The answer of the whole call.
-use Rattle.std.proofs.Common.{◌≡◌, Option, Some, None, Result, Ok, Err, refl, ap, sym, ◌∙◌}
-use Rattle.policy_types.specs.Lawful.{kept_or, kept_source, names_broken, broken}
+use Rattle.std.proofs.Common.{◌≡◌, Option, None, Ok, Err, ap, sym, ◌∙◌}
+use Rattle.policy_types.specs.Lawful.{kept_or, kept_source, broken}
 use Rattle.policy_types.specs.Reading.{Answers}
 use Rattle.policy_types.specs.Resolution.{Resolution, IsResolved, source_of}
 use Rattle.policy_types.specs.Rules.{offence_1, offence_2}

@@ -1,11 +1,10 @@
 -- What the rules ask of a policy as far as its elements are built.
-use Rattle.std.proofs.Common.{◌≡◌, ℕ, ◌+◌, ◌*◌, ◌<◌, Bool, true, false, List, [], ◌∷◌, ◌++◌, length, map, Option, Some, None, refl, sym, ap, ◌∙◌, subst, arith, append-nil}
-use Rattle.std.specs.Prelude.{◌==◌, ◌&&◌, nat_lt, nat_le, codes}
-use Rattle.std.specs.Option.{option_or}
+use Rattle.std.proofs.Common.{◌≡◌, ℕ, ◌+◌, ◌*◌, Bool, true, false, List, [], ◌∷◌, length, map, None, refl, sym, ap, ◌∙◌, arith, append-nil}
+use Rattle.std.specs.Prelude.{◌&&◌, nat_lt, nat_le, codes}
 use Rattle.std.specs.List.{list_all, sum_by, fold}
 use Rattle.std.proofs.lemmas.List.{length-map}
 use Rattle.policy_types.specs.Search.{alone, two, unless, first_of, first_in}
-use Rattle.policy_types.specs.Rules.{is_page_aligned, is_page_size, is_physical, is_guest, is_laid, window_extents, window_offence, extents_of, first_overlap, at_most, regions_for, subject_limit, msrs_in, majors_of, major_limit, offence_1, offence_4, offence_18, offence_20}
+use Rattle.policy_types.specs.Rules.{is_page_aligned, is_page_size, is_physical, is_guest, is_laid, window_extents, window_offence, first_overlap, at_most, regions_for, subject_limit, msrs_in, majors_of, major_limit, offence_1, offence_4, offence_18, offence_20}
 use Rattle.policy_types.specs.Built.{is_plain, is_built}
 use Rattle.policy_types.specs.Resolution.{Resolution, subject_named, source_of}
 use Rattle.policy_types.specs.declared.offence.Extent.{Extent}
@@ -84,15 +83,15 @@ each_five : (p : Source) (ss : List NamedSubject) → list_all is_plain ss ≡ t
 each_five p ss h = let e : fold (λ a x. a + regions_for p x) 0 ss ≡ 0 + 5 * length ss = fives p 0 ss h in omega (arith, e)
 
 pub limits_built : (p : Source) → is_built p ≡ true → offence_20 p ≡ first_of (
-  at_most (length p.memory_blocks) 16 (codes "memoryBlocks")
-  ∷ at_most (sum_by (λ b. b.size) p.memory_blocks) 67108864 (codes "memoryBlocks")
-  ∷ unless (nat_le 1 (length p.subjects) && nat_le (length p.subjects) 32) (alone (codes "subjects"))
-  ∷ first_in (subject_limit p) p.subjects
-  ∷ at_most (length p.memory + 5 * length p.subjects) 1024 (codes "memory")
-  ∷ unless (nat_le 1 (length p.scheduling.major_frames) && nat_le (length p.scheduling.major_frames) 16) (alone (codes "majorFrames"))
-  ∷ first_in major_limit (majors_of p)
-  ∷ []
-)
+    at_most (length p.memory_blocks) 16 (codes "memoryBlocks")
+    ∷ at_most (sum_by (λ b. b.size) p.memory_blocks) 67108864 (codes "memoryBlocks")
+    ∷ unless (nat_le 1 (length p.subjects) && nat_le (length p.subjects) 32) (alone (codes "subjects"))
+    ∷ first_in (subject_limit p) p.subjects
+    ∷ at_most (length p.memory + 5 * length p.subjects) 1024 (codes "memory")
+    ∷ unless (nat_le 1 (length p.scheduling.major_frames) && nat_le (length p.scheduling.major_frames) 16) (alone (codes "majorFrames"))
+    ∷ first_in major_limit (majors_of p)
+    ∷ []
+    )
 unfolding offence_20
 limits_built p b =
     let h = built p b in

@@ -131,13 +131,13 @@ same_major : (r : Resolution) (k : ℕ) (m : PlacedMajor) → AreUnique r → ma
 unfolding source_of cpu_placed frame_placed
 same_major r k m unique placed =
     let entries : first_after (λ before c. unless (rules.is_entry (source_of r) before c) (two (major_name k) (cpu_name c.cpu))) [] (map (cpu_named r) m.cpus)
-        ≡ first_after (entry_offence r.scheduling.groups k) [] m.cpus =
-        first_after-map (cpu_named r) (λ before c. unless (rules.is_entry (source_of r) before c) (two (major_name k) (cpu_name c.cpu))) (entry_offence r.scheduling.groups k) (cpu_placed r)
-        (λ before c ok. ap (λ b. unless b (two (major_name k) (cpu_name c.cpu))) (same_entry r before c unique ok)) [] m.cpus placed in
+    ≡ first_after (entry_offence r.scheduling.groups k) [] m.cpus =
+    first_after-map (cpu_named r) (λ before c. unless (rules.is_entry (source_of r) before c) (two (major_name k) (cpu_name c.cpu))) (entry_offence r.scheduling.groups k) (cpu_placed r)
+    (λ before c ok. ap (λ b. unless b (two (major_name k) (cpu_name c.cpu))) (same_entry r before c unique ok)) [] m.cpus placed in
     let missing : first_in (λ cpu. unless (list_any (λ c. c.cpu == cpu) (map (cpu_named r) m.cpus)) (two (major_name k) (cpu_name cpu))) (numbers_below r.processor.logical_cpus)
-        ≡ first_in (missing_offence m.cpus k) (numbers_below r.processor.logical_cpus) =
-        first_in_same (λ cpu. unless (list_any (λ c. c.cpu == cpu) (map (cpu_named r) m.cpus)) (two (major_name k) (cpu_name cpu))) (missing_offence m.cpus k)
-        (λ cpu. ap (λ b. unless b (two (major_name k) (cpu_name cpu))) (list_any-map (λ c. c.cpu == cpu) (cpu_named r) m.cpus)) (numbers_below r.processor.logical_cpus) in
+    ≡ first_in (missing_offence m.cpus k) (numbers_below r.processor.logical_cpus) =
+    first_in_same (λ cpu. unless (list_any (λ c. c.cpu == cpu) (map (cpu_named r) m.cpus)) (two (major_name k) (cpu_name cpu))) (missing_offence m.cpus k)
+    (λ cpu. ap (λ b. unless b (two (major_name k) (cpu_name cpu))) (list_any-map (λ c. c.cpu == cpu) (cpu_named r) m.cpus)) (numbers_below r.processor.logical_cpus) in
     ap (λ o. option_or o (option_or (first_in (λ cpu. unless (list_any (λ c. c.cpu == cpu) (map (cpu_named r) m.cpus)) (two (major_name k) (cpu_name cpu))) (numbers_below r.processor.logical_cpus)) None)) entries
     ∙ ap (λ o. option_or (first_after (entry_offence r.scheduling.groups k) [] m.cpus) (option_or o None)) missing
 
@@ -159,7 +159,7 @@ unfolding offence_16 source_of
 majors_by_place r resolved =
     let unique = are_unique r resolved.names in
     sym (first_numbered-map (major_named r) (rules.major_offence (source_of r)) (major_offence r.scheduling.groups r.processor.logical_cpus) (major_placed r)
-      (λ k m ok. same_major r k m unique ok) 0 r.scheduling.major_frames (parts_placed r resolved.placed).majors)
+    (λ k m ok. same_major r k m unique ok) 0 r.scheduling.major_frames (parts_placed r resolved.placed).majors)
 
 -- ---- rule 17
 
@@ -178,10 +178,10 @@ subject_at_place r place unique within =
 same_group : (r : Resolution) (g : PlacedGroup) → AreUnique r → group_placed r g ≡ true → rules.is_group (source_of r) (group_named r g) ≡ is_group r.subjects g
 same_group r g unique placed =
     let member : (place : ℕ) → nat_lt place (length r.subjects) ≡ true → is_on (subject_cpu (source_of r) (name_at (subject_names r) place)) g.cpu ≡ is_member r.subjects g.cpu place =
-        λ place ok. ap (λ o. is_on o g.cpu) (subject_at_place r place unique (ltb-true place (length r.subjects) ok)) in
+    λ place ok. ap (λ o. is_on o g.cpu) (subject_at_place r place unique (ltb-true place (length r.subjects) ok)) in
     let members : list_all (λ name. is_on (subject_cpu (source_of r) name) g.cpu) (map (name_at (subject_names r)) g.subjects) ≡ list_all (is_member r.subjects g.cpu) g.subjects =
-        list_all-map (λ name. is_on (subject_cpu (source_of r) name) g.cpu) (name_at (subject_names r)) g.subjects
-        ∙ list_all_same (λ place. is_on (subject_cpu (source_of r) (name_at (subject_names r) place)) g.cpu) (is_member r.subjects g.cpu) (λ place. nat_lt place (length r.subjects)) member g.subjects placed in
+    list_all-map (λ name. is_on (subject_cpu (source_of r) name) g.cpu) (name_at (subject_names r)) g.subjects
+    ∙ list_all_same (λ place. is_on (subject_cpu (source_of r) (name_at (subject_names r) place)) g.cpu) (is_member r.subjects g.cpu) (λ place. nat_lt place (length r.subjects)) member g.subjects placed in
     ap (λ b. b && list_all (λ name. is_on (subject_cpu (source_of r) name) g.cpu) (map (name_at (subject_names r)) g.subjects)) (some_items (name_at (subject_names r)) g.subjects)
     ∙ ap (λ b. not (length g.subjects == 0) && b) members
 
@@ -189,7 +189,7 @@ same_name : (names : List (List ℕ)) (i k : ℕ) → repeated names ≡ None �
 same_name names i k unique l l' =
     let alike = bytes_eq-Decides (name_at names i) (name_at names k) in
     let forth : bytes_eq (name_at names i) (name_at names k) ≡ true → i ≡ k = λ h.
-        sym (position_is names i unique l) ∙ ap (λ n. position_or_len (λ m. bytes_eq m n) names) (alike.0 h) ∙ position_is names k unique l' in
+    sym (position_is names i unique l) ∙ ap (λ n. position_or_len (λ m. bytes_eq m n) names) (alike.0 h) ∙ position_is names k unique l' in
     let back : i ≡ k → bytes_eq (name_at names i) (name_at names k) ≡ true = λ e. alike.1 (ap (name_at names) e) in
     same_from_decides {P = i ≡ k} (bytes_eq (name_at names i) (name_at names k)) (i == k) (forth, back) (Decides-eqb i k)
 
@@ -200,11 +200,11 @@ same_times r k unique within placed =
     let names = subject_names r in
     let many : length names ≡ length r.subjects = length-map r.subjects (λ s. s.name) in
     let one : (i : ℕ) → nat_lt i (length r.subjects) ≡ true → cond (bytes_eq (name_at names i) (name_at names k)) 1 0 ≡ cond (i == k) 1 0 = λ i ok.
-        let l : i < length r.subjects = ltb-true i (length r.subjects) ok in
-        ap (λ b. cond b 1 0) (same_name names i k unique.subjects (omega arith) (omega arith)) in
+    let l : i < length r.subjects = ltb-true i (length r.subjects) ok in
+    ap (λ b. cond b 1 0) (same_name names i k unique.subjects (omega arith) (omega arith)) in
     let among : (g : PlacedGroup) → group_placed r g ≡ true → count_by (λ n. bytes_eq n (name_at names k)) (map (name_at names) g.subjects) ≡ times_among g.subjects k = λ g ok.
-        sum_by-map (λ n. cond (bytes_eq n (name_at names k)) 1 0) (name_at names) g.subjects
-        ∙ sum_by_same (λ i. cond (bytes_eq (name_at names i) (name_at names k)) 1 0) (λ i. cond (i == k) 1 0) (λ i. nat_lt i (length r.subjects)) one g.subjects ok in
+    sum_by-map (λ n. cond (bytes_eq n (name_at names k)) 1 0) (name_at names) g.subjects
+    ∙ sum_by_same (λ i. cond (bytes_eq (name_at names i) (name_at names k)) 1 0) (λ i. cond (i == k) 1 0) (λ i. nat_lt i (length r.subjects)) one g.subjects ok in
     sum_by-map (λ g. count_by (λ n. bytes_eq n (name_at names k)) g.subjects) (group_named r) r.scheduling.groups
     ∙ sum_by_same (λ g. count_by (λ n. bytes_eq n (name_at names k)) (map (name_at names) g.subjects)) (λ g. times_among g.subjects k) (group_placed r) among r.scheduling.groups placed
 
@@ -217,7 +217,7 @@ same_member : (r : Resolution) → AreUnique r → list_all (group_placed r) r.s
 same_member r unique placed k s at =
     let within : k < length r.subjects = slice_get_within r.subjects k s at in
     let times : times_listed (source_of r) s.name ≡ times_in r.scheduling.groups (0 + k) =
-        ap (times_listed (source_of r)) (sym (name_of_subject r k s at)) ∙ same_times r k unique within placed ∙ ap (times_in r.scheduling.groups) (omega arith) in
+    ap (times_listed (source_of r)) (sym (name_of_subject r k s at)) ∙ same_times r k unique within placed ∙ ap (times_in r.scheduling.groups) (omega arith) in
     ap (λ n. unless (n == 1) (alone s.name)) times
 
 pub groups_by_place : (r : Resolution) → IsResolved r
@@ -227,14 +227,14 @@ groups_by_place r resolved =
     let unique = are_unique r resolved.names in
     let placed = (parts_placed r resolved.placed).groups in
     let first : first_in (λ g. unless (rules.is_group (source_of r) g) (alone g.name)) (map (group_named r) r.scheduling.groups) ≡ first_in (group_offence r.subjects) r.scheduling.groups =
-        first_in-map (group_named r) (λ g. unless (rules.is_group (source_of r) g) (alone g.name)) (group_offence r.subjects) (group_placed r)
-        (λ g ok. ap (λ b. unless b (alone g.name)) (same_group r g unique ok)) r.scheduling.groups placed in
+    first_in-map (group_named r) (λ g. unless (rules.is_group (source_of r) g) (alone g.name)) (group_offence r.subjects) (group_placed r)
+    (λ g ok. ap (λ b. unless b (alone g.name)) (same_group r g unique ok)) r.scheduling.groups placed in
     let later : first_in (λ s. unless (times_listed (source_of r) s.name == 1) (alone s.name)) (map (subject_named r) r.subjects) ≡ first_in (member_offence r.scheduling.groups) (enumerate_from 0 r.subjects) =
-        first_over-map (subject_named r) (λ s. unless (times_listed (source_of r) s.name == 1) (alone s.name)) r.subjects
-        ∙ first_numbered_same (λ s. unless (times_listed (source_of r) s.name == 1) (alone s.name)) (member_offence r.scheduling.groups) 0 r.subjects (same_member r unique placed) in
+    first_over-map (subject_named r) (λ s. unless (times_listed (source_of r) s.name == 1) (alone s.name)) r.subjects
+    ∙ first_numbered_same (λ s. unless (times_listed (source_of r) s.name == 1) (alone s.name)) (member_offence r.scheduling.groups) 0 r.subjects (same_member r unique placed) in
     sym (
-      ap (λ o. option_or o (option_or (first_in (λ s. unless (times_listed (source_of r) s.name == 1) (alone s.name)) (map (subject_named r) r.subjects)) None)) first
-      ∙ ap (λ o. option_or (first_in (group_offence r.subjects) r.scheduling.groups) (option_or o None)) later
+    ap (λ o. option_or o (option_or (first_in (λ s. unless (times_listed (source_of r) s.name == 1) (alone s.name)) (map (subject_named r) r.subjects)) None)) first
+    ∙ ap (λ o. option_or (first_in (group_offence r.subjects) r.scheduling.groups) (option_or o None)) later
     )
 
 -- counts up to 2 tell which subject isn't listed once
@@ -246,10 +246,10 @@ pub by_counts : (subjects : List PlacedSubject) (groups : List PlacedGroup) (tim
     → first_in (counted_offence times) (enumerate_from 0 subjects) ≡ first_in (member_offence groups) (enumerate_from 0 subjects)
 by_counts subjects groups times counted =
     let same : (k : ℕ) (s : PlacedSubject) → k < length subjects → counted_offence times (0 + k, s) ≡ member_offence groups (0 + k, s) = λ k s l.
-        let e : 0 + k ≡ k = omega arith in
-        ap (λ i. counted_offence times (i, s)) e
-        ∙ ap (λ b. unless b (alone s.name)) (once (slice_index times k) (times_in groups k) (counted k l))
-        ∙ sym (ap (λ i. member_offence groups (i, s)) e) in
+    let e : 0 + k ≡ k = omega arith in
+    ap (λ i. counted_offence times (i, s)) e
+    ∙ ap (λ b. unless b (alone s.name)) (once (slice_index times k) (times_in groups k) (counted k l))
+    ∙ sym (ap (λ i. member_offence groups (i, s)) e) in
     both_numbered (counted_offence times) (member_offence groups) 0 subjects same
 
 pub or_none : {O : Type 0} (o : Option O) → option_or o None ≡ o

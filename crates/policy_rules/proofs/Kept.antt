@@ -1,9 +1,8 @@
 -- The least rule that is broken, from its parts.
-use Rattle.std.proofs.Common.{◌≡◌, List, [], ◌∷◌, Option, Some, None, Result, Ok, Err, refl, ap, ◌∙◌}
+use Rattle.std.proofs.Common.{◌≡◌, List, [], ◌∷◌, Option, Some, None, Err, refl, ap}
 use Rattle.std.specs.Option.{option_or}
-use Rattle.policy_types.specs.Lawful.{broken, kept_or, kept_source, rules_broken}
+use Rattle.policy_types.specs.Lawful.{broken, kept_or, rules_broken}
 use Rattle.policy_types.specs.Reading.{Answers}
-use Rattle.policy_types.specs.Resolution.{Resolution}
 use Rattle.policy_types.specs.Rules.{offence_3, offence_4, offence_5, offence_8, offence_16, offence_17, offence_18, offence_20}
 use Rattle.policy_types.specs.Search.{first_of}
 use Rattle.policy_types.specs.declared.refusal.Refusal.{Refusal}

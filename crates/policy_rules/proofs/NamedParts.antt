@@ -1,5 +1,5 @@
 -- Rules 3 and 20 of a resolved policy: its elements have the names and numbers of the source policy's.
-use Rattle.std.proofs.Common.{◌≡◌, ℕ, ◌+◌, ◌*◌, Bool, true, List, [], ◌∷◌, length, map, Option, Some, None, refl, sym, ap, ◌∙◌}
+use Rattle.std.proofs.Common.{◌≡◌, ℕ, ◌+◌, ◌*◌, true, List, [], ◌∷◌, length, map, Option, Some, None, refl, sym, ap, ◌∙◌}
 use Rattle.std.specs.Prelude.{◌&&◌, nat_lt, nat_le, codes}
 use Rattle.std.specs.Option.{option_or}
 use Rattle.std.specs.List.{list_all, sum_by, enumerate_from}
@@ -8,7 +8,7 @@ use Rattle.std.proofs.lemmas.List.Sums.{sum_by-cons}
 use Rattle.policy_types.specs.Search.{alone, two, unless, first_of, first_in}
 use Rattle.policy_types.specs.Rules.{major_name, cpu_name, ticks_in, at_most, subject_limit, major_limit, offence_1, offence_3, offence_20}
 use Rattle.policy_types.specs.Built.{is_built}
-use Rattle.policy_types.specs.Resolution.{Resolution, name_at, subject_named, group_named, cpu_named, major_named, source_of, are_placed, IsResolved}
+use Rattle.policy_types.specs.Resolution.{Resolution, name_at, subject_named, group_named, cpu_named, major_named, source_of, IsResolved}
 use Rattle.policy_types.specs.declared.offence.Offence.{Offence}
 use Rattle.policy_types.specs.declared.source.MinorFrame.{MinorFrame}
 use Rattle.policy_types.specs.declared.source.CpuFrames.{CpuFrames as NamedCpu}
@@ -18,7 +18,6 @@ use Rattle.policy_types.specs.declared.resolved.CpuFrames.{CpuFrames}
 use Rattle.policy_types.specs.declared.resolved.MinorFrame.{MinorFrame as PlacedMinor}
 use Rattle.policy_rules.specs.ByPlace.{is_ready}
 use Rattle.policy_rules.specs.Limits.{cpus_offence, entry_within, major_within, limits_offence}
-use Rattle.policy_rules.specs.Placed.{ticks_in as placed_ticks}
 use Rattle.policy_rules.proofs.AsBuilt.{limits_built, windows_limit}
 use Rattle.policy_rules.proofs.WindowsByPlace.{both, all_ready}
 
@@ -49,11 +48,11 @@ module _ (r : Resolution) where
       let groups = first_map (λ (g : Rattle.policy_types.specs.declared.source.Group.Group). unless {O = Offence} (nat_lt g.cpu cpus) (alone g.name)) (group_named r) r.scheduling.groups in
       let majors = first_numbered (λ m. first_in (λ c. unless (nat_lt c.cpu cpus) (two (major_name m.0) (cpu_name c.cpu))) m.1.cpus) (λ m. first_in (λ c. unless (nat_lt c.cpu cpus) (two (major_name m.0) (cpu_name c.cpu))) m.1.cpus) (major_named r) (λ k m. major_cpus cpus k m) 0 r.scheduling.major_frames in
       λ i. first_of (
-        unless (nat_le 1 cpus && nat_le cpus 8) (alone (codes "processor"))
-        ∷ subjects i
-        ∷ groups i
-        ∷ majors i
-        ∷ []
+      unless (nat_le 1 cpus && nat_le cpus 8) (alone (codes "processor"))
+      ∷ subjects i
+      ∷ groups i
+      ∷ majors i
+      ∷ []
       )
 
   -- ---- rule 20
@@ -89,14 +88,14 @@ module _ (r : Resolution) where
       let within = first_numbered major_limit major_within (major_named r) major_limit_named 0 r.scheduling.major_frames in
       limits_built (source_of r) b
       ∙ (λ i. first_of (
-        at_most (length r.memory_blocks) 16 (codes "memoryBlocks")
-        ∷ at_most (sum_by (λ b. b.size) r.memory_blocks) 67108864 (codes "memoryBlocks")
-        ∷ unless (nat_le 1 (many i) && nat_le (many i) 32) (alone (codes "subjects"))
-        ∷ windows i
-        ∷ at_most (length r.memory + 5 * many i) 1024 (codes "memory")
-        ∷ unless (nat_le 1 (majors i) && nat_le (majors i) 16) (alone (codes "majorFrames"))
-        ∷ within i
-        ∷ []
+      at_most (length r.memory_blocks) 16 (codes "memoryBlocks")
+      ∷ at_most (sum_by (λ b. b.size) r.memory_blocks) 67108864 (codes "memoryBlocks")
+      ∷ unless (nat_le 1 (many i) && nat_le (many i) 32) (alone (codes "subjects"))
+      ∷ windows i
+      ∷ at_most (length r.memory + 5 * many i) 1024 (codes "memory")
+      ∷ unless (nat_le 1 (majors i) && nat_le (majors i) 16) (alone (codes "majorFrames"))
+      ∷ within i
+      ∷ []
       ))
 
   -- the limits on blocks, on subjects and on frames

@@ -15,9 +15,9 @@ digits n h =
     decimal_by_steps (λ _ ds. list_all is_name_byte ds ≡ true)
     (λ m l. and_from (is_name_byte (48 + m)) true (digit m l) refl)
     (λ m ds _ before.
-      list_all-append is_name_byte ds ((48 + m % 10) ∷ [])
-      ∙ and_from (list_all is_name_byte ds) (is_name_byte (48 + m % 10) && true) before
-        (and_from (is_name_byte (48 + m % 10)) true (digit (m % 10) (omega arith)) refl))
+    list_all-append is_name_byte ds ((48 + m % 10) ∷ [])
+    ∙ and_from (list_all is_name_byte ds) (is_name_byte (48 + m % 10) && true) before
+    (and_from (is_name_byte (48 + m % 10)) true (digit (m % 10) (omega arith)) refl))
     n h
 
 pub numbered_is_name : (front : List ℕ) (n : ℕ) → list_all is_name_byte front ≡ true → length front ≤ 40 → n < 2 ^ 64 → is_name (front ++ decimal n) ≡ true
@@ -27,8 +27,8 @@ numbered_is_name front n bytes short small =
     let few : length (decimal n) ≤ 20 = length-decimal-le 20 n (omega arith) (omega arith) small in
     let both : length (front ++ decimal n) ≡ length front + length (decimal n) = length-append front (decimal n) in
     let all : list_all is_name_byte (front ++ decimal n) ≡ true =
-        list_all-append is_name_byte front (decimal n) ∙ and_from (list_all is_name_byte front) (list_all is_name_byte (decimal n)) bytes (digits n small) in
+    list_all-append is_name_byte front (decimal n) ∙ and_from (list_all is_name_byte front) (list_all is_name_byte (decimal n)) bytes (digits n small) in
     let least : nat_lt 0 (length (front ++ decimal n)) ≡ true = lt-ltb 0 (length (front ++ decimal n)) (omega arith) in
     let most : nat_le (length (front ++ decimal n)) 63 ≡ true = le-leb (length (front ++ decimal n)) 63 (omega arith) in
     and_from (nat_lt 0 (length (front ++ decimal n)) && nat_le (length (front ++ decimal n)) 63) (list_all is_name_byte (front ++ decimal n))
-      (and_from (nat_lt 0 (length (front ++ decimal n))) (nat_le (length (front ++ decimal n)) 63) least most) all
+    (and_from (nat_lt 0 (length (front ++ decimal n))) (nat_le (length (front ++ decimal n)) 63) least most) all

@@ -38,14 +38,14 @@ number_found at zero i o l none here = absurd (omega arith)
 number_found at (suc n) i o l none here =
     first_in-append at (numbers_below n) (n ∷ [])
     ∙ elim (cases_eq i n) as (λ _. option_or (first_in at (numbers_below n)) (option_or (at n) None) ≡ Some o) [
-        | inl e ↦
-            let none' : first_in at (numbers_below n) ≡ None = subst (λ m. first_in at (numbers_below m) ≡ None) e none in
-            let here' : at n ≡ Some o = subst (λ m. at m ≡ Some o) e here in
-            ap (λ p. option_or p (option_or (at n) None)) none' ∙ ap (λ p. option_or p None) here'
-        | inr ne ↦
-            let l' : i < n = omega arith in
-            ap (λ p. option_or p (option_or (at n) None)) (number_found at n i o l' none here)
-      ]
+      | inl e ↦
+          let none' : first_in at (numbers_below n) ≡ None = subst (λ m. first_in at (numbers_below m) ≡ None) e none in
+          let here' : at n ≡ Some o = subst (λ m. at m ≡ Some o) e here in
+          ap (λ p. option_or p (option_or (at n) None)) none' ∙ ap (λ p. option_or p None) here'
+      | inr ne ↦
+          let l' : i < n = omega arith in
+          ap (λ p. option_or p (option_or (at n) None)) (number_found at n i o l' none here)
+    ]
 
 -- ---- over another list
 
@@ -87,7 +87,7 @@ both_numbered at by n [] same = refl
 both_numbered {X} at by n (x ∷ xs) same =
     let here : at (n, x) ≡ by (n, x) = ap (λ m. at (m, x)) (omega arith) ∙ same 0 x (omega arith) ∙ ap (λ m. by (m, x)) (omega arith) in
     let later : (k : ℕ) (y : X) → k < length xs → at (n + 1 + k, y) ≡ by (n + 1 + k, y) =
-        λ k y l. ap (λ m. at (m, y)) (omega arith) ∙ same (suc k) y (omega arith) ∙ ap (λ m. by (m, y)) (omega arith) in
+    λ k y l. ap (λ m. at (m, y)) (omega arith) ∙ same (suc k) y (omega arith) ∙ ap (λ m. by (m, y)) (omega arith) in
     ap (λ o. option_or o (first_in at (enumerate_from (n + 1) xs))) here ∙ ap (option_or (by (n, x))) (both_numbered at by (n + 1) xs later)
 
 pub first_after-map : {X Y O : Type 0} (f : X → Y) (at : List Y → Y → Option O) (by : List X → X → Option O) (ok : X → Bool)

@@ -1,13 +1,12 @@
 -- The windows of a subject of a built policy are its mappings, each on the region at its place.
-use Rattle.std.proofs.Common.{◌≡◌, ℕ, ◌<◌, Bool, true, false, cond, not, List, [], ◌∷◌, ◌++◌, length, map, Option, Some, None, refl, sym, ap, ◌∙◌, subst, arith, append-nil}
-use Rattle.std.specs.Prelude.{◌==◌, ◌&&◌, nat_lt, slice_get, is_some, option_map}
-use Rattle.std.specs.Option.{option_or}
+use Rattle.std.proofs.Common.{◌≡◌, ℕ, ◌<◌, Bool, true, false, not, List, [], ◌∷◌, ◌++◌, length, map, Option, Some, None, refl, sym, ap, ◌∙◌, arith, append-nil}
+use Rattle.std.specs.Prelude.{◌&&◌, nat_lt, is_some, option_map}
 use Rattle.std.specs.List.{find, list_all, filter_map, flat_map, cons_option}
 use Rattle.std.specs.Str.{bytes_eq}
 use Rattle.std.proofs.lemmas.Option.{slice_get-get_or}
 use Rattle.std.proofs.lemmas.Bool.Decides.{nat_tests}
 use Rattle.policy_types.specs.Search.{first_in}
-use Rattle.policy_types.specs.Rules.{repeated, kinds_of_names, device_kinds, logical_names, window_extent, window_extents, offence_1}
+use Rattle.policy_types.specs.Rules.{repeated, device_kinds, logical_names, window_extent, window_extents, offence_1}
 use Rattle.policy_types.specs.Built.{is_empty, is_plain, is_built}
 use Rattle.policy_types.specs.Resolution.{Resolution, name_at, mapping_named, subject_named, source_of, subject_placed, are_placed}
 use Rattle.policy_types.specs.Thing.{region}

@@ -1,5 +1,5 @@
 -- What a resolved policy says, by the places of its regions.
-use Rattle.std.specs.Prelude.{ℕ, ◌&&◌, Bool, List, [], length, map, nat_lt, slice_index_or, None}
+use Rattle.std.specs.Prelude.{ℕ, ◌&&◌, Bool, List, [], length, nat_lt, slice_index_or, None}
 use Rattle.std.specs.List.{list_all}
 use Rattle.policy_types.specs.Built.{is_plain}
 use Rattle.policy_types.specs.Resolution.{Resolution, subject_named}

@@ -1,5 +1,5 @@
 -- Rules 3 and 20 of a resolved policy whose elements are built.
-use Rattle.std.specs.Prelude.{ℕ, ◌+◌, ◌*◌, ◌&&◌, Bool, List, [], ◌∷◌, length, nat_lt, nat_le, codes, Option}
+use Rattle.std.specs.Prelude.{ℕ, ◌+◌, ◌*◌, ◌&&◌, Bool, [], ◌∷◌, length, nat_lt, nat_le, codes, Option}
 use Rattle.std.specs.List.{list_all, sum_by, enumerate_from}
 use Rattle.policy_types.specs.Search.{alone, two, unless, first_of, first_in}
 use Rattle.policy_types.specs.Rules.{major_name, cpu_name, at_most}
@@ -13,11 +13,11 @@ use Rattle.policy_rules.specs.Placed.{ticks_in}
 abbrev pub cpus_offence : Resolution → Option Offence
 cpus_offence r =
     first_of (
-      unless (nat_le 1 r.processor.logical_cpus && nat_le r.processor.logical_cpus 8) (alone (codes "processor"))
-      ∷ first_in (λ s. unless (nat_lt s.cpu r.processor.logical_cpus) (alone s.name)) r.subjects
-      ∷ first_in (λ g. unless (nat_lt g.cpu r.processor.logical_cpus) (alone g.name)) r.scheduling.groups
-      ∷ first_in (λ m. first_in (λ c. unless (nat_lt c.cpu r.processor.logical_cpus) (two (major_name m.0) (cpu_name c.cpu))) m.1.cpus) (enumerate_from 0 r.scheduling.major_frames)
-      ∷ []
+    unless (nat_le 1 r.processor.logical_cpus && nat_le r.processor.logical_cpus 8) (alone (codes "processor"))
+    ∷ first_in (λ s. unless (nat_lt s.cpu r.processor.logical_cpus) (alone s.name)) r.subjects
+    ∷ first_in (λ g. unless (nat_lt g.cpu r.processor.logical_cpus) (alone g.name)) r.scheduling.groups
+    ∷ first_in (λ m. first_in (λ c. unless (nat_lt c.cpu r.processor.logical_cpus) (two (major_name m.0) (cpu_name c.cpu))) m.1.cpus) (enumerate_from 0 r.scheduling.major_frames)
+    ∷ []
     )
 
 -- at most 100,000 ticks and 64 minor frames
@@ -30,12 +30,12 @@ major_within (k, m) = unless (list_all entry_within m.cpus) (alone (major_name k
 abbrev pub limits_offence : Resolution → Option Offence
 limits_offence r =
     first_of (
-      at_most (length r.memory_blocks) 16 (codes "memoryBlocks")
-      ∷ at_most (sum_by (λ b. b.size) r.memory_blocks) 67108864 (codes "memoryBlocks")
-      ∷ unless (nat_le 1 (length r.subjects) && nat_le (length r.subjects) 32) (alone (codes "subjects"))
-      ∷ first_in (λ s. unless (nat_le (length s.memory) 128) (alone s.name)) r.subjects
-      ∷ at_most (length r.memory + 5 * length r.subjects) 1024 (codes "memory")
-      ∷ unless (nat_le 1 (length r.scheduling.major_frames) && nat_le (length r.scheduling.major_frames) 16) (alone (codes "majorFrames"))
-      ∷ first_in major_within (enumerate_from 0 r.scheduling.major_frames)
-      ∷ []
+    at_most (length r.memory_blocks) 16 (codes "memoryBlocks")
+    ∷ at_most (sum_by (λ b. b.size) r.memory_blocks) 67108864 (codes "memoryBlocks")
+    ∷ unless (nat_le 1 (length r.subjects) && nat_le (length r.subjects) 32) (alone (codes "subjects"))
+    ∷ first_in (λ s. unless (nat_le (length s.memory) 128) (alone s.name)) r.subjects
+    ∷ at_most (length r.memory + 5 * length r.subjects) 1024 (codes "memory")
+    ∷ unless (nat_le 1 (length r.scheduling.major_frames) && nat_le (length r.scheduling.major_frames) 16) (alone (codes "majorFrames"))
+    ∷ first_in major_within (enumerate_from 0 r.scheduling.major_frames)
+    ∷ []
     )

@@ -47,9 +47,9 @@ missing_offence cpus k cpu = unless (is_listed cpus cpu) (two (major_name k) (cp
 abbrev pub major_offence : List Group → ℕ → ℕ × MajorFrame → Option Offence
 major_offence groups count (k, m) =
     first_of (
-      first_after (entry_offence groups k) [] m.cpus
-      ∷ first_in (missing_offence m.cpus k) (numbers_below count)
-      ∷ []
+    first_after (entry_offence groups k) [] m.cpus
+    ∷ first_in (missing_offence m.cpus k) (numbers_below count)
+    ∷ []
     )
 
 abbrev pub first_major : List Group → ℕ → List MajorFrame → Option Offence
@@ -93,9 +93,9 @@ AreTimes times count groups = (k : ℕ) → k < count → min 2 (slice_index tim
 abbrev pub groups_offence : List Subject → List Group → Option Offence
 groups_offence subjects groups =
     first_of (
-      first_in (group_offence subjects) groups
-      ∷ first_in (member_offence groups) (enumerate_from 0 subjects)
-      ∷ []
+    first_in (group_offence subjects) groups
+    ∷ first_in (member_offence groups) (enumerate_from 0 subjects)
+    ∷ []
     )
 
 -- a subject with its place, that wasn't met once by these counts

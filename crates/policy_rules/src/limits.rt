@@ -129,7 +129,11 @@ fn of_subjects(subjects: &[Subject], regions: usize) -> Option<Offence>
     if offence.is_some() {
         return offence;
     }
-    at_most(regions as u128 + KERNEL_REGIONS * count, REGIONS, Key::Memory)
+    at_most(
+        regions as u128 + KERNEL_REGIONS * count,
+        REGIONS,
+        Key::Memory,
+    )
 }
 
 // The limits on major frames.

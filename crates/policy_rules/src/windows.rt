@@ -15,11 +15,7 @@ use policy_types::source::Region;
 use policy_types::{Extent, Offence};
 use std::alloc::Global;
 
-fn extents(
-    alloc: Global,
-    regions: &[Region],
-    mappings: &[Mapping],
-) -> Result<Vec<Extent>, NoMemory>
+fn extents(alloc: Global, regions: &[Region], mappings: &[Mapping]) -> Result<Vec<Extent>, NoMemory>
     requires { list_all (λ m. nat_lt m.region (length regions.now)) mappings.now ≡ true }
     ensures { IfOk result (λ v. v.items ≡ map (mapping_extent regions.now) mappings.now) }
 {

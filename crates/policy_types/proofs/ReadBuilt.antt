@@ -1,5 +1,5 @@
 -- What a document says has only elements that are built.
-use Rattle.std.proofs.Common.{◌≡◌, ℕ, ◌+◌, Bool, true, List, [], ◌∷◌, Option, Some, None, Result, Ok, Err, IfOk, refl, ap, ◌∙◌, subst}
+use Rattle.std.proofs.Common.{◌≡◌, ℕ, ◌+◌, Bool, true, List, [], ◌∷◌, Option, Some, None, Result, Ok, Err, IfOk, refl, subst}
 use Rattle.std.specs.Prelude.{codes, decimal}
 use Rattle.std.specs.List.{list_all}
 use Rattle.serde_json.specs.Data.{Data, Items, no_items, item}
@@ -9,8 +9,6 @@ use Rattle.policy_types.specs.Document.{read_processor, read_block, read_region,
 use Rattle.policy_types.specs.Keys.{subject_keys, system_keys}
 use Rattle.policy_types.specs.Schema.{◌>>=◌, under, or_want, object_of, required, optional, optional_from, unbuilt, read_number, read_name, read_items, read_list}
 use Rattle.policy_types.specs.declared.refusal.Fault.{Fault}
-use Rattle.policy_types.specs.declared.refusal.Refusal.{Refusal}
-use Rattle.policy_types.specs.declared.refusal.Want.{Want}
 use Rattle.policy_types.specs.declared.refusal.Want.TheVariants.{List as WantList}
 use Rattle.policy_types.specs.declared.source.Source.{Source}
 use Rattle.policy_types.specs.declared.source.Subject.{Subject}

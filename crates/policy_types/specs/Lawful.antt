@@ -1,5 +1,5 @@
 -- Which rule a policy breaks, and the policies that break none.
-use Rattle.std.specs.Prelude.{◌≡◌, ℕ, List, [], ◌∷◌, Option, Some, None, Result, Ok, Err, option_map}
+use Rattle.std.specs.Prelude.{ℕ, [], ◌∷◌, Option, Some, None, Result, Ok, Err, option_map}
 use Rattle.policy_types.specs.Rules.{offence_1, offence_2, offence_3, offence_4, offence_5, offence_8, offence_16, offence_17, offence_18, offence_20}
 use Rattle.policy_types.specs.Search.{first_of}
 use Rattle.policy_types.specs.Resolution.{Resolution, source_of}
@@ -20,15 +20,15 @@ names_broken p = first_of (broken 1 (offence_1 p) ∷ broken 2 (offence_2 p) ∷
 unfoldable pub rules_broken : Source → Option Refusal
 rules_broken p =
     first_of (
-      broken 3 (offence_3 p)
-      ∷ broken 4 (offence_4 p)
-      ∷ broken 5 (offence_5 p)
-      ∷ broken 8 (offence_8 p)
-      ∷ broken 16 (offence_16 p)
-      ∷ broken 17 (offence_17 p)
-      ∷ broken 18 (offence_18 p)
-      ∷ broken 20 (offence_20 p)
-      ∷ []
+    broken 3 (offence_3 p)
+    ∷ broken 4 (offence_4 p)
+    ∷ broken 5 (offence_5 p)
+    ∷ broken 8 (offence_8 p)
+    ∷ broken 16 (offence_16 p)
+    ∷ broken 17 (offence_17 p)
+    ∷ broken 18 (offence_18 p)
+    ∷ broken 20 (offence_20 p)
+    ∷ []
     )
 
 -- a policy that keeps the rules, else why not

@@ -1,5 +1,5 @@
 -- A policy whose references are resolved, and the source policy that it resolves.
-use Rattle.std.specs.Prelude.{◌≡◌, ℕ, ◌&&◌, Bool, true, List, [], length, map, slice_get, slice_index_or, nat_lt, Option, Some, None, option_map}
+use Rattle.std.specs.Prelude.{◌≡◌, ℕ, ◌&&◌, Bool, true, List, [], length, map, slice_get, slice_index_or, nat_lt, None, option_map}
 use Rattle.std.specs.Option.{option_map_or}
 use Rattle.std.specs.List.{list_all}
 use Rattle.policy_types.specs.Rules.{offence_1, offence_2}

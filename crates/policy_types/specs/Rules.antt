@@ -1,6 +1,6 @@
 -- The rules that a policy must keep beyond its schema, each by its first offence in the document's order (Muen system
 -- policy, in this project's profile). All sums are exact.
-use Rattle.std.specs.Prelude.{ℕ, ◌+◌, ◌-◌, ◌%◌, ◌^◌, ◌==◌, ◌&&◌, ◌||◌, not, Bool, true, false, List, [], ◌∷◌, ◌++◌, length, map, filter, slice_get, codes, decimal, nat_lt, nat_le, bit_and, Option, Some, None, is_some, option_map, if◌then◌else◌}
+use Rattle.std.specs.Prelude.{ℕ, ◌+◌, ◌-◌, ◌%◌, ◌^◌, ◌==◌, ◌&&◌, ◌||◌, not, Bool, true, false, List, [], ◌∷◌, ◌++◌, length, map, slice_get, codes, decimal, nat_lt, nat_le, bit_and, Option, Some, None, is_some, option_map, if◌then◌else◌}
 use Rattle.std.specs.Option.{option_map_or}
 use Rattle.std.specs.List.{find, list_any, list_all, flat_map, sum_by, count_by, enumerate_from}
 use Rattle.std.specs.Str.{bytes_eq}
@@ -11,11 +11,8 @@ use Rattle.policy_types.specs.Windows.{Window, windows_of}
 use Rattle.policy_types.specs.declared.offence.Extent.{Extent}
 use Rattle.policy_types.specs.declared.offence.Offence.{Offence}
 use Rattle.policy_types.specs.declared.source.Source.{Source}
-use Rattle.policy_types.specs.declared.source.Block.{Block}
 use Rattle.policy_types.specs.declared.source.Device.{Device}
-use Rattle.policy_types.specs.declared.source.DeviceMemory.{DeviceMemory}
 use Rattle.policy_types.specs.declared.source.Region.{Region}
-use Rattle.policy_types.specs.declared.source.Channel.{Channel}
 use Rattle.policy_types.specs.declared.source.Component.{Component}
 use Rattle.policy_types.specs.declared.source.ComponentUse.{ComponentUse}
 use Rattle.policy_types.specs.declared.source.MapEntry.{MapEntry}
@@ -146,11 +143,11 @@ unfoldable pub offence_3 : Source → Option Offence
 offence_3 p =
     let has : ℕ → Bool = λ cpu. nat_lt cpu p.processor.logical_cpus in
     first_of (
-      unless (nat_le 1 p.processor.logical_cpus && nat_le p.processor.logical_cpus 8) (alone (codes "processor"))
-      ∷ first_in (λ s. unless (has s.cpu) (alone s.name)) p.subjects
-      ∷ first_in (λ g. unless (has g.cpu) (alone g.name)) p.scheduling.groups
-      ∷ first_in (λ m. first_in (λ c. unless (has c.cpu) (two (major_name m.0) (cpu_name c.cpu))) m.1.cpus) (majors_of p)
-      ∷ []
+    unless (nat_le 1 p.processor.logical_cpus && nat_le p.processor.logical_cpus 8) (alone (codes "processor"))
+    ∷ first_in (λ s. unless (has s.cpu) (alone s.name)) p.subjects
+    ∷ first_in (λ g. unless (has g.cpu) (alone g.name)) p.scheduling.groups
+    ∷ first_in (λ m. first_in (λ c. unless (has c.cpu) (two (major_name m.0) (cpu_name c.cpu))) m.1.cpus) (majors_of p)
+    ∷ []
     )
 
 -- ---- rule 4: addresses and sizes
@@ -182,10 +179,10 @@ is_laid r = is_page_size r.size && is_alignment r.alignment && is_fixed r r.phys
 abbrev pub component_offence : Component → Option Offence
 component_offence c =
     first_of (
-      first_in (λ x. unless (is_guest x.virtual_address x.size) (two c.name x.logical)) c.provides
-      ∷ first_in (λ x. unless (is_guest x.virtual_address x.size) (two c.name x.logical)) c.memory
-      ∷ first_in (λ x. unless (is_guest x.virtual_address x.size) (two c.name x.logical)) c.channels
-      ∷ []
+    first_in (λ x. unless (is_guest x.virtual_address x.size) (two c.name x.logical)) c.provides
+    ∷ first_in (λ x. unless (is_guest x.virtual_address x.size) (two c.name x.logical)) c.memory
+    ∷ first_in (λ x. unless (is_guest x.virtual_address x.size) (two c.name x.logical)) c.channels
+    ∷ []
     )
 
 -- the name of what a window shows; a provided region's is its logical name, a device's memory's its own
@@ -208,13 +205,13 @@ window_offence p s = first_in (λ e. unless (is_guest e.address e.size) (two s.n
 unfoldable pub offence_4 : Source → Option Offence
 offence_4 p =
     first_of (
-      first_in (λ b. unless (is_physical b.physical_address b.size) (alone b.name)) p.memory_blocks
-      ∷ first_in (λ d. first_in (λ m. unless (is_physical m.physical_address m.size) (two d.name m.name)) d.memory) p.devices
-      ∷ first_in (λ r. unless (is_laid r) (alone r.name)) p.memory
-      ∷ first_in (λ c. unless (is_page_size c.size) (alone c.name)) p.channels
-      ∷ first_in component_offence p.components
-      ∷ first_in (window_offence p) p.subjects
-      ∷ []
+    first_in (λ b. unless (is_physical b.physical_address b.size) (alone b.name)) p.memory_blocks
+    ∷ first_in (λ d. first_in (λ m. unless (is_physical m.physical_address m.size) (two d.name m.name)) d.memory) p.devices
+    ∷ first_in (λ r. unless (is_laid r) (alone r.name)) p.memory
+    ∷ first_in (λ c. unless (is_page_size c.size) (alone c.name)) p.channels
+    ∷ first_in component_offence p.components
+    ∷ first_in (window_offence p) p.subjects
+    ∷ []
     )
 
 -- ---- rule 5: the windows of a subject are disjoint
@@ -278,9 +275,9 @@ is_entry p before c =
 abbrev pub major_offence : Source → ℕ × MajorFrame → Option Offence
 major_offence p (k, m) =
     first_of (
-      first_after (λ before c. unless (is_entry p before c) (two (major_name k) (cpu_name c.cpu))) [] m.cpus
-      ∷ first_in (λ cpu. unless (list_any (λ c. c.cpu == cpu) m.cpus) (two (major_name k) (cpu_name cpu))) (numbers_below p.processor.logical_cpus)
-      ∷ []
+    first_after (λ before c. unless (is_entry p before c) (two (major_name k) (cpu_name c.cpu))) [] m.cpus
+    ∷ first_in (λ cpu. unless (list_any (λ c. c.cpu == cpu) m.cpus) (two (major_name k) (cpu_name cpu))) (numbers_below p.processor.logical_cpus)
+    ∷ []
     )
 
 unfoldable pub offence_16 : Source → Option Offence
@@ -301,9 +298,9 @@ times_listed p name = sum_by (λ g. count_by (λ n. bytes_eq n name) g.subjects)
 unfoldable pub offence_17 : Source → Option Offence
 offence_17 p =
     first_of (
-      first_in (λ g. unless (is_group p g) (alone g.name)) p.scheduling.groups
-      ∷ first_in (λ s. unless (times_listed p s.name == 1) (alone s.name)) p.subjects
-      ∷ []
+    first_in (λ g. unless (is_group p g) (alone g.name)) p.scheduling.groups
+    ∷ first_in (λ s. unless (times_listed p s.name == 1) (alone s.name)) p.subjects
+    ∷ []
     )
 
 -- ---- rule 18: blocks and the devices' memory are disjoint
@@ -344,20 +341,20 @@ major_limit (k, m) =
 unfoldable pub offence_20 : Source → Option Offence
 offence_20 p =
     first_of (
-      at_most (length p.memory_blocks) 16 (codes "memoryBlocks")
-      ∷ at_most (sum_by (λ b. b.size) p.memory_blocks) 67108864 (codes "memoryBlocks")
-      ∷ at_most (length p.devices) 32 (codes "devices")
-      ∷ first_in device_limit p.devices
-      ∷ at_most (sum_by (λ d. length d.memory) p.devices) 128 (codes "devices")
-      ∷ at_most (sum_by (λ d. sum_by (λ m. m.size) d.memory) p.devices) 16777216 (codes "devices")
-      ∷ at_most (length p.channels) 128 (codes "channels")
-      ∷ at_most (length p.components) 64 (codes "components")
-      ∷ first_in (λ c. at_most (length (logical_names c)) 64 c.name) p.components
-      ∷ at_most (length p.events + count_by (λ c. is_some c.has_event) p.channels) 256 (codes "events")
-      ∷ unless (nat_le 1 (length p.subjects) && nat_le (length p.subjects) 32) (alone (codes "subjects"))
-      ∷ first_in (subject_limit p) p.subjects
-      ∷ at_most (length p.memory + length p.channels + sum_by (regions_for p) p.subjects) 1024 (codes "memory")
-      ∷ unless (nat_le 1 (length p.scheduling.major_frames) && nat_le (length p.scheduling.major_frames) 16) (alone (codes "majorFrames"))
-      ∷ first_in major_limit (majors_of p)
-      ∷ []
+    at_most (length p.memory_blocks) 16 (codes "memoryBlocks")
+    ∷ at_most (sum_by (λ b. b.size) p.memory_blocks) 67108864 (codes "memoryBlocks")
+    ∷ at_most (length p.devices) 32 (codes "devices")
+    ∷ first_in device_limit p.devices
+    ∷ at_most (sum_by (λ d. length d.memory) p.devices) 128 (codes "devices")
+    ∷ at_most (sum_by (λ d. sum_by (λ m. m.size) d.memory) p.devices) 16777216 (codes "devices")
+    ∷ at_most (length p.channels) 128 (codes "channels")
+    ∷ at_most (length p.components) 64 (codes "components")
+    ∷ first_in (λ c. at_most (length (logical_names c)) 64 c.name) p.components
+    ∷ at_most (length p.events + count_by (λ c. is_some c.has_event) p.channels) 256 (codes "events")
+    ∷ unless (nat_le 1 (length p.subjects) && nat_le (length p.subjects) 32) (alone (codes "subjects"))
+    ∷ first_in (subject_limit p) p.subjects
+    ∷ at_most (length p.memory + length p.channels + sum_by (regions_for p) p.subjects) 1024 (codes "memory")
+    ∷ unless (nat_le 1 (length p.scheduling.major_frames) && nat_le (length p.scheduling.major_frames) 16) (alone (codes "majorFrames"))
+    ∷ first_in major_limit (majors_of p)
+    ∷ []
     )

@@ -1,4 +1,4 @@
-//! Policies that keep every rule.
+//! Policies that keep every rule that is built.
 ghost use Rattle.std.specs.Prelude.{◌≡◌, None};
 ghost use Rattle.policy_types.specs.Resolution.{source_of};
 ghost use Rattle.policy_types.specs.Lawful.{rules_broken};
@@ -6,7 +6,8 @@ ghost use Rattle.policy_types.specs.Lawful.{rules_broken};
 use crate::resolved::Resolved;
 use std::marker::Model;
 
-/// A resolved policy that keeps every rule.
+/// A resolved policy that keeps every rule that is built: 3, 4, 5, 8, 16, 17, 18 and 20, beside those
+/// on names and references.
 #[derive(Drop)]
 pub struct Lawful {
     resolved: Resolved,
@@ -25,7 +26,7 @@ impl Model for Lawful {
 }
 
 impl Lawful {
-    /// The policy that keeps every rule.
+    /// The policy, which keeps these rules.
     pub fn make(resolved: Resolved) -> Lawful
         requires { rules_broken (source_of resolved) ≡ None }
         ensures { result ≡ resolved }

@@ -2,16 +2,13 @@
 //! thing, its place in the list that declares it stands. All else is as in the document.
 ghost use Rattle.std.specs.Prelude.{◌≡◌};
 ghost use Rattle.policy_types.specs.Resolution.{IsResolved};
-
-use crate::rights::{Rights, Role};
-use crate::source::{
-    Block, Channel, Component, Device, Event, Msrs, Processor, Region, SourceWay,
-};
-use muen_num::{Name, Seq};
-use std::marker::Model;
-
 ghost use Rattle.std.specs.Prelude.{◌≡◌};
 ghost use Rattle.policy_types.specs.Resolution.{IsResolved};
+
+use crate::rights::{Rights, Role};
+use crate::source::{Block, Channel, Component, Device, Event, Msrs, Processor, Region, SourceWay};
+use muen_num::{Name, Seq};
+use std::marker::Model;
 
 /// A policy whose references are resolved: names are unique for each kind, and each reference names
 /// a declared thing.
@@ -34,27 +31,27 @@ impl Model for Resolved {
     ghost Value = { Resolution };
 
     ghost view = { λ r. record {
-        processor = r.processor;
-        memory_blocks = r.memory_blocks;
-        devices = r.devices;
-        memory = r.memory;
-        channels = r.channels;
-        components = r.components;
-        events = r.events;
-        subjects = r.subjects;
-        scheduling = r.scheduling;
+      processor = r.processor;
+      memory_blocks = r.memory_blocks;
+      devices = r.devices;
+      memory = r.memory;
+      channels = r.channels;
+      components = r.components;
+      events = r.events;
+      subjects = r.subjects;
+      scheduling = r.scheduling;
     } };
 
     ghost invariant = { λ r. IsResolved (record {
-        processor = r.processor;
-        memory_blocks = r.memory_blocks;
-        devices = r.devices;
-        memory = r.memory;
-        channels = r.channels;
-        components = r.components;
-        events = r.events;
-        subjects = r.subjects;
-        scheduling = r.scheduling;
+      processor = r.processor;
+      memory_blocks = r.memory_blocks;
+      devices = r.devices;
+      memory = r.memory;
+      channels = r.channels;
+      components = r.components;
+      events = r.events;
+      subjects = r.subjects;
+      scheduling = r.scheduling;
     }) };
 }
 
@@ -72,26 +69,26 @@ impl Resolved {
         scheduling: Scheduling,
     ) -> Resolved
         requires { IsResolved (record {
-            processor = processor;
-            memory_blocks = memory_blocks;
-            devices = devices;
-            memory = memory;
-            channels = channels;
-            components = components;
-            events = events;
-            subjects = subjects;
-            scheduling = scheduling;
+          processor = processor;
+          memory_blocks = memory_blocks;
+          devices = devices;
+          memory = memory;
+          channels = channels;
+          components = components;
+          events = events;
+          subjects = subjects;
+          scheduling = scheduling;
         }) }
         ensures { result ≡ record {
-            processor = processor;
-            memory_blocks = memory_blocks;
-            devices = devices;
-            memory = memory;
-            channels = channels;
-            components = components;
-            events = events;
-            subjects = subjects;
-            scheduling = scheduling;
+          processor = processor;
+          memory_blocks = memory_blocks;
+          devices = devices;
+          memory = memory;
+          channels = channels;
+          components = components;
+          events = events;
+          subjects = subjects;
+          scheduling = scheduling;
         } }
     {
         Resolved {

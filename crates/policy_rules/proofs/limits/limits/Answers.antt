@@ -1,4 +1,4 @@
-use Rattle.std.proofs.Common.{◌≡◌, ◌+◌, ◌*◌, ◌∙◌, ap, length, List, ℕ}
+use Rattle.std.proofs.Common.{◌+◌, ◌*◌, ◌∙◌, ap, length}
 use Rattle.std.specs.Prelude.{◌&&◌, nat_le, codes}
 use Rattle.std.specs.Option.{option_or}
 use Rattle.std.specs.List.{sum_by, enumerate_from}

@@ -1,7 +1,4 @@
-use Rattle.std.proofs.Common.{◌≡◌, ◌∙◌, sym, ap, subst, map, Ok, Err, Result, IfOk}
-use Rattle.policy_types.specs.Resolution.{source_of, subject_named}
-use Rattle.policy_types.specs.Rules.{window_extents}
-use Rattle.policy_rules.specs.ByPlace.{mapping_extent}
+use Rattle.std.proofs.Common.{◌≡◌, sym, subst, IfOk}
 use Rattle.policy_rules.proofs.WindowsByPlace.{both, extents_placed, regions_unique}
 use Rattle.policy_rules.proofs.windows.windows.Goals as goal
 
