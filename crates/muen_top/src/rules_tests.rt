@@ -1,5 +1,6 @@
 //! The rules that a policy must keep, over whole documents: reading, names, rules. Each row changes a
 //! lawful policy in some places; the answers were worked out by hand.
+use muen_num::Name;
 use muen_num::text::append_decimal32;
 use policy_types::Refusal;
 use std::alloc::Global;
@@ -40,40 +41,53 @@ fn changed(alloc: Global, changes: &[(&[u8], &[u8])]) -> Result<Vec<u8>, Fail> {
     Ok(text)
 }
 
-// What reading, resolving and checking a document refuses.
-fn refusal(alloc: Global, text: &[u8]) -> Option<Refusal> {
-    let source = match policy_json::read(alloc, text) {
-        Ok(source) => source,
-        Err(refusal) => return Some(refusal),
-    };
-    let resolved = match policy_names::resolve(alloc, source) {
-        Ok(resolved) => resolved,
-        Err(refusal) => return Some(refusal),
-    };
-    match policy_rules::check(alloc, resolved) {
-        Ok(lawful) => {
-            drop(lawful);
-            None
-        }
-        Err(refusal) => Some(refusal),
+// What reading, resolving and checking a document answers.
+#[derive(Clone, Copy)]
+enum Answer {
+    Lawful,
+    Rule(u8, Name, Name),
+    Other,
+}
+
+fn of_refusal(refusal: &Refusal) -> Answer {
+    match refusal {
+        Refusal::Rule {
+            number,
+            first,
+            second,
+        } => Answer::Rule(*number, *first, *second),
+        _ => Answer::Other,
     }
 }
 
+fn answer_to(alloc: Global, text: &[u8]) -> Answer {
+    let source = match policy_json::read(alloc, text) {
+        Ok(source) => source,
+        Err(refusal) => return of_refusal(&refusal),
+    };
+    let resolved = match policy_names::resolve(alloc, source) {
+        Ok(resolved) => resolved,
+        Err(refusal) => return of_refusal(&refusal),
+    };
+    match policy_rules::check(alloc, resolved) {
+        Ok(_) => Answer::Lawful,
+        Err(refusal) => of_refusal(&refusal),
+    }
+}
+
+fn is_name(name: &Name, wanted: &[u8]) -> bool {
+    name.bytes() == wanted
+}
+
 // Whether this rule with these names is broken, or none.
-fn is_answered(refusal: Option<Refusal>, broken: Broken) -> bool {
-    match (refusal, broken) {
-        (None, None) => true,
-        (
-            Some(
-                Refusal::Rule {
-                    number,
-                    first,
-                    second,
-                },
-            ),
-            Some(wanted),
-        ) => { number == wanted.0 && first.bytes() == wanted.1 && second.bytes() == wanted.2 }
-        _ => false,
+fn is_answered(answer: &Answer, broken: Broken) -> bool {
+    match answer {
+        Answer::Lawful => broken.is_none(),
+        Answer::Rule(number, first, second) => match broken {
+            Some((n, a, b)) => *number == n && is_name(first, a) && is_name(second, b),
+            None => false,
+        },
+        Answer::Other => false,
     }
 }
 
@@ -519,7 +533,7 @@ fn rules(rt: HostRuntime) -> Result<(), Fail> {
     ];
     for (changes, broken) in cases {
         let text = changed(alloc, changes)?;
-        assert!(rt; is_answered(refusal(alloc, &text), broken));
+        assert!(rt; is_answered(&answer_to(alloc, &text), broken));
     }
     Ok(())
 }
@@ -680,12 +694,12 @@ fn limits(rt: HostRuntime) -> Result<(), Fail> {
     ];
     for (counts, broken) in cases {
         let text = counted(alloc, counts)?;
-        assert!(rt; is_answered(refusal(alloc, &text), broken));
+        assert!(rt; is_answered(&answer_to(alloc, &text), broken));
     }
-    let none = refusal(
+    let none = answer_to(
         alloc,
         b"{\"processor\":{\"logicalCpus\":1},\"scheduling\":{}}",
     );
-    assert!(rt; is_answered(none, Some((20, b"subjects", b"subjects"))));
+    assert!(rt; is_answered(&none, Some((20, b"subjects", b"subjects"))));
     Ok(())
 }
