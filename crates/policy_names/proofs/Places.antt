@@ -28,8 +28,8 @@ pub place_of-push : (ns : List (List ℕ)) (x q : List ℕ) → place_of (ns ++ 
 place_of-push [] x q = refl
 place_of-push (n ∷ ns) x q =
     elim (bytes_eq n q) as (λ t. cond t (Some 0) (option_map suc (place_of (ns ++ x ∷ []) q)) ≡ option_or (cond t (Some 0) (option_map suc (place_of ns q))) (cond (bytes_eq x q) (Some (suc (length ns))) None)) [
-      true ↦ refl
-    | false ↦ rw (place_of-push ns x q, map_or suc (place_of ns q) (cond (bytes_eq x q) (Some (length ns)) None), map_cond suc (bytes_eq x q) (length ns)) refl
+      | true ↦ refl
+      | false ↦ rw (place_of-push ns x q, map_or suc (place_of ns q) (cond (bytes_eq x q) (Some (length ns)) None), map_cond suc (bytes_eq x q) (length ns)) refl
     ]
 
 some_map : (o : Option ℕ) → is_some (option_map suc o) ≡ is_some o
@@ -41,8 +41,8 @@ pub is_some-place_of : (ns : List (List ℕ)) (q : List ℕ) → is_declared ns 
 is_some-place_of [] q = refl
 is_some-place_of (n ∷ ns) q =
     elim (bytes_eq n q) as (λ t. (t || is_declared ns q) ≡ is_some (cond t (Some 0) (option_map suc (place_of ns q)))) [
-      true ↦ refl
-    | false ↦ is_some-place_of ns q ∙ sym (some_map (place_of ns q))
+      | true ↦ refl
+      | false ↦ is_some-place_of ns q ∙ sym (some_map (place_of ns q))
     ]
 
 equal_bytes : (n q : List ℕ) → bytes_eq n q ≡ true → n ≡ q
@@ -53,12 +53,13 @@ pub place_stands : (ns : List (List ℕ)) (q : List ℕ) (k : ℕ) → place_of 
 place_stands [] q k h = absurd (cc)
 place_stands (n ∷ ns) q k h =
     (elim (bytes_eq n q) as (λ t. bytes_eq n q ≡ t → cond t (Some 0) (option_map suc (place_of ns q)) ≡ Some k → StandsAt (n ∷ ns) q k) [
-      true ↦ λ e s. here n ns q k (equal_bytes n q e) s
-    | false ↦ λ e s. later n ns q k (place_of ns q) (place_stands ns q) s
+      | true ↦ λ e s. here n ns q k (equal_bytes n q e) s
+      | false ↦ λ e s. later n ns q k (place_of ns q) (place_stands ns q) s
     ]) refl h
   where
     here : (n : List ℕ) (ns : List (List ℕ)) (q : List ℕ) (k : ℕ) → n ≡ q → ◌≡◌ {A = Option ℕ} (Some 0) (Some k) → StandsAt (n ∷ ns) q k
     here n ns q k e s = let z : 0 ≡ k = cc in subst (λ j. StandsAt (n ∷ ns) q j) z (record { within = lt-ltb 0 (suc (length ns)) (omega arith); named = e })
+
     later : (n : List ℕ) (ns : List (List ℕ)) (q : List ℕ) (k : ℕ) (o : Option ℕ) → ((j : ℕ) → o ≡ Some j → StandsAt ns q j) → option_map suc o ≡ Some k → StandsAt (n ∷ ns) q k
     later n ns q k None stands s = absurd (cc)
     later n ns q k (Some j) stands s =
@@ -79,9 +80,10 @@ places_push m n names x k end old put new q =
     none : (o : Option ℕ) → is_some o ≡ false → o ≡ None
     none None e = refl
     none (Some y) e = absurd (cc)
+
     joined : (names : List (List ℕ)) (x q : List ℕ) → is_some (place_of names x) ≡ false → cond (bytes_eq x q) (Some (length names)) (place_of names q) ≡ option_or (place_of names q) (cond (bytes_eq x q) (Some (length names)) None)
     joined names x q new =
         (elim (bytes_eq x q) as (λ t. bytes_eq x q ≡ t → cond t (Some (length names)) (place_of names q) ≡ option_or (place_of names q) (cond t (Some (length names)) None)) [
-          true ↦ λ e. sym (ap (λ o. option_or o (Some (length names))) (none (place_of names q) (ap (λ y. is_some (place_of names y)) (sym (equal_bytes x q e)) ∙ new)))
-        | false ↦ λ e. sym (or-none (place_of names q))
+          | true ↦ λ e. sym (ap (λ o. option_or o (Some (length names))) (none (place_of names q) (ap (λ y. is_some (place_of names y)) (sym (equal_bytes x q e)) ∙ new)))
+          | false ↦ λ e. sym (or-none (place_of names q))
         ]) refl

@@ -17,8 +17,8 @@ repeats_is : (before : List (List ℕ)) (name : List ℕ) → repeats before nam
 repeats_is [] name = refl
 repeats_is (n ∷ ns) name =
     elim (bytes_eq n name) as (λ t. option_or (unless (not t) (alone name)) (repeats ns name) ≡ cond (t || is_declared ns name) (Some (alone name)) None) [
-      true ↦ refl
-    | false ↦ repeats_is ns name
+      | true ↦ refl
+      | false ↦ repeats_is ns name
     ]
 
 repeats_at : (before : List (List ℕ)) (name : List ℕ) (b : Bool) → is_some (place_of before name) ≡ b → repeats before name ≡ cond b (Some (alone name)) None

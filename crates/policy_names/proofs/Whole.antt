@@ -79,42 +79,42 @@ same_length f g xs ys e = length-map ys g ∙ sym (ap length e) ∙ length-map x
 -- ---- the whole
 
 module _ (p : Source) (ss : List PlacedSubject) (plan : PlacedScheduling)
-  (subjects : map (subject_in (region_names p)) ss ≡ p.subjects) (subjects_in : list_all (is_subject_in (region_names p)) ss ≡ true)
-  (groups : map (group_in (subject_names p)) plan.groups ≡ p.scheduling.groups) (groups_in : list_all (is_group_in (subject_names p)) plan.groups ≡ true)
-  (majors : map (major_in (group_names p)) plan.major_frames ≡ p.scheduling.major_frames) (majors_in : list_all (is_major_in (group_names p)) plan.major_frames ≡ true)
+    (subjects : map (subject_in (region_names p)) ss ≡ p.subjects) (subjects_in : list_all (is_subject_in (region_names p)) ss ≡ true)
+    (groups : map (group_in (subject_names p)) plan.groups ≡ p.scheduling.groups) (groups_in : list_all (is_group_in (subject_names p)) plan.groups ≡ true)
+    (majors : map (major_in (group_names p)) plan.major_frames ≡ p.scheduling.major_frames) (majors_in : list_all (is_major_in (group_names p)) plan.major_frames ≡ true)
   where
-  subjects_are : map (subject_named (with_places p ss plan)) ss ≡ p.subjects
-  subjects_are = subjects_back (with_places p ss plan) ss subjects_in ∙ subjects
+    subjects_are : map (subject_named (with_places p ss plan)) ss ≡ p.subjects
+    subjects_are = subjects_back (with_places p ss plan) ss subjects_in ∙ subjects
 
-  groups_are : map (group_in (map (λ s. s.name) ss)) plan.groups ≡ p.scheduling.groups
-  groups_are = ap (λ names. map (group_in names) plan.groups) (subject_names_kept (region_names p) ss ∙ ap (map (λ s. s.name)) subjects) ∙ groups
+    groups_are : map (group_in (map (λ s. s.name) ss)) plan.groups ≡ p.scheduling.groups
+    groups_are = ap (λ names. map (group_in names) plan.groups) (subject_names_kept (region_names p) ss ∙ ap (map (λ s. s.name)) subjects) ∙ groups
 
-  majors_are : map (major_in (map (λ g. g.name) plan.groups)) plan.major_frames ≡ p.scheduling.major_frames
-  majors_are = ap (λ names. map (major_in names) plan.major_frames) (group_names_kept (subject_names p) plan.groups ∙ ap (map (λ g. g.name)) groups) ∙ majors
+    majors_are : map (major_in (map (λ g. g.name) plan.groups)) plan.major_frames ≡ p.scheduling.major_frames
+    majors_are = ap (λ names. map (major_in names) plan.major_frames) (group_names_kept (subject_names p) plan.groups ∙ ap (map (λ g. g.name)) groups) ∙ majors
 
-  source_is : source_of (with_places p ss plan) ≡ p
-  unfolding source_of
-  source_is i = record {
-    processor = p.processor;
-    memory_blocks = p.memory_blocks;
-    devices = p.devices;
-    memory = p.memory;
-    channels = p.channels;
-    components = p.components;
-    events = p.events;
-    subjects = subjects_are i;
-    scheduling = record { groups = groups_are i; major_frames = majors_are i };
-  }
+    source_is : source_of (with_places p ss plan) ≡ p
+    unfolding source_of
+    source_is i = record {
+      processor = p.processor;
+      memory_blocks = p.memory_blocks;
+      devices = p.devices;
+      memory = p.memory;
+      channels = p.channels;
+      components = p.components;
+      events = p.events;
+      subjects = subjects_are i;
+      scheduling = record { groups = groups_are i; major_frames = majors_are i };
+    }
 
-  groups_there : list_all (group_placed (with_places p ss plan)) plan.groups ≡ true
-  groups_there = subst (λ n. list_all (λ g. list_all (λ i. nat_lt i n) g.subjects) plan.groups ≡ true) (same_length (subject_in (region_names p)) (λ s. s.name) ss p.subjects subjects) groups_in
+    groups_there : list_all (group_placed (with_places p ss plan)) plan.groups ≡ true
+    groups_there = subst (λ n. list_all (λ g. list_all (λ i. nat_lt i n) g.subjects) plan.groups ≡ true) (same_length (subject_in (region_names p)) (λ s. s.name) ss p.subjects subjects) groups_in
 
-  majors_there : list_all (major_placed (with_places p ss plan)) plan.major_frames ≡ true
-  majors_there = subst (λ n. list_all (λ m. list_all (λ c. list_all (λ f. nat_lt f.group n) c.minor_frames) m.cpus) plan.major_frames ≡ true) (same_length (group_in (subject_names p)) (λ g. g.name) plan.groups p.scheduling.groups groups) majors_in
+    majors_there : list_all (major_placed (with_places p ss plan)) plan.major_frames ≡ true
+    majors_there = subst (λ n. list_all (λ m. list_all (λ c. list_all (λ f. nat_lt f.group n) c.minor_frames) m.cpus) plan.major_frames ≡ true) (same_length (group_in (subject_names p)) (λ g. g.name) plan.groups p.scheduling.groups groups) majors_in
 
-  all_placed : are_placed (with_places p ss plan) ≡ true
-  unfolding are_placed
-  all_placed = rw (subjects_there (with_places p ss plan) ss subjects_in, groups_there, majors_there) refl
+    all_placed : are_placed (with_places p ss plan) ≡ true
+    unfolding are_placed
+    all_placed = rw (subjects_there (with_places p ss plan) ss subjects_in, groups_there, majors_there) refl
 
-  pub whole : Resolves p (with_places p ss plan)
-  whole = record { source = source_is; placed = all_placed }
+    pub whole : Resolves p (with_places p ss plan)
+    whole = record { source = source_is; placed = all_placed }

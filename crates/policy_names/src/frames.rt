@@ -11,8 +11,7 @@ use crate::index::Index;
 use crate::scope::{Place, Scope, place_all};
 use muen_num::text::{append, append_decimal};
 use muen_num::{Name, Seq};
-use policy_types::Refusal;
-use policy_types::{resolved, source};
+use policy_types::{Refusal, resolved, source};
 use std::alloc::Global;
 
 impl<'a> Place<Scope<'a>> for source::MinorFrame {

@@ -2,8 +2,7 @@
 use crate::index::Index;
 use crate::scope::{Place, Scope, place_all};
 use muen_num::Name;
-use policy_types::Refusal;
-use policy_types::{resolved, source};
+use policy_types::{Refusal, resolved, source};
 use std::alloc::Global;
 
 impl<'a> Place<Scope<'a>> for Name {

@@ -42,9 +42,8 @@ returns c =
     let first = reasons_2 p c.requires.built in
     let subjects = rw (c.items.ensures, c.requires.names.regions) at c.in_ok-subjects.ensures in
     let groups = rw (c.items-2.ensures, c.requires.names.subjects) at c.in_ok-groups.ensures in
-    let majors = rw (c.items-majors.ensures, c.requires.names.groups) at c.in_ok-major_frames.ensures in
-    (
+    let majors = rw (c.items-majors.ensures, c.requires.names.groups) at c.in_ok-major_frames.ensures in (
       over (pass (pass (pass first subjects.0) groups.0) majors.0),
       whole p c.in_ok-subjects.subjects (record { groups = c.in_ok-groups.groups; major_frames = c.in_ok-major_frames.major_frames })
-        subjects.1.0 subjects.1.1 groups.1.0 groups.1.1 majors.1.0 majors.1.1
+          subjects.1.0 subjects.1.1 groups.1.0 groups.1.1 majors.1.0 majors.1.1,
     )

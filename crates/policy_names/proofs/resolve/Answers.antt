@@ -1,7 +1,7 @@
 use Rattle.std.proofs.lemmas.Result.{err_from_is_err_and}
 use Rattle.policy_types.specs.Lawful.{names_broken}
 use Rattle.policy_names.specs.Whole.{with_places}
-use Rattle.policy_names.proofs.Answering.{refused, kept, resolved}
+use Rattle.policy_names.proofs.Answering.{refused, kept}
 use Rattle.policy_names.proofs.Built.{reasons}
 use Rattle.policy_names.proofs.Firsts.{pass, stop, over}
 use Rattle.policy_names.proofs.resolve.Goals as goal

@@ -15,7 +15,7 @@ returns-in_err-place_major c =
     let left = err_from_is_err_and c.from_residual.result c.from_residual.ensures.1 in
     rw (left.1, left.2)
     (stop_own (refers (k, x)) (flat_map refers (enumerate_from (k + 1) (drop (k + 1) majors))) _ c.in_err-place_major.field-0.0 c.in_err-place_major.ensures
-      (rw (next_item majors k x c.index-majors-number.is c.loop-number-test.true) at c.loop-number.invariant.rest))
+    (rw (next_item majors k x c.index-majors-number.is c.loop-number-test.true) at c.loop-number.invariant.rest))
 
 -- one more frame
 pub loop-number-preserved : goal.loop-number-preserved

@@ -14,7 +14,7 @@ returns-in_err-place g c =
     let left = err_from_is_err_and c.from_residual.result c.from_residual.ensures.1 in
     rw (left.1, left.2)
     (stop_own (refers x) (flat_map refers (drop (i + 1) items)) _ c.in_err-place.field-0.0 c.in_err-place.ensures
-      (rw (next_item items i x c.item-item.is c.loop-item-test.true) at c.loop-item.invariant.rest))
+    (rw (next_item items i x c.item-item.is c.loop-item-test.true) at c.loop-item.invariant.rest))
 
 -- one more element
 pub loop-item-preserved : goal.loop-item-preserved
