@@ -1,5 +1,5 @@
 -- The answer of the whole call.
-use Rattle.std.proofs.Common.{◌≡◌, Option, Some, None, Result, Ok, Err, refl, ap, sym, ◌∙◌}
+use Rattle.std.proofs.Common.{◌≡◌, Option, None, Ok, Err, ap, sym, ◌∙◌}
 use Rattle.policy_types.specs.Lawful.{kept_or, kept_source}
 use Rattle.policy_types.specs.Reading.{Answers}
 use Rattle.policy_types.specs.Resolution.{Resolution, source_of}

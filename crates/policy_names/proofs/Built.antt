@@ -1,14 +1,13 @@
 -- What the rules of names ask of a policy of the parts that are built.
-use Rattle.std.proofs.Common.{◌≡◌, ℕ, ◌+◌, Bool, true, false, List, [], ◌∷◌, ◌++◌, Option, Some, None, refl, ap, sym, ◌∙◌}
+use Rattle.std.proofs.Common.{◌≡◌, ℕ, Bool, true, false, List, [], ◌∷◌, ◌++◌, Option, Some, None, refl, sym}
 use Rattle.std.specs.Prelude.{map, not, is_some, ◌&&◌}
-use Rattle.std.specs.List.{flat_map, list_all, enumerate_from}
-use Rattle.std.specs.Option.{option_or}
+use Rattle.std.specs.List.{flat_map, list_all}
 use Rattle.std.proofs.lemmas.List.{append-nil}
 use Rattle.std.proofs.lemmas.List.Concat.{flat_map_single}
 use Rattle.policy_types.specs.Built.{is_empty, is_built, is_built_subject}
 use Rattle.policy_types.specs.Search.{first_of, first_in}
 use Rattle.policy_types.specs.Lawful.{broken, names_broken}
-use Rattle.policy_types.specs.Rules.{Reference, undeclared, refers, repeated, offence_1, offence_2, subject_references, group_references, frame_references, majors_of, major_name}
+use Rattle.policy_types.specs.Rules.{undeclared, refers, offence_1, offence_2, subject_references, group_references, frame_references, majors_of, major_name}
 use Rattle.policy_types.specs.declared.source.Source.{Source}
 use Rattle.policy_types.specs.declared.source.Subject.{Subject}
 use Rattle.policy_types.specs.declared.source.Group.{Group}

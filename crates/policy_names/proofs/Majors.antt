@@ -1,12 +1,12 @@
 -- The names that are printed for major frames.
-use Rattle.std.proofs.Common.{◌≡◌, ℕ, ◌+◌, ◌<◌, ◌≤◌, ◌^◌, ◌/◌, ◌%◌, Bool, true, List, [], ◌∷◌, ◌++◌, length, Option, Some, None, refl, ap, sym, subst, ◌∙◌, arith, length-append}
-use Rattle.std.specs.Prelude.{decimal, codes, ◌&&◌, nat_lt, nat_le}
+use Rattle.std.proofs.Common.{◌≡◌, ℕ, ◌+◌, ◌<◌, ◌≤◌, ◌^◌, ◌%◌, Bool, true, [], ◌∷◌, length, refl, arith}
+use Rattle.std.specs.Prelude.{decimal, ◌&&◌}
 use Rattle.std.specs.List.{list_all}
 use Rattle.std.proofs.lemmas.Bool.{lt-ltb, le-leb}
 use Rattle.std.proofs.lemmas.Bool.Decides.{nat_tests}
 use Rattle.std.proofs.lemmas.Fmt.{decimal_by_steps, length-decimal-le}
 use Rattle.std.proofs.lemmas.List.Folds.{list_all-append}
-use Rattle.muen_num.specs.Naming.{is_name, is_name_byte, name_of}
+use Rattle.muen_num.specs.Naming.{is_name, is_name_byte}
 use Rattle.policy_types.specs.Rules.{major_name}
 
 digit : (d : ℕ) → d < 10 → is_name_byte (48 + d) ≡ true

@@ -1,14 +1,13 @@
 -- The first name that stood before.
-use Rattle.std.proofs.Common.{◌≡◌, ℕ, ◌+◌, ◌<◌, Bool, true, false, cond, List, [], ◌∷◌, ◌++◌, length, get_or, take, drop, Option, Some, None, refl, ap, sym, ◌∙◌, add-one, drop-cons}
+use Rattle.std.proofs.Common.{◌≡◌, ℕ, ◌+◌, ◌<◌, Bool, true, false, cond, List, [], ◌∷◌, ◌++◌, length, get_or, take, drop, Some, None, refl, ap, sym, ◌∙◌, add-one, drop-cons}
 use Rattle.std.specs.Prelude.{map, not, is_some, ◌||◌}
 use Rattle.std.specs.Option.{option_or}
 use Rattle.std.proofs.lemmas.List.{take_more, map_push}
 use Rattle.std.specs.Str.{bytes_eq}
-use Rattle.policy_types.specs.Search.{alone, unless, first_in}
+use Rattle.policy_types.specs.Search.{alone, unless}
 use Rattle.policy_types.specs.Lawful.{broken}
 use Rattle.policy_types.specs.Rules.{is_declared, repeated}
 use Rattle.policy_types.specs.declared.refusal.Refusal.TheVariants.{Rule}
-use Rattle.policy_types.specs.declared.offence.Offence.{Offence}
 use Rattle.policy_names.specs.Places.{place_of}
 use Rattle.policy_names.specs.Repeats.{repeats, repeated_after}
 use Rattle.policy_names.proofs.Places.{is_some-place_of}

@@ -1,16 +1,13 @@
 -- The policy that a resolved one stands for.
-use Rattle.std.proofs.Common.{◌≡◌, ℕ, Bool, true, List, [], ◌∷◌, length, None, refl, ap, sym, subst, ◌∙◌}
+use Rattle.std.proofs.Common.{◌≡◌, ℕ, true, List, [], ◌∷◌, length, None, refl, ap, sym, subst, ◌∙◌}
 use Rattle.std.specs.Prelude.{map, not, is_some, ◌&&◌, nat_lt}
 use Rattle.std.specs.List.{list_all}
 use Rattle.std.proofs.lemmas.List.{length-map}
 use Rattle.policy_types.specs.Built.{is_empty}
-use Rattle.policy_types.specs.Resolution.{Resolution, source_of, are_placed, subject_named, subject_placed, group_placed, major_placed, name_at}
+use Rattle.policy_types.specs.Resolution.{Resolution, source_of, are_placed, subject_named, subject_placed, group_placed, major_placed}
 use Rattle.policy_types.specs.declared.source.Source.{Source}
-use Rattle.policy_types.specs.declared.source.Subject.{Subject}
-use Rattle.policy_types.specs.declared.source.Group.{Group}
 use Rattle.policy_types.specs.declared.resolved.Subject.{Subject as PlacedSubject}
 use Rattle.policy_types.specs.declared.resolved.Group.{Group as PlacedGroup}
-use Rattle.policy_types.specs.declared.resolved.MajorFrame.{MajorFrame as PlacedMajor}
 use Rattle.policy_types.specs.declared.resolved.Scheduling.{Scheduling as PlacedScheduling}
 use Rattle.policy_names.specs.Firsts.{region_names, subject_names, group_names}
 use Rattle.policy_names.specs.Parts.{subject_in, is_subject_in, is_mapping_in, group_in, is_group_in, major_in, is_major_in}

@@ -1,7 +1,6 @@
 -- Why a policy is refused, by the first of several offences.
 use Rattle.std.proofs.Common.{◌≡◌, ℕ, List, [], ◌∷◌, ◌++◌, Option, Some, None, refl, ap, sym, ◌∙◌}
 use Rattle.std.specs.Option.{option_or}
-use Rattle.std.specs.List.{flat_map}
 use Rattle.policy_types.specs.Search.{first_in}
 use Rattle.policy_types.specs.Lawful.{broken}
 use Rattle.policy_types.specs.declared.offence.Offence.{Offence}

@@ -1,4 +1,3 @@
-use Rattle.std.proofs.Common.{sym, ◌∙◌}
 use Rattle.std.proofs.lemmas.Result.{err_from_is_err_and}
 use Rattle.policy_names.proofs.Built.{built, reasons_2}
 use Rattle.policy_names.proofs.Elements.{all_true}

@@ -1,6 +1,4 @@
-use Rattle.std.proofs.Common.{ap, ◌∙◌}
 use Rattle.std.proofs.lemmas.Result.{err_from_is_err_and}
-use Rattle.policy_types.specs.Lawful.{broken}
 use Rattle.policy_names.proofs.Built.{reasons_1}
 use Rattle.policy_names.proofs.Firsts.{pass, stop, over}
 use Rattle.policy_names.proofs.index_names.Goals as goal
