@@ -6,7 +6,7 @@ use Rattle.policy_names.proofs.index.Index.of.Goals as goal
 -- a name that stood before
 pub returns-then-is_some : goal.returns-then-is_some
 returns-then-is_some g c =
-    let place = c.in_ok-insert.ensures.old ∙ c.loop-item.invariant.places c.name-name.result in
+    let place = rw (c.loop-item.invariant.places c.name-name.result) at c.in_ok-insert.ensures.old in
     let old = rw place at (sym c.is_some.ensures ∙ c.if-is_some.true) in
     rw c.name-name.ensures (stop_name g.T.Named.name c.args.items.now c.loop-item.item-index c.item-item.result c.item-item.is c.loop-item-test.true c.loop-item.names.items (rw c.name-name.ensures at old) c.loop-item.invariant.rest)
 
@@ -17,7 +17,7 @@ loop-item-preserved g c =
     let items = c.args.items.now in
     let i = c.loop-item.item-index in
     let names = c.loop-item.names.items in
-    let place = c.in_ok-insert.ensures.old ∙ c.loop-item.invariant.places c.name-name.result in
+    let place = rw (c.loop-item.invariant.places c.name-name.result) at c.in_ok-insert.ensures.old in
     let new = rw place at (sym c.is_some.ensures ∙ c.if-is_some.false) in
     let pushed = c.in_ok-push.ensures.items in
     record {
