@@ -33,8 +33,8 @@ fn replaced(alloc: Global, text: &[u8], old: &[u8], new: &[u8]) -> Result<Vec<u8
     Err(Fail::new("no such place"))
 }
 
-fn changed(alloc: Global, changes: &[(&[u8], &[u8])]) -> Result<Vec<u8>, Fail> {
-    let mut text = Vec::from_slice(alloc, LAWFUL)?;
+fn changed(alloc: Global, lawful: &[u8], changes: &[(&[u8], &[u8])]) -> Result<Vec<u8>, Fail> {
+    let mut text = Vec::from_slice(alloc, lawful)?;
     for (old, new) in changes {
         text = replaced(alloc, &text, old, new)?;
     }
@@ -532,7 +532,7 @@ fn rules(rt: HostRuntime) -> Result<(), Fail> {
         ),
     ];
     for (changes, broken) in cases {
-        let text = changed(alloc, changes)?;
+        let text = changed(alloc, LAWFUL, changes)?;
         assert!(rt; is_answered(&answer_to(alloc, &text), broken));
     }
     Ok(())
@@ -701,5 +701,79 @@ fn limits(rt: HostRuntime) -> Result<(), Fail> {
         b"{\"processor\":{\"logicalCpus\":1},\"scheduling\":{}}",
     );
     assert!(rt; is_answered(&none, Some((20, b"subjects", b"subjects"))));
+    Ok(())
+}
+
+// The policy of one subject that loads 5 and halts.
+const ONE_SUBJECT: &[u8] = b"{\"processor\":{\"logicalCpus\":1},\
+\"memoryBlocks\":[{\"name\":\"ram\",\"physicalAddress\":1048576,\"size\":65536}],\
+\"memory\":[{\"name\":\"code\",\"size\":4096,\"content\":{\"hex\":\"01100000050000001700000000000000\"}}],\
+\"subjects\":[{\"name\":\"one\",\"cpu\":0,\"entry\":4194304,\
+\"memory\":[{\"region\":\"code\",\"virtualAddress\":4194304,\"rights\":\"rx\"}]}],\
+\"scheduling\":{\"groups\":[{\"name\":\"g\",\"cpu\":0,\"subjects\":[\"one\"]}],\
+\"majorFrames\":[{\"cpus\":[{\"cpu\":0,\"minorFrames\":[{\"group\":\"g\",\"ticks\":10}]}]}]}}";
+
+#[test]
+fn rules_of_one_subject(rt: HostRuntime) -> Result<(), Fail> {
+    let alloc = rt.alloc();
+    let cases: [(&[(&[u8], &[u8])], Broken); 7] = [
+        (&[], None),
+        (
+            &[
+                (
+                    b"00000000\"}}]",
+                    b"00000000\"}},{\"name\":\"more\",\"size\":8192}]",
+                ),
+                (
+                    b"\"rights\":\"rx\"}]",
+                    b"\"rights\":\"rx\"},{\"region\":\"more\",\"virtualAddress\":4198400,\"rights\":\"r\"}]",
+                ),
+            ],
+            None,
+        ),
+        (
+            &[
+                (
+                    b"00000000\"}}]",
+                    b"00000000\"}},{\"name\":\"more\",\"size\":8192}]",
+                ),
+                (
+                    b"\"rights\":\"rx\"}]",
+                    b"\"rights\":\"rx\"},{\"region\":\"more\",\"virtualAddress\":4190208,\"rights\":\"r\"}]",
+                ),
+            ],
+            Some((5, b"code", b"more")),
+        ),
+        (
+            &[(b"\"ticks\":10", b"\"ticks\":0")],
+            Some((16, b"major.0", b"cpu.0")),
+        ),
+        (
+            &[(b"\"ticks\":10", b"\"ticks\":100001")],
+            Some((20, b"major.0", b"major.0")),
+        ),
+        (
+            &[(b"\"cpu\":0,\"entry\"", b"\"cpu\":1,\"entry\"")],
+            Some((3, b"one", b"one")),
+        ),
+        (
+            &[
+                (
+                    b"\"rights\":\"rx\"}]}]",
+                    b"\"rights\":\"rx\"},{\"region\":\"shared\",\"virtualAddress\":5242880,\"rights\":\"rw\"}]},{\"name\":\"two\",\"cpu\":0,\"entry\":4194304,\"memory\":[{\"region\":\"shared\",\"virtualAddress\":5242880,\"rights\":\"r\"}]}]",
+                ),
+                (
+                    b"00000000\"}}]",
+                    b"00000000\"}},{\"name\":\"shared\",\"size\":4096}]",
+                ),
+                (b"[\"one\"]", b"[\"one\",\"two\"]"),
+            ],
+            Some((8, b"shared", b"two")),
+        ),
+    ];
+    for (changes, broken) in cases {
+        let text = changed(alloc, ONE_SUBJECT, changes)?;
+        assert!(rt; is_answered(&answer_to(alloc, &text), broken));
+    }
     Ok(())
 }

@@ -4,7 +4,7 @@ use Rattle.std.specs.Prelude.{map, not, is_some, ◌&&◌}
 use Rattle.std.specs.List.{flat_map, list_all}
 use Rattle.std.proofs.lemmas.List.{append-nil}
 use Rattle.std.proofs.lemmas.List.Concat.{flat_map_single}
-use Rattle.policy_types.specs.Built.{is_empty, is_built, is_plain}
+use Rattle.policy_types.specs.Built.{is_empty, is_built, is_plain, is_plain_region}
 use Rattle.policy_types.specs.Search.{first_of, first_in}
 use Rattle.policy_types.specs.Lawful.{broken, names_broken}
 use Rattle.policy_types.specs.Rules.{undeclared, refers, offence_1, offence_2, subject_references, group_references, frame_references, majors_of, major_name}
@@ -50,7 +50,8 @@ pub record IsBuilt (p : Source) : Type 0 where
 pub built : (p : Source) → is_built p ≡ true → IsBuilt p
 unfolding is_built
 built p h =
-    let parts = five (is_empty p.devices) (is_empty p.channels) (is_empty p.components) (is_empty p.events) (list_all is_plain p.subjects) h in
+    let but_regions = both (is_empty p.devices && is_empty p.channels && is_empty p.components && is_empty p.events && list_all is_plain p.subjects) (list_all is_plain_region p.memory) h in
+    let parts = five (is_empty p.devices) (is_empty p.channels) (is_empty p.components) (is_empty p.events) (list_all is_plain p.subjects) but_regions.0 in
     record {
       devices = empty_is p.devices parts.0;
       channels = empty_is p.channels parts.1;

@@ -1,7 +1,7 @@
 //! Small policies, with the first rule that each breaks.
 ghost use Rattle.std.specs.Prelude.{◌≡◌, true, IfOk};
 ghost use Rattle.std.specs.List.{list_all};
-ghost use Rattle.policy_types.specs.Built.{is_built, is_plain};
+ghost use Rattle.policy_types.specs.Built.{is_built, is_plain, is_plain_region};
 
 use crate::resolve;
 use muen_num::{Name, Seq};
@@ -40,7 +40,9 @@ fn blocks(alloc: Global, text: &str) -> Result<Seq<Block>, Fail> {
     Ok(list)
 }
 
-fn regions(alloc: Global, text: &str) -> Result<Seq<Region>, Fail> {
+fn regions(alloc: Global, text: &str) -> Result<Seq<Region>, Fail>
+    ensures { IfOk result (λ list. list_all is_plain_region list ≡ true) }
+{
     let mut list = Seq::new(alloc);
     for part in text.split(' ') {
         list.push(Region {

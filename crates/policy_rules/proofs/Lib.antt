@@ -3,6 +3,7 @@ pub mod ByPlace
 pub mod Kept
 pub mod NamedParts
 pub mod Naming
+pub mod NotBuilt
 pub mod Overlaps
 pub mod Searches
 pub mod Searching

@@ -7,7 +7,7 @@ use Rattle.std.proofs.lemmas.Option.{slice_get-get_or}
 use Rattle.std.proofs.lemmas.Bool.Decides.{nat_tests}
 use Rattle.policy_types.specs.Search.{first_in}
 use Rattle.policy_types.specs.Rules.{repeated, device_kinds, logical_names, window_extent, window_extents, offence_1}
-use Rattle.policy_types.specs.Built.{is_empty, is_plain, is_built}
+use Rattle.policy_types.specs.Built.{is_empty, is_plain, is_plain_region, is_built}
 use Rattle.policy_types.specs.Resolution.{Resolution, name_at, mapping_named, subject_named, source_of, subject_placed, are_placed}
 use Rattle.policy_types.specs.Thing.{region}
 use Rattle.policy_types.specs.Windows.{window, region_window, windows_of}
@@ -49,6 +49,8 @@ pub record IsPlain (s : NamedSubject) : Type 0 where
   pub channels : s.channels ≡ []
   pub devices : s.devices ≡ []
   pub msrs : s.msrs ≡ []
+  pub sources : s.sources ≡ []
+  pub targets : s.targets ≡ []
 
 pub plain : (s : NamedSubject) → is_plain s ≡ true → IsPlain s
 plain s h =
@@ -62,6 +64,8 @@ plain s h =
       channels = no_items s.channels a.1;
       devices = no_items s.devices b.1;
       msrs = no_items s.msrs c.1;
+      sources = no_items s.sources d.1;
+      targets = no_items s.targets e.1;
     }
 
 -- ---- names of regions
@@ -105,11 +109,13 @@ pub record HasNoOther (p : Source) : Type 0 where
   pub components : p.components ≡ []
   pub events : p.events ≡ []
   pub subjects : list_all is_plain p.subjects ≡ true
+  pub regions : list_all is_plain_region p.memory ≡ true
 
 pub built : (p : Source) → is_built p ≡ true → HasNoOther p
 unfolding is_built
 built p h =
-    let d = both _ _ h in
+    let e = both _ _ h in
+    let d = both _ _ e.0 in
     let c = both _ _ d.0 in
     let b = both _ _ c.0 in
     let a = both _ _ b.0 in
@@ -119,6 +125,7 @@ built p h =
       components = no_items p.components b.1;
       events = no_items p.events c.1;
       subjects = d.1;
+      regions = e.1;
     }
 
 -- ---- windows

@@ -76,8 +76,9 @@ fn all_rules(alloc: Global, r: &Resolved) -> Result<(), Refusal>
     plan_rules(alloc, r)
 }
 
-/// The policy, where it keeps rules 3, 4, 5, 8, 16, 17, 18 and 20; else the least of them that is
-/// broken, with its two names, or `NoMemory`. A refused policy is dropped.
+/// The policy, where it keeps every rule from 3 on; else the least rule that is broken, with its two
+/// names, or `NoMemory`. The rules on elements that aren't built are kept. A refused policy is
+/// dropped.
 #[tactic(auto, using(crate::proofs::Kept::rules_joined, crate::proofs::Kept::refused))]
 pub fn check(alloc: Global, r: Resolved) -> Result<Lawful, Refusal>
     requires { is_built (source_of r) ≡ true }

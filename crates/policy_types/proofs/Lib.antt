@@ -1,4 +1,5 @@
 mod Examples
 mod Faults
+mod RuleExamples
 pub mod Places
 pub mod ReadBuilt

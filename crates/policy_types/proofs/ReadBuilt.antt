@@ -4,13 +4,16 @@ use Rattle.std.specs.Prelude.{codes, decimal}
 use Rattle.std.specs.List.{list_all}
 use Rattle.serde_json.specs.Data.{Data, Items, no_items, item}
 use Rattle.serde_json.specs.Find.{get, as_array}
-use Rattle.policy_types.specs.Built.{is_plain, is_built}
-use Rattle.policy_types.specs.Document.{read_processor, read_block, read_region, read_mapping, read_subject, read_scheduling, read_system, policy_from, policy_of, shape_refused, json_of}
-use Rattle.policy_types.specs.Keys.{subject_keys, system_keys}
-use Rattle.policy_types.specs.Schema.{◌>>=◌, under, or_want, object_of, required, optional, optional_from, unbuilt, read_number, read_name, read_items, read_list}
+use Rattle.policy_types.specs.Built.{is_plain, is_plain_region, is_built}
+use Rattle.policy_types.specs.Document.{read_processor, read_block, read_region, read_content, read_mapping, read_subject, read_scheduling, read_system, policy_from, policy_of, shape_refused, json_of}
+use Rattle.policy_types.specs.Keys.{region_keys, subject_keys, system_keys}
+use Rattle.policy_types.specs.Schema.{◌>>=◌, under, or_want, object_of, required, optional, optional_from, unbuilt, read_number, read_name, read_caching, read_items, read_list}
 use Rattle.policy_types.specs.declared.refusal.Fault.{Fault}
 use Rattle.policy_types.specs.declared.refusal.Want.TheVariants.{List as WantList}
 use Rattle.policy_types.specs.declared.source.Source.{Source}
+use Rattle.policy_types.specs.declared.rights.Caching.TheVariants.{Wb}
+use Rattle.policy_types.specs.declared.source.Content.TheVariants.{Zero}
+use Rattle.policy_types.specs.declared.source.Region.{Region}
 use Rattle.policy_types.specs.declared.source.Subject.{Subject}
 
 -- ---- what is read in steps
@@ -66,6 +69,18 @@ subject_so d =
     after P (unbuilt (codes "sources") d) _ (λ sources.
     after P (unbuilt (codes "targets") d) _ (λ targets. refl)))))))))))
 
+region_so : (d : Data) → IfOk (read_region d) (λ r. is_plain_region r ≡ true)
+unfolding read_region
+region_so d =
+    let P : Region → Type 0 = λ r. is_plain_region r ≡ true in
+    after P (object_of region_keys d) _ (λ known.
+    after P (required (codes "name") read_name d) _ (λ name.
+    after P (required (codes "size") read_number d) _ (λ size.
+    after P (optional (codes "caching") Wb read_caching d) _ (λ caching.
+    after P (unbuilt (codes "alignment") d) _ (λ alignment.
+    after P (unbuilt (codes "physicalAddress") d) _ (λ address.
+    after P (optional (codes "content") Zero read_content d) _ (λ content. refl)))))))
+
 system_so : (d : Data) → IfOk (read_system d) (λ p. is_built p ≡ true)
 unfolding read_system is_built
 system_so d =
@@ -74,12 +89,12 @@ system_so d =
     after P (required (codes "processor") read_processor d) _ (λ processor.
     after P (optional (codes "memoryBlocks") [] (read_list read_block) d) _ (λ blocks.
     after P (unbuilt (codes "devices") d) _ (λ devices.
-    after P (optional (codes "memory") [] (read_list read_region) d) _ (λ memory.
+    after_so (λ rs. list_all is_plain_region rs ≡ true) P (optional (codes "memory") [] (read_list read_region) d) _ (optional_so is_plain_region read_region region_so (codes "memory") d) (λ memory fixed.
     after P (unbuilt (codes "channels") d) _ (λ channels.
     after P (unbuilt (codes "components") d) _ (λ components.
     after P (unbuilt (codes "events") d) _ (λ events.
     after_so (λ ss. list_all is_plain ss ≡ true) P (optional (codes "subjects") [] (read_list read_subject) d) _ (optional_so is_plain read_subject subject_so (codes "subjects") d) (λ subjects plain.
-    after P (required (codes "scheduling") read_scheduling d) _ (λ scheduling. plain))))))))))
+    after P (required (codes "scheduling") read_scheduling d) _ (λ scheduling. rw plain fixed))))))))))
 
 refused_so : (o : Result Source Fault) → IfOk o (λ p. is_built p ≡ true) → IfOk (shape_refused o) (λ p. is_built p ≡ true)
 refused_so (Ok p) h = h

@@ -2,6 +2,7 @@
 use Rattle.std.specs.Prelude.{◌&&◌, not, Bool, true, false, List, [], ◌∷◌, is_some}
 use Rattle.std.specs.List.{list_all}
 use Rattle.policy_types.specs.declared.source.Source.{Source}
+use Rattle.policy_types.specs.declared.source.Region.{Region}
 use Rattle.policy_types.specs.declared.source.Subject.{Subject}
 
 abbrev pub is_empty : {X : Type 0} → List X → Bool
@@ -18,7 +19,11 @@ is_plain s =
     && is_empty s.sources
     && is_empty s.targets
 
--- no devices, channels, components or events, and no subject has a part of these
+-- a region without a fixed address
+abbrev pub is_plain_region : Region → Bool
+is_plain_region r = not (is_some r.physical_address)
+
+-- no devices, channels, components or events, no subject has a part of these, and no region a fixed address
 unfoldable pub is_built : Source → Bool
 is_built p =
     is_empty p.devices
@@ -26,3 +31,4 @@ is_built p =
     && is_empty p.components
     && is_empty p.events
     && list_all is_plain p.subjects
+    && list_all is_plain_region p.memory

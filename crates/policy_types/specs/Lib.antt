@@ -6,6 +6,7 @@ pub mod Events
 pub mod Frames
 pub mod Keys
 pub mod Lawful
+pub mod MoreRules
 pub mod Reading
 pub mod Resolution
 pub mod Rules

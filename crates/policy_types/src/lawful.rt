@@ -1,4 +1,4 @@
-//! Policies that keep every rule that is built.
+//! Policies that keep every rule.
 ghost use Rattle.std.specs.Prelude.{◌≡◌, None};
 ghost use Rattle.policy_types.specs.Resolution.{source_of};
 ghost use Rattle.policy_types.specs.Lawful.{rules_broken};
@@ -6,8 +6,7 @@ ghost use Rattle.policy_types.specs.Lawful.{rules_broken};
 use crate::resolved::Resolved;
 use std::marker::Model;
 
-/// A resolved policy that keeps every rule that is built: 3, 4, 5, 8, 16, 17, 18 and 20, beside those
-/// on names and references.
+/// A resolved policy that keeps every rule.
 #[derive(Drop)]
 pub struct Lawful {
     resolved: Resolved,
