@@ -249,8 +249,14 @@ ungranted = refl
 
 -- ---- frames
 
-frames : frames_of system ≡
-    (record { cpu = 1; frames = record { group = 1; ticks = 5 } ∷ [] }
-    ∷ record { cpu = 0; frames = record { group = 0; ticks = 2 } ∷ record { group = 0; ticks = 3 } ∷ [] } ∷ []) ∷ []
+frames_of_cpu_0 : frames_of system 0 ≡ (record { group = 0; ticks = 2 } ∷ record { group = 0; ticks = 3 } ∷ []) ∷ []
 unfolding frames_of
-frames = refl
+frames_of_cpu_0 = refl
+
+frames_of_cpu_1 : frames_of system 1 ≡ (record { group = 1; ticks = 5 } ∷ []) ∷ []
+unfolding frames_of
+frames_of_cpu_1 = refl
+
+frames_of_no_cpu : frames_of system 2 ≡ [] ∷ []
+unfolding frames_of
+frames_of_no_cpu = refl

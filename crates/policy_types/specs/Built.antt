@@ -1,5 +1,5 @@
 -- The parts of a policy that this project builds so far.
-use Rattle.std.specs.Prelude.{◌&&◌, not, Bool, true, false, List, [], ◌∷◌, is_some}
+use Rattle.std.specs.Prelude.{ℕ, ◌&&◌, not, Bool, true, false, List, [], ◌∷◌, is_some, nat_le}
 use Rattle.std.specs.List.{list_all}
 use Rattle.policy_types.specs.declared.source.Source.{Source}
 use Rattle.policy_types.specs.declared.source.Region.{Region}
@@ -32,3 +32,10 @@ is_built p =
     && is_empty p.events
     && list_all is_plain p.subjects
     && list_all is_plain_region p.memory
+
+-- several logical CPUs aren't built; no CPU, and more than there may be, are for the rule on CPUs
+abbrev pub is_built_number : ℕ → Bool
+is_built_number cpus = not (nat_le 2 cpus && nat_le cpus 8)
+
+unfoldable pub has_built_cpus : Source → Bool
+has_built_cpus p = is_built_number p.processor.logical_cpus

@@ -1,13 +1,18 @@
 -- What memory holds at the start (Muen system policy: memory regions and their content).
-use Rattle.std.specs.Prelude.{ℕ, ◌-◌, List, [], ◌++◌, length, take, drop, replicate, Option, Some, None, option_and_then}
+use Rattle.std.specs.Prelude.{ℕ, ◌-◌, List, [], ◌++◌, length, take, drop, replicate, nat_le, Option, Some, None, option_and_then, if◌then◌else◌}
 use Rattle.std.specs.Option.{option_map_or}
 use Rattle.std.specs.List.{find}
 use Rattle.std.specs.Str.{bytes_eq}
 use Rattle.std.specs.Ordering.{nat_cmp}
 use Rattle.std.specs.Cmp.Lexicographic.{slice_cmp}
 use Rattle.std.specs.FinMap.{FinMap, get}
+use Rattle.muen_num.specs.declared.tag.Part.TheVariants.{Whole}
+use Rattle.policy_types.specs.Search.{first_in}
 use Rattle.policy_types.specs.Thing.{Thing, region, channel, provided, device_memory, component_by}
+use Rattle.policy_types.specs.declared.refusal.Refusal.{Refusal}
+use Rattle.policy_types.specs.declared.refusal.Refusal.TheVariants.{FileFit}
 use Rattle.policy_types.specs.declared.source.Source.{Source}
+use Rattle.policy_types.specs.declared.source.Region.{Region}
 use Rattle.policy_types.specs.declared.source.Content.{Content}
 use Rattle.policy_types.specs.declared.source.Content.TheVariants.{Zero, Fill, Inline, File}
 
@@ -45,3 +50,15 @@ initial_bytes p files (device_memory device name) =
     option_map_or (λ m. replicate m.size 0)
     (option_and_then (λ d. find (λ m. bytes_eq m.name name) d.memory) (find (λ d. bytes_eq d.name device) p.devices))
     []
+
+-- ---- contents that don't fit
+
+-- bytes that are longer than the room of the region that they are for
+abbrev pub content_refused : Region → Content → Option Refusal
+content_refused r (Inline bytes) =
+    if nat_le (length bytes) r.size then None else Some (FileFit (record { owner = r.name; part = Whole }) r.size (length bytes))
+content_refused r _ = None
+
+-- the first region, by number, whose contents are refused; contents from files aren't built
+unfoldable pub contents_refused : Source → Option Refusal
+contents_refused p = first_in (λ r. content_refused r r.content) p.memory

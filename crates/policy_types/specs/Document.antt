@@ -7,12 +7,13 @@ use Rattle.std.specs.Str.{is_utf8}
 use Rattle.serde_json.specs.Data.{Data}
 use Rattle.serde_json.specs.Find.{get}
 use Rattle.serde_json.specs.Read.{read}
+use Rattle.policy_types.specs.Built.{is_built_number}
 use Rattle.policy_types.specs.Keys.{system_keys, processor_keys, block_keys, region_keys, content_keys, subject_keys, mapping_keys, scheduling_keys, group_keys, major_frame_keys, cpu_frames_keys, minor_frame_keys}
 use Rattle.policy_types.specs.Schema.{◌>>=◌, fault, object_of, required, optional, unbuilt, read_number, read_byte, read_name, read_rights, read_caching, read_hexadecimal, read_list}
 use Rattle.policy_types.specs.declared.refusal.Fault.{Fault}
 use Rattle.policy_types.specs.declared.refusal.Refusal.{Refusal}
 use Rattle.policy_types.specs.declared.refusal.Refusal.TheVariants.{NotJson, Shape}
-use Rattle.policy_types.specs.declared.refusal.Want.TheVariants.{OneContent}
+use Rattle.policy_types.specs.declared.refusal.Want.TheVariants.{OneContent, NotYetBuilt}
 use Rattle.policy_types.specs.declared.rights.Caching.TheVariants.{Wb}
 use Rattle.policy_types.specs.declared.source.Source.{Source}
 use Rattle.policy_types.specs.declared.source.Processor.{Processor}
@@ -28,10 +29,14 @@ use Rattle.policy_types.specs.declared.source.MajorFrame.{MajorFrame}
 use Rattle.policy_types.specs.declared.source.CpuFrames.{CpuFrames}
 use Rattle.policy_types.specs.declared.source.MinorFrame.{MinorFrame}
 
+-- how many logical CPUs there are
+unfoldable pub read_cpus : Data → Result ℕ Fault
+read_cpus d = read_number d >>= λ n. if is_built_number n then Ok n else fault [] NotYetBuilt
+
 unfoldable pub read_processor : Data → Result Processor Fault
 read_processor d = do
   known ← object_of processor_keys d
-  logical_cpus ← required (codes "logicalCpus") read_number d
+  logical_cpus ← required (codes "logicalCpus") read_cpus d
   Ok (record { logical_cpus = logical_cpus })
 
 unfoldable pub read_block : Data → Result Block Fault

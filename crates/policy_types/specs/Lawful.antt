@@ -1,5 +1,7 @@
 -- Which rule a policy breaks, and the policies that break none.
-use Rattle.std.specs.Prelude.{ℕ, [], ◌∷◌, Option, Some, None, Result, Ok, Err, option_map}
+use Rattle.std.specs.Prelude.{ℕ, List, [], ◌∷◌, Option, Some, None, Result, Ok, Err, option_map}
+use Rattle.policy_types.specs.Contents.{contents_refused}
+use Rattle.policy_types.specs.Document.{policy_of}
 use Rattle.policy_types.specs.MoreRules.{offence_6, offence_7, offence_9, offence_10, offence_11, offence_12, offence_13, offence_14, offence_15, offence_19}
 use Rattle.policy_types.specs.Rules.{offence_1, offence_2, offence_3, offence_4, offence_5, offence_8, offence_16, offence_17, offence_18, offence_20}
 use Rattle.policy_types.specs.Search.{first_of}
@@ -51,3 +53,18 @@ kept_or p (Some refusal) = Err refusal
 abbrev pub kept_source : Result Resolution Refusal → Result Source Refusal
 kept_source (Ok r) = Ok (source_of r)
 kept_source (Err refusal) = Err refusal
+
+-- ---- what a document is refused for
+
+-- why a policy is refused: the least rule that is broken, else the first contents that don't fit
+unfoldable pub refusal_of : Source → Option Refusal
+refusal_of p = first_of (names_broken p ∷ rules_broken p ∷ contents_refused p ∷ [])
+
+abbrev pub accepted : Result Source Refusal → Result Source Refusal
+accepted (Ok p) = kept_or p (refusal_of p)
+accepted (Err refusal) = Err refusal
+
+-- the policy of a document that is accepted, else why it is refused: it is no JSON text, it breaks the schema, then a
+-- rule, then its contents don't fit
+unfoldable pub accepted_policy_of : List ℕ → Result Source Refusal
+accepted_policy_of bytes = accepted (policy_of bytes)

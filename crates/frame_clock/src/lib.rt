@@ -1,0 +1,2 @@
+//! Which frame a CPU has at a tick.
+#![tactic(auto)]

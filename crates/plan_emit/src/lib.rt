@@ -1,0 +1,2 @@
+//! The scheduling plan of a policy.
+#![tactic(auto)]
