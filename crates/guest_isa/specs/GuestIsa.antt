@@ -10,7 +10,7 @@ use Rattle.guest_isa.specs.declared.spelling.Named.{Named}
 use Rattle.guest_isa.specs.declared.instr.Instr.{Instr}
 use Rattle.guest_isa.specs.declared.instr.Instr.TheVariants.{Nop, Li, Lih, Mov, Add, Sub, And, Or, Xor, Shl, Shr, Load, Store, Jmp, Jz, Jnz, Jb, Hlt}
 use Rattle.guest_isa.specs.declared.instr.Wish.{Wish}
-use Rattle.guest_isa.specs.declared.instr.Wish.TheVariants.{Nothing, Set as Sets, Load as Loads, Store as Stores, Halt as Halts}
+use Rattle.guest_isa.specs.declared.instr.Wish.TheVariants.{Nothing, Set as Sets, Load as Loads, Store as Stores, PortIn, ReadMsr, Tick, Halt as Halts}
 use Rattle.guest_isa.specs.declared.instr.Asked.{Asked}
 
 -- ---- the spelling
@@ -132,6 +132,9 @@ AreFine (Some i) = IsFine i
 -- a register to be loaded is below 16
 abbrev pub IsFineWish : Wish → Type 0
 IsFineWish (Loads reg addr size) = reg < 16
+IsFineWish (PortIn reg port size) = reg < 16
+IsFineWish (ReadMsr reg index) = reg < 16
+IsFineWish (Tick reg) = reg < 16
 IsFineWish _ = Unit {0}
 
 -- ---- the effect: exact numbers, reduced modulo 2^64

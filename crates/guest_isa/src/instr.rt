@@ -107,6 +107,18 @@ pub enum Wish {
     Load { reg: u8, addr: u64, size: Size },
     /// This value, which has so many bytes, is to be stored at this guest address.
     Store { addr: u64, size: Size, value: u64 },
+    /// The register is to have the input at this port, zero-extended.
+    PortIn { reg: u8, port: u16, size: Size },
+    /// This value, which has so many bytes, goes to this port.
+    PortOut { port: u16, size: Size, value: u32 },
+    /// The register is to have the value of this MSR.
+    ReadMsr { reg: u8, index: u32 },
+    /// This MSR is to have this value.
+    WriteMsr { index: u32, value: u64 },
+    /// The register is to have the number of the tick.
+    Tick { reg: u8 },
+    /// The call of this number.
+    Call { number: u64 },
     /// The subject halts.
     Halt,
 }

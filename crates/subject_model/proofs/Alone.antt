@@ -12,7 +12,7 @@ use Rattle.policy_types.specs.Windows.{Window, window, byte, violation, holds, a
 use Rattle.guest_isa.specs.GuestIsa.{decode_of, effect_of}
 use Rattle.guest_isa.specs.declared.instr.Instr.{Instr}
 use Rattle.guest_isa.specs.declared.instr.Wish.{Wish}
-use Rattle.guest_isa.specs.declared.instr.Wish.TheVariants.{Nothing, Set, Load, Store, Halt}
+use Rattle.guest_isa.specs.declared.instr.Wish.TheVariants.{Nothing, Set, Load, Store, PortIn, PortOut, ReadMsr, WriteMsr, Tick, Call, Halt}
 use Rattle.state_page.specs.declared.SubjectState.{SubjectState}
 use Rattle.subject_model.specs.Solo.{Stored, Answer, Reach, reached, refused, idle, reach_by, reach_of, store_at, loaded, stored_to, performed, executed, fetched, attempted, deliverable, unless_delivered, turn_over}
 
@@ -62,14 +62,14 @@ relabelled g w = window w.guest w.size w.rights (g w.thing)
 abbrev pub store_of : {A B : Type 0} → (A → B) → Stored A → Stored B
 store_of g w = record { thing = g w.thing; offset = w.offset; bytes = w.bytes }
 
--- an answer that takes no event and raises none
+-- an answer that takes no event
 abbrev pub answer_of : {A B : Type 0} → (A → B) → Answer A → Answer B
 answer_of g a = record {
   state = a.state;
   what = a.what;
   stored = option_map (store_of g) a.stored;
   taken = None;
-  raised = None;
+  raised = a.raised;
 }
 
 abbrev pub reach_for : {A B : Type 0} → (A → B) → Reach A → Reach B
@@ -118,8 +118,8 @@ module _ {A B : Type 0} (g : A → B) (from : A → List ℕ) (to : B → List �
   stored_same s after address size value (reached x offset) = refl
   stored_same s after address size value (refused reason qualification guest) = refl
 
-  module _ (ws : List (Window A)) (same : AllShown Same ws) where
-    performed_same : (s after : SubjectState) (wish : Wish) → performed [] (map (relabelled g) ws) to s after wish ≡ answer_of g (performed [] ws from s after wish)
+  module _ (ws : List (Window A)) (same : AllShown Same ws) (tick : ℕ) where
+    performed_same : (s after : SubjectState) (wish : Wish) → performed [] (map (relabelled g) ws) to tick s after wish ≡ answer_of g (performed [] ws from tick s after wish)
     performed_same s after Nothing = refl
     performed_same s after (Set reg value) = refl
     performed_same s after (Load reg address size) =
@@ -128,39 +128,45 @@ module _ {A B : Type 0} (g : A → B) (from : A → List ℕ) (to : B → List �
     performed_same s after (Store address size value) =
         ap (stored_to [] s after address size value) (reach-relabelled ws Write (count size) address)
         ∙ stored_same s after address size value (reach_of ws Write (count size) address)
+    performed_same s after (PortIn reg port size) = refl
+    performed_same s after (PortOut port size value) = refl
+    performed_same s after (ReadMsr reg index) = refl
+    performed_same s after (WriteMsr index value) = refl
+    performed_same s after (Tick reg) = refl
+    performed_same s after (Call number) = refl
     performed_same s after Halt = refl
 
-    executed_same : (s : SubjectState) (i : Option Instr) → executed [] (map (relabelled g) ws) to s i ≡ answer_of g (executed [] ws from s i)
+    executed_same : (s : SubjectState) (i : Option Instr) → executed [] (map (relabelled g) ws) to tick s i ≡ answer_of g (executed [] ws from tick s i)
     executed_same s None = refl
     executed_same s (Some i) = performed_same s (effect_of s i).after (effect_of s i).wish
 
-    fetched_same : (s : SubjectState) (r : Reach A) → LeadsTo (λ x _. Same x) r → fetched [] (map (relabelled g) ws) to s (reach_for g r) ≡ answer_of g (fetched [] ws from s r)
+    fetched_same : (s : SubjectState) (r : Reach A) → LeadsTo (λ x _. Same x) r → fetched [] (map (relabelled g) ws) to tick s (reach_for g r) ≡ answer_of g (fetched [] ws from tick s r)
     fetched_same s (reached x offset) h =
-        ap (λ bs. executed [] (map (relabelled g) ws) to s (decode_of (take 8 (drop offset bs)))) h
+        ap (λ bs. executed [] (map (relabelled g) ws) to tick s (decode_of (take 8 (drop offset bs)))) h
         ∙ executed_same s (decode_of (take 8 (drop offset (from x))))
     fetched_same s (refused reason qualification address) h = refl
 
-    attempted_same : (s : SubjectState) → attempted [] (map (relabelled g) ws) to s ≡ answer_of g (attempted [] ws from s)
+    attempted_same : (s : SubjectState) → attempted [] (map (relabelled g) ws) to tick s ≡ answer_of g (attempted [] ws from tick s)
     attempted_same s =
-        ap (fetched [] (map (relabelled g) ws) to s) (reach-relabelled ws Fetch 8 s.pc)
+        ap (fetched [] (map (relabelled g) ws) to tick s) (reach-relabelled ws Fetch 8 s.pc)
         ∙ fetched_same s (reach_of ws Fetch 8 s.pc) (leads Same ws Fetch 8 s.pc same)
 
-    unless_same : (s : SubjectState) → cond s.halted (idle {X = B} s) (attempted [] (map (relabelled g) ws) to s) ≡ answer_of g (cond s.halted (idle {X = A} s) (attempted [] ws from s))
+    unless_same : (s : SubjectState) → cond s.halted (idle {X = B} s) (attempted [] (map (relabelled g) ws) to tick s) ≡ answer_of g (cond s.halted (idle {X = A} s) (attempted [] ws from tick s))
     unless_same s =
-        elim s.halted as (λ b. cond b (idle {X = B} s) (attempted [] (map (relabelled g) ws) to s) ≡ answer_of g (cond b (idle {X = A} s) (attempted [] ws from s))) [
+        elim s.halted as (λ b. cond b (idle {X = B} s) (attempted [] (map (relabelled g) ws) to tick s) ≡ answer_of g (cond b (idle {X = A} s) (attempted [] ws from tick s))) [
           | true ↦ refl
           | false ↦ attempted_same s
         ]
 
     -- a turn with no trap entry and no pending event
-    pub turn_same : (s : SubjectState) (first : Bool) → turn_over [] (map (relabelled g) ws) to s [] [] first ≡ answer_of g (turn_over [] ws from s [] [] false)
+    pub turn_same : (s : SubjectState) (first : Bool) → turn_over [] (map (relabelled g) ws) to tick s [] [] first ≡ answer_of g (turn_over [] ws from tick s [] [] false)
     turn_same s first =
-        elim s.stopped as (λ b. cond b (idle {X = B} s) (unless_delivered s (deliverable s [] [] first) (cond s.halted (idle s) (attempted [] (map (relabelled g) ws) to s))) ≡ answer_of g (cond b (idle {X = A} s) (unless_delivered s (deliverable s [] [] false) (cond s.halted (idle s) (attempted [] ws from s))))) [
+        elim s.stopped as (λ b. cond b (idle {X = B} s) (unless_delivered s (deliverable s [] [] first) (cond s.halted (idle s) (attempted [] (map (relabelled g) ws) to tick s))) ≡ answer_of g (cond b (idle {X = A} s) (unless_delivered s (deliverable s [] [] false) (cond s.halted (idle s) (attempted [] ws from tick s))))) [
           | true ↦ refl
           | false ↦
-              ap (λ o. unless_delivered s o (cond s.halted (idle s) (attempted [] (map (relabelled g) ws) to s))) (none_deliverable s first)
+              ap (λ o. unless_delivered s o (cond s.halted (idle s) (attempted [] (map (relabelled g) ws) to tick s))) (none_deliverable s first)
               ∙ unless_same s
-              ∙ sym (ap (λ o. answer_of g (unless_delivered s o (cond s.halted (idle s) (attempted [] ws from s)))) (none_deliverable s false))
+              ∙ sym (ap (λ o. answer_of g (unless_delivered s o (cond s.halted (idle s) (attempted [] ws from tick s)))) (none_deliverable s false))
         ]
 
 -- ---- what a turn stores
@@ -174,7 +180,7 @@ abbrev pub MayStore : {A : Type 0} → (Stored A → Type 0) → List (Window A)
 MayStore P ws =
     (size : Size) (address value : ℕ) → LeadsTo (λ x offset. P (store_at x offset size value)) (reach_of ws Write (count size) address)
 
-module _ {A : Type 0} (P : Stored A → Type 0) (from : A → List ℕ) (ws : List (Window A)) (may : MayStore P ws) where
+module _ {A : Type 0} (P : Stored A → Type 0) (from : A → List ℕ) (ws : List (Window A)) (may : MayStore P ws) (tick : ℕ) where
   loaded_stores : (s after : SubjectState) (reg : ℕ) (size : Size) (r : Reach A) → StoresSo P (loaded [] from s after reg size r).stored
   loaded_stores s after reg size (reached x offset) = tt
   loaded_stores s after reg size (refused reason qualification address) = tt
@@ -183,29 +189,35 @@ module _ {A : Type 0} (P : Stored A → Type 0) (from : A → List ℕ) (ws : Li
   stored_stores s after address size value (reached x offset) h = h
   stored_stores s after address size value (refused reason qualification guest) h = tt
 
-  performed_stores : (s after : SubjectState) (wish : Wish) → StoresSo P (performed [] ws from s after wish).stored
+  performed_stores : (s after : SubjectState) (wish : Wish) → StoresSo P (performed [] ws from tick s after wish).stored
   performed_stores s after Nothing = tt
   performed_stores s after (Set reg value) = tt
   performed_stores s after (Load reg address size) =
       loaded_stores s after reg size (reach_of ws Read (count size) address)
   performed_stores s after (Store address size value) =
       stored_stores s after address size value (reach_of ws Write (count size) address) (may size address value)
+  performed_stores s after (PortIn reg port size) = tt
+  performed_stores s after (PortOut port size value) = tt
+  performed_stores s after (ReadMsr reg index) = tt
+  performed_stores s after (WriteMsr index value) = tt
+  performed_stores s after (Tick reg) = tt
+  performed_stores s after (Call number) = tt
   performed_stores s after Halt = tt
 
-  executed_stores : (s : SubjectState) (i : Option Instr) → StoresSo P (executed [] ws from s i).stored
+  executed_stores : (s : SubjectState) (i : Option Instr) → StoresSo P (executed [] ws from tick s i).stored
   executed_stores s None = tt
   executed_stores s (Some i) = performed_stores s (effect_of s i).after (effect_of s i).wish
 
-  fetched_stores : (s : SubjectState) (r : Reach A) → StoresSo P (fetched [] ws from s r).stored
+  fetched_stores : (s : SubjectState) (r : Reach A) → StoresSo P (fetched [] ws from tick s r).stored
   fetched_stores s (reached x offset) = executed_stores s (decode_of (take 8 (drop offset (from x))))
   fetched_stores s (refused reason qualification address) = tt
 
-  pub turn_stores : (s : SubjectState) → StoresSo P (turn_over [] ws from s [] [] false).stored
+  pub turn_stores : (s : SubjectState) → StoresSo P (turn_over [] ws from tick s [] [] false).stored
   turn_stores s =
-      elim s.stopped as (λ b. StoresSo P (cond b (idle {X = A} s) (unless_delivered s (deliverable s [] [] false) (cond s.halted (idle s) (attempted [] ws from s)))).stored) [
+      elim s.stopped as (λ b. StoresSo P (cond b (idle {X = A} s) (unless_delivered s (deliverable s [] [] false) (cond s.halted (idle s) (attempted [] ws from tick s)))).stored) [
         | true ↦ tt
         | false ↦
-            rw (none_deliverable s false) (elim s.halted as (λ b. StoresSo P (cond b (idle {X = A} s) (attempted [] ws from s)).stored) [
+            rw (none_deliverable s false) (elim s.halted as (λ b. StoresSo P (cond b (idle {X = A} s) (attempted [] ws from tick s)).stored) [
               | true ↦ tt
               | false ↦ fetched_stores s (reach_of ws Fetch 8 s.pc)
             ])

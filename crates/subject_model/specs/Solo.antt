@@ -16,15 +16,15 @@ use Rattle.policy_types.specs.Events.{traps_of}
 use Rattle.policy_types.specs.declared.source.Source.{Source}
 use Rattle.policy_types.specs.declared.source.Subject.{Subject}
 use Rattle.policy_types.specs.declared.source.SourceWay.{SourceWay}
-use Rattle.policy_types.specs.declared.source.SourceWay.TheVariants.{Trap as ByTrap}
+use Rattle.policy_types.specs.declared.source.SourceWay.TheVariants.{Call as ByCall, Trap as ByTrap}
 use Rattle.guest_isa.specs.GuestIsa.{decode_of, effect_of, advanced, with_register}
 use Rattle.state_page.specs.declared.SubjectState.{SubjectState}
 use Rattle.guest_isa.specs.declared.instr.Instr.{Instr}
 use Rattle.guest_isa.specs.declared.instr.Wish.{Wish}
-use Rattle.guest_isa.specs.declared.instr.Wish.TheVariants.{Nothing, Set as Sets, Load as Loads, Store as Stores, Halt as Halts}
+use Rattle.guest_isa.specs.declared.instr.Wish.TheVariants.{Nothing, Set as Sets, Load as Loads, Store as Stores, PortIn, PortOut, ReadMsr, WriteMsr, Tick, Call as Calls, Halt as Halts}
 use Rattle.view_text.specs.declared.What.{What}
 use Rattle.view_text.specs.declared.What.TheVariants.{Ran, Set, Stored as Wrote, Inject, Exit}
-use Rattle.view_text.specs.declared.End.TheVariants.{Halt, Trap, Stop}
+use Rattle.view_text.specs.declared.End.TheVariants.{On, Halt, Trap, Stop}
 
 -- bytes that are written into a thing at an offset
 pub record Stored (X : Type 0) : Type 0 where
@@ -129,31 +129,59 @@ stored_to traps s after address size value (reached x offset) = record {
 }
 stored_to traps s after address size value (refused reason qualification guest) = faulted traps s reason qualification guest
 
+-- ---- ports, calls
+
+-- the qualification of a port access: the size less one, bit 3 for input, the port from bit 16 on
+abbrev pub port_qualification : Size → ℕ → ℕ → ℕ
+port_qualification size input port = (count size - 1) + 8 * input + 65536 * port
+
+-- a call is exit 18: `pc` goes on, and the declared call of that number, if there is one, is raised
+abbrev pub called : {X : Type 0} → SubjectState → ℕ → Answer X
+called after number = record {
+  state = record after { exited = true };
+  what = Some (Exit 18 0 0 On);
+  stored = None;
+  taken = None;
+  raised = Some (ByCall number);
+}
+
 -- ---- one instruction
 
--- its wish is met, or it leaves with the fault of its access; HLT is exit 12, and the kernel halts the subject
-abbrev pub performed : {X : Type 0} → List ℕ → List (Window X) → (X → List ℕ) → SubjectState → SubjectState → Wish → Answer X
-performed traps windows bytes_of s after Nothing = shown (record after { exited = false }) Ran
-performed traps windows bytes_of s after (Sets reg value) = shown (record after { exited = false }) (Set reg value)
-performed traps windows bytes_of s after (Loads reg address size) =
+-- its wish is met, or it leaves with the fault of its access; HLT is exit 12, and the kernel halts the subject. No port
+-- and no MSR is granted to anyone yet, so each access to one leaves: exit 30 for ports, 31 to read an MSR, 32 to write
+abbrev pub performed : {X : Type 0} → List ℕ → List (Window X) → (X → List ℕ) → ℕ → SubjectState → SubjectState → Wish → Answer X
+performed traps windows bytes_of tick s after Nothing = shown (record after { exited = false }) Ran
+performed traps windows bytes_of tick s after (Sets reg value) =
+    shown (record after { exited = false }) (Set reg value)
+performed traps windows bytes_of tick s after (Loads reg address size) =
     loaded traps bytes_of s after reg size (reach_of windows Read (count size) address)
-performed traps windows bytes_of s after (Stores address size value) =
+performed traps windows bytes_of tick s after (Stores address size value) =
     stored_to traps s after address size value (reach_of windows Write (count size) address)
-performed traps windows bytes_of s after Halts = shown (record after { halted = true; exited = true }) (Exit 12 0 0 Halt)
+performed traps windows bytes_of tick s after (PortIn reg port size) =
+    faulted traps s 30 (port_qualification size 1 port) 0
+performed traps windows bytes_of tick s after (PortOut port size value) =
+    faulted traps s 30 (port_qualification size 0 port) 0
+performed traps windows bytes_of tick s after (ReadMsr reg index) = faulted traps s 31 0 0
+performed traps windows bytes_of tick s after (WriteMsr index value) = faulted traps s 32 0 0
+performed traps windows bytes_of tick s after (Tick reg) =
+    shown (record (with_register after reg tick) { exited = false }) (Set reg tick)
+performed traps windows bytes_of tick s after (Calls number) = called after number
+performed traps windows bytes_of tick s after Halts = shown (record after { halted = true; exited = true }) (Exit 12 0 0 Halt)
 
 -- bytes outside the table are exit 0
-abbrev pub executed : {X : Type 0} → List ℕ → List (Window X) → (X → List ℕ) → SubjectState → Option Instr → Answer X
-executed traps windows bytes_of s None = faulted traps s 0 0 0
-executed traps windows bytes_of s (Some i) = performed traps windows bytes_of s (effect_of s i).after (effect_of s i).wish
+abbrev pub executed : {X : Type 0} → List ℕ → List (Window X) → (X → List ℕ) → ℕ → SubjectState → Option Instr → Answer X
+executed traps windows bytes_of tick s None = faulted traps s 0 0 0
+executed traps windows bytes_of tick s (Some i) =
+    performed traps windows bytes_of tick s (effect_of s i).after (effect_of s i).wish
 
-abbrev pub fetched : {X : Type 0} → List ℕ → List (Window X) → (X → List ℕ) → SubjectState → Reach X → Answer X
-fetched traps windows bytes_of s (reached x offset) =
-    executed traps windows bytes_of s (decode_of (take 8 (drop offset (bytes_of x))))
-fetched traps windows bytes_of s (refused reason qualification address) = faulted traps s reason qualification address
+abbrev pub fetched : {X : Type 0} → List ℕ → List (Window X) → (X → List ℕ) → ℕ → SubjectState → Reach X → Answer X
+fetched traps windows bytes_of tick s (reached x offset) =
+    executed traps windows bytes_of tick s (decode_of (take 8 (drop offset (bytes_of x))))
+fetched traps windows bytes_of tick s (refused reason qualification address) = faulted traps s reason qualification address
 
 -- the faults in their order: those of the fetch of eight bytes, bytes outside the table, those of the access
-abbrev pub attempted : {X : Type 0} → List ℕ → List (Window X) → (X → List ℕ) → SubjectState → Answer X
-attempted traps windows bytes_of s = fetched traps windows bytes_of s (reach_of windows Fetch 8 s.pc)
+abbrev pub attempted : {X : Type 0} → List ℕ → List (Window X) → (X → List ℕ) → ℕ → SubjectState → Answer X
+attempted traps windows bytes_of tick s = fetched traps windows bytes_of tick s (reach_of windows Fetch 8 s.pc)
 
 -- ---- the turn
 
@@ -165,10 +193,10 @@ unless_delivered s (Some v) otherwise = injected s v
 unless_delivered s None otherwise = otherwise
 
 -- the first that applies: stopped; an event is delivered; halted; one instruction runs
-abbrev pub turn_over : {X : Type 0} → List ℕ → List (Window X) → (X → List ℕ) → SubjectState → List ℕ → List ℕ → Bool → Answer X
-turn_over traps windows bytes_of s now later first =
+abbrev pub turn_over : {X : Type 0} → List ℕ → List (Window X) → (X → List ℕ) → ℕ → SubjectState → List ℕ → List ℕ → Bool → Answer X
+turn_over traps windows bytes_of tick s now later first =
     if s.stopped then idle s
-    else unless_delivered s (deliverable s now later first) (if s.halted then idle s else attempted traps windows bytes_of s)
+    else unless_delivered s (deliverable s now later first) (if s.halted then idle s else attempted traps windows bytes_of tick s)
 
 -- ---- what a subject is given, and what reaches it
 
@@ -201,4 +229,4 @@ pub record Inbox : Type 0 where
 
 -- the turn of a subject alone
 unfoldable pub solo_turn : Own → SubjectState → Inbox → Answer Thing
-solo_turn own s inbox = turn_over own.traps own.windows (bytes_in inbox.things) s inbox.now inbox.later inbox.first
+solo_turn own s inbox = turn_over own.traps own.windows (bytes_in inbox.things) inbox.tick s inbox.now inbox.later inbox.first

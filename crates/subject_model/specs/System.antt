@@ -4,18 +4,18 @@ use Rattle.std.specs.Prelude.{ℕ, ◌==◌, not, Bool, List, [], ◌∷◌, ◌
 use Rattle.std.specs.Option.{option_map_or}
 use Rattle.std.specs.List.{find, list_any}
 use Rattle.std.specs.Str.{bytes_eq}
+use Rattle.image_pack.specs.Slot.{Slot, slot_at}
 use Rattle.muen_num.specs.declared.bits.Mode.{Mode}
 use Rattle.muen_num.specs.declared.bits.Mode.TheVariants.{Asap, Async, Own as OwnMode, Switch}
 use Rattle.policy_types.specs.Thing.{Thing, same_thing, things_of}
 use Rattle.policy_types.specs.Windows.{Window, windows_of}
 use Rattle.policy_types.specs.Contents.{Held, initial_bytes}
-use Rattle.policy_types.specs.Frames.{frames_of}
+use Rattle.policy_types.specs.Frames.{frames_of, first_member}
 use Rattle.policy_types.specs.Events.{Raised, Target, event_of}
 use Rattle.policy_types.specs.declared.source.Source.{Source}
 use Rattle.policy_types.specs.declared.source.Subject.{Subject}
 use Rattle.policy_types.specs.declared.source.SourceWay.{SourceWay}
 use Rattle.state_page.specs.StatePage.{started}
-use Rattle.subject_model.specs.Slot.{Slot, slot_at}
 use Rattle.subject_model.specs.Solo.{Stored, Answer, Things, Inbox, own_of, solo_turn}
 use Rattle.state_page.specs.declared.SubjectState.{SubjectState}
 use Rattle.view_text.specs.declared.Line.{Line}
@@ -50,10 +50,6 @@ pub record System : Type 0 where
   pub later : Named (List ℕ)
   -- each group's active member, by the group's number
   pub active : List (List ℕ)
-
-abbrev pub first_member : List (List ℕ) → List ℕ
-first_member [] = []
-first_member (name ∷ names) = name
 
 -- the state at the start
 unfoldable pub start_of : Source → Held → System
@@ -174,4 +170,4 @@ turned_by p y cpu tick (Some t) =
 -- the turn of a CPU at a tick
 unfoldable pub system_turn : Source → System → ℕ → ℕ → Turned
 system_turn p y cpu tick =
-    turned_by p y cpu tick (option_and_then (turner_in p y) (slot_at (frames_of p) cpu tick))
+    turned_by p y cpu tick (option_and_then (turner_in p y) (slot_at (frames_of p cpu) tick))

@@ -1,7 +1,7 @@
 //! The abstract system, and laws of it.
 //!
-//! The definitions stand in specs/: what a subject does alone (`Solo`), the frame slots (`Slot`),
-//! the system and its turn (`System`), and runs with their text (`Run`). The functions here carry
+//! The definitions stand in specs/: what a subject does alone (`Solo`), the system and its turn
+//! (`System`), and runs with their text (`Run`). The functions here carry
 //! laws of them; no command calls one.
 #![tactic(auto)]
 
@@ -21,9 +21,9 @@ pub fn halted_waits()
         → deliverable s inbox.now inbox.later inbox.first ≡ None → solo_turn own s inbox ≡ idle s }
 {}
 
-/// A turn depends on the bytes of the things that reach the subject, its pending events, and
-/// whether its minor frame begins, and on nothing else that is outside it.
+/// A turn depends on the bytes of the things that reach the subject, its pending events, whether
+/// its minor frame begins, and the tick, and on nothing else that is outside it.
 pub fn turn_sees_its_inbox_alone()
     ensures { (own : Own) (s : SubjectState) (a b : Inbox) → ((x : Thing) → bytes_in a.things x ≡ bytes_in b.things x)
-        → a.now ≡ b.now → a.later ≡ b.later → a.first ≡ b.first → solo_turn own s a ≡ solo_turn own s b }
+        → a.now ≡ b.now → a.later ≡ b.later → a.first ≡ b.first → a.tick ≡ b.tick → solo_turn own s a ≡ solo_turn own s b }
 {}
