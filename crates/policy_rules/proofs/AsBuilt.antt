@@ -14,8 +14,8 @@ use Rattle.policy_types.specs.declared.source.Block.{Block}
 use Rattle.policy_types.specs.declared.source.Subject.{Subject as NamedSubject}
 use Rattle.policy_types.specs.declared.resolved.Subject.{Subject}
 use Rattle.policy_types.proofs.Places.{none_both, unless_none}
-use Rattle.policy_rules.specs.ByPlace.{block_extent, mapping_extent, is_ready}
-use Rattle.policy_rules.proofs.WindowsByPlace.{both, both_pass, plain, built, extents_placed, regions_unique}
+use Rattle.policy_types.specs.ByPlace.{block_extent, mapping_extent, is_ready}
+use Rattle.policy_types.proofs.WindowsByPlace.{both, both_pass, plain, built, extents_placed, regions_unique}
 
 -- ---- rule 4
 

@@ -9,4 +9,3 @@ pub mod Searches
 pub mod Searching
 pub mod SharedRegions
 pub mod Spans
-pub mod WindowsByPlace

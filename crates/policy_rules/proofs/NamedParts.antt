@@ -16,10 +16,10 @@ use Rattle.policy_types.specs.declared.resolved.Subject.{Subject}
 use Rattle.policy_types.specs.declared.resolved.MajorFrame.{MajorFrame}
 use Rattle.policy_types.specs.declared.resolved.CpuFrames.{CpuFrames}
 use Rattle.policy_types.specs.declared.resolved.MinorFrame.{MinorFrame as PlacedMinor}
-use Rattle.policy_rules.specs.ByPlace.{is_ready}
+use Rattle.policy_types.specs.ByPlace.{is_ready}
 use Rattle.policy_rules.specs.Limits.{cpus_offence, entry_within, major_within, limits_offence}
 use Rattle.policy_rules.proofs.AsBuilt.{limits_built, windows_limit}
-use Rattle.policy_rules.proofs.WindowsByPlace.{both, all_ready}
+use Rattle.policy_types.proofs.WindowsByPlace.{both, all_ready}
 
 -- ---- searches over what is named
 

@@ -23,8 +23,8 @@ use Rattle.policy_types.specs.declared.resolved.Mapping.{Mapping}
 use Rattle.policy_types.specs.declared.resolved.Subject.{Subject}
 use Rattle.policy_types.proofs.Places.{position_is, found_at_place}
 use Rattle.policy_rules.specs.Shared.{IsWithin, may_write, shows, alters, writer_of, other_of, noted, HasNames, first_named}
-use Rattle.policy_rules.specs.ByPlace.{is_ready}
-use Rattle.policy_rules.proofs.WindowsByPlace.{both, is_below, plain, regions_unique, all_ready}
+use Rattle.policy_types.specs.ByPlace.{is_ready}
+use Rattle.policy_types.proofs.WindowsByPlace.{both, is_below, plain, regions_unique, all_ready}
 
 -- ---- searches
 

@@ -1,4 +1,3 @@
-pub mod ByPlace
 pub mod Keeping
 pub mod Keys
 pub mod Limits

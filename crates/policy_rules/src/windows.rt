@@ -5,7 +5,7 @@ ghost use Rattle.policy_types.specs.Search.{two, unless, first_in};
 ghost use Rattle.policy_types.specs.Resolution.{source_of, subject_named};
 ghost use Rattle.policy_types.specs.Rules.{is_guest, window_extents, window_offence, offence_4};
 ghost use Rattle.policy_types.specs.Built.{is_built};
-ghost use Rattle.policy_rules.specs.ByPlace.{mapping_extent, is_ready};
+ghost use Rattle.policy_types.specs.ByPlace.{mapping_extent, is_ready};
 
 use crate::addresses;
 use crate::addresses::is_guest;
@@ -32,7 +32,7 @@ fn extents(alloc: Global, regions: &[Region], mappings: &[Mapping]) -> Result<Ve
 }
 
 /// The windows of a subject, as named ranges of guest addresses.
-#[tactic(auto, using(crate::proofs::WindowsByPlace::extents_placed, crate::proofs::WindowsByPlace::regions_unique))]
+#[tactic(auto, using(policy_types::proofs::WindowsByPlace::extents_placed, policy_types::proofs::WindowsByPlace::regions_unique))]
 pub(crate) fn windows(alloc: Global, r: &Resolved, s: &Subject) -> Result<Vec<Extent>, NoMemory>
     requires built { is_built (source_of r.now) ≡ true }
     requires ready { is_ready r.now s.now ≡ true }
@@ -67,7 +67,7 @@ fn outside_of(alloc: Global, r: &Resolved, s: &Subject) -> Result<Option<Offence
 }
 
 /// The first such window of all subjects.
-#[tactic(auto, using(crate::proofs::WindowsByPlace::all_ready))]
+#[tactic(auto, using(policy_types::proofs::WindowsByPlace::all_ready))]
 pub(crate) fn first_outside(alloc: Global, r: &Resolved) -> Result<Option<Offence>, NoMemory>
     requires built { is_built (source_of r.now) ≡ true }
     ensures { IfOk result (λ o. o ≡ first_in (window_offence (source_of r.now)) (map (subject_named r.now) r.now.subjects)) }

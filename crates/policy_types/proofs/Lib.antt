@@ -3,3 +3,4 @@ mod Faults
 mod RuleExamples
 pub mod Places
 pub mod ReadBuilt
+pub mod WindowsByPlace

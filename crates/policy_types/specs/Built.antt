@@ -3,6 +3,8 @@ use Rattle.std.specs.Prelude.{ℕ, ◌&&◌, not, Bool, true, false, List, [], �
 use Rattle.std.specs.List.{list_all}
 use Rattle.policy_types.specs.declared.source.Source.{Source}
 use Rattle.policy_types.specs.declared.source.Region.{Region}
+use Rattle.policy_types.specs.declared.source.Content.{Content}
+use Rattle.policy_types.specs.declared.source.Content.TheVariants.{File}
 use Rattle.policy_types.specs.declared.source.Subject.{Subject}
 
 abbrev pub is_empty : {X : Type 0} → List X → Bool
@@ -39,3 +41,11 @@ is_built_number cpus = not (nat_le 2 cpus && nat_le cpus 8)
 
 unfoldable pub has_built_cpus : Source → Bool
 has_built_cpus p = is_built_number p.processor.logical_cpus
+
+-- contents that are no file's
+abbrev pub is_plain_content : Content → Bool
+is_plain_content (File name offset most) = false
+is_plain_content _ = true
+
+unfoldable pub has_plain_contents : Source → Bool
+has_plain_contents p = list_all (λ r. is_plain_content r.content) p.memory

@@ -1,5 +1,6 @@
 pub mod Based
 pub mod Built
+pub mod ByPlace
 pub mod Contents
 pub mod Document
 pub mod Events

@@ -1,15 +1,20 @@
--- The machine of one subject, over the list of its windows, until tables are walked.
-use Rattle.std.specs.Prelude.{◌≡◌, ℕ, suc, zero, ◌+◌, ◌%◌, ◌<◌, ◌≤◌, false, List, [], ◌∷◌, ◌++◌, length, map, replicate, slice_index, slice_index_or, slice_set, position, Option, Some, None, option_map, option_to_list, unwrap_or}
-use Rattle.std.specs.List.{flat_map}
-use Rattle.std.specs.Str.{bytes_eq}
+-- The machine: subjects over lists of their windows, until tables are walked.
+use Rattle.std.specs.Prelude.{◌≡◌, ℕ, suc, zero, ◌+◌, ◌%◌, ◌<◌, ◌≤◌, false, List, [], ◌∷◌, ◌++◌, length, map, replicate, slice_index, slice_index_or, slice_set, nat_lt, true, Option, Some, None, option_map, option_to_list}
+use Rattle.std.specs.List.{flat_map, list_all}
 use Rattle.sha2.specs.Sha256.{sha256}
+use Rattle.image_pack.specs.Plan.{is_plan, frames_in}
+use Rattle.image_pack.specs.Slot.{Slot, slot_at}
+use Rattle.image_pack.specs.declared.plan.GroupPart.{GroupPart}
+use Rattle.image_pack.specs.declared.plan.Plan.{Plan}
 use Rattle.muen_num.specs.Size.{bytes_of}
 use Rattle.muen_num.specs.declared.tag.Part.TheVariants.{Whole}
+use Rattle.policy_types.specs.ByPlace.{region_at}
 use Rattle.policy_types.specs.Windows.{Window as WindowOf, Access as AccessTo, byte, violation, window}
 use Rattle.policy_types.specs.Contents.{padded}
-use Rattle.policy_types.specs.declared.source.Subject.{Subject}
+use Rattle.policy_types.specs.Resolution.{Resolution}
+use Rattle.policy_types.specs.declared.resolved.Mapping.{Mapping}
+use Rattle.policy_types.specs.declared.resolved.Subject.{Subject}
 use Rattle.policy_types.specs.declared.source.Region.{Region}
-use Rattle.policy_types.specs.declared.source.Mapping.{Mapping}
 use Rattle.policy_types.specs.declared.source.Content.{Content}
 use Rattle.policy_types.specs.declared.source.Content.TheVariants.{Zero, Fill, Inline, File}
 use Rattle.state_page.specs.StatePage.{started}
@@ -17,7 +22,6 @@ use Rattle.view_text.specs.ViewText.{turn_text, region_text}
 use Rattle.subject_model.specs.Solo.{Stored as StoredIn, Answer, Reach as ReachTo, reached, refused, store_at, turn_over}
 use Rattle.subject_model.specs.System.{overwritten, line_at}
 use Rattle.subject_model.specs.Run.{rows_text}
-use Rattle.policy_thin.specs.Thin.{size_or_none}
 use Rattle.state_page.specs.declared.SubjectState.{SubjectState}
 use Rattle.view_text.specs.declared.Line.{Line}
 use Rattle.window_machine.specs.declared.memory.Window.{Window}
@@ -89,11 +93,17 @@ with_stored (Some w) holdings =
 
 -- ---- the machine
 
-pub record MachineState : Type 0 where
+-- a subject: its name, its windows by the places of regions, its state
+pub record GuestState : Type 0 where
   pub name : List ℕ
   pub windows : List (WindowOf ℕ)
-  pub holdings : List Holding
   pub state : SubjectState
+
+-- the plan, the subjects by number, the regions by number
+pub record MachineState : Type 0 where
+  pub plan : Plan
+  pub guests : List GuestState
+  pub holdings : List Holding
 
 abbrev pub answer_of : Turn → Answer ℕ
 answer_of t = record {
@@ -101,8 +111,65 @@ answer_of t = record {
   what = t.what;
   stored = option_map stored_for t.stored;
   taken = None;
-  raised = None;
+  raised = t.raised;
 }
+
+-- a subject that isn't there
+abbrev pub nobody : GuestState
+nobody = record { name = []; windows = []; state = started 0 }
+
+abbrev pub guest_at : MachineState → ℕ → GuestState
+guest_at m i = slice_index_or m.guests i nobody
+
+abbrev pub no_group : GroupPart
+no_group = record { cpu = 0; first = 0 }
+
+-- the number of the subject that a frame slot gives its tick: the first member of its group
+abbrev pub active_in : List GroupPart → Option Slot → ℕ
+active_in groups None = 0
+active_in groups (Some slot) = (slice_index_or groups slot.group no_group).first
+
+-- whose tick it is, on the one CPU
+unfoldable pub active_at : Plan → ℕ → ℕ
+active_at plan tick = active_in plan.groups (slot_at (frames_in plan 0) tick)
+
+-- the turn of a subject: no event is ever pending, and there is no trap entry
+abbrev pub guest_answer : List Holding → ℕ → GuestState → Answer ℕ
+guest_answer holdings tick g = turn_over [] g.windows (bytes_at holdings) tick g.state [] [] false
+
+-- the turn of the subject of this number
+abbrev pub answer_at : MachineState → ℕ → ℕ → Answer ℕ
+answer_at m tick i = guest_answer m.holdings tick (guest_at m i)
+
+-- no call is declared, so what it raises has no effect
+abbrev pub after_turn : MachineState → ℕ → ℕ → MachineState
+after_turn m tick i = record m {
+  guests = slice_set m.guests i (record (guest_at m i) { state = (answer_at m tick i).state });
+  holdings = with_stored (answer_at m tick i).stored m.holdings;
+}
+
+abbrev pub line_of_turn : MachineState → ℕ → ℕ → Option Line
+line_of_turn m tick i = option_map (line_at tick 0 (guest_at m i).name (guest_at m i).state.pc) (answer_at m tick i).what
+
+unfoldable pub machine_after : MachineState → ℕ → MachineState
+machine_after m tick = after_turn m tick (active_at m.plan tick)
+
+unfoldable pub machine_line : MachineState → ℕ → Option Line
+machine_line m tick = line_of_turn m tick (active_at m.plan tick)
+
+-- ---- a machine that can run
+
+abbrev pub GuestsFit : List ℕ → List GuestState → Type 0
+GuestsFit sizes [] = Unit {0}
+GuestsFit sizes (g ∷ gs) = AllFit sizes g.windows × GuestsFit sizes gs
+
+-- its plan is one, each group's first member is there, and windows show regions that are there
+pub record CanRun (m : MachineState) : Type 0 where
+  pub plan : is_plan m.plan ≡ true
+  pub there : list_all (λ g. nat_lt g.first (length m.guests)) m.plan.groups ≡ true
+  pub fit : GuestsFit (sizes_of m.holdings) m.guests
+
+-- ---- the machine of a policy, at the start
 
 -- what a region holds at the start, where no file is asked for
 abbrev pub plain_bytes : ℕ → Content → List ℕ
@@ -115,35 +182,25 @@ plain_bytes size (File name offset most) = []
 abbrev pub held_at_start : Region → Holding
 held_at_start r = record { name = r.name; bytes = plain_bytes r.size r.content }
 
--- the place of the first region of this name, 0 where there is none
-abbrev pub place_of : List Region → List ℕ → ℕ
-place_of regions name = unwrap_or (position (λ r. bytes_eq r.name name) regions) 0
-
 -- the window of a mapping
 abbrev pub window_in : List Region → Mapping → WindowOf ℕ
-window_in regions m = window m.virtual_address (size_or_none regions m) m.rights.0 (place_of regions m.region)
+window_in regions m = window m.virtual_address (region_at regions m.region).size m.rights.0 m.region
 
--- the machine of a subject with windows on these regions, at the start
-unfoldable pub machine_of : List Region → Subject → MachineState
-machine_of regions s = record {
+-- a subject at the start
+abbrev pub guest_at_start : List Region → Subject → GuestState
+guest_at_start regions s = record {
   name = s.name;
   windows = map (window_in regions) s.memory;
-  holdings = map held_at_start regions;
   state = started s.entry;
 }
 
--- no event is ever pending, and there is no trap entry
-abbrev pub machine_answer : MachineState → Answer ℕ
-machine_answer m = turn_over [] m.windows (bytes_at m.holdings) m.state [] [] false
-
-unfoldable pub machine_after : MachineState → MachineState
-machine_after m = record m {
-  state = (machine_answer m).state;
-  holdings = with_stored (machine_answer m).stored m.holdings;
+-- the machine of a resolved policy with this plan, at the start
+unfoldable pub machine_of : Resolution → Plan → MachineState
+machine_of r plan = record {
+  plan = plan;
+  guests = map (guest_at_start r.memory) r.subjects;
+  holdings = map held_at_start r.memory;
 }
-
-unfoldable pub machine_line : MachineState → ℕ → Option Line
-machine_line m tick = option_map (line_at tick 0 m.name m.state.pc) (machine_answer m).what
 
 -- ---- a run
 
@@ -156,14 +213,17 @@ abbrev pub machine_run_to : MachineState → ℕ → MachineRan
 machine_run_to m zero = record { lines = []; machine = m }
 machine_run_to m (suc n) = record {
   lines = (machine_run_to m n).lines ++ option_to_list (machine_line (machine_run_to m n).machine n);
-  machine = machine_after (machine_run_to m n).machine;
+  machine = machine_after (machine_run_to m n).machine n;
 }
 
 abbrev pub holding_text : Holding → List ℕ
 holding_text h = region_text (record { owner = h.name; part = Whole }) false (sha256 h.bytes)
 
+abbrev pub guest_text : GuestState → List ℕ
+guest_text g = rows_text g.name g.state
+
 unfoldable pub machine_final_text : MachineState → List ℕ
-machine_final_text m = rows_text m.name m.state ++ flat_map holding_text m.holdings
+machine_final_text m = flat_map guest_text m.guests ++ flat_map holding_text m.holdings
 
 -- the text of a run
 unfoldable pub machine_text : MachineState → ℕ → List ℕ

@@ -4,8 +4,9 @@ ghost use Rattle.std.specs.List.{flat_map};
 ghost use Rattle.muen_outside.specs.Puts.{Puts};
 ghost use Rattle.view_text.specs.ViewText.{turn_text};
 ghost use Rattle.subject_model.specs.Run.{rows_text};
-ghost use Rattle.window_machine.specs.Machine.{machine_run_to, machine_final_text, machine_text};
+ghost use Rattle.window_machine.specs.Machine.{guest_text, machine_run_to, machine_final_text, machine_text};
 
+use crate::guest::Guest;
 use crate::machine::Machine;
 use crate::memory::Holding;
 use muen_num::{Name, Part, Tag};
@@ -115,16 +116,26 @@ fn put_turns<S: Sink>(machine: &mut Machine, end: u32, out: &mut S) -> Result<()
     Ok(())
 }
 
-// The final lines: the subject's state, and the digest of each region.
+// The final states of these subjects.
+fn put_states<S: Sink>(guests: &[Guest], out: &mut S) -> Result<(), SinkFault>
+    ensures { Puts (flat_map guest_text guests.now) (S.state out.old) (S.state out.new) result }
+{
+    for guest in guests {
+        put_state(guest.name(), guest.state(), out)?;
+    }
+    Ok(())
+}
+
+// The final lines: each subject's state, and the digest of each region.
 #[tactic(auto, unfolding(crate::specs::Machine::machine_final_text))]
 fn put_final<S: Sink>(machine: &Machine, out: &mut S) -> Result<(), SinkFault>
     ensures { Puts (machine_final_text machine.now) (S.state out.old) (S.state out.new) result }
 {
-    put_state(machine.name(), machine.state(), out)?;
+    put_states(machine.guests(), out)?;
     put_lines(machine.holdings(), out)
 }
 
-/// Runs the machine for these ticks, and prints each turn's line, and at the end the subject's
+/// Runs the machine for these ticks, and prints each turn's line, and at the end each subject's
 /// state and the digest of each region.
 #[tactic(auto, unfolding(crate::specs::Machine::machine_text))]
 pub fn print_run<S: Sink>(machine: &mut Machine, end: u32, out: &mut S) -> Result<(), SinkFault>

@@ -1,30 +1,43 @@
 // A turn of the subject.
-ghost use Rattle.std.specs.Prelude.{◌≡◌, ◌+◌, ◌<◌, ◌≤◌, length, take, drop, [], true, false};
+ghost use Rattle.std.specs.Prelude.{◌≡◌, ◌+◌, ◌<◌, ◌≤◌, if◌then◌else◌, length, take, drop, [], true, false};
 ghost use Rattle.muen_num.specs.Size.{bytes_of};
 ghost use Rattle.muen_num.specs.declared.bits.Kind.TheVariants.{Read, Write};
-ghost use Rattle.guest_isa.specs.GuestIsa.{decode_of, IsFineWish};
-ghost use Rattle.subject_model.specs.Solo.{reach_of, shown, faulted, loaded, stored_to, performed, executed, attempted, turn_over};
+ghost use Rattle.guest_isa.specs.GuestIsa.{decode_of, with_register, IsFineWish};
+ghost use Rattle.subject_model.specs.Solo.{reach_of, shown, faulted, loaded, stored_to, port_qualification, called, performed, executed, attempted, turn_over};
 ghost use Rattle.window_machine.specs.Machine.{windows_on, bytes_at, sizes_of, AllFit, answer_of};
 
 use crate::memory::{Holding, NOT_RUN, Reach, Store, Window, reach_of, value_at};
 use guest_isa::{Wish, ask, decode, with_register};
 use muen_num::{Kind, Size};
+use policy_types::source::SourceWay;
 use state_page::SubjectState;
 use view_text::{End, What};
 
-// The exit of an instruction that halts (Intel SDM volume 3, basic exit reasons).
+// Exit reasons of instructions (Intel SDM volume 3, basic exit reasons).
 const HLT: u8 = 12;
 
-/// What a turn does: the state after it, what its line says, if it has one, and its store, if it
-/// has one.
+const VMCALL: u8 = 18;
+
+const IO: u8 = 30;
+
+const RDMSR: u8 = 31;
+
+const WRMSR: u8 = 32;
+
+// The bit of an exit's qualification for input from a port.
+const INPUT: u64 = 1 << 3;
+
+/// What a turn does: the state after it, what its line says, if it has one, its store, if it has
+/// one, and the way in which it raises an event, if it raises one.
 #[derive(Clone, Copy)]
 pub(crate) struct Turn {
     pub state: SubjectState,
     pub what: Option<What>,
     pub stored: Option<Store>,
+    pub raised: Option<SourceWay>,
 }
 
-// A turn with a line, and without a store.
+// A turn with a line, and nothing else.
 fn shown(state: SubjectState, what: What) -> Turn
     ensures { answer_of result ≡ shown state what }
 {
@@ -32,6 +45,7 @@ fn shown(state: SubjectState, what: What) -> Turn
         state,
         what: Some(what),
         stored: None,
+        raised: None,
     }
 }
 
@@ -137,42 +151,92 @@ fn store(
                     size,
                     value,
                 }),
+                raised: None,
             }
         }
     }
+}
+
+// The qualification of a port access: the size less one, the bit of input or 0, the port.
+fn port_qualification(size: Size, input: bool, port: u16) -> u64
+    ensures { result ≡ port_qualification size (if input then 1 else 0) port }
+{
+    let bit = if input { INPUT } else { 0 };
+    u64::from(size.bytes()) - 1 + bit + 65536 * u64::from(port)
+}
+
+// A call, which raises what is declared for it.
+fn call(after: &SubjectState, number: u64) -> Turn
+    ensures { answer_of result ≡ called after.now number }
+{
+    let mut state = *after;
+    state.exited = true;
+    Turn {
+        state,
+        what: Some(What::Exit {
+            reason: VMCALL,
+            qualification: 0,
+            addr: 0,
+            end: End::On,
+        }),
+        stored: None,
+        raised: Some(SourceWay::Call(number)),
+    }
+}
+
+// The register has the number of the tick.
+fn tell_tick(after: &SubjectState, reg: u8, tick: u32) -> Turn
+    requires { reg < 16 }
+    ensures { answer_of result ≡ shown (record (with_register after.now reg tick) { exited = false }) (What.Set reg tick) }
+{
+    let value = u64::from(tick);
+    ran(&with_register(after, reg, value), What::Set { reg, value })
 }
 
 // The wish of an instruction is met, or it leaves with the fault of its access.
 fn perform(
     windows: &[Window],
     holdings: &[Holding],
+    tick: u32,
     s: &SubjectState,
     after: &SubjectState,
     wish: Wish,
 ) -> Turn
     requires fine { IsFineWish wish }
     requires fit { AllFit (sizes_of holdings.now) (windows_on windows.now) }
-    ensures { answer_of result ≡ performed [] (windows_on windows.now) (bytes_at holdings.now) s.now after.now wish }
+    ensures { answer_of result ≡ performed [] (windows_on windows.now) (bytes_at holdings.now) tick s.now after.now wish }
 {
     match wish {
         Wish::Nothing => ran(after, What::Ran),
         Wish::Set { reg, value } => ran(after, What::Set { reg, value }),
         Wish::Load { reg, addr, size } => load(windows, holdings, s, after, reg, size, addr),
         Wish::Store { addr, size, value } => store(windows, s, after, addr, size, value),
+        Wish::PortIn { port, size, .. } => fault(s, IO, port_qualification(size, true, port), 0),
+        Wish::PortOut { port, size, .. } => fault(s, IO, port_qualification(size, false, port), 0),
+        Wish::ReadMsr { .. } => fault(s, RDMSR, 0, 0),
+        Wish::WriteMsr { .. } => fault(s, WRMSR, 0, 0),
+        Wish::Tick { reg } => tell_tick(after, reg, tick),
+        Wish::Call { number } => call(after, number),
         Wish::Halt => halt(after),
     }
 }
 
 // The instruction that the bytes spell.
-fn execute(windows: &[Window], holdings: &[Holding], s: &SubjectState, bytes: [u8; 8]) -> Turn
+fn execute(
+    windows: &[Window],
+    holdings: &[Holding],
+    tick: u32,
+    s: &SubjectState,
+    bytes: [u8; 8],
+) -> Turn
     requires { AllFit (sizes_of holdings.now) (windows_on windows.now) }
-    ensures { answer_of result ≡ executed [] (windows_on windows.now) (bytes_at holdings.now) s.now (decode_of bytes) }
+    ensures { answer_of result ≡ executed [] (windows_on windows.now) (bytes_at holdings.now) tick s.now (decode_of bytes) }
 {
     match decode(bytes) {
         None => fault(s, NOT_RUN, 0, 0),
         Some(i) => {
             let asked = ask(s, i);
-            perform(windows, holdings, s, &asked.after, asked.wish)
+            perform(windows, holdings, tick, s, &asked.after, asked.wish)
         }
     }
 }
@@ -192,9 +256,9 @@ fn eight(bytes: &[u8], offset: usize) -> [u8; 8]
 // One instruction, or the first of its faults: those of the fetch, bytes outside the table, those of
 // the access.
 #[tactic(auto, using(crate::proofs::Reached::fetched_within))]
-fn attempt(windows: &[Window], holdings: &[Holding], s: &SubjectState) -> Turn
+fn attempt(windows: &[Window], holdings: &[Holding], tick: u32, s: &SubjectState) -> Turn
     requires { AllFit (sizes_of holdings.now) (windows_on windows.now) }
-    ensures { answer_of result ≡ attempted [] (windows_on windows.now) (bytes_at holdings.now) s.now }
+    ensures { answer_of result ≡ attempted [] (windows_on windows.now) (bytes_at holdings.now) tick s.now }
 {
     match reach_of(windows, Kind::Fetch, Size::Eight, s.pc) {
         Reach::Refused {
@@ -204,22 +268,28 @@ fn attempt(windows: &[Window], holdings: &[Holding], s: &SubjectState) -> Turn
         } => fault(s, reason, qualification, addr),
         Reach::Reached { place, offset } => {
             let bytes = eight(holdings[place].bytes.items(), offset as usize);
-            execute(windows, holdings, s, bytes)
+            execute(windows, holdings, tick, s, bytes)
         }
     }
 }
 
-/// A turn: nothing where the subject is stopped or halted, for no event is ever pending.
-pub(crate) fn take_turn(windows: &[Window], holdings: &[Holding], s: &SubjectState) -> Turn
+/// A turn in a tick: nothing where the subject is stopped or halted, for no event is ever pending.
+pub(crate) fn take_turn(
+    windows: &[Window],
+    holdings: &[Holding],
+    tick: u32,
+    s: &SubjectState,
+) -> Turn
     requires { AllFit (sizes_of holdings.now) (windows_on windows.now) }
-    ensures { answer_of result ≡ turn_over [] (windows_on windows.now) (bytes_at holdings.now) s.now [] [] false }
+    ensures { answer_of result ≡ turn_over [] (windows_on windows.now) (bytes_at holdings.now) tick s.now [] [] false }
 {
     if s.stopped || s.halted {
         return Turn {
             state: *s,
             what: None,
             stored: None,
+            raised: None,
         };
     }
-    attempt(windows, holdings, s)
+    attempt(windows, holdings, tick, s)
 }

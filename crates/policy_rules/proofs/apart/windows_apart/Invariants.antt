@@ -3,7 +3,7 @@ use Rattle.std.specs.List.{list_all}
 use Rattle.policy_types.specs.Search.{first_in}
 use Rattle.policy_types.specs.Resolution.{source_of, subject_named}
 use Rattle.policy_types.specs.Rules.{first_overlap, window_extents, window_offence}
-use Rattle.policy_rules.specs.ByPlace.{is_ready}
+use Rattle.policy_types.specs.ByPlace.{is_ready}
 use Rattle.policy_rules.proofs.apart.windows_apart.Given as goal
 
 abbrev pub invariant-loop-s : goal.invariant-loop-s

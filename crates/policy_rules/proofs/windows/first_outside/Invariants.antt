@@ -3,7 +3,7 @@ use Rattle.std.specs.List.{list_all}
 use Rattle.policy_types.specs.Search.{first_in}
 use Rattle.policy_types.specs.Resolution.{source_of, subject_named}
 use Rattle.policy_types.specs.Rules.{window_offence}
-use Rattle.policy_rules.specs.ByPlace.{is_ready}
+use Rattle.policy_types.specs.ByPlace.{is_ready}
 use Rattle.policy_rules.proofs.windows.first_outside.Given as goal
 
 abbrev pub invariant-loop-s : goal.invariant-loop-s

@@ -1,5 +1,5 @@
 use Rattle.std.proofs.Common.{◌≡◌, sym, subst, IfOk}
-use Rattle.policy_rules.proofs.WindowsByPlace.{both, extents_placed, regions_unique}
+use Rattle.policy_types.proofs.WindowsByPlace.{both, extents_placed, regions_unique}
 use Rattle.policy_rules.proofs.windows.windows.Goals as goal
 
 pub returns : goal.returns

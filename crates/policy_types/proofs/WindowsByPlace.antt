@@ -18,7 +18,7 @@ use Rattle.policy_types.specs.declared.source.Subject.{Subject as NamedSubject}
 use Rattle.policy_types.specs.declared.resolved.Mapping.{Mapping}
 use Rattle.policy_types.specs.declared.resolved.Subject.{Subject}
 use Rattle.policy_types.proofs.Places.{none_both, found_at_place}
-use Rattle.policy_rules.specs.ByPlace.{no_region, region_at, mapping_extent, is_ready}
+use Rattle.policy_types.specs.ByPlace.{no_region, region_at, mapping_window, mapping_extent, is_ready}
 
 -- ---- tests that pass
 
@@ -147,23 +147,31 @@ module _ (r : Resolution) (names : repeated (map (λ x. x.name) r.memory) ≡ No
   unfolding p source_of
   memory_is = refl
 
-  mappings_placed : (ms : List Mapping) → list_all (λ m. nat_lt m.region (length r.memory)) ms ≡ true → map window_extent (filter_map (λ m. region_window p m.region m.virtual_address m.rights.0) (map (mapping_named r) ms)) ≡ map (mapping_extent r.memory) ms
-  mappings_placed [] h = refl
-  mappings_placed (m ∷ ms) h =
-      let a : (nat_lt m.region (length r.memory) ≡ true) × (list_all (λ m. nat_lt m.region (length r.memory)) ms ≡ true) = both _ _ h in
-      let one = region_placed p r.memory memory_is names m.region m.virtual_address m.rights.0 (is_below m.region (length r.memory) a.0) in
-      ap (λ o. map window_extent (cons_option o (filter_map (λ m. region_window p m.region m.virtual_address m.rights.0) (map (mapping_named r) ms)))) one
-      ∙ ap (λ es. mapping_extent r.memory m ∷ es) (mappings_placed ms a.1)
-
-  windows_are : (s : Subject) → is_plain (subject_named r s) ≡ true → windows_of p (subject_named r s) ≡ filter_map (λ m. region_window p m.region m.virtual_address m.rights.0) (map (mapping_named r) s.memory)
+  pub windows_are : (s : Subject) → is_plain (subject_named r s) ≡ true → windows_of p (subject_named r s) ≡ filter_map (λ m. region_window p m.region m.virtual_address m.rights.0) (map (mapping_named r) s.memory)
   unfolding windows_of
   windows_are s h =
       let q = plain (subject_named r s) h in
       rw (q.component, q.channels, q.devices, append-nil, append-nil, append-nil) refl
 
+  windows_among : (ms : List Mapping) → list_all (λ m. nat_lt m.region (length r.memory)) ms ≡ true → filter_map (λ m. region_window p m.region m.virtual_address m.rights.0) (map (mapping_named r) ms) ≡ map (mapping_window r.memory) ms
+  windows_among [] h = refl
+  windows_among (m ∷ ms) h =
+      let a : (nat_lt m.region (length r.memory) ≡ true) × (list_all (λ m. nat_lt m.region (length r.memory)) ms ≡ true) = both _ _ h in
+      let one = region_placed p r.memory memory_is names m.region m.virtual_address m.rights.0 (is_below m.region (length r.memory) a.0) in
+      λ i. cons_option (one i) (windows_among ms a.1 i)
+
+  extents_among : (ms : List Mapping) → map window_extent (map (mapping_window r.memory) ms) ≡ map (mapping_extent r.memory) ms
+  extents_among [] = refl
+  extents_among (m ∷ ms) = ap (λ es. mapping_extent r.memory m ∷ es) (extents_among ms)
+
+  pub windows_placed : (s : Subject) → is_plain (subject_named r s) ≡ true → list_all (λ m. nat_lt m.region (length r.memory)) s.memory ≡ true → windows_of (source_of r) (subject_named r s) ≡ map (mapping_window r.memory) s.memory
+  unfolding p
+  windows_placed s h placed = windows_are s h ∙ windows_among s.memory placed
+
   pub extents_placed : (s : Subject) → is_plain (subject_named r s) ≡ true → list_all (λ m. nat_lt m.region (length r.memory)) s.memory ≡ true → window_extents (source_of r) (subject_named r s) ≡ map (mapping_extent r.memory) s.memory
   unfolding window_extents p
-  extents_placed s h placed = ap (map window_extent) (windows_are s h) ∙ mappings_placed s.memory placed
+  extents_placed s h placed =
+      ap (map window_extent) (windows_placed s h placed) ∙ extents_among s.memory
 
 -- ---- subjects of a built policy
 

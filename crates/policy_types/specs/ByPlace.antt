@@ -3,6 +3,8 @@ use Rattle.std.specs.Prelude.{ℕ, ◌&&◌, Bool, List, [], length, nat_lt, sli
 use Rattle.std.specs.List.{list_all}
 use Rattle.policy_types.specs.Built.{is_plain}
 use Rattle.policy_types.specs.Resolution.{Resolution, subject_named}
+use Rattle.policy_types.specs.Thing.{Thing, region}
+use Rattle.policy_types.specs.Windows.{Window, window}
 use Rattle.policy_types.specs.declared.offence.Extent.{Extent}
 use Rattle.policy_types.specs.declared.resolved.Mapping.{Mapping}
 use Rattle.policy_types.specs.declared.resolved.Subject.{Subject}
@@ -17,6 +19,11 @@ no_region = record { name = []; size = 0; caching = Wb; alignment = 0; physical_
 
 abbrev pub region_at : List Region → ℕ → Region
 region_at regions place = slice_index_or regions place no_region
+
+-- the window of a mapping
+abbrev pub mapping_window : List Region → Mapping → Window Thing
+mapping_window regions m =
+    window m.virtual_address (region_at regions m.region).size m.rights.0 (region (region_at regions m.region).name)
 
 -- a mapping as a named range of guest addresses
 abbrev pub mapping_extent : List Region → Mapping → Extent
