@@ -25,9 +25,9 @@ no_size_of_sixteen : decode_of (12 ∷ 18 ∷ 4 ∷ 0 ∷ 0 ∷ 0 ∷ 0 ∷ 0 �
 unfolding decode_of
 no_size_of_sixteen = refl
 
-not_built : decode_of (21 ∷ 16 ∷ 0 ∷ 0 ∷ 0 ∷ 0 ∷ 0 ∷ 0 ∷ []) ≡ None
+past_the_table : decode_of (28 ∷ 0 ∷ 0 ∷ 0 ∷ 0 ∷ 0 ∷ 0 ∷ 0 ∷ []) ≡ None
 unfolding decode_of
-not_built = refl
+past_the_table = refl
 
 -- ---- the effect: a state with 5 in register 1, 67 in register 2 and 2^64 - 1 in register 3
 

@@ -1,4 +1,4 @@
--- The instructions of the guests: this project's own table, as far as it is built.
+-- The instructions of the guests: this project's own table.
 use Rattle.std.specs.Prelude.{ℕ, ℤ, ◌+◌, ◌-◌, ◌*◌, ◌/◌, ◌%◌, ◌^◌, ◌<◌, ◌==◌, ◌&&◌, ◌||◌, Bool, true, false, not, List, [], ◌∷◌, slice_index, slice_set, nat_lt, bit_and, bit_or, bit_xor, Option, Some, None, option_and_then, if◌then◌else◌}
 use Rattle.std.specs.Int.{w32, w64, from_le_bytes, cast_signed, cast_unsigned}
 use Rattle.muen_num.specs.Size.{bytes_of}
@@ -8,9 +8,9 @@ use Rattle.state_page.specs.declared.SubjectState.{SubjectState}
 use Rattle.guest_isa.specs.declared.spelling.Fields.{Fields}
 use Rattle.guest_isa.specs.declared.spelling.Named.{Named}
 use Rattle.guest_isa.specs.declared.instr.Instr.{Instr}
-use Rattle.guest_isa.specs.declared.instr.Instr.TheVariants.{Nop, Li, Lih, Mov, Add, Sub, And, Or, Xor, Shl, Shr, Load, Store, Jmp, Jz, Jnz, Jb, Hlt}
+use Rattle.guest_isa.specs.declared.instr.Instr.TheVariants.{Nop, Li, Lih, Mov, Add, Sub, And, Or, Xor, Shl, Shr, Load, Store, Jmp, Jz, Jnz, Jb, In, Out, Rdmsr, Wrmsr, Rdtsc, Vmcall, Hlt, Sti, Cli, Setv, Reti}
 use Rattle.guest_isa.specs.declared.instr.Wish.{Wish}
-use Rattle.guest_isa.specs.declared.instr.Wish.TheVariants.{Nothing, Set as Sets, Load as Loads, Store as Stores, PortIn, ReadMsr, Tick, Halt as Halts}
+use Rattle.guest_isa.specs.declared.instr.Wish.TheVariants.{Nothing, Set as Sets, Load as Loads, Store as Stores, PortIn, PortOut, ReadMsr, WriteMsr, Tick, Call, Halt as Halts}
 use Rattle.guest_isa.specs.declared.instr.Asked.{Asked}
 
 -- ---- the spelling
@@ -51,6 +51,17 @@ size_of code =
 abbrev pub sized_row : Fields → Named → (Size → Instr) → Option Instr
 sized_row f n i = option_and_then (λ size. row f n (i size)) (size_of f.size)
 
+-- the size of an access to a port, by its code: at most four bytes
+abbrev pub port_size_of : ℕ → Option Size
+port_size_of code =
+    if code == 0 then Some One
+    else (if code == 1 then Some Two
+    else (if code == 2 then Some Four else None))
+
+-- a row of an instruction that accesses a port
+abbrev pub port_row : Fields → Named → (Size → Instr) → Option Instr
+port_row f n i = option_and_then (λ size. row f n (i size)) (port_size_of f.size)
+
 abbrev pub imm_of : Fields → ℤ
 imm_of f = cast_signed w32 f.imm
 
@@ -64,6 +75,12 @@ rd_imm = names true false false true
 abbrev pub rd_rs : Named
 rd_rs = names true true false false
 
+abbrev pub rd_alone : Named
+rd_alone = names true false false false
+
+abbrev pub rs_alone : Named
+rs_alone = names false true false false
+
 abbrev pub access : Named
 access = names true true true true
 
@@ -73,8 +90,25 @@ imm_alone = names false false false true
 abbrev pub rd_rs_imm : Named
 rd_rs_imm = names true true false true
 
+-- the rows of the processor's own state, of its ports and of the kernel (11 IN, 12 OUT, 13 RDMSR, 14 WRMSR, 15 RDTSC,
+-- 16 VMCALL, 17 HLT, 18 STI, 19 CLI, 1A SETV, 1B RETI, in hexadecimal)
+abbrev pub system_instruction_of : Fields → Option Instr
+system_instruction_of f =
+    if f.opcode == 17 then port_row f access (λ size. In f.rd f.rs size (imm_of f))
+    else (if f.opcode == 18 then port_row f access (λ size. Out f.rd f.rs size (imm_of f))
+    else (if f.opcode == 19 then row f rd_rs (Rdmsr f.rd f.rs)
+    else (if f.opcode == 20 then row f rd_rs (Wrmsr f.rd f.rs)
+    else (if f.opcode == 21 then row f rd_alone (Rdtsc f.rd)
+    else (if f.opcode == 22 then row f rs_alone (Vmcall f.rs)
+    else (if f.opcode == 23 then row f none Hlt
+    else (if f.opcode == 24 then row f none Sti
+    else (if f.opcode == 25 then row f none Cli
+    else (if f.opcode == 26 then row f rs_alone (Setv f.rs)
+    else (if f.opcode == 27 then row f none Reti
+    else None))))))))))
+
 -- the table, by opcode (00 NOP, 01 LI, 02 LIH, 03 MOV, 04 ADD, 05 SUB, 06 AND, 07 OR, 08 XOR, 09 SHL, 0A SHR, 0B LOAD,
--- 0C STORE, 0D JMP, 0E JZ, 0F JNZ, 10 JB, 17 HLT, in hexadecimal)
+-- 0C STORE, 0D JMP, 0E JZ, 0F JNZ, 10 JB, in hexadecimal, and the rows above)
 abbrev pub instruction_of : Fields → Option Instr
 instruction_of f =
     if f.opcode == 0 then row f none Nop
@@ -94,17 +128,28 @@ instruction_of f =
     else (if f.opcode == 14 then row f rd_imm (Jz f.rd (imm_of f))
     else (if f.opcode == 15 then row f rd_imm (Jnz f.rd (imm_of f))
     else (if f.opcode == 16 then row f rd_rs_imm (Jb f.rd f.rs (imm_of f))
-    else (if f.opcode == 23 then row f none Hlt
-    else None)))))))))))))))))
+    else system_instruction_of f))))))))))))))))
 
 -- the instruction that eight bytes spell, if they spell one
 unfoldable pub decode_of : List ℕ → Option Instr
 decode_of b = instruction_of (fields_of b)
 
+-- at most four bytes
+abbrev pub IsSmall : Size → Type 0
+IsSmall One = Unit {0}
+IsSmall Two = Unit {0}
+IsSmall Four = Unit {0}
+IsSmall Eight = ⊥
+
+abbrev pub AreSmall : Option Size → Type 0
+AreSmall None = Unit {0}
+AreSmall (Some size) = IsSmall size
+
 -- register numbers are below 16
 abbrev pub AreTwo : ℕ → ℕ → Type 0
 AreTwo rd rs = (rd < 16) × (rs < 16)
 
+-- what a caller can rely on: register numbers are below 16, and an access to a port is of at most four bytes
 abbrev pub IsFine : Instr → Type 0
 IsFine Nop = Unit {0}
 IsFine (Li rd imm) = rd < 16
@@ -123,16 +168,27 @@ IsFine (Jmp imm) = Unit {0}
 IsFine (Jz rd imm) = rd < 16
 IsFine (Jnz rd imm) = rd < 16
 IsFine (Jb rd rs imm) = AreTwo rd rs
+IsFine (In rd rs size imm) = AreTwo rd rs × IsSmall size
+IsFine (Out rd rs size imm) = AreTwo rd rs × IsSmall size
+IsFine (Rdmsr rd rs) = AreTwo rd rs
+IsFine (Wrmsr rd rs) = AreTwo rd rs
+IsFine (Rdtsc rd) = rd < 16
+IsFine (Vmcall rs) = rs < 16
 IsFine Hlt = Unit {0}
+IsFine Sti = Unit {0}
+IsFine Cli = Unit {0}
+IsFine (Setv rs) = rs < 16
+IsFine Reti = Unit {0}
 
 abbrev pub AreFine : Option Instr → Type 0
 AreFine None = Unit {0}
 AreFine (Some i) = IsFine i
 
--- a register to be loaded is below 16
+-- a register to be loaded is below 16, and an access to a port is of at most four bytes
 abbrev pub IsFineWish : Wish → Type 0
 IsFineWish (Loads reg addr size) = reg < 16
-IsFineWish (PortIn reg port size) = reg < 16
+IsFineWish (PortIn reg port size) = (reg < 16) × IsSmall size
+IsFineWish (PortOut port size value) = IsSmall size
 IsFineWish (ReadMsr reg index) = reg < 16
 IsFineWish (Tick reg) = reg < 16
 IsFineWish _ = Unit {0}
@@ -160,6 +216,10 @@ offset_by n imm = (n + extended imm) % 2 ^ 64
 abbrev pub low_bytes : Size → ℕ → ℕ
 low_bytes size value = value % 256 ^ bytes_of size
 
+-- the port at the sum of a number and an immediate, modulo 65536
+abbrev pub port_of : ℕ → ℤ → ℕ
+port_of n imm = (n + extended imm) % 2 ^ 16
+
 abbrev pub passed : SubjectState → Wish → Asked
 passed s wish = record { after = advanced s; wish = wish }
 
@@ -173,6 +233,10 @@ jumped s imm = record { after = record s { pc = offset_by s.pc imm }; wish = Not
 abbrev pub jumped_if : Bool → SubjectState → ℤ → Asked
 jumped_if true s imm = jumped s imm
 jumped_if false s imm = passed s Nothing
+
+-- back from an event handler
+abbrev pub resumed : SubjectState → Asked
+resumed s = record { after = record s { pc = s.epc; interrupts = true }; wish = Nothing }
 
 -- the state after an instruction where its wish doesn't exit, and its wish
 abbrev pub effect_of : SubjectState → Instr → Asked
@@ -194,4 +258,15 @@ effect_of s (Jmp imm) = jumped s imm
 effect_of s (Jz rd imm) = jumped_if (register s rd == 0) s imm
 effect_of s (Jnz rd imm) = jumped_if (not (register s rd == 0)) s imm
 effect_of s (Jb rd rs imm) = jumped_if (nat_lt (register s rd) (register s rs)) s imm
+effect_of s (In rd rs size imm) = passed s (PortIn rd (port_of (register s rs) imm) size)
+effect_of s (Out rd rs size imm) =
+    passed s (PortOut (port_of (register s rs) imm) size (low_bytes size (register s rd)))
+effect_of s (Rdmsr rd rs) = passed s (ReadMsr rd (register s rs % 2 ^ 32))
+effect_of s (Wrmsr rd rs) = passed s (WriteMsr (register s rs % 2 ^ 32) (register s rd))
+effect_of s (Rdtsc rd) = passed s (Tick rd)
+effect_of s (Vmcall rs) = passed s (Call (register s rs))
 effect_of s Hlt = passed s Halts
+effect_of s Sti = passed (record s { interrupts = true }) Nothing
+effect_of s Cli = passed (record s { interrupts = false }) Nothing
+effect_of s (Setv rs) = passed (record s { vbase = register s rs }) Nothing
+effect_of s Reti = resumed s

@@ -1,7 +1,7 @@
 // What instructions do.
 ghost use Rattle.std.specs.Prelude.{◌≡◌, ◌+◌, ◌*◌, ◌%◌, ◌^◌, ◌<◌};
 ghost use Rattle.std.specs.Int.{w32, cast_unsigned};
-ghost use Rattle.guest_isa.specs.GuestIsa.{register, advanced, with_register, extended, offset_by, low_bytes, passed, set_register, jumped, jumped_if, effect_of, IsFine, IsFineWish};
+ghost use Rattle.guest_isa.specs.GuestIsa.{register, advanced, with_register, extended, offset_by, low_bytes, port_of, passed, set_register, jumped, jumped_if, resumed, effect_of, IsFine, IsFineWish, IsSmall};
 
 use crate::instr::{Asked, Instr, Wish};
 use muen_num::Size;
@@ -58,6 +58,33 @@ fn low_bytes(size: Size, value: u64) -> u64
     }
 }
 
+// The lowest bytes of a value, at most four.
+fn few_low_bytes(size: Size, value: u64) -> u32
+    requires { IsSmall size }
+    ensures { result ≡ low_bytes size value }
+{
+    match size {
+        Size::One => (value % (1 << 8)) as u32,
+        Size::Two => (value % (1 << 16)) as u32,
+        Size::Four => low_half(value),
+        Size::Eight => unreachable!(),
+    }
+}
+
+// Bits 31:0 of a value.
+fn low_half(value: u64) -> u32
+    ensures { result ≡ value % 2 ^ 32 }
+{
+    (value % (1 << 32)) as u32
+}
+
+// The port at a register's value and an immediate.
+fn port_of(n: u64, imm: i32) -> u16
+    ensures { result ≡ port_of n imm }
+{
+    (offset_by(n, imm) % (1 << 16)) as u16
+}
+
 fn pass(s: &SubjectState, wish: Wish) -> Asked
     ensures { result ≡ passed s.now wish }
 {
@@ -96,6 +123,37 @@ fn jump_if(test: bool, s: &SubjectState, imm: i32) -> Asked
         jump(s, imm)
     } else {
         pass(s, Wish::Nothing)
+    }
+}
+
+// The state in which events are let in or kept out.
+fn with_interrupts(s: &SubjectState, interrupts: bool) -> SubjectState
+    ensures { result ≡ record s.now { interrupts = interrupts } }
+{
+    let mut after = *s;
+    after.interrupts = interrupts;
+    after
+}
+
+// The state with other event handlers.
+fn with_handlers(s: &SubjectState, vbase: u64) -> SubjectState
+    ensures { result ≡ record s.now { vbase = vbase } }
+{
+    let mut after = *s;
+    after.vbase = vbase;
+    after
+}
+
+// Back from an event handler.
+fn resume(s: &SubjectState) -> Asked
+    ensures { result ≡ resumed s.now }
+{
+    let mut after = *s;
+    after.pc = s.epc;
+    after.interrupts = true;
+    Asked {
+        after,
+        wish: Wish::Nothing,
     }
 }
 
@@ -144,6 +202,47 @@ pub fn ask(s: &SubjectState, i: Instr) -> Asked
         Instr::Jz { rd, imm } => jump_if(register(s, rd) == 0, s, imm),
         Instr::Jnz { rd, imm } => jump_if(register(s, rd) != 0, s, imm),
         Instr::Jb { rd, rs, imm } => jump_if(register(s, rd) < register(s, rs), s, imm),
+        Instr::In { rd, rs, size, imm } => pass(
+            s,
+            Wish::PortIn {
+                reg: rd,
+                port: port_of(register(s, rs), imm),
+                size,
+            },
+        ),
+        Instr::Out { rd, rs, size, imm } => pass(
+            s,
+            Wish::PortOut {
+                port: port_of(register(s, rs), imm),
+                size,
+                value: few_low_bytes(size, register(s, rd)),
+            },
+        ),
+        Instr::Rdmsr { rd, rs } => pass(
+            s,
+            Wish::ReadMsr {
+                reg: rd,
+                index: low_half(register(s, rs)),
+            },
+        ),
+        Instr::Wrmsr { rd, rs } => pass(
+            s,
+            Wish::WriteMsr {
+                index: low_half(register(s, rs)),
+                value: register(s, rd),
+            },
+        ),
+        Instr::Rdtsc { rd } => pass(s, Wish::Tick { reg: rd }),
+        Instr::Vmcall { rs } => pass(
+            s,
+            Wish::Call {
+                number: register(s, rs),
+            },
+        ),
         Instr::Hlt => pass(s, Wish::Halt),
+        Instr::Sti => pass(&with_interrupts(s, true), Wish::Nothing),
+        Instr::Cli => pass(&with_interrupts(s, false), Wish::Nothing),
+        Instr::Setv { rs } => pass(&with_handlers(s, register(s, rs)), Wish::Nothing),
+        Instr::Reti => resume(s),
     }
 }

@@ -3,8 +3,8 @@ use muen_num::Size;
 use state_page::SubjectState;
 
 /// An instruction. Register numbers are below 16. Arithmetic and addresses wrap at 2^64;
-/// immediates are sign-extended. Each instruction but a jump that is taken goes on at the next
-/// eight bytes.
+/// immediates are sign-extended. Each instruction but a jump that is taken and `Reti` goes on at
+/// the next eight bytes.
 #[derive(Clone, Copy, Debug, PartialEq, Eq)]
 pub enum Instr {
     /// Does nothing.
@@ -93,8 +93,53 @@ pub enum Instr {
         rs: u8,
         imm: i32,
     },
+    /// Loads the input at port `rs + imm`, taken modulo 65536, zero-extended, into register `rd`.
+    /// The size is at most four bytes.
+    In {
+        rd: u8,
+        rs: u8,
+        size: Size,
+        imm: i32,
+    },
+    /// Writes the low bytes of register `rd` to port `rs + imm`, taken modulo 65536. The size is at
+    /// most four bytes.
+    Out {
+        rd: u8,
+        rs: u8,
+        size: Size,
+        imm: i32,
+    },
+    /// Reads the machine-specific register whose index is the low 32 bits of `rs` into `rd`.
+    Rdmsr {
+        rd: u8,
+        rs: u8,
+    },
+    /// Writes register `rd` to the machine-specific register whose index is the low 32 bits of
+    /// `rs`.
+    Wrmsr {
+        rd: u8,
+        rs: u8,
+    },
+    /// Reads the tick into register `rd`.
+    Rdtsc {
+        rd: u8,
+    },
+    /// Calls the kernel with the number in register `rs`.
+    Vmcall {
+        rs: u8,
+    },
     /// Halts.
     Hlt,
+    /// Lets events in.
+    Sti,
+    /// Keeps events out.
+    Cli,
+    /// Sets the address of the event handlers to register `rs`.
+    Setv {
+        rs: u8,
+    },
+    /// Returns from an event handler: goes on where the event interrupted, and lets events in.
+    Reti,
 }
 
 /// What an instruction asks of the machine.
@@ -107,17 +152,17 @@ pub enum Wish {
     Load { reg: u8, addr: u64, size: Size },
     /// This value, which has so many bytes, is to be stored at this guest address.
     Store { addr: u64, size: Size, value: u64 },
-    /// The register is to have the input at this port, zero-extended.
+    /// The register is to be loaded, zero-extended, with the input at this port.
     PortIn { reg: u8, port: u16, size: Size },
-    /// This value, which has so many bytes, goes to this port.
+    /// This value, which has so many bytes, is to be written to this port.
     PortOut { port: u16, size: Size, value: u32 },
-    /// The register is to have the value of this MSR.
+    /// The register is to be loaded from the machine-specific register of this index.
     ReadMsr { reg: u8, index: u32 },
-    /// This MSR is to have this value.
+    /// This value is to be written to the machine-specific register of this index.
     WriteMsr { index: u32, value: u64 },
-    /// The register is to have the number of the tick.
+    /// The register is to be loaded with the tick.
     Tick { reg: u8 },
-    /// The call of this number.
+    /// The kernel is called with this number.
     Call { number: u64 },
     /// The subject halts.
     Halt,

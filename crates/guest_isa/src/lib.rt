@@ -1,4 +1,4 @@
-//! The instructions of the guests: this project's own table, as far as it is built.
+//! The instructions of the guests: this project's own table.
 #![tactic(auto)]
 
 mod effect;

@@ -1,6 +1,6 @@
 // The bytes of an instruction.
 ghost use Rattle.std.specs.Prelude.{◌≡◌, ◌<◌};
-ghost use Rattle.guest_isa.specs.GuestIsa.{decode_of, size_of, AreFine, IsFine};
+ghost use Rattle.guest_isa.specs.GuestIsa.{decode_of, system_instruction_of, size_of, port_size_of, AreFine, AreSmall, IsFine};
 
 use crate::instr::Instr;
 use muen_num::Size;
@@ -53,6 +53,20 @@ const ACCESS: Named = Named {
     imm: true,
 };
 
+const RD: Named = Named {
+    rd: true,
+    rs: false,
+    size: false,
+    imm: false,
+};
+
+const RS: Named = Named {
+    rd: false,
+    rs: true,
+    size: false,
+    imm: false,
+};
+
 const IMM: Named = Named {
     rd: false,
     rs: false,
@@ -76,6 +90,19 @@ fn size_of(code: u8) -> Option<Size>
         1 => Some(Size::Two),
         2 => Some(Size::Four),
         3 => Some(Size::Eight),
+        _ => None,
+    }
+}
+
+// The size of an access to a port, by its code: at most four bytes.
+fn port_size_of(code: u8) -> Option<Size>
+    ensures size { result ≡ port_size_of code }
+    ensures small { AreSmall result }
+{
+    match code {
+        0 => Some(Size::One),
+        1 => Some(Size::Two),
+        2 => Some(Size::Four),
         _ => None,
     }
 }
@@ -126,6 +153,38 @@ impl Fields {
     }
 }
 
+// The instruction of the rows from `In` on.
+fn decode_system(f: Fields) -> Option<Instr>
+    requires rd { f.rd < 16 }
+    requires rs { f.rs < 16 }
+    ensures instruction { result ≡ system_instruction_of f }
+    ensures fine { AreFine result }
+{
+    let rd = f.rd;
+    let rs = f.rs;
+    let imm = f.imm();
+    match f.opcode {
+        0x11 => match port_size_of(f.size) {
+            Some(size) => f.row(ACCESS, Instr::In { rd, rs, size, imm }),
+            None => None,
+        },
+        0x12 => match port_size_of(f.size) {
+            Some(size) => f.row(ACCESS, Instr::Out { rd, rs, size, imm }),
+            None => None,
+        },
+        0x13 => f.row(RD_RS, Instr::Rdmsr { rd, rs }),
+        0x14 => f.row(RD_RS, Instr::Wrmsr { rd, rs }),
+        0x15 => f.row(RD, Instr::Rdtsc { rd }),
+        0x16 => f.row(RS, Instr::Vmcall { rs }),
+        0x17 => f.row(NONE, Instr::Hlt),
+        0x18 => f.row(NONE, Instr::Sti),
+        0x19 => f.row(NONE, Instr::Cli),
+        0x1a => f.row(RS, Instr::Setv { rs }),
+        0x1b => f.row(NONE, Instr::Reti),
+        _ => None,
+    }
+}
+
 /// The instruction that eight bytes spell: opcode; `rd` in the high and `rs` in the low nibble; a
 /// size code (0 to 3 for 1, 2, 4 and 8 bytes); zero; a signed little-endian immediate. `None`
 /// exactly where they are outside the table, as with a field that is set though the instruction
@@ -163,7 +222,6 @@ pub fn decode(b: [u8; 8]) -> Option<Instr>
         0x0e => f.row(RD_IMM, Instr::Jz { rd, imm }),
         0x0f => f.row(RD_IMM, Instr::Jnz { rd, imm }),
         0x10 => f.row(RD_RS_IMM, Instr::Jb { rd, rs, imm }),
-        0x17 => f.row(NONE, Instr::Hlt),
-        _ => None,
+        _ => decode_system(f),
     }
 }

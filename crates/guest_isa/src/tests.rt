@@ -15,7 +15,7 @@ fn decodes_and_asks(rt: HostRuntime) -> Result<(), Fail> {
             imm: -8
         })
     );
-    assert_eq!(rt; decode([0x15, 0x10, 0, 0, 0, 0, 0, 0]), None);
+    assert_eq!(rt; decode([0x1c, 0, 0, 0, 0, 0, 0, 0]), None);
     let asked = ask(
         &SubjectState::start(4096),
         Instr::Load {
