@@ -1,5 +1,5 @@
 -- Frame slots, where they compute.
-use Rattle.std.proofs.Common.{◌≡◌, ℕ, true, false, List, [], ◌∷◌, Some, None, refl}
+use Rattle.std.proofs.Common.{◌≡◌, true, false, List, [], ◌∷◌, Some, None, refl}
 use Rattle.muen_num.specs.Frame.{Frame}
 use Rattle.image_pack.specs.Slot.{slot_at}
 

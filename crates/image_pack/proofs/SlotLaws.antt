@@ -1,0 +1,319 @@
+-- Laws of the frame slots: how many ticks a CPU has, where each of them stands, and that a valid plan has a slot at each
+-- tick, with a group on the CPU.
+use Rattle.std.proofs.Common.{◌≡◌, ℕ, zero, suc, ◌+◌, ◌-◌, ◌%◌, ◌<◌, ◌≤◌, Bool, true, List, [], ◌∷◌, ◌++◌, length, map, Some, refl, sym, ap, ◌∙◌, subst, inl, inr, arith, length-append}
+use Rattle.std.specs.Prelude.{◌==◌, ◌&&◌, slice_get, slice_index_or, option_map, nat_lt, nat_le}
+use Rattle.std.specs.List.{list_all, sum_by, enumerate_from, flat_map}
+use Rattle.std.proofs.lemmas.Bool.{and_parts, and_from, cases_lt, ltb-true, leb-true, eqb-true}
+use Rattle.std.proofs.lemmas.List.{length-map}
+use Rattle.std.proofs.lemmas.List.Concat.{flat_map-cons}
+use Rattle.std.proofs.lemmas.List.Folds.{list_all-append, list_all-map}
+use Rattle.std.proofs.lemmas.List.Sums.{sum_by-cons}
+use Rattle.std.proofs.lemmas.Option.{slice_get-map}
+use Rattle.std.proofs.Math.Nat.{mod-lt}
+use Rattle.muen_num.specs.Frame.{Frame}
+use Rattle.muen_num.specs.Range.{numbers_below}
+use Rattle.image_pack.specs.Plan.{frame_of, frames_in, cpus_of, is_group_on, is_minor, is_cpu, is_major, is_plan}
+use Rattle.image_pack.specs.Slot.{Slot, frame_slots, slots_from, slot_at}
+use Rattle.image_pack.specs.declared.plan.GroupPart.{GroupPart}
+use Rattle.image_pack.specs.declared.plan.Minor.{Minor}
+use Rattle.image_pack.specs.declared.plan.Major.{Major}
+use Rattle.image_pack.specs.declared.plan.Plan.{Plan}
+
+-- ---- elements by number
+
+get_left : {X : Type 0} (xs ys : List X) (k : ℕ) → k < length xs → slice_get (xs ++ ys) k ≡ slice_get xs k
+get_left [] ys k l = absurd (omega arith)
+get_left (x ∷ xs) ys zero l = refl
+get_left (x ∷ xs) ys (suc k) l = get_left xs ys k (omega arith)
+
+get_right : {X : Type 0} (xs ys : List X) (k : ℕ) → slice_get (xs ++ ys) (length xs + k) ≡ slice_get ys k
+get_right [] ys k = let e : 0 + k ≡ k = omega arith in ap (slice_get ys) e
+get_right (x ∷ xs) ys k =
+    let e : length (x ∷ xs) + k ≡ suc (length xs + k) = omega arith in
+    ap (slice_get (x ∷ xs ++ ys)) e ∙ get_right xs ys k
+
+there : {X : Type 0} (xs : List X) (k : ℕ) → k < length xs → (x : X) × (slice_get xs k ≡ Some x)
+there [] k l = absurd (omega arith)
+there (x ∷ xs) zero l = (x, refl)
+there (x ∷ xs) (suc k) l = there xs k (omega arith)
+
+passes_at : {X : Type 0} (test : X → Bool) (xs : List X) (k : ℕ) (x : X) → list_all test xs ≡ true → slice_get xs k ≡ Some x → test x ≡ true
+passes_at test [] k x all e = absurd (cc)
+passes_at test (y ∷ ys) zero x all e =
+    let same : y ≡ x = cc in
+    subst (λ z. test z ≡ true) same (and_parts (test y) (list_all test ys) all).0
+passes_at test (y ∷ ys) (suc k) x all e = passes_at test ys k x (and_parts (test y) (list_all test ys) all).1 e
+
+length_numbers : (n : ℕ) → length (numbers_below n) ≡ n
+length_numbers zero = refl
+length_numbers (suc n) =
+    let before : length (numbers_below n) ≡ n = length_numbers n in
+    let more : length (numbers_below n ++ n ∷ []) ≡ length (numbers_below n) + 1 = length-append (numbers_below n) (n ∷ []) in
+    omega (arith, before, more)
+
+number_at : (n k : ℕ) → k < n → slice_get (numbers_below n) k ≡ Some k
+number_at zero k l = absurd (omega arith)
+number_at (suc n) k l =
+    let many : length (numbers_below n) ≡ n = length_numbers n in
+    elim (cases_lt k n) as (λ _. slice_get (numbers_below n ++ n ∷ []) k ≡ Some k) [
+      | inl h ↦ get_left (numbers_below n) (n ∷ []) k (omega (arith, many, h)) ∙ number_at n k h
+      | inr h ↦
+          let last : k ≡ length (numbers_below n) + 0 = omega (arith, many, h, l) in
+          let same : n ≡ k = omega (arith, h, l) in
+          ap (slice_get (numbers_below n ++ n ∷ [])) last ∙ get_right (numbers_below n) (n ∷ []) 0 ∙ ap (λ m. Some m) same
+    ]
+
+-- ---- a minor frame
+
+-- a tick of a minor frame, by its number in the frame
+abbrev pub frame_slot : ℕ → Frame → ℕ → Slot
+frame_slot major f k = record { major = major; group = f.group; first = k == 0; left = f.ticks - k }
+
+length_frame : (major : ℕ) (f : Frame) → length (frame_slots major f) ≡ f.ticks
+length_frame major f = length-map (numbers_below f.ticks) (frame_slot major f) ∙ length_numbers f.ticks
+
+pub slot_of_frame : (major : ℕ) (f : Frame) (k : ℕ) → k < f.ticks → slice_get (frame_slots major f) k ≡ Some (frame_slot major f k)
+slot_of_frame major f k l =
+    slice_get-map (frame_slot major f) (numbers_below f.ticks) k ∙ ap (option_map (frame_slot major f)) (number_at f.ticks k l)
+
+-- ---- the minor frames of a CPU in a major frame
+
+-- their ticks
+abbrev pub ticks_of : List Frame → ℕ
+ticks_of fs = sum_by (λ f. f.ticks) fs
+
+length_frames : (major : ℕ) (fs : List Frame) → length (flat_map (frame_slots major) fs) ≡ ticks_of fs
+length_frames major [] = refl
+length_frames major (f ∷ fs) =
+    let split = ap length (flat_map-cons (frame_slots major) f fs) ∙ length-append (frame_slots major f) (flat_map (frame_slots major) fs) in
+    split ∙ (λ i. length_frame major f i + length_frames major fs i) ∙ sym (sum_by-cons (λ (g : Frame). g.ticks) f fs)
+
+-- a tick of the first minor frame
+pub first_frame : (major : ℕ) (f : Frame) (fs : List Frame) (k : ℕ) → k < f.ticks → slice_get (flat_map (frame_slots major) (f ∷ fs)) k ≡ Some (frame_slot major f k)
+first_frame major f fs k l =
+    let many : length (frame_slots major f) ≡ f.ticks = length_frame major f in
+    ap (λ xs. slice_get xs k) (flat_map-cons (frame_slots major) f fs)
+    ∙ get_left (frame_slots major f) (flat_map (frame_slots major) fs) k (omega (arith, many, l))
+    ∙ slot_of_frame major f k l
+
+-- a tick of a later one
+pub later_frame : (major : ℕ) (f : Frame) (fs : List Frame) (k : ℕ) → slice_get (flat_map (frame_slots major) (f ∷ fs)) (f.ticks + k) ≡ slice_get (flat_map (frame_slots major) fs) k
+later_frame major f fs k =
+    ap (λ xs. slice_get xs (f.ticks + k)) (flat_map-cons (frame_slots major) f fs)
+    ∙ ap (λ n. slice_get (frame_slots major f ++ flat_map (frame_slots major) fs) (n + k)) (sym (length_frame major f))
+    ∙ get_right (frame_slots major f) (flat_map (frame_slots major) fs) k
+
+-- ---- all major frames
+
+-- as many slots as ticks
+pub length_slots : (major : ℕ) (ms : List (List Frame)) → length (slots_from major ms) ≡ sum_by ticks_of ms
+length_slots major [] = refl
+length_slots major (m ∷ ms) =
+    length-append (flat_map (frame_slots major) m) (slots_from (major + 1) ms)
+    ∙ (λ i. length_frames major m i + length_slots (major + 1) ms i)
+    ∙ sym (sum_by-cons ticks_of m ms)
+
+-- a tick of the first major frame
+pub first_major : (major : ℕ) (m : List Frame) (ms : List (List Frame)) (k : ℕ) → k < ticks_of m → slice_get (slots_from major (m ∷ ms)) k ≡ slice_get (flat_map (frame_slots major) m) k
+first_major major m ms k l =
+    let many : length (flat_map (frame_slots major) m) ≡ ticks_of m = length_frames major m in
+    get_left (flat_map (frame_slots major) m) (slots_from (major + 1) ms) k (omega (arith, many, l))
+
+-- a tick of a later one
+pub later_major : (major : ℕ) (m : List Frame) (ms : List (List Frame)) (k : ℕ) → slice_get (slots_from major (m ∷ ms)) (ticks_of m + k) ≡ slice_get (slots_from (major + 1) ms) k
+later_major major m ms k =
+    ap (λ n. slice_get (flat_map (frame_slots major) m ++ slots_from (major + 1) ms) (n + k)) (sym (length_frames major m))
+    ∙ get_right (flat_map (frame_slots major) m) (slots_from (major + 1) ms) k
+
+-- ---- what a valid plan has
+
+-- the minor frames of a CPU in a major frame
+abbrev pub frames_at : ℕ → Major → List Frame
+frames_at cpu m = map frame_of (slice_index_or m.cpus cpu [])
+
+pub record HasFrames (groups : List GroupPart) (ticks cpu : ℕ) (frames : List Minor) : Type 0 where
+  pub some : 0 < length frames
+  pub each : list_all (is_minor groups cpu) frames ≡ true
+  pub total : sum_by (λ f. f.ticks) frames ≡ ticks
+
+pub record HasMajor (groups : List GroupPart) (cpus : ℕ) (m : Major) : Type 0 where
+  pub count : length m.cpus ≡ cpus
+  pub some : 0 < m.ticks
+  pub within : m.ticks ≤ 100000
+  pub each : list_all (is_cpu groups m.ticks) (enumerate_from 0 m.cpus) ≡ true
+
+pub record HasMajors (p : Plan) : Type 0 where
+  pub some : 0 < length p.majors
+  pub within : length p.majors ≤ 16
+  pub groups : list_all (λ g. nat_lt g.cpu (cpus_of p)) p.groups ≡ true
+  pub each : list_all (is_major p.groups (cpus_of p)) p.majors ≡ true
+
+has_frames : (groups : List GroupPart) (ticks cpu : ℕ) (frames : List Minor) → is_cpu groups ticks (cpu, frames) ≡ true → HasFrames groups ticks cpu frames
+has_frames groups ticks cpu frames h =
+    let some = nat_lt 0 (length frames) in
+    let within = nat_le (length frames) 64 in
+    let each = list_all (is_minor groups cpu) frames in
+    let a = and_parts (some && within && each) (sum_by (λ f. f.ticks) frames == ticks) h in
+    let b = and_parts (some && within) each a.0 in
+    let c = and_parts some within b.0 in
+    record {
+      some = ltb-true 0 (length frames) c.0;
+      each = b.1;
+      total = eqb-true (sum_by (λ f. f.ticks) frames) ticks a.1;
+    }
+
+has_major : (groups : List GroupPart) (cpus : ℕ) (m : Major) → is_major groups cpus m ≡ true → HasMajor groups cpus m
+has_major groups cpus m h =
+    let count = length m.cpus == cpus in
+    let some = nat_lt 0 m.ticks in
+    let within = nat_le m.ticks 100000 in
+    let a = and_parts (count && some && within) (list_all (is_cpu groups m.ticks) (enumerate_from 0 m.cpus)) h in
+    let b = and_parts (count && some) within a.0 in
+    let c = and_parts count some b.0 in
+    record {
+      count = eqb-true (length m.cpus) cpus c.0;
+      some = ltb-true 0 m.ticks c.1;
+      within = leb-true m.ticks 100000 b.1;
+      each = a.1;
+    }
+
+pub has_majors : (p : Plan) → is_plan p ≡ true → HasMajors p
+unfolding is_plan
+has_majors p h =
+    let cpus = nat_lt 0 (cpus_of p) && nat_le (cpus_of p) 8 in
+    let some = nat_lt 0 (length p.majors) in
+    let within = nat_le (length p.majors) 16 in
+    let groups = list_all (λ (g : GroupPart). nat_lt g.cpu (cpus_of p)) p.groups in
+    let a = and_parts (cpus && some && within && groups) (list_all (is_major p.groups (cpus_of p)) p.majors) h in
+    let b = and_parts (cpus && some && within) groups a.0 in
+    let c = and_parts (cpus && some) within b.0 in
+    record {
+      some = ltb-true 0 (length p.majors) (and_parts cpus some c.0).1;
+      within = leb-true (length p.majors) 16 c.1;
+      groups = b.1;
+      each = a.1;
+    }
+
+-- the minor frames of a CPU of a valid major frame
+cpu_at : (groups : List GroupPart) (ticks n : ℕ) (cpus : List (List Minor)) (k : ℕ) → list_all (is_cpu groups ticks) (enumerate_from n cpus) ≡ true → k < length cpus → is_cpu groups ticks (n + k, slice_index_or cpus k []) ≡ true
+cpu_at groups ticks n [] k all l = absurd (omega arith)
+cpu_at groups ticks n (fs ∷ cpus) zero all l =
+    let here = (and_parts (is_cpu groups ticks (n, fs)) (list_all (is_cpu groups ticks) (enumerate_from (n + 1) cpus)) all).0 in
+    let same : n ≡ n + 0 = omega arith in
+    subst (λ m. is_cpu groups ticks (m, fs) ≡ true) same here
+cpu_at groups ticks n (fs ∷ cpus) (suc k) all l =
+    let later = (and_parts (is_cpu groups ticks (n, fs)) (list_all (is_cpu groups ticks) (enumerate_from (n + 1) cpus)) all).1 in
+    let same : n + 1 + k ≡ n + suc k = omega arith in
+    subst (λ m. is_cpu groups ticks (m, slice_index_or cpus k []) ≡ true) same (cpu_at groups ticks (n + 1) cpus k later (omega arith))
+
+pub frames_there : (groups : List GroupPart) (cpus : ℕ) (m : Major) (cpu : ℕ) → is_major groups cpus m ≡ true → cpu < cpus → HasFrames groups m.ticks cpu (slice_index_or m.cpus cpu [])
+frames_there groups cpus m cpu h l =
+    let major = has_major groups cpus m h in
+    let within : cpu < length m.cpus = omega (arith, major.count, l) in
+    let same : 0 + cpu ≡ cpu = omega arith in
+    has_frames groups m.ticks cpu (slice_index_or m.cpus cpu []) (
+    subst (λ k. is_cpu groups m.ticks (k, slice_index_or m.cpus cpu []) ≡ true) same (cpu_at groups m.ticks 0 m.cpus cpu major.each within)
+    )
+
+-- ---- the ticks of a valid plan
+
+minor_ticks : (fs : List Minor) → ticks_of (map frame_of fs) ≡ sum_by (λ f. f.ticks) fs
+minor_ticks [] = refl
+minor_ticks (f ∷ fs) =
+    sum_by-cons (λ (g : Frame). g.ticks) (frame_of f) (map frame_of fs)
+    ∙ ap (λ n. f.ticks + n) (minor_ticks fs)
+    ∙ sym (sum_by-cons (λ (g : Minor). g.ticks) f fs)
+
+-- those of the frames of a CPU in a major frame are the major frame's
+pub major_ticks : (groups : List GroupPart) (cpus : ℕ) (m : Major) (cpu : ℕ) → is_major groups cpus m ≡ true → cpu < cpus → ticks_of (frames_at cpu m) ≡ m.ticks
+major_ticks groups cpus m cpu h l =
+    minor_ticks (slice_index_or m.cpus cpu []) ∙ (frames_there groups cpus m cpu h l).total
+
+-- those of a CPU in all major frames are the major frames'
+pub majors_ticks : (groups : List GroupPart) (cpus : ℕ) (ms : List Major) (cpu : ℕ) → list_all (is_major groups cpus) ms ≡ true → cpu < cpus → sum_by ticks_of (map (frames_at cpu) ms) ≡ sum_by (λ m. m.ticks) ms
+majors_ticks groups cpus [] cpu all l = refl
+majors_ticks groups cpus (m ∷ ms) cpu all l =
+    let parts = and_parts (is_major groups cpus m) (list_all (is_major groups cpus) ms) all in
+    sum_by-cons ticks_of (frames_at cpu m) (map (frames_at cpu) ms)
+    ∙ (λ i. major_ticks groups cpus m cpu parts.0 l i + majors_ticks groups cpus ms cpu parts.1 l i)
+    ∙ sym (sum_by-cons (λ (n : Major). n.ticks) m ms)
+
+some_ticks : (groups : List GroupPart) (cpus : ℕ) (ms : List Major) → list_all (is_major groups cpus) ms ≡ true → 0 < length ms → 0 < sum_by (λ m. m.ticks) ms
+some_ticks groups cpus [] all l = absurd (omega arith)
+some_ticks groups cpus (m ∷ ms) all l =
+    let parts = and_parts (is_major groups cpus m) (list_all (is_major groups cpus) ms) all in
+    let here = (has_major groups cpus m parts.0).some in
+    let split : sum_by (λ n. n.ticks) (m ∷ ms) ≡ m.ticks + sum_by (λ n. n.ticks) ms = sum_by-cons (λ (n : Major). n.ticks) m ms in
+    omega (arith, here, split)
+
+-- a valid plan has ticks
+pub plan_ticks : (p : Plan) → is_plan p ≡ true → 0 < sum_by (λ m. m.ticks) p.majors
+plan_ticks p h = let a = has_majors p h in some_ticks p.groups (cpus_of p) p.majors a.each a.some
+
+-- ---- the groups of a valid plan's slots
+
+abbrev slot_on : List GroupPart → ℕ → Slot → Bool
+slot_on groups cpu s = is_group_on groups cpu s.group
+
+always : {X : Type 0} (b : Bool) (xs : List X) → b ≡ true → list_all (λ x. b) xs ≡ true
+always b [] h = refl
+always b (x ∷ xs) h = and_from b (list_all (λ y. b) xs) h (always b xs h)
+
+frame_on : (groups : List GroupPart) (cpu major : ℕ) (f : Minor) → is_minor groups cpu f ≡ true → list_all (slot_on groups cpu) (frame_slots major (frame_of f)) ≡ true
+frame_on groups cpu major f h =
+    let on = (and_parts (nat_lt 0 f.ticks) (is_group_on groups cpu f.group) h).1 in
+    list_all-map (slot_on groups cpu) (frame_slot major (frame_of f)) (numbers_below f.ticks)
+    ∙ always (is_group_on groups cpu f.group) (numbers_below f.ticks) on
+
+both_on : (groups : List GroupPart) (cpu : ℕ) (xs ys : List Slot) → list_all (slot_on groups cpu) xs ≡ true → list_all (slot_on groups cpu) ys ≡ true → list_all (slot_on groups cpu) (xs ++ ys) ≡ true
+both_on groups cpu xs ys h k =
+    list_all-append (slot_on groups cpu) xs ys
+    ∙ and_from (list_all (slot_on groups cpu) xs) (list_all (slot_on groups cpu) ys) h k
+
+frames_on : (groups : List GroupPart) (cpu major : ℕ) (fs : List Minor) → list_all (is_minor groups cpu) fs ≡ true → list_all (slot_on groups cpu) (flat_map (frame_slots major) (map frame_of fs)) ≡ true
+frames_on groups cpu major [] all = refl
+frames_on groups cpu major (f ∷ fs) all =
+    let parts = and_parts (is_minor groups cpu f) (list_all (is_minor groups cpu) fs) all in
+    ap (list_all (slot_on groups cpu)) (flat_map-cons (frame_slots major) (frame_of f) (map frame_of fs))
+    ∙ both_on groups cpu (frame_slots major (frame_of f)) (flat_map (frame_slots major) (map frame_of fs)) (frame_on groups cpu major f parts.0) (frames_on groups cpu major fs parts.1)
+
+majors_on : (groups : List GroupPart) (cpus cpu major : ℕ) (ms : List Major) → list_all (is_major groups cpus) ms ≡ true → cpu < cpus → list_all (slot_on groups cpu) (slots_from major (map (frames_at cpu) ms)) ≡ true
+majors_on groups cpus cpu major [] all l = refl
+majors_on groups cpus cpu major (m ∷ ms) all l =
+    let parts = and_parts (is_major groups cpus m) (list_all (is_major groups cpus) ms) all in
+    let here = frames_on groups cpu major (slice_index_or m.cpus cpu []) (frames_there groups cpus m cpu parts.0 l).each in
+    both_on groups cpu (flat_map (frame_slots major) (frames_at cpu m)) (slots_from (major + 1) (map (frames_at cpu) ms)) here (majors_on groups cpus cpu (major + 1) ms parts.1 l)
+
+-- ---- the slot at a tick
+
+pub record IsThere (p : Plan) (cpu tick : ℕ) : Type 0 where
+  pub slot : Slot
+  pub is : slot_at (frames_in p cpu) tick ≡ Some slot
+  pub on : is_group_on p.groups cpu slot.group ≡ true
+
+-- as many slots as a valid plan has ticks
+pub length_plan : (p : Plan) (cpu : ℕ) → is_plan p ≡ true → cpu < cpus_of p → length (slots_from 0 (frames_in p cpu)) ≡ sum_by (λ m. m.ticks) p.majors
+unfolding frames_in
+length_plan p cpu h l =
+    length_slots 0 (map (frames_at cpu) p.majors) ∙ majors_ticks p.groups (cpus_of p) p.majors cpu (has_majors p h).each l
+
+-- at each tick a CPU of a valid plan has a slot, and its group is there and on this CPU
+pub slot_there : (p : Plan) (cpu tick : ℕ) → is_plan p ≡ true → cpu < cpus_of p → IsThere p cpu tick
+unfolding frames_in slot_at
+slot_there p cpu tick h l =
+    let slots = slots_from 0 (map (frames_at cpu) p.majors) in
+    let many : length slots ≡ sum_by (λ m. m.ticks) p.majors = length_plan p cpu h l in
+    let some = plan_ticks p h in
+    let place : tick % length slots < length slots = mod-lt tick (omega (arith, many, some)) in
+    let found = there slots (tick % length slots) place in
+    record {
+      slot = found.0;
+      is = found.1;
+      on = passes_at (slot_on p.groups cpu) slots (tick % length slots) found.0 (majors_on p.groups (cpus_of p) cpu 0 p.majors (has_majors p h).each l) found.1;
+    }
+
+-- the slot at a tick of a valid plan, with the ticks counted
+pub slot_by_ticks : (p : Plan) (cpu tick : ℕ) → is_plan p ≡ true → cpu < cpus_of p → slot_at (frames_in p cpu) tick ≡ slice_get (slots_from 0 (map (frames_at cpu) p.majors)) (tick % sum_by (λ m. m.ticks) p.majors)
+unfolding frames_in slot_at
+slot_by_ticks p cpu tick h l =
+    ap (λ n. slice_get (slots_from 0 (map (frames_at cpu) p.majors)) (tick % n)) (length_plan p cpu h l)
