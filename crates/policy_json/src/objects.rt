@@ -1,7 +1,7 @@
 ghost use Rattle.std.specs.Prelude.{◌≡◌, codes};
 ghost use Rattle.serde_json.specs.View.{view};
-ghost use Rattle.policy_types.specs.Schema.{optional};
-ghost use Rattle.policy_types.specs.Document.{is_one_content, one_content, read_fill, read_inline};
+ghost use Rattle.policy_types.specs.Schema.{optional, required};
+ghost use Rattle.policy_types.specs.Document.{is_one_content, one_content, read_cpus, read_fill, read_inline};
 ghost use Rattle.policy_types.specs.declared.source.Content.TheVariants.{Zero};
 ghost use Rattle.policy_json.specs.Reading.{Finds, Gives};
 
@@ -18,6 +18,32 @@ use policy_types::{Caching, Source, Want};
 use serde_json::Value;
 use std::alloc::Global;
 
+// How many logical CPUs there are; several aren't built.
+#[tactic(auto, unfolding(policy_types::specs::Document::read_cpus))]
+fn read_cpus(alloc: Global, value: &Value) -> Result<u64, ReadEnd>
+    ensures { Finds (read_cpus (view value.now)) result }
+{
+    match <u64 as Shape>::read(alloc, value) {
+        Ok(cpus) if 2 <= cpus && cpus <= 8 => Err(make_fault(alloc, Want::NotYetBuilt)),
+        Ok(cpus) => Ok(cpus),
+        Err(end) => Err(end),
+    }
+}
+
+// The value under the key of the number of CPUs.
+#[tactic(auto, unfolding(policy_types::specs::Schema::required))]
+fn read_logical_cpus(alloc: Global, value: &Value) -> Result<u64, ReadEnd>
+    ensures { Gives (required (codes "logicalCpus") read_cpus (view value.now)) result }
+{
+    match value.get("logicalCpus") {
+        None => Err(fault_under(alloc, b"logicalCpus", make_fault(alloc, Want::Present))),
+        Some(found) => match read_cpus(alloc, found) {
+            Ok(cpus) => Ok(cpus),
+            Err(end) => Err(fault_under(alloc, b"logicalCpus", end)),
+        },
+    }
+}
+
 impl Shape for Processor {
     ghost use Rattle.policy_types.specs.Document.{read_processor};
 
@@ -26,7 +52,7 @@ impl Shape for Processor {
     #[tactic(auto, unfolding(policy_types::specs::Document::read_processor))]
     fn read(alloc: Global, value: &Value) -> Result<Processor, ReadEnd> {
         read_processor_keys(alloc, value)?;
-        let logical_cpus = read_required(alloc, value, "logicalCpus")?;
+        let logical_cpus = read_logical_cpus(alloc, value)?;
         Ok(Processor { logical_cpus })
     }
 }

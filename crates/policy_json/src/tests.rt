@@ -326,6 +326,40 @@ fn reads_numbers_as_texts(rt: HostRuntime) -> Result<(), Fail> {
 }
 
 #[test]
+fn wants_a_built_number_of_cpus(rt: HostRuntime) -> Result<(), Fail> {
+    let alloc = rt.alloc();
+    let cases: [(&[u8], Option<u64>); 7] = [
+        (b"0", Some(0)),
+        (b"1", Some(1)),
+        (b"9", Some(9)),
+        (b"\"16#9#\"", Some(9)),
+        (b"2", None),
+        (b"8", None),
+        (b"\"16#2#\"", None),
+    ];
+    for (number, wanted) in cases {
+        let mut text = Vec::from_slice(alloc, b"{\"processor\":{\"logicalCpus\":")?;
+        text.extend_from_slice(number)?;
+        text.extend_from_slice(b"},\"scheduling\":{}}")?;
+        match wanted {
+            Some(n) => match read(alloc, text.as_slice()) {
+                Ok(source) => assert_eq!(rt; source.processor.logical_cpus, n),
+                Err(refusal) => {
+                    drop(refusal);
+                    return Err(Fail::new("refused"));
+                }
+            },
+            None => {
+                let (place, want) = fault_of(alloc, text.as_slice())?;
+                assert_eq!(rt; place.as_slice(), b"/processor/logicalCpus".as_slice());
+                assert_eq!(rt; want, Some(Want::NotYetBuilt));
+            }
+        }
+    }
+    Ok(())
+}
+
+#[test]
 fn names_the_first_fault(rt: HostRuntime) -> Result<(), Fail> {
     let alloc = rt.alloc();
     let cases: [(&[u8], &[u8], Option<Want>); 12] = [

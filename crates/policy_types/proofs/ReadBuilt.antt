@@ -1,16 +1,17 @@
 -- What a document says has only elements that are built.
-use Rattle.std.proofs.Common.{◌≡◌, ℕ, ◌+◌, Bool, true, List, [], ◌∷◌, Option, Some, None, Result, Ok, Err, IfOk, refl, subst}
+use Rattle.std.proofs.Common.{◌≡◌, ℕ, ◌+◌, Bool, true, false, cond, List, [], ◌∷◌, Option, Some, None, Result, Ok, Err, IfOk, refl, subst}
 use Rattle.std.specs.Prelude.{codes, decimal}
 use Rattle.std.specs.List.{list_all}
 use Rattle.serde_json.specs.Data.{Data, Items, no_items, item}
 use Rattle.serde_json.specs.Find.{get, as_array}
-use Rattle.policy_types.specs.Built.{is_plain, is_plain_region, is_built}
-use Rattle.policy_types.specs.Document.{read_processor, read_block, read_region, read_content, read_mapping, read_subject, read_scheduling, read_system, policy_from, policy_of, shape_refused, json_of}
-use Rattle.policy_types.specs.Keys.{region_keys, subject_keys, system_keys}
-use Rattle.policy_types.specs.Schema.{◌>>=◌, under, or_want, object_of, required, optional, optional_from, unbuilt, read_number, read_name, read_caching, read_items, read_list}
+use Rattle.policy_types.specs.Built.{is_plain, is_plain_region, is_built, is_built_number, has_built_cpus}
+use Rattle.policy_types.specs.Document.{read_cpus, read_processor, read_block, read_region, read_content, read_mapping, read_subject, read_scheduling, read_system, policy_from, policy_of, shape_refused, json_of}
+use Rattle.policy_types.specs.Keys.{processor_keys, region_keys, subject_keys, system_keys}
+use Rattle.policy_types.specs.Schema.{◌>>=◌, under, or_want, fault, object_of, required, required_from, optional, optional_from, unbuilt, read_number, read_name, read_caching, read_items, read_list}
 use Rattle.policy_types.specs.declared.refusal.Fault.{Fault}
-use Rattle.policy_types.specs.declared.refusal.Want.TheVariants.{List as WantList}
+use Rattle.policy_types.specs.declared.refusal.Want.TheVariants.{List as WantList, NotYetBuilt}
 use Rattle.policy_types.specs.declared.source.Source.{Source}
+use Rattle.policy_types.specs.declared.source.Processor.{Processor}
 use Rattle.policy_types.specs.declared.rights.Caching.TheVariants.{Wb}
 use Rattle.policy_types.specs.declared.source.Content.TheVariants.{Zero}
 use Rattle.policy_types.specs.declared.source.Region.{Region}
@@ -96,18 +97,64 @@ system_so d =
     after_so (λ ss. list_all is_plain ss ≡ true) P (optional (codes "subjects") [] (read_list read_subject) d) _ (optional_so is_plain read_subject subject_so (codes "subjects") d) (λ subjects plain.
     after P (required (codes "scheduling") read_scheduling d) _ (λ scheduling. rw plain fixed))))))))))
 
-refused_so : (o : Result Source Fault) → IfOk o (λ p. is_built p ≡ true) → IfOk (shape_refused o) (λ p. is_built p ≡ true)
-refused_so (Ok p) h = h
-refused_so (Err f) h = tt
+module _ (test : Source → Bool) (each : (d : Data) → IfOk (read_system d) (λ p. test p ≡ true)) where
+  refused_so : (o : Result Source Fault) → IfOk o (λ p. test p ≡ true) → IfOk (shape_refused o) (λ p. test p ≡ true)
+  refused_so (Ok p) h = h
+  refused_so (Err f) h = tt
 
-from_document : (o : Option Data) → IfOk (policy_from o) (λ p. is_built p ≡ true)
-from_document None = tt
-from_document (Some d) = refused_so (read_system d) (system_so d)
+  from_document : (o : Option Data) → IfOk (policy_from o) (λ p. test p ≡ true)
+  from_document None = tt
+  from_document (Some d) = refused_so (read_system d) (each d)
 
 -- the policy of a document
 pub policy_built : (bytes : List ℕ) (p : Source) → policy_of bytes ≡ Ok p → is_built p ≡ true
 unfolding policy_of
-policy_built bytes p e = subst (λ o. IfOk o (λ p. is_built p ≡ true)) e (from_document (json_of bytes))
+policy_built bytes p e = subst (λ o. IfOk o (λ p. is_built p ≡ true)) e (from_document is_built system_so (json_of bytes))
 
 pub system_built : (d : Data) (p : Source) → read_system d ≡ Ok p → is_built p ≡ true
 system_built d p e = subst (λ o. IfOk o (λ p. is_built p ≡ true)) e (system_so d)
+
+-- ---- the number of CPUs
+
+from_required : {A : Type 0} (P : A → Type 0) (key : List ℕ) (read : Data → Result A Fault) → ((d : Data) → IfOk (read d) P) → (o : Option Data) → IfOk (required_from key read o) P
+from_required P key read each None = tt
+from_required P key read each (Some d) = under_so P key (read d) (each d)
+
+number_tested : (n : ℕ) (t : Bool) → is_built_number n ≡ t → IfOk (cond t (Ok n) (fault [] NotYetBuilt)) (λ n. is_built_number n ≡ true)
+number_tested n true h = h
+number_tested n false h = tt
+
+cpus_so : (d : Data) → IfOk (read_cpus d) (λ n. is_built_number n ≡ true)
+unfolding read_cpus
+cpus_so d = after (λ n. is_built_number n ≡ true) (read_number d) _ (λ n. number_tested n (is_built_number n) refl)
+
+processor_so : (d : Data) → IfOk (read_processor d) (λ x. is_built_number x.logical_cpus ≡ true)
+unfolding read_processor required
+processor_so d =
+    let P : Processor → Type 0 = λ x. is_built_number x.logical_cpus ≡ true in
+    after P (object_of processor_keys d) _ (λ known.
+    after_so (λ n. is_built_number n ≡ true) P (required (codes "logicalCpus") read_cpus d) _ (from_required (λ n. is_built_number n ≡ true) (codes "logicalCpus") read_cpus cpus_so (get (codes "logicalCpus") d))
+    (λ n h. h))
+
+system_cpus_so : (d : Data) → IfOk (read_system d) (λ p. has_built_cpus p ≡ true)
+unfolding read_system has_built_cpus required
+system_cpus_so d =
+    let P : Source → Type 0 = λ p. has_built_cpus p ≡ true in
+    after P (object_of system_keys d) _ (λ known.
+    after_so (λ x. is_built_number x.logical_cpus ≡ true) P (required (codes "processor") read_processor d) _ (from_required (λ x. is_built_number x.logical_cpus ≡ true) (codes "processor") read_processor processor_so (get (codes "processor") d)) (λ processor number.
+    after P (optional (codes "memoryBlocks") [] (read_list read_block) d) _ (λ blocks.
+    after P (unbuilt (codes "devices") d) _ (λ devices.
+    after P (optional (codes "memory") [] (read_list read_region) d) _ (λ memory.
+    after P (unbuilt (codes "channels") d) _ (λ channels.
+    after P (unbuilt (codes "components") d) _ (λ components.
+    after P (unbuilt (codes "events") d) _ (λ events.
+    after P (optional (codes "subjects") [] (read_list read_subject) d) _ (λ subjects.
+    after P (required (codes "scheduling") read_scheduling d) _ (λ scheduling. number))))))))))
+
+-- the policy of a document
+pub policy_cpus : (bytes : List ℕ) (p : Source) → policy_of bytes ≡ Ok p → has_built_cpus p ≡ true
+unfolding policy_of
+policy_cpus bytes p e = subst (λ o. IfOk o (λ p. has_built_cpus p ≡ true)) e (from_document has_built_cpus system_cpus_so (json_of bytes))
+
+pub system_cpus : (d : Data) (p : Source) → read_system d ≡ Ok p → has_built_cpus p ≡ true
+system_cpus d p e = subst (λ o. IfOk o (λ p. has_built_cpus p ≡ true)) e (system_cpus_so d)

@@ -4,17 +4,21 @@ use Rattle.std.specs.Fmt.{digits}
 use Rattle.std.specs.Prelude.{Option, Some, None, codes}
 use Rattle.muen_num.specs.declared.bits.Mode.{Mode}
 use Rattle.muen_num.specs.declared.bits.Mode.TheVariants.{Asap, Async, Own, Switch}
+use Rattle.muen_num.specs.declared.tag.Part.TheVariants.{Whole}
+use Rattle.policy_types.specs.Contents.{contents_refused}
 use Rattle.policy_types.specs.Search.{alone, two}
 use Rattle.policy_types.specs.Rules.{offence_1, offence_5, offence_8, offence_16, offence_17, first_overlap, window_extents}
 use Rattle.policy_types.specs.MoreRules.{offence_6, offence_9, offence_10, offence_11, offence_12, offence_13, offence_14, offence_15, offence_19}
 use Rattle.policy_types.specs.Windows.{windows_of}
+use Rattle.policy_types.specs.declared.refusal.Refusal.TheVariants.{FileFit}
 use Rattle.policy_types.specs.declared.rights.Role.{Role}
 use Rattle.policy_types.specs.declared.rights.Role.TheVariants.{Writer, Reader}
 use Rattle.policy_types.specs.declared.rights.Caching.TheVariants.{Wb}
 use Rattle.policy_types.specs.declared.source.Block.{Block}
 use Rattle.policy_types.specs.declared.source.Channel.{Channel}
 use Rattle.policy_types.specs.declared.source.ChannelUse.{ChannelUse}
-use Rattle.policy_types.specs.declared.source.Content.TheVariants.{Zero}
+use Rattle.policy_types.specs.declared.source.Content.{Content}
+use Rattle.policy_types.specs.declared.source.Content.TheVariants.{Zero, Fill, Inline}
 use Rattle.policy_types.specs.declared.source.CpuFrames.{CpuFrames}
 use Rattle.policy_types.specs.declared.source.Device.{Device}
 use Rattle.policy_types.specs.declared.source.Mapping.{Mapping}
@@ -204,3 +208,19 @@ not_named = refl
 in_no_group : offence_17 (record (planned (codes "one") (frames 0 1 ∷ [])) { subjects = subject (codes "one") ∷ subject (codes "two") ∷ [] }) ≡ Some (alone (codes "two"))
 unfolding offence_17
 in_no_group = refl
+
+-- ---- contents
+
+abbrev holding : List ℕ → Content → Region
+holding name content =
+    record { name = name; size = 2; caching = Wb; alignment = 4096; physical_address = None; content = content }
+
+-- three bytes in room for two; the first such region, and not the one with more bytes
+too_many_bytes : contents_refused (record nothing { memory = holding (codes "a") (Inline (1 ∷ 2 ∷ [])) ∷ holding (codes "b") (Inline (1 ∷ 2 ∷ 3 ∷ [])) ∷ holding (codes "c") (Inline (1 ∷ 2 ∷ 3 ∷ 4 ∷ [])) ∷ [] }) ≡ Some (FileFit (record { owner = codes "b"; part = Whole }) 2 3)
+unfolding contents_refused
+too_many_bytes = refl
+
+-- as many bytes as there is room for, fewer, a byte repeated, and zeros
+contents_fit : contents_refused (record nothing { memory = holding (codes "a") (Inline (1 ∷ 2 ∷ [])) ∷ holding (codes "b") (Inline []) ∷ holding (codes "c") (Fill 255) ∷ holding (codes "d") Zero ∷ [] }) ≡ None
+unfolding contents_refused
+contents_fit = refl
