@@ -2,7 +2,7 @@
 #![tactic(auto)]
 
 ghost use Rattle.std.specs.Prelude.{◌≡◌, true, IfOk};
-ghost use Rattle.policy_types.specs.Built.{is_built, has_built_cpus};
+ghost use Rattle.policy_types.specs.Built.{is_built, has_built_cpus, has_plain_contents};
 ghost use Rattle.policy_types.specs.Document.{policy_of};
 ghost use Rattle.policy_types.specs.Reading.{Answers};
 
@@ -24,12 +24,14 @@ use std::alloc::Global;
 ///
 /// Answers `NotJson` where the bytes are no JSON text, `Shape` with the first place that breaks the
 /// schema and what was wanted there, and `NoMemory` where memory was refused. A policy that is read
-/// has only elements that are built, and a number of logical CPUs that is built.
+/// has only elements that are built, a number of logical CPUs that is built, and no contents from
+/// files.
 #[tactic(auto, using(crate::proofs::Text::texts), unfolding(policy_types::specs::Document::policy_of, policy_types::specs::Document::json_of))]
 pub fn read(alloc: Global, bytes: &[u8]) -> Result<Source, Refusal>
     ensures answer { Answers (policy_of bytes.now) result }
     ensures built { IfOk result (λ p. is_built p ≡ true) }
     ensures cpus { IfOk result (λ p. has_built_cpus p ≡ true) }
+    ensures plain { IfOk result (λ p. has_plain_contents p ≡ true) }
 {
     let value = match Value::from_slice(alloc, bytes) {
         Ok(value) => value,

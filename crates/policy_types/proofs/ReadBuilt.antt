@@ -4,15 +4,16 @@ use Rattle.std.specs.Prelude.{codes, decimal}
 use Rattle.std.specs.List.{list_all}
 use Rattle.serde_json.specs.Data.{Data, Items, no_items, item}
 use Rattle.serde_json.specs.Find.{get, as_array}
-use Rattle.policy_types.specs.Built.{is_plain, is_plain_region, is_built, is_built_number, has_built_cpus}
-use Rattle.policy_types.specs.Document.{read_cpus, read_processor, read_block, read_region, read_content, read_mapping, read_subject, read_scheduling, read_system, policy_from, policy_of, shape_refused, json_of}
-use Rattle.policy_types.specs.Keys.{processor_keys, region_keys, subject_keys, system_keys}
-use Rattle.policy_types.specs.Schema.{◌>>=◌, under, or_want, fault, object_of, required, required_from, optional, optional_from, unbuilt, read_number, read_name, read_caching, read_items, read_list}
+use Rattle.policy_types.specs.Built.{is_plain, is_plain_region, is_built, is_built_number, has_built_cpus, is_plain_content, has_plain_contents}
+use Rattle.policy_types.specs.Document.{read_cpus, read_processor, read_block, read_region, read_content, read_mapping, read_subject, read_scheduling, read_system, policy_from, policy_of, shape_refused, json_of, one_content, read_fill, read_inline}
+use Rattle.policy_types.specs.Keys.{content_keys, processor_keys, region_keys, subject_keys, system_keys}
+use Rattle.policy_types.specs.Schema.{◌>>=◌, under, or_want, fault, object_of, required, required_from, optional, optional_from, unbuilt, read_number, read_name, read_caching, read_items, read_list, read_byte, read_hexadecimal}
 use Rattle.policy_types.specs.declared.refusal.Fault.{Fault}
 use Rattle.policy_types.specs.declared.refusal.Want.TheVariants.{List as WantList, NotYetBuilt}
 use Rattle.policy_types.specs.declared.source.Source.{Source}
 use Rattle.policy_types.specs.declared.source.Processor.{Processor}
 use Rattle.policy_types.specs.declared.rights.Caching.TheVariants.{Wb}
+use Rattle.policy_types.specs.declared.source.Content.{Content}
 use Rattle.policy_types.specs.declared.source.Content.TheVariants.{Zero}
 use Rattle.policy_types.specs.declared.source.Region.{Region}
 use Rattle.policy_types.specs.declared.source.Subject.{Subject}
@@ -158,3 +159,70 @@ policy_cpus bytes p e = subst (λ o. IfOk o (λ p. has_built_cpus p ≡ true)) e
 
 pub system_cpus : (d : Data) (p : Source) → read_system d ≡ Ok p → has_built_cpus p ≡ true
 system_cpus d p e = subst (λ o. IfOk o (λ p. has_built_cpus p ≡ true)) e (system_cpus_so d)
+
+-- ---- contents
+
+module _ {A : Type 0} (P : A → Type 0) (default : A) (read : Data → Result A Fault) (before : P default) (each : (d : Data) → IfOk (read d) P) where
+  kept_from : (key : List ℕ) (o : Option Data) → IfOk (optional_from key default read o) P
+  kept_from key None = before
+  kept_from key (Some d) = under_so P key (read d) (each d)
+
+  kept_so : (key : List ℕ) (d : Data) → IfOk (optional key default read d) P
+  unfolding optional
+  kept_so key d = kept_from key (get key d)
+
+fill_so : (d : Data) → IfOk (read_fill d) (λ c. is_plain_content c ≡ true)
+unfolding read_fill
+fill_so d = after (λ c. is_plain_content c ≡ true) (read_byte d) _ (λ byte. refl)
+
+inline_so : (d : Data) → IfOk (read_inline d) (λ c. is_plain_content c ≡ true)
+unfolding read_inline
+inline_so d = after (λ c. is_plain_content c ≡ true) (read_hexadecimal d) _ (λ bytes. refl)
+
+content_so : (d : Data) → IfOk (read_content d) (λ c. is_plain_content c ≡ true)
+unfolding read_content
+content_so d =
+    let P : Content → Type 0 = λ c. is_plain_content c ≡ true in
+    after P (object_of content_keys d) _ (λ known.
+    after P (one_content d) _ (λ one.
+    after_so P P (optional (codes "fill") Zero read_fill d) _ (kept_so P Zero read_fill refl fill_so (codes "fill") d) (λ fill plain.
+    after_so P P (optional (codes "hex") fill read_inline d) _ (kept_so P fill read_inline plain inline_so (codes "hex") d) (λ content kept.
+    after P (unbuilt (codes "file") d) _ (λ file.
+    after P (unbuilt (codes "offset") d) _ (λ offset.
+    after P (unbuilt (codes "length") d) _ (λ length. kept)))))))
+
+region_content_so : (d : Data) → IfOk (read_region d) (λ r. is_plain_content r.content ≡ true)
+unfolding read_region
+region_content_so d =
+    let P : Region → Type 0 = λ r. is_plain_content r.content ≡ true in
+    let C : Content → Type 0 = λ c. is_plain_content c ≡ true in
+    after P (object_of region_keys d) _ (λ known.
+    after P (required (codes "name") read_name d) _ (λ name.
+    after P (required (codes "size") read_number d) _ (λ size.
+    after P (optional (codes "caching") Wb read_caching d) _ (λ caching.
+    after P (unbuilt (codes "alignment") d) _ (λ alignment.
+    after P (unbuilt (codes "physicalAddress") d) _ (λ address.
+    after_so C P (optional (codes "content") Zero read_content d) _ (kept_so C Zero read_content refl content_so (codes "content") d) (λ content plain. plain)))))))
+
+system_contents_so : (d : Data) → IfOk (read_system d) (λ p. has_plain_contents p ≡ true)
+unfolding read_system has_plain_contents
+system_contents_so d =
+    let P : Source → Type 0 = λ p. has_plain_contents p ≡ true in
+    after P (object_of system_keys d) _ (λ known.
+    after P (required (codes "processor") read_processor d) _ (λ processor.
+    after P (optional (codes "memoryBlocks") [] (read_list read_block) d) _ (λ blocks.
+    after P (unbuilt (codes "devices") d) _ (λ devices.
+    after_so (λ rs. list_all (λ (r : Region). is_plain_content r.content) rs ≡ true) P (optional (codes "memory") [] (read_list read_region) d) _ (optional_so (λ r. is_plain_content r.content) read_region region_content_so (codes "memory") d) (λ memory plain.
+    after P (unbuilt (codes "channels") d) _ (λ channels.
+    after P (unbuilt (codes "components") d) _ (λ components.
+    after P (unbuilt (codes "events") d) _ (λ events.
+    after P (optional (codes "subjects") [] (read_list read_subject) d) _ (λ subjects.
+    after P (required (codes "scheduling") read_scheduling d) _ (λ scheduling. plain))))))))))
+
+-- the policy of a document
+pub policy_contents : (bytes : List ℕ) (p : Source) → policy_of bytes ≡ Ok p → has_plain_contents p ≡ true
+unfolding policy_of
+policy_contents bytes p e = subst (λ o. IfOk o (λ p. has_plain_contents p ≡ true)) e (from_document has_plain_contents system_contents_so (json_of bytes))
+
+pub system_contents : (d : Data) (p : Source) → read_system d ≡ Ok p → has_plain_contents p ≡ true
+system_contents d p e = subst (λ o. IfOk o (λ p. has_plain_contents p ≡ true)) e (system_contents_so d)

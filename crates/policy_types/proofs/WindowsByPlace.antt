@@ -147,7 +147,7 @@ module _ (r : Resolution) (names : repeated (map (λ x. x.name) r.memory) ≡ No
   unfolding p source_of
   memory_is = refl
 
-  pub windows_are : (s : Subject) → is_plain (subject_named r s) ≡ true → windows_of p (subject_named r s) ≡ filter_map (λ m. region_window p m.region m.virtual_address m.rights.0) (map (mapping_named r) s.memory)
+  windows_are : (s : Subject) → is_plain (subject_named r s) ≡ true → windows_of p (subject_named r s) ≡ filter_map (λ m. region_window p m.region m.virtual_address m.rights.0) (map (mapping_named r) s.memory)
   unfolding windows_of
   windows_are s h =
       let q = plain (subject_named r s) h in
