@@ -1,7 +1,8 @@
-pub mod Loaded
+pub mod CanStart
+pub mod Facts
 pub mod Printed
 pub mod Puts
 pub mod Reached
-pub mod Regions
-pub mod ThinRun
+pub mod SystemRun
+pub mod SystemTurn
 pub mod Things

@@ -67,10 +67,10 @@ roomy hs size value (reached x offset) h =
     subst (λ n. Within hs n x offset) (sym (length-stored_bytes size value)) h
 roomy hs size value (refused reason qualification address) h = tt
 
-pub may_put : (hs : List Holding) (ws : List (Window ℕ)) (s : SubjectState) (stored : Option Store) → AllFit (sizes_of hs) ws → option_map stored_for stored ≡ (turn_over [] ws (bytes_at hs) s [] [] false).stored → HaveRoom hs stored
+pub may_put : (hs : List Holding) (ws : List (Window ℕ)) (tick : ℕ) (s : SubjectState) (stored : Option Store) → AllFit (sizes_of hs) ws → option_map stored_for stored ≡ (turn_over [] ws (bytes_at hs) tick s [] [] false).stored → HaveRoom hs stored
 unfolding HasRoom
-may_put hs ws s None fits is = tt
-may_put hs ws s (Some store) fits is =
+may_put hs ws tick s None fits is = tt
+may_put hs ws tick s (Some store) fits is =
     let may : MayStore (HasRoom hs) ws = λ size address value. roomy hs size value (reach_of ws Write (count size) address) (within hs ws Write size address fits) in
-    let here : HasRoom hs (stored_for store) = subst (StoresSo (HasRoom hs)) (sym is) (turn_stores (HasRoom hs) (bytes_at hs) ws may s) in
+    let here : HasRoom hs (stored_for store) = subst (StoresSo (HasRoom hs)) (sym is) (turn_stores (HasRoom hs) (bytes_at hs) ws may tick s) in
     subst (λ n. Within hs n store.place store.offset) (length-stored_bytes store.size store.value) here

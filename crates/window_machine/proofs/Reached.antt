@@ -2,6 +2,7 @@
 use Rattle.std.proofs.Common.{◌≡◌, ℕ, ◌+◌, ◌-◌, ◌%◌, ◌^◌, ◌<◌, ◌≤◌, true, false, cond, List, [], ◌∷◌, length, map, Some, refl, sym, ◌∙◌, subst, arith}
 use Rattle.std.specs.Prelude.{◌==◌, nat_le, slice_index, slice_index_or}
 use Rattle.std.specs.List.{find}
+use Rattle.std.proofs.lemmas.Bool.{eqb-true}
 use Rattle.std.proofs.lemmas.Bool.Decides.{nat_tests}
 use Rattle.std.proofs.lemmas.List.{length-map}
 use Rattle.muen_num.specs.Access.{kind_bit, allows}
@@ -10,7 +11,6 @@ use Rattle.muen_num.specs.declared.bits.Kind.{Kind}
 use Rattle.muen_num.specs.declared.bits.Size.{Size}
 use Rattle.muen_num.specs.declared.bits.Size.TheVariants.{One, Two, Four, Eight}
 use Rattle.policy_types.specs.Windows.{Window, byte, violation, holds, access_by, access_of}
-use Rattle.policy_thin.proofs.ThinParts.{same_number}
 use Rattle.subject_model.specs.Solo.{reached, refused, reach_by, reach_of}
 use Rattle.subject_model.proofs.Alone.{LeadsTo}
 use Rattle.window_machine.specs.Machine.{bytes_at, nothing, sizes_of, WindowFits, AllFit, Within}
@@ -60,7 +60,7 @@ within holdings ws kind size address fits =
     (elim (address % count size == 0) as (λ b. (address % count size == 0) ≡ b → LeadsTo (Within holdings (count size)) (cond b (cond (nat_le (2 ^ 48) address) (refused 48 (kind_bit kind) address) (reach_by kind address (access_of ws address kind))) (refused 0 0 0))) [
       | true ↦ λ a. elim (nat_le (2 ^ 48) address) as (λ b. LeadsTo (Within holdings (count size)) (cond b (refused 48 (kind_bit kind) address) (reach_by kind address (access_of ws address kind)))) [
         | true ↦ tt
-        | false ↦ within_by holdings size address (same_number _ _ a) kind ws fits
+        | false ↦ within_by holdings size address (eqb-true _ _ a) kind ws fits
       ]
       | false ↦ λ a. tt
     ]) refl

@@ -1,23 +1,26 @@
 -- What a subject's windows show: things by name in the policy, regions by place in the machine.
 use Rattle.std.proofs.Common.{◌≡◌, ℕ, zero, suc, ◌+◌, ◌<◌, Bool, true, false, cond, not, List, [], ◌∷◌, length, map, Option, Some, None, refl, sym, ap, ◌∙◌, arith}
 use Rattle.std.specs.Prelude.{◌||◌, filter, option_map, slice_get, slice_index_or, slice_set}
-use Rattle.std.specs.List.{find, filter_map, cons_option, position_or_len}
+use Rattle.std.specs.List.{find, position_or_len}
 use Rattle.std.specs.Str.{bytes_eq}
 use Rattle.std.proofs.lemmas.List.{length-map}
+use Rattle.std.proofs.lemmas.Slice.Eq.{bytes_eq-Decides}
 use Rattle.std.proofs.lemmas.Option.{slice_get-get_or}
 use Rattle.std.proofs.lemmas.List.Folds.{find_at}
 use Rattle.policy_types.specs.Thing.{Thing, region, same_thing}
-use Rattle.policy_types.specs.Windows.{Window, window, region_window}
-use Rattle.policy_types.specs.declared.source.Source.{Source}
-use Rattle.policy_types.specs.declared.source.Region.{Region}
-use Rattle.policy_types.specs.declared.source.Mapping.{Mapping}
-use Rattle.policy_thin.proofs.ThinParts.{same_text}
+use Rattle.policy_types.specs.Windows.{Window}
+use Rattle.policy_types.specs.Resolution.{name_at}
+use Rattle.policy_types.proofs.Places.{same_self, position-map}
 use Rattle.subject_model.specs.Solo.{Stored, bytes_in}
 use Rattle.subject_model.specs.System.{is_shown, change_first, overwritten, with_store}
 use Rattle.subject_model.proofs.Alone.{relabelled, store_of, AllShown, StoresSo}
-use Rattle.window_machine.specs.Machine.{bytes_at, nothing, window_in, with_stored}
+use Rattle.window_machine.specs.Machine.{bytes_at, nothing, with_stored}
 use Rattle.window_machine.specs.declared.memory.Holding.{Holding}
-use Rattle.window_machine.proofs.Regions.{same_self, position-map, names_of, name_at, IsFirst, AllHere}
+
+-- the name at this place is the first of its kind
+pub record IsFirst (names : List (List ℕ)) (place : ℕ) : Type 0 where
+  pub within : place < length names
+  pub first : position_or_len (λ n. bytes_eq n (name_at names place)) names ≡ place
 
 -- a region of the machine as a thing
 abbrev pub thing_of : Holding → Thing × List ℕ
@@ -44,7 +47,7 @@ find-shown shown name [] h = refl
 find-shown shown name (x ∷ xs) h =
     (elim (bytes_eq x.name name) as (λ b. bytes_eq x.name name ≡ b → find (λ e. same_thing e.0 (region name)) (filter (λ e. shown e.0) (map thing_of (x ∷ xs))) ≡ cond b (Some (thing_of x)) (find (λ e. same_thing e.0 (region name)) (map thing_of xs))) [
       | true ↦ λ e.
-          let s : shown (region x.name) ≡ true = ap (λ n. shown (region n)) (same_text x.name name e) ∙ h in
+          let s : shown (region x.name) ≡ true = ap (λ n. shown (region n)) ((bytes_eq-Decides x.name name).0 e) ∙ h in
           ap (λ b. find (λ e. same_thing e.0 (region name)) (cond b (thing_of x ∷ filter (λ e. shown e.0) (map thing_of xs)) (filter (λ e. shown e.0) (map thing_of xs)))) s
           ∙ ap (λ b. cond b (Some (thing_of x)) (find (λ e. same_thing e.0 (region name)) (filter (λ e. shown e.0) (map thing_of xs)))) e
       | false ↦ λ e.
@@ -83,46 +86,25 @@ module _ (names : List (List ℕ)) (hs : List Holding) (named : held_names hs �
       ∙ ap (option_map thing_of) found_named in
       rw found refl
 
--- a store by name is the store by place
-with_bytes : (List ℕ → List ℕ) → List Holding → ℕ → List Holding
-with_bytes f hs i = slice_set hs i (record (slice_index_or hs i nothing) { bytes = f (slice_index_or hs i nothing).bytes })
-
-change-named : (name : List ℕ) (f : List ℕ → List ℕ) (hs : List Holding) (i : ℕ) → i ≡ position_or_len (λ h. bytes_eq h.name name) hs → change_first (λ e. same_thing e.0 (region name)) (λ e. (e.0, f e.1)) (map thing_of hs) ≡ map thing_of (with_bytes f hs i)
-unfolding with_bytes
-change-named name f [] i e = refl
-change-named name f (x ∷ xs) zero e =
-    (elim (bytes_eq x.name name) as (λ b. 0 ≡ cond (not b) (1 + position_or_len (λ (h : Holding). bytes_eq h.name name) xs) 0 → cond b ((region x.name, f x.bytes) ∷ map thing_of xs) (thing_of x ∷ change_first (λ e. same_thing e.0 (region name)) (λ e. (e.0, f e.1)) (map thing_of xs)) ≡ map thing_of (with_bytes f (x ∷ xs) 0)) [
-      | true ↦ λ e. refl
+-- what is changed by a test is changed at its place
+pub change_at_place : {X Y : Type 0} (test : Y → Bool) (change : Y → Y) (to : X → Y) (f : X → X) (d : X) → ((x : X) → change (to x) ≡ to (f x)) → (xs : List X) (i : ℕ) → i ≡ position_or_len (λ x. test (to x)) xs → change_first test change (map to xs) ≡ map to (slice_set xs i (f (slice_index_or xs i d)))
+change_at_place test change to f d same [] i e = refl
+change_at_place test change to f d same (x ∷ xs) zero e =
+    (elim (test (to x)) as (λ b. 0 ≡ cond (not b) (1 + position_or_len (λ x. test (to x)) xs) 0 → cond b (change (to x) ∷ map to xs) (to x ∷ change_first test change (map to xs)) ≡ to (f x) ∷ map to xs) [
+      | true ↦ λ e. ap (λ y. y ∷ map to xs) (same x)
       | false ↦ λ e. absurd (omega arith)
     ]) e
-change-named name f (x ∷ xs) (suc i) e =
-    (elim (bytes_eq x.name name) as (λ b. suc i ≡ cond (not b) (1 + position_or_len (λ (h : Holding). bytes_eq h.name name) xs) 0 → cond b ((region x.name, f x.bytes) ∷ map thing_of xs) (thing_of x ∷ change_first (λ e. same_thing e.0 (region name)) (λ e. (e.0, f e.1)) (map thing_of xs)) ≡ map thing_of (with_bytes f (x ∷ xs) (suc i))) [
+change_at_place test change to f d same (x ∷ xs) (suc i) e =
+    (elim (test (to x)) as (λ b. suc i ≡ cond (not b) (1 + position_or_len (λ x. test (to x)) xs) 0 → cond b (change (to x) ∷ map to xs) (to x ∷ change_first test change (map to xs)) ≡ to x ∷ map to (slice_set xs i (f (slice_index_or xs i d)))) [
       | true ↦ λ e. absurd (omega arith)
-      | false ↦ λ e. ap (λ es. thing_of x ∷ es) (change-named name f xs i (omega arith))
+      | false ↦ λ e. ap (λ ys. to x ∷ ys) (change_at_place test change to f d same xs i (omega arith))
     ]) e
 
+-- a store by name is the store by place
 pub stored_named : (names : List (List ℕ)) (hs : List Holding) → held_names hs ≡ names → (o : Option (Stored ℕ)) → StoresSo (λ w. IsFirst names w.thing) o → with_store (option_map (store_of (thing_at names)) o) (map thing_of hs) ≡ map thing_of (with_stored o hs)
-unfolding with_bytes
 stored_named names hs named None h = refl
 stored_named names hs named (Some w) h =
-    change-named (name_at names w.thing) (overwritten w.offset w.bytes) hs w.thing (sym (position_is names hs named w.thing h))
-
--- ---- the windows of a policy and those of the machine
-
--- the windows of the machine, as the policy has them
-pub windows_here : (p : Source) (ms : List Mapping) → AllHere p.memory ms → filter_map (λ m. region_window p m.region m.virtual_address m.rights.0) ms ≡ map (relabelled (thing_at (names_of p.memory))) (map (window_in p.memory) ms)
-windows_here p [] h = refl
-windows_here p (m ∷ ms) h =
-    let x = h.0 in
-    let one : region_window p m.region m.virtual_address m.rights.0 ≡ Some (relabelled (thing_at (names_of p.memory)) (window_in p.memory m)) =
-    ap (option_map (λ r. window m.virtual_address r.size m.rights.0 (region r.name))) x.found
-    ∙ ap Some (λ i. window m.virtual_address (sym x.size i) m.rights.0 (region (sym x.name i))) in
-    (λ i. cons_option (one i) (windows_here p ms h.1 i))
-
--- each window's region is the first of its name
-pub first_here : (regions : List Region) (ms : List Mapping) → AllHere regions ms → AllShown (IsFirst (names_of regions)) (map (window_in regions) ms)
-first_here regions [] h = tt
-first_here regions (m ∷ ms) h = (h.0.first, first_here regions ms h.1)
+    change_at_place (λ e. same_thing e.0 (thing_at names w.thing)) (λ e. (e.0, overwritten w.offset w.bytes e.1)) thing_of (λ h. record h { bytes = overwritten w.offset w.bytes h.bytes }) nothing (λ h. refl) hs w.thing (sym (position_is names hs named w.thing h))
 
 -- ---- what is shown
 

@@ -17,5 +17,5 @@ returns-in-Reached c =
     let same : c.items.result.now ≡ bytes_at holdings c.in-Reached.place =
     c.items.ensures ∙ ap (λ (h : Holding). h.bytes) (get_or_default _ _ _ nothing there) in
     c.execute.ensures
-    ∙ ap (λ b. executed [] ws (bytes_at holdings) c.args.s.now (decode_of b)) (c.eight-bytes.ensures ∙ ap (λ b. take 8 (drop c.in-Reached.offset b)) same)
-    ∙ ap (fetched [] ws (bytes_at holdings) c.args.s.now) c.in-Reached.ensures
+    ∙ ap (λ b. executed [] ws (bytes_at holdings) c.args.tick c.args.s.now (decode_of b)) (c.eight-bytes.ensures ∙ ap (λ b. take 8 (drop c.in-Reached.offset b)) same)
+    ∙ ap (fetched [] ws (bytes_at holdings) c.args.tick c.args.s.now) c.in-Reached.ensures

@@ -1,0 +1,128 @@
+-- What a lawful policy of built elements gives to the machine.
+use Rattle.std.proofs.Common.{◌≡◌, ℕ, ◌≤◌, ◌<◌, Bool, true, false, cond, not, List, [], ◌∷◌, length, map, Option, Some, None, refl, sym, ap, ◌∙◌, subst, arith}
+use Rattle.std.specs.Prelude.{◌&&◌, nat_le, nat_lt}
+use Rattle.std.specs.Option.{option_or}
+use Rattle.std.specs.List.{list_all}
+use Rattle.std.proofs.lemmas.Bool.Decides.{nat_tests}
+use Rattle.muen_num.specs.declared.tag.Part.TheVariants.{Whole}
+use Rattle.policy_types.specs.Search.{first_in}
+use Rattle.policy_types.specs.Built.{is_built, is_built_number, has_built_cpus, is_plain_content, has_plain_contents}
+use Rattle.policy_types.specs.ByPlace.{mapping_extent, is_ready}
+use Rattle.policy_types.specs.Contents.{content_refused, contents_refused}
+use Rattle.policy_types.specs.Lawful.{rules_broken}
+use Rattle.policy_types.specs.Rules.{repeated, is_guest, is_page_aligned, is_page_size, window_extents}
+use Rattle.policy_types.specs.Resolution.{Resolution, subject_named, source_of, IsResolved}
+use Rattle.policy_types.specs.declared.refusal.Refusal.{Refusal}
+use Rattle.policy_types.specs.declared.refusal.Refusal.TheVariants.{FileFit}
+use Rattle.policy_types.specs.declared.resolved.Subject.{Subject}
+use Rattle.policy_types.specs.declared.resolved.Mapping.{Mapping}
+use Rattle.policy_types.specs.declared.source.Region.{Region}
+use Rattle.policy_types.specs.declared.source.Content.{Content}
+use Rattle.policy_types.specs.declared.source.Content.TheVariants.{Zero, Fill, Inline, File}
+use Rattle.policy_types.proofs.Places.{none_both}
+use Rattle.policy_types.proofs.WindowsByPlace.{both, both_pass, unique, extents_placed, regions_unique, all_ready}
+use Rattle.plan_emit.proofs.Kept.{rules_kept, laid, some_cpu}
+use Rattle.window_machine.specs.Start.{fits_in, is_held, are_placed_in}
+
+-- a lawful policy whose elements are built, and whose contents fit
+pub record Facts (r : Resolution) : Type 0 where
+  pub resolved : IsResolved r
+  pub rules : rules_broken (source_of r) ≡ None
+  pub built : is_built (source_of r) ≡ true
+  pub cpus : has_built_cpus (source_of r) ≡ true
+  pub plain : has_plain_contents (source_of r) ≡ true
+  pub contents : contents_refused (source_of r) ≡ None
+
+-- ---- contents
+
+held_one : (r : Region) (c : Content) → is_plain_content c ≡ true → content_refused r c ≡ None → fits_in r.size c ≡ true
+held_one r Zero p h = refl
+held_one r (Fill b) p h = refl
+held_one r (Inline bytes) p h =
+    (elim (nat_le (length bytes) r.size) as (λ b. cond b None (Some (FileFit (record { owner = r.name; part = Whole }) r.size (length bytes))) ≡ None → b ≡ true) [
+      | true ↦ λ h. refl
+      | false ↦ λ h. absurd (cc)
+    ]) h
+held_one r (File name offset most) p h = absurd (cc)
+
+held_each : (rs : List Region) → list_all (λ r. is_plain_content r.content) rs ≡ true → first_in (λ r. content_refused r r.content) rs ≡ None → list_all is_held rs ≡ true
+held_each [] p h = refl
+held_each (r ∷ rs) p h =
+    let a : (is_plain_content r.content ≡ true) × (list_all (λ (r : Region). is_plain_content r.content) rs ≡ true) = both _ _ p in
+    let b = none_both (content_refused r r.content) (first_in (λ r. content_refused r r.content) rs) h in
+    both_pass _ _ (held_one r r.content a.0 b.0) (held_each rs a.1 b.1)
+
+pub all_held : (r : Resolution) → Facts r → list_all is_held r.memory ≡ true
+unfolding source_of has_plain_contents contents_refused
+all_held r f = held_each r.memory f.plain f.contents
+
+-- ---- places
+
+placed_each : (r : Resolution) (ss : List Subject) → list_all (is_ready r) ss ≡ true → list_all (λ s. are_placed_in r.memory s.memory) ss ≡ true
+placed_each r [] h = refl
+placed_each r (s ∷ ss) h =
+    let a : (is_ready r s ≡ true) × (list_all (is_ready r) ss ≡ true) = both _ _ h in
+    both_pass _ _ (both _ _ a.0).1 (placed_each r ss a.1)
+
+pub ready : (r : Resolution) → Facts r → list_all (is_ready r) r.subjects ≡ true
+ready r f = all_ready r f.built f.resolved.placed
+
+pub all_placed : (r : Resolution) → Facts r → list_all (λ s. are_placed_in r.memory s.memory) r.subjects ≡ true
+all_placed r f = placed_each r r.subjects (ready r f)
+
+-- ---- names
+
+pub unique_regions : (r : Resolution) → Facts r → repeated (map (λ x. x.name) r.memory) ≡ None
+unique_regions r f = regions_unique r f.built f.resolved.names
+
+subject_names : (r : Resolution) (ss : List Subject) → map (λ s. s.name) (map (subject_named r) ss) ≡ map (λ s. s.name) ss
+subject_names r [] = refl
+subject_names r (s ∷ ss) = ap (λ ns. s.name ∷ ns) (subject_names r ss)
+
+pub names_of_subjects : (r : Resolution) → map (λ s. s.name) (source_of r).subjects ≡ map (λ s. s.name) r.subjects
+unfolding source_of
+names_of_subjects r = subject_names r r.subjects
+
+pub unique_subjects : (r : Resolution) → Facts r → repeated (map (λ s. s.name) r.subjects) ≡ None
+unique_subjects r f = sym (ap repeated (names_of_subjects r)) ∙ (unique (source_of r) f.resolved.names).subjects
+
+-- ---- addresses
+
+-- each mapping is of a region that is there, in whole pages
+pub AreLaid : List Region → List Mapping → Type 0
+AreLaid regions ms =
+    (are_placed_in regions ms ≡ true) × (list_all (λ e. is_guest e.address e.size) (map (mapping_extent regions) ms) ≡ true)
+
+pub AllLaid : List Region → List Subject → Type 0
+AllLaid regions [] = Unit {0}
+AllLaid regions (s ∷ ss) = AreLaid regions s.memory × AllLaid regions ss
+
+laid_each : (r : Resolution) → Facts r → (ss : List Subject) → list_all (is_ready r) ss ≡ true → list_all (λ s. list_all (λ e. is_guest e.address e.size) (window_extents (source_of r) s)) (map (subject_named r) ss) ≡ true → AllLaid r.memory ss
+unfolding AllLaid AreLaid
+laid_each r f [] ready h = tt
+laid_each r f (s ∷ ss) ready h =
+    let a : (is_ready r s ≡ true) × (list_all (is_ready r) ss ≡ true) = both _ _ ready in
+    let b = both _ _ a.0 in
+    let c : (list_all (λ e. is_guest e.address e.size) (window_extents (source_of r) (subject_named r s)) ≡ true) × (list_all (λ s. list_all (λ e. is_guest e.address e.size) (window_extents (source_of r) s)) (map (subject_named r) ss) ≡ true) = both _ _ h in
+    let extents = extents_placed r (unique_regions r f) s b.0 b.1 in
+    ((b.1, sym (ap (list_all (λ e. is_guest e.address e.size)) extents) ∙ c.0), laid_each r f ss a.1 c.1)
+
+subjects_are : (r : Resolution) → (source_of r).subjects ≡ map (subject_named r) r.subjects
+unfolding source_of
+subjects_are r = refl
+
+pub all_laid : (r : Resolution) → Facts r → AllLaid r.memory r.subjects
+all_laid r f =
+    let windows = (laid (source_of r) (rules_kept (source_of r) f.rules).four).windows in
+    laid_each r f r.subjects (ready r f) (sym (ap (list_all (λ s. list_all (λ e. is_guest e.address e.size) (window_extents (source_of r) s))) (subjects_are r)) ∙ windows)
+
+-- ---- the one CPU
+
+one_of : (n : ℕ) → 1 ≤ n → n ≤ 8 → is_built_number n ≡ true → n ≡ 1
+one_of n some few h = grind (arith, nat_tests)
+
+pub one_cpu : (r : Resolution) → Facts r → (source_of r).processor.logical_cpus ≡ 1
+unfolding has_built_cpus
+one_cpu r f =
+    let some = some_cpu (source_of r) (rules_kept (source_of r) f.rules).three in
+    one_of (source_of r).processor.logical_cpus some.0 some.1 f.cpus
