@@ -1,2 +1,90 @@
 //! Which frame a CPU has at a tick.
+//!
+//! The definition lays a plan's frames out tick by tick; the code counts ticks instead: first the
+//! major frames', then those of the CPU's minor frames in the one major frame that has the tick.
 #![tactic(auto)]
+
+ghost use Rattle.std.specs.Prelude.{◌≡◌, ◌<◌, ◌≤◌, Some, true, length, map, slice_get, sum_by};
+ghost use Rattle.std.specs.List.{flat_map};
+ghost use Rattle.image_pack.specs.Plan.{frame_of, frames_in, cpus_of, is_group_on, is_plan};
+ghost use Rattle.image_pack.specs.Slot.{frame_slots, slots_from, slot_at};
+ghost use Rattle.frame_clock.specs.Told.{slot_of};
+
+use image_pack::{Major, Minor, Plan};
+
+/// The frame of a CPU at a tick.
+#[derive(Clone, Copy, Debug, PartialEq, Eq)]
+pub struct FrameSlot {
+    /// The number of the major frame.
+    pub major: u8,
+    /// The number of the scheduling group that has the CPU.
+    pub group: u8,
+    /// Whether it is the first tick of its minor frame.
+    pub first: bool,
+    /// How many ticks of the minor frame are left, with this one counted.
+    pub left: u32,
+}
+
+// All ticks of these major frames.
+fn ticks_in(majors: &[Major]) -> u64
+    requires { length majors.now ≤ 16 }
+    ensures { result ≡ sum_by (λ m. m.ticks) majors.now }
+{
+    let mut total: u64 = 0;
+    for major in majors {
+        total += major.ticks as u64;
+    }
+    total
+}
+
+// The slot at a tick of a major frame, of a CPU with these minor frames in it.
+fn in_frames(frames: &[Minor], major: u8, tick: u32) -> FrameSlot
+    requires { tick < sum_by (λ f. f.ticks) frames.now }
+    ensures { slice_get (flat_map (frame_slots major) (map frame_of frames.now)) tick ≡ Some (slot_of result) }
+{
+    let mut rest = tick;
+    for frame in frames {
+        if rest < frame.ticks {
+            return FrameSlot {
+                major,
+                group: frame.group,
+                first: rest == 0,
+                left: frame.ticks - rest,
+            };
+        }
+        rest -= frame.ticks;
+    }
+    unreachable!()
+}
+
+// The slot at a tick of all major frames.
+fn in_majors(p: &Plan, cpu: u8, tick: u32) -> FrameSlot
+    requires plan { is_plan p.now ≡ true }
+    requires cpu { cpu < cpus_of p.now }
+    requires tick { tick < sum_by (λ m. m.ticks) p.now.majors }
+    ensures { slice_get (slots_from 0 (frames_in p.now cpu)) tick ≡ Some (slot_of result) }
+{
+    let majors = p.majors.items();
+    let mut rest = tick;
+    for (place, major) in majors.iter().enumerate() {
+        if rest < major.ticks {
+            let frames = &major.cpus.items()[cpu as usize];
+            return in_frames(frames.items(), place as u8, rest);
+        }
+        rest -= major.ticks;
+    }
+    unreachable!()
+}
+
+/// The frame of a CPU at a tick: the plan's major frames run in order, again and again, and in each
+/// the CPU's minor frames in order.
+pub fn slot(p: &Plan, cpu: u8, tick: u32) -> FrameSlot
+    requires plan { is_plan p.now ≡ true }
+    requires cpu { cpu < cpus_of p.now }
+    ensures slot { slot_at (frames_in p.now cpu) tick ≡ Some (slot_of result) }
+    ensures group { is_group_on p.now.groups cpu result.group ≡ true }
+{
+    let total = ticks_in(p.majors.items());
+    let tick_in_round = (tick as u64 % total) as u32;
+    in_majors(p, cpu, tick_in_round)
+}

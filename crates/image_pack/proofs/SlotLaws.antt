@@ -148,7 +148,7 @@ pub record HasMajors (p : Plan) : Type 0 where
   pub groups : list_all (λ g. nat_lt g.cpu (cpus_of p)) p.groups ≡ true
   pub each : list_all (is_major p.groups (cpus_of p)) p.majors ≡ true
 
-has_frames : (groups : List GroupPart) (ticks cpu : ℕ) (frames : List Minor) → is_cpu groups ticks (cpu, frames) ≡ true → HasFrames groups ticks cpu frames
+pub has_frames : (groups : List GroupPart) (ticks cpu : ℕ) (frames : List Minor) → is_cpu groups ticks (cpu, frames) ≡ true → HasFrames groups ticks cpu frames
 has_frames groups ticks cpu frames h =
     let some = nat_lt 0 (length frames) in
     let within = nat_le (length frames) 64 in
@@ -162,7 +162,7 @@ has_frames groups ticks cpu frames h =
       total = eqb-true (sum_by (λ f. f.ticks) frames) ticks a.1;
     }
 
-has_major : (groups : List GroupPart) (cpus : ℕ) (m : Major) → is_major groups cpus m ≡ true → HasMajor groups cpus m
+pub has_major : (groups : List GroupPart) (cpus : ℕ) (m : Major) → is_major groups cpus m ≡ true → HasMajor groups cpus m
 has_major groups cpus m h =
     let count = length m.cpus == cpus in
     let some = nat_lt 0 m.ticks in
@@ -312,8 +312,15 @@ slot_there p cpu tick h l =
       on = passes_at (slot_on p.groups cpu) slots (tick % length slots) found.0 (majors_on p.groups (cpus_of p) cpu 0 p.majors (has_majors p h).each l) found.1;
     }
 
--- the slot at a tick of a valid plan, with the ticks counted
-pub slot_by_ticks : (p : Plan) (cpu tick : ℕ) → is_plan p ≡ true → cpu < cpus_of p → slot_at (frames_in p cpu) tick ≡ slice_get (slots_from 0 (map (frames_at cpu) p.majors)) (tick % sum_by (λ m. m.ticks) p.majors)
-unfolding frames_in slot_at
+-- the group of any slot that it has is on this CPU
+pub slot_on_cpu : (p : Plan) (cpu tick : ℕ) (s : Slot) → is_plan p ≡ true → cpu < cpus_of p → slot_at (frames_in p cpu) tick ≡ Some s → is_group_on p.groups cpu s.group ≡ true
+slot_on_cpu p cpu tick s h l e =
+    let t = slot_there p cpu tick h l in
+    let same : t.slot ≡ s = cc (t.is, e) in
+    subst (λ u. is_group_on p.groups cpu u.group ≡ true) same t.on
+
+-- the slot at a tick of a valid plan, by the plan's ticks
+pub slot_by_ticks : (p : Plan) (cpu tick : ℕ) → is_plan p ≡ true → cpu < cpus_of p → slot_at (frames_in p cpu) tick ≡ slice_get (slots_from 0 (frames_in p cpu)) (tick % sum_by (λ m. m.ticks) p.majors)
+unfolding slot_at
 slot_by_ticks p cpu tick h l =
-    ap (λ n. slice_get (slots_from 0 (map (frames_at cpu) p.majors)) (tick % n)) (length_plan p cpu h l)
+    ap (λ n. slice_get (slots_from 0 (frames_in p cpu)) (tick % n)) (length_plan p cpu h l)

@@ -1,0 +1,6 @@
+-- What an answer of the clock tells.
+use Rattle.image_pack.specs.Slot.{Slot}
+use Rattle.frame_clock.specs.declared.FrameSlot.{FrameSlot}
+
+abbrev pub slot_of : FrameSlot → Slot
+slot_of s = record { major = s.major; group = s.group; first = s.first; left = s.left }
