@@ -1,5 +1,5 @@
 -- The machine of a lawful policy can run.
-use Rattle.std.proofs.Common.{◌≡◌, ℕ, ◌-◌, ◌%◌, ◌<◌, ◌≤◌, true, List, [], ◌∷◌, length, map, refl, sym, ap, ◌∙◌, subst, arith, length-append}
+use Rattle.std.proofs.Common.{◌≡◌, ℕ, ◌-◌, ◌%◌, ◌<◌, ◌≤◌, true, List, [], ◌∷◌, length, map, refl, sym, ap, ◌∙◌, arith, length-append}
 use Rattle.std.specs.Prelude.{◌&&◌, nat_le, nat_lt, replicate}
 use Rattle.std.specs.List.{list_all}
 use Rattle.std.proofs.lemmas.Bool.{eqb-true, leb-true, ltb-true}
@@ -9,16 +9,14 @@ use Rattle.policy_types.specs.Rules.{is_page_aligned, is_page_size, is_guest}
 use Rattle.policy_types.specs.Resolution.{Resolution, subject_named, source_of}
 use Rattle.policy_types.specs.declared.resolved.Subject.{Subject}
 use Rattle.policy_types.specs.declared.resolved.Mapping.{Mapping}
-use Rattle.policy_types.specs.declared.source.Subject.{Subject as NamedSubject}
 use Rattle.policy_types.specs.declared.source.Region.{Region}
 use Rattle.policy_types.specs.declared.source.Content.{Content}
 use Rattle.policy_types.specs.declared.source.Content.TheVariants.{Zero, Fill, Inline, File}
 use Rattle.policy_types.proofs.WindowsByPlace.{both}
 use Rattle.image_pack.specs.declared.plan.Plan.{Plan}
 use Rattle.plan_emit.specs.PlanOf.{IsPlanOf}
-use Rattle.window_machine.specs.Machine.{nothing, sizes_of, WindowFits, AllFit, GuestsFit, GuestState, plain_bytes, held_at_start, window_in, guest_at_start, machine_of, CanRun}
+use Rattle.window_machine.specs.Machine.{sizes_of, WindowFits, AllFit, GuestsFit, plain_bytes, held_at_start, window_in, guest_at_start, machine_of, CanRun}
 use Rattle.window_machine.specs.Start.{fits_in, is_held, are_placed_in}
-use Rattle.window_machine.specs.declared.memory.Holding.{Holding}
 use Rattle.window_machine.proofs.Facts.{Facts, AreLaid, AllLaid, all_held, all_laid}
 use Rattle.window_machine.proofs.Reached.{at-map}
 
@@ -55,7 +53,6 @@ module _ (regions : List Region) (sizes : List ℕ) (are : sizes ≡ map (λ r. 
       }
 
   all_fit : (ms : List Mapping) → AreLaid regions ms → AllFit sizes (map (window_in regions) ms)
-  unfolding AreLaid
   all_fit [] h = tt
   all_fit (m ∷ ms) h =
       let a : (nat_lt m.region (length regions) ≡ true) × (are_placed_in regions ms ≡ true) = both _ _ h.0 in
@@ -63,7 +60,6 @@ module _ (regions : List Region) (sizes : List ℕ) (are : sizes ≡ map (λ r. 
       (fits m a.0 b.0, all_fit ms (a.1, b.1))
 
   guests_fit : (ss : List Subject) → AllLaid regions ss → GuestsFit sizes (map (guest_at_start regions) ss)
-  unfolding AllLaid
   guests_fit [] h = tt
   guests_fit (s ∷ ss) h = (all_fit s.memory h.0, guests_fit ss h.1)
 

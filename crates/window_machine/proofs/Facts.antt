@@ -1,7 +1,6 @@
 -- What a lawful policy of built elements gives to the machine.
-use Rattle.std.proofs.Common.{◌≡◌, ℕ, ◌≤◌, ◌<◌, Bool, true, false, cond, not, List, [], ◌∷◌, length, map, Option, Some, None, refl, sym, ap, ◌∙◌, subst, arith}
-use Rattle.std.specs.Prelude.{◌&&◌, nat_le, nat_lt}
-use Rattle.std.specs.Option.{option_or}
+use Rattle.std.proofs.Common.{◌≡◌, ℕ, ◌≤◌, true, false, cond, List, [], ◌∷◌, length, map, Some, None, refl, sym, ap, ◌∙◌, arith}
+use Rattle.std.specs.Prelude.{nat_le}
 use Rattle.std.specs.List.{list_all}
 use Rattle.std.proofs.lemmas.Bool.Decides.{nat_tests}
 use Rattle.muen_num.specs.declared.tag.Part.TheVariants.{Whole}
@@ -10,9 +9,8 @@ use Rattle.policy_types.specs.Built.{is_built, is_built_number, has_built_cpus, 
 use Rattle.policy_types.specs.ByPlace.{mapping_extent, is_ready}
 use Rattle.policy_types.specs.Contents.{content_refused, contents_refused}
 use Rattle.policy_types.specs.Lawful.{rules_broken}
-use Rattle.policy_types.specs.Rules.{repeated, is_guest, is_page_aligned, is_page_size, window_extents}
+use Rattle.policy_types.specs.Rules.{repeated, is_guest, window_extents}
 use Rattle.policy_types.specs.Resolution.{Resolution, subject_named, source_of, IsResolved}
-use Rattle.policy_types.specs.declared.refusal.Refusal.{Refusal}
 use Rattle.policy_types.specs.declared.refusal.Refusal.TheVariants.{FileFit}
 use Rattle.policy_types.specs.declared.resolved.Subject.{Subject}
 use Rattle.policy_types.specs.declared.resolved.Mapping.{Mapping}
@@ -89,16 +87,15 @@ unique_subjects r f = sym (ap repeated (names_of_subjects r)) ∙ (unique (sourc
 -- ---- addresses
 
 -- each mapping is of a region that is there, in whole pages
-pub AreLaid : List Region → List Mapping → Type 0
+abbrev pub AreLaid : List Region → List Mapping → Type 0
 AreLaid regions ms =
     (are_placed_in regions ms ≡ true) × (list_all (λ e. is_guest e.address e.size) (map (mapping_extent regions) ms) ≡ true)
 
-pub AllLaid : List Region → List Subject → Type 0
+abbrev pub AllLaid : List Region → List Subject → Type 0
 AllLaid regions [] = Unit {0}
 AllLaid regions (s ∷ ss) = AreLaid regions s.memory × AllLaid regions ss
 
 laid_each : (r : Resolution) → Facts r → (ss : List Subject) → list_all (is_ready r) ss ≡ true → list_all (λ s. list_all (λ e. is_guest e.address e.size) (window_extents (source_of r) s)) (map (subject_named r) ss) ≡ true → AllLaid r.memory ss
-unfolding AllLaid AreLaid
 laid_each r f [] ready h = tt
 laid_each r f (s ∷ ss) ready h =
     let a : (is_ready r s ≡ true) × (list_all (is_ready r) ss ≡ true) = both _ _ ready in

@@ -3,6 +3,7 @@ pub mod Facts
 pub mod Printed
 pub mod Puts
 pub mod Reached
+pub mod Stays
 pub mod SystemRun
 pub mod SystemTurn
 pub mod Things

@@ -5,4 +5,4 @@ use Rattle.window_machine.proofs.print.put_final.Goals as goal
 pub returns : goal.returns
 unfolding machine_final_text
 returns g c =
-    rw (← c.name.ensures, ← c.state.ensures, ← c.holdings.ensures) (puts_then _ _ _ _ _ c.put_lines.result c.in_ok-put_state.ensures c.put_lines.ensures)
+    rw (← c.guests.ensures, ← c.holdings.ensures) (puts_then _ _ _ _ _ c.put_lines.result c.in_ok-put_states.ensures c.put_lines.ensures)

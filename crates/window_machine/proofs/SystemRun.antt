@@ -1,0 +1,190 @@
+-- The run of a lawful policy is the run of its machine, and its text is what the machine prints.
+use Rattle.std.proofs.Common.{◌≡◌, ℕ, zero, suc, ◌<◌, true, List, [], ◌∷◌, ◌++◌, length, map, Option, Some, None, refl, sym, ap, ◌∙◌, subst, arith}
+use Rattle.std.specs.Prelude.{slice_get, option_map, option_to_list, unwrap_or}
+use Rattle.std.specs.Option.{option_map_or}
+use Rattle.std.specs.List.{find, list_all, flat_map, cons_option}
+use Rattle.std.specs.Str.{bytes_eq}
+use Rattle.std.proofs.lemmas.List.{append-nil}
+use Rattle.muen_num.specs.Range.{numbers_below}
+use Rattle.policy_types.specs.Built.{is_plain, is_plain_content, has_plain_contents}
+use Rattle.policy_types.specs.Contents.{Held, content_bytes, initial_bytes}
+use Rattle.policy_types.specs.Resolution.{Resolution, name_at, subject_named, source_of}
+use Rattle.policy_types.specs.Rules.{repeated}
+use Rattle.policy_types.specs.Thing.{region, channel, device_memory, provided_by, component_by, things_of}
+use Rattle.policy_types.specs.declared.resolved.Subject.{Subject}
+use Rattle.policy_types.specs.declared.source.Subject.{Subject as NamedSubject}
+use Rattle.policy_types.specs.declared.source.Source.{Source}
+use Rattle.policy_types.specs.declared.source.Region.{Region}
+use Rattle.policy_types.specs.declared.source.Content.{Content}
+use Rattle.policy_types.specs.declared.source.Content.TheVariants.{Zero, Fill, Inline, File}
+use Rattle.policy_types.proofs.Places.{found_at_place}
+use Rattle.policy_types.proofs.WindowsByPlace.{both, plain, built}
+use Rattle.image_pack.specs.declared.plan.Plan.{Plan}
+use Rattle.plan_emit.specs.PlanOf.{IsPlanOf}
+use Rattle.state_page.specs.StatePage.{started}
+use Rattle.state_page.specs.declared.SubjectState.{SubjectState}
+use Rattle.view_text.specs.ViewText.{turn_text}
+use Rattle.view_text.specs.declared.Line.{Line}
+use Rattle.subject_model.specs.DeviceRecord.{only_ticks}
+use Rattle.subject_model.specs.System.{System, named, start_of}
+use Rattle.subject_model.specs.Run.{Ran, then_line, turns_of, tick_of, after_lines, run_to, run_of, thing_text, subject_text, final_text, trace_of}
+use Rattle.window_machine.specs.Machine.{GuestState, MachineState, MachineRan, plain_bytes, held_at_start, guest_at_start, machine_of, machine_after, machine_line, machine_run_to, holding_text, guest_text, machine_final_text, machine_text, CanRun}
+use Rattle.window_machine.specs.declared.memory.Holding.{Holding}
+use Rattle.window_machine.proofs.CanStart.{can_run}
+use Rattle.window_machine.proofs.Facts.{Facts, unique_regions, unique_subjects, one_cpu}
+use Rattle.window_machine.proofs.SystemTurn.{IsOf, kept_state, system_of, turn_is, stays, states_named, guests_named}
+use Rattle.window_machine.proofs.Things.{thing_of, held_names}
+
+-- ---- each is found by its name
+
+-- each of these is the first of its name
+AllFirst : {X : Type 0} → (X → List ℕ) → List X → List X → Type 0
+AllFirst name whole [] = Unit {0}
+AllFirst name whole (x ∷ xs) = (find (λ y. bytes_eq (name y) (name x)) whole ≡ Some x) × AllFirst name whole xs
+
+first_from : {X : Type 0} (name : X → List ℕ) (whole xs : List X) → ((k : ℕ) → k < length xs → find (λ y. bytes_eq (name y) (name_at (map name xs) k)) whole ≡ slice_get xs k) → AllFirst name whole xs
+unfolding AllFirst
+first_from name whole [] h = tt
+first_from name whole (x ∷ xs) h = (h 0 (omega arith), first_from name whole xs (λ k l. h (suc k) (omega arith)))
+
+all_first : {X : Type 0} (name : X → List ℕ) (xs : List X) → repeated (map name xs) ≡ None → AllFirst name xs xs
+all_first name xs h = first_from name xs xs (λ k l. found_at_place name xs k h l)
+
+-- ---- the things at the start
+
+-- contents that are no file's are the same whatever files hold
+plain_content : (files : Held) (size : ℕ) (content : Content) → is_plain_content content ≡ true → content_bytes files size content ≡ plain_bytes size content
+plain_content files size Zero h = refl
+plain_content files size (Fill b) h = refl
+plain_content files size (Inline bytes) h = refl
+plain_content files size (File name offset most) h = absurd (cc)
+
+module _ (r : Resolution) (f : Facts r) where
+  p : Source
+  p = source_of r
+
+  -- each of these regions
+  things_among : (files : Held) (rs : List Region) → AllFirst (λ (x : Region). x.name) r.memory rs → list_all (λ x. is_plain_content x.content) rs ≡ true → map (λ x. (x, initial_bytes p files x)) (map (λ x. region x.name) rs) ≡ map thing_of (map held_at_start rs)
+  unfolding initial_bytes p source_of AllFirst
+  things_among files [] h k = refl
+  things_among files (x ∷ xs) h k =
+      let a : (is_plain_content x.content ≡ true) × (list_all (λ (x : Region). is_plain_content x.content) xs ≡ true) = both _ _ k in
+      let bytes : initial_bytes p files (region x.name) ≡ plain_bytes x.size x.content =
+      ap (λ o. option_map_or (λ (x : Region). content_bytes files x.size x.content) o []) h.0
+      ∙ plain_content files x.size x.content a.0 in
+      (λ i. (region x.name, bytes i) ∷ things_among files xs h.1 a.1 i)
+
+  none_provided : (ss : List NamedSubject) → list_all is_plain ss ≡ true → flat_map (λ s. provided_by s.name (component_by (source_of r) s.component)) ss ≡ []
+  none_provided [] h = refl
+  none_provided (s ∷ ss) h =
+      let a : (is_plain s ≡ true) × (list_all is_plain ss ≡ true) = both _ _ h in
+      (λ i. provided_by s.name (component_by (source_of r) ((plain s a.0).component i)) ++ none_provided ss a.1 i)
+
+  memory_is : (source_of r).memory ≡ r.memory
+  unfolding source_of
+  memory_is = refl
+
+  things_are : things_of (source_of r) ≡ map (λ x. region x.name) r.memory
+  unfolding things_of
+  things_are =
+      let b = built (source_of r) f.built in
+      let provided = none_provided (source_of r).subjects b.subjects in
+      (λ i. map (λ x. region x.name) (memory_is i)
+      ++ map (λ c. channel c.name) (b.channels i)
+      ++ provided i
+      ++ flat_map (λ d. map (λ m. device_memory d.name m.name) d.memory) (b.devices i))
+      ∙ append-nil _ ∙ append-nil _ ∙ append-nil _
+
+  start_states : (ss : List Subject) → map (λ s. (s.name, started s.entry)) (map (subject_named r) ss) ≡ map kept_state (map (guest_at_start r.memory) ss)
+  start_states [] = refl
+  start_states (s ∷ ss) = ap (λ xs. (s.name, started s.entry) ∷ xs) (start_states ss)
+
+  start_is : (files : Held) (plan : Plan) → start_of (source_of r) files ≡ system_of (source_of r) (machine_of r plan)
+  unfolding start_of machine_of p source_of has_plain_contents
+  start_is files plan =
+      let things = ap (map (λ x. (x, initial_bytes (source_of r) files x))) things_are ∙ things_among files r.memory (all_first (λ (x : Region). x.name) r.memory (unique_regions r f)) f.plain in
+      let states = start_states r.subjects in
+      λ i. record (system_of (source_of r) (machine_of r plan)) { states = states i; things = things i }
+
+  held_named : (rs : List Region) → held_names (map held_at_start rs) ≡ map (λ x. x.name) rs
+  held_named [] = refl
+  held_named (x ∷ xs) = ap (λ ns. x.name ∷ ns) (held_named xs)
+
+  starts : (plan : Plan) → IsPlanOf (source_of r) plan → IsOf r f (machine_of r plan)
+  unfolding machine_of
+  starts plan of = record { plan = of; guests = refl; holdings = held_named r.memory }
+
+  -- ---- the run
+
+  cons_option-none : (o : Option Line) → cons_option o [] ≡ option_to_list o
+  cons_option-none None = refl
+  cons_option-none (Some x) = refl
+
+  tick_is : (m : MachineState) (end tick : ℕ) → IsOf r f m → tick_of (source_of r) (only_ticks end) tick (system_of (source_of r) m) ≡ record { lines = option_to_list (machine_line m tick); system = system_of (source_of r) (machine_after m tick) }
+  tick_is m end tick o =
+      ap (λ n. turns_of (source_of r) tick (numbers_below n) (system_of (source_of r) m)) (one_cpu r f)
+      ∙ ap (λ t. then_line t.line (record { lines = []; system = t.system })) (turn_is r f m tick o)
+      ∙ ap (λ lines. record { lines = lines; system = system_of (source_of r) (machine_after m tick) }) (cons_option-none (machine_line m tick))
+
+  abbrev pub ran_as : MachineRan → Ran
+  ran_as ran = record { lines = ran.lines; system = system_of (source_of r) ran.machine }
+
+  of_run : (m : MachineState) (n : ℕ) → IsOf r f m → IsOf r f (machine_run_to m n).machine
+  of_run m zero o = o
+  of_run m (suc n) o = stays r f (machine_run_to m n).machine n (of_run m n o)
+
+  run_is : (plan : Plan) → IsPlanOf (source_of r) plan → (files : Held) (end n : ℕ) → run_to (source_of r) files (only_ticks end) n ≡ ran_as (machine_run_to (machine_of r plan) n)
+  run_is plan of files end zero = λ i. record { lines = []; system = start_is files plan i }
+  run_is plan of files end (suc n) =
+      let before = machine_run_to (machine_of r plan) n in
+      ap (λ ran. after_lines ran.lines (tick_of (source_of r) (only_ticks end) n ran.system)) (run_is plan of files end n)
+      ∙ ap (after_lines before.lines) (tick_is before.machine end n (of_run (machine_of r plan) n (starts plan of)))
+
+  -- ---- the text
+
+  digests : (hs : List Holding) → flat_map thing_text (map thing_of hs) ≡ flat_map holding_text hs
+  digests [] = refl
+  digests (h ∷ hs) = ap (λ text. holding_text h ++ text) (digests hs)
+
+  -- each subject's final state, where its name is that of the machine's
+  states_among : (y : System) (ss : List Subject) (gs : List GuestState) → map (λ s. s.name) ss ≡ map (λ g. g.name) gs → AllFirst (λ (e : List ℕ × SubjectState). e.0) y.states (map kept_state gs) → flat_map (subject_text y) (map (subject_named r) ss) ≡ flat_map guest_text gs
+  unfolding AllFirst
+  states_among y [] [] e h = refl
+  states_among y [] (g ∷ gs) e h = absurd (cc)
+  states_among y (s ∷ ss) [] e h = absurd (cc)
+  states_among y (s ∷ ss) (g ∷ gs) e h =
+      let name : s.name ≡ g.name = cc in
+      let names : map (λ (s : Subject). s.name) ss ≡ map (λ (g : GuestState). g.name) gs = cc in
+      let state : named y.states s.name ≡ Some g.state =
+      ap (named y.states) name ∙ ap (option_map (λ (e : List ℕ × SubjectState). e.1)) h.0 in
+      (λ i. Rattle.subject_model.specs.Run.rows_text (name i) (unwrap_or (state i) (started s.entry)) ++ states_among y ss gs names h.1 i)
+
+  final_is : (m : MachineState) → IsOf r f m → final_text (source_of r) (system_of (source_of r) m) ≡ machine_final_text m
+  unfolding final_text machine_final_text source_of
+  final_is m o =
+      let names : map (λ g. g.name) m.guests ≡ map (λ s. s.name) r.subjects = guests_named r f m o in
+      let unique = ap repeated (states_named r f m.guests ∙ names) ∙ unique_subjects r f in
+      let states = states_among (system_of (source_of r) m) r.subjects m.guests (sym names) (all_first (λ (e : List ℕ × SubjectState). e.0) (map kept_state m.guests) unique) in
+      λ i. states i ++ digests m.holdings i
+
+  -- the text of a run is that of the machine, whatever files hold
+  pub trace_is : (plan : Plan) → IsPlanOf (source_of r) plan → (files : Held) (end : ℕ) → trace_of (source_of r) files (only_ticks end) ≡ machine_text (machine_of r plan) end
+  unfolding trace_of machine_text run_of
+  trace_is plan of files end =
+      let ran = machine_run_to (machine_of r plan) end in
+      ap (λ x. flat_map turn_text x.lines ++ final_text (source_of r) x.system) (run_is plan of files end end)
+      ∙ ap (λ text. flat_map turn_text ran.lines ++ text) (final_is ran.machine (of_run (machine_of r plan) end (starts plan of)))
+
+-- ---- a machine that was loaded
+
+pub machine_is : (l : Resolution) (regions : List Region) (subjects : List Subject) → regions ≡ l.memory → subjects ≡ l.subjects → (plan : Plan) (guests : List GuestState) (holdings : List Holding) → guests ≡ map (guest_at_start regions) subjects → holdings ≡ map held_at_start regions → record { plan = plan; guests = guests; holdings = holdings } ≡ machine_of l plan
+unfolding machine_of
+machine_is l regions subjects same who plan guests holdings of_guests of_holdings =
+    (λ i. record { plan = plan; guests = of_guests i; holdings = of_holdings i })
+    ∙ (λ i. record { plan = plan; guests = map (guest_at_start (same i)) (who i); holdings = map held_at_start (same i) })
+
+pub starts_well : (l : Resolution) → Facts l → (plan : Plan) (guests : List GuestState) (holdings : List Holding) → IsPlanOf (source_of l) plan → record { plan = plan; guests = guests; holdings = holdings } ≡ machine_of l plan → CanRun (record { plan = plan; guests = guests; holdings = holdings })
+starts_well l f plan guests holdings of is = subst CanRun (sym is) (can_run l f plan of)
+
+pub prints_so : (l : Resolution) → Facts l → (plan : Plan) (m : MachineState) → IsPlanOf (source_of l) plan → m ≡ machine_of l plan → (files : Held) (end : ℕ) → trace_of (source_of l) files (only_ticks end) ≡ machine_text m end
+prints_so l f plan m of is files end = trace_is l f plan of files end ∙ ap (λ x. machine_text x end) (sym is)
