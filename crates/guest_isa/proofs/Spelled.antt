@@ -1,5 +1,5 @@
 -- The instruction of eight bytes is spelled by these bytes and no others.
-use Rattle.std.proofs.Common.{◌≡◌, ◌∙◌, ℕ, zero, suc, ◌+◌, ◌*◌, ◌/◌, ◌%◌, ◌^◌, ◌<◌, ◌==◌, ◌&&◌, ◌||◌, Bool, true, false, List, [], ◌∷◌, length, get_or, Option, Some, None, refl, sym, ap, rules, arith, if◌then◌else◌}
+use Rattle.std.proofs.Common.{◌≡◌, ◌∙◌, ℕ, zero, suc, ◌+◌, ◌*◌, ◌/◌, ◌%◌, ◌^◌, ◌<◌, ◌==◌, ◌||◌, Bool, true, false, List, [], ◌∷◌, length, get_or, Option, Some, None, refl, sym, ap, arith, if◌then◌else◌}
 use Rattle.std.specs.Prelude.{option_and_then}
 use Rattle.std.specs.Int.{w32, cast_signed, cast_unsigned, from_le_bytes, to_le_bytes}
 use Rattle.std.proofs.lemmas.Bool.{and_parts, eqb-true}
@@ -11,7 +11,7 @@ use Rattle.guest_isa.specs.declared.spelling.Fields.{Fields}
 use Rattle.guest_isa.specs.declared.spelling.Named.{Named}
 use Rattle.guest_isa.specs.declared.instr.Instr.{Instr}
 use Rattle.guest_isa.specs.declared.instr.Instr.TheVariants.{Nop, Li, Lih, Mov, Add, Sub, And, Or, Xor, Shl, Shr, Load, Store, Jmp, Jz, Jnz, Jb, In, Out, Rdmsr, Wrmsr, Rdtsc, Vmcall, Hlt, Sti, Cli, Setv, Reti}
-use Rattle.guest_isa.specs.GuestIsa.{fields_of, fields_for, are_unset, row, sized_row, port_row, size_of, port_size_of, imm_of, none, rd_imm, rd_rs, rd_alone, rs_alone, access, imm_alone, rd_rs_imm, instruction_of, system_instruction_of, spelled, encoding_of, code_of, AreSpelled}
+use Rattle.guest_isa.specs.GuestIsa.{fields_of, fields_for, are_unset, row, sized_row, port_row, imm_of, none, rd_imm, rd_rs, rd_alone, rs_alone, access, imm_alone, rd_rs_imm, instruction_of, system_instruction_of, spelled, encoding_of, code_of, AreSpelled}
 
 -- the instruction, if there is one, has these fields
 abbrev IsFor : Fields → Option Instr → Type 0

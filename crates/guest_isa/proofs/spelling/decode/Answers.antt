@@ -1,5 +1,4 @@
-use Rattle.std.proofs.Common.{arith, ◌≡◌}
-use Rattle.guest_isa.specs.GuestIsa.{instruction_of, AreSpelled}
+use Rattle.std.proofs.Common.{arith}
 use Rattle.guest_isa.proofs.Spelled.{spelled_by}
 use Rattle.guest_isa.proofs.spelling.decode.Goals as goal
 

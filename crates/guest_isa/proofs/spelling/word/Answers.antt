@@ -1,4 +1,4 @@
-use Rattle.std.proofs.Common.{rules, arith, ◌≡◌}
+use Rattle.std.proofs.Common.{arith}
 use Rattle.guest_isa.proofs.Spelled.{word_bytes}
 use Rattle.guest_isa.proofs.spelling.word.Goals as goal
 

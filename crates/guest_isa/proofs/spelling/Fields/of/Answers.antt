@@ -1,4 +1,4 @@
-use Rattle.std.proofs.Common.{rules, arith, ◌≡◌}
+use Rattle.std.proofs.Common.{rules}
 use Rattle.guest_isa.proofs.Spelled.{eight}
 use Rattle.guest_isa.proofs.spelling.Fields.of.Goals as goal
 
