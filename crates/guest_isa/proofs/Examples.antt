@@ -1,11 +1,11 @@
 -- The instruction table at work, against answers that were worked out by hand.
-use Rattle.std.proofs.Common.{◌≡◌, ℕ, false, List, [], ◌∷◌, Some, None, refl}
+use Rattle.std.proofs.Common.{◌≡◌, ℕ, true, false, List, [], ◌∷◌, Some, None, refl}
 use Rattle.std.specs.Prelude.{negsuc}
-use Rattle.muen_num.specs.declared.bits.Size.TheVariants.{Two, Eight}
+use Rattle.muen_num.specs.declared.bits.Size.TheVariants.{One, Two, Four, Eight}
 use Rattle.state_page.specs.declared.SubjectState.{SubjectState}
-use Rattle.guest_isa.specs.GuestIsa.{decode_of, effect_of}
-use Rattle.guest_isa.specs.declared.instr.Instr.TheVariants.{Li, Lih, Sub, Shl, Shr, Load, Store, Jb, Jmp}
-use Rattle.guest_isa.specs.declared.instr.Wish.TheVariants.{Nothing, Set, Load as Loads, Store as Stores}
+use Rattle.guest_isa.specs.GuestIsa.{decode_of, encoding_of, effect_of}
+use Rattle.guest_isa.specs.declared.instr.Instr.TheVariants.{Li, Lih, Sub, Shl, Shr, Load, Store, Jb, Jmp, In, Out, Rdmsr, Wrmsr, Rdtsc, Vmcall, Sti, Cli, Setv, Reti}
+use Rattle.guest_isa.specs.declared.instr.Wish.TheVariants.{Nothing, Set, Load as Loads, Store as Stores, PortIn, PortOut, ReadMsr, WriteMsr, Tick, Call}
 
 -- ---- the spelling
 
@@ -25,9 +25,38 @@ no_size_of_sixteen : decode_of (12 ∷ 18 ∷ 4 ∷ 0 ∷ 0 ∷ 0 ∷ 0 ∷ 0 �
 unfolding decode_of
 no_size_of_sixteen = refl
 
+input_of_four : decode_of (17 ∷ 18 ∷ 2 ∷ 0 ∷ 248 ∷ 3 ∷ 0 ∷ 0 ∷ []) ≡ Some (In 1 2 Four (Rattle.std.specs.Prelude.pos 1016))
+unfolding decode_of
+input_of_four = refl
+
+no_input_of_eight : decode_of (17 ∷ 18 ∷ 3 ∷ 0 ∷ 248 ∷ 3 ∷ 0 ∷ 0 ∷ []) ≡ None
+unfolding decode_of
+no_input_of_eight = refl
+
+-- a call names no register but the one that has its number
+call_of_one : decode_of (22 ∷ 2 ∷ 0 ∷ 0 ∷ 0 ∷ 0 ∷ 0 ∷ 0 ∷ []) ≡ Some (Vmcall 2)
+unfolding decode_of
+call_of_one = refl
+
+no_call_of_two : decode_of (22 ∷ 18 ∷ 0 ∷ 0 ∷ 0 ∷ 0 ∷ 0 ∷ 0 ∷ []) ≡ None
+unfolding decode_of
+no_call_of_two = refl
+
+return_alone : decode_of (27 ∷ 0 ∷ 0 ∷ 0 ∷ 0 ∷ 0 ∷ 0 ∷ 0 ∷ []) ≡ Some Reti
+unfolding decode_of
+return_alone = refl
+
 past_the_table : decode_of (28 ∷ 0 ∷ 0 ∷ 0 ∷ 0 ∷ 0 ∷ 0 ∷ 0 ∷ []) ≡ None
 unfolding decode_of
 past_the_table = refl
+
+output_spelled : encoding_of (Out 1 2 Two (negsuc 1)) ≡ 18 ∷ 18 ∷ 1 ∷ 0 ∷ 254 ∷ 255 ∷ 255 ∷ 255 ∷ []
+unfolding encoding_of
+output_spelled = refl
+
+handlers_spelled : encoding_of (Setv 15) ≡ 26 ∷ 15 ∷ 0 ∷ 0 ∷ 0 ∷ 0 ∷ 0 ∷ 0 ∷ []
+unfolding encoding_of
+handlers_spelled = refl
 
 -- ---- the effect: a state with 5 in register 1, 67 in register 2 and 2^64 - 1 in register 3
 
@@ -88,3 +117,54 @@ jb_passed = refl
 jmp_wraps : effect_of (state [] 0) (Jmp (negsuc 7)) ≡ record { after = state [] 18446744073709551608; wish = Nothing }
 unfolding state
 jmp_wraps = refl
+
+-- ---- ports, machine-specific registers and the kernel
+
+-- 67 - 68 is the last port
+port_wraps : effect_of before (In 0 2 One (negsuc 67)) ≡ record { after = state (0 ∷ 5 ∷ 67 ∷ 18446744073709551615 ∷ []) 4104; wish = PortIn 0 65535 One }
+unfolding before state
+port_wraps = refl
+
+-- 2^64 - 1 + 1017 is port 1016, and two bytes of 2^64 - 1 go there
+port_of_low_bits : effect_of before (Out 3 3 Two (Rattle.std.specs.Prelude.pos 1017)) ≡ record { after = state (0 ∷ 5 ∷ 67 ∷ 18446744073709551615 ∷ []) 4104; wish = PortOut 1016 Two 65535 }
+unfolding before state
+port_of_low_bits = refl
+
+-- the low 32 bits of 2^64 - 1
+index_of_low_bits : effect_of before (Rdmsr 1 3) ≡ record { after = state (0 ∷ 5 ∷ 67 ∷ 18446744073709551615 ∷ []) 4104; wish = ReadMsr 1 4294967295 }
+unfolding before state
+index_of_low_bits = refl
+
+whole_value_written : effect_of before (Wrmsr 3 2) ≡ record { after = state (0 ∷ 5 ∷ 67 ∷ 18446744073709551615 ∷ []) 4104; wish = WriteMsr 67 18446744073709551615 }
+unfolding before state
+whole_value_written = refl
+
+tick_asked : effect_of before (Rdtsc 2) ≡ record { after = state (0 ∷ 5 ∷ 67 ∷ 18446744073709551615 ∷ []) 4104; wish = Tick 2 }
+unfolding before state
+tick_asked = refl
+
+whole_number_called : effect_of before (Vmcall 3) ≡ record { after = state (0 ∷ 5 ∷ 67 ∷ 18446744073709551615 ∷ []) 4104; wish = Call 18446744073709551615 }
+unfolding before state
+whole_number_called = refl
+
+-- ---- events: interrupted at 512, where the state above is the handler's
+
+handled : SubjectState
+handled = record before { epc = 512 }
+
+events_let_in : effect_of handled Sti ≡ record { after = record handled { pc = 4104; interrupts = true }; wish = Nothing }
+unfolding handled before state
+events_let_in = refl
+
+events_kept_out : effect_of (record handled { interrupts = true }) Cli ≡ record { after = record handled { pc = 4104 }; wish = Nothing }
+unfolding handled before state
+events_kept_out = refl
+
+handlers_set : effect_of handled (Setv 2) ≡ record { after = record handled { pc = 4104; vbase = 67 }; wish = Nothing }
+unfolding handled before state
+handlers_set = refl
+
+-- not to the next eight bytes
+returned : effect_of handled Reti ≡ record { after = record handled { pc = 512; interrupts = true }; wish = Nothing }
+unfolding handled before state
+returned = refl

@@ -1,6 +1,6 @@
 -- The instructions of the guests: this project's own table.
-use Rattle.std.specs.Prelude.{ℕ, ℤ, ◌+◌, ◌-◌, ◌*◌, ◌/◌, ◌%◌, ◌^◌, ◌<◌, ◌==◌, ◌&&◌, ◌||◌, Bool, true, false, not, List, [], ◌∷◌, slice_index, slice_set, nat_lt, bit_and, bit_or, bit_xor, Option, Some, None, option_and_then, if◌then◌else◌}
-use Rattle.std.specs.Int.{w32, w64, from_le_bytes, cast_signed, cast_unsigned}
+use Rattle.std.specs.Prelude.{◌≡◌, ℕ, ℤ, pos, ◌+◌, ◌-◌, ◌*◌, ◌/◌, ◌%◌, ◌^◌, ◌<◌, ◌==◌, ◌&&◌, ◌||◌, Bool, true, false, not, List, [], ◌∷◌, slice_index, slice_set, nat_lt, bit_and, bit_or, bit_xor, Option, Some, None, option_and_then, if◌then◌else◌}
+use Rattle.std.specs.Int.{w32, w64, from_le_bytes, to_le_bytes, cast_signed, cast_unsigned}
 use Rattle.muen_num.specs.Size.{bytes_of}
 use Rattle.muen_num.specs.declared.bits.Size.{Size}
 use Rattle.muen_num.specs.declared.bits.Size.TheVariants.{One, Two, Four, Eight}
@@ -133,6 +133,62 @@ instruction_of f =
 -- the instruction that eight bytes spell, if they spell one
 unfoldable pub decode_of : List ℕ → Option Instr
 decode_of b = instruction_of (fields_of b)
+
+-- the eight bytes of these fields
+abbrev pub spelled : Fields → List ℕ
+spelled f = f.opcode ∷ (f.rd * 16 + f.rs) ∷ f.size ∷ f.zero ∷ to_le_bytes w32 f.imm
+
+-- the code of a size
+abbrev pub code_of : Size → ℕ
+code_of One = 0
+code_of Two = 1
+code_of Four = 2
+code_of Eight = 3
+
+-- opcode, rd, rs, size code and immediate
+abbrev pub fields : ℕ → ℕ → ℕ → ℕ → ℤ → Fields
+fields opcode rd rs size imm =
+    record { opcode = opcode; rd = rd; rs = rs; size = size; zero = 0; imm = cast_unsigned w32 imm }
+
+-- the fields that spell an instruction: 0 where its row names none
+abbrev pub fields_for : Instr → Fields
+fields_for Nop = fields 0 0 0 0 (pos 0)
+fields_for (Li rd imm) = fields 1 rd 0 0 imm
+fields_for (Lih rd imm) = fields 2 rd 0 0 imm
+fields_for (Mov rd rs) = fields 3 rd rs 0 (pos 0)
+fields_for (Add rd rs) = fields 4 rd rs 0 (pos 0)
+fields_for (Sub rd rs) = fields 5 rd rs 0 (pos 0)
+fields_for (And rd rs) = fields 6 rd rs 0 (pos 0)
+fields_for (Or rd rs) = fields 7 rd rs 0 (pos 0)
+fields_for (Xor rd rs) = fields 8 rd rs 0 (pos 0)
+fields_for (Shl rd rs) = fields 9 rd rs 0 (pos 0)
+fields_for (Shr rd rs) = fields 10 rd rs 0 (pos 0)
+fields_for (Load rd rs size imm) = fields 11 rd rs (code_of size) imm
+fields_for (Store rd rs size imm) = fields 12 rd rs (code_of size) imm
+fields_for (Jmp imm) = fields 13 0 0 0 imm
+fields_for (Jz rd imm) = fields 14 rd 0 0 imm
+fields_for (Jnz rd imm) = fields 15 rd 0 0 imm
+fields_for (Jb rd rs imm) = fields 16 rd rs 0 imm
+fields_for (In rd rs size imm) = fields 17 rd rs (code_of size) imm
+fields_for (Out rd rs size imm) = fields 18 rd rs (code_of size) imm
+fields_for (Rdmsr rd rs) = fields 19 rd rs 0 (pos 0)
+fields_for (Wrmsr rd rs) = fields 20 rd rs 0 (pos 0)
+fields_for (Rdtsc rd) = fields 21 rd 0 0 (pos 0)
+fields_for (Vmcall rs) = fields 22 0 rs 0 (pos 0)
+fields_for Hlt = fields 23 0 0 0 (pos 0)
+fields_for Sti = fields 24 0 0 0 (pos 0)
+fields_for Cli = fields 25 0 0 0 (pos 0)
+fields_for (Setv rs) = fields 26 0 rs 0 (pos 0)
+fields_for Reti = fields 27 0 0 0 (pos 0)
+
+-- the eight bytes that spell an instruction
+unfoldable pub encoding_of : Instr → List ℕ
+encoding_of i = spelled (fields_for i)
+
+-- these bytes are the spelling of the instruction, if there is one
+abbrev pub AreSpelled : Option Instr → List ℕ → Type 0
+AreSpelled None b = Unit {0}
+AreSpelled (Some i) b = encoding_of i ≡ b
 
 -- at most four bytes
 abbrev pub IsSmall : Size → Type 0
