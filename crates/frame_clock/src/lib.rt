@@ -88,3 +88,6 @@ pub fn slot(p: &Plan, cpu: u8, tick: u32) -> FrameSlot
     let tick_in_round = (tick as u64 % total) as u32;
     in_majors(p, cpu, tick_in_round)
 }
+
+#[cfg(test)]
+mod tests;
