@@ -1,6 +1,6 @@
 -- One step of each search: the frame that has the tick, or the ticks that are left behind it.
-use Rattle.std.proofs.Common.{◌≡◌, ℕ, ◌+◌, ◌-◌, ◌<◌, ◌≤◌, true, List, [], ◌∷◌, length, map, get_or, drop, Some, refl, sym, ap, ◌∙◌, subst, arith, drop-cons, add-one}
-use Rattle.std.specs.Prelude.{◌&&◌, slice_get}
+use Rattle.std.proofs.Common.{◌≡◌, ℕ, ◌+◌, ◌-◌, ◌<◌, ◌≤◌, true, List, [], ◌∷◌, length, map, get_or, drop, Some, sym, ap, ◌∙◌, subst, arith, drop-cons, add-one}
+use Rattle.std.specs.Prelude.{slice_get}
 use Rattle.std.specs.List.{list_all, flat_map}
 use Rattle.std.proofs.lemmas.Bool.{and_parts}
 use Rattle.std.proofs.lemmas.List.{get_or_default}
@@ -9,7 +9,7 @@ use Rattle.image_pack.specs.Slot.{Slot, frame_slots, slots_from}
 use Rattle.image_pack.specs.declared.plan.GroupPart.{GroupPart}
 use Rattle.image_pack.specs.declared.plan.Minor.{Minor}
 use Rattle.image_pack.specs.declared.plan.Major.{Major}
-use Rattle.image_pack.proofs.SlotLaws.{frame_slot, first_frame, later_frame, frames_at, ticks_of, first_major, later_major, major_ticks}
+use Rattle.image_pack.proofs.SlotLaws.{frame_slot, first_frame, later_frame, frames_at, ticks_of, first_major, later_major}
 
 -- an element, and those behind it
 left_from : {X : Type 0} (xs : List X) (i : ℕ) (d : X) → i < length xs → drop i xs ≡ get_or xs i d ∷ drop (i + 1) xs

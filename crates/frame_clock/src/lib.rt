@@ -4,7 +4,7 @@
 //! major frames', then those of the CPU's minor frames in the one major frame that has the tick.
 #![tactic(auto)]
 
-ghost use Rattle.std.specs.Prelude.{◌≡◌, ◌<◌, ◌≤◌, Some, true, length, map, slice_get, sum_by};
+ghost use Rattle.std.specs.Prelude.{◌≡◌, ◌<◌, ◌≤◌, ◌%◌, Some, true, length, map, slice_get, sum_by};
 ghost use Rattle.std.specs.List.{flat_map};
 ghost use Rattle.image_pack.specs.Plan.{frame_of, frames_in, cpus_of, is_group_on, is_plan};
 ghost use Rattle.image_pack.specs.Slot.{frame_slots, slots_from, slot_at};
@@ -35,6 +35,14 @@ fn ticks_in(majors: &[Major]) -> u64
         total += major.ticks as u64;
     }
     total
+}
+
+// The tick in its round of all major frames, of so many ticks.
+fn in_round(tick: u32, total: u64) -> u32
+    requires { 0 < total }
+    ensures { result ≡ tick % total }
+{
+    (tick as u64 % total) as u32
 }
 
 // The slot at a tick of a major frame, of a CPU with these minor frames in it.
@@ -85,6 +93,8 @@ pub fn slot(p: &Plan, cpu: u8, tick: u32) -> FrameSlot
     ensures group { is_group_on p.now.groups cpu result.group ≡ true }
 {
     let total = ticks_in(p.majors.items());
-    let tick_in_round = (tick as u64 % total) as u32;
-    in_majors(p, cpu, tick_in_round)
+    in_majors(p, cpu, in_round(tick, total))
 }
+
+#[cfg(test)]
+mod tests;
