@@ -1,1 +1,9 @@
+pub mod Cpus
+pub mod Fitting
 pub mod Kept
+pub mod Known
+pub mod Limits
+pub mod Lists
+pub mod Majors
+pub mod Members
+pub mod Names
