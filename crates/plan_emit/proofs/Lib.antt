@@ -1,4 +1,6 @@
 pub mod Cpus
+pub mod Emitting
+pub mod Firsts
 pub mod Fitting
 pub mod Kept
 pub mod Known
@@ -7,3 +9,5 @@ pub mod Lists
 pub mod Majors
 pub mod Members
 pub mod Names
+pub mod Planned
+pub mod Valid

@@ -1,8 +1,10 @@
 -- Tests, searches and sums over lists.
-use Rattle.std.proofs.Common.{◌≡◌, ℕ, zero, suc, ◌+◌, ◌<◌, ◌≤◌, Bool, true, false, cond, List, [], ◌∷◌, ◌++◌, length, map, get_or, Option, Some, None, refl, sym, ap, ◌∙◌, arith, length-append}
+use Rattle.std.proofs.Common.{◌≡◌, ℕ, zero, suc, ◌+◌, ◌<◌, ◌≤◌, Bool, true, false, cond, List, [], ◌∷◌, ◌++◌, length, map, get_or, Option, Some, None, refl, sym, ap, ◌∙◌, inl, inr, arith, length-append}
 use Rattle.std.specs.Prelude.{◌&&◌, ◌||◌, ◌==◌, nat_lt, nat_le, option_map, unwrap_or}
 use Rattle.std.specs.List.{find, list_any, list_all, sum_by, enumerate_from}
-use Rattle.std.proofs.lemmas.Bool.{and_from, and_parts, lt-ltb, ltb-true}
+use Rattle.std.proofs.lemmas.Bool.{and_from, and_parts, cases_eq, lt-ltb, ltb-true}
+use Rattle.std.proofs.lemmas.List.{get_or_append_left, get_or_push, length-map, map_push}
+use Rattle.std.proofs.lemmas.List.Folds.{list_all-append}
 use Rattle.std.proofs.lemmas.List.Sums.{sum_by-cons}
 use Rattle.muen_num.specs.Range.{numbers_below}
 
@@ -113,3 +115,42 @@ many_below zero = refl
 many_below (suc n) =
     let e : length (numbers_below n) ≡ n = many_below n in
     length-append (numbers_below n) (n ∷ []) ∙ omega (arith, e)
+
+-- a test that passes at each number below a bound
+pub number_passes : (test : ℕ → Bool) (n k : ℕ) → k < n → list_all test (numbers_below n) ≡ true → test k ≡ true
+number_passes test zero k l all = absurd (omega arith)
+number_passes test (suc n) k l all =
+    let parts = and_parts (list_all test (numbers_below n)) (test n && true) (sym (list_all-append test (numbers_below n) (n ∷ [])) ∙ all) in
+    elim (cases_eq k n) as (λ _. test k ≡ true) [
+      | inl e ↦ ap test e ∙ (and_parts (test n) true parts.1).0
+      | inr ne ↦ number_passes test n k (omega arith) parts.0
+    ]
+
+pub number_at : (n k : ℕ) → k < n → get_or (numbers_below n) k 0 ≡ k
+number_at zero k l = absurd (omega arith)
+number_at (suc n) k l =
+    let many : length (numbers_below n) ≡ n = many_below n in
+    elim (cases_eq k n) as (λ _. get_or (numbers_below n ++ n ∷ []) k 0 ≡ k) [
+      | inl e ↦ get_or_push (numbers_below n) n 0 k (omega arith) ∙ sym e
+      | inr ne ↦ get_or_append_left (numbers_below n) (n ∷ []) 0 k (omega arith) ∙ number_at n k (omega arith)
+    ]
+
+enumerate_push : {X : Type 0} (k : ℕ) (xs : List X) (y : X) → enumerate_from k (xs ++ y ∷ []) ≡ enumerate_from k xs ++ (k + length xs, y) ∷ []
+enumerate_push k [] y = ap (λ n. (n, y) ∷ []) (omega arith)
+enumerate_push k (x ∷ xs) y =
+    let e : (k + 1) + length xs ≡ k + length (x ∷ xs) = omega arith in
+    ap (λ zs. (k, x) ∷ zs) (enumerate_push (k + 1) xs y) ∙ ap (λ n. (k, x) ∷ enumerate_from (k + 1) xs ++ (n, y) ∷ []) e
+
+-- a test that passes at each number with what stands for it
+pub numbered : {X : Type 0} (test : ℕ × X → Bool) (f : ℕ → X) (n : ℕ) → ((k : ℕ) → k < n → test (k, f k) ≡ true) → list_all test (enumerate_from 0 (map f (numbers_below n))) ≡ true
+numbered test f zero passes = refl
+numbered test f (suc n) passes =
+    let before = map f (numbers_below n) in
+    let many : 0 + length before ≡ n = omega (arith, length-map (numbers_below n) f, many_below n) in
+    let last : test (0 + length before, f n) ≡ true = ap (λ k. test (k, f n)) many ∙ passes n (omega arith) in
+    ap (λ xs. list_all test (enumerate_from 0 xs)) (map_push f (numbers_below n) n)
+    ∙ ap (list_all test) (enumerate_push 0 before (f n))
+    ∙ list_all-append test (enumerate_from 0 before) ((0 + length before, f n) ∷ [])
+    ∙ and_from (list_all test (enumerate_from 0 before)) (test (0 + length before, f n) && true)
+    (numbered test f n (λ k l. passes k (omega arith)))
+    (and_from (test (0 + length before, f n)) true last refl)
