@@ -2,11 +2,9 @@
 use Rattle.std.proofs.Common.{◌≡◌, ℕ, ◌+◌, ◌≤◌, Bool, true, List, [], ◌∷◌, Option, None, refl}
 use Rattle.std.specs.Prelude.{◌&&◌, nat_lt, nat_le, codes}
 use Rattle.std.specs.List.{list_all, enumerate_from}
-use Rattle.std.proofs.lemmas.Bool.{and_from, and_parts, leb-true}
+use Rattle.std.proofs.lemmas.Bool.{and_from}
 use Rattle.policy_types.specs.Rules.{cpu_name, major_name, majors_of, offence_3}
 use Rattle.policy_types.specs.Search.{alone, two, unless, first_in}
-use Rattle.policy_types.specs.declared.offence.Offence.{Offence}
-use Rattle.policy_types.specs.declared.source.MajorFrame.{MajorFrame}
 use Rattle.policy_types.specs.declared.source.Source.{Source}
 use Rattle.policy_types.proofs.Places.{none_both}
 use Rattle.plan_emit.proofs.Kept.{all_pass, some_cpu}
@@ -39,5 +37,5 @@ cpus_kept p h =
       subjects = all_pass (λ s. nat_lt s.cpu cpus) (λ s. alone s.name) p.subjects subjects.0;
       groups = all_pass (λ g. nat_lt g.cpu cpus) (λ g. alone g.name) p.scheduling.groups groups.0;
       majors = all_numbered (λ m. list_all (λ c. nat_lt c.cpu cpus) m.cpus) (λ m. first_in (λ c. unless (nat_lt c.cpu cpus) (two (major_name m.0) (cpu_name c.cpu))) m.1.cpus)
-      (λ k m none. all_pass (λ c. nat_lt c.cpu cpus) (λ c. two (major_name k) (cpu_name c.cpu)) m.cpus none) 0 p.scheduling.major_frames majors.0;
+          (λ k m none. all_pass (λ c. nat_lt c.cpu cpus) (λ c. two (major_name k) (cpu_name c.cpu)) m.cpus none) 0 p.scheduling.major_frames majors.0;
     }

@@ -1,6 +1,6 @@
 -- The plan's groups are the policy's, and the first member of each is there.
-use Rattle.std.proofs.Common.{◌≡◌, ℕ, ◌<◌, true, List, [], ◌∷◌, length, map, sym, ap, ◌∙◌, arith}
-use Rattle.std.specs.Prelude.{◌&&◌, nat_lt, slice_index, slice_index_or}
+use Rattle.std.proofs.Common.{◌≡◌, ℕ, ◌<◌, true, List, [], ◌∷◌, length, map, refl, sym, ap, ◌∙◌, arith}
+use Rattle.std.specs.Prelude.{nat_lt, slice_index, slice_index_or}
 use Rattle.std.specs.List.{list_all}
 use Rattle.std.proofs.lemmas.Bool.{and_parts, ltb-true}
 use Rattle.std.proofs.lemmas.List.Folds.{list_all-map}
@@ -21,7 +21,7 @@ first_of_group : (names : List (List ℕ)) (g : Group) → nat_lt 0 (length g.su
 first_of_group names g some =
     elim g.subjects as (λ is. nat_lt 0 (length is) ≡ true → name_at names (slice_index is 0) ≡ first_member (map (name_at names) is)) [
       | [] ↦ λ e. let l : 0 < 0 = ltb-true 0 0 e in absurd (omega arith)
-      | i ∷ (is → _) ↦ λ _. Rattle.std.proofs.Common.refl
+      | i ∷ (is → _) ↦ λ _. refl
     ] some
 
 pub firsts_emitted : (r : Resolution) → Known r

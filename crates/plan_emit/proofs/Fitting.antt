@@ -1,7 +1,7 @@
 -- The numbers of a resolved policy that keeps the rules fit into a plan.
-use Rattle.std.proofs.Common.{◌≡◌, ℕ, ◌+◌, ◌<◌, ◌≤◌, ◌^◌, Bool, true, List, length, map, refl, sym, ap, ◌∙◌, arith}
+use Rattle.std.proofs.Common.{◌≡◌, ℕ, ◌<◌, ◌≤◌, Bool, true, length, map, sym, ap, ◌∙◌, arith}
 use Rattle.std.specs.Prelude.{◌&&◌, nat_lt, nat_le}
-use Rattle.std.specs.List.{list_all, sum_by}
+use Rattle.std.specs.List.{list_all}
 use Rattle.std.proofs.lemmas.Bool.{and_from, and_parts, leb-true, lt-ltb, ltb-true}
 use Rattle.std.proofs.lemmas.List.{length-map}
 use Rattle.std.proofs.lemmas.List.Folds.{list_all-map}
@@ -10,13 +10,12 @@ use Rattle.policy_types.specs.Rules as rules
 use Rattle.policy_types.specs.Rules.{is_group, is_on, subject_cpu}
 use Rattle.policy_types.specs.declared.resolved.CpuFrames.{CpuFrames}
 use Rattle.policy_types.specs.declared.resolved.Group.{Group}
-use Rattle.policy_types.specs.declared.resolved.MajorFrame.{MajorFrame}
 use Rattle.policy_types.specs.declared.resolved.MinorFrame.{MinorFrame}
 use Rattle.policy_types.specs.declared.source.MinorFrame.{MinorFrame as NamedMinor}
 use Rattle.plan_emit.specs.Emitted.{fits_entry, fits_group, fits_major, fits_minor, ticks_in}
 use Rattle.plan_emit.proofs.Known.{Known}
 use Rattle.plan_emit.proofs.Limits.{is_within}
-use Rattle.plan_emit.proofs.Lists.{each_at_most, each_both, each_from, each_of, sum_by-map}
+use Rattle.plan_emit.proofs.Lists.{each_at_most, each_from, each_of, sum_by-map}
 use Rattle.plan_emit.proofs.Names.{group_names}
 
 abbrev pub frame_named : Resolution → MinorFrame → NamedMinor
@@ -84,24 +83,34 @@ groups_fit r k =
 
 -- ---- major frames
 
+-- at most 100,000 ticks and 64 minor frames
+abbrev pub is_short : CpuFrames → Bool
+is_short c = nat_le (ticks_in c) 100000 && nat_le (length c.minor_frames) 64
+
+abbrev pub frame_there : Resolution → MinorFrame → Bool
+frame_there r f = nat_lt f.group (length r.scheduling.groups)
+
+abbrev pub entry_there : Resolution → CpuFrames → Bool
+entry_there r c = list_all (frame_there r) c.minor_frames
+
 -- the limits, by the entries' places
-pub entries_within : (r : Resolution) → Known r → list_all (λ m. list_all (λ c. nat_le (ticks_in c) 100000 && nat_le (length c.minor_frames) 64) m.cpus) r.scheduling.major_frames ≡ true
+pub entries_within : (r : Resolution) → Known r → list_all (λ m. list_all is_short m.cpus) r.scheduling.major_frames ≡ true
 unfolding source_of
 entries_within r k =
-    let one : (c : CpuFrames) → is_within (cpu_named r c) ≡ true → (nat_le (ticks_in c) 100000 && nat_le (length c.minor_frames) 64) ≡ true = λ c h.
+    let one : (c : CpuFrames) → is_within (cpu_named r c) ≡ true → is_short c ≡ true = λ c h.
     let many : length (cpu_named r c).minor_frames ≡ length c.minor_frames = length-map c.minor_frames (frame_named r) in
     sym (λ i. nat_le (same_ticks r c i) 100000 && nat_le (many i) 64) ∙ h in
-    each_from (λ m. list_all is_within (major_named r m).cpus) (λ m. list_all (λ c. nat_le (ticks_in c) 100000 && nat_le (length c.minor_frames) 64) m.cpus)
-    (λ m h. each_from (λ c. is_within (cpu_named r c)) (λ c. nat_le (ticks_in c) 100000 && nat_le (length c.minor_frames) 64) one m.cpus (sym (list_all-map is_within (cpu_named r) m.cpus) ∙ h))
+    each_from (λ m. list_all is_within (major_named r m).cpus) (λ m. list_all is_short m.cpus)
+    (λ m h. each_from (λ c. is_within (cpu_named r c)) is_short one m.cpus (sym (list_all-map is_within (cpu_named r) m.cpus) ∙ h))
     r.scheduling.major_frames
     (sym (list_all-map (λ m. list_all is_within m.cpus) (major_named r) r.scheduling.major_frames) ∙ k.limits.frames)
 
-entry_fits : (r : Resolution) (c : CpuFrames) → length r.scheduling.groups ≤ 32 → (nat_le (ticks_in c) 100000 && nat_le (length c.minor_frames) 64) ≡ true → list_all (λ f. nat_lt f.group (length r.scheduling.groups)) c.minor_frames ≡ true → fits_entry c ≡ true
-entry_fits r c few within placed =
-    let most : ticks_in c ≤ 100000 = leb-true (ticks_in c) 100000 (and_parts (nat_le (ticks_in c) 100000) (nat_le (length c.minor_frames) 64) within).0 in
+entry_fits : (r : Resolution) (c : CpuFrames) → length r.scheduling.groups ≤ 32 → is_short c ≡ true → entry_there r c ≡ true → fits_entry c ≡ true
+entry_fits r c few short placed =
+    let most : ticks_in c ≤ 100000 = leb-true (ticks_in c) 100000 (and_parts (nat_le (ticks_in c) 100000) (nat_le (length c.minor_frames) 64) short).0 in
     let each : list_all (λ f. nat_lt f.ticks 100001) c.minor_frames ≡ true = each_at_most (λ f. f.ticks) 100000 c.minor_frames most in
     and_from (list_all fits_minor c.minor_frames) (nat_lt (ticks_in c) 4294967296)
-    (each_of (λ f. nat_lt f.group (length r.scheduling.groups)) (λ f. nat_lt f.ticks 100001) fits_minor
+    (each_of (frame_there r) (λ f. nat_lt f.ticks 100001) fits_minor
     (λ f group ticks.
     let there : f.group < length r.scheduling.groups = ltb-true f.group (length r.scheduling.groups) group in
     let short : f.ticks < 100001 = ltb-true f.ticks 100001 ticks in
@@ -116,7 +125,7 @@ majors_fit r k =
     let subjects : length (source_of r).subjects ≤ 32 = k.limits.most_subjects in
     let groups : length (source_of r).scheduling.groups ≤ length (source_of r).subjects = k.members.few in
     let few : length r.scheduling.groups ≤ 32 = omega (arith, many_s, many_g, subjects, groups) in
-    each_of (λ m. list_all (λ c. nat_le (ticks_in c) 100000 && nat_le (length c.minor_frames) 64) m.cpus) (major_placed r) fits_major
-    (λ m within placed. each_of (λ c. nat_le (ticks_in c) 100000 && nat_le (length c.minor_frames) 64) (λ c. list_all (λ f. nat_lt f.group (length r.scheduling.groups)) c.minor_frames) fits_entry
-    (λ c w q. entry_fits r c few w q) m.cpus within placed)
+    each_of (λ m. list_all is_short m.cpus) (major_placed r) fits_major
+    (λ m short placed. each_of is_short (entry_there r) fits_entry
+    (λ c w q. entry_fits r c few w q) m.cpus short placed)
     r.scheduling.major_frames (entries_within r k) k.majors_placed

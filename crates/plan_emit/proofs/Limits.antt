@@ -1,12 +1,11 @@
 -- Rule 20: how many subjects and major frames there are, and how long the frames are.
-use Rattle.std.proofs.Common.{◌≡◌, ℕ, ◌+◌, ◌≤◌, Bool, true, List, [], ◌∷◌, length, Option, None}
+use Rattle.std.proofs.Common.{◌≡◌, ◌+◌, ◌≤◌, Bool, true, length, None}
 use Rattle.std.specs.Prelude.{◌&&◌, nat_le, codes, is_some}
 use Rattle.std.specs.List.{list_all, sum_by, count_by}
 use Rattle.std.proofs.lemmas.Bool.{and_parts, leb-true}
 use Rattle.policy_types.specs.Rules.{at_most, device_limit, logical_names, major_limit, major_name, majors_of, offence_20, regions_for, subject_limit, ticks_in}
 use Rattle.policy_types.specs.Search.{alone, unless, first_in}
 use Rattle.policy_types.specs.declared.source.CpuFrames.{CpuFrames}
-use Rattle.policy_types.specs.declared.source.MajorFrame.{MajorFrame}
 use Rattle.policy_types.specs.declared.source.Source.{Source}
 use Rattle.policy_types.proofs.Places.{none_both, unless_none}
 use Rattle.plan_emit.proofs.Cpus.{all_numbered}
@@ -47,5 +46,5 @@ limits_kept p h =
       some_majors = leb-true 1 (length p.scheduling.major_frames) count.0;
       most_majors = leb-true (length p.scheduling.major_frames) 16 count.1;
       frames = all_numbered (λ m. list_all is_within m.cpus) major_limit
-      (λ k m none. unless_none (list_all is_within m.cpus) (alone (major_name k)) none) 0 p.scheduling.major_frames frames.0;
+          (λ k m none. unless_none (list_all is_within m.cpus) (alone (major_name k)) none) 0 p.scheduling.major_frames frames.0;
     }

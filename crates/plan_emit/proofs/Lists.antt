@@ -1,6 +1,6 @@
 -- Tests, searches and sums over lists.
-use Rattle.std.proofs.Common.{◌≡◌, ℕ, zero, suc, ◌+◌, ◌<◌, ◌≤◌, Bool, true, false, cond, List, [], ◌∷◌, ◌++◌, length, map, get_or, Option, Some, None, refl, sym, ap, ◌∙◌, inl, inr, arith, length-append}
-use Rattle.std.specs.Prelude.{◌&&◌, ◌||◌, ◌==◌, nat_lt, nat_le, option_map, unwrap_or}
+use Rattle.std.proofs.Common.{◌≡◌, ℕ, zero, suc, ◌+◌, ◌<◌, ◌≤◌, Bool, true, false, cond, List, [], ◌∷◌, ◌++◌, length, map, get_or, Some, refl, sym, ap, ◌∙◌, inl, inr, arith, length-append}
+use Rattle.std.specs.Prelude.{◌&&◌, ◌||◌, nat_lt, option_map, unwrap_or}
 use Rattle.std.specs.List.{find, list_any, list_all, sum_by, enumerate_from}
 use Rattle.std.proofs.lemmas.Bool.{and_from, and_parts, cases_eq, lt-ltb, ltb-true}
 use Rattle.std.proofs.lemmas.List.{get_or_append_left, get_or_push, length-map, map_push}
@@ -67,11 +67,11 @@ found test [] any = absurd (cc)
 found {X} test (x ∷ xs) any =
     elim (test x) as (λ b. test x ≡ b → IsFound test (x ∷ xs)) [
       | true ↦ λ e. record {
-          item = x;
-          is = ap (λ b. cond b (Some x) (find test xs)) e;
-          passes = e;
-          among = λ q all. (and_parts (q x) (list_all q xs) all).0;
-        }
+        item = x;
+        is = ap (λ b. cond b (Some x) (find test xs)) e;
+        passes = e;
+        among = λ q all. (and_parts (q x) (list_all q xs) all).0;
+      }
       | false ↦ λ e.
           let later : IsFound test xs = found test xs (sym (ap (λ b. b || list_any test xs) e) ∙ any) in
           record {

@@ -11,7 +11,6 @@ use Rattle.policy_types.specs.Search.{two, unless, first_in, first_after}
 use Rattle.policy_types.specs.declared.offence.Offence.{Offence}
 use Rattle.policy_types.specs.declared.source.CpuFrames.{CpuFrames}
 use Rattle.policy_types.specs.declared.source.MajorFrame.{MajorFrame}
-use Rattle.policy_types.specs.declared.source.MinorFrame.{MinorFrame}
 use Rattle.policy_types.specs.declared.source.Source.{Source}
 use Rattle.policy_types.proofs.Places.{none_both, unless_none}
 use Rattle.plan_emit.proofs.Cpus.{all_numbered}

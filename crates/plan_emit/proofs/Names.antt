@@ -1,12 +1,12 @@
 -- A group's name tells its place.
-use Rattle.std.proofs.Common.{◌≡◌, ℕ, ◌<◌, true, cond, List, [], ◌∷◌, ◌++◌, length, map, Option, Some, None, refl, sym, ap, ◌∙◌, arith}
+use Rattle.std.proofs.Common.{◌≡◌, ℕ, ◌<◌, cond, List, [], ◌∷◌, ◌++◌, length, map, Option, Some, None, refl, sym, ap, ◌∙◌, arith}
 use Rattle.std.specs.Prelude.{nat_lt, slice_get, option_map, position}
 use Rattle.std.specs.Option.{option_or}
 use Rattle.std.specs.List.{find, flat_map, position_or_len}
 use Rattle.std.specs.Str.{bytes_eq}
 use Rattle.std.proofs.lemmas.Bool.{lt-ltb}
 use Rattle.std.proofs.lemmas.List.{length-map}
-use Rattle.policy_types.specs.Resolution.{Resolution, group_named, name_at, source_of, subject_named}
+use Rattle.policy_types.specs.Resolution.{Resolution, group_named, name_at, source_of}
 use Rattle.policy_types.specs.Rules.{device_kinds, group_cpu, logical_names, offence_1, repeated}
 use Rattle.policy_types.specs.Search.{first_in}
 use Rattle.policy_types.specs.declared.resolved.Group.{Group}

@@ -1,24 +1,21 @@
 -- The frames of the plan are the policy's.
-use Rattle.std.proofs.Common.{◌≡◌, ℕ, ◌<◌, ◌≤◌, Bool, true, List, [], ◌∷◌, length, map, get_or, Option, Some, None, refl, sym, ap, ◌∙◌, arith}
-use Rattle.std.specs.Prelude.{◌==◌, nat_lt, slice_index_or, option_map, position}
+use Rattle.std.proofs.Common.{◌≡◌, ℕ, ◌<◌, ◌≤◌, Bool, true, List, [], ◌∷◌, length, map, Some, None, refl, sym, ap, ◌∙◌, arith}
+use Rattle.std.specs.Prelude.{◌==◌, slice_index_or, option_map}
 use Rattle.std.specs.Option.{option_map_or}
 use Rattle.std.specs.List.{find, filter_map, list_all}
-use Rattle.std.specs.Str.{bytes_eq}
 use Rattle.std.proofs.lemmas.Bool.{and_parts, ltb-true}
 use Rattle.std.proofs.lemmas.List.{get_or-map, length-map}
-use Rattle.muen_num.specs.Frame.{Frame}
 use Rattle.muen_num.specs.Range.{numbers_below}
 use Rattle.image_pack.specs.Plan.{cpus_in, cpus_of, frame_of, frames_in}
-use Rattle.image_pack.specs.declared.plan.Minor.{Minor}
 use Rattle.policy_types.specs.Frames as policy
 use Rattle.policy_types.specs.Frames.{entry_frames, frames_of, major_frames_of}
-use Rattle.policy_types.specs.Resolution.{Resolution, cpu_named, group_named, major_named, major_placed, name_at, source_of}
+use Rattle.policy_types.specs.Resolution.{Resolution, cpu_named, major_named, major_placed, source_of}
 use Rattle.policy_types.specs.Rules.{repeated}
 use Rattle.policy_types.specs.declared.resolved.CpuFrames.{CpuFrames}
 use Rattle.policy_types.specs.declared.resolved.MajorFrame.{MajorFrame}
 use Rattle.policy_types.specs.declared.resolved.MinorFrame.{MinorFrame}
 use Rattle.plan_emit.specs.Emitted.{cpu_part, emitted, major_part, minor_part}
-use Rattle.plan_emit.proofs.Fitting.{frame_named, many_majors}
+use Rattle.plan_emit.proofs.Fitting.{entry_there, frame_named, frame_there, many_majors}
 use Rattle.plan_emit.proofs.Known.{Known}
 use Rattle.plan_emit.proofs.Lists.{all_same, find-map, found_among, many_below, map-map, number_at}
 use Rattle.plan_emit.proofs.Names.{group_names, place_of_name}
@@ -37,9 +34,6 @@ cpus_emitted r k =
 
 -- ---- frames
 
-abbrev frame_there : Resolution → MinorFrame → Bool
-frame_there r f = nat_lt f.group (length r.scheduling.groups)
-
 same_frame : (r : Resolution) (f : MinorFrame) → repeated (group_names r) ≡ None → frame_there r f ≡ true → policy.frame_of (source_of r) (frame_named r f) ≡ Some (frame_of (minor_part f))
 unfolding source_of
 same_frame r f unique placed =
@@ -57,11 +51,10 @@ same_frames r (f ∷ fs) unique placed =
 same_cpu : (r : Resolution) (cpu : ℕ) (m : MajorFrame) → repeated (group_names r) ≡ None → major_placed r m ≡ true → map frame_of (cpu_part m.cpus cpu) ≡ major_frames_of (source_of r) cpu (major_named r m)
 same_cpu r cpu m unique placed =
     let test : CpuFrames → Bool = λ c. c.cpu == cpu in
-    let there : CpuFrames → Bool = λ c. list_all (frame_there r) c.minor_frames in
     let named : find (λ c. c.cpu == cpu) (map (cpu_named r) m.cpus) ≡ option_map (cpu_named r) (find test m.cpus) = find-map (λ c. c.cpu == cpu) (cpu_named r) m.cpus in
     (elim (find test m.cpus) as (λ o. find test m.cpus ≡ o → map frame_of (option_map_or (λ c. map minor_part c.minor_frames) o []) ≡ option_map_or (entry_frames (source_of r)) (option_map (cpu_named r) o) []) [
       | None ↦ λ _. refl
-      | Some c ↦ λ is. sym (same_frames r c.minor_frames unique (found_among test there m.cpus c is placed))
+      | Some c ↦ λ is. sym (same_frames r c.minor_frames unique (found_among test (entry_there r) m.cpus c is placed))
     ] refl)
     ∙ sym (ap (λ o. option_map_or (entry_frames (source_of r)) o []) named)
 

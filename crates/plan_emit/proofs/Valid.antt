@@ -19,7 +19,7 @@ use Rattle.policy_types.specs.declared.resolved.Group.{Group}
 use Rattle.policy_types.specs.declared.resolved.MajorFrame.{MajorFrame}
 use Rattle.policy_types.specs.declared.resolved.MinorFrame.{MinorFrame}
 use Rattle.plan_emit.specs.Emitted.{cpu_part, emitted, first_ticks, group_part, major_part, minor_part, ticks_in}
-use Rattle.plan_emit.proofs.Fitting.{cpus_of_groups, entries_within, frame_named, many_majors, same_ticks}
+use Rattle.plan_emit.proofs.Fitting.{cpus_of_groups, entries_within, entry_there, frame_named, frame_there, many_majors, same_ticks, is_short}
 use Rattle.plan_emit.proofs.Known.{Known}
 use Rattle.plan_emit.proofs.Lists.{IsFound, each_both, each_of, found, list_any-map, many_below, number_passes, numbered, sum_by-map}
 use Rattle.plan_emit.proofs.Majors as kept
@@ -36,9 +36,6 @@ same_on : (cpu : ℕ) (o : Option Group) → option_map_or (λ g. g.cpu == cpu) 
 same_on cpu None = refl
 same_on cpu (Some g) = refl
 
-abbrev frame_there : Resolution → MinorFrame → Bool
-frame_there r f = nat_lt f.group (length r.scheduling.groups)
-
 minor_valid : (r : Resolution) (cpu : ℕ) (f : MinorFrame) → repeated (group_names r) ≡ None → is_frame (source_of r) cpu (frame_named r f) ≡ true → frame_there r f ≡ true → is_minor (parts_of r) cpu (minor_part f) ≡ true
 minor_valid r cpu f unique frame there =
     let named = group_cpu (source_of r) (name_at (group_names r) f.group) in
@@ -51,16 +48,10 @@ minor_valid r cpu f unique frame there =
 
 -- ---- entries
 
-abbrev within : CpuFrames → Bool
-within c = nat_le (ticks_in c) 100000 && nat_le (length c.minor_frames) 64
-
-abbrev entry_there : Resolution → CpuFrames → Bool
-entry_there r c = list_all (frame_there r) c.minor_frames
-
 -- what is known of an entry
 record IsEntry (r : Resolution) (ticks : ℕ) (c : CpuFrames) : Type 0 where
   frames : has_frames (source_of r) ticks (cpu_named r c) ≡ true
-  limits : within c ≡ true
+  limits : is_short c ≡ true
   there : entry_there r c ≡ true
 
 ticks_of_entry : (r : Resolution) (ticks : ℕ) (c : CpuFrames) → IsEntry r ticks c → ticks ≡ ticks_in c
@@ -102,7 +93,7 @@ same_first r (c ∷ cs) = same_ticks r c
 -- what is known of a major frame
 record IsMajor (r : Resolution) (m : MajorFrame) : Type 0 where
   by_name : is_major_kept (source_of r) (major_named r m) ≡ true
-  limits : list_all within m.cpus ≡ true
+  limits : list_all is_short m.cpus ≡ true
   there : major_placed r m ≡ true
 
 -- the entry of a CPU
@@ -131,7 +122,7 @@ entry_of r m cpu known l =
       cpu_is = eqb-true at.item.cpu cpu at.passes;
       known = record {
         frames = at.among (λ c. has_frames (source_of r) (first_ticks m.cpus) (cpu_named r c)) frames;
-        limits = at.among within known.limits;
+        limits = at.among is_short known.limits;
         there = at.among (entry_there r) known.there;
       };
     }
@@ -170,14 +161,14 @@ majors_valid r k =
     let cpus = r.processor.logical_cpus in
     let named : list_all (λ m. is_major_kept (source_of r) (major_named r m)) r.scheduling.major_frames ≡ true =
     sym (list_all-map (is_major_kept (source_of r)) (major_named r) r.scheduling.major_frames) ∙ k.majors.majors in
-    let limits : list_all (λ m. list_all within m.cpus) r.scheduling.major_frames ≡ true = entries_within r k in
+    let limits : list_all (λ m. list_all is_short m.cpus) r.scheduling.major_frames ≡ true = entries_within r k in
     list_all-map (is_major (parts_of r) cpus) (major_part cpus) r.scheduling.major_frames
-    ∙ each_of (λ m. is_major_kept (source_of r) (major_named r m) && list_all within m.cpus) (major_placed r) (λ m. is_major (parts_of r) cpus (major_part cpus m))
+    ∙ each_of (λ m. is_major_kept (source_of r) (major_named r m) && list_all is_short m.cpus) (major_placed r) (λ m. is_major (parts_of r) cpus (major_part cpus m))
     (λ m both there.
-    let parts = and_parts (is_major_kept (source_of r) (major_named r m)) (list_all within m.cpus) both in
+    let parts = and_parts (is_major_kept (source_of r) (major_named r m)) (list_all is_short m.cpus) both in
     major_valid r m k (record { by_name = parts.0; limits = parts.1; there = there }))
     r.scheduling.major_frames
-    (each_both (λ m. is_major_kept (source_of r) (major_named r m)) (λ m. list_all within m.cpus) r.scheduling.major_frames named limits)
+    (each_both (λ m. is_major_kept (source_of r) (major_named r m)) (λ m. list_all is_short m.cpus) r.scheduling.major_frames named limits)
     k.majors_placed
 
 -- ---- the plan
