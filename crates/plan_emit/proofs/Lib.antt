@@ -1,1 +1,13 @@
+pub mod Cpus
+pub mod Emitting
+pub mod Firsts
+pub mod Fitting
 pub mod Kept
+pub mod Known
+pub mod Limits
+pub mod Lists
+pub mod Majors
+pub mod Members
+pub mod Names
+pub mod Planned
+pub mod Valid

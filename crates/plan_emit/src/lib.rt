@@ -1,16 +1,13 @@
 //! The scheduling plan of a policy.
+//!
+//! A lawful policy's groups and frames, with each group, subject and CPU by its number.
 #![tactic(auto)]
 
-ghost use Rattle.std.specs.Prelude.{IfOk};
-ghost use Rattle.policy_types.specs.Resolution.{source_of};
-ghost use Rattle.plan_emit.specs.PlanOf.{IsPlanOf};
+mod emit;
+mod frames;
+mod groups;
 
-use image_pack::Plan;
-use policy_types::Lawful;
-use std::alloc::{AllocError, Global};
+pub use emit::plan;
 
-pub fn plan(_alloc: Global, _l: &Lawful) -> Result<Plan, AllocError>
-    ensures { IfOk result (IsPlanOf (source_of _l.now)) }
-{
-    Err(AllocError)
-}
+#[cfg(test)]
+mod tests;

@@ -1,0 +1,131 @@
+-- The numbers of a resolved policy that keeps the rules fit into a plan.
+use Rattle.std.proofs.Common.{◌≡◌, ℕ, ◌<◌, ◌≤◌, Bool, true, length, map, sym, ap, ◌∙◌, arith}
+use Rattle.std.specs.Prelude.{◌&&◌, nat_lt, nat_le}
+use Rattle.std.specs.List.{list_all}
+use Rattle.std.proofs.lemmas.Bool.{and_from, and_parts, leb-true, lt-ltb, ltb-true}
+use Rattle.std.proofs.lemmas.List.{length-map}
+use Rattle.std.proofs.lemmas.List.Folds.{list_all-map}
+use Rattle.policy_types.specs.Resolution.{Resolution, cpu_named, group_named, group_placed, major_named, major_placed, name_at, source_of, subject_named}
+use Rattle.policy_types.specs.Rules as rules
+use Rattle.policy_types.specs.Rules.{is_group, is_on, subject_cpu}
+use Rattle.policy_types.specs.declared.resolved.CpuFrames.{CpuFrames}
+use Rattle.policy_types.specs.declared.resolved.Group.{Group}
+use Rattle.policy_types.specs.declared.resolved.MinorFrame.{MinorFrame}
+use Rattle.policy_types.specs.declared.source.MinorFrame.{MinorFrame as NamedMinor}
+use Rattle.plan_emit.specs.Emitted.{fits_entry, fits_group, fits_major, fits_minor, ticks_in}
+use Rattle.plan_emit.proofs.Known.{Known}
+use Rattle.plan_emit.proofs.Limits.{is_within}
+use Rattle.plan_emit.proofs.Lists.{each_at_most, each_from, each_of, sum_by-map}
+use Rattle.plan_emit.proofs.Names.{group_names}
+
+abbrev pub frame_named : Resolution → MinorFrame → NamedMinor
+frame_named r f = record { group = name_at (group_names r) f.group; ticks = f.ticks }
+
+pub same_ticks : (r : Resolution) (c : CpuFrames) → rules.ticks_in (cpu_named r c) ≡ ticks_in c
+same_ticks r c = sum_by-map (λ f. f.ticks) (frame_named r) c.minor_frames
+
+pub many_subjects : (r : Resolution) → length (source_of r).subjects ≡ length r.subjects
+unfolding source_of
+many_subjects r = length-map r.subjects (subject_named r)
+
+pub many_groups : (r : Resolution) → length (source_of r).scheduling.groups ≡ length r.scheduling.groups
+unfolding source_of
+many_groups r = length-map r.scheduling.groups (group_named r)
+
+pub many_majors : (r : Resolution) → length (source_of r).scheduling.major_frames ≡ length r.scheduling.major_frames
+unfolding source_of
+many_majors r = length-map r.scheduling.major_frames (major_named r)
+
+-- ---- groups
+
+-- it has a member, and its members are there
+abbrev pub has_places : Resolution → Group → Bool
+has_places r g = nat_lt 0 (length g.subjects) && list_all (λ i. nat_lt i (length r.subjects)) g.subjects
+
+some_member : (r : Resolution) (g : Group) → is_group (source_of r) (group_named r g) ≡ true → nat_lt 0 (length g.subjects) ≡ true
+some_member r g h =
+    let names = map (name_at (map (λ s. s.name) r.subjects)) g.subjects in
+    let some = (and_parts (nat_lt 0 (length names)) (list_all (λ name. is_on (subject_cpu (source_of r) name) g.cpu) names) h).0 in
+    ap (nat_lt 0) (sym (length-map g.subjects (name_at (map (λ s. s.name) r.subjects)))) ∙ some
+
+pub members_there : (r : Resolution) → Known r → list_all (has_places r) r.scheduling.groups ≡ true
+unfolding source_of
+members_there r k =
+    each_of (λ g. is_group (source_of r) (group_named r g)) (group_placed r) (has_places r)
+    (λ g some placed. and_from (nat_lt 0 (length g.subjects)) (list_all (λ i. nat_lt i (length r.subjects)) g.subjects) (some_member r g some) placed)
+    r.scheduling.groups
+    (sym (list_all-map (is_group (source_of r)) (group_named r) r.scheduling.groups) ∙ k.members.groups)
+    k.groups_placed
+
+pub cpus_of_groups : (r : Resolution) → Known r → list_all (λ g. nat_lt g.cpu r.processor.logical_cpus) r.scheduling.groups ≡ true
+unfolding source_of
+cpus_of_groups r k =
+    sym (list_all-map (λ g. nat_lt g.cpu r.processor.logical_cpus) (group_named r) r.scheduling.groups) ∙ k.cpus.groups
+
+pub groups_fit : (r : Resolution) → Known r → list_all fits_group r.scheduling.groups ≡ true
+unfolding source_of
+groups_fit r k =
+    let few : r.processor.logical_cpus ≤ 8 = k.cpus.most in
+    let subjects : length (source_of r).subjects ≤ 32 = k.limits.most_subjects in
+    let many = many_subjects r in
+    let small : (i : ℕ) → nat_lt i (length r.subjects) ≡ true → nat_lt i 256 ≡ true = λ i l.
+    let below : i < length r.subjects = ltb-true i (length r.subjects) l in
+    lt-ltb i 256 (omega (arith, below, subjects, many)) in
+    each_of (λ g. nat_lt g.cpu r.processor.logical_cpus) (has_places r) fits_group
+    (λ g on places.
+    let below : g.cpu < r.processor.logical_cpus = ltb-true g.cpu r.processor.logical_cpus on in
+    let parts = and_parts (nat_lt 0 (length g.subjects)) (list_all (λ i. nat_lt i (length r.subjects)) g.subjects) places in
+    let cpu : nat_lt g.cpu 256 ≡ true = lt-ltb g.cpu 256 (omega (arith, below, few)) in
+    and_from (nat_lt g.cpu 256 && nat_lt 0 (length g.subjects)) (list_all (λ i. nat_lt i 256) g.subjects)
+    (and_from (nat_lt g.cpu 256) (nat_lt 0 (length g.subjects)) cpu parts.0)
+    (each_from (λ i. nat_lt i (length r.subjects)) (λ i. nat_lt i 256) small g.subjects parts.1))
+    r.scheduling.groups (cpus_of_groups r k) (members_there r k)
+
+-- ---- major frames
+
+-- at most 100,000 ticks and 64 minor frames
+abbrev pub is_short : CpuFrames → Bool
+is_short c = nat_le (ticks_in c) 100000 && nat_le (length c.minor_frames) 64
+
+abbrev pub frame_there : Resolution → MinorFrame → Bool
+frame_there r f = nat_lt f.group (length r.scheduling.groups)
+
+abbrev pub entry_there : Resolution → CpuFrames → Bool
+entry_there r c = list_all (frame_there r) c.minor_frames
+
+-- the limits, by the entries' places
+pub entries_within : (r : Resolution) → Known r → list_all (λ m. list_all is_short m.cpus) r.scheduling.major_frames ≡ true
+unfolding source_of
+entries_within r k =
+    let one : (c : CpuFrames) → is_within (cpu_named r c) ≡ true → is_short c ≡ true = λ c h.
+    let many : length (cpu_named r c).minor_frames ≡ length c.minor_frames = length-map c.minor_frames (frame_named r) in
+    sym (λ i. nat_le (same_ticks r c i) 100000 && nat_le (many i) 64) ∙ h in
+    each_from (λ m. list_all is_within (major_named r m).cpus) (λ m. list_all is_short m.cpus)
+    (λ m h. each_from (λ c. is_within (cpu_named r c)) is_short one m.cpus (sym (list_all-map is_within (cpu_named r) m.cpus) ∙ h))
+    r.scheduling.major_frames
+    (sym (list_all-map (λ m. list_all is_within m.cpus) (major_named r) r.scheduling.major_frames) ∙ k.limits.frames)
+
+entry_fits : (r : Resolution) (c : CpuFrames) → length r.scheduling.groups ≤ 32 → is_short c ≡ true → entry_there r c ≡ true → fits_entry c ≡ true
+entry_fits r c few short placed =
+    let most : ticks_in c ≤ 100000 = leb-true (ticks_in c) 100000 (and_parts (nat_le (ticks_in c) 100000) (nat_le (length c.minor_frames) 64) short).0 in
+    let each : list_all (λ f. nat_lt f.ticks 100001) c.minor_frames ≡ true = each_at_most (λ f. f.ticks) 100000 c.minor_frames most in
+    and_from (list_all fits_minor c.minor_frames) (nat_lt (ticks_in c) 4294967296)
+    (each_of (frame_there r) (λ f. nat_lt f.ticks 100001) fits_minor
+    (λ f group ticks.
+    let there : f.group < length r.scheduling.groups = ltb-true f.group (length r.scheduling.groups) group in
+    let short : f.ticks < 100001 = ltb-true f.ticks 100001 ticks in
+    and_from (nat_lt f.group 256) (nat_lt f.ticks 4294967296) (lt-ltb f.group 256 (omega (arith, there, few))) (lt-ltb f.ticks 4294967296 (omega (arith, short))))
+    c.minor_frames placed each)
+    (lt-ltb (ticks_in c) 4294967296 (omega (arith, most)))
+
+pub majors_fit : (r : Resolution) → Known r → list_all fits_major r.scheduling.major_frames ≡ true
+majors_fit r k =
+    let many_s = many_subjects r in
+    let many_g = many_groups r in
+    let subjects : length (source_of r).subjects ≤ 32 = k.limits.most_subjects in
+    let groups : length (source_of r).scheduling.groups ≤ length (source_of r).subjects = k.members.few in
+    let few : length r.scheduling.groups ≤ 32 = omega (arith, many_s, many_g, subjects, groups) in
+    each_of (λ m. list_all is_short m.cpus) (major_placed r) fits_major
+    (λ m short placed. each_of is_short (entry_there r) fits_entry
+    (λ c w q. entry_fits r c few w q) m.cpus short placed)
+    r.scheduling.major_frames (entries_within r k) k.majors_placed
