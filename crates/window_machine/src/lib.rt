@@ -17,14 +17,15 @@ mod start;
 mod turn;
 
 pub use machine::Machine;
+use muen_num::NoMemory;
 use policy_types::Lawful;
 pub use print::print_run;
 use start::{hold_all, start_all};
-use std::alloc::{AllocError, Global};
+use std::alloc::Global;
 
 /// The machine of a lawful policy, at the start. What it prints is the text of the policy's run,
 /// whatever files hold.
-pub fn load(alloc: Global, l: &Lawful) -> Result<Machine, AllocError>
+pub fn load(alloc: Global, l: &Lawful) -> Result<Machine, NoMemory>
     requires built { is_built (source_of l.now) ≡ true }
     requires cpus { has_built_cpus (source_of l.now) ≡ true }
     requires plain { has_plain_contents (source_of l.now) ≡ true }
