@@ -145,7 +145,7 @@ code_of Two = 1
 code_of Four = 2
 code_of Eight = 3
 
--- opcode, rd, rs, size code and immediate
+-- the fields of a row, as they are spelled: opcode, rd, rs, size code and immediate
 abbrev pub fields : ℕ → ℕ → ℕ → ℕ → ℤ → Fields
 fields opcode rd rs size imm =
     record { opcode = opcode; rd = rd; rs = rs; size = size; zero = 0; imm = cast_unsigned w32 imm }

@@ -131,6 +131,7 @@ fn word(a: u8, b: u8, c: u8, d: u8) -> u32
 impl Fields {
     ghost use Rattle.guest_isa.specs.GuestIsa.{fields_of, fields, fields_for, spelled, are_unset, row, imm_of, instruction_of, system_instruction_of};
 
+    // The fields of eight bytes.
     fn of(b: [u8; 8]) -> Fields
         ensures fields { result ≡ fields_of b }
         ensures bytes { spelled result ≡ b }
@@ -244,7 +245,7 @@ impl Fields {
         }
     }
 
-    // With no byte that has no field.
+    // The fields of a row, as they are spelled.
     fn new(opcode: u8, rd: u8, rs: u8, size: u8, imm: i32) -> Fields
         ensures { result ≡ fields opcode rd rs size imm }
     {
@@ -320,9 +321,9 @@ impl Fields {
 }
 
 /// The instruction that eight bytes spell: opcode; `rd` in the high and `rs` in the low nibble; a
-/// size code (0 to 3 for 1, 2, 4 and 8 bytes); zero; a signed little-endian immediate. `None`
-/// exactly where they are outside the table, as with a field that is set though the instruction
-/// has none.
+/// size code (0 to 3 for 1, 2, 4 and 8 bytes; 0 to 2 at a port); zero; a signed little-endian
+/// immediate. `None` exactly where they are outside the table, as with a field that is set though
+/// the instruction has none. Each instruction has one spelling.
 #[tactic(auto, unfolding(crate::specs::GuestIsa::decode_of))]
 pub fn decode(b: [u8; 8]) -> Option<Instr>
     ensures instruction { result ≡ decode_of b }
@@ -332,7 +333,8 @@ pub fn decode(b: [u8; 8]) -> Option<Instr>
     Fields::of(b).instruction()
 }
 
-/// The eight bytes that spell an instruction: `decode` gives it back.
+/// The eight bytes that spell an instruction, 0 in each field that it has none of. `decode` gives
+/// the instruction back.
 #[tactic(auto, unfolding(crate::specs::GuestIsa::decode_of, crate::specs::GuestIsa::encoding_of))]
 pub fn encode(i: &Instr) -> [u8; 8]
     requires { IsFine i.now }
