@@ -8,3 +8,6 @@ mod frames;
 mod groups;
 
 pub use emit::plan;
+
+#[cfg(test)]
+mod tests;

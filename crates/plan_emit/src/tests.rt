@@ -1,0 +1,110 @@
+//! The parts of a small plan: two groups, and two major frames of different lengths, the first of
+//! which lists CPU 1 before CPU 0.
+ghost use Rattle.std.specs.Prelude.{◌≡◌};
+
+use crate::frames::major_parts;
+use crate::groups::group_parts;
+use image_pack::{GroupPart, Minor};
+use muen_num::{Name, Seq};
+use policy_types::resolved::{CpuFrames, Group, MajorFrame, MinorFrame};
+use std::test::Fail;
+
+#[test]
+fn groups_by_number(rt: HostRuntime) -> Result<(), Fail> {
+    let alloc = rt.alloc();
+    let Some(name) = Name::read(b"g") else {
+        return Err(Fail::new("no name"));
+    };
+    let groups = [
+        Group {
+            name,
+            cpu: 1,
+            subjects: Seq::of(vec![in alloc; 2usize, 0]?),
+        },
+        Group {
+            name,
+            cpu: 0,
+            subjects: Seq::of(vec![in alloc; 1usize]?),
+        },
+    ];
+    let parts = group_parts(alloc, &groups)?;
+    let expected = [
+        GroupPart { cpu: 1, first: 2 },
+        GroupPart { cpu: 0, first: 1 },
+    ];
+    assert!(rt; parts.items() == expected.as_slice());
+    Ok(())
+}
+
+fn frame(group: usize, ticks: u64) -> MinorFrame
+    ensures { result ≡ record { group = group; ticks = ticks } }
+{
+    MinorFrame { group, ticks }
+}
+
+fn entry(cpu: u64, frames: Vec<MinorFrame>) -> CpuFrames
+    ensures { result ≡ record { cpu = cpu; minor_frames = frames.items } }
+{
+    CpuFrames {
+        cpu,
+        minor_frames: Seq::of(frames),
+    }
+}
+
+fn major(entries: Vec<CpuFrames>) -> MajorFrame
+    ensures { result ≡ record { cpus = entries.items } }
+{
+    MajorFrame {
+        cpus: Seq::of(entries),
+    }
+}
+
+#[test]
+fn frames_by_cpu(rt: HostRuntime) -> Result<(), Fail> {
+    let alloc = rt.alloc();
+    let split = entry(1, vec![in alloc; frame(0, 30), frame(2, 70)]?);
+    let whole = entry(0, vec![in alloc; frame(1, 100)]?);
+    let short = entry(0, vec![in alloc; frame(1, 5)]?);
+    let other = entry(1, vec![in alloc; frame(2, 5)]?);
+    let frames = [
+        major(vec![in alloc; split, whole]?),
+        major(vec![in alloc; short, other]?),
+    ];
+    let parts = major_parts(alloc, 2, &frames)?;
+    let expected: [(u32, &[Minor], &[Minor]); 2] = [
+        (
+            100,
+            &[Minor {
+                group: 1,
+                ticks: 100,
+            }],
+            &[
+                Minor {
+                    group: 0,
+                    ticks: 30,
+                },
+                Minor {
+                    group: 2,
+                    ticks: 70,
+                },
+            ],
+        ),
+        (
+            5,
+            &[Minor { group: 1, ticks: 5 }],
+            &[Minor { group: 2, ticks: 5 }],
+        ),
+    ];
+    assert!(rt; parts.len() == expected.len());
+    for (part, (ticks, first, second)) in parts.items().iter().zip(expected) {
+        assert!(rt; part.ticks == ticks);
+        match part.cpus.items() {
+            [one, other] => {
+                assert!(rt; one.items() == first);
+                assert!(rt; other.items() == second);
+            }
+            _ => assert!(rt; false),
+        }
+    }
+    Ok(())
+}
