@@ -4,7 +4,7 @@ use Rattle.std.specs.Prelude.{codes, replicate}
 use Rattle.std.specs.FinMap.{from_entries}
 use Rattle.muen_num.specs.declared.bits.Mode.TheVariants.{Switch}
 use Rattle.policy_types.specs.Contents.{Held, initial_bytes}
-use Rattle.policy_types.specs.Frames.{CpuPlan, frames_of}
+use Rattle.policy_types.specs.Frames.{frames_of}
 use Rattle.policy_types.specs.Thing.{things_of}
 use Rattle.policy_types.specs.Windows.{windows_of}
 use Rattle.policy_types.specs.Events.{event_of}
@@ -19,36 +19,12 @@ use Rattle.policy_types.specs.declared.source.SourceWay.TheVariants.{Trap as ByT
 use Rattle.state_page.specs.StatePage.{started}
 use Rattle.guest_isa.specs.GuestIsa.{decode_of}
 use Rattle.subject_model.specs.DeviceRecord.{only_ticks}
-use Rattle.subject_model.specs.Slot.{slot_at}
+use Rattle.image_pack.specs.Slot.{slot_at}
 use Rattle.subject_model.specs.Solo.{own_of, solo_turn}
 use Rattle.subject_model.specs.System.{start_of, inbox_of, system_turn}
 use Rattle.subject_model.specs.Run.{run_to}
 use Rattle.view_text.specs.declared.What.TheVariants.{Ran, Exit}
 use Rattle.view_text.specs.declared.End.TheVariants.{Trap, Stop}
-
--- ---- frame slots: two major frames, of 3 and 2 ticks, on one CPU
-
-plan : List (List CpuPlan)
-plan =
-    (record { cpu = 0; frames = record { group = 0; ticks = 1 } ∷ record { group = 1; ticks = 2 } ∷ [] } ∷ [])
-    ∷ (record { cpu = 0; frames = record { group = 1; ticks = 2 } ∷ [] } ∷ [])
-    ∷ []
-
-slot_in_second_frame : slot_at plan 0 2 ≡ Some (record { major = 0; group = 1; first = false; left = 1 })
-unfolding slot_at plan
-slot_in_second_frame = refl
-
-slot_in_second_major : slot_at plan 0 3 ≡ Some (record { major = 1; group = 1; first = true; left = 2 })
-unfolding slot_at plan
-slot_in_second_major = refl
-
-slot_begins_anew : slot_at plan 0 10 ≡ Some (record { major = 0; group = 0; first = true; left = 1 })
-unfolding slot_at plan
-slot_begins_anew = refl
-
-slot_of_no_cpu : slot_at plan 1 0 ≡ None
-unfolding slot_at plan
-slot_of_no_cpu = refl
 
 -- ---- a handover: the first subject's exit 0 raises a `switch` event, so that the second member of its group goes on
 

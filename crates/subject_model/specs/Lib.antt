@@ -1,5 +1,4 @@
 pub mod DeviceRecord
 pub mod Run
-pub mod Slot
 pub mod Solo
 pub mod System

@@ -15,7 +15,7 @@ use Rattle.policy_types.specs.declared.source.Source.{Source}
 use Rattle.policy_types.specs.declared.source.Subject.{Subject}
 use Rattle.policy_types.specs.declared.source.SourceWay.{SourceWay}
 use Rattle.state_page.specs.StatePage.{started}
-use Rattle.subject_model.specs.Slot.{Slot, slot_at}
+use Rattle.image_pack.specs.Slot.{Slot, slot_at}
 use Rattle.subject_model.specs.Solo.{Stored, Answer, Things, Inbox, own_of, solo_turn}
 use Rattle.state_page.specs.declared.SubjectState.{SubjectState}
 use Rattle.view_text.specs.declared.Line.{Line}
@@ -174,4 +174,4 @@ turned_by p y cpu tick (Some t) =
 -- the turn of a CPU at a tick
 unfoldable pub system_turn : Source → System → ℕ → ℕ → Turned
 system_turn p y cpu tick =
-    turned_by p y cpu tick (option_and_then (turner_in p y) (slot_at (frames_of p) cpu tick))
+    turned_by p y cpu tick (option_and_then (turner_in p y) (slot_at (frames_of p cpu) tick))

@@ -10,11 +10,13 @@ use Rattle.muen_num.specs.declared.bits.Kind.{Kind}
 use Rattle.muen_num.specs.declared.bits.Size.{Size}
 use Rattle.muen_num.specs.declared.bits.Size.TheVariants.{One, Two, Four, Eight}
 use Rattle.policy_types.specs.Windows.{Window, byte, violation, holds, access_by, access_of}
-use Rattle.policy_thin.proofs.ThinParts.{same_number}
 use Rattle.subject_model.specs.Solo.{reached, refused, reach_by, reach_of}
 use Rattle.subject_model.proofs.Alone.{LeadsTo}
 use Rattle.window_machine.specs.Machine.{bytes_at, nothing, sizes_of, WindowFits, AllFit, Within}
 use Rattle.window_machine.specs.declared.memory.Holding.{Holding}
+
+same_number : (m n : ℕ) → (m == n) ≡ true → m ≡ n
+same_number m n h = grind (arith, nat_tests)
 
 -- what stands at a place of a list that was mapped
 pub at-map : {X Y : Type 0} (f : X → Y) (xs : List X) (i : ℕ) (d : X) → slice_index_or (map f xs) i (f d) ≡ f (slice_index_or xs i d)

@@ -17,7 +17,6 @@ use Rattle.view_text.specs.ViewText.{turn_text, region_text}
 use Rattle.subject_model.specs.Solo.{Stored as StoredIn, Answer, Reach as ReachTo, reached, refused, store_at, turn_over}
 use Rattle.subject_model.specs.System.{overwritten, line_at}
 use Rattle.subject_model.specs.Run.{rows_text}
-use Rattle.policy_thin.specs.Thin.{size_or_none}
 use Rattle.state_page.specs.declared.SubjectState.{SubjectState}
 use Rattle.view_text.specs.declared.Line.{Line}
 use Rattle.window_machine.specs.declared.memory.Window.{Window}
@@ -102,34 +101,6 @@ answer_of t = record {
   stored = option_map stored_for t.stored;
   taken = None;
   raised = None;
-}
-
--- what a region holds at the start, where no file is asked for
-abbrev pub plain_bytes : ℕ → Content → List ℕ
-plain_bytes size Zero = replicate size 0
-plain_bytes size (Fill b) = replicate size b
-plain_bytes size (Inline bytes) = padded size bytes
-plain_bytes size (File name offset most) = []
-
--- a region with its bytes at the start
-abbrev pub held_at_start : Region → Holding
-held_at_start r = record { name = r.name; bytes = plain_bytes r.size r.content }
-
--- the place of the first region of this name, 0 where there is none
-abbrev pub place_of : List Region → List ℕ → ℕ
-place_of regions name = unwrap_or (position (λ r. bytes_eq r.name name) regions) 0
-
--- the window of a mapping
-abbrev pub window_in : List Region → Mapping → WindowOf ℕ
-window_in regions m = window m.virtual_address (size_or_none regions m) m.rights.0 (place_of regions m.region)
-
--- the machine of a subject with windows on these regions, at the start
-unfoldable pub machine_of : List Region → Subject → MachineState
-machine_of regions s = record {
-  name = s.name;
-  windows = map (window_in regions) s.memory;
-  holdings = map held_at_start regions;
-  state = started s.entry;
 }
 
 -- no event is ever pending, and there is no trap entry
