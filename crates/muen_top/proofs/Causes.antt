@@ -4,7 +4,7 @@ use Rattle.muen_outside.specs.Outside.{FilesState, SinkState}
 use Rattle.policy_types.specs.declared.source.Source.{Source}
 use Rattle.subject_model.specs.DeviceRecord.{DeviceRecord}
 use Rattle.muen_top.specs.Ended.{Follows, SawPolicy, SawRecord, BootCause}
-use Rattle.muen_top.specs.Thinly.{RunCause}
+use Rattle.muen_top.specs.Running.{RunCause}
 use Rattle.muen_top.specs.declared.end.Stop.TheVariants.{Usage, Refused, Missing, TooLong, FileFault, RecordRefused, NoMemory}
 use Rattle.muen_top.specs.declared.end.End.{End}
 use Rattle.muen_top.specs.declared.end.End.TheVariants.{Done, Stopped, OutFault}

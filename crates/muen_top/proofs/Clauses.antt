@@ -5,9 +5,8 @@ use Rattle.muen_outside.specs.Counts.{Rose}
 use Rattle.muen_outside.specs.Store.{Store, whole, reading_of}
 use Rattle.muen_outside.specs.Outside.{FilesState, SinkState}
 use Rattle.muen_outside.specs.Puts.{Appended, Failed}
-use Rattle.policy_types.specs.Document.{policy_of}
+use Rattle.policy_types.specs.Lawful.{accepted_policy_of}
 use Rattle.policy_types.specs.declared.refusal.Refusal.{Refusal}
-use Rattle.policy_thin.specs.Thin.{thin_policy_of}
 use Rattle.muen_top.specs.RecordText.{record_of, record_from, end_line, line_of as line_in}
 use Rattle.muen_top.specs.Ended.{Command, boots, command_of, record_most, SawPolicy, SawRecord, AfterPolicy, Booted, BootCause, HasCause}
 use Rattle.muen_top.specs.Report.{status_of, refusal_status, fault_status, Reported}
@@ -18,7 +17,7 @@ use Rattle.muen_top.specs.declared.end.Input.TheVariants.{Policy, Record}
 use Rattle.muen_top.specs.declared.end.Stop.TheVariants.{Usage, Refused, Missing, TooLong, FileFault, RecordRefused, NoMemory}
 use Rattle.muen_top.specs.declared.end.End.{End}
 use Rattle.muen_top.specs.declared.end.End.TheVariants.{Done, Stopped, OutFault}
-use Rattle.muen_top.proofs.Promises.{wanted, thin_ok, answered, out_of_memory, seen, refused_status}
+use Rattle.muen_top.proofs.Promises.{wanted, answered, out_of_memory, seen, refused_status}
 
 -- a record's fault is of status 6
 fault_from : (o : Option ℕ) (f : RecordFault) → record_from o ≡ Err f → fault_status f ≡ 6
@@ -103,7 +102,7 @@ module _ (policy inputs : List ℕ) (old new : FilesState) (out out' : SinkState
   boot_quiet (Stopped stop) b zero seven = b.1
 
   -- a refusal of the policy
-  boot_refused : (end : End) → BootCause policy inputs old new out out' end → status_of end ≡ 2 → (r : Refusal) × (p : SawPolicy policy old new (Err r)) × (end ≡ Stopped (Refused r)) × (thin_policy_of p.bytes ≡ Err r)
+  boot_refused : (end : End) → BootCause policy inputs old new out out' end → status_of end ≡ 2 → (r : Refusal) × (p : SawPolicy policy old new (Err r)) × (end ≡ Stopped (Refused r)) × (accepted_policy_of p.bytes ≡ Err r)
   boot_refused Done b e = absurd (omega arith)
   boot_refused OutFault b e = absurd (omega arith)
   boot_refused (Stopped Usage) b e = absurd (omega arith)
@@ -136,14 +135,11 @@ between_told : (held held' : Option Store) (P : Store → Type 0) → held' ≡ 
 between_told held held' P e h = subst (λ o. IfSome o P) e h
 
 printed : (words : List (List ℕ)) (policy inputs : List ℕ) (old new : FilesState) (prints : List ℕ → Type 0) → command_of words ≡ Some (boots policy inputs) → Booted policy inputs old new prints → Prints words old.held prints
-unfolding thin_policy_of
 printed words policy inputs old new prints words_are b =
-    let thin = thin_ok (policy_of b.saw_policy.bytes) b.source b.saw_policy.reads in
     record {
       named = record { policy = policy; inputs = inputs; words_are = words_are; bytes = b.saw_policy.bytes; told = b.saw_policy.saw.told };
       source = b.source;
-      policy_is = thin.0;
-      thin = thin.1;
+      policy_is = b.saw_policy.reads;
       record_bytes = b.saw_record.bytes;
       record_told = between_told old.held b.between.held (λ m. whole b.saw_record.bytes ≡ reading_of (get m inputs) record_most) b.follows.held b.saw_record.saw.told;
       run = b.run;

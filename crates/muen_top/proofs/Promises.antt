@@ -1,16 +1,27 @@
 -- What a whole call promises, read off the causes of its end.
-use Rattle.std.proofs.Common.{◌≡◌, inl, inr, ◌⊎◌, ℕ, List, Option, Some, None, Result, Ok, Err, IfSome, refl, sym, ap, subst, ◌∙◌, true, Bool, cond, false}
+use Rattle.std.proofs.Common.{◌≡◌, inl, inr, ◌⊎◌, ℕ, List, [], ◌∷◌, length, Option, Some, None, Result, Ok, Err, IfSome, refl, sym, ap, subst, ◌∙◌, true, cond, false}
+use Rattle.std.specs.Prelude.{nat_le}
 use Rattle.std.specs.FinMap.{get}
+use Rattle.std.specs.Option.{option_or}
+use Rattle.muen_num.specs.declared.tag.Part.TheVariants.{Whole}
 use Rattle.muen_outside.specs.Store.{Store, Reading, whole, absent, long, reading_of}
 use Rattle.muen_outside.specs.Outside.{FilesState, SinkState}
 use Rattle.serde_json.specs.Data.{Data}
+use Rattle.policy_types.specs.Contents.{content_refused, contents_refused}
+use Rattle.policy_types.specs.Lawful.{broken, names_broken, rules_broken, refusal_of, kept_or, accepted, accepted_policy_of}
+use Rattle.policy_types.specs.MoreRules.{offence_6, offence_7, offence_9, offence_10, offence_11, offence_12, offence_13, offence_14, offence_15, offence_19}
+use Rattle.policy_types.specs.Rules.{offence_1, offence_2, offence_3, offence_4, offence_5, offence_8, offence_16, offence_17, offence_18, offence_20}
+use Rattle.policy_types.specs.Search.{first_in}
 use Rattle.policy_types.specs.Document.{read_system, json_of, shape_refused, policy_from, policy_of}
+use Rattle.policy_types.specs.declared.offence.Offence.{Offence}
 use Rattle.policy_types.specs.declared.refusal.Fault.{Fault}
 use Rattle.policy_types.specs.declared.refusal.Refusal.{Refusal}
 use Rattle.policy_types.specs.declared.refusal.Refusal.TheVariants.{NotJson, Shape, Rule, Missing as MissingFile, TooLong as TooLongFile, FileFit, NoRoom, NoMemory as NoMemoryFor}
+use Rattle.policy_types.specs.declared.source.Content.{Content}
+use Rattle.policy_types.specs.declared.source.Content.TheVariants.{Zero, Fill, Inline, File}
+use Rattle.policy_types.specs.declared.source.Region.{Region}
 use Rattle.policy_types.specs.declared.source.Source.{Source}
 use Rattle.policy_types.specs.Reading.{Answers}
-use Rattle.policy_thin.specs.Thin.{is_thin, rule_0, thin_alone, thin_policy_of}
 use Rattle.subject_model.specs.DeviceRecord.{DeviceRecord}
 use Rattle.muen_top.specs.Ended.{Command, boots, policy_most, record_most, Saw, SawPolicy, SawRecord, BootCause, HasCause}
 use Rattle.muen_top.specs.Report.{status_of, refusal_status}
@@ -33,7 +44,7 @@ from_some (Some x) P h = h x refl
 module _ (m : Store) where
   -- ---- the reads
 
-  policy_whole : (name : List ℕ) (old new : FilesState) (answer : Result Source Refusal) (p : SawPolicy name old new answer) (of_record : Reading) → old.held ≡ Some m → policy_read (reading_of (get m name) policy_most) of_record ≡ policy_wanted (thin_policy_of p.bytes) of_record
+  policy_whole : (name : List ℕ) (old new : FilesState) (answer : Result Source Refusal) (p : SawPolicy name old new answer) (of_record : Reading) → old.held ≡ Some m → policy_read (reading_of (get m name) policy_most) of_record ≡ policy_wanted (accepted_policy_of p.bytes) of_record
   policy_whole name old new answer p of_record h =
       let told : whole p.bytes ≡ reading_of (get m name) policy_most = at_some old.held (λ m. whole p.bytes ≡ reading_of (get m name) policy_most) m h p.saw.told in
       ap (λ r. policy_read r of_record) (sym told)
@@ -98,38 +109,69 @@ module _ (m : Store) where
   wanted None old new out out' end h cause = inr cause.0
   wanted (Some (boots policy inputs)) old new out out' end h cause = boot_wanted policy inputs old new out out' end h cause
 
--- ---- what a thin policy's answer may be
+-- ---- what a document may be refused for
 
-ok_is : {X E : Type 0} (x y : X) → ◌≡◌ {A = Result X E} (Ok x) (Ok y) → x ≡ y
-ok_is x y e = cc
+-- a refusal, if there is one, is of status 2
+abbrev OfTwo : Option Refusal → Type 0
+OfTwo o = IfSome o (λ r. refusal_status r ≡ 2)
 
-tested : (q p : Source) (t : Bool) → is_thin q ≡ t → cond t (Ok q) (Err rule_0) ≡ Ok p → (◌≡◌ {A = Result Source Refusal} (Ok q) (Ok p)) × (is_thin p ≡ true)
-tested q p true h e = (e, subst (λ x. is_thin x ≡ true) (ok_is q p e) h)
-tested q p false h e = absurd (cc)
+first_two : (a b : Option Refusal) → OfTwo a → OfTwo b → OfTwo (option_or a b)
+first_two None b h k = k
+first_two (Some r) b h k = h
 
-pub thin_ok : (answer : Result Source Refusal) (p : Source) → thin_alone answer ≡ Ok p → (answer ≡ Ok p) × (is_thin p ≡ true)
-thin_ok (Ok q) p e = tested q p (is_thin q) refl e
-thin_ok (Err r) p e = absurd (cc)
+-- a rule, and what comes after it
+rule_two : (n : ℕ) (o : Option Offence) (rest : Option Refusal) → OfTwo rest → OfTwo (option_or (broken n o) rest)
+rule_two n None rest h = h
+rule_two n (Some x) rest h = refl
 
--- a policy's refusal is of status 2
-refusal_is : (t : Bool) (q : Source) (r : Refusal) → cond t (Ok q) (Err rule_0) ≡ Err r → refusal_status r ≡ 2
-refusal_is true q r e = absurd (cc)
-refusal_is false q r e = let f : rule_0 ≡ r = cc in ap refusal_status (sym f)
+names_two : (p : Source) → OfTwo (names_broken p)
+unfolding names_broken
+names_two p = rule_two 1 (offence_1 p) _ (rule_two 2 (offence_2 p) _ tt)
 
-shape_err : (answer : Result Source Fault) (r : Refusal) → thin_alone (shape_refused answer) ≡ Err r → refusal_status r ≡ 2
-shape_err (Ok q) r e = refusal_is (is_thin q) q r e
+rules_two : (p : Source) → OfTwo (rules_broken p)
+unfolding rules_broken
+rules_two p =
+    rule_two 3 (offence_3 p) _ (rule_two 4 (offence_4 p) _ (rule_two 5 (offence_5 p) _ (rule_two 6 (offence_6 p) _
+    (rule_two 7 (offence_7 p) _ (rule_two 8 (offence_8 p) _ (rule_two 9 (offence_9 p) _ (rule_two 10 (offence_10 p) _
+    (rule_two 11 (offence_11 p) _ (rule_two 12 (offence_12 p) _ (rule_two 13 (offence_13 p) _ (rule_two 14 (offence_14 p) _
+    (rule_two 15 (offence_15 p) _ (rule_two 16 (offence_16 p) _ (rule_two 17 (offence_17 p) _ (rule_two 18 (offence_18 p) _
+    (rule_two 19 (offence_19 p) _ (rule_two 20 (offence_20 p) _ tt)))))))))))))))))
+
+content_two : (r : Region) (content : Content) → OfTwo (content_refused r content)
+content_two r Zero = tt
+content_two r (Fill byte) = tt
+content_two r (File name offset most) = tt
+content_two r (Inline bytes) =
+    elim (nat_le (length bytes) r.size) as (λ t. OfTwo (cond t None (Some (FileFit (record { owner = r.name; part = Whole }) r.size (length bytes))))) [ true ↦ tt | false ↦ refl ]
+
+regions_two : (rs : List Region) → OfTwo (first_in (λ r. content_refused r r.content) rs)
+regions_two [] = tt
+regions_two (r ∷ rs) = first_two (content_refused r r.content) _ (content_two r r.content) (regions_two rs)
+
+refusal_two : (p : Source) → OfTwo (refusal_of p)
+unfolding refusal_of contents_refused
+refusal_two p =
+    first_two (names_broken p) _ (names_two p)
+    (first_two (rules_broken p) _ (rules_two p) (first_two (contents_refused p) None (regions_two p.memory) tt))
+
+kept_err : (p : Source) (o : Option Refusal) (r : Refusal) → OfTwo o → kept_or p o ≡ Err r → refusal_status r ≡ 2
+kept_err p None r h e = absurd (cc)
+kept_err p (Some x) r h e = let f : x ≡ r = cc in ap refusal_status (sym f) ∙ h
+
+shape_err : (answer : Result Source Fault) (r : Refusal) → accepted (shape_refused answer) ≡ Err r → refusal_status r ≡ 2
+shape_err (Ok q) r e = kept_err q (refusal_of q) r (refusal_two q) e
 shape_err (Err f) r e = let g : Shape f.place f.want ≡ r = cc in ap refusal_status (sym g)
 
-thin_err : (document : Option Data) (r : Refusal) → thin_alone (policy_from document) ≡ Err r → refusal_status r ≡ 2
-thin_err None r e = let f : NotJson ≡ r = cc in ap refusal_status (sym f)
-thin_err (Some d) r e = shape_err (read_system d) r e
+accepted_err : (document : Option Data) (r : Refusal) → accepted (policy_from document) ≡ Err r → refusal_status r ≡ 2
+accepted_err None r e = let f : NotJson ≡ r = cc in ap refusal_status (sym f)
+accepted_err (Some d) r e = shape_err (read_system d) r e
 
 -- a refusal that was seen: its answer, or want of memory
 pub data Seen (bytes : List ℕ) (r : Refusal) : Type 0 where
-  answered : thin_policy_of bytes ≡ Err r → Seen bytes r
+  answered : accepted_policy_of bytes ≡ Err r → Seen bytes r
   out_of_memory : r ≡ NoMemoryFor → Seen bytes r
 
-pub seen : (bytes : List ℕ) (r : Refusal) → Answers (thin_policy_of bytes) (Err r) → Seen bytes r
+pub seen : (bytes : List ℕ) (r : Refusal) → Answers (accepted_policy_of bytes) (Err r) → Seen bytes r
 seen bytes NotJson a = answered a
 seen bytes (Shape place want) a = answered a
 seen bytes (Rule n x y) a = answered a
@@ -140,6 +182,6 @@ seen bytes (NoRoom region size) a = answered a
 seen bytes NoMemoryFor a = out_of_memory refl
 
 pub refused_status : (bytes : List ℕ) (r : Refusal) → Seen bytes r → (refusal_status r ≡ 2) ⊎ (refusal_status r ≡ 8)
-unfolding thin_policy_of policy_of
-refused_status bytes r (answered a) = inl (thin_err (json_of bytes) r a)
+unfolding accepted_policy_of policy_of
+refused_status bytes r (answered a) = inl (accepted_err (json_of bytes) r a)
 refused_status bytes r (out_of_memory e) = inr (ap refusal_status e)

@@ -8,10 +8,10 @@ use Rattle.muen_outside.specs.Found.{IsMissed}
 use Rattle.muen_outside.specs.Outside.{FilesState, SinkState}
 use Rattle.muen_outside.specs.Puts.{Appended, Failed}
 use Rattle.policy_types.specs.Contents.{Held}
+use Rattle.policy_types.specs.Lawful.{accepted_policy_of}
 use Rattle.policy_types.specs.Reading.{Answers}
 use Rattle.policy_types.specs.declared.refusal.Refusal.{Refusal}
 use Rattle.policy_types.specs.declared.source.Source.{Source}
-use Rattle.policy_thin.specs.Thin.{thin_policy_of}
 use Rattle.subject_model.specs.DeviceRecord.{DeviceRecord}
 use Rattle.muen_top.specs.RecordText.{record_of}
 use Rattle.subject_model.specs.Run.{trace_of}
@@ -70,7 +70,7 @@ LoadStops most name input old new _ = ⊥
 pub record SawPolicy (name : List ℕ) (old new : FilesState) (answer : Result Source Refusal) : Type 0 where
   pub bytes : List ℕ
   pub saw : Saw policy_most name old new (whole bytes)
-  pub reads : Answers (thin_policy_of bytes) answer
+  pub reads : Answers (accepted_policy_of bytes) answer
 
 -- why a file gives no policy
 abbrev pub PolicyStops : List ℕ → FilesState → FilesState → Stop → Type 0

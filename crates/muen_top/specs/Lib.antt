@@ -1,5 +1,6 @@
+pub mod Building
 pub mod Ended
 pub mod RecordText
 pub mod Report
-pub mod Thinly
+pub mod Running
 pub mod Wanted

@@ -1,13 +1,12 @@
 -- How a call ends where files tell what they hold, and what is promised of every call.
-use Rattle.std.specs.Prelude.{◌≡◌, ℕ, true, List, Option, Some, None, IfSome, Result, Ok, Err, ◌⊎◌}
+use Rattle.std.specs.Prelude.{◌≡◌, ℕ, List, Option, Some, None, IfSome, Result, Ok, Err, ◌⊎◌}
 use Rattle.std.specs.FinMap.{get}
 use Rattle.muen_outside.specs.Store.{Store, Reading, whole, absent, long, reading_of}
 use Rattle.muen_outside.specs.Outside.{FilesState, SinkState}
 use Rattle.policy_types.specs.Contents.{Held}
-use Rattle.policy_types.specs.Document.{policy_of}
+use Rattle.policy_types.specs.Lawful.{accepted_policy_of}
 use Rattle.policy_types.specs.declared.refusal.Refusal.{Refusal}
 use Rattle.policy_types.specs.declared.source.Source.{Source}
-use Rattle.policy_thin.specs.Thin.{is_thin, thin_policy_of}
 use Rattle.subject_model.specs.DeviceRecord.{DeviceRecord}
 use Rattle.muen_top.specs.RecordText.{record_of}
 use Rattle.subject_model.specs.Run.{trace_of}
@@ -36,7 +35,7 @@ policy_wanted (Err refusal) of_record = Stopped (Refused refusal)
 
 -- the policy's file comes first, then the policy, then the record's file, then the record
 abbrev pub policy_read : Reading → Reading → End
-policy_read (whole bytes) of_record = policy_wanted (thin_policy_of bytes) of_record
+policy_read (whole bytes) of_record = policy_wanted (accepted_policy_of bytes) of_record
 policy_read absent of_record = Stopped (Missing Policy)
 policy_read (long n) of_record = Stopped (TooLong Policy n)
 
@@ -72,13 +71,12 @@ pub record Names (words : List (List ℕ)) (held : Option Store) : Type 0 where
   pub bytes : List ℕ
   pub told : IfSome held (λ m. whole bytes ≡ reading_of (get m policy) policy_most)
 
--- A thin policy and a record were read, and the text of the policy's run on the record, whatever files hold, was printed
--- so.
+-- A policy that is accepted and a record were read, and the text of the policy's run on the record, whatever files hold,
+-- was printed so.
 pub record Prints (words : List (List ℕ)) (held : Option Store) (prints : List ℕ → Type 0) : Type 0 where
   pub named : Names words held
   pub source : Source
-  pub policy_is : policy_of named.bytes ≡ Ok source
-  pub thin : is_thin source ≡ true
+  pub policy_is : accepted_policy_of named.bytes ≡ Ok source
   pub record_bytes : List ℕ
   pub record_told : IfSome held (λ m. whole record_bytes ≡ reading_of (get m named.inputs) record_most)
   pub run : DeviceRecord
@@ -89,14 +87,14 @@ pub record Prints (words : List (List ℕ)) (held : Option Store) (prints : List
 pub record RefusesPolicy (words : List (List ℕ)) (held : Option Store) (err err' : SinkState) : Type 0 where
   pub named : Names words held
   pub refusal : Refusal
-  pub answer : thin_policy_of named.bytes ≡ Err refusal
+  pub answer : accepted_policy_of named.bytes ≡ Err refusal
   pub line : Told (line_of (refusal_message refusal)) err err'
 
--- A thin policy was read, and a record that is refused, and the line of its fault was put.
+-- A policy that is accepted was read, and a record that is refused, and the line of its fault was put.
 pub record RefusesRecord (words : List (List ℕ)) (held : Option Store) (err err' : SinkState) : Type 0 where
   pub named : Names words held
   pub source : Source
-  pub answer : thin_policy_of named.bytes ≡ Ok source
+  pub answer : accepted_policy_of named.bytes ≡ Ok source
   pub record_bytes : List ℕ
   pub record_told : IfSome held (λ m. whole record_bytes ≡ reading_of (get m named.inputs) record_most)
   pub fault : RecordFault

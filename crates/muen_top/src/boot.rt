@@ -1,19 +1,20 @@
 // The command `boot`: a policy and a record are read, and the run is printed.
-ghost use Rattle.std.specs.Prelude.{◌≡◌, Ok, true, IfOk, IfErr};
+ghost use Rattle.std.specs.Prelude.{◌≡◌, Ok, None, true, IfOk, IfErr};
 ghost use Rattle.muen_outside.specs.Store.{whole};
-ghost use Rattle.policy_types.specs.Reading.{Answers};
-ghost use Rattle.policy_thin.specs.Thin.{is_thin, thin_policy_of, rule_0};
+ghost use Rattle.policy_types.specs.Built.{is_built, has_built_cpus};
+ghost use Rattle.policy_types.specs.Contents.{contents_refused};
+ghost use Rattle.policy_types.specs.Resolution.{source_of};
 ghost use Rattle.subject_model.specs.DeviceRecord.{only_ticks};
 ghost use Rattle.muen_top.specs.Ended.{Follows, Saw, LoadStops, SawPolicy, PolicyStops, SawRecord, RecordStops, BootCause};
-ghost use Rattle.muen_top.specs.Thinly.{RunCause};
+ghost use Rattle.muen_top.specs.Running.{RunCause};
 
 use crate::end::{End, Input, Stop};
+use crate::muen_build::accepted;
 use crate::record_text;
 use crate::record_text::Record;
-use muen_num::{Name, Seq};
+use muen_num::Seq;
 use muen_outside::{FileEnd, Files, Found, Sink, SinkFault};
-use policy_thin::is_thin;
-use policy_types::{Refusal, Source};
+use policy_types::Lawful;
 use std::alloc::Global;
 use window_machine::print_run;
 
@@ -43,36 +44,12 @@ fn load<F: Files>(
     }
 }
 
-// The answer for a policy that isn't built.
-fn rule_0() -> Refusal
-    ensures { result ≡ rule_0 }
-{
-    let policy = Name::read(b"policy").unwrap();
-    Refusal::Rule {
-        number: 0,
-        first: policy,
-        second: policy,
-    }
-}
-
-// The thin policy of a document.
-#[tactic(auto, unfolding(policy_thin::specs::Thin::thin_policy_of))]
-fn read_thin(alloc: Global, bytes: &[u8]) -> Result<Source, Refusal>
-    ensures answer { Answers (thin_policy_of bytes.now) result }
-    ensures thin { IfOk result (λ p. is_thin p ≡ true) }
-{
-    let source = policy_json::read(alloc, bytes)?;
-    if is_thin(&source) {
-        Ok(source)
-    } else {
-        Err(rule_0())
-    }
-}
-
 // The policy of a file.
-fn read_policy<F: Files>(alloc: Global, name: &str, files: &mut F) -> Result<Source, Stop>
-    ensures ok { IfOk result (λ p. SawPolicy name.now (F.state files.old) (F.state files.new) (Ok p)) }
-    ensures thin { IfOk result (λ p. is_thin p ≡ true) }
+fn read_policy<F: Files>(alloc: Global, name: &str, files: &mut F) -> Result<Lawful, Stop>
+    ensures ok { IfOk result (λ l. SawPolicy name.now (F.state files.old) (F.state files.new) (Ok (source_of l))) }
+    ensures built { IfOk result (λ l. is_built (source_of l) ≡ true) }
+    ensures cpus { IfOk result (λ l. has_built_cpus (source_of l) ≡ true) }
+    ensures contents { IfOk result (λ l. contents_refused (source_of l) ≡ None) }
     ensures err { IfErr result (PolicyStops name.now (F.state files.old) (F.state files.new)) }
     ensures follows { Follows (F.state files.old) (F.state files.new) }
 {
@@ -80,8 +57,8 @@ fn read_policy<F: Files>(alloc: Global, name: &str, files: &mut F) -> Result<Sou
         Ok(bytes) => bytes,
         Err(stop) => return Err(stop),
     };
-    match read_thin(alloc, bytes.items()) {
-        Ok(source) => Ok(source),
+    match accepted(alloc, bytes.items()) {
+        Ok(policy) => Ok(policy),
         Err(refusal) => Err(Stop::Refused(refusal)),
     }
 }
@@ -102,12 +79,14 @@ fn read_record<F: Files>(alloc: Global, name: &str, files: &mut F) -> Result<Rec
     }
 }
 
-// Runs a thin policy.
-fn run_thin<S: Sink>(alloc: Global, source: &Source, run: Record, out: &mut S) -> End
-    requires { is_thin source.now ≡ true }
-    ensures { RunCause source.now (only_ticks run.end) (S.state out.old) (S.state out.new) result }
+// Runs a policy that is accepted.
+fn run_policy<S: Sink>(alloc: Global, policy: &Lawful, run: Record, out: &mut S) -> End
+    requires built { is_built (source_of policy.now) ≡ true }
+    requires cpus { has_built_cpus (source_of policy.now) ≡ true }
+    requires contents { contents_refused (source_of policy.now) ≡ None }
+    ensures { RunCause (source_of policy.now) (only_ticks run.end) (S.state out.old) (S.state out.new) result }
 {
-    let mut machine = match window_machine::load(alloc, source) {
+    let mut machine = match window_machine::load(alloc, policy) {
         Ok(machine) => machine,
         Err(_) => return End::Stopped(Stop::NoMemory),
     };
@@ -128,12 +107,12 @@ pub(crate) fn boot<F: Files, S: Sink>(
     ensures cause { BootCause policy.now inputs.now (F.state files.old) (F.state files.new) (S.state out.old) (S.state out.new) result }
     ensures follows { Follows (F.state files.old) (F.state files.new) }
 {
-    let source = match read_policy(alloc, policy, files) {
-        Ok(source) => source,
+    let lawful = match read_policy(alloc, policy, files) {
+        Ok(lawful) => lawful,
         Err(stop) => return End::Stopped(stop),
     };
     match read_record(alloc, inputs, files) {
-        Ok(run) => run_thin(alloc, &source, run, out),
+        Ok(run) => run_policy(alloc, &lawful, run, out),
         Err(stop) => End::Stopped(stop),
     }
 }

@@ -11,6 +11,7 @@ ghost use Rattle.muen_top.specs.Wanted.{end_wanted, IsFault, Ends, Prints, Refus
 mod boot;
 mod command;
 mod end;
+pub mod muen_build;
 pub mod record_text;
 mod report;
 
@@ -27,7 +28,7 @@ use std::alloc::Global;
 /// |---|---|---|
 /// | 0 | the text was put | |
 /// | 1 | the words are none of the forms | `usage: ..` |
-/// | 2 | the policy is no JSON text, breaks the schema, or isn't built | `not JSON`, `shape at PLACE: want WANT`, `rule 0: policy policy` |
+/// | 2 | the policy is no JSON text, breaks the schema or a rule, or has more bytes for a region than there is room | `not JSON`, `shape at PLACE: want WANT`, `rule N: FIRST SECOND`, `REGION: LENGTH bytes in room for ROOM` |
 /// | 3 | a file isn't there, or is longer than 4 MiB (policy) or 16 MiB (record) | `missing file NAME`, `file NAME has LENGTH bytes` |
 /// | 4 | a call on `files` failed | `file fault` |
 /// | 6 | the record isn't built | `record refused at line 1: not yet built` |

@@ -1,8 +1,9 @@
-//! The rules that a policy must keep, over whole documents: reading, names, rules. Each row changes a
-//! lawful policy in some places; the answers were worked out by hand.
+//! The rules that a policy must keep, over whole documents. Each row changes a lawful policy in some
+//! places; the answers were worked out by hand.
+use crate::muen_build::lawful;
 use muen_num::Name;
 use muen_num::text::append_decimal32;
-use policy_types::Refusal;
+use policy_types::{Refusal, Source};
 use std::alloc::Global;
 use std::test::Fail;
 
@@ -61,10 +62,20 @@ fn of_refusal(refusal: &Refusal) -> Answer {
 }
 
 fn answer_to(alloc: Global, text: &[u8]) -> Answer {
-    let source = match policy_json::read(alloc, text) {
+    match lawful(alloc, text) {
+        Ok(_) => Answer::Lawful,
+        Err(refusal) => of_refusal(&refusal),
+    }
+}
+
+// The same policy on two CPUs, of which a document isn't read yet.
+#[tactic(auto, unfolding(policy_types::specs::Built::is_built))]
+fn answer_on_two(alloc: Global, text: &[u8]) -> Answer {
+    let mut source: Source = match policy_json::read(alloc, text) {
         Ok(source) => source,
         Err(refusal) => return of_refusal(&refusal),
     };
+    source.processor.logical_cpus = 2;
     let resolved = match policy_names::resolve(alloc, source) {
         Ok(resolved) => resolved,
         Err(refusal) => return of_refusal(&refusal),
@@ -94,7 +105,7 @@ fn is_answered(answer: &Answer, broken: Broken) -> bool {
 #[test]
 fn rules(rt: HostRuntime) -> Result<(), Fail> {
     let alloc = rt.alloc();
-    let cases: [(&[(&[u8], &[u8])], Broken); 69] = [
+    let cases: [(&[(&[u8], &[u8])], Broken); 63] = [
         (&[], None),
         (
             &[(b"\"virtualAddress\":8388608", b"\"virtualAddress\":4198400")],
@@ -367,17 +378,6 @@ fn rules(rt: HostRuntime) -> Result<(), Fail> {
             Some((16, b"major.1", b"cpu.0")),
         ),
         (
-            &[(b"\"logicalCpus\":1", b"\"logicalCpus\":2")],
-            Some((16, b"major.0", b"cpu.1")),
-        ),
-        (
-            &[
-                (b"\"logicalCpus\":1", b"\"logicalCpus\":2"),
-                (b"\"name\":\"gb\",\"cpu\":0", b"\"name\":\"gb\",\"cpu\":1"),
-            ],
-            Some((16, b"major.0", b"cpu.0")),
-        ),
-        (
             &[
                 (b"\"ticks\":4", b"\"ticks\":0"),
                 (b"\"ticks\":2", b"\"ticks\":0"),
@@ -460,80 +460,62 @@ fn rules(rt: HostRuntime) -> Result<(), Fail> {
             ],
             Some((18, b"low", b"high")),
         ),
-        (
-            &[
-                (b"\"logicalCpus\":1", b"\"logicalCpus\":2"),
-                (b"\"name\":\"b\",\"cpu\":0", b"\"name\":\"b\",\"cpu\":1"),
-                (b"\"name\":\"gb\",\"cpu\":0", b"\"name\":\"gb\",\"cpu\":1"),
-                (
-                    b"{\"group\":\"ga\",\"ticks\":2},{\"group\":\"gb\",\"ticks\":3}]}",
-                    b"{\"group\":\"ga\",\"ticks\":2}]},{\"cpu\":1,\"minorFrames\":[{\"group\":\"gb\",\"ticks\":2}]}",
-                ),
-                (
-                    b"{\"cpu\":0,\"minorFrames\":[{\"group\":\"gb\",\"ticks\":4}]}",
-                    b"{\"cpu\":0,\"minorFrames\":[{\"group\":\"ga\",\"ticks\":4}]},{\"cpu\":1,\"minorFrames\":[{\"group\":\"gb\",\"ticks\":3},{\"group\":\"gb\",\"ticks\":1}]}",
-                ),
-            ],
-            None,
-        ),
-        (
-            &[
-                (b"\"logicalCpus\":1", b"\"logicalCpus\":2"),
-                (b"\"name\":\"b\",\"cpu\":0", b"\"name\":\"b\",\"cpu\":1"),
-                (b"\"name\":\"gb\",\"cpu\":0", b"\"name\":\"gb\",\"cpu\":1"),
-                (
-                    b"{\"group\":\"ga\",\"ticks\":2},{\"group\":\"gb\",\"ticks\":3}]}",
-                    b"{\"group\":\"ga\",\"ticks\":2}]},{\"cpu\":1,\"minorFrames\":[{\"group\":\"gb\",\"ticks\":2}]}",
-                ),
-                (
-                    b"{\"cpu\":0,\"minorFrames\":[{\"group\":\"gb\",\"ticks\":4}]}",
-                    b"{\"cpu\":0,\"minorFrames\":[{\"group\":\"ga\",\"ticks\":4}]},{\"cpu\":1,\"minorFrames\":[{\"group\":\"gb\",\"ticks\":3},{\"group\":\"gb\",\"ticks\":1}]}",
-                ),
-                (b"\"ticks\":1", b"\"ticks\":2"),
-            ],
-            Some((16, b"major.1", b"cpu.1")),
-        ),
-        (
-            &[
-                (b"\"logicalCpus\":1", b"\"logicalCpus\":2"),
-                (b"\"name\":\"b\",\"cpu\":0", b"\"name\":\"b\",\"cpu\":1"),
-                (b"\"name\":\"gb\",\"cpu\":0", b"\"name\":\"gb\",\"cpu\":1"),
-                (
-                    b"{\"group\":\"ga\",\"ticks\":2},{\"group\":\"gb\",\"ticks\":3}]}",
-                    b"{\"group\":\"ga\",\"ticks\":2}]},{\"cpu\":1,\"minorFrames\":[{\"group\":\"gb\",\"ticks\":2}]}",
-                ),
-                (
-                    b"{\"cpu\":0,\"minorFrames\":[{\"group\":\"gb\",\"ticks\":4}]}",
-                    b"{\"cpu\":0,\"minorFrames\":[{\"group\":\"ga\",\"ticks\":4}]},{\"cpu\":1,\"minorFrames\":[{\"group\":\"gb\",\"ticks\":3},{\"group\":\"gb\",\"ticks\":1}]}",
-                ),
-                (
-                    b"\"cpu\":1,\"minorFrames\":[{\"group\":\"gb\",\"ticks\":2}",
-                    b"\"cpu\":1,\"minorFrames\":[{\"group\":\"ga\",\"ticks\":2}",
-                ),
-            ],
-            Some((16, b"major.0", b"cpu.1")),
-        ),
-        (
-            &[
-                (b"\"logicalCpus\":1", b"\"logicalCpus\":2"),
-                (b"\"name\":\"b\",\"cpu\":0", b"\"name\":\"b\",\"cpu\":1"),
-                (b"\"name\":\"gb\",\"cpu\":0", b"\"name\":\"gb\",\"cpu\":1"),
-                (
-                    b"{\"group\":\"ga\",\"ticks\":2},{\"group\":\"gb\",\"ticks\":3}]}",
-                    b"{\"group\":\"ga\",\"ticks\":2}]},{\"cpu\":1,\"minorFrames\":[{\"group\":\"gb\",\"ticks\":2}]}",
-                ),
-                (
-                    b"{\"cpu\":0,\"minorFrames\":[{\"group\":\"gb\",\"ticks\":4}]}",
-                    b"{\"cpu\":0,\"minorFrames\":[{\"group\":\"ga\",\"ticks\":4}]},{\"cpu\":1,\"minorFrames\":[{\"group\":\"gb\",\"ticks\":3},{\"group\":\"gb\",\"ticks\":1}]}",
-                ),
-                (b"\"name\":\"b\",\"cpu\":1", b"\"name\":\"b\",\"cpu\":0"),
-            ],
-            Some((17, b"gb", b"gb")),
-        ),
     ];
     for (changes, broken) in cases {
         let text = changed(alloc, LAWFUL, changes)?;
         assert!(rt; is_answered(&answer_to(alloc, &text), broken));
+    }
+    Ok(())
+}
+
+// The second subject with its group on CPU 1, and frames for both CPUs.
+const ON_TWO: &[(&[u8], &[u8])] = &[
+    (b"\"name\":\"b\",\"cpu\":0", b"\"name\":\"b\",\"cpu\":1"),
+    (b"\"name\":\"gb\",\"cpu\":0", b"\"name\":\"gb\",\"cpu\":1"),
+    (
+        b"{\"group\":\"ga\",\"ticks\":2},{\"group\":\"gb\",\"ticks\":3}]}",
+        b"{\"group\":\"ga\",\"ticks\":2}]},{\"cpu\":1,\"minorFrames\":[{\"group\":\"gb\",\"ticks\":2}]}",
+    ),
+    (
+        b"{\"cpu\":0,\"minorFrames\":[{\"group\":\"gb\",\"ticks\":4}]}",
+        b"{\"cpu\":0,\"minorFrames\":[{\"group\":\"ga\",\"ticks\":4}]},{\"cpu\":1,\"minorFrames\":[{\"group\":\"gb\",\"ticks\":3},{\"group\":\"gb\",\"ticks\":1}]}",
+    ),
+];
+
+#[test]
+fn rules_on_two_cpus(rt: HostRuntime) -> Result<(), Fail> {
+    let alloc = rt.alloc();
+    let cases: [(&[(&[u8], &[u8])], &[(&[u8], &[u8])], Broken); 6] = [
+        (&[], &[], Some((16, b"major.0", b"cpu.1"))),
+        (
+            &[],
+            &[(b"\"name\":\"gb\",\"cpu\":0", b"\"name\":\"gb\",\"cpu\":1")],
+            Some((16, b"major.0", b"cpu.0")),
+        ),
+        (ON_TWO, &[], None),
+        (
+            ON_TWO,
+            &[(b"\"ticks\":1", b"\"ticks\":2")],
+            Some((16, b"major.1", b"cpu.1")),
+        ),
+        (
+            ON_TWO,
+            &[(
+                b"\"cpu\":1,\"minorFrames\":[{\"group\":\"gb\",\"ticks\":2}",
+                b"\"cpu\":1,\"minorFrames\":[{\"group\":\"ga\",\"ticks\":2}",
+            )],
+            Some((16, b"major.0", b"cpu.1")),
+        ),
+        (
+            ON_TWO,
+            &[(b"\"name\":\"b\",\"cpu\":1", b"\"name\":\"b\",\"cpu\":0")],
+            Some((17, b"gb", b"gb")),
+        ),
+    ];
+    for (plan, changes, broken) in cases {
+        let planned = changed(alloc, LAWFUL, plan)?;
+        let text = changed(alloc, &planned, changes)?;
+        assert!(rt; is_answered(&answer_on_two(alloc, &text), broken));
     }
     Ok(())
 }

@@ -105,6 +105,8 @@ region ro ad7facb2586fc6e966c004d7d1d16b024f5805ff7cb47c7a85dabd8b48892ca7\n";
 
 const TWO_CPUS: &[u8] = b"{\"processor\":{\"logicalCpus\":2},\"scheduling\":{}}";
 
+const NO_SUBJECT: &[u8] = b"{\"processor\":{\"logicalCpus\":1},\"scheduling\":{}}";
+
 const USAGE: &[u8] =
     b"muen: usage: build POLICY IMAGE, run IMAGE RECORD, boot POLICY RECORD, map POLICY, flows POLICY, load NUMBER\n";
 
@@ -137,6 +139,7 @@ fn files(alloc: Global, fails: &[u64]) -> Result<MemFiles, Fail> {
     held.push(file(alloc, "past", PAST)?)?;
     held.push(file(alloc, "ro", READ_ONLY)?)?;
     held.push(file(alloc, "two", TWO_CPUS)?)?;
+    held.push(file(alloc, "bare", NO_SUBJECT)?)?;
     held.push(file(alloc, "late", b"end 100001\n")?)?;
     Ok(MemFiles::make(held, Vec::from_slice(alloc, fails)?))
 }
@@ -163,7 +166,7 @@ fn call(
 #[test]
 fn answers(rt: HostRuntime) -> Result<(), Fail> {
     let alloc = rt.alloc();
-    let cases: [(&[&str], u8, &[u8], &[u8]); 18] = [
+    let cases: [(&[&str], u8, &[u8], &[u8]); 20] = [
         (&["boot", "p", "three"], 0, THREE_TICKS, b""),
         (&["boot", "p", "zero"], 0, NO_TICK, b""),
         (&["boot", "spaced", "three"], 0, THREE_TICKS, b""),
@@ -191,7 +194,13 @@ fn answers(rt: HostRuntime) -> Result<(), Fail> {
             &["boot", "two", "three"],
             2,
             b"",
-            b"muen: rule 0: policy policy\n",
+            b"muen: shape at /processor/logicalCpus: want not yet built\n",
+        ),
+        (
+            &["boot", "bare", "three"],
+            2,
+            b"",
+            b"muen: rule 20: subjects subjects\n",
         ),
         (
             &["boot", "absent", "three"],
@@ -212,6 +221,12 @@ fn answers(rt: HostRuntime) -> Result<(), Fail> {
             b"muen: record refused at line 1: not yet built\n",
         ),
         (&["boot", "broken", "nothing"], 2, b"", b"muen: not JSON\n"),
+        (
+            &["boot", "bare", "nothing"],
+            2,
+            b"",
+            b"muen: rule 20: subjects subjects\n",
+        ),
     ];
     for (words, status, text, line) in cases {
         let mut files = files(alloc, &[])?;
@@ -220,6 +235,68 @@ fn answers(rt: HostRuntime) -> Result<(), Fail> {
         assert_eq!(rt; ended.status, status);
         assert_eq!(rt; ended.out.as_slice(), text);
         assert_eq!(rt; ended.err.as_slice(), line);
+    }
+    Ok(())
+}
+
+// A policy of one subject whose frame has these ticks, with regions of a page for which it has so
+// many bytes.
+fn filled(alloc: Global, regions: &[(&[u8], usize)], ticks: &[u8]) -> Result<Vec<u8>, Fail> {
+    let mut text = Vec::from_slice(alloc, b"{\"processor\":{\"logicalCpus\":1},\"memory\":[")?;
+    for (i, (name, count)) in regions.iter().enumerate() {
+        if i > 0 {
+            text.push(b',')?;
+        }
+        text.extend_from_slice(b"{\"name\":\"")?;
+        text.extend_from_slice(name)?;
+        text.extend_from_slice(b"\",\"size\":4096,\"content\":{\"hex\":\"")?;
+        for _ in 0..*count {
+            text.extend_from_slice(b"00")?;
+        }
+        text.extend_from_slice(b"\"}}")?;
+    }
+    text.extend_from_slice(
+        b"],\"subjects\":[{\"name\":\"one\",\"cpu\":0,\"entry\":0}],\
+\"scheduling\":{\"groups\":[{\"name\":\"g\",\"cpu\":0,\"subjects\":[\"one\"]}],\
+\"majorFrames\":[{\"cpus\":[{\"cpu\":0,\"minorFrames\":[{\"group\":\"g\",\"ticks\":",
+    )?;
+    text.extend_from_slice(ticks)?;
+    text.extend_from_slice(b"}]}]}]}}")?;
+    Ok(text)
+}
+
+// The record's file is absent: it is read once the policy is accepted.
+#[test]
+fn contents(rt: HostRuntime) -> Result<(), Fail> {
+    let alloc = rt.alloc();
+    let cases: [(&[(&[u8], usize)], &[u8], u8, &[u8]); 3] = [
+        (
+            &[(b"a", 4096), (b"b", 0)],
+            b"1",
+            3,
+            b"muen: missing file absent\n",
+        ),
+        (
+            &[(b"a", 4096), (b"b", 4097), (b"c", 5000)],
+            b"1",
+            2,
+            b"muen: b: 4097 bytes in room for 4096\n",
+        ),
+        // A rule comes first.
+        (&[(b"a", 4097)], b"0", 2, b"muen: rule 16: major.0 cpu.0\n"),
+    ];
+    for (regions, ticks, status, line) in cases {
+        let mut held = Vec::new(alloc);
+        held.push((
+            String::from_str(alloc, "p")?,
+            filled(alloc, regions, ticks)?,
+        ))?;
+        let mut files = MemFiles::make(held, Vec::new(alloc));
+        let mut out = MemSink::make(alloc, 10, Vec::new(alloc), 0)?;
+        let ended = call(alloc, &["boot", "p", "absent"], &mut files, &mut out)?;
+        assert_eq!(rt; ended.status, status);
+        assert_eq!(rt; ended.err.as_slice(), line);
+        assert_eq!(rt; ended.out.as_slice(), b"".as_slice());
     }
     Ok(())
 }
