@@ -1,7 +1,7 @@
 //! From a document to a policy that is accepted: it is read, its names are resolved, the rules are
 //! checked, and what it says of memory's contents is held against the room for it.
 ghost use Rattle.std.specs.Prelude.{◌≡◌, None, true, IfOk};
-ghost use Rattle.policy_types.specs.Built.{is_built, has_built_cpus};
+ghost use Rattle.policy_types.specs.Built.{is_built, has_built_cpus, has_plain_contents};
 ghost use Rattle.policy_types.specs.Contents.{content_refused, contents_refused};
 ghost use Rattle.policy_types.specs.Lawful.{accepted_policy_of, kept_source};
 ghost use Rattle.policy_types.specs.Reading.{Answers};
@@ -23,6 +23,7 @@ pub fn lawful(alloc: Global, policy: &[u8]) -> Result<Lawful, Refusal>
     ensures answer { Answers (lawful_policy_of policy.now) (kept_source result) }
     ensures built { IfOk result (λ l. is_built (source_of l) ≡ true) }
     ensures cpus { IfOk result (λ l. has_built_cpus (source_of l) ≡ true) }
+    ensures plain { IfOk result (λ l. has_plain_contents (source_of l) ≡ true) }
 {
     let source = policy_json::read(alloc, policy)?;
     let resolved = policy_names::resolve(alloc, source)?;
@@ -80,6 +81,7 @@ pub fn accepted(alloc: Global, policy: &[u8]) -> Result<Lawful, Refusal>
     ensures answer { Answers (accepted_policy_of policy.now) (kept_source result) }
     ensures built { IfOk result (λ l. is_built (source_of l) ≡ true) }
     ensures cpus { IfOk result (λ l. has_built_cpus (source_of l) ≡ true) }
+    ensures plain { IfOk result (λ l. has_plain_contents (source_of l) ≡ true) }
     ensures contents { IfOk result (λ l. contents_refused (source_of l) ≡ None) }
 {
     let found = lawful(alloc, policy)?;
