@@ -73,4 +73,6 @@ mod instruction_tests;
 #[cfg(test)]
 mod rules_tests;
 #[cfg(test)]
+mod system_tests;
+#[cfg(test)]
 mod tests;
