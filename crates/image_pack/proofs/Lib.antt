@@ -1,2 +1,3 @@
 mod Examples
+pub mod ByNumber
 pub mod SlotLaws

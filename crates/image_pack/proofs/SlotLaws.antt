@@ -1,9 +1,9 @@
 -- Laws of the frame slots: how many ticks a CPU has, where each of them stands, and that a valid plan has a slot at each
 -- tick, with a group on the CPU.
-use Rattle.std.proofs.Common.{◌≡◌, ℕ, zero, suc, ◌+◌, ◌-◌, ◌%◌, ◌<◌, ◌≤◌, Bool, true, List, [], ◌∷◌, ◌++◌, length, map, Some, refl, sym, ap, ◌∙◌, subst, inl, inr, arith, length-append}
+use Rattle.std.proofs.Common.{◌≡◌, ℕ, zero, suc, ◌+◌, ◌-◌, ◌%◌, ◌<◌, ◌≤◌, Bool, true, List, [], ◌∷◌, ◌++◌, length, map, Some, refl, sym, ap, ◌∙◌, subst, arith, length-append}
 use Rattle.std.specs.Prelude.{◌==◌, ◌&&◌, slice_get, slice_index_or, option_map, nat_lt, nat_le}
 use Rattle.std.specs.List.{list_all, sum_by, enumerate_from, flat_map}
-use Rattle.std.proofs.lemmas.Bool.{and_parts, and_from, cases_lt, ltb-true, leb-true, eqb-true}
+use Rattle.std.proofs.lemmas.Bool.{and_parts, and_from, ltb-true, leb-true, eqb-true}
 use Rattle.std.proofs.lemmas.List.{length-map}
 use Rattle.std.proofs.lemmas.List.Concat.{flat_map-cons}
 use Rattle.std.proofs.lemmas.List.Folds.{list_all-append, list_all-map}
@@ -18,50 +18,7 @@ use Rattle.image_pack.specs.declared.plan.GroupPart.{GroupPart}
 use Rattle.image_pack.specs.declared.plan.Minor.{Minor}
 use Rattle.image_pack.specs.declared.plan.Major.{Major}
 use Rattle.image_pack.specs.declared.plan.Plan.{Plan}
-
--- ---- elements by number
-
-get_left : {X : Type 0} (xs ys : List X) (k : ℕ) → k < length xs → slice_get (xs ++ ys) k ≡ slice_get xs k
-get_left [] ys k l = absurd (omega arith)
-get_left (x ∷ xs) ys zero l = refl
-get_left (x ∷ xs) ys (suc k) l = get_left xs ys k (omega arith)
-
-get_right : {X : Type 0} (xs ys : List X) (k : ℕ) → slice_get (xs ++ ys) (length xs + k) ≡ slice_get ys k
-get_right [] ys k = let e : 0 + k ≡ k = omega arith in ap (slice_get ys) e
-get_right (x ∷ xs) ys k =
-    let e : length (x ∷ xs) + k ≡ suc (length xs + k) = omega arith in
-    ap (slice_get (x ∷ xs ++ ys)) e ∙ get_right xs ys k
-
-there : {X : Type 0} (xs : List X) (k : ℕ) → k < length xs → (x : X) × (slice_get xs k ≡ Some x)
-there [] k l = absurd (omega arith)
-there (x ∷ xs) zero l = (x, refl)
-there (x ∷ xs) (suc k) l = there xs k (omega arith)
-
-passes_at : {X : Type 0} (test : X → Bool) (xs : List X) (k : ℕ) (x : X) → list_all test xs ≡ true → slice_get xs k ≡ Some x → test x ≡ true
-passes_at test [] k x all e = absurd (cc)
-passes_at test (y ∷ ys) zero x all e =
-    let same : y ≡ x = cc in
-    subst (λ z. test z ≡ true) same (and_parts (test y) (list_all test ys) all).0
-passes_at test (y ∷ ys) (suc k) x all e = passes_at test ys k x (and_parts (test y) (list_all test ys) all).1 e
-
-length_numbers : (n : ℕ) → length (numbers_below n) ≡ n
-length_numbers zero = refl
-length_numbers (suc n) =
-    let before : length (numbers_below n) ≡ n = length_numbers n in
-    let more : length (numbers_below n ++ n ∷ []) ≡ length (numbers_below n) + 1 = length-append (numbers_below n) (n ∷ []) in
-    omega (arith, before, more)
-
-number_at : (n k : ℕ) → k < n → slice_get (numbers_below n) k ≡ Some k
-number_at zero k l = absurd (omega arith)
-number_at (suc n) k l =
-    let many : length (numbers_below n) ≡ n = length_numbers n in
-    elim (cases_lt k n) as (λ _. slice_get (numbers_below n ++ n ∷ []) k ≡ Some k) [
-      | inl h ↦ get_left (numbers_below n) (n ∷ []) k (omega (arith, many, h)) ∙ number_at n k h
-      | inr h ↦
-          let last : k ≡ length (numbers_below n) + 0 = omega (arith, many, h, l) in
-          let same : n ≡ k = omega (arith, h, l) in
-          ap (slice_get (numbers_below n ++ n ∷ [])) last ∙ get_right (numbers_below n) (n ∷ []) 0 ∙ ap (λ m. Some m) same
-    ]
+use Rattle.image_pack.proofs.ByNumber.{get_left, get_right, there, passes_at, length_numbers, number_at}
 
 -- ---- a minor frame
 

@@ -6,7 +6,7 @@ use Rattle.std.proofs.lemmas.Bool.{and_from}
 use Rattle.policy_types.specs.Rules.{cpu_name, major_name, majors_of, offence_3}
 use Rattle.policy_types.specs.Search.{alone, two, unless, first_in}
 use Rattle.policy_types.specs.declared.source.Source.{Source}
-use Rattle.policy_types.proofs.Places.{none_both}
+use Rattle.policy_types.proofs.Searches.{none_both}
 use Rattle.plan_emit.proofs.Kept.{all_pass, some_cpu}
 
 -- what no numbered element offends by, each passes

@@ -7,10 +7,11 @@ use Rattle.std.proofs.lemmas.List.Folds.{list_all-map}
 use Rattle.policy_types.specs.Frames.{first_member}
 use Rattle.policy_types.specs.Resolution.{Resolution, group_named, name_at, source_of, subject_named}
 use Rattle.policy_types.specs.declared.resolved.Group.{Group}
+use Rattle.policy_types.proofs.Lists.{all_same, each_from, map-map}
+use Rattle.policy_types.proofs.ResolvedFacts.{many_subjects}
 use Rattle.plan_emit.specs.Emitted.{emitted, group_part}
-use Rattle.plan_emit.proofs.Fitting.{has_places, many_subjects, members_there}
+use Rattle.plan_emit.proofs.Fitting.{has_places, members_there}
 use Rattle.plan_emit.proofs.Known.{Known}
-use Rattle.plan_emit.proofs.Lists.{all_same, each_from, map-map}
 
 pub groups_emitted : (r : Resolution) → map (λ g. g.cpu) (emitted r).groups ≡ map (λ g. g.cpu) (source_of r).scheduling.groups
 unfolding source_of

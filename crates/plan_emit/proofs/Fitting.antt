@@ -5,28 +5,17 @@ use Rattle.std.specs.List.{list_all}
 use Rattle.std.proofs.lemmas.Bool.{and_from, and_parts, leb-true, lt-ltb, ltb-true}
 use Rattle.std.proofs.lemmas.List.{length-map}
 use Rattle.std.proofs.lemmas.List.Folds.{list_all-map}
-use Rattle.policy_types.specs.Resolution.{Resolution, cpu_named, group_named, group_placed, major_named, major_placed, name_at, source_of, subject_named}
-use Rattle.policy_types.specs.Rules as rules
+use Rattle.policy_types.specs.Resolution.{Resolution, cpu_named, group_named, group_placed, major_named, major_placed, name_at, source_of}
 use Rattle.policy_types.specs.Rules.{is_group, is_on, subject_cpu}
 use Rattle.policy_types.specs.declared.resolved.CpuFrames.{CpuFrames}
 use Rattle.policy_types.specs.declared.resolved.Group.{Group}
 use Rattle.policy_types.specs.declared.resolved.MinorFrame.{MinorFrame}
-use Rattle.policy_types.specs.declared.source.MinorFrame.{MinorFrame as NamedMinor}
 use Rattle.plan_emit.specs.Emitted.{fits_entry, fits_group, fits_major, fits_minor, ticks_in}
 use Rattle.plan_emit.proofs.Known.{Known}
 use Rattle.plan_emit.proofs.Limits.{is_within}
-use Rattle.plan_emit.proofs.Lists.{each_at_most, each_from, each_of, sum_by-map}
-use Rattle.plan_emit.proofs.Names.{group_names}
-
-abbrev pub frame_named : Resolution → MinorFrame → NamedMinor
-frame_named r f = record { group = name_at (group_names r) f.group; ticks = f.ticks }
-
-pub same_ticks : (r : Resolution) (c : CpuFrames) → rules.ticks_in (cpu_named r c) ≡ ticks_in c
-same_ticks r c = sum_by-map (λ f. f.ticks) (frame_named r) c.minor_frames
-
-pub many_subjects : (r : Resolution) → length (source_of r).subjects ≡ length r.subjects
-unfolding source_of
-many_subjects r = length-map r.subjects (subject_named r)
+use Rattle.policy_types.proofs.Lists.{each_from, each_of}
+use Rattle.plan_emit.proofs.Lists.{each_at_most}
+use Rattle.policy_types.proofs.ResolvedFacts.{frame_named, many_subjects, ticks_named}
 
 pub many_groups : (r : Resolution) → length (source_of r).scheduling.groups ≡ length r.scheduling.groups
 unfolding source_of
@@ -99,7 +88,7 @@ unfolding source_of
 entries_within r k =
     let one : (c : CpuFrames) → is_within (cpu_named r c) ≡ true → is_short c ≡ true = λ c h.
     let many : length (cpu_named r c).minor_frames ≡ length c.minor_frames = length-map c.minor_frames (frame_named r) in
-    sym (λ i. nat_le (same_ticks r c i) 100000 && nat_le (many i) 64) ∙ h in
+    sym (λ i. nat_le (ticks_named r c i) 100000 && nat_le (many i) 64) ∙ h in
     each_from (λ m. list_all is_within (major_named r m).cpus) (λ m. list_all is_short m.cpus)
     (λ m h. each_from (λ c. is_within (cpu_named r c)) is_short one m.cpus (sym (list_all-map is_within (cpu_named r) m.cpus) ∙ h))
     r.scheduling.major_frames

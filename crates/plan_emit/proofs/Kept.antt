@@ -1,5 +1,5 @@
 -- What a policy has that keeps its rules.
-use Rattle.std.proofs.Common.{◌≡◌, ℕ, ◌≤◌, Bool, true, List, [], ◌∷◌, Option, Some, None, refl}
+use Rattle.std.proofs.Common.{◌≡◌, ◌≤◌, Bool, true, List, [], ◌∷◌, Option, None, refl}
 use Rattle.std.specs.Prelude.{◌&&◌, nat_le, codes}
 use Rattle.std.specs.List.{list_all}
 use Rattle.std.proofs.lemmas.Bool.{and_from, and_parts, leb-true}
@@ -7,9 +7,8 @@ use Rattle.policy_types.specs.Lawful.{broken, rules_broken}
 use Rattle.policy_types.specs.Rules.{is_page_size, is_physical, is_guest, is_laid, component_offence, window_extents, window_offence, offence_3, offence_4, offence_5, offence_8, offence_16, offence_17, offence_18, offence_20}
 use Rattle.policy_types.specs.MoreRules.{offence_6, offence_7, offence_9, offence_10, offence_11, offence_12, offence_13, offence_14, offence_15, offence_19}
 use Rattle.policy_types.specs.Search.{alone, two, unless, first_in}
-use Rattle.policy_types.specs.declared.offence.Offence.{Offence}
 use Rattle.policy_types.specs.declared.source.Source.{Source}
-use Rattle.policy_types.proofs.Places.{none_both, unless_none}
+use Rattle.policy_types.proofs.Searches.{none_both, none_broken, unless_none}
 
 -- ---- searches that find nothing
 
@@ -28,10 +27,6 @@ all_none test at passes (x ∷ xs) h =
     and_from (test x) (list_all test xs) (passes x both.0) (all_none test at passes xs both.1)
 
 -- ---- the rules, one by one
-
-unbroken : (number : ℕ) (o : Option Offence) → broken number o ≡ None → o ≡ None
-unbroken number None h = refl
-unbroken number (Some x) h = absurd (cc)
 
 pub record RulesKept (p : Source) : Type 0 where
   pub three : offence_3 p ≡ None
@@ -65,14 +60,14 @@ rules_kept p h =
     let at_19 = none_both (broken 19 (offence_19 p)) _ at_18.1 in
     let at_20 = none_both (broken 20 (offence_20 p)) _ at_19.1 in
     record {
-      three = unbroken 3 (offence_3 p) at_3.0;
-      four = unbroken 4 (offence_4 p) at_4.0;
-      five = unbroken 5 (offence_5 p) at_5.0;
-      eight = unbroken 8 (offence_8 p) at_8.0;
-      sixteen = unbroken 16 (offence_16 p) at_16.0;
-      seventeen = unbroken 17 (offence_17 p) at_17.0;
-      eighteen = unbroken 18 (offence_18 p) at_18.0;
-      twenty = unbroken 20 (offence_20 p) at_20.0;
+      three = none_broken 3 (offence_3 p) at_3.0;
+      four = none_broken 4 (offence_4 p) at_4.0;
+      five = none_broken 5 (offence_5 p) at_5.0;
+      eight = none_broken 8 (offence_8 p) at_8.0;
+      sixteen = none_broken 16 (offence_16 p) at_16.0;
+      seventeen = none_broken 17 (offence_17 p) at_17.0;
+      eighteen = none_broken 18 (offence_18 p) at_18.0;
+      twenty = none_broken 20 (offence_20 p) at_20.0;
     }
 
 -- ---- rule 4: regions and windows

@@ -7,7 +7,7 @@ use Rattle.policy_types.specs.Rules.{at_most, device_limit, logical_names, major
 use Rattle.policy_types.specs.Search.{alone, unless, first_in}
 use Rattle.policy_types.specs.declared.source.CpuFrames.{CpuFrames}
 use Rattle.policy_types.specs.declared.source.Source.{Source}
-use Rattle.policy_types.proofs.Places.{none_both, unless_none}
+use Rattle.policy_types.proofs.Searches.{none_both, unless_none}
 use Rattle.plan_emit.proofs.Cpus.{all_numbered}
 
 abbrev pub is_within : CpuFrames → Bool

@@ -12,10 +12,11 @@ use Rattle.policy_types.specs.declared.offence.Offence.{Offence}
 use Rattle.policy_types.specs.declared.source.CpuFrames.{CpuFrames}
 use Rattle.policy_types.specs.declared.source.MajorFrame.{MajorFrame}
 use Rattle.policy_types.specs.declared.source.Source.{Source}
-use Rattle.policy_types.proofs.Places.{none_both, unless_none}
+use Rattle.policy_types.proofs.Searches.{none_both, unless_none}
 use Rattle.plan_emit.proofs.Cpus.{all_numbered}
 use Rattle.plan_emit.proofs.Kept.{all_pass}
-use Rattle.plan_emit.proofs.Lists.{each_from, some_sum}
+use Rattle.policy_types.proofs.Lists.{each_from}
+use Rattle.plan_emit.proofs.Lists.{some_sum}
 
 -- it has minor frames, each one of its CPU, and so many ticks
 abbrev pub has_frames : Source → ℕ → CpuFrames → Bool

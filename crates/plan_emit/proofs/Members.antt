@@ -11,7 +11,8 @@ use Rattle.policy_types.specs.Search.{alone, unless, first_in}
 use Rattle.policy_types.specs.declared.source.Group.{Group}
 use Rattle.policy_types.specs.declared.source.Source.{Source}
 use Rattle.policy_types.specs.declared.source.Subject.{Subject}
-use Rattle.policy_types.proofs.Places.{none_both, same_self}
+use Rattle.policy_types.proofs.Places.{same_self}
+use Rattle.policy_types.proofs.Searches.{none_both}
 use Rattle.plan_emit.proofs.Kept.{all_pass}
 
 -- how often a name is listed in a group, and in several

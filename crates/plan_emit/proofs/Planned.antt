@@ -5,7 +5,9 @@ use Rattle.std.specs.Option.{option_map_or}
 use Rattle.std.specs.List.{find, filter_map, list_all}
 use Rattle.std.proofs.lemmas.Bool.{and_parts, ltb-true}
 use Rattle.std.proofs.lemmas.List.{get_or-map, length-map}
+use Rattle.std.proofs.lemmas.Option.{get_or_from_slice_get}
 use Rattle.muen_num.specs.Range.{numbers_below}
+use Rattle.image_pack.proofs.ByNumber.{length_numbers, number_at}
 use Rattle.image_pack.specs.Plan.{cpus_in, cpus_of, frame_of, frames_in}
 use Rattle.policy_types.specs.Frames as policy
 use Rattle.policy_types.specs.Frames.{entry_frames, frames_of, major_frames_of}
@@ -14,17 +16,19 @@ use Rattle.policy_types.specs.Rules.{repeated}
 use Rattle.policy_types.specs.declared.resolved.CpuFrames.{CpuFrames}
 use Rattle.policy_types.specs.declared.resolved.MajorFrame.{MajorFrame}
 use Rattle.policy_types.specs.declared.resolved.MinorFrame.{MinorFrame}
+use Rattle.policy_types.proofs.Lists.{all_same, find-map, map-map}
+use Rattle.policy_types.proofs.ResolvedFacts.{frame_named, group_names}
 use Rattle.plan_emit.specs.Emitted.{cpu_part, emitted, major_part, minor_part}
-use Rattle.plan_emit.proofs.Fitting.{entry_there, frame_named, frame_there, many_majors}
+use Rattle.plan_emit.proofs.Fitting.{entry_there, frame_there, many_majors}
 use Rattle.plan_emit.proofs.Known.{Known}
-use Rattle.plan_emit.proofs.Lists.{all_same, find-map, found_among, many_below, map-map, number_at}
-use Rattle.plan_emit.proofs.Names.{group_names, place_of_name}
+use Rattle.plan_emit.proofs.Lists.{found_among}
+use Rattle.plan_emit.proofs.Names.{place_of_name}
 
 -- ---- the number of CPUs
 
 cpus_of_first : (cpus : ℕ) (ms : List MajorFrame) → 1 ≤ length ms → cpus_in (map (major_part cpus) ms) ≡ cpus
 cpus_of_first cpus [] l = absurd (omega arith)
-cpus_of_first cpus (m ∷ ms) l = length-map (numbers_below cpus) (cpu_part m.cpus) ∙ many_below cpus
+cpus_of_first cpus (m ∷ ms) l = length-map (numbers_below cpus) (cpu_part m.cpus) ∙ length_numbers cpus
 
 pub cpus_emitted : (r : Resolution) → Known r → cpus_of (emitted r) ≡ r.processor.logical_cpus
 cpus_emitted r k =
@@ -60,8 +64,9 @@ same_cpu r cpu m unique placed =
 
 at_number : (entries : List CpuFrames) (cpus cpu : ℕ) → cpu < cpus → slice_index_or (map (cpu_part entries) (numbers_below cpus)) cpu [] ≡ cpu_part entries cpu
 at_number entries cpus cpu l =
-    let many : length (numbers_below cpus) ≡ cpus = many_below cpus in
-    get_or-map (cpu_part entries) (numbers_below cpus) cpu 0 [] (omega (arith, many, l)) ∙ ap (cpu_part entries) (number_at cpus cpu l)
+    let many : length (numbers_below cpus) ≡ cpus = length_numbers cpus in
+    get_or-map (cpu_part entries) (numbers_below cpus) cpu 0 [] (omega (arith, many, l))
+    ∙ ap (cpu_part entries) (get_or_from_slice_get (numbers_below cpus) cpu cpu 0 (number_at cpus cpu l))
 
 pub frames_emitted : (r : Resolution) → Known r → (cpu : ℕ) → cpu < r.processor.logical_cpus → frames_in (emitted r) cpu ≡ frames_of (source_of r) cpu
 unfolding frames_in frames_of source_of

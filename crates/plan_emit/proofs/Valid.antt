@@ -8,6 +8,7 @@ use Rattle.std.proofs.lemmas.List.{length-map}
 use Rattle.std.proofs.lemmas.List.Folds.{list_all-map}
 use Rattle.std.proofs.lemmas.Option.{slice_get-map}
 use Rattle.muen_num.specs.Range.{numbers_below}
+use Rattle.image_pack.proofs.ByNumber.{length_numbers}
 use Rattle.image_pack.specs.Plan.{cpus_of, is_cpu, is_group_on, is_major, is_minor, is_plan}
 use Rattle.image_pack.specs.declared.plan.GroupPart.{GroupPart}
 use Rattle.image_pack.specs.declared.plan.Minor.{Minor}
@@ -18,13 +19,14 @@ use Rattle.policy_types.specs.declared.resolved.CpuFrames.{CpuFrames}
 use Rattle.policy_types.specs.declared.resolved.Group.{Group}
 use Rattle.policy_types.specs.declared.resolved.MajorFrame.{MajorFrame}
 use Rattle.policy_types.specs.declared.resolved.MinorFrame.{MinorFrame}
+use Rattle.policy_types.proofs.Lists.{each_both, each_of, list_any-map, sum_by-map}
+use Rattle.policy_types.proofs.ResolvedFacts.{cpu_at_place, frame_named, group_names, ticks_named}
 use Rattle.plan_emit.specs.Emitted.{cpu_part, emitted, first_ticks, group_part, major_part, minor_part, ticks_in}
-use Rattle.plan_emit.proofs.Fitting.{cpus_of_groups, entries_within, entry_there, frame_named, frame_there, many_majors, same_ticks, is_short}
+use Rattle.plan_emit.proofs.Fitting.{cpus_of_groups, entries_within, entry_there, frame_there, many_majors, is_short}
 use Rattle.plan_emit.proofs.Known.{Known}
-use Rattle.plan_emit.proofs.Lists.{IsFound, each_both, each_of, found, list_any-map, many_below, number_passes, numbered, sum_by-map}
+use Rattle.plan_emit.proofs.Lists.{IsFound, found, number_passes, numbered}
 use Rattle.plan_emit.proofs.Majors as kept
 use Rattle.plan_emit.proofs.Majors.{has_frames, is_major_kept, is_named, some_ticks}
-use Rattle.plan_emit.proofs.Names.{cpu_at_place, group_names}
 use Rattle.plan_emit.proofs.Planned.{cpus_emitted}
 
 abbrev parts_of : Resolution → List GroupPart
@@ -58,7 +60,7 @@ ticks_of_entry : (r : Resolution) (ticks : ℕ) (c : CpuFrames) → IsEntry r ti
 ticks_of_entry r ticks c e =
     let named = cpu_named r c in
     let parts = and_parts (nat_lt 0 (length named.minor_frames) && list_all (is_frame (source_of r) c.cpu) named.minor_frames) (ticks == rules.ticks_in named) e.frames in
-    eqb-true ticks (rules.ticks_in named) parts.1 ∙ same_ticks r c
+    eqb-true ticks (rules.ticks_in named) parts.1 ∙ ticks_named r c
 
 cpu_valid : (r : Resolution) (ticks : ℕ) (c : CpuFrames) → repeated (group_names r) ≡ None → IsEntry r ticks c → is_cpu (parts_of r) ticks (c.cpu, map minor_part c.minor_frames) ≡ true
 cpu_valid r ticks c unique e =
@@ -88,7 +90,7 @@ cpu_valid r ticks c unique e =
 
 same_first : (r : Resolution) (cs : List CpuFrames) → kept.first_ticks (map (cpu_named r) cs) ≡ first_ticks cs
 same_first r [] = refl
-same_first r (c ∷ cs) = same_ticks r c
+same_first r (c ∷ cs) = ticks_named r c
 
 -- what is known of a major frame
 record IsMajor (r : Resolution) (m : MajorFrame) : Type 0 where
@@ -144,10 +146,10 @@ major_valid r m k known =
     let some_cpu : 1 ≤ cpus = k.cpus.some in
     let at = entry_of r m 0 known (omega (arith, some_cpu)) in
     let same : ticks ≡ ticks_in at.entry = ticks_of_entry r ticks at.entry at.known in
-    let named : rules.ticks_in (cpu_named r at.entry) ≡ ticks_in at.entry = same_ticks r at.entry in
+    let named : rules.ticks_in (cpu_named r at.entry) ≡ ticks_in at.entry = ticks_named r at.entry in
     let some : 0 < rules.ticks_in (cpu_named r at.entry) = some_ticks (source_of r) ticks (cpu_named r at.entry) at.known.frames in
     let most : ticks_in at.entry ≤ 100000 = leb-true (ticks_in at.entry) 100000 (and_parts (nat_le (ticks_in at.entry) 100000) (nat_le (length at.entry.minor_frames) 64) at.known.limits).0 in
-    let count : (length parts == cpus) ≡ true = eq-eqb (length parts) cpus (length-map (numbers_below cpus) (cpu_part m.cpus) ∙ many_below cpus) in
+    let count : (length parts == cpus) ≡ true = eq-eqb (length parts) cpus (length-map (numbers_below cpus) (cpu_part m.cpus) ∙ length_numbers cpus) in
     let least : nat_lt 0 ticks ≡ true = lt-ltb 0 ticks (omega (arith, same, named, some)) in
     let upper : nat_le ticks 100000 ≡ true = le-leb ticks 100000 (omega (arith, same, most)) in
     let valid : list_all (is_cpu (parts_of r) ticks) (enumerate_from 0 parts) ≡ true =

@@ -10,7 +10,9 @@ use Rattle.policy_types.specs.Rules.{Reference, undeclared}
 use Rattle.policy_types.specs.declared.offence.Offence.{Offence}
 use Rattle.policy_types.specs.declared.refusal.Refusal.{Refusal}
 use Rattle.policy_names.specs.Answered.{IsWhy}
-use Rattle.policy_names.proofs.Whys.{first_in-append, none_broken, why_first}
+use Rattle.policy_types.proofs.Lists.{all_true}
+use Rattle.policy_types.proofs.Searches.{first_in-append, none_broken}
+use Rattle.policy_names.proofs.Whys.{why_first}
 
 -- the references of an element whose names are declared, and those after it
 pub pass_own : (own rest : List Reference) (first : Option Offence) → broken 2 (first_in undeclared own) ≡ None → first_in undeclared (own ++ rest) ≡ first → first_in undeclared rest ≡ first
@@ -30,9 +32,5 @@ module _ {T Y : Type 0} (named : Y → T) (items : List T) (i : ℕ) (x : T) (is
 
 pub more_placed : {Y : Type 0} (is_placed : Y → Bool) (ys : List Y) (y : Y) → list_all is_placed ys ≡ true → is_placed y ≡ true → list_all is_placed (ys ++ y ∷ []) ≡ true
 more_placed is_placed ys y so_far at = rw (list_all-append is_placed ys (y ∷ []), so_far, at) refl
-
-pub all_true : {X : Type 0} (xs : List X) → list_all (λ _. true) xs ≡ true
-all_true [] = refl
-all_true (x ∷ xs) = all_true xs
 
 pub ruleset each_built = (all_true)

@@ -2,7 +2,6 @@ pub mod Answering
 pub mod Built
 pub mod Elements
 pub mod Firsts
-pub mod Majors
 pub mod Places
 pub mod References
 pub mod Repeats

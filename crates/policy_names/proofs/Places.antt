@@ -11,7 +11,7 @@ use Rattle.std.specs.BTreeMap.{BTreeMap}
 use Rattle.std.specs.Ordering.{is_eq, nat_cmp}
 use Rattle.std.specs.Cmp.Lexicographic.{slice_cmp}
 use Rattle.std.proofs.lemmas.Map.Text.{is_eq-slice_cmp}
-use Rattle.policy_names.proofs.Whys.{or-none}
+use Rattle.policy_types.proofs.Searches.{option_or-None}
 use Rattle.policy_names.specs.Places.{place_of, StandsAt}
 
 map_or : {A B : Type 0} (f : A → B) (a b : Option A) → option_map f (option_or a b) ≡ option_or (option_map f a) (option_map f b)
@@ -84,5 +84,5 @@ places_push m n names x k end old put new q =
     joined names x q new =
         (elim (bytes_eq x q) as (λ t. bytes_eq x q ≡ t → cond t (Some (length names)) (place_of names q) ≡ option_or (place_of names q) (cond t (Some (length names)) None)) [
           | true ↦ λ e. sym (ap (λ o. option_or o (Some (length names))) (none (place_of names q) (ap (λ y. is_some (place_of names y)) (sym (equal_bytes x q e)) ∙ new)))
-          | false ↦ λ e. sym (or-none (place_of names q))
+          | false ↦ λ e. sym (option_or-None (place_of names q))
         ]) refl

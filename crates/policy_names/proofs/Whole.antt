@@ -1,18 +1,18 @@
 -- The policy that a resolved one stands for.
 use Rattle.std.proofs.Common.{◌≡◌, ℕ, true, List, [], ◌∷◌, length, None, refl, ap, sym, subst, ◌∙◌}
-use Rattle.std.specs.Prelude.{map, not, is_some, ◌&&◌, nat_lt}
+use Rattle.std.specs.Prelude.{map, nat_lt}
 use Rattle.std.specs.List.{list_all}
+use Rattle.std.proofs.lemmas.Bool.{and_parts}
 use Rattle.std.proofs.lemmas.List.{length-map}
-use Rattle.policy_types.specs.Built.{is_empty}
 use Rattle.policy_types.specs.Resolution.{Resolution, source_of, are_placed, subject_named, subject_placed, group_placed, major_placed}
 use Rattle.policy_types.specs.declared.source.Source.{Source}
 use Rattle.policy_types.specs.declared.resolved.Subject.{Subject as PlacedSubject}
-use Rattle.policy_types.specs.declared.resolved.Group.{Group as PlacedGroup}
 use Rattle.policy_types.specs.declared.resolved.Scheduling.{Scheduling as PlacedScheduling}
 use Rattle.policy_names.specs.Firsts.{region_names, subject_names, group_names}
 use Rattle.policy_names.specs.Parts.{subject_in, is_subject_in, is_mapping_in, group_in, is_group_in, major_in, is_major_in}
 use Rattle.policy_names.specs.Whole.{with_places, Resolves}
-use Rattle.policy_names.proofs.Built.{both, five, empty_is, none_is}
+use Rattle.policy_types.proofs.Lists.{map-map}
+use Rattle.policy_types.proofs.WindowsByPlace.{no_items, none_some}
 
 -- ---- subjects
 
@@ -27,19 +27,20 @@ record IsBare (s : PlacedSubject) (regions : List (List ℕ)) : Type 0 where
 
 bare : (s : PlacedSubject) (regions : List (List ℕ)) → is_subject_in regions s ≡ true → IsBare s regions
 bare s regions h =
-    let no_component = not (is_some s.component) in
-    let inside = list_all (is_mapping_in regions) s.memory in
-    let of_memory = both (no_component && is_empty s.channels && is_empty s.devices && is_empty s.msrs && is_empty s.sources && is_empty s.targets) inside h in
-    let last = both (no_component && is_empty s.channels && is_empty s.devices && is_empty s.msrs && is_empty s.sources) (is_empty s.targets) of_memory.0 in
-    let parts = five no_component (is_empty s.channels) (is_empty s.devices) (is_empty s.msrs) (is_empty s.sources) last.0 in
+    let f = and_parts _ _ h in
+    let e = and_parts _ _ f.0 in
+    let d = and_parts _ _ e.0 in
+    let c = and_parts _ _ d.0 in
+    let b = and_parts _ _ c.0 in
+    let a = and_parts _ _ b.0 in
     record {
-      component = none_is s.component parts.0;
-      channels = empty_is s.channels parts.1;
-      devices = empty_is s.devices parts.2;
-      msrs = empty_is s.msrs parts.3;
-      sources = empty_is s.sources parts.4;
-      targets = empty_is s.targets last.1;
-      memory = of_memory.1;
+      component = none_some s.component a.0;
+      channels = no_items s.channels a.1;
+      devices = no_items s.devices b.1;
+      msrs = no_items s.msrs c.1;
+      sources = no_items s.sources d.1;
+      targets = no_items s.targets e.1;
+      memory = f.1;
     }
 
 subject_back : (r : Resolution) (s : PlacedSubject) → is_subject_in (map (λ x. x.name) r.memory) s ≡ true → subject_named r s ≡ subject_in (map (λ x. x.name) r.memory) s
@@ -48,7 +49,7 @@ subject_back r s h = let b = bare s (map (λ x. x.name) r.memory) h in rw (b.com
 subjects_back : (r : Resolution) (ss : List PlacedSubject) → list_all (is_subject_in (map (λ x. x.name) r.memory)) ss ≡ true → map (subject_named r) ss ≡ map (subject_in (map (λ x. x.name) r.memory)) ss
 subjects_back r [] h = refl
 subjects_back r (s ∷ ss) h =
-    let here = both (is_subject_in (map (λ x. x.name) r.memory) s) (list_all (is_subject_in (map (λ x. x.name) r.memory)) ss) h in
+    let here = and_parts (is_subject_in (map (λ x. x.name) r.memory) s) (list_all (is_subject_in (map (λ x. x.name) r.memory)) ss) h in
     rw (subject_back r s here.0, subjects_back r ss here.1) refl
 
 subject_there : (r : Resolution) (s : PlacedSubject) → is_subject_in (map (λ x. x.name) r.memory) s ≡ true → subject_placed r s ≡ true
@@ -57,18 +58,10 @@ subject_there r s h = let b = bare s (map (λ x. x.name) r.memory) h in rw (b.co
 subjects_there : (r : Resolution) (ss : List PlacedSubject) → list_all (is_subject_in (map (λ x. x.name) r.memory)) ss ≡ true → list_all (subject_placed r) ss ≡ true
 subjects_there r [] h = refl
 subjects_there r (s ∷ ss) h =
-    let here = both (is_subject_in (map (λ x. x.name) r.memory) s) (list_all (is_subject_in (map (λ x. x.name) r.memory)) ss) h in
+    let here = and_parts (is_subject_in (map (λ x. x.name) r.memory) s) (list_all (is_subject_in (map (λ x. x.name) r.memory)) ss) h in
     rw (subject_there r s here.0, subjects_there r ss here.1) refl
 
--- ---- names and lengths that stay
-
-subject_names_kept : (regions : List (List ℕ)) (ss : List PlacedSubject) → map (λ s. s.name) ss ≡ map (λ s. s.name) (map (subject_in regions) ss)
-subject_names_kept regions [] = refl
-subject_names_kept regions (s ∷ ss) = ap (λ names. s.name ∷ names) (subject_names_kept regions ss)
-
-group_names_kept : (subjects : List (List ℕ)) (gs : List PlacedGroup) → map (λ g. g.name) gs ≡ map (λ g. g.name) (map (group_in subjects) gs)
-group_names_kept subjects [] = refl
-group_names_kept subjects (g ∷ gs) = ap (λ names. g.name ∷ names) (group_names_kept subjects gs)
+-- ---- lengths that stay
 
 same_length : {X Y : Type 0} (f : X → Y) (g : Y → List ℕ) (xs : List X) (ys : List Y) → map f xs ≡ ys → length (map g ys) ≡ length xs
 same_length f g xs ys e = length-map ys g ∙ sym (ap length e) ∙ length-map xs f
@@ -84,10 +77,10 @@ module _ (p : Source) (ss : List PlacedSubject) (plan : PlacedScheduling)
     subjects_are = subjects_back (with_places p ss plan) ss subjects_in ∙ subjects
 
     groups_are : map (group_in (map (λ s. s.name) ss)) plan.groups ≡ p.scheduling.groups
-    groups_are = ap (λ names. map (group_in names) plan.groups) (subject_names_kept (region_names p) ss ∙ ap (map (λ s. s.name)) subjects) ∙ groups
+    groups_are = ap (λ names. map (group_in names) plan.groups) (sym (map-map (λ s. s.name) (subject_in (region_names p)) ss) ∙ ap (map (λ s. s.name)) subjects) ∙ groups
 
     majors_are : map (major_in (map (λ g. g.name) plan.groups)) plan.major_frames ≡ p.scheduling.major_frames
-    majors_are = ap (λ names. map (major_in names) plan.major_frames) (group_names_kept (subject_names p) plan.groups ∙ ap (map (λ g. g.name)) groups) ∙ majors
+    majors_are = ap (λ names. map (major_in names) plan.major_frames) (sym (map-map (λ g. g.name) (group_in (subject_names p)) plan.groups) ∙ ap (map (λ g. g.name)) groups) ∙ majors
 
     source_is : source_of (with_places p ss plan) ≡ p
     unfolding source_of

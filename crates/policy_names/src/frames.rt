@@ -3,14 +3,14 @@ ghost use Rattle.std.specs.Prelude.{◌≡◌, map, true};
 ghost use Rattle.std.specs.List.{flat_map, list_all, enumerate_from};
 ghost use Rattle.policy_types.specs.Search.{first_in};
 ghost use Rattle.policy_types.specs.Lawful.{broken};
-ghost use Rattle.policy_types.specs.Rules.{undeclared, major_name};
+ghost use Rattle.policy_types.specs.Rules.{undeclared};
 ghost use Rattle.policy_names.specs.Answered.{Keeps};
 ghost use Rattle.policy_names.specs.Parts.{major_refers, major_in, is_major_in};
 
 use crate::index::Index;
 use crate::scope::{Place, Scope, place_all};
-use muen_num::text::{append, append_decimal};
-use muen_num::{Name, Seq};
+use muen_num::Seq;
+use policy_types::frame_names::major_name;
 use policy_types::{Refusal, resolved, source};
 use std::alloc::Global;
 
@@ -56,20 +56,6 @@ impl<'a> Place<Scope<'a>> for source::CpuFrames {
             cpu: self.cpu,
             minor_frames: place_all(alloc, scope, self.minor_frames.items())?,
         })
-    }
-}
-
-// The name that is printed for a major frame.
-#[tactic(auto, using(crate::proofs::Majors::named))]
-fn major_name(number: usize) -> Name
-    ensures { result ≡ major_name number }
-{
-    let mut text = [0u8; 32];
-    let at = append(&mut text, 0, b"major.");
-    let end = append_decimal(&mut text, at, number as u64);
-    match Name::read(&text[..end]) {
-        Some(name) => name,
-        None => unreachable!(),
     }
 }
 

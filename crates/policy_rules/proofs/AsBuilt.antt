@@ -2,6 +2,7 @@
 use Rattle.std.proofs.Common.{◌≡◌, ℕ, ◌+◌, ◌*◌, Bool, true, false, List, [], ◌∷◌, length, map, None, refl, sym, ap, ◌∙◌, arith, append-nil}
 use Rattle.std.specs.Prelude.{◌&&◌, nat_lt, nat_le, codes}
 use Rattle.std.specs.List.{list_all, sum_by, fold}
+use Rattle.std.proofs.lemmas.Bool.{and_from, and_parts}
 use Rattle.std.proofs.lemmas.List.{length-map}
 use Rattle.policy_types.specs.Search.{alone, two, unless, first_of, first_in}
 use Rattle.policy_types.specs.Rules.{is_page_aligned, is_page_size, is_physical, is_guest, is_laid, window_extents, window_offence, first_overlap, at_most, regions_for, subject_limit, msrs_in, majors_of, major_limit, offence_1, offence_4, offence_18, offence_20}
@@ -13,9 +14,9 @@ use Rattle.policy_types.specs.declared.source.Source.{Source}
 use Rattle.policy_types.specs.declared.source.Block.{Block}
 use Rattle.policy_types.specs.declared.source.Subject.{Subject as NamedSubject}
 use Rattle.policy_types.specs.declared.resolved.Subject.{Subject}
-use Rattle.policy_types.proofs.Places.{none_both, unless_none}
+use Rattle.policy_types.proofs.Searches.{none_both, unless_none}
 use Rattle.policy_types.specs.ByPlace.{block_extent, mapping_extent, is_ready}
-use Rattle.policy_types.proofs.WindowsByPlace.{both, both_pass, plain, built, extents_placed, regions_unique}
+use Rattle.policy_types.proofs.WindowsByPlace.{plain, built, extents_placed, regions_unique}
 
 -- ---- rule 4
 
@@ -46,18 +47,18 @@ blocks_sized [] h = refl
 blocks_sized (b ∷ bs) h =
     let a = none_both _ _ h in
     let ok : is_physical b.physical_address b.size ≡ true = unless_none _ _ a.0 in
-    let front = both (is_page_aligned b.physical_address && is_page_size b.size) _ ok in
-    let size = both _ (is_page_size b.size) front.0 in
-    both_pass _ _ (both (is_page_aligned b.size) _ size.1).1 (blocks_sized bs a.1)
+    let front = and_parts (is_page_aligned b.physical_address && is_page_size b.size) _ ok in
+    let size = and_parts _ (is_page_size b.size) front.0 in
+    and_from _ _ (and_parts (is_page_aligned b.size) _ size.1).1 (blocks_sized bs a.1)
 
 pub windows_sized : (by : List ℕ) (es : List Extent) → first_in {O = Offence} (λ e. unless (is_guest e.address e.size) (two by e.name)) es ≡ None → list_all has_size es ≡ true
 windows_sized by [] h = refl
 windows_sized by (e ∷ es) h =
     let a = none_both _ _ h in
     let ok : is_guest e.address e.size ≡ true = unless_none _ _ a.0 in
-    let front = both (is_page_aligned e.address && is_page_size e.size) _ ok in
-    let size = both _ (is_page_size e.size) front.0 in
-    both_pass _ _ (both (is_page_aligned e.size) _ size.1).1 (windows_sized by es a.1)
+    let front = and_parts (is_page_aligned e.address && is_page_size e.size) _ ok in
+    let size = and_parts _ (is_page_size e.size) front.0 in
+    and_from _ _ (and_parts (is_page_aligned e.size) _ size.1).1 (windows_sized by es a.1)
 
 -- ---- rule 18
 
@@ -73,7 +74,7 @@ only_five p s h = let q = plain s h in rw q.component refl
 fives : (p : Source) (n : ℕ) (ss : List NamedSubject) → list_all is_plain ss ≡ true → fold (λ a x. a + regions_for p x) n ss ≡ n + 5 * length ss
 fives p n [] h = omega arith
 fives p n (s ∷ ss) h =
-    let a : (is_plain s ≡ true) × (list_all is_plain ss ≡ true) = both _ _ h in
+    let a : (is_plain s ≡ true) × (list_all is_plain ss ≡ true) = and_parts _ _ h in
     let one = only_five p s a.0 in
     let rest : fold (λ a x. a + regions_for p x) (n + regions_for p s) ss ≡ (n + regions_for p s) + 5 * length ss = fives p (n + regions_for p s) ss a.1 in
     let many : length (s ∷ ss) ≡ 1 + length ss = omega arith in
@@ -107,7 +108,7 @@ and_true false = refl
 -- a subject's windows are as many as its mappings
 pub windows_limit : (r : Resolution) (s : Subject) → is_built (source_of r) ≡ true → offence_1 (source_of r) ≡ None → is_ready r s ≡ true → subject_limit (source_of r) (subject_named r s) ≡ unless (nat_le (length s.memory) 128) (alone s.name)
 windows_limit r s b names h =
-    let ready = both _ _ h in
+    let ready = and_parts _ _ h in
     let q = plain (subject_named r s) ready.0 in
     let many : length (window_extents (source_of r) (subject_named r s)) ≡ length s.memory = ap length (extents_placed r (regions_unique r b names) s ready.0 ready.1) ∙ length-map s.memory (mapping_extent r.memory) in
     let no_msrs : msrs_in (subject_named r s) ≡ 0 = rw q.msrs refl in

@@ -1,12 +1,11 @@
 -- Rules 16 and 17 by places are the rules by names, where names are unique and places are in their lists.
-use Rattle.std.proofs.Common.{◌≡◌, ℕ, ◌+◌, ◌<◌, min, Bool, true, cond, List, [], ◌∷◌, ◌++◌, length, map, Option, Some, None, refl, sym, ap, ◌∙◌, arith}
+use Rattle.std.proofs.Common.{◌≡◌, ℕ, ◌+◌, ◌<◌, min, Bool, true, cond, List, [], ◌∷◌, length, map, Some, None, refl, sym, ap, ◌∙◌, arith}
 use Rattle.std.specs.Prelude.{◌==◌, ◌&&◌, not, nat_lt, slice_get, slice_index, option_map}
 use Rattle.std.specs.Option.{option_or, option_map_or}
-use Rattle.std.specs.List.{find, list_any, list_all, flat_map, count_by, enumerate_from, position_or_len}
+use Rattle.std.specs.List.{find, list_any, list_all, count_by, enumerate_from}
 use Rattle.std.specs.Str.{bytes_eq}
-use Rattle.std.proofs.lemmas.Bool.{ltb-true, and_parts}
-use Rattle.std.proofs.lemmas.Bool.Decides.{same_from_decides, Decides-eqb, nat_tests}
-use Rattle.std.proofs.lemmas.Slice.Eq.{bytes_eq-Decides}
+use Rattle.std.proofs.lemmas.Bool.{ltb-true}
+use Rattle.std.proofs.lemmas.Bool.Decides.{nat_tests}
 use Rattle.std.proofs.lemmas.List.{length-map, get_or-map}
 use Rattle.std.proofs.lemmas.List.Folds.{list_all-map}
 use Rattle.std.proofs.lemmas.Option.{slice_get_within, get_or_from_slice_get}
@@ -14,78 +13,38 @@ use Rattle.muen_num.specs.Range.{numbers_below}
 use Rattle.policy_types.specs.Search.{alone, two, unless, first_in, first_after}
 use Rattle.policy_types.specs.Rules as rules
 use Rattle.policy_types.specs.Rules.{repeated, device_kinds, logical_names, major_name, cpu_name, group_cpu, subject_cpu, is_on, times_listed, majors_of, offence_1, offence_16, offence_17}
-use Rattle.policy_types.specs.Resolution.{Resolution, IsResolved, are_placed, name_at, source_of, subject_named, group_named, cpu_named, major_named, subject_placed, group_placed, major_placed}
-use Rattle.policy_types.specs.declared.source.Source.{Source}
-use Rattle.policy_types.specs.declared.source.MinorFrame.{MinorFrame}
+use Rattle.policy_types.specs.Resolution.{Resolution, IsResolved, name_at, source_of, subject_named, group_named, cpu_named, major_named, group_placed, major_placed}
 use Rattle.policy_types.specs.declared.resolved.Subject.{Subject as PlacedSubject}
 use Rattle.policy_types.specs.declared.resolved.Group.{Group as PlacedGroup}
 use Rattle.policy_types.specs.declared.resolved.MajorFrame.{MajorFrame as PlacedMajor}
 use Rattle.policy_types.specs.declared.resolved.CpuFrames.{CpuFrames as PlacedCpu}
 use Rattle.policy_types.specs.declared.resolved.MinorFrame.{MinorFrame as PlacedFrame}
-use Rattle.policy_types.proofs.Places.{none_both, found_at_place, position_is}
-use Rattle.policy_rules.specs.Placed.{cpu_of_group, is_frame, ticks_in, has_first_ticks, is_entry, entry_offence, missing_offence, major_offence, first_major, cpu_of_subject, is_member, is_group, group_offence, times_among, times_in, member_offence, AreTimes, groups_offence, counted_offence}
-use Rattle.policy_rules.proofs.Searching.{none_in_last, first_in_same, first_in-map, first_numbered-map, first_numbered_same, both_numbered, first_over-map, first_after-map, list_all_same, sum_by-map, sum_by_same, list_any-map, find-map, map-map}
+use Rattle.policy_types.proofs.Lists.{find-map, list_any-map, option_map-option_map, sum_by-map}
+use Rattle.policy_types.proofs.Places.{found_at_place, same_name}
+use Rattle.policy_types.proofs.Searches.{first_over-map}
+use Rattle.policy_types.proofs.ResolvedFacts.{cpu_at_place, frame_named, group_names, groups_unique, parts_placed, subject_names, subjects_unique, ticks_named}
+use Rattle.policy_rules.specs.Placed.{is_frame, ticks_in, has_first_ticks, is_entry, entry_offence, missing_offence, major_offence, first_major, cpu_of_subject, is_member, is_group, group_offence, times_among, times_in, member_offence, AreTimes, groups_offence, counted_offence}
+use Rattle.policy_rules.proofs.Searching.{first_in_same, first_in-map, first_numbered-map, first_numbered_same, both_numbered, first_after-map, list_all_same, sum_by_same}
 
 -- ---- unique names
-
-abbrev group_names : Resolution → List (List ℕ)
-group_names r = map (λ g. g.name) r.scheduling.groups
-
-abbrev subject_names : Resolution → List (List ℕ)
-subject_names r = map (λ s. s.name) r.subjects
-
--- the kinds of names before those of events, subjects and groups
-abbrev kinds_before : Source → List (List (List ℕ))
-kinds_before p =
-    (map (λ b. b.name) p.memory_blocks ∷ map (λ d. d.name) p.devices ∷ [])
-    ++ flat_map device_kinds p.devices
-    ++ ((map (λ r. r.name) p.memory ++ map (λ c. c.name) p.channels) ∷ map (λ c. c.name) p.components ∷ [])
-    ++ map logical_names p.components
 
 record AreUnique (r : Resolution) : Type 0 where
   subjects : repeated (subject_names r) ≡ None
   groups : repeated (group_names r) ≡ None
 
 are_unique : (r : Resolution) → offence_1 (source_of r) ≡ None → AreUnique r
-unfolding offence_1 source_of
-are_unique r h =
-    let p = source_of r in
-    let events = map (λ e. e.name) r.events in
-    let subjects = map (λ s. s.name) (map (subject_named r) r.subjects) in
-    let groups = map (λ g. g.name) (map (group_named r) r.scheduling.groups) in
-    let last : first_in repeated (events ∷ subjects ∷ groups ∷ []) ≡ None = none_in_last repeated (kinds_before p) (events ∷ subjects ∷ groups ∷ []) h in
-    let after = (none_both (repeated events) (first_in repeated (subjects ∷ groups ∷ [])) last).1 in
-    let both = none_both (repeated subjects) (first_in repeated (groups ∷ [])) after in
-    record {
-      subjects = ap repeated (sym (map-map (λ s. s.name) (subject_named r) r.subjects)) ∙ both.0;
-      groups = ap repeated (sym (map-map (λ g. g.name) (group_named r) r.scheduling.groups)) ∙ (none_both (repeated groups) None both.1).0;
-    }
+are_unique r h = record { subjects = subjects_unique r h; groups = groups_unique r h }
 
 -- ---- rule 16
-
-cpu_kept : (r : Resolution) (o : Option PlacedGroup) → option_map (λ g. g.cpu) (option_map (group_named r) o) ≡ option_map (λ g. g.cpu) o
-cpu_kept r None = refl
-cpu_kept r (Some g) = refl
-
-group_at_place : (r : Resolution) (place : ℕ) → AreUnique r → place < length r.scheduling.groups
-    → group_cpu (source_of r) (name_at (group_names r) place) ≡ cpu_of_group r.scheduling.groups place
-unfolding source_of
-group_at_place r place unique within =
-    ap (option_map (λ g. g.cpu)) (find-map (λ g. bytes_eq g.name (name_at (group_names r) place)) (group_named r) r.scheduling.groups)
-    ∙ cpu_kept r (find (λ g. bytes_eq g.name (name_at (group_names r) place)) r.scheduling.groups)
-    ∙ ap (option_map (λ g. g.cpu)) (found_at_place (λ g. g.name) r.scheduling.groups place unique.groups within)
-
-frame_named : Resolution → PlacedFrame → MinorFrame
-frame_named r f = record { group = name_at (group_names r) f.group; ticks = f.ticks }
 
 frame_placed : Resolution → PlacedFrame → Bool
 frame_placed r f = nat_lt f.group (length r.scheduling.groups)
 
 same_frame : (r : Resolution) (cpu : ℕ) (f : PlacedFrame) → AreUnique r → frame_placed r f ≡ true
     → rules.is_frame (source_of r) cpu (frame_named r f) ≡ is_frame r.scheduling.groups cpu f
-unfolding frame_named frame_placed
+unfolding frame_placed
 same_frame r cpu f unique placed =
-    ap (λ o. nat_lt 0 f.ticks && is_on o cpu) (group_at_place r f.group unique (ltb-true f.group (length r.scheduling.groups) placed))
+    ap (λ o. nat_lt 0 f.ticks && is_on o cpu) (cpu_at_place r f.group unique.groups (ltb-true f.group (length r.scheduling.groups) placed))
 
 same_frames : (r : Resolution) (cpu : ℕ) (fs : List PlacedFrame) → AreUnique r → list_all (frame_placed r) fs ≡ true
     → list_all (rules.is_frame (source_of r) cpu) (map (frame_named r) fs) ≡ list_all (is_frame r.scheduling.groups cpu) fs
@@ -93,15 +52,11 @@ same_frames r cpu fs unique placed =
     list_all-map (rules.is_frame (source_of r) cpu) (frame_named r) fs
     ∙ list_all_same (λ f. rules.is_frame (source_of r) cpu (frame_named r f)) (is_frame r.scheduling.groups cpu) (frame_placed r) (λ f. same_frame r cpu f unique) fs placed
 
-same_ticks : (r : Resolution) (c : PlacedCpu) → rules.ticks_in (cpu_named r c) ≡ ticks_in c
-unfolding frame_named
-same_ticks r c = sum_by-map (λ f. f.ticks) (frame_named r) c.minor_frames
-
 same_first_ticks : (r : Resolution) (before : List PlacedCpu) (c : PlacedCpu)
     → option_map_or (λ b. rules.ticks_in b == rules.ticks_in (cpu_named r c)) (slice_get (map (cpu_named r) before) 0) true ≡ has_first_ticks before c
 same_first_ticks r [] c = refl
 same_first_ticks r (b ∷ bs) c =
-    ap (λ n. n == rules.ticks_in (cpu_named r c)) (same_ticks r b) ∙ ap (λ n. ticks_in b == n) (same_ticks r c)
+    ap (λ n. n == rules.ticks_in (cpu_named r c)) (ticks_named r b) ∙ ap (λ n. ticks_in b == n) (ticks_named r c)
 
 above_none : (n : ℕ) → nat_lt 0 n ≡ not (n == 0)
 above_none n = grind (arith, nat_tests)
@@ -118,7 +73,7 @@ cpu_placed r c = list_all (frame_placed r) c.minor_frames
 
 same_entry : (r : Resolution) (before : List PlacedCpu) (c : PlacedCpu) → AreUnique r → cpu_placed r c ≡ true
     → rules.is_entry (source_of r) (map (cpu_named r) before) (cpu_named r c) ≡ is_entry r.scheduling.groups before c
-unfolding cpu_placed frame_named
+unfolding cpu_placed
 same_entry r before c unique placed =
     four_same _ _ _ _ _ _ _ _
     (list_any-map (λ b. b.cpu == c.cpu) (cpu_named r) before)
@@ -141,19 +96,6 @@ same_major r k m unique placed =
     ap (λ o. option_or o (option_or (first_in (λ cpu. unless (list_any (λ c. c.cpu == cpu) (map (cpu_named r) m.cpus)) (two (major_name k) (cpu_name cpu))) (numbers_below r.processor.logical_cpus)) None)) entries
     ∙ ap (λ o. option_or (first_after (entry_offence r.scheduling.groups k) [] m.cpus) (option_or o None)) missing
 
-record ArePlaced (r : Resolution) : Type 0 where
-  groups : list_all (group_placed r) r.scheduling.groups ≡ true
-  majors : list_all (major_placed r) r.scheduling.major_frames ≡ true
-
-parts_placed : (r : Resolution) → are_placed r ≡ true → ArePlaced r
-unfolding are_placed
-parts_placed r h =
-    let both = and_parts (list_all (subject_placed r) r.subjects && list_all (group_placed r) r.scheduling.groups) (list_all (major_placed r) r.scheduling.major_frames) h in
-    record {
-      groups = (and_parts (list_all (subject_placed r) r.subjects) (list_all (group_placed r) r.scheduling.groups) both.0).1;
-      majors = both.1;
-    }
-
 pub majors_by_place : (r : Resolution) → IsResolved r → first_major r.scheduling.groups r.processor.logical_cpus r.scheduling.major_frames ≡ offence_16 (source_of r)
 unfolding offence_16 source_of
 majors_by_place r resolved =
@@ -163,16 +105,12 @@ majors_by_place r resolved =
 
 -- ---- rule 17
 
-subject_kept : (r : Resolution) (o : Option PlacedSubject) → option_map (λ s. s.cpu) (option_map (subject_named r) o) ≡ option_map (λ s. s.cpu) o
-subject_kept r None = refl
-subject_kept r (Some s) = refl
-
 subject_at_place : (r : Resolution) (place : ℕ) → AreUnique r → place < length r.subjects
     → subject_cpu (source_of r) (name_at (subject_names r) place) ≡ cpu_of_subject r.subjects place
 unfolding source_of
 subject_at_place r place unique within =
     ap (option_map (λ s. s.cpu)) (find-map (λ s. bytes_eq s.name (name_at (subject_names r) place)) (subject_named r) r.subjects)
-    ∙ subject_kept r (find (λ s. bytes_eq s.name (name_at (subject_names r) place)) r.subjects)
+    ∙ option_map-option_map (λ s. s.cpu) (subject_named r) (find (λ s. bytes_eq s.name (name_at (subject_names r) place)) r.subjects)
     ∙ ap (option_map (λ s. s.cpu)) (found_at_place (λ s. s.name) r.subjects place unique.subjects within)
 
 same_group : (r : Resolution) (g : PlacedGroup) → AreUnique r → group_placed r g ≡ true → rules.is_group (source_of r) (group_named r g) ≡ is_group r.subjects g
@@ -184,14 +122,6 @@ same_group r g unique placed =
     ∙ list_all_same (λ place. is_on (subject_cpu (source_of r) (name_at (subject_names r) place)) g.cpu) (is_member r.subjects g.cpu) (λ place. nat_lt place (length r.subjects)) member g.subjects placed in
     ap (λ b. b && list_all (λ name. is_on (subject_cpu (source_of r) name) g.cpu) (map (name_at (subject_names r)) g.subjects)) (some_items (name_at (subject_names r)) g.subjects)
     ∙ ap (λ b. not (length g.subjects == 0) && b) members
-
-same_name : (names : List (List ℕ)) (i k : ℕ) → repeated names ≡ None → i < length names → k < length names → bytes_eq (name_at names i) (name_at names k) ≡ (i == k)
-same_name names i k unique l l' =
-    let alike = bytes_eq-Decides (name_at names i) (name_at names k) in
-    let forth : bytes_eq (name_at names i) (name_at names k) ≡ true → i ≡ k = λ h.
-    sym (position_is names i unique l) ∙ ap (λ n. position_or_len (λ m. bytes_eq m n) names) (alike.0 h) ∙ position_is names k unique l' in
-    let back : i ≡ k → bytes_eq (name_at names i) (name_at names k) ≡ true = λ e. alike.1 (ap (name_at names) e) in
-    same_from_decides {P = i ≡ k} (bytes_eq (name_at names i) (name_at names k)) (i == k) (forth, back) (Decides-eqb i k)
 
 same_times : (r : Resolution) (k : ℕ) → AreUnique r → k < length r.subjects → list_all (group_placed r) r.scheduling.groups ≡ true
     → times_listed (source_of r) (name_at (subject_names r) k) ≡ times_in r.scheduling.groups k
@@ -251,7 +181,3 @@ by_counts subjects groups times counted =
     ∙ ap (λ b. unless b (alone s.name)) (once (slice_index times k) (times_in groups k) (counted k l))
     ∙ sym (ap (λ i. member_offence groups (i, s)) e) in
     both_numbered (counted_offence times) (member_offence groups) 0 subjects same
-
-pub or_none : {O : Type 0} (o : Option O) → option_or o None ≡ o
-or_none None = refl
-or_none (Some x) = refl

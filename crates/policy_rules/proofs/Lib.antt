@@ -2,7 +2,6 @@ pub mod AsBuilt
 pub mod ByPlace
 pub mod Kept
 pub mod NamedParts
-pub mod Naming
 pub mod NotBuilt
 pub mod Overlaps
 pub mod Searches

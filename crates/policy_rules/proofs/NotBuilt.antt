@@ -1,6 +1,7 @@
 -- The rules on elements that aren't built are kept by a policy without these elements.
 use Rattle.std.proofs.Common.{◌≡◌, true, List, [], ◌∷◌, Option, None, refl, ap}
 use Rattle.std.specs.List.{list_all, filter_map}
+use Rattle.std.proofs.lemmas.Bool.{and_parts}
 use Rattle.policy_types.specs.Search.{first_in, first_after}
 use Rattle.policy_types.specs.Built.{is_plain, is_plain_region, is_built}
 use Rattle.policy_types.specs.Events.{channel_ends}
@@ -9,13 +10,13 @@ use Rattle.policy_types.specs.declared.offence.Offence.{Offence}
 use Rattle.policy_types.specs.declared.source.Source.{Source}
 use Rattle.policy_types.specs.declared.source.Region.{Region}
 use Rattle.policy_types.specs.declared.source.Subject.{Subject}
-use Rattle.policy_types.proofs.WindowsByPlace.{both, IsPlain, plain, none_some, built}
+use Rattle.policy_types.proofs.WindowsByPlace.{IsPlain, plain, none_some, built}
 
 -- a search that finds nothing at any plain subject
 nowhere : (at : Subject → Option Offence) → ((s : Subject) → IsPlain s → at s ≡ None) → (ss : List Subject) → list_all is_plain ss ≡ true → first_in at ss ≡ None
 nowhere at none [] h = refl
 nowhere at none (s ∷ ss) h =
-    let a : (is_plain s ≡ true) × (list_all is_plain ss ≡ true) = both _ _ h in
+    let a : (is_plain s ≡ true) × (list_all is_plain ss ≡ true) = and_parts _ _ h in
     rw (none s (plain s a.0)) (nowhere at none ss a.1)
 
 no_ends : (p : Source) (s : Subject) → IsPlain s → channel_ends p s ≡ []
@@ -24,7 +25,7 @@ no_ends p s q = rw (q.channels, q.component) refl
 none_fixed : (rs : List Region) → list_all is_plain_region rs ≡ true → filter_map fixed_extent rs ≡ []
 none_fixed [] h = refl
 none_fixed (r ∷ rs) h =
-    let a : (is_plain_region r ≡ true) × (list_all is_plain_region rs ≡ true) = both _ _ h in
+    let a : (is_plain_region r ≡ true) × (list_all is_plain_region rs ≡ true) = and_parts _ _ h in
     let none : r.physical_address ≡ None = none_some r.physical_address a.0 in
     rw none (none_fixed rs a.1)
 

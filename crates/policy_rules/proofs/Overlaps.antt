@@ -10,6 +10,7 @@ use Rattle.std.proofs.lemmas.List.Sorted.{IsPermutation-sym, All-permutation}
 use Rattle.policy_types.specs.Search.{unless, two, first_in}
 use Rattle.policy_types.specs.Rules.{are_apart, overlapping, first_overlap}
 use Rattle.policy_types.specs.declared.offence.Extent.{Extent}
+use Rattle.policy_types.proofs.Searches.{unless_none}
 use Rattle.policy_rules.specs.declared.overlap.Span.{Span}
 use Rattle.policy_rules.specs.Span.{span_of, IsBelow}
 use Rattle.policy_rules.proofs.Searches.{pairs_at, pairs_from, first_pair-last}
@@ -17,13 +18,9 @@ use Rattle.policy_rules.proofs.Spans.{IsApart, EachTwo, EachTwo-permutation, apa
 
 -- ---- two ranges
 
-unless-None : {O : Type 0} (b : Bool) (o : O) → unless b o ≡ None → b ≡ true
-unless-None true o e = refl
-unless-None false o e = absurd (cc)
-
 apart_at : (a b : Extent) → overlapping a b ≡ None → IsApart (span_of a) (span_of b)
 apart_at a b e =
-    elim (or_cases _ _ (unless-None (are_apart a b) (two a.name b.name) e)) [
+    elim (or_cases _ _ (unless_none (are_apart a b) (two a.name b.name) e)) [
       | inl f ↦ inl (leb-true _ _ f)
       | inr f ↦ inr (leb-true _ _ f)
     ]

@@ -4,27 +4,14 @@ use Rattle.std.specs.Option.{option_or, is_some}
 use Rattle.std.specs.List.{AllPairs}
 use Rattle.std.proofs.lemmas.List.{append-nil, append_assoc, get_or_append_left, length_push, take-append-drop, take_more}
 use Rattle.policy_types.specs.Search.{first_in, first_after, first_pair}
-
--- ---- one answer or another
-
-option_or_assoc : {O : Type 0} (a b c : Option O) → option_or a (option_or b c) ≡ option_or (option_or a b) c
-option_or_assoc None b c = refl
-option_or_assoc (Some x) b c = refl
-
-option_or-None : {O : Type 0} (a : Option O) → option_or a None ≡ a
-option_or-None None = refl
-option_or-None (Some x) = refl
-
-both_none : {O : Type 0} (a b : Option O) → option_or a b ≡ None → (a ≡ None) × (b ≡ None)
-both_none None b e = (refl, e)
-both_none (Some x) b e = absurd (cc)
+use Rattle.policy_types.proofs.Searches.{none_both, option_or-None, option_or_assoc}
 
 -- ---- the first element, and that none is found just where none offends
 
 pub none_at : {X O : Type 0} (at : X → Option O) (xs : List X) → first_in at xs ≡ None → (k : ℕ) (d : X) → k < length xs → at (get_or xs k d) ≡ None
 none_at at [] e k d h = absurd (omega arith)
-none_at at (x ∷ xs) e zero d h = (both_none (at x) (first_in at xs) e).0
-none_at at (x ∷ xs) e (suc k) d h = none_at at xs (both_none (at x) (first_in at xs) e).1 k d (omega arith)
+none_at at (x ∷ xs) e zero d h = (none_both (at x) (first_in at xs) e).0
+none_at at (x ∷ xs) e (suc k) d h = none_at at xs (none_both (at x) (first_in at xs) e).1 k d (omega arith)
 
 pub none_from : {X O : Type 0} (at : X → Option O) (xs : List X) → ((k : ℕ) (d : X) → k < length xs → at (get_or xs k d) ≡ None) → first_in at xs ≡ None
 none_from at [] h = refl
@@ -44,7 +31,7 @@ first_after-append at before (x ∷ xs) ys =
     first_after-append at (before ++ x ∷ []) xs ys
     ∙ ap (λ b. option_or (first_after at (before ++ x ∷ []) xs) (first_after at b ys)) (append_assoc before (x ∷ []) xs) in
     ap (option_or (at before x)) rest
-    ∙ option_or_assoc (at before x) (first_after at (before ++ x ∷ []) xs) (first_after at (before ++ x ∷ xs) ys)
+    ∙ sym (option_or_assoc (at before x) (first_after at (before ++ x ∷ []) xs) (first_after at (before ++ x ∷ xs) ys))
 
 -- a pair that is found stays the first, whatever follows
 pub first_pair-append : {X O : Type 0} (at : X → X → Option O) (xs ys : List X) → first_pair at (xs ++ ys) ≡ option_or (first_pair at xs) (first_after (with_earlier at) xs ys)
@@ -59,11 +46,11 @@ first_pair-push at xs x =
 no_pair_after : {X O : Type 0} (at : X → X → Option O) (before xs : List X) → first_after (with_earlier at) before xs ≡ None → (i j : ℕ) (d : X) → i < length before + j → j < length xs → at (get_or (before ++ xs) i d) (get_or xs j d) ≡ None
 no_pair_after at before [] e i j d l m = absurd (omega arith)
 no_pair_after at before (x ∷ xs) e i zero d l m =
-    let here : first_in (λ b. at b x) before ≡ None = (both_none (with_earlier at before x) (first_after (with_earlier at) (before ++ x ∷ []) xs) e).0 in
+    let here : first_in (λ b. at b x) before ≡ None = (none_both (with_earlier at before x) (first_after (with_earlier at) (before ++ x ∷ []) xs) e).0 in
     let k : i < length before = omega arith in
     ap (λ b. at b x) (get_or_append_left before (x ∷ xs) d i k) ∙ none_at (λ b. at b x) before here i d k
 no_pair_after at before (x ∷ xs) e i (suc j) d l m =
-    let rest : first_after (with_earlier at) (before ++ x ∷ []) xs ≡ None = (both_none (with_earlier at before x) (first_after (with_earlier at) (before ++ x ∷ []) xs) e).1 in
+    let rest : first_after (with_earlier at) (before ++ x ∷ []) xs ≡ None = (none_both (with_earlier at before x) (first_after (with_earlier at) (before ++ x ∷ []) xs) e).1 in
     let k : i < length (before ++ x ∷ []) + j = omega (arith, length_push before x) in
     ap (λ whole. at (get_or whole i d) (get_or xs j d)) (sym (append_assoc before (x ∷ []) xs))
     ∙ no_pair_after at (before ++ x ∷ []) xs rest i j d k (omega arith)

@@ -1,28 +1,16 @@
--- Searches, tests and sums over lists: parts, numbers below a bound, and the same over another list.
-use Rattle.std.proofs.Common.{◌≡◌, ℕ, zero, suc, ◌+◌, ◌<◌, Bool, true, false, cond, List, [], ◌∷◌, ◌++◌, length, map, Option, Some, None, refl, sym, ap, ◌∙◌, subst, inl, inr, add-one, arith}
-use Rattle.std.specs.Prelude.{◌&&◌, ◌||◌, slice_get, option_map}
+-- Searches, tests and sums over lists: numbers below a bound, and the same over another list.
+use Rattle.std.proofs.Common.{◌≡◌, ℕ, zero, suc, ◌+◌, ◌<◌, Bool, true, List, [], ◌∷◌, ◌++◌, length, map, Option, Some, None, refl, sym, ap, ◌∙◌, subst, inl, inr, add-one, arith}
+use Rattle.std.specs.Prelude.{slice_get}
 use Rattle.std.specs.Option.{option_or}
-use Rattle.std.specs.List.{find, list_any, list_all, sum_by, enumerate_from}
+use Rattle.std.specs.List.{list_all, sum, sum_by, enumerate_from}
 use Rattle.std.proofs.lemmas.Bool.{and_parts, cases_eq}
 use Rattle.std.proofs.lemmas.List.{map_push}
-use Rattle.std.proofs.lemmas.List.Sums.{sum_by-cons}
+use Rattle.std.proofs.lemmas.List.Folds.{list_all-map}
+use Rattle.std.proofs.lemmas.List.Sums.{sum-map}
 use Rattle.muen_num.specs.Range.{numbers_below}
 use Rattle.policy_types.specs.Search.{first_in, first_after}
-use Rattle.policy_types.proofs.Places.{none_both}
-
--- ---- parts of a search
-
-option_or_assoc : {O : Type 0} (a b c : Option O) → option_or (option_or a b) c ≡ option_or a (option_or b c)
-option_or_assoc None b c = refl
-option_or_assoc (Some x) b c = refl
-
-first_in-append : {X O : Type 0} (at : X → Option O) (xs ys : List X) → first_in at (xs ++ ys) ≡ option_or (first_in at xs) (first_in at ys)
-first_in-append at [] ys = refl
-first_in-append at (x ∷ xs) ys =
-    ap (option_or (at x)) (first_in-append at xs ys) ∙ sym (option_or_assoc (at x) (first_in at xs) (first_in at ys))
-
-pub none_in_last : {X O : Type 0} (at : X → Option O) (xs ys : List X) → first_in at (xs ++ ys) ≡ None → first_in at ys ≡ None
-none_in_last at xs ys h = (none_both (first_in at xs) (first_in at ys) (sym (first_in-append at xs ys) ∙ h)).1
+use Rattle.policy_types.proofs.Lists.{all_same}
+use Rattle.policy_types.proofs.Searches.{first_in-append}
 
 -- ---- numbers below a bound
 
@@ -59,10 +47,6 @@ first_in-map f at by ok same [] all = refl
 first_in-map f at by ok same (x ∷ xs) all =
     let parts = and_parts (ok x) (list_all ok xs) all in
     ap (λ o. option_or o (first_in at (map f xs))) (same x parts.0) ∙ ap (option_or (by x)) (first_in-map f at by ok same xs parts.1)
-
-pub first_over-map : {X Y O : Type 0} (f : X → Y) (at : Y → Option O) (xs : List X) → first_in at (map f xs) ≡ first_in (λ x. at (f x)) xs
-first_over-map f at [] = refl
-first_over-map f at (x ∷ xs) = ap (option_or (at (f x))) (first_over-map f at xs)
 
 pub first_numbered-map : {X Y O : Type 0} (f : X → Y) (at : ℕ × Y → Option O) (by : ℕ × X → Option O) (ok : X → Bool) → ((n : ℕ) (x : X) → ok x ≡ true → at (n, f x) ≡ by (n, x))
     → (n : ℕ) (xs : List X) → list_all ok xs ≡ true → first_in at (enumerate_from n (map f xs)) ≡ first_in by (enumerate_from n xs)
@@ -103,34 +87,8 @@ first_after-map f at by ok same before (x ∷ xs) all =
 -- ---- tests and sums
 
 pub list_all_same : {X : Type 0} (p q ok : X → Bool) → ((x : X) → ok x ≡ true → p x ≡ q x) → (xs : List X) → list_all ok xs ≡ true → list_all p xs ≡ list_all q xs
-list_all_same p q ok same [] all = refl
-list_all_same p q ok same (x ∷ xs) all =
-    let parts = and_parts (ok x) (list_all ok xs) all in
-    ap (λ b. b && list_all p xs) (same x parts.0) ∙ ap (λ b. q x && b) (list_all_same p q ok same xs parts.1)
-
-pub sum_by-map : {X Y : Type 0} (f : Y → ℕ) (g : X → Y) (xs : List X) → sum_by f (map g xs) ≡ sum_by (λ x. f (g x)) xs
-sum_by-map f g [] = refl
-sum_by-map f g (x ∷ xs) =
-    sum_by-cons f (g x) (map g xs) ∙ ap (λ n. f (g x) + n) (sum_by-map f g xs) ∙ sym (sum_by-cons (λ y. f (g y)) x xs)
+list_all_same p q ok same xs all =
+    sym (list_all-map (λ b. b) p xs) ∙ ap (list_all (λ b. b)) (all_same p q ok same xs all) ∙ list_all-map (λ b. b) q xs
 
 pub sum_by_same : {X : Type 0} (f g : X → ℕ) (ok : X → Bool) → ((x : X) → ok x ≡ true → f x ≡ g x) → (xs : List X) → list_all ok xs ≡ true → sum_by f xs ≡ sum_by g xs
-sum_by_same f g ok same [] all = refl
-sum_by_same f g ok same (x ∷ xs) all =
-    let parts = and_parts (ok x) (list_all ok xs) all in
-    sum_by-cons f x xs ∙ ap (λ n. n + sum_by f xs) (same x parts.0) ∙ ap (λ n. g x + n) (sum_by_same f g ok same xs parts.1) ∙ sym (sum_by-cons g x xs)
-
-pub list_any-map : {X Y : Type 0} (p : Y → Bool) (f : X → Y) (xs : List X) → list_any p (map f xs) ≡ list_any (λ x. p (f x)) xs
-list_any-map p f [] = refl
-list_any-map p f (x ∷ xs) = ap (λ b. p (f x) || b) (list_any-map p f xs)
-
-pub find-map : {X Y : Type 0} (test : Y → Bool) (f : X → Y) (xs : List X) → find test (map f xs) ≡ option_map f (find (λ x. test (f x)) xs)
-find-map test f [] = refl
-find-map test f (x ∷ xs) =
-    elim (test (f x)) as (λ b. cond b (Some (f x)) (find test (map f xs)) ≡ option_map f (cond b (Some x) (find (λ y. test (f y)) xs))) [
-      | true ↦ refl
-      | false ↦ find-map test f xs
-    ]
-
-pub map-map : {X Y Z : Type 0} (g : Y → Z) (f : X → Y) (xs : List X) → map g (map f xs) ≡ map (λ x. g (f x)) xs
-map-map g f [] = refl
-map-map g f (x ∷ xs) = ap (λ ys. g (f x) ∷ ys) (map-map g f xs)
+sum_by_same f g ok same xs all = sym (sum-map f xs) ∙ ap sum (all_same f g ok same xs all) ∙ sum-map g xs

@@ -1,40 +1,31 @@
 -- Who maps and who writes a region, by its place.
-use Rattle.std.proofs.Common.{◌≡◌, ℕ, zero, suc, ◌+◌, ◌<◌, Bool, true, false, cond, List, [], ◌∷◌, length, map, Option, Some, None, refl, sym, ap, ◌∙◌, arith, get_or, take, append-nil}
-use Rattle.std.specs.Prelude.{◌==◌, ◌&&◌, ◌||◌, not, nat_lt, bit_and, slice_get, slice_index_or, option_map}
+use Rattle.std.proofs.Common.{◌≡◌, ℕ, suc, ◌+◌, ◌<◌, Bool, true, false, cond, List, [], ◌∷◌, length, map, Option, Some, None, refl, sym, ap, ◌∙◌, arith, get_or, take}
+use Rattle.std.specs.Prelude.{◌==◌, ◌&&◌, not, nat_lt, bit_and, option_map}
 use Rattle.std.specs.Option.{option_or}
-use Rattle.std.specs.List.{find, filter_map, list_any, list_all, position_or_len, All}
+use Rattle.std.specs.List.{find, list_any, list_all, All}
 use Rattle.std.specs.Str.{bytes_eq}
-use Rattle.std.proofs.lemmas.Bool.Decides.{Decides-eqb, same_from_decides}
+use Rattle.std.proofs.lemmas.Bool.{and_parts, ltb-true}
 use Rattle.std.proofs.lemmas.List.{take_more, length-map, get_or-map}
 use Rattle.std.proofs.lemmas.List.Elements.{All-head, All-tail, All-weaker}
 use Rattle.std.proofs.lemmas.List.Sums.{AllPass-from_list_all}
 use Rattle.std.proofs.lemmas.List.Folds.{find-append}
-use Rattle.std.proofs.lemmas.Slice.Eq.{bytes_eq-Decides}
 use Rattle.policy_types.specs.Search.{two, first_in}
 use Rattle.policy_types.specs.Rules.{repeated, maps, writes, other_than, offence_8}
-use Rattle.policy_types.specs.Thing.{Thing, region, same_thing}
-use Rattle.policy_types.specs.Windows.{Window, window, region_window, windows_of}
+use Rattle.policy_types.specs.Thing.{region, same_thing}
 use Rattle.policy_types.specs.Built.{is_plain, is_built}
-use Rattle.policy_types.specs.Resolution.{Resolution, IsResolved, name_at, mapping_named, subject_named, source_of}
+use Rattle.policy_types.specs.Resolution.{Resolution, IsResolved, name_at, subject_named, source_of}
 use Rattle.policy_types.specs.declared.offence.Offence.{Offence}
 use Rattle.policy_types.specs.declared.source.Region.{Region}
 use Rattle.policy_types.specs.declared.source.Subject.{Subject as NamedSubject}
 use Rattle.policy_types.specs.declared.resolved.Mapping.{Mapping}
 use Rattle.policy_types.specs.declared.resolved.Subject.{Subject}
-use Rattle.policy_types.proofs.Places.{position_is, found_at_place}
+use Rattle.policy_types.proofs.Lists.{find-map, list_any-map, option_map-option_map}
+use Rattle.policy_types.proofs.Places.{same_name}
 use Rattle.policy_rules.specs.Shared.{IsWithin, may_write, shows, alters, writer_of, other_of, noted, HasNames, first_named}
-use Rattle.policy_types.specs.ByPlace.{is_ready}
-use Rattle.policy_types.proofs.WindowsByPlace.{both, is_below, plain, regions_unique, all_ready}
+use Rattle.policy_types.specs.ByPlace.{no_region, region_at, mapping_window, is_ready}
+use Rattle.policy_types.proofs.WindowsByPlace.{windows_placed, regions_unique, all_ready}
 
 -- ---- searches
-
-find-map : {X Y : Type 0} (test : Y → Bool) (f : X → Y) (xs : List X) → find test (map f xs) ≡ option_map f (find (λ x. test (f x)) xs)
-find-map test f [] = refl
-find-map test f (x ∷ xs) =
-    elim (test (f x)) as (λ b. cond b (Some (f x)) (find test (map f xs)) ≡ option_map f (cond b (Some x) (find (λ x. test (f x)) xs))) [
-      | true ↦ refl
-      | false ↦ find-map test f xs
-    ]
 
 -- two tests that agree on each element
 same_find : {X : Type 0} (P : X → Type 0) (test other : X → Bool) → ((x : X) → P x → test x ≡ other x) → (xs : List X) → All P xs → find test xs ≡ find other xs
@@ -47,81 +38,36 @@ none_found : {X : Type 0} (xs : List X) → find (λ x. false) xs ≡ None
 none_found [] = refl
 none_found (x ∷ xs) = none_found xs
 
-list_any-map : {X Y : Type 0} (test : Y → Bool) (f : X → Y) (xs : List X) → list_any test (map f xs) ≡ list_any (λ x. test (f x)) xs
-list_any-map test f [] = refl
-list_any-map test f (x ∷ xs) = ap (λ b. test (f x) || b) (list_any-map test f xs)
-
--- ---- windows
-
--- the window that a mapping gives: on the region at its place
-abbrev window_shown : Resolution → Mapping → Window Thing
-window_shown r m =
-    window m.virtual_address (slice_index_or (map (λ x. x.size) r.memory) m.region 0) m.rights.0 (region (name_at (map (λ x. x.name) r.memory) m.region))
-
-shown_in : (guest rights : ℕ) (xs : List Region) (k : ℕ) → k < length xs → option_map (λ x. window guest x.size rights (region x.name)) (slice_get xs k) ≡ Some (window guest (slice_index_or (map (λ x. x.size) xs) k 0) rights (region (name_at (map (λ x. x.name) xs) k)))
-shown_in guest rights [] k h = absurd (omega arith)
-shown_in guest rights (x ∷ xs) zero h = refl
-shown_in guest rights (x ∷ xs) (suc k) h = shown_in guest rights xs k (omega arith)
-
-each_shown : (r : Resolution) (ms : List Mapping) → repeated (map (λ x. x.name) r.memory) ≡ None → list_all (λ m. nat_lt m.region (length r.memory)) ms ≡ true → filter_map (λ m. region_window (source_of r) m.region m.virtual_address m.rights.0) (map (mapping_named r) ms) ≡ map (window_shown r) ms
-unfolding source_of
-each_shown r [] unique placed = refl
-each_shown r (m ∷ ms) unique placed =
-    let parts = both (nat_lt m.region (length r.memory)) (list_all (λ m. nat_lt m.region (length r.memory)) ms) placed in
-    let within : m.region < length r.memory = is_below _ _ parts.0 in
-    let found = found_at_place (λ (x : Region). x.name) r.memory m.region unique within in
-    rw (found, shown_in m.virtual_address m.rights.0 r.memory m.region within, each_shown r ms unique parts.1) refl
-
--- the windows of a subject are those of its mappings
-windows_shown : (r : Resolution) (s : Subject) → repeated (map (λ x. x.name) r.memory) ≡ None → is_ready r s ≡ true → windows_of (source_of r) (subject_named r s) ≡ map (window_shown r) s.memory
-unfolding windows_of
-windows_shown r s unique ready =
-    let parts = both (is_plain (subject_named r s)) (list_all (λ m. nat_lt m.region (length r.memory)) s.memory) ready in
-    let lacks = plain (subject_named r s) parts.0 in
-    rw (lacks.component, lacks.channels, lacks.devices, append-nil, append-nil, append-nil) (each_shown r s.memory unique parts.1)
-
 -- ---- a region is told by its name or by its place
 
-same_name : (names : List (List ℕ)) (j k : ℕ) → repeated names ≡ None → j < length names → k < length names → bytes_eq (name_at names j) (name_at names k) ≡ (j == k)
-same_name names j k unique a b =
-    let at_j : position_or_len (λ m. bytes_eq m (name_at names j)) names ≡ j = position_is names j unique a in
-    let at_k : position_or_len (λ m. bytes_eq m (name_at names k)) names ≡ k = position_is names k unique b in
-    let d = bytes_eq-Decides (name_at names j) (name_at names k) in
-    same_from_decides _ _
-    (λ e. sym at_j ∙ (ap (λ n. position_or_len (λ m. bytes_eq m n) names) (d.0 e) ∙ at_k), λ e. d.1 (ap (name_at names) e))
-    (Decides-eqb j k)
-
 -- a test of each mapping, by whether it is on the region k
-on_region : (names : List (List ℕ)) (n k : ℕ) (f : Bool → Mapping → Bool) (ms : List Mapping) → repeated names ≡ None → length names ≡ n → k < n → list_all (λ m. nat_lt m.region n) ms ≡ true → list_any (λ m. f (bytes_eq (name_at names m.region) (name_at names k)) m) ms ≡ list_any (λ m. f (m.region == k) m) ms
-on_region names n k f [] unique many within placed = refl
-on_region names n k f (m ∷ ms) unique many within placed =
-    let parts = both (nat_lt m.region n) (list_all (λ m. nat_lt m.region n) ms) placed in
-    let here : m.region < n = is_below m.region n parts.0 in
-    let a : m.region < length names = omega arith in
-    let b : k < length names = omega arith in
-    rw (same_name names m.region k unique a b, on_region names n k f ms unique many within parts.1) refl
+on_region : (regions : List Region) (k : ℕ) (f : Bool → Mapping → Bool) (ms : List Mapping) → repeated (map (λ x. x.name) regions) ≡ None → k < length regions → list_all (λ m. nat_lt m.region (length regions)) ms ≡ true → list_any (λ m. f (bytes_eq (region_at regions m.region).name (name_at (map (λ x. x.name) regions) k)) m) ms ≡ list_any (λ m. f (m.region == k) m) ms
+on_region regions k f [] unique within placed = refl
+on_region regions k f (m ∷ ms) unique within placed =
+    let names = map (λ (x : Region). x.name) regions in
+    let many : length names ≡ length regions = length-map regions (λ x. x.name) in
+    let parts = and_parts (nat_lt m.region (length regions)) (list_all (λ m. nat_lt m.region (length regions)) ms) placed in
+    let here : m.region < length regions = ltb-true m.region (length regions) parts.0 in
+    let named : name_at names m.region ≡ (region_at regions m.region).name = get_or-map (λ (x : Region). x.name) regions m.region no_region [] here in
+    rw (← named, same_name names m.region k unique (omega (arith, many, here)) (omega (arith, many, within)), on_region regions k f ms unique within parts.1) refl
 
 maps_at : (r : Resolution) (s : Subject) (k : ℕ) → repeated (map (λ x. x.name) r.memory) ≡ None → is_ready r s ≡ true → k < length r.memory → maps (source_of r) (name_at (map (λ x. x.name) r.memory) k) (subject_named r s) ≡ shows k s
 maps_at r s k unique h within =
-    let placed = (both (is_plain (subject_named r s)) (list_all (λ m. nat_lt m.region (length r.memory)) s.memory) h).1 in
+    let ready = and_parts (is_plain (subject_named r s)) (list_all (λ m. nat_lt m.region (length r.memory)) s.memory) h in
     let names = map (λ x. x.name) r.memory in
-    ap (list_any (λ w. same_thing w.thing (region (name_at names k)))) (windows_shown r s unique h)
-    ∙ (list_any-map (λ w. same_thing w.thing (region (name_at names k))) (window_shown r) s.memory
-    ∙ on_region names (length r.memory) k (λ b m. b) s.memory unique (length-map r.memory (λ x. x.name)) within placed)
+    ap (list_any (λ w. same_thing w.thing (region (name_at names k)))) (windows_placed r unique s ready.0 ready.1)
+    ∙ (list_any-map (λ w. same_thing w.thing (region (name_at names k))) (mapping_window r.memory) s.memory
+    ∙ on_region r.memory k (λ b m. b) s.memory unique within ready.1)
 
 writes_at : (r : Resolution) (s : Subject) (k : ℕ) → repeated (map (λ x. x.name) r.memory) ≡ None → is_ready r s ≡ true → k < length r.memory → writes (source_of r) (name_at (map (λ x. x.name) r.memory) k) (subject_named r s) ≡ alters k s
 writes_at r s k unique h within =
-    let placed = (both (is_plain (subject_named r s)) (list_all (λ m. nat_lt m.region (length r.memory)) s.memory) h).1 in
+    let ready = and_parts (is_plain (subject_named r s)) (list_all (λ m. nat_lt m.region (length r.memory)) s.memory) h in
     let names = map (λ x. x.name) r.memory in
-    ap (list_any (λ w. same_thing w.thing (region (name_at names k)) && (bit_and w.rights 2 == 2))) (windows_shown r s unique h)
-    ∙ (list_any-map (λ w. same_thing w.thing (region (name_at names k)) && (bit_and w.rights 2 == 2)) (window_shown r) s.memory
-    ∙ on_region names (length r.memory) k (λ b m. b && may_write m) s.memory unique (length-map r.memory (λ x. x.name)) within placed)
+    ap (list_any (λ w. same_thing w.thing (region (name_at names k)) && (bit_and w.rights 2 == 2))) (windows_placed r unique s ready.0 ready.1)
+    ∙ (list_any-map (λ w. same_thing w.thing (region (name_at names k)) && (bit_and w.rights 2 == 2)) (mapping_window r.memory) s.memory
+    ∙ on_region r.memory k (λ b m. b && may_write m) s.memory unique within ready.1)
 
 -- ---- one region
-
-named_twice : {X Y Z : Type 0} (f : X → Y) (g : Y → Z) (o : Option X) → option_map g (option_map f o) ≡ option_map (λ x. g (f x)) o
-named_twice f g None = refl
-named_twice f g (Some x) = refl
 
 -- the other subject by names is the one by places
 other_named : (r : Resolution) (k : ℕ) (name : List ℕ) (writer : Option Subject) → All (λ s. is_ready r s ≡ true) r.subjects → ((s : Subject) → is_ready r s ≡ true → maps (source_of r) name (subject_named r s) ≡ shows k s) → other_than (source_of r) name (option_map (subject_named r) writer) ≡ option_map (two name) (other_of r.subjects (option_map (λ s. s.name) writer) k)
@@ -134,7 +80,7 @@ other_named r k name (Some w) plain same =
     find-map test (subject_named r) r.subjects
     ∙ ap (option_map (subject_named r)) (same_find (λ s. is_ready r s ≡ true) (λ s. test (subject_named r s)) other (λ s h. ap (λ b. not (bytes_eq s.name w.name) && b) (same s h)) r.subjects plain)
     )
-    ∙ (named_twice (subject_named r) (λ s. two name s.name) (find other r.subjects) ∙ sym (named_twice (λ s. s.name) (two name) (find other r.subjects)))
+    ∙ (option_map-option_map (λ s. two name s.name) (subject_named r) (find other r.subjects) ∙ sym (option_map-option_map (two name) (λ s. s.name) (find other r.subjects)))
 
 -- what rule 8 says of the region at a place
 at_region : (r : Resolution) (k : ℕ) (name : List ℕ) → repeated (map (λ x. x.name) r.memory) ≡ None → All (λ s. is_ready r s ≡ true) r.subjects → k < length r.memory → name ≡ name_at (map (λ x. x.name) r.memory) k → other_than (source_of r) name (find (writes (source_of r) name) (source_of r).subjects) ≡ option_map (two name) (other_of r.subjects (writer_of r.subjects k) k)
@@ -195,6 +141,6 @@ names_more before after many test ss i s had room notes within is = record {
 pub within_all : (r : Resolution) → IsResolved r → is_built (source_of r) ≡ true → All (IsWithin (length r.memory)) r.subjects
 within_all r h built =
     All-weaker (λ s. is_ready r s ≡ true) (IsWithin (length r.memory)) (
-    λ s ready. All-weaker (λ m. nat_lt m.region (length r.memory) ≡ true) (λ m. m.region < length r.memory) (λ m test. is_below _ _ test) s.memory
-    (AllPass-from_list_all (λ m. nat_lt m.region (length r.memory)) s.memory (both (is_plain (subject_named r s)) (list_all (λ m. nat_lt m.region (length r.memory)) s.memory) ready).1)
+    λ s ready. All-weaker (λ m. nat_lt m.region (length r.memory) ≡ true) (λ m. m.region < length r.memory) (λ m test. ltb-true _ _ test) s.memory
+    (AllPass-from_list_all (λ m. nat_lt m.region (length r.memory)) s.memory (and_parts (is_plain (subject_named r s)) (list_all (λ m. nat_lt m.region (length r.memory)) s.memory) ready).1)
     ) r.subjects (AllPass-from_list_all (is_ready r) r.subjects (all_ready r built h.placed))

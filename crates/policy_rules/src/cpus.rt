@@ -6,10 +6,10 @@ ghost use Rattle.policy_types.specs.Resolution.{source_of};
 ghost use Rattle.policy_types.specs.Rules.{major_name, cpu_name, offence_3};
 
 use crate::addresses::alone;
-use crate::frame_names::{cpu_name, major_name};
 use crate::keys::Key;
 use muen_num::Name;
 use policy_types::Offence;
+use policy_types::frame_names::{cpu_name, major_name};
 use policy_types::resolved::{CpuFrames, Group, MajorFrame, Resolved, Subject};
 
 // The first subject whose CPU there isn't.

@@ -4,7 +4,6 @@
 mod addresses;
 mod apart;
 mod cpus;
-mod frame_names;
 mod groups;
 mod keys;
 mod limits;

@@ -10,10 +10,10 @@ ghost use Rattle.policy_rules.specs.Keys.{key_text};
 ghost use Rattle.policy_rules.specs.Limits.{entry_within, major_within};
 
 use crate::addresses::alone;
-use crate::frame_names::major_name;
 use crate::keys::Key;
 use crate::major_frames::ticks_in;
 use policy_types::Offence;
+use policy_types::frame_names::major_name;
 use policy_types::resolved::{CpuFrames, MajorFrame, Resolved, Subject};
 use policy_types::source::Block;
 

@@ -8,7 +8,7 @@ ghost use Rattle.policy_types.specs.Rules.{major_name, cpu_name, is_on, offence_
 ghost use Rattle.policy_types.specs.Resolution.{source_of};
 ghost use Rattle.policy_rules.specs.Placed.{cpu_of_group, is_frame, ticks_in, has_first_ticks, is_listed, is_entry, entry_offence, missing_offence, major_offence, first_major};
 
-use crate::frame_names::{cpu_name, major_name};
+use policy_types::frame_names::{cpu_name, major_name};
 use policy_types::resolved::{CpuFrames, Group, MajorFrame, MinorFrame};
 use policy_types::{Offence, Resolved};
 

@@ -1,39 +1,24 @@
 -- What stands at a place is found by its name, where names are unique.
-use Rattle.std.proofs.Common.{◌≡◌, ℕ, zero, suc, ◌+◌, ◌<◌, Bool, true, false, cond, not, List, [], ◌∷◌, ◌++◌, length, map, Option, Some, None, refl, sym, ap, ◌∙◌, arith, append_assoc, length-append}
-use Rattle.std.specs.Prelude.{slice_get}
-use Rattle.std.specs.Option.{option_or}
+use Rattle.std.proofs.Common.{◌≡◌, ℕ, zero, suc, ◌+◌, ◌<◌, true, cond, not, List, [], ◌∷◌, ◌++◌, length, map, None, sym, ap, ◌∙◌, arith, append_assoc, length-append}
+use Rattle.std.specs.Prelude.{◌==◌, slice_get}
 use Rattle.std.specs.List.{find, position_or_len}
 use Rattle.std.specs.Str.{bytes_eq}
 use Rattle.std.specs.Cmp.Lexicographic.{nat_list_eq_equiv}
+use Rattle.std.proofs.lemmas.Bool.Decides.{Decides-eqb, same_from_decides}
 use Rattle.std.proofs.lemmas.List.{length-map}
 use Rattle.std.proofs.lemmas.List.Folds.{find_at}
+use Rattle.std.proofs.lemmas.Slice.Eq.{bytes_eq-Decides}
 use Rattle.policy_types.specs.Search.{alone, unless, first_in, first_after}
 use Rattle.policy_types.specs.Rules.{repeated}
 use Rattle.policy_types.specs.Resolution.{name_at}
 use Rattle.policy_types.specs.declared.offence.Offence.{Offence}
+use Rattle.policy_types.proofs.Lists.{position-map}
+use Rattle.policy_types.proofs.Searches.{none_both, unless_none}
 
 pub same_self : (x : List ℕ) → bytes_eq x x ≡ true
 same_self x = nat_list_eq_equiv.refl x
 
--- ---- searches that find nothing
-
-pub none_both : {O : Type 0} (a b : Option O) → option_or a b ≡ None → (a ≡ None) × (b ≡ None)
-none_both None b h = (refl, h)
-none_both (Some x) b h = absurd (cc)
-
-pub unless_none : {O : Type 0} (b : Bool) (o : O) → unless b o ≡ None → b ≡ true
-unless_none true o h = refl
-unless_none false o h = absurd (cc)
-
 -- ---- places
-
-pub position-map : {X Y : Type 0} (test : Y → Bool) (f : X → Y) (xs : List X) → position_or_len test (map f xs) ≡ position_or_len (λ x. test (f x)) xs
-position-map test f [] = refl
-position-map test f (x ∷ xs) =
-    elim (test (f x)) as (λ b. cond (not b) (1 + position_or_len test (map f xs)) 0 ≡ cond (not b) (1 + position_or_len (λ x. test (f x)) xs) 0) [
-      | true ↦ refl
-      | false ↦ ap (λ n. 1 + n) (position-map test f xs)
-    ]
 
 -- none of these names is n
 abbrev OtherNames : List (List ℕ) → List ℕ → Type 0
@@ -68,6 +53,16 @@ pub position_is : (names : List (List ℕ)) (k : ℕ) → repeated names ≡ Non
 position_is names k h l =
     let e : position_or_len (λ m. bytes_eq m (name_at names k)) names ≡ 0 + k = position_after [] names k h l in
     omega (arith, e)
+
+-- two places have the same name just where they are the same place
+pub same_name : (names : List (List ℕ)) (j k : ℕ) → repeated names ≡ None → j < length names → k < length names → bytes_eq (name_at names j) (name_at names k) ≡ (j == k)
+same_name names j k unique a b =
+    let at_j : position_or_len (λ m. bytes_eq m (name_at names j)) names ≡ j = position_is names j unique a in
+    let at_k : position_or_len (λ m. bytes_eq m (name_at names k)) names ≡ k = position_is names k unique b in
+    let d = bytes_eq-Decides (name_at names j) (name_at names k) in
+    same_from_decides _ _
+    (λ e. sym at_j ∙ (ap (λ n. position_or_len (λ m. bytes_eq m n) names) (d.0 e) ∙ at_k), λ e. d.1 (ap (name_at names) e))
+    (Decides-eqb j k)
 
 -- what stands at a place, by its name
 pub found_at_place : {X : Type 0} (f : X → List ℕ) (xs : List X) (k : ℕ) → repeated (map f xs) ≡ None → k < length xs → find (λ x. bytes_eq (f x) (name_at (map f xs) k)) xs ≡ slice_get xs k

@@ -1,12 +1,12 @@
 -- The windows of a subject of a built policy are its mappings, each on the region at its place.
-use Rattle.std.proofs.Common.{◌≡◌, ℕ, ◌<◌, Bool, true, false, not, List, [], ◌∷◌, ◌++◌, length, map, Option, Some, None, refl, sym, ap, ◌∙◌, arith, append-nil}
-use Rattle.std.specs.Prelude.{◌&&◌, nat_lt, is_some, option_map}
-use Rattle.std.specs.List.{find, list_all, filter_map, flat_map, cons_option}
+use Rattle.std.proofs.Common.{◌≡◌, ℕ, ◌<◌, true, not, List, [], ◌∷◌, ◌++◌, length, map, Option, Some, None, refl, sym, ap, ◌∙◌, append-nil}
+use Rattle.std.specs.Prelude.{nat_lt, is_some, option_map}
+use Rattle.std.specs.List.{find, list_all, filter_map, cons_option}
 use Rattle.std.specs.Str.{bytes_eq}
 use Rattle.std.proofs.lemmas.Option.{slice_get-get_or}
-use Rattle.std.proofs.lemmas.Bool.Decides.{nat_tests}
-use Rattle.policy_types.specs.Search.{first_in}
-use Rattle.policy_types.specs.Rules.{repeated, device_kinds, logical_names, window_extent, window_extents, offence_1}
+use Rattle.std.proofs.lemmas.List.Folds.{list_all-map}
+use Rattle.std.proofs.lemmas.Bool.{and_from, and_parts, ltb-true}
+use Rattle.policy_types.specs.Rules.{repeated, window_extent, window_extents, offence_1}
 use Rattle.policy_types.specs.Built.{is_empty, is_plain, is_plain_region, is_built}
 use Rattle.policy_types.specs.Resolution.{Resolution, name_at, mapping_named, subject_named, source_of, subject_placed, are_placed}
 use Rattle.policy_types.specs.Thing.{region}
@@ -17,26 +17,16 @@ use Rattle.policy_types.specs.declared.source.Channel.{Channel}
 use Rattle.policy_types.specs.declared.source.Subject.{Subject as NamedSubject}
 use Rattle.policy_types.specs.declared.resolved.Mapping.{Mapping}
 use Rattle.policy_types.specs.declared.resolved.Subject.{Subject}
-use Rattle.policy_types.proofs.Places.{none_both, found_at_place}
+use Rattle.policy_types.proofs.Lists.{each_of, map-map}
+use Rattle.policy_types.proofs.Places.{found_at_place}
+use Rattle.policy_types.proofs.ResolvedFacts.{parts_placed, unique}
 use Rattle.policy_types.specs.ByPlace.{no_region, region_at, mapping_window, mapping_extent, is_ready}
 
--- ---- tests that pass
-
-pub both : (a b : Bool) → (a && b) ≡ true → (a ≡ true) × (b ≡ true)
-both true b h = (refl, h)
-both false b h = absurd (cc)
-
-pub both_pass : (a b : Bool) → a ≡ true → b ≡ true → (a && b) ≡ true
-both_pass true b h k = k
-both_pass false b h k = absurd (cc)
+-- ---- nothing there
 
 pub no_items : {X : Type 0} (xs : List X) → is_empty xs ≡ true → xs ≡ []
 no_items [] h = refl
 no_items (x ∷ xs) h = absurd (cc)
-
-pub none_map : {X Y : Type 0} (f : X → Y) (xs : List X) → map f xs ≡ [] → xs ≡ []
-none_map f [] h = refl
-none_map f (x ∷ xs) h = absurd (cc)
 
 pub none_some : {X : Type 0} (o : Option X) → not (is_some o) ≡ true → o ≡ None
 none_some None h = refl
@@ -54,11 +44,11 @@ pub record IsPlain (s : NamedSubject) : Type 0 where
 
 pub plain : (s : NamedSubject) → is_plain s ≡ true → IsPlain s
 plain s h =
-    let e = both _ _ h in
-    let d = both _ _ e.0 in
-    let c = both _ _ d.0 in
-    let b = both _ _ c.0 in
-    let a = both _ _ b.0 in
+    let e = and_parts _ _ h in
+    let d = and_parts _ _ e.0 in
+    let c = and_parts _ _ d.0 in
+    let b = and_parts _ _ c.0 in
+    let a = and_parts _ _ b.0 in
     record {
       component = none_some s.component a.0;
       channels = no_items s.channels a.1;
@@ -68,40 +58,7 @@ plain s h =
       targets = no_items s.targets e.1;
     }
 
--- ---- names of regions
-
-pub none_append : {X O : Type 0} (at : X → Option O) (xs ys : List X) → first_in at (xs ++ ys) ≡ None → (first_in at xs ≡ None) × (first_in at ys ≡ None)
-none_append at [] ys h = (refl, h)
-none_append at (x ∷ xs) ys h =
-    let a = none_both (at x) (first_in at (xs ++ ys)) h in
-    let b = none_append at xs ys a.1 in
-    (rw a.0 b.0, b.1)
-
--- the names of each kind are unique
-pub record Unique (p : Source) : Type 0 where
-  pub blocks : repeated (map (λ b. b.name) p.memory_blocks) ≡ None
-  pub regions : repeated (map (λ r. r.name) p.memory ++ map (λ c. c.name) p.channels) ≡ None
-  pub subjects : repeated (map (λ s. s.name) p.subjects) ≡ None
-  pub groups : repeated (map (λ g. g.name) p.scheduling.groups) ≡ None
-
-pub unique : (p : Source) → offence_1 p ≡ None → Unique p
-unfolding offence_1
-unique p h =
-    let front = map (λ b. b.name) p.memory_blocks ∷ map (λ d. d.name) p.devices ∷ [] in
-    let devices = flat_map device_kinds p.devices in
-    let middle = (map (λ r. r.name) p.memory ++ map (λ c. c.name) p.channels) ∷ map (λ c. c.name) p.components ∷ [] in
-    let logical = map logical_names p.components in
-    let back = map (λ e. e.name) p.events ∷ map (λ s. s.name) p.subjects ∷ map (λ g. g.name) p.scheduling.groups ∷ [] in
-    let d = none_append repeated (((front ++ devices) ++ middle) ++ logical) back h in
-    let c = none_append repeated ((front ++ devices) ++ middle) logical d.0 in
-    let b = none_append repeated (front ++ devices) middle c.0 in
-    let a = none_append repeated front devices b.0 in
-    record {
-      blocks = (none_both _ _ a.0).0;
-      regions = (none_both _ _ b.1).0;
-      subjects = (none_both _ _ (none_both _ _ d.1).1).0;
-      groups = (none_both _ _ (none_both _ _ (none_both _ _ d.1).1).1).0;
-    }
+-- ---- what a built policy lacks
 
 pub record HasNoOther (p : Source) : Type 0 where
   pub devices : p.devices ≡ []
@@ -114,11 +71,11 @@ pub record HasNoOther (p : Source) : Type 0 where
 pub built : (p : Source) → is_built p ≡ true → HasNoOther p
 unfolding is_built
 built p h =
-    let e = both _ _ h in
-    let d = both _ _ e.0 in
-    let c = both _ _ d.0 in
-    let b = both _ _ c.0 in
-    let a = both _ _ b.0 in
+    let e = and_parts _ _ h in
+    let d = and_parts _ _ e.0 in
+    let c = and_parts _ _ d.0 in
+    let b = and_parts _ _ c.0 in
+    let a = and_parts _ _ b.0 in
     record {
       devices = no_items p.devices a.0;
       channels = no_items p.channels a.1;
@@ -135,9 +92,6 @@ module _ (p : Source) (regions : List Region) (same : p.memory ≡ regions) (nam
   region_placed k guest rights h =
       ap (λ rs. option_map (λ r. window guest r.size rights (region r.name)) (find (λ r. bytes_eq r.name (name_at (map (λ r. r.name) regions) k)) rs)) same
       ∙ ap (option_map (λ (r : Region). window guest r.size rights (region r.name))) (found_at_place (λ (r : Region). r.name) regions k names h ∙ slice_get-get_or regions k no_region h)
-
-pub is_below : (a b : ℕ) → nat_lt a b ≡ true → a < b
-is_below a b h = grind (arith, nat_tests)
 
 module _ (r : Resolution) (names : repeated (map (λ x. x.name) r.memory) ≡ None) where
   p : Source
@@ -156,13 +110,9 @@ module _ (r : Resolution) (names : repeated (map (λ x. x.name) r.memory) ≡ No
   windows_among : (ms : List Mapping) → list_all (λ m. nat_lt m.region (length r.memory)) ms ≡ true → filter_map (λ m. region_window p m.region m.virtual_address m.rights.0) (map (mapping_named r) ms) ≡ map (mapping_window r.memory) ms
   windows_among [] h = refl
   windows_among (m ∷ ms) h =
-      let a : (nat_lt m.region (length r.memory) ≡ true) × (list_all (λ m. nat_lt m.region (length r.memory)) ms ≡ true) = both _ _ h in
-      let one = region_placed p r.memory memory_is names m.region m.virtual_address m.rights.0 (is_below m.region (length r.memory) a.0) in
+      let a : (nat_lt m.region (length r.memory) ≡ true) × (list_all (λ m. nat_lt m.region (length r.memory)) ms ≡ true) = and_parts _ _ h in
+      let one = region_placed p r.memory memory_is names m.region m.virtual_address m.rights.0 (ltb-true m.region (length r.memory) a.0) in
       λ i. cons_option (one i) (windows_among ms a.1 i)
-
-  extents_among : (ms : List Mapping) → map window_extent (map (mapping_window r.memory) ms) ≡ map (mapping_extent r.memory) ms
-  extents_among [] = refl
-  extents_among (m ∷ ms) = ap (λ es. mapping_extent r.memory m ∷ es) (extents_among ms)
 
   pub windows_placed : (s : Subject) → is_plain (subject_named r s) ≡ true → list_all (λ m. nat_lt m.region (length r.memory)) s.memory ≡ true → windows_of (source_of r) (subject_named r s) ≡ map (mapping_window r.memory) s.memory
   unfolding p
@@ -171,7 +121,7 @@ module _ (r : Resolution) (names : repeated (map (λ x. x.name) r.memory) ≡ No
   pub extents_placed : (s : Subject) → is_plain (subject_named r s) ≡ true → list_all (λ m. nat_lt m.region (length r.memory)) s.memory ≡ true → window_extents (source_of r) (subject_named r s) ≡ map (mapping_extent r.memory) s.memory
   unfolding window_extents p
   extents_placed s h placed =
-      ap (map window_extent) (windows_placed s h placed) ∙ extents_among s.memory
+      ap (map window_extent) (windows_placed s h placed) ∙ map-map window_extent (mapping_window r.memory) s.memory
 
 -- ---- subjects of a built policy
 
@@ -182,17 +132,15 @@ regions_unique r b h =
     let regions : repeated (map (λ x. x.name) r.memory ++ map (λ c. c.name) r.channels) ≡ None = (unique (source_of r) h).regions in
     sym (ap repeated (ap (λ cs. map (λ (x : Region). x.name) r.memory ++ map (λ (c : Channel). c.name) cs) none ∙ append-nil _)) ∙ regions
 
-each_ready : (r : Resolution) (ss : List Subject) → list_all is_plain (map (subject_named r) ss) ≡ true → list_all (subject_placed r) ss ≡ true → list_all (is_ready r) ss ≡ true
-each_ready r [] h k = refl
-each_ready r (s ∷ ss) h k =
-    let a : (is_plain (subject_named r s) ≡ true) × (list_all is_plain (map (subject_named r) ss) ≡ true) = both _ _ h in
-    let b : (subject_placed r s ≡ true) × (list_all (subject_placed r) ss ≡ true) = both _ _ k in
-    let e = both _ _ b.0 in
-    let d = both _ _ e.0 in
-    let c = both _ _ d.0 in
-    let m = both _ _ c.0 in
-    both_pass _ _ (both_pass _ _ a.0 (both _ _ m.0).1) (each_ready r ss a.1 b.1)
-
 pub all_ready : (r : Resolution) → is_built (source_of r) ≡ true → are_placed r ≡ true → list_all (is_ready r) r.subjects ≡ true
-unfolding source_of are_placed
-all_ready r b h = each_ready r r.subjects (built (source_of r) b).subjects (both _ _ (both _ _ h).0).0
+unfolding source_of
+all_ready r b h =
+    each_of (λ s. is_plain (subject_named r s)) (subject_placed r) (is_ready r)
+    (λ s plain placed.
+    let e = and_parts _ _ placed in
+    let d = and_parts _ _ e.0 in
+    let c = and_parts _ _ d.0 in
+    and_from _ _ plain (and_parts _ _ (and_parts _ _ c.0).0).1)
+    r.subjects
+    (sym (list_all-map is_plain (subject_named r) r.subjects) ∙ (built (source_of r) b).subjects)
+    (parts_placed r h).subjects

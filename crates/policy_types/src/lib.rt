@@ -3,6 +3,7 @@
 //! at the start, and the frames of the scheduling plan.
 #![tactic(auto)]
 
+pub mod frame_names;
 pub mod lawful;
 pub mod offence;
 pub mod refusal;

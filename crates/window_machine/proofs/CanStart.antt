@@ -2,7 +2,8 @@
 use Rattle.std.proofs.Common.{◌≡◌, ℕ, ◌-◌, ◌%◌, ◌<◌, ◌≤◌, true, List, [], ◌∷◌, length, map, refl, sym, ap, ◌∙◌, arith, length-append}
 use Rattle.std.specs.Prelude.{◌&&◌, nat_le, nat_lt, replicate}
 use Rattle.std.specs.List.{list_all}
-use Rattle.std.proofs.lemmas.Bool.{eqb-true, leb-true, ltb-true}
+use Rattle.std.proofs.Math.ListN.{get_or-map}
+use Rattle.std.proofs.lemmas.Bool.{and_parts, eqb-true, leb-true, ltb-true}
 use Rattle.std.proofs.lemmas.List.{length-map, length-replicate}
 use Rattle.policy_types.specs.ByPlace.{no_region, region_at, mapping_extent}
 use Rattle.policy_types.specs.Rules.{is_page_aligned, is_page_size, is_guest}
@@ -12,13 +13,11 @@ use Rattle.policy_types.specs.declared.resolved.Mapping.{Mapping}
 use Rattle.policy_types.specs.declared.source.Region.{Region}
 use Rattle.policy_types.specs.declared.source.Content.{Content}
 use Rattle.policy_types.specs.declared.source.Content.TheVariants.{Zero, Fill, Inline, File}
-use Rattle.policy_types.proofs.WindowsByPlace.{both}
 use Rattle.image_pack.specs.declared.plan.Plan.{Plan}
 use Rattle.plan_emit.specs.PlanOf.{IsPlanOf}
 use Rattle.window_machine.specs.Machine.{sizes_of, WindowFits, AllFit, GuestsFit, plain_bytes, held_at_start, window_in, guest_at_start, machine_of, CanRun}
 use Rattle.window_machine.specs.Start.{fits_in, is_held, are_placed_in}
 use Rattle.window_machine.proofs.Facts.{Facts, AreLaid, AllLaid, all_held, all_laid}
-use Rattle.window_machine.proofs.Reached.{at-map}
 
 length-plain_bytes : (size : ℕ) (content : Content) → fits_in size content ≡ true → length (plain_bytes size content) ≡ size
 length-plain_bytes size Zero h = length-replicate {A = ℕ} size 0
@@ -32,7 +31,7 @@ length-plain_bytes size (File name offset most) h = absurd (cc)
 sizes_held : (rs : List Region) → list_all is_held rs ≡ true → sizes_of (map held_at_start rs) ≡ map (λ r. r.size) rs
 sizes_held [] h = refl
 sizes_held (r ∷ rs) h =
-    let a : (is_held r ≡ true) × (list_all is_held rs ≡ true) = both _ _ h in
+    let a : (is_held r ≡ true) × (list_all is_held rs ≡ true) = and_parts _ _ h in
     λ i. length-plain_bytes r.size r.content a.0 i ∷ sizes_held rs a.1 i
 
 module _ (regions : List Region) (sizes : List ℕ) (are : sizes ≡ map (λ r. r.size) regions) where
@@ -40,14 +39,14 @@ module _ (regions : List Region) (sizes : List ℕ) (are : sizes ≡ map (λ r. 
   fits m there guest =
       let many : length sizes ≡ length regions = ap length are ∙ length-map regions (λ (r : Region). r.size) in
       let below : m.region < length regions = ltb-true m.region (length regions) there in
-      let a = both (is_page_aligned m.virtual_address && is_page_size (region_at regions m.region).size) _ guest in
-      let b = both (is_page_aligned m.virtual_address) _ a.0 in
-      let c = both (is_page_aligned (region_at regions m.region).size) _ b.1 in
+      let a = and_parts (is_page_aligned m.virtual_address && is_page_size (region_at regions m.region).size) _ guest in
+      let b = and_parts (is_page_aligned m.virtual_address) _ a.0 in
+      let c = and_parts (is_page_aligned (region_at regions m.region).size) _ b.1 in
       let address : m.virtual_address % 4096 ≡ 0 = eqb-true _ _ b.0 in
       let size : (region_at regions m.region).size % 4096 ≡ 0 = eqb-true _ _ c.0 in
       record {
         place = omega (arith, many, below);
-        size = ap (λ xs. Rattle.std.specs.Prelude.slice_index_or xs m.region 0) are ∙ at-map (λ (r : Region). r.size) regions m.region no_region;
+        size = ap (λ xs. Rattle.std.specs.Prelude.slice_index_or xs m.region 0) are ∙ get_or-map (λ (r : Region). r.size) regions m.region no_region;
         guest = omega (arith, address);
         whole = omega (arith, size);
       }
@@ -55,8 +54,8 @@ module _ (regions : List Region) (sizes : List ℕ) (are : sizes ≡ map (λ r. 
   all_fit : (ms : List Mapping) → AreLaid regions ms → AllFit sizes (map (window_in regions) ms)
   all_fit [] h = tt
   all_fit (m ∷ ms) h =
-      let a : (nat_lt m.region (length regions) ≡ true) × (are_placed_in regions ms ≡ true) = both _ _ h.0 in
-      let b : (is_guest m.virtual_address (region_at regions m.region).size ≡ true) × (list_all (λ e. is_guest e.address e.size) (map (mapping_extent regions) ms) ≡ true) = both _ _ h.1 in
+      let a : (nat_lt m.region (length regions) ≡ true) × (are_placed_in regions ms ≡ true) = and_parts _ _ h.0 in
+      let b : (is_guest m.virtual_address (region_at regions m.region).size ≡ true) × (list_all (λ e. is_guest e.address e.size) (map (mapping_extent regions) ms) ≡ true) = and_parts _ _ h.1 in
       (fits m a.0 b.0, all_fit ms (a.1, b.1))
 
   guests_fit : (ss : List Subject) → AllLaid regions ss → GuestsFit sizes (map (guest_at_start regions) ss)

@@ -2,6 +2,7 @@
 use Rattle.std.proofs.Common.{◌≡◌, ℕ, ◌≤◌, true, false, cond, List, [], ◌∷◌, length, map, Some, None, refl, sym, ap, ◌∙◌, arith}
 use Rattle.std.specs.Prelude.{nat_le}
 use Rattle.std.specs.List.{list_all}
+use Rattle.std.proofs.lemmas.Bool.{and_from, and_parts}
 use Rattle.std.proofs.lemmas.Bool.Decides.{nat_tests}
 use Rattle.muen_num.specs.declared.tag.Part.TheVariants.{Whole}
 use Rattle.policy_types.specs.Search.{first_in}
@@ -17,8 +18,10 @@ use Rattle.policy_types.specs.declared.resolved.Mapping.{Mapping}
 use Rattle.policy_types.specs.declared.source.Region.{Region}
 use Rattle.policy_types.specs.declared.source.Content.{Content}
 use Rattle.policy_types.specs.declared.source.Content.TheVariants.{Zero, Fill, Inline, File}
-use Rattle.policy_types.proofs.Places.{none_both}
-use Rattle.policy_types.proofs.WindowsByPlace.{both, both_pass, unique, extents_placed, regions_unique, all_ready}
+use Rattle.policy_types.proofs.Lists.{each_from}
+use Rattle.policy_types.proofs.Searches.{none_both}
+use Rattle.policy_types.proofs.ResolvedFacts.{subjects_unique}
+use Rattle.policy_types.proofs.WindowsByPlace.{extents_placed, regions_unique, all_ready}
 use Rattle.plan_emit.proofs.Kept.{rules_kept, laid, some_cpu}
 use Rattle.window_machine.specs.Start.{fits_in, is_held, are_placed_in}
 
@@ -46,9 +49,9 @@ held_one r (File name offset most) p h = absurd (cc)
 held_each : (rs : List Region) → list_all (λ r. is_plain_content r.content) rs ≡ true → first_in (λ r. content_refused r r.content) rs ≡ None → list_all is_held rs ≡ true
 held_each [] p h = refl
 held_each (r ∷ rs) p h =
-    let a : (is_plain_content r.content ≡ true) × (list_all (λ (r : Region). is_plain_content r.content) rs ≡ true) = both _ _ p in
+    let a : (is_plain_content r.content ≡ true) × (list_all (λ (r : Region). is_plain_content r.content) rs ≡ true) = and_parts _ _ p in
     let b = none_both (content_refused r r.content) (first_in (λ r. content_refused r r.content) rs) h in
-    both_pass _ _ (held_one r r.content a.0 b.0) (held_each rs a.1 b.1)
+    and_from _ _ (held_one r r.content a.0 b.0) (held_each rs a.1 b.1)
 
 pub all_held : (r : Resolution) → Facts r → list_all is_held r.memory ≡ true
 unfolding source_of has_plain_contents contents_refused
@@ -56,33 +59,20 @@ all_held r f = held_each r.memory f.plain f.contents
 
 -- ---- places
 
-placed_each : (r : Resolution) (ss : List Subject) → list_all (is_ready r) ss ≡ true → list_all (λ s. are_placed_in r.memory s.memory) ss ≡ true
-placed_each r [] h = refl
-placed_each r (s ∷ ss) h =
-    let a : (is_ready r s ≡ true) × (list_all (is_ready r) ss ≡ true) = both _ _ h in
-    both_pass _ _ (both _ _ a.0).1 (placed_each r ss a.1)
-
 pub ready : (r : Resolution) → Facts r → list_all (is_ready r) r.subjects ≡ true
 ready r f = all_ready r f.built f.resolved.placed
 
 pub all_placed : (r : Resolution) → Facts r → list_all (λ s. are_placed_in r.memory s.memory) r.subjects ≡ true
-all_placed r f = placed_each r r.subjects (ready r f)
+all_placed r f =
+    each_from (is_ready r) (λ s. are_placed_in r.memory s.memory) (λ s h. (and_parts _ _ h).1) r.subjects (ready r f)
 
 -- ---- names
 
 pub unique_regions : (r : Resolution) → Facts r → repeated (map (λ x. x.name) r.memory) ≡ None
 unique_regions r f = regions_unique r f.built f.resolved.names
 
-subject_names : (r : Resolution) (ss : List Subject) → map (λ s. s.name) (map (subject_named r) ss) ≡ map (λ s. s.name) ss
-subject_names r [] = refl
-subject_names r (s ∷ ss) = ap (λ ns. s.name ∷ ns) (subject_names r ss)
-
-pub names_of_subjects : (r : Resolution) → map (λ s. s.name) (source_of r).subjects ≡ map (λ s. s.name) r.subjects
-unfolding source_of
-names_of_subjects r = subject_names r r.subjects
-
 pub unique_subjects : (r : Resolution) → Facts r → repeated (map (λ s. s.name) r.subjects) ≡ None
-unique_subjects r f = sym (ap repeated (names_of_subjects r)) ∙ (unique (source_of r) f.resolved.names).subjects
+unique_subjects r f = subjects_unique r f.resolved.names
 
 -- ---- addresses
 
@@ -98,9 +88,9 @@ AllLaid regions (s ∷ ss) = AreLaid regions s.memory × AllLaid regions ss
 laid_each : (r : Resolution) → Facts r → (ss : List Subject) → list_all (is_ready r) ss ≡ true → list_all (λ s. list_all (λ e. is_guest e.address e.size) (window_extents (source_of r) s)) (map (subject_named r) ss) ≡ true → AllLaid r.memory ss
 laid_each r f [] ready h = tt
 laid_each r f (s ∷ ss) ready h =
-    let a : (is_ready r s ≡ true) × (list_all (is_ready r) ss ≡ true) = both _ _ ready in
-    let b = both _ _ a.0 in
-    let c : (list_all (λ e. is_guest e.address e.size) (window_extents (source_of r) (subject_named r s)) ≡ true) × (list_all (λ s. list_all (λ e. is_guest e.address e.size) (window_extents (source_of r) s)) (map (subject_named r) ss) ≡ true) = both _ _ h in
+    let a : (is_ready r s ≡ true) × (list_all (is_ready r) ss ≡ true) = and_parts _ _ ready in
+    let b = and_parts _ _ a.0 in
+    let c : (list_all (λ e. is_guest e.address e.size) (window_extents (source_of r) (subject_named r s)) ≡ true) × (list_all (λ s. list_all (λ e. is_guest e.address e.size) (window_extents (source_of r) s)) (map (subject_named r) ss) ≡ true) = and_parts _ _ h in
     let extents = extents_placed r (unique_regions r f) s b.0 b.1 in
     ((b.1, sym (ap (list_all (λ e. is_guest e.address e.size)) extents) ∙ c.0), laid_each r f ss a.1 c.1)
 

@@ -1,7 +1,8 @@
 -- What an access reaches lies in a region.
-use Rattle.std.proofs.Common.{◌≡◌, ℕ, ◌+◌, ◌-◌, ◌%◌, ◌^◌, ◌<◌, ◌≤◌, true, false, cond, List, [], ◌∷◌, length, map, Some, refl, sym, ◌∙◌, subst, arith}
-use Rattle.std.specs.Prelude.{◌==◌, nat_le, slice_index, slice_index_or}
+use Rattle.std.proofs.Common.{◌≡◌, ℕ, ◌+◌, ◌-◌, ◌%◌, ◌^◌, ◌<◌, ◌≤◌, true, false, cond, List, [], ◌∷◌, length, Some, refl, sym, ◌∙◌, subst, arith}
+use Rattle.std.specs.Prelude.{◌==◌, nat_le}
 use Rattle.std.specs.List.{find}
+use Rattle.std.proofs.Math.ListN.{get_or-map}
 use Rattle.std.proofs.lemmas.Bool.{eqb-true}
 use Rattle.std.proofs.lemmas.Bool.Decides.{nat_tests}
 use Rattle.std.proofs.lemmas.List.{length-map}
@@ -15,12 +16,6 @@ use Rattle.subject_model.specs.Solo.{reached, refused, reach_by, reach_of}
 use Rattle.subject_model.proofs.Alone.{LeadsTo}
 use Rattle.window_machine.specs.Machine.{bytes_at, nothing, sizes_of, WindowFits, AllFit, Within}
 use Rattle.window_machine.specs.declared.memory.Holding.{Holding}
-
--- what stands at a place of a list that was mapped
-pub at-map : {X Y : Type 0} (f : X → Y) (xs : List X) (i : ℕ) (d : X) → slice_index_or (map f xs) i (f d) ≡ f (slice_index_or xs i d)
-at-map f [] i d = refl
-at-map f (x ∷ xs) Rattle.std.specs.Prelude.zero d = refl
-at-map f (x ∷ xs) (Rattle.std.specs.Prelude.suc i) d = at-map f xs i d
 
 -- ---- an aligned access of a window lies in it
 
@@ -38,7 +33,7 @@ module _ (holdings : List Holding) (size : Size) (address : ℕ) (aligned : addr
   window_within w fits h =
       let inside = holding w address h in
       let there : w.thing < length holdings = omega (arith, fits.place, length-map holdings (λ (h : Holding). length h.bytes)) in
-      let len : length (bytes_at holdings w.thing) ≡ w.size = sym (at-map (λ (h : Holding). length h.bytes) holdings w.thing nothing) ∙ fits.size in
+      let len : length (bytes_at holdings w.thing) ≡ w.size = sym (get_or-map (λ (h : Holding). length h.bytes) holdings w.thing nothing) ∙ fits.size in
       record {
         there = there;
         room = last size w.guest w.size address (length (bytes_at holdings w.thing)) inside.0 inside.1 fits.guest fits.whole aligned len;

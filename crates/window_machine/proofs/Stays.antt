@@ -1,5 +1,5 @@
 -- A machine that can run can run on.
-use Rattle.std.proofs.Common.{◌≡◌, ℕ, zero, suc, ◌<◌, true, false, List, [], ◌∷◌, length, get_or, set, Option, Some, None, refl, ap, arith}
+use Rattle.std.proofs.Common.{◌≡◌, ℕ, zero, suc, ◌<◌, true, false, List, [], ◌∷◌, length, get_or, set, Option, Some, None, refl, arith}
 use Rattle.std.specs.Prelude.{◌==◌, nat_le, nat_lt, slice_get}
 use Rattle.std.specs.Option.{option_map_or}
 use Rattle.std.specs.List.{list_all}
@@ -39,8 +39,3 @@ pub set_fits : (sizes : List ℕ) (gs : List GuestState) (i : ℕ) (g : GuestSta
 set_fits sizes [] i g h k = tt
 set_fits sizes (x ∷ xs) zero g h k = (k, h.1)
 set_fits sizes (x ∷ xs) (suc i) g h k = (h.0, set_fits sizes xs i g h.1 k)
-
-pub length_set : (gs : List GuestState) (i : ℕ) (g : GuestState) → length (set gs i g) ≡ length gs
-length_set [] i g = refl
-length_set (x ∷ xs) zero g = refl
-length_set (x ∷ xs) (suc i) g = ap suc (length_set xs i g)

@@ -4,6 +4,7 @@ use Rattle.std.specs.Prelude.{slice_get, option_map, option_to_list, unwrap_or}
 use Rattle.std.specs.Option.{option_map_or}
 use Rattle.std.specs.List.{find, list_all, flat_map, cons_option}
 use Rattle.std.specs.Str.{bytes_eq}
+use Rattle.std.proofs.lemmas.Bool.{and_parts}
 use Rattle.std.proofs.lemmas.List.{append-nil}
 use Rattle.muen_num.specs.Range.{numbers_below}
 use Rattle.policy_types.specs.Built.{is_plain, is_plain_content, has_plain_contents}
@@ -17,8 +18,9 @@ use Rattle.policy_types.specs.declared.source.Source.{Source}
 use Rattle.policy_types.specs.declared.source.Region.{Region}
 use Rattle.policy_types.specs.declared.source.Content.{Content}
 use Rattle.policy_types.specs.declared.source.Content.TheVariants.{Zero, Fill, Inline, File}
+use Rattle.policy_types.proofs.Lists.{map-map}
 use Rattle.policy_types.proofs.Places.{found_at_place}
-use Rattle.policy_types.proofs.WindowsByPlace.{both, plain, built}
+use Rattle.policy_types.proofs.WindowsByPlace.{plain, built}
 use Rattle.image_pack.specs.declared.plan.Plan.{Plan}
 use Rattle.plan_emit.specs.PlanOf.{IsPlanOf}
 use Rattle.state_page.specs.StatePage.{started}
@@ -32,8 +34,8 @@ use Rattle.window_machine.specs.Machine.{GuestState, MachineState, MachineRan, p
 use Rattle.window_machine.specs.declared.memory.Holding.{Holding}
 use Rattle.window_machine.proofs.CanStart.{can_run}
 use Rattle.window_machine.proofs.Facts.{Facts, unique_regions, unique_subjects, one_cpu}
-use Rattle.window_machine.proofs.SystemTurn.{IsOf, kept_state, system_of, turn_is, stays, states_named, guests_named}
-use Rattle.window_machine.proofs.Things.{thing_of, held_names}
+use Rattle.window_machine.proofs.SystemTurn.{IsOf, kept_state, system_of, turn_is, stays, guests_named}
+use Rattle.window_machine.proofs.Things.{thing_of}
 
 -- ---- each is found by its name
 
@@ -68,7 +70,7 @@ module _ (r : Resolution) (f : Facts r) where
   unfolding initial_bytes p source_of AllFirst
   things_among files [] h k = refl
   things_among files (x ∷ xs) h k =
-      let a : (is_plain_content x.content ≡ true) × (list_all (λ (x : Region). is_plain_content x.content) xs ≡ true) = both _ _ k in
+      let a : (is_plain_content x.content ≡ true) × (list_all (λ (x : Region). is_plain_content x.content) xs ≡ true) = and_parts _ _ k in
       let bytes : initial_bytes p files (region x.name) ≡ plain_bytes x.size x.content =
       ap (λ o. option_map_or (λ (x : Region). content_bytes files x.size x.content) o []) h.0
       ∙ plain_content files x.size x.content a.0 in
@@ -77,7 +79,7 @@ module _ (r : Resolution) (f : Facts r) where
   none_provided : (ss : List NamedSubject) → list_all is_plain ss ≡ true → flat_map (λ s. provided_by s.name (component_by (source_of r) s.component)) ss ≡ []
   none_provided [] h = refl
   none_provided (s ∷ ss) h =
-      let a : (is_plain s ≡ true) × (list_all is_plain ss ≡ true) = both _ _ h in
+      let a : (is_plain s ≡ true) × (list_all is_plain ss ≡ true) = and_parts _ _ h in
       (λ i. provided_by s.name (component_by (source_of r) ((plain s a.0).component i)) ++ none_provided ss a.1 i)
 
   memory_is : (source_of r).memory ≡ r.memory
@@ -95,24 +97,16 @@ module _ (r : Resolution) (f : Facts r) where
       ++ flat_map (λ d. map (λ m. device_memory d.name m.name) d.memory) (b.devices i))
       ∙ append-nil _ ∙ append-nil _ ∙ append-nil _
 
-  start_states : (ss : List Subject) → map (λ s. (s.name, started s.entry)) (map (subject_named r) ss) ≡ map kept_state (map (guest_at_start r.memory) ss)
-  start_states [] = refl
-  start_states (s ∷ ss) = ap (λ xs. (s.name, started s.entry) ∷ xs) (start_states ss)
-
   start_is : (files : Held) (plan : Plan) → start_of (source_of r) files ≡ system_of (source_of r) (machine_of r plan)
   unfolding start_of machine_of p source_of has_plain_contents
   start_is files plan =
       let things = ap (map (λ x. (x, initial_bytes (source_of r) files x))) things_are ∙ things_among files r.memory (all_first (λ (x : Region). x.name) r.memory (unique_regions r f)) f.plain in
-      let states = start_states r.subjects in
+      let states = map-map (λ s. (s.name, started s.entry)) (subject_named r) r.subjects ∙ sym (map-map kept_state (guest_at_start r.memory) r.subjects) in
       λ i. record (system_of (source_of r) (machine_of r plan)) { states = states i; things = things i }
-
-  held_named : (rs : List Region) → held_names (map held_at_start rs) ≡ map (λ x. x.name) rs
-  held_named [] = refl
-  held_named (x ∷ xs) = ap (λ ns. x.name ∷ ns) (held_named xs)
 
   starts : (plan : Plan) → IsPlanOf (source_of r) plan → IsOf r f (machine_of r plan)
   unfolding machine_of
-  starts plan of = record { plan = of; guests = refl; holdings = held_named r.memory }
+  starts plan of = record { plan = of; guests = refl; holdings = map-map (λ h. h.name) held_at_start r.memory }
 
   -- ---- the run
 
@@ -163,7 +157,7 @@ module _ (r : Resolution) (f : Facts r) where
   unfolding final_text machine_final_text source_of
   final_is m o =
       let names : map (λ g. g.name) m.guests ≡ map (λ s. s.name) r.subjects = guests_named r f m o in
-      let unique = ap repeated (states_named r f m.guests ∙ names) ∙ unique_subjects r f in
+      let unique = ap repeated (map-map (λ e. e.0) kept_state m.guests ∙ names) ∙ unique_subjects r f in
       let states = states_among (system_of (source_of r) m) r.subjects m.guests (sym names) (all_first (λ (e : List ℕ × SubjectState). e.0) (map kept_state m.guests) unique) in
       λ i. states i ++ digests m.holdings i
 

@@ -4,7 +4,8 @@ use Rattle.std.specs.Prelude.{◌==◌, filter, nat_lt, slice_get, slice_index_o
 use Rattle.std.specs.Option.{option_map_or}
 use Rattle.std.specs.List.{find, list_all, position_or_len}
 use Rattle.std.specs.Str.{bytes_eq}
-use Rattle.std.proofs.lemmas.Bool.{ltb-true}
+use Rattle.std.proofs.Math.ListN.{get_or-map}
+use Rattle.std.proofs.lemmas.Bool.{and_parts, ltb-true}
 use Rattle.std.proofs.lemmas.List.{length-map}
 use Rattle.std.proofs.lemmas.Option.{slice_get-map, slice_get-get_or, get_or_from_slice_get}
 use Rattle.muen_num.specs.Size.{bytes_of as count}
@@ -23,12 +24,15 @@ use Rattle.policy_types.specs.declared.source.Source.{Source}
 use Rattle.policy_types.specs.declared.source.SourceWay.{SourceWay}
 use Rattle.policy_types.specs.declared.source.Subject.{Subject as NamedSubject}
 use Rattle.policy_types.specs.declared.source.Region.{Region}
-use Rattle.policy_types.proofs.Places.{position-map, position_is, found_at_place}
-use Rattle.policy_types.proofs.WindowsByPlace.{both, plain, windows_placed}
+use Rattle.policy_types.proofs.Lists.{map-map, position-map}
+use Rattle.policy_types.proofs.Places.{position_is, found_at_place}
+use Rattle.policy_types.proofs.ResolvedFacts.{many_subjects, names_of_subjects}
+use Rattle.policy_types.proofs.WindowsByPlace.{plain, windows_placed}
 use Rattle.image_pack.specs.Plan.{frames_in, cpus_of}
 use Rattle.image_pack.specs.Slot.{Slot, slot_at}
 use Rattle.image_pack.specs.declared.plan.GroupPart.{GroupPart}
 use Rattle.image_pack.specs.declared.plan.Plan.{Plan}
+use Rattle.image_pack.proofs.ByNumber.{passes_at}
 use Rattle.image_pack.proofs.SlotLaws.{slot_there}
 use Rattle.plan_emit.specs.PlanOf.{IsPlanOf}
 use Rattle.state_page.specs.declared.SubjectState.{SubjectState}
@@ -36,9 +40,8 @@ use Rattle.subject_model.specs.Solo.{Answer, Reach, reached, refused, reach_of, 
 use Rattle.subject_model.specs.System.{System, Named, named, Turner, change_first, change_named, is_shown, pending, with_store, without, raised_by, raises, inbox_of, turner_in, turned_by, turn_answered, answered, system_turn}
 use Rattle.subject_model.proofs.Alone.{LeadsTo, AllShown, leads, relabelled, store_of, answer_of, turn_same, turn_stores}
 use Rattle.window_machine.specs.Machine.{GuestState, MachineState, bytes_at, nobody, no_group, guest_at, active_at, guest_answer, answer_at, with_stored, window_in, guest_at_start, after_turn, line_of_turn, machine_after, machine_line}
-use Rattle.window_machine.proofs.Facts.{Facts, ready, unique_regions, unique_subjects, names_of_subjects, one_cpu}
+use Rattle.window_machine.proofs.Facts.{Facts, ready, unique_regions, unique_subjects, one_cpu}
 use Rattle.window_machine.proofs.Puts.{names_kept}
-use Rattle.window_machine.proofs.Reached.{at-map}
 use Rattle.window_machine.proofs.Things.{IsFirst, thing_of, thing_at, held_names, change_at_place, stored_named, same_here}
 
 -- ---- nothing is pending
@@ -153,15 +156,10 @@ module _ (r : Resolution) (f : Facts r) where
 
   pub guests_named : (m : MachineState) → IsOf m → map (λ g. g.name) m.guests ≡ guest_names
   guests_named m o =
-      first_of m.guests ∙ ap (map (λ x. x.0)) o.guests ∙ sym (first_of (map (guest_at_start r.memory) r.subjects)) ∙ started r.subjects
-    where
-      first_of : (gs : List GuestState) → map (λ g. g.name) gs ≡ map (λ x. x.0) (map outline gs)
-      first_of [] = refl
-      first_of (g ∷ gs) = ap (λ ns. g.name ∷ ns) (first_of gs)
-
-      started : (ss : List Subject) → map (λ g. g.name) (map (guest_at_start r.memory) ss) ≡ map (λ s. s.name) ss
-      started [] = refl
-      started (s ∷ ss) = ap (λ ns. s.name ∷ ns) (started ss)
+      sym (map-map (λ x. x.0) outline m.guests)
+      ∙ ap (map (λ x. x.0)) o.guests
+      ∙ map-map (λ x. x.0) outline (map (guest_at_start r.memory) r.subjects)
+      ∙ map-map (λ g. g.name) (guest_at_start r.memory) r.subjects
 
   -- the name of a subject, by its number
   named_at : (m : MachineState) (i : ℕ) (h : Here m i) → name_at guest_names i ≡ h.subject.name
@@ -181,15 +179,11 @@ module _ (r : Resolution) (f : Facts r) where
       ∙ slice_get-map (subject_named r) r.subjects i
       ∙ ap (option_map (subject_named r)) h.in_policy
 
-  pub states_named : (gs : List GuestState) → map (λ e. e.0) (map kept_state gs) ≡ map (λ g. g.name) gs
-  states_named [] = refl
-  states_named (g ∷ gs) = ap (λ ns. g.name ∷ ns) (states_named gs)
-
   state_found : (m : MachineState) (i : ℕ) → IsOf m → (h : Here m i) → named (map kept_state m.guests) h.subject.name ≡ Some (guest_at m i).state
   state_found m i o h =
       let states = map kept_state m.guests in
       let many : length states ≡ length r.subjects = length-map m.guests kept_state ∙ many_guests m o in
-      let names : map (λ e. e.0) states ≡ guest_names = states_named m.guests ∙ guests_named m o in
+      let names : map (λ e. e.0) states ≡ guest_names = map-map (λ e. e.0) kept_state m.guests ∙ guests_named m o in
       let unique = ap Rattle.policy_types.specs.Rules.repeated names ∙ unique_subjects r f in
       let name : name_at (map (λ e. e.0) states) i ≡ h.subject.name = ap (λ ns. name_at ns i) names ∙ named_at m i h in
       ap (option_map (λ (e : List ℕ × SubjectState). e.1))
@@ -204,13 +198,6 @@ module _ (r : Resolution) (f : Facts r) where
   on_some None h = absurd (cc)
   on_some (Some g) h = (g, refl)
 
-  passes_at : {X : Type 0} (test : X → Bool) (xs : List X) (k : ℕ) (x : X) → list_all test xs ≡ true → slice_get xs k ≡ Some x → test x ≡ true
-  passes_at test [] k x all e = absurd (cc)
-  passes_at test (y ∷ ys) zero x all e =
-      let same : y ≡ x = cc in
-      subst (λ z. test z ≡ true) same (both (test y) (list_all test ys) all).0
-  passes_at test (y ∷ ys) (suc k) x all e = passes_at test ys k x (both (test y) (list_all test ys) all).1 e
-
   active_is : (plan : Plan) (tick : ℕ) (slot : Slot) (g : GroupPart) → slot_at (frames_in plan 0) tick ≡ Some slot → slice_get plan.groups slot.group ≡ Some g → active_at plan tick ≡ g.first
   unfolding active_at
   active_is plan tick slot g at is =
@@ -222,10 +209,6 @@ module _ (r : Resolution) (f : Facts r) where
     at : slot_at (frames_of (source_of r) 0) tick ≡ Some slot
     within : active_at m.plan tick < length r.subjects
     active : slice_get (map (λ g. first_member g.subjects) (source_of r).scheduling.groups) slot.group ≡ Some (name_at (map (λ s. s.name) r.subjects) (active_at m.plan tick))
-
-  many_subjects : length (source_of r).subjects ≡ length r.subjects
-  unfolding source_of
-  many_subjects = length-map r.subjects (subject_named r)
 
   turns : (m : MachineState) (tick : ℕ) → IsOf m → Turns m tick
   turns m tick o =
@@ -239,7 +222,7 @@ module _ (r : Resolution) (f : Facts r) where
       record {
         slot = t.slot;
         at = ap (λ fs. slot_at fs tick) (sym frames) ∙ t.is;
-        within = omega (arith, first, there, many_subjects);
+        within = omega (arith, first, there, many_subjects r);
         active =
             ap (λ xs. slice_get xs t.slot.group) (sym o.plan.firsts)
             ∙ slice_get-map (λ (g : GroupPart). slice_index_or (map (λ s. s.name) (source_of r).subjects) g.first []) m.plan.groups t.slot.group
@@ -272,13 +255,13 @@ module _ (r : Resolution) (f : Facts r) where
   all_first : (ms : List Mapping) → list_all (λ m. nat_lt m.region (length r.memory)) ms ≡ true → AllShown (IsFirst region_names) (map (window_in r.memory) ms)
   all_first [] h = tt
   all_first (m ∷ ms) h =
-      let a : (nat_lt m.region (length r.memory) ≡ true) × (list_all (λ (m : Mapping). nat_lt m.region (length r.memory)) ms ≡ true) = both _ _ h in
+      let a : (nat_lt m.region (length r.memory) ≡ true) × (list_all (λ (m : Mapping). nat_lt m.region (length r.memory)) ms ≡ true) = and_parts _ _ h in
       (region_first m.region (ltb-true m.region (length r.memory) a.0), all_first ms a.1)
 
   labelled : (ms : List Mapping) → map (mapping_window r.memory) ms ≡ map (relabelled (thing_at region_names)) (map (window_in r.memory) ms)
   labelled [] = refl
   labelled (m ∷ ms) =
-      let name : (region_at r.memory m.region).name ≡ name_at region_names m.region = sym (at-map (λ (x : Region). x.name) r.memory m.region no_region) in
+      let name : (region_at r.memory m.region).name ≡ name_at region_names m.region = sym (get_or-map (λ (x : Region). x.name) r.memory m.region no_region) in
       λ i. Rattle.policy_types.specs.Windows.window m.virtual_address (region_at r.memory m.region).size m.rights.0 (region (name i)) ∷ labelled ms i
 
   -- what a subject has, by its number
@@ -290,7 +273,7 @@ module _ (r : Resolution) (f : Facts r) where
 
   is_ready_here : (m : MachineState) (i : ℕ) (h : Here m i) → Ready m i h
   is_ready_here m i h =
-      let a = both _ _ (passes_at (is_ready r) r.subjects i h.subject (ready r f) h.in_policy) in
+      let a = and_parts _ _ (passes_at (is_ready r) r.subjects i h.subject (ready r f) h.in_policy) in
       record {
         plain = a.0;
         placed = a.1;

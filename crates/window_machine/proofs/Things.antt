@@ -10,7 +10,8 @@ use Rattle.std.proofs.lemmas.List.Folds.{find_at}
 use Rattle.policy_types.specs.Thing.{Thing, region, same_thing}
 use Rattle.policy_types.specs.Windows.{Window}
 use Rattle.policy_types.specs.Resolution.{name_at}
-use Rattle.policy_types.proofs.Places.{same_self, position-map}
+use Rattle.policy_types.proofs.Lists.{find-map, position-map}
+use Rattle.policy_types.proofs.Places.{same_self}
 use Rattle.subject_model.specs.Solo.{Stored, bytes_in}
 use Rattle.subject_model.specs.System.{is_shown, change_first, overwritten, with_store}
 use Rattle.subject_model.proofs.Alone.{relabelled, store_of, AllShown, StoresSo}
@@ -32,14 +33,6 @@ thing_at names place = region (name_at names place)
 
 abbrev pub held_names : List Holding → List (List ℕ)
 held_names hs = map (λ h. h.name) hs
-
-find-map : {X Y : Type 0} (test : Y → Bool) (f : X → Y) (xs : List X) → find test (map f xs) ≡ option_map f (find (λ x. test (f x)) xs)
-find-map test f [] = refl
-find-map test f (x ∷ xs) =
-    elim (test (f x)) as (λ b. cond b (Some (f x)) (find test (map f xs)) ≡ option_map f (cond b (Some x) (find (λ x. test (f x)) xs))) [
-      | true ↦ refl
-      | false ↦ find-map test f xs
-    ]
 
 -- what is shown is found among what is shown, as among all
 find-shown : (shown : Thing → Bool) (name : List ℕ) (hs : List Holding) → shown (region name) ≡ true → find (λ e. same_thing e.0 (region name)) (filter (λ e. shown e.0) (map thing_of hs)) ≡ find (λ e. same_thing e.0 (region name)) (map thing_of hs)

@@ -3,7 +3,8 @@ use Rattle.std.specs.Option.{option_or}
 use Rattle.std.specs.List.{enumerate_from}
 use Rattle.policy_types.specs.Search.{first_in}
 use Rattle.policy_rules.specs.Placed.{group_offence, member_offence, counted_offence}
-use Rattle.policy_rules.proofs.ByPlace.{by_counts, or_none}
+use Rattle.policy_types.proofs.Searches.{option_or-None}
+use Rattle.policy_rules.proofs.ByPlace.{by_counts}
 use Rattle.policy_rules.proofs.groups.of_groups.Goals as goal
 
 pub returns-in_ok-times-in-None : goal.returns-in_ok-times-in-None
@@ -15,4 +16,4 @@ returns-in_ok-times-in-None c =
     c.first_counted.ensures
     ∙ ap (λ times. first_in (counted_offence times) (enumerate_from 0 subjects)) c.deref.ensures.value
     ∙ by_counts subjects groups c.in_ok-times-in-None.times.items (λ k l. c.in_ok-times-in-None.ensures k l)
-    ∙ sym (ap (λ o. option_or o (option_or members None)) none ∙ or_none members)
+    ∙ sym (ap (λ o. option_or o (option_or members None)) none ∙ option_or-None members)

@@ -3,7 +3,8 @@ use Rattle.std.specs.Prelude.{option_map, nat_lt}
 use Rattle.std.specs.List.{list_all}
 use Rattle.window_machine.specs.Machine.{MachineState, GuestState, sizes_of, AllFit, GuestsFit, HaveRoom, stored_for, guest_answer}
 use Rattle.window_machine.proofs.Puts.{sizes_kept, given_back, may_put}
-use Rattle.window_machine.proofs.Stays.{fit_at, set_fits, length_set}
+use Rattle.std.proofs.lemmas.List.{length-set}
+use Rattle.window_machine.proofs.Stays.{fit_at, set_fits}
 use Rattle.window_machine.proofs.machine.Machine.turn_of.Goals as goal
 
 -- the windows of a subject fit
@@ -33,6 +34,6 @@ invariant_of-self c =
     let here : AllFit (sizes_of hs.items) c.turn-turn.new.self.windows = subst (λ (g : GuestState). AllFit (sizes_of hs.items) g.windows) (sym c.turn-turn.ensures.state) (fit c.self.inside.guests.items (sizes_of c.self.inside.holdings.items) c.index_mut-guest.result.now _ c.args.at c.index_mut-guest.ensures.value (omega (arith, c.requires, ap (λ (m : MachineState). length m.guests) c.self.view_is)) c.self.invariant.fit) in
     record {
       plan = c.self.invariant.plan;
-      there = ap (λ n. list_all (λ g. nat_lt g.first n) c.self.inside.plan.groups) (length_set gs c.args.at c.turn-turn.new.self) ∙ c.self.invariant.there;
+      there = ap (λ n. list_all (λ g. nat_lt g.first n) c.self.inside.plan.groups) (length-set gs c.args.at c.turn-turn.new.self) ∙ c.self.invariant.there;
       fit = subst (λ s. GuestsFit s (set gs c.args.at c.turn-turn.new.self)) (sym sizes) (set_fits (sizes_of hs.items) gs c.args.at c.turn-turn.new.self c.self.invariant.fit here);
     }

@@ -20,6 +20,7 @@ digits n h =
     (and_from (is_name_byte (48 + m % 10)) true (digit (m % 10) (omega arith)) refl))
     n h
 
+-- a name byte or several, and a number behind them
 pub numbered_is_name : (front : List ℕ) (n : ℕ) → list_all is_name_byte front ≡ true → length front ≤ 40 → n < 2 ^ 64 → is_name (front ++ decimal n) ≡ true
 unfolding is_name
 numbered_is_name front n bytes short small =

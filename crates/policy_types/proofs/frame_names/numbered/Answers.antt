@@ -2,8 +2,8 @@ use Rattle.std.proofs.Common.{◌≡◌, ◌++◌, ◌<◌, ◌^◌, cond, Some,
 use Rattle.std.specs.Prelude.{decimal}
 use Rattle.std.proofs.lemmas.Option.{none-some}
 use Rattle.muen_num.specs.Naming.{name_of}
-use Rattle.policy_rules.proofs.Naming.{numbered_is_name}
-use Rattle.policy_rules.proofs.frame_names.numbered.Goals as goal
+use Rattle.policy_types.proofs.Naming.{numbered_is_name}
+use Rattle.policy_types.proofs.frame_names.numbered.Goals as goal
 
 pub unreachable-requires : goal.unreachable-requires
 unreachable-requires c =

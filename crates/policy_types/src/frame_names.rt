@@ -23,14 +23,14 @@ fn numbered(front: &[u8], number: u64) -> Name
 }
 
 /// The name of the major frame at a place.
-pub(crate) fn major_name(place: usize) -> Name
+pub fn major_name(place: usize) -> Name
     ensures { result ≡ major_name place }
 {
     numbered(b"major.", place as u64)
 }
 
 /// The name of a CPU.
-pub(crate) fn cpu_name(cpu: u64) -> Name
+pub fn cpu_name(cpu: u64) -> Name
     ensures { result ≡ cpu_name cpu }
 {
     numbered(b"cpu.", cpu)
