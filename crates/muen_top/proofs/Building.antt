@@ -1,10 +1,10 @@
 -- What a document is refused for, step by step.
 use Rattle.std.proofs.Common.{◌≡◌, ℕ, List, [], ◌∷◌, Option, Some, None, Result, Ok, Err, refl, ap, ◌∙◌}
-use Rattle.std.specs.Option.{option_or}
 use Rattle.policy_types.specs.Contents.{contents_refused}
 use Rattle.policy_types.specs.Document.{policy_of}
 use Rattle.policy_types.specs.Lawful.{names_broken, rules_broken, refusal_of, kept_or, accepted, accepted_policy_of}
 use Rattle.policy_types.specs.Reading.{Answers}
+use Rattle.policy_types.proofs.Searches.{option_or-None}
 use Rattle.policy_types.specs.Search.{first_of}
 use Rattle.policy_types.specs.declared.refusal.Refusal.{Refusal}
 use Rattle.policy_types.specs.declared.refusal.Refusal.TheVariants.{NotJson, Shape, Rule, Missing, TooLong, FileFit, NoRoom, NoMemory}
@@ -38,10 +38,6 @@ kept_is : (p q : Source) (o : Option Refusal) → kept_or p o ≡ Ok q → (o �
 kept_is p q None e = (refl, cc)
 kept_is p q (Some x) e = absurd (cc)
 
-or_none : {O : Type 0} (o : Option O) → option_or o None ≡ o
-or_none None = refl
-or_none (Some x) = refl
-
 -- ---- the rules
 
 pub not_read : (bytes : List ℕ) (r : Refusal) → Answers (policy_of bytes) (Err r) → Answers (lawful_policy_of bytes) (Err r)
@@ -65,7 +61,7 @@ rules_decide bytes p q read kept =
     let k = kept_is p q (names_broken p) kept in
     ap lawful_alone read
     ∙ ap (λ o. kept_or p (first_of (o ∷ rules_broken p ∷ []))) k.0
-    ∙ ap (kept_or p) (or_none (rules_broken p))
+    ∙ ap (kept_or p) (option_or-None (rules_broken p))
     ∙ ap (λ x. kept_or x (rules_broken x)) k.1
 
 -- ---- the contents
@@ -88,7 +84,7 @@ not_lawful bytes r h =
 after_rules : (p : Source) (names rules contents : Option Refusal) → first_of (names ∷ rules ∷ []) ≡ None → kept_or p (first_of (names ∷ rules ∷ contents ∷ [])) ≡ kept_or p contents
 after_rules p (Some x) rules contents e = absurd (cc)
 after_rules p None (Some x) contents e = absurd (cc)
-after_rules p None None contents e = ap (kept_or p) (or_none contents)
+after_rules p None None contents e = ap (kept_or p) (option_or-None contents)
 
 lawful_then : (answer : Result Source Refusal) (q : Source) → lawful_alone answer ≡ Ok q → accepted answer ≡ kept_or q (contents_refused q)
 unfolding refusal_of
