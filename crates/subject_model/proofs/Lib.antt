@@ -1,3 +1,4 @@
 pub mod Alone
 mod Examples
 pub mod SoloLaws
+pub mod TickLaws

@@ -1,14 +1,18 @@
 //! The abstract system, and laws of it.
 //!
 //! The definitions stand in specs/: what a subject does alone (`Solo`), the system and its turn
-//! (`System`), and runs with their text (`Run`). The functions here carry
-//! laws of them; no command calls one.
+//! (`System`), and runs with their text (`Run`). The functions here carry laws of them; no command
+//! calls one.
 #![tactic(auto)]
 
-ghost use Rattle.std.specs.Prelude.{◌≡◌, ℕ, true, None};
+ghost use Rattle.std.specs.Prelude.{◌≡◌, ℕ, true, Some, None};
+ghost use Rattle.image_pack.specs.Slot.{Slot, slot_at};
+ghost use Rattle.policy_types.specs.Frames.{frames_of};
 ghost use Rattle.policy_types.specs.Thing.{Thing};
+ghost use Rattle.policy_types.specs.declared.source.Source.{Source};
 ghost use Rattle.state_page.specs.declared.SubjectState.{SubjectState};
 ghost use Rattle.subject_model.specs.Solo.{Own, Inbox, idle, deliverable, bytes_in, solo_turn};
+ghost use Rattle.subject_model.specs.System.{System, Turner, pending, turner_in, system_turn};
 
 /// A stopped subject does nothing, and its turn has no line.
 pub fn stopped_does_nothing()
@@ -26,4 +30,20 @@ pub fn halted_waits()
 pub fn turn_sees_its_inbox_alone()
     ensures { (own : Own) (s : SubjectState) (a b : Inbox) → ((x : Thing) → bytes_in a.things x ≡ bytes_in b.things x)
         → a.now ≡ b.now → a.later ≡ b.later → a.first ≡ b.first → a.tick ≡ b.tick → solo_turn own s a ≡ solo_turn own s b }
+{}
+
+/// A stopped subject keeps its ticks: in a tick whose frame slot is its group's, no line is printed
+/// and the system stays as it is. The tick is passed on neither to another member nor to another
+/// group.
+pub fn stopped_keeps_its_ticks()
+    ensures { (p : Source) (y : System) (cpu tick : ℕ) (slot : Slot) (t : Turner) → slot_at (frames_of p cpu) tick ≡ Some slot
+        → turner_in p y slot ≡ Some t → t.state.stopped ≡ true → system_turn p y cpu tick ≡ record { system = y; line = None } }
+{}
+
+/// So does a halted subject to which no event can be delivered.
+pub fn halted_keeps_its_ticks()
+    ensures { (p : Source) (y : System) (cpu tick : ℕ) (slot : Slot) (t : Turner) → slot_at (frames_of p cpu) tick ≡ Some slot
+        → turner_in p y slot ≡ Some t → t.state.halted ≡ true
+        → deliverable t.state (pending y.now t.subject.name) (pending y.later t.subject.name) slot.first ≡ None
+        → system_turn p y cpu tick ≡ record { system = y; line = None } }
 {}

@@ -38,6 +38,7 @@ use Rattle.plan_emit.specs.PlanOf.{IsPlanOf}
 use Rattle.state_page.specs.declared.SubjectState.{SubjectState}
 use Rattle.subject_model.specs.Solo.{Answer, Reach, reached, refused, reach_of, store_at, bytes_in, own_of, solo_turn}
 use Rattle.subject_model.specs.System.{System, Named, named, Turner, change_first, change_named, is_shown, pending, with_store, without, raised_by, raises, inbox_of, turner_in, turned_by, turn_answered, answered, system_turn}
+use Rattle.subject_model.proofs.TickLaws.{unchanged}
 use Rattle.subject_model.proofs.Alone.{LeadsTo, AllShown, leads, relabelled, store_of, answer_of, turn_same, turn_stores}
 use Rattle.window_machine.specs.Machine.{GuestState, MachineState, bytes_at, nobody, no_group, guest_at, active_at, guest_answer, answer_at, with_stored, window_in, guest_at_start, after_turn, line_of_turn, machine_after, machine_line}
 use Rattle.window_machine.proofs.Facts.{Facts, ready, unique_regions, unique_subjects, one_cpu}
@@ -55,15 +56,6 @@ pending_none (s ∷ ss) name =
     elim (bytes_eq s.name name) as (λ b. option_map_or (λ vs. vs) (option_map (λ (e : List ℕ × List ℕ). e.1) (cond b (Some (s.name, [])) (find (λ e. bytes_eq e.0 name) (map (λ (s : NamedSubject). (s.name, [])) ss)))) [] ≡ []) [
       | true ↦ refl
       | false ↦ pending_none ss name
-    ]
-
--- where no vector was delivered, pending sets stay
-unchanged : {X : Type 0} (name : List ℕ) (es : Named X) → change_named name (λ x. x) es ≡ es
-unchanged name [] = refl
-unchanged name (e ∷ es) =
-    elim (bytes_eq e.0 name) as (λ b. cond b (e ∷ es) (e ∷ change_named name (λ x. x) es) ≡ e ∷ es) [
-      | true ↦ refl
-      | false ↦ ap (λ xs. e ∷ xs) (unchanged name es)
     ]
 
 -- ---- what the system shows of a machine
