@@ -132,8 +132,8 @@ stored_to traps s after address size value (refused reason qualification guest) 
 -- ---- ports, calls
 
 -- the qualification of a port access: the size less one, bit 3 for input, the port from bit 16 on
-abbrev pub port_qualification : Size → ℕ → ℕ → ℕ
-port_qualification size input port = (count size - 1) + 8 * input + 65536 * port
+abbrev pub port_qualification : Size → Bool → ℕ → ℕ
+port_qualification size input port = (count size - 1) + (if input then 8 else 0) + 65536 * port
 
 -- a call is exit 18: `pc` goes on, and the declared call of that number, if there is one, is raised
 abbrev pub called : {X : Type 0} → SubjectState → ℕ → Answer X
@@ -158,9 +158,9 @@ performed traps windows bytes_of tick s after (Loads reg address size) =
 performed traps windows bytes_of tick s after (Stores address size value) =
     stored_to traps s after address size value (reach_of windows Write (count size) address)
 performed traps windows bytes_of tick s after (PortIn reg port size) =
-    faulted traps s 30 (port_qualification size 1 port) 0
+    faulted traps s 30 (port_qualification size true port) 0
 performed traps windows bytes_of tick s after (PortOut port size value) =
-    faulted traps s 30 (port_qualification size 0 port) 0
+    faulted traps s 30 (port_qualification size false port) 0
 performed traps windows bytes_of tick s after (ReadMsr reg index) = faulted traps s 31 0 0
 performed traps windows bytes_of tick s after (WriteMsr index value) = faulted traps s 32 0 0
 performed traps windows bytes_of tick s after (Tick reg) =

@@ -7,6 +7,7 @@ use Rattle.std.proofs.lemmas.Bool.{and_parts, eqb-true, leb-true, ltb-true}
 use Rattle.std.proofs.lemmas.List.{length-map, length-replicate}
 use Rattle.policy_types.specs.ByPlace.{no_region, region_at, mapping_extent}
 use Rattle.policy_types.specs.Rules.{is_page_aligned, is_page_size, is_guest}
+use Rattle.policy_types.specs.Contents.{content_bytes}
 use Rattle.policy_types.specs.Resolution.{Resolution, subject_named, source_of}
 use Rattle.policy_types.specs.declared.resolved.Subject.{Subject}
 use Rattle.policy_types.specs.declared.resolved.Mapping.{Mapping}
@@ -15,24 +16,24 @@ use Rattle.policy_types.specs.declared.source.Content.{Content}
 use Rattle.policy_types.specs.declared.source.Content.TheVariants.{Zero, Fill, Inline, File}
 use Rattle.image_pack.specs.declared.plan.Plan.{Plan}
 use Rattle.plan_emit.specs.PlanOf.{IsPlanOf}
-use Rattle.window_machine.specs.Machine.{sizes_of, WindowFits, AllFit, GuestsFit, plain_bytes, held_at_start, window_in, guest_at_start, machine_of, CanRun}
+use Rattle.window_machine.specs.Machine.{sizes_of, WindowFits, AllFit, GuestsFit, no_files, held_at_start, window_in, guest_at_start, machine_of, CanRun}
 use Rattle.window_machine.specs.Start.{fits_in, is_held, are_placed_in}
 use Rattle.window_machine.proofs.Facts.{Facts, AreLaid, AllLaid, all_held, all_laid}
 
-length-plain_bytes : (size : ℕ) (content : Content) → fits_in size content ≡ true → length (plain_bytes size content) ≡ size
-length-plain_bytes size Zero h = length-replicate {A = ℕ} size 0
-length-plain_bytes size (Fill b) h = length-replicate {A = ℕ} size b
-length-plain_bytes size (Inline bytes) h =
+length-content : (size : ℕ) (content : Content) → fits_in size content ≡ true → length (content_bytes no_files size content) ≡ size
+length-content size Zero h = length-replicate {A = ℕ} size 0
+length-content size (Fill b) h = length-replicate {A = ℕ} size b
+length-content size (Inline bytes) h =
     let within : length bytes ≤ size = leb-true (length bytes) size h in
     omega (arith, within, length-append bytes (replicate (size - length bytes) 0), length-replicate {A = ℕ} (size - length bytes) 0)
-length-plain_bytes size (File name offset most) h = absurd (cc)
+length-content size (File name offset most) h = absurd (cc)
 
 -- each region has as many bytes as its size says
 sizes_held : (rs : List Region) → list_all is_held rs ≡ true → sizes_of (map held_at_start rs) ≡ map (λ r. r.size) rs
 sizes_held [] h = refl
 sizes_held (r ∷ rs) h =
     let a : (is_held r ≡ true) × (list_all is_held rs ≡ true) = and_parts _ _ h in
-    λ i. length-plain_bytes r.size r.content a.0 i ∷ sizes_held rs a.1 i
+    λ i. length-content r.size r.content a.0 i ∷ sizes_held rs a.1 i
 
 module _ (regions : List Region) (sizes : List ℕ) (are : sizes ≡ map (λ r. r.size) regions) where
   fits : (m : Mapping) → nat_lt m.region (length regions) ≡ true → is_guest m.virtual_address (region_at regions m.region).size ≡ true → WindowFits sizes (window_in regions m)

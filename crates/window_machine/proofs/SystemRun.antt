@@ -30,7 +30,7 @@ use Rattle.view_text.specs.declared.Line.{Line}
 use Rattle.subject_model.specs.DeviceRecord.{only_ticks}
 use Rattle.subject_model.specs.System.{System, named, start_of}
 use Rattle.subject_model.specs.Run.{Ran, then_line, turns_of, tick_of, after_lines, run_to, run_of, thing_text, subject_text, final_text, trace_of}
-use Rattle.window_machine.specs.Machine.{GuestState, MachineState, MachineRan, plain_bytes, held_at_start, guest_at_start, machine_of, machine_after, machine_line, machine_run_to, holding_text, guest_text, machine_final_text, machine_text, CanRun}
+use Rattle.window_machine.specs.Machine.{GuestState, MachineState, MachineRan, no_files, held_at_start, guest_at_start, machine_of, machine_after, machine_line, machine_run_to, holding_text, guest_text, machine_final_text, machine_text, CanRun}
 use Rattle.window_machine.specs.declared.memory.Holding.{Holding}
 use Rattle.window_machine.proofs.CanStart.{can_run}
 use Rattle.window_machine.proofs.Facts.{Facts, unique_regions, unique_subjects, one_cpu}
@@ -55,7 +55,7 @@ all_first name xs h = first_from name xs xs (λ k l. found_at_place name xs k h 
 -- ---- the things at the start
 
 -- contents that are no file's are the same whatever files hold
-plain_content : (files : Held) (size : ℕ) (content : Content) → is_plain_content content ≡ true → content_bytes files size content ≡ plain_bytes size content
+plain_content : (files : Held) (size : ℕ) (content : Content) → is_plain_content content ≡ true → content_bytes files size content ≡ content_bytes no_files size content
 plain_content files size Zero h = refl
 plain_content files size (Fill b) h = refl
 plain_content files size (Inline bytes) h = refl
@@ -71,7 +71,7 @@ module _ (r : Resolution) (f : Facts r) where
   things_among files [] h k = refl
   things_among files (x ∷ xs) h k =
       let a : (is_plain_content x.content ≡ true) × (list_all (λ (x : Region). is_plain_content x.content) xs ≡ true) = and_parts _ _ k in
-      let bytes : initial_bytes p files (region x.name) ≡ plain_bytes x.size x.content =
+      let bytes : initial_bytes p files (region x.name) ≡ content_bytes no_files x.size x.content =
       ap (λ o. option_map_or (λ (x : Region). content_bytes files x.size x.content) o []) h.0
       ∙ plain_content files x.size x.content a.0 in
       (λ i. (region x.name, bytes i) ∷ things_among files xs h.1 a.1 i)

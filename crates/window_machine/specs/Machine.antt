@@ -1,5 +1,6 @@
 -- The machine: subjects over lists of their windows, until tables are walked.
-use Rattle.std.specs.Prelude.{◌≡◌, ℕ, suc, zero, ◌+◌, ◌%◌, ◌<◌, ◌≤◌, false, List, [], ◌∷◌, ◌++◌, length, map, replicate, slice_index, slice_index_or, slice_set, nat_lt, true, Option, Some, None, option_map, option_to_list}
+use Rattle.std.specs.Prelude.{◌≡◌, ℕ, suc, zero, ◌+◌, ◌%◌, ◌<◌, ◌≤◌, false, List, [], ◌∷◌, ◌++◌, length, map, slice_index, slice_index_or, slice_set, nat_lt, true, Option, Some, None, option_map, option_to_list}
+use Rattle.std.specs.FinMap.{from_entries}
 use Rattle.std.specs.List.{flat_map, list_all}
 use Rattle.sha2.specs.Sha256.{sha256}
 use Rattle.image_pack.specs.Plan.{is_plan, frames_in}
@@ -10,13 +11,11 @@ use Rattle.muen_num.specs.Size.{bytes_of}
 use Rattle.muen_num.specs.declared.tag.Part.TheVariants.{Whole}
 use Rattle.policy_types.specs.ByPlace.{region_at}
 use Rattle.policy_types.specs.Windows.{Window as WindowOf, Access as AccessTo, byte, violation, window}
-use Rattle.policy_types.specs.Contents.{padded}
+use Rattle.policy_types.specs.Contents.{Held, content_bytes}
 use Rattle.policy_types.specs.Resolution.{Resolution}
 use Rattle.policy_types.specs.declared.resolved.Mapping.{Mapping}
 use Rattle.policy_types.specs.declared.resolved.Subject.{Subject}
 use Rattle.policy_types.specs.declared.source.Region.{Region}
-use Rattle.policy_types.specs.declared.source.Content.{Content}
-use Rattle.policy_types.specs.declared.source.Content.TheVariants.{Zero, Fill, Inline, File}
 use Rattle.state_page.specs.StatePage.{started}
 use Rattle.view_text.specs.ViewText.{turn_text, region_text}
 use Rattle.subject_model.specs.Solo.{Stored as StoredIn, Answer, Reach as ReachTo, reached, refused, store_at, turn_over}
@@ -171,16 +170,13 @@ pub record CanRun (m : MachineState) : Type 0 where
 
 -- ---- the machine of a policy, at the start
 
--- what a region holds at the start, where no file is asked for
-abbrev pub plain_bytes : ℕ → Content → List ℕ
-plain_bytes size Zero = replicate size 0
-plain_bytes size (Fill b) = replicate size b
-plain_bytes size (Inline bytes) = padded size bytes
-plain_bytes size (File name offset most) = []
+-- what files hold where there are none: no region asks for one
+abbrev pub no_files : Held
+no_files = from_entries []
 
 -- a region with its bytes at the start
 abbrev pub held_at_start : Region → Holding
-held_at_start r = record { name = r.name; bytes = plain_bytes r.size r.content }
+held_at_start r = record { name = r.name; bytes = content_bytes no_files r.size r.content }
 
 -- the window of a mapping
 abbrev pub window_in : List Region → Mapping → WindowOf ℕ

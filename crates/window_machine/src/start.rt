@@ -3,7 +3,8 @@ ghost use Rattle.std.specs.Prelude.{◌≡◌, ◌<◌, true, map, length, IfOk}
 ghost use Rattle.std.specs.List.{list_all};
 ghost use Rattle.policy_types.specs.Built.{is_plain_content};
 ghost use Rattle.policy_types.specs.ByPlace.{region_at};
-ghost use Rattle.window_machine.specs.Machine.{window_on, windows_on, plain_bytes, held_at_start, window_in, guest_at_start};
+ghost use Rattle.policy_types.specs.Contents.{content_bytes};
+ghost use Rattle.window_machine.specs.Machine.{window_on, windows_on, no_files, held_at_start, window_in, guest_at_start};
 ghost use Rattle.window_machine.specs.Start.{fits_in, is_held, are_placed_in};
 
 use crate::guest::Guest;
@@ -15,9 +16,9 @@ use state_page::SubjectState;
 use std::alloc::{AllocError, Global};
 
 // What a region holds at the start, where no file is asked for.
-fn plain_bytes(alloc: Global, size: u64, content: &Content) -> Result<Vec<u8>, AllocError>
+fn content_bytes(alloc: Global, size: u64, content: &Content) -> Result<Vec<u8>, AllocError>
     requires { fits_in size content.now ≡ true }
-    ensures { IfOk result (λ v. v.items ≡ plain_bytes size content.now) }
+    ensures { IfOk result (λ v. v.items ≡ content_bytes no_files size content.now) }
 {
     match content {
         Content::Zero => vec![in alloc; 0; size as usize],
@@ -36,7 +37,7 @@ fn hold(alloc: Global, region: &Region) -> Result<Holding, AllocError>
     requires { is_held region.now ≡ true }
     ensures { IfOk result (λ h. h ≡ held_at_start region.now) }
 {
-    let bytes = plain_bytes(alloc, region.size, &region.content)?;
+    let bytes = content_bytes(alloc, region.size, &region.content)?;
     Ok(Holding {
         name: region.name,
         bytes: Seq::of(bytes),

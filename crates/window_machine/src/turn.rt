@@ -1,5 +1,5 @@
 // A turn of the subject.
-ghost use Rattle.std.specs.Prelude.{◌≡◌, ◌+◌, ◌<◌, ◌≤◌, if◌then◌else◌, length, take, drop, [], true, false};
+ghost use Rattle.std.specs.Prelude.{◌≡◌, ◌+◌, ◌<◌, ◌≤◌, length, take, drop, [], true, false};
 ghost use Rattle.muen_num.specs.Size.{bytes_of};
 ghost use Rattle.muen_num.specs.declared.bits.Kind.TheVariants.{Read, Write};
 ghost use Rattle.guest_isa.specs.GuestIsa.{decode_of, with_register, IsFineWish};
@@ -159,7 +159,7 @@ fn store(
 
 // The qualification of a port access: the size less one, the bit of input or 0, the port.
 fn port_qualification(size: Size, input: bool, port: u16) -> u64
-    ensures { result ≡ port_qualification size (if input then 1 else 0) port }
+    ensures { result ≡ port_qualification size input port }
 {
     let bit = if input { INPUT } else { 0 };
     u64::from(size.bytes()) - 1 + bit + 65536 * u64::from(port)
