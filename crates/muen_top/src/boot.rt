@@ -1,11 +1,10 @@
 // The command `boot`: a policy and a record are read, and the run is printed.
-ghost use Rattle.std.specs.Prelude.{◌≡◌, Ok, None, true, IfOk, IfErr};
+ghost use Rattle.std.specs.Prelude.{◌≡◌, Ok, IfOk, IfErr};
 ghost use Rattle.muen_outside.specs.Store.{whole};
-ghost use Rattle.policy_types.specs.Built.{is_built, has_built_cpus, has_plain_contents};
-ghost use Rattle.policy_types.specs.Contents.{contents_refused};
 ghost use Rattle.policy_types.specs.Resolution.{source_of};
 ghost use Rattle.subject_model.specs.DeviceRecord.{only_ticks};
 ghost use Rattle.muen_top.specs.Ended.{Follows, Saw, LoadStops, SawPolicy, PolicyStops, SawRecord, RecordStops, BootCause};
+ghost use Rattle.window_machine.specs.Start.{CanLoad};
 ghost use Rattle.muen_top.specs.Running.{RunCause};
 
 use crate::end::{End, Input, Stop};
@@ -47,10 +46,7 @@ fn load<F: Files>(
 // The policy of a file.
 fn read_policy<F: Files>(alloc: Global, name: &str, files: &mut F) -> Result<Lawful, Stop>
     ensures ok { IfOk result (λ l. SawPolicy name.now (F.state files.old) (F.state files.new) (Ok (source_of l))) }
-    ensures built { IfOk result (λ l. is_built (source_of l) ≡ true) }
-    ensures cpus { IfOk result (λ l. has_built_cpus (source_of l) ≡ true) }
-    ensures plain { IfOk result (λ l. has_plain_contents (source_of l) ≡ true) }
-    ensures contents { IfOk result (λ l. contents_refused (source_of l) ≡ None) }
+    ensures loads { IfOk result (λ l. CanLoad (source_of l)) }
     ensures err { IfErr result (PolicyStops name.now (F.state files.old) (F.state files.new)) }
     ensures follows { Follows (F.state files.old) (F.state files.new) }
 {
@@ -82,10 +78,7 @@ fn read_record<F: Files>(alloc: Global, name: &str, files: &mut F) -> Result<Rec
 
 // Runs a policy that is accepted.
 fn run_policy<S: Sink>(alloc: Global, policy: &Lawful, run: Record, out: &mut S) -> End
-    requires built { is_built (source_of policy.now) ≡ true }
-    requires cpus { has_built_cpus (source_of policy.now) ≡ true }
-    requires plain { has_plain_contents (source_of policy.now) ≡ true }
-    requires contents { contents_refused (source_of policy.now) ≡ None }
+    requires { CanLoad (source_of policy.now) }
     ensures { RunCause (source_of policy.now) (only_ticks run.end) (S.state out.old) (S.state out.new) result }
 {
     let mut machine = match window_machine::load(alloc, policy) {

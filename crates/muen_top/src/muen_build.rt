@@ -7,6 +7,7 @@ ghost use Rattle.policy_types.specs.Lawful.{accepted_policy_of, kept_source};
 ghost use Rattle.policy_types.specs.Reading.{Answers};
 ghost use Rattle.policy_types.specs.Resolution.{source_of};
 ghost use Rattle.policy_types.specs.Search.{first_in};
+ghost use Rattle.window_machine.specs.Start.{CanLoad};
 ghost use Rattle.muen_top.specs.Building.{lawful_policy_of};
 
 use muen_num::{Part, Tag};
@@ -79,10 +80,7 @@ pub fn contents(policy: &Lawful) -> Option<Refusal>
 /// Answers as `lawful` does where it is refused for less, then `FileFit` as `contents` does.
 pub fn accepted(alloc: Global, policy: &[u8]) -> Result<Lawful, Refusal>
     ensures answer { Answers (accepted_policy_of policy.now) (kept_source result) }
-    ensures built { IfOk result (λ l. is_built (source_of l) ≡ true) }
-    ensures cpus { IfOk result (λ l. has_built_cpus (source_of l) ≡ true) }
-    ensures plain { IfOk result (λ l. has_plain_contents (source_of l) ≡ true) }
-    ensures contents { IfOk result (λ l. contents_refused (source_of l) ≡ None) }
+    ensures loads { IfOk result (λ l. CanLoad (source_of l)) }
 {
     let found = lawful(alloc, policy)?;
     match contents(&found) {

@@ -6,7 +6,7 @@ use Rattle.std.proofs.lemmas.Bool.{and_from, and_parts}
 use Rattle.std.proofs.lemmas.Bool.Decides.{nat_tests}
 use Rattle.muen_num.specs.declared.tag.Part.TheVariants.{Whole}
 use Rattle.policy_types.specs.Search.{first_in}
-use Rattle.policy_types.specs.Built.{is_built, is_built_number, has_built_cpus, is_plain_content, has_plain_contents}
+use Rattle.policy_types.specs.Built.{is_built_number, has_built_cpus, is_plain_content, has_plain_contents}
 use Rattle.policy_types.specs.ByPlace.{mapping_extent, is_ready}
 use Rattle.policy_types.specs.Contents.{content_refused, contents_refused}
 use Rattle.policy_types.specs.Lawful.{rules_broken}
@@ -23,16 +23,13 @@ use Rattle.policy_types.proofs.Searches.{none_both}
 use Rattle.policy_types.proofs.ResolvedFacts.{subjects_unique}
 use Rattle.policy_types.proofs.WindowsByPlace.{extents_placed, regions_unique, all_ready}
 use Rattle.plan_emit.proofs.Kept.{rules_kept, laid, some_cpu}
-use Rattle.window_machine.specs.Start.{fits_in, is_held, are_placed_in}
+use Rattle.window_machine.specs.Start.{CanLoad, fits_in, is_held, are_placed_in}
 
 -- a lawful policy whose elements are built, and whose contents fit
 pub record Facts (r : Resolution) : Type 0 where
   pub resolved : IsResolved r
   pub rules : rules_broken (source_of r) ≡ None
-  pub built : is_built (source_of r) ≡ true
-  pub cpus : has_built_cpus (source_of r) ≡ true
-  pub plain : has_plain_contents (source_of r) ≡ true
-  pub contents : contents_refused (source_of r) ≡ None
+  pub loads : CanLoad (source_of r)
 
 -- ---- contents
 
@@ -55,12 +52,12 @@ held_each (r ∷ rs) p h =
 
 pub all_held : (r : Resolution) → Facts r → list_all is_held r.memory ≡ true
 unfolding source_of has_plain_contents contents_refused
-all_held r f = held_each r.memory f.plain f.contents
+all_held r f = held_each r.memory f.loads.plain f.loads.contents
 
 -- ---- places
 
 pub ready : (r : Resolution) → Facts r → list_all (is_ready r) r.subjects ≡ true
-ready r f = all_ready r f.built f.resolved.placed
+ready r f = all_ready r f.loads.built f.resolved.placed
 
 pub all_placed : (r : Resolution) → Facts r → list_all (λ s. are_placed_in r.memory s.memory) r.subjects ≡ true
 all_placed r f =
@@ -69,7 +66,7 @@ all_placed r f =
 -- ---- names
 
 pub unique_regions : (r : Resolution) → Facts r → repeated (map (λ x. x.name) r.memory) ≡ None
-unique_regions r f = regions_unique r f.built f.resolved.names
+unique_regions r f = regions_unique r f.loads.built f.resolved.names
 
 pub unique_subjects : (r : Resolution) → Facts r → repeated (map (λ s. s.name) r.subjects) ≡ None
 unique_subjects r f = subjects_unique r f.resolved.names
@@ -112,4 +109,4 @@ pub one_cpu : (r : Resolution) → Facts r → (source_of r).processor.logical_c
 unfolding has_built_cpus
 one_cpu r f =
     let some = some_cpu (source_of r) (rules_kept (source_of r) f.rules).three in
-    one_of (source_of r).processor.logical_cpus some.0 some.1 f.cpus
+    one_of (source_of r).processor.logical_cpus some.0 some.1 f.loads.cpus

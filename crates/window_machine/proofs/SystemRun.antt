@@ -89,7 +89,7 @@ module _ (r : Resolution) (f : Facts r) where
   things_are : things_of (source_of r) ≡ map (λ x. region x.name) r.memory
   unfolding things_of
   things_are =
-      let b = built (source_of r) f.built in
+      let b = built (source_of r) f.loads.built in
       let provided = none_provided (source_of r).subjects b.subjects in
       (λ i. map (λ x. region x.name) (memory_is i)
       ++ map (λ c. channel c.name) (b.channels i)
@@ -100,7 +100,7 @@ module _ (r : Resolution) (f : Facts r) where
   start_is : (files : Held) (plan : Plan) → start_of (source_of r) files ≡ system_of (source_of r) (machine_of r plan)
   unfolding start_of machine_of p source_of has_plain_contents
   start_is files plan =
-      let things = ap (map (λ x. (x, initial_bytes (source_of r) files x))) things_are ∙ things_among files r.memory (all_first (λ (x : Region). x.name) r.memory (unique_regions r f)) f.plain in
+      let things = ap (map (λ x. (x, initial_bytes (source_of r) files x))) things_are ∙ things_among files r.memory (all_first (λ (x : Region). x.name) r.memory (unique_regions r f)) f.loads.plain in
       let states = map-map (λ s. (s.name, started s.entry)) (subject_named r) r.subjects ∙ sym (map-map kept_state (guest_at_start r.memory) r.subjects) in
       λ i. record (system_of (source_of r) (machine_of r plan)) { states = states i; things = things i }
 

@@ -1,13 +1,13 @@
 //! The machine of subjects over lists of their windows, until tables are walked.
 #![tactic(auto)]
 
-ghost use Rattle.std.specs.Prelude.{◌≡◌, ℕ, true, None, IfOk};
-ghost use Rattle.policy_types.specs.Built.{is_built, has_built_cpus, has_plain_contents};
-ghost use Rattle.policy_types.specs.Contents.{Held, contents_refused};
+ghost use Rattle.std.specs.Prelude.{◌≡◌, ℕ, IfOk};
+ghost use Rattle.policy_types.specs.Contents.{Held};
 ghost use Rattle.policy_types.specs.Resolution.{source_of};
 ghost use Rattle.subject_model.specs.DeviceRecord.{only_ticks};
 ghost use Rattle.subject_model.specs.Run.{trace_of};
 ghost use Rattle.window_machine.specs.Machine.{machine_text};
+ghost use Rattle.window_machine.specs.Start.{CanLoad};
 
 mod guest;
 mod machine;
@@ -26,10 +26,7 @@ use std::alloc::Global;
 /// The machine of a lawful policy, at the start. What it prints is the text of the policy's run,
 /// whatever files hold.
 pub fn load(alloc: Global, l: &Lawful) -> Result<Machine, NoMemory>
-    requires built { is_built (source_of l.now) ≡ true }
-    requires cpus { has_built_cpus (source_of l.now) ≡ true }
-    requires plain { has_plain_contents (source_of l.now) ≡ true }
-    requires contents { contents_refused (source_of l.now) ≡ None }
+    requires { CanLoad (source_of l.now) }
     ensures { IfOk result (λ m. (files : Held) (end : ℕ) → trace_of (source_of l.now) files (only_ticks end) ≡ machine_text m end) }
 {
     let resolved = l.resolved();

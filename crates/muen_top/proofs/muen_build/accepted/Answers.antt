@@ -16,6 +16,14 @@ returns-in-None-clause-answer c =
     let p = source_of c.in_ok-found.found in
     contents_decide c.args.policy.now p c.in_ok-found.ensures.answer ∙ ap (kept_or p) (sym c.in-None.ensures)
 
+pub returns-in-None-clause-loads : goal.returns-in-None-clause-loads
+returns-in-None-clause-loads c = record {
+  built = c.in_ok-found.ensures.built;
+  cpus = c.in_ok-found.ensures.cpus;
+  plain = c.in_ok-found.ensures.plain;
+  contents = sym c.in-None.ensures;
+}
+
 -- its contents don't fit
 pub returns-in-Some-clause-answer : goal.returns-in-Some-clause-answer
 returns-in-Some-clause-answer c =
