@@ -1,2 +1,4 @@
 mod Examples
+pub mod Lists
 pub mod Room
+pub mod Searches

@@ -5,5 +5,6 @@ pub mod Frame
 pub mod Naming
 pub mod NameStored
 pub mod Range
+pub mod Search
 pub mod Size
 pub mod Tag

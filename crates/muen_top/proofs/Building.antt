@@ -1,11 +1,11 @@
 -- What a document is refused for, step by step.
 use Rattle.std.proofs.Common.{◌≡◌, ℕ, List, [], ◌∷◌, Option, Some, None, Result, Ok, Err, refl, ap, ◌∙◌}
-use Rattle.policy_types.specs.Contents.{contents_refused}
-use Rattle.policy_types.specs.Document.{policy_of}
-use Rattle.policy_types.specs.Lawful.{names_broken, rules_broken, refusal_of, kept_or, accepted, accepted_policy_of}
+use Rattle.policy_meaning.specs.Contents.{contents_refused}
+use Rattle.policy_json.specs.Document.{policy_of}
+use Rattle.policy_lawful.specs.Lawful.{names_broken, rules_broken, refusal_of, kept_or, accepted, accepted_policy_of}
 use Rattle.policy_types.specs.Reading.{Answers}
-use Rattle.policy_types.proofs.Searches.{option_or-None}
-use Rattle.policy_types.specs.Search.{first_of}
+use Rattle.muen_num.proofs.Searches.{option_or-None}
+use Rattle.muen_num.specs.Search.{first_of}
 use Rattle.policy_types.specs.declared.refusal.Refusal.{Refusal}
 use Rattle.policy_types.specs.declared.refusal.Refusal.TheVariants.{NotJson, Shape, Rule, Missing, TooLong, FileFit, NoRoom, NoMemory}
 use Rattle.policy_types.specs.declared.source.Source.{Source}

@@ -5,7 +5,7 @@ use Rattle.muen_outside.specs.Counts.{Rose}
 use Rattle.muen_outside.specs.Store.{Store, whole, reading_of}
 use Rattle.muen_outside.specs.Outside.{FilesState, SinkState}
 use Rattle.muen_outside.specs.Puts.{Appended, Failed}
-use Rattle.policy_types.specs.Lawful.{accepted_policy_of}
+use Rattle.policy_lawful.specs.Lawful.{accepted_policy_of}
 use Rattle.policy_types.specs.declared.refusal.Refusal.{Refusal}
 use Rattle.muen_top.specs.RecordText.{record_of, record_from, end_line, line_of as line_in}
 use Rattle.muen_top.specs.Ended.{Command, boots, command_of, record_most, SawPolicy, SawRecord, AfterPolicy, Booted, BootCause, HasCause}

@@ -7,13 +7,14 @@ use Rattle.muen_num.specs.declared.tag.Part.TheVariants.{Whole}
 use Rattle.muen_outside.specs.Store.{Store, Reading, whole, absent, long, reading_of}
 use Rattle.muen_outside.specs.Outside.{FilesState, SinkState}
 use Rattle.serde_json.specs.Data.{Data}
-use Rattle.policy_types.specs.Contents.{content_refused, contents_refused}
-use Rattle.policy_types.specs.Lawful.{broken, names_broken, rules_broken, refusal_of, kept_or, accepted, accepted_policy_of}
-use Rattle.policy_types.specs.MoreRules.{offence_6, offence_7, offence_9, offence_10, offence_11, offence_12, offence_13, offence_14, offence_15, offence_19}
-use Rattle.policy_types.specs.Rules.{offence_1, offence_2, offence_3, offence_4, offence_5, offence_8, offence_16, offence_17, offence_18, offence_20}
-use Rattle.policy_types.specs.Search.{first_in}
-use Rattle.policy_types.specs.Document.{read_system, json_of, shape_refused, policy_from, policy_of}
-use Rattle.policy_types.specs.declared.offence.Offence.{Offence}
+use Rattle.policy_meaning.specs.Contents.{content_refused, contents_refused}
+use Rattle.policy_lawful.specs.Lawful.{names_broken, rules_broken, refusal_of, kept_or, accepted, accepted_policy_of}
+use Rattle.policy_lawful.specs.Offences.{broken}
+use Rattle.policy_lawful.specs.MoreRules.{offence_6, offence_7, offence_9, offence_10, offence_11, offence_12, offence_13, offence_14, offence_15, offence_19}
+use Rattle.policy_lawful.specs.Rules.{offence_1, offence_2, offence_3, offence_4, offence_5, offence_8, offence_16, offence_17, offence_18, offence_20}
+use Rattle.muen_num.specs.Search.{first_in}
+use Rattle.policy_json.specs.Document.{read_system, json_of, shape_refused, policy_from, policy_of}
+use Rattle.policy_lawful.specs.declared.offence.Offence.{Offence}
 use Rattle.policy_types.specs.declared.refusal.Fault.{Fault}
 use Rattle.policy_types.specs.declared.refusal.Refusal.{Refusal}
 use Rattle.policy_types.specs.declared.refusal.Refusal.TheVariants.{NotJson, Shape, Rule, Missing as MissingFile, TooLong as TooLongFile, FileFit, NoRoom, NoMemory as NoMemoryFor}

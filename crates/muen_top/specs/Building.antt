@@ -1,8 +1,8 @@
 -- The lawful policy of a document, before what memory holds is looked at.
 use Rattle.std.specs.Prelude.{ℕ, List, [], ◌∷◌, Result, Ok, Err}
-use Rattle.policy_types.specs.Document.{policy_of}
-use Rattle.policy_types.specs.Lawful.{names_broken, rules_broken, kept_or}
-use Rattle.policy_types.specs.Search.{first_of}
+use Rattle.policy_json.specs.Document.{policy_of}
+use Rattle.policy_lawful.specs.Lawful.{names_broken, rules_broken, kept_or}
+use Rattle.muen_num.specs.Search.{first_of}
 use Rattle.policy_types.specs.declared.refusal.Refusal.{Refusal}
 use Rattle.policy_types.specs.declared.source.Source.{Source}
 

@@ -7,8 +7,8 @@ use Rattle.muen_outside.specs.Store.{Reading, whole, absent, long, reading_of}
 use Rattle.muen_outside.specs.Found.{IsMissed}
 use Rattle.muen_outside.specs.Outside.{FilesState, SinkState}
 use Rattle.muen_outside.specs.Puts.{Appended, Failed}
-use Rattle.policy_types.specs.Contents.{Held}
-use Rattle.policy_types.specs.Lawful.{accepted_policy_of}
+use Rattle.policy_meaning.specs.Contents.{Held}
+use Rattle.policy_lawful.specs.Lawful.{accepted_policy_of}
 use Rattle.policy_types.specs.Reading.{Answers}
 use Rattle.policy_types.specs.declared.refusal.Refusal.{Refusal}
 use Rattle.policy_types.specs.declared.source.Source.{Source}

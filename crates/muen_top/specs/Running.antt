@@ -2,7 +2,7 @@
 use Rattle.std.specs.Prelude.{◌≡◌}
 use Rattle.muen_outside.specs.Outside.{SinkState}
 use Rattle.muen_outside.specs.Puts.{Appended, Failed}
-use Rattle.policy_types.specs.Contents.{Held}
+use Rattle.policy_meaning.specs.Contents.{Held}
 use Rattle.policy_types.specs.declared.source.Source.{Source}
 use Rattle.subject_model.specs.DeviceRecord.{DeviceRecord}
 use Rattle.subject_model.specs.Run.{trace_of}

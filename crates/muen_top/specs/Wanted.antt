@@ -3,8 +3,8 @@ use Rattle.std.specs.Prelude.{◌≡◌, ℕ, List, Option, Some, None, IfSome, 
 use Rattle.std.specs.FinMap.{get}
 use Rattle.muen_outside.specs.Store.{Store, Reading, whole, absent, long, reading_of}
 use Rattle.muen_outside.specs.Outside.{FilesState, SinkState}
-use Rattle.policy_types.specs.Contents.{Held}
-use Rattle.policy_types.specs.Lawful.{accepted_policy_of}
+use Rattle.policy_meaning.specs.Contents.{Held}
+use Rattle.policy_lawful.specs.Lawful.{accepted_policy_of}
 use Rattle.policy_types.specs.declared.refusal.Refusal.{Refusal}
 use Rattle.policy_types.specs.declared.source.Source.{Source}
 use Rattle.subject_model.specs.DeviceRecord.{DeviceRecord}

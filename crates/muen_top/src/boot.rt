@@ -1,7 +1,7 @@
 // The command `boot`: a policy and a record are read, and the run is printed.
 ghost use Rattle.std.specs.Prelude.{◌≡◌, Ok, IfOk, IfErr};
 ghost use Rattle.muen_outside.specs.Store.{whole};
-ghost use Rattle.policy_types.specs.Resolution.{source_of};
+ghost use Rattle.policy_lawful.specs.Resolution.{source_of};
 ghost use Rattle.subject_model.specs.DeviceRecord.{only_ticks};
 ghost use Rattle.muen_top.specs.Ended.{Follows, Saw, LoadStops, SawPolicy, PolicyStops, SawRecord, RecordStops, BootCause};
 ghost use Rattle.window_machine.specs.Start.{CanLoad};
@@ -13,7 +13,7 @@ use crate::record_text;
 use crate::record_text::Record;
 use muen_num::Seq;
 use muen_outside::{FileEnd, Files, Found, Sink, SinkFault};
-use policy_types::Lawful;
+use policy_lawful::Lawful;
 use std::alloc::Global;
 use window_machine::print_run;
 

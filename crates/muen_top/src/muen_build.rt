@@ -2,17 +2,18 @@
 //! checked, and what it says of memory's contents is held against the room for it.
 ghost use Rattle.std.specs.Prelude.{◌≡◌, None, true, IfOk};
 ghost use Rattle.policy_types.specs.Built.{is_built, has_built_cpus, has_plain_contents};
-ghost use Rattle.policy_types.specs.Contents.{content_refused, contents_refused};
-ghost use Rattle.policy_types.specs.Lawful.{accepted_policy_of, kept_source};
+ghost use Rattle.policy_meaning.specs.Contents.{content_refused, contents_refused};
+ghost use Rattle.policy_lawful.specs.Lawful.{accepted_policy_of, kept_source};
 ghost use Rattle.policy_types.specs.Reading.{Answers};
-ghost use Rattle.policy_types.specs.Resolution.{source_of};
-ghost use Rattle.policy_types.specs.Search.{first_in};
+ghost use Rattle.policy_lawful.specs.Resolution.{source_of};
+ghost use Rattle.muen_num.specs.Search.{first_in};
 ghost use Rattle.window_machine.specs.Start.{CanLoad};
 ghost use Rattle.muen_top.specs.Building.{lawful_policy_of};
 
 use muen_num::{Part, Tag};
 use policy_types::source::{Content, Region};
-use policy_types::{Lawful, Refusal};
+use policy_lawful::Lawful;
+use policy_types::Refusal;
 use std::alloc::Global;
 
 /// The policy of a document, where it keeps every rule.
@@ -68,7 +69,7 @@ fn first_refused(regions: &[Region]) -> Option<Refusal>
 
 /// Why the contents of a policy are refused, if they are: `FileFit` with the first region for which
 /// the policy has more bytes than there is room, the room, and how many bytes they are.
-#[tactic(auto, unfolding(policy_types::specs::Contents::contents_refused, policy_types::specs::Resolution::source_of))]
+#[tactic(auto, unfolding(policy_meaning::specs::Contents::contents_refused, policy_lawful::specs::Resolution::source_of))]
 pub fn contents(policy: &Lawful) -> Option<Refusal>
     ensures { result ≡ contents_refused (source_of policy.now) }
 {

@@ -1,8 +1,8 @@
 -- The plan of a resolved policy that keeps the rules is the policy's.
 use Rattle.std.proofs.Common.{◌≡◌, None, sym, ap, ◌∙◌, subst}
 use Rattle.image_pack.specs.declared.plan.Plan.{Plan}
-use Rattle.policy_types.specs.Lawful.{rules_broken}
-use Rattle.policy_types.specs.Resolution.{IsResolved, Resolution, source_of}
+use Rattle.policy_lawful.specs.Lawful.{rules_broken}
+use Rattle.policy_lawful.specs.Resolution.{IsResolved, Resolution, source_of}
 use Rattle.plan_emit.specs.Emitted.{emitted}
 use Rattle.plan_emit.specs.PlanOf.{IsPlanOf}
 use Rattle.plan_emit.proofs.Firsts.{firsts_emitted, firsts_there, groups_emitted}

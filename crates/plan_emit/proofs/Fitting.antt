@@ -5,17 +5,17 @@ use Rattle.std.specs.List.{list_all}
 use Rattle.std.proofs.lemmas.Bool.{and_from, and_parts, leb-true, lt-ltb, ltb-true}
 use Rattle.std.proofs.lemmas.List.{length-map}
 use Rattle.std.proofs.lemmas.List.Folds.{list_all-map}
-use Rattle.policy_types.specs.Resolution.{Resolution, cpu_named, group_named, group_placed, major_named, major_placed, name_at, source_of}
-use Rattle.policy_types.specs.Rules.{is_group, is_on, subject_cpu}
-use Rattle.policy_types.specs.declared.resolved.CpuFrames.{CpuFrames}
-use Rattle.policy_types.specs.declared.resolved.Group.{Group}
-use Rattle.policy_types.specs.declared.resolved.MinorFrame.{MinorFrame}
+use Rattle.policy_lawful.specs.Resolution.{Resolution, cpu_named, group_named, group_placed, major_named, major_placed, name_at, source_of}
+use Rattle.policy_lawful.specs.Rules.{is_group, is_on, subject_cpu}
+use Rattle.policy_lawful.specs.declared.resolved.CpuFrames.{CpuFrames}
+use Rattle.policy_lawful.specs.declared.resolved.Group.{Group}
+use Rattle.policy_lawful.specs.declared.resolved.MinorFrame.{MinorFrame}
 use Rattle.plan_emit.specs.Emitted.{fits_entry, fits_group, fits_major, fits_minor, ticks_in}
 use Rattle.plan_emit.proofs.Known.{Known}
 use Rattle.plan_emit.proofs.Limits.{is_within}
-use Rattle.policy_types.proofs.Lists.{each_from, each_of}
+use Rattle.muen_num.proofs.Lists.{each_from, each_of}
 use Rattle.plan_emit.proofs.Lists.{each_at_most}
-use Rattle.policy_types.proofs.ResolvedFacts.{frame_named, many_subjects, ticks_named}
+use Rattle.policy_lawful.proofs.ResolvedFacts.{frame_named, many_subjects, ticks_named}
 
 pub many_groups : (r : Resolution) → length (source_of r).scheduling.groups ≡ length r.scheduling.groups
 unfolding source_of

@@ -1,10 +1,10 @@
 -- What is known of a resolved policy that keeps the rules.
 use Rattle.std.proofs.Common.{◌≡◌, true, None}
 use Rattle.std.specs.List.{list_all}
-use Rattle.policy_types.specs.Lawful.{rules_broken}
-use Rattle.policy_types.specs.Resolution.{IsResolved, Resolution, group_placed, major_placed, source_of}
-use Rattle.policy_types.specs.Rules.{repeated}
-use Rattle.policy_types.proofs.ResolvedFacts.{group_names, groups_unique, parts_placed}
+use Rattle.policy_lawful.specs.Lawful.{rules_broken}
+use Rattle.policy_lawful.specs.Resolution.{IsResolved, Resolution, group_placed, major_placed, source_of}
+use Rattle.policy_lawful.specs.Rules.{repeated}
+use Rattle.policy_lawful.proofs.ResolvedFacts.{group_names, groups_unique, parts_placed}
 use Rattle.plan_emit.proofs.Cpus.{CpusKept, cpus_kept}
 use Rattle.plan_emit.proofs.Kept.{rules_kept}
 use Rattle.plan_emit.proofs.Limits.{LimitsKept, limits_kept}

@@ -6,16 +6,18 @@ use Rattle.std.specs.Option.{option_map_or}
 use Rattle.std.specs.List.{list_all, list_any}
 use Rattle.std.proofs.lemmas.Bool.{and_from, and_parts, eq-eqb, ltb-true}
 use Rattle.muen_num.specs.Range.{numbers_below}
-use Rattle.policy_types.specs.Rules.{cpu_name, group_cpu, is_entry, is_frame, is_on, major_name, major_offence, offence_16, ticks_in}
-use Rattle.policy_types.specs.Search.{two, unless, first_in, first_after}
-use Rattle.policy_types.specs.declared.offence.Offence.{Offence}
+use Rattle.policy_lawful.specs.Rules.{cpu_name, group_cpu, is_entry, is_frame, is_on, major_name, major_offence, offence_16, ticks_in}
+use Rattle.muen_num.specs.Search.{first_in, first_after}
+use Rattle.policy_lawful.specs.Offences.{two, unless}
+use Rattle.policy_lawful.specs.declared.offence.Offence.{Offence}
 use Rattle.policy_types.specs.declared.source.CpuFrames.{CpuFrames}
 use Rattle.policy_types.specs.declared.source.MajorFrame.{MajorFrame}
 use Rattle.policy_types.specs.declared.source.Source.{Source}
-use Rattle.policy_types.proofs.Searches.{none_both, unless_none}
+use Rattle.muen_num.proofs.Searches.{none_both}
+use Rattle.policy_lawful.proofs.Offences.{unless_none}
 use Rattle.plan_emit.proofs.Cpus.{all_numbered}
 use Rattle.plan_emit.proofs.Kept.{all_pass}
-use Rattle.policy_types.proofs.Lists.{each_from}
+use Rattle.muen_num.proofs.Lists.{each_from}
 use Rattle.plan_emit.proofs.Lists.{some_sum}
 
 -- it has minor frames, each one of its CPU, and so many ticks

@@ -6,13 +6,14 @@ use Rattle.std.specs.Str.{bytes_eq}
 use Rattle.std.proofs.lemmas.Bool.{and_parts, eqb-true, ltb-true}
 use Rattle.std.proofs.lemmas.List.Sums.{sum_by-cons}
 use Rattle.std.proofs.lemmas.Slice.Eq.{bytes_eq-Decides}
-use Rattle.policy_types.specs.Rules.{is_group, is_on, offence_17, subject_cpu, times_listed}
-use Rattle.policy_types.specs.Search.{alone, unless, first_in}
+use Rattle.policy_lawful.specs.Rules.{is_group, is_on, offence_17, subject_cpu, times_listed}
+use Rattle.muen_num.specs.Search.{first_in}
+use Rattle.policy_lawful.specs.Offences.{alone, unless}
 use Rattle.policy_types.specs.declared.source.Group.{Group}
 use Rattle.policy_types.specs.declared.source.Source.{Source}
 use Rattle.policy_types.specs.declared.source.Subject.{Subject}
-use Rattle.policy_types.proofs.Places.{same_self}
-use Rattle.policy_types.proofs.Searches.{none_both}
+use Rattle.policy_lawful.proofs.Places.{same_self}
+use Rattle.muen_num.proofs.Searches.{none_both}
 use Rattle.plan_emit.proofs.Kept.{all_pass}
 
 -- how often a name is listed in a group, and in several

@@ -5,11 +5,11 @@ use Rattle.std.specs.List.{position_or_len}
 use Rattle.std.specs.Str.{bytes_eq}
 use Rattle.std.proofs.lemmas.Bool.{lt-ltb}
 use Rattle.std.proofs.lemmas.List.{length-map}
-use Rattle.policy_types.specs.Resolution.{Resolution, group_named, name_at}
-use Rattle.policy_types.specs.Rules.{repeated}
-use Rattle.policy_types.proofs.Lists.{position-map}
-use Rattle.policy_types.proofs.Places.{position_is}
-use Rattle.policy_types.proofs.ResolvedFacts.{group_names}
+use Rattle.policy_lawful.specs.Resolution.{Resolution, group_named, name_at}
+use Rattle.policy_lawful.specs.Rules.{repeated}
+use Rattle.muen_num.proofs.Lists.{position-map}
+use Rattle.policy_lawful.proofs.Places.{position_is}
+use Rattle.policy_lawful.proofs.ResolvedFacts.{group_names}
 
 -- the place of a group, by its name
 pub place_of_name : (r : Resolution) (place : ℕ) → repeated (group_names r) ≡ None → place < length r.scheduling.groups

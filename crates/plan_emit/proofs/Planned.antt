@@ -9,15 +9,15 @@ use Rattle.std.proofs.lemmas.Option.{get_or_from_slice_get}
 use Rattle.muen_num.specs.Range.{numbers_below}
 use Rattle.image_pack.proofs.ByNumber.{length_numbers, number_at}
 use Rattle.image_pack.specs.Plan.{cpus_in, cpus_of, frame_of, frames_in}
-use Rattle.policy_types.specs.Frames as policy
-use Rattle.policy_types.specs.Frames.{entry_frames, frames_of, major_frames_of}
-use Rattle.policy_types.specs.Resolution.{Resolution, cpu_named, major_named, major_placed, source_of}
-use Rattle.policy_types.specs.Rules.{repeated}
-use Rattle.policy_types.specs.declared.resolved.CpuFrames.{CpuFrames}
-use Rattle.policy_types.specs.declared.resolved.MajorFrame.{MajorFrame}
-use Rattle.policy_types.specs.declared.resolved.MinorFrame.{MinorFrame}
-use Rattle.policy_types.proofs.Lists.{all_same, find-map, map-map}
-use Rattle.policy_types.proofs.ResolvedFacts.{frame_named, group_names}
+use Rattle.policy_meaning.specs.Frames as policy
+use Rattle.policy_meaning.specs.Frames.{entry_frames, frames_of, major_frames_of}
+use Rattle.policy_lawful.specs.Resolution.{Resolution, cpu_named, major_named, major_placed, source_of}
+use Rattle.policy_lawful.specs.Rules.{repeated}
+use Rattle.policy_lawful.specs.declared.resolved.CpuFrames.{CpuFrames}
+use Rattle.policy_lawful.specs.declared.resolved.MajorFrame.{MajorFrame}
+use Rattle.policy_lawful.specs.declared.resolved.MinorFrame.{MinorFrame}
+use Rattle.muen_num.proofs.Lists.{all_same, find-map, map-map}
+use Rattle.policy_lawful.proofs.ResolvedFacts.{frame_named, group_names}
 use Rattle.plan_emit.specs.Emitted.{cpu_part, emitted, major_part, minor_part}
 use Rattle.plan_emit.proofs.Fitting.{entry_there, frame_there, many_majors}
 use Rattle.plan_emit.proofs.Known.{Known}

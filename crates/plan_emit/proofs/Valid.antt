@@ -12,15 +12,15 @@ use Rattle.image_pack.proofs.ByNumber.{length_numbers}
 use Rattle.image_pack.specs.Plan.{cpus_of, is_cpu, is_group_on, is_major, is_minor, is_plan}
 use Rattle.image_pack.specs.declared.plan.GroupPart.{GroupPart}
 use Rattle.image_pack.specs.declared.plan.Minor.{Minor}
-use Rattle.policy_types.specs.Resolution.{Resolution, cpu_named, major_named, major_placed, name_at, source_of}
-use Rattle.policy_types.specs.Rules.{group_cpu, is_frame, is_on, repeated}
-use Rattle.policy_types.specs.Rules as rules
-use Rattle.policy_types.specs.declared.resolved.CpuFrames.{CpuFrames}
-use Rattle.policy_types.specs.declared.resolved.Group.{Group}
-use Rattle.policy_types.specs.declared.resolved.MajorFrame.{MajorFrame}
-use Rattle.policy_types.specs.declared.resolved.MinorFrame.{MinorFrame}
-use Rattle.policy_types.proofs.Lists.{each_both, each_of, list_any-map, sum_by-map}
-use Rattle.policy_types.proofs.ResolvedFacts.{cpu_at_place, frame_named, group_names, ticks_named}
+use Rattle.policy_lawful.specs.Resolution.{Resolution, cpu_named, major_named, major_placed, name_at, source_of}
+use Rattle.policy_lawful.specs.Rules.{group_cpu, is_frame, is_on, repeated}
+use Rattle.policy_lawful.specs.Rules as rules
+use Rattle.policy_lawful.specs.declared.resolved.CpuFrames.{CpuFrames}
+use Rattle.policy_lawful.specs.declared.resolved.Group.{Group}
+use Rattle.policy_lawful.specs.declared.resolved.MajorFrame.{MajorFrame}
+use Rattle.policy_lawful.specs.declared.resolved.MinorFrame.{MinorFrame}
+use Rattle.muen_num.proofs.Lists.{each_both, each_of, list_any-map, sum_by-map}
+use Rattle.policy_lawful.proofs.ResolvedFacts.{cpu_at_place, frame_named, group_names, ticks_named}
 use Rattle.plan_emit.specs.Emitted.{cpu_part, emitted, first_ticks, group_part, major_part, minor_part, ticks_in}
 use Rattle.plan_emit.proofs.Fitting.{cpus_of_groups, entries_within, entry_there, frame_there, many_majors, is_short}
 use Rattle.plan_emit.proofs.Known.{Known}

@@ -7,11 +7,11 @@ use Rattle.image_pack.specs.declared.plan.GroupPart.{GroupPart}
 use Rattle.image_pack.specs.declared.plan.Minor.{Minor}
 use Rattle.image_pack.specs.declared.plan.Major.{Major}
 use Rattle.image_pack.specs.declared.plan.Plan.{Plan}
-use Rattle.policy_types.specs.Resolution.{Resolution}
-use Rattle.policy_types.specs.declared.resolved.Group.{Group}
-use Rattle.policy_types.specs.declared.resolved.MajorFrame.{MajorFrame}
-use Rattle.policy_types.specs.declared.resolved.CpuFrames.{CpuFrames}
-use Rattle.policy_types.specs.declared.resolved.MinorFrame.{MinorFrame}
+use Rattle.policy_lawful.specs.Resolution.{Resolution}
+use Rattle.policy_lawful.specs.declared.resolved.Group.{Group}
+use Rattle.policy_lawful.specs.declared.resolved.MajorFrame.{MajorFrame}
+use Rattle.policy_lawful.specs.declared.resolved.CpuFrames.{CpuFrames}
+use Rattle.policy_lawful.specs.declared.resolved.MinorFrame.{MinorFrame}
 
 -- ---- the parts of a plan
 

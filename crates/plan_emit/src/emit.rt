@@ -1,13 +1,13 @@
 //! The plan as a whole.
 ghost use Rattle.std.specs.Prelude.{IfOk};
-ghost use Rattle.policy_types.specs.Resolution.{source_of};
+ghost use Rattle.policy_lawful.specs.Resolution.{source_of};
 ghost use Rattle.plan_emit.specs.PlanOf.{IsPlanOf};
 
 use crate::frames::major_parts;
 use crate::groups::group_parts;
 use image_pack::Plan;
 use muen_num::NoMemory;
-use policy_types::Lawful;
+use policy_lawful::Lawful;
 use std::alloc::Global;
 
 /// The scheduling plan of a lawful policy.

@@ -6,7 +6,7 @@ ghost use Rattle.plan_emit.specs.Emitted.{minor_part, cpu_part, first_ticks, maj
 
 use image_pack::{Major, Minor};
 use muen_num::{NoMemory, Seq};
-use policy_types::resolved::{CpuFrames, MajorFrame, MinorFrame};
+use policy_lawful::resolved::{CpuFrames, MajorFrame, MinorFrame};
 use std::alloc::Global;
 
 fn minor_part(frame: &MinorFrame) -> Minor

@@ -5,7 +5,7 @@ ghost use Rattle.plan_emit.specs.Emitted.{group_part, fits_group};
 
 use image_pack::GroupPart;
 use muen_num::{NoMemory, Seq};
-use policy_types::resolved::Group;
+use policy_lawful::resolved::Group;
 use std::alloc::Global;
 
 // A group, by numbers: its first listed member is active at the start.

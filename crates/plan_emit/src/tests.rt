@@ -6,7 +6,7 @@ use crate::frames::major_parts;
 use crate::groups::group_parts;
 use image_pack::{GroupPart, Minor};
 use muen_num::{Name, Seq};
-use policy_types::resolved::{CpuFrames, Group, MajorFrame, MinorFrame};
+use policy_lawful::resolved::{CpuFrames, Group, MajorFrame, MinorFrame};
 use std::test::Fail;
 
 #[test]

@@ -9,7 +9,7 @@ use Rattle.std.proofs.Math.Seq.{take-append_seam, drop-append_seam}
 use Rattle.std.proofs.lemmas.List.{length-append, take-append-drop}
 use Rattle.std.proofs.lemmas.List.Splits.{length-slice_split}
 use Rattle.hex.specs.Hex.{hex_digit_value, is_hex_digit}
-use Rattle.policy_types.specs.Based.{underscore, groups_of, middle_of, is_framed, is_group, with_digit, value_of, number_of_groups, based}
+use Rattle.policy_json.specs.Based.{underscore, groups_of, middle_of, is_framed, is_group, with_digit, value_of, number_of_groups, based}
 
 -- the number once these characters are read too, where the digits before them are worth n,
 -- and `begun` says whether the group that goes on here has a digit

@@ -2,3 +2,5 @@ pub mod Based
 pub mod Front
 pub mod Known
 pub mod Text
+mod Faults
+pub mod ReadBuilt

@@ -1,1 +1,5 @@
+pub mod Based
+pub mod Document
+pub mod Keys
 pub mod Reading
+pub mod Schema

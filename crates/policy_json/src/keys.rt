@@ -1,7 +1,7 @@
 //! For each object, that it is one and has no key but its own.
 ghost use Rattle.serde_json.specs.View.{view};
-ghost use Rattle.policy_types.specs.Keys.{system_keys, processor_keys, block_keys, region_keys, content_keys, subject_keys, mapping_keys, scheduling_keys, group_keys, major_frame_keys, cpu_frames_keys, minor_frame_keys};
-ghost use Rattle.policy_types.specs.Schema.{object_of};
+ghost use Rattle.policy_json.specs.Keys.{system_keys, processor_keys, block_keys, region_keys, content_keys, subject_keys, mapping_keys, scheduling_keys, group_keys, major_frame_keys, cpu_frames_keys, minor_frame_keys};
+ghost use Rattle.policy_json.specs.Schema.{object_of};
 ghost use Rattle.policy_json.specs.Reading.{Finds};
 
 use crate::fault::ReadEnd;
@@ -10,7 +10,7 @@ use serde_json::Value;
 use std::alloc::Global;
 
 /// The keys of a system.
-#[tactic(auto, unfolding(policy_types::specs::Keys::system_keys))]
+#[tactic(auto, unfolding(crate::specs::Keys::system_keys))]
 pub fn read_system_keys(alloc: Global, value: &Value) -> Result<(), ReadEnd>
     ensures { Finds (object_of system_keys (view value.now)) result }
 {
@@ -33,7 +33,7 @@ pub fn read_system_keys(alloc: Global, value: &Value) -> Result<(), ReadEnd>
 }
 
 /// The keys of the processor.
-#[tactic(auto, unfolding(policy_types::specs::Keys::processor_keys))]
+#[tactic(auto, unfolding(crate::specs::Keys::processor_keys))]
 pub fn read_processor_keys(alloc: Global, value: &Value) -> Result<(), ReadEnd>
     ensures { Finds (object_of processor_keys (view value.now)) result }
 {
@@ -41,7 +41,7 @@ pub fn read_processor_keys(alloc: Global, value: &Value) -> Result<(), ReadEnd>
 }
 
 /// The keys of a memory block.
-#[tactic(auto, unfolding(policy_types::specs::Keys::block_keys))]
+#[tactic(auto, unfolding(crate::specs::Keys::block_keys))]
 pub fn read_block_keys(alloc: Global, value: &Value) -> Result<(), ReadEnd>
     ensures { Finds (object_of block_keys (view value.now)) result }
 {
@@ -53,7 +53,7 @@ pub fn read_block_keys(alloc: Global, value: &Value) -> Result<(), ReadEnd>
 }
 
 /// The keys of a region of memory.
-#[tactic(auto, unfolding(policy_types::specs::Keys::region_keys))]
+#[tactic(auto, unfolding(crate::specs::Keys::region_keys))]
 pub fn read_region_keys(alloc: Global, value: &Value) -> Result<(), ReadEnd>
     ensures { Finds (object_of region_keys (view value.now)) result }
 {
@@ -73,7 +73,7 @@ pub fn read_region_keys(alloc: Global, value: &Value) -> Result<(), ReadEnd>
 }
 
 /// The keys of a content.
-#[tactic(auto, unfolding(policy_types::specs::Keys::content_keys))]
+#[tactic(auto, unfolding(crate::specs::Keys::content_keys))]
 pub fn read_content_keys(alloc: Global, value: &Value) -> Result<(), ReadEnd>
     ensures { Finds (object_of content_keys (view value.now)) result }
 {
@@ -85,7 +85,7 @@ pub fn read_content_keys(alloc: Global, value: &Value) -> Result<(), ReadEnd>
 }
 
 /// The keys of a subject.
-#[tactic(auto, unfolding(policy_types::specs::Keys::subject_keys))]
+#[tactic(auto, unfolding(crate::specs::Keys::subject_keys))]
 pub fn read_subject_keys(alloc: Global, value: &Value) -> Result<(), ReadEnd>
     ensures { Finds (object_of subject_keys (view value.now)) result }
 {
@@ -109,7 +109,7 @@ pub fn read_subject_keys(alloc: Global, value: &Value) -> Result<(), ReadEnd>
 }
 
 /// The keys of a window of a subject.
-#[tactic(auto, unfolding(policy_types::specs::Keys::mapping_keys))]
+#[tactic(auto, unfolding(crate::specs::Keys::mapping_keys))]
 pub fn read_mapping_keys(alloc: Global, value: &Value) -> Result<(), ReadEnd>
     ensures { Finds (object_of mapping_keys (view value.now)) result }
 {
@@ -121,7 +121,7 @@ pub fn read_mapping_keys(alloc: Global, value: &Value) -> Result<(), ReadEnd>
 }
 
 /// The keys of the scheduling plan.
-#[tactic(auto, unfolding(policy_types::specs::Keys::scheduling_keys))]
+#[tactic(auto, unfolding(crate::specs::Keys::scheduling_keys))]
 pub fn read_scheduling_keys(alloc: Global, value: &Value) -> Result<(), ReadEnd>
     ensures { Finds (object_of scheduling_keys (view value.now)) result }
 {
@@ -129,7 +129,7 @@ pub fn read_scheduling_keys(alloc: Global, value: &Value) -> Result<(), ReadEnd>
 }
 
 /// The keys of a scheduling group.
-#[tactic(auto, unfolding(policy_types::specs::Keys::group_keys))]
+#[tactic(auto, unfolding(crate::specs::Keys::group_keys))]
 pub fn read_group_keys(alloc: Global, value: &Value) -> Result<(), ReadEnd>
     ensures { Finds (object_of group_keys (view value.now)) result }
 {
@@ -137,7 +137,7 @@ pub fn read_group_keys(alloc: Global, value: &Value) -> Result<(), ReadEnd>
 }
 
 /// The keys of a major frame.
-#[tactic(auto, unfolding(policy_types::specs::Keys::major_frame_keys))]
+#[tactic(auto, unfolding(crate::specs::Keys::major_frame_keys))]
 pub fn read_major_frame_keys(alloc: Global, value: &Value) -> Result<(), ReadEnd>
     ensures { Finds (object_of major_frame_keys (view value.now)) result }
 {
@@ -145,7 +145,7 @@ pub fn read_major_frame_keys(alloc: Global, value: &Value) -> Result<(), ReadEnd
 }
 
 /// The keys of the minor frames of a CPU.
-#[tactic(auto, unfolding(policy_types::specs::Keys::cpu_frames_keys))]
+#[tactic(auto, unfolding(crate::specs::Keys::cpu_frames_keys))]
 pub fn read_cpu_frames_keys(alloc: Global, value: &Value) -> Result<(), ReadEnd>
     ensures { Finds (object_of cpu_frames_keys (view value.now)) result }
 {
@@ -153,7 +153,7 @@ pub fn read_cpu_frames_keys(alloc: Global, value: &Value) -> Result<(), ReadEnd>
 }
 
 /// The keys of a minor frame.
-#[tactic(auto, unfolding(policy_types::specs::Keys::minor_frame_keys))]
+#[tactic(auto, unfolding(crate::specs::Keys::minor_frame_keys))]
 pub fn read_minor_frame_keys(alloc: Global, value: &Value) -> Result<(), ReadEnd>
     ensures { Finds (object_of minor_frame_keys (view value.now)) result }
 {

@@ -3,7 +3,7 @@
 
 ghost use Rattle.std.specs.Prelude.{◌≡◌, true, IfOk};
 ghost use Rattle.policy_types.specs.Built.{is_built, has_built_cpus, has_plain_contents};
-ghost use Rattle.policy_types.specs.Document.{policy_of};
+ghost use Rattle.policy_json.specs.Document.{policy_of};
 ghost use Rattle.policy_types.specs.Reading.{Answers};
 
 mod fault;
@@ -26,7 +26,7 @@ use std::alloc::Global;
 /// schema and what was wanted there, and `NoMemory` where memory was refused. A policy that is read
 /// has only elements that are built, a number of logical CPUs that is built, and no contents from
 /// files.
-#[tactic(auto, using(crate::proofs::Text::texts), unfolding(policy_types::specs::Document::policy_of, policy_types::specs::Document::json_of))]
+#[tactic(auto, using(crate::proofs::Text::texts), unfolding(crate::specs::Document::policy_of, crate::specs::Document::json_of))]
 pub fn read(alloc: Global, bytes: &[u8]) -> Result<Source, Refusal>
     ensures answer { Answers (policy_of bytes.now) result }
     ensures built { IfOk result (λ p. is_built p ≡ true) }

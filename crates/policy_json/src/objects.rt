@@ -1,7 +1,7 @@
 ghost use Rattle.std.specs.Prelude.{◌≡◌, codes};
 ghost use Rattle.serde_json.specs.View.{view};
-ghost use Rattle.policy_types.specs.Schema.{optional, required};
-ghost use Rattle.policy_types.specs.Document.{is_one_content, one_content, read_cpus, read_fill, read_inline};
+ghost use Rattle.policy_json.specs.Schema.{optional, required};
+ghost use Rattle.policy_json.specs.Document.{is_one_content, one_content, read_cpus, read_fill, read_inline};
 ghost use Rattle.policy_types.specs.declared.source.Content.TheVariants.{Zero};
 ghost use Rattle.policy_json.specs.Reading.{Finds, Gives};
 
@@ -19,7 +19,7 @@ use serde_json::Value;
 use std::alloc::Global;
 
 // How many logical CPUs there are; several aren't built.
-#[tactic(auto, unfolding(policy_types::specs::Document::read_cpus))]
+#[tactic(auto, unfolding(crate::specs::Document::read_cpus))]
 fn read_cpus(alloc: Global, value: &Value) -> Result<u64, ReadEnd>
     ensures { Finds (read_cpus (view value.now)) result }
 {
@@ -31,7 +31,7 @@ fn read_cpus(alloc: Global, value: &Value) -> Result<u64, ReadEnd>
 }
 
 // The value under the key of the number of CPUs.
-#[tactic(auto, unfolding(policy_types::specs::Schema::required))]
+#[tactic(auto, unfolding(crate::specs::Schema::required))]
 fn read_logical_cpus(alloc: Global, value: &Value) -> Result<u64, ReadEnd>
     ensures { Gives (required (codes "logicalCpus") read_cpus (view value.now)) result }
 {
@@ -45,11 +45,11 @@ fn read_logical_cpus(alloc: Global, value: &Value) -> Result<u64, ReadEnd>
 }
 
 impl Shape for Processor {
-    ghost use Rattle.policy_types.specs.Document.{read_processor};
+    ghost use Rattle.policy_json.specs.Document.{read_processor};
 
     ghost reads = { read_processor };
 
-    #[tactic(auto, unfolding(policy_types::specs::Document::read_processor))]
+    #[tactic(auto, unfolding(crate::specs::Document::read_processor))]
     fn read(alloc: Global, value: &Value) -> Result<Processor, ReadEnd> {
         read_processor_keys(alloc, value)?;
         let logical_cpus = read_logical_cpus(alloc, value)?;
@@ -58,11 +58,11 @@ impl Shape for Processor {
 }
 
 impl Shape for Block {
-    ghost use Rattle.policy_types.specs.Document.{read_block};
+    ghost use Rattle.policy_json.specs.Document.{read_block};
 
     ghost reads = { read_block };
 
-    #[tactic(auto, unfolding(policy_types::specs::Document::read_block))]
+    #[tactic(auto, unfolding(crate::specs::Document::read_block))]
     fn read(alloc: Global, value: &Value) -> Result<Block, ReadEnd> {
         read_block_keys(alloc, value)?;
         let name = read_required(alloc, value, "name")?;
@@ -76,7 +76,7 @@ impl Shape for Block {
     }
 }
 
-#[tactic(auto, unfolding(policy_types::specs::Document::is_one_content))]
+#[tactic(auto, unfolding(crate::specs::Document::is_one_content))]
 fn is_one_content(value: &Value) -> bool
     ensures { result ≡ is_one_content (view value.now) }
 {
@@ -91,7 +91,7 @@ fn is_one_content(value: &Value) -> bool
     if fill { !hex } else { hex }
 }
 
-#[tactic(auto, unfolding(policy_types::specs::Document::one_content))]
+#[tactic(auto, unfolding(crate::specs::Document::one_content))]
 fn read_one_content(alloc: Global, value: &Value) -> Result<(), ReadEnd>
     ensures { Finds (one_content (view value.now)) result }
 {
@@ -102,7 +102,7 @@ fn read_one_content(alloc: Global, value: &Value) -> Result<(), ReadEnd>
     }
 }
 
-#[tactic(auto, unfolding(policy_types::specs::Document::read_fill))]
+#[tactic(auto, unfolding(crate::specs::Document::read_fill))]
 fn read_fill(alloc: Global, value: &Value) -> Result<Content, ReadEnd>
     ensures { Finds (read_fill (view value.now)) result }
 {
@@ -112,7 +112,7 @@ fn read_fill(alloc: Global, value: &Value) -> Result<Content, ReadEnd>
     }
 }
 
-#[tactic(auto, unfolding(policy_types::specs::Document::read_inline))]
+#[tactic(auto, unfolding(crate::specs::Document::read_inline))]
 fn read_inline(alloc: Global, value: &Value) -> Result<Content, ReadEnd>
     ensures { Gives (read_inline (view value.now)) result }
 {
@@ -123,7 +123,7 @@ fn read_inline(alloc: Global, value: &Value) -> Result<Content, ReadEnd>
 }
 
 // The byte that fills the content, or zeros where there is none.
-#[tactic(auto, unfolding(policy_types::specs::Schema::optional))]
+#[tactic(auto, unfolding(crate::specs::Schema::optional))]
 fn read_filled(alloc: Global, value: &Value) -> Result<Content, ReadEnd>
     ensures { Gives (optional (codes "fill") Zero read_fill (view value.now)) result }
 {
@@ -137,7 +137,7 @@ fn read_filled(alloc: Global, value: &Value) -> Result<Content, ReadEnd>
 }
 
 // The bytes that are spelled in the document, or the default where there are none.
-#[tactic(auto, unfolding(policy_types::specs::Schema::optional))]
+#[tactic(auto, unfolding(crate::specs::Schema::optional))]
 fn read_spelled(alloc: Global, value: &Value, default: Content) -> Result<Content, ReadEnd>
     ensures { Gives (optional (codes "hex") default read_inline (view value.now)) result }
 {
@@ -151,11 +151,11 @@ fn read_spelled(alloc: Global, value: &Value, default: Content) -> Result<Conten
 }
 
 impl Shape for Content {
-    ghost use Rattle.policy_types.specs.Document.{read_content};
+    ghost use Rattle.policy_json.specs.Document.{read_content};
 
     ghost reads = { read_content };
 
-    #[tactic(auto, unfolding(policy_types::specs::Document::read_content))]
+    #[tactic(auto, unfolding(crate::specs::Document::read_content))]
     fn read(alloc: Global, value: &Value) -> Result<Content, ReadEnd> {
         read_content_keys(alloc, value)?;
         read_one_content(alloc, value)?;
@@ -169,11 +169,11 @@ impl Shape for Content {
 }
 
 impl Shape for Region {
-    ghost use Rattle.policy_types.specs.Document.{read_region};
+    ghost use Rattle.policy_json.specs.Document.{read_region};
 
     ghost reads = { read_region };
 
-    #[tactic(auto, unfolding(policy_types::specs::Document::read_region))]
+    #[tactic(auto, unfolding(crate::specs::Document::read_region))]
     fn read(alloc: Global, value: &Value) -> Result<Region, ReadEnd> {
         read_region_keys(alloc, value)?;
         let name = read_required(alloc, value, "name")?;
@@ -194,11 +194,11 @@ impl Shape for Region {
 }
 
 impl Shape for Mapping {
-    ghost use Rattle.policy_types.specs.Document.{read_mapping};
+    ghost use Rattle.policy_json.specs.Document.{read_mapping};
 
     ghost reads = { read_mapping };
 
-    #[tactic(auto, unfolding(policy_types::specs::Document::read_mapping))]
+    #[tactic(auto, unfolding(crate::specs::Document::read_mapping))]
     fn read(alloc: Global, value: &Value) -> Result<Mapping, ReadEnd> {
         read_mapping_keys(alloc, value)?;
         let region = read_required(alloc, value, "region")?;
@@ -213,11 +213,11 @@ impl Shape for Mapping {
 }
 
 impl Shape for Subject {
-    ghost use Rattle.policy_types.specs.Document.{read_subject};
+    ghost use Rattle.policy_json.specs.Document.{read_subject};
 
     ghost reads = { read_subject };
 
-    #[tactic(auto, unfolding(policy_types::specs::Document::read_subject))]
+    #[tactic(auto, unfolding(crate::specs::Document::read_subject))]
     fn read(alloc: Global, value: &Value) -> Result<Subject, ReadEnd> {
         read_subject_keys(alloc, value)?;
         let name = read_required(alloc, value, "name")?;
@@ -246,11 +246,11 @@ impl Shape for Subject {
 }
 
 impl Shape for Source {
-    ghost use Rattle.policy_types.specs.Document.{read_system};
+    ghost use Rattle.policy_json.specs.Document.{read_system};
 
     ghost reads = { read_system };
 
-    #[tactic(auto, unfolding(policy_types::specs::Document::read_system))]
+    #[tactic(auto, unfolding(crate::specs::Document::read_system))]
     fn read(alloc: Global, value: &Value) -> Result<Source, ReadEnd> {
         read_system_keys(alloc, value)?;
         let processor = read_required(alloc, value, "processor")?;

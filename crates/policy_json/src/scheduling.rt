@@ -9,11 +9,11 @@ use serde_json::Value;
 use std::alloc::Global;
 
 impl Shape for Group {
-    ghost use Rattle.policy_types.specs.Document.{read_group};
+    ghost use Rattle.policy_json.specs.Document.{read_group};
 
     ghost reads = { read_group };
 
-    #[tactic(auto, unfolding(policy_types::specs::Document::read_group))]
+    #[tactic(auto, unfolding(crate::specs::Document::read_group))]
     fn read(alloc: Global, value: &Value) -> Result<Group, ReadEnd> {
         read_group_keys(alloc, value)?;
         let name = read_required(alloc, value, "name")?;
@@ -28,11 +28,11 @@ impl Shape for Group {
 }
 
 impl Shape for MinorFrame {
-    ghost use Rattle.policy_types.specs.Document.{read_minor_frame};
+    ghost use Rattle.policy_json.specs.Document.{read_minor_frame};
 
     ghost reads = { read_minor_frame };
 
-    #[tactic(auto, unfolding(policy_types::specs::Document::read_minor_frame))]
+    #[tactic(auto, unfolding(crate::specs::Document::read_minor_frame))]
     fn read(alloc: Global, value: &Value) -> Result<MinorFrame, ReadEnd> {
         read_minor_frame_keys(alloc, value)?;
         let group = read_required(alloc, value, "group")?;
@@ -42,11 +42,11 @@ impl Shape for MinorFrame {
 }
 
 impl Shape for CpuFrames {
-    ghost use Rattle.policy_types.specs.Document.{read_cpu_frames};
+    ghost use Rattle.policy_json.specs.Document.{read_cpu_frames};
 
     ghost reads = { read_cpu_frames };
 
-    #[tactic(auto, unfolding(policy_types::specs::Document::read_cpu_frames))]
+    #[tactic(auto, unfolding(crate::specs::Document::read_cpu_frames))]
     fn read(alloc: Global, value: &Value) -> Result<CpuFrames, ReadEnd> {
         read_cpu_frames_keys(alloc, value)?;
         let cpu = read_required(alloc, value, "cpu")?;
@@ -56,11 +56,11 @@ impl Shape for CpuFrames {
 }
 
 impl Shape for MajorFrame {
-    ghost use Rattle.policy_types.specs.Document.{read_major_frame};
+    ghost use Rattle.policy_json.specs.Document.{read_major_frame};
 
     ghost reads = { read_major_frame };
 
-    #[tactic(auto, unfolding(policy_types::specs::Document::read_major_frame))]
+    #[tactic(auto, unfolding(crate::specs::Document::read_major_frame))]
     fn read(alloc: Global, value: &Value) -> Result<MajorFrame, ReadEnd> {
         read_major_frame_keys(alloc, value)?;
         let cpus = read_list(alloc, value, "cpus")?;
@@ -69,11 +69,11 @@ impl Shape for MajorFrame {
 }
 
 impl Shape for Scheduling {
-    ghost use Rattle.policy_types.specs.Document.{read_scheduling};
+    ghost use Rattle.policy_json.specs.Document.{read_scheduling};
 
     ghost reads = { read_scheduling };
 
-    #[tactic(auto, unfolding(policy_types::specs::Document::read_scheduling))]
+    #[tactic(auto, unfolding(crate::specs::Document::read_scheduling))]
     fn read(alloc: Global, value: &Value) -> Result<Scheduling, ReadEnd> {
         read_scheduling_keys(alloc, value)?;
         let groups = read_list(alloc, value, "groups")?;

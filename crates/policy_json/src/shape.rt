@@ -3,7 +3,7 @@ ghost use Rattle.std.specs.Str.{bytes_eq};
 ghost use Rattle.std.specs.List.{list_any};
 ghost use Rattle.serde_json.specs.Data.{Data};
 ghost use Rattle.serde_json.specs.View.{view, items_view, members_view};
-ghost use Rattle.policy_types.specs.Schema.{read_list, read_items, object_of, only_keys, required, optional, unbuilt};
+ghost use Rattle.policy_json.specs.Schema.{read_list, read_items, object_of, only_keys, required, optional, unbuilt};
 ghost use Rattle.policy_json.specs.Reading.{Finds, Gives};
 
 use crate::fault::{ReadEnd, fault_under, make_fault};
@@ -46,7 +46,7 @@ fn has_only(members: &Map<String, Value>, keys: &[&str]) -> bool
 }
 
 /// An object with no key but these.
-#[tactic(auto, unfolding(policy_types::specs::Schema::object_of))]
+#[tactic(auto, unfolding(crate::specs::Schema::object_of))]
 pub fn read_object(alloc: Global, value: &Value, keys: &[&str]) -> Result<(), ReadEnd>
     ensures { Finds (object_of (map (λ k. k.now) keys.now) (view value.now)) result }
 {
@@ -63,7 +63,7 @@ pub fn read_object(alloc: Global, value: &Value, keys: &[&str]) -> Result<(), Re
 }
 
 /// The value under a key that has to be there.
-#[tactic(auto, unfolding(policy_types::specs::Schema::required))]
+#[tactic(auto, unfolding(crate::specs::Schema::required))]
 pub fn read_required<T: Shape>(alloc: Global, value: &Value, key: &str) -> Result<T, ReadEnd>
     ensures { Gives (required key.now T.reads (view value.now)) result }
 {
@@ -77,7 +77,7 @@ pub fn read_required<T: Shape>(alloc: Global, value: &Value, key: &str) -> Resul
 }
 
 /// The value under a key, or the default where the key is absent.
-#[tactic(auto, unfolding(policy_types::specs::Schema::optional))]
+#[tactic(auto, unfolding(crate::specs::Schema::optional))]
 pub fn read_optional<T: Shape>(
     alloc: Global,
     value: &Value,
@@ -96,7 +96,7 @@ pub fn read_optional<T: Shape>(
 }
 
 /// A key whose part isn't built: it must not be there.
-#[tactic(auto, unfolding(policy_types::specs::Schema::unbuilt))]
+#[tactic(auto, unfolding(crate::specs::Schema::unbuilt))]
 pub fn read_unbuilt(alloc: Global, value: &Value, key: &str) -> Result<(), ReadEnd>
     ensures { Gives (unbuilt key.now (view value.now)) result }
 {
@@ -128,7 +128,7 @@ fn read_items<T: Shape>(alloc: Global, items: &[Value]) -> Result<Seq<T>, ReadEn
 impl<T: Shape> Shape for Seq<T> {
     ghost reads = { read_list T.reads };
 
-    #[tactic(auto, unfolding(policy_types::specs::Schema::read_list))]
+    #[tactic(auto, unfolding(crate::specs::Schema::read_list))]
     fn read(alloc: Global, value: &Value) -> Result<Seq<T>, ReadEnd> {
         match value.as_array() {
             None => Err(make_fault(alloc, Want::List)),

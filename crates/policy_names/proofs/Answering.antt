@@ -1,8 +1,8 @@
 -- The answer of the whole call.
 use Rattle.std.proofs.Common.{◌≡◌, Option, None, Ok, Err, ap, sym, ◌∙◌}
-use Rattle.policy_types.specs.Lawful.{kept_or, kept_source}
+use Rattle.policy_lawful.specs.Lawful.{kept_or, kept_source}
 use Rattle.policy_types.specs.Reading.{Answers}
-use Rattle.policy_types.specs.Resolution.{Resolution, source_of}
+use Rattle.policy_lawful.specs.Resolution.{Resolution, source_of}
 use Rattle.policy_types.specs.declared.refusal.Refusal.{Refusal}
 use Rattle.policy_types.specs.declared.refusal.Refusal.TheVariants.{NotJson, Shape, Rule, Missing, TooLong, FileFit, NoRoom, NoMemory}
 use Rattle.policy_types.specs.declared.source.Source.{Source}

@@ -6,9 +6,10 @@ use Rattle.std.proofs.lemmas.Bool.{and_parts}
 use Rattle.std.proofs.lemmas.List.{append-nil}
 use Rattle.std.proofs.lemmas.List.Concat.{flat_map_single}
 use Rattle.policy_types.specs.Built.{is_built, is_plain}
-use Rattle.policy_types.specs.Search.{first_of, first_in}
-use Rattle.policy_types.specs.Lawful.{broken, names_broken}
-use Rattle.policy_types.specs.Rules.{undeclared, refers, offence_1, offence_2, subject_references, group_references, frame_references, majors_of, major_name}
+use Rattle.muen_num.specs.Search.{first_of, first_in}
+use Rattle.policy_lawful.specs.Lawful.{names_broken}
+use Rattle.policy_lawful.specs.Offences.{broken}
+use Rattle.policy_lawful.specs.Rules.{undeclared, refers, offence_1, offence_2, subject_references, group_references, frame_references, majors_of, major_name}
 use Rattle.policy_types.specs.declared.source.Source.{Source}
 use Rattle.policy_types.specs.declared.source.Subject.{Subject}
 use Rattle.policy_types.specs.declared.source.Group.{Group}
@@ -17,8 +18,8 @@ use Rattle.policy_types.specs.declared.source.CpuFrames.{CpuFrames}
 use Rattle.policy_names.specs.Parts.{subject_refers, group_refers, major_refers}
 use Rattle.policy_names.specs.Firsts.{IsFirst, region_names, subject_names, group_names, repeated_names, undeclared_names}
 use Rattle.policy_names.proofs.Firsts.{of_rule}
-use Rattle.policy_types.proofs.Searches.{first_in-append, option_or-None, option_or_assoc}
-use Rattle.policy_types.proofs.WindowsByPlace.{HasNoOther, built, plain}
+use Rattle.muen_num.proofs.Searches.{first_in-append, option_or-None, option_or_assoc}
+use Rattle.policy_lawful.proofs.WindowsByPlace.{HasNoOther, built, plain}
 
 -- ---- rule 1
 

@@ -4,14 +4,15 @@ use Rattle.std.specs.Prelude.{map}
 use Rattle.std.specs.List.{list_all}
 use Rattle.std.proofs.lemmas.List.{take_more, map_push}
 use Rattle.std.proofs.lemmas.List.Folds.{list_all-append}
-use Rattle.policy_types.specs.Search.{first_in}
-use Rattle.policy_types.specs.Lawful.{broken}
-use Rattle.policy_types.specs.Rules.{Reference, undeclared}
-use Rattle.policy_types.specs.declared.offence.Offence.{Offence}
+use Rattle.muen_num.specs.Search.{first_in}
+use Rattle.policy_lawful.specs.Offences.{broken}
+use Rattle.policy_lawful.specs.Rules.{Reference, undeclared}
+use Rattle.policy_lawful.specs.declared.offence.Offence.{Offence}
 use Rattle.policy_types.specs.declared.refusal.Refusal.{Refusal}
 use Rattle.policy_names.specs.Answered.{IsWhy}
-use Rattle.policy_types.proofs.Lists.{all_true}
-use Rattle.policy_types.proofs.Searches.{first_in-append, none_broken}
+use Rattle.muen_num.proofs.Lists.{all_true}
+use Rattle.muen_num.proofs.Searches.{first_in-append}
+use Rattle.policy_lawful.proofs.Offences.{none_broken}
 use Rattle.policy_names.proofs.Whys.{why_first}
 
 -- the references of an element whose names are declared, and those after it

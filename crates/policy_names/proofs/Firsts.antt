@@ -2,9 +2,9 @@
 use Rattle.std.proofs.Common.{◌≡◌, ℕ, List, [], ◌∷◌, Option, Some, None, refl, ap, sym, ◌∙◌}
 use Rattle.std.specs.Prelude.{map}
 use Rattle.std.specs.Option.{option_or}
-use Rattle.policy_types.specs.Search.{first_of}
-use Rattle.policy_types.specs.Lawful.{broken}
-use Rattle.policy_types.specs.declared.offence.Offence.{Offence}
+use Rattle.muen_num.specs.Search.{first_of}
+use Rattle.policy_lawful.specs.Offences.{broken}
+use Rattle.policy_lawful.specs.declared.offence.Offence.{Offence}
 use Rattle.policy_types.specs.declared.refusal.Refusal.{Refusal}
 use Rattle.policy_names.specs.Answered.{IsWhy}
 use Rattle.policy_names.specs.Firsts.{IsFirst}

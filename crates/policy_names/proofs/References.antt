@@ -1,9 +1,9 @@
 -- One reference, by the place of its name.
 use Rattle.std.proofs.Common.{◌≡◌, ℕ, List, Option, Some, None, ap, ◌∙◌}
 use Rattle.std.specs.Prelude.{is_some}
-use Rattle.policy_types.specs.Search.{two, unless}
-use Rattle.policy_types.specs.Lawful.{broken}
-use Rattle.policy_types.specs.Rules.{undeclared, refers}
+use Rattle.policy_lawful.specs.Offences.{two, unless}
+use Rattle.policy_lawful.specs.Offences.{broken}
+use Rattle.policy_lawful.specs.Rules.{undeclared, refers}
 use Rattle.policy_types.specs.declared.refusal.Refusal.TheVariants.{Rule}
 use Rattle.policy_names.specs.Places.{place_of}
 use Rattle.policy_names.proofs.Places.{is_some-place_of, place_stands}

@@ -4,9 +4,9 @@ use Rattle.std.specs.Prelude.{map, not, is_some, ◌||◌}
 use Rattle.std.specs.Option.{option_or}
 use Rattle.std.proofs.lemmas.List.{take_more, map_push}
 use Rattle.std.specs.Str.{bytes_eq}
-use Rattle.policy_types.specs.Search.{alone, unless}
-use Rattle.policy_types.specs.Lawful.{broken}
-use Rattle.policy_types.specs.Rules.{is_declared, repeated}
+use Rattle.policy_lawful.specs.Offences.{alone, unless}
+use Rattle.policy_lawful.specs.Offences.{broken}
+use Rattle.policy_lawful.specs.Rules.{is_declared, repeated}
 use Rattle.policy_types.specs.declared.refusal.Refusal.TheVariants.{Rule}
 use Rattle.policy_names.specs.Places.{place_of}
 use Rattle.policy_names.specs.Repeats.{repeats, repeated_after}

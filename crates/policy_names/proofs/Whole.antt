@@ -4,15 +4,15 @@ use Rattle.std.specs.Prelude.{map, nat_lt}
 use Rattle.std.specs.List.{list_all}
 use Rattle.std.proofs.lemmas.Bool.{and_parts}
 use Rattle.std.proofs.lemmas.List.{length-map}
-use Rattle.policy_types.specs.Resolution.{Resolution, source_of, are_placed, subject_named, subject_placed, group_placed, major_placed}
+use Rattle.policy_lawful.specs.Resolution.{Resolution, source_of, are_placed, subject_named, subject_placed, group_placed, major_placed}
 use Rattle.policy_types.specs.declared.source.Source.{Source}
-use Rattle.policy_types.specs.declared.resolved.Subject.{Subject as PlacedSubject}
-use Rattle.policy_types.specs.declared.resolved.Scheduling.{Scheduling as PlacedScheduling}
+use Rattle.policy_lawful.specs.declared.resolved.Subject.{Subject as PlacedSubject}
+use Rattle.policy_lawful.specs.declared.resolved.Scheduling.{Scheduling as PlacedScheduling}
 use Rattle.policy_names.specs.Firsts.{region_names, subject_names, group_names}
 use Rattle.policy_names.specs.Parts.{subject_in, is_subject_in, is_mapping_in, group_in, is_group_in, major_in, is_major_in}
 use Rattle.policy_names.specs.Whole.{with_places, Resolves}
-use Rattle.policy_types.proofs.Lists.{map-map}
-use Rattle.policy_types.proofs.WindowsByPlace.{no_items, none_some}
+use Rattle.muen_num.proofs.Lists.{map-map}
+use Rattle.policy_lawful.proofs.WindowsByPlace.{no_items, none_some}
 
 -- ---- subjects
 

@@ -1,8 +1,8 @@
 -- Why a policy is refused, by the first of several offences.
 use Rattle.std.proofs.Common.{◌≡◌, ℕ, Option, Some, None}
 use Rattle.std.specs.Option.{option_or}
-use Rattle.policy_types.specs.Lawful.{broken}
-use Rattle.policy_types.specs.declared.offence.Offence.{Offence}
+use Rattle.policy_lawful.specs.Offences.{broken}
+use Rattle.policy_lawful.specs.declared.offence.Offence.{Offence}
 use Rattle.policy_types.specs.declared.refusal.Refusal.{Refusal}
 use Rattle.policy_types.specs.declared.refusal.Refusal.TheVariants.{NotJson, Shape, Rule, Missing, TooLong, FileFit, NoRoom, NoMemory}
 use Rattle.policy_names.specs.Answered.{IsWhy}

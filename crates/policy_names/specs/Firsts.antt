@@ -1,9 +1,9 @@
 -- The first of several reasons, and those that a policy of the parts that are built can be refused for.
 use Rattle.std.specs.Prelude.{◌≡◌, ℕ, List, [], ◌∷◌, map, Option}
 use Rattle.std.specs.List.{flat_map}
-use Rattle.policy_types.specs.Search.{first_of, first_in}
-use Rattle.policy_types.specs.Rules.{repeated, undeclared, majors_of}
-use Rattle.policy_types.specs.declared.offence.Offence.{Offence}
+use Rattle.muen_num.specs.Search.{first_of, first_in}
+use Rattle.policy_lawful.specs.Rules.{repeated, undeclared, majors_of}
+use Rattle.policy_lawful.specs.declared.offence.Offence.{Offence}
 use Rattle.policy_types.specs.declared.source.Source.{Source}
 use Rattle.policy_names.specs.Parts.{subject_refers, group_refers, major_refers}
 

@@ -3,20 +3,20 @@
 use Rattle.std.specs.Prelude.{ℕ, Bool, List, [], ◌∷◌, ◌&&◌, not, length, map, nat_lt, None, is_some}
 use Rattle.std.specs.List.{flat_map, list_all}
 use Rattle.policy_types.specs.Built.{is_empty}
-use Rattle.policy_types.specs.Resolution.{name_at}
-use Rattle.policy_types.specs.Rules.{Reference, refers, major_name}
+use Rattle.policy_lawful.specs.Resolution.{name_at}
+use Rattle.policy_lawful.specs.Rules.{Reference, refers, major_name}
 use Rattle.policy_types.specs.declared.source.Mapping.{Mapping}
 use Rattle.policy_types.specs.declared.source.Subject.{Subject}
 use Rattle.policy_types.specs.declared.source.Group.{Group}
 use Rattle.policy_types.specs.declared.source.MinorFrame.{MinorFrame}
 use Rattle.policy_types.specs.declared.source.CpuFrames.{CpuFrames}
 use Rattle.policy_types.specs.declared.source.MajorFrame.{MajorFrame}
-use Rattle.policy_types.specs.declared.resolved.Mapping.{Mapping as PlacedMapping}
-use Rattle.policy_types.specs.declared.resolved.Subject.{Subject as PlacedSubject}
-use Rattle.policy_types.specs.declared.resolved.Group.{Group as PlacedGroup}
-use Rattle.policy_types.specs.declared.resolved.MinorFrame.{MinorFrame as PlacedMinor}
-use Rattle.policy_types.specs.declared.resolved.CpuFrames.{CpuFrames as PlacedCpu}
-use Rattle.policy_types.specs.declared.resolved.MajorFrame.{MajorFrame as PlacedMajor}
+use Rattle.policy_lawful.specs.declared.resolved.Mapping.{Mapping as PlacedMapping}
+use Rattle.policy_lawful.specs.declared.resolved.Subject.{Subject as PlacedSubject}
+use Rattle.policy_lawful.specs.declared.resolved.Group.{Group as PlacedGroup}
+use Rattle.policy_lawful.specs.declared.resolved.MinorFrame.{MinorFrame as PlacedMinor}
+use Rattle.policy_lawful.specs.declared.resolved.CpuFrames.{CpuFrames as PlacedCpu}
+use Rattle.policy_lawful.specs.declared.resolved.MajorFrame.{MajorFrame as PlacedMajor}
 
 -- ---- a subject's mappings, of regions
 

@@ -1,7 +1,7 @@
 -- Where names stand in a list.
 use Rattle.std.specs.Prelude.{◌≡◌, ℕ, suc, true, List, [], ◌∷◌, length, nat_lt, Option, Some, None, option_map, if◌then◌else◌}
 use Rattle.std.specs.Str.{bytes_eq}
-use Rattle.policy_types.specs.Resolution.{name_at}
+use Rattle.policy_lawful.specs.Resolution.{name_at}
 
 -- the first place of a name
 abbrev pub place_of : List (List ℕ) → List ℕ → Option ℕ

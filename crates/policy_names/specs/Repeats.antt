@@ -1,8 +1,9 @@
 -- Names that stood before.
 use Rattle.std.specs.Prelude.{ℕ, not, List, Option}
 use Rattle.std.specs.Str.{bytes_eq}
-use Rattle.policy_types.specs.Search.{alone, unless, first_in, first_after}
-use Rattle.policy_types.specs.declared.offence.Offence.{Offence}
+use Rattle.muen_num.specs.Search.{first_in, first_after}
+use Rattle.policy_lawful.specs.Offences.{alone, unless}
+use Rattle.policy_lawful.specs.declared.offence.Offence.{Offence}
 
 -- the name, where it is one of those
 abbrev pub repeats : List (List ℕ) → List ℕ → Option Offence

@@ -1,8 +1,8 @@
 -- The whole of a policy that is resolved.
 use Rattle.std.specs.Prelude.{◌≡◌, true, List}
-use Rattle.policy_types.specs.Resolution.{Resolution, source_of, are_placed}
-use Rattle.policy_types.specs.declared.resolved.Scheduling.{Scheduling as PlacedScheduling}
-use Rattle.policy_types.specs.declared.resolved.Subject.{Subject as PlacedSubject}
+use Rattle.policy_lawful.specs.Resolution.{Resolution, source_of, are_placed}
+use Rattle.policy_lawful.specs.declared.resolved.Scheduling.{Scheduling as PlacedScheduling}
+use Rattle.policy_lawful.specs.declared.resolved.Subject.{Subject as PlacedSubject}
 use Rattle.policy_types.specs.declared.source.Source.{Source}
 use Rattle.policy_names.specs.Firsts.{region_names, subject_names, group_names}
 use Rattle.policy_names.specs.declared.Names.{Names}

@@ -1,17 +1,18 @@
 //! Frames, which refer to groups.
 ghost use Rattle.std.specs.Prelude.{◌≡◌, map, true};
 ghost use Rattle.std.specs.List.{flat_map, list_all, enumerate_from};
-ghost use Rattle.policy_types.specs.Search.{first_in};
-ghost use Rattle.policy_types.specs.Lawful.{broken};
-ghost use Rattle.policy_types.specs.Rules.{undeclared};
+ghost use Rattle.muen_num.specs.Search.{first_in};
+ghost use Rattle.policy_lawful.specs.Offences.{broken};
+ghost use Rattle.policy_lawful.specs.Rules.{undeclared};
 ghost use Rattle.policy_names.specs.Answered.{Keeps};
 ghost use Rattle.policy_names.specs.Parts.{major_refers, major_in, is_major_in};
 
 use crate::index::Index;
 use crate::scope::{Place, Scope, place_all};
 use muen_num::Seq;
-use policy_types::frame_names::major_name;
-use policy_types::{Refusal, resolved, source};
+use policy_lawful::frame_names::major_name;
+use policy_lawful::resolved;
+use policy_types::{Refusal, source};
 use std::alloc::Global;
 
 impl<'a> Place<Scope<'a>> for source::MinorFrame {

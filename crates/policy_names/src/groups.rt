@@ -2,12 +2,13 @@
 use crate::index::Index;
 use crate::scope::{Place, Scope, place_all};
 use muen_num::Name;
-use policy_types::{Refusal, resolved, source};
+use policy_lawful::resolved;
+use policy_types::{Refusal, source};
 use std::alloc::Global;
 
 impl<'a> Place<Scope<'a>> for Name {
     ghost use Rattle.std.specs.Prelude.{true};
-    ghost use Rattle.policy_types.specs.Resolution.{name_at};
+    ghost use Rattle.policy_lawful.specs.Resolution.{name_at};
     ghost use Rattle.policy_names.specs.Parts.{member_refers, is_member_in};
 
     type Placed = usize;

@@ -1,7 +1,7 @@
 //! Where each name of a list stands.
 ghost use Rattle.std.specs.Prelude.{◌≡◌, map};
-ghost use Rattle.policy_types.specs.Lawful.{broken};
-ghost use Rattle.policy_types.specs.Rules.{repeated};
+ghost use Rattle.policy_lawful.specs.Offences.{broken};
+ghost use Rattle.policy_lawful.specs.Rules.{repeated};
 ghost use Rattle.policy_names.specs.Answered.{Keeps};
 ghost use Rattle.policy_names.specs.Places.{place_of};
 

@@ -4,9 +4,10 @@
 
 ghost use Rattle.std.specs.Prelude.{◌≡◌, true};
 ghost use Rattle.policy_types.specs.Built.{is_built};
-ghost use Rattle.policy_types.specs.Lawful.{broken, names_broken, kept_or, kept_source};
+ghost use Rattle.policy_lawful.specs.Lawful.{names_broken, kept_or, kept_source};
+ghost use Rattle.policy_lawful.specs.Offences.{broken};
 ghost use Rattle.policy_types.specs.Reading.{Answers};
-ghost use Rattle.policy_types.specs.Rules.{offence_1, offence_2};
+ghost use Rattle.policy_lawful.specs.Rules.{offence_1, offence_2};
 ghost use Rattle.policy_names.specs.Answered.{Keeps};
 ghost use Rattle.policy_names.specs.Firsts.{region_names, subject_names, group_names};
 ghost use Rattle.policy_names.specs.Whole.{with_places, AreNames, Resolves};
@@ -21,8 +22,9 @@ use crate::frames::place_majors;
 use crate::index::Index;
 use crate::scope::place_all;
 use muen_num::Seq;
-use policy_types::resolved::{Scheduling, Subject};
-use policy_types::{Refusal, Resolved, Source};
+use policy_lawful::resolved::{Scheduling, Subject};
+use policy_lawful::Resolved;
+use policy_types::{Refusal, Source};
 use std::alloc::Global;
 
 // The names that references may be of.

@@ -2,7 +2,8 @@
 use crate::index::Index;
 use crate::scope::{Place, Scope, place_all};
 use muen_num::Seq;
-use policy_types::{Refusal, resolved, source};
+use policy_lawful::resolved;
+use policy_types::{Refusal, source};
 use std::alloc::Global;
 
 impl<'a> Place<Scope<'a>> for source::Mapping {

@@ -1,9 +1,9 @@
 //! References to declared names, and the elements that make them.
 ghost use Rattle.std.specs.Prelude.{◌≡◌, map, true};
 ghost use Rattle.std.specs.List.{list_all, flat_map};
-ghost use Rattle.policy_types.specs.Search.{first_in};
-ghost use Rattle.policy_types.specs.Lawful.{broken};
-ghost use Rattle.policy_types.specs.Rules.{undeclared, refers};
+ghost use Rattle.muen_num.specs.Search.{first_in};
+ghost use Rattle.policy_lawful.specs.Offences.{broken};
+ghost use Rattle.policy_lawful.specs.Rules.{undeclared, refers};
 ghost use Rattle.policy_names.specs.Answered.{Keeps};
 ghost use Rattle.policy_names.specs.Places.{StandsAt};
 
@@ -39,7 +39,7 @@ impl<'a> Scope<'a> {
 /// An element that refers to declared names of one scope.
 pub trait Place<C>: Drop {
     ghost use Rattle.std.specs.Prelude.{List, Bool};
-    ghost use Rattle.policy_types.specs.Rules.{Reference};
+    ghost use Rattle.policy_lawful.specs.Rules.{Reference};
 
     /// The element with places for the names.
     type Placed: Drop;

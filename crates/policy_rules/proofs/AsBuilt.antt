@@ -4,19 +4,21 @@ use Rattle.std.specs.Prelude.{◌&&◌, nat_lt, nat_le, codes}
 use Rattle.std.specs.List.{list_all, sum_by, fold}
 use Rattle.std.proofs.lemmas.Bool.{and_from, and_parts}
 use Rattle.std.proofs.lemmas.List.{length-map}
-use Rattle.policy_types.specs.Search.{alone, two, unless, first_of, first_in}
-use Rattle.policy_types.specs.Rules.{is_page_aligned, is_page_size, is_physical, is_guest, is_laid, window_extents, window_offence, first_overlap, at_most, regions_for, subject_limit, msrs_in, majors_of, major_limit, offence_1, offence_4, offence_18, offence_20}
+use Rattle.muen_num.specs.Search.{first_of, first_in}
+use Rattle.policy_lawful.specs.Offences.{alone, two, unless}
+use Rattle.policy_lawful.specs.Rules.{is_page_aligned, is_page_size, is_physical, is_guest, is_laid, window_extents, window_offence, first_overlap, at_most, regions_for, subject_limit, msrs_in, majors_of, major_limit, offence_1, offence_4, offence_18, offence_20}
 use Rattle.policy_types.specs.Built.{is_plain, is_built}
-use Rattle.policy_types.specs.Resolution.{Resolution, subject_named, source_of}
-use Rattle.policy_types.specs.declared.offence.Extent.{Extent}
-use Rattle.policy_types.specs.declared.offence.Offence.{Offence}
+use Rattle.policy_lawful.specs.Resolution.{Resolution, subject_named, source_of}
+use Rattle.policy_lawful.specs.declared.offence.Extent.{Extent}
+use Rattle.policy_lawful.specs.declared.offence.Offence.{Offence}
 use Rattle.policy_types.specs.declared.source.Source.{Source}
 use Rattle.policy_types.specs.declared.source.Block.{Block}
 use Rattle.policy_types.specs.declared.source.Subject.{Subject as NamedSubject}
-use Rattle.policy_types.specs.declared.resolved.Subject.{Subject}
-use Rattle.policy_types.proofs.Searches.{none_both, unless_none}
-use Rattle.policy_types.specs.ByPlace.{block_extent, mapping_extent, is_ready}
-use Rattle.policy_types.proofs.WindowsByPlace.{plain, built, extents_placed, regions_unique}
+use Rattle.policy_lawful.specs.declared.resolved.Subject.{Subject}
+use Rattle.muen_num.proofs.Searches.{none_both}
+use Rattle.policy_lawful.proofs.Offences.{unless_none}
+use Rattle.policy_lawful.specs.ByPlace.{block_extent, mapping_extent, is_ready}
+use Rattle.policy_lawful.proofs.WindowsByPlace.{plain, built, extents_placed, regions_unique}
 
 -- ---- rule 4
 

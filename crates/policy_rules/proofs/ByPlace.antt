@@ -10,19 +10,20 @@ use Rattle.std.proofs.lemmas.List.{length-map, get_or-map}
 use Rattle.std.proofs.lemmas.List.Folds.{list_all-map}
 use Rattle.std.proofs.lemmas.Option.{slice_get_within, get_or_from_slice_get}
 use Rattle.muen_num.specs.Range.{numbers_below}
-use Rattle.policy_types.specs.Search.{alone, two, unless, first_in, first_after}
-use Rattle.policy_types.specs.Rules as rules
-use Rattle.policy_types.specs.Rules.{repeated, device_kinds, logical_names, major_name, cpu_name, group_cpu, subject_cpu, is_on, times_listed, majors_of, offence_1, offence_16, offence_17}
-use Rattle.policy_types.specs.Resolution.{Resolution, IsResolved, name_at, source_of, subject_named, group_named, cpu_named, major_named, group_placed, major_placed}
-use Rattle.policy_types.specs.declared.resolved.Subject.{Subject as PlacedSubject}
-use Rattle.policy_types.specs.declared.resolved.Group.{Group as PlacedGroup}
-use Rattle.policy_types.specs.declared.resolved.MajorFrame.{MajorFrame as PlacedMajor}
-use Rattle.policy_types.specs.declared.resolved.CpuFrames.{CpuFrames as PlacedCpu}
-use Rattle.policy_types.specs.declared.resolved.MinorFrame.{MinorFrame as PlacedFrame}
-use Rattle.policy_types.proofs.Lists.{find-map, list_any-map, option_map-option_map, sum_by-map}
-use Rattle.policy_types.proofs.Places.{found_at_place, same_name}
-use Rattle.policy_types.proofs.Searches.{first_over-map}
-use Rattle.policy_types.proofs.ResolvedFacts.{cpu_at_place, frame_named, group_names, groups_unique, parts_placed, subject_names, subjects_unique, ticks_named}
+use Rattle.muen_num.specs.Search.{first_in, first_after}
+use Rattle.policy_lawful.specs.Offences.{alone, two, unless}
+use Rattle.policy_lawful.specs.Rules as rules
+use Rattle.policy_lawful.specs.Rules.{repeated, device_kinds, logical_names, major_name, cpu_name, group_cpu, subject_cpu, is_on, times_listed, majors_of, offence_1, offence_16, offence_17}
+use Rattle.policy_lawful.specs.Resolution.{Resolution, IsResolved, name_at, source_of, subject_named, group_named, cpu_named, major_named, group_placed, major_placed}
+use Rattle.policy_lawful.specs.declared.resolved.Subject.{Subject as PlacedSubject}
+use Rattle.policy_lawful.specs.declared.resolved.Group.{Group as PlacedGroup}
+use Rattle.policy_lawful.specs.declared.resolved.MajorFrame.{MajorFrame as PlacedMajor}
+use Rattle.policy_lawful.specs.declared.resolved.CpuFrames.{CpuFrames as PlacedCpu}
+use Rattle.policy_lawful.specs.declared.resolved.MinorFrame.{MinorFrame as PlacedFrame}
+use Rattle.muen_num.proofs.Lists.{find-map, list_any-map, option_map-option_map, sum_by-map}
+use Rattle.policy_lawful.proofs.Places.{found_at_place, same_name}
+use Rattle.muen_num.proofs.Searches.{first_over-map}
+use Rattle.policy_lawful.proofs.ResolvedFacts.{cpu_at_place, frame_named, group_names, groups_unique, parts_placed, subject_names, subjects_unique, ticks_named}
 use Rattle.policy_rules.specs.Placed.{is_frame, ticks_in, has_first_ticks, is_entry, entry_offence, missing_offence, major_offence, first_major, cpu_of_subject, is_member, is_group, group_offence, times_among, times_in, member_offence, AreTimes, groups_offence, counted_offence}
 use Rattle.policy_rules.proofs.Searching.{first_in_same, first_in-map, first_numbered-map, first_numbered_same, both_numbered, first_after-map, list_all_same, sum_by_same}
 

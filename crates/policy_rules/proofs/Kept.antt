@@ -2,10 +2,11 @@
 use Rattle.std.proofs.Common.{◌≡◌, true, List, [], ◌∷◌, Option, Some, None, Err, refl, ap}
 use Rattle.std.specs.Option.{option_or}
 use Rattle.policy_types.specs.Built.{is_built}
-use Rattle.policy_types.specs.Lawful.{broken, kept_or, rules_broken}
+use Rattle.policy_lawful.specs.Lawful.{kept_or, rules_broken}
+use Rattle.policy_lawful.specs.Offences.{broken}
 use Rattle.policy_types.specs.Reading.{Answers}
-use Rattle.policy_types.specs.Rules.{offence_3, offence_4, offence_5, offence_8, offence_16, offence_17, offence_18, offence_20}
-use Rattle.policy_types.specs.Search.{first_of}
+use Rattle.policy_lawful.specs.Rules.{offence_3, offence_4, offence_5, offence_8, offence_16, offence_17, offence_18, offence_20}
+use Rattle.muen_num.specs.Search.{first_of}
 use Rattle.policy_types.specs.declared.refusal.Refusal.{Refusal}
 use Rattle.policy_types.specs.declared.refusal.Refusal.TheVariants.{NotJson, Shape, Rule, Missing, TooLong, FileFit, NoRoom, NoMemory}
 use Rattle.policy_types.specs.declared.source.Source.{Source}

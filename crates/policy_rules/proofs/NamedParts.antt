@@ -5,24 +5,25 @@ use Rattle.std.specs.Option.{option_or}
 use Rattle.std.specs.List.{list_all, sum_by, enumerate_from}
 use Rattle.std.proofs.lemmas.Bool.{and_parts}
 use Rattle.std.proofs.lemmas.List.{length-map}
-use Rattle.policy_types.specs.Search.{alone, two, unless, first_of, first_in}
-use Rattle.policy_types.specs.Rules.{major_name, cpu_name, ticks_in, at_most, subject_limit, major_limit, offence_1, offence_3, offence_20}
+use Rattle.muen_num.specs.Search.{first_of, first_in}
+use Rattle.policy_lawful.specs.Offences.{alone, two, unless}
+use Rattle.policy_lawful.specs.Rules.{major_name, cpu_name, ticks_in, at_most, subject_limit, major_limit, offence_1, offence_3, offence_20}
 use Rattle.policy_types.specs.Built.{is_built}
-use Rattle.policy_types.specs.Resolution.{Resolution, subject_named, group_named, cpu_named, major_named, source_of, IsResolved}
-use Rattle.policy_types.specs.declared.offence.Offence.{Offence}
+use Rattle.policy_lawful.specs.Resolution.{Resolution, subject_named, group_named, cpu_named, major_named, source_of, IsResolved}
+use Rattle.policy_lawful.specs.declared.offence.Offence.{Offence}
 use Rattle.policy_types.specs.declared.source.MinorFrame.{MinorFrame}
 use Rattle.policy_types.specs.declared.source.CpuFrames.{CpuFrames as NamedCpu}
-use Rattle.policy_types.specs.declared.resolved.Subject.{Subject}
-use Rattle.policy_types.specs.declared.resolved.MajorFrame.{MajorFrame}
-use Rattle.policy_types.specs.declared.resolved.CpuFrames.{CpuFrames}
-use Rattle.policy_types.specs.ByPlace.{is_ready}
+use Rattle.policy_lawful.specs.declared.resolved.Subject.{Subject}
+use Rattle.policy_lawful.specs.declared.resolved.MajorFrame.{MajorFrame}
+use Rattle.policy_lawful.specs.declared.resolved.CpuFrames.{CpuFrames}
+use Rattle.policy_lawful.specs.ByPlace.{is_ready}
 use Rattle.policy_rules.specs.Limits.{cpus_offence, entry_within, major_within, limits_offence}
 use Rattle.policy_rules.proofs.AsBuilt.{limits_built, windows_limit}
-use Rattle.policy_types.proofs.Lists.{all_true}
+use Rattle.muen_num.proofs.Lists.{all_true}
 use Rattle.policy_rules.proofs.Searching.{first_numbered-map}
-use Rattle.policy_types.proofs.Searches.{first_over-map, option_or-None}
-use Rattle.policy_types.proofs.ResolvedFacts.{ticks_named}
-use Rattle.policy_types.proofs.WindowsByPlace.{all_ready}
+use Rattle.muen_num.proofs.Searches.{first_over-map, option_or-None}
+use Rattle.policy_lawful.proofs.ResolvedFacts.{ticks_named}
+use Rattle.policy_lawful.proofs.WindowsByPlace.{all_ready}
 
 -- ---- searches over what is named
 

@@ -2,15 +2,15 @@
 use Rattle.std.proofs.Common.{◌≡◌, true, List, [], ◌∷◌, Option, None, refl, ap}
 use Rattle.std.specs.List.{list_all, filter_map}
 use Rattle.std.proofs.lemmas.Bool.{and_parts}
-use Rattle.policy_types.specs.Search.{first_in, first_after}
+use Rattle.muen_num.specs.Search.{first_in, first_after}
 use Rattle.policy_types.specs.Built.{is_plain, is_plain_region, is_built}
-use Rattle.policy_types.specs.Events.{channel_ends}
-use Rattle.policy_types.specs.MoreRules.{fixed_extent, fixed_offence, offence_6, offence_7, offence_9, offence_10, offence_11, offence_12, offence_13, offence_14, offence_15, offence_19}
-use Rattle.policy_types.specs.declared.offence.Offence.{Offence}
+use Rattle.policy_meaning.specs.Events.{channel_ends}
+use Rattle.policy_lawful.specs.MoreRules.{fixed_extent, fixed_offence, offence_6, offence_7, offence_9, offence_10, offence_11, offence_12, offence_13, offence_14, offence_15, offence_19}
+use Rattle.policy_lawful.specs.declared.offence.Offence.{Offence}
 use Rattle.policy_types.specs.declared.source.Source.{Source}
 use Rattle.policy_types.specs.declared.source.Region.{Region}
 use Rattle.policy_types.specs.declared.source.Subject.{Subject}
-use Rattle.policy_types.proofs.WindowsByPlace.{IsPlain, plain, none_some, built}
+use Rattle.policy_lawful.proofs.WindowsByPlace.{IsPlain, plain, none_some, built}
 
 -- a search that finds nothing at any plain subject
 nowhere : (at : Subject → Option Offence) → ((s : Subject) → IsPlain s → at s ≡ None) → (ss : List Subject) → list_all is_plain ss ≡ true → first_in at ss ≡ None

@@ -7,10 +7,11 @@ use Rattle.std.proofs.lemmas.Bool.{leb-true, le-leb, or_cases, or_right, cases_o
 use Rattle.std.proofs.lemmas.List.{length-map, get_or-map}
 use Rattle.std.proofs.lemmas.List.Elements.{All-map}
 use Rattle.std.proofs.lemmas.List.Sorted.{IsPermutation-sym, All-permutation}
-use Rattle.policy_types.specs.Search.{unless, two, first_in}
-use Rattle.policy_types.specs.Rules.{are_apart, overlapping, first_overlap}
-use Rattle.policy_types.specs.declared.offence.Extent.{Extent}
-use Rattle.policy_types.proofs.Searches.{unless_none}
+use Rattle.muen_num.specs.Search.{first_in}
+use Rattle.policy_lawful.specs.Offences.{unless, two}
+use Rattle.policy_lawful.specs.Rules.{are_apart, overlapping, first_overlap}
+use Rattle.policy_lawful.specs.declared.offence.Extent.{Extent}
+use Rattle.policy_lawful.proofs.Offences.{unless_none}
 use Rattle.policy_rules.specs.declared.overlap.Span.{Span}
 use Rattle.policy_rules.specs.Span.{span_of, IsBelow}
 use Rattle.policy_rules.proofs.Searches.{pairs_at, pairs_from, first_pair-last}

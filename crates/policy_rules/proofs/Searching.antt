@@ -8,9 +8,9 @@ use Rattle.std.proofs.lemmas.List.{map_push}
 use Rattle.std.proofs.lemmas.List.Folds.{list_all-map}
 use Rattle.std.proofs.lemmas.List.Sums.{sum-map}
 use Rattle.muen_num.specs.Range.{numbers_below}
-use Rattle.policy_types.specs.Search.{first_in, first_after}
-use Rattle.policy_types.proofs.Lists.{all_same}
-use Rattle.policy_types.proofs.Searches.{first_in-append}
+use Rattle.muen_num.specs.Search.{first_in, first_after}
+use Rattle.muen_num.proofs.Lists.{all_same}
+use Rattle.muen_num.proofs.Searches.{first_in-append}
 
 -- ---- numbers below a bound
 

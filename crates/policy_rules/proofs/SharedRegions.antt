@@ -1,6 +1,6 @@
 -- Who maps and who writes a region, by its place.
 use Rattle.std.proofs.Common.{◌≡◌, ℕ, suc, ◌+◌, ◌<◌, Bool, true, false, cond, List, [], ◌∷◌, length, map, Option, Some, None, refl, sym, ap, ◌∙◌, arith, get_or, take}
-use Rattle.std.specs.Prelude.{◌==◌, ◌&&◌, not, nat_lt, bit_and, option_map}
+use Rattle.std.specs.Prelude.{◌==◌, ◌&&◌, not, nat_lt, option_map}
 use Rattle.std.specs.Option.{option_or}
 use Rattle.std.specs.List.{find, list_any, list_all, All}
 use Rattle.std.specs.Str.{bytes_eq}
@@ -9,21 +9,24 @@ use Rattle.std.proofs.lemmas.List.{take_more, length-map, get_or-map}
 use Rattle.std.proofs.lemmas.List.Elements.{All-head, All-tail, All-weaker}
 use Rattle.std.proofs.lemmas.List.Sums.{AllPass-from_list_all}
 use Rattle.std.proofs.lemmas.List.Folds.{find-append}
-use Rattle.policy_types.specs.Search.{two, first_in}
-use Rattle.policy_types.specs.Rules.{repeated, maps, writes, other_than, offence_8}
-use Rattle.policy_types.specs.Thing.{region, same_thing}
+use Rattle.muen_num.specs.Search.{first_in}
+use Rattle.policy_lawful.specs.Offences.{two}
+use Rattle.policy_lawful.specs.Rules.{repeated, maps, writes, other_than, offence_8}
+use Rattle.policy_meaning.specs.Thing.{region, same_thing}
 use Rattle.policy_types.specs.Built.{is_plain, is_built}
-use Rattle.policy_types.specs.Resolution.{Resolution, IsResolved, name_at, subject_named, source_of}
-use Rattle.policy_types.specs.declared.offence.Offence.{Offence}
+use Rattle.policy_lawful.specs.Resolution.{Resolution, IsResolved, name_at, subject_named, source_of}
+use Rattle.policy_lawful.specs.declared.offence.Offence.{Offence}
+use Rattle.muen_num.specs.declared.bits.Kind.TheVariants.{Write}
+use Rattle.policy_types.specs.Rights.{allows}
 use Rattle.policy_types.specs.declared.source.Region.{Region}
 use Rattle.policy_types.specs.declared.source.Subject.{Subject as NamedSubject}
-use Rattle.policy_types.specs.declared.resolved.Mapping.{Mapping}
-use Rattle.policy_types.specs.declared.resolved.Subject.{Subject}
-use Rattle.policy_types.proofs.Lists.{find-map, list_any-map, option_map-option_map}
-use Rattle.policy_types.proofs.Places.{same_name}
+use Rattle.policy_lawful.specs.declared.resolved.Mapping.{Mapping}
+use Rattle.policy_lawful.specs.declared.resolved.Subject.{Subject}
+use Rattle.muen_num.proofs.Lists.{find-map, list_any-map, option_map-option_map}
+use Rattle.policy_lawful.proofs.Places.{same_name}
 use Rattle.policy_rules.specs.Shared.{IsWithin, may_write, shows, alters, writer_of, other_of, noted, HasNames, first_named}
-use Rattle.policy_types.specs.ByPlace.{no_region, region_at, mapping_window, is_ready}
-use Rattle.policy_types.proofs.WindowsByPlace.{windows_placed, regions_unique, all_ready}
+use Rattle.policy_lawful.specs.ByPlace.{no_region, region_at, mapping_window, is_ready}
+use Rattle.policy_lawful.proofs.WindowsByPlace.{windows_placed, regions_unique, all_ready}
 
 -- ---- searches
 
@@ -63,8 +66,8 @@ writes_at : (r : Resolution) (s : Subject) (k : ℕ) → repeated (map (λ x. x.
 writes_at r s k unique h within =
     let ready = and_parts (is_plain (subject_named r s)) (list_all (λ m. nat_lt m.region (length r.memory)) s.memory) h in
     let names = map (λ x. x.name) r.memory in
-    ap (list_any (λ w. same_thing w.thing (region (name_at names k)) && (bit_and w.rights 2 == 2))) (windows_placed r unique s ready.0 ready.1)
-    ∙ (list_any-map (λ w. same_thing w.thing (region (name_at names k)) && (bit_and w.rights 2 == 2)) (mapping_window r.memory) s.memory
+    ap (list_any (λ w. same_thing w.thing (region (name_at names k)) && allows w.rights Write)) (windows_placed r unique s ready.0 ready.1)
+    ∙ (list_any-map (λ w. same_thing w.thing (region (name_at names k)) && allows w.rights Write) (mapping_window r.memory) s.memory
     ∙ on_region r.memory k (λ b m. b && may_write m) s.memory unique within ready.1)
 
 -- ---- one region

@@ -1,8 +1,8 @@
 -- What a call that checks rules answers.
 use Rattle.std.specs.Prelude.{◌≡◌, [], ◌∷◌, Option, Some, None, Result, Ok, Err}
-use Rattle.policy_types.specs.Lawful.{broken}
-use Rattle.policy_types.specs.Rules.{offence_3, offence_4, offence_5, offence_8, offence_16, offence_17, offence_18, offence_20}
-use Rattle.policy_types.specs.Search.{first_of}
+use Rattle.policy_lawful.specs.Offences.{broken}
+use Rattle.policy_lawful.specs.Rules.{offence_3, offence_4, offence_5, offence_8, offence_16, offence_17, offence_18, offence_20}
+use Rattle.muen_num.specs.Search.{first_of}
 use Rattle.policy_types.specs.declared.refusal.Refusal.{Refusal}
 use Rattle.policy_types.specs.declared.refusal.Refusal.TheVariants.{NotJson, Shape, Rule, Missing, TooLong, FileFit, NoRoom, NoMemory}
 use Rattle.policy_types.specs.declared.source.Source.{Source}

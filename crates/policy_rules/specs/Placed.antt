@@ -3,14 +3,15 @@ use Rattle.std.specs.Prelude.{◌≡◌, ◌+◌, ◌<◌, min, ℕ, ◌==◌, �
 use Rattle.std.specs.Option.{option_map_or}
 use Rattle.std.specs.List.{list_any, list_all, sum_by, count_by, enumerate_from}
 use Rattle.muen_num.specs.Range.{numbers_below}
-use Rattle.policy_types.specs.Search.{alone, two, unless, first_of, first_in, first_after}
-use Rattle.policy_types.specs.Rules.{major_name, cpu_name, is_on}
-use Rattle.policy_types.specs.declared.offence.Offence.{Offence}
-use Rattle.policy_types.specs.declared.resolved.Subject.{Subject}
-use Rattle.policy_types.specs.declared.resolved.Group.{Group}
-use Rattle.policy_types.specs.declared.resolved.MajorFrame.{MajorFrame}
-use Rattle.policy_types.specs.declared.resolved.CpuFrames.{CpuFrames}
-use Rattle.policy_types.specs.declared.resolved.MinorFrame.{MinorFrame}
+use Rattle.muen_num.specs.Search.{first_of, first_in, first_after}
+use Rattle.policy_lawful.specs.Offences.{alone, two, unless}
+use Rattle.policy_lawful.specs.Rules.{major_name, cpu_name, is_on}
+use Rattle.policy_lawful.specs.declared.offence.Offence.{Offence}
+use Rattle.policy_lawful.specs.declared.resolved.Subject.{Subject}
+use Rattle.policy_lawful.specs.declared.resolved.Group.{Group}
+use Rattle.policy_lawful.specs.declared.resolved.MajorFrame.{MajorFrame}
+use Rattle.policy_lawful.specs.declared.resolved.CpuFrames.{CpuFrames}
+use Rattle.policy_lawful.specs.declared.resolved.MinorFrame.{MinorFrame}
 
 -- ---- rule 16: major frames
 

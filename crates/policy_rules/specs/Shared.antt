@@ -1,20 +1,22 @@
 -- Which subjects have windows on a region, where a region is told by its place.
-use Rattle.std.specs.Prelude.{◌≡◌, ℕ, ◌<◌, ◌==◌, ◌&&◌, not, Bool, true, false, List, [], ◌∷◌, length, slice_index_or, bit_and, Option, Some, None, option_map}
+use Rattle.std.specs.Prelude.{◌≡◌, ℕ, ◌<◌, ◌==◌, ◌&&◌, not, Bool, true, false, List, [], ◌∷◌, length, slice_index_or, Option, Some, None, option_map}
 use Rattle.std.specs.Option.{option_or}
 use Rattle.std.specs.List.{find, list_any, All}
 use Rattle.std.specs.Str.{bytes_eq}
-use Rattle.policy_types.specs.Search.{two}
-use Rattle.policy_types.specs.declared.offence.Offence.{Offence}
+use Rattle.policy_lawful.specs.Offences.{two}
+use Rattle.policy_lawful.specs.declared.offence.Offence.{Offence}
+use Rattle.muen_num.specs.declared.bits.Kind.TheVariants.{Write}
+use Rattle.policy_types.specs.Rights.{allows}
 use Rattle.policy_types.specs.declared.source.Region.{Region}
-use Rattle.policy_types.specs.declared.resolved.Mapping.{Mapping}
-use Rattle.policy_types.specs.declared.resolved.Subject.{Subject}
+use Rattle.policy_lawful.specs.declared.resolved.Mapping.{Mapping}
+use Rattle.policy_lawful.specs.declared.resolved.Subject.{Subject}
 
 -- each window of the subject is on one of this many regions
 abbrev pub IsWithin : ℕ → Subject → Type 0
 IsWithin regions s = All (λ m. m.region < regions) s.memory
 
 abbrev pub may_write : Mapping → Bool
-may_write m = bit_and m.rights.0 2 == 2
+may_write m = allows m.rights Write
 
 -- the subject has a window on the region at this place
 abbrev pub shows : ℕ → Subject → Bool

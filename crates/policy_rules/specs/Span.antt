@@ -1,6 +1,6 @@
 -- Ranges of addresses without their names.
 use Rattle.std.specs.Prelude.{◌+◌, ◌≤◌}
-use Rattle.policy_types.specs.declared.offence.Extent.{Extent}
+use Rattle.policy_lawful.specs.declared.offence.Extent.{Extent}
 use Rattle.policy_rules.specs.declared.overlap.Span.{Span}
 
 -- a range without its name

@@ -1,17 +1,17 @@
 // Rules 5 and 18: windows of a subject, and blocks of memory, that share no address.
 ghost use Rattle.std.specs.Prelude.{◌≡◌, None, map, true, IfOk};
-ghost use Rattle.policy_types.specs.Search.{first_in};
+ghost use Rattle.muen_num.specs.Search.{first_in};
 ghost use Rattle.policy_types.specs.Built.{is_built};
-ghost use Rattle.policy_types.specs.Resolution.{source_of, subject_named};
-ghost use Rattle.policy_types.specs.Rules.{first_overlap, window_extents, window_offence, offence_4, offence_5, offence_18};
-ghost use Rattle.policy_types.specs.ByPlace.{block_extent, is_ready};
+ghost use Rattle.policy_lawful.specs.Resolution.{source_of, subject_named};
+ghost use Rattle.policy_lawful.specs.Rules.{first_overlap, window_extents, window_offence, offence_4, offence_5, offence_18};
+ghost use Rattle.policy_lawful.specs.ByPlace.{block_extent, is_ready};
 
 use crate::overlap::first_overlap;
 use crate::windows::windows;
 use muen_num::NoMemory;
-use policy_types::resolved::{Resolved, Subject};
+use policy_lawful::resolved::{Resolved, Subject};
 use policy_types::source::Block;
-use policy_types::{Extent, Offence};
+use policy_lawful::{Extent, Offence};
 use std::alloc::Global;
 
 // Blocks as named ranges of physical memory.
@@ -53,7 +53,7 @@ fn subject_apart(alloc: Global, r: &Resolved, s: &Subject) -> Result<Option<Offe
 }
 
 /// Rule 5: the first two windows of a subject that share an address.
-#[tactic(auto, using(crate::proofs::AsBuilt::laid, policy_types::proofs::WindowsByPlace::all_ready), unfolding(policy_types::specs::Rules::offence_5, policy_types::specs::Resolution::source_of))]
+#[tactic(auto, using(crate::proofs::AsBuilt::laid, policy_lawful::proofs::WindowsByPlace::all_ready), unfolding(policy_lawful::specs::Rules::offence_5, policy_lawful::specs::Resolution::source_of))]
 pub(crate) fn windows_apart(alloc: Global, r: &Resolved) -> Result<Option<Offence>, NoMemory>
     requires built { is_built (source_of r.now) ≡ true }
     requires laid { offence_4 (source_of r.now) ≡ None }

@@ -1,16 +1,17 @@
 // Rule 3: CPUs.
 ghost use Rattle.std.specs.Prelude.{◌≡◌, ◌&&◌, nat_lt, nat_le, codes};
 ghost use Rattle.std.specs.List.{enumerate_from};
-ghost use Rattle.policy_types.specs.Search.{alone, two, unless, first_in};
-ghost use Rattle.policy_types.specs.Resolution.{source_of};
-ghost use Rattle.policy_types.specs.Rules.{major_name, cpu_name, offence_3};
+ghost use Rattle.muen_num.specs.Search.{first_in};
+ghost use Rattle.policy_lawful.specs.Offences.{alone, two, unless};
+ghost use Rattle.policy_lawful.specs.Resolution.{source_of};
+ghost use Rattle.policy_lawful.specs.Rules.{major_name, cpu_name, offence_3};
 
 use crate::addresses::alone;
 use crate::keys::Key;
 use muen_num::Name;
-use policy_types::Offence;
-use policy_types::frame_names::{cpu_name, major_name};
-use policy_types::resolved::{CpuFrames, Group, MajorFrame, Resolved, Subject};
+use policy_lawful::Offence;
+use policy_lawful::frame_names::{cpu_name, major_name};
+use policy_lawful::resolved::{CpuFrames, Group, MajorFrame, Resolved, Subject};
 
 // The first subject whose CPU there isn't.
 fn subjects(subjects: &[Subject], cpus: u64) -> Option<Offence>

@@ -1,14 +1,14 @@
 //! Rule 17: each group has members, all on its CPU, and each subject is a member once.
 ghost use Rattle.std.specs.Prelude.{◌≡◌, ◌==◌, IfOk, if◌then◌else◌};
 ghost use Rattle.std.specs.List.{list_all, enumerate_from};
-ghost use Rattle.policy_types.specs.Search.{first_in};
-ghost use Rattle.policy_types.specs.Rules.{offence_17};
-ghost use Rattle.policy_types.specs.Resolution.{source_of};
+ghost use Rattle.muen_num.specs.Search.{first_in};
+ghost use Rattle.policy_lawful.specs.Rules.{offence_17};
+ghost use Rattle.policy_lawful.specs.Resolution.{source_of};
 ghost use Rattle.policy_rules.specs.Placed.{is_member, is_group, group_offence, times_among, times_in, Adds, AreTimes, groups_offence, counted_offence};
 
 use muen_num::NoMemory;
-use policy_types::resolved::{Group, Subject};
-use policy_types::{Offence, Resolved};
+use policy_lawful::resolved::{Group, Subject};
+use policy_lawful::{Offence, Resolved};
 use std::alloc::{AllocError, Global};
 
 // Whether the subject at a place is on this CPU.

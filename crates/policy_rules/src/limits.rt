@@ -2,19 +2,20 @@
 ghost use Rattle.std.specs.Prelude.{◌≡◌, ◌&&◌, ◌+◌, ◌*◌, nat_le, length, codes, true};
 ghost use Rattle.std.specs.Option.{option_or};
 ghost use Rattle.std.specs.List.{list_all, sum_by, enumerate_from};
-ghost use Rattle.policy_types.specs.Search.{alone, unless, first_in};
+ghost use Rattle.muen_num.specs.Search.{first_in};
+ghost use Rattle.policy_lawful.specs.Offences.{alone, unless};
 ghost use Rattle.policy_types.specs.Built.{is_built};
-ghost use Rattle.policy_types.specs.Resolution.{source_of};
-ghost use Rattle.policy_types.specs.Rules.{at_most, major_name, offence_20};
+ghost use Rattle.policy_lawful.specs.Resolution.{source_of};
+ghost use Rattle.policy_lawful.specs.Rules.{at_most, major_name, offence_20};
 ghost use Rattle.policy_rules.specs.Keys.{key_text};
 ghost use Rattle.policy_rules.specs.Limits.{entry_within, major_within};
 
 use crate::addresses::alone;
 use crate::keys::Key;
 use crate::major_frames::ticks_in;
-use policy_types::Offence;
-use policy_types::frame_names::major_name;
-use policy_types::resolved::{CpuFrames, MajorFrame, Resolved, Subject};
+use policy_lawful::Offence;
+use policy_lawful::frame_names::major_name;
+use policy_lawful::resolved::{CpuFrames, MajorFrame, Resolved, Subject};
 use policy_types::source::Block;
 
 // The most of each element.

@@ -3,14 +3,15 @@
 ghost use Rattle.std.specs.Prelude.{◌≡◌, None, [], sum_by};
 ghost use Rattle.std.specs.List.{list_all};
 ghost use Rattle.muen_num.specs.Range.{numbers_below};
-ghost use Rattle.policy_types.specs.Search.{two, first_in, first_after};
-ghost use Rattle.policy_types.specs.Rules.{major_name, cpu_name, is_on, offence_3, offence_16};
-ghost use Rattle.policy_types.specs.Resolution.{source_of};
+ghost use Rattle.muen_num.specs.Search.{first_in, first_after};
+ghost use Rattle.policy_lawful.specs.Offences.{two};
+ghost use Rattle.policy_lawful.specs.Rules.{major_name, cpu_name, is_on, offence_3, offence_16};
+ghost use Rattle.policy_lawful.specs.Resolution.{source_of};
 ghost use Rattle.policy_rules.specs.Placed.{cpu_of_group, is_frame, ticks_in, has_first_ticks, is_listed, is_entry, entry_offence, missing_offence, major_offence, first_major};
 
-use policy_types::frame_names::{cpu_name, major_name};
-use policy_types::resolved::{CpuFrames, Group, MajorFrame, MinorFrame};
-use policy_types::{Offence, Resolved};
+use policy_lawful::frame_names::{cpu_name, major_name};
+use policy_lawful::resolved::{CpuFrames, Group, MajorFrame, MinorFrame};
+use policy_lawful::{Offence, Resolved};
 
 // Whether the group at a place is on this CPU.
 fn is_on(groups: &[Group], place: usize, cpu: u64) -> bool

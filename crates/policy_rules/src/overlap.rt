@@ -2,12 +2,12 @@
 ghost use Rattle.std.specs.Prelude.{◌≡◌, ℕ, ◌+◌, ◌<◌, ◌↔◌, true, length, map, take, nat_lt, nat_le, is_some, None, IfOk, IsTrue};
 ghost use Rattle.std.specs.List.{All, AllAdjacentBelow, list_all};
 ghost use Rattle.std.specs.List.Sorted.{IsPermutation, IsNonDecreasingBy};
-ghost use Rattle.policy_types.specs.Search.{first_in};
-ghost use Rattle.policy_types.specs.Rules.{are_apart, overlapping, first_overlap};
+ghost use Rattle.muen_num.specs.Search.{first_in};
+ghost use Rattle.policy_lawful.specs.Rules.{are_apart, overlapping, first_overlap};
 ghost use Rattle.policy_rules.specs.Span.{span_of, IsBelow};
 
 use muen_num::NoMemory;
-use policy_types::{Extent, Offence};
+use policy_lawful::{Extent, Offence};
 use std::alloc::{AllocError, Global};
 
 // A range without its name.

@@ -2,10 +2,11 @@
 ghost use Rattle.std.specs.Prelude.{◌≡◌, None, true, OnOk};
 ghost use Rattle.std.specs.Option.{option_or};
 ghost use Rattle.policy_types.specs.Built.{is_built};
-ghost use Rattle.policy_types.specs.Lawful.{broken, kept_or, kept_source, rules_broken};
+ghost use Rattle.policy_lawful.specs.Lawful.{kept_or, kept_source, rules_broken};
+ghost use Rattle.policy_lawful.specs.Offences.{broken};
 ghost use Rattle.policy_types.specs.Reading.{Answers};
-ghost use Rattle.policy_types.specs.Resolution.{source_of};
-ghost use Rattle.policy_types.specs.Rules.{offence_3, offence_4};
+ghost use Rattle.policy_lawful.specs.Resolution.{source_of};
+ghost use Rattle.policy_lawful.specs.Rules.{offence_3, offence_4};
 ghost use Rattle.policy_rules.specs.Keeping.{Keeps, memory_broken, plan_broken};
 
 use crate::apart::{blocks_apart, windows_apart};
@@ -16,7 +17,8 @@ use crate::major_frames::major_frames;
 use crate::windows::addresses;
 use crate::writers::writers;
 use muen_num::NoMemory;
-use policy_types::{Lawful, Offence, Refusal, Resolved};
+use policy_lawful::{Lawful, Offence, Resolved};
+use policy_types::Refusal;
 use std::alloc::Global;
 
 // The refusal of a broken rule.

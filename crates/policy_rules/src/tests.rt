@@ -4,7 +4,7 @@ ghost use Rattle.std.specs.List.{list_all};
 
 use crate::overlap::first_overlap;
 use muen_num::Name;
-use policy_types::Extent;
+use policy_lawful::Extent;
 use std::alloc::Global;
 use std::test::Fail;
 

@@ -1,18 +1,19 @@
 // The windows of a subject, as named ranges of guest addresses.
 ghost use Rattle.std.specs.Prelude.{◌≡◌, map, true, IfOk, length, nat_lt};
 ghost use Rattle.std.specs.List.{list_all};
-ghost use Rattle.policy_types.specs.Search.{two, unless, first_in};
-ghost use Rattle.policy_types.specs.Resolution.{source_of, subject_named};
-ghost use Rattle.policy_types.specs.Rules.{is_guest, window_extents, window_offence, offence_4};
+ghost use Rattle.muen_num.specs.Search.{first_in};
+ghost use Rattle.policy_lawful.specs.Offences.{two, unless};
+ghost use Rattle.policy_lawful.specs.Resolution.{source_of, subject_named};
+ghost use Rattle.policy_lawful.specs.Rules.{is_guest, window_extents, window_offence, offence_4};
 ghost use Rattle.policy_types.specs.Built.{is_built};
-ghost use Rattle.policy_types.specs.ByPlace.{mapping_extent, is_ready};
+ghost use Rattle.policy_lawful.specs.ByPlace.{mapping_extent, is_ready};
 
 use crate::addresses;
 use crate::addresses::is_guest;
 use muen_num::{Name, NoMemory};
-use policy_types::resolved::{Mapping, Resolved, Subject};
+use policy_lawful::resolved::{Mapping, Resolved, Subject};
 use policy_types::source::Region;
-use policy_types::{Extent, Offence};
+use policy_lawful::{Extent, Offence};
 use std::alloc::Global;
 
 fn extents(alloc: Global, regions: &[Region], mappings: &[Mapping]) -> Result<Vec<Extent>, NoMemory>
@@ -32,7 +33,7 @@ fn extents(alloc: Global, regions: &[Region], mappings: &[Mapping]) -> Result<Ve
 }
 
 /// The windows of a subject, as named ranges of guest addresses.
-#[tactic(auto, using(policy_types::proofs::WindowsByPlace::extents_placed, policy_types::proofs::WindowsByPlace::regions_unique))]
+#[tactic(auto, using(policy_lawful::proofs::WindowsByPlace::extents_placed, policy_lawful::proofs::WindowsByPlace::regions_unique))]
 pub(crate) fn windows(alloc: Global, r: &Resolved, s: &Subject) -> Result<Vec<Extent>, NoMemory>
     requires built { is_built (source_of r.now) ≡ true }
     requires ready { is_ready r.now s.now ≡ true }
@@ -67,7 +68,7 @@ fn outside_of(alloc: Global, r: &Resolved, s: &Subject) -> Result<Option<Offence
 }
 
 /// The first such window of all subjects.
-#[tactic(auto, using(policy_types::proofs::WindowsByPlace::all_ready))]
+#[tactic(auto, using(policy_lawful::proofs::WindowsByPlace::all_ready))]
 pub(crate) fn first_outside(alloc: Global, r: &Resolved) -> Result<Option<Offence>, NoMemory>
     requires built { is_built (source_of r.now) ≡ true }
     ensures { IfOk result (λ o. o ≡ first_in (window_offence (source_of r.now)) (map (subject_named r.now) r.now.subjects)) }
@@ -82,7 +83,7 @@ pub(crate) fn first_outside(alloc: Global, r: &Resolved) -> Result<Option<Offenc
 }
 
 /// Rule 4: the first address or size that isn't one.
-#[tactic(auto, using(crate::proofs::AsBuilt::addresses_built), unfolding(policy_types::specs::Resolution::source_of))]
+#[tactic(auto, using(crate::proofs::AsBuilt::addresses_built), unfolding(policy_lawful::specs::Resolution::source_of))]
 pub(crate) fn addresses(alloc: Global, r: &Resolved) -> Result<Option<Offence>, NoMemory>
     requires built { is_built (source_of r.now) ≡ true }
     ensures { IfOk result (λ o. o ≡ offence_4 (source_of r.now)) }

@@ -2,15 +2,15 @@
 ghost use Rattle.std.specs.Prelude.{◌≡◌, ℕ, ◌<◌, ◌==◌, ◌&&◌, true, None, length, slice_index_or, IfOk};
 ghost use Rattle.std.specs.List.{All};
 ghost use Rattle.policy_types.specs.Built.{is_built};
-ghost use Rattle.policy_types.specs.Resolution.{source_of};
-ghost use Rattle.policy_types.specs.Rules.{offence_8};
+ghost use Rattle.policy_lawful.specs.Resolution.{source_of};
+ghost use Rattle.policy_lawful.specs.Rules.{offence_8};
 ghost use Rattle.policy_rules.specs.Shared.{IsWithin, shows, alters, may_write, writer_of, is_other, other_of, noted, HasNames, first_named};
 
-use bitflags::Flags;
-use muen_num::{Name, NoMemory};
-use policy_types::resolved::{Mapping, Subject};
+
+use muen_num::{Kind, Name, NoMemory};
+use policy_lawful::resolved::{Mapping, Subject};
 use policy_types::source::Region;
-use policy_types::{Offence, Resolved, Rights};
+use policy_lawful::{Offence, Resolved};
 use std::alloc::Global;
 
 // Notes the name at a place, unless one stands there.
@@ -26,7 +26,7 @@ fn note(names: &mut [Option<Name>], place: usize, name: Name)
 fn may_write(mapping: &Mapping) -> bool
     ensures { result ≡ may_write mapping.now }
 {
-    mapping.rights.contains(Rights::WRITE)
+    mapping.rights.allows(Kind::Write)
 }
 
 // Notes the subject at each region that it may write.

@@ -1,6 +1,8 @@
 ghost use Rattle.std.specs.Prelude.{⊤, ◌≡◌, ◌==◌, [], ◌∷◌, codes};
+ghost use Rattle.policy_types.specs.Rights.{has, union, right_for, allows};
 
 use bitflags::{Flag, Flags, bitflag_items};
+use muen_num::Kind;
 
 /// What may be done with a window of memory: a set of reading, writing and executing, the low three
 /// bits of an EPT entry (Intel SDM volume 3, EPT).
@@ -38,6 +40,42 @@ impl Flags for Rights {
         ensures { result.0 ≡ bits }
     {
         Rights(bits)
+    }
+}
+
+impl Rights {
+    /// Whether each right of the other set is in this one.
+    #[tactic(auto, unfolding(crate::specs::Rights::has))]
+    pub fn has(self, other: Rights) -> bool
+        ensures { result ≡ has self other }
+    {
+        self.contains(other)
+    }
+
+    /// The rights of both sets.
+    #[tactic(auto, unfolding(crate::specs::Rights::union))]
+    pub fn and(self, other: Rights) -> Rights
+        ensures { result ≡ union self other }
+    {
+        self.union(other)
+    }
+
+    /// The right that a kind of access needs.
+    pub fn for_access(kind: Kind) -> Rights
+        ensures { result ≡ right_for kind }
+    {
+        match kind {
+            Kind::Read => Rights::READ,
+            Kind::Write => Rights::WRITE,
+            Kind::Fetch => Rights::EXECUTE,
+        }
+    }
+
+    /// Whether the right that a kind of access needs is among these.
+    pub fn allows(self, kind: Kind) -> bool
+        ensures { result ≡ allows self kind }
+    {
+        self.has(Rights::for_access(kind))
     }
 }
 

@@ -2,13 +2,14 @@
 use Rattle.std.proofs.Common.{◌≡◌, ℕ, ◌-◌, ◌%◌, ◌^◌, Bool, true, false, cond, List, [], ◌∷◌, map, take, drop, Option, Some, None, refl, sym, ap, ◌∙◌}
 use Rattle.std.specs.Prelude.{◌==◌, ◌||◌, nat_le, option_map}
 use Rattle.std.specs.List.{find}
-use Rattle.muen_num.specs.Access.{kind_bit, allows}
+use Rattle.muen_num.specs.Access.{kind_bit}
+use Rattle.policy_types.specs.Rights.{allows}
 use Rattle.muen_num.specs.Deliver.{delivered}
 use Rattle.muen_num.specs.Size.{bytes_of as count}
 use Rattle.muen_num.specs.declared.bits.Kind.{Kind}
 use Rattle.muen_num.specs.declared.bits.Kind.TheVariants.{Read, Write, Fetch}
 use Rattle.muen_num.specs.declared.bits.Size.{Size}
-use Rattle.policy_types.specs.Windows.{Window, window, byte, violation, holds, access_by, access_of}
+use Rattle.policy_meaning.specs.Windows.{Window, window, byte, violation, holds, access_by, access_of}
 use Rattle.guest_isa.specs.GuestIsa.{decode_of, effect_of}
 use Rattle.guest_isa.specs.declared.instr.Instr.{Instr}
 use Rattle.guest_isa.specs.declared.instr.Wish.{Wish}

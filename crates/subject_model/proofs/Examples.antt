@@ -4,11 +4,11 @@ use Rattle.std.specs.Prelude.{codes, replicate}
 use Rattle.std.specs.FinMap.{from_entries}
 use Rattle.image_pack.specs.Slot.{slot_at}
 use Rattle.muen_num.specs.declared.bits.Mode.TheVariants.{Switch}
-use Rattle.policy_types.specs.Contents.{Held, initial_bytes}
-use Rattle.policy_types.specs.Frames.{frames_of}
-use Rattle.policy_types.specs.Thing.{things_of}
-use Rattle.policy_types.specs.Windows.{windows_of}
-use Rattle.policy_types.specs.Events.{event_of}
+use Rattle.policy_meaning.specs.Contents.{Held, initial_bytes}
+use Rattle.policy_meaning.specs.Frames.{frames_of}
+use Rattle.policy_meaning.specs.Thing.{things_of}
+use Rattle.policy_meaning.specs.Windows.{windows_of}
+use Rattle.policy_meaning.specs.Events.{event_of}
 use Rattle.policy_types.specs.declared.rights.Caching.TheVariants.{Wb}
 use Rattle.policy_types.specs.declared.source.Source.{Source}
 use Rattle.policy_types.specs.declared.source.Region.{Region}

@@ -1,6 +1,6 @@
 -- Laws of the turn of a subject alone.
 use Rattle.std.proofs.Common.{◌≡◌, Bool, true, false, cond, None, refl, ap, ◌∙◌}
-use Rattle.policy_types.specs.Thing.{Thing}
+use Rattle.policy_meaning.specs.Thing.{Thing}
 use Rattle.subject_model.specs.Solo.{Own, Inbox, idle, deliverable, unless_delivered, attempted, bytes_in, solo_turn, turn_over}
 use Rattle.state_page.specs.declared.SubjectState.{SubjectState}
 

@@ -6,9 +6,9 @@ use Rattle.sha2.specs.Sha256.{sha256}
 use Rattle.muen_num.specs.Range.{numbers_below}
 use Rattle.muen_num.specs.declared.tag.Tag.{Tag}
 use Rattle.muen_num.specs.declared.tag.Part.TheVariants.{Whole, Named as NamedPart}
-use Rattle.policy_types.specs.Thing.{Thing, region, channel, provided, device_memory, same_thing}
-use Rattle.policy_types.specs.Contents.{Held}
-use Rattle.policy_types.specs.Events.{Target, irq_of}
+use Rattle.policy_meaning.specs.Thing.{Thing, region, channel, provided, device_memory, same_thing}
+use Rattle.policy_meaning.specs.Contents.{Held}
+use Rattle.policy_meaning.specs.Events.{Target, irq_of}
 use Rattle.policy_types.specs.declared.source.Source.{Source}
 use Rattle.policy_types.specs.declared.source.Subject.{Subject}
 use Rattle.subject_model.specs.DeviceRecord.{Input, port_input, memory_input, irq_input, DeviceRecord}

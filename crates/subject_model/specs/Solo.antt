@@ -10,9 +10,9 @@ use Rattle.muen_num.specs.Size.{bytes_of as count}
 use Rattle.muen_num.specs.declared.bits.Kind.{Kind}
 use Rattle.muen_num.specs.declared.bits.Kind.TheVariants.{Read, Write, Fetch}
 use Rattle.muen_num.specs.declared.bits.Size.{Size}
-use Rattle.policy_types.specs.Thing.{Thing, same_thing}
-use Rattle.policy_types.specs.Windows.{Window, Access, byte, violation, access_of, windows_of}
-use Rattle.policy_types.specs.Events.{traps_of}
+use Rattle.policy_meaning.specs.Thing.{Thing, same_thing}
+use Rattle.policy_meaning.specs.Windows.{Window, Access, byte, violation, access_of, windows_of}
+use Rattle.policy_meaning.specs.Events.{traps_of}
 use Rattle.policy_types.specs.declared.source.Source.{Source}
 use Rattle.policy_types.specs.declared.source.Subject.{Subject}
 use Rattle.policy_types.specs.declared.source.SourceWay.{SourceWay}
@@ -92,7 +92,7 @@ pub data Reach (X : Type 0) : Type 0 where
 -- a missing right is exit 48; its qualification has the bit of the access, and the rights that were found in bits 5:3
 abbrev pub reach_by : {X : Type 0} → Kind → ℕ → Access X → Reach X
 reach_by kind address (byte x offset) = reached x offset
-reach_by kind address (violation found) = refused 48 (kind_bit kind + 8 * found) address
+reach_by kind address (violation found) = refused 48 (kind_bit kind + 8 * found.0) address
 
 -- the faults of an access in their order: an address that is no multiple of the size, one from 2^48 up, a missing right
 abbrev pub reach_of : {X : Type 0} → List (Window X) → Kind → ℕ → ℕ → Reach X

@@ -7,11 +7,11 @@ use Rattle.std.specs.Str.{bytes_eq}
 use Rattle.image_pack.specs.Slot.{Slot, slot_at}
 use Rattle.muen_num.specs.declared.bits.Mode.{Mode}
 use Rattle.muen_num.specs.declared.bits.Mode.TheVariants.{Asap, Async, Own as OwnMode, Switch}
-use Rattle.policy_types.specs.Thing.{Thing, same_thing, things_of}
-use Rattle.policy_types.specs.Windows.{Window, windows_of}
-use Rattle.policy_types.specs.Contents.{Held, initial_bytes}
-use Rattle.policy_types.specs.Frames.{frames_of, first_member}
-use Rattle.policy_types.specs.Events.{Raised, Target, event_of}
+use Rattle.policy_meaning.specs.Thing.{Thing, same_thing, things_of}
+use Rattle.policy_meaning.specs.Windows.{Window, windows_of}
+use Rattle.policy_meaning.specs.Contents.{Held, initial_bytes}
+use Rattle.policy_meaning.specs.Frames.{frames_of, first_member}
+use Rattle.policy_meaning.specs.Events.{Raised, Target, event_of}
 use Rattle.policy_types.specs.declared.source.Source.{Source}
 use Rattle.policy_types.specs.declared.source.Subject.{Subject}
 use Rattle.policy_types.specs.declared.source.SourceWay.{SourceWay}

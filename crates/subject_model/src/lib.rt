@@ -7,8 +7,8 @@
 
 ghost use Rattle.std.specs.Prelude.{◌≡◌, ℕ, true, Some, None};
 ghost use Rattle.image_pack.specs.Slot.{Slot, slot_at};
-ghost use Rattle.policy_types.specs.Frames.{frames_of};
-ghost use Rattle.policy_types.specs.Thing.{Thing};
+ghost use Rattle.policy_meaning.specs.Frames.{frames_of};
+ghost use Rattle.policy_meaning.specs.Thing.{Thing};
 ghost use Rattle.policy_types.specs.declared.source.Source.{Source};
 ghost use Rattle.state_page.specs.declared.SubjectState.{SubjectState};
 ghost use Rattle.subject_model.specs.Solo.{Own, Inbox, idle, deliverable, bytes_in, solo_turn};

@@ -4,26 +4,19 @@ use Rattle.std.specs.Prelude.{nat_le}
 use Rattle.std.specs.List.{list_all}
 use Rattle.std.proofs.lemmas.Bool.{and_from, and_parts}
 use Rattle.std.proofs.lemmas.Bool.Decides.{nat_tests}
-use Rattle.muen_num.specs.declared.tag.Part.TheVariants.{Whole}
-use Rattle.policy_types.specs.Search.{first_in}
-use Rattle.policy_types.specs.Built.{is_built_number, has_built_cpus, is_plain_content, has_plain_contents}
-use Rattle.policy_types.specs.ByPlace.{mapping_extent, is_ready}
-use Rattle.policy_types.specs.Contents.{content_refused, contents_refused}
-use Rattle.policy_types.specs.Lawful.{rules_broken}
-use Rattle.policy_types.specs.Rules.{repeated, is_guest, window_extents}
-use Rattle.policy_types.specs.Resolution.{Resolution, subject_named, source_of, IsResolved}
-use Rattle.policy_types.specs.declared.refusal.Refusal.TheVariants.{FileFit}
-use Rattle.policy_types.specs.declared.resolved.Subject.{Subject}
-use Rattle.policy_types.specs.declared.resolved.Mapping.{Mapping}
+use Rattle.policy_types.specs.Built.{is_built_number, has_built_cpus}
+use Rattle.policy_lawful.specs.ByPlace.{mapping_extent, is_ready}
+use Rattle.policy_lawful.specs.Lawful.{rules_broken}
+use Rattle.policy_lawful.specs.Rules.{repeated, is_guest, window_extents}
+use Rattle.policy_lawful.specs.Resolution.{Resolution, subject_named, source_of, IsResolved}
+use Rattle.policy_lawful.specs.declared.resolved.Subject.{Subject}
+use Rattle.policy_lawful.specs.declared.resolved.Mapping.{Mapping}
 use Rattle.policy_types.specs.declared.source.Region.{Region}
-use Rattle.policy_types.specs.declared.source.Content.{Content}
-use Rattle.policy_types.specs.declared.source.Content.TheVariants.{Zero, Fill, Inline, File}
-use Rattle.policy_types.proofs.Lists.{each_from}
-use Rattle.policy_types.proofs.Searches.{none_both}
-use Rattle.policy_types.proofs.ResolvedFacts.{subjects_unique}
-use Rattle.policy_types.proofs.WindowsByPlace.{extents_placed, regions_unique, all_ready}
+use Rattle.muen_num.proofs.Lists.{each_from}
+use Rattle.policy_lawful.proofs.ResolvedFacts.{subjects_unique}
+use Rattle.policy_lawful.proofs.WindowsByPlace.{extents_placed, regions_unique, all_ready}
 use Rattle.plan_emit.proofs.Kept.{rules_kept, laid, some_cpu}
-use Rattle.window_machine.specs.Start.{CanLoad, fits_in, is_held, are_placed_in}
+use Rattle.window_machine.specs.Start.{CanLoad, is_held, are_placed_in}
 
 -- a lawful policy whose elements are built, and whose contents fit
 pub record Facts (r : Resolution) : Type 0 where
@@ -33,26 +26,9 @@ pub record Facts (r : Resolution) : Type 0 where
 
 -- ---- contents
 
-held_one : (r : Region) (c : Content) → is_plain_content c ≡ true → content_refused r c ≡ None → fits_in r.size c ≡ true
-held_one r Zero p h = refl
-held_one r (Fill b) p h = refl
-held_one r (Inline bytes) p h =
-    (elim (nat_le (length bytes) r.size) as (λ b. cond b None (Some (FileFit (record { owner = r.name; part = Whole }) r.size (length bytes))) ≡ None → b ≡ true) [
-      | true ↦ λ h. refl
-      | false ↦ λ h. absurd (cc)
-    ]) h
-held_one r (File name offset most) p h = absurd (cc)
-
-held_each : (rs : List Region) → list_all (λ r. is_plain_content r.content) rs ≡ true → first_in (λ r. content_refused r r.content) rs ≡ None → list_all is_held rs ≡ true
-held_each [] p h = refl
-held_each (r ∷ rs) p h =
-    let a : (is_plain_content r.content ≡ true) × (list_all (λ (r : Region). is_plain_content r.content) rs ≡ true) = and_parts _ _ p in
-    let b = none_both (content_refused r r.content) (first_in (λ r. content_refused r r.content) rs) h in
-    and_from _ _ (held_one r r.content a.0 b.0) (held_each rs a.1 b.1)
-
 pub all_held : (r : Resolution) → Facts r → list_all is_held r.memory ≡ true
-unfolding source_of has_plain_contents contents_refused
-all_held r f = held_each r.memory f.loads.plain f.loads.contents
+unfolding source_of
+all_held r f = f.loads.contents
 
 -- ---- places
 

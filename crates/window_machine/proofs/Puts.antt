@@ -7,7 +7,7 @@ use Rattle.muen_num.specs.Size.{bytes_of as count}
 use Rattle.muen_num.specs.declared.bits.Kind.TheVariants.{Write}
 use Rattle.muen_num.specs.declared.bits.Size.{Size}
 use Rattle.muen_num.specs.declared.bits.Size.TheVariants.{One, Two, Four, Eight}
-use Rattle.policy_types.specs.Windows.{Window}
+use Rattle.policy_meaning.specs.Windows.{Window}
 use Rattle.state_page.specs.declared.SubjectState.{SubjectState}
 use Rattle.subject_model.specs.Solo.{Stored, Reach, reached, refused, reach_of, store_at, stored_bytes, turn_over}
 use Rattle.subject_model.specs.System.{overwritten}

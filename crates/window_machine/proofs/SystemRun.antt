@@ -7,20 +7,20 @@ use Rattle.std.specs.Str.{bytes_eq}
 use Rattle.std.proofs.lemmas.Bool.{and_parts}
 use Rattle.std.proofs.lemmas.List.{append-nil}
 use Rattle.muen_num.specs.Range.{numbers_below}
-use Rattle.policy_types.specs.Built.{is_plain, is_plain_content, has_plain_contents}
-use Rattle.policy_types.specs.Contents.{Held, content_bytes, initial_bytes}
-use Rattle.policy_types.specs.Resolution.{Resolution, name_at, subject_named, source_of}
-use Rattle.policy_types.specs.Rules.{repeated}
-use Rattle.policy_types.specs.Thing.{region, channel, device_memory, provided_by, component_by, things_of}
-use Rattle.policy_types.specs.declared.resolved.Subject.{Subject}
+use Rattle.policy_types.specs.Built.{is_plain}
+use Rattle.policy_meaning.specs.Contents.{Held, content_bytes, fits_in, initial_bytes}
+use Rattle.policy_lawful.specs.Resolution.{Resolution, name_at, subject_named, source_of}
+use Rattle.policy_lawful.specs.Rules.{repeated}
+use Rattle.policy_meaning.specs.Thing.{region, channel, device_memory, provided_by, component_by, things_of}
+use Rattle.policy_lawful.specs.declared.resolved.Subject.{Subject}
 use Rattle.policy_types.specs.declared.source.Subject.{Subject as NamedSubject}
 use Rattle.policy_types.specs.declared.source.Source.{Source}
 use Rattle.policy_types.specs.declared.source.Region.{Region}
 use Rattle.policy_types.specs.declared.source.Content.{Content}
 use Rattle.policy_types.specs.declared.source.Content.TheVariants.{Zero, Fill, Inline, File}
-use Rattle.policy_types.proofs.Lists.{map-map}
-use Rattle.policy_types.proofs.Places.{found_at_place}
-use Rattle.policy_types.proofs.WindowsByPlace.{plain, built}
+use Rattle.muen_num.proofs.Lists.{map-map}
+use Rattle.policy_lawful.proofs.Places.{found_at_place}
+use Rattle.policy_lawful.proofs.WindowsByPlace.{plain, built}
 use Rattle.image_pack.specs.declared.plan.Plan.{Plan}
 use Rattle.plan_emit.specs.PlanOf.{IsPlanOf}
 use Rattle.state_page.specs.StatePage.{started}
@@ -31,6 +31,7 @@ use Rattle.subject_model.specs.DeviceRecord.{only_ticks}
 use Rattle.subject_model.specs.System.{System, named, start_of}
 use Rattle.subject_model.specs.Run.{Ran, then_line, turns_of, tick_of, after_lines, run_to, run_of, thing_text, subject_text, final_text, trace_of}
 use Rattle.window_machine.specs.Machine.{GuestState, MachineState, MachineRan, no_files, held_at_start, guest_at_start, machine_of, machine_after, machine_line, machine_run_to, holding_text, guest_text, machine_final_text, machine_text, CanRun}
+use Rattle.window_machine.specs.Start.{is_held}
 use Rattle.window_machine.specs.declared.memory.Holding.{Holding}
 use Rattle.window_machine.proofs.CanStart.{can_run}
 use Rattle.window_machine.proofs.Facts.{Facts, unique_regions, unique_subjects, one_cpu}
@@ -55,7 +56,7 @@ all_first name xs h = first_from name xs xs (λ k l. found_at_place name xs k h 
 -- ---- the things at the start
 
 -- contents that are no file's are the same whatever files hold
-plain_content : (files : Held) (size : ℕ) (content : Content) → is_plain_content content ≡ true → content_bytes files size content ≡ content_bytes no_files size content
+plain_content : (files : Held) (size : ℕ) (content : Content) → fits_in size content ≡ true → content_bytes files size content ≡ content_bytes no_files size content
 plain_content files size Zero h = refl
 plain_content files size (Fill b) h = refl
 plain_content files size (Inline bytes) h = refl
@@ -66,11 +67,11 @@ module _ (r : Resolution) (f : Facts r) where
   p = source_of r
 
   -- each of these regions
-  things_among : (files : Held) (rs : List Region) → AllFirst (λ (x : Region). x.name) r.memory rs → list_all (λ x. is_plain_content x.content) rs ≡ true → map (λ x. (x, initial_bytes p files x)) (map (λ x. region x.name) rs) ≡ map thing_of (map held_at_start rs)
+  things_among : (files : Held) (rs : List Region) → AllFirst (λ (x : Region). x.name) r.memory rs → list_all is_held rs ≡ true → map (λ x. (x, initial_bytes p files x)) (map (λ x. region x.name) rs) ≡ map thing_of (map held_at_start rs)
   unfolding initial_bytes p source_of AllFirst
   things_among files [] h k = refl
   things_among files (x ∷ xs) h k =
-      let a : (is_plain_content x.content ≡ true) × (list_all (λ (x : Region). is_plain_content x.content) xs ≡ true) = and_parts _ _ k in
+      let a : (is_held x ≡ true) × (list_all is_held xs ≡ true) = and_parts _ _ k in
       let bytes : initial_bytes p files (region x.name) ≡ content_bytes no_files x.size x.content =
       ap (λ o. option_map_or (λ (x : Region). content_bytes files x.size x.content) o []) h.0
       ∙ plain_content files x.size x.content a.0 in
@@ -98,9 +99,9 @@ module _ (r : Resolution) (f : Facts r) where
       ∙ append-nil _ ∙ append-nil _ ∙ append-nil _
 
   start_is : (files : Held) (plan : Plan) → start_of (source_of r) files ≡ system_of (source_of r) (machine_of r plan)
-  unfolding start_of machine_of p source_of has_plain_contents
+  unfolding start_of machine_of p source_of
   start_is files plan =
-      let things = ap (map (λ x. (x, initial_bytes (source_of r) files x))) things_are ∙ things_among files r.memory (all_first (λ (x : Region). x.name) r.memory (unique_regions r f)) f.loads.plain in
+      let things = ap (map (λ x. (x, initial_bytes (source_of r) files x))) things_are ∙ things_among files r.memory (all_first (λ (x : Region). x.name) r.memory (unique_regions r f)) f.loads.contents in
       let states = map-map (λ s. (s.name, started s.entry)) (subject_named r) r.subjects ∙ sym (map-map kept_state (guest_at_start r.memory) r.subjects) in
       λ i. record (system_of (source_of r) (machine_of r plan)) { states = states i; things = things i }
 

@@ -12,22 +12,22 @@ use Rattle.muen_num.specs.Size.{bytes_of as count}
 use Rattle.muen_num.specs.declared.bits.Kind.TheVariants.{Write}
 use Rattle.muen_num.specs.declared.bits.Size.{Size}
 use Rattle.policy_types.specs.Built.{is_plain}
-use Rattle.policy_types.specs.ByPlace.{no_region, region_at, mapping_window, is_ready}
-use Rattle.policy_types.specs.Events.{event_of}
-use Rattle.policy_types.specs.Frames.{frames_of, first_member}
-use Rattle.policy_types.specs.Resolution.{Resolution, name_at, subject_named, source_of}
-use Rattle.policy_types.specs.Thing.{Thing, region}
-use Rattle.policy_types.specs.Windows.{Window, windows_of}
-use Rattle.policy_types.specs.declared.resolved.Subject.{Subject}
-use Rattle.policy_types.specs.declared.resolved.Mapping.{Mapping}
+use Rattle.policy_lawful.specs.ByPlace.{no_region, region_at, mapping_window, is_ready}
+use Rattle.policy_meaning.specs.Events.{event_of}
+use Rattle.policy_meaning.specs.Frames.{frames_of, first_member}
+use Rattle.policy_lawful.specs.Resolution.{Resolution, name_at, subject_named, source_of}
+use Rattle.policy_meaning.specs.Thing.{Thing, region}
+use Rattle.policy_meaning.specs.Windows.{Window, windows_of}
+use Rattle.policy_lawful.specs.declared.resolved.Subject.{Subject}
+use Rattle.policy_lawful.specs.declared.resolved.Mapping.{Mapping}
 use Rattle.policy_types.specs.declared.source.Source.{Source}
 use Rattle.policy_types.specs.declared.source.SourceWay.{SourceWay}
 use Rattle.policy_types.specs.declared.source.Subject.{Subject as NamedSubject}
 use Rattle.policy_types.specs.declared.source.Region.{Region}
-use Rattle.policy_types.proofs.Lists.{map-map, position-map}
-use Rattle.policy_types.proofs.Places.{position_is, found_at_place}
-use Rattle.policy_types.proofs.ResolvedFacts.{many_subjects, names_of_subjects}
-use Rattle.policy_types.proofs.WindowsByPlace.{plain, windows_placed}
+use Rattle.muen_num.proofs.Lists.{map-map, position-map}
+use Rattle.policy_lawful.proofs.Places.{position_is, found_at_place}
+use Rattle.policy_lawful.proofs.ResolvedFacts.{many_subjects, names_of_subjects}
+use Rattle.policy_lawful.proofs.WindowsByPlace.{plain, windows_placed}
 use Rattle.image_pack.specs.Plan.{frames_in, cpus_of}
 use Rattle.image_pack.specs.Slot.{Slot, slot_at}
 use Rattle.image_pack.specs.declared.plan.GroupPart.{GroupPart}
@@ -164,7 +164,7 @@ module _ (r : Resolution) (f : Facts r) where
       let ss = map (subject_named r) r.subjects in
       let many : length ss ≡ length r.subjects = length-map r.subjects (subject_named r) in
       let names : map (λ s. s.name) ss ≡ guest_names = names_of_subjects r in
-      let unique = ap Rattle.policy_types.specs.Rules.repeated names ∙ unique_subjects r f in
+      let unique = ap Rattle.policy_lawful.specs.Rules.repeated names ∙ unique_subjects r f in
       let name : name_at (map (λ s. s.name) ss) i ≡ h.subject.name = ap (λ ns. name_at ns i) names ∙ named_at m i h in
       ap (λ n. find (λ (s : NamedSubject). bytes_eq s.name n) ss) (sym name)
       ∙ found_at_place (λ (s : NamedSubject). s.name) ss i unique (omega (arith, many, h.within))
@@ -176,7 +176,7 @@ module _ (r : Resolution) (f : Facts r) where
       let states = map kept_state m.guests in
       let many : length states ≡ length r.subjects = length-map m.guests kept_state ∙ many_guests m o in
       let names : map (λ e. e.0) states ≡ guest_names = map-map (λ e. e.0) kept_state m.guests ∙ guests_named m o in
-      let unique = ap Rattle.policy_types.specs.Rules.repeated names ∙ unique_subjects r f in
+      let unique = ap Rattle.policy_lawful.specs.Rules.repeated names ∙ unique_subjects r f in
       let name : name_at (map (λ e. e.0) states) i ≡ h.subject.name = ap (λ ns. name_at ns i) names ∙ named_at m i h in
       ap (option_map (λ (e : List ℕ × SubjectState). e.1))
       (ap (λ n. find (λ (e : List ℕ × SubjectState). bytes_eq e.0 n) states) (sym name)
@@ -254,7 +254,7 @@ module _ (r : Resolution) (f : Facts r) where
   labelled [] = refl
   labelled (m ∷ ms) =
       let name : (region_at r.memory m.region).name ≡ name_at region_names m.region = sym (get_or-map (λ (x : Region). x.name) r.memory m.region no_region) in
-      λ i. Rattle.policy_types.specs.Windows.window m.virtual_address (region_at r.memory m.region).size m.rights.0 (region (name i)) ∷ labelled ms i
+      λ i. Rattle.policy_meaning.specs.Windows.window m.virtual_address (region_at r.memory m.region).size m.rights (region (name i)) ∷ labelled ms i
 
   -- what a subject has, by its number
   record Ready (m : MachineState) (i : ℕ) (h : Here m i) : Type 0 where

@@ -7,11 +7,11 @@ use Rattle.std.proofs.lemmas.List.{length-map}
 use Rattle.std.proofs.lemmas.Slice.Eq.{bytes_eq-Decides}
 use Rattle.std.proofs.lemmas.Option.{slice_get-get_or}
 use Rattle.std.proofs.lemmas.List.Folds.{find_at}
-use Rattle.policy_types.specs.Thing.{Thing, region, same_thing}
-use Rattle.policy_types.specs.Windows.{Window}
-use Rattle.policy_types.specs.Resolution.{name_at}
-use Rattle.policy_types.proofs.Lists.{find-map, position-map}
-use Rattle.policy_types.proofs.Places.{same_self}
+use Rattle.policy_meaning.specs.Thing.{Thing, region, same_thing}
+use Rattle.policy_meaning.specs.Windows.{Window}
+use Rattle.policy_lawful.specs.Resolution.{name_at}
+use Rattle.muen_num.proofs.Lists.{find-map, position-map}
+use Rattle.policy_lawful.proofs.Places.{same_self}
 use Rattle.subject_model.specs.Solo.{Stored, bytes_in}
 use Rattle.subject_model.specs.System.{is_shown, change_first, overwritten, with_store}
 use Rattle.subject_model.proofs.Alone.{relabelled, store_of, AllShown, StoresSo}

@@ -9,12 +9,12 @@ use Rattle.image_pack.specs.declared.plan.GroupPart.{GroupPart}
 use Rattle.image_pack.specs.declared.plan.Plan.{Plan}
 use Rattle.muen_num.specs.Size.{bytes_of}
 use Rattle.muen_num.specs.declared.tag.Part.TheVariants.{Whole}
-use Rattle.policy_types.specs.ByPlace.{region_at}
-use Rattle.policy_types.specs.Windows.{Window as WindowOf, Access as AccessTo, byte, violation, window}
-use Rattle.policy_types.specs.Contents.{Held, content_bytes}
-use Rattle.policy_types.specs.Resolution.{Resolution}
-use Rattle.policy_types.specs.declared.resolved.Mapping.{Mapping}
-use Rattle.policy_types.specs.declared.resolved.Subject.{Subject}
+use Rattle.policy_lawful.specs.ByPlace.{region_at}
+use Rattle.policy_meaning.specs.Windows.{Window as WindowOf, Access as AccessTo, byte, violation, window}
+use Rattle.policy_meaning.specs.Contents.{Held, content_bytes}
+use Rattle.policy_lawful.specs.Resolution.{Resolution}
+use Rattle.policy_lawful.specs.declared.resolved.Mapping.{Mapping}
+use Rattle.policy_lawful.specs.declared.resolved.Subject.{Subject}
 use Rattle.policy_types.specs.declared.source.Region.{Region}
 use Rattle.state_page.specs.StatePage.{started}
 use Rattle.view_text.specs.ViewText.{turn_text, region_text}
@@ -36,7 +36,7 @@ use Rattle.window_machine.specs.declared.turn.Turn.{Turn}
 
 -- a window on a region, by the region's place in the list
 abbrev pub window_on : Window → WindowOf ℕ
-window_on w = window w.guest w.size w.rights.0 w.place
+window_on w = window w.guest w.size w.rights w.place
 
 abbrev pub windows_on : List Window → List (WindowOf ℕ)
 windows_on windows = map window_on windows
@@ -180,7 +180,7 @@ held_at_start r = record { name = r.name; bytes = content_bytes no_files r.size 
 
 -- the window of a mapping
 abbrev pub window_in : List Region → Mapping → WindowOf ℕ
-window_in regions m = window m.virtual_address (region_at regions m.region).size m.rights.0 m.region
+window_in regions m = window m.virtual_address (region_at regions m.region).size m.rights m.region
 
 -- a subject at the start
 abbrev pub guest_at_start : List Region → Subject → GuestState

@@ -2,8 +2,8 @@
 #![tactic(auto)]
 
 ghost use Rattle.std.specs.Prelude.{◌≡◌, ℕ, IfOk};
-ghost use Rattle.policy_types.specs.Contents.{Held};
-ghost use Rattle.policy_types.specs.Resolution.{source_of};
+ghost use Rattle.policy_meaning.specs.Contents.{Held};
+ghost use Rattle.policy_lawful.specs.Resolution.{source_of};
 ghost use Rattle.subject_model.specs.DeviceRecord.{only_ticks};
 ghost use Rattle.subject_model.specs.Run.{trace_of};
 ghost use Rattle.window_machine.specs.Machine.{machine_text};
@@ -18,7 +18,7 @@ mod turn;
 
 pub use machine::Machine;
 use muen_num::NoMemory;
-use policy_types::Lawful;
+use policy_lawful::Lawful;
 pub use print::print_run;
 use start::{hold_all, start_all};
 use std::alloc::Global;

@@ -1,8 +1,7 @@
 // The windows of the machine, and what an access may touch.
 ghost use Rattle.std.specs.Prelude.{◌≡◌, ◌+◌, ◌≤◌, IsTrue, IfSome, Some, length, option_map};
 ghost use Rattle.std.specs.List.{find};
-ghost use Rattle.muen_num.specs.Access.{kind_bit};
-ghost use Rattle.policy_types.specs.Windows.{holds, access_of};
+ghost use Rattle.policy_meaning.specs.Windows.{holds, access_of};
 ghost use Rattle.muen_num.specs.Size.{bytes_of};
 ghost use Rattle.subject_model.specs.Solo.{reach_of, value_at, stored_bytes};
 ghost use Rattle.subject_model.specs.System.{overwritten};
@@ -42,7 +41,7 @@ enum Access {
     // The byte of a region at this offset.
     Byte { place: usize, offset: u64 },
     // There is no such right; these were found.
-    Violation { found: u8 },
+    Violation { found: Rights },
 }
 
 /// Where an access leads.
@@ -68,16 +67,6 @@ pub(crate) struct Store {
     pub offset: u64,
     pub size: Size,
     pub value: u64,
-}
-
-fn right_of(kind: Kind) -> Rights
-    ensures { result.0 ≡ kind_bit kind }
-{
-    match kind {
-        Kind::Read => Rights::READ,
-        Kind::Write => Rights::WRITE,
-        Kind::Fetch => Rights::EXECUTE,
-    }
 }
 
 impl Window {
@@ -109,16 +98,18 @@ fn access_at(windows: &[Window], address: u64, kind: Kind) -> Access
     ensures { access_to result ≡ access_of (windows_on windows.now) address kind }
 {
     match find_window(windows, address) {
-        None => Access::Violation { found: 0 },
+        None => Access::Violation {
+            found: Rights::empty(),
+        },
         Some(window) => {
-            if window.rights.contains(right_of(kind)) {
+            if window.rights.allows(kind) {
                 Access::Byte {
                     place: window.place,
                     offset: address - window.guest,
                 }
             } else {
                 Access::Violation {
-                    found: window.rights.bits(),
+                    found: window.rights,
                 }
             }
         }
@@ -149,7 +140,7 @@ pub(crate) fn reach_of(windows: &[Window], kind: Kind, size: Size, addr: u64) ->
         Access::Byte { place, offset } => Reach::Reached { place, offset },
         Access::Violation { found } => Reach::Refused {
             reason: EPT_VIOLATION,
-            qualification: bit + 8 * u64::from(found),
+            qualification: bit + 8 * u64::from(found.bits()),
             addr,
         },
     }

@@ -1,16 +1,15 @@
 // The machine of a policy, at the start.
 ghost use Rattle.std.specs.Prelude.{◌≡◌, ◌<◌, true, map, length, IfOk};
 ghost use Rattle.std.specs.List.{list_all};
-ghost use Rattle.policy_types.specs.Built.{is_plain_content};
-ghost use Rattle.policy_types.specs.ByPlace.{region_at};
-ghost use Rattle.policy_types.specs.Contents.{content_bytes};
+ghost use Rattle.policy_lawful.specs.ByPlace.{region_at};
+ghost use Rattle.policy_meaning.specs.Contents.{content_bytes, fits_in};
 ghost use Rattle.window_machine.specs.Machine.{window_on, windows_on, no_files, held_at_start, window_in, guest_at_start};
-ghost use Rattle.window_machine.specs.Start.{fits_in, is_held, are_placed_in};
+ghost use Rattle.window_machine.specs.Start.{is_held, are_placed_in};
 
 use crate::guest::Guest;
 use crate::memory::{Holding, Window};
 use muen_num::Seq;
-use policy_types::resolved::{Mapping, Subject};
+use policy_lawful::resolved::{Mapping, Subject};
 use policy_types::source::{Content, Region};
 use state_page::SubjectState;
 use std::alloc::{AllocError, Global};

@@ -1,4 +1,4 @@
-use Rattle.policy_types.proofs.ReadBuilt.{system_built, system_cpus, system_contents}
+use Rattle.policy_json.proofs.ReadBuilt.{system_built, system_cpus, system_contents}
 use Rattle.policy_json.proofs.read.Goals as goal
 
 pub returns-in-Ok-read-clause-built : goal.returns-in-Ok-read-clause-built

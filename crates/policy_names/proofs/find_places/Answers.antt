@@ -1,7 +1,7 @@
 use Rattle.std.proofs.lemmas.Result.{err_from_is_err_and}
-use Rattle.policy_types.proofs.WindowsByPlace.{built}
+use Rattle.policy_lawful.proofs.WindowsByPlace.{built}
 use Rattle.policy_names.proofs.Built.{reasons_2}
-use Rattle.policy_types.proofs.Lists.{all_true}
+use Rattle.muen_num.proofs.Lists.{all_true}
 use Rattle.policy_names.proofs.Firsts.{pass, stop, over}
 use Rattle.policy_names.proofs.Whole.{whole}
 use Rattle.policy_names.proofs.find_places.Goals as goal

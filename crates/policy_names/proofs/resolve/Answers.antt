@@ -1,5 +1,5 @@
 use Rattle.std.proofs.lemmas.Result.{err_from_is_err_and}
-use Rattle.policy_types.specs.Lawful.{names_broken}
+use Rattle.policy_lawful.specs.Lawful.{names_broken}
 use Rattle.policy_names.specs.Whole.{with_places}
 use Rattle.policy_names.proofs.Answering.{refused, kept}
 use Rattle.policy_names.proofs.Built.{reasons}

@@ -1,7 +1,7 @@
 use Rattle.std.proofs.Common.{◌≡◌, ap, subst, ◌∙◌, None}
 use Rattle.std.specs.List.{list_all}
-use Rattle.policy_types.specs.Lawful.{rules_broken}
-use Rattle.policy_types.specs.Resolution.{Resolution, IsResolved, source_of}
+use Rattle.policy_lawful.specs.Lawful.{rules_broken}
+use Rattle.policy_lawful.specs.Resolution.{Resolution, IsResolved, source_of}
 use Rattle.window_machine.specs.Start.{CanLoad, is_held, are_placed_in}
 use Rattle.window_machine.proofs.Facts.{Facts, all_held, all_placed}
 use Rattle.window_machine.proofs.SystemRun.{machine_is, starts_well, prints_so}

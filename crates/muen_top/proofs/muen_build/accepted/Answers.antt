@@ -1,7 +1,7 @@
 use Rattle.std.proofs.Common.{sym, ap, ◌∙◌}
 use Rattle.std.proofs.lemmas.Result.{err_from_is_err_and}
-use Rattle.policy_types.specs.Lawful.{kept_or, accepted_policy_of}
-use Rattle.policy_types.specs.Resolution.{source_of}
+use Rattle.policy_lawful.specs.Lawful.{kept_or, accepted_policy_of}
+use Rattle.policy_lawful.specs.Resolution.{source_of}
 use Rattle.muen_top.proofs.Building.{refused, not_lawful, contents_decide}
 use Rattle.muen_top.proofs.muen_build.accepted.Goals as goal
 

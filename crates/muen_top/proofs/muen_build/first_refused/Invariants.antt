@@ -1,6 +1,6 @@
 use Rattle.std.proofs.Common.{◌≡◌, drop}
-use Rattle.policy_types.specs.Contents.{content_refused}
-use Rattle.policy_types.specs.Search.{first_in}
+use Rattle.policy_meaning.specs.Contents.{content_refused}
+use Rattle.muen_num.specs.Search.{first_in}
 use Rattle.muen_top.proofs.muen_build.first_refused.Given as goal
 
 abbrev pub invariant-loop-region : goal.invariant-loop-region

@@ -1,8 +1,8 @@
 use Rattle.std.proofs.Common.{sym, subst}
 use Rattle.std.proofs.lemmas.Result.{err_from_is_err_and}
-use Rattle.policy_types.specs.Lawful.{kept_source}
+use Rattle.policy_lawful.specs.Lawful.{kept_source}
 use Rattle.policy_types.specs.Reading.{Answers}
-use Rattle.policy_types.specs.Resolution.{source_of}
+use Rattle.policy_lawful.specs.Resolution.{source_of}
 use Rattle.muen_top.proofs.Building.{not_read, not_resolved, rules_decide}
 use Rattle.muen_top.proofs.muen_build.lawful.Goals as goal
 

@@ -1,5 +1,5 @@
 use Rattle.std.proofs.Common.{◌≡◌, drop}
-use Rattle.policy_types.specs.Based.{groups_of, number_of_groups}
+use Rattle.policy_json.specs.Based.{groups_of, number_of_groups}
 use Rattle.policy_json.proofs.Based.{read_on}
 use Rattle.policy_json.proofs.number.read_groups.Given as goal
 

@@ -1,6 +1,6 @@
 use Rattle.std.proofs.Common.{◌≡◌, map}
 use Rattle.serde_json.specs.View.{members_view}
-use Rattle.policy_types.specs.Schema.{only_keys}
+use Rattle.policy_json.specs.Schema.{only_keys}
 use Rattle.policy_json.proofs.shape.has_only.Given as goal
 
 abbrev pub invariant-loop-key : goal.invariant-loop-key

@@ -1,8 +1,8 @@
 use Rattle.std.proofs.Common.{◌≡◌, true}
 use Rattle.std.specs.Prelude.{map, take, drop}
 use Rattle.std.specs.List.{list_all, flat_map, enumerate_from}
-use Rattle.policy_types.specs.Search.{first_in}
-use Rattle.policy_types.specs.Rules.{undeclared}
+use Rattle.muen_num.specs.Search.{first_in}
+use Rattle.policy_lawful.specs.Rules.{undeclared}
 use Rattle.policy_names.specs.Parts.{major_refers, major_in, is_major_in}
 use Rattle.policy_names.proofs.frames.place_majors.Given as goal
 

@@ -1,8 +1,8 @@
 use Rattle.std.specs.List.{flat_map}
 use Rattle.std.proofs.Common.{◌+◌, drop}
 use Rattle.std.proofs.lemmas.Result.{err_from_is_err_and}
-use Rattle.policy_types.specs.Rules.{undeclared}
-use Rattle.policy_types.specs.Search.{first_in}
+use Rattle.policy_lawful.specs.Rules.{undeclared}
+use Rattle.muen_num.specs.Search.{first_in}
 use Rattle.policy_names.proofs.Elements.{pass_own, stop_own, next_item, more_named, more_placed}
 use Rattle.policy_names.proofs.scope.place_all.Goals as goal
 

@@ -1,6 +1,7 @@
 use Rattle.std.proofs.Common.{◌≡◌, drop}
-use Rattle.policy_types.specs.Search.{alone, unless, first_in}
-use Rattle.policy_types.specs.Rules.{is_laid}
+use Rattle.muen_num.specs.Search.{first_in}
+use Rattle.policy_lawful.specs.Offences.{alone, unless}
+use Rattle.policy_lawful.specs.Rules.{is_laid}
 use Rattle.policy_rules.proofs.addresses.regions.Given as goal
 
 abbrev pub invariant-loop-region : goal.invariant-loop-region

@@ -1,5 +1,5 @@
 use Rattle.std.proofs.Common.{◌≡◌, map, take}
-use Rattle.policy_types.specs.ByPlace.{block_extent}
+use Rattle.policy_lawful.specs.ByPlace.{block_extent}
 use Rattle.policy_rules.proofs.apart.block_extents.Given as goal
 
 abbrev pub invariant-loop-block : goal.invariant-loop-block

@@ -1,8 +1,8 @@
 use Rattle.std.proofs.Common.{◌≡◌, ◌∙◌, sym, ap, subst, true, map, IfOk}
 use Rattle.std.specs.List.{list_all}
-use Rattle.policy_types.specs.Resolution.{source_of}
-use Rattle.policy_types.specs.Rules.{first_overlap}
-use Rattle.policy_types.specs.ByPlace.{block_extent}
+use Rattle.policy_lawful.specs.Resolution.{source_of}
+use Rattle.policy_lawful.specs.Rules.{first_overlap}
+use Rattle.policy_lawful.specs.ByPlace.{block_extent}
 use Rattle.policy_rules.proofs.AsBuilt.{has_size, laid, blocks_sized, blocks_alone}
 use Rattle.policy_rules.proofs.apart.blocks_apart.Goals as goal
 

@@ -1,7 +1,7 @@
 use Rattle.std.proofs.Common.{◌≡◌, ◌∙◌, sym, subst, true}
 use Rattle.std.specs.List.{list_all}
-use Rattle.policy_types.specs.Resolution.{source_of, subject_named}
-use Rattle.policy_types.specs.Rules.{window_extents}
+use Rattle.policy_lawful.specs.Resolution.{source_of, subject_named}
+use Rattle.policy_lawful.specs.Rules.{window_extents}
 use Rattle.policy_rules.proofs.AsBuilt.{has_size, windows_sized}
 use Rattle.policy_rules.proofs.apart.subject_apart.Goals as goal
 

@@ -1,7 +1,7 @@
 use Rattle.std.proofs.Common.{refl}
-use Rattle.policy_types.specs.Resolution.{source_of}
+use Rattle.policy_lawful.specs.Resolution.{source_of}
 use Rattle.policy_rules.proofs.AsBuilt.{laid}
-use Rattle.policy_types.proofs.WindowsByPlace.{all_ready}
+use Rattle.policy_lawful.proofs.WindowsByPlace.{all_ready}
 use Rattle.policy_rules.proofs.apart.windows_apart.Goals as goal
 
 pub loop-s-init : goal.loop-s-init

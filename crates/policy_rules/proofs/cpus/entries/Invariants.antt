@@ -1,7 +1,8 @@
 use Rattle.std.proofs.Common.{◌≡◌, drop}
 use Rattle.std.specs.Prelude.{nat_lt}
-use Rattle.policy_types.specs.Search.{two, unless, first_in}
-use Rattle.policy_types.specs.Rules.{cpu_name}
+use Rattle.muen_num.specs.Search.{first_in}
+use Rattle.policy_lawful.specs.Offences.{two, unless}
+use Rattle.policy_lawful.specs.Rules.{cpu_name}
 use Rattle.policy_rules.proofs.cpus.entries.Given as goal
 
 abbrev pub invariant-loop-entry : goal.invariant-loop-entry

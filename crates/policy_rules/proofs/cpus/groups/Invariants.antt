@@ -1,6 +1,7 @@
 use Rattle.std.proofs.Common.{◌≡◌, drop}
 use Rattle.std.specs.Prelude.{nat_lt}
-use Rattle.policy_types.specs.Search.{alone, unless, first_in}
+use Rattle.muen_num.specs.Search.{first_in}
+use Rattle.policy_lawful.specs.Offences.{alone, unless}
 use Rattle.policy_rules.proofs.cpus.groups.Given as goal
 
 abbrev pub invariant-loop-group : goal.invariant-loop-group

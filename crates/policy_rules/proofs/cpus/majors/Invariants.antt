@@ -1,8 +1,9 @@
 use Rattle.std.proofs.Common.{◌≡◌, drop}
 use Rattle.std.specs.Prelude.{nat_lt}
 use Rattle.std.specs.List.{enumerate_from}
-use Rattle.policy_types.specs.Search.{two, unless, first_in}
-use Rattle.policy_types.specs.Rules.{major_name, cpu_name}
+use Rattle.muen_num.specs.Search.{first_in}
+use Rattle.policy_lawful.specs.Offences.{two, unless}
+use Rattle.policy_lawful.specs.Rules.{major_name, cpu_name}
 use Rattle.policy_rules.proofs.cpus.majors.Given as goal
 
 abbrev pub invariant-loop-place : goal.invariant-loop-place

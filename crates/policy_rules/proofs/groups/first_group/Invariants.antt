@@ -1,5 +1,5 @@
 use Rattle.std.proofs.Common.{◌≡◌, drop}
-use Rattle.policy_types.specs.Search.{first_in}
+use Rattle.muen_num.specs.Search.{first_in}
 use Rattle.policy_rules.specs.Placed.{group_offence}
 use Rattle.policy_rules.proofs.groups.first_group.Given as goal
 

@@ -1,9 +1,9 @@
 use Rattle.std.proofs.Common.{◌≡◌, None, sym, ap, ◌∙◌}
 use Rattle.std.specs.Option.{option_or}
 use Rattle.std.specs.List.{enumerate_from}
-use Rattle.policy_types.specs.Search.{first_in}
+use Rattle.muen_num.specs.Search.{first_in}
 use Rattle.policy_rules.specs.Placed.{group_offence, member_offence, counted_offence}
-use Rattle.policy_types.proofs.Searches.{option_or-None}
+use Rattle.muen_num.proofs.Searches.{option_or-None}
 use Rattle.policy_rules.proofs.ByPlace.{by_counts}
 use Rattle.policy_rules.proofs.groups.of_groups.Goals as goal
 

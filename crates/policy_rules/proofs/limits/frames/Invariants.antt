@@ -1,6 +1,6 @@
 use Rattle.std.proofs.Common.{◌≡◌, drop}
 use Rattle.std.specs.List.{enumerate_from}
-use Rattle.policy_types.specs.Search.{first_in}
+use Rattle.muen_num.specs.Search.{first_in}
 use Rattle.policy_rules.specs.Limits.{major_within}
 use Rattle.policy_rules.proofs.limits.frames.Given as goal
 

@@ -2,8 +2,9 @@ use Rattle.std.proofs.Common.{◌+◌, ◌*◌, ◌∙◌, ap, length}
 use Rattle.std.specs.Prelude.{◌&&◌, nat_le, codes}
 use Rattle.std.specs.Option.{option_or}
 use Rattle.std.specs.List.{sum_by, enumerate_from}
-use Rattle.policy_types.specs.Search.{alone, unless, first_in}
-use Rattle.policy_types.specs.Rules.{at_most}
+use Rattle.muen_num.specs.Search.{first_in}
+use Rattle.policy_lawful.specs.Offences.{alone, unless}
+use Rattle.policy_lawful.specs.Rules.{at_most}
 use Rattle.policy_rules.specs.Limits.{major_within}
 use Rattle.policy_rules.proofs.NamedParts.{limits_grouped}
 use Rattle.policy_rules.proofs.limits.limits.Goals as goal

@@ -1,6 +1,7 @@
 use Rattle.std.proofs.Common.{◌≡◌, length, drop}
 use Rattle.std.specs.Prelude.{nat_le}
-use Rattle.policy_types.specs.Search.{alone, unless, first_in}
+use Rattle.muen_num.specs.Search.{first_in}
+use Rattle.policy_lawful.specs.Offences.{alone, unless}
 use Rattle.policy_rules.proofs.limits.windows.Given as goal
 
 abbrev pub invariant-loop-subject : goal.invariant-loop-subject

@@ -1,5 +1,5 @@
 use Rattle.std.proofs.Common.{◌≡◌, [], take, drop}
-use Rattle.policy_types.specs.Search.{first_after}
+use Rattle.muen_num.specs.Search.{first_after}
 use Rattle.policy_rules.specs.Placed.{entry_offence}
 use Rattle.policy_rules.proofs.major_frames.first_entry.Given as goal
 

@@ -1,6 +1,6 @@
 use Rattle.std.proofs.Common.{◌≡◌, drop}
 use Rattle.std.specs.List.{enumerate_from}
-use Rattle.policy_types.specs.Search.{first_in}
+use Rattle.muen_num.specs.Search.{first_in}
 use Rattle.policy_rules.specs.Placed.{major_offence, first_major}
 use Rattle.policy_rules.proofs.major_frames.first_major.Given as goal
 

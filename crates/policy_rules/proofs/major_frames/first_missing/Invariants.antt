@@ -1,6 +1,6 @@
 use Rattle.std.proofs.Common.{◌≡◌, None}
 use Rattle.muen_num.specs.Range.{numbers_below}
-use Rattle.policy_types.specs.Search.{first_in}
+use Rattle.muen_num.specs.Search.{first_in}
 use Rattle.policy_rules.specs.Placed.{missing_offence}
 use Rattle.policy_rules.proofs.major_frames.first_missing.Given as goal
 

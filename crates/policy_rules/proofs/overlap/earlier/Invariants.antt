@@ -1,7 +1,7 @@
 -- No range so far overlaps the last one.
 use Rattle.std.proofs.Common.{◌≡◌, drop}
-use Rattle.policy_types.specs.Search.{first_in}
-use Rattle.policy_types.specs.Rules.{overlapping}
+use Rattle.muen_num.specs.Search.{first_in}
+use Rattle.policy_lawful.specs.Rules.{overlapping}
 use Rattle.policy_rules.proofs.overlap.earlier.Given as goal
 
 abbrev pub invariant-loop-b : goal.invariant-loop-b

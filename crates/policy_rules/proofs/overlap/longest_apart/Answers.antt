@@ -1,7 +1,7 @@
 -- The front of no range has no two that overlap; the front of all has two, as is required.
 use Rattle.std.proofs.Common.{ap, ◌∙◌, length, is_some, arith}
 use Rattle.std.proofs.lemmas.List.{take_all}
-use Rattle.policy_types.specs.Rules.{first_overlap}
+use Rattle.policy_lawful.specs.Rules.{first_overlap}
 use Rattle.policy_rules.proofs.Overlaps.{first_overlap-nil, some_within}
 use Rattle.policy_rules.proofs.overlap.longest_apart.Goals as goal
 

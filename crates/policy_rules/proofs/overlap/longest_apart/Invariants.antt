@@ -1,6 +1,6 @@
 -- The first `apart` ranges share no address, and of the first `end` some two do.
 use Rattle.std.proofs.Common.{◌≡◌, ◌-◌, ◌<◌, ◌≤◌, true, length, take, is_some, None}
-use Rattle.policy_types.specs.Rules.{first_overlap}
+use Rattle.policy_lawful.specs.Rules.{first_overlap}
 use Rattle.policy_rules.proofs.overlap.longest_apart.Given as goal
 
 abbrev pub invariant-loop-end : goal.invariant-loop-end

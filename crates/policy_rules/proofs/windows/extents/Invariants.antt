@@ -1,7 +1,7 @@
 use Rattle.std.proofs.Common.{◌≡◌, true, length, map, take, drop}
 use Rattle.std.specs.Prelude.{nat_lt}
 use Rattle.std.specs.List.{list_all}
-use Rattle.policy_types.specs.ByPlace.{mapping_extent}
+use Rattle.policy_lawful.specs.ByPlace.{mapping_extent}
 use Rattle.policy_rules.proofs.windows.extents.Given as goal
 
 abbrev pub invariant-loop-mapping : goal.invariant-loop-mapping

@@ -1,9 +1,9 @@
 use Rattle.std.proofs.Common.{◌≡◌, true, map, drop}
 use Rattle.std.specs.List.{list_all}
-use Rattle.policy_types.specs.Search.{first_in}
-use Rattle.policy_types.specs.Resolution.{source_of, subject_named}
-use Rattle.policy_types.specs.Rules.{window_offence}
-use Rattle.policy_types.specs.ByPlace.{is_ready}
+use Rattle.muen_num.specs.Search.{first_in}
+use Rattle.policy_lawful.specs.Resolution.{source_of, subject_named}
+use Rattle.policy_lawful.specs.Rules.{window_offence}
+use Rattle.policy_lawful.specs.ByPlace.{is_ready}
 use Rattle.policy_rules.proofs.windows.first_outside.Given as goal
 
 abbrev pub invariant-loop-s : goal.invariant-loop-s

@@ -1,6 +1,7 @@
 use Rattle.std.proofs.Common.{◌≡◌, drop}
-use Rattle.policy_types.specs.Search.{two, unless, first_in}
-use Rattle.policy_types.specs.Rules.{is_guest}
+use Rattle.muen_num.specs.Search.{first_in}
+use Rattle.policy_lawful.specs.Offences.{two, unless}
+use Rattle.policy_lawful.specs.Rules.{is_guest}
 use Rattle.policy_rules.proofs.windows.outside.Given as goal
 
 abbrev pub invariant-loop-extent : goal.invariant-loop-extent

@@ -1,6 +1,6 @@
 use Rattle.std.proofs.Common.{◌≡◌, sym, subst, IfOk}
 use Rattle.std.proofs.lemmas.Bool.{and_parts}
-use Rattle.policy_types.proofs.WindowsByPlace.{extents_placed, regions_unique}
+use Rattle.policy_lawful.proofs.WindowsByPlace.{extents_placed, regions_unique}
 use Rattle.policy_rules.proofs.windows.windows.Goals as goal
 
 pub returns : goal.returns

@@ -1,6 +1,6 @@
 use Rattle.std.proofs.Common.{◌≡◌, drop}
 use Rattle.std.specs.List.{find}
-use Rattle.policy_types.specs.Windows.{holds}
+use Rattle.policy_meaning.specs.Windows.{holds}
 use Rattle.window_machine.specs.Machine.{windows_on}
 use Rattle.window_machine.proofs.memory.find_window.Given as goal
 

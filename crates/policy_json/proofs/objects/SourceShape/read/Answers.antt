@@ -1,5 +1,5 @@
 use Rattle.std.proofs.Common.{refl}
-use Rattle.policy_types.specs.Document.{read_system}
+use Rattle.policy_json.specs.Document.{read_system}
 use Rattle.policy_json.proofs.objects.SourceShape.read.Goals as goal
 
 pub returns : goal.returns

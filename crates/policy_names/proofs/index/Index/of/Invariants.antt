@@ -3,7 +3,7 @@ use Rattle.std.specs.Prelude.{map, take, drop}
 use Rattle.std.specs.Ordering.{nat_cmp}
 use Rattle.std.specs.Cmp.Lexicographic.{slice_cmp}
 use Rattle.std.specs.BTreeMap as tree
-use Rattle.policy_types.specs.Rules.{repeated}
+use Rattle.policy_lawful.specs.Rules.{repeated}
 use Rattle.policy_names.specs.Places.{place_of}
 use Rattle.policy_names.specs.Repeats.{repeated_after}
 use Rattle.policy_names.proofs.index.Index.of.Given as goal

@@ -1,0 +1,6 @@
+pub mod Naming
+pub mod Offences
+pub mod Places
+pub mod ResolvedFacts
+mod RuleExamples
+pub mod WindowsByPlace

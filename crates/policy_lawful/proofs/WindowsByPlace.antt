@@ -1,0 +1,147 @@
+-- The windows of a subject of a built policy are its mappings, each on the region at its place.
+use Rattle.std.proofs.Common.{◌≡◌, ℕ, ◌<◌, true, not, List, [], ◌∷◌, ◌++◌, length, map, Option, Some, None, refl, sym, ap, ◌∙◌, append-nil}
+use Rattle.std.specs.Prelude.{nat_lt, is_some, option_map}
+use Rattle.std.specs.List.{find, list_all, filter_map, cons_option}
+use Rattle.std.specs.Str.{bytes_eq}
+use Rattle.std.proofs.lemmas.Option.{slice_get-get_or}
+use Rattle.std.proofs.lemmas.List.Folds.{list_all-map}
+use Rattle.std.proofs.lemmas.Bool.{and_from, and_parts, ltb-true}
+use Rattle.policy_lawful.specs.Rules.{repeated, window_extent, window_extents, offence_1}
+use Rattle.policy_types.specs.Built.{is_empty, is_plain, is_plain_region, is_built}
+use Rattle.policy_lawful.specs.Resolution.{Resolution, name_at, mapping_named, subject_named, source_of, subject_placed, are_placed}
+use Rattle.policy_meaning.specs.Thing.{region}
+use Rattle.policy_meaning.specs.Windows.{window, region_window, windows_of}
+use Rattle.policy_types.specs.declared.rights.Rights.{Rights}
+use Rattle.policy_types.specs.declared.source.Source.{Source}
+use Rattle.policy_types.specs.declared.source.Region.{Region}
+use Rattle.policy_types.specs.declared.source.Channel.{Channel}
+use Rattle.policy_types.specs.declared.source.Subject.{Subject as NamedSubject}
+use Rattle.policy_lawful.specs.declared.resolved.Mapping.{Mapping}
+use Rattle.policy_lawful.specs.declared.resolved.Subject.{Subject}
+use Rattle.muen_num.proofs.Lists.{each_of, map-map}
+use Rattle.policy_lawful.proofs.Places.{found_at_place}
+use Rattle.policy_lawful.proofs.ResolvedFacts.{parts_placed, unique}
+use Rattle.policy_lawful.specs.ByPlace.{no_region, region_at, mapping_window, mapping_extent, is_ready}
+
+-- ---- nothing there
+
+pub no_items : {X : Type 0} (xs : List X) → is_empty xs ≡ true → xs ≡ []
+no_items [] h = refl
+no_items (x ∷ xs) h = absurd (cc)
+
+pub none_some : {X : Type 0} (o : Option X) → not (is_some o) ≡ true → o ≡ None
+none_some None h = refl
+none_some (Some x) h = absurd (cc)
+
+-- ---- what a plain subject lacks
+
+pub record IsPlain (s : NamedSubject) : Type 0 where
+  pub component : s.component ≡ None
+  pub channels : s.channels ≡ []
+  pub devices : s.devices ≡ []
+  pub msrs : s.msrs ≡ []
+  pub sources : s.sources ≡ []
+  pub targets : s.targets ≡ []
+
+pub plain : (s : NamedSubject) → is_plain s ≡ true → IsPlain s
+plain s h =
+    let e = and_parts _ _ h in
+    let d = and_parts _ _ e.0 in
+    let c = and_parts _ _ d.0 in
+    let b = and_parts _ _ c.0 in
+    let a = and_parts _ _ b.0 in
+    record {
+      component = none_some s.component a.0;
+      channels = no_items s.channels a.1;
+      devices = no_items s.devices b.1;
+      msrs = no_items s.msrs c.1;
+      sources = no_items s.sources d.1;
+      targets = no_items s.targets e.1;
+    }
+
+-- ---- what a built policy lacks
+
+pub record HasNoOther (p : Source) : Type 0 where
+  pub devices : p.devices ≡ []
+  pub channels : p.channels ≡ []
+  pub components : p.components ≡ []
+  pub events : p.events ≡ []
+  pub subjects : list_all is_plain p.subjects ≡ true
+  pub regions : list_all is_plain_region p.memory ≡ true
+
+pub built : (p : Source) → is_built p ≡ true → HasNoOther p
+unfolding is_built
+built p h =
+    let e = and_parts _ _ h in
+    let d = and_parts _ _ e.0 in
+    let c = and_parts _ _ d.0 in
+    let b = and_parts _ _ c.0 in
+    let a = and_parts _ _ b.0 in
+    record {
+      devices = no_items p.devices a.0;
+      channels = no_items p.channels a.1;
+      components = no_items p.components b.1;
+      events = no_items p.events c.1;
+      subjects = d.1;
+      regions = e.1;
+    }
+
+-- ---- windows
+
+module _ (p : Source) (regions : List Region) (same : p.memory ≡ regions) (names : repeated (map (λ r. r.name) regions) ≡ None) where
+  region_placed : (k guest : ℕ) (rights : Rights) → k < length regions → region_window p (name_at (map (λ r. r.name) regions) k) guest rights ≡ Some (window guest (region_at regions k).size rights (region (region_at regions k).name))
+  region_placed k guest rights h =
+      ap (λ rs. option_map (λ r. window guest r.size rights (region r.name)) (find (λ r. bytes_eq r.name (name_at (map (λ r. r.name) regions) k)) rs)) same
+      ∙ ap (option_map (λ (r : Region). window guest r.size rights (region r.name))) (found_at_place (λ (r : Region). r.name) regions k names h ∙ slice_get-get_or regions k no_region h)
+
+module _ (r : Resolution) (names : repeated (map (λ x. x.name) r.memory) ≡ None) where
+  p : Source
+  p = source_of r
+
+  memory_is : p.memory ≡ r.memory
+  unfolding p source_of
+  memory_is = refl
+
+  windows_are : (s : Subject) → is_plain (subject_named r s) ≡ true → windows_of p (subject_named r s) ≡ filter_map (λ m. region_window p m.region m.virtual_address m.rights) (map (mapping_named r) s.memory)
+  unfolding windows_of
+  windows_are s h =
+      let q = plain (subject_named r s) h in
+      rw (q.component, q.channels, q.devices, append-nil, append-nil, append-nil) refl
+
+  windows_among : (ms : List Mapping) → list_all (λ m. nat_lt m.region (length r.memory)) ms ≡ true → filter_map (λ m. region_window p m.region m.virtual_address m.rights) (map (mapping_named r) ms) ≡ map (mapping_window r.memory) ms
+  windows_among [] h = refl
+  windows_among (m ∷ ms) h =
+      let a : (nat_lt m.region (length r.memory) ≡ true) × (list_all (λ m. nat_lt m.region (length r.memory)) ms ≡ true) = and_parts _ _ h in
+      let one = region_placed p r.memory memory_is names m.region m.virtual_address m.rights (ltb-true m.region (length r.memory) a.0) in
+      λ i. cons_option (one i) (windows_among ms a.1 i)
+
+  pub windows_placed : (s : Subject) → is_plain (subject_named r s) ≡ true → list_all (λ m. nat_lt m.region (length r.memory)) s.memory ≡ true → windows_of (source_of r) (subject_named r s) ≡ map (mapping_window r.memory) s.memory
+  unfolding p
+  windows_placed s h placed = windows_are s h ∙ windows_among s.memory placed
+
+  pub extents_placed : (s : Subject) → is_plain (subject_named r s) ≡ true → list_all (λ m. nat_lt m.region (length r.memory)) s.memory ≡ true → window_extents (source_of r) (subject_named r s) ≡ map (mapping_extent r.memory) s.memory
+  unfolding window_extents p
+  extents_placed s h placed =
+      ap (map window_extent) (windows_placed s h placed) ∙ map-map window_extent (mapping_window r.memory) s.memory
+
+-- ---- subjects of a built policy
+
+pub regions_unique : (r : Resolution) → is_built (source_of r) ≡ true → offence_1 (source_of r) ≡ None → repeated (map (λ x. x.name) r.memory) ≡ None
+unfolding source_of
+regions_unique r b h =
+    let none : r.channels ≡ [] = (built (source_of r) b).channels in
+    let regions : repeated (map (λ x. x.name) r.memory ++ map (λ c. c.name) r.channels) ≡ None = (unique (source_of r) h).regions in
+    sym (ap repeated (ap (λ cs. map (λ (x : Region). x.name) r.memory ++ map (λ (c : Channel). c.name) cs) none ∙ append-nil _)) ∙ regions
+
+pub all_ready : (r : Resolution) → is_built (source_of r) ≡ true → are_placed r ≡ true → list_all (is_ready r) r.subjects ≡ true
+unfolding source_of
+all_ready r b h =
+    each_of (λ s. is_plain (subject_named r s)) (subject_placed r) (is_ready r)
+    (λ s plain placed.
+    let e = and_parts _ _ placed in
+    let d = and_parts _ _ e.0 in
+    let c = and_parts _ _ d.0 in
+    and_from _ _ plain (and_parts _ _ (and_parts _ _ c.0).0).1)
+    r.subjects
+    (sym (list_all-map is_plain (subject_named r) r.subjects) ∙ (built (source_of r) b).subjects)
+    (parts_placed r h).subjects

@@ -1,0 +1,6 @@
+pub mod ByPlace
+pub mod Lawful
+pub mod MoreRules
+pub mod Offences
+pub mod Resolution
+pub mod Rules

@@ -1,0 +1,194 @@
+-- A policy whose references are resolved, and the source policy that it resolves.
+use Rattle.std.specs.Prelude.{◌≡◌, ℕ, ◌&&◌, Bool, true, List, [], length, map, slice_get, slice_index_or, nat_lt, None, option_map}
+use Rattle.std.specs.Option.{option_map_or}
+use Rattle.std.specs.List.{list_all}
+use Rattle.policy_lawful.specs.Rules.{offence_1, offence_2}
+use Rattle.policy_types.specs.declared.source.Source.{Source}
+use Rattle.policy_types.specs.declared.source.Processor.{Processor}
+use Rattle.policy_types.specs.declared.source.Block.{Block}
+use Rattle.policy_types.specs.declared.source.Device.{Device}
+use Rattle.policy_types.specs.declared.source.Region.{Region}
+use Rattle.policy_types.specs.declared.source.Channel.{Channel}
+use Rattle.policy_types.specs.declared.source.Component.{Component}
+use Rattle.policy_types.specs.declared.source.Event.{Event}
+use Rattle.policy_types.specs.declared.source.ComponentUse.{ComponentUse}
+use Rattle.policy_types.specs.declared.source.MapEntry.{MapEntry}
+use Rattle.policy_types.specs.declared.source.Mapping.{Mapping}
+use Rattle.policy_types.specs.declared.source.ChannelUse.{ChannelUse}
+use Rattle.policy_types.specs.declared.source.DeviceUse.{DeviceUse}
+use Rattle.policy_types.specs.declared.source.Subject.{Subject}
+use Rattle.policy_types.specs.declared.source.Group.{Group}
+use Rattle.policy_types.specs.declared.source.MajorFrame.{MajorFrame}
+use Rattle.policy_types.specs.declared.source.CpuFrames.{CpuFrames}
+use Rattle.policy_lawful.specs.declared.resolved.ComponentUse.{ComponentUse as UsedComponent}
+use Rattle.policy_lawful.specs.declared.resolved.MapEntry.{MapEntry as PlacedEntry}
+use Rattle.policy_lawful.specs.declared.resolved.Wanted.{Wanted}
+use Rattle.policy_lawful.specs.declared.resolved.Wanted.TheVariants.{Memory as WantedMemory, Channel as WantedChannel}
+use Rattle.policy_lawful.specs.declared.resolved.Mapping.{Mapping as PlacedMapping}
+use Rattle.policy_lawful.specs.declared.resolved.ChannelUse.{ChannelUse as PlacedChannel}
+use Rattle.policy_lawful.specs.declared.resolved.DeviceUse.{DeviceUse as PlacedDevice}
+use Rattle.policy_lawful.specs.declared.resolved.Subject.{Subject as PlacedSubject}
+use Rattle.policy_lawful.specs.declared.resolved.Scheduling.{Scheduling as PlacedScheduling}
+use Rattle.policy_lawful.specs.declared.resolved.Group.{Group as PlacedGroup}
+use Rattle.policy_lawful.specs.declared.resolved.MajorFrame.{MajorFrame as PlacedMajor}
+use Rattle.policy_lawful.specs.declared.resolved.CpuFrames.{CpuFrames as PlacedCpu}
+
+pub record Resolution : Type 0 where
+  pub processor : Processor
+  pub memory_blocks : List Block
+  pub devices : List Device
+  pub memory : List Region
+  pub channels : List Channel
+  pub components : List Component
+  pub events : List Event
+  pub subjects : List PlacedSubject
+  pub scheduling : PlacedScheduling
+
+-- ---- the names that stand for places
+
+abbrev pub name_at : List (List ℕ) → ℕ → List ℕ
+name_at names place = slice_index_or names place []
+
+abbrev pub mapping_named : Resolution → PlacedMapping → Mapping
+mapping_named r m = record {
+  region = name_at (map (λ x. x.name) r.memory) m.region;
+  virtual_address = m.virtual_address;
+  rights = m.rights;
+}
+
+abbrev pub channel_named : Resolution → PlacedChannel → ChannelUse
+channel_named r c = record {
+  channel = name_at (map (λ x. x.name) r.channels) c.channel;
+  role = c.role;
+  virtual_address = c.virtual_address;
+  call = c.call;
+  vector = c.vector;
+}
+
+-- names of a device's things, where the device is there
+abbrev pub device_part : Resolution → (Device → List (List ℕ)) → ℕ → List (List ℕ)
+device_part r names_of place = option_map_or names_of (slice_get r.devices place) []
+
+abbrev pub device_named : Resolution → PlacedDevice → DeviceUse
+device_named r d = record {
+  device = name_at (map (λ x. x.name) r.devices) d.device;
+  memory = map (λ m. record { memory = name_at (device_part r (λ x. map (λ m. m.name) x.memory) d.device) m.memory; virtual_address = m.virtual_address; rights = m.rights }) d.memory;
+  io_ports = map (name_at (device_part r (λ x. map (λ m. m.name) x.io_ports) d.device)) d.io_ports;
+  irqs = map (λ i. record { irq = name_at (device_part r (λ x. map (λ m. m.name) x.irqs) d.device) i.irq; vector = i.vector }) d.irqs;
+}
+
+abbrev pub component_part : Resolution → (Component → List (List ℕ)) → ℕ → List (List ℕ)
+component_part r names_of place = option_map_or names_of (slice_get r.components place) []
+
+abbrev pub entry_named : Resolution → ℕ → Wanted → PlacedEntry → MapEntry
+entry_named r used (WantedMemory place) e = record {
+  logical = name_at (component_part r (λ c. map (λ x. x.logical) c.memory) used) place;
+  physical = name_at (map (λ x. x.name) r.memory) e.physical;
+  rights = e.rights;
+}
+entry_named r used (WantedChannel place) e = record {
+  logical = name_at (component_part r (λ c. map (λ x. x.logical) c.channels) used) place;
+  physical = name_at (map (λ x. x.name) r.channels) e.physical;
+  rights = e.rights;
+}
+
+abbrev pub component_named : Resolution → UsedComponent → ComponentUse
+component_named r c = record {
+  used = name_at (map (λ x. x.name) r.components) c.used;
+  map = map (λ e. entry_named r c.used e.logical e) c.map;
+}
+
+abbrev pub subject_named : Resolution → PlacedSubject → Subject
+subject_named r s = record {
+  name = s.name;
+  cpu = s.cpu;
+  entry = s.entry;
+  component = option_map (component_named r) s.component;
+  memory = map (mapping_named r) s.memory;
+  channels = map (channel_named r) s.channels;
+  devices = map (device_named r) s.devices;
+  msrs = s.msrs;
+  sources = map (λ e. record { event = name_at (map (λ x. x.name) r.events) e.event; way = e.way }) s.sources;
+  targets = map (λ e. record { event = name_at (map (λ x. x.name) r.events) e.event; vector = e.vector }) s.targets;
+}
+
+abbrev pub group_named : Resolution → PlacedGroup → Group
+group_named r g = record {
+  name = g.name;
+  cpu = g.cpu;
+  subjects = map (name_at (map (λ s. s.name) r.subjects)) g.subjects;
+}
+
+abbrev pub cpu_named : Resolution → PlacedCpu → CpuFrames
+cpu_named r c = record {
+  cpu = c.cpu;
+  minor_frames = map (λ f. record { group = name_at (map (λ g. g.name) r.scheduling.groups) f.group; ticks = f.ticks }) c.minor_frames;
+}
+
+abbrev pub major_named : Resolution → PlacedMajor → MajorFrame
+major_named r m = record { cpus = map (cpu_named r) m.cpus }
+
+-- the source policy: each place by the name that stands there
+unfoldable pub source_of : Resolution → Source
+source_of r = record {
+  processor = r.processor;
+  memory_blocks = r.memory_blocks;
+  devices = r.devices;
+  memory = r.memory;
+  channels = r.channels;
+  components = r.components;
+  events = r.events;
+  subjects = map (subject_named r) r.subjects;
+  scheduling = record {
+    groups = map (group_named r) r.scheduling.groups;
+    major_frames = map (major_named r) r.scheduling.major_frames;
+  };
+}
+
+-- ---- places that are there
+
+abbrev pub device_placed : Resolution → PlacedDevice → Bool
+device_placed r d =
+    nat_lt d.device (length r.devices)
+    && list_all (λ m. nat_lt m.memory (length (device_part r (λ x. map (λ m. m.name) x.memory) d.device))) d.memory
+    && list_all (λ i. nat_lt i (length (device_part r (λ x. map (λ m. m.name) x.io_ports) d.device))) d.io_ports
+    && list_all (λ i. nat_lt i.irq (length (device_part r (λ x. map (λ m. m.name) x.irqs) d.device))) d.irqs
+
+abbrev pub entry_placed : Resolution → ℕ → Wanted → ℕ → Bool
+entry_placed r used (WantedMemory place) physical =
+    nat_lt place (length (component_part r (λ c. map (λ x. x.logical) c.memory) used)) && nat_lt physical (length r.memory)
+entry_placed r used (WantedChannel place) physical =
+    nat_lt place (length (component_part r (λ c. map (λ x. x.logical) c.channels) used)) && nat_lt physical (length r.channels)
+
+abbrev pub component_placed : Resolution → UsedComponent → Bool
+component_placed r c =
+    nat_lt c.used (length r.components) && list_all (λ e. entry_placed r c.used e.logical e.physical) c.map
+
+abbrev pub subject_placed : Resolution → PlacedSubject → Bool
+subject_placed r s =
+    option_map_or (component_placed r) s.component true
+    && list_all (λ m. nat_lt m.region (length r.memory)) s.memory
+    && list_all (λ c. nat_lt c.channel (length r.channels)) s.channels
+    && list_all (device_placed r) s.devices
+    && list_all (λ e. nat_lt e.event (length r.events)) s.sources
+    && list_all (λ e. nat_lt e.event (length r.events)) s.targets
+
+abbrev pub group_placed : Resolution → PlacedGroup → Bool
+group_placed r g = list_all (λ i. nat_lt i (length r.subjects)) g.subjects
+
+abbrev pub major_placed : Resolution → PlacedMajor → Bool
+major_placed r m =
+    list_all (λ c. list_all (λ f. nat_lt f.group (length r.scheduling.groups)) c.minor_frames) m.cpus
+
+-- each place is in the list that declares it
+unfoldable pub are_placed : Resolution → Bool
+are_placed r =
+    list_all (subject_placed r) r.subjects
+    && list_all (group_placed r) r.scheduling.groups
+    && list_all (major_placed r) r.scheduling.major_frames
+
+-- names are unique, and references are declared and in their lists
+pub record IsResolved (r : Resolution) : Type 0 where
+  pub names : offence_1 (source_of r) ≡ None
+  pub references : offence_2 (source_of r) ≡ None
+  pub placed : are_placed r ≡ true

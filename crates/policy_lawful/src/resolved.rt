@@ -1,0 +1,318 @@
+//! The elements of a policy whose references are resolved: where the document names a declared
+//! thing, its place in the list that declares it stands. All else is as in the document.
+ghost use Rattle.std.specs.Prelude.{◌≡◌};
+ghost use Rattle.policy_lawful.specs.Resolution.{IsResolved};
+
+use policy_types::{Rights, Role};
+use policy_types::source::{Block, Channel, Component, Device, Event, Msrs, Processor, Region, SourceWay};
+use muen_num::{Name, Seq};
+use std::marker::Model;
+
+/// A policy whose references are resolved: names are unique for each kind, and each reference names
+/// a declared thing.
+#[derive(Drop)]
+pub struct Resolved {
+    processor: Processor,
+    memory_blocks: Seq<Block>,
+    devices: Seq<Device>,
+    memory: Seq<Region>,
+    channels: Seq<Channel>,
+    components: Seq<Component>,
+    events: Seq<Event>,
+    subjects: Seq<Subject>,
+    scheduling: Scheduling,
+}
+
+impl Model for Resolved {
+    ghost use Rattle.policy_lawful.specs.Resolution.{Resolution, IsResolved};
+
+    ghost Value = { Resolution };
+
+    ghost view = { λ r. record {
+      processor = r.processor;
+      memory_blocks = r.memory_blocks;
+      devices = r.devices;
+      memory = r.memory;
+      channels = r.channels;
+      components = r.components;
+      events = r.events;
+      subjects = r.subjects;
+      scheduling = r.scheduling;
+    } };
+
+    ghost invariant = { λ r. IsResolved (record {
+      processor = r.processor;
+      memory_blocks = r.memory_blocks;
+      devices = r.devices;
+      memory = r.memory;
+      channels = r.channels;
+      components = r.components;
+      events = r.events;
+      subjects = r.subjects;
+      scheduling = r.scheduling;
+    }) };
+}
+
+impl Resolved {
+    /// The policy of these elements.
+    pub fn make(
+        processor: Processor,
+        memory_blocks: Seq<Block>,
+        devices: Seq<Device>,
+        memory: Seq<Region>,
+        channels: Seq<Channel>,
+        components: Seq<Component>,
+        events: Seq<Event>,
+        subjects: Seq<Subject>,
+        scheduling: Scheduling,
+    ) -> Resolved
+        requires { IsResolved (record {
+          processor = processor;
+          memory_blocks = memory_blocks;
+          devices = devices;
+          memory = memory;
+          channels = channels;
+          components = components;
+          events = events;
+          subjects = subjects;
+          scheduling = scheduling;
+        }) }
+        ensures { result ≡ record {
+          processor = processor;
+          memory_blocks = memory_blocks;
+          devices = devices;
+          memory = memory;
+          channels = channels;
+          components = components;
+          events = events;
+          subjects = subjects;
+          scheduling = scheduling;
+        } }
+    {
+        Resolved {
+            processor,
+            memory_blocks,
+            devices,
+            memory,
+            channels,
+            components,
+            events,
+            subjects,
+            scheduling,
+        }
+    }
+}
+
+/// A subject.
+#[derive(Drop)]
+pub struct Subject {
+    pub name: Name,
+    pub cpu: u64,
+    /// The guest address of its first instruction.
+    pub entry: u64,
+    pub component: Option<ComponentUse>,
+    pub memory: Seq<Mapping>,
+    pub channels: Seq<ChannelUse>,
+    pub devices: Seq<DeviceUse>,
+    pub msrs: Seq<Msrs>,
+    pub sources: Seq<EventSource>,
+    pub targets: Seq<EventTarget>,
+}
+
+/// The component of a subject.
+#[derive(Drop)]
+pub struct ComponentUse {
+    /// The component's place.
+    pub used: usize,
+    pub map: Seq<MapEntry>,
+}
+
+/// A logical name of a component that wants something.
+#[derive(Clone, Copy, Debug, PartialEq, Eq)]
+pub enum Wanted {
+    /// The place among the regions that the component asks for.
+    Memory(usize),
+    /// The place among its channels.
+    Channel(usize),
+}
+
+/// What a component's logical name stands for.
+#[derive(Drop)]
+pub struct MapEntry {
+    pub logical: Wanted,
+    /// The place of a region or a channel, as the logical name wants.
+    pub physical: usize,
+    pub rights: Option<Rights>,
+}
+
+/// A window of a subject on a region of memory.
+#[derive(Drop)]
+pub struct Mapping {
+    /// The region's place.
+    pub region: usize,
+    /// The guest address of its first byte.
+    pub virtual_address: u64,
+    pub rights: Rights,
+}
+
+/// A subject's end of a channel.
+#[derive(Drop)]
+pub struct ChannelUse {
+    /// The channel's place.
+    pub channel: usize,
+    pub role: Role,
+    pub virtual_address: u64,
+    pub call: Option<u64>,
+    pub vector: Option<u64>,
+}
+
+/// What a subject is granted of a device.
+#[derive(Drop)]
+pub struct DeviceUse {
+    /// The device's place.
+    pub device: usize,
+    pub memory: Seq<DeviceMapping>,
+    /// Places among the device's ports.
+    pub io_ports: Seq<usize>,
+    pub irqs: Seq<IrqUse>,
+}
+
+/// A window of a subject on a device's memory.
+#[derive(Drop)]
+pub struct DeviceMapping {
+    /// The place among the device's memory.
+    pub memory: usize,
+    pub virtual_address: u64,
+    pub rights: Rights,
+}
+
+/// An interrupt line that is granted to a subject.
+#[derive(Drop)]
+pub struct IrqUse {
+    /// The place among the device's interrupt lines.
+    pub irq: usize,
+    pub vector: u64,
+}
+
+/// How a subject raises an event.
+#[derive(Drop)]
+pub struct EventSource {
+    /// The event's place.
+    pub event: usize,
+    pub way: SourceWay,
+}
+
+/// An event that reaches a subject.
+#[derive(Drop)]
+pub struct EventTarget {
+    /// The event's place.
+    pub event: usize,
+    pub vector: Option<u64>,
+}
+
+/// The scheduling plan.
+#[derive(Drop)]
+pub struct Scheduling {
+    pub groups: Seq<Group>,
+    pub major_frames: Seq<MajorFrame>,
+}
+
+/// A scheduling group.
+#[derive(Drop)]
+pub struct Group {
+    pub name: Name,
+    pub cpu: u64,
+    /// The places of its members; the first is active at the start.
+    pub subjects: Seq<usize>,
+}
+
+/// A major frame.
+#[derive(Drop)]
+pub struct MajorFrame {
+    pub cpus: Seq<CpuFrames>,
+}
+
+/// The minor frames of a CPU in a major frame.
+#[derive(Drop)]
+pub struct CpuFrames {
+    pub cpu: u64,
+    pub minor_frames: Seq<MinorFrame>,
+}
+
+/// A minor frame.
+#[derive(Drop)]
+pub struct MinorFrame {
+    /// The group's place.
+    pub group: usize,
+    pub ticks: u64,
+}
+
+impl Resolved {
+    ghost use Rattle.policy_lawful.specs.Resolution.{IsResolved};
+
+    /// The processor.
+    pub fn processor(&self) -> &Processor
+        ensures { result.now ≡ self.now.processor }
+    {
+        &self.processor
+    }
+
+    /// The blocks of physical memory.
+    pub fn memory_blocks(&self) -> &[Block]
+        ensures { result.now ≡ self.now.memory_blocks }
+    {
+        self.memory_blocks.items()
+    }
+
+    /// The devices.
+    pub fn devices(&self) -> &[Device]
+        ensures { result.now ≡ self.now.devices }
+    {
+        self.devices.items()
+    }
+
+    /// The regions of memory.
+    pub fn memory(&self) -> &[Region]
+        ensures value { result.now ≡ self.now.memory }
+        ensures resolved { IsResolved self.now }
+    {
+        self.memory.items()
+    }
+
+    /// The channels.
+    pub fn channels(&self) -> &[Channel]
+        ensures { result.now ≡ self.now.channels }
+    {
+        self.channels.items()
+    }
+
+    /// The components.
+    pub fn components(&self) -> &[Component]
+        ensures { result.now ≡ self.now.components }
+    {
+        self.components.items()
+    }
+
+    /// The events.
+    pub fn events(&self) -> &[Event]
+        ensures { result.now ≡ self.now.events }
+    {
+        self.events.items()
+    }
+
+    /// The subjects.
+    pub fn subjects(&self) -> &[Subject]
+        ensures value { result.now ≡ self.now.subjects }
+        ensures resolved { IsResolved self.now }
+    {
+        self.subjects.items()
+    }
+
+    /// The scheduling plan.
+    pub fn scheduling(&self) -> &Scheduling
+        ensures value { result.now ≡ self.now.scheduling }
+        ensures resolved { IsResolved self.now }
+    {
+        &self.scheduling
+    }
+}

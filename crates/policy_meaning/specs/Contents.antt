@@ -1,0 +1,55 @@
+-- What memory holds at the start (Muen system policy: memory regions and their content).
+use Rattle.std.specs.Prelude.{ℕ, ◌-◌, Bool, true, false, List, [], ◌++◌, length, take, drop, replicate, nat_le, Option, Some, None, option_and_then}
+use Rattle.std.specs.Option.{option_map_or}
+use Rattle.std.specs.List.{find}
+use Rattle.std.specs.Str.{bytes_eq}
+use Rattle.std.specs.Ordering.{nat_cmp}
+use Rattle.std.specs.Cmp.Lexicographic.{slice_cmp}
+use Rattle.std.specs.FinMap.{FinMap, get}
+use Rattle.policy_meaning.specs.Thing.{Thing, region, channel, provided, device_memory, component_by}
+use Rattle.policy_types.specs.declared.source.Source.{Source}
+use Rattle.policy_types.specs.declared.source.Content.{Content}
+use Rattle.policy_types.specs.declared.source.Content.TheVariants.{Zero, Fill, Inline, File}
+
+-- what files hold, by name
+abbrev pub Held : Type 0
+Held = FinMap (slice_cmp nat_cmp) (List ℕ)
+
+abbrev pub padded : ℕ → List ℕ → List ℕ
+padded size bytes = bytes ++ replicate (size - length bytes) 0
+
+abbrev pub at_most : Option ℕ → List ℕ → List ℕ
+at_most None bytes = bytes
+at_most (Some n) bytes = take n bytes
+
+-- a content in a room of this many bytes: zeros, a byte repeated, or bytes with zeros behind them
+abbrev pub content_bytes : Held → ℕ → Content → List ℕ
+content_bytes files size Zero = replicate size 0
+content_bytes files size (Fill b) = replicate size b
+content_bytes files size (Inline bytes) = padded size bytes
+content_bytes files size (File name offset most) =
+    padded size (at_most most (drop offset (option_map_or (λ bytes. bytes) (get files name) [])))
+
+-- the bytes of a thing at the start; a channel and a device's memory hold zeros
+unfoldable pub initial_bytes : Source → Held → Thing → List ℕ
+initial_bytes p files (region name) =
+    option_map_or (λ r. content_bytes files r.size r.content) (find (λ r. bytes_eq r.name name) p.memory) []
+initial_bytes p files (channel name) =
+    option_map_or (λ c. replicate c.size 0) (find (λ c. bytes_eq c.name name) p.channels) []
+initial_bytes p files (provided subject logical) =
+    option_map_or (λ x. content_bytes files x.size x.content)
+    (option_and_then (λ s. option_and_then (λ c. find (λ x. bytes_eq x.logical logical) c.provides) (component_by p s.component))
+    (find (λ s. bytes_eq s.name subject) p.subjects))
+    []
+initial_bytes p files (device_memory device name) =
+    option_map_or (λ m. replicate m.size 0)
+    (option_and_then (λ d. find (λ m. bytes_eq m.name name) d.memory) (find (λ d. bytes_eq d.name device) p.devices))
+    []
+
+-- ---- contents that fit
+
+-- a content that is no file's has no more bytes than there is room for
+abbrev pub fits_in : ℕ → Content → Bool
+fits_in size (Inline bytes) = nat_le (length bytes) size
+fits_in size (File name offset most) = false
+fits_in size _ = true

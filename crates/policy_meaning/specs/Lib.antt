@@ -1,0 +1,5 @@
+pub mod Contents
+pub mod Events
+pub mod Frames
+pub mod Thing
+pub mod Windows
