@@ -1,2 +1,3 @@
 mod Examples
+pub mod NameText
 pub mod Room

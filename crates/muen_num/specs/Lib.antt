@@ -2,6 +2,7 @@ pub mod Access
 pub mod Deliver
 pub mod Fixed
 pub mod Frame
+pub mod Memory
 pub mod Naming
 pub mod NameStored
 pub mod Range
