@@ -1,3 +1,4 @@
 mod Examples
 pub mod NameText
+pub mod FirstSteps
 pub mod Room

@@ -6,5 +6,6 @@ pub mod Memory
 pub mod Naming
 pub mod NameStored
 pub mod Range
+pub mod Search
 pub mod Size
 pub mod Tag

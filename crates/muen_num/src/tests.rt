@@ -1,4 +1,7 @@
 //! Runs of the calls that others make.
+mod callers;
+
+use crate::tests::callers::{Thing, check_sizes, first_large, first_of_both, first_small};
 use crate::text::{
     append, append_decimal, append_decimal8, append_decimal32, append_hex4, append_hex8,
     append_hex16, append_hex32,
@@ -120,4 +123,17 @@ fn counts_bytes_and_rights(rt: HostRuntime) {
     assert_eq!(rt; sizes, [1, 2, 4, 8]);
     let bits = [Kind::Read, Kind::Write, Kind::Fetch].map(|kind| kind.bit());
     assert_eq!(rt; bits, [1, 2, 4]);
+}
+
+#[test]
+fn searches_in_order(rt: HostRuntime) -> Result<(), Fail> {
+    let (a, b, c) = (name(b"a")?, name(b"b")?, name(b"c")?);
+    let things = [(a, 5), (b, 20), (c, 2), (a, 30)].map(|(name, size)| Thing { name, size });
+    assert_eq!(rt; first_large(&things, 9), Some(b));
+    assert_eq!(rt; first_large(&things, 30), None);
+    assert_eq!(rt; first_small(&things), Some((2, c)));
+    assert_eq!(rt; check_sizes(&things, 20), Err(a));
+    assert_eq!(rt; check_sizes(&things, 30), Ok(()));
+    assert_eq!(rt; first_of_both(&things, 30), Some(b));
+    Ok(())
 }
