@@ -1,4 +1,6 @@
 mod Examples
+pub mod FirstSteps
 pub mod Lists
+pub mod NameText
 pub mod Room
 pub mod Searches

@@ -1,7 +1,9 @@
 pub mod Access
+pub mod Answers
 pub mod Deliver
 pub mod Fixed
 pub mod Frame
+pub mod Memory
 pub mod Naming
 pub mod NameStored
 pub mod Range

@@ -4,12 +4,14 @@
 
 pub mod bits;
 pub mod name;
+pub mod searches;
 pub mod seq;
 pub mod tag;
 pub mod text;
 
 pub use bits::{Kind, Mode, Size};
 pub use name::Name;
+pub use searches::{first, first_numbered};
 pub use seq::{NoMemory, Seq};
 pub use tag::{Part, Tag};
 

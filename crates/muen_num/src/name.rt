@@ -3,14 +3,16 @@ ghost use Rattle.std.specs.List.{list_all};
 ghost use Rattle.muen_num.specs.Naming.{is_name_byte, is_name, name_of, name_room};
 
 use std::cmp::Ordering;
+use std::hash::{Hash, Hasher};
 use std::marker::Model;
+use std::{fmt, str};
 
 /// The most bytes that a name has.
 pub const NAME_MOST: usize = 63;
 
 /// A name: 1 to 63 of ASCII letters, digits, `_`, `-` and `.` (this project's profile of Muen's
 /// names). Contracts see the list of its bytes.
-#[derive(Clone, Copy)]
+#[derive(Clone, Copy, Debug)]
 pub struct Name {
     len: u8,
     bytes: [u8; 63],
@@ -95,6 +97,25 @@ impl Name {
     {
         &self.bytes[..self.len as usize]
     }
+
+    /// The name as text.
+    #[tactic(auto, using(crate::proofs::NameText::name_is_text))]
+    pub fn as_str(&self) -> &str
+        ensures value { result.now ≡ self.now }
+    {
+        str::from_utf8(self.bytes()).unwrap()
+    }
+}
+
+/// A name is written as its text.
+impl fmt::Display for Name {
+    ghost use Rattle.std.specs.Prelude.{Some};
+
+    ghost output = { λ n. Some n };
+
+    fn fmt<W: fmt::Write>(&self, f: &mut fmt::Formatter<W>) -> fmt::Result {
+        f.write_str(self.as_str())
+    }
 }
 
 impl PartialEq for Name {
@@ -147,5 +168,20 @@ impl Ord for Name {
 
     fn cmp(&self, other: &Self) -> Ordering {
         self.bytes().cmp(other.bytes())
+    }
+}
+
+/// A name is hashed as its bytes.
+impl Hash for Name {
+    ghost use Rattle.std.specs.Hash as fed;
+    ghost use Rattle.std.specs.Cmp.Rules.{hashing};
+    ghost use Rattle.std.proofs.Common.{rules};
+
+    ghost hash_input = { fed.slice fed.u8 };
+
+    ghost respects_eq = { Prim.search (hashing, rules) };
+
+    fn hash<H: Hasher>(&self, state: &mut H) {
+        self.bytes().hash(state);
     }
 }

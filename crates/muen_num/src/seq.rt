@@ -1,11 +1,24 @@
 ghost use Rattle.std.specs.Prelude.{◌≡◌, ◌+◌, ◌≤◌, ◌++◌, ◌==◌, [], ◌∷◌, length, take, drop, OnOk, OnErr};
 
 use std::alloc::{AllocError, AllocFailed, Global};
+use std::fmt;
 use std::marker::Model;
+use thiserror::Error;
 
 /// Memory was refused.
-#[derive(Clone, Copy, Debug, PartialEq, Eq)]
+#[derive(Clone, Copy, Debug, PartialEq, Eq, Error)]
 pub struct NoMemory;
+
+impl fmt::Display for NoMemory {
+    ghost use Rattle.std.specs.Prelude.{Some};
+    ghost use Rattle.muen_num.specs.Memory.{no_memory_text};
+
+    ghost output = { λ _. Some no_memory_text };
+
+    fn fmt<W: fmt::Write>(&self, f: &mut fmt::Formatter<W>) -> fmt::Result {
+        f.write_str("out of memory")
+    }
+}
 
 impl From<AllocError> for NoMemory {
     fn from(_: AllocError) -> Self {
@@ -121,4 +134,16 @@ impl<T: Eq> Eq for Seq<T> {
     ghost use Rattle.std.specs.Cmp.Lexicographic.{lists_equiv};
 
     ghost laws = { lists_equiv T.Eq.laws };
+}
+
+impl<T: Clone> Clone for Seq<T> {
+    ghost use Rattle.std.specs.List.{AllZip};
+
+    ghost is_clone = { λ s t. AllZip T.is_clone s t };
+
+    fn clone(&self) -> Result<Seq<T>, AllocError> {
+        Ok(Seq {
+            vec: self.vec.clone()?,
+        })
+    }
 }

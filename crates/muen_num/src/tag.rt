@@ -3,9 +3,10 @@ ghost use Rattle.muen_num.specs.Tag.{part_text, tag_text};
 
 use crate::name::Name;
 use crate::text::append;
+use std::fmt;
 
 /// Which part of its owner a region of memory is.
-#[derive(Clone, Copy)]
+#[derive(Clone, Copy, Debug, PartialEq, Eq)]
 pub enum Part {
     /// The whole of a memory region or channel.
     Whole,
@@ -24,7 +25,7 @@ pub enum Part {
 }
 
 /// The printed name of a region of memory.
-#[derive(Clone, Copy)]
+#[derive(Clone, Copy, Debug, PartialEq, Eq)]
 pub struct Tag {
     pub owner: Name,
     pub part: Part,
@@ -38,6 +39,36 @@ impl Tag {
     {
         let at = append(out, 0, self.owner.bytes());
         append_part(out, at, &self.part)
+    }
+
+    /// The printed name in three pieces: the owner, what stands behind it, and the name of the
+    /// part, empty where it has none.
+    pub fn pieces(&self) -> (&str, &str, &str)
+        ensures { result.0.now ++ (result.1.now ++ result.2.now) ≡ tag_text self.now }
+    {
+        let owner = self.owner.as_str();
+        match &self.part {
+            Part::Whole => (owner, "", ""),
+            Part::Named(name) => (owner, "|", name.as_str()),
+            Part::State => (owner, ":state", ""),
+            Part::Ept => (owner, ":ept", ""),
+            Part::Iobm => (owner, ":iobm", ""),
+            Part::Msrbm => (owner, ":msrbm", ""),
+            Part::Msrs => (owner, ":msrs", ""),
+        }
+    }
+}
+
+/// A tag is written as its printed name.
+impl fmt::Display for Tag {
+    ghost use Rattle.std.specs.Prelude.{Some};
+    ghost use Rattle.muen_num.specs.Tag.{tag_text};
+
+    ghost output = { λ tag. Some (tag_text tag) };
+
+    fn fmt<W: fmt::Write>(&self, f: &mut fmt::Formatter<W>) -> fmt::Result {
+        let (owner, between, name) = self.pieces();
+        write!(f, "{owner}{between}{name}")
     }
 }
 

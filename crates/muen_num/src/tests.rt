@@ -1,9 +1,13 @@
 //! Runs of the calls that others make.
+mod callers;
+
+use crate::tests::callers::{Thing, check_sizes, first_large, first_of_both, first_small};
 use crate::text::{
     append, append_decimal, append_decimal8, append_decimal32, append_hex4, append_hex8,
     append_hex16, append_hex32,
 };
 use crate::{Kind, Name, Part, Seq, Size, Tag};
+use std::collections::HashSet;
 use std::test::Fail;
 
 fn name(text: &[u8]) -> Result<Name, Fail> {
@@ -44,28 +48,34 @@ fn reads_names(rt: HostRuntime) {
 #[test]
 fn compares_names(rt: HostRuntime) -> Result<(), Fail> {
     let one = name(b"ab")?;
-    assert!(rt; one == name(b"ab")?);
-    assert!(rt; one != name(b"abc")?);
-    assert!(rt; one != name(b"aB")?);
+    assert_eq!(rt; one, name(b"ab")?);
+    assert_ne!(rt; one, name(b"abc")?);
+    assert_ne!(rt; one, name(b"aB")?);
+    let mut names = HashSet::new(rt.alloc());
+    assert!(rt; names.insert(one)?);
+    assert!(rt; !names.insert(name(b"ab")?)?);
+    assert!(rt; names.insert(name(b"abc")?)?);
     Ok(())
 }
 
 #[test]
 fn writes_tags(rt: HostRuntime) -> Result<(), Fail> {
-    let cases: [(Part, &[u8]); 7] = [
-        (Part::Whole, b"net"),
-        (Part::Named(name(b"ring")?), b"net|ring"),
-        (Part::State, b"net:state"),
-        (Part::Ept, b"net:ept"),
-        (Part::Iobm, b"net:iobm"),
-        (Part::Msrbm, b"net:msrbm"),
-        (Part::Msrs, b"net:msrs"),
+    let cases = [
+        (Part::Whole, "net"),
+        (Part::Named(name(b"ring")?), "net|ring"),
+        (Part::State, "net:state"),
+        (Part::Ept, "net:ept"),
+        (Part::Iobm, "net:iobm"),
+        (Part::Msrbm, "net:msrbm"),
+        (Part::Msrs, "net:msrs"),
     ];
     let owner = name(b"net")?;
     for (part, wanted) in cases {
+        let tag = Tag { owner, part };
         let mut out = [0u8; 128];
-        let end = Tag { owner, part }.write(&mut out);
-        assert_eq!(rt; &out[..end], wanted);
+        let end = tag.write(&mut out);
+        assert_eq!(rt; &out[..end], wanted.as_bytes());
+        assert_eq!(rt; tag.to_string(rt.alloc())?.as_str(), wanted);
     }
     Ok(())
 }
@@ -100,8 +110,8 @@ fn keeps_a_list(rt: HostRuntime) -> Result<(), Fail> {
     list.push(9)?;
     assert_eq!(rt; list.items(), [7, 9].as_slice());
     assert_eq!(rt; list.len(), 2);
-    let other = Seq::of(Vec::from_slice(rt.alloc(), &[7, 9])?);
-    assert!(rt; list == other);
+    assert_eq!(rt; list, Seq::of(Vec::from_slice(rt.alloc(), &[7, 9])?));
+    assert_eq!(rt; list.clone()?, list);
     let items = list.into_vec();
     assert_eq!(rt; items.as_slice(), [7, 9].as_slice());
     Ok(())
@@ -113,4 +123,17 @@ fn counts_bytes_and_rights(rt: HostRuntime) {
     assert_eq!(rt; sizes, [1, 2, 4, 8]);
     let bits = [Kind::Read, Kind::Write, Kind::Fetch].map(|kind| kind.bit());
     assert_eq!(rt; bits, [1, 2, 4]);
+}
+
+#[test]
+fn searches_in_order(rt: HostRuntime) -> Result<(), Fail> {
+    let (a, b, c) = (name(b"a")?, name(b"b")?, name(b"c")?);
+    let things = [(a, 5), (b, 20), (c, 2), (a, 30)].map(|(name, size)| Thing { name, size });
+    assert_eq!(rt; first_large(&things, 9), Some(b));
+    assert_eq!(rt; first_large(&things, 30), None);
+    assert_eq!(rt; first_small(&things), Some((2, c)));
+    assert_eq!(rt; check_sizes(&things, 20), Err(a));
+    assert_eq!(rt; check_sizes(&things, 30), Ok(()));
+    assert_eq!(rt; first_of_both(&things, 30), Some(b));
+    Ok(())
 }

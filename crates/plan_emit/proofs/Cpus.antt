@@ -4,8 +4,8 @@ use Rattle.std.specs.Prelude.{◌&&◌, nat_lt, nat_le, codes}
 use Rattle.std.specs.List.{list_all, enumerate_from}
 use Rattle.std.proofs.lemmas.Bool.{and_from}
 use Rattle.policy_lawful.specs.Rules.{cpu_name, major_name, majors_of, offence_3}
-use Rattle.muen_num.specs.Search.{first_in}
-use Rattle.policy_lawful.specs.Offences.{alone, two, unless}
+use Rattle.muen_num.specs.Search.{first_in, unless}
+use Rattle.policy_lawful.specs.Offences.{alone, two}
 use Rattle.policy_types.specs.declared.source.Source.{Source}
 use Rattle.muen_num.proofs.Searches.{none_both}
 use Rattle.plan_emit.proofs.Kept.{all_pass, some_cpu}

@@ -7,8 +7,8 @@ use Rattle.policy_lawful.specs.Lawful.{rules_broken}
 use Rattle.policy_lawful.specs.Offences.{broken}
 use Rattle.policy_lawful.specs.Rules.{is_page_size, is_physical, is_guest, is_laid, component_offence, window_extents, window_offence, offence_3, offence_4, offence_5, offence_8, offence_16, offence_17, offence_18, offence_20}
 use Rattle.policy_lawful.specs.MoreRules.{offence_6, offence_7, offence_9, offence_10, offence_11, offence_12, offence_13, offence_14, offence_15, offence_19}
-use Rattle.muen_num.specs.Search.{first_in}
-use Rattle.policy_lawful.specs.Offences.{alone, two, unless}
+use Rattle.muen_num.specs.Search.{first_in, unless}
+use Rattle.policy_lawful.specs.Offences.{alone, two}
 use Rattle.policy_types.specs.declared.source.Source.{Source}
 use Rattle.muen_num.proofs.Searches.{none_both}
 use Rattle.policy_lawful.proofs.Offences.{none_broken, unless_none}

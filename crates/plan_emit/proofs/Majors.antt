@@ -7,8 +7,8 @@ use Rattle.std.specs.List.{list_all, list_any}
 use Rattle.std.proofs.lemmas.Bool.{and_from, and_parts, eq-eqb, ltb-true}
 use Rattle.muen_num.specs.Range.{numbers_below}
 use Rattle.policy_lawful.specs.Rules.{cpu_name, group_cpu, is_entry, is_frame, is_on, major_name, major_offence, offence_16, ticks_in}
-use Rattle.muen_num.specs.Search.{first_in, first_after}
-use Rattle.policy_lawful.specs.Offences.{two, unless}
+use Rattle.muen_num.specs.Search.{first_in, first_after, unless}
+use Rattle.policy_lawful.specs.Offences.{two}
 use Rattle.policy_lawful.specs.declared.offence.Offence.{Offence}
 use Rattle.policy_types.specs.declared.source.CpuFrames.{CpuFrames}
 use Rattle.policy_types.specs.declared.source.MajorFrame.{MajorFrame}

@@ -7,8 +7,8 @@ use Rattle.std.proofs.lemmas.Bool.{and_parts, eqb-true, ltb-true}
 use Rattle.std.proofs.lemmas.List.Sums.{sum_by-cons}
 use Rattle.std.proofs.lemmas.Slice.Eq.{bytes_eq-Decides}
 use Rattle.policy_lawful.specs.Rules.{is_group, is_on, offence_17, subject_cpu, times_listed}
-use Rattle.muen_num.specs.Search.{first_in}
-use Rattle.policy_lawful.specs.Offences.{alone, unless}
+use Rattle.muen_num.specs.Search.{first_in, unless}
+use Rattle.policy_lawful.specs.Offences.{alone}
 use Rattle.policy_types.specs.declared.source.Group.{Group}
 use Rattle.policy_types.specs.declared.source.Source.{Source}
 use Rattle.policy_types.specs.declared.source.Subject.{Subject}

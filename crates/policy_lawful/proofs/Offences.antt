@@ -1,6 +1,7 @@
 -- Where nothing offends.
 use Rattle.std.proofs.Common.{◌≡◌, ℕ, Bool, true, false, Option, Some, None, refl}
-use Rattle.policy_lawful.specs.Offences.{broken, unless}
+use Rattle.muen_num.specs.Search.{unless}
+use Rattle.policy_lawful.specs.Offences.{broken}
 use Rattle.policy_lawful.specs.declared.offence.Offence.{Offence}
 
 -- what doesn't offend passes the test

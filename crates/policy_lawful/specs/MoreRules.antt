@@ -6,8 +6,8 @@ use Rattle.std.specs.List.{find, list_any, list_all, filter_map, flat_map, sum_b
 use Rattle.std.specs.Str.{bytes_eq}
 use Rattle.muen_num.specs.declared.bits.Mode.{Mode}
 use Rattle.muen_num.specs.declared.bits.Mode.TheVariants.{Own, Switch}
-use Rattle.muen_num.specs.Search.{first_of, first_in, first_after}
-use Rattle.policy_lawful.specs.Offences.{alone, two, unless}
+use Rattle.muen_num.specs.Search.{first_of, first_in, first_after, unless}
+use Rattle.policy_lawful.specs.Offences.{alone, two}
 use Rattle.policy_lawful.specs.Rules.{are_apart}
 use Rattle.policy_meaning.specs.Thing.{component_by}
 use Rattle.policy_meaning.specs.Events.{ChannelEnd, channel_ends}

@@ -1,5 +1,5 @@
 -- What a broken rule names, and its refusal.
-use Rattle.std.specs.Prelude.{ℕ, Bool, true, false, List, Option, Some, None, option_map}
+use Rattle.std.specs.Prelude.{ℕ, List, Option, option_map}
 use Rattle.policy_lawful.specs.declared.offence.Offence.{Offence}
 use Rattle.policy_types.specs.declared.refusal.Refusal.{Refusal}
 use Rattle.policy_types.specs.declared.refusal.Refusal.TheVariants.{Rule}
@@ -10,11 +10,6 @@ alone name = record { first = name; second = name }
 
 abbrev pub two : List ℕ → List ℕ → Offence
 two first second = record { first = first; second = second }
-
--- an offence where what must hold doesn't
-abbrev pub unless : {O : Type 0} → Bool → O → Option O
-unless true o = None
-unless false o = Some o
 
 -- the refusal of a rule that is broken
 abbrev pub broken : ℕ → Option Offence → Option Refusal

@@ -1,7 +1,8 @@
 -- One reference, by the place of its name.
+use Rattle.muen_num.specs.Search.{unless}
 use Rattle.std.proofs.Common.{◌≡◌, ℕ, List, Option, Some, None, ap, ◌∙◌}
 use Rattle.std.specs.Prelude.{is_some}
-use Rattle.policy_lawful.specs.Offences.{two, unless}
+use Rattle.policy_lawful.specs.Offences.{two}
 use Rattle.policy_lawful.specs.Offences.{broken}
 use Rattle.policy_lawful.specs.Rules.{undeclared, refers}
 use Rattle.policy_types.specs.declared.refusal.Refusal.TheVariants.{Rule}

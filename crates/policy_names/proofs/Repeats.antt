@@ -1,10 +1,11 @@
 -- The first name that stood before.
+use Rattle.muen_num.specs.Search.{unless}
 use Rattle.std.proofs.Common.{◌≡◌, ℕ, ◌+◌, ◌<◌, Bool, true, false, cond, List, [], ◌∷◌, ◌++◌, length, get_or, take, drop, Some, None, refl, ap, sym, ◌∙◌, add-one, drop-cons}
 use Rattle.std.specs.Prelude.{map, not, is_some, ◌||◌}
 use Rattle.std.specs.Option.{option_or}
 use Rattle.std.proofs.lemmas.List.{take_more, map_push}
 use Rattle.std.specs.Str.{bytes_eq}
-use Rattle.policy_lawful.specs.Offences.{alone, unless}
+use Rattle.policy_lawful.specs.Offences.{alone}
 use Rattle.policy_lawful.specs.Offences.{broken}
 use Rattle.policy_lawful.specs.Rules.{is_declared, repeated}
 use Rattle.policy_types.specs.declared.refusal.Refusal.TheVariants.{Rule}

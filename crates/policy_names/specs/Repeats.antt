@@ -1,8 +1,8 @@
 -- Names that stood before.
 use Rattle.std.specs.Prelude.{ℕ, not, List, Option}
 use Rattle.std.specs.Str.{bytes_eq}
-use Rattle.muen_num.specs.Search.{first_in, first_after}
-use Rattle.policy_lawful.specs.Offences.{alone, unless}
+use Rattle.muen_num.specs.Search.{first_in, first_after, unless}
+use Rattle.policy_lawful.specs.Offences.{alone}
 use Rattle.policy_lawful.specs.declared.offence.Offence.{Offence}
 
 -- the name, where it is one of those

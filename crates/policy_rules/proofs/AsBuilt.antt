@@ -4,8 +4,8 @@ use Rattle.std.specs.Prelude.{◌&&◌, nat_lt, nat_le, codes}
 use Rattle.std.specs.List.{list_all, sum_by, fold}
 use Rattle.std.proofs.lemmas.Bool.{and_from, and_parts}
 use Rattle.std.proofs.lemmas.List.{length-map}
-use Rattle.muen_num.specs.Search.{first_of, first_in}
-use Rattle.policy_lawful.specs.Offences.{alone, two, unless}
+use Rattle.muen_num.specs.Search.{first_of, first_in, unless}
+use Rattle.policy_lawful.specs.Offences.{alone, two}
 use Rattle.policy_lawful.specs.Rules.{is_page_aligned, is_page_size, is_physical, is_guest, is_laid, window_extents, window_offence, first_overlap, at_most, regions_for, subject_limit, msrs_in, majors_of, major_limit, offence_1, offence_4, offence_18, offence_20}
 use Rattle.policy_types.specs.Built.{is_plain, is_built}
 use Rattle.policy_lawful.specs.Resolution.{Resolution, subject_named, source_of}

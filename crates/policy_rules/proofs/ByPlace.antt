@@ -10,8 +10,8 @@ use Rattle.std.proofs.lemmas.List.{length-map, get_or-map}
 use Rattle.std.proofs.lemmas.List.Folds.{list_all-map}
 use Rattle.std.proofs.lemmas.Option.{slice_get_within, get_or_from_slice_get}
 use Rattle.muen_num.specs.Range.{numbers_below}
-use Rattle.muen_num.specs.Search.{first_in, first_after}
-use Rattle.policy_lawful.specs.Offences.{alone, two, unless}
+use Rattle.muen_num.specs.Search.{first_in, first_after, unless}
+use Rattle.policy_lawful.specs.Offences.{alone, two}
 use Rattle.policy_lawful.specs.Rules as rules
 use Rattle.policy_lawful.specs.Rules.{repeated, device_kinds, logical_names, major_name, cpu_name, group_cpu, subject_cpu, is_on, times_listed, majors_of, offence_1, offence_16, offence_17}
 use Rattle.policy_lawful.specs.Resolution.{Resolution, IsResolved, name_at, source_of, subject_named, group_named, cpu_named, major_named, group_placed, major_placed}

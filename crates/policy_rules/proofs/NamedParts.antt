@@ -5,8 +5,8 @@ use Rattle.std.specs.Option.{option_or}
 use Rattle.std.specs.List.{list_all, sum_by, enumerate_from}
 use Rattle.std.proofs.lemmas.Bool.{and_parts}
 use Rattle.std.proofs.lemmas.List.{length-map}
-use Rattle.muen_num.specs.Search.{first_of, first_in}
-use Rattle.policy_lawful.specs.Offences.{alone, two, unless}
+use Rattle.muen_num.specs.Search.{first_of, first_in, unless}
+use Rattle.policy_lawful.specs.Offences.{alone, two}
 use Rattle.policy_lawful.specs.Rules.{major_name, cpu_name, ticks_in, at_most, subject_limit, major_limit, offence_1, offence_3, offence_20}
 use Rattle.policy_types.specs.Built.{is_built}
 use Rattle.policy_lawful.specs.Resolution.{Resolution, subject_named, group_named, cpu_named, major_named, source_of, IsResolved}

@@ -1,8 +1,8 @@
 -- Rules 3 and 20 of a resolved policy whose elements are built.
 use Rattle.std.specs.Prelude.{ℕ, ◌+◌, ◌*◌, ◌&&◌, Bool, [], ◌∷◌, length, nat_lt, nat_le, codes, Option}
 use Rattle.std.specs.List.{list_all, sum_by, enumerate_from}
-use Rattle.muen_num.specs.Search.{first_of, first_in}
-use Rattle.policy_lawful.specs.Offences.{alone, two, unless}
+use Rattle.muen_num.specs.Search.{first_of, first_in, unless}
+use Rattle.policy_lawful.specs.Offences.{alone, two}
 use Rattle.policy_lawful.specs.Rules.{major_name, cpu_name, at_most}
 use Rattle.policy_lawful.specs.Resolution.{Resolution}
 use Rattle.policy_lawful.specs.declared.offence.Offence.{Offence}

@@ -3,8 +3,8 @@ use Rattle.std.specs.Prelude.{◌≡◌, ◌+◌, ◌<◌, min, ℕ, ◌==◌, �
 use Rattle.std.specs.Option.{option_map_or}
 use Rattle.std.specs.List.{list_any, list_all, sum_by, count_by, enumerate_from}
 use Rattle.muen_num.specs.Range.{numbers_below}
-use Rattle.muen_num.specs.Search.{first_of, first_in, first_after}
-use Rattle.policy_lawful.specs.Offences.{alone, two, unless}
+use Rattle.muen_num.specs.Search.{first_of, first_in, first_after, unless}
+use Rattle.policy_lawful.specs.Offences.{alone, two}
 use Rattle.policy_lawful.specs.Rules.{major_name, cpu_name, is_on}
 use Rattle.policy_lawful.specs.declared.offence.Offence.{Offence}
 use Rattle.policy_lawful.specs.declared.resolved.Subject.{Subject}

@@ -1,7 +1,7 @@
 // Rule 4: addresses and sizes.
 ghost use Rattle.std.specs.Prelude.{◌≡◌, ◌+◌, true};
-ghost use Rattle.muen_num.specs.Search.{first_in};
-ghost use Rattle.policy_lawful.specs.Offences.{alone, unless};
+ghost use Rattle.muen_num.specs.Search.{first_in, unless};
+ghost use Rattle.policy_lawful.specs.Offences.{alone};
 ghost use Rattle.policy_lawful.specs.Rules.{is_page_aligned, is_page_size, is_physical, is_guest, is_alignment, is_fixed, is_laid};
 
 use muen_num::Name;

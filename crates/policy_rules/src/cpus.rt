@@ -1,8 +1,8 @@
 // Rule 3: CPUs.
 ghost use Rattle.std.specs.Prelude.{◌≡◌, ◌&&◌, nat_lt, nat_le, codes};
 ghost use Rattle.std.specs.List.{enumerate_from};
-ghost use Rattle.muen_num.specs.Search.{first_in};
-ghost use Rattle.policy_lawful.specs.Offences.{alone, two, unless};
+ghost use Rattle.muen_num.specs.Search.{first_in, unless};
+ghost use Rattle.policy_lawful.specs.Offences.{alone, two};
 ghost use Rattle.policy_lawful.specs.Resolution.{source_of};
 ghost use Rattle.policy_lawful.specs.Rules.{major_name, cpu_name, offence_3};
 

@@ -1,8 +1,8 @@
 // The windows of a subject, as named ranges of guest addresses.
 ghost use Rattle.std.specs.Prelude.{◌≡◌, map, true, IfOk, length, nat_lt};
 ghost use Rattle.std.specs.List.{list_all};
-ghost use Rattle.muen_num.specs.Search.{first_in};
-ghost use Rattle.policy_lawful.specs.Offences.{two, unless};
+ghost use Rattle.muen_num.specs.Search.{first_in, unless};
+ghost use Rattle.policy_lawful.specs.Offences.{two};
 ghost use Rattle.policy_lawful.specs.Resolution.{source_of, subject_named};
 ghost use Rattle.policy_lawful.specs.Rules.{is_guest, window_extents, window_offence, offence_4};
 ghost use Rattle.policy_types.specs.Built.{is_built};

@@ -1,8 +1,8 @@
 use Rattle.std.proofs.Common.{◌≡◌, drop}
 use Rattle.std.specs.Prelude.{nat_lt}
 use Rattle.std.specs.List.{enumerate_from}
-use Rattle.muen_num.specs.Search.{first_in}
-use Rattle.policy_lawful.specs.Offences.{two, unless}
+use Rattle.muen_num.specs.Search.{first_in, unless}
+use Rattle.policy_lawful.specs.Offences.{two}
 use Rattle.policy_lawful.specs.Rules.{major_name, cpu_name}
 use Rattle.policy_rules.proofs.cpus.majors.Given as goal
 

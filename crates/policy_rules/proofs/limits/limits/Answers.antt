@@ -2,8 +2,8 @@ use Rattle.std.proofs.Common.{◌+◌, ◌*◌, ◌∙◌, ap, length}
 use Rattle.std.specs.Prelude.{◌&&◌, nat_le, codes}
 use Rattle.std.specs.Option.{option_or}
 use Rattle.std.specs.List.{sum_by, enumerate_from}
-use Rattle.muen_num.specs.Search.{first_in}
-use Rattle.policy_lawful.specs.Offences.{alone, unless}
+use Rattle.muen_num.specs.Search.{first_in, unless}
+use Rattle.policy_lawful.specs.Offences.{alone}
 use Rattle.policy_lawful.specs.Rules.{at_most}
 use Rattle.policy_rules.specs.Limits.{major_within}
 use Rattle.policy_rules.proofs.NamedParts.{limits_grouped}

@@ -1,7 +1,7 @@
 use Rattle.std.proofs.Common.{◌≡◌, length, drop}
 use Rattle.std.specs.Prelude.{nat_le}
-use Rattle.muen_num.specs.Search.{first_in}
-use Rattle.policy_lawful.specs.Offences.{alone, unless}
+use Rattle.muen_num.specs.Search.{first_in, unless}
+use Rattle.policy_lawful.specs.Offences.{alone}
 use Rattle.policy_rules.proofs.limits.windows.Given as goal
 
 abbrev pub invariant-loop-subject : goal.invariant-loop-subject

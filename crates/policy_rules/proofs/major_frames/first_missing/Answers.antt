@@ -1,5 +1,6 @@
+use Rattle.muen_num.specs.Search.{unless}
 use Rattle.std.proofs.Common.{◌≡◌, ◌<◌, true, false, Some, sym, ap, ◌∙◌, arith}
-use Rattle.policy_lawful.specs.Offences.{two, unless}
+use Rattle.policy_lawful.specs.Offences.{two}
 use Rattle.policy_lawful.specs.Rules.{major_name, cpu_name}
 use Rattle.policy_rules.specs.Placed.{is_listed, missing_offence}
 use Rattle.policy_rules.proofs.Searching.{numbers_none_more, number_found}
