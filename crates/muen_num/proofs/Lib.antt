@@ -3,4 +3,4 @@ pub mod FirstSteps
 pub mod Lists
 pub mod NameText
 pub mod Room
-pub mod Searches
+pub mod FirstIn

@@ -4,7 +4,7 @@ use Rattle.policy_meaning.specs.Contents.{contents_refused}
 use Rattle.policy_json.specs.Document.{policy_of}
 use Rattle.policy_lawful.specs.Lawful.{names_broken, rules_broken, refusal_of, kept_or, accepted, accepted_policy_of}
 use Rattle.policy_types.specs.Reading.{Answers}
-use Rattle.muen_num.proofs.Searches.{option_or-None}
+use Rattle.muen_num.proofs.FirstIn.{option_or-None}
 use Rattle.muen_num.specs.Search.{first_of}
 use Rattle.policy_types.specs.declared.refusal.Refusal.{Refusal}
 use Rattle.policy_types.specs.declared.refusal.Refusal.TheVariants.{NotJson, Shape, Rule, Missing, TooLong, FileFit, NoRoom, NoMemory}

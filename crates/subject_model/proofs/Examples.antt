@@ -9,6 +9,7 @@ use Rattle.policy_meaning.specs.Frames.{frames_of}
 use Rattle.policy_meaning.specs.Thing.{things_of}
 use Rattle.policy_meaning.specs.Windows.{windows_of}
 use Rattle.policy_meaning.specs.Events.{event_of}
+use Rattle.policy_types.specs.Rights.{has}
 use Rattle.policy_types.specs.declared.rights.Caching.TheVariants.{Wb}
 use Rattle.policy_types.specs.declared.source.Source.{Source}
 use Rattle.policy_types.specs.declared.source.Region.{Region}
@@ -79,14 +80,14 @@ nothing = from_entries []
 
 -- the first subject traps, then the second runs, and then leaves its window
 handover : (run_to two nothing (only_ticks 3) 3).lines ≡ record { tick = 0; cpu = 0; subject = codes "a"; pc = 4096; what = Exit 0 0 0 Trap } ∷ record { tick = 1; cpu = 0; subject = codes "b"; pc = 4096; what = Ran } ∷ record { tick = 2; cpu = 0; subject = codes "b"; pc = 4104; what = Exit 48 4 4104 Stop } ∷ []
-unfolding two subject code nothing start_of things_of initial_bytes started system_turn slot_at frames_of own_of windows_of inbox_of solo_turn decode_of event_of
+unfolding two subject code nothing has start_of things_of initial_bytes started system_turn slot_at frames_of own_of windows_of inbox_of solo_turn decode_of event_of
 handover = refl
 
 -- its vector stays pending, for it doesn't let events in
 pending_after : (run_to two nothing (only_ticks 3) 3).system.now ≡ (codes "a", []) ∷ (codes "b", 40 ∷ []) ∷ []
-unfolding two subject code nothing start_of things_of initial_bytes started system_turn slot_at frames_of own_of windows_of inbox_of solo_turn decode_of event_of
+unfolding two subject code nothing has start_of things_of initial_bytes started system_turn slot_at frames_of own_of windows_of inbox_of solo_turn decode_of event_of
 pending_after = refl
 
 active_after : (run_to two nothing (only_ticks 3) 3).system.active ≡ codes "b" ∷ []
-unfolding two subject code nothing start_of things_of initial_bytes started system_turn slot_at frames_of own_of windows_of inbox_of solo_turn decode_of event_of
+unfolding two subject code nothing has start_of things_of initial_bytes started system_turn slot_at frames_of own_of windows_of inbox_of solo_turn decode_of event_of
 active_after = refl
