@@ -11,7 +11,7 @@ pub mod text;
 
 pub use bits::{Kind, Mode, Size};
 pub use name::Name;
-pub use searches::{first, first_numbered};
+pub use searches::{first, first_numbered, first_pair};
 pub use seq::{NoMemory, Seq};
 pub use tag::{Part, Tag};
 

@@ -1,7 +1,9 @@
 //! Runs of the calls that others make.
 mod callers;
 
-use crate::tests::callers::{Thing, check_sizes, first_large, first_of_both, first_small};
+use crate::tests::callers::{
+    Thing, check_sizes, first_alike, first_large, first_of_both, first_small,
+};
 use crate::text::{
     append, append_decimal, append_decimal8, append_decimal32, append_hex4, append_hex8,
     append_hex16, append_hex32,
@@ -129,6 +131,7 @@ fn counts_bytes_and_rights(rt: HostRuntime) {
 fn searches_in_order(rt: HostRuntime) -> Result<(), Fail> {
     let (a, b, c) = (name(b"a")?, name(b"b")?, name(b"c")?);
     let things = [(a, 5), (b, 20), (c, 2), (a, 30)].map(|(name, size)| Thing { name, size });
+    assert_eq!(rt; first_alike(&things), Some((things[0], things[3])));
     assert_eq!(rt; first_large(&things, 9), Some(b));
     assert_eq!(rt; first_large(&things, 30), None);
     assert_eq!(rt; first_small(&things), Some((2, c)));

@@ -1,11 +1,11 @@
 //! Callers of the searches, as they stand in other crates: no proof is written for one.
-ghost use Rattle.std.specs.Prelude.{◌≡◌, nat_le, nat_lt, Some, None, Ok, Err};
+ghost use Rattle.std.specs.Prelude.{◌≡◌, not, nat_le, nat_lt, Some, None, Ok, Err};
 ghost use Rattle.std.specs.List.{enumerate_from};
 ghost use Rattle.std.specs.Option.{option_or};
 ghost use Rattle.std.specs.Str.{bytes_eq};
-ghost use Rattle.muen_num.specs.Search.{as_refusal, first_in, unless};
+ghost use Rattle.muen_num.specs.Search.{as_refusal, first_in, first_pair, unless};
 
-use crate::{Name, first, first_numbered};
+use crate::{Name, first, first_numbered, first_pair};
 
 /// What has a name and a size.
 #[derive(Clone, Copy, Debug, PartialEq, Eq)]
@@ -59,4 +59,17 @@ pub fn first_of_both(things: &[Thing], most: u64) -> Option<Name>
         (first_in (λ t. unless (nat_le t.size 9) t.name) things.now) }
 {
     first_large(things, most).or_else(|| first_large(things, 9))
+}
+
+/// The first two with one name: the later one's place tells which pair is first.
+pub fn first_alike(things: &[Thing]) -> Option<(Thing, Thing)>
+    ensures { result ≡ first_pair (λ a b. unless (not (bytes_eq a.name b.name)) (a, b)) things.now }
+{
+    first_pair(things, |a, b| {
+        if a.name == b.name {
+            Some((*a, *b))
+        } else {
+            None
+        }
+    })
 }
