@@ -4,6 +4,7 @@
 
 pub mod bits;
 pub mod name;
+pub mod pieces;
 pub mod searches;
 pub mod seq;
 pub mod tag;
@@ -11,6 +12,7 @@ pub mod text;
 
 pub use bits::{Kind, Mode, Size};
 pub use name::Name;
+pub use pieces::Pieces;
 pub use searches::{first, first_numbered, first_pair};
 pub use seq::{NoMemory, Seq};
 pub use tag::{Part, Tag};

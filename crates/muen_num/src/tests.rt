@@ -2,13 +2,15 @@
 mod callers;
 
 use crate::tests::callers::{
-    Thing, check_sizes, first_alike, first_large, first_of_both, first_small,
+    Thing, check_sizes, first_alike, first_large, first_of_both, first_small, no_room_text,
+    offence_text,
 };
 use crate::text::{
     append, append_decimal, append_decimal8, append_decimal32, append_hex4, append_hex8,
     append_hex16, append_hex32,
 };
 use crate::{Kind, Name, Part, Seq, Size, Tag};
+use itoa::Buffer;
 use std::collections::HashSet;
 use std::test::Fail;
 
@@ -138,5 +140,18 @@ fn searches_in_order(rt: HostRuntime) -> Result<(), Fail> {
     assert_eq!(rt; check_sizes(&things, 20), Err(a));
     assert_eq!(rt; check_sizes(&things, 30), Ok(()));
     assert_eq!(rt; first_of_both(&things, 30), Some(b));
+    Ok(())
+}
+
+#[test]
+fn writes_pieces(rt: HostRuntime) -> Result<(), Fail> {
+    let alloc = rt.alloc();
+    let (owner, ring) = (name(b"net")?, name(b"ring")?);
+    let mut digits = Buffer::new();
+    let text = offence_text(12, &owner, &ring, &mut digits).to_string(alloc)?;
+    assert_eq!(rt; text.as_str(), "rule 12: net ring");
+    let part = Part::Named(ring);
+    let text = no_room_text(&Tag { owner, part }, 4096, &mut digits).to_string(alloc)?;
+    assert_eq!(rt; text.as_str(), "no room for net|ring of 4096 bytes");
     Ok(())
 }
