@@ -3,6 +3,7 @@
 #![tactic(auto)]
 
 pub mod bits;
+pub mod limits;
 pub mod name;
 pub mod pieces;
 pub mod searches;
