@@ -3,7 +3,9 @@
 #![tactic(auto)]
 
 pub mod bits;
+pub mod limits;
 pub mod name;
+pub mod pieces;
 pub mod searches;
 pub mod seq;
 pub mod tag;
@@ -11,7 +13,8 @@ pub mod text;
 
 pub use bits::{Kind, Mode, Size};
 pub use name::Name;
-pub use searches::{first, first_numbered};
+pub use pieces::Pieces;
+pub use searches::{first, first_numbered, first_pair};
 pub use seq::{NoMemory, Seq};
 pub use tag::{Part, Tag};
 

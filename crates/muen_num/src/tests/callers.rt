@@ -1,11 +1,15 @@
-//! Callers of the searches, as they stand in other crates: no proof is written for one.
-ghost use Rattle.std.specs.Prelude.{◌≡◌, nat_le, nat_lt, Some, None, Ok, Err};
+//! Callers as they stand in other crates, of searches and of texts in pieces: no proof is written
+//! for one.
+ghost use Rattle.std.specs.Prelude.{◌≡◌, ◌++◌, not, nat_le, nat_lt, codes, decimal};
 ghost use Rattle.std.specs.List.{enumerate_from};
 ghost use Rattle.std.specs.Option.{option_or};
 ghost use Rattle.std.specs.Str.{bytes_eq};
-ghost use Rattle.muen_num.specs.Search.{as_refusal, first_in, unless};
+ghost use Rattle.muen_num.specs.Pieces.{whole};
+ghost use Rattle.muen_num.specs.Search.{as_refusal, first_in, first_pair, unless};
+ghost use Rattle.muen_num.specs.Tag.{tag_text};
 
-use crate::{Name, first, first_numbered};
+use crate::{Name, Pieces, Tag, first, first_numbered, first_pair};
+use itoa::Buffer;
 
 /// What has a name and a size.
 #[derive(Clone, Copy, Debug, PartialEq, Eq)]
@@ -59,4 +63,39 @@ pub fn first_of_both(things: &[Thing], most: u64) -> Option<Name>
         (first_in (λ t. unless (nat_le t.size 9) t.name) things.now) }
 {
     first_large(things, most).or_else(|| first_large(things, 9))
+}
+
+/// The first two with one name: the later one's place tells which pair is first.
+pub fn first_alike(things: &[Thing]) -> Option<(Thing, Thing)>
+    ensures { result ≡ first_pair (λ a b. unless (not (bytes_eq a.name b.name)) (a, b)) things.now }
+{
+    first_pair(things, |a, b| {
+        if a.name == b.name {
+            Some((*a, *b))
+        } else {
+            None
+        }
+    })
+}
+
+/// The text of an offence.
+pub fn offence_text<'a>(
+    number: u8,
+    first: &'a Name,
+    second: &'a Name,
+    one: &'a mut Buffer,
+) -> Pieces<'a>
+    ensures { whole result ≡ codes "rule " ++ (decimal number ++ (codes ": " ++ (first.now ++ (codes " " ++ second.now)))) }
+{
+    let number = one.format(number);
+    ("rule ", number, ": ", first.as_str(), " ", second.as_str()).into()
+}
+
+/// The text for a region that finds no room.
+pub fn no_room_text<'a>(tag: &'a Tag, size: u64, one: &'a mut Buffer) -> Pieces<'a>
+    ensures { whole result ≡ codes "no room for " ++ (tag_text tag.now ++ (codes " of " ++ (decimal size ++ codes " bytes"))) }
+{
+    let (owner, between, name) = tag.pieces();
+    let size = one.format(size);
+    ("no room for ", owner, between, name, " of ", size, " bytes").into()
 }
