@@ -22,13 +22,17 @@ abbrev pub at_most : Option ℕ → List ℕ → List ℕ
 at_most None bytes = bytes
 at_most (Some n) bytes = take n bytes
 
+-- what a content takes of a file: its bytes from an offset on, at most so many of them
+abbrev pub file_part : ℕ → Option ℕ → List ℕ → List ℕ
+file_part offset most bytes = at_most most (drop offset bytes)
+
 -- a content in a room of this many bytes: zeros, a byte repeated, or bytes with zeros behind them
 abbrev pub content_bytes : Held → ℕ → Content → List ℕ
 content_bytes files size Zero = replicate size 0
 content_bytes files size (Fill b) = replicate size b
 content_bytes files size (Inline bytes) = padded size bytes
 content_bytes files size (File name offset most) =
-    padded size (at_most most (drop offset (option_map_or (λ bytes. bytes) (get files name) [])))
+    padded size (file_part offset most (option_map_or (λ bytes. bytes) (get files name) []))
 
 -- the bytes of a thing at the start; a channel and a device's memory hold zeros
 unfoldable pub initial_bytes : Source → Held → Thing → List ℕ

@@ -1,12 +1,41 @@
-ghost use Rattle.std.specs.Prelude.{◌≡◌};
+ghost use Rattle.std.specs.Prelude.{◌≡◌, string_bytes};
 ghost use Rattle.policy_types.specs.declared.refusal.Refusal.TheVariants.{NoMemory as OutOfMemory};
 
-use muen_num::{Name, NoMemory, Seq, Tag};
+use muen_num::{Name, NoMemory, Tag};
 use std::alloc::{AllocError, AllocFailed};
+use std::marker::Model;
+use thiserror::Error;
 
 /// The keys and item numbers from the top of a document to a value, each after a `/`; empty for the
-/// whole document.
-pub type Path = Seq<u8>;
+/// whole document. Contracts see its bytes.
+#[derive(Debug, Drop)]
+pub struct Path {
+    text: String,
+}
+
+impl Model for Path {
+    ghost use Rattle.std.specs.Prelude.{List, ℕ, string_bytes};
+
+    ghost Value = { List ℕ };
+
+    ghost view = { λ p. string_bytes p.text };
+}
+
+impl Path {
+    /// The place that this text spells.
+    pub fn new(text: String) -> Path
+        ensures { result ≡ string_bytes text }
+    {
+        Path { text }
+    }
+
+    /// The place as a text.
+    pub fn as_str(&self) -> &str
+        ensures { result.now ≡ self.now }
+    {
+        self.text.as_str()
+    }
+}
 
 /// What a value of a policy document should have been.
 #[derive(Clone, Copy, Debug, PartialEq, Eq)]
@@ -34,14 +63,14 @@ pub enum Want {
 }
 
 /// The first place of a document that breaks the schema, and what was wanted there.
-#[derive(Drop)]
+#[derive(Debug, Drop)]
 pub struct Fault {
     pub place: Path,
     pub want: Want,
 }
 
-/// Why a policy with its files is refused.
-#[derive(Drop)]
+/// Why a policy with its files is refused. Its text is the one that is printed.
+#[derive(Debug, Drop, Error)]
 pub enum Refusal {
     /// The bytes are no JSON text.
     NotJson,
