@@ -5,7 +5,7 @@ use Rattle.std.specs.List.{find}
 use Rattle.std.specs.Str.{bytes_eq}
 use Rattle.std.specs.Ordering.{nat_cmp}
 use Rattle.std.specs.Cmp.Lexicographic.{slice_cmp}
-use Rattle.std.specs.FinMap.{FinMap, get}
+use Rattle.std.specs.FinMap.{FinMap, from_entries, get}
 use Rattle.policy_meaning.specs.Thing.{Thing, region, channel, provided, device_memory, component_by}
 use Rattle.policy_types.specs.declared.source.Source.{Source}
 use Rattle.policy_types.specs.declared.source.Content.{Content}
@@ -14,6 +14,10 @@ use Rattle.policy_types.specs.declared.source.Content.TheVariants.{Zero, Fill, I
 -- what files hold, by name
 abbrev pub Held : Type 0
 Held = FinMap (slice_cmp nat_cmp) (List ℕ)
+
+-- what they hold where there are none
+abbrev pub no_files : Held
+no_files = from_entries []
 
 abbrev pub padded : ℕ → List ℕ → List ℕ
 padded size bytes = bytes ++ replicate (size - length bytes) 0

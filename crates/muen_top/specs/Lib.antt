@@ -1,0 +1,11 @@
+pub mod Answers
+pub mod Calls
+pub mod Commands
+pub mod FilesSeen
+pub mod Loads
+pub mod Parsed
+pub mod RecordText
+pub mod Refusals
+pub mod Reports
+pub mod Runs
+pub mod Stops

@@ -1,0 +1,92 @@
+// The line that tells how a command ended, and its status.
+ghost use Rattle.std.specs.Prelude.{◌≡◌};
+ghost use Rattle.muen_num.specs.Pieces.{whole};
+ghost use Rattle.muen_outside.specs.Puts.{Puts};
+ghost use Rattle.muen_top.specs.Reports.{line_of, refusal_status, status_of, stop_text, usage_text, Reported};
+
+use crate::outcome::{Outcome, Stop};
+use itoa::Buffer;
+use muen_num::Pieces;
+use muen_outside::{Sink, SinkFault, put_pieces};
+use policy_types::Refusal;
+
+// Words that are too long for the search among others.
+#[tactic(auto, unfolding(crate::specs::Reports::usage_text))]
+fn usage() -> &'static str
+    ensures { result.now ≡ usage_text }
+{
+    "usage: build POLICY IMAGE, run IMAGE RECORD, boot POLICY RECORD, map POLICY, flows POLICY, load NUMBER"
+}
+
+// The text of a stop in pieces.
+fn pieces<'a>(stop: &'a Stop<'_>, one: &'a mut Buffer, two: &'a mut Buffer) -> Pieces<'a>
+    ensures { whole result ≡ stop_text stop.now }
+{
+    match stop {
+        Stop::Usage => usage().into(),
+        Stop::Missing(name) => ("missing file ", *name).into(),
+        Stop::TooLong(name, length) => {
+            let length = one.format(*length);
+            ("file ", *name, " has ", length, " bytes").into()
+        }
+        Stop::Refused(refusal) => refusal.pieces(one, two),
+        Stop::RecordRefused(fault) => fault.pieces(one),
+        Stop::FileFault => "file fault".into(),
+        Stop::NoMemory => "out of memory".into(),
+    }
+}
+
+// The line with this text.
+fn put_line<S: Sink>(text: &Pieces<'_>, err: &mut S) -> Result<(), SinkFault>
+    ensures { Puts (line_of (whole text.now)) (S.state err.old) (S.state err.new) result }
+{
+    let Pieces(a, b, c, d, e, f, g, last) = *text;
+    put_pieces(&["muen: ", a, b, c, d, e, f, g, last, "\n"], err)
+}
+
+/// Puts the line of how a command ended; none where it is done.
+pub(crate) fn report<S: Sink>(outcome: &Outcome<'_>, err: &mut S)
+    ensures { Reported (S.state err.old) (S.state err.new) outcome.now }
+{
+    match outcome {
+        Outcome::Done => {}
+        Outcome::Stopped(stop) => {
+            let mut one = Buffer::new();
+            let mut two = Buffer::new();
+            let _ = put_line(&pieces(stop, &mut one, &mut two), err);
+        }
+        Outcome::OutputFault => {
+            let _ = put_line(&"output fault".into(), err);
+        }
+    }
+}
+
+fn refusal_status(refusal: &Refusal) -> u8
+    ensures { result ≡ refusal_status refusal.now }
+{
+    match refusal {
+        Refusal::NotJson
+        | Refusal::Shape { .. }
+        | Refusal::Rule { .. }
+        | Refusal::FileFit { .. }
+        | Refusal::NoRoom { .. } => 2,
+        Refusal::Missing { .. } | Refusal::TooLong { .. } => 3,
+        Refusal::NoMemory => 8,
+    }
+}
+
+/// The status of how a command ended.
+pub(crate) fn status(outcome: &Outcome<'_>) -> u8
+    ensures { result ≡ status_of outcome.now }
+{
+    match outcome {
+        Outcome::Done => 0,
+        Outcome::Stopped(Stop::Usage) => 1,
+        Outcome::Stopped(Stop::Refused(refusal)) => refusal_status(refusal),
+        Outcome::Stopped(Stop::Missing(_) | Stop::TooLong(_, _)) => 3,
+        Outcome::Stopped(Stop::FileFault) => 4,
+        Outcome::Stopped(Stop::RecordRefused(_)) => 6,
+        Outcome::OutputFault => 7,
+        Outcome::Stopped(Stop::NoMemory) => 8,
+    }
+}
