@@ -79,3 +79,31 @@ module _ (old new : FilesState) (out out' err err' : SinkState) (status : ℕ) w
 
   not_seven : OfReason 7 → ⊥
   not_seven h = grind (arith, h)
+
+-- ---- a whole call
+
+module _ (words : List (List ℕ)) (old new : FilesState) (out out' err err' : SinkState) (status : ℕ) (ran : Ran words old new out out' err err' status) where
+  -- the words' answer over the files that explain the call
+  given : Answer
+  given = answer_of ran.came.files (command_of words)
+
+  abbrev CameTo : Type 0
+  CameTo = Comes given old new out out' err err' status
+
+  came : CameTo
+  unfolding given
+  came = of_outcome old new out out' err err' status given ran.outcome ran.status_is ran.came.comes ran.report
+
+  answered : (Such : Answer → Type 0) → Such given → Answered words old.held Such
+  unfolding given
+  answered Such h = record { files = ran.came.files; told = ran.came.told; such = h }
+
+  pub prints_clause : status ≡ 0 → Answered words old.held (λ answer. Prints answer (λ text. Appended text out out'))
+  prints_clause zero =
+      elim came [
+        | printed text is as put quiet ↦ answered _ (subst (λ a. Prints a (λ text. Appended text out out')) (sym as) put)
+        | cut_off text is as put ↦ absurd (omega arith)
+        | stopped reason is as quiet told rose ↦ absurd (no_reason old new out out' err err' status reason 0 (not_zero old new out out' err err' status) (sym zero ∙ is))
+        | failed is rose quiet ↦ absurd (omega arith)
+        | no_memory is quiet ↦ absurd (omega arith)
+      ]
