@@ -6,7 +6,7 @@ pub mod refusal;
 pub mod rights;
 pub mod source;
 
-pub use refusal::{Fault, Path, Refusal, Want};
+pub use refusal::{Fault, Place, Refusal, Want};
 pub use rights::{Caching, MsrRights, Rights, Role};
 pub use source::Source;
 
