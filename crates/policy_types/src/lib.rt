@@ -7,7 +7,7 @@ mod refusal_text;
 pub mod rights;
 pub mod source;
 
-pub use refusal::{Fault, Path, Refusal, Want};
+pub use refusal::{Fault, Place, Refusal, Want};
 pub use rights::{Caching, MsrRights, Rights, Role};
 pub use source::Source;
 
