@@ -1,4 +1,5 @@
 pub mod Access
+pub mod Answers
 pub mod Deliver
 pub mod Fixed
 pub mod Frame
