@@ -1,4 +1,7 @@
 mod Examples
-pub mod NameText
 pub mod FirstSteps
+pub mod Lists
+pub mod NameText
+pub mod NumbersBelow
 pub mod Room
+pub mod SearchLaws
