@@ -2,8 +2,8 @@
 mod callers;
 
 use crate::tests::callers::{
-    Thing, check_sizes, first_alike, first_large, first_of_both, first_small, no_room_text,
-    offence_text,
+    Refused, Thing, check_sizes, first_alike, first_large, first_of_both, first_small,
+    names_of_small, no_room_text, offence_text,
 };
 use crate::text::{
     append, append_decimal, append_decimal8, append_decimal32, append_hex4, append_hex8,
@@ -153,5 +153,20 @@ fn writes_pieces(rt: HostRuntime) -> Result<(), Fail> {
     let part = Part::Named(ring);
     let text = no_room_text(&Tag { owner, part }, 4096, &mut digits).to_string(alloc)?;
     assert_eq!(rt; text.as_str(), "no room for net|ring of 4096 bytes");
+    Ok(())
+}
+
+#[test]
+fn answers_exactly(rt: HostRuntime) -> Result<(), Fail> {
+    let alloc = rt.alloc();
+    let (a, b) = (name(b"a")?, name(b"b")?);
+    let things = [(a, 5), (b, 20)].map(|(name, size)| Thing { name, size });
+    assert_eq!(rt; names_of_small(alloc, &[]), Err(Refused::Empty));
+    let one = Seq::of(Vec::from_slice(alloc, &[a])?);
+    assert_eq!(rt; names_of_small(alloc, &things[..1]), Ok(one));
+    let both = Seq::of(Vec::from_slice(alloc, &[a, b])?);
+    assert_eq!(rt; names_of_small(alloc, &things), Err(Refused::Large(both)));
+    let four = Refused::TooMany { length: 4 };
+    assert_eq!(rt; names_of_small(alloc, &[things[0]; 4]), Err(four));
     Ok(())
 }
