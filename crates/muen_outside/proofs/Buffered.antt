@@ -4,7 +4,7 @@ use Rattle.std.proofs.lemmas.List.{take_more, take_all}
 use Rattle.std.specs.List.{flat_map}
 use Rattle.std.proofs.lemmas.Bool.{false≢true}
 use Rattle.std.proofs.lemmas.Grind.{flat_map-append}
-use Rattle.muen_outside.specs.Outside.{SinkState}
+use Rattle.muen_outside.specs.States.{SinkState}
 use Rattle.muen_outside.specs.Puts.{Appended, Failed, Puts}
 use Rattle.muen_outside.specs.Buffered.{OutState, Given, Lost, Gives, Flushed, behind}
 use Rattle.muen_outside.proofs.Puts.{appended_none, appended_then, failed_as, failed_first, failed_after}
