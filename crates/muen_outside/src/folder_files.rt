@@ -5,11 +5,11 @@ ghost use Rattle.muen_outside.specs.Counts.{Rose};
 ghost use Rattle.muen_outside.specs.Store.{reading_of, KeepsOthers, insert_known};
 ghost use Rattle.muen_outside.specs.Found.{seen, IsMiss, IsWithin};
 ghost use Rattle.muen_outside.specs.FileCounts.{misses_after, faults_after};
-ghost use Rattle.muen_outside.specs.Folder.{files_of, capped, TakesAtMost, MadeAppends};
+ghost use Rattle.muen_outside.specs.FolderFiles.{files_of, capped, TakesAtMost, MadeAppends};
 
 use crate::files::{FileEnd, Files, Found};
 use crate::sink::SinkFault;
-use crate::std_sink::write_through;
+use crate::writer_sink::write_through;
 use muen_num::Seq;
 use std::alloc::Global;
 use std::fs::{File, Files as SystemFiles};
@@ -28,9 +28,9 @@ pub struct FolderFiles<R: SystemFiles> {
 }
 
 impl<R: SystemFiles> Model for FolderFiles<R> {
-    ghost use Rattle.muen_outside.specs.Folder.{Counted};
+    ghost use Rattle.muen_outside.specs.FolderFiles.{FolderCounts};
 
-    ghost Value = { Counted };
+    ghost Value = { FolderCounts };
 
     ghost view = { λ s. record { faults = s.faults; misses = s.misses } };
 }

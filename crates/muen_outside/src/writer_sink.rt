@@ -10,43 +10,43 @@ use std::marker::Model;
 /// A sink over a writer, which tells what the writer tells. Every error of the writer is a fault,
 /// also an interrupted call, and so is a write that takes none of the bytes.
 #[derive(Drop)]
-pub struct StdSink<W: Write> {
+pub struct WriterSink<W: Write> {
     writer: W,
     faults: u64,
 }
 
-impl<W: Write> Model for StdSink<W> {
-    ghost use Rattle.muen_outside.specs.Outside.{SinkState};
+impl<W: Write> Model for WriterSink<W> {
+    ghost use Rattle.muen_outside.specs.States.{SinkState};
 
     ghost Value = { SinkState };
 
     ghost view = { λ s. record { written = W.contents s.writer; faults = s.faults } };
 }
 
-impl<W: Write> StdSink<W> {
+impl<W: Write> WriterSink<W> {
     /// Over this writer, and a count of 0.
-    pub fn new(writer: W) -> StdSink<W>
+    pub fn new(writer: W) -> WriterSink<W>
         ensures { result ≡ record { written = W.contents writer; faults = 0 } }
     {
-        StdSink { writer, faults: 0 }
+        WriterSink { writer, faults: 0 }
     }
 }
 
-impl StdSink<Stdout> {
+impl WriterSink<Stdout> {
     /// Over the standard output of this runtime, and a count of 0.
-    pub fn output(rt: &HostRuntime) -> StdSink<Stdout>
+    pub fn standard_output(rt: &HostRuntime) -> WriterSink<Stdout>
         ensures { result ≡ record { written = None; faults = 0 } }
     {
-        StdSink::new(rt.stdout())
+        WriterSink::new(rt.stdout())
     }
 }
 
-impl StdSink<Stderr> {
+impl WriterSink<Stderr> {
     /// Over the standard error of this runtime, and a count of 0.
-    pub fn error(rt: &HostRuntime) -> StdSink<Stderr>
+    pub fn standard_error(rt: &HostRuntime) -> WriterSink<Stderr>
         ensures { result ≡ record { written = None; faults = 0 } }
     {
-        StdSink::new(rt.stderr())
+        WriterSink::new(rt.stderr())
     }
 }
 
@@ -87,7 +87,7 @@ pub(crate) fn write_through<W: Write>(writer: &mut W, bytes: &[u8]) -> Result<()
     }
 }
 
-impl<W: Write> Sink for StdSink<W> {
+impl<W: Write> Sink for WriterSink<W> {
     ghost state = { λ s. s };
 
     fn put(&mut self, bytes: &[u8]) -> Result<(), SinkFault>

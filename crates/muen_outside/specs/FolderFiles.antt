@@ -1,14 +1,14 @@
 -- Files of a folder as their callers see them, and what a read with a limit takes.
 use Rattle.std.specs.Prelude.{ℕ, ◌+◌, ◌≤◌, List, length, Option, Some, None, Result, Ok, Err, ⊤, if◌then◌else◌, nat_lt}
 use Rattle.std.specs.Io.KnownBytes.{Appends}
-use Rattle.muen_outside.specs.Outside.{FilesState}
+use Rattle.muen_outside.specs.States.{FilesState}
 use Rattle.muen_outside.specs.Store.{Reading, whole, long}
 
-pub record Counted : Type 0 where
+pub record FolderCounts : Type 0 where
   pub faults : ℕ
   pub misses : ℕ
 
-abbrev pub files_of : Counted → FilesState
+abbrev pub files_of : FolderCounts → FilesState
 files_of c = record { held = None; faults = c.faults; misses = c.misses }
 
 -- what is seen of the bytes where no more than one above the limit is taken
