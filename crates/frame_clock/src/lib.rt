@@ -11,6 +11,7 @@ ghost use Rattle.image_pack.specs.Slot.{frame_slots, slots_from, slot_at};
 ghost use Rattle.frame_clock.specs.Told.{slot_of};
 
 use image_pack::{Major, Minor, Plan};
+use muen_num::limits::MOST_MAJOR_FRAMES;
 
 /// The frame of a CPU at a tick.
 #[derive(Clone, Copy, Debug, PartialEq, Eq)]
@@ -27,7 +28,7 @@ pub struct FrameSlot {
 
 // All ticks of these major frames.
 fn ticks_in(majors: &[Major]) -> u64
-    requires { length majors.now ≤ 16 }
+    requires { length majors.now ≤ MOST_MAJOR_FRAMES }
     ensures { result ≡ sum_by (λ m. m.ticks) majors.now }
 {
     let mut total: u64 = 0;

@@ -7,7 +7,7 @@ use crate::instr::Instr;
 use muen_num::Size;
 
 // The fields of the eight bytes of an instruction.
-#[derive(Clone, Copy)]
+#[derive(Clone, Copy, Debug, PartialEq, Eq)]
 struct Fields {
     opcode: u8,
     rd: u8,
@@ -18,7 +18,7 @@ struct Fields {
 }
 
 // Which fields a row of the table names.
-#[derive(Clone, Copy)]
+#[derive(Clone, Copy, Debug, PartialEq, Eq)]
 struct Named {
     rd: bool,
     rs: bool,

@@ -6,6 +6,7 @@ use Rattle.muen_num.specs.Access.{kind_bit}
 use Rattle.policy_types.specs.Rights.{allows}
 use Rattle.muen_num.specs.Deliver.{delivered}
 use Rattle.muen_num.specs.Size.{bytes_of as count}
+use Rattle.muen_num.specs.declared.limits.TheConstants.{EXIT_EPT_VIOLATION, EXIT_EXCEPTION, GUEST_END}
 use Rattle.muen_num.specs.declared.bits.Kind.{Kind}
 use Rattle.muen_num.specs.declared.bits.Kind.TheVariants.{Read, Write, Fetch}
 use Rattle.muen_num.specs.declared.bits.Size.{Size}
@@ -47,8 +48,8 @@ module _ {A : Type 0} (P : A → Type 0) where
 
   pub leads : (ws : List (Window A)) (kind : Kind) (size address : ℕ) → AllShown P ws → LeadsTo (λ x _. P x) (reach_of ws kind size address)
   leads ws kind size address h =
-      elim (address % size == 0) as (λ b. LeadsTo (λ x _. P x) (cond b (cond (nat_le (2 ^ 48) address) (refused 48 (kind_bit kind) address) (reach_by kind address (access_of ws address kind))) (refused 0 0 0))) [
-        | true ↦ elim (nat_le (2 ^ 48) address) as (λ b. LeadsTo (λ x _. P x) (cond b (refused 48 (kind_bit kind) address) (reach_by kind address (access_of ws address kind)))) [
+      elim (address % size == 0) as (λ b. LeadsTo (λ x _. P x) (cond b (cond (nat_le GUEST_END address) (refused EXIT_EPT_VIOLATION (kind_bit kind) address) (reach_by kind address (access_of ws address kind))) (refused EXIT_EXCEPTION 0 0))) [
+        | true ↦ elim (nat_le GUEST_END address) as (λ b. LeadsTo (λ x _. P x) (cond b (refused EXIT_EPT_VIOLATION (kind_bit kind) address) (reach_by kind address (access_of ws address kind)))) [
           | true ↦ tt
           | false ↦ leads_by kind address ws h
         ]
@@ -98,8 +99,8 @@ module _ {A B : Type 0} (g : A → B) (from : A → List ℕ) (to : B → List �
 
   pub reach-relabelled : (ws : List (Window A)) (kind : Kind) (size address : ℕ) → reach_of (map (relabelled g) ws) kind size address ≡ reach_for g (reach_of ws kind size address)
   reach-relabelled ws kind size address =
-      elim (address % size == 0) as (λ b. cond b (cond (nat_le (2 ^ 48) address) (refused 48 (kind_bit kind) address) (reach_by kind address (access_of (map (relabelled g) ws) address kind))) (refused 0 0 0) ≡ reach_for g (cond b (cond (nat_le (2 ^ 48) address) (refused 48 (kind_bit kind) address) (reach_by kind address (access_of ws address kind))) (refused 0 0 0))) [
-        | true ↦ elim (nat_le (2 ^ 48) address) as (λ b. cond b (refused 48 (kind_bit kind) address) (reach_by kind address (access_of (map (relabelled g) ws) address kind)) ≡ reach_for g (cond b (refused 48 (kind_bit kind) address) (reach_by kind address (access_of ws address kind)))) [
+      elim (address % size == 0) as (λ b. cond b (cond (nat_le GUEST_END address) (refused EXIT_EPT_VIOLATION (kind_bit kind) address) (reach_by kind address (access_of (map (relabelled g) ws) address kind))) (refused EXIT_EXCEPTION 0 0) ≡ reach_for g (cond b (cond (nat_le GUEST_END address) (refused EXIT_EPT_VIOLATION (kind_bit kind) address) (reach_by kind address (access_of ws address kind))) (refused EXIT_EXCEPTION 0 0))) [
+        | true ↦ elim (nat_le GUEST_END address) as (λ b. cond b (refused EXIT_EPT_VIOLATION (kind_bit kind) address) (reach_by kind address (access_of (map (relabelled g) ws) address kind)) ≡ reach_for g (cond b (refused EXIT_EPT_VIOLATION (kind_bit kind) address) (reach_by kind address (access_of ws address kind)))) [
           | true ↦ refl
           | false ↦ reach-access ws kind address
         ]

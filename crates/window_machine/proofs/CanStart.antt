@@ -17,7 +17,7 @@ use Rattle.policy_types.specs.declared.source.Content.TheVariants.{Zero, Fill, I
 use Rattle.image_pack.specs.declared.plan.Plan.{Plan}
 use Rattle.plan_emit.specs.PlanOf.{IsPlanOf}
 use Rattle.window_machine.specs.Machine.{sizes_of, WindowFits, AllFit, GuestsFit, held_at_start, window_in, guest_at_start, machine_of, CanRun}
-use Rattle.window_machine.specs.Start.{is_held, are_placed_in}
+use Rattle.window_machine.specs.Start.{is_held}
 use Rattle.window_machine.proofs.Facts.{Facts, AreLaid, AllLaid, all_held, all_laid}
 
 length-content : (size : ℕ) (content : Content) → fits_in size content ≡ true → length (content_bytes no_files size content) ≡ size
@@ -55,7 +55,7 @@ module _ (regions : List Region) (sizes : List ℕ) (are : sizes ≡ map (λ r. 
   all_fit : (ms : List Mapping) → AreLaid regions ms → AllFit sizes (map (window_in regions) ms)
   all_fit [] h = tt
   all_fit (m ∷ ms) h =
-      let a : (nat_lt m.region (length regions) ≡ true) × (are_placed_in regions ms ≡ true) = and_parts _ _ h.0 in
+      let a : (nat_lt m.region (length regions) ≡ true) × (list_all (λ (m : Mapping). nat_lt m.region (length regions)) ms ≡ true) = and_parts _ _ h.0 in
       let b : (is_guest m.virtual_address (region_at regions m.region).size ≡ true) × (list_all (λ e. is_guest e.address e.size) (map (mapping_extent regions) ms) ≡ true) = and_parts _ _ h.1 in
       (fits m a.0 b.0, all_fit ms (a.1, b.1))
 

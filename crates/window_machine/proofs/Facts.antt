@@ -1,8 +1,9 @@
 -- What a lawful policy of built elements gives to the machine.
 use Rattle.std.proofs.Common.{◌≡◌, ℕ, ◌≤◌, true, false, cond, List, [], ◌∷◌, length, map, Some, None, refl, sym, ap, ◌∙◌, arith}
-use Rattle.std.specs.Prelude.{nat_le}
-use Rattle.std.specs.List.{list_all}
-use Rattle.std.proofs.lemmas.Bool.{and_from, and_parts}
+use Rattle.std.specs.Prelude.{nat_le, nat_lt}
+use Rattle.std.specs.List.{All, list_all}
+use Rattle.std.proofs.lemmas.Bool.{and_from, and_parts, ltb-true}
+use Rattle.std.proofs.lemmas.List.Sums.{AllPass-from_list_all}
 use Rattle.std.proofs.lemmas.Bool.Decides.{nat_tests}
 use Rattle.policy_types.specs.Built.{is_built_number, has_built_cpus}
 use Rattle.policy_lawful.specs.ByPlace.{mapping_extent, is_ready}
@@ -16,7 +17,7 @@ use Rattle.muen_num.proofs.Lists.{each_from}
 use Rattle.policy_lawful.proofs.ResolvedFacts.{subjects_unique}
 use Rattle.policy_lawful.proofs.WindowsByPlace.{extents_placed, regions_unique, all_ready}
 use Rattle.plan_emit.proofs.Kept.{rules_kept, laid, some_cpu}
-use Rattle.window_machine.specs.Start.{CanLoad, is_held, are_placed_in}
+use Rattle.window_machine.specs.Start.{CanLoad, is_held, ArePlacedIn}
 
 -- a lawful policy whose elements are built, and whose contents fit
 pub record Facts (r : Resolution) : Type 0 where
@@ -35,9 +36,13 @@ all_held r f = f.loads.contents
 pub ready : (r : Resolution) → Facts r → list_all (is_ready r) r.subjects ≡ true
 ready r f = all_ready r f.loads.built f.resolved.placed
 
-pub all_placed : (r : Resolution) → Facts r → list_all (λ s. are_placed_in r.memory s.memory) r.subjects ≡ true
-all_placed r f =
-    each_from (is_ready r) (λ s. are_placed_in r.memory s.memory) (λ s h. (and_parts _ _ h).1) r.subjects (ready r f)
+placed : (regions : List Region) (ms : List Mapping) → list_all (λ m. nat_lt m.region (length regions)) ms ≡ true → ArePlacedIn regions ms
+placed regions ms h k d l =
+    ltb-true _ _ (AllPass-from_list_all (λ (m : Mapping). nat_lt m.region (length regions)) ms h k d l)
+
+pub all_placed : (r : Resolution) → Facts r → All (λ s. ArePlacedIn r.memory s.memory) r.subjects
+all_placed r f k d l =
+    placed r.memory _ (and_parts _ _ (AllPass-from_list_all (is_ready r) r.subjects (ready r f) k d l)).1
 
 -- ---- names
 
@@ -52,7 +57,8 @@ unique_subjects r f = subjects_unique r f.resolved.names
 -- each mapping is of a region that is there, in whole pages
 abbrev pub AreLaid : List Region → List Mapping → Type 0
 AreLaid regions ms =
-    (are_placed_in regions ms ≡ true) × (list_all (λ e. is_guest e.address e.size) (map (mapping_extent regions) ms) ≡ true)
+    (list_all (λ m. nat_lt m.region (length regions)) ms ≡ true)
+    × (list_all (λ e. is_guest e.address e.size) (map (mapping_extent regions) ms) ≡ true)
 
 abbrev pub AllLaid : List Region → List Subject → Type 0
 AllLaid regions [] = Unit {0}

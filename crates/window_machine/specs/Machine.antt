@@ -33,13 +33,6 @@ use Rattle.window_machine.specs.declared.turn.Turn.{Turn}
 
 -- ---- memory
 
--- a window on a region, by the region's place in the list
-abbrev pub window_on : Window → WindowOf ℕ
-window_on w = window w.guest w.size w.rights w.place
-
-abbrev pub windows_on : List Window → List (WindowOf ℕ)
-windows_on windows = map window_on windows
-
 abbrev pub access_to : Access → AccessTo ℕ
 access_to (Byte place offset) = byte place offset
 access_to (Violation found) = violation found

@@ -1,6 +1,6 @@
 -- What the machine asks of a policy, and of its regions and subjects, so that it can start.
-use Rattle.std.specs.Prelude.{◌≡◌, Bool, true, List, length, nat_lt}
-use Rattle.std.specs.List.{list_all}
+use Rattle.std.specs.Prelude.{◌≡◌, ◌<◌, Bool, true, List, length}
+use Rattle.std.specs.List.{All, list_all}
 use Rattle.policy_meaning.specs.Contents.{fits_in}
 use Rattle.policy_types.specs.Built.{is_built, has_built_cpus}
 use Rattle.policy_lawful.specs.declared.resolved.Mapping.{Mapping}
@@ -17,5 +17,5 @@ pub record CanLoad (p : Source) : Type 0 where
   pub contents : list_all is_held p.memory ≡ true
 
 -- each mapping is of a region that is there
-abbrev pub are_placed_in : List Region → List Mapping → Bool
-are_placed_in regions ms = list_all (λ m. nat_lt m.region (length regions)) ms
+abbrev pub ArePlacedIn : List Region → List Mapping → Type 0
+ArePlacedIn regions ms = All (λ m. m.region < length regions) ms

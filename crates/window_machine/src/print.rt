@@ -32,7 +32,7 @@ impl PrintedLine for Holding {
 }
 
 // A row of a subject's final state.
-#[derive(Clone, Copy)]
+#[derive(Clone, Copy, Debug, PartialEq, Eq)]
 struct StateRow {
     subject: Name,
     state: SubjectState,

@@ -2,7 +2,7 @@ use Rattle.std.proofs.Common.{◌≡◌, ap, subst, ◌∙◌, None}
 use Rattle.std.specs.List.{list_all}
 use Rattle.policy_lawful.specs.Lawful.{rules_broken}
 use Rattle.policy_lawful.specs.Resolution.{Resolution, IsResolved, source_of}
-use Rattle.window_machine.specs.Start.{CanLoad, is_held, are_placed_in}
+use Rattle.window_machine.specs.Start.{CanLoad, is_held}
 use Rattle.window_machine.proofs.Facts.{Facts, all_held, all_placed}
 use Rattle.window_machine.proofs.SystemRun.{machine_is, starts_well, prints_so}
 use Rattle.window_machine.proofs.load.Goals as goal
@@ -25,7 +25,7 @@ start_all-requires c =
     let f = facts c.args.l.now _ c.resolved-resolved.ensures.value c.memory-regions.ensures.resolved c.resolved-resolved.ensures.rules c.requires in
     let regions = c.memory-regions.ensures.value ∙ ap (λ (r : Resolution). r.memory) c.resolved-resolved.ensures.value in
     let subjects = c.subjects.ensures.value ∙ ap (λ (r : Resolution). r.subjects) c.resolved-resolved.ensures.value in
-    (λ i. list_all (λ s. are_placed_in (regions i) s.memory) (subjects i)) ∙ all_placed c.args.l.now f
+    rw (regions, subjects) (all_placed c.args.l.now f)
 
 pub make-requires : goal.make-requires
 make-requires c =
