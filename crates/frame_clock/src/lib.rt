@@ -8,7 +8,7 @@ ghost use Rattle.std.specs.Prelude.{◌≡◌, ◌<◌, ◌≤◌, ◌%◌, Some
 ghost use Rattle.std.specs.List.{flat_map};
 ghost use Rattle.image_pack.specs.Plan.{frame_of, frames_in, cpus_of, is_group_on, is_plan};
 ghost use Rattle.image_pack.specs.Slot.{frame_slots, slots_from, slot_at};
-ghost use Rattle.frame_clock.specs.Told.{slot_of};
+ghost use Rattle.frame_clock.specs.FrameSlot.{slot_of};
 
 use image_pack::{Major, Minor, Plan};
 use muen_num::limits::MOST_MAJOR_FRAMES;
@@ -33,7 +33,7 @@ fn ticks_in(majors: &[Major]) -> u64
 {
     let mut total: u64 = 0;
     for major in majors {
-        total += major.ticks as u64;
+        total += u64::from(major.ticks);
     }
     total
 }
@@ -43,7 +43,7 @@ fn in_round(tick: u32, total: u64) -> u32
     requires { 0 < total }
     ensures { result ≡ tick % total }
 {
-    (tick as u64 % total) as u32
+    (u64::from(tick) % total) as u32
 }
 
 // The slot at a tick of a major frame, of a CPU with these minor frames in it.

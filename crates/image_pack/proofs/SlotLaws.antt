@@ -1,14 +1,15 @@
 -- Laws of the frame slots: how many ticks a CPU has, where each of them stands, and that a valid plan has a slot at each
 -- tick, with a group on the CPU.
-use Rattle.std.proofs.Common.{◌≡◌, ℕ, zero, suc, ◌+◌, ◌-◌, ◌%◌, ◌<◌, ◌≤◌, Bool, true, List, [], ◌∷◌, ◌++◌, length, map, Some, refl, sym, ap, ◌∙◌, subst, arith, length-append}
+use Rattle.std.proofs.Common.{◌≡◌, ℕ, zero, suc, ◌+◌, ◌-◌, ◌%◌, ◌<◌, ◌≤◌, Bool, true, false, List, [], ◌∷◌, ◌++◌, length, map, Option, Some, None, refl, sym, ap, ◌∙◌, subst, arith, length-append}
 use Rattle.std.specs.Prelude.{◌==◌, ◌&&◌, slice_get, slice_index_or, option_map, nat_lt, nat_le}
+use Rattle.std.specs.Option.{option_map_or}
 use Rattle.std.specs.List.{list_all, sum_by, enumerate_from, flat_map}
 use Rattle.std.proofs.lemmas.Bool.{and_parts, and_from, ltb-true, leb-true, eqb-true}
 use Rattle.std.proofs.lemmas.List.{length-map}
 use Rattle.std.proofs.lemmas.List.Concat.{flat_map-cons}
 use Rattle.std.proofs.lemmas.List.Folds.{list_all-append, list_all-map}
 use Rattle.std.proofs.lemmas.List.Sums.{sum_by-cons}
-use Rattle.std.proofs.lemmas.Option.{slice_get-map}
+use Rattle.std.proofs.lemmas.Option.{slice_get-map, slice_get_within}
 use Rattle.std.proofs.Math.Nat.{mod-lt}
 use Rattle.muen_num.specs.Frame.{Frame}
 use Rattle.muen_num.specs.Range.{numbers_below}
@@ -101,6 +102,7 @@ pub record HasMajor (groups : List GroupPart) (cpus : ℕ) (m : Major) : Type 0 
   pub each : list_all (is_cpu groups m.ticks) (enumerate_from 0 m.cpus) ≡ true
 
 pub record HasMajors (p : Plan) : Type 0 where
+  pub cpu : 0 < cpus_of p
   pub some : 0 < length p.majors
   pub within : length p.majors ≤ MOST_MAJOR_FRAMES
   pub groups : list_all (λ g. nat_lt g.cpu (cpus_of p)) p.groups ≡ true
@@ -145,12 +147,22 @@ has_majors p h =
     let a = and_parts (cpus && some && within && groups) (list_all (is_major p.groups (cpus_of p)) p.majors) h in
     let b = and_parts (cpus && some && within) groups a.0 in
     let c = and_parts (cpus && some) within b.0 in
+    let d = and_parts cpus some c.0 in
     record {
-      some = ltb-true 0 (length p.majors) (and_parts cpus some c.0).1;
+      cpu = ltb-true 0 (cpus_of p) (and_parts (nat_lt 0 (cpus_of p)) (nat_le (cpus_of p) MOST_CPUS) d.0).0;
+      some = ltb-true 0 (length p.majors) d.1;
       within = leb-true (length p.majors) MOST_MAJOR_FRAMES c.1;
       groups = b.1;
       each = a.1;
     }
+
+group_found : (groups : List GroupPart) (cpu k : ℕ) (o : Option GroupPart) → slice_get groups k ≡ o → option_map_or (λ g. g.cpu == cpu) o false ≡ true → k < length groups
+group_found groups cpu k None e h = absurd (cc)
+group_found groups cpu k (Some g) e h = slice_get_within groups k g e
+
+-- a group that is on a CPU is there
+pub group_there : (groups : List GroupPart) (cpu k : ℕ) → is_group_on groups cpu k ≡ true → k < length groups
+group_there groups cpu k h = group_found groups cpu k (slice_get groups k) refl h
 
 -- the minor frames of a CPU of a valid major frame
 cpu_at : (groups : List GroupPart) (ticks n : ℕ) (cpus : List (List Minor)) (k : ℕ) → list_all (is_cpu groups ticks) (enumerate_from n cpus) ≡ true → k < length cpus → is_cpu groups ticks (n + k, slice_index_or cpus k []) ≡ true

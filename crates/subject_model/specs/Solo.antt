@@ -47,8 +47,8 @@ abbrev pub idle : {X : Type 0} → SubjectState → Answer X
 idle s = record { state = s; what = None; stored = None; taken = None; raised = None }
 
 -- a line alone
-abbrev pub shown : {X : Type 0} → SubjectState → What → Answer X
-shown s what = record { state = s; what = Some what; stored = None; taken = None; raised = None }
+abbrev pub with_line : {X : Type 0} → SubjectState → What → Answer X
+with_line s what = record { state = s; what = Some what; stored = None; taken = None; raised = None }
 
 -- ---- an event is delivered
 
@@ -76,7 +76,7 @@ trapped s reason qualification address = record {
 -- an exit without one: the subject stops
 abbrev pub stopped_by : {X : Type 0} → SubjectState → ℕ → ℕ → ℕ → Answer X
 stopped_by s reason qualification address =
-    shown (record s { stopped = true; exited = true }) (Exit reason qualification address Stop)
+    with_line (record s { stopped = true; exited = true }) (Exit reason qualification address Stop)
 
 abbrev pub faulted : {X : Type 0} → List ℕ → SubjectState → ℕ → ℕ → ℕ → Answer X
 faulted traps s reason qualification address =
@@ -118,7 +118,7 @@ store_at x offset size value = record { thing = x; offset = offset; bytes = stor
 
 abbrev pub loaded : {X : Type 0} → List ℕ → (X → List ℕ) → SubjectState → SubjectState → ℕ → Size → Reach X → Answer X
 loaded traps bytes_of s after reg size (reached x offset) =
-    shown (record (with_register after reg (value_at size (bytes_of x) offset)) { exited = false }) (Set reg (value_at size (bytes_of x) offset))
+    with_line (record (with_register after reg (value_at size (bytes_of x) offset)) { exited = false }) (Set reg (value_at size (bytes_of x) offset))
 loaded traps bytes_of s after reg size (refused reason qualification address) = faulted traps s reason qualification address
 
 abbrev pub stored_to : {X : Type 0} → List ℕ → SubjectState → SubjectState → ℕ → Size → ℕ → Reach X → Answer X
@@ -152,9 +152,9 @@ called after number = record {
 -- its wish is met, or it leaves with the fault of its access; HLT leaves too, and the kernel halts the subject. No port
 -- and no MSR is granted to anyone yet, so each access to one leaves
 abbrev pub performed : {X : Type 0} → List ℕ → List (Window X) → (X → List ℕ) → ℕ → SubjectState → SubjectState → Wish → Answer X
-performed traps windows bytes_of tick s after Nothing = shown (record after { exited = false }) Ran
+performed traps windows bytes_of tick s after Nothing = with_line (record after { exited = false }) Ran
 performed traps windows bytes_of tick s after (Sets reg value) =
-    shown (record after { exited = false }) (Set reg value)
+    with_line (record after { exited = false }) (Set reg value)
 performed traps windows bytes_of tick s after (Loads reg address size) =
     loaded traps bytes_of s after reg size (reach_of windows Read (count size) address)
 performed traps windows bytes_of tick s after (Stores address size value) =
@@ -166,9 +166,9 @@ performed traps windows bytes_of tick s after (PortOut port size value) =
 performed traps windows bytes_of tick s after (ReadMsr reg index) = faulted traps s EXIT_RDMSR 0 0
 performed traps windows bytes_of tick s after (WriteMsr index value) = faulted traps s EXIT_WRMSR 0 0
 performed traps windows bytes_of tick s after (Tick reg) =
-    shown (record (with_register after reg tick) { exited = false }) (Set reg tick)
+    with_line (record (with_register after reg tick) { exited = false }) (Set reg tick)
 performed traps windows bytes_of tick s after (Calls number) = called after number
-performed traps windows bytes_of tick s after Halts = shown (record after { halted = true; exited = true }) (Exit EXIT_HLT 0 0 Halt)
+performed traps windows bytes_of tick s after Halts = with_line (record after { halted = true; exited = true }) (Exit EXIT_HLT 0 0 Halt)
 
 -- bytes outside the table are an exception
 abbrev pub executed : {X : Type 0} → List ℕ → List (Window X) → (X → List ℕ) → ℕ → SubjectState → Option Instr → Answer X

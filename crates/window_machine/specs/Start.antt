@@ -7,14 +7,14 @@ use Rattle.policy_lawful.specs.declared.resolved.Mapping.{Mapping}
 use Rattle.policy_types.specs.declared.source.Source.{Source}
 use Rattle.policy_types.specs.declared.source.Region.{Region}
 
-abbrev pub is_held : Region → Bool
-is_held r = fits_in r.size r.content
+abbrev pub has_fitting_content : Region → Bool
+has_fitting_content r = fits_in r.size r.content
 
 -- a policy of elements that are built, whose contents are no files' and fit
 pub record CanLoad (p : Source) : Type 0 where
   pub built : is_built p ≡ true
   pub cpus : has_built_cpus p ≡ true
-  pub contents : list_all is_held p.memory ≡ true
+  pub contents : list_all has_fitting_content p.memory ≡ true
 
 -- each mapping is of a region that is there
 abbrev pub ArePlacedIn : List Region → List Mapping → Type 0

@@ -2,8 +2,8 @@
 ghost use Rattle.std.specs.Prelude.{◌≡◌, ◌<◌, true, map, length, IfOk};
 ghost use Rattle.std.specs.List.{All, list_all};
 ghost use Rattle.policy_lawful.specs.ByPlace.{region_at};
-ghost use Rattle.window_machine.specs.Machine.{held_at_start, window_in, guest_at_start};
-ghost use Rattle.window_machine.specs.Start.{is_held, ArePlacedIn};
+ghost use Rattle.window_machine.specs.Machine.{holding_at_start, window_in, guest_at_start};
+ghost use Rattle.window_machine.specs.Start.{has_fitting_content, ArePlacedIn};
 
 use crate::guest::Guest;
 use crate::memory::{Holding, Window};
@@ -16,8 +16,8 @@ use std::alloc::{AllocError, Global};
 
 // A region with its bytes at the start.
 fn hold(alloc: Global, region: &Region) -> Result<Holding, AllocError>
-    requires { is_held region.now ≡ true }
-    ensures { IfOk result (λ h. h ≡ held_at_start region.now) }
+    requires { has_fitting_content region.now ≡ true }
+    ensures { IfOk result (λ h. h ≡ holding_at_start region.now) }
 {
     let bytes = content_bytes(alloc, region.size, &region.content)?;
     Ok(Holding {
@@ -28,8 +28,8 @@ fn hold(alloc: Global, region: &Region) -> Result<Holding, AllocError>
 
 /// The regions with their bytes at the start.
 pub(crate) fn hold_all(alloc: Global, regions: &[Region]) -> Result<Vec<Holding>, AllocError>
-    requires { list_all is_held regions.now ≡ true }
-    ensures { IfOk result (λ all. all.items ≡ map held_at_start regions.now) }
+    requires { list_all has_fitting_content regions.now ≡ true }
+    ensures { IfOk result (λ all. all.items ≡ map holding_at_start regions.now) }
 {
     let mut all = Vec::new(alloc);
     for region in regions {

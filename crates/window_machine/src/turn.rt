@@ -2,8 +2,8 @@
 ghost use Rattle.std.specs.Prelude.{◌≡◌, ◌+◌, ◌<◌, ◌≤◌, length, take, drop, [], true, false};
 ghost use Rattle.muen_num.specs.Size.{bytes_of};
 ghost use Rattle.muen_num.specs.declared.bits.Kind.TheVariants.{Read, Write};
-ghost use Rattle.guest_isa.specs.GuestIsa.{decode_of, with_register, IsFineWish};
-ghost use Rattle.subject_model.specs.Solo.{reach_of, shown, faulted, loaded, stored_to, port_qualification, called, performed, executed, attempted, turn_over};
+ghost use Rattle.guest_isa.specs.GuestIsa.{decode_of, with_register, IsValidWish};
+ghost use Rattle.subject_model.specs.Solo.{reach_of, with_line, faulted, loaded, stored_to, port_qualification, called, performed, executed, attempted, turn_over};
 ghost use Rattle.window_machine.specs.Machine.{bytes_at, sizes_of, AllFit, answer_of};
 
 use crate::memory::{Holding, Reach, Store, Window, reach_of, value_at};
@@ -28,8 +28,8 @@ pub(crate) struct Turn {
 }
 
 // A turn with a line, and nothing else.
-fn shown(state: SubjectState, what: What) -> Turn
-    ensures { answer_of result ≡ shown state what }
+fn with_line(state: SubjectState, what: What) -> Turn
+    ensures { answer_of result ≡ with_line state what }
 {
     Turn {
         state,
@@ -46,7 +46,7 @@ fn fault(s: &SubjectState, reason: u8, qualification: u64, addr: u64) -> Turn
     let mut state = *s;
     state.stopped = true;
     state.exited = true;
-    shown(
+    with_line(
         state,
         What::Exit {
             reason,
@@ -59,12 +59,12 @@ fn fault(s: &SubjectState, reason: u8, qualification: u64, addr: u64) -> Turn
 
 // The kernel halts the subject.
 fn halt(after: &SubjectState) -> Turn
-    ensures { answer_of result ≡ shown (record after.now { halted = true; exited = true }) (What.Exit EXIT_HLT 0 0 End.Halt) }
+    ensures { answer_of result ≡ with_line (record after.now { halted = true; exited = true }) (What.Exit EXIT_HLT 0 0 End.Halt) }
 {
     let mut state = *after;
     state.halted = true;
     state.exited = true;
-    shown(
+    with_line(
         state,
         What::Exit {
             reason: EXIT_HLT,
@@ -77,15 +77,15 @@ fn halt(after: &SubjectState) -> Turn
 
 // An instruction that didn't leave.
 fn ran(after: &SubjectState, what: What) -> Turn
-    ensures { answer_of result ≡ shown (record after.now { exited = false }) what }
+    ensures { answer_of result ≡ with_line (record after.now { exited = false }) what }
 {
     let mut state = *after;
     state.exited = false;
-    shown(state, what)
+    with_line(state, what)
 }
 
 // A register is loaded, or the access faults.
-#[tactic(auto, using(crate::proofs::Reached::reached_within))]
+#[tactic(auto, using(crate::proofs::AccessWithin::reached_within))]
 fn load(
     windows: &[Window],
     holdings: &[Holding],
@@ -177,7 +177,7 @@ fn call(after: &SubjectState, number: u64) -> Turn
 // The register has the number of the tick.
 fn tell_tick(after: &SubjectState, reg: u8, tick: u32) -> Turn
     requires { reg < 16 }
-    ensures { answer_of result ≡ shown (record (with_register after.now reg tick) { exited = false }) (What.Set reg tick) }
+    ensures { answer_of result ≡ with_line (record (with_register after.now reg tick) { exited = false }) (What.Set reg tick) }
 {
     let value = u64::from(tick);
     ran(&with_register(after, reg, value), What::Set { reg, value })
@@ -192,7 +192,7 @@ fn perform(
     after: &SubjectState,
     wish: Wish,
 ) -> Turn
-    requires fine { IsFineWish wish }
+    requires valid { IsValidWish wish }
     requires fit { AllFit (sizes_of holdings.now) windows.now }
     ensures { answer_of result ≡ performed [] windows.now (bytes_at holdings.now) tick s.now after.now wish }
 {
@@ -255,7 +255,7 @@ fn eight(bytes: &[u8], offset: usize) -> [u8; 8]
 
 // One instruction, or the first of its faults: those of the fetch, bytes outside the table, those of
 // the access.
-#[tactic(auto, using(crate::proofs::Reached::fetched_within))]
+#[tactic(auto, using(crate::proofs::AccessWithin::fetched_within))]
 fn attempt(windows: &[Window], holdings: &[Holding], tick: u32, s: &SubjectState) -> Turn
     requires { AllFit (sizes_of holdings.now) windows.now }
     ensures { answer_of result ≡ attempted [] windows.now (bytes_at holdings.now) tick s.now }

@@ -5,7 +5,7 @@ use Rattle.guest_isa.specs.GuestIsa.{decode_of}
 use Rattle.subject_model.specs.Solo.{executed, fetched}
 use Rattle.window_machine.specs.Machine.{bytes_at, nothing}
 use Rattle.window_machine.specs.declared.memory.Holding.{Holding}
-use Rattle.window_machine.proofs.Reached.{fetched_within}
+use Rattle.window_machine.proofs.AccessWithin.{fetched_within}
 use Rattle.window_machine.proofs.turn.attempt.Goals as goal
 
 pub returns-in-Reached : goal.returns-in-Reached

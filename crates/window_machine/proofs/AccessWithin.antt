@@ -1,5 +1,5 @@
 -- What an access reaches lies in a region.
-use Rattle.std.proofs.Common.{◌≡◌, ℕ, ◌+◌, ◌-◌, ◌%◌, ◌^◌, ◌<◌, ◌≤◌, true, false, cond, List, [], ◌∷◌, length, Some, refl, sym, ◌∙◌, subst, arith}
+use Rattle.std.proofs.Common.{◌≡◌, ℕ, ◌+◌, ◌-◌, ◌%◌, ◌<◌, ◌≤◌, true, false, cond, List, [], ◌∷◌, length, Some, refl, sym, ◌∙◌, subst, arith}
 use Rattle.std.specs.Prelude.{◌==◌, nat_le}
 use Rattle.std.specs.List.{find}
 use Rattle.std.proofs.Math.ListN.{get_or-map}
@@ -15,7 +15,7 @@ use Rattle.muen_num.specs.declared.bits.Size.{Size}
 use Rattle.muen_num.specs.declared.bits.Size.TheVariants.{One, Two, Four, Eight}
 use Rattle.policy_meaning.specs.Windows.{Window, byte, violation, holds, access_by, access_of}
 use Rattle.subject_model.specs.Solo.{reached, refused, reach_by, reach_of}
-use Rattle.subject_model.proofs.Alone.{LeadsTo}
+use Rattle.subject_model.proofs.Relabelled.{LeadsTo}
 use Rattle.window_machine.specs.Machine.{bytes_at, nothing, sizes_of, WindowFits, AllFit, Within}
 use Rattle.window_machine.specs.declared.memory.Holding.{Holding}
 
