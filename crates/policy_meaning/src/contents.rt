@@ -23,3 +23,26 @@ pub fn content_bytes(alloc: Global, size: u64, content: &Content) -> Result<Vec<
         Content::File { .. } => unreachable!(),
     }
 }
+
+#[cfg(test)]
+mod tests {
+    use super::content_bytes;
+    use muen_num::Seq;
+    use policy_types::source::Content;
+    use std::test::Fail;
+
+    #[test]
+    fn each_content_fills_its_room(rt: HostRuntime) -> Result<(), Fail> {
+        let alloc = rt.alloc();
+        let inline = Content::Inline(Seq::of(Vec::from_slice(alloc, b"abc")?));
+        let cases: [(&Content, &[u8]); 3] = [
+            (&Content::Zero, &[0, 0, 0, 0, 0]),
+            (&Content::Fill(7), &[7, 7, 7, 7, 7]),
+            (&inline, b"abc\0\0"),
+        ];
+        for (content, want) in cases {
+            assert_eq!(rt; content_bytes(alloc, 5, content)?.as_slice(), want);
+        }
+        Ok(())
+    }
+}
