@@ -16,9 +16,9 @@ use Rattle.policy_types.specs.declared.source.Content.{Content}
 use Rattle.policy_types.specs.declared.source.Content.TheVariants.{Zero, Fill, Inline, File}
 use Rattle.image_pack.specs.declared.plan.Plan.{Plan}
 use Rattle.plan_emit.specs.PlanOf.{IsPlanOf}
-use Rattle.window_machine.specs.Machine.{sizes_of, WindowFits, AllFit, GuestsFit, held_at_start, window_in, guest_at_start, machine_of, CanRun}
-use Rattle.window_machine.specs.Start.{is_held, are_placed_in}
-use Rattle.window_machine.proofs.Facts.{Facts, AreLaid, AllLaid, all_held, all_laid}
+use Rattle.window_machine.specs.Machine.{sizes_of, WindowFits, AllFit, GuestsFit, holding_at_start, window_in, guest_at_start, machine_of, CanRun}
+use Rattle.window_machine.specs.Start.{has_fitting_content}
+use Rattle.window_machine.proofs.Loadable.{IsLoadable, AreLaid, AllLaid, all_fitting, all_laid}
 
 length-content : (size : ℕ) (content : Content) → fits_in size content ≡ true → length (content_bytes no_files size content) ≡ size
 length-content size Zero h = length-replicate {A = ℕ} size 0
@@ -29,11 +29,11 @@ length-content size (Inline bytes) h =
 length-content size (File name offset most) h = absurd (cc)
 
 -- each region has as many bytes as its size says
-sizes_held : (rs : List Region) → list_all is_held rs ≡ true → sizes_of (map held_at_start rs) ≡ map (λ r. r.size) rs
-sizes_held [] h = refl
-sizes_held (r ∷ rs) h =
-    let a : (is_held r ≡ true) × (list_all is_held rs ≡ true) = and_parts _ _ h in
-    λ i. length-content r.size r.content a.0 i ∷ sizes_held rs a.1 i
+sizes_at_start : (rs : List Region) → list_all has_fitting_content rs ≡ true → sizes_of (map holding_at_start rs) ≡ map (λ r. r.size) rs
+sizes_at_start [] h = refl
+sizes_at_start (r ∷ rs) h =
+    let a : (has_fitting_content r ≡ true) × (list_all has_fitting_content rs ≡ true) = and_parts _ _ h in
+    λ i. length-content r.size r.content a.0 i ∷ sizes_at_start rs a.1 i
 
 module _ (regions : List Region) (sizes : List ℕ) (are : sizes ≡ map (λ r. r.size) regions) where
   fits : (m : Mapping) → nat_lt m.region (length regions) ≡ true → is_guest m.virtual_address (region_at regions m.region).size ≡ true → WindowFits sizes (window_in regions m)
@@ -55,7 +55,7 @@ module _ (regions : List Region) (sizes : List ℕ) (are : sizes ≡ map (λ r. 
   all_fit : (ms : List Mapping) → AreLaid regions ms → AllFit sizes (map (window_in regions) ms)
   all_fit [] h = tt
   all_fit (m ∷ ms) h =
-      let a : (nat_lt m.region (length regions) ≡ true) × (are_placed_in regions ms ≡ true) = and_parts _ _ h.0 in
+      let a : (nat_lt m.region (length regions) ≡ true) × (list_all (λ (m : Mapping). nat_lt m.region (length regions)) ms ≡ true) = and_parts _ _ h.0 in
       let b : (is_guest m.virtual_address (region_at regions m.region).size ≡ true) × (list_all (λ e. is_guest e.address e.size) (map (mapping_extent regions) ms) ≡ true) = and_parts _ _ h.1 in
       (fits m a.0 b.0, all_fit ms (a.1, b.1))
 
@@ -67,10 +67,10 @@ many_subjects : (r : Resolution) → length (source_of r).subjects ≡ length (m
 unfolding source_of
 many_subjects r = length-map r.subjects (subject_named r) ∙ sym (length-map r.subjects (guest_at_start r.memory))
 
-pub can_run : (r : Resolution) → Facts r → (plan : Plan) → IsPlanOf (source_of r) plan → CanRun (machine_of r plan)
+pub can_run : (r : Resolution) → IsLoadable r → (plan : Plan) → IsPlanOf (source_of r) plan → CanRun (machine_of r plan)
 unfolding machine_of
 can_run r f plan of = record {
   plan = of.valid;
   there = ap (λ n. list_all (λ g. nat_lt g.first n) plan.groups) (sym (many_subjects r)) ∙ of.there;
-  fit = guests_fit r.memory (sizes_of (map held_at_start r.memory)) (sizes_held r.memory (all_held r f)) r.subjects (all_laid r f);
+  fit = guests_fit r.memory (sizes_of (map holding_at_start r.memory)) (sizes_at_start r.memory (all_fitting r f)) r.subjects (all_laid r f);
 }

@@ -11,11 +11,12 @@ use Rattle.policy_meaning.specs.Windows.{Window}
 use Rattle.state_page.specs.declared.SubjectState.{SubjectState}
 use Rattle.subject_model.specs.Solo.{Stored, Reach, reached, refused, reach_of, store_at, stored_bytes, turn_over}
 use Rattle.subject_model.specs.System.{overwritten}
-use Rattle.subject_model.proofs.Alone.{LeadsTo, MayStore, StoresSo, turn_stores}
+use Rattle.subject_model.proofs.Relabelled.{LeadsTo}
+use Rattle.subject_model.proofs.TurnStores.{MayStore, StoresSo, turn_stores}
 use Rattle.window_machine.specs.Machine.{bytes_at, nothing, sizes_of, AllFit, Within, HaveRoom, stored_for, with_stored}
 use Rattle.window_machine.specs.declared.memory.Holding.{Holding}
 use Rattle.window_machine.specs.declared.memory.Store.{Store}
-use Rattle.window_machine.proofs.Reached.{within}
+use Rattle.window_machine.proofs.AccessWithin.{within}
 
 -- ---- what stays
 

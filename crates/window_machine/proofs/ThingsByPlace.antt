@@ -14,7 +14,8 @@ use Rattle.muen_num.proofs.Lists.{find-map, position-map}
 use Rattle.policy_lawful.proofs.Places.{same_self}
 use Rattle.subject_model.specs.Solo.{Stored, bytes_in}
 use Rattle.subject_model.specs.System.{is_shown, change_first, overwritten, with_store}
-use Rattle.subject_model.proofs.Alone.{relabelled, store_of, AllShown, StoresSo}
+use Rattle.subject_model.proofs.Relabelled.{relabelled_window, relabelled_store, AllShown}
+use Rattle.subject_model.proofs.TurnStores.{StoresSo}
 use Rattle.window_machine.specs.Machine.{bytes_at, nothing, with_stored}
 use Rattle.window_machine.specs.declared.memory.Holding.{Holding}
 
@@ -31,8 +32,8 @@ thing_of h = (region h.name, h.bytes)
 abbrev pub thing_at : List (List ℕ) → ℕ → Thing
 thing_at names place = region (name_at names place)
 
-abbrev pub held_names : List Holding → List (List ℕ)
-held_names hs = map (λ h. h.name) hs
+abbrev pub holding_names : List Holding → List (List ℕ)
+holding_names hs = map (λ h. h.name) hs
 
 -- what is shown is found among what is shown, as among all
 find-shown : (shown : Thing → Bool) (name : List ℕ) (hs : List Holding) → shown (region name) ≡ true → find (λ e. same_thing e.0 (region name)) (filter (λ e. shown e.0) (map thing_of hs)) ≡ find (λ e. same_thing e.0 (region name)) (map thing_of hs)
@@ -52,7 +53,7 @@ find-shown shown name (x ∷ xs) h =
 
 -- ---- a region by its name, whatever bytes it has
 
-module _ (names : List (List ℕ)) (hs : List Holding) (named : held_names hs ≡ names) (place : ℕ) (first : IsFirst names place) where
+module _ (names : List (List ℕ)) (hs : List Holding) (named : holding_names hs ≡ names) (place : ℕ) (first : IsFirst names place) where
   position_is : position_or_len (λ h. bytes_eq h.name (name_at names place)) hs ≡ place
   position_is =
       sym (position-map (λ n. bytes_eq n (name_at names place)) (λ (h : Holding). h.name) hs)
@@ -94,7 +95,7 @@ change_at_place test change to f d same (x ∷ xs) (suc i) e =
     ]) e
 
 -- a store by name is the store by place
-pub stored_named : (names : List (List ℕ)) (hs : List Holding) → held_names hs ≡ names → (o : Option (Stored ℕ)) → StoresSo (λ w. IsFirst names w.thing) o → with_store (option_map (store_of (thing_at names)) o) (map thing_of hs) ≡ map thing_of (with_stored o hs)
+pub stored_named : (names : List (List ℕ)) (hs : List Holding) → holding_names hs ≡ names → (o : Option (Stored ℕ)) → StoresSo (λ w. IsFirst names w.thing) o → with_store (option_map (relabelled_store (thing_at names)) o) (map thing_of hs) ≡ map thing_of (with_stored o hs)
 stored_named names hs named None h = refl
 stored_named names hs named (Some w) h =
     change_at_place (λ e. same_thing e.0 (thing_at names w.thing)) (λ e. (e.0, overwritten w.offset w.bytes e.1)) thing_of (λ h. record h { bytes = overwritten w.offset w.bytes h.bytes }) nothing (λ h. refl) hs w.thing (sym (position_is names hs named w.thing h))
@@ -102,13 +103,13 @@ stored_named names hs named (Some w) h =
 -- ---- what is shown
 
 IsShownBy : (ℕ → Thing) → List (Window ℕ) → ℕ → Type 0
-IsShownBy g ws place = is_shown (map (relabelled g) ws) (g place) ≡ true
+IsShownBy g ws place = is_shown (map (relabelled_window g) ws) (g place) ≡ true
 
 shown_later : (g : ℕ → Thing) (v : Window ℕ) (whole ws : List (Window ℕ)) → AllShown (IsShownBy g whole) ws → AllShown (IsShownBy g (v ∷ whole)) ws
 unfolding IsShownBy
 shown_later g v whole [] h = tt
 shown_later g v whole (w ∷ ws) h = (
-  elim (same_thing (g v.thing) (g w.thing)) as (λ b. (b || is_shown (map (relabelled g) whole) (g w.thing)) ≡ true) [ true ↦ refl | false ↦ h.0 ],
+  elim (same_thing (g v.thing) (g w.thing)) as (λ b. (b || is_shown (map (relabelled_window g) whole) (g w.thing)) ≡ true) [ true ↦ refl | false ↦ h.0 ],
   shown_later g v whole ws h.1,
 )
 
@@ -116,7 +117,7 @@ each_shown : (names : List (List ℕ)) (ws : List (Window ℕ)) → AllShown (Is
 unfolding IsShownBy
 each_shown names [] = tt
 each_shown names (w ∷ ws) = (
-  ap (λ b. b || is_shown (map (relabelled (thing_at names)) ws) (thing_at names w.thing)) (same_self (name_at names w.thing)),
+  ap (λ b. b || is_shown (map (relabelled_window (thing_at names)) ws) (thing_at names w.thing)) (same_self (name_at names w.thing)),
   shown_later (thing_at names) w ws ws (each_shown names ws),
 )
 
@@ -125,7 +126,7 @@ shown_both P Q R f [] p q = tt
 shown_both P Q R f (w ∷ ws) p q = (f w.thing p.0 q.0, shown_both P Q R f ws p.1 q.1)
 
 -- the inbox of a subject with these windows has the bytes of the machine's regions
-pub same_here : (names : List (List ℕ)) (hs : List Holding) (ws : List (Window ℕ)) → held_names hs ≡ names → AllShown (IsFirst names) ws → AllShown (λ place. bytes_in (filter (λ e. is_shown (map (relabelled (thing_at names)) ws) e.0) (map thing_of hs)) (thing_at names place) ≡ bytes_at hs place) ws
+pub same_here : (names : List (List ℕ)) (hs : List Holding) (ws : List (Window ℕ)) → holding_names hs ≡ names → AllShown (IsFirst names) ws → AllShown (λ place. bytes_in (filter (λ e. is_shown (map (relabelled_window (thing_at names)) ws) e.0) (map thing_of hs)) (thing_at names place) ≡ bytes_at hs place) ws
 unfolding IsShownBy
 same_here names hs ws named first =
-    shown_both (IsFirst names) (IsShownBy (thing_at names) ws) _ (λ place f s. shown_bytes names hs named place f (is_shown (map (relabelled (thing_at names)) ws)) s) ws first (each_shown names ws)
+    shown_both (IsFirst names) (IsShownBy (thing_at names) ws) _ (λ place f s. shown_bytes names hs named place f (is_shown (map (relabelled_window (thing_at names)) ws)) s) ws first (each_shown names ws)

@@ -1,5 +1,5 @@
 -- What an access reaches lies in a region.
-use Rattle.std.proofs.Common.{◌≡◌, ℕ, ◌+◌, ◌-◌, ◌%◌, ◌^◌, ◌<◌, ◌≤◌, true, false, cond, List, [], ◌∷◌, length, Some, refl, sym, ◌∙◌, subst, arith}
+use Rattle.std.proofs.Common.{◌≡◌, ℕ, ◌+◌, ◌-◌, ◌%◌, ◌<◌, ◌≤◌, true, false, cond, List, [], ◌∷◌, length, Some, refl, sym, ◌∙◌, subst, arith}
 use Rattle.std.specs.Prelude.{◌==◌, nat_le}
 use Rattle.std.specs.List.{find}
 use Rattle.std.proofs.Math.ListN.{get_or-map}
@@ -9,12 +9,13 @@ use Rattle.std.proofs.lemmas.List.{length-map}
 use Rattle.muen_num.specs.Access.{kind_bit}
 use Rattle.policy_types.specs.Rights.{allows}
 use Rattle.muen_num.specs.Size.{bytes_of as count}
+use Rattle.muen_num.specs.declared.limits.TheConstants.{EXIT_EPT_VIOLATION, EXIT_EXCEPTION, GUEST_END}
 use Rattle.muen_num.specs.declared.access.Kind.{Kind}
 use Rattle.muen_num.specs.declared.access.Size.{Size}
 use Rattle.muen_num.specs.declared.access.Size.TheVariants.{One, Two, Four, Eight}
 use Rattle.policy_meaning.specs.Windows.{Window, byte, violation, holds, access_by, access_of}
 use Rattle.subject_model.specs.Solo.{reached, refused, reach_by, reach_of}
-use Rattle.subject_model.proofs.Alone.{LeadsTo}
+use Rattle.subject_model.proofs.Relabelled.{LeadsTo}
 use Rattle.window_machine.specs.Machine.{bytes_at, nothing, sizes_of, WindowFits, AllFit, Within}
 use Rattle.window_machine.specs.declared.memory.Holding.{Holding}
 
@@ -53,8 +54,8 @@ module _ (holdings : List Holding) (size : Size) (address : ℕ) (aligned : addr
 
 pub within : (holdings : List Holding) (ws : List (Window ℕ)) (kind : Kind) (size : Size) (address : ℕ) → AllFit (sizes_of holdings) ws → LeadsTo (Within holdings (count size)) (reach_of ws kind (count size) address)
 within holdings ws kind size address fits =
-    (elim (address % count size == 0) as (λ b. (address % count size == 0) ≡ b → LeadsTo (Within holdings (count size)) (cond b (cond (nat_le (2 ^ 48) address) (refused 48 (kind_bit kind) address) (reach_by kind address (access_of ws address kind))) (refused 0 0 0))) [
-      | true ↦ λ a. elim (nat_le (2 ^ 48) address) as (λ b. LeadsTo (Within holdings (count size)) (cond b (refused 48 (kind_bit kind) address) (reach_by kind address (access_of ws address kind)))) [
+    (elim (address % count size == 0) as (λ b. (address % count size == 0) ≡ b → LeadsTo (Within holdings (count size)) (cond b (cond (nat_le GUEST_END address) (refused EXIT_EPT_VIOLATION (kind_bit kind) address) (reach_by kind address (access_of ws address kind))) (refused EXIT_EXCEPTION 0 0))) [
+      | true ↦ λ a. elim (nat_le GUEST_END address) as (λ b. LeadsTo (Within holdings (count size)) (cond b (refused EXIT_EPT_VIOLATION (kind_bit kind) address) (reach_by kind address (access_of ws address kind)))) [
         | true ↦ tt
         | false ↦ within_by holdings size address (eqb-true _ _ a) kind ws fits
       ]
