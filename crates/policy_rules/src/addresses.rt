@@ -4,7 +4,7 @@ ghost use Rattle.muen_num.specs.Search.{first_in, unless};
 ghost use Rattle.policy_lawful.specs.Offences.{alone};
 ghost use Rattle.policy_lawful.specs.Rules.{is_page_aligned, is_page_size, is_physical, is_guest, is_alignment, is_fixed, is_laid};
 
-use muen_num::Name;
+use muen_num::first;
 use policy_lawful::Offence;
 use policy_types::source::{Block, Region};
 
@@ -15,16 +15,6 @@ const LARGE_PAGE: u64 = 1 << 21;
 const PHYSICAL_END: u128 = 1 << 40;
 
 const GUEST_END: u128 = 1 << 48;
-
-/// An offence that names one thing alone.
-pub(crate) fn alone(name: Name) -> Offence
-    ensures { result ≡ alone name }
-{
-    Offence {
-        first: name,
-        second: name,
-    }
-}
 
 fn is_page_aligned(n: u64) -> bool
     ensures { result ≡ is_page_aligned n }
@@ -85,22 +75,14 @@ fn is_laid(region: &Region) -> bool
 pub(crate) fn blocks(blocks: &[Block]) -> Option<Offence>
     ensures { result ≡ first_in (λ b. unless (is_physical b.physical_address b.size) (alone b.name)) blocks.now }
 {
-    for block in blocks {
-        if !is_physical(block.physical_address, block.size) {
-            return Some(alone(block.name));
-        }
-    }
-    None
+    first(blocks, |block| {
+        Offence::alone(block.name).unless(is_physical(block.physical_address, block.size))
+    })
 }
 
 /// The first region whose size, alignment or address isn't one.
 pub(crate) fn regions(regions: &[Region]) -> Option<Offence>
     ensures { result ≡ first_in (λ r. unless (is_laid r) (alone r.name)) regions.now }
 {
-    for region in regions {
-        if !is_laid(region) {
-            return Some(alone(region.name));
-        }
-    }
-    None
+    first(regions, |region| Offence::alone(region.name).unless(is_laid(region)))
 }
