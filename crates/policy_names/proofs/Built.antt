@@ -18,7 +18,7 @@ use Rattle.policy_types.specs.declared.source.CpuFrames.{CpuFrames}
 use Rattle.policy_names.specs.Parts.{subject_refers, group_refers, major_refers}
 use Rattle.policy_names.specs.Firsts.{IsFirst, region_names, subject_names, group_names, repeated_names, undeclared_names}
 use Rattle.policy_names.proofs.Firsts.{of_rule}
-use Rattle.muen_num.proofs.FirstIn.{first_in-append, option_or-None, option_or_assoc}
+use Rattle.muen_num.proofs.SearchLaws.{first_in-append, option_or-None, option_or_assoc}
 use Rattle.policy_lawful.proofs.WindowsByPlace.{HasNoOther, built, plain}
 
 -- ---- rule 1

@@ -11,7 +11,7 @@ use Rattle.policy_lawful.specs.declared.offence.Offence.{Offence}
 use Rattle.policy_types.specs.declared.refusal.Refusal.{Refusal}
 use Rattle.policy_names.specs.Answered.{IsWhy}
 use Rattle.muen_num.proofs.Lists.{all_true}
-use Rattle.muen_num.proofs.FirstIn.{first_in-append}
+use Rattle.muen_num.proofs.SearchLaws.{first_in-append}
 use Rattle.policy_lawful.proofs.Offences.{none_broken}
 use Rattle.policy_names.proofs.Whys.{why_first}
 

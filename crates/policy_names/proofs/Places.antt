@@ -11,7 +11,7 @@ use Rattle.std.specs.BTreeMap.{BTreeMap}
 use Rattle.std.specs.Ordering.{is_eq, nat_cmp}
 use Rattle.std.specs.Cmp.Lexicographic.{slice_cmp}
 use Rattle.std.proofs.lemmas.Map.Text.{is_eq-slice_cmp}
-use Rattle.muen_num.proofs.FirstIn.{option_or-None}
+use Rattle.muen_num.proofs.SearchLaws.{option_or-None}
 use Rattle.policy_names.specs.Places.{place_of, StandsAt}
 
 map_or : {A B : Type 0} (f : A → B) (a b : Option A) → option_map f (option_or a b) ≡ option_or (option_map f a) (option_map f b)
