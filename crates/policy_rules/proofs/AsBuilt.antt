@@ -17,7 +17,8 @@ use Rattle.policy_types.specs.declared.source.Subject.{Subject as NamedSubject}
 use Rattle.policy_lawful.specs.declared.resolved.Subject.{Subject}
 use Rattle.muen_num.proofs.SearchLaws.{none_both, unless_none}
 use Rattle.policy_lawful.specs.ByPlace.{block_extent, mapping_extent, is_ready}
-use Rattle.policy_lawful.proofs.WindowsByPlace.{plain, built, extents_placed, regions_unique}
+use Rattle.policy_lawful.proofs.WindowsByPlace.{extents_placed, regions_unique}
+use Rattle.policy_lawful.proofs.BuiltElements.{built, plain}
 
 -- ---- rule 4
 

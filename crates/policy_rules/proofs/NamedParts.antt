@@ -23,8 +23,8 @@ use Rattle.policy_rules.proofs.AsBuilt.{limits_built, windows_limit}
 use Rattle.muen_num.proofs.Lists.{all_true}
 use Rattle.policy_rules.proofs.Searching.{first_numbered-map}
 use Rattle.muen_num.proofs.SearchLaws.{first_over-map, option_or-None, option_or_assoc}
-use Rattle.policy_lawful.proofs.ResolvedFacts.{ticks_named}
 use Rattle.policy_lawful.proofs.WindowsByPlace.{all_ready}
+use Rattle.policy_lawful.proofs.SourceElements.{ticks_named}
 
 -- ---- searches over what is named
 

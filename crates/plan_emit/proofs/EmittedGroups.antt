@@ -8,10 +8,10 @@ use Rattle.policy_meaning.specs.Frames.{first_member}
 use Rattle.policy_lawful.specs.Resolution.{Resolution, group_named, name_at, source_of, subject_named}
 use Rattle.policy_lawful.specs.declared.resolved.Group.{Group}
 use Rattle.muen_num.proofs.Lists.{all_same, each_from, map-map}
-use Rattle.policy_lawful.proofs.ResolvedFacts.{many_subjects}
 use Rattle.plan_emit.specs.Emitted.{emitted, group_part}
-use Rattle.plan_emit.proofs.Fitting.{has_places, members_there}
-use Rattle.plan_emit.proofs.Known.{Known}
+use Rattle.policy_lawful.proofs.SourceElements.{many_subjects}
+use Rattle.policy_lawful.proofs.KeptByPlace.{has_places, members_there}
+use Rattle.policy_lawful.proofs.KeptPlan.{PlanKept}
 
 pub groups_emitted : (r : Resolution) → map (λ g. g.cpu) (emitted r).groups ≡ map (λ g. g.cpu) (source_of r).scheduling.groups
 unfolding source_of
@@ -25,7 +25,7 @@ first_of_group names g some =
       | i ∷ (is → _) ↦ λ _. refl
     ] some
 
-pub firsts_emitted : (r : Resolution) → Known r
+pub firsts_emitted : (r : Resolution) → PlanKept r
     → map (λ g. slice_index_or (map (λ s. s.name) (source_of r).subjects) g.first []) (emitted r).groups ≡ map (λ g. first_member g.subjects) (source_of r).scheduling.groups
 unfolding source_of
 firsts_emitted r k =
@@ -43,7 +43,7 @@ first_there : (many : ℕ) (is : List ℕ) → nat_lt 0 (length is) ≡ true →
 first_there many [] some all = let l : 0 < 0 = ltb-true 0 0 some in absurd (omega arith)
 first_there many (i ∷ is) some all = (and_parts (nat_lt i many) (list_all (λ i. nat_lt i many) is) all).0
 
-pub firsts_there : (r : Resolution) → Known r → list_all (λ g. nat_lt g.first (length (source_of r).subjects)) (emitted r).groups ≡ true
+pub firsts_there : (r : Resolution) → PlanKept r → list_all (λ g. nat_lt g.first (length (source_of r).subjects)) (emitted r).groups ≡ true
 firsts_there r k =
     list_all-map (λ g. nat_lt g.first (length (source_of r).subjects)) group_part r.scheduling.groups
     ∙ each_from (has_places r) (λ g. nat_lt (slice_index g.subjects 0) (length (source_of r).subjects))

@@ -13,11 +13,8 @@ use Rattle.policy_lawful.specs.declared.offence.Offence.{Offence}
 use Rattle.policy_types.specs.declared.source.CpuFrames.{CpuFrames}
 use Rattle.policy_types.specs.declared.source.MajorFrame.{MajorFrame}
 use Rattle.policy_types.specs.declared.source.Source.{Source}
-use Rattle.muen_num.proofs.SearchLaws.{none_both, unless_none}
-use Rattle.plan_emit.proofs.Cpus.{all_numbered}
-use Rattle.plan_emit.proofs.Kept.{all_pass}
-use Rattle.muen_num.proofs.Lists.{each_from}
-use Rattle.plan_emit.proofs.Lists.{some_sum}
+use Rattle.muen_num.proofs.SearchLaws.{all_numbered, all_pass, none_both, unless_none}
+use Rattle.muen_num.proofs.Lists.{each_from, some_sum}
 
 -- it has minor frames, each one of its CPU, and so many ticks
 abbrev pub has_frames : Source → ℕ → CpuFrames → Bool

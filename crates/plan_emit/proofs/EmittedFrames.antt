@@ -7,7 +7,6 @@ use Rattle.std.proofs.lemmas.Bool.{and_parts, ltb-true}
 use Rattle.std.proofs.lemmas.List.{get_or-map, length-map}
 use Rattle.std.proofs.lemmas.Option.{get_or_from_slice_get}
 use Rattle.muen_num.specs.Range.{numbers_below}
-use Rattle.image_pack.proofs.ByNumber.{length_numbers, number_at}
 use Rattle.image_pack.specs.Plan.{cpus_in, cpus_of, frame_of, frames_in}
 use Rattle.policy_meaning.specs.Frames as policy
 use Rattle.policy_meaning.specs.Frames.{entry_frames, frames_of, major_frames_of}
@@ -16,13 +15,13 @@ use Rattle.policy_lawful.specs.Rules.{repeated}
 use Rattle.policy_lawful.specs.declared.resolved.CpuFrames.{CpuFrames}
 use Rattle.policy_lawful.specs.declared.resolved.MajorFrame.{MajorFrame}
 use Rattle.policy_lawful.specs.declared.resolved.MinorFrame.{MinorFrame}
-use Rattle.muen_num.proofs.Lists.{all_same, find-map, map-map}
-use Rattle.policy_lawful.proofs.ResolvedFacts.{frame_named, group_names}
+use Rattle.muen_num.proofs.Lists.{all_same, find-map, found_among, map-map}
 use Rattle.plan_emit.specs.Emitted.{cpu_part, emitted, major_part, minor_part}
-use Rattle.plan_emit.proofs.Fitting.{entry_there, frame_there, many_majors}
-use Rattle.plan_emit.proofs.Known.{Known}
-use Rattle.plan_emit.proofs.Lists.{found_among}
-use Rattle.plan_emit.proofs.Names.{place_of_name}
+use Rattle.muen_num.proofs.NumbersBelow.{length_numbers, number_at}
+use Rattle.policy_lawful.proofs.SourceElements.{frame_named, many_majors, place_of_group}
+use Rattle.policy_lawful.proofs.UniqueNames.{group_names}
+use Rattle.policy_lawful.proofs.KeptByPlace.{entry_there, frame_there}
+use Rattle.policy_lawful.proofs.KeptPlan.{PlanKept}
 
 -- ---- the number of CPUs
 
@@ -30,7 +29,7 @@ cpus_of_first : (cpus : ℕ) (ms : List MajorFrame) → 1 ≤ length ms → cpus
 cpus_of_first cpus [] l = absurd (omega arith)
 cpus_of_first cpus (m ∷ ms) l = length-map (numbers_below cpus) (cpu_part m.cpus) ∙ length_numbers cpus
 
-pub cpus_emitted : (r : Resolution) → Known r → cpus_of (emitted r) ≡ r.processor.logical_cpus
+pub cpus_emitted : (r : Resolution) → PlanKept r → cpus_of (emitted r) ≡ r.processor.logical_cpus
 cpus_emitted r k =
     let some : 1 ≤ length (source_of r).scheduling.major_frames = k.limits.some_majors in
     let many = many_majors r in
@@ -42,7 +41,7 @@ same_frame : (r : Resolution) (f : MinorFrame) → repeated (group_names r) ≡ 
 unfolding source_of
 same_frame r f unique placed =
     ap (option_map (λ n. record { group = n; ticks = f.ticks }))
-    (place_of_name r f.group unique (ltb-true f.group (length r.scheduling.groups) placed))
+    (place_of_group r f.group unique (ltb-true f.group (length r.scheduling.groups) placed))
 
 same_frames : (r : Resolution) (fs : List MinorFrame) → repeated (group_names r) ≡ None → list_all (frame_there r) fs ≡ true → filter_map (policy.frame_of (source_of r)) (map (frame_named r) fs) ≡ map frame_of (map minor_part fs)
 same_frames r [] unique placed = refl
@@ -68,7 +67,7 @@ at_number entries cpus cpu l =
     get_or-map (cpu_part entries) (numbers_below cpus) cpu 0 [] (omega (arith, many, l))
     ∙ ap (cpu_part entries) (get_or_from_slice_get (numbers_below cpus) cpu cpu 0 (number_at cpus cpu l))
 
-pub frames_emitted : (r : Resolution) → Known r → (cpu : ℕ) → cpu < r.processor.logical_cpus → frames_in (emitted r) cpu ≡ frames_of (source_of r) cpu
+pub frames_emitted : (r : Resolution) → PlanKept r → (cpu : ℕ) → cpu < r.processor.logical_cpus → frames_in (emitted r) cpu ≡ frames_of (source_of r) cpu
 unfolding frames_in frames_of source_of
 frames_emitted r k cpu l =
     let cpus = r.processor.logical_cpus in

@@ -3,23 +3,19 @@ use Rattle.std.proofs.Common.{◌≡◌, ◌+◌, ◌≤◌, Bool, true, length,
 use Rattle.std.specs.Prelude.{◌&&◌, nat_le, codes, is_some}
 use Rattle.std.specs.List.{list_all, sum_by, count_by}
 use Rattle.std.proofs.lemmas.Bool.{and_parts, leb-true}
-use Rattle.policy_lawful.specs.Rules.{at_most, device_limit, logical_names, major_limit, major_name, majors_of, offence_20, regions_for, subject_limit, ticks_in}
+use Rattle.policy_lawful.specs.Rules.{at_most, device_limit, logical_names, major_limit, major_name, majors_of, offence_20, regions_for, is_short, subject_limit}
 use Rattle.muen_num.specs.Search.{first_in, unless}
 use Rattle.policy_lawful.specs.Offences.{alone}
 use Rattle.policy_types.specs.declared.source.CpuFrames.{CpuFrames}
 use Rattle.policy_types.specs.declared.source.Source.{Source}
-use Rattle.muen_num.proofs.SearchLaws.{none_both, unless_none}
-use Rattle.plan_emit.proofs.Cpus.{all_numbered}
-
-abbrev pub is_within : CpuFrames → Bool
-is_within c = nat_le (ticks_in c) 100000 && nat_le (length c.minor_frames) 64
+use Rattle.muen_num.proofs.SearchLaws.{all_numbered, none_both, unless_none}
 
 pub record LimitsKept (p : Source) : Type 0 where
   pub some_subjects : 1 ≤ length p.subjects
   pub most_subjects : length p.subjects ≤ 32
   pub some_majors : 1 ≤ length p.scheduling.major_frames
   pub most_majors : length p.scheduling.major_frames ≤ 16
-  pub frames : list_all (λ m. list_all is_within m.cpus) p.scheduling.major_frames ≡ true
+  pub frames : list_all (λ m. list_all is_short m.cpus) p.scheduling.major_frames ≡ true
 
 pub limits_kept : (p : Source) → offence_20 p ≡ None → LimitsKept p
 unfolding offence_20
@@ -46,6 +42,6 @@ limits_kept p h =
       most_subjects = leb-true (length p.subjects) 32 number.1;
       some_majors = leb-true 1 (length p.scheduling.major_frames) count.0;
       most_majors = leb-true (length p.scheduling.major_frames) 16 count.1;
-      frames = all_numbered (λ m. list_all is_within m.cpus) major_limit
-          (λ k m none. unless_none (list_all is_within m.cpus) (alone (major_name k)) none) 0 p.scheduling.major_frames frames.0;
+      frames = all_numbered (λ m. list_all is_short m.cpus) major_limit
+          (λ k m none. unless_none (list_all is_short m.cpus) (alone (major_name k)) none) 0 p.scheduling.major_frames frames.0;
     }

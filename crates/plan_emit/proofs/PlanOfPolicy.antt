@@ -5,12 +5,12 @@ use Rattle.policy_lawful.specs.Lawful.{rules_broken}
 use Rattle.policy_lawful.specs.Resolution.{IsResolved, Resolution, source_of}
 use Rattle.plan_emit.specs.Emitted.{emitted}
 use Rattle.plan_emit.specs.PlanOf.{IsPlanOf}
-use Rattle.plan_emit.proofs.Firsts.{firsts_emitted, firsts_there, groups_emitted}
-use Rattle.plan_emit.proofs.Known.{Known, known}
-use Rattle.plan_emit.proofs.Planned.{cpus_emitted, frames_emitted}
-use Rattle.plan_emit.proofs.Valid.{plan_valid}
+use Rattle.plan_emit.proofs.EmittedGroups.{firsts_emitted, firsts_there, groups_emitted}
+use Rattle.plan_emit.proofs.EmittedFrames.{cpus_emitted, frames_emitted}
+use Rattle.plan_emit.proofs.ValidPlan.{plan_valid}
+use Rattle.policy_lawful.proofs.KeptPlan.{PlanKept, plan_kept}
 
-pub is_plan_of : (r : Resolution) → Known r → IsPlanOf (source_of r) (emitted r)
+pub is_plan_of : (r : Resolution) → PlanKept r → IsPlanOf (source_of r) (emitted r)
 unfolding source_of
 is_plan_of r k = record {
   valid = plan_valid r k;
@@ -22,9 +22,9 @@ is_plan_of r k = record {
 }
 
 -- what is known of a lawful policy's resolved one
-pub lawful_known : (r l : Resolution) → r ≡ l → IsResolved r → rules_broken (source_of l) ≡ None → Known r
-lawful_known r l same resolved lawful = known r resolved (ap (λ x. rules_broken (source_of x)) same ∙ lawful)
+pub lawful_known : (r l : Resolution) → r ≡ l → IsResolved r → rules_broken (source_of l) ≡ None → PlanKept r
+lawful_known r l same resolved lawful = plan_kept r resolved (ap (λ x. rules_broken (source_of x)) same ∙ lawful)
 
-pub is_lawful_plan : (r l : Resolution) (plan : Plan) → r ≡ l → Known r → plan ≡ emitted r → IsPlanOf (source_of l) plan
+pub is_lawful_plan : (r l : Resolution) (plan : Plan) → r ≡ l → PlanKept r → plan ≡ emitted r → IsPlanOf (source_of l) plan
 is_lawful_plan r l plan same k is =
     subst (λ x. IsPlanOf (source_of x) plan) same (subst (IsPlanOf (source_of r)) (sym is) (is_plan_of r k))

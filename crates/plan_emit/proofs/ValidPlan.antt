@@ -8,7 +8,6 @@ use Rattle.std.proofs.lemmas.List.{length-map}
 use Rattle.std.proofs.lemmas.List.Folds.{list_all-map}
 use Rattle.std.proofs.lemmas.Option.{slice_get-map}
 use Rattle.muen_num.specs.Range.{numbers_below}
-use Rattle.image_pack.proofs.ByNumber.{length_numbers}
 use Rattle.image_pack.specs.Plan.{cpus_of, is_cpu, is_group_on, is_major, is_minor, is_plan}
 use Rattle.image_pack.specs.declared.plan.GroupPart.{GroupPart}
 use Rattle.image_pack.specs.declared.plan.Minor.{Minor}
@@ -19,15 +18,17 @@ use Rattle.policy_lawful.specs.declared.resolved.CpuFrames.{CpuFrames}
 use Rattle.policy_lawful.specs.declared.resolved.Group.{Group}
 use Rattle.policy_lawful.specs.declared.resolved.MajorFrame.{MajorFrame}
 use Rattle.policy_lawful.specs.declared.resolved.MinorFrame.{MinorFrame}
-use Rattle.muen_num.proofs.Lists.{each_both, each_of, list_any-map, sum_by-map}
-use Rattle.policy_lawful.proofs.ResolvedFacts.{cpu_at_place, frame_named, group_names, ticks_named}
-use Rattle.plan_emit.specs.Emitted.{cpu_part, emitted, first_ticks, group_part, major_part, minor_part, ticks_in}
-use Rattle.plan_emit.proofs.Fitting.{cpus_of_groups, entries_within, entry_there, frame_there, many_majors, is_short}
-use Rattle.plan_emit.proofs.Known.{Known}
-use Rattle.plan_emit.proofs.Lists.{IsFound, found, number_passes, numbered}
-use Rattle.plan_emit.proofs.Majors as kept
-use Rattle.plan_emit.proofs.Majors.{has_frames, is_major_kept, is_named, some_ticks}
-use Rattle.plan_emit.proofs.Planned.{cpus_emitted}
+use Rattle.muen_num.proofs.Lists.{each_both, each_of, found, IsFound, list_any-map, sum_by-map}
+use Rattle.plan_emit.specs.Emitted.{cpu_part, emitted, first_ticks, group_part, major_part, minor_part}
+use Rattle.policy_lawful.proofs.KeptMajors as kept
+use Rattle.plan_emit.proofs.EmittedFrames.{cpus_emitted}
+use Rattle.muen_num.proofs.NumbersBelow.{length_numbers, number_passes, numbered}
+use Rattle.policy_lawful.proofs.SourceElements.{cpu_at_place, frame_named, many_majors, ticks_named}
+use Rattle.policy_lawful.proofs.UniqueNames.{group_names}
+use Rattle.policy_lawful.specs.ByPlace.{is_short, ticks_in}
+use Rattle.policy_lawful.proofs.KeptByPlace.{cpus_of_groups, entries_within, entry_there, frame_there}
+use Rattle.policy_lawful.proofs.KeptPlan.{PlanKept}
+use Rattle.policy_lawful.proofs.KeptMajors.{has_frames, is_major_kept, is_named, some_ticks}
 
 abbrev parts_of : Resolution → List GroupPart
 parts_of r = map group_part r.scheduling.groups
@@ -137,7 +138,7 @@ part_valid r m cpu unique known l =
     ∙ ap (λ n. is_cpu (parts_of r) (first_ticks m.cpus) (n, map minor_part at.entry.minor_frames)) (sym at.cpu_is)
     ∙ cpu_valid r (first_ticks m.cpus) at.entry unique at.known
 
-major_valid : (r : Resolution) (m : MajorFrame) → Known r → IsMajor r m → is_major (parts_of r) r.processor.logical_cpus (major_part r.processor.logical_cpus m) ≡ true
+major_valid : (r : Resolution) (m : MajorFrame) → PlanKept r → IsMajor r m → is_major (parts_of r) r.processor.logical_cpus (major_part r.processor.logical_cpus m) ≡ true
 unfolding source_of
 major_valid r m k known =
     let cpus = r.processor.logical_cpus in
@@ -157,7 +158,7 @@ major_valid r m k known =
     and_from ((length parts == cpus) && nat_lt 0 ticks && nat_le ticks 100000) (list_all (is_cpu (parts_of r) ticks) (enumerate_from 0 parts))
     (and_from ((length parts == cpus) && nat_lt 0 ticks) (nat_le ticks 100000) (and_from (length parts == cpus) (nat_lt 0 ticks) count least) upper) valid
 
-majors_valid : (r : Resolution) → Known r → list_all (is_major (parts_of r) r.processor.logical_cpus) (emitted r).majors ≡ true
+majors_valid : (r : Resolution) → PlanKept r → list_all (is_major (parts_of r) r.processor.logical_cpus) (emitted r).majors ≡ true
 unfolding source_of
 majors_valid r k =
     let cpus = r.processor.logical_cpus in
@@ -183,7 +184,7 @@ all_six : (a b c d e f : Bool) → a ≡ true → b ≡ true → c ≡ true → 
 all_six a b c d e f p q s t u v =
     and_from (a && b && c && d && e) f (and_from (a && b && c && d) e (and_from (a && b && c) d (and_from (a && b) c (and_from a b p q) s) t) u) v
 
-pub plan_valid : (r : Resolution) → Known r → is_plan (emitted r) ≡ true
+pub plan_valid : (r : Resolution) → PlanKept r → is_plan (emitted r) ≡ true
 unfolding is_plan
 plan_valid r k =
     let cpus = r.processor.logical_cpus in
