@@ -2,10 +2,15 @@
 ghost use Rattle.std.specs.Prelude.{◌≡◌, ◌+◌, true};
 ghost use Rattle.muen_num.specs.Search.{first_in, unless};
 ghost use Rattle.policy_lawful.specs.Offences.{alone};
-ghost use Rattle.policy_lawful.specs.Rules.{is_page_aligned, is_page_size, is_physical, is_guest, is_alignment, is_fixed, is_laid};
+ghost use Rattle.policy_lawful.specs.Rules.{is_page_aligned, is_page_size, is_physical, is_guest, is_alignment, is_fixed, is_laid, offence_4};
+ghost use Rattle.policy_lawful.specs.Resolution.{source_of};
+ghost use Rattle.policy_types.specs.Built.{is_built};
+ghost use Rattle.policy_rules.specs.Windows.{addresses_offence};
 
+use crate::windows::outside;
 use muen_num::first;
 use policy_lawful::Offence;
+use policy_lawful::resolved::{Resolved, Subject};
 use policy_types::source::{Block, Region};
 
 const PAGE: u64 = 4096;
@@ -71,8 +76,8 @@ fn is_laid(region: &Region) -> bool
     is_page_size(region.size) && is_alignment(region.alignment) && is_fixed(region)
 }
 
-/// The first block that isn't a range of physical memory.
-pub(crate) fn blocks(blocks: &[Block]) -> Option<Offence>
+// The first block that isn't a range of physical memory.
+fn blocks(blocks: &[Block]) -> Option<Offence>
     ensures { result ≡ first_in (λ b. unless (is_physical b.physical_address b.size) (alone b.name)) blocks.now }
 {
     first(blocks, |block| {
@@ -80,9 +85,30 @@ pub(crate) fn blocks(blocks: &[Block]) -> Option<Offence>
     })
 }
 
-/// The first region whose size, alignment or address isn't one.
-pub(crate) fn regions(regions: &[Region]) -> Option<Offence>
+// The first region whose size, alignment or address isn't one.
+fn regions(regions: &[Region]) -> Option<Offence>
     ensures { result ≡ first_in (λ r. unless (is_laid r) (alone r.name)) regions.now }
 {
-    first(regions, |region| Offence::alone(region.name).unless(is_laid(region)))
+    first(
+        regions,
+        |region| Offence::alone(region.name).unless(is_laid(region)),
+    )
+}
+
+// The first block, region or window of these that offends.
+fn of_elements(all: &[Block], memory: &[Region], subjects: &[Subject]) -> Option<Offence>
+    ensures { result ≡ addresses_offence all.now memory.now subjects.now }
+{
+    blocks(all)
+        .or_else(|| regions(memory))
+        .or_else(|| outside(memory, subjects))
+}
+
+/// Rule 4: the first address or size that isn't one.
+#[tactic(auto, using(crate::proofs::RangesByPlace::addresses_by_place))]
+pub(crate) fn addresses(r: &Resolved) -> Option<Offence>
+    requires { is_built (source_of r.now) ≡ true }
+    ensures { result ≡ offence_4 (source_of r.now) }
+{
+    of_elements(r.memory_blocks(), r.memory(), r.subjects())
 }

@@ -5,19 +5,22 @@ ghost use Rattle.muen_num.specs.Search.{first_in, unless};
 ghost use Rattle.policy_lawful.specs.Offences.{alone, two};
 ghost use Rattle.policy_lawful.specs.Resolution.{source_of};
 ghost use Rattle.policy_lawful.specs.Rules.{major_name, cpu_name, offence_3};
-ghost use Rattle.policy_rules.specs.Limits.{cpus_offence, plan_cpus_offence};
+ghost use Rattle.policy_rules.specs.Cpus.{cpus_offence, plan_cpus_offence};
 
 use crate::keys::Key;
 use muen_num::{first, first_numbered};
+use policy_lawful::Offence;
 use policy_lawful::frame_names::{cpu_name, major_name};
 use policy_lawful::resolved::{CpuFrames, Group, MajorFrame, Resolved, Subject};
-use policy_lawful::Offence;
 
 // The first subject whose CPU there isn't.
 fn subjects(subjects: &[Subject], cpus: u64) -> Option<Offence>
     ensures { result ≡ first_in (λ s. unless (nat_lt s.cpu cpus) (alone s.name)) subjects.now }
 {
-    first(subjects, |subject| Offence::alone(subject.name).unless(subject.cpu < cpus))
+    first(
+        subjects,
+        |subject| Offence::alone(subject.name).unless(subject.cpu < cpus),
+    )
 }
 
 // The first entry of the major frame at a place whose CPU there isn't.
@@ -37,15 +40,21 @@ fn entries(place: usize, entries: &[CpuFrames], cpus: u64) -> Option<Offence>
 fn majors(majors: &[MajorFrame], cpus: u64) -> Option<Offence>
     ensures { result ≡ first_in (λ m. first_in (λ c. unless (nat_lt c.cpu cpus) (two (major_name m.0) (cpu_name c.cpu))) m.1.cpus) (enumerate_from 0 majors.now) }
 {
-    first_numbered(majors, |place, major| entries(place, major.cpus.items(), cpus))
+    first_numbered(
+        majors,
+        |place, major| entries(place, major.cpus.items(), cpus),
+    )
 }
 
 // The first group or entry whose CPU there isn't.
 fn of_plan(groups: &[Group], frames: &[MajorFrame], cpus: u64) -> Option<Offence>
     ensures { result ≡ plan_cpus_offence cpus groups.now frames.now }
 {
-    first(groups, |group| Offence::alone(group.name).unless(group.cpu < cpus))
-        .or_else(|| majors(frames, cpus))
+    first(
+        groups,
+        |group| Offence::alone(group.name).unless(group.cpu < cpus),
+    )
+    .or_else(|| majors(frames, cpus))
 }
 
 // There are 1 to 8 CPUs, and the subjects and the plan have CPUs that there are.
@@ -64,7 +73,7 @@ fn of_elements(
 }
 
 /// Rule 3: the number of CPUs, and the CPUs of subjects, groups and frames.
-#[tactic(auto, using(crate::proofs::NamedParts::cpus_named))]
+#[tactic(auto, using(crate::proofs::CpusByPlace::cpus_by_place))]
 pub(crate) fn cpus(r: &Resolved) -> Option<Offence>
     ensures { result ≡ offence_3 (source_of r.now) }
 {

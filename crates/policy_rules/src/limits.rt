@@ -8,7 +8,8 @@ ghost use Rattle.policy_types.specs.Built.{is_built};
 ghost use Rattle.policy_lawful.specs.Resolution.{source_of};
 ghost use Rattle.policy_lawful.specs.Rules.{at_most, major_name, offence_20};
 ghost use Rattle.policy_rules.specs.Keys.{key_text};
-ghost use Rattle.policy_rules.specs.Limits.{is_short, major_limit, blocks_limit, subjects_limit, majors_limit, limits_offence};
+ghost use Rattle.policy_lawful.specs.ByPlace.{is_short};
+ghost use Rattle.policy_rules.specs.Limits.{major_limit, blocks_limit, subjects_limit, majors_limit, limits_offence};
 
 use crate::keys::Key;
 use crate::major_frames::ticks_in;
@@ -88,8 +89,11 @@ fn frames(majors: &[MajorFrame]) -> Option<Offence>
 fn of_blocks(blocks: &[Block]) -> Option<Offence>
     ensures { result ≡ blocks_limit blocks.now }
 {
-    at_most(blocks.len() as u128, BLOCKS, Key::MemoryBlocks)
-        .or_else(|| at_most(bytes(blocks), BYTES_OF_BLOCKS, Key::MemoryBlocks))
+    at_most(blocks.len() as u128, BLOCKS, Key::MemoryBlocks).or_else(|| at_most(
+        bytes(blocks),
+        BYTES_OF_BLOCKS,
+        Key::MemoryBlocks,
+    ))
 }
 
 // The limits on subjects, their windows, and all regions.
@@ -125,7 +129,7 @@ fn of_elements(
 }
 
 /// Rule 20: the limits, in their order.
-#[tactic(auto, using(crate::proofs::NamedParts::limits_named))]
+#[tactic(auto, using(crate::proofs::LimitsByPlace::limits_by_place))]
 pub(crate) fn limits(r: &Resolved) -> Option<Offence>
     requires { is_built (source_of r.now) ≡ true }
     ensures { result ≡ offence_20 (source_of r.now) }

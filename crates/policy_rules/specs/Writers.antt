@@ -1,5 +1,5 @@
 -- Which subjects have windows on a region, where a region is told by its place.
-use Rattle.std.specs.Prelude.{◌≡◌, ℕ, ◌<◌, ◌==◌, ◌&&◌, not, Bool, true, false, List, [], ◌∷◌, length, slice_index_or, Option, Some, None, option_map}
+use Rattle.std.specs.Prelude.{◌≡◌, ℕ, ◌<◌, ◌==◌, ◌&&◌, not, Bool, true, false, List, length, slice_index_or, Option, Some, None, option_map}
 use Rattle.std.specs.Option.{option_or}
 use Rattle.std.specs.List.{find, list_any, All}
 use Rattle.std.specs.Str.{bytes_eq}
@@ -49,8 +49,6 @@ pub record HasNames (names : List (Option (List ℕ))) (many : ℕ) (name_of : �
   pub room : length names ≡ many
   pub at : (k : ℕ) → k < many → slice_index_or names k None ≡ name_of k
 
--- the first region at whose place a name stands
-abbrev pub first_named : List Region → List (Option (List ℕ)) → Option Offence
-first_named [] names = None
-first_named (r ∷ rs) [] = None
-first_named (r ∷ rs) (n ∷ ns) = option_or (option_map (two r.name) n) (first_named rs ns)
+-- a region with its place, at which a name stands
+abbrev pub named_at : List (Option (List ℕ)) → ℕ × Region → Option Offence
+named_at names (place, r) = option_map (two r.name) (slice_index_or names place None)

@@ -8,7 +8,7 @@ use Rattle.policy_lawful.specs.Rules.{offence_3, offence_4, offence_5, offence_8
 use Rattle.muen_num.specs.Search.{first_of}
 use Rattle.policy_types.specs.declared.source.Source.{Source}
 use Rattle.policy_rules.proofs.NotBuilt.{keeps_others}
-use Rattle.policy_rules.specs.Built.{memory_broken, plan_broken}
+use Rattle.policy_rules.specs.BuiltRules.{memory_broken, plan_broken}
 
 joined : {O : Type 0} (a b c d : Option O) (rest : List (Option O)) → option_or (first_of (a ∷ b ∷ c ∷ d ∷ [])) (first_of rest) ≡ first_of (a ∷ b ∷ c ∷ d ∷ rest)
 joined (Some x) b c d rest = refl

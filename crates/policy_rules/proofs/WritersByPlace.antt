@@ -1,11 +1,12 @@
 -- Who maps and who writes a region, by its place.
 use Rattle.std.proofs.Common.{◌≡◌, ℕ, suc, ◌+◌, ◌<◌, Bool, true, false, cond, List, [], ◌∷◌, length, map, Option, Some, None, refl, sym, ap, ◌∙◌, arith, get_or, take}
-use Rattle.std.specs.Prelude.{◌==◌, ◌&&◌, not, nat_lt, option_map}
+use Rattle.std.specs.Prelude.{◌==◌, ◌&&◌, not, nat_lt, option_map, slice_get}
 use Rattle.std.specs.Option.{option_or}
-use Rattle.std.specs.List.{find, list_any, list_all, All}
+use Rattle.std.specs.List.{find, list_any, list_all, enumerate_from, All}
 use Rattle.std.specs.Str.{bytes_eq}
 use Rattle.std.proofs.lemmas.Bool.{and_parts, ltb-true}
 use Rattle.std.proofs.lemmas.List.{take_more, length-map, get_or-map}
+use Rattle.std.proofs.lemmas.Option.{slice_get_within, get_or_from_slice_get}
 use Rattle.std.proofs.lemmas.List.Elements.{All-head, All-tail, All-weaker}
 use Rattle.std.proofs.lemmas.List.Sums.{AllPass-from_list_all}
 use Rattle.std.proofs.lemmas.List.Folds.{find-append}
@@ -24,7 +25,8 @@ use Rattle.policy_lawful.specs.declared.resolved.Mapping.{Mapping}
 use Rattle.policy_lawful.specs.declared.resolved.Subject.{Subject}
 use Rattle.muen_num.proofs.Lists.{find-map, list_any-map, option_map-option_map}
 use Rattle.policy_lawful.proofs.Places.{same_name}
-use Rattle.policy_rules.specs.Shared.{IsWithin, may_write, shows, alters, writer_of, other_of, noted, HasNames, first_named}
+use Rattle.policy_rules.specs.Writers.{IsWithin, may_write, shows, alters, writer_of, other_of, noted, HasNames, named_at}
+use Rattle.policy_rules.proofs.Searching.{first_numbered_same}
 use Rattle.policy_lawful.specs.ByPlace.{no_region, region_at, mapping_window, is_ready}
 use Rattle.policy_lawful.proofs.WindowsByPlace.{windows_placed, regions_unique, all_ready}
 
@@ -99,20 +101,19 @@ at_region r k name unique plain within is =
 
 -- ---- all regions
 
-each_region : (at : Region → Option Offence) (xs : List Region) (names : List (Option (List ℕ))) → length names ≡ length xs → ((k : ℕ) (d : Region) → k < length xs → at (get_or xs k d) ≡ option_map (two (get_or xs k d).name) (get_or names k None)) → first_in at xs ≡ first_named xs names
-each_region at [] names many h = refl
-each_region at (x ∷ xs) [] many h = absurd (omega arith)
-each_region at (x ∷ xs) (n ∷ ns) many h =
-    ap (λ o. option_or o (first_in at xs)) (h 0 x (omega arith))
-    ∙ ap (option_or (option_map (two x.name) n)) (each_region at xs ns (omega arith) (λ k d l. h (suc k) d (omega arith)))
-
 -- the first region at which the table of others has a name is the offence
-pub shared_offence : (r : Resolution) (writers others : List (Option (List ℕ))) → IsResolved r → is_built (source_of r) ≡ true → HasNames writers (length r.memory) (writer_of r.subjects) → HasNames others (length r.memory) (λ k. other_of r.subjects (get_or writers k None) k) → first_named r.memory others ≡ offence_8 (source_of r)
+pub shared_offence : (r : Resolution) (writers others : List (Option (List ℕ))) → IsResolved r → is_built (source_of r) ≡ true → HasNames writers (length r.memory) (writer_of r.subjects) → HasNames others (length r.memory) (λ k. other_of r.subjects (get_or writers k None) k) → first_in (named_at others) (enumerate_from 0 r.memory) ≡ offence_8 (source_of r)
 unfolding offence_8 source_of
 shared_offence r writers others h built w o =
-    sym (each_region (λ x. other_than (source_of r) x.name (find (writes (source_of r) x.name) (source_of r).subjects)) r.memory others o.room
-    (λ k d l. at_region r k (get_or r.memory k d).name (regions_unique r built h.names) (AllPass-from_list_all (is_ready r) r.subjects (all_ready r built h.placed)) l (sym (get_or-map (λ x. x.name) r.memory k d [] l))
-    ∙ ap (option_map (two (get_or r.memory k d).name)) (sym (o.at k l ∙ ap (λ writer. other_of r.subjects writer k) (w.at k l)))))
+    let names = map (λ x. x.name) r.memory in
+    let at : Region → Option Offence = λ x. other_than (source_of r) x.name (find (writes (source_of r) x.name) (source_of r).subjects) in
+    let one : (k : ℕ) (x : Region) → slice_get r.memory k ≡ Some x → at x ≡ named_at others (0 + k, x) = λ k x is.
+    let within : k < length r.memory = slice_get_within r.memory k x is in
+    let name : x.name ≡ name_at names k = sym (get_or-map (λ x. x.name) r.memory k x [] within ∙ ap (λ x. x.name) (get_or_from_slice_get r.memory k x x is)) in
+    at_region r k x.name (regions_unique r built h.names) (AllPass-from_list_all (is_ready r) r.subjects (all_ready r built h.placed)) within name
+    ∙ ap (option_map (two x.name)) (sym (o.at k within ∙ ap (λ writer. other_of r.subjects writer k) (w.at k within)))
+    ∙ ap (λ i. named_at others (i, x)) (omega arith) in
+    sym (first_numbered_same at (named_at others) 0 r.memory one)
 
 -- ---- notes, one after another
 
