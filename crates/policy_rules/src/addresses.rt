@@ -33,24 +33,22 @@ fn is_page_size(n: u64) -> bool
     is_page_aligned(n) && n > 0
 }
 
-fn end(address: u64, size: u64) -> u128
-    ensures { result ≡ address + size }
-{
-    u128::from(address) + u128::from(size)
-}
-
 // Whether this is a range of physical memory.
 fn is_physical(address: u64, size: u64) -> bool
     ensures { result ≡ is_physical address size }
 {
-    is_page_aligned(address) && is_page_size(size) && end(address, size) <= PHYSICAL_END
+    is_page_aligned(address)
+        && is_page_size(size)
+        && u128::from(address) + u128::from(size) <= PHYSICAL_END
 }
 
 /// Whether this is a range of guest addresses.
 pub(crate) fn is_guest(address: u64, size: u64) -> bool
     ensures { result ≡ is_guest address size }
 {
-    is_page_aligned(address) && is_page_size(size) && end(address, size) <= GUEST_END
+    is_page_aligned(address)
+        && is_page_size(size)
+        && u128::from(address) + u128::from(size) <= GUEST_END
 }
 
 fn is_alignment(n: u64) -> bool

@@ -80,18 +80,12 @@ fn times_of(alloc: Global, groups: &[Group], count: usize) -> Result<Vec<u8>, Al
     Ok(times)
 }
 
-fn count_at(times: &[u8], place: usize) -> u8
-    ensures { result ≡ slice_index times.now place }
-{
-    times.get(place).copied().unwrap_or(0)
-}
-
 // The first subject that wasn't met once.
 fn first_counted(subjects: &[Subject], times: &[u8]) -> Option<Offence>
     ensures { result ≡ first_in (counted_offence times.now) (enumerate_from 0 subjects.now) }
 {
     first_numbered(subjects, |place, subject| {
-        Offence::alone(subject.name).unless(count_at(times, place) == 1)
+        Offence::alone(subject.name).unless(times.get(place).copied().unwrap_or(0) == 1)
     })
 }
 

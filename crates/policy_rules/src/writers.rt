@@ -5,7 +5,7 @@ ghost use Rattle.muen_num.specs.Search.{first_in};
 ghost use Rattle.policy_types.specs.Built.{is_built};
 ghost use Rattle.policy_lawful.specs.Resolution.{source_of};
 ghost use Rattle.policy_lawful.specs.Rules.{offence_8};
-ghost use Rattle.policy_rules.specs.Writers.{IsWithin, shows, alters, may_write, writer_of, is_other, other_of, noted, HasNames, named_at};
+ghost use Rattle.policy_rules.specs.Writers.{IsWithin, shows, alters, writer_of, is_other, other_of, noted, HasNames, named_at};
 
 use muen_num::{Kind, Name, NoMemory, first_numbered};
 use policy_lawful::resolved::{Mapping, Subject};
@@ -23,19 +23,13 @@ fn note(names: &mut [Option<Name>], place: usize, name: Name)
     }
 }
 
-fn may_write(mapping: &Mapping) -> bool
-    ensures { result ≡ may_write mapping.now }
-{
-    mapping.rights.allows(Kind::Write)
-}
-
 // Notes the subject at each region that it may write.
 fn note_writer(writers: &mut [Option<Name>], subject: &Subject)
     requires { IsWithin (length writers.old) subject.now }
     ensures { (k : ℕ) → slice_index_or writers.new k None ≡ noted (slice_index_or writers.old k None) (alters k subject.now) subject.now.name }
 {
     for mapping in subject.memory.items() {
-        if may_write(mapping) {
+        if mapping.rights.allows(Kind::Write) {
             note(writers, mapping.region, subject.name);
         }
     }
