@@ -5,7 +5,7 @@ use Rattle.std.specs.FinMap.{get}
 use Rattle.muen_num.specs.Answers.{Answers}
 use Rattle.muen_num.specs.declared.limits.TheConstants.{POLICY_MOST, RECORD_MOST}
 use Rattle.muen_outside.specs.Counts.{Rose}
-use Rattle.muen_outside.specs.Outside.{FilesState, SinkState}
+use Rattle.muen_outside.specs.States.{FilesState, SinkState}
 use Rattle.muen_outside.specs.Store.{Store, Reading, whole, absent, long, reading_of}
 use Rattle.policy_meaning.specs.Contents.{Held, no_files}
 use Rattle.policy_types.specs.Refusals.{is_no_memory}

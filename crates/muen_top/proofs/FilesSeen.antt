@@ -8,7 +8,7 @@ use Rattle.std.proofs.lemmas.Bool.{false≢true, lt-ltb}
 use Rattle.std.proofs.lemmas.Bool.Decides.{nat_tests}
 use Rattle.std.proofs.lemmas.List.{length-replicate}
 use Rattle.std.proofs.lemmas.Slice.Eq.{bytes_eq-Decides}
-use Rattle.muen_outside.specs.Outside.{FilesState}
+use Rattle.muen_outside.specs.States.{FilesState}
 use Rattle.muen_outside.specs.Store.{Store, Reading, whole, absent, long, reading_of, find_bytes}
 use Rattle.muen_outside.proofs.HeldMap.{stored, get-stored}
 use Rattle.policy_meaning.specs.Contents.{no_files}

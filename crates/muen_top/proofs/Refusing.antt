@@ -25,7 +25,7 @@ use Rattle.policy_types.specs.declared.source.Content.{Content}
 use Rattle.policy_types.specs.declared.source.Content.TheVariants.{Zero, Fill, Inline, File}
 use Rattle.policy_types.specs.declared.source.Region.{Region}
 use Rattle.policy_types.specs.declared.source.Source.{Source}
-use Rattle.window_machine.specs.Start.{CanLoad, is_held}
+use Rattle.window_machine.specs.Start.{CanLoad, has_fitting_content}
 use Rattle.muen_top.specs.Refusals.{accepted, accepted_policy_of, content_refused, contents_refused, lawful_alone, lawful_policy_of, refusal_of, too_long_for, unlawful}
 use Rattle.muen_top.specs.Reports.{refusal_status}
 
@@ -135,14 +135,14 @@ held_one r (Inline bytes) p h =
     ]) h
 held_one r (File name offset most) p h = absurd (cc)
 
-held_each : (rs : List Region) → list_all (λ r. is_plain_content r.content) rs ≡ true → first_in (λ r. content_refused no_files r r.content) rs ≡ None → list_all is_held rs ≡ true
+held_each : (rs : List Region) → list_all (λ r. is_plain_content r.content) rs ≡ true → first_in (λ r. content_refused no_files r r.content) rs ≡ None → list_all has_fitting_content rs ≡ true
 held_each [] p h = refl
 held_each (r ∷ rs) p h =
     let a : (is_plain_content r.content ≡ true) × (list_all (λ (r : Region). is_plain_content r.content) rs ≡ true) = and_parts _ _ p in
     let b = none_both (content_refused no_files r r.content) (first_in (λ r. content_refused no_files r r.content) rs) h in
     and_from _ _ (held_one r r.content a.0 b.0) (held_each rs a.1 b.1)
 
-held_all : (p : Source) → has_plain_contents p ≡ true → contents_refused no_files p ≡ None → list_all is_held p.memory ≡ true
+held_all : (p : Source) → has_plain_contents p ≡ true → contents_refused no_files p ≡ None → list_all has_fitting_content p.memory ≡ true
 unfolding has_plain_contents contents_refused
 held_all p h none = held_each p.memory h none
 

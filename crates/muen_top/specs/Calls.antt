@@ -1,7 +1,7 @@
 -- How a command has ended, and why; and what is promised of a whole call.
 use Rattle.std.specs.Prelude.{◌≡◌, ℕ, List, Option, IfSome, ◌⊎◌}
 use Rattle.muen_outside.specs.Counts.{Rose}
-use Rattle.muen_outside.specs.Outside.{FilesState, SinkState}
+use Rattle.muen_outside.specs.States.{FilesState, SinkState}
 use Rattle.muen_outside.specs.Puts.{Appended, Failed}
 use Rattle.muen_outside.specs.Store.{Store}
 use Rattle.muen_top.specs.Answers.{usage, missing, too_long, refused, record_refused, Answer, prints, stops, answer_of}

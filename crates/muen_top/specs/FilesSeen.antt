@@ -4,7 +4,7 @@ use Rattle.std.specs.Str.{bytes_eq}
 use Rattle.std.specs.FinMap.{get}
 use Rattle.muen_outside.specs.Counts.{Rose}
 use Rattle.muen_outside.specs.Found.{IsMissed}
-use Rattle.muen_outside.specs.Outside.{FilesState}
+use Rattle.muen_outside.specs.States.{FilesState}
 use Rattle.muen_outside.specs.Store.{Store, Reading, whole, absent, long, reading_of}
 
 -- a call that reads leaves what files hold, and no count falls

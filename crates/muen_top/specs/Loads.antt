@@ -2,7 +2,7 @@
 use Rattle.std.specs.Prelude.{◌≡◌, ℕ, List, Ok, IfSome}
 use Rattle.muen_num.specs.declared.limits.TheConstants.{POLICY_MOST, RECORD_MOST}
 use Rattle.muen_outside.specs.Counts.{Rose}
-use Rattle.muen_outside.specs.Outside.{FilesState}
+use Rattle.muen_outside.specs.States.{FilesState}
 use Rattle.muen_outside.specs.Store.{Store, absent, long}
 use Rattle.policy_meaning.specs.Contents.{Held}
 use Rattle.policy_types.specs.declared.source.Source.{Source}

@@ -1,6 +1,6 @@
 -- The line that tells how a call ended, and its status (this project's own).
 use Rattle.std.specs.Prelude.{◌≡◌, ℕ, List, ◌++◌, ◌⊎◌, codes, decimal}
-use Rattle.muen_outside.specs.Outside.{SinkState}
+use Rattle.muen_outside.specs.States.{SinkState}
 use Rattle.muen_outside.specs.Puts.{Appended, Failed}
 use Rattle.policy_types.specs.Refusals.{refusal_text}
 use Rattle.policy_types.specs.declared.refusal.Refusal.{Refusal}

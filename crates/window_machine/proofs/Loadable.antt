@@ -13,9 +13,11 @@ use Rattle.policy_lawful.specs.Resolution.{Resolution, subject_named, source_of,
 use Rattle.policy_lawful.specs.declared.resolved.Subject.{Subject}
 use Rattle.policy_lawful.specs.declared.resolved.Mapping.{Mapping}
 use Rattle.policy_types.specs.declared.source.Region.{Region}
-use Rattle.policy_lawful.proofs.ResolvedFacts.{subjects_unique}
+use Rattle.policy_lawful.proofs.UniqueNames.{subjects_unique}
 use Rattle.policy_lawful.proofs.WindowsByPlace.{extents_placed, regions_unique, all_ready}
-use Rattle.plan_emit.proofs.Kept.{rules_kept, laid, some_cpu}
+use Rattle.policy_lawful.proofs.KeptAddresses.{addresses_kept}
+use Rattle.policy_lawful.proofs.KeptCpus.{cpus_kept}
+use Rattle.policy_lawful.proofs.KeptRules.{rules_kept}
 use Rattle.window_machine.specs.Start.{CanLoad, has_fitting_content, ArePlacedIn}
 
 -- a lawful policy whose elements are built, and whose contents fit
@@ -78,7 +80,7 @@ subjects_are r = refl
 
 pub all_laid : (r : Resolution) → IsLoadable r → AllLaid r.memory r.subjects
 all_laid r f =
-    let windows = (laid (source_of r) (rules_kept (source_of r) f.rules).four).windows in
+    let windows = (addresses_kept (source_of r) (rules_kept (source_of r) f.rules).rule_4).windows in
     laid_each r f r.subjects (ready r f) (sym (ap (list_all (λ s. list_all (λ e. is_guest e.address e.size) (window_extents (source_of r) s))) (subjects_are r)) ∙ windows)
 
 -- ---- the one CPU
@@ -89,5 +91,5 @@ one_of n some few h = grind (arith, nat_tests)
 pub one_cpu : (r : Resolution) → IsLoadable r → (source_of r).processor.logical_cpus ≡ 1
 unfolding has_built_cpus
 one_cpu r f =
-    let some = some_cpu (source_of r) (rules_kept (source_of r) f.rules).three in
-    one_of (source_of r).processor.logical_cpus some.0 some.1 f.loads.cpus
+    let cpus = cpus_kept (source_of r) (rules_kept (source_of r) f.rules).rule_3 in
+    one_of (source_of r).processor.logical_cpus cpus.some cpus.most f.loads.cpus

@@ -26,8 +26,10 @@ use Rattle.policy_types.specs.declared.source.Subject.{Subject as NamedSubject}
 use Rattle.policy_types.specs.declared.source.Region.{Region}
 use Rattle.muen_num.proofs.Lists.{map-map, position-map}
 use Rattle.policy_lawful.proofs.Places.{position_is, found_at_place}
-use Rattle.policy_lawful.proofs.ResolvedFacts.{many_subjects, names_of_subjects}
-use Rattle.policy_lawful.proofs.WindowsByPlace.{plain, windows_placed}
+use Rattle.policy_lawful.proofs.SourceElements.{many_subjects}
+use Rattle.policy_lawful.proofs.UniqueNames.{names_of_subjects}
+use Rattle.policy_lawful.proofs.BuiltElements.{plain}
+use Rattle.policy_lawful.proofs.WindowsByPlace.{windows_placed}
 use Rattle.image_pack.specs.Plan.{frames_in, cpus_of}
 use Rattle.image_pack.specs.Slot.{Slot, slot_at}
 use Rattle.image_pack.specs.declared.plan.GroupPart.{GroupPart}
