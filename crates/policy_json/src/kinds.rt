@@ -1,12 +1,11 @@
 ghost use Rattle.std.specs.Prelude.{◌≡◌, option_and_then};
 ghost use Rattle.serde_json.specs.View.{view};
-ghost use Rattle.policy_json.specs.Schema.{read_number, read_byte, read_name, read_rights, read_caching, read_hexadecimal, rights_from, caching_from};
+ghost use Rattle.policy_json.specs.Values.{read_number, read_byte, read_name, read_rights, read_caching, read_hexadecimal, rights_from, caching_from};
 ghost use Rattle.policy_json.specs.Reading.{Finds, Gives};
 
 use crate::fault::{ReadEnd, make_fault};
 use crate::number::number_of;
 use crate::shape::Shape;
-use bitflags::Flags;
 use hex::FromHexError;
 use muen_num::{Name, Seq};
 use policy_types::{Caching, Rights, Want};
@@ -16,7 +15,7 @@ use std::alloc::Global;
 impl Shape for u64 {
     ghost reads = { read_number };
 
-    #[tactic(auto, unfolding(crate::specs::Schema::read_number))]
+    #[tactic(auto, unfolding(crate::specs::Values::read_number))]
     fn read(alloc: Global, value: &Value) -> Result<u64, ReadEnd>
         ensures { Finds (read_number (view value.now)) result }
     {
@@ -30,7 +29,7 @@ impl Shape for u64 {
 impl Shape for u8 {
     ghost reads = { read_byte };
 
-    #[tactic(auto, unfolding(crate::specs::Schema::read_byte))]
+    #[tactic(auto, unfolding(crate::specs::Values::read_byte))]
     fn read(alloc: Global, value: &Value) -> Result<u8, ReadEnd>
         ensures { Finds (read_byte (view value.now)) result }
     {
@@ -44,7 +43,7 @@ impl Shape for u8 {
 impl Shape for Name {
     ghost reads = { read_name };
 
-    #[tactic(auto, unfolding(crate::specs::Schema::read_name))]
+    #[tactic(auto, unfolding(crate::specs::Values::read_name))]
     fn read(alloc: Global, value: &Value) -> Result<Name, ReadEnd>
         ensures { Finds (read_name (view value.now)) result }
     {
@@ -63,11 +62,9 @@ fn rights_of(text: &str) -> Option<Rights>
 {
     match text {
         "r" => Some(Rights::READ),
-        "rw" => Some(Rights::from_bits_retain(Rights::READ.bits() | Rights::WRITE.bits())),
-        "rx" => Some(Rights::from_bits_retain(Rights::READ.bits() | Rights::EXECUTE.bits())),
-        "rwx" => Some(Rights::from_bits_retain(
-            Rights::READ.bits() | Rights::WRITE.bits() | Rights::EXECUTE.bits(),
-        )),
+        "rw" => Some(Rights::READ.and(Rights::WRITE)),
+        "rx" => Some(Rights::READ.and(Rights::EXECUTE)),
+        "rwx" => Some(Rights::READ.and(Rights::WRITE).and(Rights::EXECUTE)),
         _ => None,
     }
 }
@@ -75,7 +72,7 @@ fn rights_of(text: &str) -> Option<Rights>
 impl Shape for Rights {
     ghost reads = { read_rights };
 
-    #[tactic(auto, unfolding(crate::specs::Schema::read_rights))]
+    #[tactic(auto, unfolding(crate::specs::Values::read_rights))]
     fn read(alloc: Global, value: &Value) -> Result<Rights, ReadEnd>
         ensures { Finds (read_rights (view value.now)) result }
     {
@@ -105,7 +102,7 @@ fn caching_of(text: &str) -> Option<Caching>
 impl Shape for Caching {
     ghost reads = { read_caching };
 
-    #[tactic(auto, unfolding(crate::specs::Schema::read_caching))]
+    #[tactic(auto, unfolding(crate::specs::Values::read_caching))]
     fn read(alloc: Global, value: &Value) -> Result<Caching, ReadEnd>
         ensures { Finds (read_caching (view value.now)) result }
     {
@@ -120,7 +117,7 @@ impl Shape for Caching {
 }
 
 /// The bytes that a text of hexadecimal digits spells.
-#[tactic(auto, unfolding(crate::specs::Schema::read_hexadecimal))]
+#[tactic(auto, unfolding(crate::specs::Values::read_hexadecimal))]
 pub fn read_hexadecimal(alloc: Global, value: &Value) -> Result<Seq<u8>, ReadEnd>
     ensures { Gives (read_hexadecimal (view value.now)) result }
 {

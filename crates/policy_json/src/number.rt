@@ -2,7 +2,7 @@ ghost use Rattle.std.specs.Prelude.{◌≡◌};
 ghost use Rattle.hex.specs.Hex.{hex_digit_value};
 ghost use Rattle.serde_json.specs.View.{view};
 ghost use Rattle.policy_json.specs.Based.{based, groups_of, number_of_groups};
-ghost use Rattle.policy_json.specs.Schema.{number_of};
+ghost use Rattle.policy_json.specs.Values.{number_of};
 
 use serde_json::Value;
 
