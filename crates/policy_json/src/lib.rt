@@ -3,7 +3,8 @@
 
 mod elements;
 mod fault;
-mod kinds;
+
 mod number;
 mod object;
 mod shape;
+mod values;

@@ -5,9 +5,9 @@ ghost use Rattle.std.specs.List.{list_any};
 ghost use Rattle.serde_json.specs.View.{view, members_view};
 ghost use Rattle.policy_json.specs.Values.{read_list};
 ghost use Rattle.policy_json.specs.Objects.{description, has_known, read_known, read_required, read_optional, read_unbuilt};
-ghost use Rattle.policy_json.specs.Reading.{Finds, Gives};
+ghost use Rattle.policy_json.specs.Reading.{ended, Gives};
 
-use crate::fault::{ReadEnd, fault_under, make_fault};
+use crate::fault::ReadEnd;
 use crate::shape::Shape;
 use muen_num::Seq;
 use policy_types::Want;
@@ -74,15 +74,15 @@ fn has_known(members: &Map<String, Value>, keys: &[&str]) -> bool
 // An object with no key but these and `description`.
 #[tactic(auto, unfolding(crate::specs::Objects::read_known))]
 fn read_known(alloc: Global, value: &Value, keys: &[&str]) -> Result<(), ReadEnd>
-    ensures { Finds (read_known (map (λ k. k.now) keys.now) (view value.now)) result }
+    ensures { result ≡ ended (read_known (map (λ k. k.now) keys.now) (view value.now)) }
 {
     match value.as_object() {
-        None => Err(make_fault(alloc, Want::Object)),
+        None => Err(ReadEnd::here(alloc, Want::Object)),
         Some(members) => {
             if has_known(members, keys) {
                 Ok(())
             } else {
-                Err(make_fault(alloc, Want::KnownKeys))
+                Err(ReadEnd::here(alloc, Want::KnownKeys))
             }
         }
     }
@@ -94,10 +94,10 @@ pub fn required<T: Shape>(alloc: Global, value: &Value, key: &str) -> Result<T, 
     ensures { Gives (read_required key.now T.reads (view value.now)) result }
 {
     match value.get(key) {
-        None => Err(fault_under(key, make_fault(alloc, Want::Present))),
+        None => Err(ReadEnd::here(alloc, Want::Present).under(key)),
         Some(found) => match T::read(alloc, found) {
             Ok(x) => Ok(x),
-            Err(end) => Err(fault_under(key, end)),
+            Err(end) => Err(end.under(key)),
         },
     }
 }
@@ -116,7 +116,7 @@ pub fn optional<T: Shape>(
         None => Ok(default),
         Some(found) => match T::read(alloc, found) {
             Ok(x) => Ok(x),
-            Err(end) => Err(fault_under(key, end)),
+            Err(end) => Err(end.under(key)),
         },
     }
 }
@@ -140,6 +140,6 @@ pub fn unbuilt<T: Drop>(
 {
     match value.get(key) {
         None => Ok(default),
-        Some(_) => Err(fault_under(key, make_fault(alloc, Want::NotYetBuilt))),
+        Some(_) => Err(ReadEnd::here(alloc, Want::NotYetBuilt).under(key)),
     }
 }

@@ -4,7 +4,7 @@ ghost use Rattle.serde_json.specs.View.{view, items_view};
 ghost use Rattle.policy_json.specs.Values.{read_list, read_items};
 ghost use Rattle.policy_json.specs.Reading.{Gives};
 
-use crate::fault::{ReadEnd, fault_under, make_fault};
+use crate::fault::ReadEnd;
 use itoa::Buffer;
 use muen_num::Seq;
 use policy_types::Want;
@@ -38,7 +38,7 @@ fn read_items<T: Shape>(alloc: Global, items: &[Value]) -> Result<Seq<T>, ReadEn
                     return Err(ReadEnd::NoMemory);
                 }
             }
-            Err(end) => return Err(fault_under(buffer.format(i), end)),
+            Err(end) => return Err(end.under(buffer.format(i))),
         }
     }
     Ok(list)
@@ -50,7 +50,7 @@ impl<T: Shape> Shape for Seq<T> {
     #[tactic(auto, unfolding(crate::specs::Values::read_list))]
     fn read(alloc: Global, value: &Value) -> Result<Seq<T>, ReadEnd> {
         match value.as_array() {
-            None => Err(make_fault(alloc, Want::List)),
+            None => Err(ReadEnd::here(alloc, Want::List)),
             Some(items) => read_items(alloc, items),
         }
     }
