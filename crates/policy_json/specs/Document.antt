@@ -8,7 +8,7 @@ use Rattle.serde_json.specs.Data.{Data}
 use Rattle.serde_json.specs.Find.{get}
 use Rattle.serde_json.specs.Read.{read}
 use Rattle.policy_types.specs.Built.{is_built_number}
-use Rattle.policy_json.specs.Objects.{◌>>=◌, Object, object, read_object, made, tested, required, optional, list, unbuilt}
+use Rattle.policy_json.specs.Objects.{◌>>=◌, Object, object, read_object, made, tested, required, optional, if_present, list, unbuilt}
 use Rattle.policy_json.specs.Values.{and_then, fault, read_number, read_byte, read_name, read_rights, read_caching, read_hexadecimal}
 use Rattle.policy_types.specs.declared.refusal.Fault.{Fault}
 use Rattle.policy_types.specs.declared.refusal.Refusal.{Refusal}
@@ -59,20 +59,19 @@ is_one_content d =
 unfoldable pub one_content : Data → Result (Unit {0}) Fault
 one_content d = if is_one_content d then Ok tt else fault [] OneContent
 
-unfoldable pub read_fill : Data → Result Content Fault
-read_fill d = and_then (read_byte d) λ byte. Ok (Fill byte)
-
-unfoldable pub read_inline : Data → Result Content Fault
-read_inline d = and_then (read_hexadecimal d) λ bytes. Ok (Inline bytes)
+abbrev pub content_of : Option ℕ → Option (List ℕ) → Content
+content_of fill (Some bytes) = Inline bytes
+content_of (Some byte) None = Fill byte
+content_of None None = Zero
 
 unfoldable pub content : Object Content
 content = object (tested one_content do
-  fill ← optional (codes "fill") Zero read_fill
-  content ← optional (codes "hex") fill read_inline
+  fill ← if_present (codes "fill") read_byte
+  hex ← if_present (codes "hex") read_hexadecimal
   file ← unbuilt (codes "file") (tt {0})
   offset ← unbuilt (codes "offset") (tt {0})
   length ← unbuilt (codes "length") (tt {0})
-  made content)
+  made (content_of fill hex))
 
 unfoldable pub region : Object Region
 region = object do

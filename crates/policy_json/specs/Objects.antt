@@ -26,6 +26,14 @@ optional_from key default read (Some d) = under key (read d)
 unfoldable pub read_optional : {X : Type 0} → List ℕ → X → (Data → Result X Fault) → Data → Result X Fault
 read_optional key default read d = optional_from key default read (get key d)
 
+abbrev pub if_present_from : {X : Type 0} → List ℕ → (Data → Result X Fault) → Option Data → Result (Option X) Fault
+if_present_from key read None = Ok None
+if_present_from key read (Some d) = and_then (under key (read d)) λ x. Ok (Some x)
+
+-- the value under a key, if the key is there
+unfoldable pub read_if_present : {X : Type 0} → List ℕ → (Data → Result X Fault) → Data → Result (Option X) Fault
+read_if_present key read d = if_present_from key read (get key d)
+
 abbrev pub unbuilt_from : {X : Type 0} → List ℕ → X → Option Data → Result X Fault
 unbuilt_from key default None = Ok default
 unbuilt_from key default (Some d) = fault (47 ∷ key) NotYetBuilt
@@ -64,6 +72,10 @@ required key read = record { read = read_required key read }
 -- a key with a default
 abbrev pub optional : {X : Type 0} (key : List ℕ) → X → (Data → Result X Fault) → Field key X
 optional key default read = record { read = read_optional key default read }
+
+-- a key that may be absent
+abbrev pub if_present : {X : Type 0} (key : List ℕ) → (Data → Result X Fault) → Field key (Option X)
+if_present key read = record { read = read_if_present key read }
 
 -- a key of a list, which is empty by default
 abbrev pub list : {X : Type 0} (key : List ℕ) → (Data → Result X Fault) → Field key (List X)

@@ -4,7 +4,7 @@ ghost use Rattle.std.specs.Str.{bytes_eq};
 ghost use Rattle.std.specs.List.{list_any};
 ghost use Rattle.serde_json.specs.View.{view, members_view};
 ghost use Rattle.policy_json.specs.Values.{read_list};
-ghost use Rattle.policy_json.specs.Objects.{description, has_known, read_known, read_required, read_optional, read_unbuilt};
+ghost use Rattle.policy_json.specs.Objects.{description, has_known, read_known, read_required, read_optional, read_if_present, read_unbuilt};
 ghost use Rattle.policy_json.specs.Reading.{ended, Gives};
 
 use crate::fault::ReadEnd;
@@ -116,6 +116,24 @@ pub fn optional<T: Shape>(
         None => Ok(default),
         Some(found) => match T::read(alloc, found) {
             Ok(x) => Ok(x),
+            Err(end) => Err(end.under(key)),
+        },
+    }
+}
+
+/// The value under a key, if the key is there.
+#[tactic(auto, unfolding(crate::specs::Objects::read_if_present))]
+pub fn if_present<T: Shape>(
+    alloc: Global,
+    value: &Value,
+    key: &str,
+) -> Result<Option<T>, ReadEnd>
+    ensures { Gives (read_if_present key.now T.reads (view value.now)) result }
+{
+    match value.get(key) {
+        None => Ok(None),
+        Some(found) => match T::read(alloc, found) {
+            Ok(x) => Ok(Some(x)),
             Err(end) => Err(end.under(key)),
         },
     }
