@@ -1,6 +1,5 @@
 -- The answers of functions that read a JSON value.
-use Rattle.std.specs.Prelude.{ℕ, List, ◌∷◌, ◌++◌, Result, Ok, Err}
-use Rattle.muen_num.specs.Answers.{Answers}
+use Rattle.std.specs.Prelude.{◌≡◌, ℕ, List, ◌∷◌, ◌++◌, Result, Ok, Err}
 use Rattle.policy_types.specs.declared.refusal.Fault.{Fault as FirstFault}
 use Rattle.policy_json.specs.declared.fault.ReadEnd.{ReadEnd}
 use Rattle.policy_json.specs.declared.fault.ReadEnd.TheVariants.{Fault, NoMemory}
@@ -12,7 +11,9 @@ ended (Err f) = Err (Fault f)
 
 -- it is what is wanted, unless memory was refused
 abbrev pub Gives : {X : Type 0} → Result X FirstFault → Result X ReadEnd → Type 0
-Gives wanted result = Answers NoMemory (ended wanted) result
+Gives wanted (Ok x) = wanted ≡ Ok x
+Gives wanted (Err (Fault f)) = wanted ≡ Err f
+Gives wanted (Err NoMemory) = Unit {0}
 
 -- the same end, seen from one step further up: a fault's place grows at its front
 abbrev pub end_under : List ℕ → ReadEnd → ReadEnd

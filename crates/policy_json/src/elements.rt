@@ -5,10 +5,9 @@ ghost use Rattle.policy_json.specs.Document.{has, is_one_content, one_content, c
 ghost use Rattle.policy_json.specs.Reading.{ended};
 
 use crate::fault::ReadEnd;
-use crate::object::{Object, if_present, list, optional, required, unbuilt};
+use crate::object::{Object, if_present, list, optional, required, unbuilt, unbuilt_list};
 use crate::shape::Shape;
 use crate::values::Hexadecimal;
-use muen_num::Seq;
 use policy_types::source::{Block, Content, Mapping, Processor, Region, Subject};
 use policy_types::{Caching, Source, Want};
 use serde_json::Value;
@@ -221,11 +220,11 @@ impl Object for Subject {
             entry: required(alloc, value, "entry")?,
             component: unbuilt(alloc, value, "component", None)?,
             memory: list(alloc, value, "memory")?,
-            channels: unbuilt(alloc, value, "channels", Seq::new(alloc))?,
-            devices: unbuilt(alloc, value, "devices", Seq::new(alloc))?,
-            msrs: unbuilt(alloc, value, "msrs", Seq::new(alloc))?,
-            sources: unbuilt(alloc, value, "sources", Seq::new(alloc))?,
-            targets: unbuilt(alloc, value, "targets", Seq::new(alloc))?,
+            channels: unbuilt_list(alloc, value, "channels")?,
+            devices: unbuilt_list(alloc, value, "devices")?,
+            msrs: unbuilt_list(alloc, value, "msrs")?,
+            sources: unbuilt_list(alloc, value, "sources")?,
+            targets: unbuilt_list(alloc, value, "targets")?,
         })
     }
 }
@@ -255,11 +254,11 @@ impl Object for Source {
         Ok(Source {
             processor: required(alloc, value, "processor")?,
             memory_blocks: list(alloc, value, "memoryBlocks")?,
-            devices: unbuilt(alloc, value, "devices", Seq::new(alloc))?,
+            devices: unbuilt_list(alloc, value, "devices")?,
             memory: list(alloc, value, "memory")?,
-            channels: unbuilt(alloc, value, "channels", Seq::new(alloc))?,
-            components: unbuilt(alloc, value, "components", Seq::new(alloc))?,
-            events: unbuilt(alloc, value, "events", Seq::new(alloc))?,
+            channels: unbuilt_list(alloc, value, "channels")?,
+            components: unbuilt_list(alloc, value, "components")?,
+            events: unbuilt_list(alloc, value, "events")?,
             subjects: list(alloc, value, "subjects")?,
             scheduling: required(alloc, value, "scheduling")?,
         })

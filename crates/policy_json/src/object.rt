@@ -161,3 +161,10 @@ pub fn unbuilt<T: Drop>(
         Some(_) => Err(ReadEnd::here(alloc, Want::NotYetBuilt).under(key)),
     }
 }
+
+/// The empty list of a key whose part isn't built: the key must not be there.
+pub fn unbuilt_list<T: Drop>(alloc: Global, value: &Value, key: &str) -> Result<Seq<T>, ReadEnd>
+    ensures { Gives (read_unbuilt key.now [] (view value.now)) result }
+{
+    unbuilt(alloc, value, key, Seq::new(alloc))
+}
