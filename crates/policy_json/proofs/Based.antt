@@ -1,6 +1,6 @@
 -- The reader of a number's characters in turn, and the number that their groups spell.
 use Rattle.std.proofs.Common.{◌≡◌, ℕ, ◌+◌, ◌-◌, ◌*◌, ◌^◌, ◌<◌, ◌≤◌, Bool, true, false, cond, List, [], ◌∷◌, ◌++◌, length, take, drop, refl, sym, ap, ◌∙◌, arith}
-use Rattle.std.specs.Prelude.{codes, ◌==◌, ◌&&◌, ◌||◌, Option, Some, None, is_some, unwrap_or, option_and_then, fold, nat_lt, if◌then◌else◌}
+use Rattle.std.specs.Prelude.{codes, ◌==◌, ◌&&◌, ◌||◌, Option, Some, None, fold, nat_lt, if◌then◌else◌}
 use Rattle.std.specs.Str.{bytes_eq}
 use Rattle.std.proofs.lemmas.Slice.Eq.{bytes_eq-Decides}
 use Rattle.std.specs.List.{concat, list_all, onto_first}
@@ -8,8 +8,8 @@ use Rattle.std.proofs.lemmas.Bool.Decides.{nat_tests}
 use Rattle.std.proofs.Math.Seq.{take-append_seam, drop-append_seam}
 use Rattle.std.proofs.lemmas.List.{length-append, take-append-drop}
 use Rattle.std.proofs.lemmas.List.Splits.{length-slice_split}
-use Rattle.hex.specs.Hex.{hex_digit_value, is_hex_digit}
-use Rattle.policy_json.specs.Based.{underscore, groups_of, middle_of, is_framed, is_group, with_digit, value_of, number_of_groups, based}
+use Rattle.std.specs.Char.{is_digit, digit_value}
+use Rattle.policy_json.specs.Based.{underscore, groups_of, is_group, with_digit, value_of, number_of_groups}
 
 -- the number once these characters are read too, where the digits before them are worth n,
 -- and `begun` says whether the group that goes on here has a digit
@@ -17,12 +17,13 @@ abbrev pub read_on : ℕ → Bool → List ℕ → Option ℕ
 read_on n begun [] = if begun then Some n else None
 read_on n begun (c ∷ rest) =
     if c == underscore then (if begun then read_on n false rest else None)
-    else option_and_then (λ v. if nat_lt (n * 16 + v) (2 ^ 64) then read_on (n * 16 + v) true rest else None) (hex_digit_value c)
+    else if is_digit c 16 then (if nat_lt (n * 16 + digit_value c) (2 ^ 64) then read_on (n * 16 + digit_value c) true rest else None)
+    else None
 
 -- the groups have a digit each, where the first may have begun before
 abbrev all_groups : Bool → List (List ℕ) → Bool
 all_groups begun [] = false
-all_groups begun (g ∷ gs) = (begun || nat_lt 0 (length g)) && (list_all is_hex_digit g && list_all is_group gs)
+all_groups begun (g ∷ gs) = (begun || nat_lt 0 (length g)) && (list_all (λ c. is_digit c 16) g && list_all is_group gs)
 
 abbrev bounded : Bool → ℕ → Option ℕ
 bounded fits n = if fits && nat_lt n (2 ^ 64) then Some n else None
@@ -41,7 +42,7 @@ and_assoc false b c = refl
 
 first_begins : (gs : List (List ℕ)) → 0 < length gs → list_all is_group gs ≡ all_groups false gs
 first_begins [] h = absurd (omega arith)
-first_begins (g ∷ gs) h = and_assoc (nat_lt 0 (length g)) (list_all is_hex_digit g) (list_all is_group gs)
+first_begins (g ∷ gs) h = and_assoc (nat_lt 0 (length g)) (list_all (λ c. is_digit c 16) g) (list_all is_group gs)
 
 with_first : (c : ℕ) (gs : List (List ℕ)) → concat (onto_first c gs) ≡ c ∷ concat gs
 with_first c [] = refl
@@ -51,11 +52,11 @@ with_first c (g ∷ gs) = refl
 more_than_none : (c : ℕ) (g : List ℕ) → (false || nat_lt 0 (length (c ∷ g))) ≡ true
 more_than_none c g = grind (arith, nat_tests)
 
-begun_by : (begun : Bool) (c : ℕ) (gs : List (List ℕ)) → 0 < length gs → all_groups begun (onto_first c gs) ≡ (is_hex_digit c && all_groups true gs)
+begun_by : (begun : Bool) (c : ℕ) (gs : List (List ℕ)) → 0 < length gs → all_groups begun (onto_first c gs) ≡ (is_digit c 16 && all_groups true gs)
 begun_by begun c [] h = absurd (omega arith)
-begun_by true c (g ∷ gs) h = and_assoc (is_hex_digit c) (list_all is_hex_digit g) (list_all is_group gs)
+begun_by true c (g ∷ gs) h = and_assoc (is_digit c 16) (list_all (λ c. is_digit c 16) g) (list_all is_group gs)
 begun_by false c (g ∷ gs) h =
-    ap (λ b. b && (list_all is_hex_digit (c ∷ g) && list_all is_group gs)) (more_than_none c g) ∙ and_assoc (is_hex_digit c) (list_all is_hex_digit g) (list_all is_group gs)
+    ap (λ b. b && (list_all (λ c. is_digit c 16) (c ∷ g) && list_all is_group gs)) (more_than_none c g) ∙ and_assoc (is_digit c 16) (list_all (λ c. is_digit c 16) g) (list_all is_group gs)
 
 -- a text has at least one group
 some_group : (cs : List ℕ) → 0 < length (groups_of cs)
@@ -83,82 +84,35 @@ go_on n v rest true t e = e (grind (arith, nat_tests))
 go_on n v rest false t e =
     sym (too_great (all_groups true (groups_of rest)) (n * 16 + v) (fold with_digit (n * 16 + v) (concat (groups_of rest))) (grind (arith, nat_tests)) (grows (n * 16 + v) (concat (groups_of rest))))
 
-no_digit : (n : ℕ) (begun : Bool) (c : ℕ) (gs : List (List ℕ)) → 0 < length gs → hex_digit_value c ≡ None → number_after n begun (onto_first c gs) ≡ None
+no_digit : (n : ℕ) (begun : Bool) (c : ℕ) (gs : List (List ℕ)) → 0 < length gs → is_digit c 16 ≡ false → number_after n begun (onto_first c gs) ≡ None
 no_digit n begun c gs h d =
-    ap (λ b. bounded b (fold with_digit n (concat (onto_first c gs)))) (begun_by begun c gs h ∙ ap (λ o. is_some o && all_groups true gs) d)
+    ap (λ b. bounded b (fold with_digit n (concat (onto_first c gs)))) (begun_by begun c gs h ∙ ap (λ t. t && all_groups true gs) d)
 
-one_digit : (n : ℕ) (begun : Bool) (c v : ℕ) (gs : List (List ℕ)) → 0 < length gs → hex_digit_value c ≡ Some v
-    → number_after n begun (onto_first c gs) ≡ number_after (n * 16 + v) true gs
-one_digit n begun c v gs h d =
-    ap (λ b. bounded b (fold with_digit n (concat (onto_first c gs)))) (begun_by begun c gs h ∙ ap (λ o. is_some o && all_groups true gs) d)
+one_digit : (n : ℕ) (begun : Bool) (c : ℕ) (gs : List (List ℕ)) → 0 < length gs → is_digit c 16 ≡ true
+    → number_after n begun (onto_first c gs) ≡ number_after (n * 16 + digit_value c) true gs
+one_digit n begun c gs h d =
+    ap (λ b. bounded b (fold with_digit n (concat (onto_first c gs)))) (begun_by begun c gs h ∙ ap (λ t. t && all_groups true gs) d)
     ∙ ap (λ l. bounded (all_groups true gs) (fold with_digit n l)) (with_first c gs)
-    ∙ ap (λ o. bounded (all_groups true gs) (fold with_digit (n * 16 + unwrap_or o 0) (concat gs))) d
 
--- behind a character whose value as a digit is `digit`
-spelled : (n : ℕ) (begun : Bool) (c : ℕ) (rest : List ℕ) (digit : Option ℕ) → hex_digit_value c ≡ digit
+-- behind a character that is a digit, or is none
+spelled : (n : ℕ) (begun : Bool) (c : ℕ) (rest : List ℕ) (digit : Bool) → is_digit c 16 ≡ digit
     → ((m : ℕ) → m < 2 ^ 64 → read_on m true rest ≡ number_after m true (groups_of rest))
-    → option_and_then (λ v. if nat_lt (n * 16 + v) (2 ^ 64) then read_on (n * 16 + v) true rest else None) digit
+    → (if digit then (if nat_lt (n * 16 + digit_value c) (2 ^ 64) then read_on (n * 16 + digit_value c) true rest else None) else None)
     ≡ number_after n begun (onto_first c (groups_of rest))
-spelled n begun c rest None d e = sym (no_digit n begun c (groups_of rest) (some_group rest) d)
-spelled n begun c rest (Some v) d e = go_on n v rest _ refl (e (n * 16 + v)) ∙ sym (one_digit n begun c v (groups_of rest) (some_group rest) d)
+spelled n begun c rest false d e = sym (no_digit n begun c (groups_of rest) (some_group rest) d)
+spelled n begun c rest true d e = go_on n (digit_value c) rest _ refl (e (n * 16 + digit_value c)) ∙ sym (one_digit n begun c (groups_of rest) (some_group rest) d)
 
 pub read_on_is : (n : ℕ) (begun : Bool) (cs : List ℕ) → n < 2 ^ 64 → read_on n begun cs ≡ number_after n begun (groups_of cs)
 read_on_is n begun [] h = ended n begun h
 read_on_is n begun (c ∷ rest) h =
     elim (c == underscore)
     as (λ b. (if b then (if begun then read_on n false rest else None)
-    else option_and_then (λ v. if nat_lt (n * 16 + v) (2 ^ 64) then read_on (n * 16 + v) true rest else None) (hex_digit_value c))
+    else if is_digit c 16 then (if nat_lt (n * 16 + digit_value c) (2 ^ 64) then read_on (n * 16 + digit_value c) true rest else None)
+    else None)
     ≡ number_after n begun (cond b ([] ∷ groups_of rest) (onto_first c (groups_of rest)))) [
       | true ↦ parted n begun rest (read_on_is n false rest h)
-      | false ↦ spelled n begun c rest (hex_digit_value c) refl (λ m k. read_on_is m true rest k)
+      | false ↦ spelled n begun c rest (is_digit c 16) refl (λ m k. read_on_is m true rest k)
     ]
 
 pub read_on_groups : (cs : List ℕ) → read_on 0 false cs ≡ number_of_groups (groups_of cs)
 read_on_groups cs = read_on_is 0 false cs (omega arith) ∙ ap (λ b. bounded b (value_of (concat (groups_of cs)))) (sym (first_begins (groups_of cs) (some_group cs)))
-
--- ---- the frame
-
-middle_is : (m : List ℕ) → middle_of (codes "16#" ++ (m ++ codes "#")) ≡ m
-middle_is m =
-    let n : length (codes "16#" ++ (m ++ codes "#")) - 4 ≡ length m = omega (arith, length-append m (codes "#")) in
-    ap (λ k. take k (m ++ codes "#")) n ∙ take-append_seam m (codes "#")
-
-framed : (m : List ℕ) → based (codes "16#" ++ (m ++ codes "#")) ≡ number_of_groups (groups_of m)
-framed m =
-    let e = middle_is m in
-    let same : is_framed (codes "16#" ++ (m ++ codes "#")) ≡ true =
-    (bytes_eq-Decides (codes "16#" ++ (m ++ codes "#")) (codes "16#" ++ (middle_of (codes "16#" ++ (m ++ codes "#")) ++ codes "#"))).1
-    (ap (λ l. codes "16#" ++ (l ++ codes "#")) (sym e)) in
-    ap (λ b. if b then number_of_groups (groups_of (middle_of (codes "16#" ++ (m ++ codes "#")))) else None) same
-    ∙ ap (λ l. number_of_groups (groups_of l)) e
-
-begins : (text rest : List ℕ) → bytes_eq (take 3 text) (codes "16#") ≡ true → rest ≡ drop 3 text → text ≡ codes "16#" ++ rest
-begins text rest b e =
-    sym (take-append-drop 3 text) ∙ ap (λ l. l ++ drop 3 text) ((bytes_eq-Decides (take 3 text) (codes "16#")).0 b) ∙ ap (λ l. codes "16#" ++ l) (sym e)
-
-ends : (rest m : List ℕ) → bytes_eq (drop (length rest - 1) rest) (codes "#") ≡ true → m ≡ take (length rest - 1) rest → rest ≡ m ++ codes "#"
-ends rest m b e =
-    sym (take-append-drop (length rest - 1) rest) ∙ ap (λ l. take (length rest - 1) rest ++ l) ((bytes_eq-Decides (drop (length rest - 1) rest) (codes "#")).0 b)
-    ∙ ap (λ l. l ++ codes "#") (sym e)
-
--- without its prefix and its suffix, a text spells what is read of the rest
-pub read_between : (text rest m : List ℕ) → bytes_eq (take 3 text) (codes "16#") ≡ true → rest ≡ drop 3 text
-    → bytes_eq (drop (length rest - 1) rest) (codes "#") ≡ true → m ≡ take (length rest - 1) rest → based text ≡ number_of_groups (groups_of m)
-read_between text rest m b e b' e' = ap based (begins text rest b e ∙ ap (λ l. codes "16#" ++ l) (ends rest m b' e')) ∙ framed m
-
-end_is : (m : List ℕ) → drop (length (m ++ codes "#") - 1) (m ++ codes "#") ≡ codes "#"
-end_is m =
-    let n : length (m ++ codes "#") - 1 ≡ length m = omega (arith, length-append m (codes "#")) in
-    ap (λ k. drop k (m ++ codes "#")) n ∙ drop-append_seam m (codes "#")
-
-pub not_closed : (text rest : List ℕ) → rest ≡ drop 3 text → bytes_eq (drop (length rest - 1) rest) (codes "#") ≡ false → based text ≡ None
-not_closed text rest e b =
-    elim (is_framed text) as (λ f. f ≡ is_framed text → (if f then number_of_groups (groups_of (middle_of text)) else None) ≡ None) [
-      | true ↦ λ f.
-          let t = (bytes_eq-Decides text (codes "16#" ++ (middle_of text ++ codes "#"))).0 (sym f) in
-          let r : rest ≡ middle_of text ++ codes "#" = e ∙ ap (drop 3) t in
-          let closed : bytes_eq (drop (length rest - 1) rest) (codes "#") ≡ true =
-          (bytes_eq-Decides (drop (length rest - 1) rest) (codes "#")).1 (ap (λ l. drop (length l - 1) l) r ∙ end_is (middle_of text)) in
-          cc
-      | false ↦ λ f. refl
-    ] refl

@@ -2,5 +2,3 @@ pub mod Based
 pub mod Front
 pub mod Known
 pub mod Text
-mod Faults
-pub mod ReadBuilt

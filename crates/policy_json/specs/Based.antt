@@ -1,19 +1,19 @@
 -- Numbers as texts, such as 16#00ff_ff00#.
-use Rattle.std.specs.Prelude.{ℕ, ◌+◌, ◌-◌, ◌*◌, ◌^◌, ◌==◌, ◌&&◌, List, ◌++◌, length, take, drop, codes, Bool, Option, Some, None, unwrap_or, fold, nat_lt, if◌then◌else◌}
+use Rattle.std.specs.Prelude.{ℕ, ◌+◌, ◌-◌, ◌*◌, ◌^◌, ◌==◌, ◌&&◌, List, length, take, drop, codes, Bool, Option, Some, None, option_and_then, fold, nat_lt, if◌then◌else◌}
+use Rattle.std.specs.Char.{is_digit, digit_value}
 use Rattle.std.specs.List.{concat, list_all, slice_split}
 use Rattle.std.specs.Str.{bytes_eq}
-use Rattle.hex.specs.Hex.{hex_digit_value, is_hex_digit}
 
 abbrev pub underscore : ℕ
 underscore = 95
 
--- a text without its first three characters and its last one
-abbrev pub middle_of : List ℕ → List ℕ
-middle_of text = take (length text - 4) (drop 3 text)
+-- what stands behind `16#`, where a text begins so
+abbrev pub behind_mark : List ℕ → Option (List ℕ)
+behind_mark text = if bytes_eq (take 3 text) (codes "16#") then Some (drop 3 text) else None
 
--- the text is `16#`, its middle, and `#`
-abbrev pub is_framed : List ℕ → Bool
-is_framed text = bytes_eq text (codes "16#" ++ middle_of text ++ codes "#")
+-- what stands before `#`, where a text ends so
+abbrev pub before_mark : List ℕ → Option (List ℕ)
+before_mark text = if bytes_eq (drop (length text - 1) text) (codes "#") then Some (take (length text - 1) text) else None
 
 -- the parts between underscores
 abbrev pub groups_of : List ℕ → List (List ℕ)
@@ -21,11 +21,11 @@ groups_of middle = slice_split (λ c. c == underscore) middle
 
 -- one or more hexadecimal digits, of either case
 abbrev pub is_group : List ℕ → Bool
-is_group group = nat_lt 0 (length group) && list_all is_hex_digit group
+is_group group = nat_lt 0 (length group) && list_all (λ c. is_digit c 16) group
 
 -- n with the digit c behind it
 abbrev pub with_digit : ℕ → ℕ → ℕ
-with_digit n c = n * 16 + unwrap_or (hex_digit_value c) 0
+with_digit n c = n * 16 + digit_value c
 
 -- what digits are worth in base 16
 abbrev pub value_of : List ℕ → ℕ
@@ -38,4 +38,4 @@ number_of_groups groups =
 
 -- `16#`, groups of hexadecimal digits with single underscores between them, and `#`; the number is below 2^64
 abbrev pub based : List ℕ → Option ℕ
-based text = if is_framed text then number_of_groups (groups_of (middle_of text)) else None
+based text = option_and_then (λ middle. number_of_groups (groups_of middle)) (option_and_then before_mark (behind_mark text))

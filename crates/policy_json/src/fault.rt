@@ -1,11 +1,13 @@
-ghost use Rattle.std.specs.Prelude.{[]};
-ghost use Rattle.policy_json.specs.Reading.{IsFault, IsUnder};
+ghost use Rattle.std.specs.Prelude.{◌≡◌, [], Some};
+ghost use Rattle.muen_num.specs.Answers.{Explains};
+ghost use Rattle.policy_json.specs.Values.{or_want};
+ghost use Rattle.policy_json.specs.Reading.{ended, end_under};
 
 use policy_types::{Fault, Place, Want};
 use std::alloc::Global;
 
 /// Why a value was not read.
-#[derive(Drop, Debug)]
+#[derive(Drop)]
 pub enum ReadEnd {
     /// It is not as wanted, first at this place, as seen from the value.
     Fault(Fault),
@@ -13,25 +15,38 @@ pub enum ReadEnd {
     NoMemory,
 }
 
-/// The value itself is not as wanted.
-pub fn make_fault(alloc: Global, want: Want) -> ReadEnd
-    ensures { IsFault [] want result }
-{
-    ReadEnd::Fault(Fault {
-        place: Place::here(alloc),
-        want,
-    })
+impl ReadEnd {
+    /// The value itself is not as wanted. It takes no memory.
+    pub fn here(alloc: Global, want: Want) -> ReadEnd
+        ensures { result ≡ ReadEnd.Fault (record { place = []; want = want }) }
+    {
+        ReadEnd::Fault(Fault {
+            place: Place::here(alloc),
+            want,
+        })
+    }
+
+    /// The same end, seen from one step further up: the step is the key or item number that leads
+    /// to the value.
+    pub fn under(self, step: &str) -> ReadEnd
+        ensures { Explains ReadEnd.NoMemory (Some (end_under step.now self)) result }
+    {
+        match self {
+            ReadEnd::NoMemory => ReadEnd::NoMemory,
+            ReadEnd::Fault(Fault { place, want }) => match place.under(step) {
+                Ok(place) => ReadEnd::Fault(Fault { place, want }),
+                Err(_) => ReadEnd::NoMemory,
+            },
+        }
+    }
 }
 
-/// What ended the reading of the value under a step, as seen from the value above.
-pub fn fault_under(step: &str, end: ReadEnd) -> ReadEnd
-    ensures { IsUnder step.now end result }
+/// What was found in a value, or that the value is not as wanted.
+pub fn or_want<T>(alloc: Global, found: Option<T>, want: Want) -> Result<T, ReadEnd>
+    ensures { result ≡ ended (or_want want found) }
 {
-    match end {
-        ReadEnd::NoMemory => ReadEnd::NoMemory,
-        ReadEnd::Fault(Fault { place, want }) => match place.under(step) {
-            Ok(place) => ReadEnd::Fault(Fault { place, want }),
-            Err(_) => ReadEnd::NoMemory,
-        },
+    match found {
+        Some(x) => Ok(x),
+        None => Err(ReadEnd::here(alloc, want)),
     }
 }

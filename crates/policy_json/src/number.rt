@@ -1,21 +1,9 @@
 ghost use Rattle.std.specs.Prelude.{◌≡◌};
-ghost use Rattle.hex.specs.Hex.{hex_digit_value};
 ghost use Rattle.serde_json.specs.View.{view};
 ghost use Rattle.policy_json.specs.Based.{based, groups_of, number_of_groups};
-ghost use Rattle.policy_json.specs.Schema.{number_of};
+ghost use Rattle.policy_json.specs.Values.{number_of};
 
 use serde_json::Value;
-
-fn hex_digit(c: u8) -> Option<u8>
-    ensures { result ≡ hex_digit_value c }
-{
-    match c {
-        b'A'..=b'F' => Some(c - 55),
-        b'a'..=b'f' => Some(c - 87),
-        b'0'..=b'9' => Some(c - 48),
-        _ => None,
-    }
-}
 
 // The digits of a number, such as `00ff_ff00`.
 fn read_groups(middle: &[u8]) -> Option<u64>
@@ -30,8 +18,8 @@ fn read_groups(middle: &[u8]) -> Option<u64>
             }
             digit = false;
         } else {
-            let v = u64::from(hex_digit(*c)?);
-            n = n.checked_mul(16)?.checked_add(v)?;
+            let value = char::from(*c).to_digit(16)?;
+            n = n.checked_mul(16)?.checked_add(u64::from(value))?;
             digit = true;
         }
     }

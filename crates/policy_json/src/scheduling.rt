@@ -1,86 +1,101 @@
+//! The scheduling plan: groups, and frames within frames.
 use crate::fault::ReadEnd;
-use crate::keys::{
-    read_cpu_frames_keys, read_group_keys, read_major_frame_keys, read_minor_frame_keys,
-    read_scheduling_keys,
-};
-use crate::shape::{Shape, read_list, read_required};
+use crate::object::{Object, list, required};
 use policy_types::source::{CpuFrames, Group, MajorFrame, MinorFrame, Scheduling};
 use serde_json::Value;
 use std::alloc::Global;
 
-impl Shape for Group {
-    ghost use Rattle.policy_json.specs.Document.{read_group};
+impl Object for Group {
+    ghost use Rattle.policy_json.specs.Document.{group};
 
-    ghost reads = { read_group };
+    ghost object = { group };
 
-    #[tactic(auto, unfolding(crate::specs::Document::read_group))]
-    fn read(alloc: Global, value: &Value) -> Result<Group, ReadEnd> {
-        read_group_keys(alloc, value)?;
-        let name = read_required(alloc, value, "name")?;
-        let cpu = read_required(alloc, value, "cpu")?;
-        let subjects = read_list(alloc, value, "subjects")?;
+    #[tactic(auto, unfolding(crate::specs::Document::group))]
+    fn keys() -> &'static [&'static str] {
+        &["name", "cpu", "subjects"]
+    }
+
+    #[tactic(auto, unfolding(crate::specs::Document::group))]
+    fn read_fields(alloc: Global, value: &Value) -> Result<Group, ReadEnd> {
         Ok(Group {
-            name,
-            cpu,
-            subjects,
+            name: required(alloc, value, "name")?,
+            cpu: required(alloc, value, "cpu")?,
+            subjects: list(alloc, value, "subjects")?,
         })
     }
 }
 
-impl Shape for MinorFrame {
-    ghost use Rattle.policy_json.specs.Document.{read_minor_frame};
+impl Object for MinorFrame {
+    ghost use Rattle.policy_json.specs.Document.{minor_frame};
 
-    ghost reads = { read_minor_frame };
+    ghost object = { minor_frame };
 
-    #[tactic(auto, unfolding(crate::specs::Document::read_minor_frame))]
-    fn read(alloc: Global, value: &Value) -> Result<MinorFrame, ReadEnd> {
-        read_minor_frame_keys(alloc, value)?;
-        let group = read_required(alloc, value, "group")?;
-        let ticks = read_required(alloc, value, "ticks")?;
-        Ok(MinorFrame { group, ticks })
+    #[tactic(auto, unfolding(crate::specs::Document::minor_frame))]
+    fn keys() -> &'static [&'static str] {
+        &["group", "ticks"]
+    }
+
+    #[tactic(auto, unfolding(crate::specs::Document::minor_frame))]
+    fn read_fields(alloc: Global, value: &Value) -> Result<MinorFrame, ReadEnd> {
+        Ok(MinorFrame {
+            group: required(alloc, value, "group")?,
+            ticks: required(alloc, value, "ticks")?,
+        })
     }
 }
 
-impl Shape for CpuFrames {
-    ghost use Rattle.policy_json.specs.Document.{read_cpu_frames};
+impl Object for CpuFrames {
+    ghost use Rattle.policy_json.specs.Document.{cpu_frames};
 
-    ghost reads = { read_cpu_frames };
+    ghost object = { cpu_frames };
 
-    #[tactic(auto, unfolding(crate::specs::Document::read_cpu_frames))]
-    fn read(alloc: Global, value: &Value) -> Result<CpuFrames, ReadEnd> {
-        read_cpu_frames_keys(alloc, value)?;
-        let cpu = read_required(alloc, value, "cpu")?;
-        let minor_frames = read_list(alloc, value, "minorFrames")?;
-        Ok(CpuFrames { cpu, minor_frames })
+    #[tactic(auto, unfolding(crate::specs::Document::cpu_frames))]
+    fn keys() -> &'static [&'static str] {
+        &["cpu", "minorFrames"]
+    }
+
+    #[tactic(auto, unfolding(crate::specs::Document::cpu_frames))]
+    fn read_fields(alloc: Global, value: &Value) -> Result<CpuFrames, ReadEnd> {
+        Ok(CpuFrames {
+            cpu: required(alloc, value, "cpu")?,
+            minor_frames: list(alloc, value, "minorFrames")?,
+        })
     }
 }
 
-impl Shape for MajorFrame {
-    ghost use Rattle.policy_json.specs.Document.{read_major_frame};
+impl Object for MajorFrame {
+    ghost use Rattle.policy_json.specs.Document.{major_frame};
 
-    ghost reads = { read_major_frame };
+    ghost object = { major_frame };
 
-    #[tactic(auto, unfolding(crate::specs::Document::read_major_frame))]
-    fn read(alloc: Global, value: &Value) -> Result<MajorFrame, ReadEnd> {
-        read_major_frame_keys(alloc, value)?;
-        let cpus = read_list(alloc, value, "cpus")?;
-        Ok(MajorFrame { cpus })
+    #[tactic(auto, unfolding(crate::specs::Document::major_frame))]
+    fn keys() -> &'static [&'static str] {
+        &["cpus"]
+    }
+
+    #[tactic(auto, unfolding(crate::specs::Document::major_frame))]
+    fn read_fields(alloc: Global, value: &Value) -> Result<MajorFrame, ReadEnd> {
+        Ok(MajorFrame {
+            cpus: list(alloc, value, "cpus")?,
+        })
     }
 }
 
-impl Shape for Scheduling {
-    ghost use Rattle.policy_json.specs.Document.{read_scheduling};
+impl Object for Scheduling {
+    ghost use Rattle.policy_json.specs.Document.{scheduling};
 
-    ghost reads = { read_scheduling };
+    ghost object = { scheduling };
 
-    #[tactic(auto, unfolding(crate::specs::Document::read_scheduling))]
-    fn read(alloc: Global, value: &Value) -> Result<Scheduling, ReadEnd> {
-        read_scheduling_keys(alloc, value)?;
-        let groups = read_list(alloc, value, "groups")?;
-        let major_frames = read_list(alloc, value, "majorFrames")?;
+    #[tactic(auto, unfolding(crate::specs::Document::scheduling))]
+    fn keys() -> &'static [&'static str] {
+        &["groups", "majorFrames"]
+    }
+
+    #[tactic(auto, unfolding(crate::specs::Document::scheduling))]
+    fn read_fields(alloc: Global, value: &Value) -> Result<Scheduling, ReadEnd> {
         Ok(Scheduling {
-            groups,
-            major_frames,
+            groups: list(alloc, value, "groups")?,
+            major_frames: list(alloc, value, "majorFrames")?,
         })
     }
 }

@@ -1,4 +1,4 @@
--- What a JSON value is read as, or its first fault: the kinds of values, and the parts of an object.
+-- What a JSON value of each kind is read as, or its first fault.
 -- This project's own spelling of the elements of a Muen system policy.
 use Rattle.std.specs.Prelude.{ℕ, ◌+◌, List, [], ◌∷◌, ◌++◌, Bool, true, ◌&&◌, codes, Option, Some, None, option_and_then, Result, Ok, Err, decimal, nat_lt, if◌then◌else◌}
 use Rattle.std.specs.Str.{bytes_eq}
@@ -12,14 +12,16 @@ use Rattle.policy_json.specs.Based.{based}
 use Rattle.policy_types.specs.declared.refusal.Fault.{Fault}
 use Rattle.policy_types.specs.declared.refusal.Want.{Want}
 use Rattle.policy_types.specs.declared.refusal.Want.TheVariants.{Number, Byte, Name, Rights as WantRights, Caching as WantCaching, Hexadecimal, List as WantList, Object, KnownKeys, Present, NotYetBuilt}
+use Rattle.policy_types.specs.Rights.{union}
 use Rattle.policy_types.specs.declared.rights.Rights.{Rights}
+use Rattle.policy_types.specs.declared.rights.TheConstants.Rights.{READ, WRITE, EXECUTE}
 use Rattle.policy_types.specs.declared.rights.Caching.{Caching}
 use Rattle.policy_types.specs.declared.rights.Caching.TheVariants.{Uc, Wc, Wt, Wp, Wb}
 
-infixl 10 ◌>>=◌
-abbrev pub ◌>>=◌ : {A B : Type 0} → Result A Fault → (A → Result B Fault) → Result B Fault
-(Ok x) >>= f = f x
-(Err e) >>= f = Err e
+-- what comes after, where there is no fault yet
+abbrev pub and_then : {A B : Type 0} → Result A Fault → (A → Result B Fault) → Result B Fault
+and_then (Ok x) f = f x
+and_then (Err e) f = Err e
 
 -- a fault at this place
 abbrev pub fault : {X : Type 0} → List ℕ → Want → Result X Fault
@@ -61,10 +63,10 @@ read_name d = or_want Name (option_and_then name_of (as_str d))
 
 abbrev pub rights_from : List ℕ → Option Rights
 rights_from text =
-    if bytes_eq text (codes "r") then Some (record { 0 = 1 })
-    else if bytes_eq text (codes "rw") then Some (record { 0 = 3 })
-    else if bytes_eq text (codes "rx") then Some (record { 0 = 5 })
-    else if bytes_eq text (codes "rwx") then Some (record { 0 = 7 })
+    if bytes_eq text (codes "r") then Some READ
+    else if bytes_eq text (codes "rw") then Some (union READ WRITE)
+    else if bytes_eq text (codes "rx") then Some (union READ EXECUTE)
+    else if bytes_eq text (codes "rwx") then Some (union (union READ WRITE) EXECUTE)
     else None
 
 -- one of the texts r, rw, rx and rwx
@@ -90,46 +92,8 @@ read_hexadecimal d = or_want Hexadecimal (option_and_then (λ s. result_ok (deco
 
 abbrev pub read_items : {X : Type 0} → (Data → Result X Fault) → ℕ → Items → Result (List X) Fault
 read_items read i no_items = Ok []
-read_items read i (item d ds) = under (decimal i) (read d) >>= λ x. read_items read (i + 1) ds >>= λ xs. Ok (x ∷ xs)
+read_items read i (item d ds) = and_then (under (decimal i) (read d)) λ x. and_then (read_items read (i + 1) ds) λ xs. Ok (x ∷ xs)
 
 -- a list, its items from first to last
 unfoldable pub read_list : {X : Type 0} → (Data → Result X Fault) → Data → Result (List X) Fault
-read_list read d = or_want WantList (as_array d) >>= read_items read 0
-
--- ---- the parts of an object
-
-abbrev pub only_keys : List (List ℕ) → Members → Bool
-only_keys keys no_members = true
-only_keys keys (member k d ms) = list_any (λ key. bytes_eq key k) keys && only_keys keys ms
-
-abbrev pub known_keys : List (List ℕ) → Option Members → Result (Unit {0}) Fault
-known_keys keys None = fault [] Object
-known_keys keys (Some ms) = if only_keys keys ms then Ok tt else fault [] KnownKeys
-
--- an object with no key but these
-unfoldable pub object_of : List (List ℕ) → Data → Result (Unit {0}) Fault
-object_of keys d = known_keys keys (as_object d)
-
-abbrev pub required_from : {X : Type 0} → List ℕ → (Data → Result X Fault) → Option Data → Result X Fault
-required_from key read None = fault (47 ∷ key) Present
-required_from key read (Some d) = under key (read d)
-
--- the value under a key that has to be there
-unfoldable pub required : {X : Type 0} → List ℕ → (Data → Result X Fault) → Data → Result X Fault
-required key read d = required_from key read (get key d)
-
-abbrev pub optional_from : {X : Type 0} → List ℕ → X → (Data → Result X Fault) → Option Data → Result X Fault
-optional_from key default read None = Ok default
-optional_from key default read (Some d) = under key (read d)
-
--- the value under a key, or the default
-unfoldable pub optional : {X : Type 0} → List ℕ → X → (Data → Result X Fault) → Data → Result X Fault
-optional key default read d = optional_from key default read (get key d)
-
-abbrev pub unbuilt_from : List ℕ → Option Data → Result (Unit {0}) Fault
-unbuilt_from key None = Ok tt
-unbuilt_from key (Some d) = fault (47 ∷ key) NotYetBuilt
-
--- a key of the schema whose part isn't built: it must not be there
-unfoldable pub unbuilt : List ℕ → Data → Result (Unit {0}) Fault
-unbuilt key d = unbuilt_from key (get key d)
+read_list read d = and_then (or_want WantList (as_array d)) (read_items read 0)

@@ -1,8 +1,0 @@
-use Rattle.std.proofs.Common.{◌≡◌, map}
-use Rattle.serde_json.specs.View.{members_view}
-use Rattle.policy_json.specs.Schema.{only_keys}
-use Rattle.policy_json.proofs.shape.has_only.Given as goal
-
-abbrev pub invariant-loop-key : goal.invariant-loop-key
-invariant-loop-key l =
-    only_keys (map (λ k. k.now) l.keys) (members_view l.key-iterator) ≡ only_keys (map (λ k. k.now) l.keys) (members_view l.members.entries)
