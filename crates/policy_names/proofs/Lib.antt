@@ -1,9 +1,5 @@
-pub mod Answering
 pub mod Built
-pub mod Elements
-pub mod Firsts
+pub mod Names
 pub mod Places
-pub mod References
-pub mod Repeats
+pub mod Searches
 pub mod Whole
-pub mod Whys

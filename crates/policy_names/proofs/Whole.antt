@@ -1,90 +1,75 @@
--- The policy that a resolved one stands for.
-use Rattle.std.proofs.Common.{◌≡◌, ℕ, true, List, [], ◌∷◌, length, None, refl, ap, sym, subst, ◌∙◌}
+-- The whole of a policy, from its elements with places.
+use Rattle.std.proofs.Common.{◌≡◌, true, List, ◌++◌, length, refl, None, Err, inl, inr, ⊎_elim, sym, ap, subst, ◌∙◌}
 use Rattle.std.specs.Prelude.{map, nat_lt}
-use Rattle.std.specs.List.{list_all}
-use Rattle.std.proofs.lemmas.Bool.{and_parts}
+use Rattle.std.specs.List.{flat_map, list_all}
+use Rattle.std.specs.Option.{option_or}
 use Rattle.std.proofs.lemmas.List.{length-map}
-use Rattle.policy_lawful.specs.Resolution.{Resolution, source_of, are_placed, subject_named, subject_placed, group_placed, major_placed}
+use Rattle.muen_num.specs.Answers.{Answers, Explains}
+use Rattle.muen_num.specs.Search.{first_in}
+use Rattle.muen_num.proofs.FirstIn.{first_in-append, option_or-None, option_or_assoc}
+use Rattle.muen_num.proofs.Lists.{all_true, map-map}
+use Rattle.policy_lawful.specs.Lawful.{kept_or, names_broken}
+use Rattle.policy_lawful.specs.Offences.{broken}
+use Rattle.policy_lawful.proofs.Offences.{none_broken}
+use Rattle.policy_lawful.specs.Resolution.{IsResolved, Resolution, are_placed, group_named, group_placed, major_named, major_placed, name_at, source_of, subject_named, subject_placed}
+use Rattle.policy_lawful.specs.Rules.{frame_references, group_references, majors_of, offence_1, offence_2, subject_references, undeclared}
+use Rattle.policy_lawful.specs.declared.resolved.Group.{Group}
+use Rattle.policy_lawful.specs.declared.resolved.MajorFrame.{MajorFrame}
+use Rattle.policy_lawful.specs.declared.resolved.Subject.{Subject}
+use Rattle.policy_types.specs.declared.refusal.Refusal.{Refusal}
+use Rattle.policy_types.specs.declared.refusal.Refusal.TheVariants.{NoMemory}
 use Rattle.policy_types.specs.declared.source.Source.{Source}
-use Rattle.policy_lawful.specs.declared.resolved.Subject.{Subject as PlacedSubject}
-use Rattle.policy_lawful.specs.declared.resolved.Scheduling.{Scheduling as PlacedScheduling}
-use Rattle.policy_names.specs.Firsts.{region_names, subject_names, group_names}
-use Rattle.policy_names.specs.Parts.{subject_in, is_subject_in, is_mapping_in, group_in, is_group_in, major_in, is_major_in}
-use Rattle.policy_names.specs.Whole.{with_places, Resolves}
-use Rattle.muen_num.proofs.Lists.{map-map}
-use Rattle.policy_lawful.proofs.WindowsByPlace.{no_items, none_some}
+use Rattle.policy_names.specs.Outline.{bare_group, bare_subject, outline, with_places}
+use Rattle.policy_names.specs.Places.{StandsFor}
+use Rattle.policy_names.proofs.Built.{subjects_plain}
+use Rattle.policy_names.proofs.Searches.{broken-or, first_in-flat_map, or_none, or_some}
 
--- ---- subjects
+-- ---- what is broken
 
-record IsBare (s : PlacedSubject) (regions : List (List ℕ)) : Type 0 where
-  component : s.component ≡ None
-  channels : s.channels ≡ []
-  devices : s.devices ≡ []
-  msrs : s.msrs ≡ []
-  sources : s.sources ≡ []
-  targets : s.targets ≡ []
-  memory : list_all (is_mapping_in regions) s.memory ≡ true
+-- rule 2, of one kind of elements after another
+pub offence_2_in_turn : (p : Source) → offence_2 p
+    ≡ option_or (first_in (λ s. first_in undeclared (subject_references p s)) p.subjects)
+    (option_or (first_in (λ g. first_in undeclared (group_references p g)) p.scheduling.groups) (first_in (λ m. first_in undeclared (frame_references p m)) (majors_of p)))
+unfolding offence_2
+offence_2_in_turn p =
+    let s = flat_map (subject_references p) p.subjects in
+    let g = flat_map (group_references p) p.scheduling.groups in
+    rw (first_in-append undeclared (s ++ g), first_in-append undeclared s g, first_in-flat_map undeclared (subject_references p), first_in-flat_map undeclared (group_references p), first_in-flat_map undeclared (frame_references p), option_or_assoc) refl
 
-bare : (s : PlacedSubject) (regions : List (List ℕ)) → is_subject_in regions s ≡ true → IsBare s regions
-bare s regions h =
-    let f = and_parts _ _ h in
-    let e = and_parts _ _ f.0 in
-    let d = and_parts _ _ e.0 in
-    let c = and_parts _ _ d.0 in
-    let b = and_parts _ _ c.0 in
-    let a = and_parts _ _ b.0 in
-    record {
-      component = none_some s.component a.0;
-      channels = no_items s.channels a.1;
-      devices = no_items s.devices b.1;
-      msrs = no_items s.msrs c.1;
-      sources = no_items s.sources d.1;
-      targets = no_items s.targets e.1;
-      memory = f.1;
-    }
+-- ---- its places
 
-subject_back : (r : Resolution) (s : PlacedSubject) → is_subject_in (map (λ x. x.name) r.memory) s ≡ true → subject_named r s ≡ subject_in (map (λ x. x.name) r.memory) s
-subject_back r s h = let b = bare s (map (λ x. x.name) r.memory) h in rw (b.component, b.channels, b.devices, b.msrs, b.sources, b.targets) refl
+module _ (p : Source) (ss : List Subject) (gs : List Group) (ms : List MajorFrame)
+    (subjects : StandsFor (map (subject_named (outline p))) (list_all (subject_placed (outline p))) p.subjects ss)
+    (groups : StandsFor (map (group_named (outline p))) (list_all (group_placed (outline p))) p.scheduling.groups gs)
+    (majors : StandsFor (map (major_named (outline p))) (list_all (major_placed (outline p))) p.scheduling.major_frames ms) where
+  -- the subjects have their names
+  of_subjects : map (λ s. s.name) (outline p).subjects ≡ map (λ s. s.name) ss
+  of_subjects = map-map (λ s. s.name) bare_subject p.subjects ∙ ap (map (λ s. s.name)) (sym subjects.same) ∙ map-map (λ s. s.name) (subject_named (outline p)) ss
 
-subjects_back : (r : Resolution) (ss : List PlacedSubject) → list_all (is_subject_in (map (λ x. x.name) r.memory)) ss ≡ true → map (subject_named r) ss ≡ map (subject_in (map (λ x. x.name) r.memory)) ss
-subjects_back r [] h = refl
-subjects_back r (s ∷ ss) h =
-    let here = and_parts (is_subject_in (map (λ x. x.name) r.memory) s) (list_all (is_subject_in (map (λ x. x.name) r.memory)) ss) h in
-    rw (subject_back r s here.0, subjects_back r ss here.1) refl
+  -- and so have the groups
+  of_groups : map (λ g. g.name) (outline p).scheduling.groups ≡ map (λ g. g.name) gs
+  of_groups = map-map (λ g. g.name) bare_group p.scheduling.groups ∙ ap (map (λ g. g.name)) (sym groups.same) ∙ map-map (λ g. g.name) (group_named (outline p)) gs
 
-subject_there : (r : Resolution) (s : PlacedSubject) → is_subject_in (map (λ x. x.name) r.memory) s ≡ true → subject_placed r s ≡ true
-subject_there r s h = let b = bare s (map (λ x. x.name) r.memory) h in rw (b.component, b.channels, b.devices, b.sources, b.targets, ← length-map r.memory (λ x. x.name), b.memory) refl
+  groups_same : map (group_named (with_places p ss (record { groups = gs; major_frames = ms }))) gs ≡ p.scheduling.groups
+  groups_same = ap (λ names. map (λ (g : Group). record { name = g.name; cpu = g.cpu; subjects = map (name_at names) g.subjects }) gs) (sym of_subjects) ∙ groups.same
 
-subjects_there : (r : Resolution) (ss : List PlacedSubject) → list_all (is_subject_in (map (λ x. x.name) r.memory)) ss ≡ true → list_all (subject_placed r) ss ≡ true
-subjects_there r [] h = refl
-subjects_there r (s ∷ ss) h =
-    let here = and_parts (is_subject_in (map (λ x. x.name) r.memory) s) (list_all (is_subject_in (map (λ x. x.name) r.memory)) ss) h in
-    rw (subject_there r s here.0, subjects_there r ss here.1) refl
+  majors_same : map (major_named (with_places p ss (record { groups = gs; major_frames = ms }))) ms ≡ p.scheduling.major_frames
+  majors_same =
+      ap (λ names. map (λ (m : MajorFrame). record { cpus = map (λ c. record { cpu = c.cpu; minor_frames = map (λ f. record { group = name_at names f.group; ticks = f.ticks }) c.minor_frames }) m.cpus }) ms) (sym of_groups)
+      ∙ majors.same
 
--- ---- lengths that stay
+  groups_there : list_all (group_placed (with_places p ss (record { groups = gs; major_frames = ms }))) gs ≡ true
+  groups_there = subst (λ n. list_all (λ (g : Group). list_all (λ i. nat_lt i n) g.subjects) gs ≡ true) (sym (length-map (outline p).subjects (λ s. s.name)) ∙ ap length of_subjects ∙ length-map ss (λ s. s.name)) groups.there
 
-same_length : {X Y : Type 0} (f : X → Y) (g : Y → List ℕ) (xs : List X) (ys : List Y) → map f xs ≡ ys → length (map g ys) ≡ length xs
-same_length f g xs ys e = length-map ys g ∙ sym (ap length e) ∙ length-map xs f
+  majors_there : list_all (major_placed (with_places p ss (record { groups = gs; major_frames = ms }))) ms ≡ true
+  majors_there =
+      subst (λ n. list_all (λ (m : MajorFrame). list_all (λ c. list_all (λ f. nat_lt f.group n) c.minor_frames) m.cpus) ms ≡ true)
+      (sym (length-map (outline p).scheduling.groups (λ g. g.name)) ∙ ap length of_groups ∙ length-map gs (λ g. g.name)) majors.there
 
--- ---- the whole
-
-module _ (p : Source) (ss : List PlacedSubject) (plan : PlacedScheduling)
-    (subjects : map (subject_in (region_names p)) ss ≡ p.subjects) (subjects_in : list_all (is_subject_in (region_names p)) ss ≡ true)
-    (groups : map (group_in (subject_names p)) plan.groups ≡ p.scheduling.groups) (groups_in : list_all (is_group_in (subject_names p)) plan.groups ≡ true)
-    (majors : map (major_in (group_names p)) plan.major_frames ≡ p.scheduling.major_frames) (majors_in : list_all (is_major_in (group_names p)) plan.major_frames ≡ true)
-  where
-    subjects_are : map (subject_named (with_places p ss plan)) ss ≡ p.subjects
-    subjects_are = subjects_back (with_places p ss plan) ss subjects_in ∙ subjects
-
-    groups_are : map (group_in (map (λ s. s.name) ss)) plan.groups ≡ p.scheduling.groups
-    groups_are = ap (λ names. map (group_in names) plan.groups) (sym (map-map (λ s. s.name) (subject_in (region_names p)) ss) ∙ ap (map (λ s. s.name)) subjects) ∙ groups
-
-    majors_are : map (major_in (map (λ g. g.name) plan.groups)) plan.major_frames ≡ p.scheduling.major_frames
-    majors_are = ap (λ names. map (major_in names) plan.major_frames) (sym (map-map (λ g. g.name) (group_in (subject_names p)) plan.groups) ∙ ap (map (λ g. g.name)) groups) ∙ majors
-
-    source_is : source_of (with_places p ss plan) ≡ p
-    unfolding source_of
-    source_is i = record {
+  pub whole : StandsFor source_of are_placed p (with_places p ss (record { groups = gs; major_frames = ms }))
+  unfolding source_of are_placed
+  whole = record {
+    same = λ i. record {
       processor = p.processor;
       memory_blocks = p.memory_blocks;
       devices = p.devices;
@@ -92,19 +77,23 @@ module _ (p : Source) (ss : List PlacedSubject) (plan : PlacedScheduling)
       channels = p.channels;
       components = p.components;
       events = p.events;
-      subjects = subjects_are i;
-      scheduling = record { groups = groups_are i; major_frames = majors_are i };
-    }
+      subjects = subjects.same i;
+      scheduling = record { groups = groups_same i; major_frames = majors_same i };
+    };
+    there = rw (subjects.there, groups_there, majors_there) refl;
+  }
 
-    groups_there : list_all (group_placed (with_places p ss plan)) plan.groups ≡ true
-    groups_there = subst (λ n. list_all (λ g. list_all (λ i. nat_lt i n) g.subjects) plan.groups ≡ true) (same_length (subject_in (region_names p)) (λ s. s.name) ss p.subjects subjects) groups_in
+pub ruleset in_turn = (subjects_plain, offence_2_in_turn, broken-or, or_none, or_some, all_true)
 
-    majors_there : list_all (major_placed (with_places p ss plan)) plan.major_frames ≡ true
-    majors_there = subst (λ n. list_all (λ m. list_all (λ c. list_all (λ f. nat_lt f.group n) c.minor_frames) m.cpus) plan.major_frames ≡ true) (same_length (group_in (subject_names p)) (λ g. g.name) plan.groups p.scheduling.groups groups) majors_in
+-- ---- the resolved policy
 
-    all_placed : are_placed (with_places p ss plan) ≡ true
-    unfolding are_placed
-    all_placed = rw (subjects_there (with_places p ss plan) ss subjects_in, groups_there, majors_there) refl
+pub resolved : (p : Source) (r : Resolution) → broken 1 (offence_1 p) ≡ None → broken 2 (offence_2 p) ≡ None → StandsFor source_of are_placed p r → IsResolved r
+resolved p r one two places =
+    record { names = rw places.same (none_broken 1 (offence_1 p) one); references = rw places.same (none_broken 2 (offence_2 p) two); placed = places.there }
 
-    pub whole : Resolves p (with_places p ss plan)
-    whole = record { source = source_is; placed = all_placed }
+-- rule 1, else rule 2
+pub names_in_turn : (p : Source) → names_broken p ≡ option_or (broken 1 (offence_1 p)) (broken 2 (offence_2 p))
+unfolding names_broken
+names_in_turn p = rw (option_or-None (broken 2 (offence_2 p))) refl
+
+pub ruleset resolution = (names_in_turn, or_none, or_some, resolved)
