@@ -2,8 +2,8 @@
 use Rattle.std.specs.Prelude.{◌≡◌, ℕ, ℤ, pos, ◌+◌, ◌-◌, ◌*◌, ◌/◌, ◌%◌, ◌^◌, ◌<◌, ◌==◌, ◌&&◌, ◌||◌, Bool, true, false, not, List, [], ◌∷◌, slice_index, slice_set, nat_lt, bit_and, bit_or, bit_xor, Option, Some, None, option_and_then, if◌then◌else◌}
 use Rattle.std.specs.Int.{w32, w64, from_le_bytes, to_le_bytes, cast_signed, cast_unsigned}
 use Rattle.muen_num.specs.Size.{bytes_of}
-use Rattle.muen_num.specs.declared.bits.Size.{Size}
-use Rattle.muen_num.specs.declared.bits.Size.TheVariants.{One, Two, Four, Eight}
+use Rattle.muen_num.specs.declared.access.Size.{Size}
+use Rattle.muen_num.specs.declared.access.Size.TheVariants.{One, Two, Four, Eight}
 use Rattle.state_page.specs.declared.SubjectState.{SubjectState}
 use Rattle.guest_isa.specs.declared.spelling.Fields.{Fields}
 use Rattle.guest_isa.specs.declared.spelling.Named.{Named}

@@ -48,7 +48,7 @@ failed_then a b c s t u p q = record {
   rose = omega (arith, p.count, q.rose);
 }
 
-failed_as : (a b : List ℕ) (s u : SinkState) → a ≡ b → Failed a s u → Failed b s u
+pub failed_as : (a b : List ℕ) (s u : SinkState) → a ≡ b → Failed a s u → Failed b s u
 failed_as a b s u e q = subst (λ x. Failed x s u) e q
 
 -- nothing stood before

@@ -3,6 +3,8 @@ pub mod Store
 pub mod Outside
 pub mod Found
 pub mod Puts
+pub mod Pieces
+pub mod Buffered
 pub mod Entries
 pub mod MemFiles
 pub mod MemSink

@@ -55,6 +55,13 @@ impl MemSink {
         })
     }
 
+    /// How many calls there were.
+    pub fn calls(&self) -> u64
+        ensures { result ≡ self.now.calls }
+    {
+        self.calls
+    }
+
     /// What was written, lent.
     pub fn text(&self) -> &[u8]
         ensures { result.now ≡ self.now.text }

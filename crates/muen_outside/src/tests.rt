@@ -2,8 +2,8 @@
 ghost use Rattle.std.specs.Prelude.{[], ◌∷◌};
 
 use crate::{
-    FileEnd, Files, FolderFiles, Found, Line, MemFiles, MemSink, Sink, SinkFault, StdSink,
-    put_lines,
+    Buffer, FileEnd, Files, FolderFiles, Found, MemFiles, MemSink, PrintedLine, Sink, SinkFault,
+    StdSink, put_lines, put_pieces,
 };
 use muen_num::text::append;
 use std::alloc::Global;
@@ -91,16 +91,63 @@ fn sink_in_memory(rt: HostRuntime) -> Result<(), Fail> {
     Ok(())
 }
 
+#[test]
+fn puts_wait_in_a_buffer(rt: HostRuntime) -> Result<(), Fail> {
+    let alloc = rt.alloc();
+    let mut sink = MemSink::make(alloc, 1_000_000, Vec::new(alloc), 0)?;
+    let mut buffer = Buffer::make(alloc)?;
+    for _ in 0..20_000 {
+        assert_eq!(rt; buffer.put(b"twelve bytes", &mut sink), Ok(()));
+    }
+    let large = vec![in alloc; b'!'; 70_000]?;
+    assert_eq!(rt; buffer.put(&large, &mut sink), Ok(()));
+    assert_eq!(rt; sink.calls(), 5);
+    assert_eq!(rt; sink.text().len(), 310_000);
+    let lines = [Numbered { digit: b'1' }, Numbered { digit: b'2' }];
+    assert_eq!(rt; put_lines(&lines, &mut buffer, &mut sink), Ok(()));
+    assert_eq!(rt; sink.calls(), 5);
+    assert_eq!(rt; buffer.flush(&mut sink), Ok(()));
+    assert_eq!(rt; sink.calls(), 6);
+    assert_eq!(rt; sink.text().len(), 310_004);
+    assert!(rt; sink.text().ends_with(b"!1\n2\n"));
+    Ok(())
+}
+
+// How many puts of twelve bytes go well.
+fn count_puts(alloc: Global, sink: &mut MemSink) -> Result<u64, Fail> {
+    let mut buffer = Buffer::make(alloc)?;
+    for count in 0..20_000 {
+        if buffer.put(b"twelve bytes", sink) == Err(SinkFault) {
+            return Ok(count);
+        }
+    }
+    let _ = buffer.flush(sink);
+    Ok(20_000)
+}
+
+#[test]
+fn a_fault_leaves_a_front(rt: HostRuntime) -> Result<(), Fail> {
+    let alloc = rt.alloc();
+    let mut one_bad = MemSink::make(alloc, 1_000_000, Vec::from_slice(alloc, &[1])?, 100)?;
+    assert_eq!(rt; count_puts(alloc, &mut one_bad)?, 10_922);
+    assert_eq!(rt; one_bad.text().len(), 65_632);
+    let mut full = MemSink::make(alloc, 239_999, Vec::new(alloc), 0)?;
+    assert_eq!(rt; count_puts(alloc, &mut full)?, 20_000);
+    assert_eq!(rt; full.text().len(), 239_999);
+    assert!(rt; full.text().ends_with(b"twelve bytestwelve byte"));
+    Ok(())
+}
+
 #[derive(Drop)]
 struct Numbered {
     digit: u8,
 }
 
-impl Line for Numbered {
+impl PrintedLine for Numbered {
     ghost text = { λ n. n.digit ∷ 10 ∷ [] };
 
-    fn write(&self, buffer: &mut [u8; 256]) -> usize {
-        append(buffer, 0, &[self.digit, b'\n'])
+    fn write(&self, space: &mut [u8; 256]) -> usize {
+        append(space, 0, &[self.digit, b'\n'])
     }
 }
 
@@ -132,10 +179,9 @@ fn sink_over_a_writer(rt: HostRuntime) -> Result<(), Fail> {
     let alloc = rt.alloc();
     let mut text = Vec::new(alloc);
     let mut sink = StdSink::new(&mut text);
-    let lines = [Numbered { digit: b'1' }, Numbered { digit: b'2' }];
-    assert_eq!(rt; put_lines(&lines, &mut sink), Ok(()));
+    assert_eq!(rt; put_pieces(&["one", "", " two", "\n"], &mut sink), Ok(()));
     drop(sink);
-    assert_eq!(rt; text.as_slice(), b"1\n2\n".as_slice());
+    assert_eq!(rt; text.as_slice(), b"one two\n".as_slice());
 
     let mut writer = Choppy {
         text: Vec::new(alloc),

@@ -7,7 +7,7 @@ use Rattle.policy_lawful.specs.Rules.{cpu_name, major_name, majors_of, offence_3
 use Rattle.muen_num.specs.Search.{first_in, unless}
 use Rattle.policy_lawful.specs.Offences.{alone, two}
 use Rattle.policy_types.specs.declared.source.Source.{Source}
-use Rattle.muen_num.proofs.FirstIn.{none_both}
+use Rattle.muen_num.proofs.SearchLaws.{none_both}
 use Rattle.plan_emit.proofs.Kept.{all_pass, some_cpu}
 
 -- what no numbered element offends by, each passes

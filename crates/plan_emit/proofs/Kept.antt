@@ -10,8 +10,8 @@ use Rattle.policy_lawful.specs.MoreRules.{offence_6, offence_7, offence_9, offen
 use Rattle.muen_num.specs.Search.{first_in, unless}
 use Rattle.policy_lawful.specs.Offences.{alone, two}
 use Rattle.policy_types.specs.declared.source.Source.{Source}
-use Rattle.muen_num.proofs.FirstIn.{none_both}
-use Rattle.policy_lawful.proofs.Offences.{none_broken, unless_none}
+use Rattle.muen_num.proofs.SearchLaws.{none_both, unless_none}
+use Rattle.policy_lawful.proofs.Offences.{none_broken}
 
 -- ---- searches that find nothing
 

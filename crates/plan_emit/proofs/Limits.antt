@@ -8,8 +8,7 @@ use Rattle.muen_num.specs.Search.{first_in, unless}
 use Rattle.policy_lawful.specs.Offences.{alone}
 use Rattle.policy_types.specs.declared.source.CpuFrames.{CpuFrames}
 use Rattle.policy_types.specs.declared.source.Source.{Source}
-use Rattle.muen_num.proofs.FirstIn.{none_both}
-use Rattle.policy_lawful.proofs.Offences.{unless_none}
+use Rattle.muen_num.proofs.SearchLaws.{none_both, unless_none}
 use Rattle.plan_emit.proofs.Cpus.{all_numbered}
 
 abbrev pub is_within : CpuFrames → Bool

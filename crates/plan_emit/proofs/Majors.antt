@@ -13,8 +13,7 @@ use Rattle.policy_lawful.specs.declared.offence.Offence.{Offence}
 use Rattle.policy_types.specs.declared.source.CpuFrames.{CpuFrames}
 use Rattle.policy_types.specs.declared.source.MajorFrame.{MajorFrame}
 use Rattle.policy_types.specs.declared.source.Source.{Source}
-use Rattle.muen_num.proofs.FirstIn.{none_both}
-use Rattle.policy_lawful.proofs.Offences.{unless_none}
+use Rattle.muen_num.proofs.SearchLaws.{none_both, unless_none}
 use Rattle.plan_emit.proofs.Cpus.{all_numbered}
 use Rattle.plan_emit.proofs.Kept.{all_pass}
 use Rattle.muen_num.proofs.Lists.{each_from}

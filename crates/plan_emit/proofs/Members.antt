@@ -13,7 +13,7 @@ use Rattle.policy_types.specs.declared.source.Group.{Group}
 use Rattle.policy_types.specs.declared.source.Source.{Source}
 use Rattle.policy_types.specs.declared.source.Subject.{Subject}
 use Rattle.policy_lawful.proofs.Places.{same_self}
-use Rattle.muen_num.proofs.FirstIn.{none_both}
+use Rattle.muen_num.proofs.SearchLaws.{none_both}
 use Rattle.plan_emit.proofs.Kept.{all_pass}
 
 -- how often a name is listed in a group, and in several

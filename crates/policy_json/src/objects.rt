@@ -36,10 +36,10 @@ fn read_logical_cpus(alloc: Global, value: &Value) -> Result<u64, ReadEnd>
     ensures { Gives (required (codes "logicalCpus") read_cpus (view value.now)) result }
 {
     match value.get("logicalCpus") {
-        None => Err(fault_under(alloc, b"logicalCpus", make_fault(alloc, Want::Present))),
+        None => Err(fault_under("logicalCpus", make_fault(alloc, Want::Present))),
         Some(found) => match read_cpus(alloc, found) {
             Ok(cpus) => Ok(cpus),
-            Err(end) => Err(fault_under(alloc, b"logicalCpus", end)),
+            Err(end) => Err(fault_under("logicalCpus", end)),
         },
     }
 }
@@ -131,7 +131,7 @@ fn read_filled(alloc: Global, value: &Value) -> Result<Content, ReadEnd>
         None => Ok(Content::Zero),
         Some(found) => match read_fill(alloc, found) {
             Ok(content) => Ok(content),
-            Err(end) => Err(fault_under(alloc, b"fill", end)),
+            Err(end) => Err(fault_under("fill", end)),
         },
     }
 }
@@ -145,7 +145,7 @@ fn read_spelled(alloc: Global, value: &Value, default: Content) -> Result<Conten
         None => Ok(default),
         Some(found) => match read_inline(alloc, found) {
             Ok(content) => Ok(content),
-            Err(end) => Err(fault_under(alloc, b"hex", end)),
+            Err(end) => Err(fault_under("hex", end)),
         },
     }
 }

@@ -68,10 +68,10 @@ pub fn read_required<T: Shape>(alloc: Global, value: &Value, key: &str) -> Resul
     ensures { Gives (required key.now T.reads (view value.now)) result }
 {
     match value.get(key) {
-        None => Err(fault_under(alloc, key.as_bytes(), make_fault(alloc, Want::Present))),
+        None => Err(fault_under(key, make_fault(alloc, Want::Present))),
         Some(found) => match T::read(alloc, found) {
             Ok(x) => Ok(x),
-            Err(end) => Err(fault_under(alloc, key.as_bytes(), end)),
+            Err(end) => Err(fault_under(key, end)),
         },
     }
 }
@@ -90,7 +90,7 @@ pub fn read_optional<T: Shape>(
         None => Ok(default),
         Some(found) => match T::read(alloc, found) {
             Ok(x) => Ok(x),
-            Err(end) => Err(fault_under(alloc, key.as_bytes(), end)),
+            Err(end) => Err(fault_under(key, end)),
         },
     }
 }
@@ -102,7 +102,7 @@ pub fn read_unbuilt(alloc: Global, value: &Value, key: &str) -> Result<(), ReadE
 {
     match value.get(key) {
         None => Ok(()),
-        Some(_) => Err(fault_under(alloc, key.as_bytes(), make_fault(alloc, Want::NotYetBuilt))),
+        Some(_) => Err(fault_under(key, make_fault(alloc, Want::NotYetBuilt))),
     }
 }
 
@@ -119,7 +119,7 @@ fn read_items<T: Shape>(alloc: Global, items: &[Value]) -> Result<Seq<T>, ReadEn
                     return Err(ReadEnd::NoMemory);
                 }
             }
-            Err(end) => return Err(fault_under(alloc, buffer.format(i).as_bytes(), end)),
+            Err(end) => return Err(fault_under(buffer.format(i), end)),
         }
     }
     Ok(list)

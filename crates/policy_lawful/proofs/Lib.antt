@@ -1,3 +1,4 @@
+pub mod Keeps
 pub mod Naming
 pub mod Offences
 pub mod Places

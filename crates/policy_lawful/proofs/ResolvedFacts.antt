@@ -13,7 +13,7 @@ use Rattle.policy_types.specs.declared.source.MinorFrame.{MinorFrame as NamedMin
 use Rattle.policy_types.specs.declared.source.Source.{Source}
 use Rattle.muen_num.proofs.Lists.{find-map, map-map, option_map-option_map, sum_by-map}
 use Rattle.policy_lawful.proofs.Places.{found_at_place}
-use Rattle.muen_num.proofs.FirstIn.{none_append, none_both}
+use Rattle.muen_num.proofs.SearchLaws.{none_append, none_both}
 
 -- ---- unique names
 

@@ -7,7 +7,7 @@ use Rattle.std.specs.Str.{bytes_eq}
 use Rattle.muen_num.specs.Range.{numbers_below}
 use Rattle.muen_num.specs.Search.{first_of, first_in, first_after, first_pair, unless}
 use Rattle.policy_lawful.specs.Offences.{alone, two}
-use Rattle.muen_num.specs.declared.bits.Kind.TheVariants.{Write}
+use Rattle.muen_num.specs.declared.access.Kind.TheVariants.{Write}
 use Rattle.policy_types.specs.Rights.{allows}
 use Rattle.policy_meaning.specs.Thing.{Thing, region, channel, provided, device_memory, same_thing, component_by}
 use Rattle.policy_meaning.specs.Windows.{Window, windows_of}

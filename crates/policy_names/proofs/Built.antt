@@ -5,7 +5,7 @@ use Rattle.std.specs.List.{list_all}
 use Rattle.std.specs.Option.{option_or}
 use Rattle.std.proofs.lemmas.List.{append-nil}
 use Rattle.muen_num.specs.Search.{first_in}
-use Rattle.muen_num.proofs.FirstIn.{first_over-map, option_or-None}
+use Rattle.muen_num.proofs.SearchLaws.{first_over-map, option_or-None}
 use Rattle.policy_lawful.specs.Resolution.{mapping_named, subject_named, subject_placed}
 use Rattle.policy_lawful.specs.Rules.{offence_1, refers, repeated, subject_references, undeclared}
 use Rattle.policy_lawful.specs.declared.resolved.Mapping.{Mapping as PlacedMapping}

@@ -1,7 +1,7 @@
 -- Places of the parts of an element.
 use Rattle.std.proofs.Common.{◌≡◌}
 use Rattle.std.proofs.lemmas.List.{length-map}
-use Rattle.muen_num.proofs.FirstIn.{first_over-map}
+use Rattle.muen_num.proofs.SearchLaws.{first_over-map}
 use Rattle.muen_num.proofs.Lists.{all_true, map-map}
 use Rattle.policy_names.proofs.Built.{subject_built, subject_stands}
 use Rattle.policy_names.proofs.Searches.{first_in-flat_map}

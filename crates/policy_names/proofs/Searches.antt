@@ -4,7 +4,7 @@ use Rattle.std.specs.List.{flat_map, enumerate_from}
 use Rattle.std.specs.Option.{option_or}
 use Rattle.muen_num.specs.Answers.{Explains}
 use Rattle.muen_num.specs.Search.{first_in}
-use Rattle.muen_num.proofs.FirstIn.{first_in-append, first_over-map}
+use Rattle.muen_num.proofs.SearchLaws.{first_in-append, first_over-map}
 use Rattle.muen_num.proofs.FirstSteps.{first_step, first_numbered_step}
 use Rattle.policy_lawful.specs.Offences.{broken}
 use Rattle.policy_lawful.specs.declared.offence.Offence.{Offence}

@@ -6,7 +6,7 @@ use Rattle.std.specs.Option.{option_or}
 use Rattle.std.proofs.lemmas.List.{length-map}
 use Rattle.muen_num.specs.Answers.{Answers, Explains}
 use Rattle.muen_num.specs.Search.{first_in}
-use Rattle.muen_num.proofs.FirstIn.{first_in-append, option_or-None, option_or_assoc}
+use Rattle.muen_num.proofs.SearchLaws.{first_in-append, option_or-None, option_or_assoc}
 use Rattle.muen_num.proofs.Lists.{all_true, map-map}
 use Rattle.policy_lawful.specs.Lawful.{kept_or, names_broken}
 use Rattle.policy_lawful.specs.Offences.{broken}

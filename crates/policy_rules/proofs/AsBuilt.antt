@@ -15,8 +15,7 @@ use Rattle.policy_types.specs.declared.source.Source.{Source}
 use Rattle.policy_types.specs.declared.source.Block.{Block}
 use Rattle.policy_types.specs.declared.source.Subject.{Subject as NamedSubject}
 use Rattle.policy_lawful.specs.declared.resolved.Subject.{Subject}
-use Rattle.muen_num.proofs.FirstIn.{none_both}
-use Rattle.policy_lawful.proofs.Offences.{unless_none}
+use Rattle.muen_num.proofs.SearchLaws.{none_both, unless_none}
 use Rattle.policy_lawful.specs.ByPlace.{block_extent, mapping_extent, is_ready}
 use Rattle.policy_lawful.proofs.WindowsByPlace.{plain, built, extents_placed, regions_unique}
 

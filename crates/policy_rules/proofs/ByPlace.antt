@@ -22,7 +22,7 @@ use Rattle.policy_lawful.specs.declared.resolved.CpuFrames.{CpuFrames as PlacedC
 use Rattle.policy_lawful.specs.declared.resolved.MinorFrame.{MinorFrame as PlacedFrame}
 use Rattle.muen_num.proofs.Lists.{find-map, list_any-map, option_map-option_map, sum_by-map}
 use Rattle.policy_lawful.proofs.Places.{found_at_place, same_name}
-use Rattle.muen_num.proofs.FirstIn.{first_over-map}
+use Rattle.muen_num.proofs.SearchLaws.{first_over-map}
 use Rattle.policy_lawful.proofs.ResolvedFacts.{cpu_at_place, frame_named, group_names, groups_unique, parts_placed, subject_names, subjects_unique, ticks_named}
 use Rattle.policy_rules.specs.Placed.{is_frame, ticks_in, has_first_ticks, is_entry, entry_offence, missing_offence, major_offence, first_major, cpu_of_subject, is_member, is_group, group_offence, times_among, times_in, member_offence, AreTimes, groups_offence, counted_offence}
 use Rattle.policy_rules.proofs.Searching.{first_in_same, first_in-map, first_numbered-map, first_numbered_same, both_numbered, first_after-map, list_all_same, sum_by_same}

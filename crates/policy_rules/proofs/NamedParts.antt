@@ -21,7 +21,7 @@ use Rattle.policy_rules.specs.Limits.{cpus_offence, entry_within, major_within, 
 use Rattle.policy_rules.proofs.AsBuilt.{limits_built, windows_limit}
 use Rattle.muen_num.proofs.Lists.{all_true}
 use Rattle.policy_rules.proofs.Searching.{first_numbered-map}
-use Rattle.muen_num.proofs.FirstIn.{first_over-map, option_or-None}
+use Rattle.muen_num.proofs.SearchLaws.{first_over-map, option_or-None}
 use Rattle.policy_lawful.proofs.ResolvedFacts.{ticks_named}
 use Rattle.policy_lawful.proofs.WindowsByPlace.{all_ready}
 

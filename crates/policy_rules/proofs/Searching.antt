@@ -10,7 +10,7 @@ use Rattle.std.proofs.lemmas.List.Sums.{sum-map}
 use Rattle.muen_num.specs.Range.{numbers_below}
 use Rattle.muen_num.specs.Search.{first_in, first_after}
 use Rattle.muen_num.proofs.Lists.{all_same}
-use Rattle.muen_num.proofs.FirstIn.{first_in-append}
+use Rattle.muen_num.proofs.SearchLaws.{first_in-append}
 
 -- ---- numbers below a bound
 

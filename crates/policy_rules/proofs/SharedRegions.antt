@@ -16,7 +16,7 @@ use Rattle.policy_meaning.specs.Thing.{region, same_thing}
 use Rattle.policy_types.specs.Built.{is_plain, is_built}
 use Rattle.policy_lawful.specs.Resolution.{Resolution, IsResolved, name_at, subject_named, source_of}
 use Rattle.policy_lawful.specs.declared.offence.Offence.{Offence}
-use Rattle.muen_num.specs.declared.bits.Kind.TheVariants.{Write}
+use Rattle.muen_num.specs.declared.access.Kind.TheVariants.{Write}
 use Rattle.policy_types.specs.Rights.{allows}
 use Rattle.policy_types.specs.declared.source.Region.{Region}
 use Rattle.policy_types.specs.declared.source.Subject.{Subject as NamedSubject}

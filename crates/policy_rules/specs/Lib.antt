@@ -1,4 +1,4 @@
-pub mod Keeping
+pub mod Built
 pub mod Keys
 pub mod Limits
 pub mod Placed

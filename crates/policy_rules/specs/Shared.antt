@@ -5,7 +5,7 @@ use Rattle.std.specs.List.{find, list_any, All}
 use Rattle.std.specs.Str.{bytes_eq}
 use Rattle.policy_lawful.specs.Offences.{two}
 use Rattle.policy_lawful.specs.declared.offence.Offence.{Offence}
-use Rattle.muen_num.specs.declared.bits.Kind.TheVariants.{Write}
+use Rattle.muen_num.specs.declared.access.Kind.TheVariants.{Write}
 use Rattle.policy_types.specs.Rights.{allows}
 use Rattle.policy_types.specs.declared.source.Region.{Region}
 use Rattle.policy_lawful.specs.declared.resolved.Mapping.{Mapping}

@@ -3,10 +3,11 @@
 #![tactic(auto)]
 
 pub mod refusal;
+mod refusal_text;
 pub mod rights;
 pub mod source;
 
-pub use refusal::{Fault, Path, Refusal, Want};
+pub use refusal::{Fault, Place, Refusal, Want};
 pub use rights::{Caching, MsrRights, Rights, Role};
 pub use source::Source;
 

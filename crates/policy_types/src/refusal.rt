@@ -1,12 +1,86 @@
-ghost use Rattle.std.specs.Prelude.{◌≡◌};
+ghost use Rattle.std.specs.Prelude.{◌≡◌, [], ◌∷◌, ◌++◌, IfOk};
 ghost use Rattle.policy_types.specs.declared.refusal.Refusal.TheVariants.{NoMemory as OutOfMemory};
 
-use muen_num::{Name, NoMemory, Seq, Tag};
-use std::alloc::{AllocError, AllocFailed};
+use muen_num::{Name, NoMemory, Tag};
+use std::alloc::{AllocError, AllocFailed, Global};
+use std::fmt;
+use std::marker::Model;
+use thiserror::Error;
 
-/// The keys and item numbers from the top of a document to a value, each after a `/`; empty for the
-/// whole document.
-pub type Path = Seq<u8>;
+/// Where a value of a document stands: the keys and item numbers from the top down to it, each
+/// after a `/`; empty for the whole document. Contracts see the list of its bytes.
+#[derive(Drop, Debug, Clone)]
+pub struct Place {
+    text: String,
+}
+
+impl Model for Place {
+    ghost use Rattle.std.specs.Prelude.{List, ℕ, string_bytes};
+
+    ghost Value = { List ℕ };
+
+    ghost view = { λ p. string_bytes p.text };
+}
+
+impl Place {
+    /// The value itself. It takes no memory.
+    pub fn here(alloc: Global) -> Place
+        ensures { result ≡ [] }
+    {
+        Place {
+            text: String::new(alloc),
+        }
+    }
+
+    /// This place, seen from one step further up: the step is the key or item number that leads
+    /// there.
+    pub fn under(self, step: &str) -> Result<Place, NoMemory>
+        ensures { IfOk result (λ place. place ≡ 47 ∷ (step.now ++ self)) }
+    {
+        let Place { mut text } = self;
+        text.insert_str(0, step)?;
+        text.insert(0, '/')?;
+        Ok(Place { text })
+    }
+
+    /// The place as text.
+    pub fn as_str(&self) -> &str
+        ensures { result.now ≡ self.now }
+    {
+        self.text.as_str()
+    }
+}
+
+/// A place is written as its text.
+impl fmt::Display for Place {
+    ghost use Rattle.std.specs.Prelude.{Some};
+
+    ghost output = { λ place. Some place };
+
+    fn fmt<W: fmt::Write>(&self, f: &mut fmt::Formatter<W>) -> fmt::Result {
+        f.write_str(self.as_str())
+    }
+}
+
+impl PartialEq for Place {
+    ghost use Rattle.std.specs.Str.{bytes_eq};
+    ghost use Rattle.std.specs.Cmp.{partial_equiv_from_equiv};
+    ghost use Rattle.std.specs.Cmp.Lexicographic.{nat_list_eq_equiv};
+
+    ghost eq = { bytes_eq };
+
+    ghost laws = { partial_equiv_from_equiv nat_list_eq_equiv };
+
+    fn eq(&self, other: &Self) -> bool {
+        self.as_str() == other.as_str()
+    }
+}
+
+impl Eq for Place {
+    ghost use Rattle.std.specs.Cmp.Lexicographic.{nat_list_eq_equiv};
+
+    ghost laws = { nat_list_eq_equiv };
+}
 
 /// What a value of a policy document should have been.
 #[derive(Clone, Copy, Debug, PartialEq, Eq)]
@@ -34,20 +108,20 @@ pub enum Want {
 }
 
 /// The first place of a document that breaks the schema, and what was wanted there.
-#[derive(Drop)]
+#[derive(Drop, Debug, Clone, PartialEq, Eq)]
 pub struct Fault {
-    pub place: Path,
+    pub place: Place,
     pub want: Want,
 }
 
-/// Why a policy with its files is refused.
-#[derive(Drop)]
+/// Why a policy with its files is refused. Its text is the one that is printed.
+#[derive(Drop, Debug, Clone, PartialEq, Eq, Error)]
 pub enum Refusal {
     /// The bytes are no JSON text.
     NotJson,
     /// The document breaks the schema first at this place.
     Shape {
-        place: Path,
+        place: Place,
         want: Want,
     },
     /// This rule is broken, and none below it; the rule names two elements.

@@ -6,9 +6,9 @@ use Rattle.muen_num.specs.Access.{kind_bit}
 use Rattle.policy_types.specs.Rights.{allows}
 use Rattle.muen_num.specs.Deliver.{delivered}
 use Rattle.muen_num.specs.Size.{bytes_of as count}
-use Rattle.muen_num.specs.declared.bits.Kind.{Kind}
-use Rattle.muen_num.specs.declared.bits.Kind.TheVariants.{Read, Write, Fetch}
-use Rattle.muen_num.specs.declared.bits.Size.{Size}
+use Rattle.muen_num.specs.declared.access.Kind.{Kind}
+use Rattle.muen_num.specs.declared.access.Kind.TheVariants.{Read, Write, Fetch}
+use Rattle.muen_num.specs.declared.access.Size.{Size}
 use Rattle.policy_meaning.specs.Windows.{Window, window, byte, violation, holds, access_by, access_of}
 use Rattle.guest_isa.specs.GuestIsa.{decode_of, effect_of}
 use Rattle.guest_isa.specs.declared.instr.Instr.{Instr}

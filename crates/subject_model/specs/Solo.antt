@@ -7,9 +7,9 @@ use Rattle.std.specs.Option.{option_map_or}
 use Rattle.muen_num.specs.Access.{kind_bit}
 use Rattle.muen_num.specs.Deliver.{delivered}
 use Rattle.muen_num.specs.Size.{bytes_of as count}
-use Rattle.muen_num.specs.declared.bits.Kind.{Kind}
-use Rattle.muen_num.specs.declared.bits.Kind.TheVariants.{Read, Write, Fetch}
-use Rattle.muen_num.specs.declared.bits.Size.{Size}
+use Rattle.muen_num.specs.declared.access.Kind.{Kind}
+use Rattle.muen_num.specs.declared.access.Kind.TheVariants.{Read, Write, Fetch}
+use Rattle.muen_num.specs.declared.access.Size.{Size}
 use Rattle.policy_meaning.specs.Thing.{Thing, same_thing}
 use Rattle.policy_meaning.specs.Windows.{Window, Access, byte, violation, access_of, windows_of}
 use Rattle.policy_meaning.specs.Events.{traps_of}

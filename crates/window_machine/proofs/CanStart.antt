@@ -7,7 +7,7 @@ use Rattle.std.proofs.lemmas.Bool.{and_parts, eqb-true, leb-true, ltb-true}
 use Rattle.std.proofs.lemmas.List.{length-map, length-replicate}
 use Rattle.policy_lawful.specs.ByPlace.{no_region, region_at, mapping_extent}
 use Rattle.policy_lawful.specs.Rules.{is_page_aligned, is_page_size, is_guest}
-use Rattle.policy_meaning.specs.Contents.{content_bytes, fits_in}
+use Rattle.policy_meaning.specs.Contents.{content_bytes, fits_in, no_files}
 use Rattle.policy_lawful.specs.Resolution.{Resolution, subject_named, source_of}
 use Rattle.policy_lawful.specs.declared.resolved.Subject.{Subject}
 use Rattle.policy_lawful.specs.declared.resolved.Mapping.{Mapping}
@@ -16,7 +16,7 @@ use Rattle.policy_types.specs.declared.source.Content.{Content}
 use Rattle.policy_types.specs.declared.source.Content.TheVariants.{Zero, Fill, Inline, File}
 use Rattle.image_pack.specs.declared.plan.Plan.{Plan}
 use Rattle.plan_emit.specs.PlanOf.{IsPlanOf}
-use Rattle.window_machine.specs.Machine.{sizes_of, WindowFits, AllFit, GuestsFit, no_files, held_at_start, window_in, guest_at_start, machine_of, CanRun}
+use Rattle.window_machine.specs.Machine.{sizes_of, WindowFits, AllFit, GuestsFit, held_at_start, window_in, guest_at_start, machine_of, CanRun}
 use Rattle.window_machine.specs.Start.{is_held, are_placed_in}
 use Rattle.window_machine.proofs.Facts.{Facts, AreLaid, AllLaid, all_held, all_laid}
 

@@ -1,6 +1,6 @@
 pub mod CanStart
 pub mod Facts
-pub mod Printed
+pub mod RunText
 pub mod Puts
 pub mod Reached
 pub mod Stays

@@ -9,9 +9,9 @@ use Rattle.std.proofs.lemmas.List.{length-map}
 use Rattle.muen_num.specs.Access.{kind_bit}
 use Rattle.policy_types.specs.Rights.{allows}
 use Rattle.muen_num.specs.Size.{bytes_of as count}
-use Rattle.muen_num.specs.declared.bits.Kind.{Kind}
-use Rattle.muen_num.specs.declared.bits.Size.{Size}
-use Rattle.muen_num.specs.declared.bits.Size.TheVariants.{One, Two, Four, Eight}
+use Rattle.muen_num.specs.declared.access.Kind.{Kind}
+use Rattle.muen_num.specs.declared.access.Size.{Size}
+use Rattle.muen_num.specs.declared.access.Size.TheVariants.{One, Two, Four, Eight}
 use Rattle.policy_meaning.specs.Windows.{Window, byte, violation, holds, access_by, access_of}
 use Rattle.subject_model.specs.Solo.{reached, refused, reach_by, reach_of}
 use Rattle.subject_model.proofs.Alone.{LeadsTo}

@@ -8,7 +8,7 @@ use Rattle.std.proofs.lemmas.Bool.{and_parts}
 use Rattle.std.proofs.lemmas.List.{append-nil}
 use Rattle.muen_num.specs.Range.{numbers_below}
 use Rattle.policy_types.specs.Built.{is_plain}
-use Rattle.policy_meaning.specs.Contents.{Held, content_bytes, fits_in, initial_bytes}
+use Rattle.policy_meaning.specs.Contents.{Held, content_bytes, fits_in, initial_bytes, no_files}
 use Rattle.policy_lawful.specs.Resolution.{Resolution, name_at, subject_named, source_of}
 use Rattle.policy_lawful.specs.Rules.{repeated}
 use Rattle.policy_meaning.specs.Thing.{region, channel, device_memory, provided_by, component_by, things_of}
@@ -30,7 +30,7 @@ use Rattle.view_text.specs.declared.Line.{Line}
 use Rattle.subject_model.specs.DeviceRecord.{only_ticks}
 use Rattle.subject_model.specs.System.{System, named, start_of}
 use Rattle.subject_model.specs.Run.{Ran, then_line, turns_of, tick_of, after_lines, run_to, run_of, thing_text, subject_text, final_text, trace_of}
-use Rattle.window_machine.specs.Machine.{GuestState, MachineState, MachineRan, no_files, held_at_start, guest_at_start, machine_of, machine_after, machine_line, machine_run_to, holding_text, guest_text, machine_final_text, machine_text, CanRun}
+use Rattle.window_machine.specs.Machine.{GuestState, MachineState, MachineRan, held_at_start, guest_at_start, machine_of, machine_after, machine_line, machine_run_to, holding_text, guest_text, machine_final_text, machine_text, CanRun}
 use Rattle.window_machine.specs.Start.{is_held}
 use Rattle.window_machine.specs.declared.memory.Holding.{Holding}
 use Rattle.window_machine.proofs.CanStart.{can_run}

@@ -9,8 +9,8 @@ use Rattle.std.proofs.lemmas.Bool.{and_parts, ltb-true}
 use Rattle.std.proofs.lemmas.List.{length-map}
 use Rattle.std.proofs.lemmas.Option.{slice_get-map, slice_get-get_or, get_or_from_slice_get}
 use Rattle.muen_num.specs.Size.{bytes_of as count}
-use Rattle.muen_num.specs.declared.bits.Kind.TheVariants.{Write}
-use Rattle.muen_num.specs.declared.bits.Size.{Size}
+use Rattle.muen_num.specs.declared.access.Kind.TheVariants.{Write}
+use Rattle.muen_num.specs.declared.access.Size.{Size}
 use Rattle.policy_types.specs.Built.{is_plain}
 use Rattle.policy_lawful.specs.ByPlace.{no_region, region_at, mapping_window, is_ready}
 use Rattle.policy_meaning.specs.Events.{event_of}

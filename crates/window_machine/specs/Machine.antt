@@ -1,6 +1,5 @@
 -- The machine: subjects over lists of their windows, until tables are walked.
 use Rattle.std.specs.Prelude.{◌≡◌, ℕ, suc, zero, ◌+◌, ◌%◌, ◌<◌, ◌≤◌, false, List, [], ◌∷◌, ◌++◌, length, map, slice_index, slice_index_or, slice_set, nat_lt, true, Option, Some, None, option_map, option_to_list}
-use Rattle.std.specs.FinMap.{from_entries}
 use Rattle.std.specs.List.{flat_map, list_all}
 use Rattle.sha2.specs.Sha256.{sha256}
 use Rattle.image_pack.specs.Plan.{is_plan, frames_in}
@@ -11,7 +10,7 @@ use Rattle.muen_num.specs.Size.{bytes_of}
 use Rattle.muen_num.specs.declared.tag.Part.TheVariants.{Whole}
 use Rattle.policy_lawful.specs.ByPlace.{region_at}
 use Rattle.policy_meaning.specs.Windows.{Window as WindowOf, Access as AccessTo, byte, violation, window}
-use Rattle.policy_meaning.specs.Contents.{Held, content_bytes}
+use Rattle.policy_meaning.specs.Contents.{content_bytes, no_files}
 use Rattle.policy_lawful.specs.Resolution.{Resolution}
 use Rattle.policy_lawful.specs.declared.resolved.Mapping.{Mapping}
 use Rattle.policy_lawful.specs.declared.resolved.Subject.{Subject}
@@ -169,10 +168,6 @@ pub record CanRun (m : MachineState) : Type 0 where
   pub fit : GuestsFit (sizes_of m.holdings) m.guests
 
 -- ---- the machine of a policy, at the start
-
--- what files hold where there are none: no region asks for one
-abbrev pub no_files : Held
-no_files = from_entries []
 
 -- a region with its bytes at the start
 abbrev pub held_at_start : Region → Holding

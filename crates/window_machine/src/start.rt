@@ -2,8 +2,8 @@
 ghost use Rattle.std.specs.Prelude.{◌≡◌, ◌<◌, true, map, length, IfOk};
 ghost use Rattle.std.specs.List.{list_all};
 ghost use Rattle.policy_lawful.specs.ByPlace.{region_at};
-ghost use Rattle.policy_meaning.specs.Contents.{content_bytes, fits_in};
-ghost use Rattle.window_machine.specs.Machine.{window_on, windows_on, no_files, held_at_start, window_in, guest_at_start};
+ghost use Rattle.policy_meaning.specs.Contents.{content_bytes, fits_in, no_files};
+ghost use Rattle.window_machine.specs.Machine.{window_on, windows_on, held_at_start, window_in, guest_at_start};
 ghost use Rattle.window_machine.specs.Start.{is_held, are_placed_in};
 
 use crate::guest::Guest;

@@ -1,7 +1,7 @@
 // A turn of the subject.
 ghost use Rattle.std.specs.Prelude.{◌≡◌, ◌+◌, ◌<◌, ◌≤◌, length, take, drop, [], true, false};
 ghost use Rattle.muen_num.specs.Size.{bytes_of};
-ghost use Rattle.muen_num.specs.declared.bits.Kind.TheVariants.{Read, Write};
+ghost use Rattle.muen_num.specs.declared.access.Kind.TheVariants.{Read, Write};
 ghost use Rattle.guest_isa.specs.GuestIsa.{decode_of, with_register, IsFineWish};
 ghost use Rattle.subject_model.specs.Solo.{reach_of, shown, faulted, loaded, stored_to, port_qualification, called, performed, executed, attempted, turn_over};
 ghost use Rattle.window_machine.specs.Machine.{windows_on, bytes_at, sizes_of, AllFit, answer_of};

@@ -3,7 +3,7 @@ use Rattle.std.specs.Option.{option_or}
 use Rattle.std.specs.List.{enumerate_from}
 use Rattle.muen_num.specs.Search.{first_in}
 use Rattle.policy_rules.specs.Placed.{group_offence, member_offence, counted_offence}
-use Rattle.muen_num.proofs.FirstIn.{option_or-None}
+use Rattle.muen_num.proofs.SearchLaws.{option_or-None}
 use Rattle.policy_rules.proofs.ByPlace.{by_counts}
 use Rattle.policy_rules.proofs.groups.of_groups.Goals as goal
 

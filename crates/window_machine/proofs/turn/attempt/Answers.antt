@@ -1,6 +1,6 @@
 use Rattle.std.proofs.Common.{◌≡◌, ◌<◌, ◌∙◌, ap, length, take, drop, []}
 use Rattle.std.proofs.lemmas.List.{get_or_default}
-use Rattle.muen_num.specs.declared.bits.Kind.TheVariants.{Fetch}
+use Rattle.muen_num.specs.declared.access.Kind.TheVariants.{Fetch}
 use Rattle.guest_isa.specs.GuestIsa.{decode_of}
 use Rattle.subject_model.specs.Solo.{executed, fetched}
 use Rattle.window_machine.specs.Machine.{windows_on, bytes_at, nothing}

@@ -1,6 +1,6 @@
 use Rattle.std.proofs.Common.{◌≡◌, ◌<◌, ◌∙◌, ap, length, [], false}
 use Rattle.std.proofs.lemmas.List.{get_or_default}
-use Rattle.muen_num.specs.declared.bits.Kind.TheVariants.{Read}
+use Rattle.muen_num.specs.declared.access.Kind.TheVariants.{Read}
 use Rattle.guest_isa.specs.GuestIsa.{with_register}
 use Rattle.subject_model.specs.Solo.{value_at, shown, loaded}
 use Rattle.view_text.specs.declared.What.TheVariants.{Set}
