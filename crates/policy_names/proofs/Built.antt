@@ -15,7 +15,7 @@ use Rattle.policy_types.specs.declared.source.Source.{Source}
 use Rattle.policy_types.specs.declared.source.Subject.{Subject}
 use Rattle.policy_names.specs.Outline.{outline}
 use Rattle.policy_names.specs.Places.{StandsFor}
-use Rattle.policy_names.proofs.Searches.{broken-or, or_none, or_some}
+use Rattle.policy_names.proofs.Refusals.{one_behind_another}
 
 -- rule 1 asks for blocks, regions, subjects and groups
 pub offence_1_built : (p : Source) → is_built p ≡ true
@@ -25,7 +25,7 @@ offence_1_built p h =
     let b = built p h in
     rw (b.devices, b.channels, b.components, b.events, append-nil, option_or-None (repeated (map (λ g. g.name) p.scheduling.groups))) refl
 
-pub ruleset rule_1 = (offence_1_built, broken-or, or_none, or_some)
+pub ruleset rule_1 = (offence_1_built, one_behind_another)
 
 pub subjects_plain : (p : Source) → is_built p ≡ true → list_all is_plain p.subjects ≡ true
 subjects_plain p h = (built p h).subjects

@@ -1,5 +1,5 @@
 pub mod Built
 pub mod Names
-pub mod Places
-pub mod Searches
-pub mod Whole
+pub mod Parts
+pub mod Refusals
+pub mod Resolved

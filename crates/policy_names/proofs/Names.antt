@@ -1,6 +1,6 @@
 -- Names in a list. An index compares the name that is sought with those of the list, the rules compare these with it.
-use Rattle.std.proofs.Common.{◌≡◌, ℕ, Bool, true, false, List, [], ◌∷◌, ◌++◌, length, Option, Some, None, refl, sym, ap, ◌∙◌}
-use Rattle.std.specs.Prelude.{cond, not, ◌||◌, nat_lt}
+use Rattle.std.proofs.Common.{◌≡◌, ℕ, Bool, true, false, List, [], ◌∷◌, ◌++◌, length, Option, Some, None, refl, sym, ap}
+use Rattle.std.specs.Prelude.{cond, if◌then◌else◌, not, ◌||◌, nat_lt}
 use Rattle.std.specs.List.{list_any, position}
 use Rattle.std.specs.Option.{option_or}
 use Rattle.std.specs.Str.{bytes_eq}
@@ -13,7 +13,7 @@ use Rattle.policy_lawful.specs.Offences.{alone, two}
 use Rattle.policy_lawful.specs.Resolution.{name_at}
 use Rattle.policy_lawful.specs.Rules.{is_declared, refers, repeated, undeclared}
 use Rattle.policy_lawful.specs.declared.offence.Offence.{Offence}
-use Rattle.policy_names.specs.Places.{StandsFor, repeated_after}
+use Rattle.policy_names.specs.Places.{StandsFor}
 
 -- ---- a name that is sought
 
@@ -47,6 +47,11 @@ stood_before (n ∷ ns) name =
 cond_or : {O : Type 0} (t : Bool) (o : O) (rest : Option O) → option_or (cond t (Some o) None) rest ≡ cond t (Some o) rest
 cond_or true o rest = refl
 cond_or false o rest = refl
+
+-- the first of these names that stood before, where they come after those
+abbrev pub repeated_after : List (List ℕ) → List (List ℕ) → Option Offence
+repeated_after before [] = None
+repeated_after before (n ∷ ns) = if list_any (bytes_eq n) before then Some (alone n) else repeated_after (before ++ n ∷ []) ns
 
 after_is : (before names : List (List ℕ)) → repeated_after before names ≡ first_after (λ before b. first_in (λ a. unless (not (bytes_eq a b)) (alone b)) before) before names
 after_is before [] = refl

@@ -1,4 +1,4 @@
--- What is known of a resolved policy before its references are looked up: the elements, under their names.
+-- A policy without its references: what is known of the resolved policy before they are looked up.
 use Rattle.std.specs.Prelude.{List, [], map, None}
 use Rattle.policy_lawful.specs.Resolution.{Resolution}
 use Rattle.policy_lawful.specs.declared.resolved.Group.{Group as PlacedGroup}
@@ -41,6 +41,6 @@ bare_subject s = record {
 abbrev pub bare_group : Group → PlacedGroup
 bare_group g = record { name = g.name; cpu = g.cpu; subjects = [] }
 
--- the policy without its references
+-- each name at its place, and no references
 abbrev pub outline : Source → Resolution
 outline p = with_places p (map bare_subject p.subjects) (record { groups = map bare_group p.scheduling.groups; major_frames = [] })

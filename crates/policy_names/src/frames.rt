@@ -34,7 +34,7 @@ impl Place for source::MinorFrame {
 
     ghost is_placed = { λ p f. nat_lt f.group (length (outline p).scheduling.groups) };
 
-    #[tactic(auto, using(crate::proofs::Places::one))]
+    #[tactic(auto, using(crate::proofs::Parts::name))]
     fn place(&self, _: Global, scope: &Scope, by: Name) -> Result<resolved::MinorFrame, Refusal> {
         Ok(resolved::MinorFrame {
             group: scope.groups.place(by, self.group)?,
@@ -62,7 +62,7 @@ impl Place for source::CpuFrames {
 
     ghost is_placed = { λ p c. list_all (λ f. nat_lt f.group (length (outline p).scheduling.groups)) c.minor_frames };
 
-    #[tactic(auto, using(crate::proofs::Places::each))]
+    #[tactic(auto, using(crate::proofs::Parts::names))]
     fn place(&self, alloc: Global, scope: &Scope, by: Name) -> Result<resolved::CpuFrames, Refusal> {
         Ok(resolved::CpuFrames {
             cpu: self.cpu,
@@ -89,7 +89,7 @@ impl Place for source::MajorFrame {
 
     ghost is_placed = { λ p. major_placed (outline p) };
 
-    #[tactic(auto, using(crate::proofs::Places::each_of_each))]
+    #[tactic(auto, using(crate::proofs::Parts::lists))]
     fn place(&self, alloc: Global, scope: &Scope, place: usize) -> Result<resolved::MajorFrame, Refusal> {
         Ok(resolved::MajorFrame {
             cpus: place_all(alloc, scope, major_name(place), self.cpus.items())?,
@@ -101,7 +101,7 @@ impl Place for source::MajorFrame {
 ///
 /// Answers the refusal of the first group that isn't declared, and `NoMemory` where memory was
 /// refused.
-#[tactic(auto, using(crate::proofs::Searches::explains_at_place))]
+#[tactic(auto, using(crate::proofs::Refusals::explains_at_place))]
 pub fn place_majors(
     alloc: Global,
     scope: &Scope,

@@ -23,7 +23,7 @@ impl Place for source::Group {
 
     ghost is_placed = { λ p. group_placed (outline p) };
 
-    #[tactic(auto, using(crate::proofs::Places::each))]
+    #[tactic(auto, using(crate::proofs::Parts::names))]
     fn place(&self, alloc: Global, scope: &Scope, _: ()) -> Result<resolved::Group, Refusal> {
         Ok(resolved::Group {
             name: self.name,
@@ -50,7 +50,7 @@ impl Place for Name {
 
     ghost is_placed = { λ p place. nat_lt place (length (outline p).subjects) };
 
-    #[tactic(auto, using(crate::proofs::Places::one))]
+    #[tactic(auto, using(crate::proofs::Parts::name))]
     fn place(&self, _: Global, scope: &Scope, by: Name) -> Result<usize, Refusal> {
         scope.subjects.place(by, *self)
     }

@@ -32,7 +32,7 @@ use policy_types::{Refusal, Source};
 use std::alloc::Global;
 
 // The elements that refer to names, with places for these.
-#[tactic(auto, using(crate::proofs::Whole::in_turn))]
+#[tactic(auto, using(crate::proofs::Resolved::in_turn))]
 fn find_places(alloc: Global, scope: &Scope) -> Result<(Seq<Subject>, Scheduling), Refusal>
     requires { is_built scope.now.source.now ≡ true }
     ensures { let p = scope.now.source.now in Keeps (broken 2 (offence_2 p)) (λ x. StandsFor source_of are_placed p (with_places p x.0 x.1)) result }
@@ -55,7 +55,7 @@ fn find_places(alloc: Global, scope: &Scope) -> Result<(Seq<Subject>, Scheduling
 /// Answers `Rule` with the first offence against rule 1, that names are unique for each kind, else
 /// against rule 2, that each reference names a declared thing; and `NoMemory` where memory was
 /// refused.
-#[tactic(auto, using(crate::proofs::Whole::resolution))]
+#[tactic(auto, using(crate::proofs::Resolved::resolution))]
 pub fn resolve(alloc: Global, source: Source) -> Result<Resolved, Refusal>
     requires { is_built source ≡ true }
     ensures { Answers NoMemory (kept_or source (names_broken source)) (kept_source result) }

@@ -46,7 +46,7 @@ pub trait Place: Drop {
 ///
 /// Answers the refusal of the first name that isn't declared, and `NoMemory` where memory was
 /// refused.
-#[tactic(auto, using(crate::proofs::Searches::explains_at))]
+#[tactic(auto, using(crate::proofs::Refusals::explains_at))]
 pub fn place_all<T: Place>(
     alloc: Global,
     scope: &Scope,

@@ -25,7 +25,7 @@ impl Place for source::Subject {
 
     ghost is_built = { is_plain };
 
-    #[tactic(auto, using(crate::proofs::Places::of_subject))]
+    #[tactic(auto, using(crate::proofs::Parts::mappings))]
     fn place(&self, alloc: Global, scope: &Scope, _: ()) -> Result<resolved::Subject, Refusal> {
         Ok(resolved::Subject {
             name: self.name,
@@ -59,7 +59,7 @@ impl Place for source::Mapping {
 
     ghost is_placed = { λ p m. nat_lt m.region (length p.memory) };
 
-    #[tactic(auto, using(crate::proofs::Places::one))]
+    #[tactic(auto, using(crate::proofs::Parts::name))]
     fn place(&self, _: Global, scope: &Scope, by: Name) -> Result<resolved::Mapping, Refusal> {
         Ok(resolved::Mapping {
             region: scope.regions.place(by, self.region)?,

@@ -1,5 +1,5 @@
 use Rattle.std.proofs.Common.{arith}
-use Rattle.policy_names.proofs.Whole.{in_turn, whole}
+use Rattle.policy_names.proofs.Resolved.{in_turn, whole}
 use Rattle.policy_names.proofs.find_places.Goals as goal
 
 pub returns : goal.returns

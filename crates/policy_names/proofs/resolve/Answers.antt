@@ -1,6 +1,6 @@
 use Rattle.std.proofs.Common.{arith}
 use Rattle.std.proofs.lemmas.Result.{err_from_is_err_and}
-use Rattle.policy_names.proofs.Whole.{resolution}
+use Rattle.policy_names.proofs.Resolved.{resolution}
 use Rattle.policy_names.proofs.resolve.Goals as goal
 
 pub returns-in_err-subjects : goal.returns-in_err-subjects

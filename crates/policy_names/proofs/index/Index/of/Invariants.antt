@@ -1,7 +1,7 @@
 use Rattle.std.proofs.Common.{◌≡◌}
 use Rattle.std.specs.Prelude.{map, take, drop}
 use Rattle.policy_lawful.specs.Rules.{repeated}
-use Rattle.policy_names.specs.Places.{repeated_after}
+use Rattle.policy_names.proofs.Names.{repeated_after}
 use Rattle.policy_names.proofs.index.Index.of.Given as goal
 
 abbrev pub invariant-loop-item : goal.invariant-loop-item
