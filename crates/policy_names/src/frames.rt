@@ -1,11 +1,11 @@
 //! Frames, which refer to groups.
-ghost use Rattle.std.specs.Prelude.{◌≡◌, map};
-ghost use Rattle.std.specs.List.{list_all, enumerate_from};
+ghost use Rattle.std.specs.List.{enumerate_from, list_all};
+ghost use Rattle.std.specs.Prelude.{◌≡◌, length, map, nat_lt, true};
 ghost use Rattle.muen_num.specs.Search.{first_in};
 ghost use Rattle.policy_lawful.specs.Keeps.{Keeps};
 ghost use Rattle.policy_lawful.specs.Offences.{broken};
-ghost use Rattle.policy_lawful.specs.Resolution.{major_named, major_placed};
-ghost use Rattle.policy_lawful.specs.Rules.{frame_references, undeclared};
+ghost use Rattle.policy_lawful.specs.Resolution.{cpu_named, major_named, major_placed, name_at};
+ghost use Rattle.policy_lawful.specs.Rules.{frame_references, refers, undeclared};
 ghost use Rattle.policy_names.specs.Outline.{outline};
 ghost use Rattle.policy_names.specs.Places.{StandsFor};
 
@@ -19,11 +19,6 @@ use std::alloc::Global;
 
 /// A minor frame of the major frame that has this name.
 impl Place for source::MinorFrame {
-    ghost use Rattle.std.specs.Prelude.{true, length, map, nat_lt};
-    ghost use Rattle.policy_lawful.specs.Resolution.{name_at};
-    ghost use Rattle.policy_lawful.specs.Rules.{refers, undeclared};
-    ghost use Rattle.policy_names.specs.Outline.{outline};
-
     type By = Name;
 
     type Placed = resolved::MinorFrame;
@@ -45,13 +40,6 @@ impl Place for source::MinorFrame {
 
 /// The minor frames of a CPU in the major frame that has this name.
 impl Place for source::CpuFrames {
-    ghost use Rattle.std.specs.Prelude.{true, length, map, nat_lt};
-    ghost use Rattle.std.specs.List.{list_all};
-    ghost use Rattle.muen_num.specs.Search.{first_in};
-    ghost use Rattle.policy_lawful.specs.Resolution.{cpu_named};
-    ghost use Rattle.policy_lawful.specs.Rules.{refers, undeclared};
-    ghost use Rattle.policy_names.specs.Outline.{outline};
-
     type By = Name;
 
     type Placed = resolved::CpuFrames;
@@ -73,12 +61,6 @@ impl Place for source::CpuFrames {
 
 /// The major frame at this place.
 impl Place for source::MajorFrame {
-    ghost use Rattle.std.specs.Prelude.{true};
-    ghost use Rattle.muen_num.specs.Search.{first_in};
-    ghost use Rattle.policy_lawful.specs.Resolution.{major_named, major_placed};
-    ghost use Rattle.policy_lawful.specs.Rules.{frame_references, undeclared};
-    ghost use Rattle.policy_names.specs.Outline.{outline};
-
     type By = usize;
 
     type Placed = resolved::MajorFrame;

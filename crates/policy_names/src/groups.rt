@@ -1,4 +1,10 @@
 //! Groups, which refer to subjects.
+ghost use Rattle.std.specs.Prelude.{length, map, nat_lt, true};
+ghost use Rattle.muen_num.specs.Search.{first_in};
+ghost use Rattle.policy_lawful.specs.Resolution.{group_named, group_placed, name_at};
+ghost use Rattle.policy_lawful.specs.Rules.{group_references, refers, undeclared};
+ghost use Rattle.policy_names.specs.Outline.{outline};
+
 use crate::place::{Place, place_all};
 use crate::scope::Scope;
 use muen_num::Name;
@@ -7,12 +13,6 @@ use policy_types::{Refusal, source};
 use std::alloc::Global;
 
 impl Place for source::Group {
-    ghost use Rattle.std.specs.Prelude.{true};
-    ghost use Rattle.muen_num.specs.Search.{first_in};
-    ghost use Rattle.policy_lawful.specs.Resolution.{group_named, group_placed};
-    ghost use Rattle.policy_lawful.specs.Rules.{group_references, undeclared};
-    ghost use Rattle.policy_names.specs.Outline.{outline};
-
     type By = ();
 
     type Placed = resolved::Group;
@@ -35,11 +35,6 @@ impl Place for source::Group {
 
 /// A member of the group that has this name.
 impl Place for Name {
-    ghost use Rattle.std.specs.Prelude.{true, length, map, nat_lt};
-    ghost use Rattle.policy_lawful.specs.Resolution.{name_at};
-    ghost use Rattle.policy_lawful.specs.Rules.{refers, undeclared};
-    ghost use Rattle.policy_names.specs.Outline.{outline};
-
     type By = Name;
 
     type Placed = usize;

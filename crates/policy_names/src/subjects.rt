@@ -1,4 +1,11 @@
 //! Subjects, which refer to regions.
+ghost use Rattle.std.specs.Prelude.{length, map, nat_lt, true};
+ghost use Rattle.muen_num.specs.Search.{first_in};
+ghost use Rattle.policy_lawful.specs.Resolution.{mapping_named, subject_named, subject_placed};
+ghost use Rattle.policy_lawful.specs.Rules.{refers, subject_references, undeclared};
+ghost use Rattle.policy_names.specs.Outline.{outline};
+ghost use Rattle.policy_types.specs.Built.{is_plain};
+
 use crate::place::{Place, place_all};
 use crate::scope::Scope;
 use muen_num::{Name, Seq};
@@ -7,12 +14,6 @@ use policy_types::{Refusal, source};
 use std::alloc::Global;
 
 impl Place for source::Subject {
-    ghost use Rattle.muen_num.specs.Search.{first_in};
-    ghost use Rattle.policy_lawful.specs.Resolution.{subject_named, subject_placed};
-    ghost use Rattle.policy_lawful.specs.Rules.{subject_references, undeclared};
-    ghost use Rattle.policy_names.specs.Outline.{outline};
-    ghost use Rattle.policy_types.specs.Built.{is_plain};
-
     type By = ();
 
     type Placed = resolved::Subject;
@@ -44,11 +45,6 @@ impl Place for source::Subject {
 
 /// A mapping of the subject that has this name.
 impl Place for source::Mapping {
-    ghost use Rattle.std.specs.Prelude.{true, length, map, nat_lt};
-    ghost use Rattle.policy_lawful.specs.Resolution.{mapping_named};
-    ghost use Rattle.policy_lawful.specs.Rules.{refers, undeclared};
-    ghost use Rattle.policy_names.specs.Outline.{outline};
-
     type By = Name;
 
     type Placed = resolved::Mapping;
