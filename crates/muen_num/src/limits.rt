@@ -31,41 +31,43 @@ pub const MOST_SUBJECTS: usize = 32;
 /// The most components of a policy.
 pub const MOST_COMPONENTS: usize = 64;
 
-/// The most logical names of a component: of its memory and its channels together.
+/// The most logical names of a component: of what it provides, of its memory and of its channels
+/// together.
 pub const MOST_LOGICAL_NAMES: usize = 64;
 
 /// The most channels of a policy.
 pub const MOST_CHANNELS: usize = 128;
 
-/// The most events of a policy.
+/// The most events of a policy; a channel with an event counts as one.
 pub const MOST_EVENTS: usize = 256;
 
 /// The most devices of a policy.
 pub const MOST_DEVICES: usize = 32;
 
-/// The most memory regions of a device, the most port ranges, and the most interrupts.
+/// The most memory ranges of a device, the most port ranges, and the most interrupts.
 pub const MOST_PER_DEVICE: usize = 16;
 
 /// The most memory blocks of a policy.
 pub const MOST_BLOCKS: usize = 16;
 
-/// The most regions of memory, with those of the kernel.
+/// The most regions of memory: a policy's regions and channels, those that its subjects' components
+/// provide, and those of the kernel.
 pub const MOST_REGIONS: usize = 1024;
 
 /// The regions that the kernel has for each subject: its state page, EPT tables, I/O bitmaps, MSR
 /// bitmap and MSR area.
 pub const KERNEL_REGIONS: usize = 5;
 
-/// The most windows of all subjects together that show the memory of a device.
+/// The most memory ranges of all devices together.
 pub const MOST_DEVICE_WINDOWS: usize = 128;
 
-/// The most windows of a subject.
+/// The most windows of a subject: of its regions, channels, devices and component.
 pub const MOST_WINDOWS: usize = 128;
 
 /// The most MSRs that a subject may use.
 pub const MOST_MSRS: u64 = 64;
 
-/// The end of the numbers of a subject's calls (hypercalls), which begin at 0.
+/// The end of the numbers of a subject's calls (hypercalls), and of its traps; both begin at 0.
 pub const MOST_CALLS: u64 = 64;
 
 /// The most major frames of a scheduling plan; there is at least one.
@@ -74,7 +76,7 @@ pub const MOST_MAJOR_FRAMES: usize = 16;
 /// The most minor frames of a CPU in a major frame; there is at least one.
 pub const MOST_MINOR_FRAMES: usize = 64;
 
-/// The most ticks of a run, and of a major frame (this project's profile).
+/// The most ticks of a run, and of a CPU in a major frame (this project's profile).
 pub const MOST_TICKS: u64 = 100_000;
 
 /// The most bytes of a name (this project's profile of Muen's names).

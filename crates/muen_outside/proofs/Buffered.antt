@@ -4,7 +4,7 @@ use Rattle.std.proofs.lemmas.List.{take_more, take_all}
 use Rattle.std.specs.List.{flat_map}
 use Rattle.std.proofs.lemmas.Bool.{false≢true}
 use Rattle.std.proofs.lemmas.Grind.{flat_map-append}
-use Rattle.muen_outside.specs.Outside.{SinkState}
+use Rattle.muen_outside.specs.States.{SinkState}
 use Rattle.muen_outside.specs.Puts.{Appended, Failed, Puts}
 use Rattle.muen_outside.specs.Buffered.{OutState, Given, Lost, Gives, Flushed, behind}
 use Rattle.muen_outside.proofs.Puts.{appended_none, appended_then, failed_as, failed_first, failed_after}
@@ -82,6 +82,7 @@ module _ (text piece : ℕ → List ℕ) (last : ℕ) (grows : (n : ℕ) → n <
       let here : text n ++ b ≡ text (suc n) = ap (λ x. text n ++ x) is ∙ sym (grows n h) in
       lost_grown (suc n) (last - suc n) last s u (omega arith) (omega arith) (subst (λ x. Lost x s u) here (lost_after (text n) b s t u p q))
 
+  -- the same, at the exit of a `?`
   pub step_exit : {E : Type 0} (n : ℕ) (b : List ℕ) (s t u : OutState) (r : Result (Unit {0}) E) → IsErr r → n < last → b ≡ piece n → Given (text n) s t → Lost b t u → Gives (text last) s u r
   step_exit n b s t u r err h is p q = gives_exit (text last) s u r err (lost_step n b s t u h is p q)
 
@@ -94,7 +95,7 @@ flat_map_more f xs i d h =
 pub given_item : {X : Type 0} (f : X → List ℕ) (xs : List X) (i : ℕ) (d : X) (b : List ℕ) (s t u : OutState) → Given (flat_map f (take i xs)) s t → Given b t u → i < length xs → b ≡ f (get_or xs i d) → Given (flat_map f (take (i + 1) xs)) s u
 given_item f xs i d b s t u p q h is = given_step (λ n. flat_map f (take n xs)) (λ n. f (get_or xs n d)) (length xs) (λ n. flat_map_more f xs n d) i b s t u h is p q
 
--- it failed at one item of many
+-- it failed at one item of many, at the exit of a `?`
 pub item_exit : {X E : Type 0} (f : X → List ℕ) (xs : List X) (i : ℕ) (d : X) (b : List ℕ) (s t u : OutState) (r : Result (Unit {0}) E) → IsErr r → Given (flat_map f (take i xs)) s t → Lost b t u → i < length xs → b ≡ f (get_or xs i d) → Gives (flat_map f xs) s u r
 item_exit f xs i d b s t u r err p q h is =
     subst (λ x. Gives (flat_map f x) s u r) (take_all (length xs) xs (omega arith))
@@ -112,8 +113,11 @@ pub puts_lost : {E : Type 0} (a w v : List ℕ) (s u : SinkState) (r : Result (U
 puts_lost a w v s u (Ok x) none is p = absurd (false≢true is)
 puts_lost a w v s u (Err e) none is p = failed_as _ _ s u (ap (λ z. z ++ a) none) p.put
 
+-- for the buffer itself
 pub ruleset buffered = (kept, handed_on, handed, handed_none)
 
+-- for a function that prints texts one after another, and for the one that flushes
 pub ruleset gives = (given_none, given_then, lost_first, lost_after, gives_then, gives_exit, puts_flushed, puts_lost)
 
+-- for a loop that prints a text for each item of a list
 pub ruleset items = (given_item)

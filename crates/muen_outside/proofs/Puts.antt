@@ -6,7 +6,7 @@ use Rattle.std.proofs.lemmas.List.{take-append-drop, take-append-le, take_all}
 use Rattle.std.proofs.lemmas.Grind.{flat_map-append}
 use Rattle.std.proofs.Math.Seq.{take-add, take-append-add, drop-cons}
 use Rattle.std.specs.Io.KnownBytes.{Appends, Keeps}
-use Rattle.muen_outside.specs.Outside.{SinkState}
+use Rattle.muen_outside.specs.States.{SinkState}
 use Rattle.muen_outside.specs.Puts.{AppendedFront, Appended, Failed, Puts}
 
 appends_none : (k : Option (List ℕ)) → Appends k k []

@@ -1,6 +1,6 @@
 -- What a put does to a sink where some bytes wait before it.
 use Rattle.std.specs.Prelude.{◌≡◌, ℕ, List, [], ◌++◌, Result, Ok, Err}
-use Rattle.muen_outside.specs.Outside.{SinkState}
+use Rattle.muen_outside.specs.States.{SinkState}
 use Rattle.muen_outside.specs.Puts.{Appended, Failed}
 
 -- a sink and the bytes that wait for it

@@ -1,6 +1,6 @@
 pub mod Counts
 pub mod Store
-pub mod Outside
+pub mod States
 pub mod Found
 pub mod Puts
 pub mod Pieces
@@ -8,5 +8,6 @@ pub mod Buffered
 pub mod Entries
 pub mod MemFiles
 pub mod MemSink
-pub mod Folder
+pub mod FolderFiles
 pub mod FileCounts
+pub mod ErrorTexts

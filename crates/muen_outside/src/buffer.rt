@@ -12,7 +12,7 @@ const ROOM: usize = 65536;
 
 /// Bytes that wait for a sink, so that many short texts reach it in few puts. Contracts see the
 /// bytes. The sink is lent to each call, and is to be the same one until the buffer is flushed.
-#[derive(Drop)]
+#[derive(Debug, Drop)]
 pub struct Buffer {
     text: Vec<u8>,
 }

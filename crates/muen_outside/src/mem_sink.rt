@@ -11,7 +11,7 @@ use std::marker::Model;
 
 /// A sink in memory, whose room is made before. It fails at the calls whose numbers are listed, and
 /// at those whose bytes don't fit.
-#[derive(Drop)]
+#[derive(Debug, Drop)]
 pub struct MemSink {
     text: Vec<u8>,
     room: usize,

@@ -3,8 +3,9 @@ ghost use Rattle.std.specs.Prelude.{[], ◌∷◌};
 
 use crate::{
     Buffer, FileEnd, Files, FolderFiles, Found, MemFiles, MemSink, PrintedLine, Sink, SinkFault,
-    StdSink, put_lines, put_pieces,
+    WriterSink, put_lines, put_pieces,
 };
+use muen_num::Seq;
 use muen_num::text::append;
 use std::alloc::Global;
 use std::io::{ErrorKind, Write};
@@ -21,31 +22,23 @@ fn one_file(alloc: Global, fails: &[u64]) -> Result<MemFiles, Fail> {
     Ok(MemFiles::make(held, Vec::from_slice(alloc, fails)?))
 }
 
-// The bytes found, or `missing`, `long` or the error.
-fn shown<F: Files>(alloc: Global, files: &mut F, name: &str, most: usize) -> Result<Vec<u8>, Fail> {
-    let text = match files.read(alloc, name, most) {
-        Ok(Found::Bytes(bytes)) => return Ok(bytes.into_vec()),
-        Ok(Found::Missing) => format!(in alloc; "missing")?,
-        Ok(Found::TooLong(n)) => format!(in alloc; "long {n}")?,
-        Err(e) => format!(in alloc; "{e}")?,
-    };
-    Ok(text.into_bytes())
+fn bytes_found(alloc: Global, bytes: &[u8]) -> Result<Found, Fail> {
+    Ok(Found::Bytes(Seq::of(Vec::from_slice(alloc, bytes)?)))
 }
 
 #[test]
 fn files_in_memory(rt: HostRuntime) -> Result<(), Fail> {
     let alloc = rt.alloc();
     let mut files = one_file(alloc, &[4, 6])?;
-    let cases: [(&str, usize, &[u8]); 5] = [
-        ("a", 3, b"xyz"),
-        ("a", 2, b"long 3"),
-        ("b", 9, b"missing"),
-        ("a", 9, b"xyz"),
-        ("a", 9, b"file fault"),
+    let cases = [
+        ("a", 3, Ok(bytes_found(alloc, b"xyz")?)),
+        ("a", 2, Ok(Found::TooLong(3))),
+        ("b", 9, Ok(Found::Missing)),
+        ("a", 9, Ok(bytes_found(alloc, b"xyz")?)),
+        ("a", 9, Err(FileEnd::Failed)),
     ];
     for (name, most, want) in cases {
-        let got = shown(alloc, &mut files, name, most)?;
-        assert_eq!(rt; got.as_slice(), want);
+        assert_eq!(rt; files.read(alloc, name, most), want);
     }
     assert_eq!(rt; files.write(alloc, "b", b"new"), Ok(()));
     assert_eq!(rt; files.write(alloc, "b", b"lost"), Err(FileEnd::Failed));
@@ -63,15 +56,14 @@ fn files_in_a_folder(rt: HostRuntime) -> Result<(), Fail> {
     let mut files = FolderFiles::new(rt);
     assert_eq!(rt; files.write(alloc, name, b"lost"), Ok(()));
     assert_eq!(rt; files.write(alloc, name, b"xyz"), Ok(()));
-    let cases: [(&str, usize, &[u8]); 4] = [
-        (name, 3, b"xyz"),
-        (name, 1, b"long 2"),
-        ("muen_outside_none", 9, b"missing"),
-        (".", 9, b"file fault"),
+    let cases = [
+        (name, 3, Ok(bytes_found(alloc, b"xyz")?)),
+        (name, 1, Ok(Found::TooLong(2))),
+        ("muen_outside_none", 9, Ok(Found::Missing)),
+        (".", 9, Err(FileEnd::Failed)),
     ];
     for (name, most, want) in cases {
-        let got = shown(alloc, &mut files, name, most)?;
-        assert_eq!(rt; got.as_slice(), want);
+        assert_eq!(rt; files.read(alloc, name, most), want);
     }
     assert_eq!(rt; files.write(alloc, ".", b"xyz"), Err(FileEnd::Failed));
     fs::remove_file(&rt, name)?;
@@ -178,7 +170,7 @@ impl Write for Choppy {
 fn sink_over_a_writer(rt: HostRuntime) -> Result<(), Fail> {
     let alloc = rt.alloc();
     let mut text = Vec::new(alloc);
-    let mut sink = StdSink::new(&mut text);
+    let mut sink = WriterSink::new(&mut text);
     assert_eq!(rt; put_pieces(&["one", "", " two", "\n"], &mut sink), Ok(()));
     drop(sink);
     assert_eq!(rt; text.as_slice(), b"one two\n".as_slice());
@@ -187,7 +179,7 @@ fn sink_over_a_writer(rt: HostRuntime) -> Result<(), Fail> {
         text: Vec::new(alloc),
         left: 2,
     };
-    let mut sink = StdSink::new(&mut writer);
+    let mut sink = WriterSink::new(&mut writer);
     assert_eq!(rt; sink.put(b"abc"), Ok(()));
     assert_eq!(rt; sink.put(b"d"), Err(SinkFault));
     drop(sink);
@@ -196,9 +188,9 @@ fn sink_over_a_writer(rt: HostRuntime) -> Result<(), Fail> {
 }
 
 #[test]
-fn standard_streams(rt: HostRuntime) {
-    let mut out = StdSink::output(&rt);
-    assert_eq!(rt; out.put(b""), Ok(()));
-    let mut err = StdSink::error(&rt);
-    assert_eq!(rt; err.put(b""), Ok(()));
+fn standard_streams_take_a_line(rt: HostRuntime) {
+    let mut out = WriterSink::standard_output(&rt);
+    assert_eq!(rt; out.put(b"a line put to the standard output\n"), Ok(()));
+    let mut err = WriterSink::standard_error(&rt);
+    assert_eq!(rt; err.put(b"a line put to the standard error\n"), Ok(()));
 }

@@ -1,15 +1,20 @@
 -- The clauses of a whole call, from what came of its command.
-use Rattle.std.proofs.Common.{◌≡◌, inl, inr, ◌⊎◌, ◌≢◌, ℕ, List, [], Option, Some, None, IfSome, refl, sym, ap, subst, ◌∙◌, arith}
+use Rattle.std.proofs.Common.{◌≡◌, inl, inr, ◌⊎◌, ◌≢◌, ℕ, List, [], Option, Some, None, IfSome, Result, Ok, Err, refl, sym, ap, subst, ◌∙◌, arith}
 use Rattle.muen_outside.specs.Counts.{Rose}
 use Rattle.muen_outside.specs.Outside.{FilesState, SinkState}
 use Rattle.muen_outside.specs.Puts.{Appended, Failed}
 use Rattle.muen_outside.specs.Store.{Store, Reading, whole, absent, long}
+use Rattle.policy_types.specs.declared.source.Source.{Source}
 use Rattle.policy_types.specs.declared.refusal.Refusal.{Refusal}
 use Rattle.policy_types.specs.declared.refusal.Refusal.TheVariants.{NotJson, Shape, Rule, Missing as MissingFile, TooLong as TooLongFile, FileFit, NoRoom, NoMemory as NoMemoryFor}
+use Rattle.subject_model.specs.DeviceRecord.{DeviceRecord}
+use Rattle.muen_top.specs.RecordText.{record_of}
+use Rattle.muen_top.specs.Refusals.{accepted_policy_of}
+use Rattle.muen_top.specs.declared.record_text.RecordFault.{RecordFault}
 use Rattle.muen_top.specs.Answers.{Reason, usage, missing, too_long, refused, record_refused, Answer, prints, stops, of_file, run_answer, policy_answer, record_answer, boot_answer, answer_of}
 use Rattle.muen_top.specs.Calls.{Prints, StopsFor, ComesOf, Came, Ran, IsFault, Answered, RefusesPolicy, LacksFile, RefusesRecord}
 use Rattle.muen_top.specs.Commands.{Command, boot, command_of}
-use Rattle.muen_top.specs.Reports.{refusal_status, reason_status, reason_text, status_of, stop_status, Told, Reported, Ends}
+use Rattle.muen_top.specs.Reports.{refusal_status, reason_status, reason_text, status_of, stop_status, stop_text, Told, Reported, Ends}
 use Rattle.muen_top.specs.declared.outcome.Outcome.{Outcome}
 use Rattle.muen_top.specs.declared.outcome.Outcome.TheVariants.{Done, Stopped, OutputFault}
 use Rattle.muen_top.specs.declared.outcome.Stop.{Stop}
@@ -29,7 +34,7 @@ module _ (old new : FilesState) (out out' err err' : SinkState) (status : ℕ) w
   abbrev Of : Answer → Type 0
   Of answer = Comes answer old new out out' err err' status
 
-  of_stop : (answer : Answer) (stop : Stop) → status ≡ stop_status stop → StopsFor answer old new stop → out' ≡ out → Told (Rattle.muen_top.specs.Reports.stop_text stop) err err' → Of answer
+  of_stop : (answer : Answer) (stop : Stop) → status ≡ stop_status stop → StopsFor answer old new stop → out' ≡ out → Told (stop_text stop) err err' → Of answer
   of_stop answer Usage is for quiet told = stopped usage is for quiet told (λ h. absurd (omega arith))
   of_stop answer (Missing name) is for quiet told = stopped (missing name.now) is for.0 quiet told (λ h. for.1)
   of_stop answer (TooLong name n) is for quiet told = stopped (too_long name.now n) is for.0 quiet told (λ h. for.1)
@@ -45,40 +50,108 @@ module _ (old new : FilesState) (out out' err err' : SinkState) (status : ℕ) w
   of_outcome (stops reason) OutputFault is came told = absurd came
   of_outcome answer (Stopped stop) is came told = of_stop answer stop is came.0 came.1 told
 
-  -- ---- which statuses a reason has
+-- ---- which statuses a reason has
 
-  abbrev OfReason : ℕ → Type 0
-  OfReason n = (n ≡ 1) ⊎ ((n ≡ 2) ⊎ ((n ≡ 3) ⊎ ((n ≡ 6) ⊎ (n ≡ 8))))
+refusal_statuses : (r : Refusal) → (refusal_status r ≡ 2) ⊎ ((refusal_status r ≡ 3) ⊎ (refusal_status r ≡ 8))
+refusal_statuses NotJson = inl refl
+refusal_statuses (Shape place want) = inl refl
+refusal_statuses (Rule number first second) = inl refl
+refusal_statuses (MissingFile file) = inr (inl refl)
+refusal_statuses (TooLongFile file n) = inr (inl refl)
+refusal_statuses (FileFit region room n) = inl refl
+refusal_statuses (NoRoom region size) = inl refl
+refusal_statuses NoMemoryFor = inr (inr refl)
 
-  of_refusal : (r : Refusal) → OfReason (refusal_status r)
-  of_refusal NotJson = inr (inl refl)
-  of_refusal (Shape place want) = inr (inl refl)
-  of_refusal (Rule number first second) = inr (inl refl)
-  of_refusal (MissingFile file) = inr (inr (inl refl))
-  of_refusal (TooLongFile file n) = inr (inr (inl refl))
-  of_refusal (FileFit region room n) = inr (inl refl)
-  of_refusal (NoRoom region size) = inr (inl refl)
-  of_refusal NoMemoryFor = inr (inr (inr (inr refl)))
+abbrev OfReason : ℕ → Type 0
+OfReason n = (n ≡ 1) ⊎ ((n ≡ 6) ⊎ ((n ≡ 2) ⊎ ((n ≡ 3) ⊎ (n ≡ 8))))
 
-  of_reason : (reason : Reason) → OfReason (reason_status reason)
-  of_reason usage = inl refl
-  of_reason (missing name) = inr (inr (inl refl))
-  of_reason (too_long name n) = inr (inr (inl refl))
-  of_reason (refused refusal) = of_refusal refusal
-  of_reason (record_refused fault) = inr (inr (inr (inl refl)))
+reason_statuses : (reason : Reason) → OfReason (reason_status reason)
+reason_statuses usage = inl refl
+reason_statuses (missing name) = inr (inr (inr (inl refl)))
+reason_statuses (too_long name n) = inr (inr (inr (inl refl)))
+reason_statuses (refused refusal) = inr (inr (refusal_statuses refusal))
+reason_statuses (record_refused fault) = inr (inl refl)
 
-  -- a status that no reason has
-  no_reason : (reason : Reason) (n : ℕ) → (OfReason n → ⊥) → n ≡ reason_status reason → ⊥
-  no_reason reason n not is = not (subst OfReason (sym is) (of_reason reason))
+-- a status that no reason has
+no_reason : (reason : Reason) (n : ℕ) → (OfReason n → ⊥) → n ≡ reason_status reason → ⊥
+no_reason reason n not is = not (subst OfReason (sym is) (reason_statuses reason))
 
-  not_zero : OfReason 0 → ⊥
-  not_zero h = grind (arith, h)
+not_zero : OfReason 0 → ⊥
+not_zero h = elim h [ inl a ↦ omega arith | inr b ↦ elim b [ inl a ↦ omega arith | inr c ↦ elim c [ inl a ↦ omega arith | inr d ↦ elim d [ inl a ↦ omega arith | inr e ↦ omega arith ] ] ] ]
 
-  not_four : OfReason 4 → ⊥
-  not_four h = grind (arith, h)
+not_four : OfReason 4 → ⊥
+not_four h = elim h [ inl a ↦ omega arith | inr b ↦ elim b [ inl a ↦ omega arith | inr c ↦ elim c [ inl a ↦ omega arith | inr d ↦ elim d [ inl a ↦ omega arith | inr e ↦ omega arith ] ] ] ]
 
-  not_seven : OfReason 7 → ⊥
-  not_seven h = grind (arith, h)
+not_seven : OfReason 7 → ⊥
+not_seven h = elim h [ inl a ↦ omega arith | inr b ↦ elim b [ inl a ↦ omega arith | inr c ↦ elim c [ inl a ↦ omega arith | inr d ↦ elim d [ inl a ↦ omega arith | inr e ↦ omega arith ] ] ] ]
+
+refusal_not : (r : Refusal) (n : ℕ) → n ≡ 1 ⊎ n ≡ 6 → refusal_status r ≡ n → ⊥
+refusal_not r n which is =
+    elim which [
+      | inl a ↦ elim (refusal_statuses r) [ inl b ↦ omega arith | inr b ↦ elim b [ inl c ↦ omega arith | inr c ↦ omega arith ] ]
+      | inr a ↦ elim (refusal_statuses r) [ inl b ↦ omega arith | inr b ↦ elim b [ inl c ↦ omega arith | inr c ↦ omega arith ] ]
+    ]
+
+-- ---- of the reasons with a status, those of a kind
+
+module _ (err err' : SinkState) where
+  policy_reason : (reason : Reason) → reason_status reason ≡ 2 → Told (reason_text reason) err err' → RefusesPolicy err err' (stops reason)
+  policy_reason usage is told = absurd (omega arith)
+  policy_reason (missing name) is told = absurd (omega arith)
+  policy_reason (too_long name n) is told = absurd (omega arith)
+  policy_reason (refused refusal) is told = told
+  policy_reason (record_refused fault) is told = absurd (omega arith)
+
+  file_reason : (reason : Reason) → reason_status reason ≡ 3 → Told (reason_text reason) err err' → LacksFile err err' (stops reason)
+  file_reason usage is told = absurd (omega arith)
+  file_reason (missing name) is told = told
+  file_reason (too_long name n) is told = told
+  file_reason (refused refusal) is told = told
+  file_reason (record_refused fault) is told = absurd (omega arith)
+
+  record_reason : (reason : Reason) → reason_status reason ≡ 6 → Told (reason_text reason) err err' → RefusesRecord err err' (stops reason)
+  record_reason usage is told = absurd (omega arith)
+  record_reason (missing name) is told = absurd (omega arith)
+  record_reason (too_long name n) is told = absurd (omega arith)
+  record_reason (refused refusal) is told = absurd (refusal_not refusal 6 (inr refl) is)
+  record_reason (record_refused fault) is told = told
+
+is_usage : (reason : Reason) → reason_status reason ≡ 1 → reason ≡ usage
+is_usage usage is = refl
+is_usage (missing name) is = absurd (omega arith)
+is_usage (too_long name n) is = absurd (omega arith)
+is_usage (refused refusal) is = absurd (refusal_not refusal 1 (inl refl) is)
+is_usage (record_refused fault) is = absurd (omega arith)
+
+-- ---- only words with no command's form are answered so
+
+no_usage_of_file : (name : List ℕ) (next : List ℕ → Answer) (reading : Reading) → ((bytes : List ℕ) → next bytes ≡ stops usage → ⊥) → of_file name next reading ≡ stops usage → ⊥
+no_usage_of_file name next (whole bytes) h e = h bytes e
+no_usage_of_file name next absent h e = cc
+no_usage_of_file name next (long n) h e = cc
+
+no_usage_of_run : (files : Store) (p : Source) (r : Result DeviceRecord RecordFault) → run_answer files p r ≡ stops usage → ⊥
+no_usage_of_run files p (Ok run) e = cc
+no_usage_of_run files p (Err fault) e = cc
+
+no_usage_of_policy : (files : Store) (name : List ℕ) (r : Result Source Refusal) → policy_answer files name r ≡ stops usage → ⊥
+no_usage_of_policy files name (Ok p) e = no_usage_of_file name _ _ (λ bytes h. no_usage_of_run files p (record_of bytes) h) e
+no_usage_of_policy files name (Err refusal) e = cc
+
+no_usage : (files : Store) (command : Option Command) → answer_of files command ≡ stops usage → command ≡ None
+unfolding boot_answer
+no_usage files None e = refl
+no_usage files (Some (boot policy name)) e =
+    absurd (no_usage_of_file policy _ _ (λ bytes h. no_usage_of_policy files name (accepted_policy_of files bytes) h) e)
+
+-- ---- what is held, where it is told
+
+at_some : {X : Type 0} (o : Option X) (P : X → Type 0) (x : X) → o ≡ Some x → IfSome o P → P x
+at_some o P x e h = let f : IfSome (Some x) P = subst (λ q. IfSome q P) e h in f
+
+from_some : {X : Type 0} (o : Option X) (P : X → Type 0) → ((x : X) → o ≡ Some x → P x) → IfSome o P
+from_some None P h = tt
+from_some (Some x) P h = h x refl
 
 -- ---- a whole call
 
@@ -101,9 +174,126 @@ module _ (words : List (List ℕ)) (old new : FilesState) (out out' err err' : S
   pub prints_clause : status ≡ 0 → Answered words old.held (λ answer. Prints answer (λ text. Appended text out out'))
   prints_clause zero =
       elim came [
-        | printed text is as put quiet ↦ answered _ (subst (λ a. Prints a (λ text. Appended text out out')) (sym as) put)
-        | cut_off text is as put ↦ absurd (omega arith)
-        | stopped reason is as quiet told rose ↦ absurd (no_reason old new out out' err err' status reason 0 (not_zero old new out out' err err' status) (sym zero ∙ is))
+        | printed text is eq put quiet ↦ answered _ (subst (λ a. Prints a (λ text. Appended text out out')) (sym eq) put)
+        | cut_off text is eq put ↦ absurd (omega arith)
+        | stopped reason is eq quiet told rose ↦ absurd (no_reason reason 0 not_zero (sym zero ∙ is))
+        | failed is rose quiet ↦ absurd (omega arith)
+        | no_memory is quiet ↦ absurd (omega arith)
+      ]
+
+  pub prefix_clause : status ≡ 7 → Answered words old.held (λ answer. Prints answer (λ text. Failed text out out'))
+  prefix_clause seven =
+      elim came [
+        | printed text is eq put quiet ↦ absurd (omega arith)
+        | cut_off text is eq put ↦ answered _ (subst (λ a. Prints a (λ text. Failed text out out')) (sym eq) put)
+        | stopped reason is eq quiet told rose ↦ absurd (no_reason reason 7 not_seven (sym seven ∙ is))
+        | failed is rose quiet ↦ absurd (omega arith)
+        | no_memory is quiet ↦ absurd (omega arith)
+      ]
+
+  pub policy_clause : status ≡ 2 → Answered words old.held (RefusesPolicy err err')
+  policy_clause two =
+      elim came [
+        | printed text is eq put quiet ↦ absurd (omega arith)
+        | cut_off text is eq put ↦ absurd (omega arith)
+        | stopped reason is eq quiet told rose ↦ answered _ (subst (RefusesPolicy err err') (sym eq) (policy_reason err err' reason (sym is ∙ two) told))
+        | failed is rose quiet ↦ absurd (omega arith)
+        | no_memory is quiet ↦ absurd (omega arith)
+      ]
+
+  pub file_clause : status ≡ 3 → Answered words old.held (LacksFile err err')
+  file_clause three =
+      elim came [
+        | printed text is eq put quiet ↦ absurd (omega arith)
+        | cut_off text is eq put ↦ absurd (omega arith)
+        | stopped reason is eq quiet told rose ↦ answered _ (subst (LacksFile err err') (sym eq) (file_reason err err' reason (sym is ∙ three) told))
+        | failed is rose quiet ↦ absurd (omega arith)
+        | no_memory is quiet ↦ absurd (omega arith)
+      ]
+
+  pub record_clause : status ≡ 6 → Answered words old.held (RefusesRecord err err')
+  record_clause six =
+      elim came [
+        | printed text is eq put quiet ↦ absurd (omega arith)
+        | cut_off text is eq put ↦ absurd (omega arith)
+        | stopped reason is eq quiet told rose ↦ answered _ (subst (RefusesRecord err err') (sym eq) (record_reason err err' reason (sym is ∙ six) told))
+        | failed is rose quiet ↦ absurd (omega arith)
+        | no_memory is quiet ↦ absurd (omega arith)
+      ]
+
+  over_told : (P : Answer → Type 0) → P given → IfSome old.held (λ m. P (answer_of m (command_of words)))
+  unfolding given
+  over_told P h =
+      from_some old.held (λ m. P (answer_of m (command_of words)))
+      (λ m e. subst (λ f. P (answer_of f (command_of words))) (at_some old.held (λ m. ran.came.files ≡ m) m e ran.came.told) h)
+
+  pub told_clause : IsFault status ⊎ IfSome old.held (λ m. Ends (answer_of m (command_of words)) err err' status)
+  told_clause =
+      elim came [
+        | printed text is eq put quiet ↦ inr (over_told (λ a. Ends a err err' status) (subst (λ a. Ends a err err' status) (sym eq) (is, quiet)))
+        | cut_off text is eq put ↦ inl (inr (inl is))
+        | stopped reason is eq quiet told rose ↦ inr (over_told (λ a. Ends a err err' status) (subst (λ a. Ends a err err' status) (sym eq) (is, told)))
+        | failed is rose quiet ↦ inl (inl is)
+        | no_memory is quiet ↦ inl (inr (inr is))
+      ]
+
+  pub usage_clause : status ≡ 1 → command_of words ≡ None
+  unfolding given
+  usage_clause one =
+      elim came [
+        | printed text is eq put quiet ↦ absurd (omega arith)
+        | cut_off text is eq put ↦ absurd (omega arith)
+        | stopped reason is eq quiet told rose ↦ no_usage ran.came.files (command_of words) (eq ∙ ap stops (is_usage reason (sym is ∙ one)))
+        | failed is rose quiet ↦ absurd (omega arith)
+        | no_memory is quiet ↦ absurd (omega arith)
+      ]
+
+  pub missed_clause : status ≡ 3 → Rose old.misses new.misses
+  missed_clause three =
+      elim came [
+        | printed text is eq put quiet ↦ absurd (omega arith)
+        | cut_off text is eq put ↦ absurd (omega arith)
+        | stopped reason is eq quiet told rose ↦ rose (sym is ∙ three)
+        | failed is rose quiet ↦ absurd (omega arith)
+        | no_memory is quiet ↦ absurd (omega arith)
+      ]
+
+  pub failed_clause : status ≡ 4 → Rose old.faults new.faults
+  failed_clause four =
+      elim came [
+        | printed text is eq put quiet ↦ absurd (omega arith)
+        | cut_off text is eq put ↦ absurd (omega arith)
+        | stopped reason is eq quiet told rose ↦ absurd (no_reason reason 4 not_four (sym four ∙ is))
+        | failed is rose quiet ↦ rose
+        | no_memory is quiet ↦ absurd (omega arith)
+      ]
+
+  pub out_rose_clause : status ≡ 7 → Rose out.faults out'.faults
+  out_rose_clause seven =
+      elim came [
+        | printed text is eq put quiet ↦ absurd (omega arith)
+        | cut_off text is eq put ↦ put.rose
+        | stopped reason is eq quiet told rose ↦ absurd (no_reason reason 7 not_seven (sym seven ∙ is))
+        | failed is rose quiet ↦ absurd (omega arith)
+        | no_memory is quiet ↦ absurd (omega arith)
+      ]
+
+  pub quiet_out_clause : status ≢ 0 → status ≢ 7 → out' ≡ out
+  quiet_out_clause zero seven =
+      elim came [
+        | printed text is eq put quiet ↦ absurd (zero is)
+        | cut_off text is eq put ↦ absurd (seven is)
+        | stopped reason is eq quiet told rose ↦ quiet
+        | failed is rose quiet ↦ quiet
+        | no_memory is quiet ↦ quiet
+      ]
+
+  pub quiet_err_clause : status ≡ 0 → err' ≡ err
+  quiet_err_clause zero =
+      elim came [
+        | printed text is eq put quiet ↦ quiet
+        | cut_off text is eq put ↦ absurd (omega arith)
+        | stopped reason is eq quiet told rose ↦ absurd (no_reason reason 0 not_zero (sym zero ∙ is))
         | failed is rose quiet ↦ absurd (omega arith)
         | no_memory is quiet ↦ absurd (omega arith)
       ]

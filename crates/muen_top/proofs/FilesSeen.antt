@@ -1,16 +1,17 @@
 -- Files that explain what was seen.
-use Rattle.std.proofs.Common.{◌≡◌, ℕ, ◌<◌, ◌≤◌, true, false, cond, List, [], ◌∷◌, length, Option, Some, None, IfSome, refl, sym, ap, subst, ◌∙◌, arith}
+use Rattle.std.proofs.Common.{◌≡◌, ℕ, ◌<◌, ◌≤◌, Bool, true, false, cond, List, [], ◌∷◌, length, Option, Some, None, IfSome, refl, sym, ap, subst, ◌∙◌, arith}
 use Rattle.std.specs.Prelude.{nat_lt, replicate, if◌then◌else◌}
 use Rattle.std.specs.Str.{bytes_eq}
 use Rattle.std.specs.FinMap.{get}
 use Rattle.std.specs.Cmp.Lexicographic.{nat_list_eq_equiv}
-use Rattle.std.proofs.lemmas.Bool.{lt-ltb, ltb-false}
+use Rattle.std.proofs.lemmas.Bool.{false≢true, lt-ltb}
 use Rattle.std.proofs.lemmas.Bool.Decides.{nat_tests}
 use Rattle.std.proofs.lemmas.List.{length-replicate}
 use Rattle.std.proofs.lemmas.Slice.Eq.{bytes_eq-Decides}
 use Rattle.muen_outside.specs.Outside.{FilesState}
 use Rattle.muen_outside.specs.Store.{Store, Reading, whole, absent, long, reading_of, find_bytes}
 use Rattle.muen_outside.proofs.HeldMap.{stored, get-stored}
+use Rattle.policy_meaning.specs.Contents.{no_files}
 use Rattle.muen_top.specs.FilesSeen.{Follows, IsPossible, Saw, SawToo, same, another, Shown, ShownBoth}
 
 -- ---- one name
@@ -29,10 +30,12 @@ entry_of name None rest = rest
 entry_of name (Some bytes) rest = (name, bytes) ∷ rest
 
 reads : (most : ℕ) (reading : Reading) → IsPossible most reading → reading_of (content_of reading) most ≡ reading
-reads most (whole bytes) h = ap (λ b. if b then long (length bytes) else whole bytes) (grind (arith, nat_tests))
+reads most (whole bytes) h =
+    let fits : nat_lt most (length bytes) ≡ false = grind (arith, nat_tests) in
+    ap (λ (b : Bool). if b then long (length bytes) else whole bytes) fits
 reads most absent h = refl
 reads most (long n) h =
-    let n_is : length (replicate {ℕ} n 0) ≡ n = length-replicate n 0 in
+    let n_is : length (replicate {A = ℕ} n 0) ≡ n = length-replicate n 0 in
     ap (λ k. if nat_lt most k then long k else whole (replicate n 0)) n_is
     ∙ ap (λ b. if b then long n else whole (replicate n 0)) (lt-ltb most n h)
 
@@ -49,8 +52,18 @@ passed : (name other : List ℕ) (content : Option (List ℕ)) (rest : List (Lis
 passed name other None rest ne = refl
 passed name other (Some bytes) rest ne = ap (λ b. cond b (Some bytes) (find_bytes name rest)) ne
 
+-- where there are no files, nothing stands under a name
+pub none_held : (name : List ℕ) → get no_files name ≡ None
+none_held name = get-stored [] name
+
 other_way : (a b : List ℕ) → bytes_eq a b ≡ false → bytes_eq b a ≡ false
-other_way a b ne = grind (bytes_eq-Decides a b, bytes_eq-Decides b a, ne)
+other_way a b ne =
+    (elim (bytes_eq b a) as (λ t. bytes_eq b a ≡ t → t ≡ false) [
+      | true ↦ λ e.
+          let same : bytes_eq a b ≡ true = (bytes_eq-Decides a b).1 (sym ((bytes_eq-Decides b a).0 e)) in
+          absurd (false≢true (sym ne ∙ same))
+      | false ↦ λ e. refl
+    ]) refl
 
 pub shown : (name : List ℕ) (most : ℕ) (reading : Reading) (old new : FilesState) → Saw name most reading old new → Shown old.held name most reading
 shown name most reading old new saw =
@@ -104,14 +117,14 @@ wider most most' bytes (Some found) l e =
 
 -- what two reads have seen, where a name that was read before isn't read again
 pub shown_both : (name name' : List ℕ) (most most' : ℕ) (bytes : List ℕ) (reading' : Reading) (old between new : FilesState) → most ≤ most' → Saw name most (whole bytes) old between → Follows old between → SawToo name bytes name' most' reading' between new → ShownBoth old.held name most (whole bytes) name' most' reading'
-shown_both name name' most most' bytes reading' old between new l saw follows (same is as stays) =
+shown_both name name' most most' bytes reading' old between new l saw follows (same is eq stays) =
     let one = shown name most (whole bytes) old between saw in
     record {
       files = one.files;
       told = one.told;
       shows = one.shows;
       shows' =
-          ap (λ n. reading_of (get one.files n) most') is ∙ wider most most' bytes (get one.files name) l one.shows ∙ sym as;
+          ap (λ n. reading_of (get one.files n) most') is ∙ wider most most' bytes (get one.files name) l one.shows ∙ sym eq;
     }
 shown_both name name' most most' bytes reading' old between new l saw follows (another ne also) =
     both_shown name name' most most' (whole bytes) reading' ne old.held saw.told

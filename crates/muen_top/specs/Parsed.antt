@@ -1,7 +1,10 @@
 -- The command that was parsed.
+use Rattle.std.specs.Prelude.{Option, Some, None}
 use Rattle.muen_top.specs.Commands.{Command, boot}
 use Rattle.muen_top.specs.declared.command.Command.{Command as Parsed}
-use Rattle.muen_top.specs.declared.command.Command.TheVariants.{Boot}
+use Rattle.muen_top.specs.declared.command.Command.TheVariants.{Usage, Boot}
 
-abbrev pub command : Parsed → Command
-command (Boot policy record_name) = boot policy.now record_name.now
+-- what it asks for
+abbrev pub asked : Parsed → Option Command
+asked Usage = None
+asked (Boot policy record_name) = Some (boot policy.now record_name.now)

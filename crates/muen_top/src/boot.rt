@@ -19,7 +19,7 @@ use crate::record_text;
 use crate::record_text::Record;
 use muen_num::Seq;
 use muen_num::limits::{POLICY_MOST, RECORD_MOST};
-use muen_outside::{FileEnd, Files, Found, Sink, SinkFault};
+use muen_outside::{Buffer, FileEnd, Files, Found, Sink, SinkFault};
 use policy_lawful::Lawful;
 use std::alloc::Global;
 use window_machine::print_run;
@@ -74,17 +74,17 @@ struct Booted {
 fn read_both<'a, F: Files>(
     alloc: Global,
     policy: &'a str,
-    record: &'a str,
+    inputs: &'a str,
     files: &mut F,
 ) -> Result<Booted, Stop<'a>>
-    ensures ok { IfOk result (λ b. Ready policy.now record.now (F.state files.old) (source_of b.policy) (only_ticks b.run.end)) }
+    ensures ok { IfOk result (λ b. Ready policy.now inputs.now (F.state files.old) (source_of b.policy) (only_ticks b.run.end)) }
     ensures loads { IfOk result (λ b. CanLoad (source_of b.policy)) }
-    ensures err { IfErr result (NotReady policy.now record.now (F.state files.old) (F.state files.new)) }
+    ensures err { IfErr result (NotReady policy.now inputs.now (F.state files.old) (F.state files.new)) }
     ensures follows { Follows (F.state files.old) (F.state files.new) }
 {
     let bytes = load(alloc, policy, POLICY_MOST, files)?;
     let lawful = accepted(alloc, bytes.items())?;
-    let bytes = load_too(alloc, policy, bytes, record, RECORD_MOST, files)?;
+    let bytes = load_too(alloc, policy, bytes, inputs, RECORD_MOST, files)?;
     let run = record_text::read(bytes.items())?;
     Ok(Booted {
         policy: lawful,
@@ -106,7 +106,11 @@ fn run_policy<'a, S: Sink>(
         Ok(machine) => machine,
         Err(_) => return Outcome::Stopped(Stop::NoMemory),
     };
-    match print_run(&mut machine, run.end, out) {
+    let mut buffer = match Buffer::make(alloc) {
+        Ok(buffer) => buffer,
+        Err(_) => return Outcome::Stopped(Stop::NoMemory),
+    };
+    match print_run(&mut machine, run.end, &mut buffer, out) {
         Ok(()) => Outcome::Done,
         Err(SinkFault) => Outcome::OutputFault,
     }
@@ -116,14 +120,14 @@ fn run_policy<'a, S: Sink>(
 pub(crate) fn boot<'a, F: Files, S: Sink>(
     alloc: Global,
     policy: &'a str,
-    record: &'a str,
+    inputs: &'a str,
     files: &mut F,
     out: &mut S,
 ) -> Outcome<'a>
-    ensures came { Came (Some (boot policy.now record.now)) (F.state files.old) (F.state files.new) (S.state out.old) (S.state out.new) result }
+    ensures came { Came (Some (boot policy.now inputs.now)) (F.state files.old) (F.state files.new) (S.state out.old) (S.state out.new) result }
     ensures follows { Follows (F.state files.old) (F.state files.new) }
 {
-    match read_both(alloc, policy, record, files) {
+    match read_both(alloc, policy, inputs, files) {
         Ok(booted) => run_policy(alloc, &booted.policy, booted.run, out),
         Err(stop) => Outcome::Stopped(stop),
     }

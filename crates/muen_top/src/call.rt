@@ -23,8 +23,8 @@ fn work<'a, F: Files, S: Sink>(
     ensures no_command { command_of (map string_bytes words.now) ≡ None → (result ≡ Outcome.Stopped Stop.Usage) × (F.state files.new ≡ F.state files.old) }
 {
     match Command::parse(words) {
-        None => Outcome::Stopped(Stop::Usage),
-        Some(Command::Boot { policy, record }) => boot(alloc, policy, record, files, out),
+        Command::Usage => Outcome::Stopped(Stop::Usage),
+        Command::Boot { policy, inputs } => boot(alloc, policy, inputs, files, out),
     }
 }
 

@@ -1,34 +1,36 @@
 // What the words after the program's name ask for.
-ghost use Rattle.std.specs.Prelude.{◌≡◌, map, option_map, string_bytes};
+ghost use Rattle.std.specs.Prelude.{◌≡◌, map, string_bytes};
 ghost use Rattle.muen_top.specs.Commands.{command_of};
-ghost use Rattle.muen_top.specs.Parsed.{command};
+ghost use Rattle.muen_top.specs.Parsed.{asked};
 
-/// A command, with the names that it was given.
+/// What is asked for, with the names that were given.
 #[derive(Clone, Copy, Debug, PartialEq, Eq)]
 pub(crate) enum Command<'a> {
+    /// The words have no command's form.
+    Usage,
     /// The system of a policy runs on a device record, both by the names of their files.
     Boot {
         policy: &'a str,
-        record: &'a str,
+        inputs: &'a str,
     },
 }
 
 impl<'a> Command<'a> {
-    /// The command that the words ask for; `None` where they have no command's form.
-    pub(crate) fn parse(words: &'a [String]) -> Option<Command<'a>>
-        ensures { option_map command result ≡ command_of (map string_bytes words.now) }
+    /// The command that the words ask for.
+    pub(crate) fn parse(words: &'a [String]) -> Command<'a>
+        ensures { asked result ≡ command_of (map string_bytes words.now) }
     {
         match words {
-            [word, policy, record] => {
+            [word, policy, inputs] => {
                 if word.as_str() == "boot" {
-                    return Some(Command::Boot {
+                    return Command::Boot {
                         policy: policy.as_str(),
-                        record: record.as_str(),
-                    });
+                        inputs: inputs.as_str(),
+                    };
                 }
-                None
+                Command::Usage
             }
-            _ => None,
+            _ => Command::Usage,
         }
     }
 }

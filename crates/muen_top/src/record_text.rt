@@ -131,16 +131,17 @@ fn is_badly_begun(word: &[u8]) -> bool
 }
 
 // The number that the digits spell, where it is at most 100,000.
-fn digits_within(word: &[u8]) -> Option<u64>
+fn digits_within(word: &[u8]) -> Option<u32>
     ensures { result ≡ option_and_then within_ticks (digits_from 0 word.now) }
 {
-    let mut n: u64 = 0;
+    let mut n: u32 = 0;
     for c in word {
         if !c.is_ascii_digit() {
             return None;
         }
-        n = 10 * n + u64::from(*c - b'0');
-        if n > MOST_TICKS {
+        n = 10 * n + u32::from(*c - b'0');
+        let over = u64::from(n) > MOST_TICKS;
+        if over {
             return None;
         }
     }
@@ -149,7 +150,7 @@ fn digits_within(word: &[u8]) -> Option<u64>
 
 // The number of ticks that a word spells: decimal, without leading zeros, at most 100,000.
 #[tactic(auto, unfolding(crate::specs::RecordText::ticks_of))]
-fn ticks(word: &[u8]) -> Option<u64>
+fn ticks(word: &[u8]) -> Option<u32>
     ensures { result ≡ ticks_of word.now }
 {
     if is_badly_begun(word) {
@@ -185,7 +186,7 @@ pub fn read(bytes: &[u8]) -> Result<Record, RecordFault>
         return Err(RecordFault::NotYetBuilt { line: 1 });
     }
     match ticks(rest) {
-        Some(end) => Ok(Record { end: end as u32 }),
+        Some(end) => Ok(Record { end }),
         None => Err(RecordFault::NotYetBuilt { line: 1 }),
     }
 }

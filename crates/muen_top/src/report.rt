@@ -1,5 +1,5 @@
 // The line that tells how a command ended, and its status.
-ghost use Rattle.std.specs.Prelude.{◌≡◌};
+ghost use Rattle.std.specs.Prelude.{◌≡◌, codes};
 ghost use Rattle.muen_num.specs.Pieces.{whole};
 ghost use Rattle.muen_outside.specs.Puts.{Puts};
 ghost use Rattle.muen_top.specs.Reports.{line_of, refusal_status, status_of, stop_text, usage_text, Reported};
@@ -36,6 +36,12 @@ fn pieces<'a>(stop: &'a Stop<'_>, one: &'a mut Buffer, two: &'a mut Buffer) -> P
     }
 }
 
+fn output_fault() -> Pieces<'static>
+    ensures { whole result ≡ codes "output fault" }
+{
+    "output fault".into()
+}
+
 // The line with this text.
 fn put_line<S: Sink>(text: &Pieces<'_>, err: &mut S) -> Result<(), SinkFault>
     ensures { Puts (line_of (whole text.now)) (S.state err.old) (S.state err.new) result }
@@ -56,7 +62,7 @@ pub(crate) fn report<S: Sink>(outcome: &Outcome<'_>, err: &mut S)
             let _ = put_line(&pieces(stop, &mut one, &mut two), err);
         }
         Outcome::OutputFault => {
-            let _ = put_line(&"output fault".into(), err);
+            let _ = put_line(&output_fault(), err);
         }
     }
 }

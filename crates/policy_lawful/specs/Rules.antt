@@ -336,10 +336,12 @@ subject_limit p s = unless (nat_le (length (window_extents p s)) 128 && nat_le (
 abbrev pub regions_for : Source → Subject → ℕ
 regions_for p s = option_map_or (λ c. length c.provides) (component_by p s.component) 0 + 5
 
--- a major frame has as many ticks as its first entry
+-- an entry of a major frame, which has as many ticks as its first entry
+abbrev pub is_short : CpuFrames → Bool
+is_short c = nat_le (ticks_in c) 100000 && nat_le (length c.minor_frames) 64
+
 abbrev pub major_limit : ℕ × MajorFrame → Option Offence
-major_limit (k, m) =
-    unless (list_all (λ c. nat_le (ticks_in c) 100000 && nat_le (length c.minor_frames) 64) m.cpus) (alone (major_name k))
+major_limit (k, m) = unless (list_all is_short m.cpus) (alone (major_name k))
 
 unfoldable pub offence_20 : Source → Option Offence
 offence_20 p =

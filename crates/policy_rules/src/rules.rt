@@ -9,15 +9,15 @@ ghost use Rattle.policy_lawful.specs.Keeps.{Keeps};
 ghost use Rattle.policy_lawful.specs.Lawful.{kept_or, kept_source, rules_broken};
 ghost use Rattle.policy_lawful.specs.Offences.{broken};
 ghost use Rattle.policy_lawful.specs.Resolution.{source_of};
-ghost use Rattle.policy_lawful.specs.Rules.{offence_3, offence_4};
-ghost use Rattle.policy_rules.specs.Built.{memory_broken, plan_broken};
+ghost use Rattle.policy_lawful.specs.Rules.{offence_4};
+ghost use Rattle.policy_rules.specs.BuiltRules.{memory_broken, plan_broken};
 
+use crate::addresses::addresses;
 use crate::apart::{blocks_apart, windows_apart};
 use crate::cpus::cpus;
 use crate::groups::groups;
 use crate::limits::limits;
 use crate::major_frames::major_frames;
-use crate::windows::addresses;
 use crate::writers::writers;
 use policy_lawful::{Lawful, Offence, Resolved};
 use policy_types::Refusal;
@@ -40,10 +40,10 @@ fn keep(number: u8, offence: Option<Offence>) -> Result<(), Refusal>
 // Rules 3, 4, 5 and 8, or the least of them that is broken.
 fn memory_rules(alloc: Global, r: &Resolved) -> Result<(), Refusal>
     requires { is_built (source_of r.now) ≡ true }
-    ensures { Keeps (memory_broken (source_of r.now)) (λ _. (offence_3 (source_of r.now) ≡ None) × (offence_4 (source_of r.now) ≡ None)) result }
+    ensures { Keeps (memory_broken (source_of r.now)) (λ _. offence_4 (source_of r.now) ≡ None) result }
 {
     keep(3, cpus(r))?;
-    keep(4, addresses(alloc, r)?)?;
+    keep(4, addresses(r))?;
     keep(5, windows_apart(alloc, r)?)?;
     keep(8, writers(alloc, r)?)
 }
@@ -51,8 +51,7 @@ fn memory_rules(alloc: Global, r: &Resolved) -> Result<(), Refusal>
 // Rules 16, 17, 18 and 20, or the least of them that is broken.
 fn plan_rules(alloc: Global, r: &Resolved) -> Result<(), Refusal>
     requires built { is_built (source_of r.now) ≡ true }
-    requires cpus { offence_3 (source_of r.now) ≡ None }
-    requires laid { offence_4 (source_of r.now) ≡ None }
+    requires addresses { offence_4 (source_of r.now) ≡ None }
     ensures { Keeps (plan_broken (source_of r.now)) (λ _. ⊤) result }
 {
     keep(16, major_frames(r))?;
@@ -73,7 +72,7 @@ fn all_rules(alloc: Global, r: &Resolved) -> Result<(), Refusal>
 /// The policy, where it keeps every rule from 3 on; else the least rule that is broken, with its two
 /// names, or `NoMemory`. The rules on elements that aren't built are kept. A refused policy is
 /// dropped.
-#[tactic(auto, using(crate::proofs::Kept::rules_joined, policy_lawful::proofs::Keeps::refused))]
+#[tactic(auto, using(crate::proofs::RulesJoined::rules_joined, policy_lawful::proofs::Keeps::refused))]
 pub fn check(alloc: Global, r: Resolved) -> Result<Lawful, Refusal>
     requires { is_built (source_of r) ≡ true }
     ensures { Answers OutOfMemory (kept_or (source_of r) (rules_broken (source_of r))) (kept_source result) }

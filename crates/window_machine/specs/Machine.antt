@@ -22,7 +22,6 @@ use Rattle.subject_model.specs.System.{overwritten, line_at}
 use Rattle.subject_model.specs.Run.{rows_text}
 use Rattle.state_page.specs.declared.SubjectState.{SubjectState}
 use Rattle.view_text.specs.declared.Line.{Line}
-use Rattle.window_machine.specs.declared.memory.Window.{Window}
 use Rattle.window_machine.specs.declared.memory.Holding.{Holding}
 use Rattle.window_machine.specs.declared.memory.Access.{Access}
 use Rattle.window_machine.specs.declared.memory.Access.TheVariants.{Byte, Violation}
@@ -32,13 +31,6 @@ use Rattle.window_machine.specs.declared.memory.Store.{Store}
 use Rattle.window_machine.specs.declared.turn.Turn.{Turn}
 
 -- ---- memory
-
--- a window on a region, by the region's place in the list
-abbrev pub window_on : Window → WindowOf ℕ
-window_on w = window w.guest w.size w.rights w.place
-
-abbrev pub windows_on : List Window → List (WindowOf ℕ)
-windows_on windows = map window_on windows
 
 abbrev pub access_to : Access → AccessTo ℕ
 access_to (Byte place offset) = byte place offset
@@ -170,8 +162,8 @@ pub record CanRun (m : MachineState) : Type 0 where
 -- ---- the machine of a policy, at the start
 
 -- a region with its bytes at the start
-abbrev pub held_at_start : Region → Holding
-held_at_start r = record { name = r.name; bytes = content_bytes no_files r.size r.content }
+abbrev pub holding_at_start : Region → Holding
+holding_at_start r = record { name = r.name; bytes = content_bytes no_files r.size r.content }
 
 -- the window of a mapping
 abbrev pub window_in : List Region → Mapping → WindowOf ℕ
@@ -190,7 +182,7 @@ unfoldable pub machine_of : Resolution → Plan → MachineState
 machine_of r plan = record {
   plan = plan;
   guests = map (guest_at_start r.memory) r.subjects;
-  holdings = map held_at_start r.memory;
+  holdings = map holding_at_start r.memory;
 }
 
 -- ---- a run

@@ -32,7 +32,7 @@ impl PrintedLine for Holding {
 }
 
 // A row of a subject's final state.
-#[derive(Clone, Copy)]
+#[derive(Clone, Copy, Debug, PartialEq, Eq)]
 struct StateRow {
     subject: Name,
     state: SubjectState,
@@ -53,6 +53,20 @@ impl PrintedLine for StateRow {
     }
 }
 
+// One of its rows.
+fn state_row(subject: &Name, state: &SubjectState, row: u8) -> StateRow
+    requires { row ≤ 4 }
+    ensures subject { result.subject ≡ subject.now }
+    ensures state { result.state ≡ state.now }
+    ensures row { result.row ≡ row }
+{
+    StateRow {
+        subject: *subject,
+        state: *state,
+        row,
+    }
+}
+
 // The five lines of a subject's final state.
 fn put_state<S: Sink>(
     subject: &Name,
@@ -62,39 +76,8 @@ fn put_state<S: Sink>(
 ) -> Result<(), SinkFault>
     ensures { Gives (rows_text subject.now state.now) (behind (S.state out.old) buffer.old) (behind (S.state out.new) buffer.new) result }
 {
-    let subject = *subject;
-    let state = *state;
-    put_lines(
-        &[
-            StateRow {
-                subject,
-                state,
-                row: 0,
-            },
-            StateRow {
-                subject,
-                state,
-                row: 1,
-            },
-            StateRow {
-                subject,
-                state,
-                row: 2,
-            },
-            StateRow {
-                subject,
-                state,
-                row: 3,
-            },
-            StateRow {
-                subject,
-                state,
-                row: 4,
-            },
-        ],
-        buffer,
-        out,
-    )
+    let row = |row| state_row(subject, state, row);
+    put_lines(&[row(0), row(1), row(2), row(3), row(4)], buffer, out)
 }
 
 // The line of a turn, if it has one.
