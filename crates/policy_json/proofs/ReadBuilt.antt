@@ -6,7 +6,7 @@ use Rattle.serde_json.specs.Data.{Data, Items, no_items, item}
 use Rattle.serde_json.specs.Find.{get}
 use Rattle.policy_types.specs.Built.{is_plain, is_plain_region, is_built, is_built_number, has_built_cpus, is_plain_content, has_plain_contents}
 use Rattle.policy_json.specs.Document.{read_cpus, processor, content, content_of, region, subject, system, shape_refused, policy_from, policy_of, json_of}
-use Rattle.policy_json.specs.Objects.{read_required, read_optional, read_unbuilt, optional_from, Object, read_object}
+use Rattle.policy_json.specs.Objects.{read_required, read_optional, read_unbuilt, read_if_present, Object, read_object}
 use Rattle.policy_json.specs.Values.{and_then, under, read_items, read_list}
 use Rattle.policy_types.specs.declared.refusal.Fault.{Fault}
 use Rattle.policy_types.specs.declared.source.Content.{Content}
@@ -32,11 +32,11 @@ module _ {X : Type 0} (test : X → Bool) (read : Data → Result X Fault) (each
   under_all step d x e = grind (arith, each)
 
   required_all : (key : List ℕ) (d : Data) (x : X) → read_required key read d ≡ Ok x → test x ≡ true
-  unfolding read_required
+  unfolding read_required read_if_present
   required_all key d x e = grind (arith, under_all)
 
   optional_all : (key : List ℕ) (default : X) → test default ≡ true → (d : Data) (x : X) → read_optional key default read d ≡ Ok x → test x ≡ true
-  unfolding read_optional
+  unfolding read_optional read_if_present
   optional_all key default h d x e = grind (arith, under_all)
 
   items_all : (i : ℕ) (ds : Items) (xs : List X) → read_items read i ds ≡ Ok xs → list_all test xs ≡ true
