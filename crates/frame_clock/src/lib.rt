@@ -8,9 +8,10 @@ ghost use Rattle.std.specs.Prelude.{◌≡◌, ◌<◌, ◌≤◌, ◌%◌, Some
 ghost use Rattle.std.specs.List.{flat_map};
 ghost use Rattle.image_pack.specs.Plan.{frame_of, frames_in, cpus_of, is_group_on, is_plan};
 ghost use Rattle.image_pack.specs.Slot.{frame_slots, slots_from, slot_at};
-ghost use Rattle.frame_clock.specs.Told.{slot_of};
+ghost use Rattle.frame_clock.specs.FrameSlot.{slot_of};
 
 use image_pack::{Major, Minor, Plan};
+use muen_num::limits::MOST_MAJOR_FRAMES;
 
 /// The frame of a CPU at a tick.
 #[derive(Clone, Copy, Debug, PartialEq, Eq)]
@@ -27,12 +28,12 @@ pub struct FrameSlot {
 
 // All ticks of these major frames.
 fn ticks_in(majors: &[Major]) -> u64
-    requires { length majors.now ≤ 16 }
+    requires { length majors.now ≤ MOST_MAJOR_FRAMES }
     ensures { result ≡ sum_by (λ m. m.ticks) majors.now }
 {
     let mut total: u64 = 0;
     for major in majors {
-        total += major.ticks as u64;
+        total += u64::from(major.ticks);
     }
     total
 }
@@ -42,7 +43,7 @@ fn in_round(tick: u32, total: u64) -> u32
     requires { 0 < total }
     ensures { result ≡ tick % total }
 {
-    (tick as u64 % total) as u32
+    (u64::from(tick) % total) as u32
 }
 
 // The slot at a tick of a major frame, of a CPU with these minor frames in it.

@@ -56,7 +56,7 @@ fn plan(alloc: Global) -> Result<Plan, AllocError>
     })
 }
 
-fn told(major: u8, group: u8, first: bool, left: u32) -> FrameSlot {
+fn frame_slot(major: u8, group: u8, first: bool, left: u32) -> FrameSlot {
     FrameSlot {
         major,
         group,
@@ -67,27 +67,24 @@ fn told(major: u8, group: u8, first: bool, left: u32) -> FrameSlot {
 
 #[test]
 fn the_frames_begin_anew(rt: HostRuntime) -> Result<(), Fail> {
-    let plan = match plan(rt.alloc()) {
-        Ok(plan) => plan,
-        Err(_) => return Err(Fail::new("no memory")),
-    };
+    let plan = plan(rt.alloc())?;
     // a round of each CPU
     let round: [(FrameSlot, FrameSlot); 5] = [
-        (told(0, 0, true, 1), told(0, 3, true, 2)),
-        (told(0, 1, true, 2), told(0, 3, false, 1)),
-        (told(0, 1, false, 1), told(0, 2, true, 1)),
-        (told(1, 1, true, 2), told(1, 2, true, 1)),
-        (told(1, 1, false, 1), told(1, 3, true, 1)),
+        (frame_slot(0, 0, true, 1), frame_slot(0, 3, true, 2)),
+        (frame_slot(0, 1, true, 2), frame_slot(0, 3, false, 1)),
+        (frame_slot(0, 1, false, 1), frame_slot(0, 2, true, 1)),
+        (frame_slot(1, 1, true, 2), frame_slot(1, 2, true, 1)),
+        (frame_slot(1, 1, false, 1), frame_slot(1, 3, true, 1)),
     ];
     // rounds begin at these ticks
     for begin in [0u32, 5, 10, 15, 4_294_967_290] {
         for (place, (zero, one)) in round.iter().enumerate() {
             let tick = begin + place as u32;
-            assert!(rt; slot(&plan, 0, tick) == *zero, "CPU 0 at {tick}");
-            assert!(rt; slot(&plan, 1, tick) == *one, "CPU 1 at {tick}");
+            assert_eq!(rt; slot(&plan, 0, tick), *zero, "CPU 0 at {tick}");
+            assert_eq!(rt; slot(&plan, 1, tick), *one, "CPU 1 at {tick}");
         }
     }
-    assert!(rt; slot(&plan, 0, u32::MAX) == told(0, 0, true, 1));
-    assert!(rt; slot(&plan, 1, u32::MAX) == told(0, 3, true, 2));
+    assert_eq!(rt; slot(&plan, 0, u32::MAX), frame_slot(0, 0, true, 1));
+    assert_eq!(rt; slot(&plan, 1, u32::MAX), frame_slot(0, 3, true, 2));
     Ok(())
 }

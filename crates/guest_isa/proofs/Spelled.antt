@@ -5,8 +5,8 @@ use Rattle.std.specs.Int.{w32, cast_signed, cast_unsigned, from_le_bytes, to_le_
 use Rattle.std.proofs.lemmas.Bool.{and_parts, eqb-true}
 use Rattle.std.proofs.lemmas.Int.{of_z-to_z}
 use Rattle.std.proofs.lemmas.Nat.{le_bytes_4}
-use Rattle.muen_num.specs.declared.bits.Size.{Size}
-use Rattle.muen_num.specs.declared.bits.Size.TheVariants.{One, Two, Four, Eight}
+use Rattle.muen_num.specs.declared.access.Size.{Size}
+use Rattle.muen_num.specs.declared.access.Size.TheVariants.{One, Two, Four, Eight}
 use Rattle.guest_isa.specs.declared.spelling.Fields.{Fields}
 use Rattle.guest_isa.specs.declared.spelling.Named.{Named}
 use Rattle.guest_isa.specs.declared.instr.Instr.{Instr}

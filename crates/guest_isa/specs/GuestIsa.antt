@@ -2,8 +2,8 @@
 use Rattle.std.specs.Prelude.{◌≡◌, ℕ, ℤ, pos, ◌+◌, ◌-◌, ◌*◌, ◌/◌, ◌%◌, ◌^◌, ◌<◌, ◌==◌, ◌&&◌, ◌||◌, Bool, true, false, not, List, [], ◌∷◌, slice_index, slice_set, nat_lt, bit_and, bit_or, bit_xor, Option, Some, None, option_and_then, if◌then◌else◌}
 use Rattle.std.specs.Int.{w32, w64, from_le_bytes, to_le_bytes, cast_signed, cast_unsigned}
 use Rattle.muen_num.specs.Size.{bytes_of}
-use Rattle.muen_num.specs.declared.bits.Size.{Size}
-use Rattle.muen_num.specs.declared.bits.Size.TheVariants.{One, Two, Four, Eight}
+use Rattle.muen_num.specs.declared.access.Size.{Size}
+use Rattle.muen_num.specs.declared.access.Size.TheVariants.{One, Two, Four, Eight}
 use Rattle.state_page.specs.declared.SubjectState.{SubjectState}
 use Rattle.guest_isa.specs.declared.spelling.Fields.{Fields}
 use Rattle.guest_isa.specs.declared.spelling.Named.{Named}
@@ -206,48 +206,48 @@ abbrev pub AreTwo : ℕ → ℕ → Type 0
 AreTwo rd rs = (rd < 16) × (rs < 16)
 
 -- what a caller can rely on: register numbers are below 16, and an access to a port is of at most four bytes
-abbrev pub IsFine : Instr → Type 0
-IsFine Nop = Unit {0}
-IsFine (Li rd imm) = rd < 16
-IsFine (Lih rd imm) = rd < 16
-IsFine (Mov rd rs) = AreTwo rd rs
-IsFine (Add rd rs) = AreTwo rd rs
-IsFine (Sub rd rs) = AreTwo rd rs
-IsFine (And rd rs) = AreTwo rd rs
-IsFine (Or rd rs) = AreTwo rd rs
-IsFine (Xor rd rs) = AreTwo rd rs
-IsFine (Shl rd rs) = AreTwo rd rs
-IsFine (Shr rd rs) = AreTwo rd rs
-IsFine (Load rd rs size imm) = AreTwo rd rs
-IsFine (Store rd rs size imm) = AreTwo rd rs
-IsFine (Jmp imm) = Unit {0}
-IsFine (Jz rd imm) = rd < 16
-IsFine (Jnz rd imm) = rd < 16
-IsFine (Jb rd rs imm) = AreTwo rd rs
-IsFine (In rd rs size imm) = AreTwo rd rs × IsSmall size
-IsFine (Out rd rs size imm) = AreTwo rd rs × IsSmall size
-IsFine (Rdmsr rd rs) = AreTwo rd rs
-IsFine (Wrmsr rd rs) = AreTwo rd rs
-IsFine (Rdtsc rd) = rd < 16
-IsFine (Vmcall rs) = rs < 16
-IsFine Hlt = Unit {0}
-IsFine Sti = Unit {0}
-IsFine Cli = Unit {0}
-IsFine (Setv rs) = rs < 16
-IsFine Reti = Unit {0}
+abbrev pub IsValid : Instr → Type 0
+IsValid Nop = Unit {0}
+IsValid (Li rd imm) = rd < 16
+IsValid (Lih rd imm) = rd < 16
+IsValid (Mov rd rs) = AreTwo rd rs
+IsValid (Add rd rs) = AreTwo rd rs
+IsValid (Sub rd rs) = AreTwo rd rs
+IsValid (And rd rs) = AreTwo rd rs
+IsValid (Or rd rs) = AreTwo rd rs
+IsValid (Xor rd rs) = AreTwo rd rs
+IsValid (Shl rd rs) = AreTwo rd rs
+IsValid (Shr rd rs) = AreTwo rd rs
+IsValid (Load rd rs size imm) = AreTwo rd rs
+IsValid (Store rd rs size imm) = AreTwo rd rs
+IsValid (Jmp imm) = Unit {0}
+IsValid (Jz rd imm) = rd < 16
+IsValid (Jnz rd imm) = rd < 16
+IsValid (Jb rd rs imm) = AreTwo rd rs
+IsValid (In rd rs size imm) = AreTwo rd rs × IsSmall size
+IsValid (Out rd rs size imm) = AreTwo rd rs × IsSmall size
+IsValid (Rdmsr rd rs) = AreTwo rd rs
+IsValid (Wrmsr rd rs) = AreTwo rd rs
+IsValid (Rdtsc rd) = rd < 16
+IsValid (Vmcall rs) = rs < 16
+IsValid Hlt = Unit {0}
+IsValid Sti = Unit {0}
+IsValid Cli = Unit {0}
+IsValid (Setv rs) = rs < 16
+IsValid Reti = Unit {0}
 
-abbrev pub AreFine : Option Instr → Type 0
-AreFine None = Unit {0}
-AreFine (Some i) = IsFine i
+abbrev pub AreValid : Option Instr → Type 0
+AreValid None = Unit {0}
+AreValid (Some i) = IsValid i
 
 -- a register to be loaded is below 16, and an access to a port is of at most four bytes
-abbrev pub IsFineWish : Wish → Type 0
-IsFineWish (Loads reg addr size) = reg < 16
-IsFineWish (PortIn reg port size) = (reg < 16) × IsSmall size
-IsFineWish (PortOut port size value) = IsSmall size
-IsFineWish (ReadMsr reg index) = reg < 16
-IsFineWish (Tick reg) = reg < 16
-IsFineWish _ = Unit {0}
+abbrev pub IsValidWish : Wish → Type 0
+IsValidWish (Loads reg addr size) = reg < 16
+IsValidWish (PortIn reg port size) = (reg < 16) × IsSmall size
+IsValidWish (PortOut port size value) = IsSmall size
+IsValidWish (ReadMsr reg index) = reg < 16
+IsValidWish (Tick reg) = reg < 16
+IsValidWish _ = Unit {0}
 
 -- ---- the effect: exact numbers, reduced modulo 2^64
 

@@ -1,7 +1,7 @@
 // What instructions do.
 ghost use Rattle.std.specs.Prelude.{◌≡◌, ◌+◌, ◌*◌, ◌%◌, ◌^◌, ◌<◌};
 ghost use Rattle.std.specs.Int.{w32, cast_unsigned};
-ghost use Rattle.guest_isa.specs.GuestIsa.{register, advanced, with_register, extended, offset_by, low_bytes, port_of, passed, set_register, jumped, jumped_if, resumed, effect_of, IsFine, IsFineWish, IsSmall};
+ghost use Rattle.guest_isa.specs.GuestIsa.{register, advanced, with_register, extended, offset_by, low_bytes, port_of, passed, set_register, jumped, jumped_if, resumed, effect_of, IsValid, IsValidWish, IsSmall};
 
 use crate::instr::{Asked, Instr, Wish};
 use muen_num::Size;
@@ -166,9 +166,9 @@ fn with_high(value: u64, imm: i32) -> u64
 
 /// The effect of an instruction in a state.
 pub fn ask(s: &SubjectState, i: Instr) -> Asked
-    requires { IsFine i }
+    requires { IsValid i }
     ensures effect { result ≡ effect_of s.now i }
-    ensures fine { IsFineWish result.wish }
+    ensures valid { IsValidWish result.wish }
 {
     match i {
         Instr::Nop => pass(s, Wish::Nothing),

@@ -169,7 +169,7 @@ pub enum Wish {
 }
 
 /// The effect of an instruction.
-#[derive(Clone, Copy, Debug)]
+#[derive(Clone, Copy, Debug, PartialEq, Eq)]
 pub struct Asked {
     /// The state after it, where its wish doesn't exit.
     pub after: SubjectState,

@@ -1,13 +1,13 @@
 // The bytes of an instruction.
 ghost use Rattle.std.specs.Prelude.{◌≡◌, ◌<◌, [], ◌∷◌};
 ghost use Rattle.std.specs.Int.{w32, from_le_bytes, to_le_bytes};
-ghost use Rattle.guest_isa.specs.GuestIsa.{decode_of, encoding_of, size_of, code_of, port_size_of, AreFine, AreSmall, AreSpelled, IsFine};
+ghost use Rattle.guest_isa.specs.GuestIsa.{decode_of, encoding_of, size_of, code_of, port_size_of, AreValid, AreSmall, AreSpelled, IsValid};
 
 use crate::instr::Instr;
 use muen_num::Size;
 
 // The fields of the eight bytes of an instruction.
-#[derive(Clone, Copy)]
+#[derive(Clone, Copy, Debug, PartialEq, Eq)]
 struct Fields {
     opcode: u8,
     rd: u8,
@@ -18,7 +18,7 @@ struct Fields {
 }
 
 // Which fields a row of the table names.
-#[derive(Clone, Copy)]
+#[derive(Clone, Copy, Debug, PartialEq, Eq)]
 struct Named {
     rd: bool,
     rs: bool,
@@ -168,9 +168,9 @@ impl Fields {
 
     // The instruction of a row that names these fields.
     fn row(&self, named: Named, i: Instr) -> Option<Instr>
-        requires { IsFine i }
+        requires { IsValid i }
         ensures row { result ≡ row self.now named i }
-        ensures fine { AreFine result }
+        ensures valid { AreValid result }
     {
         if self.are_unset(named) { Some(i) } else { None }
     }
@@ -180,7 +180,7 @@ impl Fields {
         requires rd { self.rd < 16 }
         requires rs { self.rs < 16 }
         ensures instruction { result ≡ system_instruction_of self }
-        ensures fine { AreFine result }
+        ensures valid { AreValid result }
     {
         let rd = self.rd;
         let rs = self.rs;
@@ -212,7 +212,7 @@ impl Fields {
         requires rd { self.rd < 16 }
         requires rs { self.rs < 16 }
         ensures instruction { result ≡ instruction_of self }
-        ensures fine { AreFine result }
+        ensures valid { AreValid result }
     {
         let rd = self.rd;
         let rs = self.rs;
@@ -261,7 +261,7 @@ impl Fields {
 
     // The fields that spell an instruction.
     fn of_instruction(i: &Instr) -> Fields
-        requires { IsFine i.now }
+        requires { IsValid i.now }
         ensures fields { result ≡ fields_for i.now }
         ensures row { instruction_of result ≡ Some i.now }
         ensures rd { result.rd < 16 }
@@ -327,7 +327,7 @@ impl Fields {
 #[tactic(auto, unfolding(crate::specs::GuestIsa::decode_of))]
 pub fn decode(b: [u8; 8]) -> Option<Instr>
     ensures instruction { result ≡ decode_of b }
-    ensures fine { AreFine result }
+    ensures valid { AreValid result }
     ensures spelled { AreSpelled result b }
 {
     Fields::of(b).instruction()
@@ -337,7 +337,7 @@ pub fn decode(b: [u8; 8]) -> Option<Instr>
 /// the instruction back.
 #[tactic(auto, unfolding(crate::specs::GuestIsa::decode_of, crate::specs::GuestIsa::encoding_of))]
 pub fn encode(i: &Instr) -> [u8; 8]
-    requires { IsFine i.now }
+    requires { IsValid i.now }
     ensures bytes { result ≡ encoding_of i.now }
     ensures decodes { decode_of result ≡ Some i.now }
 {

@@ -1,17 +1,19 @@
 -- Laws of the frame slots: how many ticks a CPU has, where each of them stands, and that a valid plan has a slot at each
 -- tick, with a group on the CPU.
-use Rattle.std.proofs.Common.{◌≡◌, ℕ, zero, suc, ◌+◌, ◌-◌, ◌%◌, ◌<◌, ◌≤◌, Bool, true, List, [], ◌∷◌, ◌++◌, length, map, Some, refl, sym, ap, ◌∙◌, subst, arith, length-append}
+use Rattle.std.proofs.Common.{◌≡◌, ℕ, zero, suc, ◌+◌, ◌-◌, ◌%◌, ◌<◌, ◌≤◌, Bool, true, false, List, [], ◌∷◌, ◌++◌, length, map, Option, Some, None, refl, sym, ap, ◌∙◌, subst, arith, length-append}
 use Rattle.std.specs.Prelude.{◌==◌, ◌&&◌, slice_get, slice_index_or, option_map, nat_lt, nat_le}
+use Rattle.std.specs.Option.{option_map_or}
 use Rattle.std.specs.List.{list_all, sum_by, enumerate_from, flat_map}
 use Rattle.std.proofs.lemmas.Bool.{and_parts, and_from, ltb-true, leb-true, eqb-true}
 use Rattle.std.proofs.lemmas.List.{length-map}
 use Rattle.std.proofs.lemmas.List.Concat.{flat_map-cons}
 use Rattle.std.proofs.lemmas.List.Folds.{list_all-append, list_all-map}
 use Rattle.std.proofs.lemmas.List.Sums.{sum_by-cons}
-use Rattle.std.proofs.lemmas.Option.{slice_get-map}
+use Rattle.std.proofs.lemmas.Option.{slice_get-map, slice_get_within}
 use Rattle.std.proofs.Math.Nat.{mod-lt}
 use Rattle.muen_num.specs.Frame.{Frame}
 use Rattle.muen_num.specs.Range.{numbers_below}
+use Rattle.muen_num.specs.declared.limits.TheConstants.{MOST_CPUS, MOST_MAJOR_FRAMES, MOST_MINOR_FRAMES, MOST_TICKS}
 use Rattle.image_pack.specs.Plan.{frame_of, frames_in, cpus_of, is_group_on, is_minor, is_cpu, is_major, is_plan}
 use Rattle.image_pack.specs.Slot.{Slot, frame_slots, slots_from, slot_at}
 use Rattle.image_pack.specs.declared.plan.GroupPart.{GroupPart}
@@ -96,19 +98,20 @@ pub record HasFrames (groups : List GroupPart) (ticks cpu : ℕ) (frames : List 
 pub record HasMajor (groups : List GroupPart) (cpus : ℕ) (m : Major) : Type 0 where
   pub count : length m.cpus ≡ cpus
   pub some : 0 < m.ticks
-  pub within : m.ticks ≤ 100000
+  pub within : m.ticks ≤ MOST_TICKS
   pub each : list_all (is_cpu groups m.ticks) (enumerate_from 0 m.cpus) ≡ true
 
 pub record HasMajors (p : Plan) : Type 0 where
+  pub cpu : 0 < cpus_of p
   pub some : 0 < length p.majors
-  pub within : length p.majors ≤ 16
+  pub within : length p.majors ≤ MOST_MAJOR_FRAMES
   pub groups : list_all (λ g. nat_lt g.cpu (cpus_of p)) p.groups ≡ true
   pub each : list_all (is_major p.groups (cpus_of p)) p.majors ≡ true
 
 pub has_frames : (groups : List GroupPart) (ticks cpu : ℕ) (frames : List Minor) → is_cpu groups ticks (cpu, frames) ≡ true → HasFrames groups ticks cpu frames
 has_frames groups ticks cpu frames h =
     let some = nat_lt 0 (length frames) in
-    let within = nat_le (length frames) 64 in
+    let within = nat_le (length frames) MOST_MINOR_FRAMES in
     let each = list_all (is_minor groups cpu) frames in
     let a = and_parts (some && within && each) (sum_by (λ f. f.ticks) frames == ticks) h in
     let b = and_parts (some && within) each a.0 in
@@ -123,33 +126,43 @@ pub has_major : (groups : List GroupPart) (cpus : ℕ) (m : Major) → is_major 
 has_major groups cpus m h =
     let count = length m.cpus == cpus in
     let some = nat_lt 0 m.ticks in
-    let within = nat_le m.ticks 100000 in
+    let within = nat_le m.ticks MOST_TICKS in
     let a = and_parts (count && some && within) (list_all (is_cpu groups m.ticks) (enumerate_from 0 m.cpus)) h in
     let b = and_parts (count && some) within a.0 in
     let c = and_parts count some b.0 in
     record {
       count = eqb-true (length m.cpus) cpus c.0;
       some = ltb-true 0 m.ticks c.1;
-      within = leb-true m.ticks 100000 b.1;
+      within = leb-true m.ticks MOST_TICKS b.1;
       each = a.1;
     }
 
 pub has_majors : (p : Plan) → is_plan p ≡ true → HasMajors p
 unfolding is_plan
 has_majors p h =
-    let cpus = nat_lt 0 (cpus_of p) && nat_le (cpus_of p) 8 in
+    let cpus = nat_lt 0 (cpus_of p) && nat_le (cpus_of p) MOST_CPUS in
     let some = nat_lt 0 (length p.majors) in
-    let within = nat_le (length p.majors) 16 in
+    let within = nat_le (length p.majors) MOST_MAJOR_FRAMES in
     let groups = list_all (λ (g : GroupPart). nat_lt g.cpu (cpus_of p)) p.groups in
     let a = and_parts (cpus && some && within && groups) (list_all (is_major p.groups (cpus_of p)) p.majors) h in
     let b = and_parts (cpus && some && within) groups a.0 in
     let c = and_parts (cpus && some) within b.0 in
+    let d = and_parts cpus some c.0 in
     record {
-      some = ltb-true 0 (length p.majors) (and_parts cpus some c.0).1;
-      within = leb-true (length p.majors) 16 c.1;
+      cpu = ltb-true 0 (cpus_of p) (and_parts (nat_lt 0 (cpus_of p)) (nat_le (cpus_of p) MOST_CPUS) d.0).0;
+      some = ltb-true 0 (length p.majors) d.1;
+      within = leb-true (length p.majors) MOST_MAJOR_FRAMES c.1;
       groups = b.1;
       each = a.1;
     }
+
+group_found : (groups : List GroupPart) (cpu k : ℕ) (o : Option GroupPart) → slice_get groups k ≡ o → option_map_or (λ g. g.cpu == cpu) o false ≡ true → k < length groups
+group_found groups cpu k None e h = absurd (cc)
+group_found groups cpu k (Some g) e h = slice_get_within groups k g e
+
+-- a group that is on a CPU is there
+pub group_there : (groups : List GroupPart) (cpu k : ℕ) → is_group_on groups cpu k ≡ true → k < length groups
+group_there groups cpu k h = group_found groups cpu k (slice_get groups k) refl h
 
 -- the minor frames of a CPU of a valid major frame
 cpu_at : (groups : List GroupPart) (ticks n : ℕ) (cpus : List (List Minor)) (k : ℕ) → list_all (is_cpu groups ticks) (enumerate_from n cpus) ≡ true → k < length cpus → is_cpu groups ticks (n + k, slice_index_or cpus k []) ≡ true

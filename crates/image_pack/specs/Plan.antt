@@ -3,6 +3,7 @@ use Rattle.std.specs.Prelude.{ℕ, ◌==◌, ◌&&◌, Bool, false, List, [], �
 use Rattle.std.specs.Option.{option_map_or}
 use Rattle.std.specs.List.{list_all, sum_by, enumerate_from}
 use Rattle.muen_num.specs.Frame.{Frame}
+use Rattle.muen_num.specs.declared.limits.TheConstants.{MOST_CPUS, MOST_MAJOR_FRAMES, MOST_MINOR_FRAMES, MOST_TICKS}
 use Rattle.image_pack.specs.declared.plan.GroupPart.{GroupPart}
 use Rattle.image_pack.specs.declared.plan.Minor.{Minor}
 use Rattle.image_pack.specs.declared.plan.Major.{Major}
@@ -35,28 +36,28 @@ is_group_on groups cpu group = option_map_or (λ g. g.cpu == cpu) (slice_get gro
 abbrev pub is_minor : List GroupPart → ℕ → Minor → Bool
 is_minor groups cpu f = nat_lt 0 f.ticks && is_group_on groups cpu f.group
 
--- a CPU has 1 to 64 minor frames, and in all the major's ticks
+-- a CPU has minor frames, as many as it may, and in all the major's ticks
 abbrev pub is_cpu : List GroupPart → ℕ → ℕ × List Minor → Bool
 is_cpu groups ticks (cpu, frames) =
     nat_lt 0 (length frames)
-    && nat_le (length frames) 64
+    && nat_le (length frames) MOST_MINOR_FRAMES
     && list_all (is_minor groups cpu) frames
     && (sum_by (λ f. f.ticks) frames == ticks)
 
--- a major frame has minor frames for as many CPUs, and 1 to 100,000 ticks
+-- a major frame has minor frames for as many CPUs, and ticks, as many as it may
 abbrev pub is_major : List GroupPart → ℕ → Major → Bool
 is_major groups cpus m =
     (length m.cpus == cpus)
     && nat_lt 0 m.ticks
-    && nat_le m.ticks 100000
+    && nat_le m.ticks MOST_TICKS
     && list_all (is_cpu groups m.ticks) (enumerate_from 0 m.cpus)
 
--- 1 to 16 major frames for 1 to 8 CPUs, and each group on one of the CPUs
+-- there are CPUs and major frames, as many as there may be, and each group is on one of the CPUs
 unfoldable pub is_plan : Plan → Bool
 is_plan p =
     nat_lt 0 (cpus_of p)
-    && nat_le (cpus_of p) 8
+    && nat_le (cpus_of p) MOST_CPUS
     && nat_lt 0 (length p.majors)
-    && nat_le (length p.majors) 16
+    && nat_le (length p.majors) MOST_MAJOR_FRAMES
     && list_all (λ g. nat_lt g.cpu (cpus_of p)) p.groups
     && list_all (is_major p.groups (cpus_of p)) p.majors

@@ -1,5 +1,5 @@
--- Names, numbers, accesses, deliveries and ranges, worked out.
-use Rattle.std.proofs.Common.{◌≡◌, true, false, [], ◌∷◌, refl}
+-- Names, numbers, limits, accesses, deliveries and ranges, worked out.
+use Rattle.std.proofs.Common.{◌≡◌, ℕ, ◌*◌, ◌^◌, ◌≤◌, ◌<◌, true, false, [], ◌∷◌, refl, arith}
 use Rattle.std.specs.Prelude.{Some, None, codes, replicate}
 use Rattle.hex.specs.Hex.{encode_with}
 use Rattle.muen_num.specs.Access.{allows}
@@ -8,7 +8,8 @@ use Rattle.muen_num.specs.Fixed.{hex4}
 use Rattle.muen_num.specs.Naming.{is_name}
 use Rattle.muen_num.specs.Range.{numbers_below}
 use Rattle.muen_num.specs.Tag.{tag_text}
-use Rattle.muen_num.specs.declared.bits.Kind.TheVariants.{Read, Write, Fetch}
+use Rattle.muen_num.specs.declared.limits.TheConstants.{NAME_MOST, PAGE, LARGE_PAGE, GUEST_END, MOST_SUBJECTS, KERNEL_REGIONS, MOST_REGIONS}
+use Rattle.muen_num.specs.declared.access.Kind.TheVariants.{Read, Write, Fetch}
 use Rattle.muen_num.specs.declared.tag.Part.TheVariants.{Whole, Named, Ept}
 
 -- ---- names
@@ -17,7 +18,7 @@ every_kind_of_byte : is_name (codes "A-z_0.9") ≡ true
 unfolding is_name
 every_kind_of_byte = refl
 
-longest : is_name (replicate 63 97) ≡ true
+longest : is_name (replicate NAME_MOST 97) ≡ true
 unfolding is_name
 longest = refl
 
@@ -51,6 +52,18 @@ tables = refl
 high_byte_first : hex4 768 ≡ codes "0300"
 unfolding encode_with
 high_byte_first = refl
+
+-- ---- limits: `refl` and `omega arith` see their values
+
+a_table_of_pages : PAGE * 512 ≡ LARGE_PAGE
+a_table_of_pages = refl
+
+four_tables : PAGE * 2 ^ (4 * 9) ≡ GUEST_END
+four_tables = refl
+
+-- the kernel's regions leave room for a policy's
+kernel_regions : (subjects : ℕ) → subjects ≤ MOST_SUBJECTS → KERNEL_REGIONS * subjects < MOST_REGIONS
+kernel_regions subjects h = omega arith
 
 -- ---- accesses
 

@@ -1,8 +1,8 @@
--- Lists that are mapped, and searches, tests and sums over them.
-use Rattle.std.proofs.Common.{◌≡◌, ℕ, ◌+◌, Bool, true, false, cond, not, List, [], ◌∷◌, map, Option, Some, None, refl, sym, ap, ◌∙◌}
-use Rattle.std.specs.Prelude.{◌&&◌, ◌||◌, option_map}
-use Rattle.std.specs.List.{find, list_all, list_any, position_or_len, sum_by}
-use Rattle.std.proofs.lemmas.Bool.{and_from, and_parts}
+-- Lists that are mapped, joined, tested and summed, and their elements by place.
+use Rattle.std.proofs.Common.{◌≡◌, ℕ, zero, suc, ◌+◌, ◌<◌, ◌≤◌, Bool, true, false, cond, not, List, [], ◌∷◌, ◌++◌, length, map, Option, Some, None, refl, sym, ap, ◌∙◌, subst, arith}
+use Rattle.std.specs.Prelude.{◌&&◌, ◌||◌, nat_lt, option_map, slice_get, unwrap_or}
+use Rattle.std.specs.List.{find, list_all, list_any, position_or_len, sum_by, enumerate_from}
+use Rattle.std.proofs.lemmas.Bool.{and_from, and_parts, lt-ltb, ltb-true}
 use Rattle.std.proofs.lemmas.List.Sums.{sum_by-cons}
 
 -- ---- mapped
@@ -75,3 +75,98 @@ all_same f g ok same [] all = refl
 all_same f g ok same (x ∷ xs) all =
     let parts = and_parts (ok x) (list_all ok xs) all in
     ap (λ y. y ∷ map f xs) (same x parts.0) ∙ ap (λ ys. g x ∷ ys) (all_same f g ok same xs parts.1)
+
+-- ---- what is found
+
+-- an element that is found passes, and is one of the list
+pub record IsFound {X : Type 0} (test : X → Bool) (xs : List X) : Type 0 where
+  pub item : X
+  pub is : find test xs ≡ Some item
+  pub passes : test item ≡ true
+  pub among : (q : X → Bool) → list_all q xs ≡ true → q item ≡ true
+
+-- where some element passes, one is found
+pub found : {X : Type 0} (test : X → Bool) (xs : List X) → list_any test xs ≡ true → IsFound test xs
+found test [] any = absurd (cc)
+found {X} test (x ∷ xs) any =
+    elim (test x) as (λ b. test x ≡ b → IsFound test (x ∷ xs)) [
+      | true ↦ λ e. record {
+        item = x;
+        is = ap (λ b. cond b (Some x) (find test xs)) e;
+        passes = e;
+        among = λ q all. (and_parts (q x) (list_all q xs) all).0;
+      }
+      | false ↦ λ e.
+          let later : IsFound test xs = found test xs (sym (ap (λ b. b || list_any test xs) e) ∙ any) in
+          record {
+            item = later.item;
+            is = ap (λ b. cond b (Some x) (find test xs)) e ∙ later.is;
+            passes = later.passes;
+            among = λ q all. later.among q (and_parts (q x) (list_all q xs) all).1;
+          }
+    ] refl
+
+-- an element that is found passes what each does
+pub found_among : {X : Type 0} (test q : X → Bool) (xs : List X) (x : X) → find test xs ≡ Some x → list_all q xs ≡ true → q x ≡ true
+found_among test q [] x e all = absurd (cc)
+found_among {X} test q (y ∷ ys) x e all =
+    let parts = and_parts (q y) (list_all q ys) all in
+    elim (test y) as (λ b. cond b (Some y) (find test ys) ≡ Some x → q x ≡ true) [
+      | true ↦ λ is. ap q (sym (ap (λ o. unwrap_or o y) is)) ∙ parts.0
+      | false ↦ λ is. found_among test q ys x is parts.1
+    ] e
+
+-- ---- sums
+
+-- where a sum is at most so much, so is each of its parts
+pub each_at_most : {X : Type 0} (f : X → ℕ) (most : ℕ) (xs : List X) → sum_by f xs ≤ most → list_all (λ x. nat_lt (f x) (most + 1)) xs ≡ true
+each_at_most f most [] l = refl
+each_at_most f most (x ∷ xs) l =
+    let sum : sum_by f (x ∷ xs) ≡ f x + sum_by f xs = sum_by-cons f x xs in
+    let here : f x < most + 1 = omega arith in
+    let rest : sum_by f xs ≤ most = omega arith in
+    and_from (nat_lt (f x) (most + 1)) (list_all (λ x. nat_lt (f x) (most + 1)) xs) (lt-ltb (f x) (most + 1) here) (each_at_most f most xs rest)
+
+-- a sum of parts that are not 0, of which there are some
+pub some_sum : {X : Type 0} (f : X → ℕ) (xs : List X) → 0 < length xs → list_all (λ x. nat_lt 0 (f x)) xs ≡ true → 0 < sum_by f xs
+some_sum f [] l all = absurd (omega arith)
+some_sum f (x ∷ xs) l all =
+    let sum : sum_by f (x ∷ xs) ≡ f x + sum_by f xs = sum_by-cons f x xs in
+    let here : 0 < f x = ltb-true 0 (f x) (and_parts (nat_lt 0 (f x)) (list_all (λ x. nat_lt 0 (f x)) xs) all).0 in
+    omega (arith, sum, here)
+
+-- ---- elements by place
+
+-- of a list that is joined of two, an element of the first
+pub get_left : {X : Type 0} (xs ys : List X) (k : ℕ) → k < length xs → slice_get (xs ++ ys) k ≡ slice_get xs k
+get_left [] ys k l = absurd (omega arith)
+get_left (x ∷ xs) ys zero l = refl
+get_left (x ∷ xs) ys (suc k) l = get_left xs ys k (omega arith)
+
+-- and one of the second
+pub get_right : {X : Type 0} (xs ys : List X) (k : ℕ) → slice_get (xs ++ ys) (length xs + k) ≡ slice_get ys k
+get_right [] ys k = let e : 0 + k ≡ k = omega arith in ap (slice_get ys) e
+get_right (x ∷ xs) ys k =
+    let e : length (x ∷ xs) + k ≡ suc (length xs + k) = omega arith in
+    ap (slice_get (x ∷ xs ++ ys)) e ∙ get_right xs ys k
+
+-- an element whose number is below the length is there
+pub there : {X : Type 0} (xs : List X) (k : ℕ) → k < length xs → (x : X) × (slice_get xs k ≡ Some x)
+there [] k l = absurd (omega arith)
+there (x ∷ xs) zero l = (x, refl)
+there (x ∷ xs) (suc k) l = there xs k (omega arith)
+
+-- where each element passes a test, one that is there does
+pub passes_at : {X : Type 0} (test : X → Bool) (xs : List X) (k : ℕ) (x : X) → list_all test xs ≡ true → slice_get xs k ≡ Some x → test x ≡ true
+passes_at test [] k x all e = absurd (cc)
+passes_at test (y ∷ ys) zero x all e =
+    let same : y ≡ x = cc in
+    subst (λ z. test z ≡ true) same (and_parts (test y) (list_all test ys) all).0
+passes_at test (y ∷ ys) (suc k) x all e = passes_at test ys k x (and_parts (test y) (list_all test ys) all).1 e
+
+-- a list with its places, and one element more
+pub enumerate_push : {X : Type 0} (k : ℕ) (xs : List X) (y : X) → enumerate_from k (xs ++ y ∷ []) ≡ enumerate_from k xs ++ (k + length xs, y) ∷ []
+enumerate_push k [] y = ap (λ n. (n, y) ∷ []) (omega arith)
+enumerate_push k (x ∷ xs) y =
+    let e : (k + 1) + length xs ≡ k + length (x ∷ xs) = omega arith in
+    ap (λ zs. (k, x) ∷ zs) (enumerate_push (k + 1) xs y) ∙ ap (λ n. (k, x) ∷ enumerate_from (k + 1) xs ++ (n, y) ∷ []) e

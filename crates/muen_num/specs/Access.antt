@@ -1,7 +1,7 @@
 -- Accesses of memory and the rights that they need.
 use Rattle.std.specs.Prelude.{ℕ, ◌==◌, Bool, bit_and}
-use Rattle.muen_num.specs.declared.bits.Kind.{Kind}
-use Rattle.muen_num.specs.declared.bits.Kind.TheVariants.{Read, Write, Fetch}
+use Rattle.muen_num.specs.declared.access.Kind.{Kind}
+use Rattle.muen_num.specs.declared.access.Kind.TheVariants.{Read, Write, Fetch}
 
 -- the bit of the right that a kind of access needs (Intel SDM volume 3, EPT entries)
 abbrev pub kind_bit : Kind → ℕ

@@ -6,6 +6,7 @@ pub mod Frame
 pub mod Memory
 pub mod Naming
 pub mod NameStored
+pub mod Pieces
 pub mod Range
 pub mod Search
 pub mod Size

@@ -1,7 +1,7 @@
 -- Sizes of access.
 use Rattle.std.specs.Prelude.{ℕ}
-use Rattle.muen_num.specs.declared.bits.Size.{Size}
-use Rattle.muen_num.specs.declared.bits.Size.TheVariants.{One, Two, Four, Eight}
+use Rattle.muen_num.specs.declared.access.Size.{Size}
+use Rattle.muen_num.specs.declared.access.Size.TheVariants.{One, Two, Four, Eight}
 
 -- the number of bytes
 abbrev pub bytes_of : Size → ℕ

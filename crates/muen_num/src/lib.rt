@@ -1,17 +1,22 @@
-//! What every other crate stands on: names, lists that contracts see as their items, sizes of
-//! access, and texts in fixed buffers.
+//! What every other crate stands on: names, lists that contracts see as their items, the limits,
+//! sizes of access, searches in order, and texts in pieces and in fixed buffers.
 #![tactic(auto)]
 
-pub mod bits;
+pub mod access;
+pub mod limits;
+pub mod mode;
 pub mod name;
+pub mod pieces;
 pub mod searches;
 pub mod seq;
 pub mod tag;
 pub mod text;
 
-pub use bits::{Kind, Mode, Size};
+pub use access::{Kind, Size};
+pub use mode::Mode;
 pub use name::Name;
-pub use searches::{first, first_numbered};
+pub use pieces::Pieces;
+pub use searches::{first, first_numbered, first_pair};
 pub use seq::{NoMemory, Seq};
 pub use tag::{Part, Tag};
 

@@ -2,13 +2,11 @@ ghost use Rattle.std.specs.Prelude.{◌≡◌, ◌≤◌, ◌<◌, length, true,
 ghost use Rattle.std.specs.List.{list_all};
 ghost use Rattle.muen_num.specs.Naming.{is_name_byte, is_name, name_of, name_room};
 
+use crate::limits::NAME_MOST;
 use std::cmp::Ordering;
 use std::hash::{Hash, Hasher};
 use std::marker::Model;
 use std::{fmt, str};
-
-/// The most bytes that a name has.
-pub const NAME_MOST: usize = 63;
 
 /// A name: 1 to 63 of ASCII letters, digits, `_`, `-` and `.` (this project's profile of Muen's
 /// names). Contracts see the list of its bytes.

@@ -1,7 +1,7 @@
 //! Searches of a list in order, each for the first answer that a closure gives.
 ghost use Rattle.std.specs.Prelude.{◌≡◌, ℕ, Option};
 ghost use Rattle.std.specs.List.{enumerate_from};
-ghost use Rattle.muen_num.specs.Search.{Computes, ComputesOfPlaced, first_in};
+ghost use Rattle.muen_num.specs.Search.{Computes, ComputesOfPlaced, ComputesOfTwo, first_in, first_pair};
 
 /// The first answer to an item; `None` where no item has one.
 pub fn first<T, O, F: Fn(&T) -> Option<O>>(items: &[T], f: F) -> Option<O>
@@ -24,6 +24,35 @@ pub fn first_numbered<T, O, F: Fn(usize, &T) -> Option<O>>(items: &[T], f: F) ->
 {
     for (place, x) in items.iter().enumerate() {
         match f(place, x) {
+            Some(answer) => return Some(answer),
+            None => {}
+        }
+    }
+    None
+}
+
+// The first answer to one of these items and the later one.
+fn first_with<T, O, F: Fn(&T, &T) -> Option<O>>(before: &[T], later: &T, f: &F) -> Option<O>
+    requires { F.IsAlwaysCallable f.now }
+    ensures { (h : T → T → Option O) → ComputesOfTwo F.Fn f.now h → result ≡ first_in (λ x. h x later.now) before.now }
+{
+    for x in before {
+        match f(x, later) {
+            Some(answer) => return Some(answer),
+            None => {}
+        }
+    }
+    None
+}
+
+/// The first answer to a pair, an item and a later one: of those with the least later item, the
+/// one with the least earlier.
+pub fn first_pair<T, O, F: Fn(&T, &T) -> Option<O>>(items: &[T], f: F) -> Option<O>
+    requires { F.IsAlwaysCallable f }
+    ensures { (h : T → T → Option O) → ComputesOfTwo F.Fn f h → result ≡ first_pair h items.now }
+{
+    for (place, later) in items.iter().enumerate() {
+        match first_with(&items[..place], later, &f) {
             Some(answer) => return Some(answer),
             None => {}
         }

@@ -1,12 +1,16 @@
 //! Runs of the calls that others make.
 mod callers;
 
-use crate::tests::callers::{Thing, check_sizes, first_large, first_of_both, first_small};
+use crate::tests::callers::{
+    Refused, Thing, check_sizes, first_alike, first_large, first_of_both, first_small,
+    names_of_small, no_room_text, offence_text,
+};
 use crate::text::{
     append, append_decimal, append_decimal8, append_decimal32, append_hex4, append_hex8,
     append_hex16, append_hex32,
 };
 use crate::{Kind, Name, Part, Seq, Size, Tag};
+use itoa::Buffer;
 use std::collections::HashSet;
 use std::test::Fail;
 
@@ -129,11 +133,40 @@ fn counts_bytes_and_rights(rt: HostRuntime) {
 fn searches_in_order(rt: HostRuntime) -> Result<(), Fail> {
     let (a, b, c) = (name(b"a")?, name(b"b")?, name(b"c")?);
     let things = [(a, 5), (b, 20), (c, 2), (a, 30)].map(|(name, size)| Thing { name, size });
+    assert_eq!(rt; first_alike(&things), Some((things[0], things[3])));
     assert_eq!(rt; first_large(&things, 9), Some(b));
     assert_eq!(rt; first_large(&things, 30), None);
     assert_eq!(rt; first_small(&things), Some((2, c)));
     assert_eq!(rt; check_sizes(&things, 20), Err(a));
     assert_eq!(rt; check_sizes(&things, 30), Ok(()));
     assert_eq!(rt; first_of_both(&things, 30), Some(b));
+    Ok(())
+}
+
+#[test]
+fn writes_pieces(rt: HostRuntime) -> Result<(), Fail> {
+    let alloc = rt.alloc();
+    let (owner, ring) = (name(b"net")?, name(b"ring")?);
+    let mut digits = Buffer::new();
+    let text = offence_text(12, &owner, &ring, &mut digits).to_string(alloc)?;
+    assert_eq!(rt; text.as_str(), "rule 12: net ring");
+    let part = Part::Named(ring);
+    let text = no_room_text(&Tag { owner, part }, 4096, &mut digits).to_string(alloc)?;
+    assert_eq!(rt; text.as_str(), "no room for net|ring of 4096 bytes");
+    Ok(())
+}
+
+#[test]
+fn answers_exactly(rt: HostRuntime) -> Result<(), Fail> {
+    let alloc = rt.alloc();
+    let (a, b) = (name(b"a")?, name(b"b")?);
+    let things = [(a, 5), (b, 20)].map(|(name, size)| Thing { name, size });
+    assert_eq!(rt; names_of_small(alloc, &[]), Err(Refused::Empty));
+    let one = Seq::of(Vec::from_slice(alloc, &[a])?);
+    assert_eq!(rt; names_of_small(alloc, &things[..1]), Ok(one));
+    let both = Seq::of(Vec::from_slice(alloc, &[a, b])?);
+    assert_eq!(rt; names_of_small(alloc, &things), Err(Refused::Large(both)));
+    let four = Refused::TooMany { length: 4 };
+    assert_eq!(rt; names_of_small(alloc, &[things[0]; 4]), Err(four));
     Ok(())
 }

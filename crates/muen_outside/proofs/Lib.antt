@@ -1,3 +1,4 @@
+pub mod Buffered
 pub mod HeldMap
 pub mod PutEntry
 pub mod Puts

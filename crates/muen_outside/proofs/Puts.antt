@@ -6,7 +6,7 @@ use Rattle.std.proofs.lemmas.List.{take-append-drop, take-append-le, take_all}
 use Rattle.std.proofs.lemmas.Grind.{flat_map-append}
 use Rattle.std.proofs.Math.Seq.{take-add, take-append-add, drop-cons}
 use Rattle.std.specs.Io.KnownBytes.{Appends, Keeps}
-use Rattle.muen_outside.specs.Outside.{SinkState}
+use Rattle.muen_outside.specs.States.{SinkState}
 use Rattle.muen_outside.specs.Puts.{AppendedFront, Appended, Failed, Puts}
 
 appends_none : (k : Option (List ℕ)) → Appends k k []
@@ -48,7 +48,7 @@ failed_then a b c s t u p q = record {
   rose = omega (arith, p.count, q.rose);
 }
 
-failed_as : (a b : List ℕ) (s u : SinkState) → a ≡ b → Failed a s u → Failed b s u
+pub failed_as : (a b : List ℕ) (s u : SinkState) → a ≡ b → Failed a s u → Failed b s u
 failed_as a b s u e q = subst (λ x. Failed x s u) e q
 
 -- nothing stood before

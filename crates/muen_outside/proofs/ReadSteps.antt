@@ -3,7 +3,7 @@ use Rattle.std.proofs.Common.{◌≡◌, ℕ, ◌+◌, ◌≤◌, ◌<◌, List,
 use Rattle.std.proofs.lemmas.Bool.Decides.{nat_tests}
 use Rattle.std.specs.Io.KnownBytes.{Consumes, IsAtEnd, Keeps}
 use Rattle.muen_outside.specs.Store.{whole, long}
-use Rattle.muen_outside.specs.Folder.{capped, TakesAtMost}
+use Rattle.muen_outside.specs.FolderFiles.{capped, TakesAtMost}
 
 pub consumes_none : (k : Option (List ℕ)) → Consumes k k []
 consumes_none None = tt

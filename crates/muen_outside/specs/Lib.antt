@@ -1,10 +1,13 @@
 pub mod Counts
 pub mod Store
-pub mod Outside
+pub mod States
 pub mod Found
 pub mod Puts
+pub mod Pieces
+pub mod Buffered
 pub mod Entries
 pub mod MemFiles
 pub mod MemSink
-pub mod Folder
+pub mod FolderFiles
 pub mod FileCounts
+pub mod ErrorTexts

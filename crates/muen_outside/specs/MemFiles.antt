@@ -2,7 +2,7 @@
 use Rattle.std.specs.Prelude.{ℕ, ◌==◌, Bool, List, Some}
 use Rattle.std.specs.List.{list_any}
 use Rattle.std.specs.FinMap.{from_entries}
-use Rattle.muen_outside.specs.Outside.{FilesState}
+use Rattle.muen_outside.specs.States.{FilesState}
 
 pub record Shelf : Type 0 where
   -- names and their bytes; of two with one name the first counts

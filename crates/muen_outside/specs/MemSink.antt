@@ -1,7 +1,7 @@
 -- A sink in memory as its callers see it.
 use Rattle.std.specs.Prelude.{ℕ, ◌-◌, List, length, Bool, ◌||◌, min, nat_lt, ◌==◌, if◌then◌else◌, Some}
 use Rattle.std.specs.List.{list_any}
-use Rattle.muen_outside.specs.Outside.{SinkState}
+use Rattle.muen_outside.specs.States.{SinkState}
 
 pub record Filling : Type 0 where
   pub text : List ℕ

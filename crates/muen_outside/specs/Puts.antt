@@ -2,7 +2,7 @@
 use Rattle.std.specs.Prelude.{ℕ, ◌≤◌, List, Option, Result, Ok, Err, length, take}
 use Rattle.std.specs.Io.KnownBytes.{Appends}
 use Rattle.muen_outside.specs.Counts.{Rose}
-use Rattle.muen_outside.specs.Outside.{SinkState}
+use Rattle.muen_outside.specs.States.{SinkState}
 
 -- a front of the bytes was appended, where it is told what the sink holds
 abbrev pub AppendedFront : Option (List ℕ) → Option (List ℕ) → List ℕ → Type 0

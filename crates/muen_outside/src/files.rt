@@ -1,18 +1,20 @@
-ghost use Rattle.std.specs.Prelude.{◌≡◌, ◌≤◌, ℕ, Option, Err, OnOk, IfOk, IfSome};
+ghost use Rattle.std.specs.Prelude.{◌≡◌, ◌≤◌, ℕ, Option, Some, Err, OnOk, IfOk, IfSome};
 ghost use Rattle.std.specs.FinMap as map;
 ghost use Rattle.muen_outside.specs.declared.files.FileEnd.TheVariants.{NoMemory};
 ghost use Rattle.muen_outside.specs.Counts.{Rose};
 ghost use Rattle.muen_outside.specs.Store.{reading_of, KeepsOthers, insert_known};
-ghost use Rattle.muen_outside.specs.Outside.{FilesState};
+ghost use Rattle.muen_outside.specs.States.{FilesState};
+ghost use Rattle.muen_outside.specs.ErrorTexts.{file_end_text};
 ghost use Rattle.muen_outside.specs.Found.{seen, IsMiss, IsWithin};
 
 use muen_num::Seq;
 use std::alloc::{AllocError, Global};
+use std::fmt;
 use thiserror::Error;
 
 /// What a read has found: all the bytes of the file, no file of this name, or a file of more bytes
 /// than the limit, with a number of bytes above the limit that it has at least.
-#[derive(Debug, Drop)]
+#[derive(Debug, Drop, PartialEq, Eq)]
 pub enum Found {
     Bytes(Seq<u8>),
     Missing,
@@ -23,11 +25,31 @@ pub enum Found {
 #[derive(Clone, Copy, Debug, PartialEq, Eq, Error)]
 pub enum FileEnd {
     /// The read or the write failed.
-    #[error("file fault")]
     Failed,
     /// Memory was refused.
-    #[error("out of memory")]
     NoMemory,
+}
+
+impl FileEnd {
+    /// The text of the error.
+    pub fn as_str(self) -> &'static str
+        ensures { result.now ≡ file_end_text self }
+    {
+        match self {
+            FileEnd::Failed => "file fault",
+            FileEnd::NoMemory => "out of memory",
+        }
+    }
+}
+
+impl fmt::Display for FileEnd {
+    ghost use Rattle.muen_outside.specs.ErrorTexts.{file_end_text};
+
+    ghost output = { λ e. Some (file_end_text e) };
+
+    fn fmt<W: fmt::Write>(&self, f: &mut fmt::Formatter<W>) -> fmt::Result {
+        f.write_str(self.as_str())
+    }
 }
 
 impl From<AllocError> for FileEnd {

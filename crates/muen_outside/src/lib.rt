@@ -1,21 +1,25 @@
 //! Where a program reads and writes: files under names, and sinks of bytes, each as a trait, in
-//! memory, and over the system.
+//! memory, and over the system; and a buffer that stands before a sink.
 #![tactic(auto)]
 
+mod buffer;
 mod files;
-mod folder;
+mod folder_files;
 mod lines;
 mod mem_files;
 mod mem_sink;
+mod pieces;
 mod sink;
-mod std_sink;
 #[cfg(test)]
 mod tests;
+mod writer_sink;
 
+pub use buffer::Buffer;
 pub use files::{FileEnd, Files, Found};
-pub use folder::FolderFiles;
-pub use lines::{Line, put_lines};
+pub use folder_files::FolderFiles;
+pub use lines::{PrintedLine, put_lines};
 pub use mem_files::MemFiles;
 pub use mem_sink::MemSink;
+pub use pieces::put_pieces;
 pub use sink::{Sink, SinkFault};
-pub use std_sink::StdSink;
+pub use writer_sink::WriterSink;

@@ -15,7 +15,7 @@ use std::alloc::{AllocError, Global};
 use std::marker::Model;
 
 /// Files in memory. They fail at the calls whose numbers are listed, and only there.
-#[derive(Drop)]
+#[derive(Debug, Drop)]
 pub struct MemFiles {
     held: Vec<(String, Vec<u8>)>,
     fails: Vec<u64>,

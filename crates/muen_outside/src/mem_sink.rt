@@ -11,7 +11,7 @@ use std::marker::Model;
 
 /// A sink in memory, whose room is made before. It fails at the calls whose numbers are listed, and
 /// at those whose bytes don't fit.
-#[derive(Drop)]
+#[derive(Debug, Drop)]
 pub struct MemSink {
     text: Vec<u8>,
     room: usize,
@@ -53,6 +53,13 @@ impl MemSink {
             calls: 0,
             faults: 0,
         })
+    }
+
+    /// How many calls there were.
+    pub fn calls(&self) -> u64
+        ensures { result ≡ self.now.calls }
+    {
+        self.calls
     }
 
     /// What was written, lent.

@@ -1,12 +1,33 @@
-ghost use Rattle.muen_outside.specs.Outside.{SinkState};
+ghost use Rattle.std.specs.Prelude.{◌≡◌, Some};
+ghost use Rattle.muen_outside.specs.ErrorTexts.{sink_fault_text};
+ghost use Rattle.muen_outside.specs.States.{SinkState};
 ghost use Rattle.muen_outside.specs.Puts.{Puts};
 
+use std::fmt;
 use thiserror::Error;
 
 /// A sink failed.
 #[derive(Clone, Copy, Debug, PartialEq, Eq, Error)]
-#[error("output fault")]
 pub struct SinkFault;
+
+impl SinkFault {
+    /// The text of the error.
+    pub fn as_str(self) -> &'static str
+        ensures { result.now ≡ sink_fault_text }
+    {
+        "output fault"
+    }
+}
+
+impl fmt::Display for SinkFault {
+    ghost use Rattle.muen_outside.specs.ErrorTexts.{sink_fault_text};
+
+    ghost output = { λ _. Some sink_fault_text };
+
+    fn fmt<W: fmt::Write>(&self, f: &mut fmt::Formatter<W>) -> fmt::Result {
+        f.write_str(self.as_str())
+    }
+}
 
 /// Takes bytes, each after the other. It keeps a count of its faults, which never falls and stops
 /// at 2^64 - 1.

@@ -2,9 +2,10 @@
 ghost use Rattle.std.specs.Prelude.{[], ◌∷◌};
 
 use crate::{
-    FileEnd, Files, FolderFiles, Found, Line, MemFiles, MemSink, Sink, SinkFault, StdSink,
-    put_lines,
+    Buffer, FileEnd, Files, FolderFiles, Found, MemFiles, MemSink, PrintedLine, Sink, SinkFault,
+    WriterSink, put_lines, put_pieces,
 };
+use muen_num::Seq;
 use muen_num::text::append;
 use std::alloc::Global;
 use std::io::{ErrorKind, Write};
@@ -21,31 +22,23 @@ fn one_file(alloc: Global, fails: &[u64]) -> Result<MemFiles, Fail> {
     Ok(MemFiles::make(held, Vec::from_slice(alloc, fails)?))
 }
 
-// The bytes found, or `missing`, `long` or the error.
-fn shown<F: Files>(alloc: Global, files: &mut F, name: &str, most: usize) -> Result<Vec<u8>, Fail> {
-    let text = match files.read(alloc, name, most) {
-        Ok(Found::Bytes(bytes)) => return Ok(bytes.into_vec()),
-        Ok(Found::Missing) => format!(in alloc; "missing")?,
-        Ok(Found::TooLong(n)) => format!(in alloc; "long {n}")?,
-        Err(e) => format!(in alloc; "{e}")?,
-    };
-    Ok(text.into_bytes())
+fn bytes_found(alloc: Global, bytes: &[u8]) -> Result<Found, Fail> {
+    Ok(Found::Bytes(Seq::of(Vec::from_slice(alloc, bytes)?)))
 }
 
 #[test]
 fn files_in_memory(rt: HostRuntime) -> Result<(), Fail> {
     let alloc = rt.alloc();
     let mut files = one_file(alloc, &[4, 6])?;
-    let cases: [(&str, usize, &[u8]); 5] = [
-        ("a", 3, b"xyz"),
-        ("a", 2, b"long 3"),
-        ("b", 9, b"missing"),
-        ("a", 9, b"xyz"),
-        ("a", 9, b"file fault"),
+    let cases = [
+        ("a", 3, Ok(bytes_found(alloc, b"xyz")?)),
+        ("a", 2, Ok(Found::TooLong(3))),
+        ("b", 9, Ok(Found::Missing)),
+        ("a", 9, Ok(bytes_found(alloc, b"xyz")?)),
+        ("a", 9, Err(FileEnd::Failed)),
     ];
     for (name, most, want) in cases {
-        let got = shown(alloc, &mut files, name, most)?;
-        assert_eq!(rt; got.as_slice(), want);
+        assert_eq!(rt; files.read(alloc, name, most), want);
     }
     assert_eq!(rt; files.write(alloc, "b", b"new"), Ok(()));
     assert_eq!(rt; files.write(alloc, "b", b"lost"), Err(FileEnd::Failed));
@@ -63,15 +56,14 @@ fn files_in_a_folder(rt: HostRuntime) -> Result<(), Fail> {
     let mut files = FolderFiles::new(rt);
     assert_eq!(rt; files.write(alloc, name, b"lost"), Ok(()));
     assert_eq!(rt; files.write(alloc, name, b"xyz"), Ok(()));
-    let cases: [(&str, usize, &[u8]); 4] = [
-        (name, 3, b"xyz"),
-        (name, 1, b"long 2"),
-        ("muen_outside_none", 9, b"missing"),
-        (".", 9, b"file fault"),
+    let cases = [
+        (name, 3, Ok(bytes_found(alloc, b"xyz")?)),
+        (name, 1, Ok(Found::TooLong(2))),
+        ("muen_outside_none", 9, Ok(Found::Missing)),
+        (".", 9, Err(FileEnd::Failed)),
     ];
     for (name, most, want) in cases {
-        let got = shown(alloc, &mut files, name, most)?;
-        assert_eq!(rt; got.as_slice(), want);
+        assert_eq!(rt; files.read(alloc, name, most), want);
     }
     assert_eq!(rt; files.write(alloc, ".", b"xyz"), Err(FileEnd::Failed));
     fs::remove_file(&rt, name)?;
@@ -91,16 +83,63 @@ fn sink_in_memory(rt: HostRuntime) -> Result<(), Fail> {
     Ok(())
 }
 
+#[test]
+fn puts_wait_in_a_buffer(rt: HostRuntime) -> Result<(), Fail> {
+    let alloc = rt.alloc();
+    let mut sink = MemSink::make(alloc, 1_000_000, Vec::new(alloc), 0)?;
+    let mut buffer = Buffer::make(alloc)?;
+    for _ in 0..20_000 {
+        assert_eq!(rt; buffer.put(b"twelve bytes", &mut sink), Ok(()));
+    }
+    let large = vec![in alloc; b'!'; 70_000]?;
+    assert_eq!(rt; buffer.put(&large, &mut sink), Ok(()));
+    assert_eq!(rt; sink.calls(), 5);
+    assert_eq!(rt; sink.text().len(), 310_000);
+    let lines = [Numbered { digit: b'1' }, Numbered { digit: b'2' }];
+    assert_eq!(rt; put_lines(&lines, &mut buffer, &mut sink), Ok(()));
+    assert_eq!(rt; sink.calls(), 5);
+    assert_eq!(rt; buffer.flush(&mut sink), Ok(()));
+    assert_eq!(rt; sink.calls(), 6);
+    assert_eq!(rt; sink.text().len(), 310_004);
+    assert!(rt; sink.text().ends_with(b"!1\n2\n"));
+    Ok(())
+}
+
+// How many puts of twelve bytes go well.
+fn count_puts(alloc: Global, sink: &mut MemSink) -> Result<u64, Fail> {
+    let mut buffer = Buffer::make(alloc)?;
+    for count in 0..20_000 {
+        if buffer.put(b"twelve bytes", sink) == Err(SinkFault) {
+            return Ok(count);
+        }
+    }
+    let _ = buffer.flush(sink);
+    Ok(20_000)
+}
+
+#[test]
+fn a_fault_leaves_a_front(rt: HostRuntime) -> Result<(), Fail> {
+    let alloc = rt.alloc();
+    let mut one_bad = MemSink::make(alloc, 1_000_000, Vec::from_slice(alloc, &[1])?, 100)?;
+    assert_eq!(rt; count_puts(alloc, &mut one_bad)?, 10_922);
+    assert_eq!(rt; one_bad.text().len(), 65_632);
+    let mut full = MemSink::make(alloc, 239_999, Vec::new(alloc), 0)?;
+    assert_eq!(rt; count_puts(alloc, &mut full)?, 20_000);
+    assert_eq!(rt; full.text().len(), 239_999);
+    assert!(rt; full.text().ends_with(b"twelve bytestwelve byte"));
+    Ok(())
+}
+
 #[derive(Drop)]
 struct Numbered {
     digit: u8,
 }
 
-impl Line for Numbered {
+impl PrintedLine for Numbered {
     ghost text = { λ n. n.digit ∷ 10 ∷ [] };
 
-    fn write(&self, buffer: &mut [u8; 256]) -> usize {
-        append(buffer, 0, &[self.digit, b'\n'])
+    fn write(&self, space: &mut [u8; 256]) -> usize {
+        append(space, 0, &[self.digit, b'\n'])
     }
 }
 
@@ -131,17 +170,16 @@ impl Write for Choppy {
 fn sink_over_a_writer(rt: HostRuntime) -> Result<(), Fail> {
     let alloc = rt.alloc();
     let mut text = Vec::new(alloc);
-    let mut sink = StdSink::new(&mut text);
-    let lines = [Numbered { digit: b'1' }, Numbered { digit: b'2' }];
-    assert_eq!(rt; put_lines(&lines, &mut sink), Ok(()));
+    let mut sink = WriterSink::new(&mut text);
+    assert_eq!(rt; put_pieces(&["one", "", " two", "\n"], &mut sink), Ok(()));
     drop(sink);
-    assert_eq!(rt; text.as_slice(), b"1\n2\n".as_slice());
+    assert_eq!(rt; text.as_slice(), b"one two\n".as_slice());
 
     let mut writer = Choppy {
         text: Vec::new(alloc),
         left: 2,
     };
-    let mut sink = StdSink::new(&mut writer);
+    let mut sink = WriterSink::new(&mut writer);
     assert_eq!(rt; sink.put(b"abc"), Ok(()));
     assert_eq!(rt; sink.put(b"d"), Err(SinkFault));
     drop(sink);
@@ -150,9 +188,9 @@ fn sink_over_a_writer(rt: HostRuntime) -> Result<(), Fail> {
 }
 
 #[test]
-fn standard_streams(rt: HostRuntime) {
-    let mut out = StdSink::output(&rt);
-    assert_eq!(rt; out.put(b""), Ok(()));
-    let mut err = StdSink::error(&rt);
-    assert_eq!(rt; err.put(b""), Ok(()));
+fn standard_streams_take_a_line(rt: HostRuntime) {
+    let mut out = WriterSink::standard_output(&rt);
+    assert_eq!(rt; out.put(b"a line put to the standard output\n"), Ok(()));
+    let mut err = WriterSink::standard_error(&rt);
+    assert_eq!(rt; err.put(b"a line put to the standard error\n"), Ok(()));
 }

@@ -1,268 +1,299 @@
--- The clauses of a whole call.
-use Rattle.std.proofs.Common.{◌≡◌, inl, inr, ◌⊎◌, ◌≢◌, ℕ, List, [], Option, Some, None, Err, IfSome, refl, sym, ap, subst, ◌∙◌, arith}
-use Rattle.std.specs.FinMap.{get, from_entries}
+-- The clauses of a whole call, from what came of its command.
+use Rattle.std.proofs.Common.{◌≡◌, inl, inr, ◌⊎◌, ◌≢◌, ℕ, List, [], Option, Some, None, IfSome, Result, Ok, Err, refl, sym, ap, subst, ◌∙◌, arith}
 use Rattle.muen_outside.specs.Counts.{Rose}
-use Rattle.muen_outside.specs.Store.{Store, whole, reading_of}
-use Rattle.muen_outside.specs.Outside.{FilesState, SinkState}
+use Rattle.muen_outside.specs.States.{FilesState, SinkState}
 use Rattle.muen_outside.specs.Puts.{Appended, Failed}
-use Rattle.policy_lawful.specs.Lawful.{accepted_policy_of}
+use Rattle.muen_outside.specs.Store.{Store, Reading, whole, absent, long}
+use Rattle.policy_types.specs.declared.source.Source.{Source}
 use Rattle.policy_types.specs.declared.refusal.Refusal.{Refusal}
-use Rattle.muen_top.specs.RecordText.{record_of, record_from, end_line, line_of as line_in}
-use Rattle.muen_top.specs.Ended.{Command, boots, command_of, record_most, SawPolicy, SawRecord, AfterPolicy, Booted, BootCause, HasCause}
-use Rattle.muen_top.specs.Report.{status_of, refusal_status, fault_status, Reported}
-use Rattle.muen_top.specs.Wanted.{end_wanted, Ran, IsFault, Ends, Prints, RefusesPolicy, RefusesRecord}
+use Rattle.policy_types.specs.declared.refusal.Refusal.TheVariants.{NotJson, Shape, Rule, Missing as MissingFile, TooLong as TooLongFile, FileFit, NoRoom, NoMemory as NoMemoryFor}
+use Rattle.subject_model.specs.DeviceRecord.{DeviceRecord}
+use Rattle.muen_top.specs.RecordText.{record_of}
+use Rattle.muen_top.specs.Refusals.{accepted_policy_of}
 use Rattle.muen_top.specs.declared.record_text.RecordFault.{RecordFault}
-use Rattle.muen_top.specs.declared.record_text.RecordFault.TheVariants.{NotYetBuilt}
-use Rattle.muen_top.specs.declared.end.Input.TheVariants.{Policy, Record}
-use Rattle.muen_top.specs.declared.end.Stop.TheVariants.{Usage, Refused, Missing, TooLong, FileFault, RecordRefused, NoMemory}
-use Rattle.muen_top.specs.declared.end.End.{End}
-use Rattle.muen_top.specs.declared.end.End.TheVariants.{Done, Stopped, OutFault}
-use Rattle.muen_top.proofs.Promises.{wanted, answered, out_of_memory, seen, refused_status}
+use Rattle.muen_top.specs.Answers.{Reason, usage, missing, too_long, refused, record_refused, Answer, prints, stops, of_file, run_answer, policy_answer, record_answer, boot_answer, answer_of}
+use Rattle.muen_top.specs.Calls.{Prints, StopsFor, ComesOf, Came, Ran, IsFault, Answered, RefusesPolicy, LacksFile, RefusesRecord}
+use Rattle.muen_top.specs.Commands.{Command, boot, command_of}
+use Rattle.muen_top.specs.Reports.{refusal_status, reason_status, reason_text, status_of, stop_status, stop_text, Told, Reported, Ends}
+use Rattle.muen_top.specs.declared.outcome.Outcome.{Outcome}
+use Rattle.muen_top.specs.declared.outcome.Outcome.TheVariants.{Done, Stopped, OutputFault}
+use Rattle.muen_top.specs.declared.outcome.Stop.{Stop}
+use Rattle.muen_top.specs.declared.outcome.Stop.TheVariants.{Usage, Missing, TooLong, Refused, RecordRefused, FileFault, NoMemory}
 
--- a record's fault is of status 6
-fault_from : (o : Option ℕ) (f : RecordFault) → record_from o ≡ Err f → fault_status f ≡ 6
-fault_from None f e = let g : NotYetBuilt 1 ≡ f = cc in ap fault_status (sym g)
-fault_from (Some n) f e = absurd (cc)
+-- ---- what came of a command
 
-record_status : (bytes : List ℕ) (f : RecordFault) → record_of bytes ≡ Err f → fault_status f ≡ 6
-unfolding record_of
-record_status bytes f e = fault_from (end_line (line_in bytes)) f e
+-- its answer was given, or a call failed, or memory was refused
+data Comes (answer : Answer) (old new : FilesState) (out out' err err' : SinkState) (status : ℕ) : Type 0 where
+  printed : (text : List ℕ) → status ≡ 0 → answer ≡ prints text → Appended text out out' → err' ≡ err → Comes answer old new out out' err err' status
+  cut_off : (text : List ℕ) → status ≡ 7 → answer ≡ prints text → Failed text out out' → Comes answer old new out out' err err' status
+  stopped : (reason : Reason) → status ≡ reason_status reason → answer ≡ stops reason → out' ≡ out → Told (reason_text reason) err err' → (reason_status reason ≡ 3 → Rose old.misses new.misses) → Comes answer old new out out' err err' status
+  failed : status ≡ 4 → Rose old.faults new.faults → out' ≡ out → Comes answer old new out out' err err' status
+  no_memory : status ≡ 8 → out' ≡ out → Comes answer old new out out' err err' status
 
--- ---- of `boot`
+module _ (old new : FilesState) (out out' err err' : SinkState) (status : ℕ) where
+  abbrev Of : Answer → Type 0
+  Of answer = Comes answer old new out out' err err' status
 
-module _ (policy inputs : List ℕ) (old new : FilesState) (out out' : SinkState) where
-  refused_code : (r : Refusal) → SawPolicy policy old new (Err r) → (refusal_status r ≡ 2) ⊎ (refusal_status r ≡ 8)
-  refused_code r p = refused_status p.bytes r (seen p.bytes r p.reads)
+  of_stop : (answer : Answer) (stop : Stop) → status ≡ stop_status stop → StopsFor answer old new stop → out' ≡ out → Told (stop_text stop) err err' → Of answer
+  of_stop answer Usage is for quiet told = stopped usage is for quiet told (λ h. absurd (omega arith))
+  of_stop answer (Missing name) is for quiet told = stopped (missing name.now) is for.0 quiet told (λ h. for.1)
+  of_stop answer (TooLong name n) is for quiet told = stopped (too_long name.now n) is for.0 quiet told (λ h. for.1)
+  of_stop answer (Refused refusal) is for quiet told = stopped (refused refusal) is for.0 quiet told for.1
+  of_stop answer (RecordRefused fault) is for quiet told = stopped (record_refused fault) is for quiet told (λ h. absurd (omega arith))
+  of_stop answer FileFault is for quiet told = failed is for quiet
+  of_stop answer NoMemory is for quiet told = no_memory is quiet
 
-  -- only `Done` has status 0
-  boot_done : (end : End) → BootCause policy inputs old new out out' end → status_of end ≡ 0 → end ≡ Done
-  boot_done Done b e = refl
-  boot_done OutFault b e = absurd (omega arith)
-  boot_done (Stopped Usage) b e = absurd (omega arith)
-  boot_done (Stopped (Refused r)) b e = elim (refused_code r b.0) [ inl h ↦ absurd (omega arith) | inr h ↦ absurd (omega arith) ]
-  boot_done (Stopped (Missing i)) b e = absurd (omega arith)
-  boot_done (Stopped (TooLong i n)) b e = absurd (omega arith)
-  boot_done (Stopped FileFault) b e = absurd (omega arith)
-  boot_done (Stopped (RecordRefused f)) b e = let h = record_status b.0.after.bytes f b.0.after.reads in absurd (omega arith)
-  boot_done (Stopped NoMemory) b e = absurd (omega arith)
+  of_outcome : (answer : Answer) (outcome : Outcome) → status ≡ status_of outcome → ComesOf answer old new out out' outcome → Reported err err' outcome → Of answer
+  of_outcome (prints text) Done is came told = printed text is refl came told
+  of_outcome (stops reason) Done is came told = absurd came
+  of_outcome (prints text) OutputFault is came told = cut_off text is refl came
+  of_outcome (stops reason) OutputFault is came told = absurd came
+  of_outcome answer (Stopped stop) is came told = of_stop answer stop is came.0 came.1 told
 
-  -- only `OutFault` has status 7
-  boot_out : (end : End) → BootCause policy inputs old new out out' end → status_of end ≡ 7 → end ≡ OutFault
-  boot_out Done b e = absurd (omega arith)
-  boot_out OutFault b e = refl
-  boot_out (Stopped Usage) b e = absurd (omega arith)
-  boot_out (Stopped (Refused r)) b e = elim (refused_code r b.0) [ inl h ↦ absurd (omega arith) | inr h ↦ absurd (omega arith) ]
-  boot_out (Stopped (Missing i)) b e = absurd (omega arith)
-  boot_out (Stopped (TooLong i n)) b e = absurd (omega arith)
-  boot_out (Stopped FileFault) b e = absurd (omega arith)
-  boot_out (Stopped (RecordRefused f)) b e = let h = record_status b.0.after.bytes f b.0.after.reads in absurd (omega arith)
-  boot_out (Stopped NoMemory) b e = absurd (omega arith)
+-- ---- which statuses a reason has
 
-  boot_no_usage : (end : End) → BootCause policy inputs old new out out' end → status_of end ≡ 1 → ⊥
-  boot_no_usage Done b e = omega arith
-  boot_no_usage OutFault b e = omega arith
-  boot_no_usage (Stopped Usage) b e = b.0
-  boot_no_usage (Stopped (Refused r)) b e = elim (refused_code r b.0) [ inl h ↦ absurd (omega arith) | inr h ↦ absurd (omega arith) ]
-  boot_no_usage (Stopped (Missing i)) b e = omega arith
-  boot_no_usage (Stopped (TooLong i n)) b e = omega arith
-  boot_no_usage (Stopped FileFault) b e = omega arith
-  boot_no_usage (Stopped (RecordRefused f)) b e = let h = record_status b.0.after.bytes f b.0.after.reads in absurd (omega arith)
-  boot_no_usage (Stopped NoMemory) b e = omega arith
+refusal_statuses : (r : Refusal) → (refusal_status r ≡ 2) ⊎ ((refusal_status r ≡ 3) ⊎ (refusal_status r ≡ 8))
+refusal_statuses NotJson = inl refl
+refusal_statuses (Shape place want) = inl refl
+refusal_statuses (Rule number first second) = inl refl
+refusal_statuses (MissingFile file) = inr (inl refl)
+refusal_statuses (TooLongFile file n) = inr (inl refl)
+refusal_statuses (FileFit region room n) = inl refl
+refusal_statuses (NoRoom region size) = inl refl
+refusal_statuses NoMemoryFor = inr (inr refl)
 
-  -- a missing or too long file is a miss
-  boot_missed : (end : End) → BootCause policy inputs old new out out' end → status_of end ≡ 3 → Rose old.misses new.misses
-  boot_missed Done b e = absurd (omega arith)
-  boot_missed OutFault b e = absurd (omega arith)
-  boot_missed (Stopped Usage) b e = absurd (omega arith)
-  boot_missed (Stopped (Refused r)) b e = elim (refused_code r b.0) [ inl h ↦ absurd (omega arith) | inr h ↦ absurd (omega arith) ]
-  boot_missed (Stopped (Missing Policy)) b e = b.0.missed tt
-  boot_missed (Stopped (TooLong Policy n)) b e = b.0.missed tt
-  boot_missed (Stopped (Missing Record)) b e =
-      let rose : Rose b.0.between.misses new.misses = b.0.after.missed tt in omega (arith, b.0.follows.misses)
-  boot_missed (Stopped (TooLong Record n)) b e =
-      let rose : Rose b.0.between.misses new.misses = b.0.after.missed tt in omega (arith, b.0.follows.misses)
-  boot_missed (Stopped FileFault) b e = absurd (omega arith)
-  boot_missed (Stopped (RecordRefused f)) b e = let h = record_status b.0.after.bytes f b.0.after.reads in absurd (omega arith)
-  boot_missed (Stopped NoMemory) b e = absurd (omega arith)
+abbrev OfReason : ℕ → Type 0
+OfReason n = (n ≡ 1) ⊎ ((n ≡ 6) ⊎ ((n ≡ 2) ⊎ ((n ≡ 3) ⊎ (n ≡ 8))))
 
-  boot_failed : (end : End) → BootCause policy inputs old new out out' end → status_of end ≡ 4 → Rose old.faults new.faults
-  boot_failed Done b e = absurd (omega arith)
-  boot_failed OutFault b e = absurd (omega arith)
-  boot_failed (Stopped Usage) b e = absurd (omega arith)
-  boot_failed (Stopped (Refused r)) b e = elim (refused_code r b.0) [ inl h ↦ absurd (omega arith) | inr h ↦ absurd (omega arith) ]
-  boot_failed (Stopped (Missing i)) b e = absurd (omega arith)
-  boot_failed (Stopped (TooLong i n)) b e = absurd (omega arith)
-  boot_failed (Stopped FileFault) b e = b.0
-  boot_failed (Stopped (RecordRefused f)) b e = let h = record_status b.0.after.bytes f b.0.after.reads in absurd (omega arith)
-  boot_failed (Stopped NoMemory) b e = absurd (omega arith)
+reason_statuses : (reason : Reason) → OfReason (reason_status reason)
+reason_statuses usage = inl refl
+reason_statuses (missing name) = inr (inr (inr (inl refl)))
+reason_statuses (too_long name n) = inr (inr (inr (inl refl)))
+reason_statuses (refused refusal) = inr (inr (refusal_statuses refusal))
+reason_statuses (record_refused fault) = inr (inl refl)
 
-  boot_quiet : (end : End) → BootCause policy inputs old new out out' end → status_of end ≢ 0 → status_of end ≢ 7 → out' ≡ out
-  boot_quiet Done b zero seven = absurd (zero refl)
-  boot_quiet OutFault b zero seven = absurd (seven refl)
-  boot_quiet (Stopped stop) b zero seven = b.1
+-- a status that no reason has
+no_reason : (reason : Reason) (n : ℕ) → (OfReason n → ⊥) → n ≡ reason_status reason → ⊥
+no_reason reason n not is = not (subst OfReason (sym is) (reason_statuses reason))
 
-  -- a refusal of the policy
-  boot_refused : (end : End) → BootCause policy inputs old new out out' end → status_of end ≡ 2 → (r : Refusal) × (p : SawPolicy policy old new (Err r)) × (end ≡ Stopped (Refused r)) × (accepted_policy_of p.bytes ≡ Err r)
-  boot_refused Done b e = absurd (omega arith)
-  boot_refused OutFault b e = absurd (omega arith)
-  boot_refused (Stopped Usage) b e = absurd (omega arith)
-  boot_refused (Stopped (Refused r)) b e =
-      elim (seen b.0.bytes r b.0.reads) [
-        | answered a ↦ (r, b.0, refl, a)
-        | out_of_memory m ↦ let h : refusal_status r ≡ 8 = ap refusal_status m in absurd (omega arith)
-      ]
-  boot_refused (Stopped (Missing i)) b e = absurd (omega arith)
-  boot_refused (Stopped (TooLong i n)) b e = absurd (omega arith)
-  boot_refused (Stopped FileFault) b e = absurd (omega arith)
-  boot_refused (Stopped (RecordRefused f)) b e = let h = record_status b.0.after.bytes f b.0.after.reads in absurd (omega arith)
-  boot_refused (Stopped NoMemory) b e = absurd (omega arith)
+not_zero : OfReason 0 → ⊥
+not_zero h = elim h [ inl a ↦ omega arith | inr b ↦ elim b [ inl a ↦ omega arith | inr c ↦ elim c [ inl a ↦ omega arith | inr d ↦ elim d [ inl a ↦ omega arith | inr e ↦ omega arith ] ] ] ]
 
-  -- a refusal of the record
-  boot_faulty : (end : End) → BootCause policy inputs old new out out' end → status_of end ≡ 6 → (f : RecordFault) × (end ≡ Stopped (RecordRefused f)) × AfterPolicy policy old new (λ s t. SawRecord inputs s t (Err f))
-  boot_faulty Done b e = absurd (omega arith)
-  boot_faulty OutFault b e = absurd (omega arith)
-  boot_faulty (Stopped Usage) b e = absurd (omega arith)
-  boot_faulty (Stopped (Refused r)) b e = elim (refused_code r b.0) [ inl h ↦ absurd (omega arith) | inr h ↦ absurd (omega arith) ]
-  boot_faulty (Stopped (Missing i)) b e = absurd (omega arith)
-  boot_faulty (Stopped (TooLong i n)) b e = absurd (omega arith)
-  boot_faulty (Stopped FileFault) b e = absurd (omega arith)
-  boot_faulty (Stopped (RecordRefused f)) b e = (f, refl, b.0)
-  boot_faulty (Stopped NoMemory) b e = absurd (omega arith)
+not_four : OfReason 4 → ⊥
+not_four h = elim h [ inl a ↦ omega arith | inr b ↦ elim b [ inl a ↦ omega arith | inr c ↦ elim c [ inl a ↦ omega arith | inr d ↦ elim d [ inl a ↦ omega arith | inr e ↦ omega arith ] ] ] ]
 
--- ---- of the whole call
+not_seven : OfReason 7 → ⊥
+not_seven h = elim h [ inl a ↦ omega arith | inr b ↦ elim b [ inl a ↦ omega arith | inr c ↦ elim c [ inl a ↦ omega arith | inr d ↦ elim d [ inl a ↦ omega arith | inr e ↦ omega arith ] ] ] ]
 
-between_told : (held held' : Option Store) (P : Store → Type 0) → held' ≡ held → IfSome held' P → IfSome held P
-between_told held held' P e h = subst (λ o. IfSome o P) e h
+refusal_not : (r : Refusal) (n : ℕ) → n ≡ 1 ⊎ n ≡ 6 → refusal_status r ≡ n → ⊥
+refusal_not r n which is =
+    elim which [
+      | inl a ↦ elim (refusal_statuses r) [ inl b ↦ omega arith | inr b ↦ elim b [ inl c ↦ omega arith | inr c ↦ omega arith ] ]
+      | inr a ↦ elim (refusal_statuses r) [ inl b ↦ omega arith | inr b ↦ elim b [ inl c ↦ omega arith | inr c ↦ omega arith ] ]
+    ]
 
-printed : (words : List (List ℕ)) (policy inputs : List ℕ) (old new : FilesState) (prints : List ℕ → Type 0) → command_of words ≡ Some (boots policy inputs) → Booted policy inputs old new prints → Prints words old.held prints
-printed words policy inputs old new prints words_are b =
-    record {
-      named = record { policy = policy; inputs = inputs; words_are = words_are; bytes = b.saw_policy.bytes; told = b.saw_policy.saw.told };
-      source = b.source;
-      policy_is = b.saw_policy.reads;
-      record_bytes = b.saw_record.bytes;
-      record_told = between_told old.held b.between.held (λ m. whole b.saw_record.bytes ≡ reading_of (get m inputs) record_most) b.follows.held b.saw_record.saw.told;
-      run = b.run;
-      record_is = b.saw_record.reads;
-      text = b.text;
-    }
+-- ---- of the reasons with a status, those of a kind
 
--- a command, and the cause of its end
-module _ (words : List (List ℕ)) (old new : FilesState) (out out' err err' : SinkState) where
-  done_by : (c : Option Command) (end : End) → command_of words ≡ c → HasCause c old new out out' end → status_of end ≡ 0 → Prints words old.held (λ text. Appended text out out') × (end ≡ Done)
-  done_by None end is cause e =
-      let h : status_of end ≡ 1 = ap status_of cause.0 in absurd (omega arith)
-  done_by (Some (boots policy inputs)) end is cause e =
-      let d = boot_done policy inputs old new out out' end cause e in
-      (printed words policy inputs old new (λ text. Appended text out out') is (subst (BootCause policy inputs old new out out') d cause), d)
+module _ (err err' : SinkState) where
+  policy_reason : (reason : Reason) → reason_status reason ≡ 2 → Told (reason_text reason) err err' → RefusesPolicy err err' (stops reason)
+  policy_reason usage is told = absurd (omega arith)
+  policy_reason (missing name) is told = absurd (omega arith)
+  policy_reason (too_long name n) is told = absurd (omega arith)
+  policy_reason (refused refusal) is told = told
+  policy_reason (record_refused fault) is told = absurd (omega arith)
 
-  out_by : (c : Option Command) (end : End) → command_of words ≡ c → HasCause c old new out out' end → status_of end ≡ 7 → Prints words old.held (λ text. Failed text out out')
-  out_by None end is cause e =
-      let h : status_of end ≡ 1 = ap status_of cause.0 in absurd (omega arith)
-  out_by (Some (boots policy inputs)) end is cause e =
-      printed words policy inputs old new (λ text. Failed text out out') is (subst (BootCause policy inputs old new out out') (boot_out policy inputs old new out out' end cause e) cause)
+  file_reason : (reason : Reason) → reason_status reason ≡ 3 → Told (reason_text reason) err err' → LacksFile err err' (stops reason)
+  file_reason usage is told = absurd (omega arith)
+  file_reason (missing name) is told = told
+  file_reason (too_long name n) is told = told
+  file_reason (refused refusal) is told = told
+  file_reason (record_refused fault) is told = absurd (omega arith)
 
-  usage_by : (c : Option Command) (end : End) → HasCause c old new out out' end → status_of end ≡ 1 → c ≡ None
-  usage_by None end cause e = refl
-  usage_by (Some (boots policy inputs)) end cause e = absurd (boot_no_usage policy inputs old new out out' end cause e)
+  record_reason : (reason : Reason) → reason_status reason ≡ 6 → Told (reason_text reason) err err' → RefusesRecord err err' (stops reason)
+  record_reason usage is told = absurd (omega arith)
+  record_reason (missing name) is told = absurd (omega arith)
+  record_reason (too_long name n) is told = absurd (omega arith)
+  record_reason (refused refusal) is told = absurd (refusal_not refusal 6 (inr refl) is)
+  record_reason (record_refused fault) is told = told
 
-  no_command_by : (c : Option Command) (end : End) → HasCause c old new out out' end → c ≡ None → (status_of end ≡ 1) × (new ≡ old)
-  no_command_by None end cause e = (ap status_of cause.0, cause.1)
-  no_command_by (Some command) end cause e = absurd (cc)
+is_usage : (reason : Reason) → reason_status reason ≡ 1 → reason ≡ usage
+is_usage usage is = refl
+is_usage (missing name) is = absurd (omega arith)
+is_usage (too_long name n) is = absurd (omega arith)
+is_usage (refused refusal) is = absurd (refusal_not refusal 1 (inl refl) is)
+is_usage (record_refused fault) is = absurd (omega arith)
 
-  missed_by : (c : Option Command) (end : End) → HasCause c old new out out' end → status_of end ≡ 3 → Rose old.misses new.misses
-  missed_by None end cause e =
-      let h : status_of end ≡ 1 = ap status_of cause.0 in absurd (omega arith)
-  missed_by (Some (boots policy inputs)) end cause e = boot_missed policy inputs old new out out' end cause e
+-- ---- only words with no command's form are answered so
 
-  failed_by : (c : Option Command) (end : End) → HasCause c old new out out' end → status_of end ≡ 4 → Rose old.faults new.faults
-  failed_by None end cause e =
-      let h : status_of end ≡ 1 = ap status_of cause.0 in absurd (omega arith)
-  failed_by (Some (boots policy inputs)) end cause e = boot_failed policy inputs old new out out' end cause e
+no_usage_of_file : (name : List ℕ) (next : List ℕ → Answer) (reading : Reading) → ((bytes : List ℕ) → next bytes ≡ stops usage → ⊥) → of_file name next reading ≡ stops usage → ⊥
+no_usage_of_file name next (whole bytes) h e = h bytes e
+no_usage_of_file name next absent h e = cc
+no_usage_of_file name next (long n) h e = cc
 
-  quiet_by : (c : Option Command) (end : End) → HasCause c old new out out' end → status_of end ≢ 0 → status_of end ≢ 7 → out' ≡ out
-  quiet_by None end cause zero seven = cause.2
-  quiet_by (Some (boots policy inputs)) end cause zero seven = boot_quiet policy inputs old new out out' end cause zero seven
+no_usage_of_run : (files : Store) (p : Source) (r : Result DeviceRecord RecordFault) → run_answer files p r ≡ stops usage → ⊥
+no_usage_of_run files p (Ok run) e = cc
+no_usage_of_run files p (Err fault) e = cc
 
-  refused_by : (c : Option Command) (end : End) → command_of words ≡ c → HasCause c old new out out' end → Reported words err err' end → status_of end ≡ 2 → RefusesPolicy words old.held err err'
-  refused_by None end is cause report e =
-      let h : status_of end ≡ 1 = ap status_of cause.0 in absurd (omega arith)
-  refused_by (Some (boots policy inputs)) end is cause report e =
-      let x = boot_refused policy inputs old new out out' end cause e in
-      record {
-        named = record { policy = policy; inputs = inputs; words_are = is; bytes = x.1.bytes; told = x.1.saw.told };
-        refusal = x.0;
-        answer = x.3;
-        line = subst (Reported words err err') x.2 report;
-      }
+no_usage_of_policy : (files : Store) (name : List ℕ) (r : Result Source Refusal) → policy_answer files name r ≡ stops usage → ⊥
+no_usage_of_policy files name (Ok p) e = no_usage_of_file name _ _ (λ bytes h. no_usage_of_run files p (record_of bytes) h) e
+no_usage_of_policy files name (Err refusal) e = cc
 
-  faulty_by : (c : Option Command) (end : End) → command_of words ≡ c → HasCause c old new out out' end → Reported words err err' end → status_of end ≡ 6 → RefusesRecord words old.held err err'
-  faulty_by None end is cause report e =
-      let h : status_of end ≡ 1 = ap status_of cause.0 in absurd (omega arith)
-  faulty_by (Some (boots policy inputs)) end is cause report e =
-      let x = boot_faulty policy inputs old new out out' end cause e in
-      let a = x.2 in
-      record {
-        named = record { policy = policy; inputs = inputs; words_are = is; bytes = a.saw.bytes; told = a.saw.saw.told };
-        source = a.source;
-        answer = a.saw.reads;
-        record_bytes = a.after.bytes;
-        record_told = between_told old.held a.between.held (λ m. whole a.after.bytes ≡ reading_of (get m inputs) record_most) a.follows.held a.after.saw.told;
-        fault = x.0;
-        record_answer = a.after.reads;
-        line = subst (Reported words err err') x.1 report;
-      }
+no_usage : (files : Store) (command : Option Command) → answer_of files command ≡ stops usage → command ≡ None
+unfolding boot_answer
+no_usage files None e = refl
+no_usage files (Some (boot policy name)) e =
+    absurd (no_usage_of_file policy _ _ (λ bytes h. no_usage_of_policy files name (accepted_policy_of files bytes) h) e)
 
-  -- where files tell what they hold, the end is the one that is called for, but for a fault
-  told_by : (status : ℕ) → Ran words old new out out' err err' status → (held : Option Store) → old.held ≡ held → IsFault status ⊎ IfSome held (λ m. Ends words err err' status (end_wanted (command_of words) m))
-  told_by status r None h = inr tt
-  told_by status r (Some m) h =
-      elim (wanted m (command_of words) old new out out' r.end h r.cause) [
-        | inl fault ↦ inl (subst IsFault (sym r.status_is) fault)
-        | inr is ↦ inr (record { status_is = r.status_is ∙ ap status_of is; report = subst (Reported words err err') is r.report })
+-- ---- what is held, where it is told
+
+at_some : {X : Type 0} (o : Option X) (P : X → Type 0) (x : X) → o ≡ Some x → IfSome o P → P x
+at_some o P x e h = let f : IfSome (Some x) P = subst (λ q. IfSome q P) e h in f
+
+from_some : {X : Type 0} (o : Option X) (P : X → Type 0) → ((x : X) → o ≡ Some x → P x) → IfSome o P
+from_some None P h = tt
+from_some (Some x) P h = h x refl
+
+-- ---- a whole call
+
+module _ (words : List (List ℕ)) (old new : FilesState) (out out' err err' : SinkState) (status : ℕ) (ran : Ran words old new out out' err err' status) where
+  -- the words' answer over the files that explain the call
+  given : Answer
+  given = answer_of ran.came.files (command_of words)
+
+  abbrev CameTo : Type 0
+  CameTo = Comes given old new out out' err err' status
+
+  came : CameTo
+  unfolding given
+  came = of_outcome old new out out' err err' status given ran.outcome ran.status_is ran.came.comes ran.report
+
+  answered : (Such : Answer → Type 0) → Such given → Answered words old.held Such
+  unfolding given
+  answered Such h = record { files = ran.came.files; told = ran.came.told; such = h }
+
+  pub prints_clause : status ≡ 0 → Answered words old.held (λ answer. Prints answer (λ text. Appended text out out'))
+  prints_clause zero =
+      elim came [
+        | printed text is eq put quiet ↦ answered _ (subst (λ a. Prints a (λ text. Appended text out out')) (sym eq) put)
+        | cut_off text is eq put ↦ absurd (omega arith)
+        | stopped reason is eq quiet told rose ↦ absurd (no_reason reason 0 not_zero (sym zero ∙ is))
+        | failed is rose quiet ↦ absurd (omega arith)
+        | no_memory is quiet ↦ absurd (omega arith)
       ]
 
-  module _ (status : ℕ) (r : Ran words old new out out' err err' status) where
-    is_status : (n : ℕ) → status ≡ n → status_of r.end ≡ n
-    is_status n e = sym r.status_is ∙ e
+  pub prefix_clause : status ≡ 7 → Answered words old.held (λ answer. Prints answer (λ text. Failed text out out'))
+  prefix_clause seven =
+      elim came [
+        | printed text is eq put quiet ↦ absurd (omega arith)
+        | cut_off text is eq put ↦ answered _ (subst (λ a. Prints a (λ text. Failed text out out')) (sym eq) put)
+        | stopped reason is eq quiet told rose ↦ absurd (no_reason reason 7 not_seven (sym seven ∙ is))
+        | failed is rose quiet ↦ absurd (omega arith)
+        | no_memory is quiet ↦ absurd (omega arith)
+      ]
 
-    pub told : IsFault status ⊎ IfSome old.held (λ m. Ends words err err' status (end_wanted (command_of words) m))
-    told = told_by status r old.held refl
+  pub policy_clause : status ≡ 2 → Answered words old.held (RefusesPolicy err err')
+  policy_clause two =
+      elim came [
+        | printed text is eq put quiet ↦ absurd (omega arith)
+        | cut_off text is eq put ↦ absurd (omega arith)
+        | stopped reason is eq quiet told rose ↦ answered _ (subst (RefusesPolicy err err') (sym eq) (policy_reason err err' reason (sym is ∙ two) told))
+        | failed is rose quiet ↦ absurd (omega arith)
+        | no_memory is quiet ↦ absurd (omega arith)
+      ]
 
-    pub prints : status ≡ 0 → Prints words old.held (λ text. Appended text out out')
-    prints e = (done_by (command_of words) r.end refl r.cause (is_status 0 e)).0
+  pub file_clause : status ≡ 3 → Answered words old.held (LacksFile err err')
+  file_clause three =
+      elim came [
+        | printed text is eq put quiet ↦ absurd (omega arith)
+        | cut_off text is eq put ↦ absurd (omega arith)
+        | stopped reason is eq quiet told rose ↦ answered _ (subst (LacksFile err err') (sym eq) (file_reason err err' reason (sym is ∙ three) told))
+        | failed is rose quiet ↦ absurd (omega arith)
+        | no_memory is quiet ↦ absurd (omega arith)
+      ]
 
-    pub quiet_err : status ≡ 0 → err' ≡ err
-    quiet_err e = subst (Reported words err err') (done_by (command_of words) r.end refl r.cause (is_status 0 e)).1 r.report
+  pub record_clause : status ≡ 6 → Answered words old.held (RefusesRecord err err')
+  record_clause six =
+      elim came [
+        | printed text is eq put quiet ↦ absurd (omega arith)
+        | cut_off text is eq put ↦ absurd (omega arith)
+        | stopped reason is eq quiet told rose ↦ answered _ (subst (RefusesRecord err err') (sym eq) (record_reason err err' reason (sym is ∙ six) told))
+        | failed is rose quiet ↦ absurd (omega arith)
+        | no_memory is quiet ↦ absurd (omega arith)
+      ]
 
-    pub prefix : status ≡ 7 → Prints words old.held (λ text. Failed text out out')
-    prefix e = out_by (command_of words) r.end refl r.cause (is_status 7 e)
+  over_told : (P : Answer → Type 0) → P given → IfSome old.held (λ m. P (answer_of m (command_of words)))
+  unfolding given
+  over_told P h =
+      from_some old.held (λ m. P (answer_of m (command_of words)))
+      (λ m e. subst (λ f. P (answer_of f (command_of words))) (at_some old.held (λ m. ran.came.files ≡ m) m e ran.came.told) h)
 
-    pub usage : status ≡ 1 → command_of words ≡ None
-    usage e = usage_by (command_of words) r.end r.cause (is_status 1 e)
+  pub told_clause : IsFault status ⊎ IfSome old.held (λ m. Ends (answer_of m (command_of words)) err err' status)
+  told_clause =
+      elim came [
+        | printed text is eq put quiet ↦ inr (over_told (λ a. Ends a err err' status) (subst (λ a. Ends a err err' status) (sym eq) (is, quiet)))
+        | cut_off text is eq put ↦ inl (inr (inl is))
+        | stopped reason is eq quiet told rose ↦ inr (over_told (λ a. Ends a err err' status) (subst (λ a. Ends a err err' status) (sym eq) (is, told)))
+        | failed is rose quiet ↦ inl (inl is)
+        | no_memory is quiet ↦ inl (inr (inr is))
+      ]
 
-    pub no_command : command_of words ≡ None → (status ≡ 1) × (new ≡ old)
-    no_command e = let x = no_command_by (command_of words) r.end r.cause e in (r.status_is ∙ x.0, x.1)
+  pub usage_clause : status ≡ 1 → command_of words ≡ None
+  unfolding given
+  usage_clause one =
+      elim came [
+        | printed text is eq put quiet ↦ absurd (omega arith)
+        | cut_off text is eq put ↦ absurd (omega arith)
+        | stopped reason is eq quiet told rose ↦ no_usage ran.came.files (command_of words) (eq ∙ ap stops (is_usage reason (sym is ∙ one)))
+        | failed is rose quiet ↦ absurd (omega arith)
+        | no_memory is quiet ↦ absurd (omega arith)
+      ]
 
-    pub missed : status ≡ 3 → Rose old.misses new.misses
-    missed e = missed_by (command_of words) r.end r.cause (is_status 3 e)
+  pub missed_clause : status ≡ 3 → Rose old.misses new.misses
+  missed_clause three =
+      elim came [
+        | printed text is eq put quiet ↦ absurd (omega arith)
+        | cut_off text is eq put ↦ absurd (omega arith)
+        | stopped reason is eq quiet told rose ↦ rose (sym is ∙ three)
+        | failed is rose quiet ↦ absurd (omega arith)
+        | no_memory is quiet ↦ absurd (omega arith)
+      ]
 
-    pub failed : status ≡ 4 → Rose old.faults new.faults
-    failed e = failed_by (command_of words) r.end r.cause (is_status 4 e)
+  pub failed_clause : status ≡ 4 → Rose old.faults new.faults
+  failed_clause four =
+      elim came [
+        | printed text is eq put quiet ↦ absurd (omega arith)
+        | cut_off text is eq put ↦ absurd (omega arith)
+        | stopped reason is eq quiet told rose ↦ absurd (no_reason reason 4 not_four (sym four ∙ is))
+        | failed is rose quiet ↦ rose
+        | no_memory is quiet ↦ absurd (omega arith)
+      ]
 
-    pub quiet_out : status ≢ 0 → status ≢ 7 → out' ≡ out
-    quiet_out zero seven =
-        quiet_by (command_of words) r.end r.cause (λ e. zero (r.status_is ∙ e)) (λ e. seven (r.status_is ∙ e))
+  pub out_rose_clause : status ≡ 7 → Rose out.faults out'.faults
+  out_rose_clause seven =
+      elim came [
+        | printed text is eq put quiet ↦ absurd (omega arith)
+        | cut_off text is eq put ↦ put.rose
+        | stopped reason is eq quiet told rose ↦ absurd (no_reason reason 7 not_seven (sym seven ∙ is))
+        | failed is rose quiet ↦ absurd (omega arith)
+        | no_memory is quiet ↦ absurd (omega arith)
+      ]
 
-    pub refuses_policy : status ≡ 2 → RefusesPolicy words old.held err err'
-    refuses_policy e = refused_by (command_of words) r.end refl r.cause r.report (is_status 2 e)
+  pub quiet_out_clause : status ≢ 0 → status ≢ 7 → out' ≡ out
+  quiet_out_clause zero seven =
+      elim came [
+        | printed text is eq put quiet ↦ absurd (zero is)
+        | cut_off text is eq put ↦ absurd (seven is)
+        | stopped reason is eq quiet told rose ↦ quiet
+        | failed is rose quiet ↦ quiet
+        | no_memory is quiet ↦ quiet
+      ]
 
-    pub refuses_record : status ≡ 6 → RefusesRecord words old.held err err'
-    refuses_record e = faulty_by (command_of words) r.end refl r.cause r.report (is_status 6 e)
-
-    pub reports : (end : End) × Ends words err err' status end
-    reports = (r.end, record { status_is = r.status_is; report = r.report })
-
-    -- a fault of the output is counted
-    pub out_rose : status ≡ 7 → Rose out.faults out'.faults
-    out_rose e = ((prefix e).text (from_entries [])).rose
+  pub quiet_err_clause : status ≡ 0 → err' ≡ err
+  quiet_err_clause zero =
+      elim came [
+        | printed text is eq put quiet ↦ quiet
+        | cut_off text is eq put ↦ absurd (omega arith)
+        | stopped reason is eq quiet told rose ↦ absurd (no_reason reason 0 not_zero (sym zero ∙ is))
+        | failed is rose quiet ↦ absurd (omega arith)
+        | no_memory is quiet ↦ absurd (omega arith)
+      ]

@@ -1,6 +1,11 @@
-pub mod Building
-pub mod Ended
+pub mod Answers
+pub mod Calls
+pub mod Commands
+pub mod FilesSeen
+pub mod Loads
+pub mod Parsed
 pub mod RecordText
-pub mod Report
-pub mod Running
-pub mod Wanted
+pub mod Refusals
+pub mod Reports
+pub mod Runs
+pub mod Stops

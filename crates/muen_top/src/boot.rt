@@ -1,113 +1,134 @@
 // The command `boot`: a policy and a record are read, and the run is printed.
-ghost use Rattle.std.specs.Prelude.{◌≡◌, Ok, IfOk, IfErr};
+ghost use Rattle.std.specs.Prelude.{◌≡◌, Some, IfOk, IfErr};
+ghost use Rattle.muen_outside.specs.Puts.{Puts};
 ghost use Rattle.muen_outside.specs.Store.{whole};
 ghost use Rattle.policy_lawful.specs.Resolution.{source_of};
+ghost use Rattle.policy_meaning.specs.Contents.{Held};
 ghost use Rattle.subject_model.specs.DeviceRecord.{only_ticks};
-ghost use Rattle.muen_top.specs.Ended.{Follows, Saw, LoadStops, SawPolicy, PolicyStops, SawRecord, RecordStops, BootCause};
+ghost use Rattle.subject_model.specs.Run.{trace_of};
 ghost use Rattle.window_machine.specs.Start.{CanLoad};
-ghost use Rattle.muen_top.specs.Running.{RunCause};
+ghost use Rattle.muen_top.specs.Calls.{Came};
+ghost use Rattle.muen_top.specs.Commands.{boot};
+ghost use Rattle.muen_top.specs.FilesSeen.{Follows, Saw, SawToo};
+ghost use Rattle.muen_top.specs.Loads.{NotRead, NotReadToo, Ready, NotReady};
+ghost use Rattle.muen_top.specs.Runs.{RunsTo};
 
-use crate::end::{End, Input, Stop};
 use crate::muen_build::accepted;
+use crate::outcome::{Outcome, Stop};
 use crate::record_text;
 use crate::record_text::Record;
 use muen_num::Seq;
-use muen_outside::{FileEnd, Files, Found, Sink, SinkFault};
+use muen_num::limits::{POLICY_MOST, RECORD_MOST};
+use muen_outside::{Buffer, FileEnd, Files, Found, Sink, SinkFault};
 use policy_lawful::Lawful;
 use std::alloc::Global;
 use window_machine::print_run;
 
-/// The most bytes of a policy's file: 4 MiB.
-const POLICY_MOST: usize = 1 << 22;
-/// The most bytes of a record's file: 16 MiB.
-const RECORD_MOST: usize = 1 << 24;
-
 // The bytes of a file.
-fn load<F: Files>(
+fn load<'a, F: Files>(
     alloc: Global,
-    name: &str,
+    name: &'a str,
     most: usize,
-    input: Input,
     files: &mut F,
-) -> Result<Seq<u8>, Stop>
-    ensures ok { IfOk result (λ bytes. Saw most name.now (F.state files.old) (F.state files.new) (whole bytes)) }
-    ensures err { IfErr result (LoadStops most name.now input (F.state files.old) (F.state files.new)) }
+) -> Result<Seq<u8>, Stop<'a>>
+    ensures ok { IfOk result (λ bytes. Saw name.now most (whole bytes) (F.state files.old) (F.state files.new)) }
+    ensures err { IfErr result (NotRead name.now most (F.state files.old) (F.state files.new)) }
     ensures follows { Follows (F.state files.old) (F.state files.new) }
 {
     match files.read(alloc, name, most) {
         Ok(Found::Bytes(bytes)) => Ok(bytes),
-        Ok(Found::Missing) => Err(Stop::Missing(input)),
-        Ok(Found::TooLong(n)) => Err(Stop::TooLong(input, n)),
+        Ok(Found::Missing) => Err(Stop::Missing(name)),
+        Ok(Found::TooLong(n)) => Err(Stop::TooLong(name, n)),
         Err(FileEnd::Failed) => Err(Stop::FileFault),
         Err(FileEnd::NoMemory) => Err(Stop::NoMemory),
     }
 }
 
-// The policy of a file.
-fn read_policy<F: Files>(alloc: Global, name: &str, files: &mut F) -> Result<Lawful, Stop>
-    ensures ok { IfOk result (λ l. SawPolicy name.now (F.state files.old) (F.state files.new) (Ok (source_of l))) }
-    ensures loads { IfOk result (λ l. CanLoad (source_of l)) }
-    ensures err { IfErr result (PolicyStops name.now (F.state files.old) (F.state files.new)) }
+// The bytes of a file, after those of the file `before`. Each name is read once.
+fn load_too<'a, F: Files>(
+    alloc: Global,
+    before: &str,
+    bytes: Seq<u8>,
+    name: &'a str,
+    most: usize,
+    files: &mut F,
+) -> Result<Seq<u8>, Stop<'a>>
+    ensures ok { IfOk result (λ found. SawToo before.now bytes name.now most (whole found) (F.state files.old) (F.state files.new)) }
+    ensures err { IfErr result (NotReadToo before.now bytes name.now most (F.state files.old) (F.state files.new)) }
     ensures follows { Follows (F.state files.old) (F.state files.new) }
 {
-    let bytes = match load(alloc, name, POLICY_MOST, Input::Policy, files) {
-        Ok(bytes) => bytes,
-        Err(stop) => return Err(stop),
-    };
-    match accepted(alloc, bytes.items()) {
-        Ok(policy) => Ok(policy),
-        Err(refusal) => Err(Stop::Refused(refusal)),
+    if name == before {
+        return Ok(bytes);
     }
+    load(alloc, name, most, files)
 }
 
-// The record of a file.
-fn read_record<F: Files>(alloc: Global, name: &str, files: &mut F) -> Result<Record, Stop>
-    ensures ok { IfOk result (λ r. SawRecord name.now (F.state files.old) (F.state files.new) (Ok (only_ticks r.end))) }
-    ensures err { IfErr result (RecordStops name.now (F.state files.old) (F.state files.new)) }
+// What is run.
+#[derive(Drop)]
+struct Booted {
+    policy: Lawful,
+    run: Record,
+}
+
+// The policy and the record of these files.
+fn read_both<'a, F: Files>(
+    alloc: Global,
+    policy: &'a str,
+    inputs: &'a str,
+    files: &mut F,
+) -> Result<Booted, Stop<'a>>
+    ensures ok { IfOk result (λ b. Ready policy.now inputs.now (F.state files.old) (source_of b.policy) (only_ticks b.run.end)) }
+    ensures loads { IfOk result (λ b. CanLoad (source_of b.policy)) }
+    ensures err { IfErr result (NotReady policy.now inputs.now (F.state files.old) (F.state files.new)) }
     ensures follows { Follows (F.state files.old) (F.state files.new) }
 {
-    let bytes = match load(alloc, name, RECORD_MOST, Input::Record, files) {
-        Ok(bytes) => bytes,
-        Err(stop) => return Err(stop),
-    };
-    match record_text::read(bytes.items()) {
-        Ok(record) => Ok(record),
-        Err(fault) => Err(Stop::RecordRefused(fault)),
-    }
+    let bytes = load(alloc, policy, POLICY_MOST, files)?;
+    let lawful = accepted(alloc, bytes.items())?;
+    let bytes = load_too(alloc, policy, bytes, inputs, RECORD_MOST, files)?;
+    let run = record_text::read(bytes.items())?;
+    Ok(Booted {
+        policy: lawful,
+        run,
+    })
 }
 
 // Runs a policy that is accepted.
-fn run_policy<S: Sink>(alloc: Global, policy: &Lawful, run: Record, out: &mut S) -> End
+fn run_policy<'a, S: Sink>(
+    alloc: Global,
+    policy: &Lawful,
+    run: Record,
+    out: &mut S,
+) -> Outcome<'a>
     requires { CanLoad (source_of policy.now) }
-    ensures { RunCause (source_of policy.now) (only_ticks run.end) (S.state out.old) (S.state out.new) result }
+    ensures { (files : Held) → RunsTo (trace_of (source_of policy.now) files (only_ticks run.end)) (S.state out.old) (S.state out.new) result }
 {
     let mut machine = match window_machine::load(alloc, policy) {
         Ok(machine) => machine,
-        Err(_) => return End::Stopped(Stop::NoMemory),
+        Err(_) => return Outcome::Stopped(Stop::NoMemory),
     };
-    match print_run(&mut machine, run.end, out) {
-        Ok(()) => End::Done,
-        Err(SinkFault) => End::OutFault,
+    let mut buffer = match Buffer::make(alloc) {
+        Ok(buffer) => buffer,
+        Err(_) => return Outcome::Stopped(Stop::NoMemory),
+    };
+    match print_run(&mut machine, run.end, &mut buffer, out) {
+        Ok(()) => Outcome::Done,
+        Err(SinkFault) => Outcome::OutputFault,
     }
 }
 
 /// Reads the policy and the record, and prints the run.
-pub(crate) fn boot<F: Files, S: Sink>(
+pub(crate) fn boot<'a, F: Files, S: Sink>(
     alloc: Global,
-    policy: &str,
-    inputs: &str,
+    policy: &'a str,
+    inputs: &'a str,
     files: &mut F,
     out: &mut S,
-) -> End
-    ensures cause { BootCause policy.now inputs.now (F.state files.old) (F.state files.new) (S.state out.old) (S.state out.new) result }
+) -> Outcome<'a>
+    ensures came { Came (Some (boot policy.now inputs.now)) (F.state files.old) (F.state files.new) (S.state out.old) (S.state out.new) result }
     ensures follows { Follows (F.state files.old) (F.state files.new) }
 {
-    let lawful = match read_policy(alloc, policy, files) {
-        Ok(lawful) => lawful,
-        Err(stop) => return End::Stopped(stop),
-    };
-    match read_record(alloc, inputs, files) {
-        Ok(run) => run_policy(alloc, &lawful, run, out),
-        Err(stop) => End::Stopped(stop),
+    match read_both(alloc, policy, inputs, files) {
+        Ok(booted) => run_policy(alloc, &booted.policy, booted.run, out),
+        Err(stop) => Outcome::Stopped(stop),
     }
 }

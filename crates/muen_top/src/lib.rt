@@ -4,14 +4,18 @@
 ghost use Rattle.std.specs.Prelude.{◌≡◌, ◌≢◌, ◌⊎◌, IfSome, None, map, string_bytes};
 ghost use Rattle.muen_outside.specs.Counts.{Rose};
 ghost use Rattle.muen_outside.specs.Puts.{Appended, Failed};
-ghost use Rattle.muen_top.specs.declared.end.End.{End};
-ghost use Rattle.muen_top.specs.Ended.{command_of, Follows};
-ghost use Rattle.muen_top.specs.Wanted.{end_wanted, IsFault, Ends, Prints, RefusesPolicy, RefusesRecord};
+ghost use Rattle.muen_top.specs.Answers.{answer_of};
+ghost use Rattle.muen_top.specs.Calls.{Answered, IsFault, LacksFile, Prints, RefusesPolicy, RefusesRecord};
+ghost use Rattle.muen_top.specs.Commands.{command_of};
+ghost use Rattle.muen_top.specs.FilesSeen.{Follows};
+ghost use Rattle.muen_top.specs.Reports.{Ends, Reported, status_of};
+ghost use Rattle.muen_top.specs.declared.outcome.Outcome.{Outcome};
 
 mod boot;
+mod call;
 mod command;
-mod end;
 pub mod muen_build;
+mod outcome;
 pub mod record_text;
 mod report;
 
@@ -41,31 +45,37 @@ pub fn muen<F: Files, S: Sink, E: Sink>(
     out: &mut S,
     err: &mut E,
 ) -> u8
-    // The headline: the text of the policy's run on the record, in which each subject takes its
-    // turns alone, was put to `out`.
-    ensures prints { result ≡ 0 → Prints (map string_bytes words.now) (F.state files.old).held (λ text. Appended text (S.state out.old) (S.state out.new)) }
+    // The headline: the text that is put is the words' answer, over some files that hold what is
+    // told. For `boot` that is the text of the policy's run on the record, in which each subject
+    // takes its turns alone.
+    ensures prints { result ≡ 0 → Answered (map string_bytes words.now) (F.state files.old).held (λ answer. Prints answer (λ text. Appended text (S.state out.old) (S.state out.new))) }
+    ensures prefix { result ≡ 7 → Answered (map string_bytes words.now) (F.state files.old).held (λ answer. Prints answer (λ text. Failed text (S.state out.old) (S.state out.new))) }
 
-    // Where files tell what they hold, the call ends as they and the words call for, but for a
-    // fault or want of memory.
-    ensures told { IsFault result ⊎ IfSome (F.state files.old).held (λ m. Ends (map string_bytes words.now) (E.state err.old) (E.state err.new) result (end_wanted (command_of (map string_bytes words.now)) m)) }
+    // On a refusal it is the reason in that answer.
+    ensures refuses_policy { result ≡ 2 → Answered (map string_bytes words.now) (F.state files.old).held (RefusesPolicy (E.state err.old) (E.state err.new)) }
+    ensures lacks_file { result ≡ 3 → Answered (map string_bytes words.now) (F.state files.old).held (LacksFile (E.state err.old) (E.state err.new)) }
+    ensures refuses_record { result ≡ 6 → Answered (map string_bytes words.now) (F.state files.old).held (RefusesRecord (E.state err.old) (E.state err.new)) }
+
+    // Where files tell what they hold, the call ends as these words are answered over them, but for
+    // a fault or want of memory.
+    ensures told { IsFault result ⊎ IfSome (F.state files.old).held (λ m. Ends (answer_of m (command_of (map string_bytes words.now))) (E.state err.old) (E.state err.new) result) }
+
+    // When each other status comes.
     ensures usage { result ≡ 1 → command_of (map string_bytes words.now) ≡ None }
     ensures no_command { command_of (map string_bytes words.now) ≡ None → (result ≡ 1) × (F.state files.new ≡ F.state files.old) }
-    ensures refuses_policy { result ≡ 2 → RefusesPolicy (map string_bytes words.now) (F.state files.old).held (E.state err.old) (E.state err.new) }
     ensures missed { result ≡ 3 → Rose (F.state files.old).misses (F.state files.new).misses }
     ensures failed { result ≡ 4 → Rose (F.state files.old).faults (F.state files.new).faults }
-    ensures refuses_record { result ≡ 6 → RefusesRecord (map string_bytes words.now) (F.state files.old).held (E.state err.old) (E.state err.new) }
     ensures out_rose { result ≡ 7 → Rose (S.state out.old).faults (S.state out.new).faults }
-    ensures prefix { result ≡ 7 → Prints (map string_bytes words.now) (F.state files.old).held (λ text. Failed text (S.state out.old) (S.state out.new)) }
 
-    // The line is that of an end with this status; on 0 there is none.
-    ensures reports { (end : End) × Ends (map string_bytes words.now) (E.state err.old) (E.state err.new) result end }
+    // One line is put to `err` where the status isn't 0.
+    ensures reports { (outcome : Outcome) × (result ≡ status_of outcome) × Reported (E.state err.old) (E.state err.new) outcome }
 
     // Files stay, and nothing is put where nothing is to be.
     ensures follows { Follows (F.state files.old) (F.state files.new) }
     ensures quiet_out { result ≢ 0 → result ≢ 7 → S.state out.new ≡ S.state out.old }
     ensures quiet_err { result ≡ 0 → E.state err.new ≡ E.state err.old }
 {
-    command::run(alloc, words, files, out, err)
+    call::call(alloc, words, files, out, err)
 }
 
 #[cfg(test)]

@@ -1,19 +1,16 @@
 //! From a document to a policy that is accepted: it is read, its names are resolved, the rules are
 //! checked, and what it says of memory's contents is held against the room for it.
-ghost use Rattle.std.specs.Prelude.{◌≡◌, None, true, IfOk};
-ghost use Rattle.policy_types.specs.Built.{is_built, has_built_cpus, has_plain_contents};
-ghost use Rattle.policy_meaning.specs.Contents.{content_refused, contents_refused};
-ghost use Rattle.policy_lawful.specs.Lawful.{accepted_policy_of, kept_source};
-ghost use Rattle.policy_types.specs.Reading.{Answers};
+ghost use Rattle.std.specs.Prelude.{◌≡◌};
+ghost use Rattle.muen_num.specs.Answers.{Answers};
+ghost use Rattle.policy_lawful.specs.Lawful.{kept_source};
 ghost use Rattle.policy_lawful.specs.Resolution.{source_of};
-ghost use Rattle.muen_num.specs.Search.{first_in};
-ghost use Rattle.window_machine.specs.Start.{CanLoad};
-ghost use Rattle.muen_top.specs.Building.{lawful_policy_of};
+ghost use Rattle.policy_meaning.specs.Contents.{Held, no_files};
+ghost use Rattle.muen_top.specs.Refusals.{accepted_policy_of, content_refused, contents_refused, lawful_policy_of, too_long_for};
 
-use muen_num::{Part, Tag};
-use policy_types::source::{Content, Region};
+use muen_num::{Part, Tag, first};
 use policy_lawful::Lawful;
 use policy_types::Refusal;
+use policy_types::source::{Content, Region};
 use std::alloc::Global;
 
 /// The policy of a document, where it keeps every rule.
@@ -22,66 +19,58 @@ use std::alloc::Global;
 /// schema, `Rule` with the least rule that is broken, and `NoMemory` where memory was refused. What
 /// memory holds is not looked at.
 pub fn lawful(alloc: Global, policy: &[u8]) -> Result<Lawful, Refusal>
-    ensures answer { Answers (lawful_policy_of policy.now) (kept_source result) }
-    ensures built { IfOk result (λ l. is_built (source_of l) ≡ true) }
-    ensures cpus { IfOk result (λ l. has_built_cpus (source_of l) ≡ true) }
-    ensures plain { IfOk result (λ l. has_plain_contents (source_of l) ≡ true) }
+    ensures { Answers Refusal.NoMemory (lawful_policy_of policy.now) (kept_source result) }
 {
     let source = policy_json::read(alloc, policy)?;
     let resolved = policy_names::resolve(alloc, source)?;
     policy_rules::check(alloc, resolved)
 }
 
-// Why a region's contents are refused: the policy has more bytes than the region.
+// Why this many bytes are refused for a region: there are more than it has room for.
+fn too_long_for(region: &Region, bytes: &[u8]) -> Option<Refusal>
+    ensures { result ≡ too_long_for region.now bytes.now }
+{
+    let length = bytes.len() as u64;
+    if length <= region.size {
+        return None;
+    }
+    Some(Refusal::FileFit {
+        region: Tag {
+            owner: region.name,
+            part: Part::Whole,
+        },
+        room: region.size,
+        length,
+    })
+}
+
+// Why a region's content is refused where there are no files.
 fn content_refused(region: &Region) -> Option<Refusal>
-    ensures { result ≡ content_refused region.now region.now.content }
+    ensures { result ≡ content_refused no_files region.now region.now.content }
 {
     match &region.content {
-        Content::Inline(bytes) => {
-            let length = bytes.len() as u64;
-            if length <= region.size {
-                return None;
-            }
-            Some(Refusal::FileFit {
-                region: Tag {
-                    owner: region.name,
-                    part: Part::Whole,
-                },
-                room: region.size,
-                length,
-            })
-        }
-        Content::Zero | Content::Fill(_) | Content::File { .. } => None,
+        Content::Zero | Content::Fill(_) => None,
+        Content::Inline(bytes) => too_long_for(region, bytes.items()),
+        Content::File { name, .. } => Some(Refusal::Missing { file: *name }),
     }
 }
 
-// Why the contents of the first region that has too many bytes are refused.
-fn first_refused(regions: &[Region]) -> Option<Refusal>
-    ensures { result ≡ first_in (λ r. content_refused r r.content) regions.now }
-{
-    for region in regions {
-        if let Some(refusal) = content_refused(region) {
-            return Some(refusal);
-        }
-    }
-    None
-}
-
-/// Why the contents of a policy are refused, if they are: `FileFit` with the first region for which
-/// the policy has more bytes than there is room, the room, and how many bytes they are.
-#[tactic(auto, unfolding(policy_meaning::specs::Contents::contents_refused, policy_lawful::specs::Resolution::source_of))]
+/// Why the contents of a policy are refused where there are no files, if they are: `FileFit` with
+/// the first region for which the policy has more bytes than there is room, the room, and how many
+/// bytes they are; `Missing` where a content is a file's.
+#[tactic(auto, unfolding(crate::specs::Refusals::contents_refused, policy_lawful::specs::Resolution::source_of))]
 pub fn contents(policy: &Lawful) -> Option<Refusal>
-    ensures { result ≡ contents_refused (source_of policy.now) }
+    ensures { result ≡ contents_refused no_files (source_of policy.now) }
 {
-    first_refused(policy.resolved().memory())
+    first(policy.resolved().memory(), |region| content_refused(region))
 }
 
-/// The policy of a document, where it keeps every rule and its contents fit.
+/// The policy of a document, where it keeps every rule and its contents fit. Contents from files
+/// aren't read yet, and no document has any, so what files hold doesn't matter.
 ///
-/// Answers as `lawful` does where it is refused for less, then `FileFit` as `contents` does.
+/// Answers as `lawful` does where it is refused for less, then as `contents` does.
 pub fn accepted(alloc: Global, policy: &[u8]) -> Result<Lawful, Refusal>
-    ensures answer { Answers (accepted_policy_of policy.now) (kept_source result) }
-    ensures loads { IfOk result (λ l. CanLoad (source_of l)) }
+    ensures { (files : Held) → Answers Refusal.NoMemory (accepted_policy_of files policy.now) (kept_source result) }
 {
     let found = lawful(alloc, policy)?;
     match contents(&found) {

@@ -1,9 +1,13 @@
 //! The device record of a run, as far as it is built: how many ticks the run has.
 ghost use Rattle.std.specs.Prelude.{◌≡◌, option_and_then};
-ghost use Rattle.muen_top.specs.RecordText.{is_badly_begun, digits_from, within_ticks, ticks_of, line_of, record_of, Records};
+ghost use Rattle.muen_num.specs.Pieces.{whole};
+ghost use Rattle.muen_top.specs.RecordText.{is_badly_begun, digits_from, within_ticks, ticks_of, line_of, line_want_text, fault_place_text, record_fault_text, record_of, record_refused_at_line, Records};
 
-/// The most ticks of a run.
-pub const MOST_TICKS: u32 = 100_000;
+use itoa::Buffer;
+use muen_num::Pieces;
+use muen_num::limits::MOST_TICKS;
+use std::fmt;
+use thiserror::Error;
 
 /// The device record of a run.
 #[derive(Clone, Copy, Debug, PartialEq, Eq)]
@@ -31,7 +35,7 @@ pub enum LineWant {
 
 /// Why bytes are no record. Lines are counted from 1. As far as records are built, `NotYetBuilt` is
 /// the one that comes.
-#[derive(Clone, Copy, Debug, PartialEq, Eq)]
+#[derive(Clone, Copy, Debug, PartialEq, Eq, Error)]
 pub enum RecordFault {
     /// The line has a byte above 127.
     NotAscii { line: u64 },
@@ -51,6 +55,74 @@ pub enum RecordFault {
     NoMemory,
 }
 
+impl LineWant {
+    /// What should have stood in the line, in words.
+    pub fn as_str(self) -> &'static str
+        ensures { result.now ≡ line_want_text self }
+    {
+        match self {
+            LineWant::Word => "word",
+            LineWant::Count => "count",
+            LineWant::Number => "number",
+            LineWant::Range => "range",
+            LineWant::Hex => "hex",
+            LineWant::Order => "order",
+        }
+    }
+}
+
+// Words that are too long for the search among others.
+#[tactic(auto, unfolding(crate::specs::RecordText::record_refused_at_line))]
+fn record_refused_at_line() -> &'static str
+    ensures { result.now ≡ record_refused_at_line }
+{
+    "record refused at line "
+}
+
+impl RecordFault {
+    // The line, and what is wrong there; no line where memory was refused.
+    fn place(self) -> (Option<u64>, &'static str)
+        ensures { fault_place_text result.0 result.1.now ≡ record_fault_text self }
+    {
+        match self {
+            RecordFault::NotAscii { line } => (Some(line), "not ASCII"),
+            RecordFault::TooMany { line } => (Some(line), "after end"),
+            RecordFault::Line { line, want } => (Some(line), want.as_str()),
+            RecordFault::Back { line } => (Some(line), "back"),
+            RecordFault::Unknown { line } => (Some(line), "unknown"),
+            RecordFault::NoEnd { line } => (Some(line), "no end"),
+            RecordFault::NotYetBuilt { line } => (Some(line), "not yet built"),
+            RecordFault::NoMemory => (None, "out of memory"),
+        }
+    }
+
+    /// The text in pieces. The digits of the line's number stand in the buffer.
+    pub fn pieces(self, one: &mut Buffer) -> Pieces<'_>
+        ensures { whole result ≡ record_fault_text self }
+    {
+        match self.place() {
+            (Some(line), why) => {
+                let line = one.format(line);
+                (record_refused_at_line(), line, ": ", why).into()
+            }
+            (None, why) => why.into(),
+        }
+    }
+}
+
+/// The printed text: the line, and what is wrong there.
+impl fmt::Display for RecordFault {
+    ghost use Rattle.std.specs.Prelude.{Some};
+    ghost use Rattle.muen_top.specs.RecordText.{record_fault_text};
+
+    ghost output = { λ fault. Some (record_fault_text fault) };
+
+    fn fmt<W: fmt::Write>(&self, f: &mut fmt::Formatter<W>) -> fmt::Result {
+        let mut one = Buffer::new();
+        write!(f, "{}", self.pieces(&mut one))
+    }
+}
+
 // Whether the word is empty, or has a leading zero.
 fn is_badly_begun(word: &[u8]) -> bool
     ensures { result ≡ is_badly_begun word.now }
@@ -68,7 +140,8 @@ fn digits_within(word: &[u8]) -> Option<u32>
             return None;
         }
         n = 10 * n + u32::from(*c - b'0');
-        if n > MOST_TICKS {
+        let over = u64::from(n) > MOST_TICKS;
+        if over {
             return None;
         }
     }

@@ -103,6 +103,14 @@ regs one 12 0000000000000000 0000000000000000 0000000000000000 0000000000000000\
 region code 9e1d3ca39f4f9aa7496f453a1083800ae8d4c1dc60807ce8585fce6f629a66b9\n\
 region ro ad7facb2586fc6e966c004d7d1d16b024f5805ff7cb47c7a85dabd8b48892ca7\n";
 
+// A jump to itself.
+const LOOP: &[u8] = b"{\"processor\":{\"logicalCpus\":1},\
+\"memory\":[{\"name\":\"code\",\"size\":4096,\"content\":{\"hex\":\"0d00000000000000\"}}],\
+\"subjects\":[{\"name\":\"one\",\"cpu\":0,\"entry\":0,\
+\"memory\":[{\"region\":\"code\",\"virtualAddress\":0,\"rights\":\"rx\"}]}],\
+\"scheduling\":{\"groups\":[{\"name\":\"g\",\"cpu\":0,\"subjects\":[\"one\"]}],\
+\"majorFrames\":[{\"cpus\":[{\"cpu\":0,\"minorFrames\":[{\"group\":\"g\",\"ticks\":10}]}]}]}}";
+
 const TWO_CPUS: &[u8] = b"{\"processor\":{\"logicalCpus\":2},\"scheduling\":{}}";
 
 const NO_SUBJECT: &[u8] = b"{\"processor\":{\"logicalCpus\":1},\"scheduling\":{}}";
@@ -166,7 +174,7 @@ fn call(
 #[test]
 fn answers(rt: HostRuntime) -> Result<(), Fail> {
     let alloc = rt.alloc();
-    let cases: [(&[&str], u8, &[u8], &[u8]); 20] = [
+    let cases: [(&[&str], u8, &[u8], &[u8]); 21] = [
         (&["boot", "p", "three"], 0, THREE_TICKS, b""),
         (&["boot", "p", "zero"], 0, NO_TICK, b""),
         (&["boot", "spaced", "three"], 0, THREE_TICKS, b""),
@@ -216,6 +224,13 @@ fn answers(rt: HostRuntime) -> Result<(), Fail> {
         ),
         (
             &["boot", "p", "late"],
+            6,
+            b"",
+            b"muen: record refused at line 1: not yet built\n",
+        ),
+        // One name twice: the file is read once, and isn't a record.
+        (
+            &["boot", "p", "p"],
             6,
             b"",
             b"muen: record refused at line 1: not yet built\n",
@@ -325,6 +340,26 @@ fn faults(rt: HostRuntime) -> Result<(), Fail> {
         full.out.as_slice(),
         b"0 0 one 0000000000400000 r1=0000000000000005\n1 0 one 0000000".as_slice()
     );
+    Ok(())
+}
+
+// A text of more than 64 KiB is put in blocks of at most so many bytes, each of whole lines.
+#[test]
+fn blocks(rt: HostRuntime) -> Result<(), Fail> {
+    let alloc = rt.alloc();
+    let mut held = Vec::new(alloc);
+    held.push(file(alloc, "loop", LOOP)?)?;
+    held.push(file(alloc, "long", b"end 3000")?)?;
+    let mut files = MemFiles::make(held, Vec::new(alloc));
+    let mut out = MemSink::make(alloc, 200_000, Vec::new(alloc), 0)?;
+    let whole = call(alloc, &["boot", "loop", "long"], &mut files, &mut out)?;
+    assert_eq!(rt; whole.status, 0);
+    assert_eq!(rt; whole.out.len(), 89_345);
+    let mut failing = MemSink::make(alloc, 200_000, Vec::from_slice(alloc, &[1])?, 5)?;
+    let cut = call(alloc, &["boot", "loop", "long"], &mut files, &mut failing)?;
+    assert_eq!(rt; cut.status, 7);
+    assert_eq!(rt; cut.out.len(), 65_520 + 5);
+    assert_eq!(rt; cut.out.as_slice(), &whole.out[..cut.out.len()]);
     Ok(())
 }
 

@@ -10,48 +10,14 @@ use Rattle.policy_lawful.specs.Rules.{is_group, is_on, subject_cpu}
 use Rattle.policy_lawful.specs.declared.resolved.CpuFrames.{CpuFrames}
 use Rattle.policy_lawful.specs.declared.resolved.Group.{Group}
 use Rattle.policy_lawful.specs.declared.resolved.MinorFrame.{MinorFrame}
-use Rattle.plan_emit.specs.Emitted.{fits_entry, fits_group, fits_major, fits_minor, ticks_in}
-use Rattle.plan_emit.proofs.Known.{Known}
-use Rattle.plan_emit.proofs.Limits.{is_within}
-use Rattle.muen_num.proofs.Lists.{each_from, each_of}
-use Rattle.plan_emit.proofs.Lists.{each_at_most}
-use Rattle.policy_lawful.proofs.ResolvedFacts.{frame_named, many_subjects, ticks_named}
+use Rattle.plan_emit.specs.Emitted.{fits_entry, fits_group, fits_major, fits_minor}
+use Rattle.muen_num.proofs.Lists.{each_at_most, each_from, each_of}
+use Rattle.policy_lawful.proofs.KeptByPlace.{cpus_of_groups, entries_within, entry_there, frame_there, has_places, members_there}
+use Rattle.policy_lawful.proofs.KeptPlan.{PlanKept}
+use Rattle.policy_lawful.proofs.SourceElements.{many_groups, many_subjects}
+use Rattle.policy_lawful.specs.ByPlace.{is_short, ticks_in}
 
-pub many_groups : (r : Resolution) → length (source_of r).scheduling.groups ≡ length r.scheduling.groups
-unfolding source_of
-many_groups r = length-map r.scheduling.groups (group_named r)
-
-pub many_majors : (r : Resolution) → length (source_of r).scheduling.major_frames ≡ length r.scheduling.major_frames
-unfolding source_of
-many_majors r = length-map r.scheduling.major_frames (major_named r)
-
--- ---- groups
-
--- it has a member, and its members are there
-abbrev pub has_places : Resolution → Group → Bool
-has_places r g = nat_lt 0 (length g.subjects) && list_all (λ i. nat_lt i (length r.subjects)) g.subjects
-
-some_member : (r : Resolution) (g : Group) → is_group (source_of r) (group_named r g) ≡ true → nat_lt 0 (length g.subjects) ≡ true
-some_member r g h =
-    let names = map (name_at (map (λ s. s.name) r.subjects)) g.subjects in
-    let some = (and_parts (nat_lt 0 (length names)) (list_all (λ name. is_on (subject_cpu (source_of r) name) g.cpu) names) h).0 in
-    ap (nat_lt 0) (sym (length-map g.subjects (name_at (map (λ s. s.name) r.subjects)))) ∙ some
-
-pub members_there : (r : Resolution) → Known r → list_all (has_places r) r.scheduling.groups ≡ true
-unfolding source_of
-members_there r k =
-    each_of (λ g. is_group (source_of r) (group_named r g)) (group_placed r) (has_places r)
-    (λ g some placed. and_from (nat_lt 0 (length g.subjects)) (list_all (λ i. nat_lt i (length r.subjects)) g.subjects) (some_member r g some) placed)
-    r.scheduling.groups
-    (sym (list_all-map (is_group (source_of r)) (group_named r) r.scheduling.groups) ∙ k.members.groups)
-    k.groups_placed
-
-pub cpus_of_groups : (r : Resolution) → Known r → list_all (λ g. nat_lt g.cpu r.processor.logical_cpus) r.scheduling.groups ≡ true
-unfolding source_of
-cpus_of_groups r k =
-    sym (list_all-map (λ g. nat_lt g.cpu r.processor.logical_cpus) (group_named r) r.scheduling.groups) ∙ k.cpus.groups
-
-pub groups_fit : (r : Resolution) → Known r → list_all fits_group r.scheduling.groups ≡ true
+pub groups_fit : (r : Resolution) → PlanKept r → list_all fits_group r.scheduling.groups ≡ true
 unfolding source_of
 groups_fit r k =
     let few : r.processor.logical_cpus ≤ 8 = k.cpus.most in
@@ -70,30 +36,6 @@ groups_fit r k =
     (each_from (λ i. nat_lt i (length r.subjects)) (λ i. nat_lt i 256) small g.subjects parts.1))
     r.scheduling.groups (cpus_of_groups r k) (members_there r k)
 
--- ---- major frames
-
--- at most 100,000 ticks and 64 minor frames
-abbrev pub is_short : CpuFrames → Bool
-is_short c = nat_le (ticks_in c) 100000 && nat_le (length c.minor_frames) 64
-
-abbrev pub frame_there : Resolution → MinorFrame → Bool
-frame_there r f = nat_lt f.group (length r.scheduling.groups)
-
-abbrev pub entry_there : Resolution → CpuFrames → Bool
-entry_there r c = list_all (frame_there r) c.minor_frames
-
--- the limits, by the entries' places
-pub entries_within : (r : Resolution) → Known r → list_all (λ m. list_all is_short m.cpus) r.scheduling.major_frames ≡ true
-unfolding source_of
-entries_within r k =
-    let one : (c : CpuFrames) → is_within (cpu_named r c) ≡ true → is_short c ≡ true = λ c h.
-    let many : length (cpu_named r c).minor_frames ≡ length c.minor_frames = length-map c.minor_frames (frame_named r) in
-    sym (λ i. nat_le (ticks_named r c i) 100000 && nat_le (many i) 64) ∙ h in
-    each_from (λ m. list_all is_within (major_named r m).cpus) (λ m. list_all is_short m.cpus)
-    (λ m h. each_from (λ c. is_within (cpu_named r c)) is_short one m.cpus (sym (list_all-map is_within (cpu_named r) m.cpus) ∙ h))
-    r.scheduling.major_frames
-    (sym (list_all-map (λ m. list_all is_within m.cpus) (major_named r) r.scheduling.major_frames) ∙ k.limits.frames)
-
 entry_fits : (r : Resolution) (c : CpuFrames) → length r.scheduling.groups ≤ 32 → is_short c ≡ true → entry_there r c ≡ true → fits_entry c ≡ true
 entry_fits r c few short placed =
     let most : ticks_in c ≤ 100000 = leb-true (ticks_in c) 100000 (and_parts (nat_le (ticks_in c) 100000) (nat_le (length c.minor_frames) 64) short).0 in
@@ -107,7 +49,7 @@ entry_fits r c few short placed =
     c.minor_frames placed each)
     (lt-ltb (ticks_in c) 4294967296 (omega (arith, most)))
 
-pub majors_fit : (r : Resolution) → Known r → list_all fits_major r.scheduling.major_frames ≡ true
+pub majors_fit : (r : Resolution) → PlanKept r → list_all fits_major r.scheduling.major_frames ≡ true
 majors_fit r k =
     let many_s = many_subjects r in
     let many_g = many_groups r in

@@ -1,13 +1,5 @@
-pub mod Cpus
-pub mod Emitting
-pub mod Firsts
+pub mod EmittedFrames
+pub mod EmittedGroups
 pub mod Fitting
-pub mod Kept
-pub mod Known
-pub mod Limits
-pub mod Lists
-pub mod Majors
-pub mod Members
-pub mod Names
-pub mod Planned
-pub mod Valid
+pub mod PlanOfPolicy
+pub mod ValidPlan

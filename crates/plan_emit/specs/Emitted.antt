@@ -1,12 +1,13 @@
 -- The plan of a resolved policy, by the places of its groups and subjects, and when its numbers fit.
 use Rattle.std.specs.Prelude.{ℕ, ◌^◌, ◌==◌, ◌&&◌, Bool, List, [], length, map, slice_get, slice_index, nat_lt}
 use Rattle.std.specs.Option.{option_map_or}
-use Rattle.std.specs.List.{find, list_all, sum_by}
+use Rattle.std.specs.List.{find, list_all}
 use Rattle.muen_num.specs.Range.{numbers_below}
 use Rattle.image_pack.specs.declared.plan.GroupPart.{GroupPart}
 use Rattle.image_pack.specs.declared.plan.Minor.{Minor}
 use Rattle.image_pack.specs.declared.plan.Major.{Major}
 use Rattle.image_pack.specs.declared.plan.Plan.{Plan}
+use Rattle.policy_lawful.specs.ByPlace.{ticks_in}
 use Rattle.policy_lawful.specs.Resolution.{Resolution}
 use Rattle.policy_lawful.specs.declared.resolved.Group.{Group}
 use Rattle.policy_lawful.specs.declared.resolved.MajorFrame.{MajorFrame}
@@ -21,9 +22,6 @@ minor_part f = record { group = f.group; ticks = f.ticks }
 -- the minor frames of the entry that names a CPU
 abbrev pub cpu_part : List CpuFrames → ℕ → List Minor
 cpu_part entries cpu = option_map_or (λ c. map minor_part c.minor_frames) (find (λ c. c.cpu == cpu) entries) []
-
-abbrev pub ticks_in : CpuFrames → ℕ
-ticks_in c = sum_by (λ f. f.ticks) c.minor_frames
 
 -- the ticks of the first entry
 abbrev pub first_ticks : List CpuFrames → ℕ

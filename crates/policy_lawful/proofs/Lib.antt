@@ -1,6 +1,17 @@
+pub mod BuiltElements
+pub mod Keeps
+pub mod KeptAddresses
+pub mod KeptByPlace
+pub mod KeptCpus
+pub mod KeptLimits
+pub mod KeptMajors
+pub mod KeptMembers
+pub mod KeptPlan
+pub mod KeptRules
 pub mod Naming
 pub mod Offences
 pub mod Places
-pub mod ResolvedFacts
 mod RuleExamples
+pub mod SourceElements
+pub mod UniqueNames
 pub mod WindowsByPlace

@@ -14,8 +14,7 @@ use Rattle.policy_lawful.specs.Rules.{repeated}
 use Rattle.policy_lawful.specs.Resolution.{name_at}
 use Rattle.policy_lawful.specs.declared.offence.Offence.{Offence}
 use Rattle.muen_num.proofs.Lists.{position-map}
-use Rattle.muen_num.proofs.FirstIn.{none_both}
-use Rattle.policy_lawful.proofs.Offences.{unless_none}
+use Rattle.muen_num.proofs.SearchLaws.{none_both, unless_none}
 
 pub same_self : (x : List ℕ) → bytes_eq x x ≡ true
 same_self x = nat_list_eq_equiv.refl x

@@ -2,8 +2,8 @@
 use Rattle.std.proofs.Common.{◌≡◌, ℕ, List, [], ◌∷◌, refl}
 use Rattle.std.specs.Fmt.{digits}
 use Rattle.std.specs.Prelude.{Option, Some, None, codes}
-use Rattle.muen_num.specs.declared.bits.Mode.{Mode}
-use Rattle.muen_num.specs.declared.bits.Mode.TheVariants.{Asap, Async, Own, Switch}
+use Rattle.muen_num.specs.declared.mode.Mode.{Mode}
+use Rattle.muen_num.specs.declared.mode.Mode.TheVariants.{Asap, Async, Own, Switch}
 use Rattle.policy_lawful.specs.Offences.{alone, two}
 use Rattle.policy_lawful.specs.Rules.{offence_1, offence_5, offence_8, offence_16, offence_17, first_overlap, window_extents}
 use Rattle.policy_lawful.specs.MoreRules.{offence_6, offence_9, offence_10, offence_11, offence_12, offence_13, offence_14, offence_15, offence_19}

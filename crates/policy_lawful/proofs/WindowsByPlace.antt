@@ -7,7 +7,7 @@ use Rattle.std.proofs.lemmas.Option.{slice_get-get_or}
 use Rattle.std.proofs.lemmas.List.Folds.{list_all-map}
 use Rattle.std.proofs.lemmas.Bool.{and_from, and_parts, ltb-true}
 use Rattle.policy_lawful.specs.Rules.{repeated, window_extent, window_extents, offence_1}
-use Rattle.policy_types.specs.Built.{is_empty, is_plain, is_plain_region, is_built}
+use Rattle.policy_types.specs.Built.{is_plain, is_built}
 use Rattle.policy_lawful.specs.Resolution.{Resolution, name_at, mapping_named, subject_named, source_of, subject_placed, are_placed}
 use Rattle.policy_meaning.specs.Thing.{region}
 use Rattle.policy_meaning.specs.Windows.{window, region_window, windows_of}
@@ -20,71 +20,10 @@ use Rattle.policy_lawful.specs.declared.resolved.Mapping.{Mapping}
 use Rattle.policy_lawful.specs.declared.resolved.Subject.{Subject}
 use Rattle.muen_num.proofs.Lists.{each_of, map-map}
 use Rattle.policy_lawful.proofs.Places.{found_at_place}
-use Rattle.policy_lawful.proofs.ResolvedFacts.{parts_placed, unique}
+use Rattle.policy_lawful.proofs.BuiltElements.{built, plain}
+use Rattle.policy_lawful.proofs.SourceElements.{parts_placed}
+use Rattle.policy_lawful.proofs.UniqueNames.{unique}
 use Rattle.policy_lawful.specs.ByPlace.{no_region, region_at, mapping_window, mapping_extent, is_ready}
-
--- ---- nothing there
-
-pub no_items : {X : Type 0} (xs : List X) → is_empty xs ≡ true → xs ≡ []
-no_items [] h = refl
-no_items (x ∷ xs) h = absurd (cc)
-
-pub none_some : {X : Type 0} (o : Option X) → not (is_some o) ≡ true → o ≡ None
-none_some None h = refl
-none_some (Some x) h = absurd (cc)
-
--- ---- what a plain subject lacks
-
-pub record IsPlain (s : NamedSubject) : Type 0 where
-  pub component : s.component ≡ None
-  pub channels : s.channels ≡ []
-  pub devices : s.devices ≡ []
-  pub msrs : s.msrs ≡ []
-  pub sources : s.sources ≡ []
-  pub targets : s.targets ≡ []
-
-pub plain : (s : NamedSubject) → is_plain s ≡ true → IsPlain s
-plain s h =
-    let e = and_parts _ _ h in
-    let d = and_parts _ _ e.0 in
-    let c = and_parts _ _ d.0 in
-    let b = and_parts _ _ c.0 in
-    let a = and_parts _ _ b.0 in
-    record {
-      component = none_some s.component a.0;
-      channels = no_items s.channels a.1;
-      devices = no_items s.devices b.1;
-      msrs = no_items s.msrs c.1;
-      sources = no_items s.sources d.1;
-      targets = no_items s.targets e.1;
-    }
-
--- ---- what a built policy lacks
-
-pub record HasNoOther (p : Source) : Type 0 where
-  pub devices : p.devices ≡ []
-  pub channels : p.channels ≡ []
-  pub components : p.components ≡ []
-  pub events : p.events ≡ []
-  pub subjects : list_all is_plain p.subjects ≡ true
-  pub regions : list_all is_plain_region p.memory ≡ true
-
-pub built : (p : Source) → is_built p ≡ true → HasNoOther p
-unfolding is_built
-built p h =
-    let e = and_parts _ _ h in
-    let d = and_parts _ _ e.0 in
-    let c = and_parts _ _ d.0 in
-    let b = and_parts _ _ c.0 in
-    let a = and_parts _ _ b.0 in
-    record {
-      devices = no_items p.devices a.0;
-      channels = no_items p.channels a.1;
-      components = no_items p.components b.1;
-      events = no_items p.events c.1;
-      subjects = d.1;
-      regions = e.1;
-    }
 
 -- ---- windows
 

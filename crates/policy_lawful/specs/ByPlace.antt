@@ -1,11 +1,12 @@
--- What a resolved policy says, by the places of its regions.
-use Rattle.std.specs.Prelude.{ℕ, ◌&&◌, Bool, List, [], length, nat_lt, slice_index_or, None}
-use Rattle.std.specs.List.{list_all}
+-- What a resolved policy says, by places.
+use Rattle.std.specs.Prelude.{ℕ, ◌&&◌, Bool, List, [], length, nat_lt, nat_le, slice_index_or, None}
+use Rattle.std.specs.List.{list_all, sum_by}
 use Rattle.policy_types.specs.Built.{is_plain}
 use Rattle.policy_lawful.specs.Resolution.{Resolution, subject_named}
 use Rattle.policy_meaning.specs.Thing.{Thing, region}
 use Rattle.policy_meaning.specs.Windows.{Window, window}
 use Rattle.policy_lawful.specs.declared.offence.Extent.{Extent}
+use Rattle.policy_lawful.specs.declared.resolved.CpuFrames.{CpuFrames}
 use Rattle.policy_lawful.specs.declared.resolved.Mapping.{Mapping}
 use Rattle.policy_lawful.specs.declared.resolved.Subject.{Subject}
 use Rattle.policy_types.specs.declared.rights.Caching.TheVariants.{Wb}
@@ -41,3 +42,11 @@ block_extent b = record { name = b.name; address = b.physical_address; size = b.
 abbrev pub is_ready : Resolution → Subject → Bool
 is_ready r s =
     is_plain (subject_named r s) && list_all (λ m. nat_lt m.region (length r.memory)) s.memory
+
+-- the ticks of an entry
+abbrev pub ticks_in : CpuFrames → ℕ
+ticks_in c = sum_by (λ f. f.ticks) c.minor_frames
+
+-- an entry within the limits
+abbrev pub is_short : CpuFrames → Bool
+is_short c = nat_le (ticks_in c) 100000 && nat_le (length c.minor_frames) 64

@@ -4,8 +4,8 @@ use Rattle.std.specs.Prelude.{ℕ, ◌+◌, ◌==◌, ◌&&◌, ◌||◌, not, B
 use Rattle.std.specs.Option.{option_or, option_map_or}
 use Rattle.std.specs.List.{find, list_any, list_all, filter_map, flat_map, sum_by, count_by}
 use Rattle.std.specs.Str.{bytes_eq}
-use Rattle.muen_num.specs.declared.bits.Mode.{Mode}
-use Rattle.muen_num.specs.declared.bits.Mode.TheVariants.{Own, Switch}
+use Rattle.muen_num.specs.declared.mode.Mode.{Mode}
+use Rattle.muen_num.specs.declared.mode.Mode.TheVariants.{Own, Switch}
 use Rattle.muen_num.specs.Search.{first_of, first_in, first_after, unless}
 use Rattle.policy_lawful.specs.Offences.{alone, two}
 use Rattle.policy_lawful.specs.Rules.{are_apart}

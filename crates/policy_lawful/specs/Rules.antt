@@ -7,7 +7,7 @@ use Rattle.std.specs.Str.{bytes_eq}
 use Rattle.muen_num.specs.Range.{numbers_below}
 use Rattle.muen_num.specs.Search.{first_of, first_in, first_after, first_pair, unless}
 use Rattle.policy_lawful.specs.Offences.{alone, two}
-use Rattle.muen_num.specs.declared.bits.Kind.TheVariants.{Write}
+use Rattle.muen_num.specs.declared.access.Kind.TheVariants.{Write}
 use Rattle.policy_types.specs.Rights.{allows}
 use Rattle.policy_meaning.specs.Thing.{Thing, region, channel, provided, device_memory, same_thing, component_by}
 use Rattle.policy_meaning.specs.Windows.{Window, windows_of}
@@ -336,10 +336,12 @@ subject_limit p s = unless (nat_le (length (window_extents p s)) 128 && nat_le (
 abbrev pub regions_for : Source → Subject → ℕ
 regions_for p s = option_map_or (λ c. length c.provides) (component_by p s.component) 0 + 5
 
--- a major frame has as many ticks as its first entry
+-- an entry of a major frame, which has as many ticks as its first entry
+abbrev pub is_short : CpuFrames → Bool
+is_short c = nat_le (ticks_in c) 100000 && nat_le (length c.minor_frames) 64
+
 abbrev pub major_limit : ℕ × MajorFrame → Option Offence
-major_limit (k, m) =
-    unless (list_all (λ c. nat_le (ticks_in c) 100000 && nat_le (length c.minor_frames) 64) m.cpus) (alone (major_name k))
+major_limit (k, m) = unless (list_all is_short m.cpus) (alone (major_name k))
 
 unfoldable pub offence_20 : Source → Option Offence
 offence_20 p =

@@ -120,7 +120,7 @@ pub struct Subject {
 }
 
 /// The component of a subject.
-#[derive(Drop)]
+#[derive(Clone, Debug, Drop, PartialEq, Eq)]
 pub struct ComponentUse {
     /// The component's place.
     pub used: usize,
@@ -137,7 +137,7 @@ pub enum Wanted {
 }
 
 /// What a component's logical name stands for.
-#[derive(Drop)]
+#[derive(Clone, Debug, Drop, PartialEq, Eq)]
 pub struct MapEntry {
     pub logical: Wanted,
     /// The place of a region or a channel, as the logical name wants.
@@ -146,7 +146,7 @@ pub struct MapEntry {
 }
 
 /// A window of a subject on a region of memory.
-#[derive(Drop)]
+#[derive(Clone, Debug, Drop, PartialEq, Eq)]
 pub struct Mapping {
     /// The region's place.
     pub region: usize,
@@ -156,7 +156,7 @@ pub struct Mapping {
 }
 
 /// A subject's end of a channel.
-#[derive(Drop)]
+#[derive(Clone, Debug, Drop, PartialEq, Eq)]
 pub struct ChannelUse {
     /// The channel's place.
     pub channel: usize,
@@ -167,7 +167,7 @@ pub struct ChannelUse {
 }
 
 /// What a subject is granted of a device.
-#[derive(Drop)]
+#[derive(Clone, Debug, Drop, PartialEq, Eq)]
 pub struct DeviceUse {
     /// The device's place.
     pub device: usize,
@@ -178,7 +178,7 @@ pub struct DeviceUse {
 }
 
 /// A window of a subject on a device's memory.
-#[derive(Drop)]
+#[derive(Clone, Debug, Drop, PartialEq, Eq)]
 pub struct DeviceMapping {
     /// The place among the device's memory.
     pub memory: usize,
@@ -187,7 +187,7 @@ pub struct DeviceMapping {
 }
 
 /// An interrupt line that is granted to a subject.
-#[derive(Drop)]
+#[derive(Clone, Debug, Drop, PartialEq, Eq)]
 pub struct IrqUse {
     /// The place among the device's interrupt lines.
     pub irq: usize,
@@ -195,7 +195,7 @@ pub struct IrqUse {
 }
 
 /// How a subject raises an event.
-#[derive(Drop)]
+#[derive(Clone, Debug, Drop, PartialEq, Eq)]
 pub struct EventSource {
     /// The event's place.
     pub event: usize,
@@ -203,7 +203,7 @@ pub struct EventSource {
 }
 
 /// An event that reaches a subject.
-#[derive(Drop)]
+#[derive(Clone, Debug, Drop, PartialEq, Eq)]
 pub struct EventTarget {
     /// The event's place.
     pub event: usize,
@@ -211,14 +211,14 @@ pub struct EventTarget {
 }
 
 /// The scheduling plan.
-#[derive(Drop)]
+#[derive(Clone, Debug, Drop, PartialEq, Eq)]
 pub struct Scheduling {
     pub groups: Seq<Group>,
     pub major_frames: Seq<MajorFrame>,
 }
 
 /// A scheduling group.
-#[derive(Drop)]
+#[derive(Clone, Debug, Drop, PartialEq, Eq)]
 pub struct Group {
     pub name: Name,
     pub cpu: u64,
@@ -227,20 +227,20 @@ pub struct Group {
 }
 
 /// A major frame.
-#[derive(Drop)]
+#[derive(Clone, Debug, Drop, PartialEq, Eq)]
 pub struct MajorFrame {
     pub cpus: Seq<CpuFrames>,
 }
 
 /// The minor frames of a CPU in a major frame.
-#[derive(Drop)]
+#[derive(Clone, Debug, Drop, PartialEq, Eq)]
 pub struct CpuFrames {
     pub cpu: u64,
     pub minor_frames: Seq<MinorFrame>,
 }
 
 /// A minor frame.
-#[derive(Drop)]
+#[derive(Clone, Debug, Drop, PartialEq, Eq)]
 pub struct MinorFrame {
     /// The group's place.
     pub group: usize,

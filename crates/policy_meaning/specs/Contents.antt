@@ -5,7 +5,7 @@ use Rattle.std.specs.List.{find}
 use Rattle.std.specs.Str.{bytes_eq}
 use Rattle.std.specs.Ordering.{nat_cmp}
 use Rattle.std.specs.Cmp.Lexicographic.{slice_cmp}
-use Rattle.std.specs.FinMap.{FinMap, get}
+use Rattle.std.specs.FinMap.{FinMap, from_entries, get}
 use Rattle.policy_meaning.specs.Thing.{Thing, region, channel, provided, device_memory, component_by}
 use Rattle.policy_types.specs.declared.source.Source.{Source}
 use Rattle.policy_types.specs.declared.source.Content.{Content}
@@ -15,6 +15,10 @@ use Rattle.policy_types.specs.declared.source.Content.TheVariants.{Zero, Fill, I
 abbrev pub Held : Type 0
 Held = FinMap (slice_cmp nat_cmp) (List ℕ)
 
+-- what they hold where there are none
+abbrev pub no_files : Held
+no_files = from_entries []
+
 abbrev pub padded : ℕ → List ℕ → List ℕ
 padded size bytes = bytes ++ replicate (size - length bytes) 0
 
@@ -22,13 +26,17 @@ abbrev pub at_most : Option ℕ → List ℕ → List ℕ
 at_most None bytes = bytes
 at_most (Some n) bytes = take n bytes
 
+-- what a content takes of a file: its bytes from an offset on, at most so many of them
+abbrev pub file_part : ℕ → Option ℕ → List ℕ → List ℕ
+file_part offset most bytes = at_most most (drop offset bytes)
+
 -- a content in a room of this many bytes: zeros, a byte repeated, or bytes with zeros behind them
 abbrev pub content_bytes : Held → ℕ → Content → List ℕ
 content_bytes files size Zero = replicate size 0
 content_bytes files size (Fill b) = replicate size b
 content_bytes files size (Inline bytes) = padded size bytes
 content_bytes files size (File name offset most) =
-    padded size (at_most most (drop offset (option_map_or (λ bytes. bytes) (get files name) [])))
+    padded size (file_part offset most (option_map_or (λ bytes. bytes) (get files name) []))
 
 -- the bytes of a thing at the start; a channel and a device's memory hold zeros
 unfoldable pub initial_bytes : Source → Held → Thing → List ℕ

@@ -3,7 +3,7 @@
 use Rattle.std.specs.Prelude.{ℕ, ◌+◌, ◌-◌, ◌&&◌, Bool, List, [], ◌++◌, map, Option, Some, None, nat_le, nat_lt, option_map, option_and_then, unwrap_or, if◌then◌else◌}
 use Rattle.std.specs.List.{find, filter_map, flat_map}
 use Rattle.std.specs.Str.{bytes_eq}
-use Rattle.muen_num.specs.declared.bits.Kind.{Kind}
+use Rattle.muen_num.specs.declared.access.Kind.{Kind}
 use Rattle.policy_meaning.specs.Thing.{Thing, region, channel, provided, device_memory, component_by}
 use Rattle.policy_types.specs.Rights.{allows, no_rights, union}
 use Rattle.policy_types.specs.declared.rights.Rights.{Rights}

@@ -1,9 +1,5 @@
-pub mod Answering
 pub mod Built
-pub mod Elements
-pub mod Firsts
-pub mod Places
-pub mod References
-pub mod Repeats
-pub mod Whole
-pub mod Whys
+pub mod Names
+pub mod Parts
+pub mod Refusals
+pub mod Resolved

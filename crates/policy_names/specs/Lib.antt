@@ -1,6 +1,2 @@
-pub mod Answered
-pub mod Firsts
-pub mod Parts
+pub mod Outline
 pub mod Places
-pub mod Repeats
-pub mod Whole

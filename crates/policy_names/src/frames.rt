@@ -1,98 +1,99 @@
 //! Frames, which refer to groups.
-ghost use Rattle.std.specs.Prelude.{◌≡◌, map, true};
-ghost use Rattle.std.specs.List.{flat_map, list_all, enumerate_from};
+ghost use Rattle.std.specs.List.{enumerate_from, list_all};
+ghost use Rattle.std.specs.Prelude.{◌≡◌, length, map, nat_lt, true};
 ghost use Rattle.muen_num.specs.Search.{first_in};
+ghost use Rattle.policy_lawful.specs.Keeps.{Keeps};
 ghost use Rattle.policy_lawful.specs.Offences.{broken};
-ghost use Rattle.policy_lawful.specs.Rules.{undeclared};
-ghost use Rattle.policy_names.specs.Answered.{Keeps};
-ghost use Rattle.policy_names.specs.Parts.{major_refers, major_in, is_major_in};
+ghost use Rattle.policy_lawful.specs.Resolution.{cpu_named, major_named, major_placed, name_at};
+ghost use Rattle.policy_lawful.specs.Rules.{frame_references, refers, undeclared};
+ghost use Rattle.policy_names.specs.Outline.{outline};
+ghost use Rattle.policy_names.specs.Places.{StandsFor};
 
-use crate::index::Index;
-use crate::scope::{Place, Scope, place_all};
-use muen_num::Seq;
+use crate::place::{Place, place_all};
+use crate::scope::Scope;
+use muen_num::{Name, Seq};
 use policy_lawful::frame_names::major_name;
 use policy_lawful::resolved;
 use policy_types::{Refusal, source};
 use std::alloc::Global;
 
-impl<'a> Place<Scope<'a>> for source::MinorFrame {
-    ghost use Rattle.std.specs.Prelude.{true};
-    ghost use Rattle.policy_names.specs.Parts.{minor_refers, minor_in, is_minor_in};
+/// A minor frame of the major frame that has this name.
+impl Place for source::MinorFrame {
+    type By = Name;
 
     type Placed = resolved::MinorFrame;
 
-    ghost references = { λ scope f. minor_refers scope.by scope.among.now f };
+    ghost offence = { λ p by f. undeclared (refers by (map (λ g. g.name) p.scheduling.groups) f.group) };
 
-    ghost named = { λ scope f. minor_in scope.among.now f };
+    ghost named = { λ p f. record { group = name_at (map (λ g. g.name) (outline p).scheduling.groups) f.group; ticks = f.ticks } };
 
-    ghost is_placed = { λ scope f. is_minor_in scope.among.now f };
+    ghost is_placed = { λ p f. nat_lt f.group (length (outline p).scheduling.groups) };
 
-    ghost is_built = { λ _. true };
-
-    fn place(&self, _: Global, scope: &Scope<'a>) -> Result<resolved::MinorFrame, Refusal> {
+    #[tactic(auto, using(crate::proofs::Parts::name))]
+    fn place(&self, _: Global, scope: &Scope, by: Name) -> Result<resolved::MinorFrame, Refusal> {
         Ok(resolved::MinorFrame {
-            group: scope.place(self.group)?,
+            group: scope.groups.place(by, self.group)?,
             ticks: self.ticks,
         })
     }
 }
 
-impl<'a> Place<Scope<'a>> for source::CpuFrames {
-    ghost use Rattle.std.specs.Prelude.{true};
-    ghost use Rattle.policy_names.specs.Parts.{cpu_refers, cpu_in, is_cpu_in};
+/// The minor frames of a CPU in the major frame that has this name.
+impl Place for source::CpuFrames {
+    type By = Name;
 
     type Placed = resolved::CpuFrames;
 
-    ghost references = { λ scope c. cpu_refers scope.by scope.among.now c };
+    ghost offence = { λ p by c. first_in undeclared (map (λ f. refers by (map (λ g. g.name) p.scheduling.groups) f.group) c.minor_frames) };
 
-    ghost named = { λ scope c. cpu_in scope.among.now c };
+    ghost named = { λ p. cpu_named (outline p) };
 
-    ghost is_placed = { λ scope c. is_cpu_in scope.among.now c };
+    ghost is_placed = { λ p c. list_all (λ f. nat_lt f.group (length (outline p).scheduling.groups)) c.minor_frames };
 
-    ghost is_built = { λ _. true };
-
-    #[tactic(auto, using(crate::proofs::Elements::each_built))]
-    fn place(&self, alloc: Global, scope: &Scope<'a>) -> Result<resolved::CpuFrames, Refusal> {
+    #[tactic(auto, using(crate::proofs::Parts::names))]
+    fn place(&self, alloc: Global, scope: &Scope, by: Name) -> Result<resolved::CpuFrames, Refusal> {
         Ok(resolved::CpuFrames {
             cpu: self.cpu,
-            minor_frames: place_all(alloc, scope, self.minor_frames.items())?,
+            minor_frames: place_all(alloc, scope, by, self.minor_frames.items())?,
         })
     }
 }
 
-// Finds the places of a major frame.
-#[tactic(auto, using(crate::proofs::Elements::each_built))]
-fn place_major(
-    alloc: Global,
-    groups: &Index,
-    number: usize,
-    major: &source::MajorFrame,
-) -> Result<resolved::MajorFrame, Refusal>
-    ensures { Keeps (broken 2 (first_in undeclared (major_refers groups.now (number, major.now)))) (λ x. (major_in groups.now x ≡ major.now) × (is_major_in groups.now x ≡ true)) result }
-{
-    let scope = Scope {
-        by: major_name(number),
-        among: groups,
-    };
-    Ok(resolved::MajorFrame {
-        cpus: place_all(alloc, &scope, major.cpus.items())?,
-    })
+/// The major frame at this place.
+impl Place for source::MajorFrame {
+    type By = usize;
+
+    type Placed = resolved::MajorFrame;
+
+    ghost offence = { λ p place m. first_in undeclared (frame_references p (place, m)) };
+
+    ghost named = { λ p. major_named (outline p) };
+
+    ghost is_placed = { λ p. major_placed (outline p) };
+
+    #[tactic(auto, using(crate::proofs::Parts::lists))]
+    fn place(&self, alloc: Global, scope: &Scope, place: usize) -> Result<resolved::MajorFrame, Refusal> {
+        Ok(resolved::MajorFrame {
+            cpus: place_all(alloc, scope, major_name(place), self.cpus.items())?,
+        })
+    }
 }
 
 /// Finds the places of all major frames.
 ///
 /// Answers the refusal of the first group that isn't declared, and `NoMemory` where memory was
 /// refused.
+#[tactic(auto, using(crate::proofs::Refusals::explains_at_place))]
 pub fn place_majors(
     alloc: Global,
-    groups: &Index,
+    scope: &Scope,
     majors: &[source::MajorFrame],
 ) -> Result<Seq<resolved::MajorFrame>, Refusal>
-    ensures { Keeps (broken 2 (first_in undeclared (flat_map (major_refers groups.now) (enumerate_from 0 majors.now)))) (λ xs. (map (major_in groups.now) xs ≡ majors.now) × (list_all (is_major_in groups.now) xs ≡ true)) result }
+    ensures { let p = scope.now.source.now in Keeps (broken 2 (first_in (λ m. first_in undeclared (frame_references p m)) (enumerate_from 0 majors.now))) (StandsFor (map (major_named (outline p))) (list_all (major_placed (outline p))) majors.now) result }
 {
     let mut placed = Seq::new(alloc);
-    for (number, major) in majors.iter().enumerate() {
-        placed.push(place_major(alloc, groups, number, major)?)?;
+    for (place, major) in majors.iter().enumerate() {
+        placed.push(major.place(alloc, scope, place)?)?;
     }
     Ok(placed)
 }

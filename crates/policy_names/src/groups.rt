@@ -1,55 +1,52 @@
-//! Groups and their members, which are subjects.
-use crate::index::Index;
-use crate::scope::{Place, Scope, place_all};
+//! Groups, which refer to subjects.
+ghost use Rattle.std.specs.Prelude.{length, map, nat_lt, true};
+ghost use Rattle.muen_num.specs.Search.{first_in};
+ghost use Rattle.policy_lawful.specs.Resolution.{group_named, group_placed, name_at};
+ghost use Rattle.policy_lawful.specs.Rules.{group_references, refers, undeclared};
+ghost use Rattle.policy_names.specs.Outline.{outline};
+
+use crate::place::{Place, place_all};
+use crate::scope::Scope;
 use muen_num::Name;
 use policy_lawful::resolved;
 use policy_types::{Refusal, source};
 use std::alloc::Global;
 
-impl<'a> Place<Scope<'a>> for Name {
-    ghost use Rattle.std.specs.Prelude.{true};
-    ghost use Rattle.policy_lawful.specs.Resolution.{name_at};
-    ghost use Rattle.policy_names.specs.Parts.{member_refers, is_member_in};
-
-    type Placed = usize;
-
-    ghost references = { λ scope name. member_refers scope.by scope.among.now name };
-
-    ghost named = { λ scope place. name_at scope.among.now place };
-
-    ghost is_placed = { λ scope place. is_member_in scope.among.now place };
-
-    ghost is_built = { λ _. true };
-
-    fn place(&self, _: Global, scope: &Scope<'a>) -> Result<usize, Refusal> {
-        scope.place(*self)
-    }
-}
-
-impl Place<Index> for source::Group {
-    ghost use Rattle.std.specs.Prelude.{true};
-    ghost use Rattle.policy_names.specs.Parts.{group_refers, group_in, is_group_in};
+impl Place for source::Group {
+    type By = ();
 
     type Placed = resolved::Group;
 
-    ghost references = { group_refers };
+    ghost offence = { λ p _ g. first_in undeclared (group_references p g) };
 
-    ghost named = { group_in };
+    ghost named = { λ p. group_named (outline p) };
 
-    ghost is_placed = { is_group_in };
+    ghost is_placed = { λ p. group_placed (outline p) };
 
-    ghost is_built = { λ _. true };
-
-    #[tactic(auto, using(crate::proofs::Elements::each_built))]
-    fn place(&self, alloc: Global, scope: &Index) -> Result<resolved::Group, Refusal> {
-        let members = Scope {
-            by: self.name,
-            among: scope,
-        };
+    #[tactic(auto, using(crate::proofs::Parts::names))]
+    fn place(&self, alloc: Global, scope: &Scope, _: ()) -> Result<resolved::Group, Refusal> {
         Ok(resolved::Group {
             name: self.name,
             cpu: self.cpu,
-            subjects: place_all(alloc, &members, self.subjects.items())?,
+            subjects: place_all(alloc, scope, self.name, self.subjects.items())?,
         })
+    }
+}
+
+/// A member of the group that has this name.
+impl Place for Name {
+    type By = Name;
+
+    type Placed = usize;
+
+    ghost offence = { λ p by name. undeclared (refers by (map (λ s. s.name) p.subjects) name) };
+
+    ghost named = { λ p. name_at (map (λ s. s.name) (outline p).subjects) };
+
+    ghost is_placed = { λ p place. nat_lt place (length (outline p).subjects) };
+
+    #[tactic(auto, using(crate::proofs::Parts::name))]
+    fn place(&self, _: Global, scope: &Scope, by: Name) -> Result<usize, Refusal> {
+        scope.subjects.place(by, *self)
     }
 }

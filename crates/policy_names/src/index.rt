@@ -1,109 +1,69 @@
 //! Where each name of a list stands.
-ghost use Rattle.std.specs.Prelude.{◌≡◌, map};
+ghost use Rattle.std.specs.Prelude.{◌≡◌, length, map, nat_lt};
+ghost use Rattle.policy_lawful.specs.Keeps.{Keeps};
 ghost use Rattle.policy_lawful.specs.Offences.{broken};
-ghost use Rattle.policy_lawful.specs.Rules.{repeated};
-ghost use Rattle.policy_names.specs.Answered.{Keeps};
-ghost use Rattle.policy_names.specs.Places.{place_of};
+ghost use Rattle.policy_lawful.specs.Resolution.{name_at};
+ghost use Rattle.policy_lawful.specs.Rules.{refers, repeated, undeclared};
+ghost use Rattle.policy_names.specs.Places.{StandsFor};
 
+use crate::named::Named;
+use indexmap::IndexSet;
 use muen_num::Name;
 use policy_types::Refusal;
-use policy_types::source::{Block, Group, Region, Subject};
 use std::alloc::Global;
-use std::collections::BTreeMap;
 use std::marker::Model;
 
-/// An element that is declared under a name.
-pub trait Named {
-    ghost use Rattle.std.specs.Prelude.{List, ℕ};
-
-    ghost name: { Self → List ℕ };
-
-    /// The name.
-    fn name(&self) -> Name
-        ensures { result ≡ name self.now };
-}
-
-impl Named for Block {
-    ghost name = { λ b. b.name };
-
-    fn name(&self) -> Name {
-        self.name
-    }
-}
-
-impl Named for Region {
-    ghost name = { λ r. r.name };
-
-    fn name(&self) -> Name {
-        self.name
-    }
-}
-
-impl Named for Subject {
-    ghost name = { λ s. s.name };
-
-    fn name(&self) -> Name {
-        self.name
-    }
-}
-
-impl Named for Group {
-    ghost name = { λ g. g.name };
-
-    fn name(&self) -> Name {
-        self.name
-    }
-}
-
-/// Where each of some names stands, no two of them the same. Contracts see the list of the names.
+/// Names that can be looked up, no two of them the same. Contracts see the list of them.
 #[derive(Drop)]
 pub struct Index {
-    names: Vec<Name>,
-    places: BTreeMap<Name, usize>,
+    names: IndexSet<Name>,
 }
 
 impl Model for Index {
-    ghost use Rattle.std.specs.Prelude.{◌≡◌, List, ℕ};
-    ghost use Rattle.std.specs.Ordering.{nat_cmp};
-    ghost use Rattle.std.specs.Cmp.Lexicographic.{slice_cmp};
-    ghost use Rattle.std.specs.BTreeMap as tree;
-    ghost use Rattle.policy_names.specs.Places.{place_of};
+    ghost use Rattle.std.specs.Prelude.{List, ℕ};
 
     ghost Value = { List (List ℕ) };
 
-    ghost view = { λ x. x.names.items };
-
-    ghost invariant = { λ x. (name : List ℕ) → tree.get (slice_cmp nat_cmp) x.places name ≡ place_of x.names.items name };
+    ghost view = { λ x. x.names.keys };
 }
 
 impl Index {
-    /// The names of these elements.
+    /// The index of the names of these elements.
     ///
     /// Answers the refusal by rule 1 of the first name that stood before, and `NoMemory` where
     /// memory was refused.
+    #[tactic(auto, using(crate::proofs::Names::repeated_from_start))]
     pub fn of<T: Named>(alloc: Global, items: &[T]) -> Result<Index, Refusal>
         ensures { Keeps (broken 1 (repeated (map T.name items.now))) (λ x. x ≡ map T.name items.now) result }
     {
-        let mut names = Vec::new(alloc);
-        let mut places = BTreeMap::new(alloc);
+        let mut names = IndexSet::new(alloc);
         for item in items {
             let name = item.name();
-            if places.insert(name, names.len())?.is_some() {
+            let (_, is_new) = names.insert_full(name)?;
+            if !is_new {
                 return Err(Refusal::Rule {
                     number: 1,
                     first: name,
                     second: name,
                 });
             }
-            names.push(name)?;
         }
-        Ok(Index { names, places })
+        Ok(Index { names })
     }
 
-    /// The first place of a name.
-    pub fn find(&self, name: &Name) -> Option<usize>
-        ensures { result ≡ place_of self.now name.now }
+    /// The place of a name that an element refers to; where it isn't declared, the refusal by rule 2
+    /// of the element, which has the name `by`.
+    #[tactic(auto, using(crate::proofs::Names::sought))]
+    pub fn place(&self, by: Name, name: Name) -> Result<usize, Refusal>
+        ensures { Keeps (broken 2 (undeclared (refers by self.now name))) (StandsFor (name_at self.now) (λ place. nat_lt place (length self.now)) name) result }
     {
-        self.places.get(name).copied()
+        match self.names.get_index_of(&name) {
+            Some(place) => Ok(place),
+            None => Err(Refusal::Rule {
+                number: 2,
+                first: by,
+                second: name,
+            }),
+        }
     }
 }

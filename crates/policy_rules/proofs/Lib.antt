@@ -1,10 +1,12 @@
-pub mod AsBuilt
-pub mod ByPlace
-pub mod Kept
-pub mod NamedParts
+pub mod CpusByPlace
+pub mod GroupsByPlace
+pub mod LimitsByPlace
+pub mod MajorsByPlace
 pub mod NotBuilt
 pub mod Overlaps
+pub mod RangesByPlace
+pub mod RulesJoined
 pub mod Searches
 pub mod Searching
-pub mod SharedRegions
 pub mod Spans
+pub mod WritersByPlace

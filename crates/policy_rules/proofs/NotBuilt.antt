@@ -10,7 +10,7 @@ use Rattle.policy_lawful.specs.declared.offence.Offence.{Offence}
 use Rattle.policy_types.specs.declared.source.Source.{Source}
 use Rattle.policy_types.specs.declared.source.Region.{Region}
 use Rattle.policy_types.specs.declared.source.Subject.{Subject}
-use Rattle.policy_lawful.proofs.WindowsByPlace.{IsPlain, plain, none_some, built}
+use Rattle.policy_lawful.proofs.BuiltElements.{IsPlain, built, none_some, plain}
 
 -- a search that finds nothing at any plain subject
 nowhere : (at : Subject → Option Offence) → ((s : Subject) → IsPlain s → at s ≡ None) → (ss : List Subject) → list_all is_plain ss ≡ true → first_in at ss ≡ None

@@ -11,7 +11,7 @@ use Rattle.muen_num.specs.Search.{first_in, unless}
 use Rattle.policy_lawful.specs.Offences.{two}
 use Rattle.policy_lawful.specs.Rules.{are_apart, overlapping, first_overlap}
 use Rattle.policy_lawful.specs.declared.offence.Extent.{Extent}
-use Rattle.policy_lawful.proofs.Offences.{unless_none}
+use Rattle.muen_num.proofs.SearchLaws.{unless_none}
 use Rattle.policy_rules.specs.declared.overlap.Span.{Span}
 use Rattle.policy_rules.specs.Span.{span_of, IsBelow}
 use Rattle.policy_rules.proofs.Searches.{pairs_at, pairs_from, first_pair-last}

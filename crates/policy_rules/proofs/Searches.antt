@@ -4,7 +4,7 @@ use Rattle.std.specs.Option.{option_or, is_some}
 use Rattle.std.specs.List.{AllPairs}
 use Rattle.std.proofs.lemmas.List.{append-nil, append_assoc, get_or_append_left, length_push, take-append-drop, take_more}
 use Rattle.muen_num.specs.Search.{first_in, first_after, first_pair}
-use Rattle.muen_num.proofs.FirstIn.{none_both, option_or-None, option_or_assoc}
+use Rattle.muen_num.proofs.SearchLaws.{none_both, option_or-None, option_or_assoc}
 
 -- ---- the first element, and that none is found just where none offends
 

@@ -1,16 +1,17 @@
 -- Searches, tests and sums over lists: numbers below a bound, and the same over another list.
 use Rattle.std.proofs.Common.{◌≡◌, ℕ, zero, suc, ◌+◌, ◌<◌, Bool, true, List, [], ◌∷◌, ◌++◌, length, map, Option, Some, None, refl, sym, ap, ◌∙◌, subst, inl, inr, add-one, arith}
-use Rattle.std.specs.Prelude.{slice_get}
+use Rattle.std.specs.Prelude.{◌==◌, nat_lt, not, slice_get}
 use Rattle.std.specs.Option.{option_or}
 use Rattle.std.specs.List.{list_all, sum, sum_by, enumerate_from}
 use Rattle.std.proofs.lemmas.Bool.{and_parts, cases_eq}
-use Rattle.std.proofs.lemmas.List.{map_push}
+use Rattle.std.proofs.lemmas.Bool.Decides.{nat_tests}
+use Rattle.std.proofs.lemmas.List.{length-map, map_push}
 use Rattle.std.proofs.lemmas.List.Folds.{list_all-map}
 use Rattle.std.proofs.lemmas.List.Sums.{sum-map}
 use Rattle.muen_num.specs.Range.{numbers_below}
 use Rattle.muen_num.specs.Search.{first_in, first_after}
-use Rattle.muen_num.proofs.Lists.{all_same}
-use Rattle.muen_num.proofs.FirstIn.{first_in-append}
+use Rattle.muen_num.proofs.Lists.{all_same, all_true}
+use Rattle.muen_num.proofs.SearchLaws.{first_in-append}
 
 -- ---- numbers below a bound
 
@@ -56,6 +57,10 @@ first_numbered-map f at by ok same n (x ∷ xs) all =
     ap (λ o. option_or o (first_in at (enumerate_from (n + 1) (map f xs)))) (same n x parts.0)
     ∙ ap (option_or (by (n, x))) (first_numbered-map f at by ok same (n + 1) xs parts.1)
 
+-- the same answer at each numbered element
+pub both_named : {X Y O : Type 0} (at : ℕ × Y → Option O) (to : ℕ × X → Option O) (f : X → Y) → ((k : ℕ) (x : X) → at (k, f x) ≡ to (k, x)) → (xs : List X) → first_in at (enumerate_from 0 (map f xs)) ≡ first_in to (enumerate_from 0 xs)
+both_named at to f same xs = first_numbered-map f at to (λ _. true) (λ k x _. same k x) 0 xs (all_true xs)
+
 -- the same at each element with its place
 pub first_numbered_same : {X O : Type 0} (at : X → Option O) (by : ℕ × X → Option O) (n : ℕ) (xs : List X) → ((k : ℕ) (x : X) → slice_get xs k ≡ Some x → at x ≡ by (n + k, x))
     → first_in at xs ≡ first_in by (enumerate_from n xs)
@@ -92,3 +97,10 @@ list_all_same p q ok same xs all =
 
 pub sum_by_same : {X : Type 0} (f g : X → ℕ) (ok : X → Bool) → ((x : X) → ok x ≡ true → f x ≡ g x) → (xs : List X) → list_all ok xs ≡ true → sum_by f xs ≡ sum_by g xs
 sum_by_same f g ok same xs all = sym (sum-map f xs) ∙ ap sum (all_same f g ok same xs all) ∙ sum-map g xs
+
+-- as many images as elements, of which there are some
+above_none : (n : ℕ) → nat_lt 0 n ≡ not (n == 0)
+above_none n = grind (arith, nat_tests)
+
+pub some_items : {X Y : Type 0} (f : X → Y) (xs : List X) → nat_lt 0 (length (map f xs)) ≡ not (length xs == 0)
+some_items f xs = ap (nat_lt 0) (length-map xs f) ∙ above_none (length xs)

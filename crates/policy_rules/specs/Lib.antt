@@ -1,6 +1,9 @@
-pub mod Keeping
+pub mod BuiltRules
+pub mod Cpus
+pub mod Groups
 pub mod Keys
 pub mod Limits
-pub mod Placed
-pub mod Shared
+pub mod Majors
 pub mod Span
+pub mod Windows
+pub mod Writers

@@ -1,42 +1,36 @@
--- Rules 3 and 20 of a resolved policy whose elements are built.
-use Rattle.std.specs.Prelude.{ℕ, ◌+◌, ◌*◌, ◌&&◌, Bool, [], ◌∷◌, length, nat_lt, nat_le, codes, Option}
+-- Rule 20 of a resolved policy whose elements are built: the limits.
+use Rattle.std.specs.Prelude.{ℕ, ◌+◌, ◌*◌, ◌&&◌, List, length, nat_le, codes, Option}
+use Rattle.std.specs.Option.{option_or}
 use Rattle.std.specs.List.{list_all, sum_by, enumerate_from}
-use Rattle.muen_num.specs.Search.{first_of, first_in, unless}
-use Rattle.policy_lawful.specs.Offences.{alone, two}
-use Rattle.policy_lawful.specs.Rules.{major_name, cpu_name, at_most}
-use Rattle.policy_lawful.specs.Resolution.{Resolution}
+use Rattle.muen_num.specs.Search.{first_in, unless}
+use Rattle.policy_lawful.specs.ByPlace.{is_short}
+use Rattle.policy_lawful.specs.Offences.{alone}
+use Rattle.policy_lawful.specs.Rules.{major_name, at_most}
 use Rattle.policy_lawful.specs.declared.offence.Offence.{Offence}
 use Rattle.policy_lawful.specs.declared.resolved.MajorFrame.{MajorFrame}
-use Rattle.policy_lawful.specs.declared.resolved.CpuFrames.{CpuFrames}
-use Rattle.policy_rules.specs.Placed.{ticks_in}
+use Rattle.policy_lawful.specs.declared.resolved.Subject.{Subject}
+use Rattle.policy_types.specs.declared.source.Block.{Block}
 
--- CPUs: their number, those of subjects, of groups, of frames
-abbrev pub cpus_offence : Resolution → Option Offence
-cpus_offence r =
-    first_of (
-    unless (nat_le 1 r.processor.logical_cpus && nat_le r.processor.logical_cpus 8) (alone (codes "processor"))
-    ∷ first_in (λ s. unless (nat_lt s.cpu r.processor.logical_cpus) (alone s.name)) r.subjects
-    ∷ first_in (λ g. unless (nat_lt g.cpu r.processor.logical_cpus) (alone g.name)) r.scheduling.groups
-    ∷ first_in (λ m. first_in (λ c. unless (nat_lt c.cpu r.processor.logical_cpus) (two (major_name m.0) (cpu_name c.cpu))) m.1.cpus) (enumerate_from 0 r.scheduling.major_frames)
-    ∷ []
-    )
+abbrev pub major_limit : ℕ × MajorFrame → Option Offence
+major_limit (k, m) = unless (list_all is_short m.cpus) (alone (major_name k))
 
--- at most 100,000 ticks and 64 minor frames
-abbrev pub entry_within : CpuFrames → Bool
-entry_within c = nat_le (ticks_in c) 100000 && nat_le (length c.minor_frames) 64
+-- the limits on blocks
+abbrev pub blocks_limit : List Block → Option Offence
+blocks_limit blocks =
+    option_or (at_most (length blocks) 16 (codes "memoryBlocks")) (at_most (sum_by (λ b. b.size) blocks) 67108864 (codes "memoryBlocks"))
 
-abbrev pub major_within : ℕ × MajorFrame → Option Offence
-major_within (k, m) = unless (list_all entry_within m.cpus) (alone (major_name k))
+-- the limits on subjects, their windows, and all regions, of which there are so many without those of the kernel
+abbrev pub subjects_limit : List Subject → ℕ → Option Offence
+subjects_limit subjects regions =
+    option_or (option_or (unless (nat_le 1 (length subjects) && nat_le (length subjects) 32) (alone (codes "subjects")))
+    (first_in (λ s. unless (nat_le (length s.memory) 128) (alone s.name)) subjects))
+    (at_most (regions + 5 * length subjects) 1024 (codes "memory"))
 
-abbrev pub limits_offence : Resolution → Option Offence
-limits_offence r =
-    first_of (
-    at_most (length r.memory_blocks) 16 (codes "memoryBlocks")
-    ∷ at_most (sum_by (λ b. b.size) r.memory_blocks) 67108864 (codes "memoryBlocks")
-    ∷ unless (nat_le 1 (length r.subjects) && nat_le (length r.subjects) 32) (alone (codes "subjects"))
-    ∷ first_in (λ s. unless (nat_le (length s.memory) 128) (alone s.name)) r.subjects
-    ∷ at_most (length r.memory + 5 * length r.subjects) 1024 (codes "memory")
-    ∷ unless (nat_le 1 (length r.scheduling.major_frames) && nat_le (length r.scheduling.major_frames) 16) (alone (codes "majorFrames"))
-    ∷ first_in major_within (enumerate_from 0 r.scheduling.major_frames)
-    ∷ []
-    )
+-- the limits on major frames
+abbrev pub majors_limit : List MajorFrame → Option Offence
+majors_limit majors =
+    option_or (unless (nat_le 1 (length majors) && nat_le (length majors) 16) (alone (codes "majorFrames"))) (first_in major_limit (enumerate_from 0 majors))
+
+abbrev pub limits_offence : List Block → ℕ → List Subject → List MajorFrame → Option Offence
+limits_offence blocks regions subjects majors =
+    option_or (option_or (blocks_limit blocks) (subjects_limit subjects regions)) (majors_limit majors)

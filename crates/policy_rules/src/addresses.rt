@@ -2,10 +2,15 @@
 ghost use Rattle.std.specs.Prelude.{◌≡◌, ◌+◌, true};
 ghost use Rattle.muen_num.specs.Search.{first_in, unless};
 ghost use Rattle.policy_lawful.specs.Offences.{alone};
-ghost use Rattle.policy_lawful.specs.Rules.{is_page_aligned, is_page_size, is_physical, is_guest, is_alignment, is_fixed, is_laid};
+ghost use Rattle.policy_lawful.specs.Rules.{is_page_aligned, is_page_size, is_physical, is_guest, is_alignment, is_fixed, is_laid, offence_4};
+ghost use Rattle.policy_lawful.specs.Resolution.{source_of};
+ghost use Rattle.policy_types.specs.Built.{is_built};
+ghost use Rattle.policy_rules.specs.Windows.{addresses_offence};
 
-use muen_num::Name;
+use crate::windows::outside;
+use muen_num::first;
 use policy_lawful::Offence;
+use policy_lawful::resolved::{Resolved, Subject};
 use policy_types::source::{Block, Region};
 
 const PAGE: u64 = 4096;
@@ -15,16 +20,6 @@ const LARGE_PAGE: u64 = 1 << 21;
 const PHYSICAL_END: u128 = 1 << 40;
 
 const GUEST_END: u128 = 1 << 48;
-
-/// An offence that names one thing alone.
-pub(crate) fn alone(name: Name) -> Offence
-    ensures { result ≡ alone name }
-{
-    Offence {
-        first: name,
-        second: name,
-    }
-}
 
 fn is_page_aligned(n: u64) -> bool
     ensures { result ≡ is_page_aligned n }
@@ -38,24 +33,22 @@ fn is_page_size(n: u64) -> bool
     is_page_aligned(n) && n > 0
 }
 
-fn end(address: u64, size: u64) -> u128
-    ensures { result ≡ address + size }
-{
-    u128::from(address) + u128::from(size)
-}
-
 // Whether this is a range of physical memory.
 fn is_physical(address: u64, size: u64) -> bool
     ensures { result ≡ is_physical address size }
 {
-    is_page_aligned(address) && is_page_size(size) && end(address, size) <= PHYSICAL_END
+    is_page_aligned(address)
+        && is_page_size(size)
+        && u128::from(address) + u128::from(size) <= PHYSICAL_END
 }
 
 /// Whether this is a range of guest addresses.
 pub(crate) fn is_guest(address: u64, size: u64) -> bool
     ensures { result ≡ is_guest address size }
 {
-    is_page_aligned(address) && is_page_size(size) && end(address, size) <= GUEST_END
+    is_page_aligned(address)
+        && is_page_size(size)
+        && u128::from(address) + u128::from(size) <= GUEST_END
 }
 
 fn is_alignment(n: u64) -> bool
@@ -81,26 +74,39 @@ fn is_laid(region: &Region) -> bool
     is_page_size(region.size) && is_alignment(region.alignment) && is_fixed(region)
 }
 
-/// The first block that isn't a range of physical memory.
-pub(crate) fn blocks(blocks: &[Block]) -> Option<Offence>
+// The first block that isn't a range of physical memory.
+fn blocks(blocks: &[Block]) -> Option<Offence>
     ensures { result ≡ first_in (λ b. unless (is_physical b.physical_address b.size) (alone b.name)) blocks.now }
 {
-    for block in blocks {
-        if !is_physical(block.physical_address, block.size) {
-            return Some(alone(block.name));
-        }
-    }
-    None
+    first(blocks, |block| {
+        Offence::alone(block.name).unless(is_physical(block.physical_address, block.size))
+    })
 }
 
-/// The first region whose size, alignment or address isn't one.
-pub(crate) fn regions(regions: &[Region]) -> Option<Offence>
+// The first region whose size, alignment or address isn't one.
+fn regions(regions: &[Region]) -> Option<Offence>
     ensures { result ≡ first_in (λ r. unless (is_laid r) (alone r.name)) regions.now }
 {
-    for region in regions {
-        if !is_laid(region) {
-            return Some(alone(region.name));
-        }
-    }
-    None
+    first(
+        regions,
+        |region| Offence::alone(region.name).unless(is_laid(region)),
+    )
+}
+
+// The first block, region or window of these that offends.
+fn of_elements(all: &[Block], memory: &[Region], subjects: &[Subject]) -> Option<Offence>
+    ensures { result ≡ addresses_offence all.now memory.now subjects.now }
+{
+    blocks(all)
+        .or_else(|| regions(memory))
+        .or_else(|| outside(memory, subjects))
+}
+
+/// Rule 4: the first address or size that isn't one.
+#[tactic(auto, using(crate::proofs::RangesByPlace::addresses_by_place))]
+pub(crate) fn addresses(r: &Resolved) -> Option<Offence>
+    requires { is_built (source_of r.now) ≡ true }
+    ensures { result ≡ offence_4 (source_of r.now) }
+{
+    of_elements(r.memory_blocks(), r.memory(), r.subjects())
 }

@@ -1,12 +1,12 @@
 //! Rule 17: each group has members, all on its CPU, and each subject is a member once.
-ghost use Rattle.std.specs.Prelude.{◌≡◌, ◌==◌, IfOk, if◌then◌else◌};
+ghost use Rattle.std.specs.Prelude.{◌≡◌, ◌==◌, IfOk, slice_index, if◌then◌else◌};
 ghost use Rattle.std.specs.List.{list_all, enumerate_from};
 ghost use Rattle.muen_num.specs.Search.{first_in};
 ghost use Rattle.policy_lawful.specs.Rules.{offence_17};
 ghost use Rattle.policy_lawful.specs.Resolution.{source_of};
-ghost use Rattle.policy_rules.specs.Placed.{is_member, is_group, group_offence, times_among, times_in, Adds, AreTimes, groups_offence, counted_offence};
+ghost use Rattle.policy_rules.specs.Groups.{is_member, is_group, group_offence, times_among, times_in, Adds, AreTimes, groups_offence, counted_offence};
 
-use muen_num::NoMemory;
+use muen_num::{NoMemory, first, first_numbered};
 use policy_lawful::resolved::{Group, Subject};
 use policy_lawful::{Offence, Resolved};
 use std::alloc::{AllocError, Global};
@@ -37,15 +37,10 @@ fn is_group(subjects: &[Subject], group: &Group) -> bool
 fn first_group(subjects: &[Subject], groups: &[Group]) -> Option<Offence>
     ensures { result ≡ first_in (group_offence subjects.now) groups.now }
 {
-    for group in groups {
-        if !is_group(subjects, group) {
-            return Some(Offence {
-                first: group.name,
-                second: group.name,
-            });
-        }
-    }
-    None
+    first(
+        groups,
+        |group| Offence::alone(group.name).unless(is_group(subjects, group)),
+    )
 }
 
 // Counts this place on. Counts of 2 and more are alike.
@@ -89,18 +84,13 @@ fn times_of(alloc: Global, groups: &[Group], count: usize) -> Result<Vec<u8>, Al
 fn first_counted(subjects: &[Subject], times: &[u8]) -> Option<Offence>
     ensures { result ≡ first_in (counted_offence times.now) (enumerate_from 0 subjects.now) }
 {
-    for (place, subject) in subjects.iter().enumerate() {
-        if times.get(place).copied().unwrap_or(0) != 1 {
-            return Some(Offence {
-                first: subject.name,
-                second: subject.name,
-            });
-        }
-    }
-    None
+    first_numbered(subjects, |place, subject| {
+        Offence::alone(subject.name).unless(times.get(place).copied().unwrap_or(0) == 1)
+    })
 }
 
 // The first group that offends, else the first subject that isn't listed once.
+#[tactic(auto, using(crate::proofs::GroupsByPlace::by_counts))]
 fn of_groups(
     alloc: Global,
     subjects: &[Subject],
@@ -108,16 +98,15 @@ fn of_groups(
 ) -> Result<Option<Offence>, AllocError>
     ensures { IfOk result (λ o. o ≡ groups_offence subjects.now groups.now) }
 {
-    match first_group(subjects, groups) {
-        Some(offence) => Ok(Some(offence)),
-        None => {
-            let times = times_of(alloc, groups, subjects.len())?;
-            Ok(first_counted(subjects, &times))
-        }
+    if let Some(offence) = first_group(subjects, groups) {
+        return Ok(Some(offence));
     }
+    let times = times_of(alloc, groups, subjects.len())?;
+    Ok(first_counted(subjects, &times))
 }
 
 /// The first offence against rule 17, if any.
+#[tactic(auto, using(crate::proofs::GroupsByPlace::groups_by_place))]
 pub(crate) fn groups(alloc: Global, r: &Resolved) -> Result<Option<Offence>, NoMemory>
     ensures { IfOk result (λ o. o ≡ offence_17 (source_of r.now)) }
 {

@@ -8,11 +8,12 @@ ghost use Rattle.policy_types.specs.Built.{is_built};
 ghost use Rattle.policy_lawful.specs.Resolution.{source_of};
 ghost use Rattle.policy_lawful.specs.Rules.{at_most, major_name, offence_20};
 ghost use Rattle.policy_rules.specs.Keys.{key_text};
-ghost use Rattle.policy_rules.specs.Limits.{entry_within, major_within};
+ghost use Rattle.policy_lawful.specs.ByPlace.{is_short};
+ghost use Rattle.policy_rules.specs.Limits.{major_limit, blocks_limit, subjects_limit, majors_limit, limits_offence};
 
-use crate::addresses::alone;
 use crate::keys::Key;
 use crate::major_frames::ticks_in;
+use muen_num::{first, first_numbered};
 use policy_lawful::Offence;
 use policy_lawful::frame_names::major_name;
 use policy_lawful::resolved::{CpuFrames, MajorFrame, Resolved, Subject};
@@ -42,119 +43,101 @@ const KERNEL_REGIONS: u128 = 5;
 fn at_most(n: u128, most: u128, key: Key) -> Option<Offence>
     ensures { result ≡ at_most n most (key_text key) }
 {
-    if n <= most {
-        return None;
-    }
-    Some(alone(key.name()))
+    Offence::alone(key.name()).unless(n <= most)
 }
 
 // At least one, and at most so many.
 fn some(n: u128, most: u128, key: Key) -> Option<Offence>
     ensures { result ≡ unless (nat_le 1 n && nat_le n most) (alone (key_text key)) }
 {
-    if n >= 1 && n <= most {
-        return None;
-    }
-    Some(alone(key.name()))
+    Offence::alone(key.name()).unless(n >= 1 && n <= most)
 }
 
 // The bytes of these blocks.
 fn bytes(blocks: &[Block]) -> u128
     ensures { result ≡ sum_by (λ b. b.size) blocks.now }
 {
-    let mut total: u128 = 0;
-    for block in blocks {
-        total += block.size as u128;
-    }
-    total
+    blocks.iter().map(|block| u128::from(block.size)).sum()
 }
 
 // The first subject with too many windows.
 fn windows(subjects: &[Subject]) -> Option<Offence>
     ensures { result ≡ first_in (λ s. unless (nat_le (length s.memory) 128) (alone s.name)) subjects.now }
 {
-    for subject in subjects {
-        if subject.memory.len() > WINDOWS {
-            return Some(alone(subject.name));
-        }
-    }
-    None
+    first(subjects, |subject| {
+        Offence::alone(subject.name).unless(subject.memory.len() <= WINDOWS)
+    })
 }
 
-fn is_within(entry: &CpuFrames) -> bool
-    ensures { result ≡ entry_within entry.now }
+// Whether each entry is short enough.
+fn are_short(entries: &[CpuFrames]) -> bool
+    ensures { result ≡ list_all is_short entries.now }
 {
-    ticks_in(entry) <= TICKS && entry.minor_frames.len() <= MINOR_FRAMES
-}
-
-fn are_within(entries: &[CpuFrames]) -> bool
-    ensures { result ≡ list_all entry_within entries.now }
-{
-    entries.iter().all(|entry| is_within(entry))
+    entries.iter().all(|entry| ticks_in(entry) <= TICKS && entry.minor_frames.len() <= MINOR_FRAMES)
 }
 
 // The first major frame that is too long.
 fn frames(majors: &[MajorFrame]) -> Option<Offence>
-    ensures { result ≡ first_in major_within (enumerate_from 0 majors.now) }
+    ensures { result ≡ first_in major_limit (enumerate_from 0 majors.now) }
 {
-    for (place, major) in majors.iter().enumerate() {
-        if !are_within(major.cpus.items()) {
-            return Some(alone(major_name(place)));
-        }
-    }
-    None
+    first_numbered(majors, |place, major| {
+        Offence::alone(major_name(place)).unless(are_short(major.cpus.items()))
+    })
 }
 
 // The limits on blocks.
 fn of_blocks(blocks: &[Block]) -> Option<Offence>
-    ensures { result ≡ option_or (at_most (length blocks.now) 16 (codes "memoryBlocks")) (at_most (sum_by (λ b. b.size) blocks.now) 67108864 (codes "memoryBlocks")) }
+    ensures { result ≡ blocks_limit blocks.now }
 {
-    let offence = at_most(blocks.len() as u128, BLOCKS, Key::MemoryBlocks);
-    if offence.is_some() {
-        return offence;
-    }
-    at_most(bytes(blocks), BYTES_OF_BLOCKS, Key::MemoryBlocks)
+    at_most(blocks.len() as u128, BLOCKS, Key::MemoryBlocks).or_else(|| at_most(
+        bytes(blocks),
+        BYTES_OF_BLOCKS,
+        Key::MemoryBlocks,
+    ))
 }
 
 // The limits on subjects, their windows, and all regions.
 fn of_subjects(subjects: &[Subject], regions: usize) -> Option<Offence>
-    ensures { result ≡ option_or (unless (nat_le 1 (length subjects.now) && nat_le (length subjects.now) 32) (alone (codes "subjects")))
-        (option_or (first_in (λ s. unless (nat_le (length s.memory) 128) (alone s.name)) subjects.now) (at_most (regions + 5 * length subjects.now) 1024 (codes "memory"))) }
+    ensures { result ≡ subjects_limit subjects.now regions }
 {
     let count = subjects.len() as u128;
-    let offence = some(count, SUBJECTS, Key::Subjects);
-    if offence.is_some() {
-        return offence;
-    }
-    let offence = windows(subjects);
-    if offence.is_some() {
-        return offence;
-    }
-    at_most(
-        regions as u128 + KERNEL_REGIONS * count,
-        REGIONS,
-        Key::Memory,
-    )
+    let all = regions as u128 + KERNEL_REGIONS * count;
+    some(count, SUBJECTS, Key::Subjects)
+        .or_else(|| windows(subjects))
+        .or_else(|| at_most(all, REGIONS, Key::Memory))
 }
 
 // The limits on major frames.
 fn of_frames(majors: &[MajorFrame]) -> Option<Offence>
-    ensures { result ≡ option_or (unless (nat_le 1 (length majors.now) && nat_le (length majors.now) 16) (alone (codes "majorFrames"))) (first_in major_within (enumerate_from 0 majors.now)) }
+    ensures { result ≡ majors_limit majors.now }
 {
-    let offence = some(majors.len() as u128, MAJOR_FRAMES, Key::MajorFrames);
-    if offence.is_some() {
-        return offence;
-    }
-    frames(majors)
+    some(majors.len() as u128, MAJOR_FRAMES, Key::MajorFrames).or_else(|| frames(majors))
+}
+
+// The limits of these elements and so many regions.
+fn of_elements(
+    blocks: &[Block],
+    regions: usize,
+    subjects: &[Subject],
+    majors: &[MajorFrame],
+) -> Option<Offence>
+    ensures { result ≡ limits_offence blocks.now regions subjects.now majors.now }
+{
+    of_blocks(blocks)
+        .or_else(|| of_subjects(subjects, regions))
+        .or_else(|| of_frames(majors))
 }
 
 /// Rule 20: the limits, in their order.
+#[tactic(auto, using(crate::proofs::LimitsByPlace::limits_by_place))]
 pub(crate) fn limits(r: &Resolved) -> Option<Offence>
     requires { is_built (source_of r.now) ≡ true }
     ensures { result ≡ offence_20 (source_of r.now) }
 {
-    let blocks = of_blocks(r.memory_blocks());
-    let subjects = of_subjects(r.subjects(), r.memory().len());
-    let frames = of_frames(r.scheduling().major_frames.items());
-    blocks.or(subjects).or(frames)
+    of_elements(
+        r.memory_blocks(),
+        r.memory().len(),
+        r.subjects(),
+        r.scheduling().major_frames.items(),
+    )
 }

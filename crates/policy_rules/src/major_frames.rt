@@ -1,14 +1,17 @@
 //! Rule 16: in each major frame every CPU is listed once, with minor frames of its own groups that
 //! have ticks, and the ticks of all CPUs are the same.
-ghost use Rattle.std.specs.Prelude.{◌≡◌, None, [], sum_by};
-ghost use Rattle.std.specs.List.{list_all};
+ghost use Rattle.std.specs.Prelude.{◌≡◌, []};
+ghost use Rattle.std.specs.Option.{option_or};
+ghost use Rattle.std.specs.List.{list_all, enumerate_from};
 ghost use Rattle.muen_num.specs.Range.{numbers_below};
 ghost use Rattle.muen_num.specs.Search.{first_in, first_after};
+ghost use Rattle.policy_lawful.specs.ByPlace.{ticks_in};
 ghost use Rattle.policy_lawful.specs.Offences.{two};
-ghost use Rattle.policy_lawful.specs.Rules.{major_name, cpu_name, is_on, offence_3, offence_16};
+ghost use Rattle.policy_lawful.specs.Rules.{major_name, cpu_name, is_on, offence_16};
 ghost use Rattle.policy_lawful.specs.Resolution.{source_of};
-ghost use Rattle.policy_rules.specs.Placed.{cpu_of_group, is_frame, ticks_in, has_first_ticks, is_listed, is_entry, entry_offence, missing_offence, major_offence, first_major};
+ghost use Rattle.policy_rules.specs.Majors.{cpu_of_group, is_frame, has_first_ticks, is_listed, is_entry, entry_offence, missing_offence, major_offence};
 
+use muen_num::first_numbered;
 use policy_lawful::frame_names::{cpu_name, major_name};
 use policy_lawful::resolved::{CpuFrames, Group, MajorFrame, MinorFrame};
 use policy_lawful::{Offence, Resolved};
@@ -36,22 +39,12 @@ fn are_frames(groups: &[Group], cpu: u64, frames: &[MinorFrame]) -> bool
     frames.iter().all(|frame| is_frame(groups, cpu, frame))
 }
 
-// All ticks of these minor frames, below 2^64 for each.
-fn sum_of_ticks(frames: &[MinorFrame]) -> u128
-    ensures { result ≡ sum_by (λ f. f.ticks) frames.now }
-{
-    let mut total: u128 = 0;
-    for frame in frames {
-        total += frame.ticks as u128;
-    }
-    total
-}
-
-/// The ticks of an entry.
+/// The ticks of an entry, below 2^64 for each minor frame.
 pub(crate) fn ticks_in(entry: &CpuFrames) -> u128
     ensures { result ≡ ticks_in entry.now }
 {
-    sum_of_ticks(entry.minor_frames.items())
+    let frames = entry.minor_frames.items();
+    frames.iter().map(|frame| u128::from(frame.ticks)).sum()
 }
 
 // As many ticks as the first of these entries has, if there is one.
@@ -117,33 +110,29 @@ fn first_missing(cpus: &[CpuFrames], place: usize, count: u64) -> Option<Offence
 
 // Of a major frame and its place: the first entry that offends, else the first CPU that isn't
 // listed.
-fn of_major(groups: &[Group], count: u64, place: usize, frame: &MajorFrame) -> Option<Offence>
-    ensures { result ≡ major_offence groups.now count (place, frame.now) }
+fn of_entries(groups: &[Group], count: u64, place: usize, cpus: &[CpuFrames]) -> Option<Offence>
+    ensures { result ≡ option_or (first_after (entry_offence groups.now place) [] cpus.now) (first_in (missing_offence cpus.now place) (numbers_below count)) }
 {
-    match first_entry(groups, place, frame.cpus.items()) {
-        Some(offence) => Some(offence),
-        None => first_missing(frame.cpus.items(), place, count),
-    }
+    first_entry(groups, place, cpus).or_else(|| first_missing(cpus, place, count))
 }
 
-fn first_major(groups: &[Group], count: u64, frames: &[MajorFrame]) -> Option<Offence>
-    ensures { result ≡ first_major groups.now count frames.now }
+// The first such offence of all major frames, for so many CPUs.
+fn of_majors(groups: &[Group], count: u64, majors: &[MajorFrame]) -> Option<Offence>
+    ensures { result ≡ first_in (major_offence groups.now count) (enumerate_from 0 majors.now) }
 {
-    for (place, frame) in frames.iter().enumerate() {
-        if let Some(offence) = of_major(groups, count, place, frame) {
-            return Some(offence);
-        }
-    }
-    None
+    first_numbered(
+        majors,
+        |place, major| of_entries(groups, count, place, major.cpus.items()),
+    )
 }
 
 /// The first offence against rule 16, if any.
+#[tactic(auto, using(crate::proofs::MajorsByPlace::majors_by_place))]
 pub(crate) fn major_frames(r: &Resolved) -> Option<Offence>
-    requires cpus { offence_3 (source_of r.now) ≡ None }
     ensures { result ≡ offence_16 (source_of r.now) }
 {
     let plan = r.scheduling();
-    first_major(
+    of_majors(
         plan.groups.items(),
         r.processor().logical_cpus,
         plan.major_frames.items(),

@@ -6,7 +6,7 @@ ghost use Rattle.muen_num.specs.Search.{first_in};
 ghost use Rattle.policy_lawful.specs.Rules.{are_apart, overlapping, first_overlap};
 ghost use Rattle.policy_rules.specs.Span.{span_of, IsBelow};
 
-use muen_num::NoMemory;
+use muen_num::{NoMemory, first};
 use policy_lawful::{Extent, Offence};
 use std::alloc::{AllocError, Global};
 
@@ -103,15 +103,13 @@ fn longest_apart(alloc: Global, extents: &[Extent]) -> Result<usize, NoMemory>
 fn earlier(before: &[Extent], last: &Extent) -> Option<Offence>
     ensures { result ≡ first_in (λ b. overlapping b last.now) before.now }
 {
-    for b in before {
-        if !are_apart(b, last) {
-            return Some(Offence {
-                first: b.name,
-                second: last.name,
-            });
+    first(before, |b| {
+        Offence {
+            first: b.name,
+            second: last.name,
         }
-    }
-    None
+        .unless(are_apart(b, last))
+    })
 }
 
 /// The first two of these ranges that share an address: of those with the least later one, the

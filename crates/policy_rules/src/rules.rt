@@ -1,66 +1,58 @@
 // The rules by their numbers.
-ghost use Rattle.std.specs.Prelude.{◌≡◌, None, true, OnOk};
+ghost use Rattle.std.specs.Prelude.{◌≡◌, ⊤, None, true};
 ghost use Rattle.std.specs.Option.{option_or};
+ghost use Rattle.muen_num.specs.Answers.{Answers};
+ghost use Rattle.muen_num.specs.Search.{as_refusal};
 ghost use Rattle.policy_types.specs.Built.{is_built};
+ghost use Rattle.policy_types.specs.declared.refusal.Refusal.TheVariants.{NoMemory as OutOfMemory};
+ghost use Rattle.policy_lawful.specs.Keeps.{Keeps};
 ghost use Rattle.policy_lawful.specs.Lawful.{kept_or, kept_source, rules_broken};
 ghost use Rattle.policy_lawful.specs.Offences.{broken};
-ghost use Rattle.policy_types.specs.Reading.{Answers};
 ghost use Rattle.policy_lawful.specs.Resolution.{source_of};
-ghost use Rattle.policy_lawful.specs.Rules.{offence_3, offence_4};
-ghost use Rattle.policy_rules.specs.Keeping.{Keeps, memory_broken, plan_broken};
+ghost use Rattle.policy_lawful.specs.Rules.{offence_4};
+ghost use Rattle.policy_rules.specs.BuiltRules.{memory_broken, plan_broken};
 
+use crate::addresses::addresses;
 use crate::apart::{blocks_apart, windows_apart};
 use crate::cpus::cpus;
 use crate::groups::groups;
 use crate::limits::limits;
 use crate::major_frames::major_frames;
-use crate::windows::addresses;
 use crate::writers::writers;
-use muen_num::NoMemory;
 use policy_lawful::{Lawful, Offence, Resolved};
 use policy_types::Refusal;
 use std::alloc::Global;
 
-// The refusal of a broken rule.
-fn refuse(number: u8, offence: Offence) -> Refusal
-    ensures { result ≡ Refusal.Rule number offence.first offence.second }
-{
-    Refusal::Rule {
-        number,
-        first: offence.first,
-        second: offence.second,
-    }
-}
-
-// What a rule answers: nothing where it is kept.
+// What a rule answers: nothing where it is kept, else its refusal.
 fn keep(number: u8, offence: Option<Offence>) -> Result<(), Refusal>
-    ensures { Keeps (broken number offence) result }
+    ensures { result ≡ as_refusal (broken number offence) }
 {
     match offence {
         None => Ok(()),
-        Some(offence) => Err(refuse(number, offence)),
+        Some(Offence { first, second }) => Err(Refusal::Rule {
+            number,
+            first,
+            second,
+        }),
     }
 }
 
-// The least of rules 3, 4, 5 and 8 that is broken.
+// Rules 3, 4, 5 and 8, or the least of them that is broken.
 fn memory_rules(alloc: Global, r: &Resolved) -> Result<(), Refusal>
     requires { is_built (source_of r.now) ≡ true }
-    ensures keeps { Keeps (memory_broken (source_of r.now)) result }
-    ensures cpus { OnOk result (offence_3 (source_of r.now) ≡ None) }
-    ensures laid { OnOk result (offence_4 (source_of r.now) ≡ None) }
+    ensures { Keeps (memory_broken (source_of r.now)) (λ _. offence_4 (source_of r.now) ≡ None) result }
 {
     keep(3, cpus(r))?;
-    keep(4, addresses(alloc, r)?)?;
+    keep(4, addresses(r))?;
     keep(5, windows_apart(alloc, r)?)?;
     keep(8, writers(alloc, r)?)
 }
 
-// The least of rules 16, 17, 18 and 20 that is broken.
+// Rules 16, 17, 18 and 20, or the least of them that is broken.
 fn plan_rules(alloc: Global, r: &Resolved) -> Result<(), Refusal>
     requires built { is_built (source_of r.now) ≡ true }
-    requires cpus { offence_3 (source_of r.now) ≡ None }
-    requires laid { offence_4 (source_of r.now) ≡ None }
-    ensures keeps { Keeps (plan_broken (source_of r.now)) result }
+    requires addresses { offence_4 (source_of r.now) ≡ None }
+    ensures { Keeps (plan_broken (source_of r.now)) (λ _. ⊤) result }
 {
     keep(16, major_frames(r))?;
     keep(17, groups(alloc, r)?)?;
@@ -68,11 +60,10 @@ fn plan_rules(alloc: Global, r: &Resolved) -> Result<(), Refusal>
     keep(20, limits(r))
 }
 
-// The least rule from 3 on that is broken.
-#[tactic(auto, using(crate::proofs::Kept::rules_joined))]
+// All rules from 3 on, or the least of them that is broken.
 fn all_rules(alloc: Global, r: &Resolved) -> Result<(), Refusal>
     requires { is_built (source_of r.now) ≡ true }
-    ensures { Keeps (option_or (memory_broken (source_of r.now)) (plan_broken (source_of r.now))) result }
+    ensures { Keeps (option_or (memory_broken (source_of r.now)) (plan_broken (source_of r.now))) (λ _. ⊤) result }
 {
     memory_rules(alloc, r)?;
     plan_rules(alloc, r)
@@ -81,10 +72,10 @@ fn all_rules(alloc: Global, r: &Resolved) -> Result<(), Refusal>
 /// The policy, where it keeps every rule from 3 on; else the least rule that is broken, with its two
 /// names, or `NoMemory`. The rules on elements that aren't built are kept. A refused policy is
 /// dropped.
-#[tactic(auto, using(crate::proofs::Kept::rules_joined, crate::proofs::Kept::refused))]
+#[tactic(auto, using(crate::proofs::RulesJoined::rules_joined, policy_lawful::proofs::Keeps::refused))]
 pub fn check(alloc: Global, r: Resolved) -> Result<Lawful, Refusal>
     requires { is_built (source_of r) ≡ true }
-    ensures { Answers (kept_or (source_of r) (rules_broken (source_of r))) (kept_source result) }
+    ensures { Answers OutOfMemory (kept_or (source_of r) (rules_broken (source_of r))) (kept_source result) }
 {
     match all_rules(alloc, &r) {
         Ok(()) => Ok(Lawful::make(r)),

@@ -1,16 +1,16 @@
 // Rule 8: what one subject may write, no other maps.
 ghost use Rattle.std.specs.Prelude.{◌≡◌, ℕ, ◌<◌, ◌==◌, ◌&&◌, true, None, length, slice_index_or, IfOk};
-ghost use Rattle.std.specs.List.{All};
+ghost use Rattle.std.specs.List.{All, enumerate_from};
+ghost use Rattle.muen_num.specs.Search.{first_in};
 ghost use Rattle.policy_types.specs.Built.{is_built};
 ghost use Rattle.policy_lawful.specs.Resolution.{source_of};
 ghost use Rattle.policy_lawful.specs.Rules.{offence_8};
-ghost use Rattle.policy_rules.specs.Shared.{IsWithin, shows, alters, may_write, writer_of, is_other, other_of, noted, HasNames, first_named};
+ghost use Rattle.policy_rules.specs.Writers.{IsWithin, shows, alters, writer_of, is_other, other_of, noted, HasNames, named_at};
 
-
-use muen_num::{Kind, Name, NoMemory};
+use muen_num::{Kind, Name, NoMemory, first_numbered};
 use policy_lawful::resolved::{Mapping, Subject};
-use policy_types::source::Region;
 use policy_lawful::{Offence, Resolved};
+use policy_types::source::Region;
 use std::alloc::Global;
 
 // Notes the name at a place, unless one stands there.
@@ -23,19 +23,13 @@ fn note(names: &mut [Option<Name>], place: usize, name: Name)
     }
 }
 
-fn may_write(mapping: &Mapping) -> bool
-    ensures { result ≡ may_write mapping.now }
-{
-    mapping.rights.allows(Kind::Write)
-}
-
 // Notes the subject at each region that it may write.
 fn note_writer(writers: &mut [Option<Name>], subject: &Subject)
     requires { IsWithin (length writers.old) subject.now }
     ensures { (k : ℕ) → slice_index_or writers.new k None ≡ noted (slice_index_or writers.old k None) (alters k subject.now) subject.now.name }
 {
     for mapping in subject.memory.items() {
-        if may_write(mapping) {
+        if mapping.rights.allows(Kind::Write) {
             note(writers, mapping.region, subject.name);
         }
     }
@@ -96,20 +90,24 @@ fn first_others(
     Ok(others)
 }
 
+// A region at whose place a name stands.
+fn named_at(names: &[Option<Name>], place: usize, region: &Region) -> Option<Offence>
+    ensures { result ≡ named_at names.now (place, region.now) }
+{
+    match names.get(place) {
+        Some(Some(name)) => Some(Offence {
+            first: region.name,
+            second: *name,
+        }),
+        _ => None,
+    }
+}
+
 // The first region at whose place a name stands.
 fn first_named(regions: &[Region], names: &[Option<Name>]) -> Option<Offence>
-    requires { length names.now ≡ length regions.now }
-    ensures { result ≡ first_named regions.now names.now }
+    ensures { result ≡ first_in (named_at names.now) (enumerate_from 0 regions.now) }
 {
-    for (place, region) in regions.iter().enumerate() {
-        if let Some(name) = names[place] {
-            return Some(Offence {
-                first: region.name,
-                second: name,
-            });
-        }
-    }
-    None
+    first_numbered(regions, |place, region| named_at(names, place, region))
 }
 
 /// The first region that one subject may write and another maps, and the first of these others.

@@ -1,3 +1,4 @@
 pub mod Built
 pub mod Reading
+pub mod Refusals
 pub mod Rights

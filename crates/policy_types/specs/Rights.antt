@@ -1,7 +1,7 @@
 -- Sets of rights, and the right that an access needs (Intel SDM volume 3, EPT entries).
 use Rattle.std.specs.Prelude.{◌==◌, Bool, bit_and, bit_or}
-use Rattle.muen_num.specs.declared.bits.Kind.{Kind}
-use Rattle.muen_num.specs.declared.bits.Kind.TheVariants.{Read, Write, Fetch}
+use Rattle.muen_num.specs.declared.access.Kind.{Kind}
+use Rattle.muen_num.specs.declared.access.Kind.TheVariants.{Read, Write, Fetch}
 use Rattle.policy_types.specs.declared.rights.Rights.{Rights}
 use Rattle.policy_types.specs.declared.rights.TheConstants.Rights.{READ, WRITE, EXECUTE}
 

@@ -3,6 +3,7 @@
 #![tactic(auto)]
 
 pub mod refusal;
+mod refusal_text;
 pub mod rights;
 pub mod source;
 

@@ -5,6 +5,7 @@ use muen_num::{Name, NoMemory, Tag};
 use std::alloc::{AllocError, AllocFailed, Global};
 use std::fmt;
 use std::marker::Model;
+use thiserror::Error;
 
 /// Where a value of a document stands: the keys and item numbers from the top down to it, each
 /// after a `/`; empty for the whole document. Contracts see the list of its bytes.
@@ -113,8 +114,8 @@ pub struct Fault {
     pub want: Want,
 }
 
-/// Why a policy with its files is refused.
-#[derive(Drop, Debug, Clone, PartialEq, Eq)]
+/// Why a policy with its files is refused. Its text is the one that is printed.
+#[derive(Drop, Debug, Clone, PartialEq, Eq, Error)]
 pub enum Refusal {
     /// The bytes are no JSON text.
     NotJson,

@@ -6,7 +6,7 @@ ghost use Rattle.state_page.specs.StatePage.{started};
 
 /// What a subject's processor holds (this project's own machine; on a state page of its kernel it
 /// has 4,096 bytes).
-#[derive(Clone, Copy, Debug)]
+#[derive(Clone, Copy, Debug, PartialEq, Eq)]
 pub struct SubjectState {
     /// The sixteen registers.
     pub regs: [u64; 16],

@@ -3,7 +3,7 @@ use Rattle.std.proofs.Common.{◌≡◌, ℕ, List, [], ◌∷◌, Some, None, r
 use Rattle.std.specs.Prelude.{codes, replicate}
 use Rattle.std.specs.FinMap.{from_entries}
 use Rattle.image_pack.specs.Slot.{slot_at}
-use Rattle.muen_num.specs.declared.bits.Mode.TheVariants.{Switch}
+use Rattle.muen_num.specs.declared.mode.Mode.TheVariants.{Switch}
 use Rattle.policy_meaning.specs.Contents.{Held, initial_bytes}
 use Rattle.policy_meaning.specs.Frames.{frames_of}
 use Rattle.policy_meaning.specs.Thing.{things_of}

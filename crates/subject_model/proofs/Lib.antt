@@ -1,4 +1,5 @@
-pub mod Alone
 mod Examples
+pub mod Relabelled
 pub mod SoloLaws
 pub mod TickLaws
+pub mod TurnStores

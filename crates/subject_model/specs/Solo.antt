@@ -7,9 +7,10 @@ use Rattle.std.specs.Option.{option_map_or}
 use Rattle.muen_num.specs.Access.{kind_bit}
 use Rattle.muen_num.specs.Deliver.{delivered}
 use Rattle.muen_num.specs.Size.{bytes_of as count}
-use Rattle.muen_num.specs.declared.bits.Kind.{Kind}
-use Rattle.muen_num.specs.declared.bits.Kind.TheVariants.{Read, Write, Fetch}
-use Rattle.muen_num.specs.declared.bits.Size.{Size}
+use Rattle.muen_num.specs.declared.limits.TheConstants.{EXIT_EPT_VIOLATION, EXIT_EXCEPTION, EXIT_HLT, EXIT_IO, EXIT_RDMSR, EXIT_VMCALL, EXIT_WRMSR, GUEST_END}
+use Rattle.muen_num.specs.declared.access.Kind.{Kind}
+use Rattle.muen_num.specs.declared.access.Kind.TheVariants.{Read, Write, Fetch}
+use Rattle.muen_num.specs.declared.access.Size.{Size}
 use Rattle.policy_meaning.specs.Thing.{Thing, same_thing}
 use Rattle.policy_meaning.specs.Windows.{Window, Access, byte, violation, access_of, windows_of}
 use Rattle.policy_meaning.specs.Events.{traps_of}
@@ -46,8 +47,8 @@ abbrev pub idle : {X : Type 0} → SubjectState → Answer X
 idle s = record { state = s; what = None; stored = None; taken = None; raised = None }
 
 -- a line alone
-abbrev pub shown : {X : Type 0} → SubjectState → What → Answer X
-shown s what = record { state = s; what = Some what; stored = None; taken = None; raised = None }
+abbrev pub with_line : {X : Type 0} → SubjectState → What → Answer X
+with_line s what = record { state = s; what = Some what; stored = None; taken = None; raised = None }
 
 -- ---- an event is delivered
 
@@ -75,7 +76,7 @@ trapped s reason qualification address = record {
 -- an exit without one: the subject stops
 abbrev pub stopped_by : {X : Type 0} → SubjectState → ℕ → ℕ → ℕ → Answer X
 stopped_by s reason qualification address =
-    shown (record s { stopped = true; exited = true }) (Exit reason qualification address Stop)
+    with_line (record s { stopped = true; exited = true }) (Exit reason qualification address Stop)
 
 abbrev pub faulted : {X : Type 0} → List ℕ → SubjectState → ℕ → ℕ → ℕ → Answer X
 faulted traps s reason qualification address =
@@ -89,17 +90,18 @@ pub data Reach (X : Type 0) : Type 0 where
   reached : X → ℕ → Reach X
   refused : ℕ → ℕ → ℕ → Reach X
 
--- a missing right is exit 48; its qualification has the bit of the access, and the rights that were found in bits 5:3
+-- a missing right is an EPT violation; its qualification has the bit of the access, and the rights that were found in bits 5:3
 abbrev pub reach_by : {X : Type 0} → Kind → ℕ → Access X → Reach X
 reach_by kind address (byte x offset) = reached x offset
-reach_by kind address (violation found) = refused 48 (kind_bit kind + 8 * found.0) address
+reach_by kind address (violation found) = refused EXIT_EPT_VIOLATION (kind_bit kind + 8 * found.0) address
 
--- the faults of an access in their order: an address that is no multiple of the size, one from 2^48 up, a missing right
+-- the faults of an access in their order: an address that is no multiple of the size, one from the end of guest addresses
+-- up, a missing right
 abbrev pub reach_of : {X : Type 0} → List (Window X) → Kind → ℕ → ℕ → Reach X
 reach_of windows kind size address =
     if address % size == 0
-    then (if nat_le (2 ^ 48) address then refused 48 (kind_bit kind) address else reach_by kind address (access_of windows address kind))
-    else refused 0 0 0
+    then (if nat_le GUEST_END address then refused EXIT_EPT_VIOLATION (kind_bit kind) address else reach_by kind address (access_of windows address kind))
+    else refused EXIT_EXCEPTION 0 0
 
 -- the number that the first bytes from an offset on spell, the lowest first, zero-extended
 abbrev pub value_at : Size → List ℕ → ℕ → ℕ
@@ -116,7 +118,7 @@ store_at x offset size value = record { thing = x; offset = offset; bytes = stor
 
 abbrev pub loaded : {X : Type 0} → List ℕ → (X → List ℕ) → SubjectState → SubjectState → ℕ → Size → Reach X → Answer X
 loaded traps bytes_of s after reg size (reached x offset) =
-    shown (record (with_register after reg (value_at size (bytes_of x) offset)) { exited = false }) (Set reg (value_at size (bytes_of x) offset))
+    with_line (record (with_register after reg (value_at size (bytes_of x) offset)) { exited = false }) (Set reg (value_at size (bytes_of x) offset))
 loaded traps bytes_of s after reg size (refused reason qualification address) = faulted traps s reason qualification address
 
 abbrev pub stored_to : {X : Type 0} → List ℕ → SubjectState → SubjectState → ℕ → Size → ℕ → Reach X → Answer X
@@ -135,11 +137,11 @@ stored_to traps s after address size value (refused reason qualification guest) 
 abbrev pub port_qualification : Size → Bool → ℕ → ℕ
 port_qualification size input port = (count size - 1) + (if input then 8 else 0) + 65536 * port
 
--- a call is exit 18: `pc` goes on, and the declared call of that number, if there is one, is raised
+-- a call leaves: `pc` goes on, and the declared call of that number, if there is one, is raised
 abbrev pub called : {X : Type 0} → SubjectState → ℕ → Answer X
 called after number = record {
   state = record after { exited = true };
-  what = Some (Exit 18 0 0 On);
+  what = Some (Exit EXIT_VMCALL 0 0 On);
   stored = None;
   taken = None;
   raised = Some (ByCall number);
@@ -147,30 +149,30 @@ called after number = record {
 
 -- ---- one instruction
 
--- its wish is met, or it leaves with the fault of its access; HLT is exit 12, and the kernel halts the subject. No port
--- and no MSR is granted to anyone yet, so each access to one leaves: exit 30 for ports, 31 to read an MSR, 32 to write
+-- its wish is met, or it leaves with the fault of its access; HLT leaves too, and the kernel halts the subject. No port
+-- and no MSR is granted to anyone yet, so each access to one leaves
 abbrev pub performed : {X : Type 0} → List ℕ → List (Window X) → (X → List ℕ) → ℕ → SubjectState → SubjectState → Wish → Answer X
-performed traps windows bytes_of tick s after Nothing = shown (record after { exited = false }) Ran
+performed traps windows bytes_of tick s after Nothing = with_line (record after { exited = false }) Ran
 performed traps windows bytes_of tick s after (Sets reg value) =
-    shown (record after { exited = false }) (Set reg value)
+    with_line (record after { exited = false }) (Set reg value)
 performed traps windows bytes_of tick s after (Loads reg address size) =
     loaded traps bytes_of s after reg size (reach_of windows Read (count size) address)
 performed traps windows bytes_of tick s after (Stores address size value) =
     stored_to traps s after address size value (reach_of windows Write (count size) address)
 performed traps windows bytes_of tick s after (PortIn reg port size) =
-    faulted traps s 30 (port_qualification size true port) 0
+    faulted traps s EXIT_IO (port_qualification size true port) 0
 performed traps windows bytes_of tick s after (PortOut port size value) =
-    faulted traps s 30 (port_qualification size false port) 0
-performed traps windows bytes_of tick s after (ReadMsr reg index) = faulted traps s 31 0 0
-performed traps windows bytes_of tick s after (WriteMsr index value) = faulted traps s 32 0 0
+    faulted traps s EXIT_IO (port_qualification size false port) 0
+performed traps windows bytes_of tick s after (ReadMsr reg index) = faulted traps s EXIT_RDMSR 0 0
+performed traps windows bytes_of tick s after (WriteMsr index value) = faulted traps s EXIT_WRMSR 0 0
 performed traps windows bytes_of tick s after (Tick reg) =
-    shown (record (with_register after reg tick) { exited = false }) (Set reg tick)
+    with_line (record (with_register after reg tick) { exited = false }) (Set reg tick)
 performed traps windows bytes_of tick s after (Calls number) = called after number
-performed traps windows bytes_of tick s after Halts = shown (record after { halted = true; exited = true }) (Exit 12 0 0 Halt)
+performed traps windows bytes_of tick s after Halts = with_line (record after { halted = true; exited = true }) (Exit EXIT_HLT 0 0 Halt)
 
--- bytes outside the table are exit 0
+-- bytes outside the table are an exception
 abbrev pub executed : {X : Type 0} → List ℕ → List (Window X) → (X → List ℕ) → ℕ → SubjectState → Option Instr → Answer X
-executed traps windows bytes_of tick s None = faulted traps s 0 0 0
+executed traps windows bytes_of tick s None = faulted traps s EXIT_EXCEPTION 0 0
 executed traps windows bytes_of tick s (Some i) =
     performed traps windows bytes_of tick s (effect_of s i).after (effect_of s i).wish
 

@@ -5,8 +5,8 @@ use Rattle.std.specs.Option.{option_map_or}
 use Rattle.std.specs.List.{find, list_any}
 use Rattle.std.specs.Str.{bytes_eq}
 use Rattle.image_pack.specs.Slot.{Slot, slot_at}
-use Rattle.muen_num.specs.declared.bits.Mode.{Mode}
-use Rattle.muen_num.specs.declared.bits.Mode.TheVariants.{Asap, Async, Own as OwnMode, Switch}
+use Rattle.muen_num.specs.declared.mode.Mode.{Mode}
+use Rattle.muen_num.specs.declared.mode.Mode.TheVariants.{Asap, Async, Own as OwnMode, Switch}
 use Rattle.policy_meaning.specs.Thing.{Thing, same_thing, things_of}
 use Rattle.policy_meaning.specs.Windows.{Window, windows_of}
 use Rattle.policy_meaning.specs.Contents.{Held, initial_bytes}

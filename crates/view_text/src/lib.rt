@@ -11,7 +11,7 @@ use muen_num::{Name, Size, Tag};
 use state_page::SubjectState;
 
 /// The line of a turn.
-#[derive(Clone, Copy)]
+#[derive(Clone, Copy, Debug, PartialEq, Eq)]
 pub struct Line {
     pub tick: u32,
     pub cpu: u8,
@@ -22,7 +22,7 @@ pub struct Line {
 }
 
 /// What happened in a turn.
-#[derive(Clone, Copy, Debug)]
+#[derive(Clone, Copy, Debug, PartialEq, Eq)]
 pub enum What {
     /// An instruction ran that is none of the next four.
     Ran,

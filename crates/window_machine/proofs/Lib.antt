@@ -1,9 +1,9 @@
-pub mod CanStart
-pub mod Facts
-pub mod Printed
-pub mod Puts
-pub mod Reached
-pub mod Stays
+pub mod AccessWithin
+pub mod CanRun
+pub mod Loadable
+pub mod RunText
+pub mod Stores
 pub mod SystemRun
 pub mod SystemTurn
-pub mod Things
+pub mod ThingsByPlace
+pub mod WindowsFit

@@ -8,7 +8,7 @@ use Rattle.std.proofs.lemmas.Bool.{and_parts}
 use Rattle.std.proofs.lemmas.List.{append-nil}
 use Rattle.muen_num.specs.Range.{numbers_below}
 use Rattle.policy_types.specs.Built.{is_plain}
-use Rattle.policy_meaning.specs.Contents.{Held, content_bytes, fits_in, initial_bytes}
+use Rattle.policy_meaning.specs.Contents.{Held, content_bytes, fits_in, initial_bytes, no_files}
 use Rattle.policy_lawful.specs.Resolution.{Resolution, name_at, subject_named, source_of}
 use Rattle.policy_lawful.specs.Rules.{repeated}
 use Rattle.policy_meaning.specs.Thing.{region, channel, device_memory, provided_by, component_by, things_of}
@@ -20,7 +20,7 @@ use Rattle.policy_types.specs.declared.source.Content.{Content}
 use Rattle.policy_types.specs.declared.source.Content.TheVariants.{Zero, Fill, Inline, File}
 use Rattle.muen_num.proofs.Lists.{map-map}
 use Rattle.policy_lawful.proofs.Places.{found_at_place}
-use Rattle.policy_lawful.proofs.WindowsByPlace.{plain, built}
+use Rattle.policy_lawful.proofs.BuiltElements.{plain, built}
 use Rattle.image_pack.specs.declared.plan.Plan.{Plan}
 use Rattle.plan_emit.specs.PlanOf.{IsPlanOf}
 use Rattle.state_page.specs.StatePage.{started}
@@ -30,13 +30,13 @@ use Rattle.view_text.specs.declared.Line.{Line}
 use Rattle.subject_model.specs.DeviceRecord.{only_ticks}
 use Rattle.subject_model.specs.System.{System, named, start_of}
 use Rattle.subject_model.specs.Run.{Ran, then_line, turns_of, tick_of, after_lines, run_to, run_of, thing_text, subject_text, final_text, trace_of}
-use Rattle.window_machine.specs.Machine.{GuestState, MachineState, MachineRan, no_files, held_at_start, guest_at_start, machine_of, machine_after, machine_line, machine_run_to, holding_text, guest_text, machine_final_text, machine_text, CanRun}
-use Rattle.window_machine.specs.Start.{is_held}
+use Rattle.window_machine.specs.Machine.{GuestState, MachineState, MachineRan, holding_at_start, guest_at_start, machine_of, machine_after, machine_line, machine_run_to, holding_text, guest_text, machine_final_text, machine_text, CanRun}
+use Rattle.window_machine.specs.Start.{has_fitting_content}
 use Rattle.window_machine.specs.declared.memory.Holding.{Holding}
-use Rattle.window_machine.proofs.CanStart.{can_run}
-use Rattle.window_machine.proofs.Facts.{Facts, unique_regions, unique_subjects, one_cpu}
-use Rattle.window_machine.proofs.SystemTurn.{IsOf, kept_state, system_of, turn_is, stays, guests_named}
-use Rattle.window_machine.proofs.Things.{thing_of}
+use Rattle.window_machine.proofs.CanRun.{can_run}
+use Rattle.window_machine.proofs.Loadable.{IsLoadable, unique_regions, unique_subjects, one_cpu}
+use Rattle.window_machine.proofs.SystemTurn.{IsMachineOf, kept_state, system_of, turn_is, stays, guests_named}
+use Rattle.window_machine.proofs.ThingsByPlace.{thing_of}
 
 -- ---- each is found by its name
 
@@ -62,16 +62,16 @@ plain_content files size (Fill b) h = refl
 plain_content files size (Inline bytes) h = refl
 plain_content files size (File name offset most) h = absurd (cc)
 
-module _ (r : Resolution) (f : Facts r) where
+module _ (r : Resolution) (f : IsLoadable r) where
   p : Source
   p = source_of r
 
   -- each of these regions
-  things_among : (files : Held) (rs : List Region) → AllFirst (λ (x : Region). x.name) r.memory rs → list_all is_held rs ≡ true → map (λ x. (x, initial_bytes p files x)) (map (λ x. region x.name) rs) ≡ map thing_of (map held_at_start rs)
+  things_among : (files : Held) (rs : List Region) → AllFirst (λ (x : Region). x.name) r.memory rs → list_all has_fitting_content rs ≡ true → map (λ x. (x, initial_bytes p files x)) (map (λ x. region x.name) rs) ≡ map thing_of (map holding_at_start rs)
   unfolding initial_bytes p source_of AllFirst
   things_among files [] h k = refl
   things_among files (x ∷ xs) h k =
-      let a : (is_held x ≡ true) × (list_all is_held xs ≡ true) = and_parts _ _ k in
+      let a : (has_fitting_content x ≡ true) × (list_all has_fitting_content xs ≡ true) = and_parts _ _ k in
       let bytes : initial_bytes p files (region x.name) ≡ content_bytes no_files x.size x.content =
       ap (λ o. option_map_or (λ (x : Region). content_bytes files x.size x.content) o []) h.0
       ∙ plain_content files x.size x.content a.0 in
@@ -105,9 +105,9 @@ module _ (r : Resolution) (f : Facts r) where
       let states = map-map (λ s. (s.name, started s.entry)) (subject_named r) r.subjects ∙ sym (map-map kept_state (guest_at_start r.memory) r.subjects) in
       λ i. record (system_of (source_of r) (machine_of r plan)) { states = states i; things = things i }
 
-  starts : (plan : Plan) → IsPlanOf (source_of r) plan → IsOf r f (machine_of r plan)
+  starts : (plan : Plan) → IsPlanOf (source_of r) plan → IsMachineOf r f (machine_of r plan)
   unfolding machine_of
-  starts plan of = record { plan = of; guests = refl; holdings = map-map (λ h. h.name) held_at_start r.memory }
+  starts plan of = record { plan = of; guests = refl; holdings = map-map (λ h. h.name) holding_at_start r.memory }
 
   -- ---- the run
 
@@ -115,7 +115,7 @@ module _ (r : Resolution) (f : Facts r) where
   cons_option-none None = refl
   cons_option-none (Some x) = refl
 
-  tick_is : (m : MachineState) (end tick : ℕ) → IsOf r f m → tick_of (source_of r) (only_ticks end) tick (system_of (source_of r) m) ≡ record { lines = option_to_list (machine_line m tick); system = system_of (source_of r) (machine_after m tick) }
+  tick_is : (m : MachineState) (end tick : ℕ) → IsMachineOf r f m → tick_of (source_of r) (only_ticks end) tick (system_of (source_of r) m) ≡ record { lines = option_to_list (machine_line m tick); system = system_of (source_of r) (machine_after m tick) }
   tick_is m end tick o =
       ap (λ n. turns_of (source_of r) tick (numbers_below n) (system_of (source_of r) m)) (one_cpu r f)
       ∙ ap (λ t. then_line t.line (record { lines = []; system = t.system })) (turn_is r f m tick o)
@@ -124,16 +124,16 @@ module _ (r : Resolution) (f : Facts r) where
   abbrev pub ran_as : MachineRan → Ran
   ran_as ran = record { lines = ran.lines; system = system_of (source_of r) ran.machine }
 
-  of_run : (m : MachineState) (n : ℕ) → IsOf r f m → IsOf r f (machine_run_to m n).machine
-  of_run m zero o = o
-  of_run m (suc n) o = stays r f (machine_run_to m n).machine n (of_run m n o)
+  is_machine_of_run : (m : MachineState) (n : ℕ) → IsMachineOf r f m → IsMachineOf r f (machine_run_to m n).machine
+  is_machine_of_run m zero o = o
+  is_machine_of_run m (suc n) o = stays r f (machine_run_to m n).machine n (is_machine_of_run m n o)
 
   run_is : (plan : Plan) → IsPlanOf (source_of r) plan → (files : Held) (end n : ℕ) → run_to (source_of r) files (only_ticks end) n ≡ ran_as (machine_run_to (machine_of r plan) n)
   run_is plan of files end zero = λ i. record { lines = []; system = start_is files plan i }
   run_is plan of files end (suc n) =
       let before = machine_run_to (machine_of r plan) n in
       ap (λ ran. after_lines ran.lines (tick_of (source_of r) (only_ticks end) n ran.system)) (run_is plan of files end n)
-      ∙ ap (after_lines before.lines) (tick_is before.machine end n (of_run (machine_of r plan) n (starts plan of)))
+      ∙ ap (after_lines before.lines) (tick_is before.machine end n (is_machine_of_run (machine_of r plan) n (starts plan of)))
 
   -- ---- the text
 
@@ -154,7 +154,7 @@ module _ (r : Resolution) (f : Facts r) where
       ap (named y.states) name ∙ ap (option_map (λ (e : List ℕ × SubjectState). e.1)) h.0 in
       (λ i. Rattle.subject_model.specs.Run.rows_text (name i) (unwrap_or (state i) (started s.entry)) ++ states_among y ss gs names h.1 i)
 
-  final_is : (m : MachineState) → IsOf r f m → final_text (source_of r) (system_of (source_of r) m) ≡ machine_final_text m
+  final_is : (m : MachineState) → IsMachineOf r f m → final_text (source_of r) (system_of (source_of r) m) ≡ machine_final_text m
   unfolding final_text machine_final_text source_of
   final_is m o =
       let names : map (λ g. g.name) m.guests ≡ map (λ s. s.name) r.subjects = guests_named r f m o in
@@ -168,18 +168,18 @@ module _ (r : Resolution) (f : Facts r) where
   trace_is plan of files end =
       let ran = machine_run_to (machine_of r plan) end in
       ap (λ x. flat_map turn_text x.lines ++ final_text (source_of r) x.system) (run_is plan of files end end)
-      ∙ ap (λ text. flat_map turn_text ran.lines ++ text) (final_is ran.machine (of_run (machine_of r plan) end (starts plan of)))
+      ∙ ap (λ text. flat_map turn_text ran.lines ++ text) (final_is ran.machine (is_machine_of_run (machine_of r plan) end (starts plan of)))
 
 -- ---- a machine that was loaded
 
-pub machine_is : (l : Resolution) (regions : List Region) (subjects : List Subject) → regions ≡ l.memory → subjects ≡ l.subjects → (plan : Plan) (guests : List GuestState) (holdings : List Holding) → guests ≡ map (guest_at_start regions) subjects → holdings ≡ map held_at_start regions → record { plan = plan; guests = guests; holdings = holdings } ≡ machine_of l plan
+pub machine_is : (l : Resolution) (regions : List Region) (subjects : List Subject) → regions ≡ l.memory → subjects ≡ l.subjects → (plan : Plan) (guests : List GuestState) (holdings : List Holding) → guests ≡ map (guest_at_start regions) subjects → holdings ≡ map holding_at_start regions → record { plan = plan; guests = guests; holdings = holdings } ≡ machine_of l plan
 unfolding machine_of
 machine_is l regions subjects same who plan guests holdings of_guests of_holdings =
     (λ i. record { plan = plan; guests = of_guests i; holdings = of_holdings i })
-    ∙ (λ i. record { plan = plan; guests = map (guest_at_start (same i)) (who i); holdings = map held_at_start (same i) })
+    ∙ (λ i. record { plan = plan; guests = map (guest_at_start (same i)) (who i); holdings = map holding_at_start (same i) })
 
-pub starts_well : (l : Resolution) → Facts l → (plan : Plan) (guests : List GuestState) (holdings : List Holding) → IsPlanOf (source_of l) plan → record { plan = plan; guests = guests; holdings = holdings } ≡ machine_of l plan → CanRun (record { plan = plan; guests = guests; holdings = holdings })
+pub starts_well : (l : Resolution) → IsLoadable l → (plan : Plan) (guests : List GuestState) (holdings : List Holding) → IsPlanOf (source_of l) plan → record { plan = plan; guests = guests; holdings = holdings } ≡ machine_of l plan → CanRun (record { plan = plan; guests = guests; holdings = holdings })
 starts_well l f plan guests holdings of is = subst CanRun (sym is) (can_run l f plan of)
 
-pub prints_so : (l : Resolution) → Facts l → (plan : Plan) (m : MachineState) → IsPlanOf (source_of l) plan → m ≡ machine_of l plan → (files : Held) (end : ℕ) → trace_of (source_of l) files (only_ticks end) ≡ machine_text m end
+pub prints_so : (l : Resolution) → IsLoadable l → (plan : Plan) (m : MachineState) → IsPlanOf (source_of l) plan → m ≡ machine_of l plan → (files : Held) (end : ℕ) → trace_of (source_of l) files (only_ticks end) ≡ machine_text m end
 prints_so l f plan m of is files end = trace_is l f plan of files end ∙ ap (λ x. machine_text x end) (sym is)

@@ -9,8 +9,8 @@ use Rattle.std.proofs.lemmas.Bool.{and_parts, ltb-true}
 use Rattle.std.proofs.lemmas.List.{length-map}
 use Rattle.std.proofs.lemmas.Option.{slice_get-map, slice_get-get_or, get_or_from_slice_get}
 use Rattle.muen_num.specs.Size.{bytes_of as count}
-use Rattle.muen_num.specs.declared.bits.Kind.TheVariants.{Write}
-use Rattle.muen_num.specs.declared.bits.Size.{Size}
+use Rattle.muen_num.specs.declared.access.Kind.TheVariants.{Write}
+use Rattle.muen_num.specs.declared.access.Size.{Size}
 use Rattle.policy_types.specs.Built.{is_plain}
 use Rattle.policy_lawful.specs.ByPlace.{no_region, region_at, mapping_window, is_ready}
 use Rattle.policy_meaning.specs.Events.{event_of}
@@ -26,8 +26,10 @@ use Rattle.policy_types.specs.declared.source.Subject.{Subject as NamedSubject}
 use Rattle.policy_types.specs.declared.source.Region.{Region}
 use Rattle.muen_num.proofs.Lists.{map-map, position-map}
 use Rattle.policy_lawful.proofs.Places.{position_is, found_at_place}
-use Rattle.policy_lawful.proofs.ResolvedFacts.{many_subjects, names_of_subjects}
-use Rattle.policy_lawful.proofs.WindowsByPlace.{plain, windows_placed}
+use Rattle.policy_lawful.proofs.SourceElements.{many_subjects}
+use Rattle.policy_lawful.proofs.UniqueNames.{names_of_subjects}
+use Rattle.policy_lawful.proofs.BuiltElements.{plain}
+use Rattle.policy_lawful.proofs.WindowsByPlace.{windows_placed}
 use Rattle.image_pack.specs.Plan.{frames_in, cpus_of}
 use Rattle.image_pack.specs.Slot.{Slot, slot_at}
 use Rattle.image_pack.specs.declared.plan.GroupPart.{GroupPart}
@@ -39,11 +41,12 @@ use Rattle.state_page.specs.declared.SubjectState.{SubjectState}
 use Rattle.subject_model.specs.Solo.{Answer, Reach, reached, refused, reach_of, store_at, bytes_in, own_of, solo_turn}
 use Rattle.subject_model.specs.System.{System, Named, named, Turner, change_first, change_named, is_shown, pending, with_store, without, raised_by, raises, inbox_of, turner_in, turned_by, turn_answered, answered, system_turn}
 use Rattle.subject_model.proofs.TickLaws.{unchanged}
-use Rattle.subject_model.proofs.Alone.{LeadsTo, AllShown, leads, relabelled, store_of, answer_of, turn_same, turn_stores}
+use Rattle.subject_model.proofs.Relabelled.{LeadsTo, AllShown, leads, relabelled_window, relabelled_store, relabelled_answer, turn_same}
+use Rattle.subject_model.proofs.TurnStores.{turn_stores}
 use Rattle.window_machine.specs.Machine.{GuestState, MachineState, bytes_at, nobody, no_group, guest_at, active_at, guest_answer, answer_at, with_stored, window_in, guest_at_start, after_turn, line_of_turn, machine_after, machine_line}
-use Rattle.window_machine.proofs.Facts.{Facts, ready, unique_regions, unique_subjects, one_cpu}
-use Rattle.window_machine.proofs.Puts.{names_kept}
-use Rattle.window_machine.proofs.Things.{IsFirst, thing_of, thing_at, held_names, change_at_place, stored_named, same_here}
+use Rattle.window_machine.proofs.Loadable.{IsLoadable, ready, unique_regions, unique_subjects, one_cpu}
+use Rattle.window_machine.proofs.Stores.{names_kept}
+use Rattle.window_machine.proofs.ThingsByPlace.{IsFirst, thing_of, thing_at, holding_names, change_at_place, stored_named, same_here}
 
 -- ---- nothing is pending
 
@@ -77,7 +80,7 @@ system_of p m = record {
   active = map (λ g. first_member g.subjects) p.scheduling.groups;
 }
 
-module _ (r : Resolution) (f : Facts r) where
+module _ (r : Resolution) (f : IsLoadable r) where
   abbrev p : Source
   p = source_of r
 
@@ -88,15 +91,15 @@ module _ (r : Resolution) (f : Facts r) where
   guest_names = map (λ s. s.name) r.subjects
 
   -- a machine of this policy
-  pub record IsOf (m : MachineState) : Type 0 where
+  pub record IsMachineOf (m : MachineState) : Type 0 where
     pub plan : IsPlanOf (source_of r) m.plan
     pub guests : map outline m.guests ≡ map outline (map (guest_at_start r.memory) r.subjects)
-    pub holdings : held_names m.holdings ≡ map (λ x. x.name) r.memory
+    pub holdings : holding_names m.holdings ≡ map (λ x. x.name) r.memory
 
   -- ---- whose tick it is
 
   -- the subject of a number, in the policy and in the machine
-  record Here (m : MachineState) (i : ℕ) : Type 0 where
+  record SubjectAt (m : MachineState) (i : ℕ) : Type 0 where
     within : i < length r.subjects
     subject : Subject
     in_policy : slice_get r.subjects i ≡ Some subject
@@ -104,7 +107,7 @@ module _ (r : Resolution) (f : Facts r) where
     name : subject.name ≡ (guest_at m i).name
     windows : (guest_at m i).windows ≡ map (window_in r.memory) subject.memory
 
-  many_guests : (m : MachineState) → IsOf m → length m.guests ≡ length r.subjects
+  many_guests : (m : MachineState) → IsMachineOf m → length m.guests ≡ length r.subjects
   many_guests m o =
       sym (length-map m.guests outline)
       ∙ ap length o.guests
@@ -125,8 +128,8 @@ module _ (r : Resolution) (f : Facts r) where
     targets = [];
   }
 
-  here : (m : MachineState) (i : ℕ) → IsOf m → i < length r.subjects → Here m i
-  here m i o l =
+  subject_at : (m : MachineState) (i : ℕ) → IsMachineOf m → i < length r.subjects → SubjectAt m i
+  subject_at m i o l =
       let s = slice_index_or r.subjects i nobody_else in
       let in_policy : slice_get r.subjects i ≡ Some s = slice_get-get_or r.subjects i nobody_else l in
       let many = many_guests m o in
@@ -146,7 +149,7 @@ module _ (r : Resolution) (f : Facts r) where
         windows = ap (λ x. x.1) outlines;
       }
 
-  pub guests_named : (m : MachineState) → IsOf m → map (λ g. g.name) m.guests ≡ guest_names
+  pub guests_named : (m : MachineState) → IsMachineOf m → map (λ g. g.name) m.guests ≡ guest_names
   guests_named m o =
       sym (map-map (λ x. x.0) outline m.guests)
       ∙ ap (map (λ x. x.0)) o.guests
@@ -154,11 +157,11 @@ module _ (r : Resolution) (f : Facts r) where
       ∙ map-map (λ g. g.name) (guest_at_start r.memory) r.subjects
 
   -- the name of a subject, by its number
-  named_at : (m : MachineState) (i : ℕ) (h : Here m i) → name_at guest_names i ≡ h.subject.name
+  named_at : (m : MachineState) (i : ℕ) (h : SubjectAt m i) → name_at guest_names i ≡ h.subject.name
   named_at m i h =
       get_or_from_slice_get guest_names i h.subject.name [] (slice_get-map (λ (s : Subject). s.name) r.subjects i ∙ ap (option_map (λ (s : Subject). s.name)) h.in_policy)
 
-  subject_found : (m : MachineState) (i : ℕ) (h : Here m i) → find (λ s. bytes_eq s.name h.subject.name) (source_of r).subjects ≡ Some (subject_named r h.subject)
+  subject_found : (m : MachineState) (i : ℕ) (h : SubjectAt m i) → find (λ s. bytes_eq s.name h.subject.name) (source_of r).subjects ≡ Some (subject_named r h.subject)
   unfolding source_of
   subject_found m i h =
       let ss = map (subject_named r) r.subjects in
@@ -171,7 +174,7 @@ module _ (r : Resolution) (f : Facts r) where
       ∙ slice_get-map (subject_named r) r.subjects i
       ∙ ap (option_map (subject_named r)) h.in_policy
 
-  state_found : (m : MachineState) (i : ℕ) → IsOf m → (h : Here m i) → named (map kept_state m.guests) h.subject.name ≡ Some (guest_at m i).state
+  state_found : (m : MachineState) (i : ℕ) → IsMachineOf m → (h : SubjectAt m i) → named (map kept_state m.guests) h.subject.name ≡ Some (guest_at m i).state
   state_found m i o h =
       let states = map kept_state m.guests in
       let many : length states ≡ length r.subjects = length-map m.guests kept_state ∙ many_guests m o in
@@ -196,14 +199,14 @@ module _ (r : Resolution) (f : Facts r) where
       ap (Rattle.window_machine.specs.Machine.active_in plan.groups) at
       ∙ ap (λ (x : GroupPart). x.first) (get_or_from_slice_get plan.groups slot.group g no_group is)
 
-  record Turns (m : MachineState) (tick : ℕ) : Type 0 where
+  record TurnAt (m : MachineState) (tick : ℕ) : Type 0 where
     slot : Slot
     at : slot_at (frames_of (source_of r) 0) tick ≡ Some slot
     within : active_at m.plan tick < length r.subjects
     active : slice_get (map (λ g. first_member g.subjects) (source_of r).scheduling.groups) slot.group ≡ Some (name_at (map (λ s. s.name) r.subjects) (active_at m.plan tick))
 
-  turns : (m : MachineState) (tick : ℕ) → IsOf m → Turns m tick
-  turns m tick o =
+  turn_at : (m : MachineState) (tick : ℕ) → IsMachineOf m → TurnAt m tick
+  turn_at m tick o =
       let one = one_cpu r f in
       let cpu : 0 < cpus_of m.plan = omega (arith, o.plan.cpus, one) in
       let t = slot_there m.plan 0 tick o.plan.valid cpu in
@@ -223,7 +226,7 @@ module _ (r : Resolution) (f : Facts r) where
             ∙ ap (λ i. Some (name_at guest_names i)) (sym first);
       }
 
-  turner_is : (m : MachineState) (tick : ℕ) (o : IsOf m) (t : Turns m tick) (h : Here m (active_at m.plan tick)) → turner_in p (system_of p m) t.slot ≡ Some (record { slot = t.slot; subject = subject_named r h.subject; state = (guest_at m (active_at m.plan tick)).state })
+  turner_is : (m : MachineState) (tick : ℕ) (o : IsMachineOf m) (t : TurnAt m tick) (h : SubjectAt m (active_at m.plan tick)) → turner_in p (system_of p m) t.slot ≡ Some (record { slot = t.slot; subject = subject_named r h.subject; state = (guest_at m (active_at m.plan tick)).state })
   turner_is m tick o t h =
       let i = active_at m.plan tick in
       let y = system_of p m in
@@ -250,21 +253,21 @@ module _ (r : Resolution) (f : Facts r) where
       let a : (nat_lt m.region (length r.memory) ≡ true) × (list_all (λ (m : Mapping). nat_lt m.region (length r.memory)) ms ≡ true) = and_parts _ _ h in
       (region_first m.region (ltb-true m.region (length r.memory) a.0), all_first ms a.1)
 
-  labelled : (ms : List Mapping) → map (mapping_window r.memory) ms ≡ map (relabelled (thing_at region_names)) (map (window_in r.memory) ms)
+  labelled : (ms : List Mapping) → map (mapping_window r.memory) ms ≡ map (relabelled_window (thing_at region_names)) (map (window_in r.memory) ms)
   labelled [] = refl
   labelled (m ∷ ms) =
       let name : (region_at r.memory m.region).name ≡ name_at region_names m.region = sym (get_or-map (λ (x : Region). x.name) r.memory m.region no_region) in
       λ i. Rattle.policy_meaning.specs.Windows.window m.virtual_address (region_at r.memory m.region).size m.rights (region (name i)) ∷ labelled ms i
 
   -- what a subject has, by its number
-  record Ready (m : MachineState) (i : ℕ) (h : Here m i) : Type 0 where
+  record GrantedAt (m : MachineState) (i : ℕ) (h : SubjectAt m i) : Type 0 where
     plain : is_plain (subject_named r h.subject) ≡ true
     placed : list_all (λ m. nat_lt m.region (length r.memory)) h.subject.memory ≡ true
     first : AllShown (IsFirst (map (λ x. x.name) r.memory)) (guest_at m i).windows
-    windows : windows_of (source_of r) (subject_named r h.subject) ≡ map (relabelled (thing_at (map (λ x. x.name) r.memory))) (guest_at m i).windows
+    windows : windows_of (source_of r) (subject_named r h.subject) ≡ map (relabelled_window (thing_at (map (λ x. x.name) r.memory))) (guest_at m i).windows
 
-  is_ready_here : (m : MachineState) (i : ℕ) (h : Here m i) → Ready m i h
-  is_ready_here m i h =
+  granted_at : (m : MachineState) (i : ℕ) (h : SubjectAt m i) → GrantedAt m i h
+  granted_at m i h =
       let a = and_parts _ _ (passes_at (is_ready r) r.subjects i h.subject (ready r f) h.in_policy) in
       record {
         plain = a.0;
@@ -273,23 +276,23 @@ module _ (r : Resolution) (f : Facts r) where
         windows =
             windows_placed r (unique_regions r f) h.subject a.0 a.1
             ∙ labelled h.subject.memory
-            ∙ ap (map (relabelled (thing_at region_names))) (sym h.windows);
+            ∙ ap (map (relabelled_window (thing_at region_names))) (sym h.windows);
       }
 
-  solo_is : (m : MachineState) (i tick : ℕ) (first : Bool) → IsOf m → (h : Here m i) → solo_turn (own_of p (subject_named r h.subject)) (guest_at m i).state (inbox_of p (system_of p m) (subject_named r h.subject) first tick) ≡ answer_of (thing_at region_names) (answer_at m tick i)
+  solo_is : (m : MachineState) (i tick : ℕ) (first : Bool) → IsMachineOf m → (h : SubjectAt m i) → solo_turn (own_of p (subject_named r h.subject)) (guest_at m i).state (inbox_of p (system_of p m) (subject_named r h.subject) first tick) ≡ relabelled_answer (thing_at region_names) (answer_at m tick i)
   unfolding solo_turn own_of inbox_of
   solo_is m i tick first o h =
-      let q = is_ready_here m i h in
+      let q = granted_at m i h in
       let ws = (guest_at m i).windows in
-      rw (q.windows, (plain (subject_named r h.subject) q.plain).sources, pending_none p.subjects h.subject.name) (turn_same (thing_at region_names) (bytes_at m.holdings) (bytes_in (filter (λ e. is_shown (map (relabelled (thing_at region_names)) ws) e.0) (map thing_of m.holdings))) ws (same_here region_names m.holdings ws o.holdings q.first) tick (guest_at m i).state first)
+      rw (q.windows, (plain (subject_named r h.subject) q.plain).sources, pending_none p.subjects h.subject.name) (turn_same (thing_at region_names) (bytes_at m.holdings) (bytes_in (filter (λ e. is_shown (map (relabelled_window (thing_at region_names)) ws) e.0) (map thing_of m.holdings))) ws (same_here region_names m.holdings ws o.holdings q.first) tick (guest_at m i).state first)
 
   -- ---- what a turn changes
 
   -- what the machine stores is put into the thing of that name
-  stores_into : (m : MachineState) (i tick : ℕ) → IsOf m → Here m i → with_store (option_map (store_of (thing_at region_names)) (answer_at m tick i).stored) (map thing_of m.holdings) ≡ map thing_of (with_stored (answer_at m tick i).stored m.holdings)
+  stores_into : (m : MachineState) (i tick : ℕ) → IsMachineOf m → SubjectAt m i → with_store (option_map (relabelled_store (thing_at region_names)) (answer_at m tick i).stored) (map thing_of m.holdings) ≡ map thing_of (with_stored (answer_at m tick i).stored m.holdings)
   stores_into m i tick o h =
       let ws = (guest_at m i).windows in
-      let q = is_ready_here m i h in
+      let q = granted_at m i h in
       stored_named region_names m.holdings o.holdings (answer_at m tick i).stored
       (turn_stores (λ w. IsFirst region_names w.thing) (bytes_at m.holdings) ws (λ size address value. may_store (reach_of ws Write (count size) address) size value (leads (IsFirst region_names) ws Write (count size) address q.first)) tick (guest_at m i).state)
     where
@@ -298,7 +301,7 @@ module _ (r : Resolution) (f : Facts r) where
       may_store (refused reason qualification address) size value l = tt
 
   -- the state of the subject alone is changed
-  changes_state : (m : MachineState) (i : ℕ) (s : SubjectState) → IsOf m → (h : Here m i) → change_named h.subject.name (λ _. s) (map kept_state m.guests) ≡ map kept_state (slice_set m.guests i (record (guest_at m i) { state = s }))
+  changes_state : (m : MachineState) (i : ℕ) (s : SubjectState) → IsMachineOf m → (h : SubjectAt m i) → change_named h.subject.name (λ _. s) (map kept_state m.guests) ≡ map kept_state (slice_set m.guests i (record (guest_at m i) { state = s }))
   changes_state m i s o h =
       let many : length m.guests ≡ length r.subjects = many_guests m o in
       let names : map (λ g. g.name) m.guests ≡ guest_names = guests_named m o in
@@ -310,20 +313,20 @@ module _ (r : Resolution) (f : Facts r) where
       change_at_place (λ e. bytes_eq e.0 h.subject.name) (λ e. (e.0, s)) kept_state (λ g. record g { state = s }) nobody (λ g. refl) m.guests i (sym place)
 
   -- no event is declared for any way
-  no_event : (m : MachineState) (i : ℕ) (h : Here m i) (way : SourceWay) → event_of p (subject_named r h.subject) way ≡ None
+  no_event : (m : MachineState) (i : ℕ) (h : SubjectAt m i) (way : SourceWay) → event_of p (subject_named r h.subject) way ≡ None
   unfolding event_of
   no_event m i h way =
-      let q = is_ready_here m i h in
+      let q = granted_at m i h in
       let b = plain (subject_named r h.subject) q.plain in
       rw (b.sources, b.channels, b.component) refl
 
-  raises_none : (m : MachineState) (i : ℕ) (h : Here m i) (way : Option SourceWay) (y : System) → raised_by p (subject_named r h.subject) way y ≡ y
+  raises_none : (m : MachineState) (i : ℕ) (h : SubjectAt m i) (way : Option SourceWay) (y : System) → raised_by p (subject_named r h.subject) way y ≡ y
   raises_none m i h None y = refl
   raises_none m i h (Some way) y = ap (λ e. raises p e y) (no_event m i h way)
 
-  answered_is : (m : MachineState) (i tick : ℕ) (a : Answer Thing) → IsOf m → (h : Here m i) → a ≡ answer_of (thing_at region_names) (answer_at m tick i) → turn_answered p (system_of p m) 0 tick (subject_named r h.subject) (guest_at m i).state a ≡ record { system = system_of p (after_turn m tick i); line = line_of_turn m tick i }
+  answered_is : (m : MachineState) (i tick : ℕ) (a : Answer Thing) → IsMachineOf m → (h : SubjectAt m i) → a ≡ relabelled_answer (thing_at region_names) (answer_at m tick i) → turn_answered p (system_of p m) 0 tick (subject_named r h.subject) (guest_at m i).state a ≡ record { system = system_of p (after_turn m tick i); line = line_of_turn m tick i }
   answered_is m i tick a o h e =
-      let b = answer_of (thing_at region_names) (answer_at m tick i) in
+      let b = relabelled_answer (thing_at region_names) (answer_at m tick i) in
       let name = h.subject.name in
       let states = changes_state m i b.state o h in
       let things = stores_into m i tick o h in
@@ -341,13 +344,13 @@ module _ (r : Resolution) (f : Facts r) where
       })
 
   -- a turn of the system is a turn of the machine
-  pub turn_is : (m : MachineState) (tick : ℕ) → IsOf m → system_turn (source_of r) (system_of (source_of r) m) 0 tick ≡ record { system = system_of (source_of r) (machine_after m tick); line = machine_line m tick }
+  pub turn_is : (m : MachineState) (tick : ℕ) → IsMachineOf m → system_turn (source_of r) (system_of (source_of r) m) 0 tick ≡ record { system = system_of (source_of r) (machine_after m tick); line = machine_line m tick }
   unfolding system_turn machine_after machine_line
   turn_is m tick o =
       let i = active_at m.plan tick in
       let y = system_of p m in
-      let t = turns m tick o in
-      let h = here m i o t.within in
+      let t = turn_at m tick o in
+      let h = subject_at m i o t.within in
       ap (λ x. turned_by p y 0 tick (option_and_then (turner_in p y) x)) t.at
       ∙ ap (turned_by p y 0 tick) (turner_is m tick o t h)
       ∙ answered_is m i tick _ o h (solo_is m i tick t.slot.first o h)
@@ -359,7 +362,7 @@ module _ (r : Resolution) (f : Facts r) where
   set_outline (g ∷ gs) zero s = refl
   set_outline (g ∷ gs) (suc i) s = ap (λ xs. outline g ∷ xs) (set_outline gs i s)
 
-  pub stays : (m : MachineState) (tick : ℕ) → IsOf m → IsOf (machine_after m tick)
+  pub stays : (m : MachineState) (tick : ℕ) → IsMachineOf m → IsMachineOf (machine_after m tick)
   unfolding machine_after
   stays m tick o =
       let i = active_at m.plan tick in

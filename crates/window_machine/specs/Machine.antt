@@ -1,6 +1,5 @@
 -- The machine: subjects over lists of their windows, until tables are walked.
 use Rattle.std.specs.Prelude.{◌≡◌, ℕ, suc, zero, ◌+◌, ◌%◌, ◌<◌, ◌≤◌, false, List, [], ◌∷◌, ◌++◌, length, map, slice_index, slice_index_or, slice_set, nat_lt, true, Option, Some, None, option_map, option_to_list}
-use Rattle.std.specs.FinMap.{from_entries}
 use Rattle.std.specs.List.{flat_map, list_all}
 use Rattle.sha2.specs.Sha256.{sha256}
 use Rattle.image_pack.specs.Plan.{is_plan, frames_in}
@@ -11,7 +10,7 @@ use Rattle.muen_num.specs.Size.{bytes_of}
 use Rattle.muen_num.specs.declared.tag.Part.TheVariants.{Whole}
 use Rattle.policy_lawful.specs.ByPlace.{region_at}
 use Rattle.policy_meaning.specs.Windows.{Window as WindowOf, Access as AccessTo, byte, violation, window}
-use Rattle.policy_meaning.specs.Contents.{Held, content_bytes}
+use Rattle.policy_meaning.specs.Contents.{content_bytes, no_files}
 use Rattle.policy_lawful.specs.Resolution.{Resolution}
 use Rattle.policy_lawful.specs.declared.resolved.Mapping.{Mapping}
 use Rattle.policy_lawful.specs.declared.resolved.Subject.{Subject}
@@ -23,7 +22,6 @@ use Rattle.subject_model.specs.System.{overwritten, line_at}
 use Rattle.subject_model.specs.Run.{rows_text}
 use Rattle.state_page.specs.declared.SubjectState.{SubjectState}
 use Rattle.view_text.specs.declared.Line.{Line}
-use Rattle.window_machine.specs.declared.memory.Window.{Window}
 use Rattle.window_machine.specs.declared.memory.Holding.{Holding}
 use Rattle.window_machine.specs.declared.memory.Access.{Access}
 use Rattle.window_machine.specs.declared.memory.Access.TheVariants.{Byte, Violation}
@@ -33,13 +31,6 @@ use Rattle.window_machine.specs.declared.memory.Store.{Store}
 use Rattle.window_machine.specs.declared.turn.Turn.{Turn}
 
 -- ---- memory
-
--- a window on a region, by the region's place in the list
-abbrev pub window_on : Window → WindowOf ℕ
-window_on w = window w.guest w.size w.rights w.place
-
-abbrev pub windows_on : List Window → List (WindowOf ℕ)
-windows_on windows = map window_on windows
 
 abbrev pub access_to : Access → AccessTo ℕ
 access_to (Byte place offset) = byte place offset
@@ -170,13 +161,9 @@ pub record CanRun (m : MachineState) : Type 0 where
 
 -- ---- the machine of a policy, at the start
 
--- what files hold where there are none: no region asks for one
-abbrev pub no_files : Held
-no_files = from_entries []
-
 -- a region with its bytes at the start
-abbrev pub held_at_start : Region → Holding
-held_at_start r = record { name = r.name; bytes = content_bytes no_files r.size r.content }
+abbrev pub holding_at_start : Region → Holding
+holding_at_start r = record { name = r.name; bytes = content_bytes no_files r.size r.content }
 
 -- the window of a mapping
 abbrev pub window_in : List Region → Mapping → WindowOf ℕ
@@ -195,7 +182,7 @@ unfoldable pub machine_of : Resolution → Plan → MachineState
 machine_of r plan = record {
   plan = plan;
   guests = map (guest_at_start r.memory) r.subjects;
-  holdings = map held_at_start r.memory;
+  holdings = map holding_at_start r.memory;
 }
 
 -- ---- a run

@@ -1,6 +1,6 @@
 // A subject of the machine.
 ghost use Rattle.std.specs.Prelude.{◌≡◌};
-ghost use Rattle.window_machine.specs.Machine.{windows_on, sizes_of, AllFit, answer_of};
+ghost use Rattle.window_machine.specs.Machine.{sizes_of, AllFit, answer_of};
 
 use crate::memory::{Holding, Window};
 use crate::turn::{Turn, take_turn};
@@ -9,7 +9,7 @@ use state_page::SubjectState;
 use std::marker::Model;
 
 /// A subject: its name, its windows on regions of memory, and its state.
-#[derive(Drop)]
+#[derive(Debug, Drop)]
 pub(crate) struct Guest {
     name: Name,
     windows: Vec<Window>,
@@ -17,11 +17,11 @@ pub(crate) struct Guest {
 }
 
 impl Model for Guest {
-    ghost use Rattle.window_machine.specs.Machine.{GuestState, windows_on};
+    ghost use Rattle.window_machine.specs.Machine.{GuestState};
 
     ghost Value = { GuestState };
 
-    ghost view = { λ g. record { name = g.name; windows = windows_on g.windows.items; state = g.state } };
+    ghost view = { λ g. record { name = g.name; windows = g.windows.items; state = g.state } };
 }
 
 impl Guest {
@@ -29,7 +29,7 @@ impl Guest {
 
     /// The subject of this name with these windows, in this state.
     pub(crate) fn make(name: Name, windows: Vec<Window>, state: SubjectState) -> Guest
-        ensures { result ≡ record { name = name; windows = windows_on windows.items; state = state } }
+        ensures { result ≡ record { name = name; windows = windows.items; state = state } }
     {
         Guest {
             name,

@@ -9,7 +9,7 @@ use std::marker::Model;
 use view_text::Line;
 
 /// The plan, the subjects by number, and the regions of memory by number with their bytes.
-#[derive(Drop)]
+#[derive(Debug, Drop)]
 pub struct Machine {
     plan: Plan,
     guests: Vec<Guest>,

@@ -1,32 +1,27 @@
 // The windows of the machine, and what an access may touch.
-ghost use Rattle.std.specs.Prelude.{◌≡◌, ◌+◌, ◌≤◌, IsTrue, IfSome, Some, length, option_map};
+ghost use Rattle.std.specs.Prelude.{◌≡◌, ◌+◌, ◌≤◌, IsTrue, IfSome, Some, length, option_copied, option_map};
 ghost use Rattle.std.specs.List.{find};
 ghost use Rattle.policy_meaning.specs.Windows.{holds, access_of};
 ghost use Rattle.muen_num.specs.Size.{bytes_of};
 ghost use Rattle.subject_model.specs.Solo.{reach_of, value_at, stored_bytes};
 ghost use Rattle.subject_model.specs.System.{overwritten};
-ghost use Rattle.window_machine.specs.Machine.{window_on, windows_on, access_to, reach_to, stored_for, with_stored, Within, HaveRoom};
+ghost use Rattle.window_machine.specs.Machine.{access_to, reach_to, stored_for, with_stored, Within, HaveRoom};
 
 use bitflags::Flags;
+use muen_num::limits::{EXIT_EPT_VIOLATION, EXIT_EXCEPTION, GUEST_END};
 use muen_num::{Kind, Name, Seq, Size};
 use policy_types::Rights;
-
-const GUEST_END: u64 = 1 << 48;
-
-// Exit reasons (Intel SDM volume 3, basic exit reasons; 0 is this machine's for what it can't run).
-pub(crate) const NOT_RUN: u8 = 0;
-
-const EPT_VIOLATION: u8 = 48;
+use std::marker::Model;
 
 /// A region of memory with its bytes.
-#[derive(Drop)]
+#[derive(Clone, Debug, PartialEq, Eq, Drop)]
 pub(crate) struct Holding {
     pub name: Name,
     pub bytes: Seq<u8>,
 }
 
 /// A range of guest addresses that shows a region from its first byte.
-#[derive(Clone, Copy)]
+#[derive(Clone, Copy, Debug, PartialEq, Eq)]
 pub(crate) struct Window {
     pub guest: u64,
     pub size: u64,
@@ -36,7 +31,7 @@ pub(crate) struct Window {
 }
 
 // What an access may touch.
-#[derive(Clone, Copy)]
+#[derive(Clone, Copy, Debug, PartialEq, Eq)]
 enum Access {
     // The byte of a region at this offset.
     Byte { place: usize, offset: u64 },
@@ -45,7 +40,7 @@ enum Access {
 }
 
 /// Where an access leads.
-#[derive(Clone, Copy)]
+#[derive(Clone, Copy, Debug, PartialEq, Eq)]
 pub(crate) enum Reach {
     /// The bytes of a region from this offset on.
     Reached {
@@ -61,7 +56,7 @@ pub(crate) enum Reach {
 }
 
 /// A store of the low bytes of a value into a region, from this offset on.
-#[derive(Clone, Copy)]
+#[derive(Clone, Copy, Debug, PartialEq, Eq)]
 pub(crate) struct Store {
     pub place: usize,
     pub offset: u64,
@@ -69,11 +64,20 @@ pub(crate) struct Store {
     pub value: u64,
 }
 
-impl Window {
-    ghost use Rattle.window_machine.specs.Machine.{window_on};
+impl Model for Window {
+    ghost use Rattle.std.specs.Prelude.{ℕ};
+    ghost use Rattle.policy_meaning.specs.Windows.{Window as WindowOf, window};
 
+    ghost Value = { WindowOf ℕ };
+
+    ghost view = { λ w. window w.guest w.size w.rights w.place };
+
+    ghost inverse = { λ w. record { guest = w.guest; size = w.size; rights = w.rights; place = w.thing } };
+}
+
+impl Window {
     fn holds(&self, address: u64) -> bool
-        ensures value { result ≡ holds (window_on self.now) address }
+        ensures value { result ≡ holds self.now address }
         ensures from { IsTrue result → self.now.guest ≤ address }
     {
         self.guest <= address && address - self.guest < self.size
@@ -81,21 +85,16 @@ impl Window {
 }
 
 // The first window that holds the address.
-fn find_window(windows: &[Window], address: u64) -> Option<Window>
-    ensures value { option_map window_on result ≡ find (λ w. holds w address) (windows_on windows.now) }
-    ensures from { IfSome result (λ w. w.guest ≤ address) }
+fn find_window(windows: &[Window], address: u64) -> Option<&Window>
+    ensures value { option_copied result ≡ find (λ w. holds w address) windows.now }
+    ensures from { IfSome result (λ w. w.now.guest ≤ address) }
 {
-    for window in windows {
-        if window.holds(address) {
-            return Some(*window);
-        }
-    }
-    None
+    windows.iter().find(|window| window.holds(address))
 }
 
 // What an access at a guest address may touch.
 fn access_at(windows: &[Window], address: u64, kind: Kind) -> Access
-    ensures { access_to result ≡ access_of (windows_on windows.now) address kind }
+    ensures { access_to result ≡ access_of windows.now address kind }
 {
     match find_window(windows, address) {
         None => Access::Violation {
@@ -117,13 +116,13 @@ fn access_at(windows: &[Window], address: u64, kind: Kind) -> Access
 }
 
 /// Where an access leads. Its faults in their order: an address that is no multiple of the size, one
-/// from 2^48 up, a missing right.
+/// from the end of guest addresses up, a missing right.
 pub(crate) fn reach_of(windows: &[Window], kind: Kind, size: Size, addr: u64) -> Reach
-    ensures { reach_to result ≡ reach_of (windows_on windows.now) kind (bytes_of size) addr }
+    ensures { reach_to result ≡ reach_of windows.now kind (bytes_of size) addr }
 {
     if addr % u64::from(size.bytes()) != 0 {
         return Reach::Refused {
-            reason: NOT_RUN,
+            reason: EXIT_EXCEPTION,
             qualification: 0,
             addr: 0,
         };
@@ -131,7 +130,7 @@ pub(crate) fn reach_of(windows: &[Window], kind: Kind, size: Size, addr: u64) ->
     let bit = u64::from(kind.bit());
     if addr >= GUEST_END {
         return Reach::Refused {
-            reason: EPT_VIOLATION,
+            reason: EXIT_EPT_VIOLATION,
             qualification: bit,
             addr,
         };
@@ -139,7 +138,7 @@ pub(crate) fn reach_of(windows: &[Window], kind: Kind, size: Size, addr: u64) ->
     match access_at(windows, addr, kind) {
         Access::Byte { place, offset } => Reach::Reached { place, offset },
         Access::Violation { found } => Reach::Refused {
-            reason: EPT_VIOLATION,
+            reason: EXIT_EPT_VIOLATION,
             qualification: bit + 8 * u64::from(found.bits()),
             addr,
         },

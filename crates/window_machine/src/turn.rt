@@ -1,35 +1,25 @@
 // A turn of the subject.
 ghost use Rattle.std.specs.Prelude.{◌≡◌, ◌+◌, ◌<◌, ◌≤◌, length, take, drop, [], true, false};
 ghost use Rattle.muen_num.specs.Size.{bytes_of};
-ghost use Rattle.muen_num.specs.declared.bits.Kind.TheVariants.{Read, Write};
-ghost use Rattle.guest_isa.specs.GuestIsa.{decode_of, with_register, IsFineWish};
-ghost use Rattle.subject_model.specs.Solo.{reach_of, shown, faulted, loaded, stored_to, port_qualification, called, performed, executed, attempted, turn_over};
-ghost use Rattle.window_machine.specs.Machine.{windows_on, bytes_at, sizes_of, AllFit, answer_of};
+ghost use Rattle.muen_num.specs.declared.access.Kind.TheVariants.{Read, Write};
+ghost use Rattle.guest_isa.specs.GuestIsa.{decode_of, with_register, IsValidWish};
+ghost use Rattle.subject_model.specs.Solo.{reach_of, with_line, faulted, loaded, stored_to, port_qualification, called, performed, executed, attempted, turn_over};
+ghost use Rattle.window_machine.specs.Machine.{bytes_at, sizes_of, AllFit, answer_of};
 
-use crate::memory::{Holding, NOT_RUN, Reach, Store, Window, reach_of, value_at};
+use crate::memory::{Holding, Reach, Store, Window, reach_of, value_at};
 use guest_isa::{Wish, ask, decode, with_register};
+use muen_num::limits::{EXIT_EXCEPTION, EXIT_HLT, EXIT_IO, EXIT_RDMSR, EXIT_VMCALL, EXIT_WRMSR};
 use muen_num::{Kind, Size};
 use policy_types::source::SourceWay;
 use state_page::SubjectState;
 use view_text::{End, What};
-
-// Exit reasons of instructions (Intel SDM volume 3, basic exit reasons).
-const HLT: u8 = 12;
-
-const VMCALL: u8 = 18;
-
-const IO: u8 = 30;
-
-const RDMSR: u8 = 31;
-
-const WRMSR: u8 = 32;
 
 // The bit of an exit's qualification for input from a port.
 const INPUT: u64 = 1 << 3;
 
 /// What a turn does: the state after it, what its line says, if it has one, its store, if it has
 /// one, and the way in which it raises an event, if it raises one.
-#[derive(Clone, Copy)]
+#[derive(Clone, Copy, Debug, PartialEq, Eq)]
 pub(crate) struct Turn {
     pub state: SubjectState,
     pub what: Option<What>,
@@ -38,8 +28,8 @@ pub(crate) struct Turn {
 }
 
 // A turn with a line, and nothing else.
-fn shown(state: SubjectState, what: What) -> Turn
-    ensures { answer_of result ≡ shown state what }
+fn with_line(state: SubjectState, what: What) -> Turn
+    ensures { answer_of result ≡ with_line state what }
 {
     Turn {
         state,
@@ -56,7 +46,7 @@ fn fault(s: &SubjectState, reason: u8, qualification: u64, addr: u64) -> Turn
     let mut state = *s;
     state.stopped = true;
     state.exited = true;
-    shown(
+    with_line(
         state,
         What::Exit {
             reason,
@@ -69,15 +59,15 @@ fn fault(s: &SubjectState, reason: u8, qualification: u64, addr: u64) -> Turn
 
 // The kernel halts the subject.
 fn halt(after: &SubjectState) -> Turn
-    ensures { answer_of result ≡ shown (record after.now { halted = true; exited = true }) (What.Exit 12 0 0 End.Halt) }
+    ensures { answer_of result ≡ with_line (record after.now { halted = true; exited = true }) (What.Exit EXIT_HLT 0 0 End.Halt) }
 {
     let mut state = *after;
     state.halted = true;
     state.exited = true;
-    shown(
+    with_line(
         state,
         What::Exit {
-            reason: HLT,
+            reason: EXIT_HLT,
             qualification: 0,
             addr: 0,
             end: End::Halt,
@@ -87,15 +77,15 @@ fn halt(after: &SubjectState) -> Turn
 
 // An instruction that didn't leave.
 fn ran(after: &SubjectState, what: What) -> Turn
-    ensures { answer_of result ≡ shown (record after.now { exited = false }) what }
+    ensures { answer_of result ≡ with_line (record after.now { exited = false }) what }
 {
     let mut state = *after;
     state.exited = false;
-    shown(state, what)
+    with_line(state, what)
 }
 
 // A register is loaded, or the access faults.
-#[tactic(auto, using(crate::proofs::Reached::reached_within))]
+#[tactic(auto, using(crate::proofs::AccessWithin::reached_within))]
 fn load(
     windows: &[Window],
     holdings: &[Holding],
@@ -106,8 +96,8 @@ fn load(
     addr: u64,
 ) -> Turn
     requires reg { reg < 16 }
-    requires fit { AllFit (sizes_of holdings.now) (windows_on windows.now) }
-    ensures { answer_of result ≡ loaded [] (bytes_at holdings.now) s.now after.now reg size (reach_of (windows_on windows.now) Read (bytes_of size) addr) }
+    requires fit { AllFit (sizes_of holdings.now) windows.now }
+    ensures { answer_of result ≡ loaded [] (bytes_at holdings.now) s.now after.now reg size (reach_of windows.now Read (bytes_of size) addr) }
 {
     match reach_of(windows, Kind::Read, size, addr) {
         Reach::Refused {
@@ -131,7 +121,7 @@ fn store(
     size: Size,
     value: u64,
 ) -> Turn
-    ensures { answer_of result ≡ stored_to [] s.now after.now addr size value (reach_of (windows_on windows.now) Write (bytes_of size) addr) }
+    ensures { answer_of result ≡ stored_to [] s.now after.now addr size value (reach_of windows.now Write (bytes_of size) addr) }
 {
     match reach_of(windows, Kind::Write, size, addr) {
         Reach::Refused {
@@ -174,7 +164,7 @@ fn call(after: &SubjectState, number: u64) -> Turn
     Turn {
         state,
         what: Some(What::Exit {
-            reason: VMCALL,
+            reason: EXIT_VMCALL,
             qualification: 0,
             addr: 0,
             end: End::On,
@@ -187,7 +177,7 @@ fn call(after: &SubjectState, number: u64) -> Turn
 // The register has the number of the tick.
 fn tell_tick(after: &SubjectState, reg: u8, tick: u32) -> Turn
     requires { reg < 16 }
-    ensures { answer_of result ≡ shown (record (with_register after.now reg tick) { exited = false }) (What.Set reg tick) }
+    ensures { answer_of result ≡ with_line (record (with_register after.now reg tick) { exited = false }) (What.Set reg tick) }
 {
     let value = u64::from(tick);
     ran(&with_register(after, reg, value), What::Set { reg, value })
@@ -202,19 +192,29 @@ fn perform(
     after: &SubjectState,
     wish: Wish,
 ) -> Turn
-    requires fine { IsFineWish wish }
-    requires fit { AllFit (sizes_of holdings.now) (windows_on windows.now) }
-    ensures { answer_of result ≡ performed [] (windows_on windows.now) (bytes_at holdings.now) tick s.now after.now wish }
+    requires valid { IsValidWish wish }
+    requires fit { AllFit (sizes_of holdings.now) windows.now }
+    ensures { answer_of result ≡ performed [] windows.now (bytes_at holdings.now) tick s.now after.now wish }
 {
     match wish {
         Wish::Nothing => ran(after, What::Ran),
         Wish::Set { reg, value } => ran(after, What::Set { reg, value }),
         Wish::Load { reg, addr, size } => load(windows, holdings, s, after, reg, size, addr),
         Wish::Store { addr, size, value } => store(windows, s, after, addr, size, value),
-        Wish::PortIn { port, size, .. } => fault(s, IO, port_qualification(size, true, port), 0),
-        Wish::PortOut { port, size, .. } => fault(s, IO, port_qualification(size, false, port), 0),
-        Wish::ReadMsr { .. } => fault(s, RDMSR, 0, 0),
-        Wish::WriteMsr { .. } => fault(s, WRMSR, 0, 0),
+        Wish::PortIn { port, size, .. } => fault(
+            s,
+            EXIT_IO,
+            port_qualification(size, true, port),
+            0,
+        ),
+        Wish::PortOut { port, size, .. } => fault(
+            s,
+            EXIT_IO,
+            port_qualification(size, false, port),
+            0,
+        ),
+        Wish::ReadMsr { .. } => fault(s, EXIT_RDMSR, 0, 0),
+        Wish::WriteMsr { .. } => fault(s, EXIT_WRMSR, 0, 0),
         Wish::Tick { reg } => tell_tick(after, reg, tick),
         Wish::Call { number } => call(after, number),
         Wish::Halt => halt(after),
@@ -229,11 +229,11 @@ fn execute(
     s: &SubjectState,
     bytes: [u8; 8],
 ) -> Turn
-    requires { AllFit (sizes_of holdings.now) (windows_on windows.now) }
-    ensures { answer_of result ≡ executed [] (windows_on windows.now) (bytes_at holdings.now) tick s.now (decode_of bytes) }
+    requires { AllFit (sizes_of holdings.now) windows.now }
+    ensures { answer_of result ≡ executed [] windows.now (bytes_at holdings.now) tick s.now (decode_of bytes) }
 {
     match decode(bytes) {
-        None => fault(s, NOT_RUN, 0, 0),
+        None => fault(s, EXIT_EXCEPTION, 0, 0),
         Some(i) => {
             let asked = ask(s, i);
             perform(windows, holdings, tick, s, &asked.after, asked.wish)
@@ -255,10 +255,10 @@ fn eight(bytes: &[u8], offset: usize) -> [u8; 8]
 
 // One instruction, or the first of its faults: those of the fetch, bytes outside the table, those of
 // the access.
-#[tactic(auto, using(crate::proofs::Reached::fetched_within))]
+#[tactic(auto, using(crate::proofs::AccessWithin::fetched_within))]
 fn attempt(windows: &[Window], holdings: &[Holding], tick: u32, s: &SubjectState) -> Turn
-    requires { AllFit (sizes_of holdings.now) (windows_on windows.now) }
-    ensures { answer_of result ≡ attempted [] (windows_on windows.now) (bytes_at holdings.now) tick s.now }
+    requires { AllFit (sizes_of holdings.now) windows.now }
+    ensures { answer_of result ≡ attempted [] windows.now (bytes_at holdings.now) tick s.now }
 {
     match reach_of(windows, Kind::Fetch, Size::Eight, s.pc) {
         Reach::Refused {
@@ -280,8 +280,8 @@ pub(crate) fn take_turn(
     tick: u32,
     s: &SubjectState,
 ) -> Turn
-    requires { AllFit (sizes_of holdings.now) (windows_on windows.now) }
-    ensures { answer_of result ≡ turn_over [] (windows_on windows.now) (bytes_at holdings.now) tick s.now [] [] false }
+    requires { AllFit (sizes_of holdings.now) windows.now }
+    ensures { answer_of result ≡ turn_over [] windows.now (bytes_at holdings.now) tick s.now [] [] false }
 {
     if s.stopped || s.halted {
         return Turn {

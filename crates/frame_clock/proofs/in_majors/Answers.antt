@@ -7,7 +7,7 @@ use Rattle.image_pack.specs.Slot.{frame_slots, slots_from}
 use Rattle.image_pack.specs.declared.plan.Major.{Major}
 use Rattle.image_pack.specs.declared.plan.Minor.{Minor}
 use Rattle.image_pack.proofs.SlotLaws.{frames_at, frames_there, has_major, has_majors, major_ticks}
-use Rattle.frame_clock.proofs.Steps.{majors_left, major_here, major_past, frames_read}
+use Rattle.frame_clock.proofs.FrameSearch.{majors_left, major_here, major_past, frames_read}
 use Rattle.frame_clock.proofs.in_majors.Goals as goal
 
 pub loop-place-init : goal.loop-place-init

@@ -6,7 +6,7 @@ use Rattle.image_pack.specs.Plan.{frames_in}
 use Rattle.image_pack.specs.Slot.{slots_from, slot_at}
 use Rattle.image_pack.specs.declared.plan.Major.{Major}
 use Rattle.image_pack.proofs.SlotLaws.{has_majors, plan_ticks, slot_by_ticks, slot_on_cpu}
-use Rattle.frame_clock.specs.Told.{slot_of}
+use Rattle.frame_clock.specs.FrameSlot.{slot_of}
 use Rattle.frame_clock.proofs.slot.Goals as goal
 use Rattle.frame_clock.proofs.slot.Goals.{After-in_round, After-in_majors}
 
@@ -33,8 +33,8 @@ in_majors-requires-clause-tick c =
     let all = sum_by (λ (m : Major). m.ticks) c.args.p.now.majors in
     subst (λ n. n < all) (sym (round_is c)) (mod-lt c.args.tick some)
 
-told : (c : After-in_majors) → slot_at (frames_in c.args.p.now c.args.cpu) c.args.tick ≡ Some (slot_of c.in_majors.result)
-told c =
+slot_is : (c : After-in_majors) → slot_at (frames_in c.args.p.now c.args.cpu) c.args.tick ≡ Some (slot_of c.in_majors.result)
+slot_is c =
     let p = c.args.p.now in
     let round = c.in_round.ensures ∙ ap (λ n. c.args.tick % n) (c.ticks_in-total.ensures ∙ ap (sum_by (λ (m : Major). m.ticks)) c.items.ensures) in
     slot_by_ticks p c.args.cpu c.args.tick c.requires.plan c.requires.cpu
@@ -42,8 +42,8 @@ told c =
     ∙ c.in_majors.ensures
 
 pub returns-clause-slot : goal.returns-clause-slot
-returns-clause-slot c = told c
+returns-clause-slot c = slot_is c
 
 pub returns-clause-group : goal.returns-clause-group
 returns-clause-group c =
-    slot_on_cpu c.args.p.now c.args.cpu c.args.tick (slot_of c.in_majors.result) c.requires.plan c.requires.cpu (told c)
+    slot_on_cpu c.args.p.now c.args.cpu c.args.tick (slot_of c.in_majors.result) c.requires.plan c.requires.cpu (slot_is c)

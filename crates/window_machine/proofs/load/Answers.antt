@@ -2,13 +2,13 @@ use Rattle.std.proofs.Common.{◌≡◌, ap, subst, ◌∙◌, None}
 use Rattle.std.specs.List.{list_all}
 use Rattle.policy_lawful.specs.Lawful.{rules_broken}
 use Rattle.policy_lawful.specs.Resolution.{Resolution, IsResolved, source_of}
-use Rattle.window_machine.specs.Start.{CanLoad, is_held, are_placed_in}
-use Rattle.window_machine.proofs.Facts.{Facts, all_held, all_placed}
+use Rattle.window_machine.specs.Start.{CanLoad, has_fitting_content}
+use Rattle.window_machine.proofs.Loadable.{IsLoadable, all_fitting, all_placed}
 use Rattle.window_machine.proofs.SystemRun.{machine_is, starts_well, prints_so}
 use Rattle.window_machine.proofs.load.Goals as goal
 
-facts : (l r : Resolution) → r ≡ l → IsResolved r → rules_broken (source_of l) ≡ None → CanLoad (source_of l) → Facts l
-facts l r same resolved rules loads = record {
+loadable : (l r : Resolution) → r ≡ l → IsResolved r → rules_broken (source_of l) ≡ None → CanLoad (source_of l) → IsLoadable l
+loadable l r same resolved rules loads = record {
   resolved = subst IsResolved same resolved;
   rules = rules;
   loads = loads;
@@ -16,27 +16,27 @@ facts l r same resolved rules loads = record {
 
 pub hold_all-requires : goal.hold_all-requires
 hold_all-requires c =
-    let f = facts c.args.l.now _ c.resolved-resolved.ensures.value c.memory-regions.ensures.resolved c.resolved-resolved.ensures.rules c.requires in
-    ap (list_all is_held) (c.memory-regions.ensures.value ∙ ap (λ (r : Resolution). r.memory) c.resolved-resolved.ensures.value)
-    ∙ all_held c.args.l.now f
+    let f = loadable c.args.l.now _ c.resolved-resolved.ensures.value c.memory-regions.ensures.resolved c.resolved-resolved.ensures.rules c.requires in
+    ap (list_all has_fitting_content) (c.memory-regions.ensures.value ∙ ap (λ (r : Resolution). r.memory) c.resolved-resolved.ensures.value)
+    ∙ all_fitting c.args.l.now f
 
 pub start_all-requires : goal.start_all-requires
 start_all-requires c =
-    let f = facts c.args.l.now _ c.resolved-resolved.ensures.value c.memory-regions.ensures.resolved c.resolved-resolved.ensures.rules c.requires in
+    let f = loadable c.args.l.now _ c.resolved-resolved.ensures.value c.memory-regions.ensures.resolved c.resolved-resolved.ensures.rules c.requires in
     let regions = c.memory-regions.ensures.value ∙ ap (λ (r : Resolution). r.memory) c.resolved-resolved.ensures.value in
     let subjects = c.subjects.ensures.value ∙ ap (λ (r : Resolution). r.subjects) c.resolved-resolved.ensures.value in
-    (λ i. list_all (λ s. are_placed_in (regions i) s.memory) (subjects i)) ∙ all_placed c.args.l.now f
+    rw (regions, subjects) (all_placed c.args.l.now f)
 
 pub make-requires : goal.make-requires
 make-requires c =
-    let f = facts c.args.l.now _ c.resolved-resolved.ensures.value c.memory-regions.ensures.resolved c.resolved-resolved.ensures.rules c.requires in
+    let f = loadable c.args.l.now _ c.resolved-resolved.ensures.value c.memory-regions.ensures.resolved c.resolved-resolved.ensures.rules c.requires in
     let regions = c.memory-regions.ensures.value ∙ ap (λ (r : Resolution). r.memory) c.resolved-resolved.ensures.value in
     let subjects = c.subjects.ensures.value ∙ ap (λ (r : Resolution). r.subjects) c.resolved-resolved.ensures.value in
     starts_well c.args.l.now f _ _ _ c.in_ok-plan.ensures (machine_is c.args.l.now _ _ regions subjects _ _ _ c.in_ok-guests.ensures c.in_ok-holdings.ensures)
 
 pub returns : goal.returns
 returns c =
-    let f = facts c.args.l.now _ c.resolved-resolved.ensures.value c.memory-regions.ensures.resolved c.resolved-resolved.ensures.rules c.requires in
+    let f = loadable c.args.l.now _ c.resolved-resolved.ensures.value c.memory-regions.ensures.resolved c.resolved-resolved.ensures.rules c.requires in
     let regions = c.memory-regions.ensures.value ∙ ap (λ (r : Resolution). r.memory) c.resolved-resolved.ensures.value in
     let subjects = c.subjects.ensures.value ∙ ap (λ (r : Resolution). r.subjects) c.resolved-resolved.ensures.value in
     prints_so c.args.l.now f _ c.make.result c.in_ok-plan.ensures (c.make.ensures ∙ machine_is c.args.l.now _ _ regions subjects _ _ _ c.in_ok-guests.ensures c.in_ok-holdings.ensures)

@@ -2,7 +2,7 @@ use Rattle.std.proofs.Common.{◌≡◌, ap, ◌∙◌}
 use Rattle.std.specs.Prelude.{map}
 use Rattle.std.specs.List.{list_all}
 use Rattle.plan_emit.specs.Emitted.{fits_group, fits_major, group_part, major_part}
-use Rattle.plan_emit.proofs.Emitting.{is_lawful_plan, lawful_known}
+use Rattle.plan_emit.proofs.PlanOfPolicy.{is_lawful_plan, lawful_known}
 use Rattle.plan_emit.proofs.Fitting.{groups_fit, majors_fit}
 use Rattle.plan_emit.proofs.emit.plan.Goals as goal
 

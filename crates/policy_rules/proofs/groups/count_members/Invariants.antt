@@ -1,5 +1,5 @@
 use Rattle.std.proofs.Common.{take}
-use Rattle.policy_rules.specs.Placed.{times_in, Adds}
+use Rattle.policy_rules.specs.Groups.{times_in, Adds}
 use Rattle.policy_rules.proofs.groups.count_members.Given as goal
 
 abbrev pub invariant-loop-group : goal.invariant-loop-group

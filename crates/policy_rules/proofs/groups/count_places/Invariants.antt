@@ -1,5 +1,5 @@
 use Rattle.std.proofs.Common.{take}
-use Rattle.policy_rules.specs.Placed.{times_among, Adds}
+use Rattle.policy_rules.specs.Groups.{times_among, Adds}
 use Rattle.policy_rules.proofs.groups.count_places.Given as goal
 
 abbrev pub invariant-loop-place : goal.invariant-loop-place

@@ -1,6 +1,6 @@
 use Rattle.std.proofs.Common.{◌≡◌, [], take, drop}
 use Rattle.muen_num.specs.Search.{first_after}
-use Rattle.policy_rules.specs.Placed.{entry_offence}
+use Rattle.policy_rules.specs.Majors.{entry_offence}
 use Rattle.policy_rules.proofs.major_frames.first_entry.Given as goal
 
 abbrev pub invariant-loop-i : goal.invariant-loop-i

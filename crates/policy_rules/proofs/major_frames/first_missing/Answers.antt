@@ -2,7 +2,7 @@ use Rattle.muen_num.specs.Search.{unless}
 use Rattle.std.proofs.Common.{◌≡◌, ◌<◌, true, false, Some, sym, ap, ◌∙◌, arith}
 use Rattle.policy_lawful.specs.Offences.{two}
 use Rattle.policy_lawful.specs.Rules.{major_name, cpu_name}
-use Rattle.policy_rules.specs.Placed.{is_listed, missing_offence}
+use Rattle.policy_rules.specs.Majors.{is_listed, missing_offence}
 use Rattle.policy_rules.proofs.Searching.{numbers_none_more, number_found}
 use Rattle.policy_rules.proofs.major_frames.first_missing.Goals as goal
 

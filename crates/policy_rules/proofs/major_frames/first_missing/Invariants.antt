@@ -1,7 +1,7 @@
 use Rattle.std.proofs.Common.{◌≡◌, None}
 use Rattle.muen_num.specs.Range.{numbers_below}
 use Rattle.muen_num.specs.Search.{first_in}
-use Rattle.policy_rules.specs.Placed.{missing_offence}
+use Rattle.policy_rules.specs.Majors.{missing_offence}
 use Rattle.policy_rules.proofs.major_frames.first_missing.Given as goal
 
 abbrev pub invariant-loop-cpu : goal.invariant-loop-cpu

@@ -1,8 +1,8 @@
 use Rattle.std.proofs.Common.{◌≡◌, length, None, get_or, arith}
 use Rattle.std.specs.Prelude.{◌&&◌}
 use Rattle.std.proofs.Math.Seq.{take-append_seam}
-use Rattle.policy_rules.specs.Shared.{is_other, shows}
-use Rattle.policy_rules.proofs.SharedRegions.{names_more}
+use Rattle.policy_rules.specs.Writers.{is_other, shows}
+use Rattle.policy_rules.proofs.WritersByPlace.{names_more}
 use Rattle.policy_rules.proofs.writers.first_others.Goals as goal
 
 pub loop-subject-preserved : goal.loop-subject-preserved

@@ -1,5 +1,5 @@
 use Rattle.std.proofs.Common.{None, length, slice_index_or, take}
-use Rattle.policy_rules.specs.Shared.{other_of, HasNames}
+use Rattle.policy_rules.specs.Writers.{other_of, HasNames}
 use Rattle.policy_rules.proofs.writers.first_others.Given as goal
 
 abbrev pub invariant-loop-subject : goal.invariant-loop-subject

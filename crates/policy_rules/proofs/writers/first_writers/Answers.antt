@@ -1,7 +1,7 @@
 use Rattle.std.proofs.Common.{◌≡◌, length, arith}
 use Rattle.std.proofs.Math.Seq.{take-append_seam}
-use Rattle.policy_rules.specs.Shared.{alters}
-use Rattle.policy_rules.proofs.SharedRegions.{names_more}
+use Rattle.policy_rules.specs.Writers.{alters}
+use Rattle.policy_rules.proofs.WritersByPlace.{names_more}
 use Rattle.policy_rules.proofs.writers.first_writers.Goals as goal
 
 pub loop-subject-preserved : goal.loop-subject-preserved

@@ -1,5 +1,5 @@
 use Rattle.std.proofs.Common.{take}
-use Rattle.policy_rules.specs.Shared.{writer_of, HasNames}
+use Rattle.policy_rules.specs.Writers.{writer_of, HasNames}
 use Rattle.policy_rules.proofs.writers.first_writers.Given as goal
 
 abbrev pub invariant-loop-subject : goal.invariant-loop-subject

@@ -1,7 +1,7 @@
 use Rattle.std.proofs.Common.{◌≡◌, ℕ, None, slice_index_or, take}
 use Rattle.std.specs.Prelude.{◌==◌, ◌&&◌}
 use Rattle.std.specs.List.{list_any}
-use Rattle.policy_rules.specs.Shared.{is_other, noted}
+use Rattle.policy_rules.specs.Writers.{is_other, noted}
 use Rattle.policy_rules.proofs.writers.note_other.Given as goal
 
 abbrev pub invariant-loop-mapping : goal.invariant-loop-mapping

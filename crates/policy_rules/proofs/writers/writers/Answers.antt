@@ -1,6 +1,6 @@
 use Rattle.std.proofs.Common.{◌≡◌, ◌∙◌, ap, length, None, get_or}
-use Rattle.policy_rules.specs.Shared.{writer_of, other_of, HasNames}
-use Rattle.policy_rules.proofs.SharedRegions.{within_all, shared_offence}
+use Rattle.policy_rules.specs.Writers.{writer_of, other_of, HasNames}
+use Rattle.policy_rules.proofs.WritersByPlace.{within_all, shared_offence}
 use Rattle.policy_rules.proofs.writers.writers.Goals as goal
 
 pub first_writers-requires : goal.first_writers-requires

@@ -1,9 +1,9 @@
 use Rattle.std.proofs.Common.{◌<◌, ap, length, arith}
-use Rattle.window_machine.proofs.Stays.{has_cpu, group_there}
+use Rattle.image_pack.proofs.SlotLaws.{has_majors, group_there}
 use Rattle.window_machine.proofs.machine.Machine.active_at.Goals as goal
 
 pub slot-slot-requires-clause-cpu : goal.slot-slot-requires-clause-cpu
-slot-slot-requires-clause-cpu c = has_cpu c.self.inside.plan c.self.invariant.plan
+slot-slot-requires-clause-cpu c = (has_majors c.self.inside.plan c.self.invariant.plan).cpu
 
 pub bounds-items-from : goal.bounds-items-from
 bounds-items-from c =

@@ -2,9 +2,9 @@ use Rattle.std.proofs.Common.{◌≡◌, ℕ, ◌<◌, ◌∙◌, List, sym, ap,
 use Rattle.std.specs.Prelude.{option_map, nat_lt}
 use Rattle.std.specs.List.{list_all}
 use Rattle.window_machine.specs.Machine.{MachineState, GuestState, sizes_of, AllFit, GuestsFit, HaveRoom, stored_for, guest_answer}
-use Rattle.window_machine.proofs.Puts.{sizes_kept, given_back, may_put}
+use Rattle.window_machine.proofs.Stores.{sizes_kept, given_back, may_put}
 use Rattle.std.proofs.lemmas.List.{length-set}
-use Rattle.window_machine.proofs.Stays.{fit_at, set_fits}
+use Rattle.window_machine.proofs.WindowsFit.{fit_at, set_fits}
 use Rattle.window_machine.proofs.machine.Machine.turn_of.Goals as goal
 
 -- the windows of a subject fit

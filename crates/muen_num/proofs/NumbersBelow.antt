@@ -1,0 +1,54 @@
+-- The numbers below a bound.
+use Rattle.std.proofs.Common.{◌≡◌, ℕ, zero, suc, ◌+◌, ◌<◌, Bool, true, [], ◌∷◌, ◌++◌, length, map, Some, refl, sym, ap, ◌∙◌, inl, inr, arith, length-append}
+use Rattle.std.specs.Prelude.{◌&&◌, slice_get}
+use Rattle.std.specs.List.{list_all, enumerate_from}
+use Rattle.std.proofs.lemmas.Bool.{and_from, and_parts, cases_eq, cases_lt}
+use Rattle.std.proofs.lemmas.List.{length-map, map_push}
+use Rattle.std.proofs.lemmas.List.Folds.{list_all-append}
+use Rattle.muen_num.specs.Range.{numbers_below}
+use Rattle.muen_num.proofs.Lists.{enumerate_push, get_left, get_right}
+
+-- there are n numbers below n
+pub length_numbers : (n : ℕ) → length (numbers_below n) ≡ n
+length_numbers zero = refl
+length_numbers (suc n) =
+    let before : length (numbers_below n) ≡ n = length_numbers n in
+    let more : length (numbers_below n ++ n ∷ []) ≡ length (numbers_below n) + 1 = length-append (numbers_below n) (n ∷ []) in
+    omega (arith, before, more)
+
+-- and each stands at its own place
+pub number_at : (n k : ℕ) → k < n → slice_get (numbers_below n) k ≡ Some k
+number_at zero k l = absurd (omega arith)
+number_at (suc n) k l =
+    let many : length (numbers_below n) ≡ n = length_numbers n in
+    elim (cases_lt k n) as (λ _. slice_get (numbers_below n ++ n ∷ []) k ≡ Some k) [
+      | inl h ↦ get_left (numbers_below n) (n ∷ []) k (omega (arith, many, h)) ∙ number_at n k h
+      | inr h ↦
+          let last : k ≡ length (numbers_below n) + 0 = omega (arith, many, h, l) in
+          let same : n ≡ k = omega (arith, h, l) in
+          ap (slice_get (numbers_below n ++ n ∷ [])) last ∙ get_right (numbers_below n) (n ∷ []) 0 ∙ ap (λ m. Some m) same
+    ]
+
+-- a test that passes at each number below a bound
+pub number_passes : (test : ℕ → Bool) (n k : ℕ) → k < n → list_all test (numbers_below n) ≡ true → test k ≡ true
+number_passes test zero k l all = absurd (omega arith)
+number_passes test (suc n) k l all =
+    let parts = and_parts (list_all test (numbers_below n)) (test n && true) (sym (list_all-append test (numbers_below n) (n ∷ [])) ∙ all) in
+    elim (cases_eq k n) as (λ _. test k ≡ true) [
+      | inl e ↦ ap test e ∙ (and_parts (test n) true parts.1).0
+      | inr ne ↦ number_passes test n k (omega arith) parts.0
+    ]
+
+-- a test that passes at each number with what stands for it
+pub numbered : {X : Type 0} (test : ℕ × X → Bool) (f : ℕ → X) (n : ℕ) → ((k : ℕ) → k < n → test (k, f k) ≡ true) → list_all test (enumerate_from 0 (map f (numbers_below n))) ≡ true
+numbered test f zero passes = refl
+numbered test f (suc n) passes =
+    let before = map f (numbers_below n) in
+    let many : 0 + length before ≡ n = omega (arith, length-map (numbers_below n) f, length_numbers n) in
+    let last : test (0 + length before, f n) ≡ true = ap (λ k. test (k, f n)) many ∙ passes n (omega arith) in
+    ap (λ xs. list_all test (enumerate_from 0 xs)) (map_push f (numbers_below n) n)
+    ∙ ap (list_all test) (enumerate_push 0 before (f n))
+    ∙ list_all-append test (enumerate_from 0 before) ((0 + length before, f n) ∷ [])
+    ∙ and_from (list_all test (enumerate_from 0 before)) (test (0 + length before, f n) && true)
+    (numbered test f n (λ k l. passes k (omega arith)))
+    (and_from (test (0 + length before, f n)) true last refl)

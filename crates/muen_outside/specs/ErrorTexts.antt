@@ -1,0 +1,11 @@
+-- The texts of the errors.
+use Rattle.std.specs.Prelude.{ℕ, List, codes}
+use Rattle.muen_outside.specs.declared.files.FileEnd.{FileEnd}
+use Rattle.muen_outside.specs.declared.files.FileEnd.TheVariants.{Failed, NoMemory}
+
+abbrev pub file_end_text : FileEnd → List ℕ
+file_end_text Failed = codes "file fault"
+file_end_text NoMemory = codes "out of memory"
+
+abbrev pub sink_fault_text : List ℕ
+sink_fault_text = codes "output fault"

@@ -1,0 +1,9 @@
+use Rattle.std.proofs.Common.{None, refl}
+use Rattle.muen_top.proofs.Booting.{unasked}
+use Rattle.muen_top.proofs.call.work.Goals as goal
+
+pub returns-in-Usage-clause-came : goal.returns-in-Usage-clause-came
+returns-in-Usage-clause-came g c = rw (← c.parse.ensures, c.in-Usage.is) (unasked None _ _ _ refl)
+
+pub returns-in-Boot-clause-came : goal.returns-in-Boot-clause-came
+returns-in-Boot-clause-came g c = rw (← c.parse.ensures, c.in-Boot.is) c.boot.ensures.came

@@ -1,0 +1,64 @@
+-- What a command answers over files that hold this, where no call on files or on a sink fails and memory suffices.
+use Rattle.std.specs.Prelude.{ℕ, List, Option, Some, None, Result, Ok, Err}
+use Rattle.std.specs.FinMap.{get}
+use Rattle.muen_num.specs.declared.limits.TheConstants.{POLICY_MOST, RECORD_MOST}
+use Rattle.muen_outside.specs.Store.{Reading, whole, absent, long, reading_of}
+use Rattle.policy_meaning.specs.Contents.{Held}
+use Rattle.policy_types.specs.declared.refusal.Refusal.{Refusal}
+use Rattle.policy_types.specs.declared.source.Source.{Source}
+use Rattle.subject_model.specs.DeviceRecord.{DeviceRecord}
+use Rattle.subject_model.specs.Run.{trace_of}
+use Rattle.muen_top.specs.Commands.{Command, boot}
+use Rattle.muen_top.specs.RecordText.{record_of}
+use Rattle.muen_top.specs.Refusals.{accepted_policy_of}
+use Rattle.muen_top.specs.declared.record_text.RecordFault.{RecordFault}
+
+-- why a command prints nothing
+pub data Reason : Type 0 where
+  -- the words have no command's form
+  usage : Reason
+  -- there is no file of this name
+  missing : List ℕ → Reason
+  -- the file of this name has so many bytes, more than its limit
+  too_long : List ℕ → ℕ → Reason
+  -- the policy is refused
+  refused : Refusal → Reason
+  -- the device record is refused
+  record_refused : RecordFault → Reason
+
+pub data Answer : Type 0 where
+  -- this text is printed
+  prints : List ℕ → Answer
+  -- nothing is printed, for this reason
+  stops : Reason → Answer
+
+-- what follows where a file is read, and why nothing does where it isn't
+abbrev pub of_file : List ℕ → (List ℕ → Answer) → Reading → Answer
+of_file name next (whole bytes) = next bytes
+of_file name next absent = stops (missing name)
+of_file name next (long n) = stops (too_long name n)
+
+-- ---- `boot`: the policy's file, the policy, the record's file, the record, the run
+
+abbrev pub run_answer : Held → Source → Result DeviceRecord RecordFault → Answer
+run_answer files p (Ok run) = prints (trace_of p files run)
+run_answer files p (Err fault) = stops (record_refused fault)
+
+abbrev pub record_answer : Held → Source → List ℕ → Answer
+record_answer files p name =
+    of_file name (λ bytes. run_answer files p (record_of bytes)) (reading_of (get files name) RECORD_MOST)
+
+abbrev pub policy_answer : Held → List ℕ → Result Source Refusal → Answer
+policy_answer files name (Ok p) = record_answer files p name
+policy_answer files name (Err refusal) = stops (refused refusal)
+
+unfoldable pub boot_answer : Held → List ℕ → List ℕ → Answer
+boot_answer files policy name =
+    of_file policy (λ bytes. policy_answer files name (accepted_policy_of files bytes)) (reading_of (get files policy) POLICY_MOST)
+
+-- ---- every command
+
+-- the answer to these words' command
+abbrev pub answer_of : Held → Option Command → Answer
+answer_of files None = stops usage
+answer_of files (Some (boot policy name)) = boot_answer files policy name

@@ -1,0 +1,77 @@
+-- How a command has ended, and why; and what is promised of a whole call.
+use Rattle.std.specs.Prelude.{◌≡◌, ℕ, List, Option, IfSome, ◌⊎◌}
+use Rattle.muen_outside.specs.Counts.{Rose}
+use Rattle.muen_outside.specs.States.{FilesState, SinkState}
+use Rattle.muen_outside.specs.Puts.{Appended, Failed}
+use Rattle.muen_outside.specs.Store.{Store}
+use Rattle.muen_top.specs.Answers.{usage, missing, too_long, refused, record_refused, Answer, prints, stops, answer_of}
+use Rattle.muen_top.specs.Commands.{Command, command_of}
+use Rattle.muen_top.specs.Reports.{reason_text, refusal_status, status_of, Told, Reported, Ends}
+use Rattle.muen_top.specs.declared.outcome.Outcome.{Outcome}
+use Rattle.muen_top.specs.declared.outcome.Outcome.TheVariants.{Done, Stopped, OutputFault}
+use Rattle.muen_top.specs.declared.outcome.Stop.{Stop}
+use Rattle.muen_top.specs.declared.outcome.Stop.TheVariants.{Usage, Missing, TooLong, Refused, RecordRefused, FileFault, NoMemory}
+
+-- ---- the outcome of a command whose answer is this
+
+-- a text is printed, and this holds of it
+abbrev pub Prints : Answer → (List ℕ → Type 0) → Type 0
+Prints (prints text) Holds = Holds text
+Prints (stops reason) Holds = ⊥
+
+-- nothing is printed: so it is answered, or a call on files failed, or memory was refused. A file that is missing or too
+-- long is a miss
+abbrev pub StopsFor : Answer → FilesState → FilesState → Stop → Type 0
+StopsFor answer old new Usage = answer ≡ stops usage
+StopsFor answer old new (Missing name) = (answer ≡ stops (missing name.now)) × Rose old.misses new.misses
+StopsFor answer old new (TooLong name n) = (answer ≡ stops (too_long name.now n)) × Rose old.misses new.misses
+StopsFor answer old new (Refused refusal) =
+    (answer ≡ stops (refused refusal)) × (refusal_status refusal ≡ 3 → Rose old.misses new.misses)
+StopsFor answer old new (RecordRefused fault) = answer ≡ stops (record_refused fault)
+StopsFor answer old new FileFault = Rose old.faults new.faults
+StopsFor answer old new NoMemory = Unit {0}
+
+abbrev pub ComesOf : Answer → FilesState → FilesState → SinkState → SinkState → Outcome → Type 0
+ComesOf answer old new out out' Done = Prints answer (λ text. Appended text out out')
+ComesOf answer old new out out' (Stopped stop) = StopsFor answer old new stop × (out' ≡ out)
+ComesOf answer old new out out' OutputFault = Prints answer (λ text. Failed text out out')
+
+-- over some files that hold what is told, the outcome comes of the command's answer
+pub record Came (command : Option Command) (old new : FilesState) (out out' : SinkState) (outcome : Outcome) : Type 0 where
+  pub files : Store
+  pub told : IfSome old.held (λ m. files ≡ m)
+  pub comes : ComesOf (answer_of files command) old new out out' outcome
+
+-- ---- a whole call
+
+-- the outcome of the words' command, its status, and what was reported
+pub record Ran (words : List (List ℕ)) (old new : FilesState) (out out' err err' : SinkState) (status : ℕ) : Type 0 where
+  pub outcome : Outcome
+  pub status_is : status ≡ status_of outcome
+  pub came : Came (command_of words) old new out out' outcome
+  pub report : Reported err err' outcome
+
+-- a fault of files or of the output, or want of memory
+abbrev pub IsFault : ℕ → Type 0
+IsFault status = (status ≡ 4) ⊎ ((status ≡ 7) ⊎ (status ≡ 8))
+
+-- the answer to the words' command, over some files that hold what is told, is such
+pub record Answered (words : List (List ℕ)) (held : Option Store) (Such : Answer → Type 0) : Type 0 where
+  pub files : Store
+  pub told : IfSome held (λ m. files ≡ m)
+  pub such : Such (answer_of files (command_of words))
+
+-- of the answers that print nothing, those on a policy, on a missing or too long file, and on a record
+abbrev pub RefusesPolicy : SinkState → SinkState → Answer → Type 0
+RefusesPolicy err err' (stops (refused refusal)) = Told (reason_text (refused refusal)) err err'
+RefusesPolicy err err' _ = ⊥
+
+abbrev pub LacksFile : SinkState → SinkState → Answer → Type 0
+LacksFile err err' (stops (missing name)) = Told (reason_text (missing name)) err err'
+LacksFile err err' (stops (too_long name n)) = Told (reason_text (too_long name n)) err err'
+LacksFile err err' (stops (refused refusal)) = Told (reason_text (refused refusal)) err err'
+LacksFile err err' _ = ⊥
+
+abbrev pub RefusesRecord : SinkState → SinkState → Answer → Type 0
+RefusesRecord err err' (stops (record_refused fault)) = Told (reason_text (record_refused fault)) err err'
+RefusesRecord err err' _ = ⊥

@@ -1,0 +1,45 @@
+-- What reading a command's files comes to.
+use Rattle.std.specs.Prelude.{◌≡◌, ℕ, List, Ok, IfSome}
+use Rattle.muen_num.specs.declared.limits.TheConstants.{POLICY_MOST, RECORD_MOST}
+use Rattle.muen_outside.specs.Counts.{Rose}
+use Rattle.muen_outside.specs.States.{FilesState}
+use Rattle.muen_outside.specs.Store.{Store, absent, long}
+use Rattle.policy_meaning.specs.Contents.{Held}
+use Rattle.policy_types.specs.declared.source.Source.{Source}
+use Rattle.subject_model.specs.DeviceRecord.{DeviceRecord}
+use Rattle.subject_model.specs.Run.{trace_of}
+use Rattle.muen_top.specs.Answers.{Answer, prints, boot_answer}
+use Rattle.muen_top.specs.Calls.{StopsFor}
+use Rattle.muen_top.specs.FilesSeen.{Saw, SawToo}
+use Rattle.muen_top.specs.declared.outcome.Stop.{Stop}
+use Rattle.muen_top.specs.declared.outcome.Stop.TheVariants.{Missing, TooLong, FileFault, NoMemory}
+
+-- why one read of this name with this limit gives no bytes
+abbrev pub NotRead : List ℕ → ℕ → FilesState → FilesState → Stop → Type 0
+NotRead name most old new (Missing n) = (n.now ≡ name) × Saw name most absent old new
+NotRead name most old new (TooLong n k) = (n.now ≡ name) × Saw name most (long k) old new
+NotRead name most old new FileFault = Rose old.faults new.faults
+NotRead name most old new NoMemory = Unit {0}
+NotRead name most old new _ = ⊥
+
+-- why a later read gives none
+abbrev pub NotReadToo : List ℕ → List ℕ → List ℕ → ℕ → FilesState → FilesState → Stop → Type 0
+NotReadToo before bytes name most old new (Missing n) = (n.now ≡ name) × SawToo before bytes name most absent old new × Rose old.misses new.misses
+NotReadToo before bytes name most old new (TooLong n k) = (n.now ≡ name) × SawToo before bytes name most (long k) old new × Rose old.misses new.misses
+NotReadToo before bytes name most old new FileFault = Rose old.faults new.faults
+NotReadToo before bytes name most old new NoMemory = Unit {0}
+NotReadToo before bytes name most old new _ = ⊥
+
+-- ---- `boot`
+
+-- the policy and the record are read, and over some files that hold what is told the text of this run is the answer
+pub record Ready (policy name : List ℕ) (old : FilesState) (p : Source) (run : DeviceRecord) : Type 0 where
+  pub files : Store
+  pub told : IfSome old.held (λ m. files ≡ m)
+  pub answer : boot_answer files policy name ≡ prints (trace_of p files run)
+
+-- nothing is printed, as over some files that hold what is told the answer says
+pub record NotReady (policy name : List ℕ) (old new : FilesState) (stop : Stop) : Type 0 where
+  pub files : Store
+  pub told : IfSome old.held (λ m. files ≡ m)
+  pub stops : StopsFor (boot_answer files policy name) old new stop

@@ -1,0 +1,95 @@
+-- The line that tells how a call ended, and its status (this project's own).
+use Rattle.std.specs.Prelude.{◌≡◌, ℕ, List, ◌++◌, ◌⊎◌, codes, decimal}
+use Rattle.muen_outside.specs.States.{SinkState}
+use Rattle.muen_outside.specs.Puts.{Appended, Failed}
+use Rattle.policy_types.specs.Refusals.{refusal_text}
+use Rattle.policy_types.specs.declared.refusal.Refusal.{Refusal}
+use Rattle.policy_types.specs.declared.refusal.Refusal.TheVariants.{NotJson, Shape, Rule, Missing as MissingFile, TooLong as TooLongFile, FileFit, NoRoom, NoMemory as NoMemoryFor}
+use Rattle.muen_top.specs.Answers.{Reason, usage, missing, too_long, refused, record_refused, Answer, prints, stops}
+use Rattle.muen_top.specs.RecordText.{record_fault_text}
+use Rattle.muen_top.specs.declared.outcome.Outcome.{Outcome}
+use Rattle.muen_top.specs.declared.outcome.Outcome.TheVariants.{Done, Stopped, OutputFault}
+use Rattle.muen_top.specs.declared.outcome.Stop.{Stop}
+use Rattle.muen_top.specs.declared.outcome.Stop.TheVariants.{Usage, Missing, TooLong, Refused, RecordRefused, FileFault, NoMemory}
+
+-- ---- texts
+
+unfoldable pub usage_text : List ℕ
+usage_text = codes "usage: build POLICY IMAGE, run IMAGE RECORD, boot POLICY RECORD, map POLICY, flows POLICY, load NUMBER"
+
+abbrev pub missing_text : List ℕ → List ℕ
+missing_text name = codes "missing file " ++ name
+
+abbrev pub too_long_text : List ℕ → ℕ → List ℕ
+too_long_text name n = codes "file " ++ (name ++ (codes " has " ++ (decimal n ++ codes " bytes")))
+
+abbrev pub reason_text : Reason → List ℕ
+reason_text usage = usage_text
+reason_text (missing name) = missing_text name
+reason_text (too_long name n) = too_long_text name n
+reason_text (refused refusal) = refusal_text refusal
+reason_text (record_refused fault) = record_fault_text fault
+
+-- ---- statuses
+
+abbrev pub refusal_status : Refusal → ℕ
+refusal_status NotJson = 2
+refusal_status (Shape place want) = 2
+refusal_status (Rule number first second) = 2
+refusal_status (MissingFile file) = 3
+refusal_status (TooLongFile file length) = 3
+refusal_status (FileFit region room length) = 2
+refusal_status (NoRoom region size) = 2
+refusal_status NoMemoryFor = 8
+
+abbrev pub reason_status : Reason → ℕ
+reason_status usage = 1
+reason_status (missing name) = 3
+reason_status (too_long name n) = 3
+reason_status (refused refusal) = refusal_status refusal
+reason_status (record_refused fault) = 6
+
+-- ---- how a call has ended
+
+-- the line that is put on the error sink
+abbrev pub line_of : List ℕ → List ℕ
+line_of text = codes "muen: " ++ (text ++ codes "\n")
+
+-- the line was appended, or a front of it where the sink has failed
+abbrev pub Told : List ℕ → SinkState → SinkState → Type 0
+Told text old new = Appended (line_of text) old new ⊎ Failed (line_of text) old new
+
+-- a call that answers so has this status, and tells its reason, if there is one
+abbrev pub Ends : Answer → SinkState → SinkState → ℕ → Type 0
+Ends (prints text) err err' status = (status ≡ 0) × (err' ≡ err)
+Ends (stops reason) err err' status = (status ≡ reason_status reason) × Told (reason_text reason) err err'
+
+-- ---- of the outcome of a command
+
+abbrev pub stop_text : Stop → List ℕ
+stop_text Usage = usage_text
+stop_text (Missing name) = missing_text name.now
+stop_text (TooLong name n) = too_long_text name.now n
+stop_text (Refused refusal) = refusal_text refusal
+stop_text (RecordRefused fault) = record_fault_text fault
+stop_text FileFault = codes "file fault"
+stop_text NoMemory = codes "out of memory"
+
+abbrev pub stop_status : Stop → ℕ
+stop_status Usage = 1
+stop_status (Missing name) = 3
+stop_status (TooLong name n) = 3
+stop_status (Refused refusal) = refusal_status refusal
+stop_status (RecordRefused fault) = 6
+stop_status FileFault = 4
+stop_status NoMemory = 8
+
+abbrev pub status_of : Outcome → ℕ
+status_of Done = 0
+status_of (Stopped stop) = stop_status stop
+status_of OutputFault = 7
+
+abbrev pub Reported : SinkState → SinkState → Outcome → Type 0
+Reported old new Done = new ≡ old
+Reported old new (Stopped stop) = Told (stop_text stop) old new
+Reported old new OutputFault = Told (codes "output fault") old new

@@ -1,0 +1,18 @@
+-- How a run ends that prints this text.
+use Rattle.std.specs.Prelude.{◌≡◌, ℕ, List}
+use Rattle.muen_outside.specs.States.{SinkState}
+use Rattle.muen_outside.specs.Puts.{Appended, Failed}
+use Rattle.muen_top.specs.declared.outcome.Outcome.{Outcome}
+use Rattle.muen_top.specs.declared.outcome.Outcome.TheVariants.{Done, Stopped, OutputFault}
+use Rattle.muen_top.specs.declared.outcome.Stop.{Stop}
+use Rattle.muen_top.specs.declared.outcome.Stop.TheVariants.{NoMemory}
+
+-- want of memory is the one reason to print nothing
+abbrev pub OnlyMemory : Stop → Type 0
+OnlyMemory NoMemory = Unit {0}
+OnlyMemory _ = ⊥
+
+abbrev pub RunsTo : List ℕ → SinkState → SinkState → Outcome → Type 0
+RunsTo text old new Done = Appended text old new
+RunsTo text old new (Stopped stop) = OnlyMemory stop × (new ≡ old)
+RunsTo text old new OutputFault = Failed text old new

@@ -1,0 +1,46 @@
+// The whole call: the words are parsed, their command is done, and its end is reported.
+ghost use Rattle.std.specs.Prelude.{◌≡◌, None, map, string_bytes};
+ghost use Rattle.muen_top.specs.Calls.{Came, Ran};
+ghost use Rattle.muen_top.specs.Commands.{command_of};
+ghost use Rattle.muen_top.specs.FilesSeen.{Follows};
+
+use crate::boot::boot;
+use crate::command::Command;
+use crate::outcome::{Outcome, Stop};
+use crate::report::{report, status};
+use muen_outside::{Files, Sink};
+use std::alloc::Global;
+
+// Does what the words ask for.
+fn work<'a, F: Files, S: Sink>(
+    alloc: Global,
+    words: &'a [String],
+    files: &mut F,
+    out: &mut S,
+) -> Outcome<'a>
+    ensures came { Came (command_of (map string_bytes words.now)) (F.state files.old) (F.state files.new) (S.state out.old) (S.state out.new) result }
+    ensures follows { Follows (F.state files.old) (F.state files.new) }
+    ensures no_command { command_of (map string_bytes words.now) ≡ None → (result ≡ Outcome.Stopped Stop.Usage) × (F.state files.new ≡ F.state files.old) }
+{
+    match Command::parse(words) {
+        Command::Usage => Outcome::Stopped(Stop::Usage),
+        Command::Boot { policy, inputs } => boot(alloc, policy, inputs, files, out),
+    }
+}
+
+/// Does what the words ask for, tells how it ended, and answers its status.
+pub(crate) fn call<F: Files, S: Sink, E: Sink>(
+    alloc: Global,
+    words: &[String],
+    files: &mut F,
+    out: &mut S,
+    err: &mut E,
+) -> u8
+    ensures ran { Ran (map string_bytes words.now) (F.state files.old) (F.state files.new) (S.state out.old) (S.state out.new) (E.state err.old) (E.state err.new) result }
+    ensures follows { Follows (F.state files.old) (F.state files.new) }
+    ensures no_command { command_of (map string_bytes words.now) ≡ None → (result ≡ 1) × (F.state files.new ≡ F.state files.old) }
+{
+    let outcome = work(alloc, words, files, out);
+    report(&outcome, err);
+    status(&outcome)
+}

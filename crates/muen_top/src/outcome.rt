@@ -1,0 +1,65 @@
+// How a command comes to an end.
+ghost use Rattle.std.specs.Prelude.{◌≡◌};
+ghost use Rattle.muen_top.specs.Stops.{stop_of_refusal, stop_of_fault};
+
+use crate::record_text::RecordFault;
+use policy_types::Refusal;
+
+/// Why nothing was printed.
+#[derive(Debug, Drop)]
+pub(crate) enum Stop<'a> {
+    /// The words have no command's form.
+    Usage,
+    /// There is no file of this name.
+    Missing(&'a str),
+    /// The file of this name has so many bytes, more than its limit.
+    TooLong(&'a str, u64),
+    /// The policy is refused.
+    Refused(Refusal),
+    /// The device record is refused.
+    RecordRefused(RecordFault),
+    /// A call on files failed.
+    FileFault,
+    /// Memory was refused.
+    NoMemory,
+}
+
+impl<'a> From<Refusal> for Stop<'a> {
+    ghost use Rattle.std.specs.Prelude.{◌≡◌};
+    ghost use Rattle.muen_top.specs.Stops.{stop_of_refusal};
+
+    ghost from_gives = { λ refusal stop. stop ≡ stop_of_refusal refusal };
+
+    fn from(refusal: Refusal) -> Stop<'a> {
+        if refusal.is_no_memory() {
+            Stop::NoMemory
+        } else {
+            Stop::Refused(refusal)
+        }
+    }
+}
+
+impl<'a> From<RecordFault> for Stop<'a> {
+    ghost use Rattle.std.specs.Prelude.{◌≡◌};
+    ghost use Rattle.muen_top.specs.Stops.{stop_of_fault};
+
+    ghost from_gives = { λ fault stop. stop ≡ stop_of_fault fault };
+
+    fn from(fault: RecordFault) -> Stop<'a> {
+        match fault {
+            RecordFault::NoMemory => Stop::NoMemory,
+            _ => Stop::RecordRefused(fault),
+        }
+    }
+}
+
+/// How a command comes to an end.
+#[derive(Debug, Drop)]
+pub(crate) enum Outcome<'a> {
+    /// All was printed.
+    Done,
+    /// Nothing was printed.
+    Stopped(Stop<'a>),
+    /// The sink of the output failed; a front of the text was printed.
+    OutputFault,
+}

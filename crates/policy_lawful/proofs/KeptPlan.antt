@@ -1,0 +1,36 @@
+-- What the scheduling plan of a resolved policy has that keeps the rules.
+use Rattle.std.proofs.Common.{◌≡◌, true, None}
+use Rattle.std.specs.List.{list_all}
+use Rattle.policy_lawful.specs.Lawful.{rules_broken}
+use Rattle.policy_lawful.specs.Resolution.{IsResolved, Resolution, group_placed, major_placed, source_of}
+use Rattle.policy_lawful.specs.Rules.{repeated}
+use Rattle.policy_lawful.proofs.SourceElements.{parts_placed}
+use Rattle.policy_lawful.proofs.UniqueNames.{group_names, groups_unique}
+use Rattle.policy_lawful.proofs.KeptCpus.{CpusKept, cpus_kept}
+use Rattle.policy_lawful.proofs.KeptRules.{rules_kept}
+use Rattle.policy_lawful.proofs.KeptLimits.{LimitsKept, limits_kept}
+use Rattle.policy_lawful.proofs.KeptMajors.{MajorsKept, majors_kept}
+use Rattle.policy_lawful.proofs.KeptMembers.{MembersKept, members_kept}
+
+pub record PlanKept (r : Resolution) : Type 0 where
+  pub cpus : CpusKept (source_of r)
+  pub limits : LimitsKept (source_of r)
+  pub majors : MajorsKept (source_of r)
+  pub members : MembersKept (source_of r)
+  pub unique : repeated (group_names r) ≡ None
+  pub groups_placed : list_all (group_placed r) r.scheduling.groups ≡ true
+  pub majors_placed : list_all (major_placed r) r.scheduling.major_frames ≡ true
+
+pub plan_kept : (r : Resolution) → IsResolved r → rules_broken (source_of r) ≡ None → PlanKept r
+plan_kept r resolved lawful =
+    let kept = rules_kept (source_of r) lawful in
+    let placed = parts_placed r resolved.placed in
+    record {
+      cpus = cpus_kept (source_of r) kept.rule_3;
+      limits = limits_kept (source_of r) kept.rule_20;
+      majors = majors_kept (source_of r) kept.rule_16;
+      members = members_kept (source_of r) kept.rule_17;
+      unique = groups_unique r resolved.names;
+      groups_placed = placed.groups;
+      majors_placed = placed.majors;
+    }

@@ -1,0 +1,44 @@
+-- What explains a refusal, where one element is searched after another.
+use Rattle.std.proofs.Common.{◌≡◌, ℕ, ◌<◌, List, [], ◌∷◌, length, get_or, drop, Option, Some, None, refl, sym, ap, ◌∙◌}
+use Rattle.std.specs.List.{flat_map, enumerate_from}
+use Rattle.std.specs.Option.{option_or}
+use Rattle.muen_num.specs.Answers.{Explains}
+use Rattle.muen_num.specs.Search.{first_in}
+use Rattle.muen_num.proofs.FirstSteps.{first_step, first_numbered_step}
+use Rattle.muen_num.proofs.SearchLaws.{first_in-append}
+use Rattle.policy_lawful.proofs.Keeps.{explains_first, first_found}
+use Rattle.policy_lawful.specs.Offences.{broken}
+use Rattle.policy_lawful.specs.declared.offence.Offence.{Offence}
+use Rattle.policy_types.specs.declared.refusal.Refusal.{Refusal}
+use Rattle.policy_types.specs.declared.refusal.Refusal.TheVariants.{NoMemory}
+
+-- ---- one offence behind another
+
+pub broken-or : (number : ℕ) (a b : Option Offence) → broken number (option_or a b) ≡ option_or (broken number a) (broken number b)
+broken-or number None b = refl
+broken-or number (Some x) b = refl
+
+pub none_found : {O : Type 0} (a b : Option O) → a ≡ None → option_or a b ≡ b
+none_found a b none = ap (λ o. option_or o b) none
+
+pub ruleset one_behind_another = (broken-or, none_found, first_found)
+
+-- ---- one element of a list
+
+-- what explains a refusal of it explains one of the list, where none is in front of it
+pub explains_at : {X : Type 0} (number : ℕ) (at : X → Option Offence) (xs : List X) (i : ℕ) (x : X) (e : Refusal) → i < length xs → x ≡ get_or xs i x
+    → first_in at (drop i xs) ≡ first_in at xs → Explains NoMemory (broken number (at x)) e → Explains NoMemory (broken number (first_in at xs)) e
+explains_at number at xs i x e within is rest h =
+    rw (sym rest ∙ first_step at xs i x (at x) within is refl, broken-or number (at x)) (explains_first NoMemory _ _ e h)
+
+-- the same of a list with its places
+pub explains_at_place : {X : Type 0} (number : ℕ) (at : ℕ × X → Option Offence) (xs : List X) (i : ℕ) (x : X) (e : Refusal) → i < length xs → x ≡ get_or xs i x
+    → first_in at (enumerate_from i (drop i xs)) ≡ first_in at (enumerate_from 0 xs)
+    → Explains NoMemory (broken number (at (i, x))) e → Explains NoMemory (broken number (first_in at (enumerate_from 0 xs))) e
+explains_at_place number at xs i x e within is rest h =
+    rw (sym rest ∙ first_numbered_step at xs i x (at (i, x)) within is refl, broken-or number (at (i, x))) (explains_first NoMemory _ _ e h)
+
+-- a list that is joined of many is searched one after another
+pub first_in-flat_map : {X Y O : Type 0} (at : Y → Option O) (f : X → List Y) (xs : List X) → first_in at (flat_map f xs) ≡ first_in (λ x. first_in at (f x)) xs
+first_in-flat_map at f [] = refl
+first_in-flat_map at f (x ∷ xs) = first_in-append at (f x) (flat_map f xs) ∙ ap (option_or (first_in at (f x))) (first_in-flat_map at f xs)
