@@ -1,4 +1,4 @@
--- Rule 3: there are 1 to 8 CPUs, and each that is named is one of them.
+-- Rule 3: there are CPUs, as many as there may be, and each that is named is one of them.
 use Rattle.std.proofs.Common.{◌≡◌, ℕ, ◌+◌, ◌≤◌, Bool, true, List, [], ◌∷◌, Option, None, refl}
 use Rattle.std.specs.Prelude.{◌&&◌, nat_lt, nat_le, codes}
 use Rattle.std.specs.List.{list_all, enumerate_from}
