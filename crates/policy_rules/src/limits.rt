@@ -10,7 +10,6 @@ ghost use Rattle.policy_lawful.specs.ByPlace.{is_short};
 ghost use Rattle.policy_rules.specs.Limits.{major_limit, blocks_limit, subjects_limit, majors_limit, limits_offence};
 
 use crate::keys::Key;
-use crate::major_frames::ticks_in;
 use muen_num::limits::{KERNEL_REGIONS, MOST_BLOCK_BYTES, MOST_BLOCKS, MOST_MAJOR_FRAMES, MOST_MINOR_FRAMES, MOST_REGIONS, MOST_SUBJECTS, MOST_TICKS, MOST_WINDOWS};
 use muen_num::{first, first_numbered};
 use policy_lawful::Offence;
@@ -39,7 +38,7 @@ fn are_short(entries: &[CpuFrames]) -> bool
     ensures { result ≡ list_all is_short entries.now }
 {
     entries.iter().all(|entry| {
-        ticks_in(entry) <= u128::from(MOST_TICKS) && entry.minor_frames.len() <= MOST_MINOR_FRAMES
+        entry.ticks() <= u128::from(MOST_TICKS) && entry.minor_frames.len() <= MOST_MINOR_FRAMES
     })
 }
 
