@@ -14,7 +14,7 @@ use Rattle.policy_lawful.specs.declared.offence.Extent.{Extent}
 use Rattle.muen_num.proofs.SearchLaws.{unless_none}
 use Rattle.policy_rules.specs.declared.overlap.Span.{Span}
 use Rattle.policy_rules.specs.Span.{span_of, IsBelow}
-use Rattle.policy_rules.proofs.Searches.{pairs_at, pairs_from, first_pair-last}
+use Rattle.policy_rules.proofs.FirstPair.{pairs_at, pairs_from, first_pair-last}
 use Rattle.policy_rules.proofs.Spans.{IsApart, EachTwo, EachTwo-permutation, apart_from_neighbours, neighbours_from_apart}
 
 -- ---- two ranges
