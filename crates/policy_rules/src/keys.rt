@@ -19,6 +19,7 @@ pub(crate) enum Key {
 
 impl Key {
     // The word as a name.
+    #[tactic(auto, unfolding(muen_num::specs::Naming::is_name))]
     fn name(self) -> Name
         ensures { result ≡ key_text self }
     {
