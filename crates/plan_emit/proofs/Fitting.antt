@@ -1,10 +1,11 @@
 -- The numbers of a resolved policy that keeps the rules fit into a plan.
-use Rattle.std.proofs.Common.{◌≡◌, ℕ, ◌<◌, ◌≤◌, Bool, true, length, map, sym, ap, ◌∙◌, arith}
+use Rattle.std.proofs.Common.{◌≡◌, ℕ, ◌+◌, ◌^◌, ◌<◌, ◌≤◌, Bool, true, length, map, sym, ap, ◌∙◌, arith}
 use Rattle.std.specs.Prelude.{◌&&◌, nat_lt, nat_le}
 use Rattle.std.specs.List.{list_all}
 use Rattle.std.proofs.lemmas.Bool.{and_from, and_parts, leb-true, lt-ltb, ltb-true}
 use Rattle.std.proofs.lemmas.List.{length-map}
 use Rattle.std.proofs.lemmas.List.Folds.{list_all-map}
+use Rattle.muen_num.specs.declared.limits.TheConstants.{MOST_CPUS, MOST_MINOR_FRAMES, MOST_SUBJECTS, MOST_TICKS}
 use Rattle.policy_lawful.specs.Resolution.{Resolution, cpu_named, group_named, group_placed, major_named, major_placed, name_at, source_of}
 use Rattle.policy_lawful.specs.Rules.{is_group, is_on, subject_cpu}
 use Rattle.policy_lawful.specs.declared.resolved.CpuFrames.{CpuFrames}
@@ -20,42 +21,42 @@ use Rattle.policy_lawful.specs.ByPlace.{is_short, ticks_in}
 pub groups_fit : (r : Resolution) → PlanKept r → list_all fits_group r.scheduling.groups ≡ true
 unfolding source_of
 groups_fit r k =
-    let few : r.processor.logical_cpus ≤ 8 = k.cpus.most in
-    let subjects : length (source_of r).subjects ≤ 32 = k.limits.most_subjects in
+    let few : r.processor.logical_cpus ≤ MOST_CPUS = k.cpus.most in
+    let subjects : length (source_of r).subjects ≤ MOST_SUBJECTS = k.limits.most_subjects in
     let many = many_subjects r in
-    let small : (i : ℕ) → nat_lt i (length r.subjects) ≡ true → nat_lt i 256 ≡ true = λ i l.
+    let small : (i : ℕ) → nat_lt i (length r.subjects) ≡ true → nat_lt i (2 ^ 8) ≡ true = λ i l.
     let below : i < length r.subjects = ltb-true i (length r.subjects) l in
-    lt-ltb i 256 (omega (arith, below, subjects, many)) in
+    lt-ltb i (2 ^ 8) (omega (arith, below, subjects, many)) in
     each_of (λ g. nat_lt g.cpu r.processor.logical_cpus) (has_places r) fits_group
     (λ g on places.
     let below : g.cpu < r.processor.logical_cpus = ltb-true g.cpu r.processor.logical_cpus on in
     let parts = and_parts (nat_lt 0 (length g.subjects)) (list_all (λ i. nat_lt i (length r.subjects)) g.subjects) places in
-    let cpu : nat_lt g.cpu 256 ≡ true = lt-ltb g.cpu 256 (omega (arith, below, few)) in
-    and_from (nat_lt g.cpu 256 && nat_lt 0 (length g.subjects)) (list_all (λ i. nat_lt i 256) g.subjects)
-    (and_from (nat_lt g.cpu 256) (nat_lt 0 (length g.subjects)) cpu parts.0)
-    (each_from (λ i. nat_lt i (length r.subjects)) (λ i. nat_lt i 256) small g.subjects parts.1))
+    let cpu : nat_lt g.cpu (2 ^ 8) ≡ true = lt-ltb g.cpu (2 ^ 8) (omega (arith, below, few)) in
+    and_from (nat_lt g.cpu (2 ^ 8) && nat_lt 0 (length g.subjects)) (list_all (λ i. nat_lt i (2 ^ 8)) g.subjects)
+    (and_from (nat_lt g.cpu (2 ^ 8)) (nat_lt 0 (length g.subjects)) cpu parts.0)
+    (each_from (λ i. nat_lt i (length r.subjects)) (λ i. nat_lt i (2 ^ 8)) small g.subjects parts.1))
     r.scheduling.groups (cpus_of_groups r k) (members_there r k)
 
-entry_fits : (r : Resolution) (c : CpuFrames) → length r.scheduling.groups ≤ 32 → is_short c ≡ true → entry_there r c ≡ true → fits_entry c ≡ true
+entry_fits : (r : Resolution) (c : CpuFrames) → length r.scheduling.groups ≤ MOST_SUBJECTS → is_short c ≡ true → entry_there r c ≡ true → fits_entry c ≡ true
 entry_fits r c few short placed =
-    let most : ticks_in c ≤ 100000 = leb-true (ticks_in c) 100000 (and_parts (nat_le (ticks_in c) 100000) (nat_le (length c.minor_frames) 64) short).0 in
-    let each : list_all (λ f. nat_lt f.ticks 100001) c.minor_frames ≡ true = each_at_most (λ f. f.ticks) 100000 c.minor_frames most in
-    and_from (list_all fits_minor c.minor_frames) (nat_lt (ticks_in c) 4294967296)
-    (each_of (frame_there r) (λ f. nat_lt f.ticks 100001) fits_minor
+    let most : ticks_in c ≤ MOST_TICKS = leb-true (ticks_in c) MOST_TICKS (and_parts (nat_le (ticks_in c) MOST_TICKS) (nat_le (length c.minor_frames) MOST_MINOR_FRAMES) short).0 in
+    let each : list_all (λ f. nat_lt f.ticks (MOST_TICKS + 1)) c.minor_frames ≡ true = each_at_most (λ f. f.ticks) MOST_TICKS c.minor_frames most in
+    and_from (list_all fits_minor c.minor_frames) (nat_lt (ticks_in c) (2 ^ 32))
+    (each_of (frame_there r) (λ f. nat_lt f.ticks (MOST_TICKS + 1)) fits_minor
     (λ f group ticks.
     let there : f.group < length r.scheduling.groups = ltb-true f.group (length r.scheduling.groups) group in
-    let short : f.ticks < 100001 = ltb-true f.ticks 100001 ticks in
-    and_from (nat_lt f.group 256) (nat_lt f.ticks 4294967296) (lt-ltb f.group 256 (omega (arith, there, few))) (lt-ltb f.ticks 4294967296 (omega (arith, short))))
+    let short : f.ticks < MOST_TICKS + 1 = ltb-true f.ticks (MOST_TICKS + 1) ticks in
+    and_from (nat_lt f.group (2 ^ 8)) (nat_lt f.ticks (2 ^ 32)) (lt-ltb f.group (2 ^ 8) (omega (arith, there, few))) (lt-ltb f.ticks (2 ^ 32) (omega (arith, short))))
     c.minor_frames placed each)
-    (lt-ltb (ticks_in c) 4294967296 (omega (arith, most)))
+    (lt-ltb (ticks_in c) (2 ^ 32) (omega (arith, most)))
 
 pub majors_fit : (r : Resolution) → PlanKept r → list_all fits_major r.scheduling.major_frames ≡ true
 majors_fit r k =
     let many_s = many_subjects r in
     let many_g = many_groups r in
-    let subjects : length (source_of r).subjects ≤ 32 = k.limits.most_subjects in
+    let subjects : length (source_of r).subjects ≤ MOST_SUBJECTS = k.limits.most_subjects in
     let groups : length (source_of r).scheduling.groups ≤ length (source_of r).subjects = k.members.few in
-    let few : length r.scheduling.groups ≤ 32 = omega (arith, many_s, many_g, subjects, groups) in
+    let few : length r.scheduling.groups ≤ MOST_SUBJECTS = omega (arith, many_s, many_g, subjects, groups) in
     each_of (λ m. list_all is_short m.cpus) (major_placed r) fits_major
     (λ m short placed. each_of is_short (entry_there r) fits_entry
     (λ c w q. entry_fits r c few w q) m.cpus short placed)

@@ -1,10 +1,12 @@
 -- The plan of a resolved policy that keeps the rules is the policy's.
-use Rattle.std.proofs.Common.{◌≡◌, None, sym, ap, ◌∙◌, subst}
+use Rattle.std.proofs.Common.{◌≡◌, true, None, sym, subst}
+use Rattle.std.specs.List.{list_all}
 use Rattle.image_pack.specs.declared.plan.Plan.{Plan}
 use Rattle.policy_lawful.specs.Lawful.{rules_broken}
 use Rattle.policy_lawful.specs.Resolution.{IsResolved, Resolution, source_of}
-use Rattle.plan_emit.specs.Emitted.{emitted}
+use Rattle.plan_emit.specs.Emitted.{emitted, fits_group, fits_major}
 use Rattle.plan_emit.specs.PlanOf.{IsPlanOf}
+use Rattle.plan_emit.proofs.Fitting.{groups_fit, majors_fit}
 use Rattle.plan_emit.proofs.EmittedGroups.{firsts_emitted, firsts_there, groups_emitted}
 use Rattle.plan_emit.proofs.EmittedFrames.{cpus_emitted, frames_emitted}
 use Rattle.plan_emit.proofs.ValidPlan.{plan_valid}
@@ -21,10 +23,13 @@ is_plan_of r k = record {
   there = firsts_there r k;
 }
 
--- what is known of a lawful policy's resolved one
-pub lawful_known : (r l : Resolution) → r ≡ l → IsResolved r → rules_broken (source_of l) ≡ None → PlanKept r
-lawful_known r l same resolved lawful = plan_kept r resolved (ap (λ x. rules_broken (source_of x)) same ∙ lawful)
+-- ---- of a lawful policy
 
-pub is_lawful_plan : (r l : Resolution) (plan : Plan) → r ≡ l → PlanKept r → plan ≡ emitted r → IsPlanOf (source_of l) plan
-is_lawful_plan r l plan same k is =
-    subst (λ x. IsPlanOf (source_of x) plan) same (subst (IsPlanOf (source_of r)) (sym is) (is_plan_of r k))
+pub lawful_groups_fit : (r : Resolution) → IsResolved r → rules_broken (source_of r) ≡ None → list_all fits_group r.scheduling.groups ≡ true
+lawful_groups_fit r resolved lawful = groups_fit r (plan_kept r resolved lawful)
+
+pub lawful_majors_fit : (r : Resolution) → IsResolved r → rules_broken (source_of r) ≡ None → list_all fits_major r.scheduling.major_frames ≡ true
+lawful_majors_fit r resolved lawful = majors_fit r (plan_kept r resolved lawful)
+
+pub lawful_plan : (r : Resolution) (plan : Plan) → IsResolved r → rules_broken (source_of r) ≡ None → plan ≡ emitted r → IsPlanOf (source_of r) plan
+lawful_plan r plan resolved lawful is = subst (IsPlanOf (source_of r)) (sym is) (is_plan_of r (plan_kept r resolved lawful))

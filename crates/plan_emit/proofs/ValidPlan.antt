@@ -7,6 +7,7 @@ use Rattle.std.proofs.lemmas.Bool.{and_from, and_parts, eq-eqb, eqb-true, le-leb
 use Rattle.std.proofs.lemmas.List.{length-map}
 use Rattle.std.proofs.lemmas.List.Folds.{list_all-map}
 use Rattle.std.proofs.lemmas.Option.{slice_get-map}
+use Rattle.muen_num.specs.declared.limits.TheConstants.{MOST_CPUS, MOST_MAJOR_FRAMES, MOST_MINOR_FRAMES, MOST_TICKS}
 use Rattle.muen_num.specs.Range.{numbers_below}
 use Rattle.image_pack.specs.Plan.{cpus_of, is_cpu, is_group_on, is_major, is_minor, is_plan}
 use Rattle.image_pack.specs.declared.plan.GroupPart.{GroupPart}
@@ -71,11 +72,11 @@ cpu_valid r ticks c unique e =
     let many : length minors ≡ length c.minor_frames = length-map c.minor_frames minor_part in
     let parts = and_parts (nat_lt 0 (length named) && list_all (is_frame (source_of r) c.cpu) named) (ticks == rules.ticks_in (cpu_named r c)) e.frames in
     let frames = and_parts (nat_lt 0 (length named)) (list_all (is_frame (source_of r) c.cpu) named) parts.0 in
-    let most = and_parts (nat_le (ticks_in c) 100000) (nat_le (length c.minor_frames) 64) e.limits in
+    let most = and_parts (nat_le (ticks_in c) MOST_TICKS) (nat_le (length c.minor_frames) MOST_MINOR_FRAMES) e.limits in
     let some : 0 < length named = ltb-true 0 (length named) frames.0 in
-    let few : length c.minor_frames ≤ 64 = leb-true (length c.minor_frames) 64 most.1 in
+    let few : length c.minor_frames ≤ MOST_MINOR_FRAMES = leb-true (length c.minor_frames) MOST_MINOR_FRAMES most.1 in
     let least : nat_lt 0 (length minors) ≡ true = lt-ltb 0 (length minors) (omega (arith, many, many_named, some)) in
-    let upper : nat_le (length minors) 64 ≡ true = le-leb (length minors) 64 (omega (arith, many, few)) in
+    let upper : nat_le (length minors) MOST_MINOR_FRAMES ≡ true = le-leb (length minors) MOST_MINOR_FRAMES (omega (arith, many, few)) in
     let valid : list_all (is_minor (parts_of r) c.cpu) minors ≡ true =
     list_all-map (is_minor (parts_of r) c.cpu) minor_part c.minor_frames
     ∙ each_of (λ f. is_frame (source_of r) c.cpu (frame_named r f)) (frame_there r) (λ f. is_minor (parts_of r) c.cpu (minor_part f))
@@ -83,9 +84,9 @@ cpu_valid r ticks c unique e =
     (sym (list_all-map (is_frame (source_of r) c.cpu) (frame_named r) c.minor_frames) ∙ frames.1) e.there in
     let sum : (sum_by (λ f. f.ticks) minors == ticks) ≡ true =
     eq-eqb (sum_by (λ f. f.ticks) minors) ticks (sum_by-map (λ f. f.ticks) minor_part c.minor_frames ∙ sym (ticks_of_entry r ticks c e)) in
-    and_from (nat_lt 0 (length minors) && nat_le (length minors) 64 && list_all (is_minor (parts_of r) c.cpu) minors) (sum_by (λ f. f.ticks) minors == ticks)
-    (and_from (nat_lt 0 (length minors) && nat_le (length minors) 64) (list_all (is_minor (parts_of r) c.cpu) minors)
-    (and_from (nat_lt 0 (length minors)) (nat_le (length minors) 64) least upper) valid) sum
+    and_from (nat_lt 0 (length minors) && nat_le (length minors) MOST_MINOR_FRAMES && list_all (is_minor (parts_of r) c.cpu) minors) (sum_by (λ f. f.ticks) minors == ticks)
+    (and_from (nat_lt 0 (length minors) && nat_le (length minors) MOST_MINOR_FRAMES) (list_all (is_minor (parts_of r) c.cpu) minors)
+    (and_from (nat_lt 0 (length minors)) (nat_le (length minors) MOST_MINOR_FRAMES) least upper) valid) sum
 
 -- ---- major frames
 
@@ -149,14 +150,14 @@ major_valid r m k known =
     let same : ticks ≡ ticks_in at.entry = ticks_of_entry r ticks at.entry at.known in
     let named : rules.ticks_in (cpu_named r at.entry) ≡ ticks_in at.entry = ticks_named r at.entry in
     let some : 0 < rules.ticks_in (cpu_named r at.entry) = some_ticks (source_of r) ticks (cpu_named r at.entry) at.known.frames in
-    let most : ticks_in at.entry ≤ 100000 = leb-true (ticks_in at.entry) 100000 (and_parts (nat_le (ticks_in at.entry) 100000) (nat_le (length at.entry.minor_frames) 64) at.known.limits).0 in
+    let most : ticks_in at.entry ≤ MOST_TICKS = leb-true (ticks_in at.entry) MOST_TICKS (and_parts (nat_le (ticks_in at.entry) MOST_TICKS) (nat_le (length at.entry.minor_frames) MOST_MINOR_FRAMES) at.known.limits).0 in
     let count : (length parts == cpus) ≡ true = eq-eqb (length parts) cpus (length-map (numbers_below cpus) (cpu_part m.cpus) ∙ length_numbers cpus) in
     let least : nat_lt 0 ticks ≡ true = lt-ltb 0 ticks (omega (arith, same, named, some)) in
-    let upper : nat_le ticks 100000 ≡ true = le-leb ticks 100000 (omega (arith, same, most)) in
+    let upper : nat_le ticks MOST_TICKS ≡ true = le-leb ticks MOST_TICKS (omega (arith, same, most)) in
     let valid : list_all (is_cpu (parts_of r) ticks) (enumerate_from 0 parts) ≡ true =
     numbered (is_cpu (parts_of r) ticks) (cpu_part m.cpus) cpus (λ cpu l. part_valid r m cpu k.unique known l) in
-    and_from ((length parts == cpus) && nat_lt 0 ticks && nat_le ticks 100000) (list_all (is_cpu (parts_of r) ticks) (enumerate_from 0 parts))
-    (and_from ((length parts == cpus) && nat_lt 0 ticks) (nat_le ticks 100000) (and_from (length parts == cpus) (nat_lt 0 ticks) count least) upper) valid
+    and_from ((length parts == cpus) && nat_lt 0 ticks && nat_le ticks MOST_TICKS) (list_all (is_cpu (parts_of r) ticks) (enumerate_from 0 parts))
+    (and_from ((length parts == cpus) && nat_lt 0 ticks) (nat_le ticks MOST_TICKS) (and_from (length parts == cpus) (nat_lt 0 ticks) count least) upper) valid
 
 majors_valid : (r : Resolution) → PlanKept r → list_all (is_major (parts_of r) r.processor.logical_cpus) (emitted r).majors ≡ true
 unfolding source_of
@@ -191,21 +192,21 @@ plan_valid r k =
     let plan = emitted r in
     let is : cpus_of plan ≡ cpus = cpus_emitted r k in
     let some : 1 ≤ (source_of r).processor.logical_cpus = k.cpus.some in
-    let most : (source_of r).processor.logical_cpus ≤ 8 = k.cpus.most in
+    let most : (source_of r).processor.logical_cpus ≤ MOST_CPUS = k.cpus.most in
     let same : (source_of r).processor.logical_cpus ≡ cpus = processor_same r in
     let some_m : 1 ≤ length (source_of r).scheduling.major_frames = k.limits.some_majors in
-    let most_m : length (source_of r).scheduling.major_frames ≤ 16 = k.limits.most_majors in
+    let most_m : length (source_of r).scheduling.major_frames ≤ MOST_MAJOR_FRAMES = k.limits.most_majors in
     let many : length plan.majors ≡ length r.scheduling.major_frames = length-map r.scheduling.major_frames (major_part cpus) in
     let named = many_majors r in
     let a : nat_lt 0 (cpus_of plan) ≡ true = lt-ltb 0 (cpus_of plan) (omega (arith, is, same, some)) in
-    let b : nat_le (cpus_of plan) 8 ≡ true = le-leb (cpus_of plan) 8 (omega (arith, is, same, most)) in
+    let b : nat_le (cpus_of plan) MOST_CPUS ≡ true = le-leb (cpus_of plan) MOST_CPUS (omega (arith, is, same, most)) in
     let c : nat_lt 0 (length plan.majors) ≡ true = lt-ltb 0 (length plan.majors) (omega (arith, some_m, many, named)) in
-    let d : nat_le (length plan.majors) 16 ≡ true = le-leb (length plan.majors) 16 (omega (arith, most_m, many, named)) in
+    let d : nat_le (length plan.majors) MOST_MAJOR_FRAMES ≡ true = le-leb (length plan.majors) MOST_MAJOR_FRAMES (omega (arith, most_m, many, named)) in
     let groups : list_all (λ g. nat_lt g.cpu (cpus_of plan)) plan.groups ≡ true =
     ap (λ n. list_all (λ g. nat_lt g.cpu n) plan.groups) is
     ∙ list_all-map (λ g. nat_lt g.cpu cpus) group_part r.scheduling.groups
     ∙ cpus_of_groups r k in
     let majors : list_all (is_major plan.groups (cpus_of plan)) plan.majors ≡ true =
     ap (λ n. list_all (is_major plan.groups n) plan.majors) is ∙ majors_valid r k in
-    all_six (nat_lt 0 (cpus_of plan)) (nat_le (cpus_of plan) 8) (nat_lt 0 (length plan.majors)) (nat_le (length plan.majors) 16)
+    all_six (nat_lt 0 (cpus_of plan)) (nat_le (cpus_of plan) MOST_CPUS) (nat_lt 0 (length plan.majors)) (nat_le (length plan.majors) MOST_MAJOR_FRAMES)
     (list_all (λ g. nat_lt g.cpu (cpus_of plan)) plan.groups) (list_all (is_major plan.groups (cpus_of plan)) plan.majors) a b c d groups majors

@@ -34,11 +34,12 @@ major_part count m = record { ticks = first_ticks m.cpus; cpus = map (cpu_part m
 abbrev pub group_part : Group → GroupPart
 group_part g = record { cpu = g.cpu; first = slice_index g.subjects 0 }
 
+-- the plan of these groups and major frames for so many CPUs
+abbrev pub plan_of : ℕ → List Group → List MajorFrame → Plan
+plan_of count groups majors = record { groups = map group_part groups; majors = map (major_part count) majors }
+
 abbrev pub emitted : Resolution → Plan
-emitted r = record {
-  groups = map group_part r.scheduling.groups;
-  majors = map (major_part r.processor.logical_cpus) r.scheduling.major_frames;
-}
+emitted r = plan_of r.processor.logical_cpus r.scheduling.groups r.scheduling.major_frames
 
 -- ---- numbers that fit
 

@@ -1,6 +1,6 @@
 //! Major frames: the minor frames of each CPU, by the CPU's number.
-ghost use Rattle.std.specs.Prelude.{◌≡◌, ◌==◌, ◌<◌, ◌^◌, true, map, option_map, IfOk};
-ghost use Rattle.std.specs.List.{find, list_all, sum_by};
+ghost use Rattle.std.specs.Prelude.{◌≡◌, ◌==◌, true, map, option_map, IfOk};
+ghost use Rattle.std.specs.List.{find, list_all};
 ghost use Rattle.muen_num.specs.Range.{numbers_below};
 ghost use Rattle.plan_emit.specs.Emitted.{minor_part, cpu_part, first_ticks, major_part, fits_minor, fits_entry, fits_major};
 
@@ -60,18 +60,6 @@ fn cpu_parts(alloc: Global, entries: &[CpuFrames], count: u64) -> Result<Seq<Seq
     Ok(parts)
 }
 
-// All ticks of these minor frames.
-fn sum_of_ticks(frames: &[MinorFrame]) -> u32
-    requires { sum_by (λ f. f.ticks) frames.now < 2 ^ 32 }
-    ensures { result ≡ sum_by (λ f. f.ticks) frames.now }
-{
-    let mut total: u64 = 0;
-    for frame in frames {
-        total += frame.ticks;
-    }
-    total as u32
-}
-
 // The ticks of the first entry. The others have as many.
 fn first_ticks(entries: &[CpuFrames]) -> u32
     requires { list_all fits_entry entries.now ≡ true }
@@ -79,7 +67,7 @@ fn first_ticks(entries: &[CpuFrames]) -> u32
 {
     match entries.first() {
         None => 0,
-        Some(entry) => sum_of_ticks(entry.minor_frames.items()),
+        Some(entry) => entry.ticks() as u32,
     }
 }
 

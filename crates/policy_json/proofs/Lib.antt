@@ -1,4 +1,5 @@
-pub mod Based
-pub mod Front
-pub mod Known
-pub mod Text
+pub mod GroupsInTurn
+pub mod ItemsRead
+pub mod KeysOfObject
+pub mod ReadBuilt
+pub mod Utf8

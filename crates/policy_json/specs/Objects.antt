@@ -1,5 +1,5 @@
 -- What an object is read as: a table of its keys, in their order, each with what the value under it is read as.
-use Rattle.std.specs.Prelude.{ℕ, List, [], ◌∷◌, Bool, true, ◌&&◌, ◌||◌, codes, Option, Some, None, Result, Ok, Err, if◌then◌else◌}
+use Rattle.std.specs.Prelude.{ℕ, List, [], ◌∷◌, Bool, true, ◌&&◌, ◌||◌, codes, Option, Some, None, unwrap_or, Result, Ok, Err, if◌then◌else◌}
 use Rattle.std.specs.Str.{bytes_eq}
 use Rattle.std.specs.List.{list_any}
 use Rattle.serde_json.specs.Data.{Data, Members, no_members, member}
@@ -10,22 +10,6 @@ use Rattle.policy_types.specs.declared.refusal.Want.TheVariants.{Object as WantO
 
 -- ---- the value under a key
 
-abbrev pub required_from : {X : Type 0} → List ℕ → (Data → Result X Fault) → Option Data → Result X Fault
-required_from key read None = fault (47 ∷ key) Present
-required_from key read (Some d) = under key (read d)
-
--- the value under a key that has to be there
-unfoldable pub read_required : {X : Type 0} → List ℕ → (Data → Result X Fault) → Data → Result X Fault
-read_required key read d = required_from key read (get key d)
-
-abbrev pub optional_from : {X : Type 0} → List ℕ → X → (Data → Result X Fault) → Option Data → Result X Fault
-optional_from key default read None = Ok default
-optional_from key default read (Some d) = under key (read d)
-
--- the value under a key, or the default
-unfoldable pub read_optional : {X : Type 0} → List ℕ → X → (Data → Result X Fault) → Data → Result X Fault
-read_optional key default read d = optional_from key default read (get key d)
-
 abbrev pub if_present_from : {X : Type 0} → List ℕ → (Data → Result X Fault) → Option Data → Result (Option X) Fault
 if_present_from key read None = Ok None
 if_present_from key read (Some d) = and_then (under key (read d)) λ x. Ok (Some x)
@@ -33,6 +17,18 @@ if_present_from key read (Some d) = and_then (under key (read d)) λ x. Ok (Some
 -- the value under a key, if the key is there
 unfoldable pub read_if_present : {X : Type 0} → List ℕ → (Data → Result X Fault) → Data → Result (Option X) Fault
 read_if_present key read d = if_present_from key read (get key d)
+
+abbrev pub present_of : {X : Type 0} → List ℕ → Option X → Result X Fault
+present_of key None = fault (47 ∷ key) Present
+present_of key (Some x) = Ok x
+
+-- the value under a key that has to be there
+unfoldable pub read_required : {X : Type 0} → List ℕ → (Data → Result X Fault) → Data → Result X Fault
+read_required key read d = and_then (read_if_present key read d) (present_of key)
+
+-- the value under a key, or the default
+unfoldable pub read_optional : {X : Type 0} → List ℕ → X → (Data → Result X Fault) → Data → Result X Fault
+read_optional key default read d = and_then (read_if_present key read d) λ found. Ok (unwrap_or found default)
 
 abbrev pub unbuilt_from : {X : Type 0} → List ℕ → X → Option Data → Result X Fault
 unbuilt_from key default None = Ok default

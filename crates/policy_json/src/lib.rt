@@ -5,12 +5,14 @@ ghost use Rattle.policy_types.specs.declared.refusal.Refusal.TheVariants.{NoMemo
 ghost use Rattle.muen_num.specs.Answers.{Answers};
 ghost use Rattle.policy_json.specs.Document.{policy_of};
 
-mod elements;
 mod fault;
+mod memory;
 mod number;
 mod object;
 mod scheduling;
 mod shape;
+mod subjects;
+mod system;
 mod values;
 
 use crate::fault::ReadEnd;
@@ -23,7 +25,7 @@ use std::alloc::Global;
 ///
 /// Answers `NotJson` where the bytes are no JSON text, `Shape` with the first place that breaks the
 /// schema and what was wanted there, and `NoMemory` where memory was refused.
-#[tactic(auto, using(crate::proofs::Text::texts), unfolding(crate::specs::Document::policy_of, crate::specs::Document::json_of))]
+#[tactic(auto, using(crate::proofs::Utf8::texts), unfolding(crate::specs::Document::policy_of, crate::specs::Document::json_of))]
 pub fn read(alloc: Global, bytes: &[u8]) -> Result<Source, Refusal>
     ensures { Answers OutOfMemory (policy_of bytes.now) result }
 {

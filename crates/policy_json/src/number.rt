@@ -6,6 +6,7 @@ ghost use Rattle.policy_json.specs.Values.{number_of};
 use serde_json::Value;
 
 // The digits of a number, such as `00ff_ff00`.
+#[tactic(auto, using(crate::proofs::GroupsInTurn::read_on_groups))]
 fn read_groups(middle: &[u8]) -> Option<u64>
     ensures { result ≡ number_of_groups (groups_of middle.now) }
 {

@@ -59,7 +59,7 @@ fn is_description(key: &str) -> bool
     key == "description"
 }
 
-#[tactic(auto, using(crate::proofs::Known::any_key))]
+#[tactic(auto, using(crate::proofs::KeysOfObject::any_key))]
 fn has_known(members: &Map<String, Value>, keys: &[&str]) -> bool
     ensures { result ≡ has_known (map (λ k. k.now) keys.now) (members_view members.now.entries) }
 {
@@ -88,39 +88,6 @@ fn read_known(alloc: Global, value: &Value, keys: &[&str]) -> Result<(), ReadEnd
     }
 }
 
-/// The value under a key that has to be there.
-#[tactic(auto, unfolding(crate::specs::Objects::read_required))]
-pub fn required<T: Shape>(alloc: Global, value: &Value, key: &str) -> Result<T, ReadEnd>
-    ensures { Gives (read_required key.now T.reads (view value.now)) result }
-{
-    match value.get(key) {
-        None => Err(ReadEnd::here(alloc, Want::Present).under(key)),
-        Some(found) => match T::read(alloc, found) {
-            Ok(x) => Ok(x),
-            Err(end) => Err(end.under(key)),
-        },
-    }
-}
-
-/// The value under a key, or the default where the key is absent.
-#[tactic(auto, unfolding(crate::specs::Objects::read_optional))]
-pub fn optional<T: Shape>(
-    alloc: Global,
-    value: &Value,
-    key: &str,
-    default: T,
-) -> Result<T, ReadEnd>
-    ensures { Gives (read_optional key.now default T.reads (view value.now)) result }
-{
-    match value.get(key) {
-        None => Ok(default),
-        Some(found) => match T::read(alloc, found) {
-            Ok(x) => Ok(x),
-            Err(end) => Err(end.under(key)),
-        },
-    }
-}
-
 /// The value under a key, if the key is there.
 #[tactic(auto, unfolding(crate::specs::Objects::read_if_present))]
 pub fn if_present<T: Shape>(
@@ -137,6 +104,30 @@ pub fn if_present<T: Shape>(
             Err(end) => Err(end.under(key)),
         },
     }
+}
+
+/// The value under a key that has to be there.
+#[tactic(auto, unfolding(crate::specs::Objects::read_required))]
+pub fn required<T: Shape>(alloc: Global, value: &Value, key: &str) -> Result<T, ReadEnd>
+    ensures { Gives (read_required key.now T.reads (view value.now)) result }
+{
+    match if_present(alloc, value, key)? {
+        Some(x) => Ok(x),
+        None => Err(ReadEnd::here(alloc, Want::Present).under(key)),
+    }
+}
+
+/// The value under a key, or the default where the key is absent.
+#[tactic(auto, unfolding(crate::specs::Objects::read_optional))]
+pub fn optional<T: Shape>(
+    alloc: Global,
+    value: &Value,
+    key: &str,
+    default: T,
+) -> Result<T, ReadEnd>
+    ensures { Gives (read_optional key.now default T.reads (view value.now)) result }
+{
+    Ok(if_present(alloc, value, key)?.unwrap_or(default))
 }
 
 /// The list under a key, or the empty list where the key is absent.

@@ -5,17 +5,16 @@ use policy_types::source::{CpuFrames, Group, MajorFrame, MinorFrame, Scheduling}
 use serde_json::Value;
 use std::alloc::Global;
 
+#[tactic(auto, unfolding(crate::specs::Document::group))]
 impl Object for Group {
     ghost use Rattle.policy_json.specs.Document.{group};
 
     ghost object = { group };
 
-    #[tactic(auto, unfolding(crate::specs::Document::group))]
     fn keys() -> &'static [&'static str] {
         &["name", "cpu", "subjects"]
     }
 
-    #[tactic(auto, unfolding(crate::specs::Document::group))]
     fn read_fields(alloc: Global, value: &Value) -> Result<Group, ReadEnd> {
         Ok(Group {
             name: required(alloc, value, "name")?,
@@ -25,17 +24,16 @@ impl Object for Group {
     }
 }
 
+#[tactic(auto, unfolding(crate::specs::Document::minor_frame))]
 impl Object for MinorFrame {
     ghost use Rattle.policy_json.specs.Document.{minor_frame};
 
     ghost object = { minor_frame };
 
-    #[tactic(auto, unfolding(crate::specs::Document::minor_frame))]
     fn keys() -> &'static [&'static str] {
         &["group", "ticks"]
     }
 
-    #[tactic(auto, unfolding(crate::specs::Document::minor_frame))]
     fn read_fields(alloc: Global, value: &Value) -> Result<MinorFrame, ReadEnd> {
         Ok(MinorFrame {
             group: required(alloc, value, "group")?,
@@ -44,17 +42,16 @@ impl Object for MinorFrame {
     }
 }
 
+#[tactic(auto, unfolding(crate::specs::Document::cpu_frames))]
 impl Object for CpuFrames {
     ghost use Rattle.policy_json.specs.Document.{cpu_frames};
 
     ghost object = { cpu_frames };
 
-    #[tactic(auto, unfolding(crate::specs::Document::cpu_frames))]
     fn keys() -> &'static [&'static str] {
         &["cpu", "minorFrames"]
     }
 
-    #[tactic(auto, unfolding(crate::specs::Document::cpu_frames))]
     fn read_fields(alloc: Global, value: &Value) -> Result<CpuFrames, ReadEnd> {
         Ok(CpuFrames {
             cpu: required(alloc, value, "cpu")?,
@@ -63,17 +60,16 @@ impl Object for CpuFrames {
     }
 }
 
+#[tactic(auto, unfolding(crate::specs::Document::major_frame))]
 impl Object for MajorFrame {
     ghost use Rattle.policy_json.specs.Document.{major_frame};
 
     ghost object = { major_frame };
 
-    #[tactic(auto, unfolding(crate::specs::Document::major_frame))]
     fn keys() -> &'static [&'static str] {
         &["cpus"]
     }
 
-    #[tactic(auto, unfolding(crate::specs::Document::major_frame))]
     fn read_fields(alloc: Global, value: &Value) -> Result<MajorFrame, ReadEnd> {
         Ok(MajorFrame {
             cpus: list(alloc, value, "cpus")?,
@@ -81,17 +77,16 @@ impl Object for MajorFrame {
     }
 }
 
+#[tactic(auto, unfolding(crate::specs::Document::scheduling))]
 impl Object for Scheduling {
     ghost use Rattle.policy_json.specs.Document.{scheduling};
 
     ghost object = { scheduling };
 
-    #[tactic(auto, unfolding(crate::specs::Document::scheduling))]
     fn keys() -> &'static [&'static str] {
         &["groups", "majorFrames"]
     }
 
-    #[tactic(auto, unfolding(crate::specs::Document::scheduling))]
     fn read_fields(alloc: Global, value: &Value) -> Result<Scheduling, ReadEnd> {
         Ok(Scheduling {
             groups: list(alloc, value, "groups")?,

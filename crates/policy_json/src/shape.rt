@@ -25,7 +25,7 @@ pub trait Shape: Drop {
         ensures { Gives (reads (view value.now)) result };
 }
 
-#[tactic(auto, using(crate::proofs::Front::fronts))]
+#[tactic(auto, using(crate::proofs::ItemsRead::fronts))]
 fn read_items<T: Shape>(alloc: Global, items: &[Value]) -> Result<Seq<T>, ReadEnd>
     ensures { Gives (read_items T.reads 0 (items_view items.now)) result }
 {

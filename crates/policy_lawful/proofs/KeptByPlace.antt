@@ -5,6 +5,7 @@ use Rattle.std.specs.List.{list_all, sum_by}
 use Rattle.std.proofs.lemmas.Bool.{and_from, and_parts}
 use Rattle.std.proofs.lemmas.List.{length-map}
 use Rattle.std.proofs.lemmas.List.Folds.{list_all-map}
+use Rattle.muen_num.specs.declared.limits.TheConstants.{MOST_MINOR_FRAMES, MOST_TICKS}
 use Rattle.policy_lawful.specs.Resolution.{Resolution, cpu_named, group_named, group_placed, major_named, name_at, source_of}
 use Rattle.policy_lawful.specs.ByPlace.{is_short}
 use Rattle.policy_lawful.specs.Rules as rules
@@ -56,7 +57,7 @@ unfolding source_of
 entries_within r k =
     let one : (c : CpuFrames) → rules.is_short (cpu_named r c) ≡ true → is_short c ≡ true = λ c h.
     let many : length (cpu_named r c).minor_frames ≡ length c.minor_frames = length-map c.minor_frames (frame_named r) in
-    sym (λ i. nat_le (ticks_named r c i) 100000 && nat_le (many i) 64) ∙ h in
+    sym (λ i. nat_le (ticks_named r c i) MOST_TICKS && nat_le (many i) MOST_MINOR_FRAMES) ∙ h in
     each_from (λ m. list_all rules.is_short (major_named r m).cpus) (λ m. list_all is_short m.cpus)
     (λ m h. each_from (λ c. rules.is_short (cpu_named r c)) is_short one m.cpus (sym (list_all-map rules.is_short (cpu_named r) m.cpus) ∙ h))
     r.scheduling.major_frames

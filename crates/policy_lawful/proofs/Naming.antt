@@ -5,6 +5,7 @@ use Rattle.std.specs.List.{list_all}
 use Rattle.std.proofs.lemmas.Bool.{agree_below_at, lt-ltb, le-leb, and_from}
 use Rattle.std.proofs.lemmas.List.Folds.{list_all-append}
 use Rattle.std.proofs.lemmas.Fmt.{decimal_by_steps, decimal_nonempty, length-decimal-le}
+use Rattle.muen_num.specs.declared.limits.TheConstants.{NAME_MOST}
 use Rattle.muen_num.specs.Naming.{is_name_byte, is_name}
 
 digit : (d : ℕ) → d < 10 → is_name_byte (48 + d) ≡ true
@@ -30,6 +31,6 @@ numbered_is_name front n bytes short small =
     let all : list_all is_name_byte (front ++ decimal n) ≡ true =
     list_all-append is_name_byte front (decimal n) ∙ and_from (list_all is_name_byte front) (list_all is_name_byte (decimal n)) bytes (digits n small) in
     let least : nat_lt 0 (length (front ++ decimal n)) ≡ true = lt-ltb 0 (length (front ++ decimal n)) (omega arith) in
-    let most : nat_le (length (front ++ decimal n)) 63 ≡ true = le-leb (length (front ++ decimal n)) 63 (omega arith) in
-    and_from (nat_lt 0 (length (front ++ decimal n)) && nat_le (length (front ++ decimal n)) 63) (list_all is_name_byte (front ++ decimal n))
-    (and_from (nat_lt 0 (length (front ++ decimal n))) (nat_le (length (front ++ decimal n)) 63) least most) all
+    let most : nat_le (length (front ++ decimal n)) NAME_MOST ≡ true = le-leb (length (front ++ decimal n)) NAME_MOST (omega arith) in
+    and_from (nat_lt 0 (length (front ++ decimal n)) && nat_le (length (front ++ decimal n)) NAME_MOST) (list_all is_name_byte (front ++ decimal n))
+    (and_from (nat_lt 0 (length (front ++ decimal n))) (nat_le (length (front ++ decimal n)) NAME_MOST) least most) all

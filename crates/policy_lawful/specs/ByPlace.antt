@@ -2,6 +2,7 @@
 use Rattle.std.specs.Prelude.{ℕ, ◌&&◌, Bool, List, [], length, nat_lt, nat_le, slice_index_or, None}
 use Rattle.std.specs.List.{list_all, sum_by}
 use Rattle.policy_types.specs.Built.{is_plain}
+use Rattle.muen_num.specs.declared.limits.TheConstants.{MOST_MINOR_FRAMES, MOST_TICKS}
 use Rattle.policy_lawful.specs.Resolution.{Resolution, subject_named}
 use Rattle.policy_meaning.specs.Thing.{Thing, region}
 use Rattle.policy_meaning.specs.Windows.{Window, window}
@@ -49,4 +50,4 @@ ticks_in c = sum_by (λ f. f.ticks) c.minor_frames
 
 -- an entry within the limits
 abbrev pub is_short : CpuFrames → Bool
-is_short c = nat_le (ticks_in c) 100000 && nat_le (length c.minor_frames) 64
+is_short c = nat_le (ticks_in c) MOST_TICKS && nat_le (length c.minor_frames) MOST_MINOR_FRAMES

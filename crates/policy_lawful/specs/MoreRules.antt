@@ -6,6 +6,7 @@ use Rattle.std.specs.List.{find, list_any, list_all, filter_map, flat_map, sum_b
 use Rattle.std.specs.Str.{bytes_eq}
 use Rattle.muen_num.specs.declared.mode.Mode.{Mode}
 use Rattle.muen_num.specs.declared.mode.Mode.TheVariants.{Own, Switch}
+use Rattle.muen_num.specs.declared.limits.TheConstants.{FIRST_VECTOR, HIGH_MSR_FIRST, HIGH_MSR_LAST, LAST_PORT, LAST_VECTOR, LOW_MSR_LAST, MOST_CALLS}
 use Rattle.muen_num.specs.Search.{first_of, first_in, first_after, unless}
 use Rattle.policy_lawful.specs.Offences.{alone, two}
 use Rattle.policy_lawful.specs.Rules.{are_apart}
@@ -141,7 +142,7 @@ ports_apart a b = nat_lt a.end b.start || nat_lt b.end a.start
 -- a range by itself, then against each before it
 abbrev pub ports_offence : List Ports → Ports → Option Offence
 ports_offence before x =
-    option_or (unless (nat_le x.start x.end && nat_le x.end 65535) (alone x.name))
+    option_or (unless (nat_le x.start x.end && nat_le x.end LAST_PORT) (alone x.name))
     (first_in (λ b. unless (ports_apart b x) (two b.name x.name)) before)
 
 unfoldable pub offence_10 : Source → Option Offence
@@ -152,7 +153,7 @@ offence_10 p = first_after ports_offence [] (ports_of p)
 -- both ends in one of the two ranges of an MSR bitmap
 abbrev pub is_msr_range : Msrs → Bool
 is_msr_range x =
-    nat_le x.start x.end && (nat_le x.end 8191 || (nat_le 3221225472 x.start && nat_le x.end 3221233663))
+    nat_le x.start x.end && (nat_le x.end LOW_MSR_LAST || (nat_le HIGH_MSR_FIRST x.start && nat_le x.end HIGH_MSR_LAST))
 
 abbrev pub msrs_apart : List Msrs → Bool
 msrs_apart [] = true
@@ -212,7 +213,7 @@ abbrev pub calls_of : Source → Subject → List ℕ
 calls_of p s = filter_map (λ e. call_number e.way) s.sources ++ filter_map (λ e. e.call) (channel_ends p s)
 
 abbrev pub are_numbers : List ℕ → Bool
-are_numbers ns = list_all (λ n. nat_lt n 64) ns && are_distinct ns
+are_numbers ns = list_all (λ n. nat_lt n MOST_CALLS) ns && are_distinct ns
 
 unfoldable pub offence_14 : Source → Option Offence
 offence_14 p =
@@ -234,7 +235,7 @@ vectors_of p s =
     ++ flat_map (λ d. map (λ i. i.vector) d.irqs) s.devices
 
 abbrev pub are_vectors : List ℕ → Bool
-are_vectors ns = list_all (λ n. nat_le 32 n && nat_le n 255) ns && are_distinct ns
+are_vectors ns = list_all (λ n. nat_le FIRST_VECTOR n && nat_le n LAST_VECTOR) ns && are_distinct ns
 
 unfoldable pub offence_15 : Source → Option Offence
 offence_15 p =

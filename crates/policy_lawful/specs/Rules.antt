@@ -1,10 +1,11 @@
 -- The rules that a policy must keep beyond its schema, each by its first offence in the document's order (Muen system
 -- policy, in this project's profile). All sums are exact.
-use Rattle.std.specs.Prelude.{ℕ, ◌+◌, ◌-◌, ◌%◌, ◌^◌, ◌==◌, ◌&&◌, ◌||◌, not, Bool, true, false, List, [], ◌∷◌, ◌++◌, length, map, slice_get, codes, decimal, nat_lt, nat_le, Option, Some, None, is_some, option_map, if◌then◌else◌}
+use Rattle.std.specs.Prelude.{ℕ, ◌+◌, ◌-◌, ◌%◌, ◌==◌, ◌&&◌, ◌||◌, not, Bool, true, false, List, [], ◌∷◌, ◌++◌, length, map, slice_get, codes, decimal, nat_lt, nat_le, Option, Some, None, is_some, option_map, if◌then◌else◌}
 use Rattle.std.specs.Option.{option_map_or}
 use Rattle.std.specs.List.{find, list_any, list_all, flat_map, sum_by, count_by, enumerate_from}
 use Rattle.std.specs.Str.{bytes_eq}
 use Rattle.muen_num.specs.Range.{numbers_below}
+use Rattle.muen_num.specs.declared.limits.TheConstants.{GUEST_END, KERNEL_REGIONS, LARGE_PAGE, MOST_BLOCK_BYTES, MOST_BLOCKS, MOST_CHANNELS, MOST_COMPONENTS, MOST_CPUS, MOST_DEVICE_BYTES, MOST_DEVICE_WINDOWS, MOST_DEVICES, MOST_EVENTS, MOST_LOGICAL_NAMES, MOST_MAJOR_FRAMES, MOST_MINOR_FRAMES, MOST_MSRS, MOST_PER_DEVICE, MOST_REGIONS, MOST_SUBJECTS, MOST_TICKS, MOST_WINDOWS, PAGE, PHYSICAL_END}
 use Rattle.muen_num.specs.Search.{first_of, first_in, first_after, first_pair, unless}
 use Rattle.policy_lawful.specs.Offences.{alone, two}
 use Rattle.muen_num.specs.declared.access.Kind.TheVariants.{Write}
@@ -146,7 +147,7 @@ unfoldable pub offence_3 : Source → Option Offence
 offence_3 p =
     let has : ℕ → Bool = λ cpu. nat_lt cpu p.processor.logical_cpus in
     first_of (
-    unless (nat_le 1 p.processor.logical_cpus && nat_le p.processor.logical_cpus 8) (alone (codes "processor"))
+    unless (nat_le 1 p.processor.logical_cpus && nat_le p.processor.logical_cpus MOST_CPUS) (alone (codes "processor"))
     ∷ first_in (λ s. unless (has s.cpu) (alone s.name)) p.subjects
     ∷ first_in (λ g. unless (has g.cpu) (alone g.name)) p.scheduling.groups
     ∷ first_in (λ m. first_in (λ c. unless (has c.cpu) (two (major_name m.0) (cpu_name c.cpu))) m.1.cpus) (majors_of p)
@@ -156,21 +157,21 @@ offence_3 p =
 -- ---- rule 4: addresses and sizes
 
 abbrev pub is_page_aligned : ℕ → Bool
-is_page_aligned n = n % 4096 == 0
+is_page_aligned n = n % PAGE == 0
 
 abbrev pub is_page_size : ℕ → Bool
 is_page_size n = is_page_aligned n && nat_lt 0 n
 
 -- a range of physical memory
 abbrev pub is_physical : ℕ → ℕ → Bool
-is_physical address size = is_page_aligned address && is_page_size size && nat_le (address + size) (2 ^ 40)
+is_physical address size = is_page_aligned address && is_page_size size && nat_le (address + size) PHYSICAL_END
 
 -- a range of guest addresses
 abbrev pub is_guest : ℕ → ℕ → Bool
-is_guest address size = is_page_aligned address && is_page_size size && nat_le (address + size) (2 ^ 48)
+is_guest address size = is_page_aligned address && is_page_size size && nat_le (address + size) GUEST_END
 
 abbrev pub is_alignment : ℕ → Bool
-is_alignment n = (n == 4096) || (n == 2097152)
+is_alignment n = (n == PAGE) || (n == LARGE_PAGE)
 
 abbrev pub is_fixed : Region → Option ℕ → Bool
 is_fixed r None = true
@@ -323,22 +324,22 @@ at_most n most name = unless (nat_le n most) (alone name)
 
 abbrev pub device_limit : Device → Option Offence
 device_limit d =
-    unless (nat_le (length d.memory) 16 && nat_le (length d.io_ports) 16 && nat_le (length d.irqs) 16) (alone d.name)
+    unless (nat_le (length d.memory) MOST_PER_DEVICE && nat_le (length d.io_ports) MOST_PER_DEVICE && nat_le (length d.irqs) MOST_PER_DEVICE) (alone d.name)
 
 -- how many MSRs a range has
 abbrev pub msrs_in : Subject → ℕ
 msrs_in s = sum_by (λ r. (r.end + 1) - r.start) s.msrs
 
 abbrev pub subject_limit : Source → Subject → Option Offence
-subject_limit p s = unless (nat_le (length (window_extents p s)) 128 && nat_le (msrs_in s) 64) (alone s.name)
+subject_limit p s = unless (nat_le (length (window_extents p s)) MOST_WINDOWS && nat_le (msrs_in s) MOST_MSRS) (alone s.name)
 
--- the regions that a subject adds: those that its component provides, and five of the kernel
+-- the regions that a subject adds: those that its component provides, and those of the kernel
 abbrev pub regions_for : Source → Subject → ℕ
-regions_for p s = option_map_or (λ c. length c.provides) (component_by p s.component) 0 + 5
+regions_for p s = option_map_or (λ c. length c.provides) (component_by p s.component) 0 + KERNEL_REGIONS
 
 -- an entry of a major frame, which has as many ticks as its first entry
 abbrev pub is_short : CpuFrames → Bool
-is_short c = nat_le (ticks_in c) 100000 && nat_le (length c.minor_frames) 64
+is_short c = nat_le (ticks_in c) MOST_TICKS && nat_le (length c.minor_frames) MOST_MINOR_FRAMES
 
 abbrev pub major_limit : ℕ × MajorFrame → Option Offence
 major_limit (k, m) = unless (list_all is_short m.cpus) (alone (major_name k))
@@ -346,20 +347,20 @@ major_limit (k, m) = unless (list_all is_short m.cpus) (alone (major_name k))
 unfoldable pub offence_20 : Source → Option Offence
 offence_20 p =
     first_of (
-    at_most (length p.memory_blocks) 16 (codes "memoryBlocks")
-    ∷ at_most (sum_by (λ b. b.size) p.memory_blocks) 67108864 (codes "memoryBlocks")
-    ∷ at_most (length p.devices) 32 (codes "devices")
+    at_most (length p.memory_blocks) MOST_BLOCKS (codes "memoryBlocks")
+    ∷ at_most (sum_by (λ b. b.size) p.memory_blocks) MOST_BLOCK_BYTES (codes "memoryBlocks")
+    ∷ at_most (length p.devices) MOST_DEVICES (codes "devices")
     ∷ first_in device_limit p.devices
-    ∷ at_most (sum_by (λ d. length d.memory) p.devices) 128 (codes "devices")
-    ∷ at_most (sum_by (λ d. sum_by (λ m. m.size) d.memory) p.devices) 16777216 (codes "devices")
-    ∷ at_most (length p.channels) 128 (codes "channels")
-    ∷ at_most (length p.components) 64 (codes "components")
-    ∷ first_in (λ c. at_most (length (logical_names c)) 64 c.name) p.components
-    ∷ at_most (length p.events + count_by (λ c. is_some c.has_event) p.channels) 256 (codes "events")
-    ∷ unless (nat_le 1 (length p.subjects) && nat_le (length p.subjects) 32) (alone (codes "subjects"))
+    ∷ at_most (sum_by (λ d. length d.memory) p.devices) MOST_DEVICE_WINDOWS (codes "devices")
+    ∷ at_most (sum_by (λ d. sum_by (λ m. m.size) d.memory) p.devices) MOST_DEVICE_BYTES (codes "devices")
+    ∷ at_most (length p.channels) MOST_CHANNELS (codes "channels")
+    ∷ at_most (length p.components) MOST_COMPONENTS (codes "components")
+    ∷ first_in (λ c. at_most (length (logical_names c)) MOST_LOGICAL_NAMES c.name) p.components
+    ∷ at_most (length p.events + count_by (λ c. is_some c.has_event) p.channels) MOST_EVENTS (codes "events")
+    ∷ unless (nat_le 1 (length p.subjects) && nat_le (length p.subjects) MOST_SUBJECTS) (alone (codes "subjects"))
     ∷ first_in (subject_limit p) p.subjects
-    ∷ at_most (length p.memory + length p.channels + sum_by (regions_for p) p.subjects) 1024 (codes "memory")
-    ∷ unless (nat_le 1 (length p.scheduling.major_frames) && nat_le (length p.scheduling.major_frames) 16) (alone (codes "majorFrames"))
+    ∷ at_most (length p.memory + length p.channels + sum_by (regions_for p) p.subjects) MOST_REGIONS (codes "memory")
+    ∷ unless (nat_le 1 (length p.scheduling.major_frames) && nat_le (length p.scheduling.major_frames) MOST_MAJOR_FRAMES) (alone (codes "majorFrames"))
     ∷ first_in major_limit (majors_of p)
     ∷ []
     )

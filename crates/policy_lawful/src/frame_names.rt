@@ -5,6 +5,7 @@ ghost use Rattle.muen_num.specs.Naming.{is_name_byte};
 ghost use Rattle.policy_lawful.specs.Rules.{major_name, cpu_name};
 
 use muen_num::Name;
+use muen_num::limits::NAME_MOST;
 use muen_num::text::{append, append_decimal};
 
 // These bytes, and the digits of a number behind them.
@@ -13,7 +14,7 @@ fn numbered(front: &[u8], number: u64) -> Name
     requires short { length front.now ≤ 40 }
     ensures { result ≡ front.now ++ decimal number }
 {
-    let mut text = [0u8; 63];
+    let mut text = [0u8; NAME_MOST];
     let end = append(&mut text, 0, front);
     let end = append_decimal(&mut text, end, number);
     match Name::read(&text[..end]) {

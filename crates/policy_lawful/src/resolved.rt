@@ -239,6 +239,18 @@ pub struct CpuFrames {
     pub minor_frames: Seq<MinorFrame>,
 }
 
+impl CpuFrames {
+    ghost use Rattle.policy_lawful.specs.ByPlace.{ticks_in};
+
+    /// All ticks of its minor frames, below 2^64 for each.
+    pub fn ticks(&self) -> u128
+        ensures { result ≡ ticks_in self.now }
+    {
+        let frames = self.minor_frames.items();
+        frames.iter().map(|frame| u128::from(frame.ticks)).sum()
+    }
+}
+
 /// A minor frame.
 #[derive(Clone, Debug, Drop, PartialEq, Eq)]
 pub struct MinorFrame {

@@ -1,4 +1,6 @@
 pub mod CpusByPlace
+pub mod FirstNumber
+pub mod FirstPair
 pub mod GroupsByPlace
 pub mod LimitsByPlace
 pub mod MajorsByPlace
@@ -6,7 +8,6 @@ pub mod NotBuilt
 pub mod Overlaps
 pub mod RangesByPlace
 pub mod RulesJoined
-pub mod Searches
-pub mod Searching
+pub mod SameAnswers
 pub mod Spans
 pub mod WritersByPlace

@@ -5,6 +5,7 @@ use Rattle.std.specs.Option.{option_or}
 use Rattle.std.specs.List.{fold, list_all, sum_by}
 use Rattle.std.proofs.lemmas.Bool.{and_parts}
 use Rattle.std.proofs.lemmas.List.{length-map}
+use Rattle.muen_num.specs.declared.limits.TheConstants.{KERNEL_REGIONS, MOST_BLOCK_BYTES, MOST_BLOCKS, MOST_MAJOR_FRAMES, MOST_MINOR_FRAMES, MOST_MSRS, MOST_REGIONS, MOST_SUBJECTS, MOST_TICKS, MOST_WINDOWS}
 use Rattle.muen_num.specs.Search.{first_of, first_in, unless}
 use Rattle.muen_num.proofs.SearchLaws.{option_or-None, option_or_assoc}
 use Rattle.policy_lawful.specs.ByPlace.{is_ready, is_short, mapping_extent}
@@ -23,41 +24,41 @@ use Rattle.policy_types.specs.declared.source.MinorFrame.{MinorFrame}
 use Rattle.policy_types.specs.declared.source.Source.{Source}
 use Rattle.policy_types.specs.declared.source.Subject.{Subject as NamedSubject}
 use Rattle.policy_rules.specs.Limits.{limits_offence, major_limit}
-use Rattle.policy_rules.proofs.Searching.{both_named}
+use Rattle.policy_rules.proofs.SameAnswers.{both_named}
 
 -- ---- as far as elements are built
 
-only_five : (p : Source) (s : NamedSubject) → is_plain s ≡ true → regions_for p s ≡ 5
-only_five p s h = let q = plain s h in rw q.component refl
+only_kernel : (p : Source) (s : NamedSubject) → is_plain s ≡ true → regions_for p s ≡ KERNEL_REGIONS
+only_kernel p s h = let q = plain s h in rw q.component refl
 
-fives : (p : Source) (n : ℕ) (ss : List NamedSubject) → list_all is_plain ss ≡ true → fold (λ a x. a + regions_for p x) n ss ≡ n + 5 * length ss
-fives p n [] h = omega arith
-fives p n (s ∷ ss) h =
+kernel_sum : (p : Source) (n : ℕ) (ss : List NamedSubject) → list_all is_plain ss ≡ true → fold (λ a x. a + regions_for p x) n ss ≡ n + KERNEL_REGIONS * length ss
+kernel_sum p n [] h = omega arith
+kernel_sum p n (s ∷ ss) h =
     let a : (is_plain s ≡ true) × (list_all is_plain ss ≡ true) = and_parts _ _ h in
-    let one = only_five p s a.0 in
-    let rest : fold (λ a x. a + regions_for p x) (n + regions_for p s) ss ≡ (n + regions_for p s) + 5 * length ss = fives p (n + regions_for p s) ss a.1 in
+    let one = only_kernel p s a.0 in
+    let rest : fold (λ a x. a + regions_for p x) (n + regions_for p s) ss ≡ (n + regions_for p s) + KERNEL_REGIONS * length ss = kernel_sum p (n + regions_for p s) ss a.1 in
     let many : length (s ∷ ss) ≡ 1 + length ss = omega arith in
     omega (arith, one, rest, many)
 
-each_five : (p : Source) (ss : List NamedSubject) → list_all is_plain ss ≡ true → sum_by (regions_for p) ss ≡ 5 * length ss
-each_five p ss h = let e : fold (λ a x. a + regions_for p x) 0 ss ≡ 0 + 5 * length ss = fives p 0 ss h in omega (arith, e)
+kernel_regions : (p : Source) (ss : List NamedSubject) → list_all is_plain ss ≡ true → sum_by (regions_for p) ss ≡ KERNEL_REGIONS * length ss
+kernel_regions p ss h = let e : fold (λ a x. a + regions_for p x) 0 ss ≡ 0 + KERNEL_REGIONS * length ss = kernel_sum p 0 ss h in omega (arith, e)
 
 pub limits_built : (p : Source) → is_built p ≡ true → offence_20 p ≡ first_of (
-    at_most (length p.memory_blocks) 16 (codes "memoryBlocks")
-    ∷ at_most (sum_by (λ b. b.size) p.memory_blocks) 67108864 (codes "memoryBlocks")
-    ∷ unless (nat_le 1 (length p.subjects) && nat_le (length p.subjects) 32) (alone (codes "subjects"))
+    at_most (length p.memory_blocks) MOST_BLOCKS (codes "memoryBlocks")
+    ∷ at_most (sum_by (λ b. b.size) p.memory_blocks) MOST_BLOCK_BYTES (codes "memoryBlocks")
+    ∷ unless (nat_le 1 (length p.subjects) && nat_le (length p.subjects) MOST_SUBJECTS) (alone (codes "subjects"))
     ∷ first_in (subject_limit p) p.subjects
-    ∷ at_most (length p.memory + 5 * length p.subjects) 1024 (codes "memory")
-    ∷ unless (nat_le 1 (length p.scheduling.major_frames) && nat_le (length p.scheduling.major_frames) 16) (alone (codes "majorFrames"))
+    ∷ at_most (length p.memory + KERNEL_REGIONS * length p.subjects) MOST_REGIONS (codes "memory")
+    ∷ unless (nat_le 1 (length p.scheduling.major_frames) && nat_le (length p.scheduling.major_frames) MOST_MAJOR_FRAMES) (alone (codes "majorFrames"))
     ∷ first_in rules.major_limit (majors_of p)
     ∷ []
     )
 unfolding offence_20
 limits_built p b =
     let h = built p b in
-    let five = each_five p p.subjects h.subjects in
+    let kernel = kernel_regions p p.subjects h.subjects in
     let none : length p.channels ≡ 0 = ap length h.channels in
-    let total : length p.memory + length p.channels + sum_by (regions_for p) p.subjects ≡ length p.memory + 5 * length p.subjects = omega (arith, five, none) in
+    let total : length p.memory + length p.channels + sum_by (regions_for p) p.subjects ≡ length p.memory + KERNEL_REGIONS * length p.subjects = omega (arith, kernel, none) in
     rw (total, h.devices, h.channels, h.components, h.events) refl
 
 and_true : (b : Bool) → (b && true) ≡ b
@@ -65,13 +66,13 @@ and_true true = refl
 and_true false = refl
 
 -- a subject's windows are as many as its mappings
-pub windows_limit : (r : Resolution) (s : Subject) → is_built (source_of r) ≡ true → offence_1 (source_of r) ≡ None → is_ready r s ≡ true → subject_limit (source_of r) (subject_named r s) ≡ unless (nat_le (length s.memory) 128) (alone s.name)
+pub windows_limit : (r : Resolution) (s : Subject) → is_built (source_of r) ≡ true → offence_1 (source_of r) ≡ None → is_ready r s ≡ true → subject_limit (source_of r) (subject_named r s) ≡ unless (nat_le (length s.memory) MOST_WINDOWS) (alone s.name)
 windows_limit r s b names h =
     let ready = and_parts _ _ h in
     let q = plain (subject_named r s) ready.0 in
     let many : length (window_extents (source_of r) (subject_named r s)) ≡ length s.memory = ap length (extents_placed r (regions_unique r b names) s ready.0 ready.1) ∙ length-map s.memory (mapping_extent r.memory) in
     let no_msrs : msrs_in (subject_named r s) ≡ 0 = rw q.msrs refl in
-    (λ i. unless (nat_le (many i) 128 && nat_le (no_msrs i) 64) (alone s.name)) ∙ ap (λ t. unless t (alone s.name)) (and_true (nat_le (length s.memory) 128))
+    (λ i. unless (nat_le (many i) MOST_WINDOWS && nat_le (no_msrs i) MOST_MSRS) (alone s.name)) ∙ ap (λ t. unless t (alone s.name)) (and_true (nat_le (length s.memory) MOST_WINDOWS))
 
 -- ---- by place
 
@@ -79,12 +80,12 @@ entries_named : (r : Resolution) (cs : List CpuFrames) → list_all rules.is_sho
 entries_named r [] = refl
 entries_named r (c ∷ cs) =
     let many : length (cpu_named r c).minor_frames ≡ length c.minor_frames = length-map {B = MinorFrame} c.minor_frames _ in
-    λ i. (nat_le (ticks_named r c i) 100000 && nat_le (many i) 64) && entries_named r cs i
+    λ i. (nat_le (ticks_named r c i) MOST_TICKS && nat_le (many i) MOST_MINOR_FRAMES) && entries_named r cs i
 
 major_limit_named : (r : Resolution) (k : ℕ) (m : MajorFrame) → rules.major_limit (k, major_named r m) ≡ major_limit (k, m)
 major_limit_named r k m = ap (λ b. unless b (alone (major_name k))) (entries_named r m.cpus)
 
-subjects_within : (r : Resolution) → is_built (source_of r) ≡ true → offence_1 (source_of r) ≡ None → (ss : List Subject) → list_all (is_ready r) ss ≡ true → first_in (subject_limit (source_of r)) (map (subject_named r) ss) ≡ first_in (λ s. unless (nat_le (length s.memory) 128) (alone s.name)) ss
+subjects_within : (r : Resolution) → is_built (source_of r) ≡ true → offence_1 (source_of r) ≡ None → (ss : List Subject) → list_all (is_ready r) ss ≡ true → first_in (subject_limit (source_of r)) (map (subject_named r) ss) ≡ first_in (λ s. unless (nat_le (length s.memory) MOST_WINDOWS) (alone s.name)) ss
 subjects_within r b names [] h = refl
 subjects_within r b names (s ∷ ss) h =
     let a : (is_ready r s ≡ true) × (list_all (is_ready r) ss ≡ true) = and_parts _ _ h in
@@ -99,12 +100,12 @@ limits_by_place r b q =
     let within = both_named rules.major_limit major_limit (major_named r) (major_limit_named r) r.scheduling.major_frames in
     let fact = limits_built (source_of r) b
     ∙ (λ i. first_of (
-    at_most (length r.memory_blocks) 16 (codes "memoryBlocks")
-    ∷ at_most (sum_by (λ b. b.size) r.memory_blocks) 67108864 (codes "memoryBlocks")
-    ∷ unless (nat_le 1 (many i) && nat_le (many i) 32) (alone (codes "subjects"))
+    at_most (length r.memory_blocks) MOST_BLOCKS (codes "memoryBlocks")
+    ∷ at_most (sum_by (λ b. b.size) r.memory_blocks) MOST_BLOCK_BYTES (codes "memoryBlocks")
+    ∷ unless (nat_le 1 (many i) && nat_le (many i) MOST_SUBJECTS) (alone (codes "subjects"))
     ∷ windows i
-    ∷ at_most (length r.memory + 5 * many i) 1024 (codes "memory")
-    ∷ unless (nat_le 1 (majors i) && nat_le (majors i) 16) (alone (codes "majorFrames"))
+    ∷ at_most (length r.memory + KERNEL_REGIONS * many i) MOST_REGIONS (codes "memory")
+    ∷ unless (nat_le 1 (majors i) && nat_le (majors i) MOST_MAJOR_FRAMES) (alone (codes "majorFrames"))
     ∷ within i
     ∷ []
     )) in

@@ -4,7 +4,7 @@ use Rattle.std.specs.Prelude.{◌||◌, is_some}
 use Rattle.std.specs.List.{AllAdjacentBelow, All}
 use Rattle.std.specs.List.Sorted.{IsPermutation, IsNonDecreasingBy}
 use Rattle.std.proofs.lemmas.Bool.{leb-true, le-leb, or_cases, or_right, cases_order, false≢true}
-use Rattle.std.proofs.lemmas.List.{length-map, get_or-map}
+use Rattle.std.proofs.lemmas.List.{length-map, get_or-map, take_all}
 use Rattle.std.proofs.lemmas.List.Elements.{All-map}
 use Rattle.std.proofs.lemmas.List.Sorted.{IsPermutation-sym, All-permutation}
 use Rattle.muen_num.specs.Search.{first_in, unless}
@@ -14,7 +14,7 @@ use Rattle.policy_lawful.specs.declared.offence.Extent.{Extent}
 use Rattle.muen_num.proofs.SearchLaws.{unless_none}
 use Rattle.policy_rules.specs.declared.overlap.Span.{Span}
 use Rattle.policy_rules.specs.Span.{span_of, IsBelow}
-use Rattle.policy_rules.proofs.Searches.{pairs_at, pairs_from, first_pair-last}
+use Rattle.policy_rules.proofs.FirstPair.{pairs_at, pairs_from, first_pair-last}
 use Rattle.policy_rules.proofs.Spans.{IsApart, EachTwo, EachTwo-permutation, apart_from_neighbours, neighbours_from_apart}
 
 -- ---- two ranges
@@ -82,17 +82,21 @@ overlap_is xs ys false full moved up h =
     ]) refl
 
 -- what `last` overlaps first, where it ends the least front in which some two overlap
-pub first_overlap-last : (xs : List Extent) (n : ℕ) (last : Extent) → n < length xs → last ≡ get_or xs n last → first_overlap (take n xs) ≡ None → is_some (first_overlap (take (n + 1) xs)) ≡ true → first_in (λ b. overlapping b last) (take n xs) ≡ first_overlap xs
+pub overlap_with_last : (xs : List Extent) (n : ℕ) (last : Extent) → n < length xs → last ≡ get_or xs n last → first_overlap (take n xs) ≡ None → is_some (first_overlap (take (n + 1) xs)) ≡ true → first_in (λ b. overlapping b last) (take n xs) ≡ first_overlap xs
 unfolding first_overlap
-first_overlap-last xs n last l here none some =
+overlap_with_last xs n last l here none some =
     ap (λ x. first_in (λ b. overlapping b x) (take n xs)) here ∙ sym (first_pair-last overlapping xs n last l none some)
 
 -- ---- where the search begins
 
-pub first_overlap-nil : first_overlap [] ≡ None
+pub no_overlap_in_none : first_overlap [] ≡ None
 unfolding first_overlap
-first_overlap-nil = refl
+no_overlap_in_none = refl
 
 pub some_within : (xs : List Extent) → is_some (first_overlap xs) ≡ true → 0 < length xs
-some_within [] e = absurd (false≢true (sym (ap is_some first_overlap-nil) ∙ e))
+some_within [] e = absurd (false≢true (sym (ap is_some no_overlap_in_none) ∙ e))
 some_within (x ∷ xs) e = omega arith
+
+-- the front of all has two that overlap where some two do
+pub overlap_in_all : (xs : List Extent) → is_some (first_overlap xs) ≡ true → is_some (first_overlap (take (length xs) xs)) ≡ true
+overlap_in_all xs some = ap (λ front. is_some (first_overlap front)) (take_all (length xs) xs (omega arith)) ∙ some

@@ -2,6 +2,7 @@
 use Rattle.std.specs.Prelude.{ℕ, ◌&&◌, List, nat_lt, nat_le, codes, Option}
 use Rattle.std.specs.Option.{option_or}
 use Rattle.std.specs.List.{enumerate_from}
+use Rattle.muen_num.specs.declared.limits.TheConstants.{MOST_CPUS}
 use Rattle.muen_num.specs.Search.{first_in, unless}
 use Rattle.policy_lawful.specs.Offences.{alone, two}
 use Rattle.policy_lawful.specs.Rules.{major_name, cpu_name}
@@ -19,6 +20,6 @@ plan_cpus_offence cpus groups majors =
 -- the number of CPUs, the CPUs of subjects, and those of the plan
 abbrev pub cpus_offence : ℕ → List Subject → List Group → List MajorFrame → Option Offence
 cpus_offence cpus subjects groups majors =
-    option_or (option_or (unless (nat_le 1 cpus && nat_le cpus 8) (alone (codes "processor")))
+    option_or (option_or (unless (nat_le 1 cpus && nat_le cpus MOST_CPUS) (alone (codes "processor")))
     (first_in (λ s. unless (nat_lt s.cpu cpus) (alone s.name)) subjects))
     (plan_cpus_offence cpus groups majors)

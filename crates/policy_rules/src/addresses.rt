@@ -9,17 +9,10 @@ ghost use Rattle.policy_rules.specs.Windows.{addresses_offence};
 
 use crate::windows::outside;
 use muen_num::first;
+use muen_num::limits::{GUEST_END, LARGE_PAGE, PAGE, PHYSICAL_END};
 use policy_lawful::Offence;
 use policy_lawful::resolved::{Resolved, Subject};
 use policy_types::source::{Block, Region};
-
-const PAGE: u64 = 4096;
-
-const LARGE_PAGE: u64 = 1 << 21;
-
-const PHYSICAL_END: u128 = 1 << 40;
-
-const GUEST_END: u128 = 1 << 48;
 
 fn is_page_aligned(n: u64) -> bool
     ensures { result ≡ is_page_aligned n }
@@ -39,7 +32,7 @@ fn is_physical(address: u64, size: u64) -> bool
 {
     is_page_aligned(address)
         && is_page_size(size)
-        && u128::from(address) + u128::from(size) <= PHYSICAL_END
+        && u128::from(address) + u128::from(size) <= u128::from(PHYSICAL_END)
 }
 
 /// Whether this is a range of guest addresses.
@@ -48,7 +41,7 @@ pub(crate) fn is_guest(address: u64, size: u64) -> bool
 {
     is_page_aligned(address)
         && is_page_size(size)
-        && u128::from(address) + u128::from(size) <= GUEST_END
+        && u128::from(address) + u128::from(size) <= u128::from(GUEST_END)
 }
 
 fn is_alignment(n: u64) -> bool

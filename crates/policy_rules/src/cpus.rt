@@ -8,6 +8,7 @@ ghost use Rattle.policy_lawful.specs.Rules.{major_name, cpu_name, offence_3};
 ghost use Rattle.policy_rules.specs.Cpus.{cpus_offence, plan_cpus_offence};
 
 use crate::keys::Key;
+use muen_num::limits::MOST_CPUS;
 use muen_num::{first, first_numbered};
 use policy_lawful::Offence;
 use policy_lawful::frame_names::{cpu_name, major_name};
@@ -57,7 +58,7 @@ fn of_plan(groups: &[Group], frames: &[MajorFrame], cpus: u64) -> Option<Offence
     .or_else(|| majors(frames, cpus))
 }
 
-// There are 1 to 8 CPUs, and the subjects and the plan have CPUs that there are.
+// There are CPUs, as many as there may be, and the subjects and the plan have CPUs that there are.
 fn of_elements(
     cpus: u64,
     all: &[Subject],
@@ -66,8 +67,8 @@ fn of_elements(
 ) -> Option<Offence>
     ensures { result ≡ cpus_offence cpus all.now groups.now frames.now }
 {
-    Offence::alone(Key::Processor.name())
-        .unless(cpus >= 1 && cpus <= 8)
+    Key::Processor
+        .unless(1 <= cpus && cpus <= MOST_CPUS)
         .or_else(|| subjects(all, cpus))
         .or_else(|| of_plan(groups, frames, cpus))
 }

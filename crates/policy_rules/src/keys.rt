@@ -1,8 +1,11 @@
 // The keys and other words that rules name.
 ghost use Rattle.std.specs.Prelude.{◌≡◌};
+ghost use Rattle.muen_num.specs.Search.{unless};
+ghost use Rattle.policy_lawful.specs.Offences.{alone};
 ghost use Rattle.policy_rules.specs.Keys.{key_text};
 
 use muen_num::Name;
+use policy_lawful::Offence;
 
 /// A word that a rule names in place of an element.
 #[derive(Clone, Copy, Debug, PartialEq, Eq)]
@@ -15,8 +18,9 @@ pub(crate) enum Key {
 }
 
 impl Key {
-    /// The word as a name.
-    pub(crate) fn name(self) -> Name
+    // The word as a name.
+    #[tactic(auto, unfolding(muen_num::specs::Naming::is_name))]
+    fn name(self) -> Name
         ensures { result ≡ key_text self }
     {
         match self {
@@ -26,5 +30,12 @@ impl Key {
             Key::Subjects => Name::read(b"subjects").unwrap(),
             Key::MajorFrames => Name::read(b"majorFrames").unwrap(),
         }
+    }
+
+    /// The offence of this word alone, where what must hold doesn't.
+    pub(crate) fn unless(self, holds: bool) -> Option<Offence>
+        ensures { result ≡ unless holds (alone (key_text self)) }
+    {
+        Offence::alone(self.name()).unless(holds)
     }
 }

@@ -5,7 +5,6 @@ ghost use Rattle.std.specs.Option.{option_or};
 ghost use Rattle.std.specs.List.{list_all, enumerate_from};
 ghost use Rattle.muen_num.specs.Range.{numbers_below};
 ghost use Rattle.muen_num.specs.Search.{first_in, first_after};
-ghost use Rattle.policy_lawful.specs.ByPlace.{ticks_in};
 ghost use Rattle.policy_lawful.specs.Offences.{two};
 ghost use Rattle.policy_lawful.specs.Rules.{major_name, cpu_name, is_on, offence_16};
 ghost use Rattle.policy_lawful.specs.Resolution.{source_of};
@@ -39,21 +38,13 @@ fn are_frames(groups: &[Group], cpu: u64, frames: &[MinorFrame]) -> bool
     frames.iter().all(|frame| is_frame(groups, cpu, frame))
 }
 
-/// The ticks of an entry, below 2^64 for each minor frame.
-pub(crate) fn ticks_in(entry: &CpuFrames) -> u128
-    ensures { result ≡ ticks_in entry.now }
-{
-    let frames = entry.minor_frames.items();
-    frames.iter().map(|frame| u128::from(frame.ticks)).sum()
-}
-
 // As many ticks as the first of these entries has, if there is one.
 fn has_first_ticks(before: &[CpuFrames], entry: &CpuFrames) -> bool
     ensures { result ≡ has_first_ticks before.now entry.now }
 {
     match before.first() {
         None => true,
-        Some(first) => ticks_in(first) == ticks_in(entry),
+        Some(first) => first.ticks() == entry.ticks(),
     }
 }
 
@@ -97,6 +88,7 @@ fn first_entry(groups: &[Group], place: usize, cpus: &[CpuFrames]) -> Option<Off
 }
 
 // The first of so many CPUs that isn't listed.
+#[tactic(auto, using(crate::proofs::FirstNumber::number_found, crate::proofs::FirstNumber::numbers_none_more))]
 fn first_missing(cpus: &[CpuFrames], place: usize, count: u64) -> Option<Offence>
     ensures { result ≡ first_in (missing_offence cpus.now place) (numbers_below count) }
 {

@@ -69,6 +69,7 @@ fn are_below(spans: &[Span]) -> bool
 }
 
 // Whether any two share an address.
+#[tactic(auto, using(crate::proofs::Overlaps::overlap_is))]
 fn overlap(alloc: Global, extents: &[Extent]) -> Result<bool, NoMemory>
     requires { All (λ e. 0 < e.size) extents.now }
     ensures { IfOk result (λ b. b ≡ is_some (first_overlap extents.now)) }
@@ -79,6 +80,7 @@ fn overlap(alloc: Global, extents: &[Extent]) -> Result<bool, NoMemory>
 }
 
 // How many of the first ranges share no address, where one more does.
+#[tactic(auto, using(crate::proofs::Overlaps::no_overlap_in_none, crate::proofs::Overlaps::some_within, crate::proofs::Overlaps::overlap_in_all))]
 fn longest_apart(alloc: Global, extents: &[Extent]) -> Result<usize, NoMemory>
     requires sizes { All (λ e. 0 < e.size) extents.now }
     requires some { is_some (first_overlap extents.now) ≡ true }

@@ -111,6 +111,7 @@ fn first_named(regions: &[Region], names: &[Option<Name>]) -> Option<Offence>
 }
 
 /// The first region that one subject may write and another maps, and the first of these others.
+#[tactic(auto, using(crate::proofs::WritersByPlace::within_all, crate::proofs::WritersByPlace::shared_offence))]
 pub(crate) fn writers(alloc: Global, r: &Resolved) -> Result<Option<Offence>, NoMemory>
     requires { is_built (source_of r.now) ≡ true }
     ensures { IfOk result (λ o. o ≡ offence_8 (source_of r.now)) }

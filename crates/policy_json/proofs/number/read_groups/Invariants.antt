@@ -1,6 +1,6 @@
 use Rattle.std.proofs.Common.{◌≡◌, drop}
 use Rattle.policy_json.specs.Based.{groups_of, number_of_groups}
-use Rattle.policy_json.proofs.Based.{read_on}
+use Rattle.policy_json.proofs.GroupsInTurn.{read_on}
 use Rattle.policy_json.proofs.number.read_groups.Given as goal
 
 abbrev pub invariant-loop-c : goal.invariant-loop-c

@@ -1,7 +1,7 @@
 use Rattle.std.proofs.Common.{◌≡◌, drop}
 use Rattle.serde_json.specs.View.{items_view}
 use Rattle.policy_json.specs.Values.{read_items}
-use Rattle.policy_json.proofs.Front.{with_front}
+use Rattle.policy_json.proofs.ItemsRead.{with_front}
 use Rattle.policy_json.proofs.shape.read_items.Given as goal
 
 abbrev pub invariant-loop-i : goal.invariant-loop-i

@@ -1,10 +1,10 @@
 -- The later one of the first pair ends the least front that has a pair.
 use Rattle.std.proofs.Common.{◌∙◌}
-use Rattle.policy_rules.proofs.Overlaps.{first_overlap-last}
+use Rattle.policy_rules.proofs.Overlaps.{overlap_with_last}
 use Rattle.policy_rules.proofs.overlap.first_overlap.Goals as goal
 
 pub returns : goal.returns
 returns c =
     let least = c.in_ok-last.ensures in
     c.earlier.ensures
-    ∙ first_overlap-last c.args.extents.now c.in_ok-last.last c.index-extents-last.result least.within c.index-extents-last.is least.apart least.one_more
+    ∙ overlap_with_last c.args.extents.now c.in_ok-last.last c.index-extents-last.result least.within c.index-extents-last.is least.apart least.one_more
