@@ -32,7 +32,7 @@ fn groups_by_number(rt: HostRuntime) -> Result<(), Fail> {
         GroupPart { cpu: 1, first: 2 },
         GroupPart { cpu: 0, first: 1 },
     ];
-    assert!(rt; parts.items() == expected.as_slice());
+    assert_eq!(rt; parts.items(), expected.as_slice());
     Ok(())
 }
 
@@ -59,6 +59,10 @@ fn major(entries: Vec<CpuFrames>) -> MajorFrame
     }
 }
 
+fn minor(group: u8, ticks: u32) -> Minor {
+    Minor { group, ticks }
+}
+
 #[test]
 fn frames_by_cpu(rt: HostRuntime) -> Result<(), Fail> {
     let alloc = rt.alloc();
@@ -72,38 +76,15 @@ fn frames_by_cpu(rt: HostRuntime) -> Result<(), Fail> {
     ];
     let parts = major_parts(alloc, 2, &frames)?;
     let expected: [(u32, &[Minor], &[Minor]); 2] = [
-        (
-            100,
-            &[Minor {
-                group: 1,
-                ticks: 100,
-            }],
-            &[
-                Minor {
-                    group: 0,
-                    ticks: 30,
-                },
-                Minor {
-                    group: 2,
-                    ticks: 70,
-                },
-            ],
-        ),
-        (
-            5,
-            &[Minor { group: 1, ticks: 5 }],
-            &[Minor { group: 2, ticks: 5 }],
-        ),
+        (100, &[minor(1, 100)], &[minor(0, 30), minor(2, 70)]),
+        (5, &[minor(1, 5)], &[minor(2, 5)]),
     ];
-    assert!(rt; parts.len() == expected.len());
+    assert_eq!(rt; parts.len(), expected.len());
     for (part, (ticks, first, second)) in parts.items().iter().zip(expected) {
-        assert!(rt; part.ticks == ticks);
-        match part.cpus.items() {
-            [one, other] => {
-                assert!(rt; one.items() == first);
-                assert!(rt; other.items() == second);
-            }
-            _ => assert!(rt; false),
+        assert_eq!(rt; part.ticks, ticks);
+        assert_eq!(rt; part.cpus.len(), 2);
+        for (cpu, minors) in part.cpus.items().iter().zip([first, second]) {
+            assert_eq!(rt; cpu.items(), minors);
         }
     }
     Ok(())

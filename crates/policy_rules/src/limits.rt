@@ -10,7 +10,10 @@ ghost use Rattle.policy_lawful.specs.ByPlace.{is_short};
 ghost use Rattle.policy_rules.specs.Limits.{major_limit, blocks_limit, subjects_limit, majors_limit, limits_offence};
 
 use crate::keys::Key;
-use muen_num::limits::{KERNEL_REGIONS, MOST_BLOCK_BYTES, MOST_BLOCKS, MOST_MAJOR_FRAMES, MOST_MINOR_FRAMES, MOST_REGIONS, MOST_SUBJECTS, MOST_TICKS, MOST_WINDOWS};
+use muen_num::limits::{
+    KERNEL_REGIONS, MOST_BLOCK_BYTES, MOST_BLOCKS, MOST_MAJOR_FRAMES, MOST_MINOR_FRAMES,
+    MOST_REGIONS, MOST_SUBJECTS, MOST_TICKS, MOST_WINDOWS,
+};
 use muen_num::{first, first_numbered};
 use policy_lawful::Offence;
 use policy_lawful::frame_names::major_name;

@@ -4,7 +4,7 @@ ghost use Rattle.std.specs.List.{list_all};
 
 use crate::overlap::first_overlap;
 use muen_num::Name;
-use policy_lawful::Extent;
+use policy_lawful::{Extent, Offence};
 use std::alloc::Global;
 use std::test::Fail;
 
@@ -25,16 +25,12 @@ fn have_sizes(extents: &[Extent]) -> bool
     extents.iter().all(|e| 0 < e.size)
 }
 
-// The names of the first two that overlap.
-fn found(alloc: Global, extents: &[Extent]) -> Result<Option<(Name, Name)>, Fail> {
+// The first two that overlap.
+fn found(alloc: Global, extents: &[Extent]) -> Result<Option<Offence>, Fail> {
     if !have_sizes(extents) {
         return Err(Fail::new("a range is empty"));
     }
-    match first_overlap(alloc, extents) {
-        Ok(Some(offence)) => Ok(Some((offence.first, offence.second))),
-        Ok(None) => Ok(None),
-        Err(_) => Err(Fail::new("no memory")),
-    }
+    Ok(first_overlap(alloc, extents)?)
 }
 
 #[test]
@@ -54,7 +50,7 @@ fn finds_the_first_overlap(rt: HostRuntime) -> Result<(), Fail> {
         &[last, across],
     ];
     for extents in apart {
-        assert!(rt; found(rt.alloc(), extents)?.is_none());
+        assert_eq!(rt; found(rt.alloc(), extents)?, None);
     }
 
     let overlapping: [(&[Extent], Extent, Extent); 9] = [
@@ -69,13 +65,11 @@ fn finds_the_first_overlap(rt: HostRuntime) -> Result<(), Fail> {
         (&[past, next, last, low, across], past, last),
     ];
     for (extents, first, second) in overlapping {
-        match found(rt.alloc(), extents)? {
-            Some((one, other)) => {
-                assert!(rt; one == first.name);
-                assert!(rt; other == second.name);
-            }
-            None => assert!(rt; false),
-        }
+        let offence = Offence {
+            first: first.name,
+            second: second.name,
+        };
+        assert_eq!(rt; found(rt.alloc(), extents)?, Some(offence));
     }
     Ok(())
 }
