@@ -1,15 +1,13 @@
--- Names, numbers, limits, accesses, deliveries and ranges, worked out.
+-- Names, numbers, limits, deliveries and ranges, worked out.
 use Rattle.std.proofs.Common.{◌≡◌, ℕ, ◌*◌, ◌^◌, ◌≤◌, ◌<◌, true, false, [], ◌∷◌, refl, arith}
 use Rattle.std.specs.Prelude.{Some, None, codes, replicate}
 use Rattle.hex.specs.Hex.{encode_with}
-use Rattle.muen_num.specs.Access.{allows}
 use Rattle.muen_num.specs.Deliver.{delivered}
 use Rattle.muen_num.specs.Fixed.{hex4}
 use Rattle.muen_num.specs.Naming.{is_name}
 use Rattle.muen_num.specs.Range.{numbers_below}
 use Rattle.muen_num.specs.Tag.{tag_text}
 use Rattle.muen_num.specs.declared.limits.TheConstants.{NAME_MOST, PAGE, LARGE_PAGE, GUEST_END, MOST_SUBJECTS, KERNEL_REGIONS, MOST_REGIONS}
-use Rattle.muen_num.specs.declared.access.Kind.TheVariants.{Read, Write, Fetch}
 use Rattle.muen_num.specs.declared.tag.Part.TheVariants.{Whole, Named, Ept}
 
 -- ---- names
@@ -64,20 +62,6 @@ four_tables = refl
 -- the kernel's regions leave room for a policy's
 kernel_regions : (subjects : ℕ) → subjects ≤ MOST_SUBJECTS → KERNEL_REGIONS * subjects < MOST_REGIONS
 kernel_regions subjects h = omega arith
-
--- ---- accesses
-
-may_write : allows 3 Write ≡ true
-may_write = refl
-
-may_not_write : allows 5 Write ≡ false
-may_not_write = refl
-
-may_fetch : allows 5 Fetch ≡ true
-may_fetch = refl
-
-may_not_read : allows 0 Read ≡ false
-may_not_read = refl
 
 -- ---- deliveries
 

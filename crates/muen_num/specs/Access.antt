@@ -1,5 +1,5 @@
--- Accesses of memory and the rights that they need.
-use Rattle.std.specs.Prelude.{ℕ, ◌==◌, Bool, bit_and}
+-- Accesses of memory and the bits of the rights that they need.
+use Rattle.std.specs.Prelude.{ℕ}
 use Rattle.muen_num.specs.declared.access.Kind.{Kind}
 use Rattle.muen_num.specs.declared.access.Kind.TheVariants.{Read, Write, Fetch}
 
@@ -8,7 +8,3 @@ abbrev pub kind_bit : Kind → ℕ
 kind_bit Read = 1
 kind_bit Write = 2
 kind_bit Fetch = 4
-
--- these rights have the one that the access needs
-abbrev pub allows : ℕ → Kind → Bool
-allows rights kind = bit_and rights (kind_bit kind) == kind_bit kind

@@ -1,4 +1,3 @@
 pub mod Built
-pub mod Reading
 pub mod Refusals
 pub mod Rights
