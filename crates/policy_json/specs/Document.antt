@@ -1,5 +1,5 @@
 -- What a document says of a system: the source policy, or the first place that breaks the schema.
--- One definition for each object, and in it one line for each key, in order.
+-- One table for each object, and in it one line for each key, in order.
 -- This project's own spelling of the elements of a Muen system policy.
 use Rattle.std.specs.Prelude.{ℕ, ◌==◌, List, [], ◌∷◌, Bool, not, ◌&&◌, ◌||◌, Option, Some, None, is_some, Result, Ok, Err, codes, if◌then◌else◌}
 use Rattle.std.specs.List.{count_by}

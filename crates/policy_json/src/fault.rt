@@ -21,7 +21,7 @@ impl ReadEnd {
         ensures { result ≡ ReadEnd.Fault (record { place = []; want = want }) }
     {
         ReadEnd::Fault(Fault {
-            place: Place::here(alloc),
+            place: Place::of(String::new(alloc)),
             want,
         })
     }

@@ -1,8 +1,8 @@
-ghost use Rattle.std.specs.Prelude.{◌≡◌, [], ◌∷◌, ◌++◌, IfOk};
+ghost use Rattle.std.specs.Prelude.{◌≡◌, ◌∷◌, ◌++◌, IfOk, string_bytes};
 ghost use Rattle.policy_types.specs.declared.refusal.Refusal.TheVariants.{NoMemory as OutOfMemory};
 
 use muen_num::{Name, NoMemory, Tag};
-use std::alloc::{AllocError, AllocFailed, Global};
+use std::alloc::{AllocError, AllocFailed};
 use std::fmt;
 use std::marker::Model;
 use thiserror::Error;
@@ -23,13 +23,11 @@ impl Model for Place {
 }
 
 impl Place {
-    /// The value itself. It takes no memory.
-    pub fn here(alloc: Global) -> Place
-        ensures { result ≡ [] }
+    /// The place that this text is; the empty text is the value itself.
+    pub fn of(text: String) -> Place
+        ensures { result ≡ string_bytes text }
     {
-        Place {
-            text: String::new(alloc),
-        }
+        Place { text }
     }
 
     /// This place, seen from one step further up: the step is the key or item number that leads
