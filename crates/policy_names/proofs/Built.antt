@@ -9,7 +9,7 @@ use Rattle.muen_num.proofs.SearchLaws.{first_over-map, option_or-None}
 use Rattle.policy_lawful.specs.Resolution.{mapping_named, subject_named, subject_placed}
 use Rattle.policy_lawful.specs.Rules.{offence_1, refers, repeated, subject_references, undeclared}
 use Rattle.policy_lawful.specs.declared.resolved.Mapping.{Mapping as PlacedMapping}
-use Rattle.policy_lawful.proofs.WindowsByPlace.{built, plain}
+use Rattle.policy_lawful.proofs.BuiltElements.{built, plain}
 use Rattle.policy_types.specs.Built.{is_built, is_plain}
 use Rattle.policy_types.specs.declared.source.Source.{Source}
 use Rattle.policy_types.specs.declared.source.Subject.{Subject}
