@@ -85,3 +85,6 @@ pub fn resolve(alloc: Global, source: Source) -> Result<Resolved, Refusal>
         scheduling,
     ))
 }
+
+#[cfg(test)]
+mod tests;
