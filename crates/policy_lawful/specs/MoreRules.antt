@@ -133,8 +133,8 @@ offence_9 p = first_in (device_offence p) p.devices
 
 -- ---- rule 10: ports
 
-abbrev pub ports_of : Source → List Ports
-ports_of p = flat_map (λ d. d.io_ports) p.devices
+abbrev pub device_ports : Source → List Ports
+device_ports p = flat_map (λ d. d.io_ports) p.devices
 
 abbrev pub ports_apart : Ports → Ports → Bool
 ports_apart a b = nat_lt a.end b.start || nat_lt b.end a.start
@@ -146,7 +146,7 @@ ports_offence before x =
     (first_in (λ b. unless (ports_apart b x) (two b.name x.name)) before)
 
 unfoldable pub offence_10 : Source → Option Offence
-offence_10 p = first_after ports_offence [] (ports_of p)
+offence_10 p = first_after ports_offence [] (device_ports p)
 
 -- ---- rule 11: MSRs
 

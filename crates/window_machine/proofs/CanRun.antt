@@ -18,7 +18,7 @@ use Rattle.image_pack.specs.declared.plan.Plan.{Plan}
 use Rattle.plan_emit.specs.PlanOf.{IsPlanOf}
 use Rattle.window_machine.specs.Machine.{sizes_of, WindowFits, AllFit, GuestsFit, holding_at_start, window_in, guest_at_start, machine_of, CanRun}
 use Rattle.window_machine.specs.Start.{has_fitting_content}
-use Rattle.window_machine.proofs.Loadable.{IsLoadable, AreLaid, AllLaid, all_fitting, all_laid}
+use Rattle.window_machine.proofs.Loadable.{IsLoadable, AreWholePages, AllWholePages, all_fitting, all_whole_pages}
 
 length-content : (size : ℕ) (content : Content) → fits_in size content ≡ true → length (content_bytes no_files size content) ≡ size
 length-content size Zero h = length-replicate {A = ℕ} size 0
@@ -52,14 +52,14 @@ module _ (regions : List Region) (sizes : List ℕ) (are : sizes ≡ map (λ r. 
         whole = omega (arith, size);
       }
 
-  all_fit : (ms : List Mapping) → AreLaid regions ms → AllFit sizes (map (window_in regions) ms)
+  all_fit : (ms : List Mapping) → AreWholePages regions ms → AllFit sizes (map (window_in regions) ms)
   all_fit [] h = tt
   all_fit (m ∷ ms) h =
       let a : (nat_lt m.region (length regions) ≡ true) × (list_all (λ (m : Mapping). nat_lt m.region (length regions)) ms ≡ true) = and_parts _ _ h.0 in
       let b : (is_guest m.virtual_address (region_at regions m.region).size ≡ true) × (list_all (λ e. is_guest e.address e.size) (map (mapping_extent regions) ms) ≡ true) = and_parts _ _ h.1 in
       (fits m a.0 b.0, all_fit ms (a.1, b.1))
 
-  guests_fit : (ss : List Subject) → AllLaid regions ss → GuestsFit sizes (map (guest_at_start regions) ss)
+  guests_fit : (ss : List Subject) → AllWholePages regions ss → GuestsFit sizes (map (guest_at_start regions) ss)
   guests_fit [] h = tt
   guests_fit (s ∷ ss) h = (all_fit s.memory h.0, guests_fit ss h.1)
 
@@ -72,5 +72,5 @@ unfolding machine_of
 can_run r f plan of = record {
   plan = of.valid;
   there = ap (λ n. list_all (λ g. nat_lt g.first n) plan.groups) (sym (many_subjects r)) ∙ of.there;
-  fit = guests_fit r.memory (sizes_of (map holding_at_start r.memory)) (sizes_at_start r.memory (all_fitting r f)) r.subjects (all_laid r f);
+  fit = guests_fit r.memory (sizes_of (map holding_at_start r.memory)) (sizes_at_start r.memory (all_fitting r f)) r.subjects (all_whole_pages r f);
 }

@@ -56,32 +56,32 @@ unique_subjects r f = subjects_unique r f.resolved.names
 -- ---- addresses
 
 -- each mapping is of a region that is there, in whole pages
-abbrev pub AreLaid : List Region → List Mapping → Type 0
-AreLaid regions ms =
+abbrev pub AreWholePages : List Region → List Mapping → Type 0
+AreWholePages regions ms =
     (list_all (λ m. nat_lt m.region (length regions)) ms ≡ true)
     × (list_all (λ e. is_guest e.address e.size) (map (mapping_extent regions) ms) ≡ true)
 
-abbrev pub AllLaid : List Region → List Subject → Type 0
-AllLaid regions [] = Unit {0}
-AllLaid regions (s ∷ ss) = AreLaid regions s.memory × AllLaid regions ss
+abbrev pub AllWholePages : List Region → List Subject → Type 0
+AllWholePages regions [] = Unit {0}
+AllWholePages regions (s ∷ ss) = AreWholePages regions s.memory × AllWholePages regions ss
 
-laid_each : (r : Resolution) → IsLoadable r → (ss : List Subject) → list_all (is_ready r) ss ≡ true → list_all (λ s. list_all (λ e. is_guest e.address e.size) (window_extents (source_of r) s)) (map (subject_named r) ss) ≡ true → AllLaid r.memory ss
-laid_each r f [] ready h = tt
-laid_each r f (s ∷ ss) ready h =
+whole_pages_each : (r : Resolution) → IsLoadable r → (ss : List Subject) → list_all (is_ready r) ss ≡ true → list_all (λ s. list_all (λ e. is_guest e.address e.size) (window_extents (source_of r) s)) (map (subject_named r) ss) ≡ true → AllWholePages r.memory ss
+whole_pages_each r f [] ready h = tt
+whole_pages_each r f (s ∷ ss) ready h =
     let a : (is_ready r s ≡ true) × (list_all (is_ready r) ss ≡ true) = and_parts _ _ ready in
     let b = and_parts _ _ a.0 in
     let c : (list_all (λ e. is_guest e.address e.size) (window_extents (source_of r) (subject_named r s)) ≡ true) × (list_all (λ s. list_all (λ e. is_guest e.address e.size) (window_extents (source_of r) s)) (map (subject_named r) ss) ≡ true) = and_parts _ _ h in
     let extents = extents_placed r (unique_regions r f) s b.0 b.1 in
-    ((b.1, sym (ap (list_all (λ e. is_guest e.address e.size)) extents) ∙ c.0), laid_each r f ss a.1 c.1)
+    ((b.1, sym (ap (list_all (λ e. is_guest e.address e.size)) extents) ∙ c.0), whole_pages_each r f ss a.1 c.1)
 
 subjects_are : (r : Resolution) → (source_of r).subjects ≡ map (subject_named r) r.subjects
 unfolding source_of
 subjects_are r = refl
 
-pub all_laid : (r : Resolution) → IsLoadable r → AllLaid r.memory r.subjects
-all_laid r f =
+pub all_whole_pages : (r : Resolution) → IsLoadable r → AllWholePages r.memory r.subjects
+all_whole_pages r f =
     let windows = (addresses_kept (source_of r) (rules_kept (source_of r) f.rules).rule_4).windows in
-    laid_each r f r.subjects (ready r f) (sym (ap (list_all (λ s. list_all (λ e. is_guest e.address e.size) (window_extents (source_of r) s))) (subjects_are r)) ∙ windows)
+    whole_pages_each r f r.subjects (ready r f) (sym (ap (list_all (λ s. list_all (λ e. is_guest e.address e.size) (window_extents (source_of r) s))) (subjects_are r)) ∙ windows)
 
 -- ---- the one CPU
 
