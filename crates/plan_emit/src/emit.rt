@@ -36,10 +36,10 @@ fn plan_of(
 /// has the minor frames of each CPU, from CPU 0 on, and as many ticks as they have on any one of
 /// the CPUs.
 #[tactic(auto, using(crate::proofs::PlanOfPolicy::lawful_groups_fit, crate::proofs::PlanOfPolicy::lawful_majors_fit, crate::proofs::PlanOfPolicy::lawful_plan))]
-pub fn plan(alloc: Global, l: &Lawful) -> Result<Plan, NoMemory>
-    ensures { IfOk result (IsPlanOf (source_of l.now)) }
+pub fn plan(alloc: Global, lawful: &Lawful) -> Result<Plan, NoMemory>
+    ensures { IfOk result (IsPlanOf (source_of lawful.now)) }
 {
-    let policy = l.resolved();
+    let policy = lawful.resolved();
     let scheduling = policy.scheduling();
     plan_of(
         alloc,

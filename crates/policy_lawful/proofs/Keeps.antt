@@ -1,9 +1,8 @@
 -- One rule behind another, and the answer of a call that has looked at all of them.
-use Rattle.std.proofs.Common.{◌≡◌, Option, Some, None, Ok, Err, inl, inr, ap, sym, ◌∙◌}
+use Rattle.std.proofs.Common.{◌≡◌, Option, Some, None, Err, inl, inr, ap}
 use Rattle.std.specs.Option.{option_or}
 use Rattle.muen_num.specs.Answers.{Explains, Answers}
-use Rattle.policy_lawful.specs.Lawful.{kept_or, kept_source}
-use Rattle.policy_lawful.specs.Resolution.{Resolution, source_of}
+use Rattle.policy_lawful.specs.Lawful.{kept_or}
 use Rattle.policy_types.specs.declared.refusal.Refusal.{Refusal}
 use Rattle.policy_types.specs.declared.refusal.Refusal.TheVariants.{NoMemory}
 use Rattle.policy_types.specs.declared.source.Source.{Source}
@@ -23,16 +22,8 @@ explains_still memory a b still e h = elim h [ inl is ↦ inl is | inr found ↦
 pub explains_first : {E : Type 0} (memory : E) (a b : Option E) (e : E) → Explains memory a e → Explains memory (option_or a b) e
 explains_first memory a b e h = explains_still memory a (option_or a b) (first_found a b) e h
 
--- and by the second, where there is no first
-pub explains_second : {E : Type 0} (memory : E) (a b : Option E) (e : E) → a ≡ None → Explains memory b e → Explains memory (option_or a b) e
-explains_second memory a b e none h = explains_still memory b (option_or a b) (λ x found. ap (λ o. option_or o b) none ∙ found) e h
-
 -- ---- the whole answer
 
 -- a policy that is refused
 pub refused : (p : Source) (broken : Option Refusal) (refusal : Refusal) → Explains NoMemory broken refusal → Answers NoMemory (kept_or p broken) (Err refusal)
 refused p broken refusal h = elim h [ inl is ↦ inl is | inr found ↦ inr (ap (kept_or p) found) ]
-
--- a policy that keeps the rules
-pub kept : (p : Source) (broken : Option Refusal) (r : Resolution) → broken ≡ None → source_of r ≡ p → Answers NoMemory (kept_or p broken) (kept_source (Ok r))
-kept p broken r none is = ap (kept_or p) none ∙ ap (λ x. Ok x) (sym is)

@@ -97,9 +97,9 @@ fn of_elements(all: &[Block], memory: &[Region], subjects: &[Subject]) -> Option
 
 /// Rule 4: the first address or size that isn't one.
 #[tactic(auto, using(crate::proofs::RangesByPlace::addresses_by_place))]
-pub(crate) fn addresses(r: &Resolved) -> Option<Offence>
-    requires { is_built (source_of r.now) ≡ true }
-    ensures { result ≡ offence_4 (source_of r.now) }
+pub(crate) fn addresses(policy: &Resolved) -> Option<Offence>
+    requires { is_built (source_of policy.now) ≡ true }
+    ensures { result ≡ offence_4 (source_of policy.now) }
 {
-    of_elements(r.memory_blocks(), r.memory(), r.subjects())
+    of_elements(policy.memory_blocks(), policy.memory(), policy.subjects())
 }

@@ -45,12 +45,12 @@ fn of_blocks(alloc: Global, blocks: &[Block]) -> Result<Option<Offence>, NoMemor
 
 /// Rule 18: the first two blocks that share an address.
 #[tactic(auto, using(crate::proofs::RangesByPlace::blocks_physical, crate::proofs::RangesByPlace::blocks_apart))]
-pub(crate) fn blocks_apart(alloc: Global, r: &Resolved) -> Result<Option<Offence>, NoMemory>
-    requires built { is_built (source_of r.now) ≡ true }
-    requires addresses { offence_4 (source_of r.now) ≡ None }
-    ensures { IfOk result (λ o. o ≡ offence_18 (source_of r.now)) }
+pub(crate) fn blocks_apart(alloc: Global, policy: &Resolved) -> Result<Option<Offence>, NoMemory>
+    requires built { is_built (source_of policy.now) ≡ true }
+    requires addresses { offence_4 (source_of policy.now) ≡ None }
+    ensures { IfOk result (λ o. o ≡ offence_18 (source_of policy.now)) }
 {
-    of_blocks(alloc, r.memory_blocks())
+    of_blocks(alloc, policy.memory_blocks())
 }
 
 // The first two windows of a subject that share an address.
@@ -86,10 +86,10 @@ fn of_subjects(
 
 /// Rule 5: the first two windows of a subject that share an address.
 #[tactic(auto, using(crate::proofs::RangesByPlace::none_outside, crate::proofs::RangesByPlace::windows_apart))]
-pub(crate) fn windows_apart(alloc: Global, r: &Resolved) -> Result<Option<Offence>, NoMemory>
-    requires built { is_built (source_of r.now) ≡ true }
-    requires addresses { offence_4 (source_of r.now) ≡ None }
-    ensures { IfOk result (λ o. o ≡ offence_5 (source_of r.now)) }
+pub(crate) fn windows_apart(alloc: Global, policy: &Resolved) -> Result<Option<Offence>, NoMemory>
+    requires built { is_built (source_of policy.now) ≡ true }
+    requires addresses { offence_4 (source_of policy.now) ≡ None }
+    ensures { IfOk result (λ o. o ≡ offence_5 (source_of policy.now)) }
 {
-    of_subjects(alloc, r.memory(), r.subjects())
+    of_subjects(alloc, policy.memory(), policy.subjects())
 }

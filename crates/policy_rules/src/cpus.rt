@@ -75,13 +75,13 @@ fn of_elements(
 
 /// Rule 3: the number of CPUs, and the CPUs of subjects, groups and frames.
 #[tactic(auto, using(crate::proofs::CpusByPlace::cpus_by_place))]
-pub(crate) fn cpus(r: &Resolved) -> Option<Offence>
-    ensures { result ≡ offence_3 (source_of r.now) }
+pub(crate) fn cpus(policy: &Resolved) -> Option<Offence>
+    ensures { result ≡ offence_3 (source_of policy.now) }
 {
     of_elements(
-        r.processor().logical_cpus,
-        r.subjects(),
-        r.scheduling().groups.items(),
-        r.scheduling().major_frames.items(),
+        policy.processor().logical_cpus,
+        policy.subjects(),
+        policy.scheduling().groups.items(),
+        policy.scheduling().major_frames.items(),
     )
 }

@@ -107,9 +107,9 @@ fn of_groups(
 
 /// The first offence against rule 17, if any.
 #[tactic(auto, using(crate::proofs::GroupsByPlace::groups_by_place))]
-pub(crate) fn groups(alloc: Global, r: &Resolved) -> Result<Option<Offence>, NoMemory>
-    ensures { IfOk result (λ o. o ≡ offence_17 (source_of r.now)) }
+pub(crate) fn groups(alloc: Global, policy: &Resolved) -> Result<Option<Offence>, NoMemory>
+    ensures { IfOk result (λ o. o ≡ offence_17 (source_of policy.now)) }
 {
-    let offence = of_groups(alloc, r.subjects(), r.scheduling().groups.items())?;
+    let offence = of_groups(alloc, policy.subjects(), policy.scheduling().groups.items())?;
     Ok(offence)
 }

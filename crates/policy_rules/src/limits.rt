@@ -100,14 +100,14 @@ fn of_elements(
 
 /// Rule 20: the limits, in their order.
 #[tactic(auto, using(crate::proofs::LimitsByPlace::limits_by_place))]
-pub(crate) fn limits(r: &Resolved) -> Option<Offence>
-    requires { is_built (source_of r.now) ≡ true }
-    ensures { result ≡ offence_20 (source_of r.now) }
+pub(crate) fn limits(policy: &Resolved) -> Option<Offence>
+    requires { is_built (source_of policy.now) ≡ true }
+    ensures { result ≡ offence_20 (source_of policy.now) }
 {
     of_elements(
-        r.memory_blocks(),
-        r.memory().len(),
-        r.subjects(),
-        r.scheduling().major_frames.items(),
+        policy.memory_blocks(),
+        policy.memory().len(),
+        policy.subjects(),
+        policy.scheduling().major_frames.items(),
     )
 }

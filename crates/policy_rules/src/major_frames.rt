@@ -120,13 +120,13 @@ fn of_majors(groups: &[Group], count: u64, majors: &[MajorFrame]) -> Option<Offe
 
 /// The first offence against rule 16, if any.
 #[tactic(auto, using(crate::proofs::MajorsByPlace::majors_by_place))]
-pub(crate) fn major_frames(r: &Resolved) -> Option<Offence>
-    ensures { result ≡ offence_16 (source_of r.now) }
+pub(crate) fn major_frames(policy: &Resolved) -> Option<Offence>
+    ensures { result ≡ offence_16 (source_of policy.now) }
 {
-    let plan = r.scheduling();
+    let plan = policy.scheduling();
     of_majors(
         plan.groups.items(),
-        r.processor().logical_cpus,
+        policy.processor().logical_cpus,
         plan.major_frames.items(),
     )
 }

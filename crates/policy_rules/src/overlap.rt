@@ -105,12 +105,12 @@ fn longest_apart(alloc: Global, extents: &[Extent]) -> Result<usize, NoMemory>
 fn earlier(before: &[Extent], last: &Extent) -> Option<Offence>
     ensures { result ≡ first_in (λ b. overlapping b last.now) before.now }
 {
-    first(before, |b| {
+    first(before, |earlier| {
         Offence {
-            first: b.name,
+            first: earlier.name,
             second: last.name,
         }
-        .unless(are_apart(b, last))
+        .unless(are_apart(earlier, last))
     })
 }
 

@@ -38,47 +38,47 @@ fn keep(number: u8, offence: Option<Offence>) -> Result<(), Refusal>
 }
 
 // Rules 3, 4, 5 and 8, or the least of them that is broken.
-fn memory_rules(alloc: Global, r: &Resolved) -> Result<(), Refusal>
-    requires { is_built (source_of r.now) ≡ true }
-    ensures { Keeps (memory_broken (source_of r.now)) (λ _. offence_4 (source_of r.now) ≡ None) result }
+fn memory_rules(alloc: Global, policy: &Resolved) -> Result<(), Refusal>
+    requires { is_built (source_of policy.now) ≡ true }
+    ensures { Keeps (memory_broken (source_of policy.now)) (λ _. offence_4 (source_of policy.now) ≡ None) result }
 {
-    keep(3, cpus(r))?;
-    keep(4, addresses(r))?;
-    keep(5, windows_apart(alloc, r)?)?;
-    keep(8, writers(alloc, r)?)
+    keep(3, cpus(policy))?;
+    keep(4, addresses(policy))?;
+    keep(5, windows_apart(alloc, policy)?)?;
+    keep(8, writers(alloc, policy)?)
 }
 
 // Rules 16, 17, 18 and 20, or the least of them that is broken.
-fn plan_rules(alloc: Global, r: &Resolved) -> Result<(), Refusal>
-    requires built { is_built (source_of r.now) ≡ true }
-    requires addresses { offence_4 (source_of r.now) ≡ None }
-    ensures { Keeps (plan_broken (source_of r.now)) (λ _. ⊤) result }
+fn plan_rules(alloc: Global, policy: &Resolved) -> Result<(), Refusal>
+    requires built { is_built (source_of policy.now) ≡ true }
+    requires addresses { offence_4 (source_of policy.now) ≡ None }
+    ensures { Keeps (plan_broken (source_of policy.now)) (λ _. ⊤) result }
 {
-    keep(16, major_frames(r))?;
-    keep(17, groups(alloc, r)?)?;
-    keep(18, blocks_apart(alloc, r)?)?;
-    keep(20, limits(r))
+    keep(16, major_frames(policy))?;
+    keep(17, groups(alloc, policy)?)?;
+    keep(18, blocks_apart(alloc, policy)?)?;
+    keep(20, limits(policy))
 }
 
 // All rules from 3 on, or the least of them that is broken.
-fn all_rules(alloc: Global, r: &Resolved) -> Result<(), Refusal>
-    requires { is_built (source_of r.now) ≡ true }
-    ensures { Keeps (option_or (memory_broken (source_of r.now)) (plan_broken (source_of r.now))) (λ _. ⊤) result }
+fn all_rules(alloc: Global, policy: &Resolved) -> Result<(), Refusal>
+    requires { is_built (source_of policy.now) ≡ true }
+    ensures { Keeps (option_or (memory_broken (source_of policy.now)) (plan_broken (source_of policy.now))) (λ _. ⊤) result }
 {
-    memory_rules(alloc, r)?;
-    plan_rules(alloc, r)
+    memory_rules(alloc, policy)?;
+    plan_rules(alloc, policy)
 }
 
 /// The policy, where it keeps every rule from 3 on; else the least rule that is broken, with its two
 /// names, or `NoMemory`. The rules on elements that aren't built are kept. A refused policy is
 /// dropped.
 #[tactic(auto, using(crate::proofs::RulesJoined::rules_joined, policy_lawful::proofs::Keeps::refused))]
-pub fn check(alloc: Global, r: Resolved) -> Result<Lawful, Refusal>
-    requires { is_built (source_of r) ≡ true }
-    ensures { Answers OutOfMemory (kept_or (source_of r) (rules_broken (source_of r))) (kept_source result) }
+pub fn check(alloc: Global, policy: Resolved) -> Result<Lawful, Refusal>
+    requires { is_built (source_of policy) ≡ true }
+    ensures { Answers OutOfMemory (kept_or (source_of policy) (rules_broken (source_of policy))) (kept_source result) }
 {
-    match all_rules(alloc, &r) {
-        Ok(()) => Ok(Lawful::make(r)),
+    match all_rules(alloc, &policy) {
+        Ok(()) => Ok(Lawful::make(policy)),
         Err(refusal) => Err(refusal),
     }
 }

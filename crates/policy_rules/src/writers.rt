@@ -112,11 +112,11 @@ fn first_named(regions: &[Region], names: &[Option<Name>]) -> Option<Offence>
 
 /// The first region that one subject may write and another maps, and the first of these others.
 #[tactic(auto, using(crate::proofs::WritersByPlace::within_all, crate::proofs::WritersByPlace::shared_offence))]
-pub(crate) fn writers(alloc: Global, r: &Resolved) -> Result<Option<Offence>, NoMemory>
-    requires { is_built (source_of r.now) ≡ true }
-    ensures { IfOk result (λ o. o ≡ offence_8 (source_of r.now)) }
+pub(crate) fn writers(alloc: Global, policy: &Resolved) -> Result<Option<Offence>, NoMemory>
+    requires { is_built (source_of policy.now) ≡ true }
+    ensures { IfOk result (λ o. o ≡ offence_8 (source_of policy.now)) }
 {
-    let writers = first_writers(alloc, r.memory().len(), r.subjects())?;
-    let others = first_others(alloc, &writers, r.subjects())?;
-    Ok(first_named(r.memory(), &others))
+    let writers = first_writers(alloc, policy.memory().len(), policy.subjects())?;
+    let others = first_others(alloc, &writers, policy.subjects())?;
+    Ok(first_named(policy.memory(), &others))
 }
