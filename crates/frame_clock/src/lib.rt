@@ -31,11 +31,7 @@ fn ticks_in(majors: &[Major]) -> u64
     requires { length majors.now ≤ MOST_MAJOR_FRAMES }
     ensures { result ≡ sum_by (λ m. m.ticks) majors.now }
 {
-    let mut total: u64 = 0;
-    for major in majors {
-        total += u64::from(major.ticks);
-    }
-    total
+    majors.iter().map(|major| u64::from(major.ticks)).sum()
 }
 
 // The tick in its round of all major frames, of so many ticks.

@@ -148,8 +148,9 @@ fn put_run<S: Sink>(
 }
 
 /// Runs the machine for these ticks, and prints each turn's line, and at the end each subject's
-/// state and the digest of each region. The text goes through the buffer, which is flushed at the
-/// end.
+/// state and the digest of each region. The text goes through the buffer, in which nothing waits
+/// before or after, and takes no memory. Where the sink fails it has a front of the text, and the
+/// run ends there.
 #[tactic(auto, using(muen_outside::proofs::Buffered::gives))]
 pub fn print_run<S: Sink>(
     machine: &mut Machine,
