@@ -1,7 +1,7 @@
 -- Rule 3: there are CPUs, as many as there may be, and each that is named is one of them.
-use Rattle.std.proofs.Common.{◌≡◌, ℕ, ◌+◌, ◌≤◌, Bool, true, List, [], ◌∷◌, Option, None, refl}
+use Rattle.std.proofs.Common.{◌≡◌, ◌≤◌, true, None}
 use Rattle.std.specs.Prelude.{◌&&◌, nat_lt, nat_le, codes}
-use Rattle.std.specs.List.{list_all, enumerate_from}
+use Rattle.std.specs.List.{list_all}
 use Rattle.std.proofs.lemmas.Bool.{and_parts, leb-true}
 use Rattle.policy_lawful.specs.Rules.{cpu_name, major_name, majors_of, offence_3}
 use Rattle.muen_num.specs.declared.limits.TheConstants.{MOST_CPUS}

@@ -15,8 +15,7 @@ use Rattle.policy_types.specs.declared.rights.Caching.TheVariants.{Wb}
 use Rattle.policy_types.specs.declared.source.Block.{Block}
 use Rattle.policy_types.specs.declared.source.Channel.{Channel}
 use Rattle.policy_types.specs.declared.source.ChannelUse.{ChannelUse}
-use Rattle.policy_types.specs.declared.source.Content.{Content}
-use Rattle.policy_types.specs.declared.source.Content.TheVariants.{Zero, Fill, Inline}
+use Rattle.policy_types.specs.declared.source.Content.TheVariants.{Zero}
 use Rattle.policy_types.specs.declared.source.CpuFrames.{CpuFrames}
 use Rattle.policy_types.specs.declared.source.Device.{Device}
 use Rattle.policy_types.specs.declared.source.Mapping.{Mapping}

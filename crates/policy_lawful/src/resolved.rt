@@ -3,9 +3,11 @@
 ghost use Rattle.std.specs.Prelude.{◌≡◌};
 ghost use Rattle.policy_lawful.specs.Resolution.{IsResolved};
 
-use policy_types::{Rights, Role};
-use policy_types::source::{Block, Channel, Component, Device, Event, Msrs, Processor, Region, SourceWay};
 use muen_num::{Name, Seq};
+use policy_types::source::{
+    Block, Channel, Component, Device, Event, Msrs, Processor, Region, SourceWay,
+};
+use policy_types::{Rights, Role};
 use std::marker::Model;
 
 /// A policy whose references are resolved: names are unique for each kind, and each reference names

@@ -1,9 +1,9 @@
 -- Rule 3 of a resolved policy is that of its source policy, whose elements have the same CPUs.
-use Rattle.std.proofs.Common.{◌≡◌, ℕ, map}
+use Rattle.std.proofs.Common.{◌≡◌, ℕ}
 use Rattle.std.specs.Prelude.{nat_lt}
 use Rattle.muen_num.specs.Search.{first_in, unless}
 use Rattle.muen_num.proofs.SearchLaws.{first_over-map, option_or-None, option_or_assoc}
-use Rattle.policy_lawful.specs.Offences.{alone, two}
+use Rattle.policy_lawful.specs.Offences.{two}
 use Rattle.policy_lawful.specs.Rules.{major_name, cpu_name, offence_3}
 use Rattle.policy_lawful.specs.Resolution.{Resolution, cpu_named, major_named, source_of}
 use Rattle.policy_lawful.specs.declared.offence.Offence.{Offence}

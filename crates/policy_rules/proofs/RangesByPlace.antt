@@ -1,21 +1,20 @@
 -- Rules 4, 5 and 18 of a resolved policy whose elements are built are those of its source policy; and ranges that keep
 -- rule 4 are not empty.
-use Rattle.std.proofs.Common.{◌≡◌, ℕ, ◌<◌, Bool, true, List, [], ◌∷◌, length, map, Option, Some, None, refl, sym, ap, ◌∙◌, append-nil}
-use Rattle.std.specs.Prelude.{◌&&◌, nat_lt, option_and_then, option_map, slice_get}
+use Rattle.std.proofs.Common.{◌≡◌, ℕ, Bool, true, List, [], ◌∷◌, length, map, Option, Some, None, refl, sym, ap, ◌∙◌, append-nil}
+use Rattle.std.specs.Prelude.{◌&&◌, nat_lt, option_and_then, slice_get}
 use Rattle.std.specs.Option.{option_or}
 use Rattle.std.specs.List.{cons_option, filter_map, list_all}
-use Rattle.std.proofs.lemmas.Bool.{and_from, and_parts, ltb-true}
+use Rattle.std.proofs.lemmas.Bool.{and_parts, ltb-true}
 use Rattle.std.proofs.lemmas.Option.{slice_get-get_or}
-use Rattle.muen_num.specs.Search.{first_in, unless}
+use Rattle.muen_num.specs.Search.{first_in}
 use Rattle.muen_num.proofs.Lists.{each_from}
-use Rattle.muen_num.proofs.SearchLaws.{all_pass, none_both, option_or-None, option_or_assoc, unless_none}
+use Rattle.muen_num.proofs.SearchLaws.{all_pass, none_both, option_or-None, option_or_assoc}
 use Rattle.std.proofs.lemmas.List.Folds.{list_all-map}
 use Rattle.policy_lawful.specs.ByPlace.{block_extent, is_ready, mapping_extent, no_region}
 use Rattle.policy_lawful.specs.Offences.{two}
 use Rattle.policy_lawful.specs.Rules.{first_overlap, is_guest, is_page_aligned, is_page_size, is_physical, window_extents, window_offence, offence_1, offence_4, offence_5, offence_18}
 use Rattle.policy_lawful.specs.Resolution.{IsResolved, Resolution, source_of, subject_named}
 use Rattle.policy_lawful.specs.declared.offence.Extent.{Extent}
-use Rattle.policy_lawful.specs.declared.offence.Offence.{Offence}
 use Rattle.policy_lawful.specs.declared.resolved.Mapping.{Mapping}
 use Rattle.policy_lawful.specs.declared.resolved.Subject.{Subject}
 use Rattle.policy_lawful.proofs.BuiltElements.{built}
@@ -24,7 +23,6 @@ use Rattle.policy_lawful.proofs.WindowsByPlace.{all_ready, extents_placed, regio
 use Rattle.policy_types.specs.Built.{is_built}
 use Rattle.policy_types.specs.declared.source.Block.{Block}
 use Rattle.policy_types.specs.declared.source.Region.{Region}
-use Rattle.policy_types.specs.declared.source.Source.{Source}
 use Rattle.policy_rules.specs.Windows.{addresses_offence, extent_in, extents_in, outside, outside_in, overlap_in}
 use Rattle.policy_rules.proofs.SameAnswers.{first_in-map}
 
