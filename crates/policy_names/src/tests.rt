@@ -170,6 +170,15 @@ fn rule(number: u8, first: &str, second: &str) -> Result<Option<Refusal>, Fail> 
     }))
 }
 
+fn placed_mappings(alloc: Global, region: usize) -> Result<Seq<resolved::Mapping>, Fail> {
+    let mapping = resolved::Mapping {
+        region,
+        virtual_address: 8192,
+        rights: Rights::READ,
+    };
+    one(alloc, mapping)
+}
+
 fn placed_group(alloc: Global, text: &str, member: usize) -> Result<resolved::Group, Fail> {
     Ok(resolved::Group {
         name: name(text)?,
@@ -188,28 +197,34 @@ fn placed_major(alloc: Global, group: usize) -> Result<resolved::MajorFrame, Fai
     })
 }
 
+fn placed_scheduling(alloc: Global) -> Result<resolved::Scheduling, Fail> {
+    let left = placed_group(alloc, "left", 1)?;
+    let right = placed_group(alloc, "right", 0)?;
+    let first = placed_major(alloc, 1)?;
+    let second = placed_major(alloc, 0)?;
+    Ok(resolved::Scheduling {
+        groups: two(alloc, left, right)?,
+        major_frames: two(alloc, first, second)?,
+    })
+}
+
 #[test]
-fn names_become_places(rt: HostRuntime) -> Result<(), Fail> {
+fn regions_become_places(rt: HostRuntime) -> Result<(), Fail> {
     let alloc = rt.alloc();
     let resolved = resolve(alloc, policy(alloc, &LAWFUL)?)?;
     assert_eq!(rt; resolved.subjects().len(), 2);
-    let [first, second] = [&resolved.subjects()[0], &resolved.subjects()[1]];
-    let mapping = |region| resolved::Mapping {
-        region,
-        virtual_address: 8192,
-        rights: Rights::READ,
-    };
-    assert_eq!(rt; (first.name, &first.memory), (name("one")?, &one(alloc, mapping(1))?));
-    assert_eq!(rt; (second.name, &second.memory), (name("two")?, &one(alloc, mapping(0))?));
-    let scheduling = resolved::Scheduling {
-        groups: two(
-            alloc,
-            placed_group(alloc, "left", 1)?,
-            placed_group(alloc, "right", 0)?,
-        )?,
-        major_frames: two(alloc, placed_major(alloc, 1)?, placed_major(alloc, 0)?)?,
-    };
-    assert_eq!(rt; resolved.scheduling(), &scheduling);
+    assert_eq!(rt; resolved.subjects()[0].name, name("one")?);
+    assert_eq!(rt; resolved.subjects()[0].memory, placed_mappings(alloc, 1)?);
+    assert_eq!(rt; resolved.subjects()[1].memory, placed_mappings(alloc, 0)?);
+    Ok(())
+}
+
+#[test]
+fn members_and_groups_become_places(rt: HostRuntime) -> Result<(), Fail> {
+    let alloc = rt.alloc();
+    let resolved = resolve(alloc, policy(alloc, &LAWFUL)?)?;
+    let scheduling = placed_scheduling(alloc)?;
+    assert_eq!(rt; *resolved.scheduling(), scheduling);
     Ok(())
 }
 
