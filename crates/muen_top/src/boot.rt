@@ -93,12 +93,7 @@ fn read_both<'a, F: Files>(
 }
 
 // Runs a policy that is accepted.
-fn run_policy<'a, S: Sink>(
-    alloc: Global,
-    policy: &Lawful,
-    run: Record,
-    out: &mut S,
-) -> Outcome<'a>
+fn run_policy<'a, S: Sink>(alloc: Global, policy: &Lawful, run: Record, out: &mut S) -> Outcome<'a>
     requires { CanLoad (source_of policy.now) }
     ensures { (files : Held) → RunsTo (trace_of (source_of policy.now) files (only_ticks run.end)) (S.state out.old) (S.state out.new) result }
 {

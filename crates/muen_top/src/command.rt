@@ -9,10 +9,7 @@ pub(crate) enum Command<'a> {
     /// The words have no command's form.
     Usage,
     /// The system of a policy runs on a device record, both by the names of their files.
-    Boot {
-        policy: &'a str,
-        inputs: &'a str,
-    },
+    Boot { policy: &'a str, inputs: &'a str },
 }
 
 impl<'a> Command<'a> {

@@ -36,7 +36,7 @@ read_cpus d = and_then (read_number d) λ n. if is_built_number n then Ok n else
 unfoldable pub processor : Object Processor
 processor = object do
   made (record {
-    logical_cpus = (← required (codes "logicalCpus") read_cpus)
+    logical_cpus = (← required (codes "logicalCpus") read_cpus);
   })
 
 unfoldable pub block : Object Block
@@ -44,7 +44,7 @@ block = object do
   made (record {
     name = (← required (codes "name") read_name);
     physical_address = (← required (codes "physicalAddress") read_number);
-    size = (← required (codes "size") read_number)
+    size = (← required (codes "size") read_number);
   })
 
 abbrev pub has : List ℕ → Data → Bool
@@ -81,7 +81,7 @@ region = object do
     caching = (← optional (codes "caching") Wb read_caching);
     alignment = (← unbuilt (codes "alignment") 4096);
     physical_address = (← unbuilt (codes "physicalAddress") None);
-    content = (← optional (codes "content") Zero (read_object content))
+    content = (← optional (codes "content") Zero (read_object content));
   })
 
 unfoldable pub mapping : Object Mapping
@@ -89,7 +89,7 @@ mapping = object do
   made (record {
     region = (← required (codes "region") read_name);
     virtual_address = (← required (codes "virtualAddress") read_number);
-    rights = (← required (codes "rights") read_rights)
+    rights = (← required (codes "rights") read_rights);
   })
 
 unfoldable pub subject : Object Subject
@@ -104,7 +104,7 @@ subject = object do
     devices = (← unbuilt (codes "devices") []);
     msrs = (← unbuilt (codes "msrs") []);
     sources = (← unbuilt (codes "sources") []);
-    targets = (← unbuilt (codes "targets") [])
+    targets = (← unbuilt (codes "targets") []);
   })
 
 unfoldable pub group : Object Group
@@ -112,34 +112,34 @@ group = object do
   made (record {
     name = (← required (codes "name") read_name);
     cpu = (← required (codes "cpu") read_number);
-    subjects = (← list (codes "subjects") read_name)
+    subjects = (← list (codes "subjects") read_name);
   })
 
 unfoldable pub minor_frame : Object MinorFrame
 minor_frame = object do
   made (record {
     group = (← required (codes "group") read_name);
-    ticks = (← required (codes "ticks") read_number)
+    ticks = (← required (codes "ticks") read_number);
   })
 
 unfoldable pub cpu_frames : Object CpuFrames
 cpu_frames = object do
   made (record {
     cpu = (← required (codes "cpu") read_number);
-    minor_frames = (← list (codes "minorFrames") (read_object minor_frame))
+    minor_frames = (← list (codes "minorFrames") (read_object minor_frame));
   })
 
 unfoldable pub major_frame : Object MajorFrame
 major_frame = object do
   made (record {
-    cpus = (← list (codes "cpus") (read_object cpu_frames))
+    cpus = (← list (codes "cpus") (read_object cpu_frames));
   })
 
 unfoldable pub scheduling : Object Scheduling
 scheduling = object do
   made (record {
     groups = (← list (codes "groups") (read_object group));
-    major_frames = (← list (codes "majorFrames") (read_object major_frame))
+    major_frames = (← list (codes "majorFrames") (read_object major_frame));
   })
 
 unfoldable pub system : Object Source
@@ -153,7 +153,7 @@ system = object do
     components = (← unbuilt (codes "components") []);
     events = (← unbuilt (codes "events") []);
     subjects = (← list (codes "subjects") (read_object subject));
-    scheduling = (← required (codes "scheduling") (read_object scheduling))
+    scheduling = (← required (codes "scheduling") (read_object scheduling));
   })
 
 abbrev pub read_system : Data → Result Source Fault

@@ -103,7 +103,14 @@ impl Object for Region {
     ghost object = { region };
 
     fn keys() -> &'static [&'static str] {
-        &["name", "size", "caching", "alignment", "physicalAddress", "content"]
+        &[
+            "name",
+            "size",
+            "caching",
+            "alignment",
+            "physicalAddress",
+            "content",
+        ]
     }
 
     fn read_fields(alloc: Global, value: &Value) -> Result<Region, ReadEnd> {

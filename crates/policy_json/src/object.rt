@@ -90,11 +90,7 @@ fn read_known(alloc: Global, value: &Value, keys: &[&str]) -> Result<(), ReadEnd
 
 /// The value under a key, if the key is there.
 #[tactic(auto, unfolding(crate::specs::Objects::read_if_present))]
-pub fn if_present<T: Shape>(
-    alloc: Global,
-    value: &Value,
-    key: &str,
-) -> Result<Option<T>, ReadEnd>
+pub fn if_present<T: Shape>(alloc: Global, value: &Value, key: &str) -> Result<Option<T>, ReadEnd>
     ensures { Gives (read_if_present key.now T.reads (view value.now)) result }
 {
     match value.get(key) {
@@ -119,12 +115,7 @@ pub fn required<T: Shape>(alloc: Global, value: &Value, key: &str) -> Result<T, 
 
 /// The value under a key, or the default where the key is absent.
 #[tactic(auto, unfolding(crate::specs::Objects::read_optional))]
-pub fn optional<T: Shape>(
-    alloc: Global,
-    value: &Value,
-    key: &str,
-    default: T,
-) -> Result<T, ReadEnd>
+pub fn optional<T: Shape>(alloc: Global, value: &Value, key: &str, default: T) -> Result<T, ReadEnd>
     ensures { Gives (read_optional key.now default T.reads (view value.now)) result }
 {
     Ok(if_present(alloc, value, key)?.unwrap_or(default))
@@ -139,12 +130,7 @@ pub fn list<T: Shape>(alloc: Global, value: &Value, key: &str) -> Result<Seq<T>,
 
 /// The default of a key whose part isn't built: the key must not be there.
 #[tactic(auto, unfolding(crate::specs::Objects::read_unbuilt))]
-pub fn unbuilt<T: Drop>(
-    alloc: Global,
-    value: &Value,
-    key: &str,
-    default: T,
-) -> Result<T, ReadEnd>
+pub fn unbuilt<T: Drop>(alloc: Global, value: &Value, key: &str, default: T) -> Result<T, ReadEnd>
     ensures { Gives (read_unbuilt key.now default (view value.now)) result }
 {
     match value.get(key) {

@@ -46,10 +46,16 @@ fn reads_a_policy(rt: HostRuntime) -> Result<(), Fail> {
     assert!(rt; source.components.is_empty() && source.events.is_empty());
 
     let block = one(source.memory_blocks.items())?;
-    assert_eq!(rt; (block.name.as_str(), block.physical_address, block.size), ("ram", 1048576, 65536));
+    assert_eq!(rt;
+        (block.name.as_str(), block.physical_address, block.size),
+        ("ram", 1048576, 65536)
+    );
 
     let region = one(source.memory.items())?;
-    assert_eq!(rt; (region.name.as_str(), region.size, region.caching), ("code", 4096, Caching::Wb));
+    assert_eq!(rt;
+        (region.name.as_str(), region.size, region.caching),
+        ("code", 4096, Caching::Wb)
+    );
     assert_eq!(rt; (region.alignment, region.physical_address), (4096, None));
     match &region.content {
         Content::Inline(bytes) => assert_eq!(rt; bytes.items(), [1, 175].as_slice()),
@@ -57,18 +63,31 @@ fn reads_a_policy(rt: HostRuntime) -> Result<(), Fail> {
     }
 
     let subject = one(source.subjects.items())?;
-    assert_eq!(rt; (subject.name.as_str(), subject.cpu, subject.entry), ("one", 0, 4194304));
+    assert_eq!(rt;
+        (subject.name.as_str(), subject.cpu, subject.entry),
+        ("one", 0, 4194304)
+    );
     assert!(rt; subject.component.is_none() && subject.channels.is_empty());
     let mapping = one(subject.memory.items())?;
     let rights = Rights::READ.and(Rights::EXECUTE);
-    assert_eq!(rt; (mapping.region.as_str(), mapping.virtual_address, mapping.rights), ("code", 4194305, rights));
+    assert_eq!(rt;
+        (
+            mapping.region.as_str(),
+            mapping.virtual_address,
+            mapping.rights
+        ),
+        ("code", 4194305, rights)
+    );
 
     let group = one(source.scheduling.groups.items())?;
     assert_eq!(rt; (group.name.as_str(), group.cpu), ("g", 2));
     assert_eq!(rt; one(group.subjects.items())?.as_str(), "one");
     let frames = one(one(source.scheduling.major_frames.items())?.cpus.items())?;
     let minor = one(frames.minor_frames.items())?;
-    assert_eq!(rt; (frames.cpu, minor.group.as_str(), minor.ticks), (3, "g", 10));
+    assert_eq!(rt;
+        (frames.cpu, minor.group.as_str(), minor.ticks),
+        (3, "g", 10)
+    );
     Ok(())
 }
 
@@ -91,7 +110,10 @@ fn reads_fill_and_caching(rt: HostRuntime) -> Result<(), Fail> {
             Content::Fill(byte) => Some(*byte),
             _ => None,
         };
-        assert_eq!(rt; (region.name.as_str(), region.size, region.caching, fill), wanted);
+        assert_eq!(rt;
+            (region.name.as_str(), region.size, region.caching, fill),
+            wanted
+        );
     }
     Ok(())
 }
@@ -100,12 +122,19 @@ fn reads_fill_and_caching(rt: HostRuntime) -> Result<(), Fail> {
 fn refuses_what_is_no_document(rt: HostRuntime) -> Result<(), Fail> {
     let alloc = rt.alloc();
     assert_eq!(rt; read(alloc, b"{").err(), Some(Refusal::NotJson));
-    assert_eq!(rt; read(alloc, b"{\"processor\":\"\xff\"}").err(), Some(Refusal::NotJson));
+    assert_eq!(rt;
+        read(alloc, b"{\"processor\":\"\xff\"}").err(),
+        Some(Refusal::NotJson)
+    );
     let cases = [
         ("[]", "", Want::Object),
         ("{}", "/processor", Want::Present),
         ("{\"processor\":1}", "/processor", Want::Object),
-        ("{\"processor\":{\"logicalCpus\":-1},\"more\":1}", "", Want::KnownKeys),
+        (
+            "{\"processor\":{\"logicalCpus\":-1},\"more\":1}",
+            "",
+            Want::KnownKeys,
+        ),
         (
             "{\"description\":1,\"processor\":{\"logicalCpus\":18446744073709551616}}",
             "/processor/logicalCpus",
@@ -113,7 +142,10 @@ fn refuses_what_is_no_document(rt: HostRuntime) -> Result<(), Fail> {
         ),
     ];
     for (text, place, want) in cases {
-        assert_eq!(rt; read(alloc, text.as_bytes()).err(), shape(alloc, place, want)?);
+        assert_eq!(rt;
+            read(alloc, text.as_bytes()).err(),
+            shape(alloc, place, want)?
+        );
     }
     Ok(())
 }
@@ -186,7 +218,10 @@ fn names_what_was_wanted_and_where(rt: HostRuntime) -> Result<(), Fail> {
     ];
     for (keys, place, want) in cases {
         let text = document(alloc, keys)?;
-        assert_eq!(rt; read(alloc, text.as_bytes()).err(), shape(alloc, place, want)?);
+        assert_eq!(rt;
+            read(alloc, text.as_bytes()).err(),
+            shape(alloc, place, want)?
+        );
     }
     Ok(())
 }
@@ -228,7 +263,11 @@ fn names_the_first_of_two_faults(rt: HostRuntime) -> Result<(), Fail> {
             Want::Name,
         ),
         // An absent key in its place.
-        ("\"memory\":[{\"size\":-1}]", "/memory/0/name", Want::Present),
+        (
+            "\"memory\":[{\"size\":-1}]",
+            "/memory/0/name",
+            Want::Present,
+        ),
         ("\"memory\":[{\"name\":\"\"}]", "/memory/0/name", Want::Name),
         // An earlier value wholly.
         (
@@ -254,20 +293,33 @@ fn names_the_first_of_two_faults(rt: HostRuntime) -> Result<(), Fail> {
             Want::NotYetBuilt,
         ),
         // A list's earlier item.
-        ("\"memory\":[{\"name\":\"a\"},1]", "/memory/0/size", Want::Present),
+        (
+            "\"memory\":[{\"name\":\"a\"},1]",
+            "/memory/0/size",
+            Want::Present,
+        ),
         // The last of a key's values.
-        ("\"memory\":1,\"memory\":[{}]", "/memory/0/name", Want::Present),
+        (
+            "\"memory\":1,\"memory\":[{}]",
+            "/memory/0/name",
+            Want::Present,
+        ),
     ];
     for (keys, place, want) in cases {
         let text = document(alloc, keys)?;
-        assert_eq!(rt; read(alloc, text.as_bytes()).err(), shape(alloc, place, want)?);
+        assert_eq!(rt;
+            read(alloc, text.as_bytes()).err(),
+            shape(alloc, place, want)?
+        );
     }
     Ok(())
 }
 
 // A document with this number of logical CPUs.
 fn read_cpus(alloc: Global, number: &str) -> Result<Result<u64, Refusal>, Fail> {
-    let text = format!(in alloc; "{{\"processor\":{{\"logicalCpus\":{number}}},\"scheduling\":{{}}}}")?;
+    let text = format!(in alloc;
+        "{{\"processor\":{{\"logicalCpus\":{number}}},\"scheduling\":{{}}}}"
+    )?;
     Ok(read(alloc, text.as_bytes()).map(|source| source.processor.logical_cpus))
 }
 

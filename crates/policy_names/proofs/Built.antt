@@ -46,4 +46,3 @@ subject_stands p s ms h memory =
       same = rw (memory.same, ← lacks.component, ← lacks.channels, ← lacks.devices, ← lacks.msrs, ← lacks.sources, ← lacks.targets) refl;
       there = rw memory.there refl;
     }
-

@@ -51,7 +51,12 @@ impl Place for source::CpuFrames {
     ghost is_placed = { λ p c. list_all (λ f. nat_lt f.group (length (outline p).scheduling.groups)) c.minor_frames };
 
     #[tactic(auto, using(crate::proofs::Parts::names))]
-    fn place(&self, alloc: Global, scope: &Scope, by: Name) -> Result<resolved::CpuFrames, Refusal> {
+    fn place(
+        &self,
+        alloc: Global,
+        scope: &Scope,
+        by: Name,
+    ) -> Result<resolved::CpuFrames, Refusal> {
         Ok(resolved::CpuFrames {
             cpu: self.cpu,
             minor_frames: place_all(alloc, scope, by, self.minor_frames.items())?,
@@ -72,7 +77,12 @@ impl Place for source::MajorFrame {
     ghost is_placed = { λ p. major_placed (outline p) };
 
     #[tactic(auto, using(crate::proofs::Parts::lists))]
-    fn place(&self, alloc: Global, scope: &Scope, place: usize) -> Result<resolved::MajorFrame, Refusal> {
+    fn place(
+        &self,
+        alloc: Global,
+        scope: &Scope,
+        place: usize,
+    ) -> Result<resolved::MajorFrame, Refusal> {
         Ok(resolved::MajorFrame {
             cpus: place_all(alloc, scope, major_name(place), self.cpus.items())?,
         })
