@@ -213,7 +213,6 @@ fn regions_become_places(rt: HostRuntime) -> Result<(), Fail> {
     let alloc = rt.alloc();
     let resolved = resolve(alloc, policy(alloc, &LAWFUL)?)?;
     assert_eq!(rt; resolved.subjects().len(), 2);
-<<<<<<< Updated upstream
     assert_eq!(rt; resolved.subjects()[0].name, name("one")?);
     assert_eq!(rt; resolved.subjects()[0].memory, placed_mappings(alloc, 1)?);
     assert_eq!(rt; resolved.subjects()[1].memory, placed_mappings(alloc, 0)?);
@@ -226,31 +225,6 @@ fn members_and_groups_become_places(rt: HostRuntime) -> Result<(), Fail> {
     let resolved = resolve(alloc, policy(alloc, &LAWFUL)?)?;
     let scheduling = placed_scheduling(alloc)?;
     assert_eq!(rt; *resolved.scheduling(), scheduling);
-=======
-    let [first, second] = [&resolved.subjects()[0], &resolved.subjects()[1]];
-    let mapping = |region| resolved::Mapping {
-        region,
-        virtual_address: 8192,
-        rights: Rights::READ,
-    };
-    assert_eq!(rt;
-        (first.name, &first.memory),
-        (name("one")?, &one(alloc, mapping(1))?)
-    );
-    assert_eq!(rt;
-        (second.name, &second.memory),
-        (name("two")?, &one(alloc, mapping(0))?)
-    );
-    let scheduling = resolved::Scheduling {
-        groups: two(
-            alloc,
-            placed_group(alloc, "left", 1)?,
-            placed_group(alloc, "right", 0)?,
-        )?,
-        major_frames: two(alloc, placed_major(alloc, 1)?, placed_major(alloc, 0)?)?,
-    };
-    assert_eq!(rt; resolved.scheduling(), &scheduling);
->>>>>>> Stashed changes
     Ok(())
 }
 
