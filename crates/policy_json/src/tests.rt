@@ -39,55 +39,53 @@ fn one<T>(items: &[T]) -> Result<&T, Fail> {
 }
 
 #[test]
-fn reads_a_policy(rt: HostRuntime) -> Result<(), Fail> {
+fn reads_the_processor_and_memory(rt: HostRuntime) -> Result<(), Fail> {
     let source = policy(rt.alloc(), POLICY)?;
     assert_eq!(rt; source.processor.logical_cpus, 1);
-    assert!(rt; source.devices.is_empty() && source.channels.is_empty());
-    assert!(rt; source.components.is_empty() && source.events.is_empty());
-
     let block = one(source.memory_blocks.items())?;
-    assert_eq!(rt;
-        (block.name.as_str(), block.physical_address, block.size),
-        ("ram", 1048576, 65536)
-    );
-
+    assert_eq!(rt; block.name.as_str(), "ram");
+    assert_eq!(rt; block.physical_address, 1048576);
+    assert_eq!(rt; block.size, 65536);
     let region = one(source.memory.items())?;
-    assert_eq!(rt;
-        (region.name.as_str(), region.size, region.caching),
-        ("code", 4096, Caching::Wb)
-    );
-    assert_eq!(rt; (region.alignment, region.physical_address), (4096, None));
+    assert_eq!(rt; region.name.as_str(), "code");
+    assert_eq!(rt; region.size, 4096);
+    assert_eq!(rt; region.caching, Caching::Wb);
+    assert_eq!(rt; region.alignment, 4096);
+    assert_eq!(rt; region.physical_address, None);
     match &region.content {
         Content::Inline(bytes) => assert_eq!(rt; bytes.items(), [1, 175].as_slice()),
         _ => return Err(Fail::new("no bytes")),
     }
+    Ok(())
+}
 
+#[test]
+fn reads_subjects(rt: HostRuntime) -> Result<(), Fail> {
+    let source = policy(rt.alloc(), POLICY)?;
     let subject = one(source.subjects.items())?;
-    assert_eq!(rt;
-        (subject.name.as_str(), subject.cpu, subject.entry),
-        ("one", 0, 4194304)
-    );
-    assert!(rt; subject.component.is_none() && subject.channels.is_empty());
+    assert_eq!(rt; subject.name.as_str(), "one");
+    assert_eq!(rt; subject.cpu, 0);
+    assert_eq!(rt; subject.entry, 4194304);
     let mapping = one(subject.memory.items())?;
-    let rights = Rights::READ.and(Rights::EXECUTE);
-    assert_eq!(rt;
-        (
-            mapping.region.as_str(),
-            mapping.virtual_address,
-            mapping.rights
-        ),
-        ("code", 4194305, rights)
-    );
+    assert_eq!(rt; mapping.region.as_str(), "code");
+    assert_eq!(rt; mapping.virtual_address, 4194305);
+    assert_eq!(rt; mapping.rights, Rights::READ.and(Rights::EXECUTE));
+    Ok(())
+}
 
+#[test]
+fn reads_the_scheduling_plan(rt: HostRuntime) -> Result<(), Fail> {
+    let source = policy(rt.alloc(), POLICY)?;
     let group = one(source.scheduling.groups.items())?;
-    assert_eq!(rt; (group.name.as_str(), group.cpu), ("g", 2));
+    assert_eq!(rt; group.name.as_str(), "g");
+    assert_eq!(rt; group.cpu, 2);
     assert_eq!(rt; one(group.subjects.items())?.as_str(), "one");
-    let frames = one(one(source.scheduling.major_frames.items())?.cpus.items())?;
+    let major = one(source.scheduling.major_frames.items())?;
+    let frames = one(major.cpus.items())?;
+    assert_eq!(rt; frames.cpu, 3);
     let minor = one(frames.minor_frames.items())?;
-    assert_eq!(rt;
-        (frames.cpu, minor.group.as_str(), minor.ticks),
-        (3, "g", 10)
-    );
+    assert_eq!(rt; minor.group.as_str(), "g");
+    assert_eq!(rt; minor.ticks, 10);
     Ok(())
 }
 
