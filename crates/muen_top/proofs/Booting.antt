@@ -1,8 +1,7 @@
 -- What `boot` answers, as its files are read.
-use Rattle.std.proofs.Common.{◌≡◌, inl, inr, ◌⊎◌, ℕ, ◌≤◌, ◌^◌, List, Option, Some, None, Result, Ok, Err, IfSome, IsErr, refl, sym, ap, subst, ◌∙◌, arith}
+use Rattle.std.proofs.Common.{◌≡◌, inl, inr, ◌⊎◌, ℕ, ◌≤◌, List, Option, Some, None, Result, Ok, Err, IfSome, refl, sym, ap, subst, ◌∙◌, arith}
 use Rattle.std.specs.Prelude.{true, false, if◌then◌else◌}
 use Rattle.std.specs.FinMap.{get}
-use Rattle.muen_num.specs.Answers.{Answers}
 use Rattle.muen_num.specs.declared.limits.TheConstants.{POLICY_MOST, RECORD_MOST}
 use Rattle.muen_outside.specs.Counts.{Rose}
 use Rattle.muen_outside.specs.States.{FilesState, SinkState}
@@ -14,14 +13,13 @@ use Rattle.policy_types.specs.declared.refusal.Refusal.TheVariants.{NoMemory as 
 use Rattle.policy_types.specs.declared.source.Source.{Source}
 use Rattle.subject_model.specs.DeviceRecord.{DeviceRecord}
 use Rattle.subject_model.specs.Run.{trace_of}
-use Rattle.muen_top.specs.Answers.{Answer, prints, stops, usage, missing, too_long, refused, record_refused, of_file, policy_answer, record_answer, run_answer, boot_answer, answer_of}
-use Rattle.muen_top.specs.Calls.{StopsFor, ComesOf, Came, Prints}
+use Rattle.muen_top.specs.Answers.{Answer, prints, stops, missing, too_long, record_refused, of_file, policy_answer, run_answer, boot_answer}
+use Rattle.muen_top.specs.Calls.{ComesOf, Came}
 use Rattle.muen_top.specs.Commands.{Command, boot}
-use Rattle.muen_top.specs.FilesSeen.{Follows, Saw, SawToo, Shown, ShownBoth}
+use Rattle.muen_top.specs.FilesSeen.{Follows, Saw, SawToo, ShownBoth}
 use Rattle.muen_top.specs.Loads.{NotRead, NotReadToo, Ready, NotReady}
 use Rattle.muen_top.specs.RecordText.{record_of}
 use Rattle.muen_top.specs.Refusals.{accepted_policy_of}
-use Rattle.muen_top.specs.Reports.{refusal_status}
 use Rattle.muen_top.specs.Runs.{RunsTo}
 use Rattle.muen_top.specs.Stops.{stop_of_refusal, stop_of_fault}
 use Rattle.muen_top.specs.declared.outcome.Outcome.{Outcome}

@@ -1,5 +1,5 @@
 -- The clauses of a whole call, from what came of its command.
-use Rattle.std.proofs.Common.{◌≡◌, inl, inr, ◌⊎◌, ◌≢◌, ℕ, List, [], Option, Some, None, IfSome, Result, Ok, Err, refl, sym, ap, subst, ◌∙◌, arith}
+use Rattle.std.proofs.Common.{◌≡◌, inl, inr, ◌⊎◌, ◌≢◌, ℕ, List, Option, Some, None, IfSome, Result, Ok, Err, refl, sym, ap, subst, ◌∙◌, arith}
 use Rattle.muen_outside.specs.Counts.{Rose}
 use Rattle.muen_outside.specs.States.{FilesState, SinkState}
 use Rattle.muen_outside.specs.Puts.{Appended, Failed}
@@ -11,8 +11,8 @@ use Rattle.subject_model.specs.DeviceRecord.{DeviceRecord}
 use Rattle.muen_top.specs.RecordText.{record_of}
 use Rattle.muen_top.specs.Refusals.{accepted_policy_of}
 use Rattle.muen_top.specs.declared.record_text.RecordFault.{RecordFault}
-use Rattle.muen_top.specs.Answers.{Reason, usage, missing, too_long, refused, record_refused, Answer, prints, stops, of_file, run_answer, policy_answer, record_answer, boot_answer, answer_of}
-use Rattle.muen_top.specs.Calls.{Prints, StopsFor, ComesOf, Came, Ran, IsFault, Answered, RefusesPolicy, LacksFile, RefusesRecord}
+use Rattle.muen_top.specs.Answers.{Reason, usage, missing, too_long, refused, record_refused, Answer, prints, stops, of_file, run_answer, policy_answer, boot_answer, answer_of}
+use Rattle.muen_top.specs.Calls.{Prints, StopsFor, ComesOf, Ran, IsFault, Answered, RefusesPolicy, LacksFile, RefusesRecord}
 use Rattle.muen_top.specs.Commands.{Command, boot, command_of}
 use Rattle.muen_top.specs.Reports.{refusal_status, reason_status, reason_text, status_of, stop_status, stop_text, Told, Reported, Ends}
 use Rattle.muen_top.specs.declared.outcome.Outcome.{Outcome}

@@ -1,5 +1,5 @@
 -- What a document is refused for, step by step.
-use Rattle.std.proofs.Common.{◌≡◌, inl, inr, ◌⊎◌, ℕ, true, false, cond, List, [], ◌∷◌, length, Option, Some, None, Result, Ok, Err, IfSome, refl, sym, ap, ◌∙◌}
+use Rattle.std.proofs.Common.{◌≡◌, inl, inr, ℕ, true, false, cond, List, [], ◌∷◌, length, Option, Some, None, Result, Ok, Err, IfSome, refl, sym, ap, ◌∙◌}
 use Rattle.std.specs.Prelude.{nat_le}
 use Rattle.std.specs.List.{list_all}
 use Rattle.std.specs.Option.{option_or}
@@ -26,7 +26,7 @@ use Rattle.policy_types.specs.declared.source.Content.TheVariants.{Zero, Fill, I
 use Rattle.policy_types.specs.declared.source.Region.{Region}
 use Rattle.policy_types.specs.declared.source.Source.{Source}
 use Rattle.window_machine.specs.Start.{CanLoad, has_fitting_content}
-use Rattle.muen_top.specs.Refusals.{accepted, accepted_policy_of, content_refused, contents_refused, lawful_alone, lawful_policy_of, refusal_of, too_long_for, unlawful}
+use Rattle.muen_top.specs.Refusals.{accepted, accepted_policy_of, content_refused, contents_refused, lawful_alone, lawful_policy_of, refusal_of, unlawful}
 use Rattle.muen_top.specs.Reports.{refusal_status}
 
 -- ---- one reason after another

@@ -1,5 +1,5 @@
 -- A line that was put has told its text.
-use Rattle.std.proofs.Common.{◌≡◌, ◌⊎◌, inl, inr, ℕ, List, Result, Ok, Err, subst}
+use Rattle.std.proofs.Common.{◌≡◌, inl, inr, ℕ, List, Result, Ok, Err, subst}
 use Rattle.muen_outside.specs.States.{SinkState}
 use Rattle.muen_outside.specs.Puts.{Appended, Failed, Puts}
 use Rattle.muen_top.specs.Reports.{Told, line_of}

@@ -6,7 +6,7 @@ use Rattle.muen_outside.specs.Puts.{Appended, Failed}
 use Rattle.muen_outside.specs.Store.{Store}
 use Rattle.muen_top.specs.Answers.{usage, missing, too_long, refused, record_refused, Answer, prints, stops, answer_of}
 use Rattle.muen_top.specs.Commands.{Command, command_of}
-use Rattle.muen_top.specs.Reports.{reason_text, refusal_status, status_of, Told, Reported, Ends}
+use Rattle.muen_top.specs.Reports.{reason_text, refusal_status, status_of, Told, Reported}
 use Rattle.muen_top.specs.declared.outcome.Outcome.{Outcome}
 use Rattle.muen_top.specs.declared.outcome.Outcome.TheVariants.{Done, Stopped, OutputFault}
 use Rattle.muen_top.specs.declared.outcome.Stop.{Stop}

@@ -1,14 +1,12 @@
 -- What reading a command's files comes to.
-use Rattle.std.specs.Prelude.{◌≡◌, ℕ, List, Ok, IfSome}
-use Rattle.muen_num.specs.declared.limits.TheConstants.{POLICY_MOST, RECORD_MOST}
+use Rattle.std.specs.Prelude.{◌≡◌, ℕ, List, IfSome}
 use Rattle.muen_outside.specs.Counts.{Rose}
 use Rattle.muen_outside.specs.States.{FilesState}
 use Rattle.muen_outside.specs.Store.{Store, absent, long}
-use Rattle.policy_meaning.specs.Contents.{Held}
 use Rattle.policy_types.specs.declared.source.Source.{Source}
 use Rattle.subject_model.specs.DeviceRecord.{DeviceRecord}
 use Rattle.subject_model.specs.Run.{trace_of}
-use Rattle.muen_top.specs.Answers.{Answer, prints, boot_answer}
+use Rattle.muen_top.specs.Answers.{prints, boot_answer}
 use Rattle.muen_top.specs.Calls.{StopsFor}
 use Rattle.muen_top.specs.FilesSeen.{Saw, SawToo}
 use Rattle.muen_top.specs.declared.outcome.Stop.{Stop}

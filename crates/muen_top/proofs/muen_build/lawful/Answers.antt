@@ -4,8 +4,17 @@ use Rattle.muen_num.specs.Answers.{Answers}
 use Rattle.policy_lawful.specs.Lawful.{kept_source}
 use Rattle.policy_lawful.specs.Resolution.{source_of}
 use Rattle.policy_types.specs.declared.refusal.Refusal.TheVariants.{NoMemory}
-use Rattle.muen_top.proofs.Refusing.{not_read, not_resolved, rules_decide}
+use Rattle.policy_json.proofs.ReadBuilt.{policy_built}
+use Rattle.muen_top.proofs.Refusing.{not_read, not_resolved, resolved_built, rules_decide}
 use Rattle.muen_top.proofs.muen_build.lawful.Goals as goal
+
+-- what is read is built
+pub resolve-requires : goal.resolve-requires
+resolve-requires c = policy_built c.args.policy.now c.in_ok-source.source c.in_ok-source.ensures
+
+pub check-requires : goal.check-requires
+check-requires c =
+    resolved_built c.args.policy.now c.in_ok-source.source (source_of c.in_ok-resolved.resolved) c.in_ok-source.ensures c.in_ok-resolved.ensures
 
 -- it isn't read
 pub returns-in_err-source : goal.returns-in_err-source
