@@ -67,8 +67,11 @@ pub rules_decide : (bytes : List ℕ) (p q : Source) → policy_of bytes ≡ Ok 
 unfolding lawful_policy_of
 rules_decide bytes p q read kept = ap lawful_alone read ∙ second_decides p q (names_broken p) rules_broken kept
 
+pub kept_built : (p q : Source) → is_built p ≡ true → kept_or p (names_broken p) ≡ Ok q → is_built q ≡ true
+kept_built p q built kept = ap is_built (sym (kept_is p q (names_broken p) kept).1) ∙ built
+
 pub resolved_built : (bytes : List ℕ) (p q : Source) → policy_of bytes ≡ Ok p → kept_or p (names_broken p) ≡ Ok q → is_built q ≡ true
-resolved_built bytes p q read kept = ap is_built (sym (kept_is p q (names_broken p) kept).1) ∙ policy_built bytes p read
+resolved_built bytes p q read kept = kept_built p q (policy_built bytes p read) kept
 
 -- ---- the contents
 

@@ -69,7 +69,6 @@ fn answer_to(alloc: Global, text: &[u8]) -> Answer {
 }
 
 // The same policy on two CPUs, of which a document isn't read yet.
-#[tactic(auto, unfolding(policy_types::specs::Built::is_built))]
 fn answer_on_two(alloc: Global, text: &[u8]) -> Answer {
     let mut source: Source = match policy_json::read(alloc, text) {
         Ok(source) => source,

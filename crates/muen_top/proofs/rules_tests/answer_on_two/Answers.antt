@@ -1,0 +1,15 @@
+use Rattle.policy_json.proofs.ReadBuilt.{policy_built}
+use Rattle.policy_lawful.specs.Resolution.{source_of}
+use Rattle.policy_types.specs.Built.{is_built}
+use Rattle.muen_top.proofs.Refusing.{kept_built}
+use Rattle.muen_top.proofs.rules_tests.answer_on_two.Goals as goal
+
+-- what is built doesn't look at the number of CPUs
+pub resolve-requires : goal.resolve-requires
+unfolding is_built
+resolve-requires c = policy_built c.args.text.now c.in-Ok.source c.in-Ok.ensures
+
+pub check-requires : goal.check-requires
+unfolding is_built
+check-requires c =
+    kept_built _ (source_of c.in-Ok-resolve.resolved) (policy_built c.args.text.now c.in-Ok.source c.in-Ok.ensures) c.in-Ok-resolve.ensures
