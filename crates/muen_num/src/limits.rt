@@ -117,6 +117,11 @@ pub const IMAGE_MOST: usize = 96 << 20;
 /// The longest record of a run's devices, 16 MiB.
 pub const RECORD_MOST: usize = 16 << 20;
 
+// ---- output, in bytes (this project's profile)
+
+/// The most bytes of a run's text that wait before they go on to the output, 64 KiB.
+pub const OUTPUT_BLOCK: usize = 64 << 10;
+
 // ---- basic exit reasons (Intel SDM volume 3, appendix on basic exit reasons)
 
 /// An exception or a non-maskable interrupt.

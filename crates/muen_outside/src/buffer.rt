@@ -4,11 +4,9 @@ ghost use Rattle.muen_outside.specs.Buffered.{Gives, Flushed, behind};
 
 use crate::sink::{Sink, SinkFault};
 use muen_num::NoMemory;
+use muen_num::limits::OUTPUT_BLOCK;
 use std::alloc::Global;
 use std::marker::Model;
-
-/// The most bytes that wait.
-const ROOM: usize = 65536;
 
 /// Bytes that wait for a sink, so that many short texts reach it in few puts. Contracts see the
 /// bytes. The sink is lent to each call, and is to be the same one until the buffer is flushed.
@@ -19,12 +17,13 @@ pub struct Buffer {
 
 impl Model for Buffer {
     ghost use Rattle.std.specs.Prelude.{◌≤◌, ℕ, List, vec_len, vec_capacity};
+    ghost use Rattle.muen_num.specs.declared.limits.TheConstants.{OUTPUT_BLOCK};
 
     ghost Value = { List ℕ };
 
     ghost view = { λ b. b.text.items };
 
-    ghost invariant = { λ b. (65536 ≤ vec_capacity b.text) × (vec_len b.text ≤ 65536) };
+    ghost invariant = { λ b. (OUTPUT_BLOCK ≤ vec_capacity b.text) × (vec_len b.text ≤ OUTPUT_BLOCK) };
 }
 
 impl Buffer {
@@ -32,7 +31,7 @@ impl Buffer {
     pub fn make(alloc: Global) -> Result<Buffer, NoMemory>
         ensures { IfOk result (λ b. b ≡ []) }
     {
-        let text = Vec::with_capacity(alloc, ROOM)?;
+        let text = Vec::with_capacity(alloc, OUTPUT_BLOCK)?;
         Ok(Buffer { text })
     }
 
@@ -43,12 +42,12 @@ impl Buffer {
     pub fn put<S: Sink>(&mut self, bytes: &[u8], out: &mut S) -> Result<(), SinkFault>
         ensures { Gives bytes.now (behind (S.state out.old) self.old) (behind (S.state out.new) self.new) result }
     {
-        if bytes.len() <= ROOM - self.text.len() {
+        if bytes.len() <= OUTPUT_BLOCK - self.text.len() {
             let _ = self.text.extend_from_slice(bytes);
             return Ok(());
         }
         hand_on(&mut self.text, out)?;
-        if bytes.len() <= ROOM {
+        if bytes.len() <= OUTPUT_BLOCK {
             let _ = self.text.extend_from_slice(bytes);
             return Ok(());
         }

@@ -99,14 +99,14 @@ module _ (err err' : SinkState) where
   policy_reason usage is told = absurd (omega arith)
   policy_reason (missing name) is told = absurd (omega arith)
   policy_reason (too_long name n) is told = absurd (omega arith)
-  policy_reason (refused refusal) is told = told
+  policy_reason (refused refusal) is told = (is, told)
   policy_reason (record_refused fault) is told = absurd (omega arith)
 
   file_reason : (reason : Reason) → reason_status reason ≡ 3 → Told (reason_text reason) err err' → LacksFile err err' (stops reason)
   file_reason usage is told = absurd (omega arith)
   file_reason (missing name) is told = told
   file_reason (too_long name n) is told = told
-  file_reason (refused refusal) is told = told
+  file_reason (refused refusal) is told = (is, told)
   file_reason (record_refused fault) is told = absurd (omega arith)
 
   record_reason : (reason : Reason) → reason_status reason ≡ 6 → Told (reason_text reason) err err' → RefusesRecord err err' (stops reason)

@@ -61,15 +61,16 @@ pub record Answered (words : List (List ℕ)) (held : Option Store) (Such : Answ
   pub told : IfSome held (λ m. files ≡ m)
   pub such : Such (answer_of files (command_of words))
 
--- of the answers that print nothing, those on a policy, on a missing or too long file, and on a record
+-- of the answers that print nothing, those on a policy, on a missing or too long file, and on a record. A refusal of the
+-- policy may be for a file that it names: which of the two it is, its status says
 abbrev pub RefusesPolicy : SinkState → SinkState → Answer → Type 0
-RefusesPolicy err err' (stops (refused refusal)) = Told (reason_text (refused refusal)) err err'
+RefusesPolicy err err' (stops (refused refusal)) = (refusal_status refusal ≡ 2) × Told (reason_text (refused refusal)) err err'
 RefusesPolicy err err' _ = ⊥
 
 abbrev pub LacksFile : SinkState → SinkState → Answer → Type 0
 LacksFile err err' (stops (missing name)) = Told (reason_text (missing name)) err err'
 LacksFile err err' (stops (too_long name n)) = Told (reason_text (too_long name n)) err err'
-LacksFile err err' (stops (refused refusal)) = Told (reason_text (refused refusal)) err err'
+LacksFile err err' (stops (refused refusal)) = (refusal_status refusal ≡ 3) × Told (reason_text (refused refusal)) err err'
 LacksFile err err' _ = ⊥
 
 abbrev pub RefusesRecord : SinkState → SinkState → Answer → Type 0

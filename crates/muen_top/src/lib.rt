@@ -77,12 +77,3 @@ pub fn muen<F: Files, S: Sink, E: Sink>(
 {
     call::call(alloc, words, files, out, err)
 }
-
-#[cfg(test)]
-mod instruction_tests;
-#[cfg(test)]
-mod rules_tests;
-#[cfg(test)]
-mod system_tests;
-#[cfg(test)]
-mod tests;

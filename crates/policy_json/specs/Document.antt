@@ -7,6 +7,7 @@ use Rattle.std.specs.Str.{is_utf8}
 use Rattle.serde_json.specs.Data.{Data}
 use Rattle.serde_json.specs.Find.{get}
 use Rattle.serde_json.specs.Read.{read}
+use Rattle.muen_num.specs.declared.limits.TheConstants.{PAGE}
 use Rattle.policy_types.specs.Built.{is_built_number}
 use Rattle.policy_json.specs.Objects.{◌>>=◌, Object, object, read_object, made, tested, required, optional, if_present, list, unbuilt}
 use Rattle.policy_json.specs.Values.{and_then, fault, read_number, read_byte, read_name, read_rights, read_caching, read_hexadecimal}
@@ -79,7 +80,7 @@ region = object do
     name = (← required (codes "name") read_name);
     size = (← required (codes "size") read_number);
     caching = (← optional (codes "caching") Wb read_caching);
-    alignment = (← unbuilt (codes "alignment") 4096);
+    alignment = (← unbuilt (codes "alignment") PAGE);
     physical_address = (← unbuilt (codes "physicalAddress") None);
     content = (← optional (codes "content") Zero (read_object content));
   })

@@ -7,6 +7,7 @@ ghost use Rattle.policy_json.specs.Reading.{ended};
 use crate::fault::ReadEnd;
 use crate::object::{Object, if_present, optional, required, unbuilt};
 use crate::values::Hexadecimal;
+use muen_num::limits::PAGE;
 use policy_types::source::{Block, Content, Region};
 use policy_types::{Caching, Want};
 use serde_json::Value;
@@ -118,7 +119,7 @@ impl Object for Region {
             name: required(alloc, value, "name")?,
             size: required(alloc, value, "size")?,
             caching: optional(alloc, value, "caching", Caching::Wb)?,
-            alignment: unbuilt(alloc, value, "alignment", 4096)?,
+            alignment: unbuilt(alloc, value, "alignment", PAGE)?,
             physical_address: unbuilt(alloc, value, "physicalAddress", None)?,
             content: optional(alloc, value, "content", Content::Zero)?,
         })

@@ -7,6 +7,7 @@ ghost use Rattle.policy_json.specs.Reading.{ended};
 use crate::fault::ReadEnd;
 use crate::object::{Object, list, required, unbuilt_list};
 use crate::shape::Shape;
+use muen_num::limits::MOST_CPUS;
 use policy_types::source::Processor;
 use policy_types::{Source, Want};
 use serde_json::Value;
@@ -35,7 +36,10 @@ impl Shape for LogicalCpus {
         ensures { result ≡ ended (read_cpus (view value.now)) }
     {
         match <u64 as Shape>::read(alloc, value) {
-            Ok(count) if 2 <= count && count <= 8 => Err(ReadEnd::here(alloc, Want::NotYetBuilt)),
+            Ok(count) if 2 <= count && count <= MOST_CPUS => Err(ReadEnd::here(
+                alloc,
+                Want::NotYetBuilt,
+            )),
             Ok(count) => Ok(LogicalCpus { count }),
             Err(end) => Err(end),
         }

@@ -1,12 +1,9 @@
 //! Documents, with what is read of them, or the first place that breaks the schema.
 use crate::read;
 use policy_types::source::Content;
-use policy_types::{Caching, Place, Refusal, Rights, Source, Want};
+use policy_types::{Caching, Place, Refusal, Source, Want};
 use std::alloc::Global;
 use std::test::Fail;
-
-const POLICY: &str =
-    "{\"processor\":{\"logicalCpus\":1},\"memoryBlocks\":[{\"name\":\"ram\",\"physicalAddress\":1048576,\"size\":65536}],\"memory\":[{\"name\":\"code\",\"size\":4096,\"content\":{\"hex\":\"01aF\"}}],\"subjects\":[{\"name\":\"one\",\"cpu\":0,\"entry\":4194304,\"memory\":[{\"region\":\"code\",\"virtualAddress\":4194305,\"rights\":\"rx\"}]}],\"scheduling\":{\"groups\":[{\"name\":\"g\",\"cpu\":2,\"subjects\":[\"one\"]}],\"majorFrames\":[{\"cpus\":[{\"cpu\":3,\"minorFrames\":[{\"group\":\"g\",\"ticks\":10}]}]}]}}";
 
 // A document that must be read.
 fn policy(alloc: Global, text: &str) -> Result<Source, Fail> {
@@ -28,65 +25,6 @@ fn document(alloc: Global, keys: &str) -> Result<String, Fail> {
 fn shape(alloc: Global, place: &str, want: Want) -> Result<Option<Refusal>, Fail> {
     let place = Place::of(String::from_str(alloc, place)?);
     Ok(Some(Refusal::Shape { place, want }))
-}
-
-// The one item of a list.
-fn one<T>(items: &[T]) -> Result<&T, Fail> {
-    match items {
-        [item] => Ok(item),
-        _ => Err(Fail::new("not one item")),
-    }
-}
-
-#[test]
-fn reads_the_processor_and_memory(rt: HostRuntime) -> Result<(), Fail> {
-    let source = policy(rt.alloc(), POLICY)?;
-    assert_eq!(rt; source.processor.logical_cpus, 1);
-    let block = one(source.memory_blocks.items())?;
-    assert_eq!(rt; block.name.as_str(), "ram");
-    assert_eq!(rt; block.physical_address, 1048576);
-    assert_eq!(rt; block.size, 65536);
-    let region = one(source.memory.items())?;
-    assert_eq!(rt; region.name.as_str(), "code");
-    assert_eq!(rt; region.size, 4096);
-    assert_eq!(rt; region.caching, Caching::Wb);
-    assert_eq!(rt; region.alignment, 4096);
-    assert_eq!(rt; region.physical_address, None);
-    match &region.content {
-        Content::Inline(bytes) => assert_eq!(rt; bytes.items(), [1, 175].as_slice()),
-        _ => return Err(Fail::new("no bytes")),
-    }
-    Ok(())
-}
-
-#[test]
-fn reads_subjects(rt: HostRuntime) -> Result<(), Fail> {
-    let source = policy(rt.alloc(), POLICY)?;
-    let subject = one(source.subjects.items())?;
-    assert_eq!(rt; subject.name.as_str(), "one");
-    assert_eq!(rt; subject.cpu, 0);
-    assert_eq!(rt; subject.entry, 4194304);
-    let mapping = one(subject.memory.items())?;
-    assert_eq!(rt; mapping.region.as_str(), "code");
-    assert_eq!(rt; mapping.virtual_address, 4194305);
-    assert_eq!(rt; mapping.rights, Rights::READ.and(Rights::EXECUTE));
-    Ok(())
-}
-
-#[test]
-fn reads_the_scheduling_plan(rt: HostRuntime) -> Result<(), Fail> {
-    let source = policy(rt.alloc(), POLICY)?;
-    let group = one(source.scheduling.groups.items())?;
-    assert_eq!(rt; group.name.as_str(), "g");
-    assert_eq!(rt; group.cpu, 2);
-    assert_eq!(rt; one(group.subjects.items())?.as_str(), "one");
-    let major = one(source.scheduling.major_frames.items())?;
-    let frames = one(major.cpus.items())?;
-    assert_eq!(rt; frames.cpu, 3);
-    let minor = one(frames.minor_frames.items())?;
-    assert_eq!(rt; minor.group.as_str(), "g");
-    assert_eq!(rt; minor.ticks, 10);
-    Ok(())
 }
 
 #[test]

@@ -54,9 +54,9 @@ fn rights_of(text: &str) -> Option<Rights>
 {
     match text {
         "r" => Some(Rights::READ),
-        "rw" => Some(Rights::READ.and(Rights::WRITE)),
-        "rx" => Some(Rights::READ.and(Rights::EXECUTE)),
-        "rwx" => Some(Rights::READ.and(Rights::WRITE).and(Rights::EXECUTE)),
+        "rw" => Some(Rights::READ.union(Rights::WRITE)),
+        "rx" => Some(Rights::READ.union(Rights::EXECUTE)),
+        "rwx" => Some(Rights::READ.union(Rights::WRITE).union(Rights::EXECUTE)),
         _ => None,
     }
 }

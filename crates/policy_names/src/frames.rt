@@ -9,7 +9,7 @@ ghost use Rattle.policy_lawful.specs.Rules.{frame_references, refers, undeclared
 ghost use Rattle.policy_names.specs.Outline.{outline};
 ghost use Rattle.policy_names.specs.Places.{StandsFor};
 
-use crate::place::{Place, place_all};
+use crate::refers::{Refers, resolve_all};
 use crate::scope::Scope;
 use muen_num::{Name, Seq};
 use policy_lawful::frame_names::major_name;
@@ -18,7 +18,7 @@ use policy_types::{Refusal, source};
 use std::alloc::Global;
 
 /// A minor frame of the major frame that has this name.
-impl Place for source::MinorFrame {
+impl Refers for source::MinorFrame {
     type By = Name;
 
     type Placed = resolved::MinorFrame;
@@ -30,7 +30,7 @@ impl Place for source::MinorFrame {
     ghost is_placed = { λ p f. nat_lt f.group (length (outline p).scheduling.groups) };
 
     #[tactic(auto, using(crate::proofs::Parts::name))]
-    fn place(&self, _: Global, scope: &Scope, by: Name) -> Result<resolved::MinorFrame, Refusal> {
+    fn resolve(&self, _: Global, scope: &Scope, by: Name) -> Result<resolved::MinorFrame, Refusal> {
         Ok(resolved::MinorFrame {
             group: scope.groups.place(by, self.group)?,
             ticks: self.ticks,
@@ -39,7 +39,7 @@ impl Place for source::MinorFrame {
 }
 
 /// The minor frames of a CPU in the major frame that has this name.
-impl Place for source::CpuFrames {
+impl Refers for source::CpuFrames {
     type By = Name;
 
     type Placed = resolved::CpuFrames;
@@ -51,7 +51,7 @@ impl Place for source::CpuFrames {
     ghost is_placed = { λ p c. list_all (λ f. nat_lt f.group (length (outline p).scheduling.groups)) c.minor_frames };
 
     #[tactic(auto, using(crate::proofs::Parts::names))]
-    fn place(
+    fn resolve(
         &self,
         alloc: Global,
         scope: &Scope,
@@ -59,13 +59,13 @@ impl Place for source::CpuFrames {
     ) -> Result<resolved::CpuFrames, Refusal> {
         Ok(resolved::CpuFrames {
             cpu: self.cpu,
-            minor_frames: place_all(alloc, scope, by, self.minor_frames.items())?,
+            minor_frames: resolve_all(alloc, scope, by, self.minor_frames.items())?,
         })
     }
 }
 
 /// The major frame at this place.
-impl Place for source::MajorFrame {
+impl Refers for source::MajorFrame {
     type By = usize;
 
     type Placed = resolved::MajorFrame;
@@ -77,14 +77,14 @@ impl Place for source::MajorFrame {
     ghost is_placed = { λ p. major_placed (outline p) };
 
     #[tactic(auto, using(crate::proofs::Parts::lists))]
-    fn place(
+    fn resolve(
         &self,
         alloc: Global,
         scope: &Scope,
         place: usize,
     ) -> Result<resolved::MajorFrame, Refusal> {
         Ok(resolved::MajorFrame {
-            cpus: place_all(alloc, scope, major_name(place), self.cpus.items())?,
+            cpus: resolve_all(alloc, scope, major_name(place), self.cpus.items())?,
         })
     }
 }
@@ -94,7 +94,7 @@ impl Place for source::MajorFrame {
 /// Answers the refusal of the first group that isn't declared, and `NoMemory` where memory was
 /// refused.
 #[tactic(auto, using(crate::proofs::Refusals::explains_at_place))]
-pub fn place_majors(
+pub fn resolve_majors(
     alloc: Global,
     scope: &Scope,
     majors: &[source::MajorFrame],
@@ -103,7 +103,7 @@ pub fn place_majors(
 {
     let mut placed = Seq::new(alloc);
     for (place, major) in majors.iter().enumerate() {
-        placed.push(major.place(alloc, scope, place)?)?;
+        placed.push(major.resolve(alloc, scope, place)?)?;
     }
     Ok(placed)
 }

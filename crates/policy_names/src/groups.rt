@@ -5,14 +5,14 @@ ghost use Rattle.policy_lawful.specs.Resolution.{group_named, group_placed, name
 ghost use Rattle.policy_lawful.specs.Rules.{group_references, refers, undeclared};
 ghost use Rattle.policy_names.specs.Outline.{outline};
 
-use crate::place::{Place, place_all};
+use crate::refers::{Refers, resolve_all};
 use crate::scope::Scope;
 use muen_num::Name;
 use policy_lawful::resolved;
 use policy_types::{Refusal, source};
 use std::alloc::Global;
 
-impl Place for source::Group {
+impl Refers for source::Group {
     type By = ();
 
     type Placed = resolved::Group;
@@ -24,17 +24,17 @@ impl Place for source::Group {
     ghost is_placed = { λ p. group_placed (outline p) };
 
     #[tactic(auto, using(crate::proofs::Parts::names))]
-    fn place(&self, alloc: Global, scope: &Scope, _: ()) -> Result<resolved::Group, Refusal> {
+    fn resolve(&self, alloc: Global, scope: &Scope, _: ()) -> Result<resolved::Group, Refusal> {
         Ok(resolved::Group {
             name: self.name,
             cpu: self.cpu,
-            subjects: place_all(alloc, scope, self.name, self.subjects.items())?,
+            subjects: resolve_all(alloc, scope, self.name, self.subjects.items())?,
         })
     }
 }
 
 /// A member of the group that has this name.
-impl Place for Name {
+impl Refers for Name {
     type By = Name;
 
     type Placed = usize;
@@ -46,7 +46,7 @@ impl Place for Name {
     ghost is_placed = { λ p place. nat_lt place (length (outline p).subjects) };
 
     #[tactic(auto, using(crate::proofs::Parts::name))]
-    fn place(&self, _: Global, scope: &Scope, by: Name) -> Result<usize, Refusal> {
+    fn resolve(&self, _: Global, scope: &Scope, by: Name) -> Result<usize, Refusal> {
         scope.subjects.place(by, *self)
     }
 }

@@ -18,12 +18,12 @@ mod frames;
 mod groups;
 mod index;
 mod named;
-mod place;
+mod refers;
 mod scope;
 mod subjects;
 
-use crate::frames::place_majors;
-use crate::place::place_all;
+use crate::frames::resolve_majors;
+use crate::refers::resolve_all;
 use crate::scope::Scope;
 use muen_num::Seq;
 use policy_lawful::Resolved;
@@ -38,9 +38,9 @@ fn find_places(alloc: Global, scope: &Scope) -> Result<(Seq<Subject>, Scheduling
     ensures { let p = scope.now.source.now in Keeps (broken 2 (offence_2 p)) (λ x. StandsFor source_of are_placed p (with_places p x.0 x.1)) result }
 {
     let source = scope.source;
-    let subjects = place_all(alloc, scope, (), source.subjects.items())?;
-    let groups = place_all(alloc, scope, (), source.scheduling.groups.items())?;
-    let major_frames = place_majors(alloc, scope, source.scheduling.major_frames.items())?;
+    let subjects = resolve_all(alloc, scope, (), source.subjects.items())?;
+    let groups = resolve_all(alloc, scope, (), source.scheduling.groups.items())?;
+    let major_frames = resolve_majors(alloc, scope, source.scheduling.major_frames.items())?;
     Ok((
         subjects,
         Scheduling {
@@ -85,6 +85,3 @@ pub fn resolve(alloc: Global, source: Source) -> Result<Resolved, Refusal>
         scheduling,
     ))
 }
-
-#[cfg(test)]
-mod tests;

@@ -6,14 +6,14 @@ ghost use Rattle.policy_lawful.specs.Rules.{refers, subject_references, undeclar
 ghost use Rattle.policy_names.specs.Outline.{outline};
 ghost use Rattle.policy_types.specs.Built.{is_plain};
 
-use crate::place::{Place, place_all};
+use crate::refers::{Refers, resolve_all};
 use crate::scope::Scope;
 use muen_num::{Name, Seq};
 use policy_lawful::resolved;
 use policy_types::{Refusal, source};
 use std::alloc::Global;
 
-impl Place for source::Subject {
+impl Refers for source::Subject {
     type By = ();
 
     type Placed = resolved::Subject;
@@ -27,13 +27,13 @@ impl Place for source::Subject {
     ghost is_built = { is_plain };
 
     #[tactic(auto, using(crate::proofs::Parts::mappings))]
-    fn place(&self, alloc: Global, scope: &Scope, _: ()) -> Result<resolved::Subject, Refusal> {
+    fn resolve(&self, alloc: Global, scope: &Scope, _: ()) -> Result<resolved::Subject, Refusal> {
         Ok(resolved::Subject {
             name: self.name,
             cpu: self.cpu,
             entry: self.entry,
             component: None,
-            memory: place_all(alloc, scope, self.name, self.memory.items())?,
+            memory: resolve_all(alloc, scope, self.name, self.memory.items())?,
             channels: Seq::new(alloc),
             devices: Seq::new(alloc),
             msrs: Seq::new(alloc),
@@ -44,7 +44,7 @@ impl Place for source::Subject {
 }
 
 /// A mapping of the subject that has this name.
-impl Place for source::Mapping {
+impl Refers for source::Mapping {
     type By = Name;
 
     type Placed = resolved::Mapping;
@@ -56,7 +56,7 @@ impl Place for source::Mapping {
     ghost is_placed = { λ p m. nat_lt m.region (length p.memory) };
 
     #[tactic(auto, using(crate::proofs::Parts::name))]
-    fn place(&self, _: Global, scope: &Scope, by: Name) -> Result<resolved::Mapping, Refusal> {
+    fn resolve(&self, _: Global, scope: &Scope, by: Name) -> Result<resolved::Mapping, Refusal> {
         Ok(resolved::Mapping {
             region: scope.regions.place(by, self.region)?,
             virtual_address: self.virtual_address,

@@ -14,6 +14,3 @@ mod windows;
 mod writers;
 
 pub use rules::check;
-
-#[cfg(test)]
-mod tests;

@@ -1,6 +1,7 @@
 -- The parts of a policy that this project builds so far.
 use Rattle.std.specs.Prelude.{ℕ, ◌&&◌, not, Bool, true, false, List, [], ◌∷◌, is_some, nat_le}
 use Rattle.std.specs.List.{list_all}
+use Rattle.muen_num.specs.declared.limits.TheConstants.{MOST_CPUS}
 use Rattle.policy_types.specs.declared.source.Source.{Source}
 use Rattle.policy_types.specs.declared.source.Region.{Region}
 use Rattle.policy_types.specs.declared.source.Content.{Content}
@@ -37,7 +38,7 @@ is_built p =
 
 -- several logical CPUs aren't built; no CPU, and more than there may be, are for the rule on CPUs
 abbrev pub is_built_number : ℕ → Bool
-is_built_number cpus = not (nat_le 2 cpus && nat_le cpus 8)
+is_built_number cpus = not (nat_le 2 cpus && nat_le cpus MOST_CPUS)
 
 unfoldable pub has_built_cpus : Source → Bool
 has_built_cpus p = is_built_number p.processor.logical_cpus

@@ -54,10 +54,10 @@ impl Rights {
 
     /// The rights of both sets.
     #[tactic(auto, unfolding(crate::specs::Rights::union))]
-    pub fn and(self, other: Rights) -> Rights
+    pub fn union(self, other: Rights) -> Rights
         ensures { result ≡ union self other }
     {
-        self.union(other)
+        Flags::union(self, other)
     }
 
     /// The right that a kind of access needs.

@@ -12,7 +12,7 @@ use policy_types::Refusal;
 use std::alloc::Global;
 
 /// An element that refers to declared names.
-pub trait Place: Drop {
+pub trait Refers: Drop {
     ghost use Rattle.std.specs.Prelude.{Bool, true, Option};
     ghost use Rattle.policy_lawful.specs.declared.offence.Offence.{Offence};
     ghost use Rattle.policy_types.specs.declared.source.Source.{Source};
@@ -37,7 +37,7 @@ pub trait Place: Drop {
 
     /// Finds the places. Answers the refusal of the first name that isn't declared, and `NoMemory`
     /// where memory was refused.
-    fn place(&self, alloc: Global, scope: &Scope, by: Self::By) -> Result<Self::Placed, Refusal>
+    fn resolve(&self, alloc: Global, scope: &Scope, by: Self::By) -> Result<Self::Placed, Refusal>
         requires { is_built self.now ≡ true }
         ensures { let p = scope.now.source.now in Keeps (broken 2 (offence p by self.now)) (StandsFor (named p) (is_placed p) self.now) result };
 }
@@ -47,7 +47,7 @@ pub trait Place: Drop {
 /// Answers the refusal of the first name that isn't declared, and `NoMemory` where memory was
 /// refused.
 #[tactic(auto, using(crate::proofs::Refusals::explains_at))]
-pub fn place_all<T: Place>(
+pub fn resolve_all<T: Refers>(
     alloc: Global,
     scope: &Scope,
     by: T::By,
@@ -58,7 +58,7 @@ pub fn place_all<T: Place>(
 {
     let mut placed = Seq::new(alloc);
     for item in items {
-        placed.push(item.place(alloc, scope, by)?)?;
+        placed.push(item.resolve(alloc, scope, by)?)?;
     }
     Ok(placed)
 }

@@ -6,7 +6,7 @@ use Rattle.policy_lawful.specs.Resolution.{major_named, major_placed}
 use Rattle.policy_lawful.specs.Rules.{frame_references, undeclared}
 use Rattle.policy_types.specs.declared.source.MajorFrame.{MajorFrame}
 use Rattle.policy_names.specs.Outline.{outline}
-use Rattle.policy_names.proofs.frames.place_majors.Given as goal
+use Rattle.policy_names.proofs.frames.resolve_majors.Given as goal
 
 abbrev pub invariant-loop-place : goal.invariant-loop-place
 invariant-loop-place l =

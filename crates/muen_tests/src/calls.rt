@@ -1,6 +1,6 @@
 //! Whole calls over files and sinks in memory.
-use crate::muen;
 use muen_outside::{MemFiles, MemSink};
+use muen_top::muen;
 use std::alloc::Global;
 use std::test::Fail;
 

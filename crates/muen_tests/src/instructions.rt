@@ -1,7 +1,7 @@
 //! Whole calls of `boot` on single instructions, over files and sinks in memory. The expected lines
 //! were worked out by hand.
-use crate::muen;
 use muen_outside::{MemFiles, MemSink};
+use muen_top::muen;
 use std::alloc::Global;
 use std::test::Fail;
 

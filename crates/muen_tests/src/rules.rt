@@ -1,8 +1,8 @@
 //! The rules that a policy must keep, over whole documents. Each row changes a lawful policy in some
 //! places; the answers were worked out by hand.
-use crate::muen_build::lawful;
 use muen_num::Name;
 use muen_num::text::append_decimal32;
+use muen_top::muen_build::lawful;
 use policy_types::{Refusal, Source};
 use std::alloc::Global;
 use std::test::Fail;

@@ -1,0 +1,11 @@
+//! Whole calls of `muen` on files and sinks in memory, against lines that were worked out by hand.
+#![tactic(auto)]
+
+#[cfg(test)]
+mod calls;
+#[cfg(test)]
+mod instructions;
+#[cfg(test)]
+mod rules;
+#[cfg(test)]
+mod systems;
