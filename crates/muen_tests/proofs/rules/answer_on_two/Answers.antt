@@ -2,7 +2,7 @@ use Rattle.policy_json.proofs.ReadBuilt.{policy_built}
 use Rattle.policy_lawful.specs.Resolution.{source_of}
 use Rattle.policy_types.specs.Built.{is_built}
 use Rattle.muen_top.proofs.Refusing.{kept_built}
-use Rattle.muen_top.proofs.rules_tests.answer_on_two.Goals as goal
+use Rattle.muen_tests.proofs.rules.answer_on_two.Goals as goal
 
 -- what is built doesn't look at the number of CPUs
 pub resolve-requires : goal.resolve-requires
