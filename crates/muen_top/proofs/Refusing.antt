@@ -1,6 +1,6 @@
 -- What a document is refused for, step by step.
 use Rattle.std.proofs.Common.{◌≡◌, inl, inr, ℕ, true, false, cond, List, [], ◌∷◌, length, Option, Some, None, Result, Ok, Err, IfSome, refl, sym, ap, ◌∙◌}
-use Rattle.std.specs.Prelude.{nat_le}
+use Rattle.std.specs.Prelude.{nat_le, option_map}
 use Rattle.std.specs.List.{list_all}
 use Rattle.std.specs.Option.{option_or}
 use Rattle.std.proofs.lemmas.Bool.{and_from, and_parts}
@@ -10,7 +10,6 @@ use Rattle.muen_num.specs.Search.{first_in, first_of}
 use Rattle.muen_num.specs.declared.tag.Part.TheVariants.{Whole}
 use Rattle.muen_num.proofs.SearchLaws.{none_both, option_or-None}
 use Rattle.policy_json.specs.Document.{json_of, policy_from, policy_of, read_system, shape_refused}
-use Rattle.policy_json.proofs.ReadBuilt.{policy_built, policy_contents, policy_cpus}
 use Rattle.policy_lawful.specs.Lawful.{kept_or, names_broken, rules_broken}
 use Rattle.policy_lawful.specs.MoreRules.{offence_6, offence_7, offence_9, offence_10, offence_11, offence_12, offence_13, offence_14, offence_15, offence_19}
 use Rattle.policy_lawful.specs.Offences.{broken}
@@ -26,6 +25,9 @@ use Rattle.policy_types.specs.declared.source.Content.TheVariants.{Zero, Fill, I
 use Rattle.policy_types.specs.declared.source.Region.{Region}
 use Rattle.policy_types.specs.declared.source.Source.{Source}
 use Rattle.window_machine.specs.Start.{CanLoad, has_fitting_content}
+use Rattle.muen_top.specs.Lacking.{built_alone, built_policy_of, lack_refusal, lacking, not_built}
+use Rattle.muen_top.specs.declared.lacking.Lack.{Lack}
+use Rattle.muen_top.proofs.Lacking.{policy_built, policy_contents, policy_cpus}
 use Rattle.muen_top.specs.Refusals.{accepted, accepted_policy_of, content_refused, contents_refused, lawful_alone, lawful_policy_of, refusal_of, unlawful}
 use Rattle.muen_top.specs.Reports.{refusal_status}
 
@@ -52,25 +54,25 @@ second_decides p q a b e =
 
 -- ---- the rules
 
-pub not_read : (bytes : List ℕ) (r : Refusal) → Answers NoMemory (policy_of bytes) (Err r) → Answers NoMemory (lawful_policy_of bytes) (Err r)
+pub not_read : (bytes : List ℕ) (r : Refusal) → Answers NoMemory (built_policy_of bytes) (Err r) → Answers NoMemory (lawful_policy_of bytes) (Err r)
 unfolding lawful_policy_of
-not_read bytes r h = refused_for (policy_of bytes) (lawful_alone (policy_of bytes)) r (ap lawful_alone) h
+not_read bytes r h = refused_for (built_policy_of bytes) (lawful_alone (built_policy_of bytes)) r (ap lawful_alone) h
 
-pub not_resolved : (bytes : List ℕ) (p : Source) (r : Refusal) → policy_of bytes ≡ Ok p → Answers NoMemory (kept_or p (names_broken p)) (Err r) → Answers NoMemory (lawful_policy_of bytes) (Err r)
+pub not_resolved : (bytes : List ℕ) (p : Source) (r : Refusal) → built_policy_of bytes ≡ Ok p → Answers NoMemory (kept_or p (names_broken p)) (Err r) → Answers NoMemory (lawful_policy_of bytes) (Err r)
 unfolding lawful_policy_of
 not_resolved bytes p r read h =
-    refused_for (kept_or p (names_broken p)) (lawful_alone (policy_of bytes)) r
+    refused_for (kept_or p (names_broken p)) (lawful_alone (built_policy_of bytes)) r
     (λ e. ap lawful_alone read ∙ first_stays p (names_broken p) (rules_broken p) r e) h
 
 -- where names are resolved, the other rules decide
-pub rules_decide : (bytes : List ℕ) (p q : Source) → policy_of bytes ≡ Ok p → kept_or p (names_broken p) ≡ Ok q → lawful_policy_of bytes ≡ kept_or q (rules_broken q)
+pub rules_decide : (bytes : List ℕ) (p q : Source) → built_policy_of bytes ≡ Ok p → kept_or p (names_broken p) ≡ Ok q → lawful_policy_of bytes ≡ kept_or q (rules_broken q)
 unfolding lawful_policy_of
 rules_decide bytes p q read kept = ap lawful_alone read ∙ second_decides p q (names_broken p) rules_broken kept
 
 pub kept_built : (p q : Source) → is_built p ≡ true → kept_or p (names_broken p) ≡ Ok q → is_built q ≡ true
 kept_built p q built kept = ap is_built (sym (kept_is p q (names_broken p) kept).1) ∙ built
 
-pub resolved_built : (bytes : List ℕ) (p q : Source) → policy_of bytes ≡ Ok p → kept_or p (names_broken p) ≡ Ok q → is_built q ≡ true
+pub resolved_built : (bytes : List ℕ) (p q : Source) → built_policy_of bytes ≡ Ok p → kept_or p (names_broken p) ≡ Ok q → is_built q ≡ true
 resolved_built bytes p q read kept = kept_built p q (policy_built bytes p read) kept
 
 -- ---- the contents
@@ -87,7 +89,7 @@ unlawful_first files (Err x) r e = e
 pub not_lawful : (files : Held) (bytes : List ℕ) (r : Refusal) → Answers NoMemory (lawful_policy_of bytes) (Err r) → Answers NoMemory (accepted_policy_of files bytes) (Err r)
 unfolding lawful_policy_of accepted_policy_of
 not_lawful files bytes r h =
-    refused_for (lawful_alone (policy_of bytes)) (accepted files (policy_of bytes)) r (unlawful_first files (policy_of bytes) r) h
+    refused_for (lawful_alone (built_policy_of bytes)) (accepted files (built_policy_of bytes)) r (unlawful_first files (built_policy_of bytes) r) h
 
 lawful_then : (files : Held) (answer : Result Source Refusal) (q : Source) → lawful_alone answer ≡ Ok q → accepted files answer ≡ kept_or q (contents_refused files q)
 unfolding refusal_of
@@ -115,8 +117,8 @@ plain_contents files p h = plain_all files p.memory h
 pub contents_decide : (files : Held) (bytes : List ℕ) (q : Source) → lawful_policy_of bytes ≡ Ok q → accepted_policy_of files bytes ≡ kept_or q (contents_refused no_files q)
 unfolding lawful_policy_of accepted_policy_of
 contents_decide files bytes q e =
-    lawful_then files (policy_of bytes) q e
-    ∙ ap (kept_or q) (plain_contents files q (policy_contents bytes q (lawful_reads (policy_of bytes) q e)))
+    lawful_then files (built_policy_of bytes) q e
+    ∙ ap (kept_or q) (plain_contents files q (policy_contents bytes q (lawful_reads (built_policy_of bytes) q e)))
 
 -- ---- what the machine asks of a policy that is accepted
 
@@ -152,7 +154,7 @@ held_all p h none = held_each p.memory h none
 pub can_load : (bytes : List ℕ) (q : Source) → accepted_policy_of no_files bytes ≡ Ok q → CanLoad q
 unfolding accepted_policy_of
 can_load bytes q e =
-    let a = accepted_reads no_files (policy_of bytes) q e in
+    let a = accepted_reads no_files (built_policy_of bytes) q e in
     record {
       built = policy_built bytes q a.0;
       cpus = policy_cpus bytes q a.0;
@@ -210,6 +212,11 @@ kept_err : (p : Source) (o : Option Refusal) (r : Refusal) → OfTwo o → kept_
 kept_err p None r h e = absurd (cc)
 kept_err p (Some x) r h e = let f : x ≡ r = cc in ap refusal_status (sym f) ∙ h
 
+-- an element that isn't built
+lack_two : (o : Option Lack) → OfTwo (option_map lack_refusal o)
+lack_two None = tt
+lack_two (Some lack) = refl
+
 -- a document that isn't read
 shape_two : (answer : Result Source Fault) (r : Refusal) → shape_refused answer ≡ Err r → refusal_status r ≡ 2
 shape_two (Ok q) r e = absurd (cc)
@@ -219,11 +226,15 @@ unread_two : (document : Option Data) (r : Refusal) → policy_from document ≡
 unread_two None r e = let f : NotJson ≡ r = cc in ap refusal_status (sym f)
 unread_two (Some d) r e = shape_two (read_system d) r e
 
-read_or_not : (bytes : List ℕ) (answer : Result Source Refusal) (r : Refusal) → policy_of bytes ≡ answer → accepted no_files answer ≡ Err r → refusal_status r ≡ 2
-unfolding policy_of
+unbuilt_two : (document : Option Data) (answer : Result Source Refusal) (r : Refusal) → policy_from document ≡ answer → built_alone answer ≡ Err r → refusal_status r ≡ 2
+unbuilt_two document (Ok p) r is e = kept_err p (not_built p) r (lack_two (lacking p)) e
+unbuilt_two document (Err x) r is e = let f : x ≡ r = cc in ap refusal_status (sym f) ∙ unread_two document x is
+
+read_or_not : (bytes : List ℕ) (answer : Result Source Refusal) (r : Refusal) → built_policy_of bytes ≡ answer → accepted no_files answer ≡ Err r → refusal_status r ≡ 2
+unfolding policy_of built_policy_of
 read_or_not bytes (Ok p) r is e = kept_err p (refusal_of no_files p) r (refusal_two p (policy_contents bytes p is)) e
-read_or_not bytes (Err x) r is e = let f : x ≡ r = cc in ap refusal_status (sym f) ∙ unread_two (json_of bytes) x is
+read_or_not bytes (Err x) r is e = let f : x ≡ r = cc in ap refusal_status (sym f) ∙ unbuilt_two (json_of bytes) (policy_of bytes) x refl is
 
 pub refused_two : (bytes : List ℕ) (r : Refusal) → accepted_policy_of no_files bytes ≡ Err r → refusal_status r ≡ 2
 unfolding accepted_policy_of
-refused_two bytes r e = read_or_not bytes (policy_of bytes) r refl e
+refused_two bytes r e = read_or_not bytes (built_policy_of bytes) r refl e

@@ -2,6 +2,7 @@ pub mod Answers
 pub mod Calls
 pub mod Commands
 pub mod FilesSeen
+pub mod Lacking
 pub mod Loads
 pub mod Parsed
 pub mod RecordText

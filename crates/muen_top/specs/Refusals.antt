@@ -1,12 +1,11 @@
--- What a policy with its files is refused for (this project's own order): it is no JSON text, it breaks the schema, then a
--- rule, then contents are missing or don't fit.
+-- What a policy with its files is refused for (this project's own order): it is no JSON text, it breaks the schema, it has
+-- an element that isn't built, then it breaks a rule, then contents are missing or don't fit.
 use Rattle.std.specs.Prelude.{ℕ, List, [], ◌∷◌, length, nat_le, Option, Some, None, Result, Ok, Err, if◌then◌else◌}
 use Rattle.std.specs.FinMap.{get}
 use Rattle.muen_num.specs.Search.{first_in, first_of}
 use Rattle.muen_num.specs.declared.limits.TheConstants.{COMPONENT_FILE_MOST}
 use Rattle.muen_num.specs.declared.tag.Part.TheVariants.{Whole}
 use Rattle.muen_outside.specs.Store.{Reading, whole, absent, long, reading_of}
-use Rattle.policy_json.specs.Document.{policy_of}
 use Rattle.policy_lawful.specs.Lawful.{names_broken, rules_broken, kept_or}
 use Rattle.policy_meaning.specs.Contents.{Held, file_part}
 use Rattle.policy_types.specs.declared.refusal.Refusal.{Refusal}
@@ -15,6 +14,7 @@ use Rattle.policy_types.specs.declared.source.Content.{Content}
 use Rattle.policy_types.specs.declared.source.Content.TheVariants.{Zero, Fill, Inline, File}
 use Rattle.policy_types.specs.declared.source.Region.{Region}
 use Rattle.policy_types.specs.declared.source.Source.{Source}
+use Rattle.muen_top.specs.Lacking.{built_policy_of}
 
 -- ---- rules
 
@@ -28,7 +28,7 @@ lawful_alone (Err refusal) = Err refusal
 
 -- the policy of a document, where it keeps every rule; else why not. What files hold is not looked at
 unfoldable pub lawful_policy_of : List ℕ → Result Source Refusal
-lawful_policy_of bytes = lawful_alone (policy_of bytes)
+lawful_policy_of bytes = lawful_alone (built_policy_of bytes)
 
 -- ---- contents
 
@@ -67,4 +67,4 @@ accepted files (Err refusal) = Err refusal
 
 -- the policy of a document that is accepted over files that hold this, else why it is refused
 unfoldable pub accepted_policy_of : Held → List ℕ → Result Source Refusal
-accepted_policy_of files bytes = accepted files (policy_of bytes)
+accepted_policy_of files bytes = accepted files (built_policy_of bytes)

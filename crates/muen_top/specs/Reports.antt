@@ -15,7 +15,7 @@ use Rattle.muen_top.specs.declared.outcome.Stop.TheVariants.{Usage, Missing, Too
 -- ---- texts
 
 unfoldable pub usage_text : List ℕ
-usage_text = codes "usage: build POLICY IMAGE, run IMAGE RECORD, boot POLICY RECORD, map POLICY, flows POLICY, load NUMBER"
+usage_text = codes "usage: build POLICY IMAGE, run IMAGE RECORD, boot POLICY RECORD, map POLICY, flows POLICY, load NUMBER, verify IMAGE POLICY, build POLICY IMAGE DMA, run IMAGE RECORD DMA"
 
 abbrev pub missing_text : List ℕ → List ℕ
 missing_text name = codes "missing file " ++ name

@@ -15,7 +15,7 @@ use policy_types::Refusal;
 fn usage() -> &'static str
     ensures { result.now ≡ usage_text }
 {
-    "usage: build POLICY IMAGE, run IMAGE RECORD, boot POLICY RECORD, map POLICY, flows POLICY, load NUMBER"
+    "usage: build POLICY IMAGE, run IMAGE RECORD, boot POLICY RECORD, map POLICY, flows POLICY, load NUMBER, verify IMAGE POLICY, build POLICY IMAGE DMA, run IMAGE RECORD DMA"
 }
 
 // The text of a stop in pieces.

@@ -6,7 +6,7 @@ use Rattle.serde_json.specs.Data.{Data, Members, no_members, member}
 use Rattle.serde_json.specs.Find.{get, as_object}
 use Rattle.policy_json.specs.Values.{and_then, fault, under, read_list}
 use Rattle.policy_types.specs.declared.refusal.Fault.{Fault}
-use Rattle.policy_types.specs.declared.refusal.Want.TheVariants.{Object as WantObject, KnownKeys, Present, NotYetBuilt}
+use Rattle.policy_types.specs.declared.refusal.Want.TheVariants.{Object as WantObject, KnownKeys, Present}
 
 -- ---- the value under a key
 
@@ -29,14 +29,6 @@ read_required key read d = and_then (read_if_present key read d) (present_of key
 -- the value under a key, or the default
 unfoldable pub read_optional : {X : Type 0} → List ℕ → X → (Data → Result X Fault) → Data → Result X Fault
 read_optional key default read d = and_then (read_if_present key read d) λ found. Ok (unwrap_or found default)
-
-abbrev pub unbuilt_from : {X : Type 0} → List ℕ → X → Option Data → Result X Fault
-unbuilt_from key default None = Ok default
-unbuilt_from key default (Some d) = fault (47 ∷ key) NotYetBuilt
-
--- the default of a key whose part isn't built: the key must not be there
-unfoldable pub read_unbuilt : {X : Type 0} → List ℕ → X → Data → Result X Fault
-read_unbuilt key default d = unbuilt_from key default (get key d)
 
 -- ---- tables
 
@@ -76,10 +68,6 @@ if_present key read = record { read = read_if_present key read }
 -- a key of a list, which is empty by default
 abbrev pub list : {X : Type 0} (key : List ℕ) → (Data → Result X Fault) → Field key (List X)
 list key read = optional key [] (read_list read)
-
--- a key whose part isn't built
-abbrev pub unbuilt : {X : Type 0} (key : List ℕ) → X → Field key X
-unbuilt key default = record { read = read_unbuilt key default }
 
 -- ---- objects
 

@@ -5,9 +5,11 @@ ghost use Rattle.policy_types.specs.declared.refusal.Refusal.TheVariants.{NoMemo
 ghost use Rattle.muen_num.specs.Answers.{Answers};
 ghost use Rattle.policy_json.specs.Document.{policy_of};
 
+mod components;
+mod devices;
+mod events;
 mod fault;
 mod memory;
-mod number;
 mod object;
 mod scheduling;
 mod shape;

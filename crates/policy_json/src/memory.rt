@@ -1,21 +1,21 @@
 //! Memory: blocks, and regions with their contents.
 ghost use Rattle.std.specs.Prelude.{◌≡◌};
 ghost use Rattle.serde_json.specs.View.{view};
-ghost use Rattle.policy_json.specs.Document.{has, is_one_content, one_content, content_of};
-ghost use Rattle.policy_json.specs.Reading.{ended};
+ghost use Rattle.policy_json.specs.Table.{content_of, is_one_content};
 
 use crate::fault::ReadEnd;
-use crate::object::{Object, if_present, optional, required, unbuilt};
+use crate::object::{Object, has, if_present, list, optional, require, required};
 use crate::values::Hexadecimal;
+use muen_num::Name;
 use muen_num::limits::PAGE;
 use policy_types::source::{Block, Content, Region};
 use policy_types::{Caching, Want};
 use serde_json::Value;
 use std::alloc::Global;
 
-#[tactic(auto, unfolding(crate::specs::Document::block))]
+#[tactic(auto, unfolding(crate::specs::Table::block))]
 impl Object for Block {
-    ghost use Rattle.policy_json.specs.Document.{block};
+    ghost use Rattle.policy_json.specs.Table.{block};
 
     ghost object = { block };
 
@@ -32,13 +32,7 @@ impl Object for Block {
     }
 }
 
-fn has(value: &Value, key: &str) -> bool
-    ensures { result ≡ has key.now (view value.now) }
-{
-    value.get(key).is_some()
-}
-
-#[tactic(auto, unfolding(crate::specs::Document::is_one_content))]
+#[tactic(auto, unfolding(crate::specs::Table::is_one_content))]
 fn is_one_content(value: &Value) -> bool
     ensures { result ≡ is_one_content (view value.now) }
 {
@@ -53,20 +47,22 @@ fn is_one_content(value: &Value) -> bool
     fill != hex
 }
 
-#[tactic(auto, unfolding(crate::specs::Document::one_content))]
-fn read_one_content(alloc: Global, value: &Value) -> Result<(), ReadEnd>
-    ensures { result ≡ ended (one_content (view value.now)) }
+fn content_of(
+    fill: Option<u8>,
+    hex: Option<Hexadecimal>,
+    file: Option<Name>,
+    offset: u64,
+    length: Option<u64>,
+) -> Content
+    ensures { result ≡ content_of fill hex file offset length }
 {
-    if is_one_content(value) {
-        Ok(())
-    } else {
-        Err(ReadEnd::here(alloc, Want::OneContent))
+    if let Some(name) = file {
+        return Content::File {
+            name,
+            offset,
+            length,
+        };
     }
-}
-
-fn content_of(fill: Option<u8>, hex: Option<Hexadecimal>) -> Content
-    ensures { result ≡ content_of fill hex }
-{
     match hex {
         Some(bytes) => Content::Inline(bytes.into_bytes()),
         None => match fill {
@@ -76,9 +72,9 @@ fn content_of(fill: Option<u8>, hex: Option<Hexadecimal>) -> Content
     }
 }
 
-#[tactic(auto, unfolding(crate::specs::Document::content))]
+#[tactic(auto, unfolding(crate::specs::Table::content, crate::specs::Table::one_content))]
 impl Object for Content {
-    ghost use Rattle.policy_json.specs.Document.{content};
+    ghost use Rattle.policy_json.specs.Table.{content};
 
     ghost object = { content };
 
@@ -87,19 +83,19 @@ impl Object for Content {
     }
 
     fn read_fields(alloc: Global, value: &Value) -> Result<Content, ReadEnd> {
-        read_one_content(alloc, value)?;
+        require(alloc, is_one_content(value), Want::OneContent)?;
         let fill = if_present(alloc, value, "fill")?;
         let hex = if_present(alloc, value, "hex")?;
-        unbuilt(alloc, value, "file", ())?;
-        unbuilt(alloc, value, "offset", ())?;
-        unbuilt(alloc, value, "length", ())?;
-        Ok(content_of(fill, hex))
+        let file = if_present(alloc, value, "file")?;
+        let offset = optional(alloc, value, "offset", 0)?;
+        let length = if_present(alloc, value, "length")?;
+        Ok(content_of(fill, hex, file, offset, length))
     }
 }
 
-#[tactic(auto, unfolding(crate::specs::Document::region))]
+#[tactic(auto, unfolding(crate::specs::Table::region))]
 impl Object for Region {
-    ghost use Rattle.policy_json.specs.Document.{region};
+    ghost use Rattle.policy_json.specs.Table.{region};
 
     ghost object = { region };
 
@@ -111,6 +107,7 @@ impl Object for Region {
             "alignment",
             "physicalAddress",
             "content",
+            "sharedMemory",
         ]
     }
 
@@ -119,9 +116,10 @@ impl Object for Region {
             name: required(alloc, value, "name")?,
             size: required(alloc, value, "size")?,
             caching: optional(alloc, value, "caching", Caching::Wb)?,
-            alignment: unbuilt(alloc, value, "alignment", PAGE)?,
-            physical_address: unbuilt(alloc, value, "physicalAddress", None)?,
+            alignment: optional(alloc, value, "alignment", PAGE)?,
+            physical_address: if_present(alloc, value, "physicalAddress")?,
             content: optional(alloc, value, "content", Content::Zero)?,
+            shared_memory: list(alloc, value, "sharedMemory")?,
         })
     }
 }

@@ -1,10 +1,11 @@
 //! Objects: the value under each key, and that there is no key but these.
-ghost use Rattle.std.specs.Prelude.{◌≡◌, map, []};
+ghost use Rattle.std.specs.Prelude.{◌≡◌, map, [], is_some, Ok, if◌then◌else◌};
 ghost use Rattle.std.specs.Str.{bytes_eq};
 ghost use Rattle.std.specs.List.{list_any};
 ghost use Rattle.serde_json.specs.View.{view, members_view};
-ghost use Rattle.policy_json.specs.Values.{read_list};
-ghost use Rattle.policy_json.specs.Objects.{description, has_known, read_known, read_required, read_optional, read_if_present, read_unbuilt};
+ghost use Rattle.serde_json.specs.Find.{get};
+ghost use Rattle.policy_json.specs.Values.{fault, read_list};
+ghost use Rattle.policy_json.specs.Objects.{description, has_known, read_known, read_required, read_optional, read_if_present};
 ghost use Rattle.policy_json.specs.Reading.{ended, Gives};
 
 use crate::fault::ReadEnd;
@@ -71,6 +72,24 @@ fn has_known(members: &Map<String, Value>, keys: &[&str]) -> bool
     true
 }
 
+/// Whether there is a value under a key.
+pub fn has(value: &Value, key: &str) -> bool
+    ensures { result ≡ is_some (get key.now (view value.now)) }
+{
+    value.get(key).is_some()
+}
+
+/// That the value itself is as wanted, where it is.
+pub fn require(alloc: Global, is_so: bool, want: Want) -> Result<(), ReadEnd>
+    ensures { result ≡ ended (if is_so then Ok tt else fault [] want) }
+{
+    if is_so {
+        Ok(())
+    } else {
+        Err(ReadEnd::here(alloc, want))
+    }
+}
+
 // An object with no key but these and `description`.
 #[tactic(auto, unfolding(crate::specs::Objects::read_known))]
 fn read_known(alloc: Global, value: &Value, keys: &[&str]) -> Result<(), ReadEnd>
@@ -78,13 +97,7 @@ fn read_known(alloc: Global, value: &Value, keys: &[&str]) -> Result<(), ReadEnd
 {
     match value.as_object() {
         None => Err(ReadEnd::here(alloc, Want::Object)),
-        Some(members) => {
-            if has_known(members, keys) {
-                Ok(())
-            } else {
-                Err(ReadEnd::here(alloc, Want::KnownKeys))
-            }
-        }
+        Some(members) => require(alloc, has_known(members, keys), Want::KnownKeys),
     }
 }
 
@@ -126,22 +139,4 @@ pub fn list<T: Shape>(alloc: Global, value: &Value, key: &str) -> Result<Seq<T>,
     ensures { Gives (read_optional key.now [] (read_list T.reads) (view value.now)) result }
 {
     optional(alloc, value, key, Seq::new(alloc))
-}
-
-/// The default of a key whose part isn't built: the key must not be there.
-#[tactic(auto, unfolding(crate::specs::Objects::read_unbuilt))]
-pub fn unbuilt<T: Drop>(alloc: Global, value: &Value, key: &str, default: T) -> Result<T, ReadEnd>
-    ensures { Gives (read_unbuilt key.now default (view value.now)) result }
-{
-    match value.get(key) {
-        None => Ok(default),
-        Some(_) => Err(ReadEnd::here(alloc, Want::NotYetBuilt).under(key)),
-    }
-}
-
-/// The empty list of a key whose part isn't built: the key must not be there.
-pub fn unbuilt_list<T: Drop>(alloc: Global, value: &Value, key: &str) -> Result<Seq<T>, ReadEnd>
-    ensures { Gives (read_unbuilt key.now [] (view value.now)) result }
-{
-    unbuilt(alloc, value, key, Seq::new(alloc))
 }

@@ -1,13 +1,50 @@
-//! The scheduling plan: groups, and frames within frames.
+//! The scheduling plan: groups, frames within frames, and who chooses them.
 use crate::fault::ReadEnd;
-use crate::object::{Object, list, required};
-use policy_types::source::{CpuFrames, Group, MajorFrame, MinorFrame, Scheduling};
+use crate::object::{Object, if_present, list, required};
+use policy_types::source::{CpuFrames, Group, MajorFrame, MinorFrame, Scheduling, Tau0};
 use serde_json::Value;
 use std::alloc::Global;
 
-#[tactic(auto, unfolding(crate::specs::Document::group))]
+#[tactic(auto, unfolding(crate::specs::Table::scheduling))]
+impl Object for Scheduling {
+    ghost use Rattle.policy_json.specs.Table.{scheduling};
+
+    ghost object = { scheduling };
+
+    fn keys() -> &'static [&'static str] {
+        &["groups", "majorFrames", "tau0"]
+    }
+
+    fn read_fields(alloc: Global, value: &Value) -> Result<Scheduling, ReadEnd> {
+        Ok(Scheduling {
+            groups: list(alloc, value, "groups")?,
+            major_frames: list(alloc, value, "majorFrames")?,
+            tau0: if_present(alloc, value, "tau0")?,
+        })
+    }
+}
+
+#[tactic(auto, unfolding(crate::specs::Table::tau0))]
+impl Object for Tau0 {
+    ghost use Rattle.policy_json.specs.Table.{tau0};
+
+    ghost object = { tau0 };
+
+    fn keys() -> &'static [&'static str] {
+        &["subject", "region"]
+    }
+
+    fn read_fields(alloc: Global, value: &Value) -> Result<Tau0, ReadEnd> {
+        Ok(Tau0 {
+            subject: required(alloc, value, "subject")?,
+            region: required(alloc, value, "region")?,
+        })
+    }
+}
+
+#[tactic(auto, unfolding(crate::specs::Table::group))]
 impl Object for Group {
-    ghost use Rattle.policy_json.specs.Document.{group};
+    ghost use Rattle.policy_json.specs.Table.{group};
 
     ghost object = { group };
 
@@ -24,27 +61,26 @@ impl Object for Group {
     }
 }
 
-#[tactic(auto, unfolding(crate::specs::Document::minor_frame))]
-impl Object for MinorFrame {
-    ghost use Rattle.policy_json.specs.Document.{minor_frame};
+#[tactic(auto, unfolding(crate::specs::Table::major_frame))]
+impl Object for MajorFrame {
+    ghost use Rattle.policy_json.specs.Table.{major_frame};
 
-    ghost object = { minor_frame };
+    ghost object = { major_frame };
 
     fn keys() -> &'static [&'static str] {
-        &["group", "ticks"]
+        &["cpus"]
     }
 
-    fn read_fields(alloc: Global, value: &Value) -> Result<MinorFrame, ReadEnd> {
-        Ok(MinorFrame {
-            group: required(alloc, value, "group")?,
-            ticks: required(alloc, value, "ticks")?,
+    fn read_fields(alloc: Global, value: &Value) -> Result<MajorFrame, ReadEnd> {
+        Ok(MajorFrame {
+            cpus: list(alloc, value, "cpus")?,
         })
     }
 }
 
-#[tactic(auto, unfolding(crate::specs::Document::cpu_frames))]
+#[tactic(auto, unfolding(crate::specs::Table::cpu_frames))]
 impl Object for CpuFrames {
-    ghost use Rattle.policy_json.specs.Document.{cpu_frames};
+    ghost use Rattle.policy_json.specs.Table.{cpu_frames};
 
     ghost object = { cpu_frames };
 
@@ -60,37 +96,20 @@ impl Object for CpuFrames {
     }
 }
 
-#[tactic(auto, unfolding(crate::specs::Document::major_frame))]
-impl Object for MajorFrame {
-    ghost use Rattle.policy_json.specs.Document.{major_frame};
+#[tactic(auto, unfolding(crate::specs::Table::minor_frame))]
+impl Object for MinorFrame {
+    ghost use Rattle.policy_json.specs.Table.{minor_frame};
 
-    ghost object = { major_frame };
-
-    fn keys() -> &'static [&'static str] {
-        &["cpus"]
-    }
-
-    fn read_fields(alloc: Global, value: &Value) -> Result<MajorFrame, ReadEnd> {
-        Ok(MajorFrame {
-            cpus: list(alloc, value, "cpus")?,
-        })
-    }
-}
-
-#[tactic(auto, unfolding(crate::specs::Document::scheduling))]
-impl Object for Scheduling {
-    ghost use Rattle.policy_json.specs.Document.{scheduling};
-
-    ghost object = { scheduling };
+    ghost object = { minor_frame };
 
     fn keys() -> &'static [&'static str] {
-        &["groups", "majorFrames"]
+        &["group", "ticks"]
     }
 
-    fn read_fields(alloc: Global, value: &Value) -> Result<Scheduling, ReadEnd> {
-        Ok(Scheduling {
-            groups: list(alloc, value, "groups")?,
-            major_frames: list(alloc, value, "majorFrames")?,
+    fn read_fields(alloc: Global, value: &Value) -> Result<MinorFrame, ReadEnd> {
+        Ok(MinorFrame {
+            group: required(alloc, value, "group")?,
+            ticks: required(alloc, value, "ticks")?,
         })
     }
 }

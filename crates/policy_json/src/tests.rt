@@ -1,25 +1,8 @@
-//! Documents, with what is read of them, or the first place that breaks the schema.
+//! Documents, with the first place that breaks the schema, or with none.
 use crate::read;
-use policy_types::source::Content;
-use policy_types::{Caching, Place, Refusal, Source, Want};
+use policy_types::{Place, Refusal, Want};
 use std::alloc::Global;
 use std::test::Fail;
-
-// A document that must be read.
-fn policy(alloc: Global, text: &str) -> Result<Source, Fail> {
-    match read(alloc, text.as_bytes()) {
-        Ok(source) => Ok(source),
-        Err(refusal) => {
-            drop(refusal);
-            Err(Fail::new("refused"))
-        }
-    }
-}
-
-// A document of a processor and these keys.
-fn document(alloc: Global, keys: &str) -> Result<String, Fail> {
-    Ok(format!(in alloc; "{{\"processor\":{{\"logicalCpus\":1}},{keys}}}")?)
-}
 
 // The refusal by the first place that breaks the schema.
 fn shape(alloc: Global, place: &str, want: Want) -> Result<Option<Refusal>, Fail> {
@@ -27,31 +10,12 @@ fn shape(alloc: Global, place: &str, want: Want) -> Result<Option<Refusal>, Fail
     Ok(Some(Refusal::Shape { place, want }))
 }
 
-#[test]
-fn reads_fill_and_caching(rt: HostRuntime) -> Result<(), Fail> {
-    let alloc = rt.alloc();
-    let text = document(
-        alloc,
-        "\"memory\":[{\"name\":\"a\",\"size\":1,\"caching\":\"UC\",\"content\":{\"fill\":255}},{\"name\":\"b\",\"size\":\"16#1_0#\",\"caching\":\"WC\",\"content\":{\"fill\":\"16#FF#\"}},{\"name\":\"c\",\"size\":1}],\"scheduling\":{}",
+// Why a document of a processor, a plan and these keys is refused.
+fn refusal(alloc: Global, keys: &str) -> Result<Option<Refusal>, Fail> {
+    let text = format!(in alloc;
+        "{{\"processor\":{{\"logicalCpus\":1}},\"scheduling\":{{}},{keys}}}"
     )?;
-    let source = policy(alloc, text.as_str())?;
-    let cases = [
-        ("a", 1, Caching::Uc, Some(255)),
-        ("b", 16, Caching::Wc, Some(255)),
-        ("c", 1, Caching::Wb, None),
-    ];
-    assert_eq!(rt; source.memory.len(), cases.len());
-    for (region, wanted) in source.memory.items().iter().zip(cases) {
-        let fill = match &region.content {
-            Content::Fill(byte) => Some(*byte),
-            _ => None,
-        };
-        assert_eq!(rt;
-            (region.name.as_str(), region.size, region.caching, fill),
-            wanted
-        );
-    }
-    Ok(())
+    Ok(read(alloc, text.as_bytes()).err())
 }
 
 #[test]
@@ -65,6 +29,11 @@ fn refuses_what_is_no_document(rt: HostRuntime) -> Result<(), Fail> {
     let cases = [
         ("[]", "", Want::Object),
         ("{}", "/processor", Want::Present),
+        (
+            "{\"processor\":{\"logicalCpus\":1}}",
+            "/scheduling",
+            Want::Present,
+        ),
         ("{\"processor\":1}", "/processor", Want::Object),
         (
             "{\"processor\":{\"logicalCpus\":-1},\"more\":1}",
@@ -86,6 +55,7 @@ fn refuses_what_is_no_document(rt: HostRuntime) -> Result<(), Fail> {
     Ok(())
 }
 
+// Of each kind of value and of each object, one that isn't as wanted.
 #[test]
 fn names_what_was_wanted_and_where(rt: HostRuntime) -> Result<(), Fail> {
     let alloc = rt.alloc();
@@ -101,40 +71,9 @@ fn names_what_was_wanted_and_where(rt: HostRuntime) -> Result<(), Fail> {
             Want::Byte,
         ),
         (
-            "\"scheduling\":{\"groups\":[{\"name\":\"g\",\"cpu\":0,\"subjects\":[\"a\",\"\"]}]}",
-            "/scheduling/groups/0/subjects/1",
-            Want::Name,
-        ),
-        (
-            "\"subjects\":[{\"name\":\"s\",\"cpu\":0,\"entry\":0,\"memory\":[{\"region\":\"a\",\"virtualAddress\":0,\"rights\":\"wx\"}]}]",
-            "/subjects/0/memory/0/rights",
-            Want::Rights,
-        ),
-        (
-            "\"memory\":[{\"name\":\"a\",\"size\":1,\"caching\":\"wb\"}]",
-            "/memory/0/caching",
-            Want::Caching,
-        ),
-        (
-            "\"memory\":[{\"name\":\"a\",\"size\":1,\"content\":{\"hex\":\"0\"}}]",
-            "/memory/0/content/hex",
-            Want::Hexadecimal,
-        ),
-        ("\"memory\":{}", "/memory", Want::List),
-        (
-            "\"scheduling\":{\"majorFrames\":[{\"cpus\":[{\"cpu\":0,\"minorFrames\":[[]]}]}]}",
-            "/scheduling/majorFrames/0/cpus/0/minorFrames/0",
-            Want::Object,
-        ),
-        (
-            "\"subjects\":[{\"name\":\"s\",\"cpus\":0}]",
-            "/subjects/0",
-            Want::KnownKeys,
-        ),
-        (
-            "\"memoryBlocks\":[{\"name\":\"a\",\"physicalAddress\":0,\"size\":1},{\"name\":\"b\",\"size\":1}]",
-            "/memoryBlocks/1/physicalAddress",
-            Want::Present,
+            "\"memory\":[{\"name\":\"a\",\"size\":1,\"content\":{\"fill\":300,\"hex\":\"00\"}}]",
+            "/memory/0/content",
+            Want::OneContent,
         ),
         (
             "\"memory\":[{\"name\":\"a\",\"size\":1,\"content\":{\"hex\":\"\",\"offset\":0}}]",
@@ -142,22 +81,58 @@ fn names_what_was_wanted_and_where(rt: HostRuntime) -> Result<(), Fail> {
             Want::OneContent,
         ),
         (
-            "\"memory\":[{\"name\":\"a\",\"size\":1,\"alignment\":4096}]",
-            "/memory/0/alignment",
-            Want::NotYetBuilt,
+            "\"memory\":[{\"name\":\"a\",\"size\":1,\"sharedMemory\":[\"s\",\"\"]}]",
+            "/memory/0/sharedMemory/1",
+            Want::Name,
         ),
         (
-            "\"memory\":[{\"name\":\"a\",\"size\":1,\"content\":{\"file\":\"f\",\"offset\":0}}]",
-            "/memory/0/content/file",
-            Want::NotYetBuilt,
+            "\"devices\":[{\"name\":\"d\",\"bdf\":{\"bus\":256}}]",
+            "/devices/0/bdf/bus",
+            Want::Byte,
+        ),
+        (
+            "\"channels\":[{\"name\":\"c\",\"size\":1,\"hasEvent\":\"own\"}]",
+            "/channels/0/hasEvent",
+            Want::Mode,
+        ),
+        (
+            "\"components\":[{\"name\":\"c\",\"channels\":[{\"logical\":\"l\",\"role\":\"both\"}]}]",
+            "/components/0/channels/0/role",
+            Want::Role,
+        ),
+        (
+            "\"subjects\":[{\"name\":\"s\",\"cpu\":0,\"entry\":0,\"component\":{\"map\":[]}}]",
+            "/subjects/0/component/ref",
+            Want::Present,
+        ),
+        (
+            "\"subjects\":[{\"name\":\"s\",\"cpu\":0,\"entry\":0,\"memory\":[{\"region\":\"a\",\"virtualAddress\":0,\"rights\":\"wx\"}]}]",
+            "/subjects/0/memory/0/rights",
+            Want::Rights,
+        ),
+        (
+            "\"subjects\":[{\"name\":\"s\",\"cpu\":0,\"entry\":0,\"msrs\":[{\"start\":0,\"end\":0,\"rights\":\"rx\"}]}]",
+            "/subjects/0/msrs/0/rights",
+            Want::Rights,
+        ),
+        (
+            "\"subjects\":[{\"name\":\"s\",\"cpu\":0,\"entry\":0,\"sources\":[{\"event\":\"\",\"call\":1,\"trap\":2}]}]",
+            "/subjects/0/sources/0",
+            Want::CallOrTrap,
+        ),
+        (
+            "\"subjects\":[{\"name\":\"s\",\"cpu\":0,\"entry\":0,\"monitors\":[{\"subject\":\"t\",\"virtualAddress\":0,\"rights\":\"r\",\"size\":0}]}]",
+            "/subjects/0/monitors/0",
+            Want::KnownKeys,
+        ),
+        (
+            "\"deviceDomains\":[{\"name\":\"d\",\"devices\":{}}]",
+            "/deviceDomains/0/devices",
+            Want::List,
         ),
     ];
     for (keys, place, want) in cases {
-        let text = document(alloc, keys)?;
-        assert_eq!(rt;
-            read(alloc, text.as_bytes()).err(),
-            shape(alloc, place, want)?
-        );
+        assert_eq!(rt; refusal(alloc, keys)?, shape(alloc, place, want)?, "{keys}");
     }
     Ok(())
 }
@@ -166,69 +141,40 @@ fn names_what_was_wanted_and_where(rt: HostRuntime) -> Result<(), Fail> {
 fn names_the_first_of_two_faults(rt: HostRuntime) -> Result<(), Fail> {
     let alloc = rt.alloc();
     let cases = [
-        // Known keys before a bad value.
+        // Known keys before a bad value, and before one content.
         (
             "\"memoryBlocks\":[{\"name\":\"\",\"base\":0}]",
             "/memoryBlocks/0",
             Want::KnownKeys,
         ),
-        // Known keys before what isn't built.
-        ("\"devices\":[],\"sharedMemory\":[]", "", Want::KnownKeys),
-        // Known keys before one content.
         (
             "\"memory\":[{\"name\":\"a\",\"size\":1,\"content\":{\"zero\":0}}]",
             "/memory/0/content",
             Want::KnownKeys,
         ),
-        // One content before a bad value.
-        (
-            "\"memory\":[{\"name\":\"a\",\"size\":1,\"content\":{\"fill\":300,\"hex\":\"00\"}}]",
-            "/memory/0/content",
-            Want::OneContent,
-        ),
-        // One content before what isn't built.
-        (
-            "\"memory\":[{\"name\":\"a\",\"size\":1,\"content\":{\"fill\":300,\"file\":\"f\"}}]",
-            "/memory/0/content",
-            Want::OneContent,
-        ),
-        // The earlier key.
+        // The earlier key, an absent one in its place.
         (
             "\"memory\":[{\"size\":-1,\"name\":\"\"}]",
             "/memory/0/name",
             Want::Name,
         ),
-        // An absent key in its place.
         (
             "\"memory\":[{\"size\":-1}]",
             "/memory/0/name",
             Want::Present,
         ),
-        ("\"memory\":[{\"name\":\"\"}]", "/memory/0/name", Want::Name),
-        // An earlier value wholly.
+        // The last keys of their objects.
+        (
+            "\"deviceDomains\":0,\"subjects\":[{\"name\":\"s\",\"cpu\":0,\"entry\":0,\"monitors\":0,\"targets\":0}]",
+            "/subjects/0/targets",
+            Want::List,
+        ),
+        // An earlier value wholly, and a list's earlier item.
         (
             "\"memory\":1,\"memoryBlocks\":[{\"name\":\"a\",\"physicalAddress\":0,\"size\":-1}]",
             "/memoryBlocks/0/size",
             Want::Number,
         ),
-        // What isn't built in its place.
-        (
-            "\"memoryBlocks\":1,\"devices\":[]",
-            "/memoryBlocks",
-            Want::List,
-        ),
-        ("\"memory\":1,\"devices\":[]", "/devices", Want::NotYetBuilt),
-        (
-            "\"memory\":[{\"name\":\"a\",\"size\":1,\"caching\":\"\",\"physicalAddress\":0}]",
-            "/memory/0/caching",
-            Want::Caching,
-        ),
-        (
-            "\"memory\":[{\"name\":\"a\",\"size\":1,\"physicalAddress\":0,\"content\":{}}]",
-            "/memory/0/physicalAddress",
-            Want::NotYetBuilt,
-        ),
-        // A list's earlier item.
         (
             "\"memory\":[{\"name\":\"a\"},1]",
             "/memory/0/size",
@@ -242,55 +188,16 @@ fn names_the_first_of_two_faults(rt: HostRuntime) -> Result<(), Fail> {
         ),
     ];
     for (keys, place, want) in cases {
-        let text = document(alloc, keys)?;
-        assert_eq!(rt;
-            read(alloc, text.as_bytes()).err(),
-            shape(alloc, place, want)?
-        );
+        assert_eq!(rt; refusal(alloc, keys)?, shape(alloc, place, want)?, "{keys}");
     }
     Ok(())
 }
 
-// A document with this number of logical CPUs.
-fn read_cpus(alloc: Global, number: &str) -> Result<Result<u64, Refusal>, Fail> {
-    let text = format!(in alloc;
-        "{{\"processor\":{{\"logicalCpus\":{number}}},\"scheduling\":{{}}}}"
-    )?;
-    Ok(read(alloc, text.as_bytes()).map(|source| source.processor.logical_cpus))
-}
-
+// A document with a part of each kind.
 #[test]
-fn reads_numbers(rt: HostRuntime) -> Result<(), Fail> {
-    let alloc = rt.alloc();
-    let cases = [
-        ("0", Ok(0)),
-        ("9", Ok(9)),
-        ("\"16#0010_0000#\"", Ok(1048576)),
-        ("\"16#ff#\"", Ok(255)),
-        ("\"16#FF#\"", Ok(255)),
-        ("\"16#0_0#\"", Ok(0)),
-        ("\"16#0000_ffff_ffff_ffff_ffff#\"", Ok(18446744073709551615)),
-        ("\"16#10__0#\"", Err(Want::Number)),
-        ("\"16#_1#\"", Err(Want::Number)),
-        ("\"16#1_#\"", Err(Want::Number)),
-        ("\"16##\"", Err(Want::Number)),
-        ("\"16#g#\"", Err(Want::Number)),
-        ("\"16#1\"", Err(Want::Number)),
-        ("\"16#1##\"", Err(Want::Number)),
-        ("\"16#10000000000000000#\"", Err(Want::Number)),
-        ("\"0x10\"", Err(Want::Number)),
-        ("2", Err(Want::NotYetBuilt)),
-        ("8", Err(Want::NotYetBuilt)),
-        ("\"16#2#\"", Err(Want::NotYetBuilt)),
-    ];
-    for (number, wanted) in cases {
-        match wanted {
-            Ok(n) => assert_eq!(rt; read_cpus(alloc, number)?, Ok(n)),
-            Err(want) => {
-                let refusal = read_cpus(alloc, number)?.err();
-                assert_eq!(rt; refusal, shape(alloc, "/processor/logicalCpus", want)?);
-            }
-        }
-    }
+fn reads_the_whole_language(rt: HostRuntime) -> Result<(), Fail> {
+    let keys =
+        "\"memoryBlocks\":[{\"name\":\"ram\",\"physicalAddress\":0,\"size\":\"16#1000#\"}],\"devices\":[{\"name\":\"d\",\"memory\":[{\"name\":\"m\",\"physicalAddress\":0,\"size\":1}],\"ioPorts\":[{\"name\":\"p\",\"start\":0,\"end\":1}],\"irqs\":[{\"name\":\"i\"}],\"bdf\":{\"bus\":0,\"device\":3,\"function\":0}}],\"memory\":[{\"name\":\"a\",\"size\":1,\"caching\":\"UC\",\"alignment\":2097152,\"physicalAddress\":0,\"content\":{\"file\":\"f\",\"offset\":1,\"length\":2},\"sharedMemory\":[\"s\"]}],\"channels\":[{\"name\":\"c\",\"size\":1,\"hasEvent\":\"async\"}],\"components\":[{\"name\":\"k\",\"provides\":[{\"logical\":\"l\",\"virtualAddress\":0,\"size\":1,\"rights\":\"rx\",\"content\":{\"hex\":\"0F\"}}],\"memory\":[{\"logical\":\"m\",\"virtualAddress\":0,\"size\":1,\"rights\":\"r\"}],\"channels\":[{\"logical\":\"n\",\"role\":\"writer\",\"virtualAddress\":0,\"size\":1,\"call\":1,\"vector\":2}]}],\"events\":[{\"name\":\"e\",\"mode\":\"self\"}],\"subjects\":[{\"name\":\"s\",\"cpu\":0,\"entry\":0,\"component\":{\"ref\":\"k\",\"map\":[{\"logical\":\"m\",\"physical\":\"a\",\"rights\":\"r\"}]},\"channels\":[{\"channel\":\"c\",\"role\":\"reader\",\"virtualAddress\":0,\"call\":1,\"vector\":40}],\"devices\":[{\"device\":\"d\",\"memory\":[{\"memory\":\"m\",\"virtualAddress\":0,\"rights\":\"rw\"}],\"ioPorts\":[\"p\"],\"irqs\":[{\"irq\":\"i\",\"vector\":41}]}],\"msrs\":[{\"start\":0,\"end\":1,\"rights\":\"w\"}],\"sources\":[{\"event\":\"e\",\"trap\":6}],\"targets\":[{\"event\":\"e\",\"vector\":42}],\"monitors\":[{\"subject\":\"t\",\"virtualAddress\":0,\"rights\":\"rw\"}]}],\"deviceDomains\":[{\"name\":\"o\",\"devices\":[\"d\"],\"memory\":[{\"region\":\"a\",\"virtualAddress\":0,\"rights\":\"rw\"}]}]";
+    assert_eq!(rt; refusal(rt.alloc(), keys)?, None);
     Ok(())
 }

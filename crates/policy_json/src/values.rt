@@ -1,15 +1,17 @@
-//! The kinds of values: numbers, names, rights, memory types and bytes.
+//! The kinds of values, each with what is wanted where a value isn't one.
 ghost use Rattle.std.specs.Prelude.{◌≡◌};
 ghost use Rattle.serde_json.specs.View.{view};
-ghost use Rattle.policy_json.specs.Values.{read_number, read_byte, read_name, read_rights, read_caching, read_hexadecimal, rights_from, caching_from};
 ghost use Rattle.policy_json.specs.Reading.{ended};
+ghost use Rattle.policy_json.specs.Values.{read_byte, read_caching, read_hexadecimal, read_mode, read_msr_rights, read_name, read_number, read_rights, read_role};
 
 use crate::fault::{ReadEnd, or_want};
-use crate::number::number_of;
 use crate::shape::Shape;
-use hex::FromHexError;
-use muen_num::{Name, Seq};
-use policy_types::{Caching, Rights, Want};
+use muen_num::{Mode, Name, Seq};
+use policy_types::{Caching, MsrRights, Rights, Role, Want};
+use policy_values::{
+    byte_of, caching_of, hexadecimal_of, mode_of, msr_rights_of, name_of, number_of, rights_of,
+    role_of,
+};
 use serde_json::Value;
 use std::alloc::Global;
 use std::marker::Model;
@@ -32,8 +34,7 @@ impl Shape for u8 {
     fn read(alloc: Global, value: &Value) -> Result<u8, ReadEnd>
         ensures { result ≡ ended (read_byte (view value.now)) }
     {
-        let byte = number_of(value).and_then(|n| if n < 256 { Some(n as u8) } else { None });
-        or_want(alloc, byte, Want::Byte)
+        or_want(alloc, byte_of(value), Want::Byte)
     }
 }
 
@@ -44,20 +45,7 @@ impl Shape for Name {
     fn read(alloc: Global, value: &Value) -> Result<Name, ReadEnd>
         ensures { result ≡ ended (read_name (view value.now)) }
     {
-        let name = value.as_str().and_then(|text| Name::read(text.as_bytes()));
-        or_want(alloc, name, Want::Name)
-    }
-}
-
-fn rights_of(text: &str) -> Option<Rights>
-    ensures { result ≡ rights_from text.now }
-{
-    match text {
-        "r" => Some(Rights::READ),
-        "rw" => Some(Rights::READ.union(Rights::WRITE)),
-        "rx" => Some(Rights::READ.union(Rights::EXECUTE)),
-        "rwx" => Some(Rights::READ.union(Rights::WRITE).union(Rights::EXECUTE)),
-        _ => None,
+        or_want(alloc, name_of(value), Want::Name)
     }
 }
 
@@ -68,20 +56,18 @@ impl Shape for Rights {
     fn read(alloc: Global, value: &Value) -> Result<Rights, ReadEnd>
         ensures { result ≡ ended (read_rights (view value.now)) }
     {
-        or_want(alloc, value.as_str().and_then(rights_of), Want::Rights)
+        or_want(alloc, rights_of(value), Want::Rights)
     }
 }
 
-fn caching_of(text: &str) -> Option<Caching>
-    ensures { result ≡ caching_from text.now }
-{
-    match text {
-        "UC" => Some(Caching::Uc),
-        "WC" => Some(Caching::Wc),
-        "WT" => Some(Caching::Wt),
-        "WP" => Some(Caching::Wp),
-        "WB" => Some(Caching::Wb),
-        _ => None,
+impl Shape for MsrRights {
+    ghost reads = { read_msr_rights };
+
+    #[tactic(auto, unfolding(crate::specs::Values::read_msr_rights))]
+    fn read(alloc: Global, value: &Value) -> Result<MsrRights, ReadEnd>
+        ensures { result ≡ ended (read_msr_rights (view value.now)) }
+    {
+        or_want(alloc, msr_rights_of(value), Want::Rights)
     }
 }
 
@@ -92,7 +78,29 @@ impl Shape for Caching {
     fn read(alloc: Global, value: &Value) -> Result<Caching, ReadEnd>
         ensures { result ≡ ended (read_caching (view value.now)) }
     {
-        or_want(alloc, value.as_str().and_then(caching_of), Want::Caching)
+        or_want(alloc, caching_of(value), Want::Caching)
+    }
+}
+
+impl Shape for Mode {
+    ghost reads = { read_mode };
+
+    #[tactic(auto, unfolding(crate::specs::Values::read_mode))]
+    fn read(alloc: Global, value: &Value) -> Result<Mode, ReadEnd>
+        ensures { result ≡ ended (read_mode (view value.now)) }
+    {
+        or_want(alloc, mode_of(value), Want::Mode)
+    }
+}
+
+impl Shape for Role {
+    ghost reads = { read_role };
+
+    #[tactic(auto, unfolding(crate::specs::Values::read_role))]
+    fn read(alloc: Global, value: &Value) -> Result<Role, ReadEnd>
+        ensures { result ≡ ended (read_role (view value.now)) }
+    {
+        or_want(alloc, role_of(value), Want::Role)
     }
 }
 
@@ -125,15 +133,10 @@ impl Shape for Hexadecimal {
 
     #[tactic(auto, unfolding(crate::specs::Values::read_hexadecimal))]
     fn read(alloc: Global, value: &Value) -> Result<Hexadecimal, ReadEnd> {
-        match value.as_str() {
-            None => Err(ReadEnd::here(alloc, Want::Hexadecimal)),
-            Some(text) => match hex::decode(alloc, text.as_bytes()) {
-                Ok(bytes) => Ok(Hexadecimal {
-                    bytes: Seq::of(bytes),
-                }),
-                Err(FromHexError::OutOfMemory) => Err(ReadEnd::NoMemory),
-                Err(_) => Err(ReadEnd::here(alloc, Want::Hexadecimal)),
-            },
+        match hexadecimal_of(alloc, value) {
+            Ok(Some(bytes)) => Ok(Hexadecimal { bytes }),
+            Ok(None) => Err(ReadEnd::here(alloc, Want::Hexadecimal)),
+            Err(_) => Err(ReadEnd::NoMemory),
         }
     }
 }

@@ -26,10 +26,12 @@ pub record IsPlain (s : Subject) : Type 0 where
   pub msrs : s.msrs ≡ []
   pub sources : s.sources ≡ []
   pub targets : s.targets ≡ []
+  pub monitors : s.monitors ≡ []
 
 pub plain : (s : Subject) → is_plain s ≡ true → IsPlain s
 plain s h =
-    let e = and_parts _ _ h in
+    let f = and_parts _ _ h in
+    let e = and_parts _ _ f.0 in
     let d = and_parts _ _ e.0 in
     let c = and_parts _ _ d.0 in
     let b = and_parts _ _ c.0 in
@@ -41,6 +43,7 @@ plain s h =
       msrs = no_items s.msrs c.1;
       sources = no_items s.sources d.1;
       targets = no_items s.targets e.1;
+      monitors = no_items s.monitors f.1;
     }
 
 -- ---- what a built policy lacks
@@ -52,11 +55,15 @@ pub record HasNoOther (p : Source) : Type 0 where
   pub events : p.events ≡ []
   pub subjects : list_all is_plain p.subjects ≡ true
   pub regions : list_all is_plain_region p.memory ≡ true
+  pub tau0 : p.scheduling.tau0 ≡ None
+  pub device_domains : p.device_domains ≡ []
 
 pub built : (p : Source) → is_built p ≡ true → HasNoOther p
 unfolding is_built
 built p h =
-    let e = and_parts _ _ h in
+    let g = and_parts _ _ h in
+    let f = and_parts _ _ g.0 in
+    let e = and_parts _ _ f.0 in
     let d = and_parts _ _ e.0 in
     let c = and_parts _ _ d.0 in
     let b = and_parts _ _ c.0 in
@@ -68,4 +75,6 @@ built p h =
       events = no_items p.events c.1;
       subjects = d.1;
       regions = e.1;
+      tau0 = none_some p.scheduling.tau0 f.1;
+      device_domains = no_items p.device_domains g.1;
     }

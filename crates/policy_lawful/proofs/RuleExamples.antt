@@ -36,7 +36,8 @@ nothing = record {
   components = [];
   events = [];
   subjects = [];
-  scheduling = record { groups = []; major_frames = [] };
+  scheduling = record { groups = []; major_frames = []; tau0 = None };
+  device_domains = [];
 }
 
 abbrev subject : List ℕ → Subject
@@ -51,6 +52,7 @@ subject name = record {
   msrs = [];
   sources = [];
   targets = [];
+  monitors = [];
 }
 
 abbrev maps : List ℕ → ℕ → ℕ → Mapping
@@ -58,7 +60,7 @@ maps region address rights = record { region = region; virtual_address = address
 
 abbrev region : List ℕ → Option ℕ → Region
 region name address =
-    record { name = name; size = 4096; caching = Wb; alignment = 4096; physical_address = address; content = Zero }
+    record { name = name; size = 4096; caching = Wb; alignment = 4096; physical_address = address; content = Zero; shared_memory = [] }
 
 -- ---- names, windows, writers
 
@@ -146,7 +148,7 @@ abbrev ports : List ℕ → ℕ → ℕ → Ports
 ports name start end = record { name = name; start = start; end = end }
 
 abbrev with_ports : List Ports → Device
-with_ports xs = record { name = codes "d"; memory = []; io_ports = xs; irqs = [] }
+with_ports xs = record { name = codes "d"; memory = []; io_ports = xs; irqs = []; bdf = None }
 
 -- a pair counts at its later range, after that range's own conditions; the third range isn't reached
 overlap_first : offence_10 (record nothing { devices = with_ports (ports (codes "p0") 0 10 ∷ ports (codes "p1") 5 8 ∷ ports (codes "p2") 9 3 ∷ []) ∷ [] }) ≡ Some (two (codes "p0") (codes "p1"))
@@ -188,6 +190,7 @@ planned members cpus = record nothing {
   scheduling = record {
     groups = record { name = codes "g"; cpu = 0; subjects = members ∷ [] } ∷ [];
     major_frames = record { cpus = cpus } ∷ [];
+    tau0 = None;
   };
 }
 

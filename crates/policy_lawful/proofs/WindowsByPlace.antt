@@ -76,7 +76,8 @@ unfolding source_of
 all_ready r b h =
     each_of (λ s. is_plain (subject_named r s)) (subject_placed r) (is_ready r)
     (λ s plain placed.
-    let e = and_parts _ _ placed in
+    let f = and_parts _ _ placed in
+    let e = and_parts _ _ f.0 in
     let d = and_parts _ _ e.0 in
     let c = and_parts _ _ d.0 in
     and_from _ _ plain (and_parts _ _ (and_parts _ _ c.0).0).1)

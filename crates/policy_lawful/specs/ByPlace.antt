@@ -17,7 +17,7 @@ use Rattle.policy_types.specs.declared.source.Content.TheVariants.{Zero}
 
 -- what stands for a region at a place past the list
 abbrev pub no_region : Region
-no_region = record { name = []; size = 0; caching = Wb; alignment = 0; physical_address = None; content = Zero }
+no_region = record { name = []; size = 0; caching = Wb; alignment = 0; physical_address = None; content = Zero; shared_memory = [] }
 
 abbrev pub region_at : List Region → ℕ → Region
 region_at regions place = slice_index_or regions place no_region

@@ -11,6 +11,7 @@ use Rattle.policy_types.specs.declared.source.Region.{Region}
 use Rattle.policy_types.specs.declared.source.Channel.{Channel}
 use Rattle.policy_types.specs.declared.source.Component.{Component}
 use Rattle.policy_types.specs.declared.source.Event.{Event}
+use Rattle.policy_types.specs.declared.source.Domain.{Domain}
 use Rattle.policy_types.specs.declared.source.ComponentUse.{ComponentUse}
 use Rattle.policy_types.specs.declared.source.MapEntry.{MapEntry}
 use Rattle.policy_types.specs.declared.source.Mapping.{Mapping}
@@ -43,6 +44,7 @@ pub record Resolution : Type 0 where
   pub events : List Event
   pub subjects : List PlacedSubject
   pub scheduling : PlacedScheduling
+  pub device_domains : List Domain
 
 -- ---- the names that stand for places
 
@@ -98,8 +100,9 @@ component_named r c = record {
   map = map (λ e. entry_named r c.used e.logical e) c.map;
 }
 
-abbrev pub subject_named : Resolution → PlacedSubject → Subject
-subject_named r s = record {
+-- a subject, where the subjects that it may monitor have these names
+abbrev pub subject_named_among : Resolution → List (List ℕ) → PlacedSubject → Subject
+subject_named_among r names s = record {
   name = s.name;
   cpu = s.cpu;
   entry = s.entry;
@@ -110,7 +113,11 @@ subject_named r s = record {
   msrs = s.msrs;
   sources = map (λ e. record { event = name_at (map (λ x. x.name) r.events) e.event; way = e.way }) s.sources;
   targets = map (λ e. record { event = name_at (map (λ x. x.name) r.events) e.event; vector = e.vector }) s.targets;
+  monitors = map (λ m. record { subject = name_at names m.subject; virtual_address = m.virtual_address; rights = m.rights }) s.monitors;
 }
+
+abbrev pub subject_named : Resolution → PlacedSubject → Subject
+subject_named r s = subject_named_among r (map (λ x. x.name) r.subjects) s
 
 abbrev pub group_named : Resolution → PlacedGroup → Group
 group_named r g = record {
@@ -142,7 +149,9 @@ source_of r = record {
   scheduling = record {
     groups = map (group_named r) r.scheduling.groups;
     major_frames = map (major_named r) r.scheduling.major_frames;
+    tau0 = r.scheduling.tau0;
   };
+  device_domains = r.device_domains;
 }
 
 -- ---- places that are there
@@ -164,14 +173,19 @@ abbrev pub component_placed : Resolution → UsedComponent → Bool
 component_placed r c =
     nat_lt c.used (length r.components) && list_all (λ e. entry_placed r c.used e.logical e.physical) c.map
 
-abbrev pub subject_placed : Resolution → PlacedSubject → Bool
-subject_placed r s =
+-- a subject, where there are so many subjects that it may monitor
+abbrev pub subject_placed_among : Resolution → ℕ → PlacedSubject → Bool
+subject_placed_among r subjects s =
     option_map_or (component_placed r) s.component true
     && list_all (λ m. nat_lt m.region (length r.memory)) s.memory
     && list_all (λ c. nat_lt c.channel (length r.channels)) s.channels
     && list_all (device_placed r) s.devices
     && list_all (λ e. nat_lt e.event (length r.events)) s.sources
     && list_all (λ e. nat_lt e.event (length r.events)) s.targets
+    && list_all (λ m. nat_lt m.subject subjects) s.monitors
+
+abbrev pub subject_placed : Resolution → PlacedSubject → Bool
+subject_placed r s = subject_placed_among r (length r.subjects) s
 
 abbrev pub group_placed : Resolution → PlacedGroup → Bool
 group_placed r g = list_all (λ i. nat_lt i (length r.subjects)) g.subjects

@@ -5,7 +5,7 @@ ghost use Rattle.policy_lawful.specs.Resolution.{IsResolved};
 
 use muen_num::{Name, Seq};
 use policy_types::source::{
-    Block, Channel, Component, Device, Event, Msrs, Processor, Region, SourceWay,
+    Block, Channel, Component, Device, Domain, Event, Msrs, Processor, Region, SourceWay, Tau0,
 };
 use policy_types::{Rights, Role};
 use std::marker::Model;
@@ -23,6 +23,7 @@ pub struct Resolved {
     events: Seq<Event>,
     subjects: Seq<Subject>,
     scheduling: Scheduling,
+    device_domains: Seq<Domain>,
 }
 
 impl Model for Resolved {
@@ -40,6 +41,7 @@ impl Model for Resolved {
       events = r.events;
       subjects = r.subjects;
       scheduling = r.scheduling;
+      device_domains = r.device_domains;
     } };
 
     ghost invariant = { λ r. IsResolved (record {
@@ -52,6 +54,7 @@ impl Model for Resolved {
       events = r.events;
       subjects = r.subjects;
       scheduling = r.scheduling;
+      device_domains = r.device_domains;
     }) };
 }
 
@@ -67,6 +70,7 @@ impl Resolved {
         events: Seq<Event>,
         subjects: Seq<Subject>,
         scheduling: Scheduling,
+        device_domains: Seq<Domain>,
     ) -> Resolved
         requires { IsResolved (record {
           processor = processor;
@@ -78,6 +82,7 @@ impl Resolved {
           events = events;
           subjects = subjects;
           scheduling = scheduling;
+          device_domains = device_domains;
         }) }
         ensures { result ≡ record {
           processor = processor;
@@ -89,6 +94,7 @@ impl Resolved {
           events = events;
           subjects = subjects;
           scheduling = scheduling;
+          device_domains = device_domains;
         } }
     {
         Resolved {
@@ -101,6 +107,7 @@ impl Resolved {
             events,
             subjects,
             scheduling,
+            device_domains,
         }
     }
 }
@@ -119,6 +126,7 @@ pub struct Subject {
     pub msrs: Seq<Msrs>,
     pub sources: Seq<EventSource>,
     pub targets: Seq<EventTarget>,
+    pub monitors: Seq<Monitor>,
 }
 
 /// The component of a subject.
@@ -212,11 +220,23 @@ pub struct EventTarget {
     pub vector: Option<u64>,
 }
 
+/// A window of a subject on the state of another, which it monitors.
+#[derive(Clone, Debug, Drop, PartialEq, Eq)]
+pub struct Monitor {
+    /// The place of the monitored subject.
+    pub subject: usize,
+    /// The guest address of the window's first byte.
+    pub virtual_address: u64,
+    pub rights: Rights,
+}
+
 /// The scheduling plan.
 #[derive(Clone, Debug, Drop, PartialEq, Eq)]
 pub struct Scheduling {
     pub groups: Seq<Group>,
     pub major_frames: Seq<MajorFrame>,
+    /// Who chooses the next major frame, if anyone does; by names.
+    pub tau0: Option<Tau0>,
 }
 
 /// A scheduling group.
@@ -328,5 +348,11 @@ impl Resolved {
         ensures resolved { IsResolved self.now }
     {
         &self.scheduling
+    }
+    /// The domains of devices, by names.
+    pub fn device_domains(&self) -> &[Domain]
+        ensures { result.now ≡ self.now.device_domains }
+    {
+        self.device_domains.items()
     }
 }

@@ -29,7 +29,7 @@ rights bits = record { 0 = bits }
 
 abbrev memory : List ℕ → ℕ → Content → Region
 memory name size content =
-    record { name = name; size = size; caching = Wb; alignment = 4096; physical_address = None; content = content }
+    record { name = name; size = size; caching = Wb; alignment = 4096; physical_address = None; content = content; shared_memory = [] }
 
 abbrev one_way : List ℕ → Channel
 one_way name = record { name = name; size = 8; has_event = Some Async }
@@ -40,6 +40,7 @@ net = record {
   memory = record { name = codes "ring"; physical_address = 4096; size = 4 } ∷ record { name = codes "spare"; physical_address = 8192; size = 8 } ∷ [];
   io_ports = [];
   irqs = record { name = codes "rx" } ∷ [];
+  bdf = None;
 }
 
 -- brings a region along, and asks for two regions and a channel
@@ -79,6 +80,7 @@ black = record {
       record { event = codes "alarm"; way = Trap 48 }
       ∷ record { event = codes "alarm"; way = Call 2 } ∷ [];
   targets = [];
+  monitors = [];
 }
 
 abbrev red : Subject
@@ -95,6 +97,7 @@ red = record {
   msrs = [];
   sources = [];
   targets = record { event = codes "alarm"; vector = Some 50 } ∷ [];
+  monitors = [];
 }
 
 abbrev plan : Scheduling
@@ -109,6 +112,7 @@ plan = record {
             ∷ record { cpu = 0; minor_frames = record { group = codes "g0"; ticks = 2 } ∷ record { group = codes "g0"; ticks = 3 } ∷ [] } ∷ [];
       }
       ∷ [];
+  tau0 = None;
 }
 
 abbrev system : Source
@@ -127,6 +131,7 @@ system = record {
   events = record { name = codes "alarm"; mode = Asap } ∷ [];
   subjects = black ∷ red ∷ [];
   scheduling = plan;
+  device_domains = [];
 }
 
 -- ---- things and windows

@@ -39,10 +39,10 @@ subject_built p s h =
 -- so its mappings stand for all that it has
 pub subject_stands : (p : Source) (s : Subject) (ms : List PlacedMapping) → is_plain s ≡ true
     → StandsFor (map (mapping_named (outline p))) (list_all (λ m. nat_lt m.region (length p.memory))) s.memory ms
-    → StandsFor (subject_named (outline p)) (subject_placed (outline p)) s (record { name = s.name; cpu = s.cpu; entry = s.entry; component = None; memory = ms; channels = []; devices = []; msrs = []; sources = []; targets = [] })
+    → StandsFor (subject_named (outline p)) (subject_placed (outline p)) s (record { name = s.name; cpu = s.cpu; entry = s.entry; component = None; memory = ms; channels = []; devices = []; msrs = []; sources = []; targets = []; monitors = [] })
 subject_stands p s ms h memory =
     let lacks = plain s h in
     record {
-      same = rw (memory.same, ← lacks.component, ← lacks.channels, ← lacks.devices, ← lacks.msrs, ← lacks.sources, ← lacks.targets) refl;
+      same = rw (memory.same, ← lacks.component, ← lacks.channels, ← lacks.devices, ← lacks.msrs, ← lacks.sources, ← lacks.targets, ← lacks.monitors) refl;
       there = rw memory.there refl;
     }

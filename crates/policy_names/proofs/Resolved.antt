@@ -10,7 +10,7 @@ use Rattle.muen_num.proofs.SearchLaws.{first_in-append, option_or-None, option_o
 use Rattle.policy_lawful.specs.Lawful.{names_broken}
 use Rattle.policy_lawful.specs.Offences.{broken}
 use Rattle.policy_lawful.proofs.Offences.{none_broken}
-use Rattle.policy_lawful.specs.Resolution.{IsResolved, Resolution, are_placed, group_named, group_placed, major_named, major_placed, name_at, source_of, subject_named, subject_placed}
+use Rattle.policy_lawful.specs.Resolution.{IsResolved, Resolution, are_placed, group_named, group_placed, major_named, major_placed, name_at, source_of, subject_named, subject_named_among, subject_placed, subject_placed_among}
 use Rattle.policy_lawful.specs.Rules.{frame_references, group_references, majors_of, offence_1, offence_2, subject_references, undeclared}
 use Rattle.policy_lawful.specs.declared.resolved.Group.{Group}
 use Rattle.policy_lawful.specs.declared.resolved.MajorFrame.{MajorFrame}
@@ -46,27 +46,35 @@ module _ (p : Source) (ss : List Subject) (gs : List Group) (ms : List MajorFram
   of_groups : map (λ g. g.name) (outline p).scheduling.groups ≡ map (λ g. g.name) gs
   of_groups = map-map (λ g. g.name) bare_group p.scheduling.groups ∙ ap (map (λ g. g.name)) (sym groups.same) ∙ map-map (λ g. g.name) (group_named (outline p)) gs
 
-  -- so that the groups and the frames stand for the same beside them
-  groups_same : map (group_named (with_places p ss (record { groups = gs; major_frames = ms }))) gs ≡ p.scheduling.groups
+  -- so that the subjects, the groups and the frames stand for the same beside them
+  subjects_same : map (subject_named (with_places p ss (record { groups = gs; major_frames = ms; tau0 = p.scheduling.tau0 }))) ss ≡ p.subjects
+  subjects_same = ap (λ names. map (subject_named_among (outline p) names) ss) (sym of_subjects) ∙ subjects.same
+
+  subjects_there : list_all (subject_placed (with_places p ss (record { groups = gs; major_frames = ms; tau0 = p.scheduling.tau0 }))) ss ≡ true
+  subjects_there =
+      subst (λ n. list_all (subject_placed_among (outline p) n) ss ≡ true)
+      (sym (length-map (outline p).subjects (λ s. s.name)) ∙ ap length of_subjects ∙ length-map ss (λ s. s.name)) subjects.there
+
+  groups_same : map (group_named (with_places p ss (record { groups = gs; major_frames = ms; tau0 = p.scheduling.tau0 }))) gs ≡ p.scheduling.groups
   groups_same = ap (λ names. map (λ (g : Group). record { name = g.name; cpu = g.cpu; subjects = map (name_at names) g.subjects }) gs) (sym of_subjects) ∙ groups.same
 
-  groups_there : list_all (group_placed (with_places p ss (record { groups = gs; major_frames = ms }))) gs ≡ true
+  groups_there : list_all (group_placed (with_places p ss (record { groups = gs; major_frames = ms; tau0 = p.scheduling.tau0 }))) gs ≡ true
   groups_there =
       subst (λ n. list_all (λ (g : Group). list_all (λ i. nat_lt i n) g.subjects) gs ≡ true)
       (sym (length-map (outline p).subjects (λ s. s.name)) ∙ ap length of_subjects ∙ length-map ss (λ s. s.name)) groups.there
 
-  majors_same : map (major_named (with_places p ss (record { groups = gs; major_frames = ms }))) ms ≡ p.scheduling.major_frames
+  majors_same : map (major_named (with_places p ss (record { groups = gs; major_frames = ms; tau0 = p.scheduling.tau0 }))) ms ≡ p.scheduling.major_frames
   majors_same =
       ap (λ names. map (λ (m : MajorFrame). record { cpus = map (λ c. record { cpu = c.cpu; minor_frames = map (λ f. record { group = name_at names f.group; ticks = f.ticks }) c.minor_frames }) m.cpus }) ms) (sym of_groups)
       ∙ majors.same
 
-  majors_there : list_all (major_placed (with_places p ss (record { groups = gs; major_frames = ms }))) ms ≡ true
+  majors_there : list_all (major_placed (with_places p ss (record { groups = gs; major_frames = ms; tau0 = p.scheduling.tau0 }))) ms ≡ true
   majors_there =
       subst (λ n. list_all (λ (m : MajorFrame). list_all (λ c. list_all (λ f. nat_lt f.group n) c.minor_frames) m.cpus) ms ≡ true)
       (sym (length-map (outline p).scheduling.groups (λ g. g.name)) ∙ ap length of_groups ∙ length-map gs (λ g. g.name)) majors.there
 
   -- the policy with them stands for the whole
-  pub whole : StandsFor source_of are_placed p (with_places p ss (record { groups = gs; major_frames = ms }))
+  pub whole : StandsFor source_of are_placed p (with_places p ss (record { groups = gs; major_frames = ms; tau0 = p.scheduling.tau0 }))
   unfolding source_of are_placed
   whole = record {
     same = λ i. record {
@@ -77,10 +85,11 @@ module _ (p : Source) (ss : List Subject) (gs : List Group) (ms : List MajorFram
       channels = p.channels;
       components = p.components;
       events = p.events;
-      subjects = subjects.same i;
-      scheduling = record { groups = groups_same i; major_frames = majors_same i };
+      subjects = subjects_same i;
+      scheduling = record { groups = groups_same i; major_frames = majors_same i; tau0 = p.scheduling.tau0 };
+      device_domains = p.device_domains;
     };
-    there = rw (subjects.there, groups_there, majors_there) refl;
+    there = rw (subjects_there, groups_there, majors_there) refl;
   }
 
 -- ---- both rules

@@ -20,6 +20,7 @@ with_places p subjects scheduling = record {
   events = p.events;
   subjects = subjects;
   scheduling = scheduling;
+  device_domains = p.device_domains;
 }
 
 -- a subject that refers to nothing
@@ -35,6 +36,7 @@ bare_subject s = record {
   msrs = s.msrs;
   sources = [];
   targets = [];
+  monitors = [];
 }
 
 -- a group without members
@@ -43,4 +45,4 @@ bare_group g = record { name = g.name; cpu = g.cpu; subjects = [] }
 
 -- each name at its place, and no references
 abbrev pub outline : Source → Resolution
-outline p = with_places p (map bare_subject p.subjects) (record { groups = map bare_group p.scheduling.groups; major_frames = [] })
+outline p = with_places p (map bare_subject p.subjects) (record { groups = map bare_group p.scheduling.groups; major_frames = []; tau0 = p.scheduling.tau0 })

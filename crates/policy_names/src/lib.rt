@@ -46,6 +46,7 @@ fn find_places(alloc: Global, scope: &Scope) -> Result<(Seq<Subject>, Scheduling
         Scheduling {
             groups,
             major_frames,
+            tau0: source.scheduling.tau0,
         },
     ))
 }
@@ -71,6 +72,7 @@ pub fn resolve(alloc: Global, source: Source) -> Result<Resolved, Refusal>
         channels,
         components,
         events,
+        device_domains,
         ..
     } = source;
     Ok(Resolved::make(
@@ -83,5 +85,6 @@ pub fn resolve(alloc: Global, source: Source) -> Result<Resolved, Refusal>
         events,
         subjects,
         scheduling,
+        device_domains,
     ))
 }

@@ -39,6 +39,7 @@ impl Refers for source::Subject {
             msrs: Seq::new(alloc),
             sources: Seq::new(alloc),
             targets: Seq::new(alloc),
+            monitors: Seq::new(alloc),
         })
     }
 }

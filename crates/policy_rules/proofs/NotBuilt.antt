@@ -26,7 +26,7 @@ none_fixed : (rs : List Region) → list_all is_plain_region rs ≡ true → fil
 none_fixed [] h = refl
 none_fixed (r ∷ rs) h =
     let a : (is_plain_region r ≡ true) × (list_all is_plain_region rs ≡ true) = and_parts _ _ h in
-    let none : r.physical_address ≡ None = none_some r.physical_address a.0 in
+    let none : r.physical_address ≡ None = none_some r.physical_address (and_parts _ _ a.0).0 in
     rw none (none_fixed rs a.1)
 
 -- each of these rules is kept

@@ -21,12 +21,14 @@ is_plain s =
     && is_empty s.msrs
     && is_empty s.sources
     && is_empty s.targets
+    && is_empty s.monitors
 
--- a region without a fixed address
+-- a region without a fixed address, which isn't shared
 abbrev pub is_plain_region : Region → Bool
-is_plain_region r = not (is_some r.physical_address)
+is_plain_region r = not (is_some r.physical_address) && is_empty r.shared_memory
 
--- no devices, channels, components or events, no subject has a part of these, and no region a fixed address
+-- no devices, channels, components or events, no subject has a part of these, no region has a fixed address or is shared,
+-- no subject chooses frames, and there are no domains of devices
 unfoldable pub is_built : Source → Bool
 is_built p =
     is_empty p.devices
@@ -35,6 +37,8 @@ is_built p =
     && is_empty p.events
     && list_all is_plain p.subjects
     && list_all is_plain_region p.memory
+    && not (is_some p.scheduling.tau0)
+    && is_empty p.device_domains
 
 -- several logical CPUs aren't built; no CPU, and more than there may be, are for the rule on CPUs
 abbrev pub is_built_number : ℕ → Bool

@@ -15,6 +15,7 @@ pub struct Source {
     pub events: Seq<Event>,
     pub subjects: Seq<Subject>,
     pub scheduling: Scheduling,
+    pub device_domains: Seq<Domain>,
 }
 
 /// The processor.
@@ -40,6 +41,16 @@ pub struct Device {
     pub memory: Seq<DeviceMemory>,
     pub io_ports: Seq<Ports>,
     pub irqs: Seq<Irq>,
+    /// Where it is on the PCI bus, for a device in a domain.
+    pub bdf: Option<Bdf>,
+}
+
+/// Where a device is on the PCI bus.
+#[derive(Clone, Copy, Debug, PartialEq, Eq)]
+pub struct Bdf {
+    pub bus: u8,
+    pub device: u64,
+    pub function: u64,
 }
 
 /// Memory of a device.
@@ -77,6 +88,8 @@ pub struct Region {
     /// Where it has to be, if anywhere.
     pub physical_address: Option<u64>,
     pub content: Content,
+    /// The subjects that share it, several of which may write; empty for a region that isn't shared.
+    pub shared_memory: Seq<Name>,
 }
 
 /// What a region holds at the start; what it says less than the size is followed by zeros.
@@ -168,6 +181,7 @@ pub struct Subject {
     pub msrs: Seq<Msrs>,
     pub sources: Seq<EventSource>,
     pub targets: Seq<EventTarget>,
+    pub monitors: Seq<Monitor>,
 }
 
 /// The component of a subject.
@@ -186,11 +200,11 @@ pub struct MapEntry {
     pub rights: Option<Rights>,
 }
 
-/// A window of a subject on a region of memory.
+/// A window of a subject, or of a domain of devices, on a region of memory.
 #[derive(Drop)]
 pub struct Mapping {
     pub region: Name,
-    /// The guest address of its first byte.
+    /// The address of its first byte, as the subject or the devices see it.
     pub virtual_address: u64,
     pub rights: Rights,
 }
@@ -260,11 +274,30 @@ pub struct EventTarget {
     pub vector: Option<u64>,
 }
 
+/// A window of a subject on the state of another, which it monitors.
+#[derive(Drop)]
+pub struct Monitor {
+    /// The monitored subject.
+    pub subject: Name,
+    /// The guest address of the window's first byte.
+    pub virtual_address: u64,
+    pub rights: Rights,
+}
+
 /// The scheduling plan.
 #[derive(Drop)]
 pub struct Scheduling {
     pub groups: Seq<Group>,
     pub major_frames: Seq<MajorFrame>,
+    /// Who chooses the next major frame, if anyone does.
+    pub tau0: Option<Tau0>,
+}
+
+/// The subject that chooses the next major frame, by the first byte of a region.
+#[derive(Clone, Copy, Debug, PartialEq, Eq)]
+pub struct Tau0 {
+    pub subject: Name,
+    pub region: Name,
 }
 
 /// A scheduling group.
@@ -294,4 +327,14 @@ pub struct CpuFrames {
 pub struct MinorFrame {
     pub group: Name,
     pub ticks: u64,
+}
+
+/// A domain of devices, which confines what these may reach in memory by themselves (DMA).
+#[derive(Drop)]
+pub struct Domain {
+    pub name: Name,
+    /// Its devices.
+    pub devices: Seq<Name>,
+    /// Its windows on regions; their addresses are the devices'.
+    pub memory: Seq<Mapping>,
 }

@@ -44,6 +44,7 @@ subject name sources targets = record {
   msrs = [];
   sources = sources;
   targets = targets;
+  monitors = [];
 }
 
 code : List ℕ → List ℕ → Region
@@ -54,6 +55,7 @@ code name bytes = record {
   alignment = 4096;
   physical_address = None;
   content = Inline bytes;
+  shared_memory = [];
 }
 
 two : Source
@@ -72,7 +74,9 @@ two = record {
   scheduling = record {
     groups = record { name = codes "g"; cpu = 0; subjects = codes "a" ∷ codes "b" ∷ [] } ∷ [];
     major_frames = record { cpus = record { cpu = 0; minor_frames = record { group = codes "g"; ticks = 2 } ∷ [] } ∷ [] } ∷ [];
+    tau0 = None;
   };
+  device_domains = [];
 }
 
 nothing : Held

@@ -126,6 +126,7 @@ module _ (r : Resolution) (f : IsLoadable r) where
     msrs = [];
     sources = [];
     targets = [];
+    monitors = [];
   }
 
   subject_at : (m : MachineState) (i : ℕ) → IsMachineOf m → i < length r.subjects → SubjectAt m i

@@ -1,15 +1,11 @@
 -- The reader of a number's characters in turn, and the number that their groups spell.
-use Rattle.std.proofs.Common.{◌≡◌, ℕ, ◌+◌, ◌-◌, ◌*◌, ◌^◌, ◌<◌, ◌≤◌, Bool, true, false, cond, List, [], ◌∷◌, ◌++◌, length, take, drop, refl, sym, ap, ◌∙◌, arith}
-use Rattle.std.specs.Prelude.{codes, ◌==◌, ◌&&◌, ◌||◌, Option, Some, None, fold, nat_lt, if◌then◌else◌}
-use Rattle.std.specs.Str.{bytes_eq}
-use Rattle.std.proofs.lemmas.Slice.Eq.{bytes_eq-Decides}
+use Rattle.std.proofs.Common.{◌≡◌, ℕ, ◌+◌, ◌*◌, ◌^◌, ◌<◌, ◌≤◌, Bool, true, false, cond, List, [], ◌∷◌, length, refl, sym, ap, ◌∙◌, arith}
+use Rattle.std.specs.Prelude.{◌==◌, ◌&&◌, ◌||◌, Option, Some, None, fold, nat_lt, if◌then◌else◌}
 use Rattle.std.specs.List.{concat, list_all, onto_first}
 use Rattle.std.proofs.lemmas.Bool.Decides.{nat_tests}
-use Rattle.std.proofs.Math.Seq.{take-append_seam, drop-append_seam}
-use Rattle.std.proofs.lemmas.List.{length-append, take-append-drop}
 use Rattle.std.proofs.lemmas.List.Splits.{length-slice_split}
 use Rattle.std.specs.Char.{is_digit, digit_value}
-use Rattle.policy_json.specs.Based.{underscore, groups_of, is_group, with_digit, value_of, number_of_groups}
+use Rattle.policy_values.specs.Based.{underscore, groups_of, is_group, with_digit, value_of, number_of_groups}
 
 -- the number once these characters are read too, where the digits before them are worth n,
 -- and `begun` says whether the group that goes on here has a digit

@@ -1,7 +1,8 @@
+//! Numbers: of JSON, or as texts with digits of base 16.
 ghost use Rattle.std.specs.Prelude.{◌≡◌};
 ghost use Rattle.serde_json.specs.View.{view};
-ghost use Rattle.policy_json.specs.Based.{based, groups_of, number_of_groups};
-ghost use Rattle.policy_json.specs.Values.{number_of};
+ghost use Rattle.policy_values.specs.Based.{based, groups_of, number_of_groups};
+ghost use Rattle.policy_values.specs.Kinds.{byte_of, number_of};
 
 use serde_json::Value;
 
@@ -34,7 +35,8 @@ fn read_based(text: &[u8]) -> Option<u64>
     read_groups(text.strip_prefix(b"16#")?.strip_suffix(b"#")?)
 }
 
-/// A JSON number below 2^64, or such a number as a text.
+/// The number below 2^64 that a value is: a JSON number of digits alone, or a text such as
+/// `16#00ff_ff00#`.
 pub fn number_of(value: &Value) -> Option<u64>
     ensures { result ≡ number_of (view value.now) }
 {
@@ -43,4 +45,11 @@ pub fn number_of(value: &Value) -> Option<u64>
         Value::String(text) => read_based(text.as_bytes()),
         _ => None,
     }
+}
+
+/// The number below 256 that a value is.
+pub fn byte_of(value: &Value) -> Option<u8>
+    ensures { result ≡ byte_of (view value.now) }
+{
+    number_of(value).and_then(|n| if n < 256 { Some(n as u8) } else { None })
 }
