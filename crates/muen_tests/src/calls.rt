@@ -116,7 +116,7 @@ const TWO_CPUS: &[u8] = b"{\"processor\":{\"logicalCpus\":2},\"scheduling\":{}}"
 const NO_SUBJECT: &[u8] = b"{\"processor\":{\"logicalCpus\":1},\"scheduling\":{}}";
 
 const USAGE: &[u8] =
-    b"muen: usage: build POLICY IMAGE, run IMAGE RECORD, boot POLICY RECORD, map POLICY, flows POLICY, load NUMBER\n";
+    b"muen: usage: build POLICY IMAGE, run IMAGE RECORD, boot POLICY RECORD, map POLICY, flows POLICY, load NUMBER, verify IMAGE POLICY, build POLICY IMAGE DMA, run IMAGE RECORD DMA\n";
 
 // How a call ends: its status, and what the sinks hold.
 #[derive(Drop)]

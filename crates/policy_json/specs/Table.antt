@@ -1,12 +1,12 @@
 -- The objects of a policy document: one table for each, and in it one line for each key, in order.
 -- This project's own spelling of the elements of a Muen system policy.
-use Rattle.std.specs.Prelude.{ℕ, ◌==◌, List, [], ◌∷◌, Bool, not, ◌&&◌, ◌||◌, Option, Some, None, is_some, Result, Ok, Err, codes, unwrap_or, if◌then◌else◌}
+use Rattle.std.specs.Prelude.{ℕ, ◌==◌, List, [], ◌∷◌, Bool, not, ◌&&◌, ◌||◌, Option, Some, None, is_some, Result, Ok, codes, unwrap_or, if◌then◌else◌}
 use Rattle.std.specs.List.{count_by}
 use Rattle.serde_json.specs.Data.{Data}
 use Rattle.serde_json.specs.Find.{get}
 use Rattle.muen_num.specs.declared.limits.TheConstants.{PAGE}
 use Rattle.policy_json.specs.Objects.{◌>>=◌, Object, object, read_object, made, tested, required, optional, if_present, list}
-use Rattle.policy_json.specs.Values.{and_then, fault, read_number, read_byte, read_name, read_rights, read_msr_rights, read_caching, read_mode, read_role, read_hexadecimal}
+use Rattle.policy_json.specs.Values.{fault, read_number, read_byte, read_name, read_rights, read_msr_rights, read_caching, read_mode, read_role, read_hexadecimal}
 use Rattle.policy_types.specs.declared.refusal.Fault.{Fault}
 use Rattle.policy_types.specs.declared.refusal.Want.TheVariants.{OneContent, CallOrTrap}
 use Rattle.policy_types.specs.declared.rights.Caching.TheVariants.{Wb}
