@@ -2,6 +2,7 @@
 //! places; the answers were worked out by hand.
 use muen_num::Name;
 use muen_num::text::append_decimal32;
+use muen_top::lacking::built;
 use muen_top::muen_build::lawful;
 use policy_types::{Refusal, Source};
 use std::alloc::Global;
@@ -68,9 +69,13 @@ fn answer_to(alloc: Global, text: &[u8]) -> Answer {
     }
 }
 
-// The same policy on two CPUs, of which a document isn't read yet.
+// The same policy on two CPUs, which are not built.
 fn answer_on_two(alloc: Global, text: &[u8]) -> Answer {
-    let mut source: Source = match policy_json::read(alloc, text) {
+    let read = match policy_json::read(alloc, text) {
+        Ok(source) => source,
+        Err(refusal) => return of_refusal(&refusal),
+    };
+    let mut source: Source = match built(alloc, read) {
         Ok(source) => source,
         Err(refusal) => return of_refusal(&refusal),
     };

@@ -27,7 +27,7 @@ use Rattle.policy_types.specs.declared.source.Source.{Source}
 use Rattle.window_machine.specs.Start.{CanLoad, has_fitting_content}
 use Rattle.muen_top.specs.Lacking.{built_alone, built_policy_of, lack_refusal, lacking, not_built}
 use Rattle.muen_top.specs.declared.lacking.Lack.{Lack}
-use Rattle.muen_top.proofs.Lacking.{policy_built, policy_contents, policy_cpus}
+use Rattle.muen_top.proofs.NothingLacking.{policy_built, policy_contents, policy_cpus}
 use Rattle.muen_top.specs.Refusals.{accepted, accepted_policy_of, content_refused, contents_refused, lawful_alone, lawful_policy_of, refusal_of, unlawful}
 use Rattle.muen_top.specs.Reports.{refusal_status}
 

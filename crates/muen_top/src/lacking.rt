@@ -1,8 +1,10 @@
 //! What of a policy the machine of `boot` lacks. It looks windows up in a list, on one CPU; and the
 //! rules know no other elements yet.
-ghost use Rattle.std.specs.Prelude.{◌≡◌, IfOk};
+ghost use Rattle.std.specs.Prelude.{◌≡◌, IfOk, is_some, not};
+ghost use Rattle.std.specs.List.{enumerate_from};
 ghost use Rattle.muen_num.specs.Answers.{Answers};
 ghost use Rattle.muen_num.specs.Pieces.{whole};
+ghost use Rattle.muen_num.specs.Search.{first_in, unless};
 ghost use Rattle.policy_lawful.specs.Lawful.{kept_or};
 ghost use Rattle.muen_top.specs.Lacking.{is_file, lack_text, lacking, not_built, region_key, region_lack, subject_key, subject_lack, system_lack};
 
@@ -189,17 +191,39 @@ fn system_lack(source: &Source) -> Option<Lack>
     }
 }
 
+fn subjects_lack(source: &Source) -> Option<Lack>
+    ensures { result ≡ first_in subject_lack (enumerate_from 0 source.now.subjects) }
+{
+    first_numbered(source.subjects.items(), |place, s| subject_lack(place, s))
+}
+
+fn tau0_lack(source: &Source) -> Option<Lack>
+    ensures { result ≡ unless (not (is_some source.now.scheduling.tau0)) Lack.Tau0 }
+{
+    if source.scheduling.tau0.is_some() {
+        Some(Lack::Tau0)
+    } else {
+        None
+    }
+}
+
+fn regions_lack(source: &Source) -> Option<Lack>
+    ensures { result ≡ first_in region_lack (enumerate_from 0 source.now.memory) }
+{
+    first_numbered(source.memory.items(), |place, r| region_lack(place, r))
+}
+
 /// The first element of a policy that isn't built.
 #[tactic(auto, unfolding(crate::specs::Lacking::lacking))]
 pub fn lacking(source: &Source) -> Option<Lack>
     ensures { result ≡ lacking source.now }
 {
-    let subjects = source.subjects.items();
-    let regions = source.memory.items();
-    system_lack(source)
-        .or_else(|| first_numbered(subjects, |place, s| subject_lack(place, s)))
-        .or_else(|| source.scheduling.tau0.map(|_| Lack::Tau0))
-        .or_else(|| first_numbered(regions, |place, r| region_lack(place, r)))
+    if let Some(lack) = system_lack(source) {
+        return Some(lack);
+    }
+    subjects_lack(source)
+        .or_else(|| tau0_lack(source))
+        .or_else(|| regions_lack(source))
 }
 
 /// The policy, where all its elements are built.

@@ -14,7 +14,7 @@ ghost use Rattle.muen_top.specs.declared.outcome.Outcome.{Outcome};
 mod boot;
 mod call;
 mod command;
-mod lacking;
+pub mod lacking;
 pub mod muen_build;
 mod outcome;
 pub mod record_text;

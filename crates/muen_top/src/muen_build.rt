@@ -11,8 +11,8 @@ ghost use Rattle.muen_top.specs.Refusals.{accepted_policy_of, content_refused, c
 use crate::lacking::built;
 use muen_num::{Part, Tag, first};
 use policy_lawful::Lawful;
-use policy_types::{Refusal, Source};
 use policy_types::source::{Content, Region};
+use policy_types::{Refusal, Source};
 use std::alloc::Global;
 
 // The policy of a document, where all its elements are built.

@@ -4,7 +4,7 @@ use Rattle.muen_num.specs.Answers.{Answers}
 use Rattle.policy_lawful.specs.Lawful.{kept_source}
 use Rattle.policy_lawful.specs.Resolution.{source_of}
 use Rattle.policy_types.specs.declared.refusal.Refusal.TheVariants.{NoMemory}
-use Rattle.muen_top.proofs.Lacking.{policy_built}
+use Rattle.muen_top.proofs.NothingLacking.{policy_built}
 use Rattle.muen_top.proofs.Refusing.{not_read, not_resolved, resolved_built, rules_decide}
 use Rattle.muen_top.proofs.muen_build.lawful.Goals as goal
 

@@ -128,6 +128,10 @@ pub reads : (answer : Result Source Refusal) (q : Source) → built_alone answer
 reads (Err r) q e = absurd (cc)
 reads (Ok p) q e = let a = none_lacking p q (lacking p) (not_built p) refl refl e in (ap Ok a.0, a.1)
 
+-- a policy that is kept has only elements that are built
+pub kept_built : (p q : Source) → kept_or p (not_built p) ≡ Ok q → is_built q ≡ true
+kept_built p q e = built_so q (none_lacking p q (lacking p) (not_built p) refl refl e).1
+
 pub policy_built : (bytes : List ℕ) (p : Source) → built_policy_of bytes ≡ Ok p → is_built p ≡ true
 unfolding built_policy_of
 policy_built bytes p e = built_so p (reads (policy_of bytes) p e).1
