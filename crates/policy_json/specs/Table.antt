@@ -211,15 +211,12 @@ abbrev pub way_of : Option ℕ → Option ℕ → SourceWay
 way_of (Some number) trap = Call number
 way_of None trap = Trap (unwrap_or trap 0)
 
-abbrev pub raised_by : List ℕ → SourceWay → EventSource
-raised_by event way = record { event = event; way = way }
-
 unfoldable pub event_source : Object EventSource
 event_source = object (tested call_or_trap do
   event ← required (codes "event") read_name
   call ← if_present (codes "call") read_number
   trap ← if_present (codes "trap") read_number
-  made (raised_by event (way_of call trap)))
+  made (record { event = event; way = way_of call trap }))
 
 unfoldable pub event_target : Object EventTarget
 event_target = object do

@@ -1,11 +1,10 @@
 //! Events, who raises them and whom they reach.
 ghost use Rattle.std.specs.Prelude.{◌≡◌};
 ghost use Rattle.serde_json.specs.View.{view};
-ghost use Rattle.policy_json.specs.Table.{is_call_or_trap, raised_by, way_of};
+ghost use Rattle.policy_json.specs.Table.{is_call_or_trap, way_of};
 
 use crate::fault::ReadEnd;
 use crate::object::{Object, has, if_present, require, required};
-use muen_num::Name;
 use policy_types::Want;
 use policy_types::source::{Event, EventSource, EventTarget, SourceWay};
 use serde_json::Value;
@@ -45,12 +44,6 @@ fn way_of(call: Option<u64>, trap: Option<u64>) -> SourceWay
     }
 }
 
-fn raised_by(event: Name, way: SourceWay) -> EventSource
-    ensures { result ≡ raised_by event way }
-{
-    EventSource { event, way }
-}
-
 #[tactic(auto, unfolding(crate::specs::Table::call_or_trap, crate::specs::Table::event_source))]
 impl Object for EventSource {
     ghost use Rattle.policy_json.specs.Table.{event_source};
@@ -66,7 +59,10 @@ impl Object for EventSource {
         let event = required(alloc, value, "event")?;
         let call = if_present(alloc, value, "call")?;
         let trap = if_present(alloc, value, "trap")?;
-        Ok(raised_by(event, way_of(call, trap)))
+        Ok(EventSource {
+            event,
+            way: way_of(call, trap),
+        })
     }
 }
 

@@ -64,7 +64,7 @@ fn content_of(
         };
     }
     match hex {
-        Some(bytes) => Content::Inline(bytes.into_bytes()),
+        Some(Hexadecimal { bytes }) => Content::Inline(bytes),
         None => match fill {
             Some(byte) => Content::Fill(byte),
             None => Content::Zero,

@@ -107,7 +107,8 @@ impl Shape for Role {
 /// Bytes that a text of hexadecimal digits spells. Contracts see the bytes.
 #[derive(Drop)]
 pub struct Hexadecimal {
-    bytes: Seq<u8>,
+    /// The bytes.
+    pub bytes: Seq<u8>,
 }
 
 impl Model for Hexadecimal {
@@ -116,16 +117,6 @@ impl Model for Hexadecimal {
     ghost Value = { List ℕ };
 
     ghost view = { λ h. h.bytes };
-}
-
-impl Hexadecimal {
-    /// The bytes, given back.
-    pub fn into_bytes(self) -> Seq<u8>
-        ensures { result ≡ self }
-    {
-        let Hexadecimal { bytes } = self;
-        bytes
-    }
 }
 
 impl Shape for Hexadecimal {
