@@ -1,7 +1,10 @@
 mod Examples
+pub mod FirstNumber
+pub mod FirstPair
 pub mod FirstSteps
 pub mod Lists
 pub mod NameText
 pub mod NumbersBelow
 pub mod Room
+pub mod SameAnswers
 pub mod SearchLaws

@@ -73,6 +73,9 @@ pub const MOST_CALLS: u64 = 64;
 /// The most major frames of a scheduling plan; there is at least one.
 pub const MOST_MAJOR_FRAMES: usize = 16;
 
+/// The most domains of devices.
+pub const MOST_DOMAINS: usize = 32;
+
 /// The most minor frames of a CPU in a major frame; there is at least one.
 pub const MOST_MINOR_FRAMES: usize = 64;
 
@@ -102,6 +105,12 @@ pub const HIGH_MSR_FIRST: u64 = 0xC000_0000;
 
 /// The last MSR of that range.
 pub const HIGH_MSR_LAST: u64 = 0xC000_1FFF;
+
+/// How many devices a PCI bus has (PCI local bus: configuration addresses).
+pub const BDF_DEVICES: u64 = 32;
+
+/// How many functions a device on a PCI bus has.
+pub const BDF_FUNCTIONS: u64 = 8;
 
 // ---- files, in bytes (this project's profile)
 

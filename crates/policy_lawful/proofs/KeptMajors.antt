@@ -6,7 +6,7 @@ use Rattle.std.specs.Option.{option_map_or}
 use Rattle.std.specs.List.{list_all, list_any}
 use Rattle.std.proofs.lemmas.Bool.{and_from, and_parts, eq-eqb, ltb-true}
 use Rattle.muen_num.specs.Range.{numbers_below}
-use Rattle.policy_lawful.specs.Rules.{cpu_name, group_cpu, is_entry, is_frame, is_on, major_name, major_offence, offence_16, ticks_in}
+use Rattle.policy_lawful.specs.Rules.{cpu_name, group_cpu, is_entry, is_frame, is_on, major_name, major_offence, majors_of, offence_16, tau0_offence, ticks_in}
 use Rattle.muen_num.specs.Search.{first_in, first_after, unless}
 use Rattle.policy_lawful.specs.Offences.{two}
 use Rattle.policy_lawful.specs.declared.offence.Offence.{Offence}
@@ -69,6 +69,7 @@ pub record MajorsKept (p : Source) : Type 0 where
 pub majors_kept : (p : Source) → offence_16 p ≡ None → MajorsKept p
 unfolding offence_16 entry_offence
 majors_kept p h =
+    let frames = none_both (first_in (major_offence p) (majors_of p)) (tau0_offence p p.scheduling.tau0) h in
     let one : (k : ℕ) (m : MajorFrame) → major_offence p (k, m) ≡ None → is_major_kept p m ≡ true = λ k m none.
     let missing : ℕ → Option Offence = λ cpu. unless (is_named m.cpus cpu) (two (major_name k) (cpu_name cpu)) in
     let both = none_both (first_after (entry_offence p k) [] m.cpus) _ none in
@@ -76,7 +77,7 @@ majors_kept p h =
     and_from (list_all (has_frames p (first_ticks m.cpus)) m.cpus) (list_all (is_named m.cpus) (numbers_below p.processor.logical_cpus))
     (all_entries p k m.cpus both.0)
     (all_pass (is_named m.cpus) (λ cpu. two (major_name k) (cpu_name cpu)) (numbers_below p.processor.logical_cpus) named.0) in
-    record { majors = all_numbered (is_major_kept p) (major_offence p) one 0 p.scheduling.major_frames h }
+    record { majors = all_numbered (is_major_kept p) (major_offence p) one 0 p.scheduling.major_frames frames.0 }
 
 -- an entry has ticks
 pub some_ticks : (p : Source) (ticks : ℕ) (c : CpuFrames) → has_frames p ticks c ≡ true → 0 < ticks_in c

@@ -1,13 +1,12 @@
 -- What the scheduling plan of a resolved policy has that keeps the rules.
 use Rattle.std.proofs.Common.{◌≡◌, true, None}
 use Rattle.std.specs.List.{list_all}
-use Rattle.policy_lawful.specs.Lawful.{rules_broken}
+use Rattle.policy_lawful.specs.Lawful.{IsLawful}
 use Rattle.policy_lawful.specs.Resolution.{IsResolved, Resolution, group_placed, major_placed, source_of}
 use Rattle.policy_lawful.specs.Rules.{repeated}
 use Rattle.policy_lawful.proofs.SourceElements.{parts_placed}
 use Rattle.policy_lawful.proofs.UniqueNames.{group_names, groups_unique}
 use Rattle.policy_lawful.proofs.KeptCpus.{CpusKept, cpus_kept}
-use Rattle.policy_lawful.proofs.KeptRules.{rules_kept}
 use Rattle.policy_lawful.proofs.KeptLimits.{LimitsKept, limits_kept}
 use Rattle.policy_lawful.proofs.KeptMajors.{MajorsKept, majors_kept}
 use Rattle.policy_lawful.proofs.KeptMembers.{MembersKept, members_kept}
@@ -21,9 +20,8 @@ pub record PlanKept (r : Resolution) : Type 0 where
   pub groups_placed : list_all (group_placed r) r.scheduling.groups ≡ true
   pub majors_placed : list_all (major_placed r) r.scheduling.major_frames ≡ true
 
-pub plan_kept : (r : Resolution) → IsResolved r → rules_broken (source_of r) ≡ None → PlanKept r
-plan_kept r resolved lawful =
-    let kept = rules_kept (source_of r) lawful in
+pub plan_kept : (r : Resolution) → IsResolved r → IsLawful (source_of r) → PlanKept r
+plan_kept r resolved kept =
     let placed = parts_placed r resolved.placed in
     record {
       cpus = cpus_kept (source_of r) kept.rule_3;

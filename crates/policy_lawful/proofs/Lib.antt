@@ -1,4 +1,3 @@
-pub mod BuiltElements
 pub mod Keeps
 pub mod KeptAddresses
 pub mod KeptByPlace
@@ -14,4 +13,3 @@ pub mod Places
 mod RuleExamples
 pub mod SourceElements
 pub mod UniqueNames
-pub mod WindowsByPlace

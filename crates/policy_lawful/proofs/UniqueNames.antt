@@ -1,16 +1,53 @@
 -- Rule 1: the names of each kind are unique, so each tells a place.
-use Rattle.std.proofs.Common.{◌≡◌, ℕ, List, [], ◌∷◌, ◌++◌, map, None, sym, ap, ◌∙◌}
+use Rattle.std.proofs.Common.{◌≡◌, ℕ, zero, suc, List, [], ◌∷◌, ◌++◌, map, Option, Some, None, refl, sym, ap, subst, ◌∙◌}
+use Rattle.std.specs.Prelude.{not, slice_get}
 use Rattle.std.specs.List.{flat_map}
-use Rattle.policy_lawful.specs.Rules.{device_kinds, logical_names, offence_1, repeated}
+use Rattle.std.proofs.lemmas.List.{append-nil, append_assoc}
+use Rattle.muen_num.specs.Search.{first_in, first_after, unless}
+use Rattle.std.specs.Str.{bytes_eq}
+use Rattle.policy_lawful.specs.Offences.{alone}
+use Rattle.policy_lawful.specs.Rules.{device_kinds, kinds_of_names, logical_names, offence_1, repeated}
 use Rattle.policy_lawful.specs.Resolution.{Resolution, group_named, source_of, subject_named}
+use Rattle.policy_lawful.specs.declared.offence.Offence.{Offence}
+use Rattle.policy_types.specs.declared.source.Component.{Component}
+use Rattle.policy_types.specs.declared.source.Device.{Device}
 use Rattle.policy_types.specs.declared.source.Source.{Source}
+use Rattle.muen_num.proofs.FirstPair.{first_pair-append}
 use Rattle.muen_num.proofs.Lists.{map-map}
 use Rattle.muen_num.proofs.SearchLaws.{none_append, none_both}
+
+-- ---- lists that are joined
+
+abbrev stood : List (List ℕ) → List ℕ → Option Offence
+stood before x = first_in (λ a. unless (not (bytes_eq a x)) (alone x)) before
+
+-- where none stands twice with these in front, none does without them
+fewer_before : (front before xs : List (List ℕ)) → first_after stood (front ++ before) xs ≡ None → first_after stood before xs ≡ None
+fewer_before front before [] h = refl
+fewer_before front before (x ∷ xs) h =
+    let both = none_both (stood (front ++ before) x) (first_after stood ((front ++ before) ++ x ∷ []) xs) h in
+    let here = (none_append (λ a. unless {O = Offence} (not (bytes_eq a x)) (alone x)) front before both.0).1 in
+    let later = fewer_before front (before ++ x ∷ []) xs (ap (λ b. first_after stood b xs) (sym (append_assoc front before (x ∷ []))) ∙ both.1) in
+    rw (here, later) refl
+
+-- names that are unique together are unique in each part
+pub unique_parts : (xs ys : List (List ℕ)) → repeated (xs ++ ys) ≡ None → (repeated xs ≡ None) × (repeated ys ≡ None)
+unique_parts xs ys h =
+    let both = none_both (repeated xs) (first_after stood xs ys) (sym (first_pair-append (λ a b. unless (not (bytes_eq a b)) (alone b)) xs ys) ∙ h) in
+    (both.0, fewer_before xs [] ys (ap (λ b. first_after stood b ys) (append-nil xs) ∙ both.1))
+
+-- ---- of a source policy
 
 -- the names of each kind are unique
 pub record Unique (p : Source) : Type 0 where
   pub blocks : repeated (map (λ b. b.name) p.memory_blocks) ≡ None
-  pub regions : repeated (map (λ r. r.name) p.memory ++ map (λ c. c.name) p.channels) ≡ None
+  pub devices : repeated (map (λ d. d.name) p.devices) ≡ None
+  pub parts_of_devices : first_in repeated (flat_map device_kinds p.devices) ≡ None
+  pub regions : repeated (map (λ r. r.name) p.memory) ≡ None
+  pub channels : repeated (map (λ c. c.name) p.channels) ≡ None
+  pub components : repeated (map (λ c. c.name) p.components) ≡ None
+  pub logical_names : first_in repeated (map logical_names p.components) ≡ None
+  pub events : repeated (map (λ e. e.name) p.events) ≡ None
   pub subjects : repeated (map (λ s. s.name) p.subjects) ≡ None
   pub groups : repeated (map (λ g. g.name) p.scheduling.groups) ≡ None
 
@@ -27,12 +64,52 @@ unique p h =
     let c = none_append repeated ((front ++ devices) ++ middle) logical d.0 in
     let b = none_append repeated (front ++ devices) middle c.0 in
     let a = none_append repeated front devices b.0 in
+    let memory = unique_parts (map (λ r. r.name) p.memory) (map (λ c. c.name) p.channels) (none_both _ _ b.1).0 in
     record {
       blocks = (none_both _ _ a.0).0;
-      regions = (none_both _ _ b.1).0;
+      devices = (none_both _ _ (none_both _ _ a.0).1).0;
+      parts_of_devices = a.1;
+      regions = memory.0;
+      channels = memory.1;
+      components = (none_both _ _ (none_both _ _ b.1).1).0;
+      logical_names = c.1;
+      events = (none_both _ _ d.1).0;
       subjects = (none_both _ _ (none_both _ _ d.1).1).0;
       groups = (none_both _ _ (none_both _ _ (none_both _ _ d.1).1).1).0;
     }
+
+-- ---- of a device and of a component
+
+-- the names of a device's memory, ports and interrupts
+pub record UniqueParts (d : Device) : Type 0 where
+  pub memory : repeated (map (λ m. m.name) d.memory) ≡ None
+  pub io_ports : repeated (map (λ x. x.name) d.io_ports) ≡ None
+  pub irqs : repeated (map (λ i. i.name) d.irqs) ≡ None
+
+parts_among : (ds : List Device) (k : ℕ) (d : Device) → first_in repeated (flat_map device_kinds ds) ≡ None → slice_get ds k ≡ Some d → UniqueParts d
+parts_among [] k d h is = absurd (cc)
+parts_among (x ∷ xs) zero d h is =
+    let same : x ≡ d = cc in
+    let own = (none_append repeated (device_kinds x) (flat_map device_kinds xs) h).0 in
+    subst UniqueParts same (record {
+      memory = (none_both _ _ own).0;
+      io_ports = (none_both _ _ (none_both _ _ own).1).0;
+      irqs = (none_both _ _ (none_both _ _ (none_both _ _ own).1).1).0;
+    })
+parts_among (x ∷ xs) (suc k) d h is = parts_among xs k d (none_append repeated (device_kinds x) (flat_map device_kinds xs) h).1 is
+
+-- of a device at a place they are unique
+pub parts_unique : (p : Source) (k : ℕ) (d : Device) → offence_1 p ≡ None → slice_get p.devices k ≡ Some d → UniqueParts d
+parts_unique p k d h is = parts_among p.devices k d (unique p h).parts_of_devices is
+
+logical_among : (cs : List Component) (k : ℕ) (c : Component) → first_in repeated (map logical_names cs) ≡ None → slice_get cs k ≡ Some c → repeated (logical_names c) ≡ None
+logical_among [] k c h is = absurd (cc)
+logical_among (x ∷ xs) zero c h is = let same : x ≡ c = cc in subst (λ c. repeated (logical_names c) ≡ None) same (none_both _ _ h).0
+logical_among (x ∷ xs) (suc k) c h is = logical_among xs k c (none_both _ _ h).1 is
+
+-- the logical names of a component at a place are unique
+pub logical_unique : (p : Source) (k : ℕ) (c : Component) → offence_1 p ≡ None → slice_get p.components k ≡ Some c → repeated (logical_names c) ≡ None
+logical_unique p k c h is = logical_among p.components k c (unique p h).logical_names is
 
 -- ---- of a resolved policy
 

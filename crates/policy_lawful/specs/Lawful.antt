@@ -1,5 +1,6 @@
 -- Which rule a policy breaks, and the policies that break none.
-use Rattle.std.specs.Prelude.{[], ◌∷◌, Option, Some, None, Result, Ok, Err}
+use Rattle.std.specs.Prelude.{◌≡◌, [], ◌∷◌, Option, Some, None, Result, Ok, Err}
+use Rattle.policy_lawful.specs.Domains.{offence_21, offence_22, offence_23, offence_24}
 use Rattle.policy_lawful.specs.MoreRules.{offence_6, offence_7, offence_9, offence_10, offence_11, offence_12, offence_13, offence_14, offence_15, offence_19}
 use Rattle.policy_lawful.specs.Rules.{offence_1, offence_2, offence_3, offence_4, offence_5, offence_8, offence_16, offence_17, offence_18, offence_20}
 use Rattle.muen_num.specs.Search.{first_of}
@@ -12,7 +13,7 @@ use Rattle.policy_types.specs.declared.source.Source.{Source}
 unfoldable pub names_broken : Source → Option Refusal
 names_broken p = first_of (broken 1 (offence_1 p) ∷ broken 2 (offence_2 p) ∷ [])
 
--- the least of rules 3 to 20 that is broken
+-- the least of rules 3 to 24 that is broken
 unfoldable pub rules_broken : Source → Option Refusal
 rules_broken p =
     first_of (
@@ -34,8 +35,39 @@ rules_broken p =
     ∷ broken 18 (offence_18 p)
     ∷ broken 19 (offence_19 p)
     ∷ broken 20 (offence_20 p)
+    ∷ broken 21 (offence_21 p)
+    ∷ broken 22 (offence_22 p)
+    ∷ broken 23 (offence_23 p)
+    ∷ broken 24 (offence_24 p)
     ∷ []
     )
+
+-- a policy that keeps every rule
+pub record IsLawful (p : Source) : Type 0 where
+  pub rule_1 : offence_1 p ≡ None
+  pub rule_2 : offence_2 p ≡ None
+  pub rule_3 : offence_3 p ≡ None
+  pub rule_4 : offence_4 p ≡ None
+  pub rule_5 : offence_5 p ≡ None
+  pub rule_6 : offence_6 p ≡ None
+  pub rule_7 : offence_7 p ≡ None
+  pub rule_8 : offence_8 p ≡ None
+  pub rule_9 : offence_9 p ≡ None
+  pub rule_10 : offence_10 p ≡ None
+  pub rule_11 : offence_11 p ≡ None
+  pub rule_12 : offence_12 p ≡ None
+  pub rule_13 : offence_13 p ≡ None
+  pub rule_14 : offence_14 p ≡ None
+  pub rule_15 : offence_15 p ≡ None
+  pub rule_16 : offence_16 p ≡ None
+  pub rule_17 : offence_17 p ≡ None
+  pub rule_18 : offence_18 p ≡ None
+  pub rule_19 : offence_19 p ≡ None
+  pub rule_20 : offence_20 p ≡ None
+  pub rule_21 : offence_21 p ≡ None
+  pub rule_22 : offence_22 p ≡ None
+  pub rule_23 : offence_23 p ≡ None
+  pub rule_24 : offence_24 p ≡ None
 
 -- a policy that keeps the rules, else why not
 abbrev pub kept_or : Source → Option Refusal → Result Source Refusal

@@ -1,4 +1,5 @@
 pub mod ByPlace
+pub mod Domains
 pub mod Keeps
 pub mod Lawful
 pub mod MoreRules

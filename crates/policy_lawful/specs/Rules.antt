@@ -1,7 +1,7 @@
 -- The rules that a policy must keep beyond its schema, each by its first offence in the document's order (Muen system
 -- policy, in this project's profile). All sums are exact.
 use Rattle.std.specs.Prelude.{ℕ, ◌+◌, ◌-◌, ◌%◌, ◌==◌, ◌&&◌, ◌||◌, not, Bool, true, false, List, [], ◌∷◌, ◌++◌, length, map, slice_get, codes, decimal, nat_lt, nat_le, Option, Some, None, is_some, option_map, if◌then◌else◌}
-use Rattle.std.specs.Option.{option_map_or}
+use Rattle.std.specs.Option.{option_map_or, option_or}
 use Rattle.std.specs.List.{find, list_any, list_all, flat_map, sum_by, count_by, enumerate_from}
 use Rattle.std.specs.Str.{bytes_eq}
 use Rattle.muen_num.specs.Range.{numbers_below}
@@ -10,7 +10,7 @@ use Rattle.muen_num.specs.Search.{first_of, first_in, first_after, first_pair, u
 use Rattle.policy_lawful.specs.Offences.{alone, two}
 use Rattle.muen_num.specs.declared.access.Kind.TheVariants.{Write}
 use Rattle.policy_types.specs.Rights.{allows}
-use Rattle.policy_meaning.specs.Thing.{Thing, region, channel, provided, device_memory, same_thing, component_by}
+use Rattle.policy_meaning.specs.Thing.{Thing, region, channel, provided, device_memory, state, same_thing, component_by}
 use Rattle.policy_meaning.specs.Windows.{Window, windows_of}
 use Rattle.policy_lawful.specs.declared.offence.Extent.{Extent}
 use Rattle.policy_lawful.specs.declared.offence.Offence.{Offence}
@@ -26,6 +26,7 @@ use Rattle.policy_types.specs.declared.source.Group.{Group}
 use Rattle.policy_types.specs.declared.source.MajorFrame.{MajorFrame}
 use Rattle.policy_types.specs.declared.source.CpuFrames.{CpuFrames}
 use Rattle.policy_types.specs.declared.source.MinorFrame.{MinorFrame}
+use Rattle.policy_types.specs.declared.source.Tau0.{Tau0}
 
 -- ---- names that are printed for frames and CPUs
 
@@ -127,6 +128,7 @@ subject_references p s =
     ++ flat_map (device_references p s.name) s.devices
     ++ map (λ e. refers s.name (map (λ e. e.name) p.events) e.event) s.sources
     ++ map (λ e. refers s.name (map (λ e. e.name) p.events) e.event) s.targets
+    ++ map (λ m. refers s.name (map (λ s. s.name) p.subjects) m.subject) s.monitors
 
 abbrev pub group_references : Source → Group → List Reference
 group_references p g = map (refers g.name (map (λ s. s.name) p.subjects)) g.subjects
@@ -189,12 +191,14 @@ component_offence c =
     ∷ []
     )
 
--- the name of what a window shows; a provided region's is its logical name, a device's memory's its own
+-- the name of what a window shows; a provided region's is its logical name, a device's memory's its own, a state page's
+-- its subject's
 abbrev pub shown_name : Thing → List ℕ
 shown_name (region name) = name
 shown_name (channel name) = name
 shown_name (provided subject logical) = logical
 shown_name (device_memory device memory) = memory
+shown_name (state subject) = subject
 
 abbrev pub window_extent : Window Thing → Extent
 window_extent w = record { name = shown_name w.thing; address = w.guest; size = w.size }
@@ -234,7 +238,7 @@ first_overlap extents = first_pair overlapping extents
 unfoldable pub offence_5 : Source → Option Offence
 offence_5 p = first_in (λ s. first_overlap (window_extents p s)) p.subjects
 
--- ---- rule 8: what one subject may write, no other maps
+-- ---- rule 8: what one subject may write, no other maps, but for regions that are shared
 
 abbrev pub maps : Source → List ℕ → Subject → Bool
 maps p name s = list_any (λ w. same_thing w.thing (region name)) (windows_of p s)
@@ -248,8 +252,27 @@ other_than p name None = None
 other_than p name (Some writer) =
     option_map (λ s. two name s.name) (find (λ s. not (bytes_eq s.name writer.name) && maps p name s) p.subjects)
 
+-- a subject that maps a region, and that its list doesn't name
+abbrev pub stranger : Source → Region → Subject → Bool
+stranger p r s = maps p r.name s && not (is_declared r.shared_memory s.name)
+
+-- a name in a region's list, behind these: it isn't among them, and it is that of a subject that maps the region
+abbrev pub is_sharer : Source → Region → List (List ℕ) → List ℕ → Bool
+is_sharer p r before name =
+    not (is_declared before name) && list_any (λ s. bytes_eq s.name name && maps p r.name s) p.subjects
+
+-- of a region with a list: the first stranger, else the first name that is none of a sharer
+abbrev pub sharing_offence : Source → Region → Option Offence
+sharing_offence p r =
+    option_or (option_map (λ s. two r.name s.name) (find (stranger p r) p.subjects))
+    (first_after (λ before name. unless (is_sharer p r before name) (two r.name name)) [] r.shared_memory)
+
+abbrev pub writing_offence : Source → Region → Option Offence
+writing_offence p r =
+    if length r.shared_memory == 0 then other_than p r.name (find (writes p r.name) p.subjects) else sharing_offence p r
+
 unfoldable pub offence_8 : Source → Option Offence
-offence_8 p = first_in (λ r. other_than p r.name (find (writes p r.name) p.subjects)) p.memory
+offence_8 p = first_in (writing_offence p) p.memory
 
 -- ---- rule 16: major frames
 
@@ -284,8 +307,20 @@ major_offence p (k, m) =
     ∷ []
     )
 
+-- the subject that chooses frames is declared; its region is one that isn't shared; and the subject may write it
+abbrev pub tau0_offence : Source → Option Tau0 → Option Offence
+tau0_offence p None = None
+tau0_offence p (Some t) =
+    first_of (
+    unless (is_declared (map (λ s. s.name) p.subjects) t.subject) (two (codes "tau0") t.subject)
+    ∷ unless (list_any (λ r. bytes_eq r.name t.region && (length r.shared_memory == 0)) p.memory) (two (codes "tau0") t.region)
+    ∷ unless (list_any (λ s. bytes_eq s.name t.subject && writes p t.region s) p.subjects) (two (codes "tau0") t.region)
+    ∷ []
+    )
+
+-- the major frames, then who chooses them
 unfoldable pub offence_16 : Source → Option Offence
-offence_16 p = first_in (major_offence p) (majors_of p)
+offence_16 p = option_or (first_in (major_offence p) (majors_of p)) (tau0_offence p p.scheduling.tau0)
 
 -- ---- rule 17: groups and their members
 

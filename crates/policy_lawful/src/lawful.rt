@@ -1,7 +1,7 @@
 //! Policies that keep every rule.
 ghost use Rattle.std.specs.Prelude.{◌≡◌, None};
-ghost use Rattle.policy_lawful.specs.Resolution.{source_of};
-ghost use Rattle.policy_lawful.specs.Lawful.{rules_broken};
+ghost use Rattle.policy_lawful.specs.Resolution.{IsResolved, source_of};
+ghost use Rattle.policy_lawful.specs.Lawful.{IsLawful, rules_broken};
 
 use crate::resolved::Resolved;
 use std::marker::Model;
@@ -13,21 +13,22 @@ pub struct Lawful {
 }
 
 impl Model for Lawful {
-    ghost use Rattle.std.specs.Prelude.{◌≡◌, None};
     ghost use Rattle.policy_lawful.specs.Resolution.{Resolution, source_of};
-    ghost use Rattle.policy_lawful.specs.Lawful.{rules_broken};
+    ghost use Rattle.policy_lawful.specs.Lawful.{IsLawful};
 
     ghost Value = { Resolution };
 
     ghost view = { λ l. l.resolved };
 
-    ghost invariant = { λ l. rules_broken (source_of l.resolved) ≡ None };
+    ghost invariant = { λ l. IsLawful (source_of l.resolved) };
 }
 
 impl Lawful {
-    /// The policy, which keeps these rules.
+    /// The policy, in which no rule from 3 on is broken.
+    #[tactic(auto, using(crate::proofs::KeptRules::is_lawful))]
     pub fn make(resolved: Resolved) -> Lawful
-        requires { rules_broken (source_of resolved) ≡ None }
+        requires resolved { IsResolved resolved }
+        requires rules { rules_broken (source_of resolved) ≡ None }
         ensures { result ≡ resolved }
     {
         Lawful { resolved }
@@ -36,7 +37,7 @@ impl Lawful {
     /// The resolved policy.
     pub fn resolved(&self) -> &Resolved
         ensures value { result.now ≡ self.now }
-        ensures rules { rules_broken (source_of self.now) ≡ None }
+        ensures lawful { IsLawful (source_of self.now) }
     {
         &self.resolved
     }

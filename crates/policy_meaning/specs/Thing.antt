@@ -16,12 +16,15 @@ pub data Thing : Type 0 where
   provided : List ℕ → List ℕ → Thing
   -- a device's memory
   device_memory : List ℕ → List ℕ → Thing
+  -- the state page of a subject
+  state : List ℕ → Thing
 
 abbrev pub same_thing : Thing → Thing → Bool
 same_thing (region a) (region b) = bytes_eq a b
 same_thing (channel a) (channel b) = bytes_eq a b
 same_thing (provided s a) (provided t b) = bytes_eq s t && bytes_eq a b
 same_thing (device_memory d a) (device_memory e b) = bytes_eq d e && bytes_eq a b
+same_thing (state a) (state b) = bytes_eq a b
 same_thing _ _ = false
 
 -- the component that a subject uses
@@ -34,8 +37,8 @@ abbrev pub provided_by : List ℕ → Option Component → List Thing
 provided_by subject None = []
 provided_by subject (Some c) = map (λ x. provided subject x.logical) c.provides
 
--- all things of a policy, in the order of their numbers: regions, channels, each subject's provided regions, the
--- devices' memory
+-- all things of a policy but the state pages, in the order of their numbers: regions, channels, each subject's provided
+-- regions, the devices' memory
 unfoldable pub things_of : Source → List Thing
 things_of p =
     map (λ r. region r.name) p.memory

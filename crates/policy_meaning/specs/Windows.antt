@@ -4,7 +4,8 @@ use Rattle.std.specs.Prelude.{ℕ, ◌+◌, ◌-◌, ◌&&◌, Bool, List, [], �
 use Rattle.std.specs.List.{find, filter_map, flat_map}
 use Rattle.std.specs.Str.{bytes_eq}
 use Rattle.muen_num.specs.declared.access.Kind.{Kind}
-use Rattle.policy_meaning.specs.Thing.{Thing, region, channel, provided, device_memory, component_by}
+use Rattle.muen_num.specs.declared.limits.TheConstants.{PAGE}
+use Rattle.policy_meaning.specs.Thing.{Thing, region, channel, provided, device_memory, state, component_by}
 use Rattle.policy_types.specs.Rights.{allows, no_rights, union}
 use Rattle.policy_types.specs.declared.rights.Rights.{Rights}
 use Rattle.policy_types.specs.declared.rights.TheConstants.Rights.{READ, WRITE}
@@ -18,6 +19,7 @@ use Rattle.policy_types.specs.declared.source.ComponentChannel.{ComponentChannel
 use Rattle.policy_types.specs.declared.source.Required.{Required}
 use Rattle.policy_types.specs.declared.source.MapEntry.{MapEntry}
 use Rattle.policy_types.specs.declared.source.DeviceMapping.{DeviceMapping}
+use Rattle.policy_types.specs.declared.source.Monitor.{Monitor}
 
 -- a range of guest addresses that shows the whole of a thing from its first byte, with these rights
 pub record Window (X : Type 0) : Type 0 where
@@ -70,13 +72,19 @@ component_windows p s (Some c) =
     ++ filter_map (required_window p s) c.memory
     ++ filter_map (component_channel_window p s) c.channels
 
--- the windows of a subject, in order: its mappings, its channels, its devices' memory, those of its component
+-- a window on the state page of a monitored subject
+abbrev pub monitor_window : Monitor → Window Thing
+monitor_window m = window m.virtual_address PAGE m.rights (state m.subject)
+
+-- the windows of a subject, in order: its mappings, its channels, its devices' memory, those of its component, the state
+-- pages that it monitors
 unfoldable pub windows_of : Source → Subject → List (Window Thing)
 windows_of p s =
     filter_map (λ m. region_window p m.region m.virtual_address m.rights) s.memory
     ++ filter_map (λ c. channel_window p c.channel c.virtual_address c.role) s.channels
     ++ flat_map (λ d. filter_map (device_window p d.device) d.memory) s.devices
     ++ component_windows p s (component_by p s.component)
+    ++ map monitor_window s.monitors
 
 -- ---- what an access may touch
 

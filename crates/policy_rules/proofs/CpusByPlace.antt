@@ -10,7 +10,7 @@ use Rattle.policy_lawful.specs.declared.offence.Offence.{Offence}
 use Rattle.policy_lawful.specs.declared.resolved.MajorFrame.{MajorFrame}
 use Rattle.policy_types.specs.declared.source.CpuFrames.{CpuFrames as NamedCpu}
 use Rattle.policy_rules.specs.Cpus.{cpus_offence}
-use Rattle.policy_rules.proofs.SameAnswers.{both_named}
+use Rattle.muen_num.proofs.SameAnswers.{both_named}
 
 major_cpus : (r : Resolution) (cpus k : ℕ) (m : MajorFrame) → first_in {O = Offence} (λ c. unless (nat_lt c.cpu cpus) (two (major_name k) (cpu_name c.cpu))) (major_named r m).cpus ≡ first_in (λ c. unless (nat_lt c.cpu cpus) (two (major_name k) (cpu_name c.cpu))) m.cpus
 major_cpus r cpus k m =

@@ -21,7 +21,7 @@ use Rattle.policy_lawful.proofs.Places.{found_at_place, same_name}
 use Rattle.policy_lawful.proofs.SourceElements.{parts_placed}
 use Rattle.policy_lawful.proofs.UniqueNames.{subject_names, subjects_unique}
 use Rattle.policy_rules.specs.Groups.{cpu_of_subject, is_member, is_group, group_offence, times_among, times_in, member_offence, AreTimes, groups_offence, counted_offence}
-use Rattle.policy_rules.proofs.SameAnswers.{first_in-map, first_numbered_same, both_numbered, list_all_same, some_items, sum_by_same}
+use Rattle.muen_num.proofs.SameAnswers.{first_in-map, first_numbered_same, both_numbered, list_all_same, some_items, sum_by_same}
 
 subject_at_place : (r : Resolution) (place : ℕ) → repeated (subject_names r) ≡ None → place < length r.subjects
     → subject_cpu (source_of r) (name_at (subject_names r) place) ≡ cpu_of_subject r.subjects place

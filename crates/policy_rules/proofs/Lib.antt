@@ -1,13 +1,8 @@
 pub mod CpusByPlace
-pub mod FirstNumber
-pub mod FirstPair
 pub mod GroupsByPlace
 pub mod LimitsByPlace
 pub mod MajorsByPlace
 pub mod NotBuilt
-pub mod Overlaps
 pub mod RangesByPlace
 pub mod RulesJoined
-pub mod SameAnswers
-pub mod Spans
 pub mod WritersByPlace

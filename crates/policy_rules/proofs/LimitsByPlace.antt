@@ -24,7 +24,7 @@ use Rattle.policy_types.specs.declared.source.MinorFrame.{MinorFrame}
 use Rattle.policy_types.specs.declared.source.Source.{Source}
 use Rattle.policy_types.specs.declared.source.Subject.{Subject as NamedSubject}
 use Rattle.policy_rules.specs.Limits.{limits_offence, major_limit}
-use Rattle.policy_rules.proofs.SameAnswers.{both_named}
+use Rattle.muen_num.proofs.SameAnswers.{both_named}
 
 -- ---- as far as elements are built
 

@@ -20,7 +20,7 @@ use Rattle.policy_lawful.specs.declared.resolved.MinorFrame.{MinorFrame as Place
 use Rattle.policy_lawful.proofs.SourceElements.{cpu_at_place, frame_named, parts_placed, ticks_named}
 use Rattle.policy_lawful.proofs.UniqueNames.{group_names, groups_unique}
 use Rattle.policy_rules.specs.Majors.{is_frame, has_first_ticks, is_entry, entry_offence, missing_offence, major_offence}
-use Rattle.policy_rules.proofs.SameAnswers.{first_in_same, first_numbered-map, first_after-map, list_all_same, some_items}
+use Rattle.muen_num.proofs.SameAnswers.{first_in_same, first_numbered-map, first_after-map, list_all_same, some_items}
 
 frame_placed : Resolution → PlacedFrame → Bool
 frame_placed r f = nat_lt f.group (length r.scheduling.groups)

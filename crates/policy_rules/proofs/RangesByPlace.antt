@@ -24,7 +24,7 @@ use Rattle.policy_types.specs.Built.{is_built}
 use Rattle.policy_types.specs.declared.source.Block.{Block}
 use Rattle.policy_types.specs.declared.source.Region.{Region}
 use Rattle.policy_rules.specs.Windows.{addresses_offence, extent_in, extents_in, outside, outside_in, overlap_in}
-use Rattle.policy_rules.proofs.SameAnswers.{first_in-map}
+use Rattle.muen_num.proofs.SameAnswers.{first_in-map}
 
 -- ---- windows, by the places of their regions
 

@@ -26,7 +26,7 @@ use Rattle.policy_lawful.specs.declared.resolved.Subject.{Subject}
 use Rattle.muen_num.proofs.Lists.{find-map, list_any-map, option_map-option_map}
 use Rattle.policy_lawful.proofs.Places.{same_name}
 use Rattle.policy_rules.specs.Writers.{IsWithin, may_write, shows, alters, writer_of, other_of, noted, HasNames, named_at}
-use Rattle.policy_rules.proofs.SameAnswers.{first_numbered_same}
+use Rattle.muen_num.proofs.SameAnswers.{first_numbered_same}
 use Rattle.policy_lawful.specs.ByPlace.{no_region, region_at, mapping_window, is_ready}
 use Rattle.policy_lawful.proofs.WindowsByPlace.{windows_placed, regions_unique, all_ready}
 

@@ -4,6 +4,5 @@ pub mod Groups
 pub mod Keys
 pub mod Limits
 pub mod Majors
-pub mod Span
 pub mod Windows
 pub mod Writers

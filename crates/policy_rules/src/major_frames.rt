@@ -88,7 +88,7 @@ fn first_entry(groups: &[Group], place: usize, cpus: &[CpuFrames]) -> Option<Off
 }
 
 // The first of so many CPUs that isn't listed.
-#[tactic(auto, using(crate::proofs::FirstNumber::number_found, crate::proofs::FirstNumber::numbers_none_more))]
+#[tactic(auto, using(muen_num::proofs::FirstNumber::number_found, muen_num::proofs::FirstNumber::numbers_none_more))]
 fn first_missing(cpus: &[CpuFrames], place: usize, count: u64) -> Option<Offence>
     ensures { result ≡ first_in (missing_offence cpus.now place) (numbers_below count) }
 {

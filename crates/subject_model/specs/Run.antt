@@ -5,8 +5,8 @@ use Rattle.std.specs.List.{find, flat_map, cons_option}
 use Rattle.sha2.specs.Sha256.{sha256}
 use Rattle.muen_num.specs.Range.{numbers_below}
 use Rattle.muen_num.specs.declared.tag.Tag.{Tag}
-use Rattle.muen_num.specs.declared.tag.Part.TheVariants.{Whole, Named as NamedPart}
-use Rattle.policy_meaning.specs.Thing.{Thing, region, channel, provided, device_memory, same_thing}
+use Rattle.muen_num.specs.declared.tag.Part.TheVariants.{Whole, Named as NamedPart, State as StatePart}
+use Rattle.policy_meaning.specs.Thing.{Thing, region, channel, provided, device_memory, state, same_thing}
 use Rattle.policy_meaning.specs.Contents.{Held}
 use Rattle.policy_meaning.specs.Events.{Target, irq_of}
 use Rattle.policy_types.specs.declared.source.Source.{Source}
@@ -80,6 +80,7 @@ thing_tag (region name) = record { owner = name; part = Whole }
 thing_tag (channel name) = record { owner = name; part = Whole }
 thing_tag (provided subject logical) = record { owner = subject; part = NamedPart logical }
 thing_tag (device_memory device memory) = record { owner = device; part = NamedPart memory }
+thing_tag (state subject) = record { owner = subject; part = StatePart }
 
 abbrev pub is_device : Thing → Bool
 is_device (device_memory device memory) = true

@@ -12,10 +12,10 @@ use Rattle.policy_lawful.specs.Offences.{two}
 use Rattle.policy_lawful.specs.Rules.{are_apart, overlapping, first_overlap}
 use Rattle.policy_lawful.specs.declared.offence.Extent.{Extent}
 use Rattle.muen_num.proofs.SearchLaws.{unless_none}
-use Rattle.policy_rules.specs.declared.overlap.Span.{Span}
-use Rattle.policy_rules.specs.Span.{span_of, IsBelow}
-use Rattle.policy_rules.proofs.FirstPair.{pairs_at, pairs_from, first_pair-last}
-use Rattle.policy_rules.proofs.Spans.{IsApart, EachTwo, EachTwo-permutation, apart_from_neighbours, neighbours_from_apart}
+use Rattle.policy_extents.specs.declared.overlap.Span.{Span}
+use Rattle.policy_extents.specs.Span.{span_of, IsBelow}
+use Rattle.muen_num.proofs.FirstPair.{pairs_at, pairs_from, first_pair-last}
+use Rattle.policy_extents.proofs.Spans.{IsApart, EachTwo, EachTwo-permutation, apart_from_neighbours, neighbours_from_apart}
 
 -- ---- two ranges
 

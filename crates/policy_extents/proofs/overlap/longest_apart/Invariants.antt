@@ -1,7 +1,7 @@
 -- The first `apart` ranges share no address, and of the first `end` some two do.
 use Rattle.std.proofs.Common.{◌≡◌, ◌-◌, ◌<◌, ◌≤◌, true, length, take, is_some, None}
 use Rattle.policy_lawful.specs.Rules.{first_overlap}
-use Rattle.policy_rules.proofs.overlap.longest_apart.Given as goal
+use Rattle.policy_extents.proofs.overlap.longest_apart.Given as goal
 
 abbrev pub invariant-loop-end : goal.invariant-loop-end
 invariant-loop-end l = record {

@@ -1,7 +1,7 @@
 -- The sort's key is the address.
 use Rattle.std.proofs.Common.{rules}
 use Rattle.std.proofs.lemmas.List.Sorted.{IsNonDecreasingBy-from_sort_by_key}
-use Rattle.policy_rules.proofs.overlap.rising.Goals as goal
+use Rattle.policy_extents.proofs.overlap.rising.Goals as goal
 
 pub returns-clause-rising : goal.returns-clause-rising
 returns-clause-rising c =

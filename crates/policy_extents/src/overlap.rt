@@ -4,7 +4,7 @@ ghost use Rattle.std.specs.List.{All, AllAdjacentBelow, list_all};
 ghost use Rattle.std.specs.List.Sorted.{IsPermutation, IsNonDecreasingBy};
 ghost use Rattle.muen_num.specs.Search.{first_in};
 ghost use Rattle.policy_lawful.specs.Rules.{are_apart, overlapping, first_overlap};
-ghost use Rattle.policy_rules.specs.Span.{span_of, IsBelow};
+ghost use Rattle.policy_extents.specs.Span.{span_of, IsBelow};
 
 use muen_num::{NoMemory, first};
 use policy_lawful::{Extent, Offence};

@@ -6,8 +6,8 @@ use Rattle.std.specs.List.Sorted.{IsPermutation, IsNonDecreasingBy}
 use Rattle.std.proofs.lemmas.Bool.{cases_eq, cases_order, leb-true, le-leb, false≢true}
 use Rattle.std.proofs.lemmas.List.Edits.{Swapped, swapped_from_swap, length-swap}
 use Rattle.std.proofs.lemmas.List.Sorted.{IsPermutation-keeps}
-use Rattle.policy_rules.specs.declared.overlap.Span.{Span}
-use Rattle.policy_rules.specs.Span.{IsBelow}
+use Rattle.policy_extents.specs.declared.overlap.Span.{Span}
+use Rattle.policy_extents.specs.Span.{IsBelow}
 
 -- two ranges share no address
 abbrev pub IsApart : Span → Span → Type 0

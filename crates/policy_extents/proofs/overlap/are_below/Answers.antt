@@ -1,8 +1,8 @@
 -- The test of neighbours is that of the addresses.
 use Rattle.std.proofs.Common.{rules, ◌+◌, leb}
 use Rattle.std.proofs.lemmas.List.Sorted.{answers_always}
-use Rattle.policy_rules.proofs.Spans.{below_is}
-use Rattle.policy_rules.proofs.overlap.are_below.Goals as goal
+use Rattle.policy_extents.proofs.Spans.{below_is}
+use Rattle.policy_extents.proofs.overlap.are_below.Goals as goal
 
 pub returns : goal.returns
 returns c =

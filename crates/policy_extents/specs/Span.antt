@@ -1,7 +1,7 @@
 -- Ranges of addresses without their names.
 use Rattle.std.specs.Prelude.{◌+◌, ◌≤◌}
 use Rattle.policy_lawful.specs.declared.offence.Extent.{Extent}
-use Rattle.policy_rules.specs.declared.overlap.Span.{Span}
+use Rattle.policy_extents.specs.declared.overlap.Span.{Span}
 
 -- a range without its name
 abbrev pub span_of : Extent → Span

@@ -1,7 +1,7 @@
 -- The later one of the first pair ends the least front that has a pair.
 use Rattle.std.proofs.Common.{◌∙◌}
-use Rattle.policy_rules.proofs.Overlaps.{overlap_with_last}
-use Rattle.policy_rules.proofs.overlap.first_overlap.Goals as goal
+use Rattle.policy_extents.proofs.Overlaps.{overlap_with_last}
+use Rattle.policy_extents.proofs.overlap.first_overlap.Goals as goal
 
 pub returns : goal.returns
 returns c =
