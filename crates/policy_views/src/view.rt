@@ -1,0 +1,41 @@
+//! Views, which are windows by the places of what they show, and ends of channels.
+use muen_num::Name;
+use policy_types::{Rights, Role};
+
+/// What a view shows, by its place in the policy.
+#[derive(Clone, Copy, Debug, PartialEq, Eq)]
+pub enum Shown {
+    /// A region of memory.
+    Memory(usize),
+    /// A channel.
+    Channel(usize),
+    /// A region that the subject's component provides, by its place among those.
+    Provided(usize),
+    /// Memory of a device: the device's place, and the place among its memory.
+    Device(usize, usize),
+    /// The state page of a subject.
+    State(usize),
+}
+
+/// A window of a subject: `size` bytes from the guest address `guest` on show the whole of a thing.
+#[derive(Clone, Copy, Debug, PartialEq, Eq)]
+pub struct View {
+    /// The name of what it shows; a provided region's is its logical name, a state page's its
+    /// subject's.
+    pub name: Name,
+    pub guest: u64,
+    /// In bytes.
+    pub size: u64,
+    pub rights: Rights,
+    pub shows: Shown,
+}
+
+/// A subject's end of a channel, its own or one of its component.
+#[derive(Clone, Copy, Debug, PartialEq, Eq)]
+pub struct End {
+    /// The channel's place.
+    pub channel: usize,
+    pub role: Role,
+    pub call: Option<u64>,
+    pub vector: Option<u64>,
+}
