@@ -2,7 +2,7 @@
 use Rattle.std.proofs.Common.{◌≡◌, true, None, sym, subst}
 use Rattle.std.specs.List.{list_all}
 use Rattle.image_pack.specs.declared.plan.Plan.{Plan}
-use Rattle.policy_lawful.specs.Lawful.{rules_broken}
+use Rattle.policy_lawful.specs.Lawful.{IsLawful}
 use Rattle.policy_lawful.specs.Resolution.{IsResolved, Resolution, source_of}
 use Rattle.plan_emit.specs.Emitted.{emitted, fits_group, fits_major}
 use Rattle.plan_emit.specs.PlanOf.{IsPlanOf}
@@ -25,11 +25,11 @@ is_plan_of r k = record {
 
 -- ---- of a lawful policy
 
-pub lawful_groups_fit : (r : Resolution) → IsResolved r → rules_broken (source_of r) ≡ None → list_all fits_group r.scheduling.groups ≡ true
+pub lawful_groups_fit : (r : Resolution) → IsResolved r → IsLawful (source_of r) → list_all fits_group r.scheduling.groups ≡ true
 lawful_groups_fit r resolved lawful = groups_fit r (plan_kept r resolved lawful)
 
-pub lawful_majors_fit : (r : Resolution) → IsResolved r → rules_broken (source_of r) ≡ None → list_all fits_major r.scheduling.major_frames ≡ true
+pub lawful_majors_fit : (r : Resolution) → IsResolved r → IsLawful (source_of r) → list_all fits_major r.scheduling.major_frames ≡ true
 lawful_majors_fit r resolved lawful = majors_fit r (plan_kept r resolved lawful)
 
-pub lawful_plan : (r : Resolution) (plan : Plan) → IsResolved r → rules_broken (source_of r) ≡ None → plan ≡ emitted r → IsPlanOf (source_of r) plan
+pub lawful_plan : (r : Resolution) (plan : Plan) → IsResolved r → IsLawful (source_of r) → plan ≡ emitted r → IsPlanOf (source_of r) plan
 lawful_plan r plan resolved lawful is = subst (IsPlanOf (source_of r)) (sym is) (is_plan_of r (plan_kept r resolved lawful))

@@ -5,7 +5,7 @@ use Rattle.std.specs.List.{list_all}
 use Rattle.std.proofs.Math.ListN.{get_or-map}
 use Rattle.std.proofs.lemmas.Bool.{and_parts, eqb-true, leb-true, ltb-true}
 use Rattle.std.proofs.lemmas.List.{length-map, length-replicate}
-use Rattle.policy_lawful.specs.ByPlace.{no_region, region_at, mapping_extent}
+use Rattle.window_machine.specs.ByPlace.{no_region, region_at, mapping_extent}
 use Rattle.policy_lawful.specs.Rules.{is_page_aligned, is_page_size, is_guest}
 use Rattle.policy_meaning.specs.Contents.{content_bytes, fits_in, no_files}
 use Rattle.policy_lawful.specs.Resolution.{Resolution, subject_named, source_of}

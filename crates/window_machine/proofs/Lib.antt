@@ -1,9 +1,11 @@
 pub mod AccessWithin
 pub mod CanRun
 pub mod Loadable
+pub mod PlainSubjects
 pub mod RunText
 pub mod Stores
 pub mod SystemRun
 pub mod SystemTurn
 pub mod ThingsByPlace
+pub mod WindowsByPlace
 pub mod WindowsFit

@@ -1,29 +1,27 @@
--- What a lawful policy of built elements gives to the machine.
+-- What a lawful policy that the machine can load gives to it.
 use Rattle.std.proofs.Common.{◌≡◌, ℕ, ◌≤◌, true, List, [], ◌∷◌, length, map, None, refl, sym, ap, ◌∙◌, arith}
 use Rattle.std.specs.Prelude.{nat_lt}
 use Rattle.std.specs.List.{All, list_all}
 use Rattle.std.proofs.lemmas.Bool.{and_parts, ltb-true}
 use Rattle.std.proofs.lemmas.List.Sums.{AllPass-from_list_all}
-use Rattle.std.proofs.lemmas.Bool.Decides.{nat_tests}
-use Rattle.policy_types.specs.Built.{is_built_number, has_built_cpus}
-use Rattle.policy_lawful.specs.ByPlace.{mapping_extent, is_ready}
-use Rattle.policy_lawful.specs.Lawful.{rules_broken}
+use Rattle.window_machine.specs.ByPlace.{mapping_extent, is_ready}
+use Rattle.policy_lawful.specs.Lawful.{IsLawful}
 use Rattle.policy_lawful.specs.Rules.{repeated, is_guest, window_extents}
 use Rattle.policy_lawful.specs.Resolution.{Resolution, subject_named, source_of, IsResolved}
 use Rattle.policy_lawful.specs.declared.resolved.Subject.{Subject}
 use Rattle.policy_lawful.specs.declared.resolved.Mapping.{Mapping}
 use Rattle.policy_types.specs.declared.source.Region.{Region}
 use Rattle.policy_lawful.proofs.UniqueNames.{subjects_unique}
-use Rattle.policy_lawful.proofs.WindowsByPlace.{extents_placed, regions_unique, all_ready}
+use Rattle.window_machine.proofs.PlainSubjects.{all_ready}
+use Rattle.window_machine.proofs.WindowsByPlace.{extents_placed, regions_unique}
 use Rattle.policy_lawful.proofs.KeptAddresses.{addresses_kept}
 use Rattle.policy_lawful.proofs.KeptCpus.{cpus_kept}
-use Rattle.policy_lawful.proofs.KeptRules.{rules_kept}
 use Rattle.window_machine.specs.Start.{CanLoad, has_fitting_content, ArePlacedIn}
 
--- a lawful policy whose elements are built, and whose contents fit
+-- a lawful policy that the machine can load
 pub record IsLoadable (r : Resolution) : Type 0 where
   pub resolved : IsResolved r
-  pub rules : rules_broken (source_of r) ≡ None
+  pub lawful : IsLawful (source_of r)
   pub loads : CanLoad (source_of r)
 
 -- ---- contents
@@ -35,7 +33,7 @@ all_fitting r f = f.loads.contents
 -- ---- places
 
 pub ready : (r : Resolution) → IsLoadable r → list_all (is_ready r) r.subjects ≡ true
-ready r f = all_ready r f.loads.built f.resolved.placed
+ready r f = all_ready r f.loads f.resolved.placed
 
 placed : (regions : List Region) (ms : List Mapping) → list_all (λ m. nat_lt m.region (length regions)) ms ≡ true → ArePlacedIn regions ms
 placed regions ms h k d l =
@@ -48,7 +46,7 @@ all_placed r f k d l =
 -- ---- names
 
 pub unique_regions : (r : Resolution) → IsLoadable r → repeated (map (λ x. x.name) r.memory) ≡ None
-unique_regions r f = regions_unique r f.loads.built f.resolved.names
+unique_regions r f = regions_unique r f.resolved.names
 
 pub unique_subjects : (r : Resolution) → IsLoadable r → repeated (map (λ s. s.name) r.subjects) ≡ None
 unique_subjects r f = subjects_unique r f.resolved.names
@@ -80,16 +78,13 @@ subjects_are r = refl
 
 pub all_whole_pages : (r : Resolution) → IsLoadable r → AllWholePages r.memory r.subjects
 all_whole_pages r f =
-    let windows = (addresses_kept (source_of r) (rules_kept (source_of r) f.rules).rule_4).windows in
+    let windows = (addresses_kept (source_of r) f.lawful.rule_4).windows in
     whole_pages_each r f r.subjects (ready r f) (sym (ap (list_all (λ s. list_all (λ e. is_guest e.address e.size) (window_extents (source_of r) s))) (subjects_are r)) ∙ windows)
 
 -- ---- the one CPU
 
-one_of : (n : ℕ) → 1 ≤ n → n ≤ 8 → is_built_number n ≡ true → n ≡ 1
-one_of n some few h = grind (arith, nat_tests)
-
 pub one_cpu : (r : Resolution) → IsLoadable r → (source_of r).processor.logical_cpus ≡ 1
-unfolding has_built_cpus
 one_cpu r f =
-    let cpus = cpus_kept (source_of r) (rules_kept (source_of r) f.rules).rule_3 in
-    one_of (source_of r).processor.logical_cpus cpus.some cpus.most f.loads.cpus
+    let some = (cpus_kept (source_of r) f.lawful.rule_3).some in
+    let most = f.loads.cpus in
+    omega (arith, some, most)

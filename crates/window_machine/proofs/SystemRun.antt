@@ -7,20 +7,19 @@ use Rattle.std.specs.Str.{bytes_eq}
 use Rattle.std.proofs.lemmas.Bool.{and_parts}
 use Rattle.std.proofs.lemmas.List.{append-nil}
 use Rattle.muen_num.specs.Range.{numbers_below}
-use Rattle.policy_types.specs.Built.{is_plain}
 use Rattle.policy_meaning.specs.Contents.{Held, content_bytes, fits_in, initial_bytes, no_files}
 use Rattle.policy_lawful.specs.Resolution.{Resolution, name_at, subject_named, source_of}
 use Rattle.policy_lawful.specs.Rules.{repeated}
 use Rattle.policy_meaning.specs.Thing.{region, channel, device_memory, provided_by, component_by, things_of}
 use Rattle.policy_lawful.specs.declared.resolved.Subject.{Subject}
 use Rattle.policy_types.specs.declared.source.Subject.{Subject as NamedSubject}
+use Rattle.policy_types.specs.declared.source.ComponentUse.{ComponentUse}
 use Rattle.policy_types.specs.declared.source.Source.{Source}
 use Rattle.policy_types.specs.declared.source.Region.{Region}
 use Rattle.policy_types.specs.declared.source.Content.{Content}
 use Rattle.policy_types.specs.declared.source.Content.TheVariants.{Zero, Fill, Inline, File}
 use Rattle.muen_num.proofs.Lists.{map-map}
 use Rattle.policy_lawful.proofs.Places.{found_at_place}
-use Rattle.policy_lawful.proofs.BuiltElements.{plain, built}
 use Rattle.image_pack.specs.declared.plan.Plan.{Plan}
 use Rattle.plan_emit.specs.PlanOf.{IsPlanOf}
 use Rattle.state_page.specs.StatePage.{started}
@@ -77,11 +76,13 @@ module _ (r : Resolution) (f : IsLoadable r) where
       ∙ plain_content files x.size x.content a.0 in
       (λ i. (region x.name, bytes i) ∷ things_among files xs h.1 a.1 i)
 
-  none_provided : (ss : List NamedSubject) → list_all is_plain ss ≡ true → flat_map (λ s. provided_by s.name (component_by (source_of r) s.component)) ss ≡ []
-  none_provided [] h = refl
-  none_provided (s ∷ ss) h =
-      let a : (is_plain s ≡ true) × (list_all is_plain ss ≡ true) = and_parts _ _ h in
-      (λ i. provided_by s.name (component_by (source_of r) ((plain s a.0).component i)) ++ none_provided ss a.1 i)
+  no_component : (o : Option ComponentUse) → component_by (source_of r) o ≡ None
+  no_component None = refl
+  no_component (Some used) = ap (find (λ c. bytes_eq c.name used.used)) f.loads.components
+
+  none_provided : (ss : List NamedSubject) → flat_map (λ s. provided_by s.name (component_by (source_of r) s.component)) ss ≡ []
+  none_provided [] = refl
+  none_provided (s ∷ ss) = λ i. provided_by s.name (no_component s.component i) ++ none_provided ss i
 
   memory_is : (source_of r).memory ≡ r.memory
   unfolding source_of
@@ -90,12 +91,11 @@ module _ (r : Resolution) (f : IsLoadable r) where
   things_are : things_of (source_of r) ≡ map (λ x. region x.name) r.memory
   unfolding things_of
   things_are =
-      let b = built (source_of r) f.loads.built in
-      let provided = none_provided (source_of r).subjects b.subjects in
+      let provided = none_provided (source_of r).subjects in
       (λ i. map (λ x. region x.name) (memory_is i)
-      ++ map (λ c. channel c.name) (b.channels i)
+      ++ map (λ c. channel c.name) (f.loads.channels i)
       ++ provided i
-      ++ flat_map (λ d. map (λ m. device_memory d.name m.name) d.memory) (b.devices i))
+      ++ flat_map (λ d. map (λ m. device_memory d.name m.name) d.memory) (f.loads.devices i))
       ∙ append-nil _ ∙ append-nil _ ∙ append-nil _
 
   start_is : (files : Held) (plan : Plan) → start_of (source_of r) files ≡ system_of (source_of r) (machine_of r plan)

@@ -11,8 +11,7 @@ use Rattle.std.proofs.lemmas.Option.{slice_get-map, slice_get-get_or, get_or_fro
 use Rattle.muen_num.specs.Size.{bytes_of as count}
 use Rattle.muen_num.specs.declared.access.Kind.TheVariants.{Write}
 use Rattle.muen_num.specs.declared.access.Size.{Size}
-use Rattle.policy_types.specs.Built.{is_plain}
-use Rattle.policy_lawful.specs.ByPlace.{no_region, region_at, mapping_window, is_ready}
+use Rattle.window_machine.specs.ByPlace.{is_plain, no_region, region_at, mapping_window, is_ready}
 use Rattle.policy_meaning.specs.Events.{event_of}
 use Rattle.policy_meaning.specs.Frames.{frames_of, first_member}
 use Rattle.policy_lawful.specs.Resolution.{Resolution, name_at, subject_named, source_of}
@@ -28,8 +27,8 @@ use Rattle.muen_num.proofs.Lists.{map-map, position-map}
 use Rattle.policy_lawful.proofs.Places.{position_is, found_at_place}
 use Rattle.policy_lawful.proofs.SourceElements.{many_subjects}
 use Rattle.policy_lawful.proofs.UniqueNames.{names_of_subjects}
-use Rattle.policy_lawful.proofs.BuiltElements.{plain}
-use Rattle.policy_lawful.proofs.WindowsByPlace.{windows_placed}
+use Rattle.window_machine.proofs.PlainSubjects.{plain}
+use Rattle.window_machine.proofs.WindowsByPlace.{windows_placed}
 use Rattle.image_pack.specs.Plan.{frames_in, cpus_of}
 use Rattle.image_pack.specs.Slot.{Slot, slot_at}
 use Rattle.image_pack.specs.declared.plan.GroupPart.{GroupPart}

@@ -1,4 +1,4 @@
--- The windows of a subject of a built policy are its mappings, each on the region at its place.
+-- The windows of a subject with mappings alone are these, each on the region at its place.
 use Rattle.std.proofs.Common.{◌≡◌, ℕ, ◌<◌, true, List, [], ◌∷◌, ◌++◌, length, map, Some, None, refl, sym, ap, ◌∙◌, append-nil}
 use Rattle.std.specs.Prelude.{nat_lt, option_map}
 use Rattle.std.specs.List.{find, list_all, filter_map, cons_option}
@@ -7,7 +7,6 @@ use Rattle.std.proofs.lemmas.Option.{slice_get-get_or}
 use Rattle.std.proofs.lemmas.List.Folds.{list_all-map}
 use Rattle.std.proofs.lemmas.Bool.{and_from, and_parts, ltb-true}
 use Rattle.policy_lawful.specs.Rules.{repeated, window_extent, window_extents, offence_1}
-use Rattle.policy_types.specs.Built.{is_plain, is_built}
 use Rattle.policy_lawful.specs.Resolution.{Resolution, name_at, mapping_named, subject_named, source_of, subject_placed, are_placed}
 use Rattle.policy_meaning.specs.Thing.{region}
 use Rattle.policy_meaning.specs.Windows.{window, region_window, windows_of}
@@ -19,10 +18,10 @@ use Rattle.policy_lawful.specs.declared.resolved.Mapping.{Mapping}
 use Rattle.policy_lawful.specs.declared.resolved.Subject.{Subject}
 use Rattle.muen_num.proofs.Lists.{each_of, map-map}
 use Rattle.policy_lawful.proofs.Places.{found_at_place}
-use Rattle.policy_lawful.proofs.BuiltElements.{built, plain}
+use Rattle.window_machine.proofs.PlainSubjects.{plain}
 use Rattle.policy_lawful.proofs.SourceElements.{parts_placed}
 use Rattle.policy_lawful.proofs.UniqueNames.{unique}
-use Rattle.policy_lawful.specs.ByPlace.{no_region, region_at, mapping_window, mapping_extent, is_ready}
+use Rattle.window_machine.specs.ByPlace.{is_plain, no_region, region_at, mapping_window, mapping_extent}
 
 -- ---- windows
 
@@ -44,7 +43,7 @@ module _ (r : Resolution) (names : repeated (map (λ x. x.name) r.memory) ≡ No
   unfolding windows_of
   windows_are s h =
       let q = plain (subject_named r s) h in
-      rw (q.component, q.channels, q.devices, append-nil, append-nil, append-nil) refl
+      rw (q.component, q.channels, q.devices, q.monitors, append-nil, append-nil, append-nil, append-nil) refl
 
   windows_among : (ms : List Mapping) → list_all (λ m. nat_lt m.region (length r.memory)) ms ≡ true → filter_map (λ m. region_window p m.region m.virtual_address m.rights) (map (mapping_named r) ms) ≡ map (mapping_window r.memory) ms
   windows_among [] h = refl
@@ -62,25 +61,8 @@ module _ (r : Resolution) (names : repeated (map (λ x. x.name) r.memory) ≡ No
   extents_placed s h placed =
       ap (map window_extent) (windows_placed s h placed) ∙ map-map window_extent (mapping_window r.memory) s.memory
 
--- ---- subjects of a built policy
+-- ---- the names of regions
 
-pub regions_unique : (r : Resolution) → is_built (source_of r) ≡ true → offence_1 (source_of r) ≡ None → repeated (map (λ x. x.name) r.memory) ≡ None
+pub regions_unique : (r : Resolution) → offence_1 (source_of r) ≡ None → repeated (map (λ x. x.name) r.memory) ≡ None
 unfolding source_of
-regions_unique r b h =
-    let none : r.channels ≡ [] = (built (source_of r) b).channels in
-    let regions : repeated (map (λ x. x.name) r.memory ++ map (λ c. c.name) r.channels) ≡ None = (unique (source_of r) h).regions in
-    sym (ap repeated (ap (λ cs. map (λ (x : Region). x.name) r.memory ++ map (λ (c : Channel). c.name) cs) none ∙ append-nil _)) ∙ regions
-
-pub all_ready : (r : Resolution) → is_built (source_of r) ≡ true → are_placed r ≡ true → list_all (is_ready r) r.subjects ≡ true
-unfolding source_of
-all_ready r b h =
-    each_of (λ s. is_plain (subject_named r s)) (subject_placed r) (is_ready r)
-    (λ s plain placed.
-    let f = and_parts _ _ placed in
-    let e = and_parts _ _ f.0 in
-    let d = and_parts _ _ e.0 in
-    let c = and_parts _ _ d.0 in
-    and_from _ _ plain (and_parts _ _ (and_parts _ _ c.0).0).1)
-    r.subjects
-    (sym (list_all-map is_plain (subject_named r) r.subjects) ∙ (built (source_of r) b).subjects)
-    (parts_placed r h).subjects
+regions_unique r h = (unique (source_of r) h).regions

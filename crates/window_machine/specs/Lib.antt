@@ -1,2 +1,3 @@
+pub mod ByPlace
 pub mod Machine
 pub mod Start

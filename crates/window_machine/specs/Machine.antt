@@ -8,7 +8,7 @@ use Rattle.image_pack.specs.declared.plan.GroupPart.{GroupPart}
 use Rattle.image_pack.specs.declared.plan.Plan.{Plan}
 use Rattle.muen_num.specs.Size.{bytes_of}
 use Rattle.muen_num.specs.declared.tag.Part.TheVariants.{Whole}
-use Rattle.policy_lawful.specs.ByPlace.{region_at}
+use Rattle.window_machine.specs.ByPlace.{region_at}
 use Rattle.policy_meaning.specs.Windows.{Window as WindowOf, Access as AccessTo, byte, violation, window}
 use Rattle.policy_meaning.specs.Contents.{content_bytes, no_files}
 use Rattle.policy_lawful.specs.Resolution.{Resolution}

@@ -1,19 +1,30 @@
 -- What the machine asks of a policy, and of its regions and subjects, so that it can start.
-use Rattle.std.specs.Prelude.{◌≡◌, ◌<◌, Bool, true, List, length}
+use Rattle.std.specs.Prelude.{◌≡◌, ◌<◌, ◌≤◌, ◌&&◌, Bool, true, List, [], length, None}
 use Rattle.std.specs.List.{All, list_all}
 use Rattle.policy_meaning.specs.Contents.{fits_in}
-use Rattle.policy_types.specs.Built.{is_built, has_built_cpus}
 use Rattle.policy_lawful.specs.declared.resolved.Mapping.{Mapping}
 use Rattle.policy_types.specs.declared.source.Source.{Source}
+use Rattle.policy_types.specs.declared.source.Subject.{Subject}
 use Rattle.policy_types.specs.declared.source.Region.{Region}
+use Rattle.window_machine.specs.ByPlace.{is_empty}
 
 abbrev pub has_fitting_content : Region → Bool
 has_fitting_content r = fits_in r.size r.content
 
--- a policy of elements that are built, whose contents are no files' and fit
+-- a subject that is granted no MSRs and monitors nobody
+abbrev pub has_memory_alone : Subject → Bool
+has_memory_alone s = is_empty s.msrs && is_empty s.monitors
+
+-- one CPU, no devices, channels, components and events, no MSRs, no monitors, nobody who chooses frames; and contents that
+-- are no files' and fit
 pub record CanLoad (p : Source) : Type 0 where
-  pub built : is_built p ≡ true
-  pub cpus : has_built_cpus p ≡ true
+  pub cpus : p.processor.logical_cpus ≤ 1
+  pub devices : p.devices ≡ []
+  pub channels : p.channels ≡ []
+  pub components : p.components ≡ []
+  pub events : p.events ≡ []
+  pub subjects : list_all has_memory_alone p.subjects ≡ true
+  pub tau0 : p.scheduling.tau0 ≡ None
   pub contents : list_all has_fitting_content p.memory ≡ true
 
 -- each mapping is of a region that is there

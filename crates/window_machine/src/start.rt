@@ -1,7 +1,7 @@
 // The machine of a policy, at the start.
 ghost use Rattle.std.specs.Prelude.{◌≡◌, ◌<◌, true, map, length, IfOk};
 ghost use Rattle.std.specs.List.{All, list_all};
-ghost use Rattle.policy_lawful.specs.ByPlace.{region_at};
+ghost use Rattle.window_machine.specs.ByPlace.{region_at};
 ghost use Rattle.window_machine.specs.Machine.{holding_at_start, window_in, guest_at_start};
 ghost use Rattle.window_machine.specs.Start.{has_fitting_content, ArePlacedIn};
 

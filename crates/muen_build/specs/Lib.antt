@@ -1,0 +1,4 @@
+pub mod Accepting
+pub mod Filling
+pub mod Looks
+pub mod Refusals

@@ -1,0 +1,91 @@
+//! Policies that are accepted, with the component files that they name.
+ghost use Rattle.std.specs.Prelude.{◌≡◌, ◌∷◌, ◌++◌, [], length, None, OnOk, option_map};
+ghost use Rattle.muen_outside.specs.Store.{find_bytes};
+
+use indexmap::IndexMap;
+use muen_num::{Name, NoMemory, Seq};
+use policy_lawful::Lawful;
+use policy_types::Refusal;
+use std::alloc::{AllocError, Global};
+use std::marker::Model;
+
+/// Why a policy is not accepted.
+#[derive(Debug, Drop)]
+pub enum BuildEnd {
+    /// It is refused, or memory was.
+    Refused(Refusal),
+    /// A call on files failed.
+    FileFault,
+}
+
+impl From<Refusal> for BuildEnd {
+    ghost use Rattle.std.specs.Prelude.{◌≡◌};
+
+    ghost from_gives = { λ refusal end. end ≡ BuildEnd.Refused refusal };
+
+    fn from(refusal: Refusal) -> BuildEnd {
+        BuildEnd::Refused(refusal)
+    }
+}
+
+impl From<NoMemory> for BuildEnd {
+    ghost use Rattle.std.specs.Prelude.{◌≡◌};
+
+    ghost from_gives = { λ _ end. end ≡ BuildEnd.Refused Refusal.NoMemory };
+
+    fn from(_: NoMemory) -> BuildEnd {
+        BuildEnd::Refused(Refusal::NoMemory)
+    }
+}
+
+/// Component files that were read, each once, by their names. Contracts see the list of names with
+/// bytes.
+#[derive(Drop)]
+pub struct ComponentFiles {
+    files: IndexMap<Name, Seq<u8>>,
+}
+
+impl Model for ComponentFiles {
+    ghost use Rattle.std.specs.Prelude.{List, ℕ};
+
+    ghost Value = { List (List ℕ × List ℕ) };
+
+    ghost view = { λ x. x.files.entries };
+}
+
+impl ComponentFiles {
+    /// No files.
+    pub fn new(alloc: Global) -> ComponentFiles
+        ensures { result ≡ [] }
+    {
+        ComponentFiles {
+            files: IndexMap::new(alloc),
+        }
+    }
+
+    /// How many bytes the file of this name has, if it was read.
+    pub fn length(&self, name: Name) -> Option<usize>
+        ensures { result ≡ option_map (λ bytes. length bytes) (find_bytes name self.now) }
+    {
+        match self.files.get(name) {
+            None => None,
+            Some(bytes) => Some(bytes.len()),
+        }
+    }
+
+    /// Adds a file that wasn't read before.
+    pub fn add(&mut self, name: Name, bytes: Seq<u8>) -> Result<(), NoMemory>
+        requires { find_bytes name self.old ≡ None }
+        ensures { OnOk result (self.new ≡ self.old ++ (name, bytes) ∷ []) }
+    {
+        self.files.insert(name, bytes)?;
+        Ok(())
+    }
+}
+
+/// A policy that is accepted, with the files that its contents name.
+#[derive(Drop)]
+pub struct Accepted {
+    pub policy: Lawful,
+    pub files: ComponentFiles,
+}
