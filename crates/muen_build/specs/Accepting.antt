@@ -8,7 +8,10 @@ use Rattle.muen_outside.specs.States.{FilesState}
 use Rattle.muen_outside.specs.Store.{Store, Reading, whole, absent, long, reading_of}
 use Rattle.policy_types.specs.declared.refusal.Refusal.{Refusal}
 use Rattle.policy_types.specs.declared.refusal.Refusal.TheVariants.{Missing, TooLong, NoMemory}
+use Rattle.policy_lawful.specs.declared.resolved.Subject.{Subject}
+use Rattle.policy_types.specs.declared.source.Component.{Component}
 use Rattle.policy_types.specs.declared.source.Source.{Source}
+use Rattle.muen_build.specs.Filling.{brought_at}
 use Rattle.muen_build.specs.Looks.{AreOthers, Look, Saw, Seen, ShowAll, document_look, file_look, look}
 use Rattle.muen_build.specs.Refusals.{Filled, accepted_policy_of, filled_refused, is_for_a_file}
 use Rattle.muen_build.specs.declared.accepted.BuildEnd.{BuildEnd}
@@ -80,17 +83,27 @@ NotFound name files _ = ⊥
 
 -- ---- contents
 
-abbrev pub RefusesFilled : Filled → Store → Refusal → Type 0
-RefusesFilled f files r = filled_refused files f ≡ Some r
+-- why something is refused, over files
+abbrev pub Why : Type 0
+Why = Store → Option Refusal
 
-abbrev pub Passes : List Look → Filled → Type 0
-Passes looks f = (files : Store) → ShowAll files looks → filled_refused files f ≡ None
+abbrev pub Refuses : Why → Store → Refusal → Type 0
+Refuses why files r = why files ≡ Some r
 
-abbrev pub RefusesAll : List Filled → Store → Refusal → Type 0
-RefusesAll all files r = first_in (filled_refused files) all ≡ Some r
+-- in files that show these looks nothing is
+abbrev pub Passes : List Look → Why → Type 0
+Passes looks why = (files : Store) → ShowAll files looks → why files ≡ None
 
-abbrev pub PassAll : List Look → List Filled → Type 0
-PassAll looks all = (files : Store) → ShowAll files looks → first_in (filled_refused files) all ≡ None
+-- why one content is refused, and the first of several
+abbrev pub of_filled : Filled → Why
+of_filled f files = filled_refused files f
+
+abbrev pub of_all : List Filled → Why
+of_all all files = first_in (filled_refused files) all
+
+-- the first of those that the components of these subjects bring along
+abbrev pub of_brought : List Component → List Subject → Why
+of_brought components subjects files = first_in (λ s. first_in (filled_refused files) (brought_at components s)) subjects
 
 -- ---- the policy
 

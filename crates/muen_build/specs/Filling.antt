@@ -10,11 +10,12 @@ use Rattle.policy_types.specs.declared.source.Component.{Component}
 use Rattle.policy_types.specs.declared.source.Provided.{Provided}
 use Rattle.policy_types.specs.declared.source.Region.{Region}
 use Rattle.muen_build.specs.Refusals.{Filled}
-use Rattle.muen_build.specs.declared.filled.Filling.{Filling}
+use Rattle.muen_num.specs.declared.tag.Tag.{Tag}
+use Rattle.policy_types.specs.declared.source.Content.{Content}
 
--- with the content that is lent
-abbrev pub filled_in : Filling → Filled
-filled_in f = record { tag = f.tag; size = f.size; content = f.content.now }
+-- a region with this name and size, and what it holds
+abbrev pub filled : Tag → ℕ → Content → Filled
+filled tag size content = record { tag = tag; size = size; content = content }
 
 abbrev pub filled_region : Region → Filled
 filled_region r = record { tag = record { owner = r.name; part = Whole }; size = r.size; content = r.content }

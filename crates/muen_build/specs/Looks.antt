@@ -53,7 +53,7 @@ AreOthers (l ∷ ls) name = (bytes_eq name l.name ≡ false) × AreOthers ls nam
 -- looks at files that hold this, each at another name
 abbrev pub Seen : Option Store → List Look → Type 0
 Seen held [] = Unit {0}
-Seen held (l ∷ ls) = IfSome held (λ m. Shows m l) × (IsPossible l.most l.reading × (AreOthers ls l.name × Seen held ls))
+Seen held (l ∷ ls) = IfSome held (λ m. Shows m l) × IsPossible l.most l.reading × AreOthers ls l.name × Seen held ls
 
 -- files that hold what is told and show all these looks
 pub record Explained (held : Option Store) (looks : List Look) : Type 0 where

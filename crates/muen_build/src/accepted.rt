@@ -20,8 +20,9 @@ pub enum BuildEnd {
 
 impl From<Refusal> for BuildEnd {
     ghost use Rattle.std.specs.Prelude.{◌≡◌};
+    ghost use Rattle.muen_build.specs.declared.accepted.BuildEnd.TheVariants.{Refused};
 
-    ghost from_gives = { λ refusal end. end ≡ BuildEnd.Refused refusal };
+    ghost from_gives = { λ refusal end. end ≡ Refused refusal };
 
     fn from(refusal: Refusal) -> BuildEnd {
         BuildEnd::Refused(refusal)
@@ -30,8 +31,10 @@ impl From<Refusal> for BuildEnd {
 
 impl From<NoMemory> for BuildEnd {
     ghost use Rattle.std.specs.Prelude.{◌≡◌};
+    ghost use Rattle.policy_types.specs.declared.refusal.Refusal.TheVariants.{NoMemory};
+    ghost use Rattle.muen_build.specs.declared.accepted.BuildEnd.TheVariants.{Refused};
 
-    ghost from_gives = { λ _ end. end ≡ BuildEnd.Refused Refusal.NoMemory };
+    ghost from_gives = { λ _ end. end ≡ Refused NoMemory };
 
     fn from(_: NoMemory) -> BuildEnd {
         BuildEnd::Refused(Refusal::NoMemory)
@@ -67,7 +70,7 @@ impl ComponentFiles {
     pub fn length(&self, name: Name) -> Option<usize>
         ensures { result ≡ option_map (λ bytes. length bytes) (find_bytes name self.now) }
     {
-        match self.files.get(name) {
+        match self.files.get(&name) {
             None => None,
             Some(bytes) => Some(bytes.len()),
         }

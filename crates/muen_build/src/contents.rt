@@ -1,42 +1,35 @@
 //! Contents, held against the room for them.
-ghost use Rattle.std.specs.Prelude.{◌≡◌, ◌∷◌, [], IfOk, IfErr, None, map};
+ghost use Rattle.std.specs.Prelude.{◌≡◌, IfOk, IfErr, None, map, option_map};
 ghost use Rattle.muen_num.specs.Search.{as_refusal};
 ghost use Rattle.muen_outside.specs.Store.{find_bytes, whole};
-ghost use Rattle.muen_build.specs.Accepting.{Ends, Grows, IsAdded, Known, NotFound, NotRead, PassAll, Passes, RefusesAll, RefusesFilled, looks_of, part_length};
-ghost use Rattle.muen_build.specs.Filling.{filled_in};
-ghost use Rattle.muen_build.specs.Looks.{Follows, Saw, document_look};
-ghost use Rattle.muen_build.specs.Refusals.{too_long_for};
+ghost use Rattle.policy_lawful.specs.Resolution.{source_of};
+ghost use Rattle.muen_build.specs.Accepting.{Ends, Grows, IsAdded, Known, NotFound, NotRead, Passes, Refuses, looks_of, of_all, of_brought, of_filled, part_length};
+ghost use Rattle.muen_build.specs.Filling.{brought_at, filled, filled_provided, filled_region, provided_at};
+ghost use Rattle.muen_build.specs.Looks.{Follows, Saw};
+ghost use Rattle.muen_build.specs.Refusals.{filled_of, too_long_for};
 
 use crate::accepted::{BuildEnd, ComponentFiles};
-use crate::filled::Filling;
 use muen_num::limits::COMPONENT_FILE_MOST;
-use muen_num::{Name, Seq};
+use muen_num::{Name, Part, Seq, Tag};
 use muen_outside::{FileEnd, Files, Found};
+use policy_lawful::Resolved;
+use policy_lawful::resolved::{ComponentUse, Subject};
 use policy_types::Refusal;
-use policy_types::source::Content;
+use policy_types::source::{Component, Content, Provided, Region};
 use std::alloc::Global;
 
-// Why so many bytes are refused for a region: there are more than it has room for.
-fn too_long_for(filling: &Filling, count: u64) -> Option<Refusal>
-    ensures { result ≡ too_long_for (filled_in filling.now) count }
+// That so many bytes have room in a region.
+fn fits(region: Tag, room: u64, count: u64) -> Result<(), Refusal>
+    ensures { (content : Content) → result ≡ as_refusal (too_long_for (filled region room content) count) }
 {
-    if count <= filling.size {
-        return None;
+    if count <= room {
+        return Ok(());
     }
-    Some(Refusal::FileFit {
-        region: filling.tag,
-        room: filling.size,
+    Err(Refusal::FileFit {
+        region,
+        room,
         length: count,
     })
-}
-
-fn fits(filling: &Filling, count: u64) -> Result<(), Refusal>
-    ensures { result ≡ as_refusal (too_long_for (filled_in filling.now) count) }
-{
-    match too_long_for(filling, count) {
-        None => Ok(()),
-        Some(refusal) => Err(refusal),
-    }
 }
 
 // How many of so many bytes a content takes: those from an offset on, at most so many.
@@ -107,51 +100,135 @@ fn file_length<F: Files>(
     }
 }
 
-// Holds the content of one region against its room.
+// Holds the content of a region against its room.
 fn check<F: Files>(
     alloc: Global,
     name: &str,
     document: &[u8],
-    filling: &Filling,
+    region: Tag,
+    room: u64,
+    content: &Content,
     found: &mut ComponentFiles,
     files: &mut F,
 ) -> Result<(), BuildEnd>
     ensures grows { IfOk result (λ _. Grows (F.state files.old).held (looks_of name.now document.now found.old) (looks_of name.now document.now found.new)) }
-    ensures passes { IfOk result (λ _. Passes (looks_of name.now document.now found.new) (filled_in filling.now)) }
-    ensures err { IfErr result (Ends (looks_of name.now document.now found.old) (RefusesFilled (filled_in filling.now)) (F.state files.old) (F.state files.new)) }
+    ensures passes { IfOk result (λ _. Passes (looks_of name.now document.now found.new) (of_filled (filled region room content.now))) }
+    ensures err { IfErr result (Ends (looks_of name.now document.now found.old) (Refuses (of_filled (filled region room content.now))) (F.state files.old) (F.state files.new)) }
     ensures follows { Follows (F.state files.old) (F.state files.new) }
 {
-    match filling.content {
+    match content {
         Content::Zero | Content::Fill(_) => Ok(()),
-        Content::Inline(bytes) => Ok(fits(filling, bytes.len() as u64)?),
+        Content::Inline(bytes) => Ok(fits(region, room, bytes.len() as u64)?),
         Content::File {
             name: file,
             offset,
             length,
         } => {
             let count = file_length(alloc, name, document, *file, found, files)?;
-            Ok(fits(filling, part_length(count, *offset, *length))?)
+            Ok(fits(region, room, part_length(count, *offset, *length))?)
         }
     }
 }
 
-/// Holds the contents of all these regions against their room, in order, and reads the component
-/// files that they name.
-pub(crate) fn read_all<F: Files>(
+// The regions of memory, in order.
+fn check_memory<F: Files>(
     alloc: Global,
     name: &str,
     document: &[u8],
-    all: &[Filling],
+    memory: &[Region],
+    found: &mut ComponentFiles,
     files: &mut F,
-) -> Result<ComponentFiles, BuildEnd>
-    ensures grows { IfOk result (λ found. Grows (F.state files.old).held (document_look name.now document.now ∷ []) (looks_of name.now document.now found)) }
-    ensures passes { IfOk result (λ found. PassAll (looks_of name.now document.now found) (map filled_in all.now)) }
-    ensures err { IfErr result (Ends (document_look name.now document.now ∷ []) (RefusesAll (map filled_in all.now)) (F.state files.old) (F.state files.new)) }
+) -> Result<(), BuildEnd>
+    ensures grows { IfOk result (λ _. Grows (F.state files.old).held (looks_of name.now document.now found.old) (looks_of name.now document.now found.new)) }
+    ensures passes { IfOk result (λ _. Passes (looks_of name.now document.now found.new) (of_all (map filled_region memory.now))) }
+    ensures err { IfErr result (Ends (looks_of name.now document.now found.old) (Refuses (of_all (map filled_region memory.now))) (F.state files.old) (F.state files.new)) }
     ensures follows { Follows (F.state files.old) (F.state files.new) }
 {
-    let mut found = ComponentFiles::new(alloc);
-    for filling in all {
-        check(alloc, name, document, filling, &mut found, files)?;
+    for region in memory {
+        let tag = Tag {
+            owner: region.name,
+            part: Part::Whole,
+        };
+        check(alloc, name, document, tag, region.size, &region.content, found, files)?;
     }
-    Ok(found)
+    Ok(())
+}
+
+// The regions that a component brings along for a subject, in order.
+fn check_provided<F: Files>(
+    alloc: Global,
+    name: &str,
+    document: &[u8],
+    subject: Name,
+    provided: &[Provided],
+    found: &mut ComponentFiles,
+    files: &mut F,
+) -> Result<(), BuildEnd>
+    ensures grows { IfOk result (λ _. Grows (F.state files.old).held (looks_of name.now document.now found.old) (looks_of name.now document.now found.new)) }
+    ensures passes { IfOk result (λ _. Passes (looks_of name.now document.now found.new) (of_all (map (filled_provided subject) provided.now))) }
+    ensures err { IfErr result (Ends (looks_of name.now document.now found.old) (Refuses (of_all (map (filled_provided subject) provided.now))) (F.state files.old) (F.state files.new)) }
+    ensures follows { Follows (F.state files.old) (F.state files.new) }
+{
+    for x in provided {
+        let tag = Tag {
+            owner: subject,
+            part: Part::Named(x.logical),
+        };
+        check(alloc, name, document, tag, x.size, &x.content, found, files)?;
+    }
+    Ok(())
+}
+
+// The regions that a subject's component brings along.
+fn provided_by<'a>(components: &'a [Component], used: &Option<ComponentUse>) -> &'a [Provided]
+    ensures { result.now ≡ provided_at components.now used.now }
+{
+    match used {
+        None => &[],
+        Some(used) => match components.get(used.used) {
+            None => &[],
+            Some(component) => component.provides.items(),
+        },
+    }
+}
+
+// Those of all subjects, in order.
+fn check_subjects<F: Files>(
+    alloc: Global,
+    name: &str,
+    document: &[u8],
+    components: &[Component],
+    subjects: &[Subject],
+    found: &mut ComponentFiles,
+    files: &mut F,
+) -> Result<(), BuildEnd>
+    ensures grows { IfOk result (λ _. Grows (F.state files.old).held (looks_of name.now document.now found.old) (looks_of name.now document.now found.new)) }
+    ensures passes { IfOk result (λ _. Passes (looks_of name.now document.now found.new) (of_brought components.now subjects.now)) }
+    ensures err { IfErr result (Ends (looks_of name.now document.now found.old) (Refuses (of_brought components.now subjects.now)) (F.state files.old) (F.state files.new)) }
+    ensures follows { Follows (F.state files.old) (F.state files.new) }
+{
+    for subject in subjects {
+        let provided = provided_by(components, &subject.component);
+        check_provided(alloc, name, document, subject.name, provided, found, files)?;
+    }
+    Ok(())
+}
+
+/// Holds the contents of a policy's regions against their room, by number, and reads the component
+/// files that they name: those of memory, then those that each subject's component brings along.
+pub(crate) fn check_all<F: Files>(
+    alloc: Global,
+    name: &str,
+    document: &[u8],
+    policy: &Resolved,
+    found: &mut ComponentFiles,
+    files: &mut F,
+) -> Result<(), BuildEnd>
+    ensures grows { IfOk result (λ _. Grows (F.state files.old).held (looks_of name.now document.now found.old) (looks_of name.now document.now found.new)) }
+    ensures passes { IfOk result (λ _. Passes (looks_of name.now document.now found.new) (of_all (filled_of (source_of policy.now)))) }
+    ensures err { IfErr result (Ends (looks_of name.now document.now found.old) (Refuses (of_all (filled_of (source_of policy.now)))) (F.state files.old) (F.state files.new)) }
+    ensures follows { Follows (F.state files.old) (F.state files.new) }
+{
+    check_memory(alloc, name, document, policy.memory(), found, files)?;
+    check_subjects(alloc, name, document, policy.components(), policy.subjects(), found, files)
 }

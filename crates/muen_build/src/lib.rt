@@ -7,18 +7,16 @@ ghost use Rattle.std.specs.Prelude.{◌≡◌, IfOk, IfErr, [], ◌∷◌};
 ghost use Rattle.muen_num.specs.Answers.{Answers};
 ghost use Rattle.policy_lawful.specs.Lawful.{kept_source};
 ghost use Rattle.policy_lawful.specs.Resolution.{source_of};
-ghost use Rattle.muen_build.specs.Accepting.{Accepts, Ends, Grows, PassAll, RefusesAll, RefusesDocument, looks_of};
+ghost use Rattle.muen_build.specs.Accepting.{Accepts, Ends, Grows, Passes, Refuses, RefusesDocument, looks_of, of_all};
 ghost use Rattle.muen_build.specs.Looks.{Follows, document_look};
 ghost use Rattle.muen_build.specs.Refusals.{filled_of, lawful_policy_of};
 
 mod accepted;
 mod contents;
-mod filled;
 
 pub use accepted::{Accepted, BuildEnd, ComponentFiles};
 
-use contents::read_all;
-use filled::all_filled;
+use contents::check_all;
 use muen_outside::Files;
 use policy_lawful::Lawful;
 use policy_types::Refusal;
@@ -46,12 +44,13 @@ fn read_contents<F: Files>(
     files: &mut F,
 ) -> Result<ComponentFiles, BuildEnd>
     ensures grows { IfOk result (λ found. Grows (F.state files.old).held (document_look name.now document.now ∷ []) (looks_of name.now document.now found)) }
-    ensures passes { IfOk result (λ found. PassAll (looks_of name.now document.now found) (filled_of (source_of policy.now))) }
-    ensures err { IfErr result (Ends (document_look name.now document.now ∷ []) (RefusesAll (filled_of (source_of policy.now))) (F.state files.old) (F.state files.new)) }
+    ensures passes { IfOk result (λ found. Passes (looks_of name.now document.now found) (of_all (filled_of (source_of policy.now)))) }
+    ensures err { IfErr result (Ends (document_look name.now document.now ∷ []) (Refuses (of_all (filled_of (source_of policy.now)))) (F.state files.old) (F.state files.new)) }
     ensures follows { Follows (F.state files.old) (F.state files.new) }
 {
-    let all = all_filled(alloc, policy.resolved())?;
-    read_all(alloc, name, document, &all, files)
+    let mut found = ComponentFiles::new(alloc);
+    check_all(alloc, name, document, policy.resolved(), &mut found, files)?;
+    Ok(found)
 }
 
 /// The policy of a document, where it keeps every rule and its contents fit, and the component

@@ -1,0 +1,6 @@
+pub mod Accepting
+pub mod Checking
+pub mod FilledInPlace
+pub mod Looks
+pub mod Refusing
+pub mod Steps

@@ -1,0 +1,143 @@
+-- What a document is refused for, step by step.
+use Rattle.std.proofs.Common.{◌≡◌, inl, inr, ℕ, true, false, List, [], ◌∷◌, Option, Some, None, Result, Ok, Err, IfSome, refl, sym, ap, ◌∙◌}
+use Rattle.std.specs.Option.{option_or}
+use Rattle.serde_json.specs.Data.{Data}
+use Rattle.muen_num.specs.Answers.{Answers}
+use Rattle.muen_num.specs.Search.{first_of}
+use Rattle.muen_num.proofs.SearchLaws.{none_both, option_or-None}
+use Rattle.policy_json.specs.Document.{json_of, policy_from, policy_of, read_system, shape_refused}
+use Rattle.policy_lawful.specs.Lawful.{kept_or, names_broken, rules_broken}
+use Rattle.policy_lawful.specs.Domains.{offence_21, offence_22, offence_23, offence_24}
+use Rattle.policy_lawful.specs.MoreRules.{offence_6, offence_7, offence_9, offence_10, offence_11, offence_12, offence_13, offence_14, offence_15, offence_19}
+use Rattle.policy_lawful.specs.Offences.{broken}
+use Rattle.policy_lawful.specs.Rules.{offence_1, offence_2, offence_3, offence_4, offence_5, offence_8, offence_16, offence_17, offence_18, offence_20}
+use Rattle.policy_lawful.specs.declared.offence.Offence.{Offence}
+use Rattle.policy_meaning.specs.Contents.{Held}
+use Rattle.policy_types.specs.declared.refusal.Fault.{Fault}
+use Rattle.policy_types.specs.declared.refusal.Refusal.{Refusal}
+use Rattle.policy_types.specs.declared.refusal.Refusal.TheVariants.{NotJson, Shape, NoMemory}
+use Rattle.policy_types.specs.declared.source.Source.{Source}
+use Rattle.muen_build.specs.Refusals.{accepted, accepted_policy_of, contents_refused, is_for_a_file, lawful_alone, lawful_policy_of, refusal_of, unlawful}
+
+-- ---- one reason after another
+
+-- what is refused for the same reason
+refused_for : (wanted wanted' : Result Source Refusal) (r : Refusal) → (wanted ≡ Err r → wanted' ≡ Err r) → Answers NoMemory wanted (Err r) → Answers NoMemory wanted' (Err r)
+refused_for wanted wanted' r f h = elim h [ inl m ↦ inl m | inr e ↦ inr (f e) ]
+
+kept_is : (p q : Source) (o : Option Refusal) → kept_or p o ≡ Ok q → (o ≡ None) × (p ≡ q)
+kept_is p q None e = (refl, cc)
+kept_is p q (Some x) e = absurd (cc)
+
+-- the first reason stays the first
+first_stays : (p : Source) (a b : Option Refusal) (r : Refusal) → kept_or p a ≡ Err r → kept_or p (first_of (a ∷ b ∷ [])) ≡ Err r
+first_stays p None b r e = absurd (cc)
+first_stays p (Some x) b r e = e
+
+-- where there is none, the second decides
+second_decides : (p q : Source) (a : Option Refusal) (b : Source → Option Refusal) → kept_or p a ≡ Ok q → kept_or p (first_of (a ∷ b p ∷ [])) ≡ kept_or q (b q)
+second_decides p q a b e =
+    let k = kept_is p q a e in
+    ap (λ o. kept_or p (first_of (o ∷ b p ∷ []))) k.0 ∙ ap (kept_or p) (option_or-None (b p)) ∙ ap (λ x. kept_or x (b x)) k.1
+
+-- ---- the rules
+
+pub not_read : (bytes : List ℕ) (r : Refusal) → Answers NoMemory (policy_of bytes) (Err r) → Answers NoMemory (lawful_policy_of bytes) (Err r)
+unfolding lawful_policy_of
+not_read bytes r h = refused_for (policy_of bytes) (lawful_alone (policy_of bytes)) r (ap lawful_alone) h
+
+pub not_resolved : (bytes : List ℕ) (p : Source) (r : Refusal) → policy_of bytes ≡ Ok p → Answers NoMemory (kept_or p (names_broken p)) (Err r) → Answers NoMemory (lawful_policy_of bytes) (Err r)
+unfolding lawful_policy_of
+not_resolved bytes p r read h =
+    refused_for (kept_or p (names_broken p)) (lawful_alone (policy_of bytes)) r
+    (λ e. ap lawful_alone read ∙ first_stays p (names_broken p) (rules_broken p) r e) h
+
+-- where names are resolved, the other rules decide
+pub rules_decide : (bytes : List ℕ) (p q : Source) → policy_of bytes ≡ Ok p → kept_or p (names_broken p) ≡ Ok q → lawful_policy_of bytes ≡ kept_or q (rules_broken q)
+unfolding lawful_policy_of
+rules_decide bytes p q read kept = ap lawful_alone read ∙ second_decides p q (names_broken p) rules_broken kept
+
+-- ---- the contents
+
+unlawful_first : (files : Held) (answer : Result Source Refusal) (r : Refusal) → lawful_alone answer ≡ Err r → accepted files answer ≡ Err r
+unfolding refusal_of
+unlawful_first files (Ok p) r e = first_stays p (unlawful p) (contents_refused files p) r e
+unlawful_first files (Err x) r e = e
+
+-- a document whose policy isn't lawful isn't accepted
+pub not_lawful : (files : Held) (bytes : List ℕ) (r : Refusal) → lawful_policy_of bytes ≡ Err r → accepted_policy_of files bytes ≡ Err r
+unfolding lawful_policy_of accepted_policy_of
+not_lawful files bytes r h = unlawful_first files (policy_of bytes) r h
+
+lawful_then : (files : Held) (answer : Result Source Refusal) (q : Source) → lawful_alone answer ≡ Ok q → accepted files answer ≡ kept_or q (contents_refused files q)
+unfolding refusal_of
+lawful_then files (Ok p) q e = second_decides p q (unlawful p) (contents_refused files) e
+lawful_then files (Err x) q e = absurd (cc)
+
+-- where it is, its contents decide
+pub contents_decide : (files : Held) (bytes : List ℕ) (q : Source) → lawful_policy_of bytes ≡ Ok q → accepted_policy_of files bytes ≡ kept_or q (contents_refused files q)
+unfolding lawful_policy_of accepted_policy_of
+contents_decide files bytes q e = lawful_then files (policy_of bytes) q e
+
+-- and back: a policy that is accepted has contents that are
+accepted_reads : (files : Held) (answer : Result Source Refusal) (q : Source) → accepted files answer ≡ Ok q → (lawful_alone answer ≡ Ok q) × (contents_refused files q ≡ None)
+unfolding refusal_of
+accepted_reads files (Err r) q e = absurd (cc)
+accepted_reads files (Ok p) q e =
+    let k = kept_is p q (first_of (unlawful p ∷ contents_refused files p ∷ [])) e in
+    let none = none_both (unlawful p) (option_or (contents_refused files p) None) k.0 in
+    (ap (kept_or p) none.0 ∙ ap Ok k.1, ap (contents_refused files) (sym k.1) ∙ (none_both (contents_refused files p) None none.1).0)
+
+pub accepted_so : (files : Held) (bytes : List ℕ) (q : Source) → accepted_policy_of files bytes ≡ Ok q → (lawful_policy_of bytes ≡ Ok q) × (contents_refused files q ≡ None)
+unfolding lawful_policy_of accepted_policy_of
+accepted_so files bytes q e = accepted_reads files (policy_of bytes) q e
+
+-- ---- a document whose policy isn't lawful is refused for no file
+
+-- a refusal, if there is one, is for no file
+abbrev ForNone : Option Refusal → Type 0
+ForNone o = IfSome o (λ r. is_for_a_file r ≡ false)
+
+either : (a b : Option Refusal) → ForNone a → ForNone b → ForNone (option_or a b)
+either None b h k = k
+either (Some r) b h k = h
+
+-- a rule, and what comes after it
+rule : (n : ℕ) (o : Option Offence) (rest : Option Refusal) → ForNone rest → ForNone (option_or (broken n o) rest)
+rule n None rest h = h
+rule n (Some x) rest h = refl
+
+of_names : (p : Source) → ForNone (names_broken p)
+unfolding names_broken
+of_names p = rule 1 (offence_1 p) _ (rule 2 (offence_2 p) _ tt)
+
+of_rules : (p : Source) → ForNone (rules_broken p)
+unfolding rules_broken
+of_rules p =
+    rule 3 (offence_3 p) _ (rule 4 (offence_4 p) _ (rule 5 (offence_5 p) _ (rule 6 (offence_6 p) _
+    (rule 7 (offence_7 p) _ (rule 8 (offence_8 p) _ (rule 9 (offence_9 p) _ (rule 10 (offence_10 p) _
+    (rule 11 (offence_11 p) _ (rule 12 (offence_12 p) _ (rule 13 (offence_13 p) _ (rule 14 (offence_14 p) _
+    (rule 15 (offence_15 p) _ (rule 16 (offence_16 p) _ (rule 17 (offence_17 p) _ (rule 18 (offence_18 p) _
+    (rule 19 (offence_19 p) _ (rule 20 (offence_20 p) _ (rule 21 (offence_21 p) _ (rule 22 (offence_22 p) _
+    (rule 23 (offence_23 p) _ (rule 24 (offence_24 p) _ tt)))))))))))))))))))))
+
+kept_err : (p : Source) (o : Option Refusal) (r : Refusal) → ForNone o → kept_or p o ≡ Err r → is_for_a_file r ≡ false
+kept_err p None r h e = absurd (cc)
+kept_err p (Some x) r h e = let f : x ≡ r = cc in ap is_for_a_file (sym f) ∙ h
+
+-- a document that isn't read
+of_shape : (answer : Result Source Fault) (r : Refusal) → shape_refused answer ≡ Err r → is_for_a_file r ≡ false
+of_shape (Ok q) r e = absurd (cc)
+of_shape (Err f) r e = let g : Shape f.place f.want ≡ r = cc in ap is_for_a_file (sym g)
+
+of_json : (document : Option Data) (r : Refusal) → policy_from document ≡ Err r → is_for_a_file r ≡ false
+of_json None r e = let f : NotJson ≡ r = cc in ap is_for_a_file (sym f)
+of_json (Some d) r e = of_shape (read_system d) r e
+
+of_document : (document : Option Data) (answer : Result Source Refusal) (r : Refusal) → policy_from document ≡ answer → lawful_alone answer ≡ Err r → is_for_a_file r ≡ false
+of_document document (Ok p) r is e = kept_err p (unlawful p) r (either (names_broken p) _ (of_names p) (either (rules_broken p) None (of_rules p) tt)) e
+of_document document (Err x) r is e = let f : x ≡ r = cc in ap is_for_a_file (sym f) ∙ of_json document x is
+
+pub for_no_file : (bytes : List ℕ) (r : Refusal) → lawful_policy_of bytes ≡ Err r → is_for_a_file r ≡ false
+unfolding lawful_policy_of policy_of
+for_no_file bytes r e = of_document (json_of bytes) (policy_of bytes) r refl e
