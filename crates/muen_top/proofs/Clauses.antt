@@ -1,17 +1,21 @@
 -- The clauses of a whole call, from what came of its command.
 use Rattle.std.proofs.Common.{◌≡◌, inl, inr, ◌⊎◌, ◌≢◌, ℕ, List, Option, Some, None, IfSome, Result, Ok, Err, refl, sym, ap, subst, ◌∙◌, arith}
+use Rattle.std.specs.FinMap.{get}
 use Rattle.muen_outside.specs.Counts.{Rose}
 use Rattle.muen_outside.specs.States.{FilesState, SinkState}
 use Rattle.muen_outside.specs.Puts.{Appended, Failed}
-use Rattle.muen_outside.specs.Store.{Store, Reading, whole, absent, long}
+use Rattle.muen_outside.specs.Store.{Store, Reading, whole, absent, long, reading_of}
 use Rattle.policy_types.specs.declared.source.Source.{Source}
 use Rattle.policy_types.specs.declared.refusal.Refusal.{Refusal}
 use Rattle.policy_types.specs.declared.refusal.Refusal.TheVariants.{NotJson, Shape, Rule, Missing as MissingFile, TooLong as TooLongFile, FileFit, NoRoom, NoMemory as NoMemoryFor}
 use Rattle.subject_model.specs.DeviceRecord.{DeviceRecord}
 use Rattle.muen_top.specs.RecordText.{record_of}
-use Rattle.muen_top.specs.Refusals.{accepted_policy_of}
+use Rattle.muen_build.specs.Refusals.{accepted_policy_of}
 use Rattle.muen_top.specs.declared.record_text.RecordFault.{RecordFault}
-use Rattle.muen_top.specs.Answers.{Reason, usage, missing, too_long, refused, record_refused, Answer, prints, stops, of_file, run_answer, policy_answer, boot_answer, answer_of}
+use Rattle.muen_top.specs.Answers.{Reason, usage, missing, too_long, refused, record_refused, Answer, prints, stops, of_file, run_answer, carried_answer, policy_answer, boot_answer, answer_of}
+use Rattle.muen_top.specs.Lacking.{lacking}
+use Rattle.muen_top.specs.declared.lacking.Lack.{Lack}
+use Rattle.muen_num.specs.declared.limits.TheConstants.{RECORD_MOST}
 use Rattle.muen_top.specs.Calls.{Prints, StopsFor, ComesOf, Ran, IsFault, Answered, RefusesPolicy, LacksFile, RefusesRecord}
 use Rattle.muen_top.specs.Commands.{Command, boot, command_of}
 use Rattle.muen_top.specs.Reports.{refusal_status, reason_status, reason_text, status_of, stop_status, stop_text, Told, Reported, Ends}
@@ -134,8 +138,13 @@ no_usage_of_run : (files : Store) (p : Source) (r : Result DeviceRecord RecordFa
 no_usage_of_run files p (Ok run) e = cc
 no_usage_of_run files p (Err fault) e = cc
 
+no_usage_of_carried : (files : Store) (p : Source) (name : List ℕ) (lack : Option Lack) → carried_answer files p name lack ≡ stops usage → ⊥
+no_usage_of_carried files p name None e =
+    no_usage_of_file name (λ bytes. run_answer files p (record_of bytes)) (reading_of (get files name) RECORD_MOST) (λ bytes h. no_usage_of_run files p (record_of bytes) h) e
+no_usage_of_carried files p name (Some lack) e = cc
+
 no_usage_of_policy : (files : Store) (name : List ℕ) (r : Result Source Refusal) → policy_answer files name r ≡ stops usage → ⊥
-no_usage_of_policy files name (Ok p) e = no_usage_of_file name _ _ (λ bytes h. no_usage_of_run files p (record_of bytes) h) e
+no_usage_of_policy files name (Ok p) e = no_usage_of_carried files p name (lacking p) e
 no_usage_of_policy files name (Err refusal) e = cc
 
 no_usage : (files : Store) (command : Option Command) → answer_of files command ≡ stops usage → command ≡ None

@@ -10,7 +10,9 @@ use Rattle.subject_model.specs.DeviceRecord.{DeviceRecord}
 use Rattle.subject_model.specs.Run.{trace_of}
 use Rattle.muen_top.specs.Commands.{Command, boot}
 use Rattle.muen_top.specs.RecordText.{record_of}
-use Rattle.muen_top.specs.Refusals.{accepted_policy_of}
+use Rattle.muen_build.specs.Refusals.{accepted_policy_of}
+use Rattle.muen_top.specs.Lacking.{lack_refusal, lacking}
+use Rattle.muen_top.specs.declared.lacking.Lack.{Lack}
 use Rattle.muen_top.specs.declared.record_text.RecordFault.{RecordFault}
 
 -- why a command prints nothing
@@ -38,7 +40,7 @@ of_file name next (whole bytes) = next bytes
 of_file name next absent = stops (missing name)
 of_file name next (long n) = stops (too_long name n)
 
--- ---- `boot`: the policy's file, the policy, the record's file, the record, the run
+-- ---- `boot`: the policy's file, the policy, what the machine lacks of it, the record's file, the record, the run
 
 abbrev pub run_answer : Held → Source → Result DeviceRecord RecordFault → Answer
 run_answer files p (Ok run) = prints (trace_of p files run)
@@ -48,8 +50,12 @@ abbrev pub record_answer : Held → Source → List ℕ → Answer
 record_answer files p name =
     of_file name (λ bytes. run_answer files p (record_of bytes)) (reading_of (get files name) RECORD_MOST)
 
+abbrev pub carried_answer : Held → Source → List ℕ → Option Lack → Answer
+carried_answer files p name None = record_answer files p name
+carried_answer files p name (Some lack) = stops (refused (lack_refusal lack))
+
 abbrev pub policy_answer : Held → List ℕ → Result Source Refusal → Answer
-policy_answer files name (Ok p) = record_answer files p name
+policy_answer files name (Ok p) = carried_answer files p name (lacking p)
 policy_answer files name (Err refusal) = stops (refused refusal)
 
 unfoldable pub boot_answer : Held → List ℕ → List ℕ → Answer

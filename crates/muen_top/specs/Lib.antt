@@ -3,10 +3,10 @@ pub mod Calls
 pub mod Commands
 pub mod FilesSeen
 pub mod Lacking
+pub mod Lacks
 pub mod Loads
 pub mod Parsed
 pub mod RecordText
-pub mod Refusals
 pub mod Reports
 pub mod Runs
 pub mod Stops

@@ -8,7 +8,8 @@ use Rattle.subject_model.specs.DeviceRecord.{DeviceRecord}
 use Rattle.subject_model.specs.Run.{trace_of}
 use Rattle.muen_top.specs.Answers.{prints, boot_answer}
 use Rattle.muen_top.specs.Calls.{StopsFor}
-use Rattle.muen_top.specs.FilesSeen.{Saw, SawToo}
+use Rattle.muen_build.specs.Looks.{Saw}
+use Rattle.muen_top.specs.FilesSeen.{SawToo}
 use Rattle.muen_top.specs.declared.outcome.Stop.{Stop}
 use Rattle.muen_top.specs.declared.outcome.Stop.TheVariants.{Missing, TooLong, FileFault, NoMemory}
 

@@ -2,13 +2,19 @@
 use Rattle.std.specs.Prelude.{if◌then◌else◌}
 use Rattle.policy_types.specs.Refusals.{is_no_memory}
 use Rattle.policy_types.specs.declared.refusal.Refusal.{Refusal}
+use Rattle.muen_build.specs.declared.accepted.BuildEnd.{BuildEnd}
+use Rattle.muen_build.specs.declared.accepted.BuildEnd.TheVariants.{Refused as RefusedPolicy, FileFault as FaultOfFiles}
 use Rattle.muen_top.specs.declared.record_text.RecordFault.{RecordFault}
 use Rattle.muen_top.specs.declared.record_text.RecordFault.TheVariants.{NoMemory as NoMemoryForRecord}
 use Rattle.muen_top.specs.declared.outcome.Stop.{Stop}
-use Rattle.muen_top.specs.declared.outcome.Stop.TheVariants.{Refused, RecordRefused, NoMemory}
+use Rattle.muen_top.specs.declared.outcome.Stop.TheVariants.{Refused, RecordRefused, FileFault, NoMemory}
 
 abbrev pub stop_of_refusal : Refusal → Stop
 stop_of_refusal refusal = if is_no_memory refusal then NoMemory else Refused refusal
+
+abbrev pub stop_of_end : BuildEnd → Stop
+stop_of_end (RefusedPolicy refusal) = stop_of_refusal refusal
+stop_of_end FaultOfFiles = FileFault
 
 abbrev pub stop_of_fault : RecordFault → Stop
 stop_of_fault NoMemoryForRecord = NoMemory

@@ -9,11 +9,12 @@ ghost use Rattle.subject_model.specs.Run.{trace_of};
 ghost use Rattle.window_machine.specs.Start.{CanLoad};
 ghost use Rattle.muen_top.specs.Calls.{Came};
 ghost use Rattle.muen_top.specs.Commands.{boot};
-ghost use Rattle.muen_top.specs.FilesSeen.{Follows, Saw, SawToo};
+ghost use Rattle.muen_build.specs.Looks.{Follows, Saw};
+ghost use Rattle.muen_top.specs.FilesSeen.{SawToo};
 ghost use Rattle.muen_top.specs.Loads.{NotRead, NotReadToo, Ready, NotReady};
 ghost use Rattle.muen_top.specs.Runs.{RunsTo};
 
-use crate::muen_build::accepted;
+use crate::lacking::carried;
 use crate::outcome::{Outcome, Stop};
 use crate::record_text;
 use crate::record_text::Record;
@@ -83,11 +84,12 @@ fn read_both<'a, F: Files>(
     ensures follows { Follows (F.state files.old) (F.state files.new) }
 {
     let bytes = load(alloc, policy, POLICY_MOST, files)?;
-    let lawful = accepted(alloc, bytes.items())?;
+    let accepted = muen_build::accept(alloc, policy, bytes.items(), files)?;
+    carried(alloc, accepted.policy.resolved())?;
     let bytes = load_too(alloc, policy, bytes, inputs, RECORD_MOST, files)?;
     let run = record_text::read(bytes.items())?;
     Ok(Booted {
-        policy: lawful,
+        policy: accepted.policy,
         run,
     })
 }

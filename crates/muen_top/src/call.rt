@@ -2,7 +2,7 @@
 ghost use Rattle.std.specs.Prelude.{◌≡◌, None, map, string_bytes};
 ghost use Rattle.muen_top.specs.Calls.{Came, Ran};
 ghost use Rattle.muen_top.specs.Commands.{command_of};
-ghost use Rattle.muen_top.specs.FilesSeen.{Follows};
+ghost use Rattle.muen_build.specs.Looks.{Follows};
 
 use crate::boot::boot;
 use crate::command::Command;

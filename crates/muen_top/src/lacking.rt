@@ -1,43 +1,40 @@
-//! What of a policy the machine of `boot` lacks. It looks windows up in a list, on one CPU; and the
-//! rules know no other elements yet.
-ghost use Rattle.std.specs.Prelude.{◌≡◌, IfOk, is_some, not};
+//! What of a policy the machine of `boot` lacks. It looks windows up in a list, on one CPU, and keeps
+//! the regions that the policy itself fills.
+ghost use Rattle.std.specs.Prelude.{◌≡◌, IfOk, None, is_some, not, option_map};
 ghost use Rattle.std.specs.List.{enumerate_from};
-ghost use Rattle.muen_num.specs.Answers.{Answers};
+ghost use Rattle.muen_num.specs.Answers.{Explains};
 ghost use Rattle.muen_num.specs.Pieces.{whole};
 ghost use Rattle.muen_num.specs.Search.{first_in, unless};
-ghost use Rattle.policy_lawful.specs.Lawful.{kept_or};
-ghost use Rattle.muen_top.specs.Lacking.{is_file, lack_text, lacking, not_built, region_key, region_lack, subject_key, subject_lack, system_lack};
+ghost use Rattle.policy_lawful.specs.Resolution.{Resolution, source_of};
+ghost use Rattle.policy_types.specs.declared.refusal.Refusal.TheVariants.{NoMemory as OutOfMemory};
+ghost use Rattle.muen_top.specs.Lacking.{is_file, lack_refusal, lack_text, lacking, region_key, region_lack, subject_key};
+ghost use Rattle.muen_top.specs.Lacks.{Carries, placed_lack, system_lacks};
 
 use itoa::Buffer;
-use muen_num::limits::MOST_CPUS;
 use muen_num::{NoMemory, Pieces, first_numbered};
-use policy_types::source::{Content, Region, Subject as SourceSubject};
-use policy_types::{Place, Refusal, Source, Want};
+use policy_lawful::Resolved;
+use policy_lawful::resolved::{Scheduling, Subject};
+use policy_types::source::{Content, Region};
+use policy_types::{Place, Refusal, Want};
 use std::alloc::Global;
 use std::fmt;
 
 /// A key of a subject.
 #[derive(Clone, Copy, Debug, PartialEq, Eq)]
 pub enum SubjectKey {
-    Component,
-    Channels,
-    Devices,
     Msrs,
-    Sources,
-    Targets,
     Monitors,
 }
 
 /// A key of a region, or of its content.
 #[derive(Clone, Copy, Debug, PartialEq, Eq)]
 pub enum RegionKey {
-    PhysicalAddress,
     SharedMemory,
     /// A file as the content.
     File,
 }
 
-/// An element of a policy that isn't built.
+/// An element of a policy that the machine lacks.
 #[derive(Clone, Copy, Debug, PartialEq, Eq)]
 pub enum Lack {
     LogicalCpus,
@@ -45,7 +42,6 @@ pub enum Lack {
     Channels,
     Components,
     Events,
-    DeviceDomains,
     /// A key of the subject at this place.
     Subject(usize, SubjectKey),
     Tau0,
@@ -58,12 +54,7 @@ impl SubjectKey {
         ensures { result.now ≡ subject_key self }
     {
         match self {
-            SubjectKey::Component => "component",
-            SubjectKey::Channels => "channels",
-            SubjectKey::Devices => "devices",
             SubjectKey::Msrs => "msrs",
-            SubjectKey::Sources => "sources",
-            SubjectKey::Targets => "targets",
             SubjectKey::Monitors => "monitors",
         }
     }
@@ -74,7 +65,6 @@ impl RegionKey {
         ensures { result.now ≡ region_key self }
     {
         match self {
-            RegionKey::PhysicalAddress => "physicalAddress",
             RegionKey::SharedMemory => "sharedMemory",
             RegionKey::File => "content/file",
         }
@@ -91,7 +81,6 @@ impl Lack {
             Lack::Channels => "/channels".into(),
             Lack::Components => "/components".into(),
             Lack::Events => "/events".into(),
-            Lack::DeviceDomains => "/deviceDomains".into(),
             Lack::Subject(place, key) => {
                 ("/subjects/", buffer.format(place), "/", key.as_str()).into()
             }
@@ -122,21 +111,11 @@ impl fmt::Display for Lack {
     }
 }
 
-fn subject_lack(place: usize, s: &SourceSubject) -> Option<Lack>
-    ensures { result ≡ subject_lack (place, s.now) }
+fn subject_lack(place: usize, s: &Subject) -> Option<Lack>
+    ensures { result ≡ placed_lack (place, s.now) }
 {
-    let key = if s.component.is_some() {
-        SubjectKey::Component
-    } else if !s.channels.is_empty() {
-        SubjectKey::Channels
-    } else if !s.devices.is_empty() {
-        SubjectKey::Devices
-    } else if !s.msrs.is_empty() {
+    let key = if !s.msrs.is_empty() {
         SubjectKey::Msrs
-    } else if !s.sources.is_empty() {
-        SubjectKey::Sources
-    } else if !s.targets.is_empty() {
-        SubjectKey::Targets
     } else if !s.monitors.is_empty() {
         SubjectKey::Monitors
     } else {
@@ -157,9 +136,7 @@ fn is_file(content: &Content) -> bool
 fn region_lack(place: usize, r: &Region) -> Option<Lack>
     ensures { result ≡ region_lack (place, r.now) }
 {
-    let key = if r.physical_address.is_some() {
-        RegionKey::PhysicalAddress
-    } else if !r.shared_memory.is_empty() {
+    let key = if !r.shared_memory.is_empty() {
         RegionKey::SharedMemory
     } else if is_file(&r.content) {
         RegionKey::File
@@ -170,71 +147,68 @@ fn region_lack(place: usize, r: &Region) -> Option<Lack>
 }
 
 // Of the system's own keys, up to its subjects.
-fn system_lack(source: &Source) -> Option<Lack>
-    ensures { result ≡ system_lack source.now }
+fn system_lack(policy: &Resolved) -> Option<Lack>
+    ensures { result ≡ system_lacks policy.now }
 {
-    let cpus = source.processor.logical_cpus;
-    if 2 <= cpus && cpus <= MOST_CPUS {
+    if policy.processor().logical_cpus > 1 {
         Some(Lack::LogicalCpus)
-    } else if !source.devices.is_empty() {
+    } else if !policy.devices().is_empty() {
         Some(Lack::Devices)
-    } else if !source.channels.is_empty() {
+    } else if !policy.channels().is_empty() {
         Some(Lack::Channels)
-    } else if !source.components.is_empty() {
+    } else if !policy.components().is_empty() {
         Some(Lack::Components)
-    } else if !source.events.is_empty() {
+    } else if !policy.events().is_empty() {
         Some(Lack::Events)
-    } else if !source.device_domains.is_empty() {
-        Some(Lack::DeviceDomains)
     } else {
         None
     }
 }
 
-fn subjects_lack(source: &Source) -> Option<Lack>
-    ensures { result ≡ first_in subject_lack (enumerate_from 0 source.now.subjects) }
+fn subjects_lack(subjects: &[Subject]) -> Option<Lack>
+    ensures { result ≡ first_in placed_lack (enumerate_from 0 subjects.now) }
 {
-    first_numbered(source.subjects.items(), |place, s| subject_lack(place, s))
+    first_numbered(subjects, |place, s| subject_lack(place, s))
 }
 
-fn tau0_lack(source: &Source) -> Option<Lack>
-    ensures { result ≡ unless (not (is_some source.now.scheduling.tau0)) Lack.Tau0 }
+fn tau0_lack(scheduling: &Scheduling) -> Option<Lack>
+    ensures { result ≡ unless (not (is_some scheduling.now.tau0)) Lack.Tau0 }
 {
-    if source.scheduling.tau0.is_some() {
+    if scheduling.tau0.is_some() {
         Some(Lack::Tau0)
     } else {
         None
     }
 }
 
-fn regions_lack(source: &Source) -> Option<Lack>
-    ensures { result ≡ first_in region_lack (enumerate_from 0 source.now.memory) }
+fn regions_lack(memory: &[Region]) -> Option<Lack>
+    ensures { result ≡ first_in region_lack (enumerate_from 0 memory.now) }
 {
-    first_numbered(source.memory.items(), |place, r| region_lack(place, r))
+    first_numbered(memory, |place, r| region_lack(place, r))
 }
 
-/// The first element of a policy that isn't built.
-#[tactic(auto, unfolding(crate::specs::Lacking::lacking))]
-pub fn lacking(source: &Source) -> Option<Lack>
-    ensures { result ≡ lacking source.now }
+/// The first element of a policy that the machine lacks.
+#[tactic(auto, using(crate::proofs::NothingLacking::lacking_by_place))]
+pub fn lacking(policy: &Resolved) -> Option<Lack>
+    ensures { result ≡ lacking (source_of policy.now) }
 {
-    if let Some(lack) = system_lack(source) {
+    if let Some(lack) = system_lack(policy) {
         return Some(lack);
     }
-    subjects_lack(source)
-        .or_else(|| tau0_lack(source))
-        .or_else(|| regions_lack(source))
+    subjects_lack(policy.subjects())
+        .or_else(|| tau0_lack(policy.scheduling()))
+        .or_else(|| regions_lack(policy.memory()))
 }
 
-/// The policy, where all its elements are built.
+/// That the machine lacks nothing of a policy.
 ///
-/// Answers `Shape` with the place of the first that isn't, which wants `NotYetBuilt`, and
+/// Answers `Shape` with the place of the first element that it lacks, which wants `NotYetBuilt`, and
 /// `NoMemory` where memory was refused.
-pub fn built(alloc: Global, source: Source) -> Result<Source, Refusal>
-    ensures { Answers Refusal.NoMemory (kept_or source (not_built source)) result }
+pub fn carried(alloc: Global, policy: &Resolved) -> Result<(), Refusal>
+    ensures { Carries (lacking (source_of policy.now)) result }
 {
-    match lacking(&source) {
-        None => Ok(source),
+    match lacking(policy) {
+        None => Ok(()),
         Some(lack) => Err(Refusal::Shape {
             place: lack.place(alloc)?,
             want: Want::NotYetBuilt,

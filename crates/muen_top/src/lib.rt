@@ -7,7 +7,7 @@ ghost use Rattle.muen_outside.specs.Puts.{Appended, Failed};
 ghost use Rattle.muen_top.specs.Answers.{answer_of};
 ghost use Rattle.muen_top.specs.Calls.{Answered, IsFault, LacksFile, Prints, RefusesPolicy, RefusesRecord};
 ghost use Rattle.muen_top.specs.Commands.{command_of};
-ghost use Rattle.muen_top.specs.FilesSeen.{Follows};
+ghost use Rattle.muen_build.specs.Looks.{Follows};
 ghost use Rattle.muen_top.specs.Reports.{Ends, Reported, status_of};
 ghost use Rattle.muen_top.specs.declared.outcome.Outcome.{Outcome};
 
@@ -15,7 +15,6 @@ mod boot;
 mod call;
 mod command;
 pub mod lacking;
-pub mod muen_build;
 mod outcome;
 pub mod record_text;
 mod report;

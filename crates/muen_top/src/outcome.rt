@@ -3,6 +3,7 @@ ghost use Rattle.std.specs.Prelude.{◌≡◌};
 ghost use Rattle.muen_top.specs.Stops.{stop_of_refusal, stop_of_fault};
 
 use crate::record_text::RecordFault;
+use muen_build::BuildEnd;
 use policy_types::Refusal;
 
 /// Why nothing was printed.
@@ -35,6 +36,20 @@ impl<'a> From<Refusal> for Stop<'a> {
             Stop::NoMemory
         } else {
             Stop::Refused(refusal)
+        }
+    }
+}
+
+impl<'a> From<BuildEnd> for Stop<'a> {
+    ghost use Rattle.std.specs.Prelude.{◌≡◌};
+    ghost use Rattle.muen_top.specs.Stops.{stop_of_end};
+
+    ghost from_gives = { λ end stop. stop ≡ stop_of_end end };
+
+    fn from(end: BuildEnd) -> Stop<'a> {
+        match end {
+            BuildEnd::Refused(refusal) => Stop::from(refusal),
+            BuildEnd::FileFault => Stop::FileFault,
         }
     }
 }
