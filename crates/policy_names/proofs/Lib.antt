@@ -1,5 +1,3 @@
-pub mod Built
 pub mod Names
-pub mod Parts
+pub mod PartNames
 pub mod Refusals
-pub mod Resolved
