@@ -1,3 +1,5 @@
+pub mod DeviceAtPlace
+pub mod Elements
 pub mod Names
 pub mod PartNames
 pub mod Refusals

@@ -1,13 +1,14 @@
 -- What explains a refusal, where one element is searched after another.
-use Rattle.std.proofs.Common.{◌≡◌, ℕ, ◌<◌, List, [], ◌∷◌, ◌++◌, length, get_or, drop, Option, Some, None, refl, sym, ap, ◌∙◌}
+use Rattle.std.proofs.Common.{◌≡◌, ℕ, ◌<◌, List, [], ◌∷◌, ◌++◌, length, get_or, drop, Option, Some, None, refl, sym, ap, subst, ◌∙◌}
 use Rattle.std.specs.List.{flat_map, enumerate_from}
 use Rattle.std.specs.Option.{option_or}
 use Rattle.muen_num.specs.Answers.{Explains}
 use Rattle.muen_num.specs.Search.{first_in}
 use Rattle.muen_num.proofs.FirstSteps.{first_step, first_numbered_step}
-use Rattle.std.specs.Prelude.{map}
+use Rattle.std.specs.Prelude.{map, Result, Ok, Err}
 use Rattle.muen_num.proofs.SearchLaws.{first_in-append, first_over-map, option_or-None, option_or_assoc}
 use Rattle.policy_lawful.proofs.Keeps.{explains_first, first_found}
+use Rattle.policy_lawful.specs.Keeps.{Keeps}
 use Rattle.policy_lawful.specs.Offences.{broken}
 use Rattle.policy_lawful.specs.Rules.{device_kinds, kinds_of_names, logical_names, offence_1}
 use Rattle.policy_lawful.specs.declared.offence.Offence.{Offence}
@@ -26,6 +27,13 @@ pub none_found : {O : Type 0} (a b : Option O) → a ≡ None → option_or a b 
 none_found a b none = ap (λ o. option_or o b) none
 
 pub ruleset one_behind_another = (broken-or, none_found, first_found)
+
+-- ---- an answer
+
+-- what is told of an answer tells the same offence and another thing that follows
+pub keeps_as : {X : Type 0} (Holds Follows : X → Type 0) (a b : Option Refusal) → b ≡ a → ((x : X) → Holds x → Follows x) → (result : Result X Refusal) → Keeps a Holds result → Keeps b Follows result
+keeps_as Holds Follows a b same follows (Ok x) h = (same ∙ h.0, follows x h.1)
+keeps_as Holds Follows a b same follows (Err e) h = subst (λ o. Explains NoMemory o e) (sym same) h
 
 -- ---- one element of a list
 

@@ -1,3 +1,4 @@
+pub mod DeviceParts
 pub mod Outline
 pub mod Parts
 pub mod Places

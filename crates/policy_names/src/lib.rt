@@ -2,7 +2,13 @@
 //! stands in its stead.
 #![tactic(auto)]
 
+mod components;
+mod devices;
+mod frames;
+mod groups;
 mod index;
 mod named;
 mod parts;
+mod references;
+mod refers;
 mod scope;

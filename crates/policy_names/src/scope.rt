@@ -1,5 +1,5 @@
 //! What the elements of a policy may refer to.
-ghost use Rattle.std.specs.Prelude.{◌≡◌, map, None};
+ghost use Rattle.std.specs.Prelude.{◌≡◌, ◌<◌, length, map, slice_get, None, Some};
 ghost use Rattle.policy_lawful.specs.Keeps.{Keeps};
 ghost use Rattle.policy_lawful.specs.Offences.{broken};
 ghost use Rattle.policy_lawful.specs.Rules.{offence_1};
@@ -94,5 +94,14 @@ impl<'a> Scope<'a> {
             subjects,
             groups,
         })
+    }
+
+    /// The names of the parts of the device at a place.
+    #[tactic(auto, using(crate::proofs::DeviceAtPlace::there))]
+    pub fn parts_at(&self, place: usize) -> &DeviceNames
+        requires { place < length self.now.devices }
+        ensures { slice_get (map names_of_device self.now.source.now.devices) place ≡ Some result.now }
+    {
+        &self.parts.items()[place]
     }
 }
