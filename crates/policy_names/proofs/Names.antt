@@ -19,7 +19,7 @@ use Rattle.policy_names.specs.Places.{StandsFor}
 
 -- ---- a name that is sought
 
-declared_is : (names : List (List ℕ)) (name : List ℕ) → is_declared names name ≡ list_any (bytes_eq name) names
+pub declared_is : (names : List (List ℕ)) (name : List ℕ) → is_declared names name ≡ list_any (bytes_eq name) names
 declared_is [] name = refl
 declared_is (n ∷ ns) name = rw (nat_list_eq_equiv.symm n name, declared_is ns name) refl
 
@@ -33,7 +33,7 @@ found names name place h =
     let at = position-Some (bytes_eq name) names place [] h in
     record { same = sym ((bytes_eq-Decides name (name_at names place)).0 at.1); there = lt-ltb place (length names) at.0 }
 
-pub ruleset sought = (undeclared_is, found)
+pub ruleset sought = (declared_is, undeclared_is, found)
 
 -- ---- a name that stood before
 

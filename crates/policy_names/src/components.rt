@@ -3,9 +3,14 @@ ghost use Rattle.muen_num.specs.Search.{first_in};
 ghost use Rattle.std.specs.Prelude.{slice_get};
 ghost use Rattle.policy_lawful.specs.Resolution.{component_named, component_placed, entry_named, entry_placed};
 ghost use Rattle.policy_lawful.specs.Rules.{component_references, entry_references, undeclared};
+ghost use Rattle.policy_lawful.specs.Keeps.{Keeps};
+ghost use Rattle.policy_lawful.specs.Offences.{broken};
+ghost use Rattle.policy_names.specs.Entries.{EntriesStand, entry_among, entry_offence, entry_there};
+ghost use Rattle.policy_names.specs.Places.{StandsFor};
 ghost use Rattle.policy_names.specs.Outline.{outline};
 
 use crate::index::not_declared;
+use crate::parts::WantedNames;
 use crate::refers::{Refers, resolve_all};
 use crate::scope::Scope;
 use muen_num::Name;
@@ -22,6 +27,7 @@ pub struct Use {
     pub component: usize,
 }
 
+/// An entry of a component's map.
 impl Refers for source::MapEntry {
     type By = Use;
 
@@ -33,29 +39,36 @@ impl Refers for source::MapEntry {
 
     ghost is_placed = { λ p u e. entry_placed (outline p) u.component e.logical e.physical };
 
-
-    fn resolve(
-        &self,
-        _: Global,
-        scope: &Scope,
-        by: Use,
-    ) -> Result<resolved::MapEntry, Refusal> {
-        let Some(wanted) = scope.wanted.items().get(by.component) else {
-            return Err(not_declared(by.by, self.logical));
-        };
-        if let Some(place) = wanted.channels.find(self.logical) {
-            return Ok(resolved::MapEntry {
-                logical: Wanted::Channel(place),
-                physical: scope.channels.place(by.by, self.physical)?,
-                rights: self.rights,
-            });
+    fn resolve(&self, _: Global, scope: &Scope, by: Use) -> Result<resolved::MapEntry, Refusal> {
+        match scope.wanted_at(by.component) {
+            Some(names) => place_entry(scope, names, by.by, self),
+            None => Err(not_declared(by.by, self.logical)),
         }
-        Ok(resolved::MapEntry {
-            logical: Wanted::Memory(wanted.regions.place(by.by, self.logical)?),
-            physical: scope.regions.place(by.by, self.physical)?,
-            rights: self.rights,
-        })
     }
+}
+
+// The entry of a component, which wants these names, in the subject that has the name `by`.
+#[tactic(auto, using(crate::proofs::Elements::entry))]
+fn place_entry(
+    scope: &Scope,
+    names: &WantedNames,
+    by: Name,
+    entry: &source::MapEntry,
+) -> Result<resolved::MapEntry, Refusal>
+    ensures { let p = scope.now.source.now in Keeps (broken 2 (entry_offence p names.now by entry.now)) (StandsFor (λ e. entry_among p names.now e.logical e) (λ e. entry_there p names.now e.logical e.physical) entry.now) result }
+{
+    if let Some(place) = names.channels.find(entry.logical) {
+        return Ok(resolved::MapEntry {
+            logical: Wanted::Channel(place),
+            physical: scope.channels.place(by, entry.physical)?,
+            rights: entry.rights,
+        });
+    }
+    Ok(resolved::MapEntry {
+        logical: Wanted::Memory(names.regions.place(by, entry.logical)?),
+        physical: scope.regions.place(by, entry.physical)?,
+        rights: entry.rights,
+    })
 }
 
 /// The use of the subject that has this name.
@@ -80,10 +93,21 @@ impl Refers for source::ComponentUse {
         by: Name,
     ) -> Result<resolved::ComponentUse, Refusal> {
         let component = scope.components.place(by, self.used)?;
-        let map = resolve_all(alloc, scope, Use { by, component }, self.map.items())?;
-        Ok(resolved::ComponentUse {
-            used: component,
-            map,
-        })
+        place_entries(alloc, scope, Use { by, component }, self)
     }
+}
+
+// The use of the component at a place.
+fn place_entries(
+    alloc: Global,
+    scope: &Scope,
+    by: Use,
+    used: &source::ComponentUse,
+) -> Result<resolved::ComponentUse, Refusal>
+    ensures { let p = scope.now.source.now in Keeps (broken 2 (first_in (λ e. first_in undeclared (entry_references p by.by (slice_get p.components by.component) e)) used.now.map)) (EntriesStand p by.component used.now) result }
+{
+    Ok(resolved::ComponentUse {
+        used: by.component,
+        map: resolve_all(alloc, scope, by, used.map.items())?,
+    })
 }

@@ -1,11 +1,9 @@
 //! Where each name of a list stands.
-ghost use Rattle.std.specs.Prelude.{◌≡◌, ◌++◌, [], length, map, nat_lt};
-ghost use Rattle.std.specs.List.{position};
-ghost use Rattle.std.specs.Str.{bytes_eq};
+ghost use Rattle.std.specs.Prelude.{◌≡◌, ◌++◌, [], length, map, nat_lt, is_some, IfSome};
 ghost use Rattle.policy_lawful.specs.Keeps.{Keeps};
 ghost use Rattle.policy_lawful.specs.Offences.{broken};
 ghost use Rattle.policy_lawful.specs.Resolution.{name_at};
-ghost use Rattle.policy_lawful.specs.Rules.{refers, undeclared};
+ghost use Rattle.policy_lawful.specs.Rules.{is_declared, refers, undeclared};
 ghost use Rattle.policy_names.specs.Parts.{repeats, repeats_behind};
 ghost use Rattle.policy_names.specs.Places.{StandsFor};
 ghost use Rattle.policy_types.specs.declared.refusal.Refusal.TheVariants.{Rule};
@@ -86,9 +84,11 @@ impl Index {
         Index::new(alloc).with(items)
     }
 
-    /// The place of a name, if it is there.
+    /// The place of a name; `None` exactly where it isn't there.
+    #[tactic(auto, using(crate::proofs::Names::sought))]
     pub fn find(&self, name: Name) -> Option<usize>
-        ensures { result ≡ position (bytes_eq name) self.now }
+        ensures declared { is_some result ≡ is_declared self.now name }
+        ensures place { IfSome result (StandsFor (name_at self.now) (λ place. nat_lt place (length self.now)) name) }
     {
         self.names.get_index_of(&name)
     }

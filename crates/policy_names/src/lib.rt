@@ -12,3 +12,4 @@ mod parts;
 mod references;
 mod refers;
 mod scope;
+mod subjects;

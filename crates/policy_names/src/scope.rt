@@ -1,5 +1,5 @@
 //! What the elements of a policy may refer to.
-ghost use Rattle.std.specs.Prelude.{◌≡◌, ◌<◌, length, map, slice_get, None, Some};
+ghost use Rattle.std.specs.Prelude.{◌≡◌, ◌<◌, length, map, slice_get, None, Some, IfNone, IfSome};
 ghost use Rattle.policy_lawful.specs.Keeps.{Keeps};
 ghost use Rattle.policy_lawful.specs.Offences.{broken};
 ghost use Rattle.policy_lawful.specs.Rules.{offence_1};
@@ -103,5 +103,14 @@ impl<'a> Scope<'a> {
         ensures { slice_get (map names_of_device self.now.source.now.devices) place ≡ Some result.now }
     {
         &self.parts.items()[place]
+    }
+
+    /// The logical names that the component at a place wants, if there is one.
+    #[tactic(auto, using(crate::proofs::DeviceAtPlace::there))]
+    pub fn wanted_at(&self, place: usize) -> Option<&WantedNames>
+        ensures there { IfSome result (λ names. slice_get (map names_of_wanted self.now.source.now.components) place ≡ Some names.now) }
+        ensures nowhere { IfNone result (slice_get (map names_of_wanted self.now.source.now.components) place ≡ None) }
+    {
+        self.wanted.items().get(place)
     }
 }
