@@ -4,4 +4,5 @@ pub mod Elements
 pub mod Names
 pub mod PartNames
 pub mod Refusals
+pub mod Resolved
 pub mod SubjectAtPlaces

@@ -31,10 +31,10 @@ windows_offence p s =
     (first_in (λ d. first_in undeclared (device_references p s.name d)) s.devices))
 
 -- these stand for the subject's mappings, channels and devices
-pub record WindowsStand (p : Source) (s : Subject) (memory : List PlacedMapping) (channels : List PlacedChannel) (devices : List PlacedDevice) : Type 0 where
-  pub regions : StandsFor {X = List PlacedMapping} {Y = List Mapping} (map (mapping_named (outline p))) (list_all (λ m. nat_lt m.region (length p.memory))) s.memory memory
-  pub channels : StandsFor {X = List PlacedChannel} {Y = List ChannelUse} (map (channel_named (outline p))) (list_all (λ c. nat_lt c.channel (length p.channels))) s.channels channels
-  pub devices : StandsFor {X = List PlacedDevice} {Y = List DeviceUse} (map (device_named (outline p))) (list_all (device_placed (outline p))) s.devices devices
+pub record WindowsStand (p : Source) (s : Subject) (windows : List PlacedMapping) (ends : List PlacedChannel) (grants : List PlacedDevice) : Type 0 where
+  pub regions : StandsFor {X = List PlacedMapping} {Y = List Mapping} (map (mapping_named (outline p))) (list_all (λ m. nat_lt m.region (length p.memory))) s.memory windows
+  pub channels : StandsFor {X = List PlacedChannel} {Y = List ChannelUse} (map (channel_named (outline p))) (list_all (λ c. nat_lt c.channel (length p.channels))) s.channels ends
+  pub devices : StandsFor {X = List PlacedDevice} {Y = List DeviceUse} (map (device_named (outline p))) (list_all (device_placed (outline p))) s.devices grants
 
 -- the first event or monitored subject that isn't there
 unfoldable pub signals_offence : Source → Subject → Option Offence
@@ -44,7 +44,7 @@ signals_offence p s =
     (first_in (λ m. undeclared (refers s.name (map (λ s. s.name) p.subjects) m.subject)) s.monitors))
 
 -- these stand for the subject's sources, targets and monitors
-pub record SignalsStand (p : Source) (s : Subject) (sources : List PlacedSource) (targets : List PlacedTarget) (monitors : List PlacedMonitor) : Type 0 where
-  pub sources : StandsFor {X = List PlacedSource} {Y = List EventSource} (map (λ e. record { event = name_at (map (λ x. x.name) p.events) e.event; way = e.way })) (list_all (λ e. nat_lt e.event (length p.events))) s.sources sources
-  pub targets : StandsFor {X = List PlacedTarget} {Y = List EventTarget} (map (λ e. record { event = name_at (map (λ x. x.name) p.events) e.event; vector = e.vector })) (list_all (λ e. nat_lt e.event (length p.events))) s.targets targets
-  pub monitors : StandsFor {X = List PlacedMonitor} {Y = List Monitor} (map (λ m. record { subject = name_at (map (λ x. x.name) p.subjects) m.subject; virtual_address = m.virtual_address; rights = m.rights })) (list_all (λ m. nat_lt m.subject (length p.subjects))) s.monitors monitors
+pub record SignalsStand (p : Source) (s : Subject) (raised : List PlacedSource) (heard : List PlacedTarget) (watched : List PlacedMonitor) : Type 0 where
+  pub sources : StandsFor {X = List PlacedSource} {Y = List EventSource} (map (λ e. record { event = name_at (map (λ x. x.name) p.events) e.event; way = e.way })) (list_all (λ e. nat_lt e.event (length p.events))) s.sources raised
+  pub targets : StandsFor {X = List PlacedTarget} {Y = List EventTarget} (map (λ e. record { event = name_at (map (λ x. x.name) p.events) e.event; vector = e.vector })) (list_all (λ e. nat_lt e.event (length p.events))) s.targets heard
+  pub monitors : StandsFor {X = List PlacedMonitor} {Y = List Monitor} (map (λ m. record { subject = name_at (map (λ x. x.name) p.subjects) m.subject; virtual_address = m.virtual_address; rights = m.rights })) (list_all (λ m. nat_lt m.subject (length p.subjects))) s.monitors watched

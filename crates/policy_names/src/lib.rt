@@ -2,6 +2,17 @@
 //! stands in its stead.
 #![tactic(auto)]
 
+ghost use Rattle.std.specs.Prelude.{◌≡◌};
+ghost use Rattle.muen_num.specs.Answers.{Answers};
+ghost use Rattle.policy_lawful.specs.Keeps.{Keeps};
+ghost use Rattle.policy_lawful.specs.Lawful.{names_broken, kept_or, kept_source};
+ghost use Rattle.policy_lawful.specs.Offences.{broken};
+ghost use Rattle.policy_lawful.specs.Resolution.{source_of, are_placed};
+ghost use Rattle.policy_lawful.specs.Rules.{offence_2};
+ghost use Rattle.policy_names.specs.Outline.{with_places};
+ghost use Rattle.policy_names.specs.Places.{StandsFor};
+ghost use Rattle.policy_types.specs.declared.refusal.Refusal.TheVariants.{NoMemory};
+
 mod components;
 mod devices;
 mod frames;
@@ -13,3 +24,68 @@ mod references;
 mod refers;
 mod scope;
 mod subjects;
+
+use crate::frames::resolve_majors;
+use crate::refers::resolve_all;
+use crate::scope::Scope;
+use muen_num::Seq;
+use policy_lawful::Resolved;
+use policy_lawful::resolved::{Scheduling, Subject};
+use policy_types::{Refusal, Source};
+use std::alloc::Global;
+
+// The elements that refer to names, with places for these.
+#[tactic(auto, using(crate::proofs::Resolved::in_turn))]
+fn find_places(alloc: Global, scope: &Scope) -> Result<(Seq<Subject>, Scheduling), Refusal>
+    ensures { let p = scope.now.source.now in Keeps (broken 2 (offence_2 p)) (λ x. StandsFor source_of are_placed p (with_places p x.0 x.1)) result }
+{
+    let source = scope.source;
+    let subjects = resolve_all(alloc, scope, (), source.subjects.items())?;
+    let groups = resolve_all(alloc, scope, (), source.scheduling.groups.items())?;
+    let major_frames = resolve_majors(alloc, scope, source.scheduling.major_frames.items())?;
+    Ok((
+        subjects,
+        Scheduling {
+            groups,
+            major_frames,
+            tau0: source.scheduling.tau0,
+        },
+    ))
+}
+
+/// Resolves the references of a policy.
+///
+/// Answers `Rule` with the first offence against rule 1, that names are unique for each kind, else
+/// against rule 2, that each reference names a declared thing; and `NoMemory` where memory was
+/// refused.
+#[tactic(auto, using(crate::proofs::Resolved::resolution))]
+pub fn resolve(alloc: Global, source: Source) -> Result<Resolved, Refusal>
+    ensures { Answers NoMemory (kept_or source (names_broken source)) (kept_source result) }
+{
+    let scope = Scope::of(alloc, &source)?;
+    let (subjects, scheduling) = find_places(alloc, &scope)?;
+    drop(scope);
+    let Source {
+        processor,
+        memory_blocks,
+        devices,
+        memory,
+        channels,
+        components,
+        events,
+        device_domains,
+        ..
+    } = source;
+    Ok(Resolved::make(
+        processor,
+        memory_blocks,
+        devices,
+        memory,
+        channels,
+        components,
+        events,
+        subjects,
+        scheduling,
+        device_domains,
+    ))
+}
