@@ -1,5 +1,5 @@
 -- A component at its place, and the names of what it wants.
-use Rattle.std.proofs.Common.{◌≡◌, ℕ, ◌<◌, Bool, true, false, List, [], ◌∷◌, ◌++◌, length, map, Option, Some, None, refl, sym, ap, subst, ◌∙◌, arith}
+use Rattle.std.proofs.Common.{◌≡◌, ℕ, ◌<◌, Bool, true, false, List, [], length, map, Option, Some, None, refl, sym, ap, subst, ◌∙◌, arith}
 use Rattle.std.specs.Prelude.{◌&&◌, ◌||◌, slice_get, nat_lt, option_map, unwrap_or, if◌then◌else◌, Result}
 use Rattle.std.specs.Option.{option_or, option_map_or}
 use Rattle.std.specs.List.{find, list_all}

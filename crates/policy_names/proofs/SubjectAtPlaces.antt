@@ -33,9 +33,20 @@ in_turn p s =
     let sources = map (λ e. refers s.name (map (λ e. e.name) p.events) e.event) s.sources in
     let targets = map (λ e. refers s.name (map (λ e. e.name) p.events) e.event) s.targets in
     let monitors = map (λ m. refers s.name (map (λ s. s.name) p.subjects) m.subject) s.monitors in
-    rw (first_in-append undeclared (((((component ++ regions) ++ channels) ++ devices) ++ sources) ++ targets) monitors, first_in-append undeclared ((((component ++ regions) ++ channels) ++ devices) ++ sources) targets, first_in-append undeclared (((component ++ regions) ++ channels) ++ devices) sources, first_in-append undeclared ((component ++ regions) ++ channels) devices, first_in-append undeclared (component ++ regions) channels, first_in-append undeclared component regions,
-    first_over-map (λ m. refers s.name (map (λ r. r.name) p.memory) m.region) undeclared s.memory, first_over-map (λ c. refers s.name (map (λ c. c.name) p.channels) c.channel) undeclared s.channels, first_in-flat_map undeclared (device_references p s.name) s.devices,
-    first_over-map (λ e. refers s.name (map (λ e. e.name) p.events) e.event) undeclared s.sources, first_over-map (λ e. refers s.name (map (λ e. e.name) p.events) e.event) undeclared s.targets, first_over-map (λ m. refers s.name (map (λ s. s.name) p.subjects) m.subject) undeclared s.monitors)
+    rw (
+      first_in-append undeclared (((((component ++ regions) ++ channels) ++ devices) ++ sources) ++ targets) monitors,
+      first_in-append undeclared ((((component ++ regions) ++ channels) ++ devices) ++ sources) targets,
+      first_in-append undeclared (((component ++ regions) ++ channels) ++ devices) sources,
+      first_in-append undeclared ((component ++ regions) ++ channels) devices,
+      first_in-append undeclared (component ++ regions) channels,
+      first_in-append undeclared component regions,
+      first_over-map (λ m. refers s.name (map (λ r. r.name) p.memory) m.region) undeclared s.memory,
+      first_over-map (λ c. refers s.name (map (λ c. c.name) p.channels) c.channel) undeclared s.channels,
+      first_in-flat_map undeclared (device_references p s.name) s.devices,
+      first_over-map (λ e. refers s.name (map (λ e. e.name) p.events) e.event) undeclared s.sources,
+      first_over-map (λ e. refers s.name (map (λ e. e.name) p.events) e.event) undeclared s.targets,
+      first_over-map (λ m. refers s.name (map (λ s. s.name) p.subjects) m.subject) undeclared s.monitors,
+    )
     (simp (option_or_assoc) refl)
 
 pub ruleset in_stages = (in_turn, one_behind_another)

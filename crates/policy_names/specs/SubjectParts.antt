@@ -1,5 +1,5 @@
 -- What a subject refers to beside its component: what its windows show, and the events and subjects of its signals.
-use Rattle.std.specs.Prelude.{◌≡◌, ℕ, List, length, map, nat_lt, Option}
+use Rattle.std.specs.Prelude.{List, length, map, nat_lt, Option}
 use Rattle.std.specs.Option.{option_or}
 use Rattle.std.specs.List.{list_all}
 use Rattle.muen_num.specs.Search.{first_in}

@@ -21,8 +21,8 @@ use std::alloc::Global;
 /// A subject's use of a component.
 #[derive(Clone, Copy)]
 pub struct Use {
-    /// The subject.
-    pub by: Name,
+    /// The subject's name.
+    pub subject: Name,
     /// The component's place.
     pub component: usize,
 }
@@ -33,7 +33,7 @@ impl Refers for source::MapEntry {
 
     type Placed = resolved::MapEntry;
 
-    ghost offence = { λ p u e. first_in undeclared (entry_references p u.by (slice_get p.components u.component) e) };
+    ghost offence = { λ p u e. first_in undeclared (entry_references p u.subject (slice_get p.components u.component) e) };
 
     ghost named = { λ p u e. entry_named (outline p) u.component e.logical e };
 
@@ -41,8 +41,8 @@ impl Refers for source::MapEntry {
 
     fn resolve(&self, _: Global, scope: &Scope, by: Use) -> Result<resolved::MapEntry, Refusal> {
         match scope.wanted_at(by.component) {
-            Some(names) => place_entry(scope, names, by.by, self),
-            None => Err(not_declared(by.by, self.logical)),
+            Some(names) => place_entry(scope, names, by.subject, self),
+            None => Err(not_declared(by.subject, self.logical)),
         }
     }
 }
@@ -85,7 +85,6 @@ impl Refers for source::ComponentUse {
 
     ghost is_placed = { λ p _. component_placed (outline p) };
 
-
     fn resolve(
         &self,
         alloc: Global,
@@ -93,7 +92,15 @@ impl Refers for source::ComponentUse {
         by: Name,
     ) -> Result<resolved::ComponentUse, Refusal> {
         let component = scope.components.place(by, self.used)?;
-        place_entries(alloc, scope, Use { by, component }, self)
+        place_entries(
+            alloc,
+            scope,
+            Use {
+                subject: by,
+                component,
+            },
+            self,
+        )
     }
 }
 
@@ -104,7 +111,7 @@ fn place_entries(
     by: Use,
     used: &source::ComponentUse,
 ) -> Result<resolved::ComponentUse, Refusal>
-    ensures { let p = scope.now.source.now in Keeps (broken 2 (first_in (λ e. first_in undeclared (entry_references p by.by (slice_get p.components by.component) e)) used.now.map)) (EntriesStand p by.component used.now) result }
+    ensures { let p = scope.now.source.now in Keeps (broken 2 (first_in (λ e. first_in undeclared (entry_references p by.subject (slice_get p.components by.component) e)) used.now.map)) (EntriesStand p by.component used.now) result }
 {
     Ok(resolved::ComponentUse {
         used: by.component,

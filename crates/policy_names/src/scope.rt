@@ -78,8 +78,11 @@ impl<'a> Scope<'a> {
         ensures { Keeps (broken 1 (offence_1 source.now)) (λ scope. scope.source.now ≡ source.now) result }
     {
         let (devices, parts) = index_hardware(alloc, source)?;
-        let (regions, channels) =
-            index_both(alloc, source.memory.items(), source.channels.items())?;
+        let (regions, channels) = index_both(
+            alloc,
+            source.memory.items(),
+            source.channels.items(),
+        )?;
         let (components, wanted) = index_components(alloc, source)?;
         let (events, subjects, groups) = index_members(alloc, source)?;
         Ok(Scope {

@@ -5,7 +5,7 @@ use Rattle.policy_names.proofs.components.SourceMapEntryRefers.resolve.Goals as 
 
 pub returns-in-Some : goal.returns-in-Some
 returns-in-Some c =
-    entry_resolved c.args.scope.now.source.now c.args.by.by c.args.self.now c.args.by.component c.in-Some.names.now c.in-Some.ensures.there c.place_entry.result c.place_entry.ensures
+    entry_resolved c.args.scope.now.source.now c.args.by.subject c.args.self.now c.args.by.component c.in-Some.names.now c.in-Some.ensures.there c.place_entry.result c.place_entry.ensures
 
 pub returns-in-None : goal.returns-in-None
-returns-in-None c = inr (ap (broken 2) (no_component c.args.scope.now.source.now c.args.by.by c.args.self.now c.args.by.component c.in-None.ensures.nowhere) ∙ ap Some (sym c.not_declared.ensures))
+returns-in-None c = inr (ap (broken 2) (no_component c.args.scope.now.source.now c.args.by.subject c.args.self.now c.args.by.component c.in-None.ensures.nowhere) ∙ ap Some (sym c.not_declared.ensures))
