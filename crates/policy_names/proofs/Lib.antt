@@ -1,5 +1,8 @@
-pub mod Built
+pub mod ComponentAtPlace
+pub mod DeviceAtPlace
+pub mod Elements
 pub mod Names
-pub mod Parts
+pub mod PartNames
 pub mod Refusals
 pub mod Resolved
+pub mod SubjectAtPlaces

@@ -6,18 +6,20 @@ use Rattle.std.specs.Option.{option_or}
 use Rattle.std.specs.Str.{bytes_eq}
 use Rattle.std.specs.Cmp.Lexicographic.{nat_list_eq_equiv}
 use Rattle.std.proofs.lemmas.Bool.{lt-ltb}
+use Rattle.std.proofs.lemmas.List.{append-nil}
 use Rattle.std.proofs.lemmas.List.Quantifiers.{position-Some}
 use Rattle.std.proofs.lemmas.Slice.Eq.{bytes_eq-Decides}
-use Rattle.muen_num.specs.Search.{first_after, first_in, unless}
+use Rattle.muen_num.specs.Search.{first_in, unless}
 use Rattle.policy_lawful.specs.Offences.{alone, two}
 use Rattle.policy_lawful.specs.Resolution.{name_at}
-use Rattle.policy_lawful.specs.Rules.{is_declared, refers, repeated, undeclared}
+use Rattle.policy_lawful.specs.Rules.{is_declared, refers, undeclared}
 use Rattle.policy_lawful.specs.declared.offence.Offence.{Offence}
+use Rattle.policy_names.specs.Parts.{repeats, repeats_behind}
 use Rattle.policy_names.specs.Places.{StandsFor}
 
 -- ---- a name that is sought
 
-declared_is : (names : List (List ℕ)) (name : List ℕ) → is_declared names name ≡ list_any (bytes_eq name) names
+pub declared_is : (names : List (List ℕ)) (name : List ℕ) → is_declared names name ≡ list_any (bytes_eq name) names
 declared_is [] name = refl
 declared_is (n ∷ ns) name = rw (nat_list_eq_equiv.symm n name, declared_is ns name) refl
 
@@ -31,7 +33,7 @@ found names name place h =
     let at = position-Some (bytes_eq name) names place [] h in
     record { same = sym ((bytes_eq-Decides name (name_at names place)).0 at.1); there = lt-ltb place (length names) at.0 }
 
-pub ruleset sought = (undeclared_is, found)
+pub ruleset sought = (declared_is, undeclared_is, found)
 
 -- ---- a name that stood before
 
@@ -53,10 +55,15 @@ abbrev pub repeated_after : List (List ℕ) → List (List ℕ) → Option Offen
 repeated_after before [] = None
 repeated_after before (n ∷ ns) = if list_any (bytes_eq n) before then Some (alone n) else repeated_after (before ++ n ∷ []) ns
 
-after_is : (before names : List (List ℕ)) → repeated_after before names ≡ first_after (λ before b. first_in (λ a. unless (not (bytes_eq a b)) (alone b)) before) before names
-after_is before [] = refl
-after_is before (n ∷ ns) = rw (stood_before before n, ← after_is (before ++ n ∷ []) ns, cond_or) refl
+-- so says the search
+pub repeated_from : (before names : List (List ℕ)) → repeated_after before names ≡ repeats_behind before names
+unfolding repeats_behind
+repeated_from before [] = refl
+repeated_from before (n ∷ ns) = rw (stood_before before n, ← repeated_from (before ++ n ∷ []) ns, cond_or) refl
 
--- none stood before the first
-pub repeated_from_start : (names : List (List ℕ)) → repeated_after [] names ≡ repeated names
-repeated_from_start names = after_is [] names
+pub ruleset behind = (repeated_from, append-nil)
+
+-- where none stand in front, those that repeat are those that do by themselves
+pub none_in_front : (names : List (List ℕ)) → repeats_behind [] names ≡ repeats names
+unfolding repeats repeats_behind
+none_in_front names = refl

@@ -1,24 +1,27 @@
 -- The resolved policy, from its elements with places.
-use Rattle.std.proofs.Common.{◌≡◌, true, List, ◌++◌, length, None, refl, sym, ap, subst, ◌∙◌}
+use Rattle.std.proofs.Common.{◌≡◌, true, List, ◌++◌, length, None, Err, refl, sym, ap, subst, ◌∙◌}
 use Rattle.std.specs.Prelude.{map, nat_lt}
 use Rattle.std.specs.List.{flat_map, list_all}
 use Rattle.std.specs.Option.{option_or}
 use Rattle.std.proofs.lemmas.List.{length-map}
+use Rattle.muen_num.specs.Answers.{Answers, Explains}
 use Rattle.muen_num.specs.Search.{first_in}
-use Rattle.muen_num.proofs.Lists.{all_true, map-map}
+use Rattle.muen_num.proofs.Lists.{map-map}
 use Rattle.muen_num.proofs.SearchLaws.{first_in-append, option_or-None, option_or_assoc}
-use Rattle.policy_lawful.specs.Lawful.{names_broken}
+use Rattle.policy_lawful.specs.Lawful.{kept_or, names_broken}
 use Rattle.policy_lawful.specs.Offences.{broken}
+use Rattle.policy_lawful.proofs.Keeps.{refused}
 use Rattle.policy_lawful.proofs.Offences.{none_broken}
 use Rattle.policy_lawful.specs.Resolution.{IsResolved, Resolution, are_placed, group_named, group_placed, major_named, major_placed, name_at, source_of, subject_named, subject_named_among, subject_placed, subject_placed_among}
 use Rattle.policy_lawful.specs.Rules.{frame_references, group_references, majors_of, offence_1, offence_2, subject_references, undeclared}
 use Rattle.policy_lawful.specs.declared.resolved.Group.{Group}
 use Rattle.policy_lawful.specs.declared.resolved.MajorFrame.{MajorFrame}
 use Rattle.policy_lawful.specs.declared.resolved.Subject.{Subject}
+use Rattle.policy_types.specs.declared.refusal.Refusal.{Refusal}
+use Rattle.policy_types.specs.declared.refusal.Refusal.TheVariants.{NoMemory}
 use Rattle.policy_types.specs.declared.source.Source.{Source}
 use Rattle.policy_names.specs.Outline.{bare_group, bare_subject, outline, with_places}
 use Rattle.policy_names.specs.Places.{StandsFor}
-use Rattle.policy_names.proofs.Built.{subjects_plain}
 use Rattle.policy_names.proofs.Refusals.{first_in-flat_map, one_behind_another}
 
 -- ---- its elements
@@ -33,7 +36,7 @@ offence_2_in_turn p =
     let g = flat_map (group_references p) p.scheduling.groups in
     rw (first_in-append undeclared (s ++ g), first_in-append undeclared s g, first_in-flat_map undeclared (subject_references p), first_in-flat_map undeclared (group_references p), first_in-flat_map undeclared (frame_references p), option_or_assoc) refl
 
-pub ruleset in_turn = (offence_2_in_turn, one_behind_another, subjects_plain, all_true)
+pub ruleset in_turn = (offence_2_in_turn, one_behind_another)
 
 module _ (p : Source) (ss : List Subject) (gs : List Group) (ms : List MajorFrame)
     (subjects : StandsFor (map (subject_named (outline p))) (list_all (subject_placed (outline p))) p.subjects ss)
@@ -97,6 +100,11 @@ module _ (p : Source) (ss : List Subject) (gs : List Group) (ms : List MajorFram
 pub names_in_turn : (p : Source) → names_broken p ≡ option_or (broken 1 (offence_1 p)) (broken 2 (offence_2 p))
 unfolding names_broken
 names_in_turn p = rw (option_or-None (broken 2 (offence_2 p))) refl
+
+-- where rule 1 is kept, what explains a refusal by rule 2 explains the whole answer
+pub refused_by_2 : (p : Source) (e : Refusal) → broken 1 (offence_1 p) ≡ None → Explains NoMemory (broken 2 (offence_2 p)) e → Answers NoMemory (kept_or p (names_broken p)) (Err e)
+refused_by_2 p e one h =
+    refused p (names_broken p) e (subst (λ o. Explains NoMemory o e) (sym (names_in_turn p ∙ ap (λ o. option_or o (broken 2 (offence_2 p))) one)) h)
 
 -- where neither is broken, it is resolved
 pub resolved : (p : Source) (r : Resolution) → broken 1 (offence_1 p) ≡ None → broken 2 (offence_2 p) ≡ None → StandsFor source_of are_placed p r → IsResolved r

@@ -4,39 +4,18 @@ ghost use Rattle.std.specs.Prelude.{◌≡◌, length, map, nat_lt, true};
 ghost use Rattle.muen_num.specs.Search.{first_in};
 ghost use Rattle.policy_lawful.specs.Keeps.{Keeps};
 ghost use Rattle.policy_lawful.specs.Offences.{broken};
-ghost use Rattle.policy_lawful.specs.Resolution.{cpu_named, major_named, major_placed, name_at};
+ghost use Rattle.policy_lawful.specs.Resolution.{cpu_named, major_named, major_placed};
 ghost use Rattle.policy_lawful.specs.Rules.{frame_references, refers, undeclared};
 ghost use Rattle.policy_names.specs.Outline.{outline};
 ghost use Rattle.policy_names.specs.Places.{StandsFor};
 
-use crate::refers::{Refers, resolve_all};
+use crate::refers::{Refers, place_all, resolve_all};
 use crate::scope::Scope;
 use muen_num::{Name, Seq};
 use policy_lawful::frame_names::major_name;
 use policy_lawful::resolved;
 use policy_types::{Refusal, source};
 use std::alloc::Global;
-
-/// A minor frame of the major frame that has this name.
-impl Refers for source::MinorFrame {
-    type By = Name;
-
-    type Placed = resolved::MinorFrame;
-
-    ghost offence = { λ p by f. undeclared (refers by (map (λ g. g.name) p.scheduling.groups) f.group) };
-
-    ghost named = { λ p f. record { group = name_at (map (λ g. g.name) (outline p).scheduling.groups) f.group; ticks = f.ticks } };
-
-    ghost is_placed = { λ p f. nat_lt f.group (length (outline p).scheduling.groups) };
-
-    #[tactic(auto, using(crate::proofs::Parts::name))]
-    fn resolve(&self, _: Global, scope: &Scope, by: Name) -> Result<resolved::MinorFrame, Refusal> {
-        Ok(resolved::MinorFrame {
-            group: scope.groups.place(by, self.group)?,
-            ticks: self.ticks,
-        })
-    }
-}
 
 /// The minor frames of a CPU in the major frame that has this name.
 impl Refers for source::CpuFrames {
@@ -46,11 +25,11 @@ impl Refers for source::CpuFrames {
 
     ghost offence = { λ p by c. first_in undeclared (map (λ f. refers by (map (λ g. g.name) p.scheduling.groups) f.group) c.minor_frames) };
 
-    ghost named = { λ p. cpu_named (outline p) };
+    ghost named = { λ p _. cpu_named (outline p) };
 
-    ghost is_placed = { λ p c. list_all (λ f. nat_lt f.group (length (outline p).scheduling.groups)) c.minor_frames };
+    ghost is_placed = { λ p _ c. list_all (λ f. nat_lt f.group (length (outline p).scheduling.groups)) c.minor_frames };
 
-    #[tactic(auto, using(crate::proofs::Parts::names))]
+    #[tactic(auto, using(crate::proofs::Elements::names))]
     fn resolve(
         &self,
         alloc: Global,
@@ -59,7 +38,7 @@ impl Refers for source::CpuFrames {
     ) -> Result<resolved::CpuFrames, Refusal> {
         Ok(resolved::CpuFrames {
             cpu: self.cpu,
-            minor_frames: resolve_all(alloc, scope, by, self.minor_frames.items())?,
+            minor_frames: place_all(alloc, &scope.groups, by, self.minor_frames.items())?,
         })
     }
 }
@@ -72,11 +51,11 @@ impl Refers for source::MajorFrame {
 
     ghost offence = { λ p place m. first_in undeclared (frame_references p (place, m)) };
 
-    ghost named = { λ p. major_named (outline p) };
+    ghost named = { λ p _. major_named (outline p) };
 
-    ghost is_placed = { λ p. major_placed (outline p) };
+    ghost is_placed = { λ p _. major_placed (outline p) };
 
-    #[tactic(auto, using(crate::proofs::Parts::lists))]
+    #[tactic(auto, using(crate::proofs::Elements::lists))]
     fn resolve(
         &self,
         alloc: Global,

@@ -2,7 +2,7 @@
 //! stands in its stead.
 #![tactic(auto)]
 
-ghost use Rattle.std.specs.Prelude.{◌≡◌, true};
+ghost use Rattle.std.specs.Prelude.{◌≡◌};
 ghost use Rattle.muen_num.specs.Answers.{Answers};
 ghost use Rattle.policy_lawful.specs.Keeps.{Keeps};
 ghost use Rattle.policy_lawful.specs.Lawful.{names_broken, kept_or, kept_source};
@@ -11,13 +11,16 @@ ghost use Rattle.policy_lawful.specs.Resolution.{source_of, are_placed};
 ghost use Rattle.policy_lawful.specs.Rules.{offence_2};
 ghost use Rattle.policy_names.specs.Outline.{with_places};
 ghost use Rattle.policy_names.specs.Places.{StandsFor};
-ghost use Rattle.policy_types.specs.Built.{is_built};
 ghost use Rattle.policy_types.specs.declared.refusal.Refusal.TheVariants.{NoMemory};
 
+mod components;
+mod devices;
 mod frames;
 mod groups;
 mod index;
 mod named;
+mod parts;
+mod references;
 mod refers;
 mod scope;
 mod subjects;
@@ -34,7 +37,6 @@ use std::alloc::Global;
 // The elements that refer to names, with places for these.
 #[tactic(auto, using(crate::proofs::Resolved::in_turn))]
 fn find_places(alloc: Global, scope: &Scope) -> Result<(Seq<Subject>, Scheduling), Refusal>
-    requires { is_built scope.now.source.now ≡ true }
     ensures { let p = scope.now.source.now in Keeps (broken 2 (offence_2 p)) (λ x. StandsFor source_of are_placed p (with_places p x.0 x.1)) result }
 {
     let source = scope.source;
@@ -58,7 +60,6 @@ fn find_places(alloc: Global, scope: &Scope) -> Result<(Seq<Subject>, Scheduling
 /// refused.
 #[tactic(auto, using(crate::proofs::Resolved::resolution))]
 pub fn resolve(alloc: Global, source: Source) -> Result<Resolved, Refusal>
-    requires { is_built source ≡ true }
     ensures { Answers NoMemory (kept_or source (names_broken source)) (kept_source result) }
 {
     let scope = Scope::of(alloc, &source)?;

@@ -1,24 +1,71 @@
 //! What the elements of a policy may refer to.
-ghost use Rattle.std.specs.Prelude.{◌≡◌, map, true};
+ghost use Rattle.std.specs.Prelude.{◌≡◌, ◌<◌, length, map, slice_get, None, Some, IfNone, IfSome};
 ghost use Rattle.policy_lawful.specs.Keeps.{Keeps};
 ghost use Rattle.policy_lawful.specs.Offences.{broken};
 ghost use Rattle.policy_lawful.specs.Rules.{offence_1};
-ghost use Rattle.policy_types.specs.Built.{is_built};
+ghost use Rattle.policy_names.specs.Parts.{components_repeat, hardware_repeats, members_repeat, names_of_device, names_of_wanted};
 
 use crate::index::Index;
+use crate::parts::{DeviceNames, WantedNames, index_all, index_both};
+use muen_num::Seq;
 use policy_types::{Refusal, Source};
 use std::alloc::Global;
 
-/// A policy, and the names of it that elements may refer to.
+/// A policy whose names are unique for each kind, and those of its names that elements may refer to.
 #[derive(Drop)]
 pub struct Scope<'a> {
     pub source: &'a Source,
+    pub devices: Index,
+    pub parts: Seq<DeviceNames>,
     pub regions: Index,
+    pub channels: Index,
+    pub components: Index,
+    pub wanted: Seq<WantedNames>,
+    pub events: Index,
     pub subjects: Index,
     pub groups: Index,
+    ghost unique: { offence_1 source.now ≡ None },
+    ghost devices_are: { devices ≡ map (λ d. d.name) source.now.devices },
+    ghost parts_are: { parts ≡ map names_of_device source.now.devices },
     ghost regions_are: { regions ≡ map (λ r. r.name) source.now.memory },
+    ghost channels_are: { channels ≡ map (λ c. c.name) source.now.channels },
+    ghost components_are: { components ≡ map (λ c. c.name) source.now.components },
+    ghost wanted_are: { wanted ≡ map names_of_wanted source.now.components },
+    ghost events_are: { events ≡ map (λ e. e.name) source.now.events },
     ghost subjects_are: { subjects ≡ map (λ s. s.name) source.now.subjects },
     ghost groups_are: { groups ≡ map (λ g. g.name) source.now.scheduling.groups },
+}
+
+// The indexes of the devices and of their parts; nothing refers to a block.
+#[tactic(auto, unfolding(crate::specs::Parts::hardware_repeats), using(crate::proofs::Refusals::one_behind_another))]
+fn index_hardware(alloc: Global, source: &Source) -> Result<(Index, Seq<DeviceNames>), Refusal>
+    ensures { let p = source.now in Keeps (broken 1 (hardware_repeats p)) (λ x. (x.0 ≡ map (λ d. d.name) p.devices) × (x.1 ≡ map names_of_device p.devices)) result }
+{
+    Index::of(alloc, source.memory_blocks.items())?;
+    let devices = Index::of(alloc, source.devices.items())?;
+    let parts = index_all(alloc, source.devices.items())?;
+    Ok((devices, parts))
+}
+
+// The indexes of the components and of what they want.
+#[tactic(auto, unfolding(crate::specs::Parts::components_repeat), using(crate::proofs::Refusals::one_behind_another))]
+fn index_components(alloc: Global, source: &Source) -> Result<(Index, Seq<WantedNames>), Refusal>
+    ensures { let p = source.now in Keeps (broken 1 (components_repeat p)) (λ x. (x.0 ≡ map (λ c. c.name) p.components) × (x.1 ≡ map names_of_wanted p.components)) result }
+{
+    let components = Index::of(alloc, source.components.items())?;
+    let wanted = index_all(alloc, source.components.items())?;
+    Ok((components, wanted))
+}
+
+// The indexes of the events, of the subjects and of the groups.
+#[tactic(auto, unfolding(crate::specs::Parts::members_repeat), using(crate::proofs::Refusals::one_behind_another))]
+fn index_members(alloc: Global, source: &Source) -> Result<(Index, Index, Index), Refusal>
+    ensures { let p = source.now in Keeps (broken 1 (members_repeat p)) (λ x. (x.0 ≡ map (λ e. e.name) p.events) × (x.1 ≡ map (λ s. s.name) p.subjects) × (x.2 ≡ map (λ g. g.name) p.scheduling.groups)) result }
+{
+    let events = Index::of(alloc, source.events.items())?;
+    let subjects = Index::of(alloc, source.subjects.items())?;
+    let groups = Index::of(alloc, source.scheduling.groups.items())?;
+    Ok((events, subjects, groups))
 }
 
 impl<'a> Scope<'a> {
@@ -26,21 +73,47 @@ impl<'a> Scope<'a> {
     ///
     /// Answers the refusal of the first name that stands twice among those of a kind (rule 1), and
     /// `NoMemory` where memory was refused.
-    #[tactic(auto, using(crate::proofs::Built::rule_1))]
+    #[tactic(auto, using(crate::proofs::Refusals::rule_1))]
     pub fn of(alloc: Global, source: &'a Source) -> Result<Scope<'a>, Refusal>
-        requires { is_built source.now ≡ true }
         ensures { Keeps (broken 1 (offence_1 source.now)) (λ scope. scope.source.now ≡ source.now) result }
     {
-        // Nothing refers to a block.
-        Index::of(alloc, source.memory_blocks.items())?;
-        let regions = Index::of(alloc, source.memory.items())?;
-        let subjects = Index::of(alloc, source.subjects.items())?;
-        let groups = Index::of(alloc, source.scheduling.groups.items())?;
+        let (devices, parts) = index_hardware(alloc, source)?;
+        let (regions, channels) = index_both(
+            alloc,
+            source.memory.items(),
+            source.channels.items(),
+        )?;
+        let (components, wanted) = index_components(alloc, source)?;
+        let (events, subjects, groups) = index_members(alloc, source)?;
         Ok(Scope {
             source,
+            devices,
+            parts,
             regions,
+            channels,
+            components,
+            wanted,
+            events,
             subjects,
             groups,
         })
+    }
+
+    /// The names of the parts of the device at a place.
+    #[tactic(auto, using(crate::proofs::DeviceAtPlace::there))]
+    pub fn parts_at(&self, place: usize) -> &DeviceNames
+        requires { place < length self.now.devices }
+        ensures { slice_get (map names_of_device self.now.source.now.devices) place ≡ Some result.now }
+    {
+        &self.parts.items()[place]
+    }
+
+    /// The logical names that the component at a place wants, if there is one.
+    #[tactic(auto, using(crate::proofs::DeviceAtPlace::there))]
+    pub fn wanted_at(&self, place: usize) -> Option<&WantedNames>
+        ensures there { IfSome result (λ names. slice_get (map names_of_wanted self.now.source.now.components) place ≡ Some names.now) }
+        ensures nowhere { IfNone result (slice_get (map names_of_wanted self.now.source.now.components) place ≡ None) }
+    {
+        self.wanted.items().get(place)
     }
 }

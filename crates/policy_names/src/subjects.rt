@@ -1,15 +1,20 @@
-//! Subjects, which refer to regions.
-ghost use Rattle.std.specs.Prelude.{length, map, nat_lt, true};
+//! Subjects, which refer to components, regions, channels, devices, events and each other.
+ghost use Rattle.std.specs.Prelude.{◌≡◌, option_map, true, IfOk};
+ghost use Rattle.std.specs.Option.{option_map_or};
 ghost use Rattle.muen_num.specs.Search.{first_in};
-ghost use Rattle.policy_lawful.specs.Resolution.{mapping_named, subject_named, subject_placed};
-ghost use Rattle.policy_lawful.specs.Rules.{refers, subject_references, undeclared};
+ghost use Rattle.policy_lawful.specs.Keeps.{Keeps};
+ghost use Rattle.policy_lawful.specs.Offences.{broken};
+ghost use Rattle.policy_lawful.specs.Resolution.{component_named, component_placed, subject_named, subject_placed};
+ghost use Rattle.policy_lawful.specs.Rules.{component_references, subject_references, undeclared};
 ghost use Rattle.policy_names.specs.Outline.{outline};
-ghost use Rattle.policy_types.specs.Built.{is_plain};
+ghost use Rattle.policy_names.specs.Places.{StandsFor};
+ghost use Rattle.policy_names.specs.SubjectParts.{SignalsStand, WindowsStand, signals_offence, windows_offence};
 
-use crate::refers::{Refers, resolve_all};
+use crate::refers::{Refers, place_all, resolve_all};
 use crate::scope::Scope;
-use muen_num::{Name, Seq};
+use muen_num::{Name, NoMemory, Seq};
 use policy_lawful::resolved;
+use policy_types::source::Msrs;
 use policy_types::{Refusal, source};
 use std::alloc::Global;
 
@@ -20,48 +25,101 @@ impl Refers for source::Subject {
 
     ghost offence = { λ p _ s. first_in undeclared (subject_references p s) };
 
-    ghost named = { λ p. subject_named (outline p) };
+    ghost named = { λ p _. subject_named (outline p) };
 
-    ghost is_placed = { λ p. subject_placed (outline p) };
+    ghost is_placed = { λ p _. subject_placed (outline p) };
 
-    ghost is_built = { is_plain };
-
-    #[tactic(auto, using(crate::proofs::Parts::mappings))]
+    #[tactic(auto, using(crate::proofs::SubjectAtPlaces::in_stages))]
     fn resolve(&self, alloc: Global, scope: &Scope, _: ()) -> Result<resolved::Subject, Refusal> {
+        let component = resolve_component(alloc, scope, self.name, &self.component)?;
+        let (memory, channels, devices) = resolve_windows(alloc, scope, self)?;
+        let (sources, targets, monitors) = resolve_signals(alloc, scope, self)?;
         Ok(resolved::Subject {
             name: self.name,
             cpu: self.cpu,
             entry: self.entry,
-            component: None,
-            memory: resolve_all(alloc, scope, self.name, self.memory.items())?,
-            channels: Seq::new(alloc),
-            devices: Seq::new(alloc),
-            msrs: Seq::new(alloc),
-            sources: Seq::new(alloc),
-            targets: Seq::new(alloc),
-            monitors: Seq::new(alloc),
+            component,
+            memory,
+            channels,
+            devices,
+            msrs: copy_msrs(alloc, self.msrs.items())?,
+            sources,
+            targets,
+            monitors,
         })
     }
 }
 
-/// A mapping of the subject that has this name.
-impl Refers for source::Mapping {
-    type By = Name;
-
-    type Placed = resolved::Mapping;
-
-    ghost offence = { λ p by m. undeclared (refers by (map (λ r. r.name) p.memory) m.region) };
-
-    ghost named = { λ p. mapping_named (outline p) };
-
-    ghost is_placed = { λ p m. nat_lt m.region (length p.memory) };
-
-    #[tactic(auto, using(crate::proofs::Parts::name))]
-    fn resolve(&self, _: Global, scope: &Scope, by: Name) -> Result<resolved::Mapping, Refusal> {
-        Ok(resolved::Mapping {
-            region: scope.regions.place(by, self.region)?,
-            virtual_address: self.virtual_address,
-            rights: self.rights,
-        })
+// The use of a component by the subject that has the name `by`, if it uses one.
+fn resolve_component(
+    alloc: Global,
+    scope: &Scope,
+    by: Name,
+    component: &Option<source::ComponentUse>,
+) -> Result<Option<resolved::ComponentUse>, Refusal>
+    ensures { let p = scope.now.source.now in Keeps (broken 2 (first_in undeclared (component_references p by component.now))) (StandsFor (option_map (component_named (outline p))) (λ c. option_map_or (component_placed (outline p)) c true) component.now) result }
+{
+    match component {
+        Some(used) => Ok(Some(used.resolve(alloc, scope, by)?)),
+        None => Ok(None),
     }
+}
+
+type Windows = (
+    Seq<resolved::Mapping>,
+    Seq<resolved::ChannelUse>,
+    Seq<resolved::DeviceUse>,
+);
+
+// What a subject's windows show.
+#[tactic(auto, unfolding(crate::specs::SubjectParts::windows_offence), using(crate::proofs::SubjectAtPlaces::as_many))]
+fn resolve_windows(
+    alloc: Global,
+    scope: &Scope,
+    subject: &source::Subject,
+) -> Result<Windows, Refusal>
+    ensures { let p = scope.now.source.now in Keeps (broken 2 (windows_offence p subject.now)) (λ x. WindowsStand p subject.now x.0 x.1 x.2) result }
+{
+    let by = subject.name;
+    let memory = place_all(alloc, &scope.regions, by, subject.memory.items())?;
+    let channels = place_all(alloc, &scope.channels, by, subject.channels.items())?;
+    let devices = resolve_all(alloc, scope, by, subject.devices.items())?;
+    Ok((memory, channels, devices))
+}
+
+type Signals = (
+    Seq<resolved::EventSource>,
+    Seq<resolved::EventTarget>,
+    Seq<resolved::Monitor>,
+);
+
+// The events that a subject raises and gets, and the subjects that it monitors.
+#[tactic(auto, unfolding(crate::specs::SubjectParts::signals_offence), using(crate::proofs::SubjectAtPlaces::as_many))]
+fn resolve_signals(
+    alloc: Global,
+    scope: &Scope,
+    subject: &source::Subject,
+) -> Result<Signals, Refusal>
+    ensures { let p = scope.now.source.now in Keeps (broken 2 (signals_offence p subject.now)) (λ x. SignalsStand p subject.now x.0 x.1 x.2) result }
+{
+    let by = subject.name;
+    let sources = place_all(alloc, &scope.events, by, subject.sources.items())?;
+    let targets = place_all(alloc, &scope.events, by, subject.targets.items())?;
+    let monitors = place_all(alloc, &scope.subjects, by, subject.monitors.items())?;
+    Ok((sources, targets, monitors))
+}
+
+// The same ranges of MSRs once more.
+fn copy_msrs(alloc: Global, msrs: &[Msrs]) -> Result<Seq<Msrs>, NoMemory>
+    ensures { IfOk result (λ copies. copies ≡ msrs.now) }
+{
+    let mut copies = Seq::new(alloc);
+    for range in msrs {
+        copies.push(Msrs {
+            start: range.start,
+            end: range.end,
+            rights: range.rights,
+        })?;
+    }
+    Ok(copies)
 }

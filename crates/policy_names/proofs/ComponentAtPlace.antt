@@ -1,0 +1,146 @@
+-- A component at its place, and the names of what it wants.
+use Rattle.std.proofs.Common.{◌≡◌, ℕ, ◌<◌, Bool, true, false, List, [], length, map, Option, Some, None, refl, sym, ap, subst, ◌∙◌, arith}
+use Rattle.std.specs.Prelude.{◌&&◌, ◌||◌, slice_get, nat_lt, option_map, unwrap_or, if◌then◌else◌, Result}
+use Rattle.std.specs.Option.{option_or, option_map_or}
+use Rattle.std.specs.List.{find, list_all}
+use Rattle.std.specs.Str.{bytes_eq}
+use Rattle.std.proofs.lemmas.Bool.{and_from, ltb-true}
+use Rattle.std.proofs.lemmas.List.{length-map}
+use Rattle.std.proofs.lemmas.List.Folds.{list_any-append}
+use Rattle.std.proofs.lemmas.Option.{slice_get-map}
+use Rattle.muen_num.specs.Search.{first_in, unless}
+use Rattle.muen_num.proofs.SearchLaws.{option_or-None}
+use Rattle.policy_lawful.specs.Keeps.{Keeps}
+use Rattle.policy_lawful.specs.Offences.{broken, two}
+use Rattle.policy_lawful.specs.Resolution.{component_named, component_placed, entry_named, entry_placed, name_at}
+use Rattle.policy_lawful.specs.Rules.{component_references, entry_references, is_declared, offence_1, refers, undeclared}
+use Rattle.policy_lawful.proofs.Offences.{none_broken}
+use Rattle.policy_lawful.proofs.Places.{found_at_place}
+use Rattle.policy_lawful.proofs.UniqueNames.{unique as names_unique}
+use Rattle.policy_lawful.specs.declared.offence.Offence.{Offence}
+use Rattle.policy_lawful.specs.declared.resolved.MapEntry.{MapEntry as PlacedEntry}
+use Rattle.policy_lawful.specs.declared.resolved.ComponentUse.{ComponentUse as PlacedUse}
+use Rattle.policy_lawful.specs.declared.resolved.Wanted.{Wanted}
+use Rattle.policy_lawful.specs.declared.resolved.Wanted.TheVariants.{Memory as WantedMemory, Channel as WantedChannel}
+use Rattle.policy_types.specs.declared.refusal.Refusal.{Refusal}
+use Rattle.policy_types.specs.declared.source.Component.{Component}
+use Rattle.policy_types.specs.declared.source.ComponentUse.{ComponentUse}
+use Rattle.policy_types.specs.declared.source.MapEntry.{MapEntry}
+use Rattle.policy_types.specs.declared.source.Source.{Source}
+use Rattle.policy_names.specs.Entries.{EntriesStand, entry_among, entry_offence, entry_there}
+use Rattle.policy_names.specs.Outline.{outline}
+use Rattle.policy_names.specs.Parts.{names_of_wanted}
+use Rattle.policy_names.specs.Places.{StandsFor}
+use Rattle.policy_names.specs.declared.parts.WantedNames.{WantedNames}
+use Rattle.policy_names.proofs.Refusals.{first_in-flat_map, keeps_as}
+
+-- ---- an entry
+
+-- whether it is among the second decides where the other is sought
+either : (second first : Bool) (o : Offence) (at : List (List ℕ) → Option Offence) (xs ys : List (List ℕ))
+    → option_or (unless (first || second) o) (option_or (at (if second then ys else xs)) None) ≡ (if second then at ys else option_or (unless first o) (at xs))
+either true true o at xs ys = option_or-None (at ys)
+either true false o at xs ys = option_or-None (at ys)
+either false true o at xs ys = option_or-None (at xs)
+either false false o at xs ys = refl
+
+entry_of : (p : Source) (by : List ℕ) (c : Component) (e : MapEntry) → first_in undeclared (entry_references p by (Some c) e) ≡ entry_offence p (names_of_wanted c) by e
+entry_of p by c e =
+    let regions = map (λ x. x.logical) c.memory in
+    let channels = map (λ x. x.logical) c.channels in
+    let at : List (List ℕ) → Option Offence = λ names. undeclared (refers by names e.physical) in
+    ap (λ b. option_or (unless b (two by e.logical)) (option_or (at (if is_declared channels e.logical then map (λ x. x.name) p.channels else map (λ r. r.name) p.memory)) None)) (list_any-append (λ n. bytes_eq n e.logical) regions channels)
+    ∙ either (is_declared channels e.logical) (is_declared regions e.logical) (two by e.logical) at (map (λ r. r.name) p.memory) (map (λ x. x.name) p.channels)
+
+same_names : (c : Component) (names : WantedNames) → Some (names_of_wanted c) ≡ Some names → names_of_wanted c ≡ names
+same_names c names h = ap (λ o. unwrap_or o names) h
+
+entry_over : (p : Source) (by : List ℕ) (e : MapEntry) (names : WantedNames) (o : Option Component) → option_map names_of_wanted o ≡ Some names → first_in undeclared (entry_references p by o e) ≡ entry_offence p names by e
+entry_over p by e names None h = absurd (cc)
+entry_over p by e names (Some c) h = subst (λ n. first_in undeclared (entry_references p by (Some c) e) ≡ entry_offence p n by e) (same_names c names h) (entry_of p by c e)
+
+-- a list of what is there
+part : (f : WantedNames → List (List ℕ)) (o : Option Component) (names : WantedNames) → option_map names_of_wanted o ≡ Some names → option_map_or (λ c. f (names_of_wanted c)) o [] ≡ f names
+part f None names h = absurd (cc)
+part f (Some c) names h = ap (λ o. option_map_or f o []) h
+
+module _ (p : Source) (by : List ℕ) (e : MapEntry) (place : ℕ) (names : WantedNames) (at : slice_get (map names_of_wanted p.components) place ≡ Some names) where
+  placed : option_map names_of_wanted (slice_get p.components place) ≡ Some names
+  placed = sym (slice_get-map names_of_wanted p.components place) ∙ at
+
+  regions_at : option_map_or (λ c. map (λ x. x.logical) c.memory) (slice_get p.components place) [] ≡ names.regions
+  regions_at = part (λ n. n.regions) (slice_get p.components place) names placed
+
+  channels_at : option_map_or (λ c. map (λ x. x.logical) c.channels) (slice_get p.components place) [] ≡ names.channels
+  channels_at = part (λ n. n.channels) (slice_get p.components place) names placed
+
+  entry_same : (w : Wanted) (r : PlacedEntry) → entry_named (outline p) place w r ≡ entry_among p names w r
+  entry_same (WantedMemory k) r = ap (λ (n : List (List ℕ)). record { logical = name_at n k; physical = name_at (map (λ r. r.name) p.memory) r.physical; rights = r.rights }) regions_at
+  entry_same (WantedChannel k) r = ap (λ (n : List (List ℕ)). record { logical = name_at n k; physical = name_at (map (λ c. c.name) p.channels) r.physical; rights = r.rights }) channels_at
+
+  there_same : (w : Wanted) (k : ℕ) → entry_placed (outline p) place w k ≡ entry_there p names w k
+  there_same (WantedMemory j) k = ap (λ (n : List (List ℕ)). nat_lt j (length n) && nat_lt k (length p.memory)) regions_at
+  there_same (WantedChannel j) k = ap (λ (n : List (List ℕ)). nat_lt j (length n) && nat_lt k (length p.channels)) channels_at
+
+  -- what is told of an entry among the names of its component
+  pub entry_resolved : (result : Result PlacedEntry Refusal) → Keeps (broken 2 (entry_offence p names by e)) (StandsFor (λ r. entry_among p names r.logical r) (λ r. entry_there p names r.logical r.physical) e) result
+      → Keeps (broken 2 (first_in undeclared (entry_references p by (slice_get p.components place) e))) (StandsFor (λ r. entry_named (outline p) place r.logical r) (λ r. entry_placed (outline p) place r.logical r.physical) e) result
+  entry_resolved result keeps =
+      keeps_as (StandsFor (λ r. entry_among p names r.logical r) (λ r. entry_there p names r.logical r.physical) e) (StandsFor (λ r. entry_named (outline p) place r.logical r) (λ r. entry_placed (outline p) place r.logical r.physical) e)
+      (broken 2 (entry_offence p names by e)) (broken 2 (first_in undeclared (entry_references p by (slice_get p.components place) e)))
+      (ap (broken 2) (entry_over p by e names (slice_get p.components place) placed))
+      (λ r h. record { same = entry_same r.logical r ∙ h.same; there = there_same r.logical r.physical ∙ h.there })
+      result keeps
+
+none_over : (p : Source) (by : List ℕ) (e : MapEntry) (o : Option Component) → option_map names_of_wanted o ≡ None → first_in undeclared (entry_references p by o e) ≡ Some (two by e.logical)
+none_over p by e None h = refl
+none_over p by e (Some c) h = absurd (cc)
+
+-- where there is no component, nothing is declared
+pub no_component : (p : Source) (by : List ℕ) (e : MapEntry) (place : ℕ) → slice_get (map names_of_wanted p.components) place ≡ None → first_in undeclared (entry_references p by (slice_get p.components place) e) ≡ Some (two by e.logical)
+no_component p by e place at = none_over p by e (slice_get p.components place) (sym (slice_get-map names_of_wanted p.components place) ∙ at)
+
+-- ---- a use of a component
+
+module _ (p : Source) (by : List ℕ) (c : ComponentUse) (place : ℕ)
+    (unique : offence_1 p ≡ None)
+    (stands : StandsFor (name_at (map (λ c. c.name) p.components)) (λ k. nat_lt k (length (map (λ c. c.name) p.components))) c.used place) where
+  many : length (map (λ c. c.name) p.components) ≡ length p.components
+  many = length-map p.components (λ c. c.name)
+
+  -- the component is found by its name
+  found : find (λ x. bytes_eq x.name c.used) p.components ≡ slice_get p.components place
+  found =
+      let within : place < length (map (λ c. c.name) p.components) = ltb-true place (length (map (λ c. c.name) p.components)) stands.there in
+      ap (λ n. find (λ x. bytes_eq x.name n) p.components) (sym stands.same)
+      ∙ found_at_place (λ c. c.name) p.components place (names_unique p unique).components (omega (arith, many, within))
+
+  -- its references, one behind another
+  in_turn : first_in undeclared (component_references p by (Some c))
+      ≡ option_or (undeclared (refers by (map (λ c. c.name) p.components) c.used)) (first_in (λ e. first_in undeclared (entry_references p by (slice_get p.components place) e)) c.map)
+  in_turn =
+      ap (option_or (undeclared (refers by (map (λ c. c.name) p.components) c.used)))
+      (first_in-flat_map undeclared (entry_references p by (find (λ x. bytes_eq x.name c.used) p.components)) c.map
+      ∙ ap (λ o. first_in (λ e. first_in undeclared (entry_references p by o e)) c.map) found)
+
+  -- the use with places stands for it
+  use_stands : (r : PlacedUse) → EntriesStand p place c r → StandsFor (component_named (outline p)) (component_placed (outline p)) c r
+  use_stands r entries =
+      let used : name_at (map (λ c. c.name) p.components) r.used ≡ c.used = ap (name_at (map (λ c. c.name) p.components)) entries.used ∙ stands.same in
+      let within : nat_lt r.used (length p.components) ≡ true = ap (λ k. nat_lt k (length p.components)) entries.used ∙ ap (nat_lt place) (sym many) ∙ stands.there in
+      let same : map (λ e. entry_named (outline p) r.used e.logical e) r.map ≡ c.map = ap (λ k. map (λ (e : PlacedEntry). entry_named (outline p) k e.logical e) r.map) entries.used ∙ entries.map.same in
+      let there : list_all (λ e. entry_placed (outline p) r.used e.logical e.physical) r.map ≡ true = ap (λ k. list_all (λ (e : PlacedEntry). entry_placed (outline p) k e.logical e.physical) r.map) entries.used ∙ entries.map.there in
+      record {
+        same = λ i. record { used = used i; map = same i };
+        there = and_from _ _ within there;
+      }
+
+  -- so what is told of its entries tells all of it
+  pub resolved : (result : Result PlacedUse Refusal) → broken 2 (undeclared (refers by (map (λ c. c.name) p.components) c.used)) ≡ None
+      → Keeps (broken 2 (first_in (λ e. first_in undeclared (entry_references p by (slice_get p.components place) e)) c.map)) (EntriesStand p place c) result
+      → Keeps (broken 2 (first_in undeclared (component_references p by (Some c)))) (StandsFor (component_named (outline p)) (component_placed (outline p)) c) result
+  resolved result declared keeps =
+      let rest = first_in (λ e. first_in undeclared (entry_references p by (slice_get p.components place) e)) c.map in
+      let same : broken 2 (first_in undeclared (component_references p by (Some c))) ≡ broken 2 rest =
+      ap (broken 2) in_turn ∙ ap (λ o. broken 2 (option_or o rest)) (none_broken 2 (undeclared (refers by (map (λ c. c.name) p.components) c.used)) declared) in
+      keeps_as (EntriesStand p place c) (StandsFor (component_named (outline p)) (component_placed (outline p)) c) (broken 2 rest) (broken 2 (first_in undeclared (component_references p by (Some c)))) same use_stands result keeps

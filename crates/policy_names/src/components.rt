@@ -1,0 +1,120 @@
+//! Uses of components, which refer to components, to what these want, and to regions and channels.
+ghost use Rattle.muen_num.specs.Search.{first_in};
+ghost use Rattle.std.specs.Prelude.{slice_get};
+ghost use Rattle.policy_lawful.specs.Resolution.{component_named, component_placed, entry_named, entry_placed};
+ghost use Rattle.policy_lawful.specs.Rules.{component_references, entry_references, undeclared};
+ghost use Rattle.policy_lawful.specs.Keeps.{Keeps};
+ghost use Rattle.policy_lawful.specs.Offences.{broken};
+ghost use Rattle.policy_names.specs.Entries.{EntriesStand, entry_among, entry_offence, entry_there};
+ghost use Rattle.policy_names.specs.Places.{StandsFor};
+ghost use Rattle.policy_names.specs.Outline.{outline};
+
+use crate::index::not_declared;
+use crate::parts::WantedNames;
+use crate::refers::{Refers, resolve_all};
+use crate::scope::Scope;
+use muen_num::Name;
+use policy_lawful::resolved::{self, Wanted};
+use policy_types::{Refusal, source};
+use std::alloc::Global;
+
+/// A subject's use of a component.
+#[derive(Clone, Copy)]
+pub struct Use {
+    /// The subject's name.
+    pub subject: Name,
+    /// The component's place.
+    pub component: usize,
+}
+
+/// An entry of a component's map.
+impl Refers for source::MapEntry {
+    type By = Use;
+
+    type Placed = resolved::MapEntry;
+
+    ghost offence = { λ p u e. first_in undeclared (entry_references p u.subject (slice_get p.components u.component) e) };
+
+    ghost named = { λ p u e. entry_named (outline p) u.component e.logical e };
+
+    ghost is_placed = { λ p u e. entry_placed (outline p) u.component e.logical e.physical };
+
+    fn resolve(&self, _: Global, scope: &Scope, by: Use) -> Result<resolved::MapEntry, Refusal> {
+        match scope.wanted_at(by.component) {
+            Some(names) => place_entry(scope, names, by.subject, self),
+            None => Err(not_declared(by.subject, self.logical)),
+        }
+    }
+}
+
+// The entry of a component, which wants these names, in the subject that has the name `by`.
+#[tactic(auto, using(crate::proofs::Elements::entry))]
+fn place_entry(
+    scope: &Scope,
+    names: &WantedNames,
+    by: Name,
+    entry: &source::MapEntry,
+) -> Result<resolved::MapEntry, Refusal>
+    ensures { let p = scope.now.source.now in Keeps (broken 2 (entry_offence p names.now by entry.now)) (StandsFor (λ e. entry_among p names.now e.logical e) (λ e. entry_there p names.now e.logical e.physical) entry.now) result }
+{
+    if let Some(place) = names.channels.find(entry.logical) {
+        return Ok(resolved::MapEntry {
+            logical: Wanted::Channel(place),
+            physical: scope.channels.place(by, entry.physical)?,
+            rights: entry.rights,
+        });
+    }
+    Ok(resolved::MapEntry {
+        logical: Wanted::Memory(names.regions.place(by, entry.logical)?),
+        physical: scope.regions.place(by, entry.physical)?,
+        rights: entry.rights,
+    })
+}
+
+/// The use of the subject that has this name.
+impl Refers for source::ComponentUse {
+    type By = Name;
+
+    type Placed = resolved::ComponentUse;
+
+    ghost use Rattle.std.specs.Prelude.{Some};
+
+    ghost offence = { λ p by c. first_in undeclared (component_references p by (Some c)) };
+
+    ghost named = { λ p _. component_named (outline p) };
+
+    ghost is_placed = { λ p _. component_placed (outline p) };
+
+    fn resolve(
+        &self,
+        alloc: Global,
+        scope: &Scope,
+        by: Name,
+    ) -> Result<resolved::ComponentUse, Refusal> {
+        let component = scope.components.place(by, self.used)?;
+        place_entries(
+            alloc,
+            scope,
+            Use {
+                subject: by,
+                component,
+            },
+            self,
+        )
+    }
+}
+
+// The use of the component at a place.
+fn place_entries(
+    alloc: Global,
+    scope: &Scope,
+    by: Use,
+    used: &source::ComponentUse,
+) -> Result<resolved::ComponentUse, Refusal>
+    ensures { let p = scope.now.source.now in Keeps (broken 2 (first_in (λ e. first_in undeclared (entry_references p by.subject (slice_get p.components by.component) e)) used.now.map)) (EntriesStand p by.component used.now) result }
+{
+    Ok(resolved::ComponentUse {
+        used: by.component,
+        map: resolve_all(alloc, scope, by, used.map.items())?,
+    })
+}

@@ -1,0 +1,125 @@
+//! Devices and components, which have parts with names of their own.
+ghost use Rattle.std.specs.Prelude.{◌≡◌, ◌++◌, map};
+ghost use Rattle.muen_num.specs.Search.{first_in};
+ghost use Rattle.policy_lawful.specs.Keeps.{Keeps};
+ghost use Rattle.policy_lawful.specs.Offences.{broken};
+ghost use Rattle.policy_lawful.specs.Rules.{logical_names};
+ghost use Rattle.policy_names.specs.Parts.{component_repeats, device_repeats, names_of_device, names_of_wanted, repeats};
+
+use crate::index::Index;
+use crate::named::Named;
+use muen_num::Seq;
+use policy_types::Refusal;
+use policy_types::source::{Component, Device};
+use std::alloc::Global;
+
+/// The names of a device's memory, ports and interrupt lines.
+#[derive(Drop)]
+pub struct DeviceNames {
+    pub memory: Index,
+    pub io_ports: Index,
+    pub irqs: Index,
+}
+
+/// The logical names of a component that want something.
+#[derive(Drop)]
+pub struct WantedNames {
+    pub regions: Index,
+    pub channels: Index,
+}
+
+/// An element that has parts with names of their own.
+pub trait HasParts {
+    ghost use Rattle.std.specs.Prelude.{Option};
+    ghost use Rattle.policy_lawful.specs.declared.offence.Offence.{Offence};
+
+    /// The names that may be referred to.
+    type Names: Drop;
+
+    /// The offence against rule 1 of its parts.
+    ghost repeats: { Self → Option Offence };
+
+    /// Its names.
+    ghost names: { Self → Self.Names };
+
+    /// The indexes of its names. Answers the refusal of the first name that stood before, and
+    /// `NoMemory` where memory was refused.
+    fn index(&self, alloc: Global) -> Result<Self::Names, Refusal>
+        ensures { Keeps (broken 1 (repeats self.now)) (λ x. x ≡ names self.now) result };
+}
+
+impl HasParts for Device {
+    type Names = DeviceNames;
+
+    ghost repeats = { device_repeats };
+
+    ghost names = { names_of_device };
+
+    #[tactic(auto, using(crate::proofs::PartNames::in_lists))]
+    fn index(&self, alloc: Global) -> Result<DeviceNames, Refusal> {
+        Ok(DeviceNames {
+            memory: Index::of(alloc, self.memory.items())?,
+            io_ports: Index::of(alloc, self.io_ports.items())?,
+            irqs: Index::of(alloc, self.irqs.items())?,
+        })
+    }
+}
+
+impl HasParts for Component {
+    type Names = WantedNames;
+
+    ghost repeats = { component_repeats };
+
+    ghost names = { names_of_wanted };
+
+    #[tactic(auto, using(crate::proofs::PartNames::logical))]
+    fn index(&self, alloc: Global) -> Result<WantedNames, Refusal> {
+        index_logical_names(alloc, self)?;
+        Ok(WantedNames {
+            regions: Index::of(alloc, self.memory.items())?,
+            channels: Index::of(alloc, self.channels.items())?,
+        })
+    }
+}
+
+// The index of all logical names of a component.
+#[tactic(auto, using(crate::proofs::PartNames::in_parts))]
+fn index_logical_names(alloc: Global, component: &Component) -> Result<Index, Refusal>
+    ensures { Keeps (broken 1 (repeats (logical_names component.now))) (λ x. x ≡ logical_names component.now) result }
+{
+    let provides = Index::of(alloc, component.provides.items())?;
+    let with_regions = provides.with(component.memory.items())?;
+    with_regions.with(component.channels.items())
+}
+
+/// The indexes of the parts of all elements of a list.
+///
+/// Answers the refusal of the first name that stood before, and `NoMemory` where memory was
+/// refused.
+#[tactic(auto, using(crate::proofs::Refusals::explains_at))]
+pub fn index_all<T: HasParts>(alloc: Global, items: &[T]) -> Result<Seq<T::Names>, Refusal>
+    ensures { Keeps (broken 1 (first_in T.repeats items.now)) (λ xs. xs ≡ map T.names items.now) result }
+{
+    let mut names = Seq::new(alloc);
+    for item in items {
+        names.push(item.index(alloc)?)?;
+    }
+    Ok(names)
+}
+
+/// The indexes of two lists whose names are unique together.
+///
+/// Answers the refusal of the first name that stood before, in either, and `NoMemory` where memory
+/// was refused.
+#[tactic(auto, using(crate::proofs::PartNames::in_parts))]
+pub fn index_both<T: Named, U: Named>(
+    alloc: Global,
+    items: &[T],
+    more: &[U],
+) -> Result<(Index, Index), Refusal>
+    ensures { Keeps (broken 1 (repeats (map T.name items.now ++ map U.name more.now))) (λ both. (both.0 ≡ map T.name items.now) × (both.1 ≡ map U.name more.now)) result }
+{
+    let together = Index::of(alloc, items)?;
+    together.with(more)?;
+    Ok((Index::of(alloc, items)?, Index::of(alloc, more)?))
+}

@@ -1,0 +1,173 @@
+//! Elements that refer to one name each.
+ghost use Rattle.policy_lawful.specs.Resolution.{name_at};
+
+use crate::index::Index;
+use crate::refers::Reference;
+use muen_num::Name;
+use policy_lawful::resolved;
+use policy_types::{Refusal, source};
+
+/// A mapping of a region.
+impl Reference for source::Mapping {
+    type Placed = resolved::Mapping;
+
+    ghost name = { λ x. x.region };
+
+    ghost named = { λ names x. record { region = name_at names x.region; virtual_address = x.virtual_address; rights = x.rights } };
+
+    ghost place = { λ x. x.region };
+
+    fn place_in(&self, index: &Index, by: Name) -> Result<resolved::Mapping, Refusal> {
+        Ok(resolved::Mapping {
+            region: index.place(by, self.region)?,
+            virtual_address: self.virtual_address,
+            rights: self.rights,
+        })
+    }
+}
+
+/// An end of a channel.
+impl Reference for source::ChannelUse {
+    type Placed = resolved::ChannelUse;
+
+    ghost name = { λ x. x.channel };
+
+    ghost named = { λ names x. record { channel = name_at names x.channel; role = x.role; virtual_address = x.virtual_address; call = x.call; vector = x.vector } };
+
+    ghost place = { λ x. x.channel };
+
+    fn place_in(&self, index: &Index, by: Name) -> Result<resolved::ChannelUse, Refusal> {
+        Ok(resolved::ChannelUse {
+            channel: index.place(by, self.channel)?,
+            role: self.role,
+            virtual_address: self.virtual_address,
+            call: self.call,
+            vector: self.vector,
+        })
+    }
+}
+
+/// A window on a device's memory.
+impl Reference for source::DeviceMapping {
+    type Placed = resolved::DeviceMapping;
+
+    ghost name = { λ x. x.memory };
+
+    ghost named = { λ names x. record { memory = name_at names x.memory; virtual_address = x.virtual_address; rights = x.rights } };
+
+    ghost place = { λ x. x.memory };
+
+    fn place_in(&self, index: &Index, by: Name) -> Result<resolved::DeviceMapping, Refusal> {
+        Ok(resolved::DeviceMapping {
+            memory: index.place(by, self.memory)?,
+            virtual_address: self.virtual_address,
+            rights: self.rights,
+        })
+    }
+}
+
+/// A device's interrupt line.
+impl Reference for source::IrqUse {
+    type Placed = resolved::IrqUse;
+
+    ghost name = { λ x. x.irq };
+
+    ghost named = { λ names x. record { irq = name_at names x.irq; vector = x.vector } };
+
+    ghost place = { λ x. x.irq };
+
+    fn place_in(&self, index: &Index, by: Name) -> Result<resolved::IrqUse, Refusal> {
+        Ok(resolved::IrqUse {
+            irq: index.place(by, self.irq)?,
+            vector: self.vector,
+        })
+    }
+}
+
+/// A source of an event.
+impl Reference for source::EventSource {
+    type Placed = resolved::EventSource;
+
+    ghost name = { λ x. x.event };
+
+    ghost named = { λ names x. record { event = name_at names x.event; way = x.way } };
+
+    ghost place = { λ x. x.event };
+
+    fn place_in(&self, index: &Index, by: Name) -> Result<resolved::EventSource, Refusal> {
+        Ok(resolved::EventSource {
+            event: index.place(by, self.event)?,
+            way: self.way,
+        })
+    }
+}
+
+/// A target of an event.
+impl Reference for source::EventTarget {
+    type Placed = resolved::EventTarget;
+
+    ghost name = { λ x. x.event };
+
+    ghost named = { λ names x. record { event = name_at names x.event; vector = x.vector } };
+
+    ghost place = { λ x. x.event };
+
+    fn place_in(&self, index: &Index, by: Name) -> Result<resolved::EventTarget, Refusal> {
+        Ok(resolved::EventTarget {
+            event: index.place(by, self.event)?,
+            vector: self.vector,
+        })
+    }
+}
+
+/// A window on a monitored subject.
+impl Reference for source::Monitor {
+    type Placed = resolved::Monitor;
+
+    ghost name = { λ x. x.subject };
+
+    ghost named = { λ names x. record { subject = name_at names x.subject; virtual_address = x.virtual_address; rights = x.rights } };
+
+    ghost place = { λ x. x.subject };
+
+    fn place_in(&self, index: &Index, by: Name) -> Result<resolved::Monitor, Refusal> {
+        Ok(resolved::Monitor {
+            subject: index.place(by, self.subject)?,
+            virtual_address: self.virtual_address,
+            rights: self.rights,
+        })
+    }
+}
+
+/// A minor frame of a group.
+impl Reference for source::MinorFrame {
+    type Placed = resolved::MinorFrame;
+
+    ghost name = { λ x. x.group };
+
+    ghost named = { λ names x. record { group = name_at names x.group; ticks = x.ticks } };
+
+    ghost place = { λ x. x.group };
+
+    fn place_in(&self, index: &Index, by: Name) -> Result<resolved::MinorFrame, Refusal> {
+        Ok(resolved::MinorFrame {
+            group: index.place(by, self.group)?,
+            ticks: self.ticks,
+        })
+    }
+}
+
+/// A name alone, as a group has of its members and a subject of ports.
+impl Reference for Name {
+    type Placed = usize;
+
+    ghost name = { λ x. x };
+
+    ghost named = { name_at };
+
+    ghost place = { λ x. x };
+
+    fn place_in(&self, index: &Index, by: Name) -> Result<usize, Refusal> {
+        index.place(by, *self)
+    }
+}
