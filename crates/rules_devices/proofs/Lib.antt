@@ -1,0 +1,6 @@
+pub mod BusByExtent
+pub mod DomainsByPlace
+pub mod MsrsByExtent
+pub mod Names
+pub mod PortsByExtent
+pub mod WindowsByExtent
