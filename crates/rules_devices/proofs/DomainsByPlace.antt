@@ -1,13 +1,12 @@
 -- Rules 21 and 23 of a resolved policy are those of its source policy, whose domains and devices are the same.
-use Rattle.std.proofs.Common.{◌≡◌, ℕ, Bool, true, false, cond, List, [], ◌∷◌, ◌++◌, length, map, Option, Some, None, refl, sym, ap, ◌∙◌}
-use Rattle.std.specs.Prelude.{not, ◌||◌, codes, option_map}
-use Rattle.std.specs.List.{flat_map, list_any, list_all}
+use Rattle.std.proofs.Common.{◌≡◌, ℕ, Bool, true, false, List, [], ◌∷◌, ◌++◌, map, Option, Some, None, refl, sym, ap, ◌∙◌}
+use Rattle.std.specs.Prelude.{not, ◌||◌, option_map}
+use Rattle.std.specs.List.{flat_map, list_any}
 use Rattle.std.specs.Option.{option_or}
 use Rattle.std.specs.Str.{bytes_eq}
-use Rattle.std.proofs.lemmas.List.{map-append, map_push}
+use Rattle.std.proofs.lemmas.List.{map-append}
 use Rattle.std.proofs.lemmas.List.Concat.{flat_map-cons}
-use Rattle.muen_num.specs.declared.limits.TheConstants.{MOST_DOMAINS}
-use Rattle.muen_num.specs.Search.{first_after, first_in, first_pair, unless}
+use Rattle.muen_num.specs.Search.{first_after, first_in, unless}
 use Rattle.muen_num.proofs.Lists.{all_true, list_any-map, map-map}
 use Rattle.muen_num.proofs.SameAnswers.{first_after-map}
 use Rattle.muen_num.proofs.SearchLaws.{first_over-map, option_or-None, option_or_assoc}
@@ -15,11 +14,11 @@ use Rattle.policy_lawful.specs.Domains as rules
 use Rattle.policy_lawful.specs.Domains.{is_placed_device, is_bdf, same_bdf, listed_devices, listed_regions, offence_21, offence_23}
 use Rattle.policy_lawful.specs.Offences.{alone, two}
 use Rattle.policy_lawful.specs.Resolution.{Resolution, IsResolved, source_of}
-use Rattle.policy_lawful.specs.Rules.{at_most, is_declared, repeated}
+use Rattle.policy_lawful.specs.Rules.{is_declared, repeated}
 use Rattle.policy_lawful.specs.declared.offence.Offence.{Offence}
 use Rattle.policy_lawful.proofs.UniqueNames.{unique}
 use Rattle.policy_types.specs.declared.source.Domain.{Domain}
-use Rattle.rules_devices.specs.Listed.{domain_itself, domain_devices, domain_regions, first_repeat, has_place, names_offence, listed_offence, bus_offence}
+use Rattle.rules_devices.specs.Listed.{domain_itself, domain_devices, domain_regions, first_repeat, has_place, domains_offence}
 use Rattle.rules_devices.specs.declared.listed.Listed.{Listed}
 
 -- ---- names that stand in domains
@@ -112,7 +111,7 @@ pub devices_unique : (r : Resolution) → IsResolved r → repeated (map (λ d. 
 unfolding source_of
 devices_unique r h = (unique (source_of r) h.names).devices
 
-pub domains_by_place : (r : Resolution) → option_or (names_offence r.device_domains) (option_or (listed_offence r.devices r.device_domains) (bus_offence r.devices)) ≡ offence_21 (source_of r)
+pub domains_by_place : (r : Resolution) → domains_offence r.devices r.device_domains ≡ offence_21 (source_of r)
 unfolding offence_21 source_of
 domains_by_place r =
     let listed = flat_map domain_devices r.device_domains in

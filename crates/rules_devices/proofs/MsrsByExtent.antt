@@ -1,15 +1,13 @@
 -- Ranges of MSRs are ranges of addresses.
-use Rattle.std.proofs.Common.{◌≡◌, ℕ, zero, suc, ◌+◌, ◌-◌, ◌<◌, ◌≤◌, min, Bool, true, false, List, [], ◌∷◌, length, get_or, map, inl, inr, Option, Some, None, refl, sym, ap, ◌∙◌, arith}
-use Rattle.std.specs.Prelude.{◌||◌, ◌&&◌, nat_lt, nat_le, is_none}
+use Rattle.std.proofs.Common.{◌≡◌, ℕ, zero, suc, ◌+◌, ◌-◌, ◌<◌, ◌≤◌, min, Bool, true, false, List, [], ◌∷◌, length, get_or, map, inl, inr, Some, None, refl, sym, ap, ◌∙◌, arith}
+use Rattle.std.specs.Prelude.{◌||◌, ◌&&◌, nat_lt, nat_le}
 use Rattle.std.specs.List.{list_all, AllPairs}
 use Rattle.std.proofs.lemmas.Bool.{and_parts, and_from, leb-true, lt-ltb, or_cases}
 use Rattle.std.proofs.lemmas.Bool.Decides.{nat_tests}
 use Rattle.std.proofs.lemmas.List.{length-map, get_or-map}
-use Rattle.std.proofs.lemmas.List.Folds.{list_all-map}
 use Rattle.muen_num.specs.declared.limits.TheConstants.{HIGH_MSR_FIRST, HIGH_MSR_LAST, LOW_MSR_LAST}
-use Rattle.muen_num.specs.Search.{first_in, first_pair, unless}
+use Rattle.muen_num.specs.Search.{first_in, unless}
 use Rattle.muen_num.proofs.FirstPair.{pairs_at, pairs_from}
-use Rattle.muen_num.proofs.Lists.{each_from}
 use Rattle.muen_num.proofs.SearchLaws.{first_over-map, unless_none}
 use Rattle.policy_lawful.specs.MoreRules.{is_msr_range, msrs_apart, offence_11}
 use Rattle.policy_lawful.specs.Offences.{alone, two}

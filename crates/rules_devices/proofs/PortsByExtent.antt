@@ -14,10 +14,10 @@ use Rattle.muen_num.specs.declared.limits.TheConstants.{LAST_PORT}
 use Rattle.muen_num.specs.Search.{first_in, first_after, unless}
 use Rattle.muen_num.proofs.SameAnswers.{first_in-map}
 use Rattle.policy_extents.proofs.OwnThenPairs.{BreaksAt, breaks_at_first, first_fault_is}
-use Rattle.policy_lawful.specs.MoreRules.{device_ports, offence_10, ports_apart, ports_offence}
+use Rattle.policy_lawful.specs.MoreRules.{offence_10, ports_apart, ports_offence}
 use Rattle.policy_lawful.specs.Offences.{alone, two}
 use Rattle.policy_lawful.specs.Resolution.{Resolution, source_of}
-use Rattle.policy_lawful.specs.Rules.{are_apart, overlapping, first_overlap}
+use Rattle.policy_lawful.specs.Rules.{overlapping, first_overlap}
 use Rattle.policy_lawful.specs.declared.offence.Extent.{Extent}
 use Rattle.policy_lawful.specs.declared.offence.Offence.{Offence}
 use Rattle.policy_types.specs.declared.source.Device.{Device}

@@ -1,14 +1,14 @@
 -- The windows of domains, as ranges of the devices' addresses.
-use Rattle.std.proofs.Common.{◌≡◌, ℕ, ◌+◌, Bool, true, false, List, [], ◌∷◌, ◌++◌, map, Option, Some, None, refl, sym, ap, ◌∙◌}
+use Rattle.std.proofs.Common.{◌≡◌, ℕ, Bool, true, false, List, [], ◌∷◌, ◌++◌, map, Option, Some, None, refl, sym, ap, ◌∙◌}
 use Rattle.std.specs.Prelude.{◌&&◌, nat_lt, option_map}
 use Rattle.std.specs.Option.{option_map_or, option_or}
-use Rattle.std.specs.List.{find, list_all, list_any}
+use Rattle.std.specs.List.{list_all}
 use Rattle.std.specs.Str.{bytes_eq}
 use Rattle.std.proofs.lemmas.Bool.{and_parts}
 use Rattle.std.proofs.lemmas.List.Folds.{list_all-map}
 use Rattle.muen_num.specs.Search.{first_after, first_in, first_pair, unless}
 use Rattle.muen_num.proofs.Lists.{each_from, found, list_any-map}
-use Rattle.muen_num.proofs.SearchLaws.{all_pass, option_or-None, option_or_assoc}
+use Rattle.muen_num.proofs.SearchLaws.{all_pass, option_or-None}
 use Rattle.policy_lawful.specs.Domains.{domain_overlap, offence_22}
 use Rattle.policy_lawful.specs.Offences.{two}
 use Rattle.policy_lawful.specs.Resolution.{Resolution, IsResolved, source_of}
@@ -18,7 +18,6 @@ use Rattle.policy_lawful.specs.declared.offence.Offence.{Offence}
 use Rattle.policy_lawful.proofs.KeptAddresses.{addresses_kept}
 use Rattle.policy_lawful.proofs.UniqueNames.{unique}
 use Rattle.policy_types.specs.declared.source.Domain.{Domain}
-use Rattle.policy_types.specs.declared.source.Mapping.{Mapping}
 use Rattle.policy_types.specs.declared.source.Region.{Region}
 use Rattle.rules_devices.specs.Windows.{size_among, undeclared_in, window_extent, windows_offence}
 
@@ -81,4 +80,4 @@ regions_laid r h = (addresses_kept (source_of r) h).regions
 
 pub windows_by_place : (r : Resolution) → windows_offence r.memory r.device_domains ≡ offence_22 (source_of r)
 unfolding offence_22 source_of
-windows_by_place r = simp (option_or_assoc, option_or-None)
+windows_by_place r = simp (option_or-None)

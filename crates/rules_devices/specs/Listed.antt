@@ -1,5 +1,5 @@
 -- Names that stand in domains of devices, and devices by name.
-use Rattle.std.specs.Prelude.{ℕ, ◌+◌, ◌*◌, ◌&&◌, not, Bool, false, List, [], map, codes, length, nat_le, Option, Some, None, is_some, option_map, if◌then◌else◌}
+use Rattle.std.specs.Prelude.{ℕ, ◌+◌, ◌*◌, not, Bool, false, List, [], map, codes, length, Option, Some, None, is_some, option_map, if◌then◌else◌}
 use Rattle.std.specs.Option.{option_or, option_map_or}
 use Rattle.std.specs.List.{find, list_any, flat_map}
 use Rattle.std.specs.Str.{bytes_eq}
@@ -45,14 +45,19 @@ names_offence domains =
     option_or (at_most (length domains) MOST_DOMAINS (codes "deviceDomains")) (repeated (map (λ d. d.name) domains))
 
 -- the devices that they list
-abbrev pub listed_offence : List Device → List Domain → Option Offence
-listed_offence devices domains =
-    option_or (option_or (first_in (λ x. unless (is_declared (map (λ d. d.name) devices) x.name) (two x.domain x.name)) (flat_map domain_devices domains))
-    (option_map (λ x. two x.domain x.name) (first_repeat (flat_map domain_devices domains))))
-    (first_in (λ x. unless (has_place devices x.name) (two x.domain x.name)) (flat_map domain_devices domains))
+abbrev pub listed_offence : List Device → List Listed → Option Offence
+listed_offence devices listed =
+    option_or (option_or (first_in (λ x. unless (is_declared (map (λ d. d.name) devices) x.name) (two x.domain x.name)) listed)
+    (option_map (λ x. two x.domain x.name) (first_repeat listed)))
+    (first_in (λ x. unless (has_place devices x.name) (two x.domain x.name)) listed)
 
 -- places on the bus
 abbrev pub bus_offence : List Device → Option Offence
 bus_offence devices =
     option_or (first_in (λ d. unless (is_bdf d.bdf) (alone d.name)) devices)
     (first_pair (λ a b. unless (not (same_bdf a.bdf b.bdf)) (two a.name b.name)) devices)
+
+-- the conditions in turn
+abbrev pub domains_offence : List Device → List Domain → Option Offence
+domains_offence devices domains =
+    option_or (names_offence domains) (option_or (listed_offence devices (flat_map domain_devices domains)) (bus_offence devices))

@@ -44,6 +44,7 @@ overlap_in regions d = first_pair (domain_overlap d.name) (map (window_extent re
 abbrev pub windows_offence : List Region → List Domain → Option Offence
 windows_offence regions domains =
     option_or (first_in (undeclared_in regions) domains) (
-    option_or (option_or (option_or (first_in unaligned_in domains) (first_in (outside_in regions) domains)) (first_in executable_in domains))
-    (first_in (overlap_in regions) domains)
+    option_or (first_in unaligned_in domains) (
+    option_or (first_in (outside_in regions) domains) (option_or (first_in executable_in domains) (first_in (overlap_in regions) domains))
+    )
     )

@@ -67,7 +67,10 @@ fn bus_extents(alloc: Global, devices: &[Device]) -> Result<Vec<Extent>, AllocEr
 fn no_place(devices: &[Device]) -> Option<Offence>
     ensures { result ≡ first_in (λ d. unless (is_bdf d.bdf) (alone d.name)) devices.now }
 {
-    first(devices, |device| Offence::alone(device.name).unless(is_bdf(device)))
+    first(
+        devices,
+        |device| Offence::alone(device.name).unless(is_bdf(device)),
+    )
 }
 
 // The first two devices at the same place.

@@ -1,5 +1,5 @@
 //! Devices and regions by their names.
-ghost use Rattle.std.specs.Prelude.{◌≡◌, None, map, option_copied, is_some, IfOk};
+ghost use Rattle.std.specs.Prelude.{◌≡◌, None, map, position, slice_get, option_copied, is_some, IfOk};
 ghost use Rattle.std.specs.List.{find};
 ghost use Rattle.std.specs.Option.{option_map_or};
 ghost use Rattle.std.specs.Str.{bytes_eq};
@@ -26,6 +26,13 @@ fn device_names(alloc: Global, devices: &[Device]) -> Result<Vec<Name>, AllocErr
     devices.iter().map(|device| device.name).collect(alloc)
 }
 
+// The device at a place.
+fn device_at(devices: &[Device], place: usize) -> Option<&Device>
+    ensures { option_copied result ≡ slice_get devices.now place }
+{
+    devices.get(place)
+}
+
 impl<'a> Devices<'a> {
     /// These devices, no two of which have the same name.
     ///
@@ -46,13 +53,19 @@ impl<'a> Devices<'a> {
         self.index.contains(name)
     }
 
+    // Its place.
+    fn place(&self, name: &Name) -> Option<usize>
+        ensures { result ≡ position (λ n. bytes_eq n name.now) (map (λ d. d.name) self.now.items.now) }
+    {
+        self.index.place(name)
+    }
+
     // The device of this name.
-    #[tactic(auto, using(crate::proofs::Names::device_found, crate::proofs::Names::device_missing))]
     fn find(&self, name: &Name) -> Option<&Device>
         ensures { option_copied result ≡ find (λ d. bytes_eq d.name name.now) self.now.items.now }
     {
-        match self.index.place(name) {
-            Some(place) => self.items.get(place),
+        match self.place(name) {
+            Some(place) => device_at(self.items, place),
             None => None,
         }
     }
@@ -82,6 +95,13 @@ fn region_names(alloc: Global, regions: &[Region]) -> Result<Vec<Name>, AllocErr
     regions.iter().map(|region| region.name).collect(alloc)
 }
 
+// The region at a place.
+fn region_at(regions: &[Region], place: usize) -> Option<&Region>
+    ensures { option_copied result ≡ slice_get regions.now place }
+{
+    regions.get(place)
+}
+
 impl<'a> Regions<'a> {
     /// These regions, no two of which have the same name.
     ///
@@ -102,13 +122,19 @@ impl<'a> Regions<'a> {
         self.index.contains(name)
     }
 
+    // Its place.
+    fn place(&self, name: &Name) -> Option<usize>
+        ensures { result ≡ position (λ n. bytes_eq n name.now) (map (λ r. r.name) self.now.items.now) }
+    {
+        self.index.place(name)
+    }
+
     // The region of this name.
-    #[tactic(auto, using(crate::proofs::Names::region_found, crate::proofs::Names::region_missing))]
     fn find(&self, name: &Name) -> Option<&Region>
         ensures { option_copied result ≡ find (λ r. bytes_eq r.name name.now) self.now.items.now }
     {
-        match self.index.place(name) {
-            Some(place) => self.items.get(place),
+        match self.place(name) {
+            Some(place) => region_at(self.items, place),
             None => None,
         }
     }

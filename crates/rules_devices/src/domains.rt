@@ -8,7 +8,7 @@ ghost use Rattle.policy_lawful.specs.Domains.{offence_21};
 ghost use Rattle.policy_lawful.specs.Offences.{alone, two};
 ghost use Rattle.policy_lawful.specs.Resolution.{source_of};
 ghost use Rattle.policy_lawful.specs.Rules.{at_most, is_declared, repeated};
-ghost use Rattle.rules_devices.specs.Listed.{domain_devices, first_repeat, has_place, names_offence, listed_offence};
+ghost use Rattle.rules_devices.specs.Listed.{domain_devices, first_repeat, has_place, names_offence, listed_offence, domains_offence};
 
 use crate::bus::places;
 use crate::declared::Devices;
@@ -79,21 +79,50 @@ fn nowhere(devices: &Devices, listed: &[Listed]) -> Option<Offence>
 // A name of no device, a device that stands twice, or one that has no place on the bus.
 fn of_listed(
     alloc: Global,
+    devices: &Devices,
+    listed: &[Listed],
+) -> Result<Option<Offence>, NoMemory>
+    ensures { IfOk result (λ o. o ≡ listed_offence devices.now.items.now listed.now) }
+{
+    if let Some(offence) = undeclared(devices, listed) {
+        return Ok(Some(offence));
+    }
+    if let Some(offence) = repeat_of(alloc, listed)? {
+        return Ok(Some(offence));
+    }
+    Ok(nowhere(devices, listed))
+}
+
+// The same of the devices that these domains list.
+fn of_devices(
+    alloc: Global,
     devices: &[Device],
     domains: &[Domain],
 ) -> Result<Option<Offence>, NoMemory>
     requires { repeated (map (λ d. d.name) devices.now) ≡ None }
-    ensures { IfOk result (λ o. o ≡ listed_offence devices.now domains.now) }
+    ensures { IfOk result (λ o. o ≡ listed_offence devices.now (flat_map domain_devices domains.now)) }
 {
     let devices = Devices::of(alloc, devices)?;
     let listed = devices_of(alloc, domains)?;
-    if let Some(offence) = undeclared(&devices, &listed) {
+    of_listed(alloc, &devices, &listed)
+}
+
+// The conditions in turn.
+fn of_domains(
+    alloc: Global,
+    devices: &[Device],
+    domains: &[Domain],
+) -> Result<Option<Offence>, NoMemory>
+    requires { repeated (map (λ d. d.name) devices.now) ≡ None }
+    ensures { IfOk result (λ o. o ≡ domains_offence devices.now domains.now) }
+{
+    if let Some(offence) = of_names(alloc, domains)? {
         return Ok(Some(offence));
     }
-    if let Some(offence) = repeat_of(alloc, &listed)? {
+    if let Some(offence) = of_devices(alloc, devices, domains)? {
         return Ok(Some(offence));
     }
-    Ok(nowhere(&devices, &listed))
+    places(alloc, devices)
 }
 
 // The devices of a resolved policy, no two of which have the same name.
@@ -117,13 +146,5 @@ fn unique_devices(policy: &Resolved) -> &[Device]
 pub fn domain_devices(alloc: Global, policy: &Resolved) -> Result<Option<Offence>, NoMemory>
     ensures { IfOk result (λ o. o ≡ offence_21 (source_of policy.now)) }
 {
-    let domains = policy.device_domains();
-    let devices = unique_devices(policy);
-    if let Some(offence) = of_names(alloc, domains)? {
-        return Ok(Some(offence));
-    }
-    if let Some(offence) = of_listed(alloc, devices, domains)? {
-        return Ok(Some(offence));
-    }
-    places(alloc, devices)
+    of_domains(alloc, unique_devices(policy), policy.device_domains())
 }

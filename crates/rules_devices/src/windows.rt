@@ -2,12 +2,11 @@
 //! without a right to execute.
 ghost use Rattle.std.specs.Prelude.{◌≡◌, None, map, true, option_map, IfOk};
 ghost use Rattle.std.specs.List.{list_all};
-ghost use Rattle.std.specs.Option.{option_or};
 ghost use Rattle.muen_num.specs.Search.{first_in};
 ghost use Rattle.policy_lawful.specs.Domains.{is_dma_right, offence_22};
 ghost use Rattle.policy_lawful.specs.Offences.{two};
 ghost use Rattle.policy_lawful.specs.Resolution.{source_of};
-ghost use Rattle.policy_lawful.specs.Rules.{is_laid, offence_4};
+ghost use Rattle.policy_lawful.specs.Rules.{first_overlap, is_laid, offence_4};
 ghost use Rattle.rules_devices.specs.Windows.{undeclared_in, unaligned_in, outside_in, executable_in, window_extent, overlap_in, windows_offence};
 
 use crate::declared::Regions;
@@ -104,7 +103,17 @@ fn second_of(domain: Name, overlap: Option<Offence>) -> Option<Offence>
 }
 
 // The first two windows of a domain that share an address, where each is on a region.
-#[tactic(auto, using(crate::proofs::WindowsByExtent::windows_sized, crate::proofs::WindowsByExtent::overlap_named))]
+#[tactic(auto, using(crate::proofs::WindowsByExtent::windows_sized))]
+fn overlap(alloc: Global, regions: &Regions, domain: &Domain) -> Result<Option<Offence>, NoMemory>
+    requires sizes { list_all is_laid regions.now.items.now ≡ true }
+    requires on_regions { undeclared_in regions.now.items.now domain.now ≡ None }
+    ensures { IfOk result (λ o. o ≡ first_overlap (map (window_extent regions.now.items.now) domain.now.memory)) }
+{
+    let extents = extents(alloc, regions, domain.memory.items())?;
+    first_overlap(alloc, &extents)
+}
+
+// The same, told by the domain and the later one.
 fn overlap_in(
     alloc: Global,
     regions: &Regions,
@@ -114,8 +123,7 @@ fn overlap_in(
     requires on_regions { undeclared_in regions.now.items.now domain.now ≡ None }
     ensures { IfOk result (λ o. o ≡ overlap_in regions.now.items.now domain.now) }
 {
-    let extents = extents(alloc, regions, domain.memory.items())?;
-    let overlap = first_overlap(alloc, &extents)?;
+    let overlap = overlap(alloc, regions, domain)?;
     Ok(second_of(domain.name, overlap))
 }
 
@@ -137,14 +145,25 @@ fn overlap_of(
     Ok(None)
 }
 
-// The first window at an address that isn't a page's, else the first that ends too high, else the
-// first with a right to execute.
-fn unfit_of(regions: &Regions, domains: &[Domain]) -> Option<Offence>
-    ensures { result ≡ option_or (option_or (first_in unaligned_in domains.now) (first_in (outside_in regions.now.items.now) domains.now)) (first_in executable_in domains.now) }
+// The same of all domains: the first window at an address that isn't a page's.
+fn unaligned_of(domains: &[Domain]) -> Option<Offence>
+    ensures { result ≡ first_in unaligned_in domains.now }
 {
-    first(domains, unaligned_in)
-        .or_else(|| first(domains, |domain| outside_in(regions, domain)))
-        .or_else(|| first(domains, executable_in))
+    first(domains, |domain| unaligned_in(domain))
+}
+
+// The first that ends behind the guest addresses.
+fn outside_of(regions: &Regions, domains: &[Domain]) -> Option<Offence>
+    ensures { result ≡ first_in (outside_in regions.now.items.now) domains.now }
+{
+    first(domains, |domain| outside_in(regions, domain))
+}
+
+// The first with a right to execute.
+fn executable_of(domains: &[Domain]) -> Option<Offence>
+    ensures { result ≡ first_in executable_in domains.now }
+{
+    first(domains, |domain| executable_in(domain))
 }
 
 // The first window of all domains on no region.
@@ -166,7 +185,13 @@ fn of_windows(
     if let Some(offence) = undeclared_of(regions, domains) {
         return Ok(Some(offence));
     }
-    if let Some(offence) = unfit_of(regions, domains) {
+    if let Some(offence) = unaligned_of(domains) {
+        return Ok(Some(offence));
+    }
+    if let Some(offence) = outside_of(regions, domains) {
+        return Ok(Some(offence));
+    }
+    if let Some(offence) = executable_of(domains) {
         return Ok(Some(offence));
     }
     overlap_of(alloc, regions, domains)
