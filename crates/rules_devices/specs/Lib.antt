@@ -1,3 +1,4 @@
+pub mod Grants
 pub mod Listed
 pub mod Ranges
 pub mod Windows
