@@ -17,7 +17,7 @@ use Rattle.policy_lawful.specs.declared.offence.Extent.{Extent}
 use Rattle.policy_lawful.specs.declared.offence.Offence.{Offence}
 use Rattle.policy_types.specs.declared.source.Bdf.{Bdf}
 use Rattle.policy_types.specs.declared.source.Device.{Device}
-use Rattle.rules_devices.specs.Listed.{bus_extent}
+use Rattle.rules_devices.specs.Domains.{bus_extent}
 
 abbrev extent_of : Device → Option Extent
 extent_of d = bus_extent d.name d.bdf

@@ -5,4 +5,5 @@ pub mod GrantsByPlace
 pub mod MsrsByExtent
 pub mod Names
 pub mod PortsByExtent
+pub mod Positions
 pub mod WindowsByExtent

@@ -18,9 +18,9 @@ use Rattle.policy_lawful.specs.declared.offence.Offence.{Offence}
 use Rattle.policy_types.specs.declared.source.Device.{Device}
 use Rattle.policy_types.specs.declared.source.Domain.{Domain}
 use Rattle.policy_types.specs.declared.source.Region.{Region}
-use Rattle.rules_devices.specs.Listed.{first_repeat}
+use Rattle.rules_devices.specs.Domains.{first_repeat}
 use Rattle.rules_devices.specs.declared.listed.Listed.{Listed}
-use Rattle.rules_devices.proofs.PortsByExtent.{position_found, position_none, position_same}
+use Rattle.rules_devices.proofs.Positions.{position_found, position_none, position_same}
 
 -- ---- a name that is sought
 

@@ -1,9 +1,9 @@
 -- Ranges of ports are ranges of addresses, empty where they are none.
-use Rattle.std.proofs.Common.{◌≡◌, ℕ, ◌+◌, ◌-◌, ◌<◌, ◌≤◌, Bool, true, false, cond, List, [], ◌∷◌, ◌++◌, length, get_or, map, take, Option, Some, None, refl, sym, ap, ◌∙◌, subst, arith}
-use Rattle.std.specs.Prelude.{position, ◌==◌, ◌||◌, not, nat_lt, nat_le, option_map, slice_get}
+use Rattle.std.proofs.Common.{◌≡◌, ℕ, ◌+◌, ◌-◌, ◌<◌, ◌≤◌, Bool, true, false, cond, List, [], ◌∷◌, ◌++◌, length, get_or, map, take, Option, refl, sym, ap, ◌∙◌, subst, arith}
+use Rattle.std.specs.Prelude.{◌==◌, ◌||◌, not, nat_lt, nat_le, option_map, slice_get}
 use Rattle.std.specs.Option.{option_or}
 use Rattle.std.specs.List.{flat_map, list_all, position_or_len}
-use Rattle.std.proofs.lemmas.Bool.{and_parts, and_from, leb-true, lt-ltb, ltb-false}
+use Rattle.std.proofs.lemmas.Bool.{and_parts, and_from, leb-true, lt-ltb}
 use Rattle.std.proofs.lemmas.Bool.Decides.{nat_tests}
 use Rattle.std.proofs.lemmas.List.{append-nil, map_push, map-append, take_more}
 use Rattle.std.proofs.lemmas.List.Concat.{flat_map-cons}
@@ -22,6 +22,7 @@ use Rattle.policy_lawful.specs.declared.offence.Extent.{Extent}
 use Rattle.policy_lawful.specs.declared.offence.Offence.{Offence}
 use Rattle.policy_types.specs.declared.source.Device.{Device}
 use Rattle.policy_types.specs.declared.source.Ports.{Ports}
+use Rattle.rules_devices.proofs.Positions.{position_same}
 use Rattle.rules_devices.specs.Ranges.{is_port_range, port_extent}
 
 -- one more device
@@ -40,30 +41,10 @@ ports_more ds i d within is =
 empty_is : (n : ℕ) → (n == 0) ≡ not (nat_lt 0 n)
 empty_is n = grind (arith, nat_tests)
 
-pub position_same : {X : Type 0} (p q : X → Bool) → ((x : X) → p x ≡ q x) → (xs : List X) → position_or_len p xs ≡ position_or_len q xs
-position_same p q same [] = refl
-position_same p q same (x ∷ xs) =
-    ap (λ b. cond (not b) (1 + position_or_len p xs) 0) (same x) ∙ ap (λ n. cond (not (q x)) (1 + n) 0) (position_same p q same xs)
-
 breaks : (xs : List Extent) → BreaksAt (λ e. nat_lt 0 e.size) xs (position_or_len (λ e. e.size == 0) xs)
 breaks xs =
     subst (BreaksAt (λ e. nat_lt 0 e.size) xs) (sym (position_same (λ e. e.size == 0) (λ e. not (nat_lt 0 e.size)) (λ e. empty_is e.size) xs))
     (breaks_at_first (λ e. nat_lt 0 e.size) xs)
-
-pub position_found : {X : Type 0} (p : X → Bool) (xs : List X) (k : ℕ) → position p xs ≡ Some k → position_or_len p xs ≡ k
-position_found p xs k e =
-    elim (nat_lt (position_or_len p xs) (length xs)) as (λ b. cond b (Some (position_or_len p xs)) None ≡ Some k → position_or_len p xs ≡ k) [
-      | true ↦ λ is. cc
-      | false ↦ λ is. absurd (cc)
-    ] e
-
-pub position_none : {X : Type 0} (p : X → Bool) (xs : List X) → position p xs ≡ None → position_or_len p xs ≡ length xs
-position_none p xs e =
-    let most = prefix_len-le-length (λ x. not (p x)) xs in
-    elim (nat_lt (position_or_len p xs) (length xs)) as (λ b. nat_lt (position_or_len p xs) (length xs) ≡ b → cond b (Some (position_or_len p xs)) None ≡ None → position_or_len p xs ≡ length xs) [
-      | true ↦ λ t is. absurd (cc)
-      | false ↦ λ f is. let l = ltb-false (position_or_len p xs) (length xs) f in omega arith
-    ] refl e
 
 pub sound_within : (xs : List Extent) → position_or_len (λ e. e.size == 0) xs ≤ length xs
 sound_within xs = prefix_len-le-length (λ e. not (e.size == 0)) xs

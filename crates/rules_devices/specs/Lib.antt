@@ -1,4 +1,4 @@
 pub mod Grants
-pub mod Listed
+pub mod Domains
 pub mod Ranges
 pub mod Windows

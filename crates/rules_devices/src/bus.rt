@@ -4,7 +4,7 @@ ghost use Rattle.std.specs.List.{filter_map};
 ghost use Rattle.muen_num.specs.Search.{first_in, first_pair, unless};
 ghost use Rattle.policy_lawful.specs.Domains.{is_bdf, same_bdf};
 ghost use Rattle.policy_lawful.specs.Offences.{alone, two};
-ghost use Rattle.rules_devices.specs.Listed.{bus_extent, bus_offence};
+ghost use Rattle.rules_devices.specs.Domains.{bus_extent, bus_offence};
 
 use muen_num::limits::{BDF_DEVICES, BDF_FUNCTIONS};
 use muen_num::{NoMemory, first};

@@ -5,7 +5,7 @@ ghost use Rattle.std.specs.Option.{option_map_or};
 ghost use Rattle.std.specs.Str.{bytes_eq};
 ghost use Rattle.policy_lawful.specs.Rules.{is_declared, repeated};
 ghost use Rattle.rules_devices.specs.Windows.{size_among};
-ghost use Rattle.rules_devices.specs.Listed.{has_place};
+ghost use Rattle.rules_devices.specs.Domains.{has_place};
 
 use crate::index::Index;
 use muen_num::{Name, NoMemory};

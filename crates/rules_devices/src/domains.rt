@@ -8,7 +8,7 @@ ghost use Rattle.policy_lawful.specs.Domains.{offence_21};
 ghost use Rattle.policy_lawful.specs.Offences.{alone, two};
 ghost use Rattle.policy_lawful.specs.Resolution.{source_of};
 ghost use Rattle.policy_lawful.specs.Rules.{at_most, is_declared, repeated};
-ghost use Rattle.rules_devices.specs.Listed.{domain_devices, first_repeat, has_place, names_offence, listed_offence, domains_offence};
+ghost use Rattle.rules_devices.specs.Domains.{domain_devices, first_repeat, has_place, names_offence, listed_offence, domains_offence};
 
 use crate::bus::places;
 use crate::declared::Devices;

@@ -2,7 +2,7 @@
 ghost use Rattle.std.specs.Prelude.{◌≡◌, ◌++◌, map, IfOk, OnOk};
 ghost use Rattle.std.specs.List.{flat_map};
 ghost use Rattle.policy_lawful.specs.Offences.{two};
-ghost use Rattle.rules_devices.specs.Listed.{domain_devices, domain_regions, domain_itself, first_repeat};
+ghost use Rattle.rules_devices.specs.Domains.{domain_devices, domain_regions, domain_itself, first_repeat};
 
 use indexmap::IndexSet;
 use muen_num::{Name, NoMemory};

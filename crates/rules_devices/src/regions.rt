@@ -3,7 +3,7 @@ ghost use Rattle.std.specs.Prelude.{◌≡◌, option_map, IfOk};
 ghost use Rattle.policy_lawful.specs.Domains.{offence_23};
 ghost use Rattle.policy_lawful.specs.Offences.{two};
 ghost use Rattle.policy_lawful.specs.Resolution.{source_of};
-ghost use Rattle.rules_devices.specs.Listed.{first_repeat};
+ghost use Rattle.rules_devices.specs.Domains.{first_repeat};
 
 use crate::listed::{Listed, first_repeat, regions_of};
 use muen_num::NoMemory;

@@ -1,7 +1,7 @@
 -- The names so far, and the rest is searched.
 use Rattle.std.proofs.Common.{◌≡◌, map, take, drop}
 use Rattle.rules_devices.proofs.Names.{repeat_after}
-use Rattle.rules_devices.specs.Listed.{first_repeat}
+use Rattle.rules_devices.specs.Domains.{first_repeat}
 use Rattle.rules_devices.proofs.listed.first_repeat.Given as goal
 
 abbrev pub invariant-loop-x : goal.invariant-loop-x

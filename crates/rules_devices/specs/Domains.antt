@@ -1,4 +1,4 @@
--- Names that stand in domains of devices, and devices by name.
+-- Rule 21: the domains of devices, the devices that they list, and places on the bus.
 use Rattle.std.specs.Prelude.{ℕ, ◌+◌, ◌*◌, not, Bool, false, List, [], map, codes, length, Option, Some, None, is_some, option_map, if◌then◌else◌}
 use Rattle.std.specs.Option.{option_or, option_map_or}
 use Rattle.std.specs.List.{find, list_any, flat_map}
