@@ -5,3 +5,6 @@
 mod overlap;
 
 pub use overlap::{first_fault, first_overlap};
+
+#[cfg(test)]
+mod tests;
