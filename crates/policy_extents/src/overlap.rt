@@ -1,5 +1,5 @@
 // Which two of many ranges overlap first.
-ghost use Rattle.std.specs.Prelude.{◌≡◌, ℕ, ◌+◌, ◌<◌, ◌≤◌, ◌↔◌, true, length, map, take, nat_lt, nat_le, slice_get, is_some, option_map, None, IfOk, IsTrue};
+ghost use Rattle.std.specs.Prelude.{◌≡◌, ◌+◌, ◌<◌, ◌≤◌, ◌↔◌, true, length, map, take, nat_lt, nat_le, slice_get, is_some, option_map, None, IfOk, IsTrue};
 ghost use Rattle.std.specs.Option.{option_or};
 ghost use Rattle.std.specs.List.{All, AllAdjacentBelow, list_all};
 ghost use Rattle.std.specs.List.Sorted.{IsPermutation, IsNonDecreasingBy};

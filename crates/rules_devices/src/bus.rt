@@ -1,5 +1,5 @@
 //! Places of devices on the PCI bus.
-ghost use Rattle.std.specs.Prelude.{◌≡◌, ◌+◌, ◌*◌, ◌&&◌, Some, None, true, nat_lt, not, IfOk};
+ghost use Rattle.std.specs.Prelude.{◌≡◌, ◌+◌, ◌*◌, Some, None, true, not, IfOk};
 ghost use Rattle.std.specs.List.{filter_map};
 ghost use Rattle.muen_num.specs.Search.{first_in, first_pair, unless};
 ghost use Rattle.policy_lawful.specs.Domains.{is_bdf, same_bdf};

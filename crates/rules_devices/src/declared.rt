@@ -1,7 +1,6 @@
 //! Devices and regions by their names.
-ghost use Rattle.std.specs.Prelude.{◌≡◌, None, map, position, slice_get, option_copied, is_some, IfOk};
+ghost use Rattle.std.specs.Prelude.{◌≡◌, None, map, position, slice_get, option_copied, IfOk};
 ghost use Rattle.std.specs.List.{find};
-ghost use Rattle.std.specs.Option.{option_map_or};
 ghost use Rattle.std.specs.Str.{bytes_eq};
 ghost use Rattle.policy_lawful.specs.Rules.{is_declared, repeated};
 ghost use Rattle.rules_devices.specs.Windows.{size_among};

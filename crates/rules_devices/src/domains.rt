@@ -1,11 +1,10 @@
 //! Rule 21: the devices of domains.
-ghost use Rattle.std.specs.Prelude.{◌≡◌, [], None, length, map, codes, not, option_map, IfOk};
-ghost use Rattle.std.specs.List.{flat_map, list_any};
-ghost use Rattle.std.specs.Str.{bytes_eq};
+ghost use Rattle.std.specs.Prelude.{◌≡◌, None, map, codes, option_map, IfOk};
+ghost use Rattle.std.specs.List.{flat_map};
 ghost use Rattle.muen_num.specs.declared.limits.TheConstants.{MOST_DOMAINS};
-ghost use Rattle.muen_num.specs.Search.{first_in, first_after, unless};
+ghost use Rattle.muen_num.specs.Search.{first_in, unless};
 ghost use Rattle.policy_lawful.specs.Domains.{offence_21};
-ghost use Rattle.policy_lawful.specs.Offences.{alone, two};
+ghost use Rattle.policy_lawful.specs.Offences.{two};
 ghost use Rattle.policy_lawful.specs.Resolution.{source_of};
 ghost use Rattle.policy_lawful.specs.Rules.{at_most, is_declared, repeated};
 ghost use Rattle.rules_devices.specs.Domains.{domain_devices, first_repeat, has_place, names_offence, listed_offence, domains_offence};
