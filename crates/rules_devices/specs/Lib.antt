@@ -1,0 +1,4 @@
+pub mod Grants
+pub mod Domains
+pub mod Ranges
+pub mod Windows

@@ -1,0 +1,213 @@
+//! Rule 22: the windows of domains lie on regions, and are disjoint ranges of guest addresses
+//! without a right to execute.
+ghost use Rattle.std.specs.Prelude.{◌≡◌, None, map, true, option_map, IfOk};
+ghost use Rattle.std.specs.List.{list_all};
+ghost use Rattle.muen_num.specs.Search.{first_in};
+ghost use Rattle.policy_lawful.specs.Domains.{is_dma_right, offence_22};
+ghost use Rattle.policy_lawful.specs.Offences.{two};
+ghost use Rattle.policy_lawful.specs.Resolution.{source_of};
+ghost use Rattle.policy_lawful.specs.Rules.{first_overlap, is_laid, offence_4};
+ghost use Rattle.rules_devices.specs.Windows.{undeclared_in, unaligned_in, outside_in, executable_in, window_extent, overlap_in, windows_offence};
+
+use crate::declared::Regions;
+use muen_num::limits::{GUEST_END, PAGE};
+use muen_num::{Name, NoMemory, first};
+use policy_extents::first_overlap;
+use policy_lawful::{Extent, Offence, Resolved};
+use policy_types::Rights;
+use policy_types::source::{Domain, Mapping};
+use std::alloc::{AllocError, Global};
+
+// A domain and the region of one of its windows.
+fn at_window(domain: Name, window: &Mapping) -> Offence
+    ensures { result ≡ two domain window.now.region }
+{
+    Offence {
+        first: domain,
+        second: window.region,
+    }
+}
+
+// The first window of a domain on no region.
+fn undeclared_in(regions: &Regions, domain: &Domain) -> Option<Offence>
+    ensures { result ≡ undeclared_in regions.now.items.now domain.now }
+{
+    first(domain.memory.items(), |window| {
+        at_window(domain.name, window).unless(regions.contains(&window.region))
+    })
+}
+
+// The first at an address that isn't a page's.
+fn unaligned_in(domain: &Domain) -> Option<Offence>
+    ensures { result ≡ unaligned_in domain.now }
+{
+    first(domain.memory.items(), |window| {
+        at_window(domain.name, window).unless(window.virtual_address % PAGE == 0)
+    })
+}
+
+// The first that ends behind the guest addresses.
+fn outside_in(regions: &Regions, domain: &Domain) -> Option<Offence>
+    ensures { result ≡ outside_in regions.now.items.now domain.now }
+{
+    first(domain.memory.items(), |window| {
+        let end = u128::from(window.virtual_address) + u128::from(regions.size(&window.region));
+        at_window(domain.name, window).unless(end <= u128::from(GUEST_END))
+    })
+}
+
+// Without a right to execute.
+fn is_dma_right(rights: Rights) -> bool
+    ensures { result ≡ is_dma_right rights }
+{
+    !rights.has(Rights::EXECUTE)
+}
+
+// The first with a right to execute.
+fn executable_in(domain: &Domain) -> Option<Offence>
+    ensures { result ≡ executable_in domain.now }
+{
+    first(domain.memory.items(), |window| {
+        at_window(domain.name, window).unless(is_dma_right(window.rights))
+    })
+}
+
+// A window as a range of the devices' addresses.
+fn extent(regions: &Regions, window: &Mapping) -> Extent
+    ensures { result ≡ window_extent regions.now.items.now window.now }
+{
+    Extent {
+        name: window.region,
+        address: window.virtual_address,
+        size: regions.size(&window.region),
+    }
+}
+
+fn extents(alloc: Global, regions: &Regions, windows: &[Mapping]) -> Result<Vec<Extent>, AllocError>
+    ensures { IfOk result (λ v. v.items ≡ map (window_extent regions.now.items.now) windows.now) }
+{
+    windows
+        .iter()
+        .map(|window| extent(regions, window))
+        .collect(alloc)
+}
+
+// Of two windows the second one, and its domain.
+fn second_of(domain: Name, overlap: Option<Offence>) -> Option<Offence>
+    ensures { result ≡ option_map (λ o. two domain o.second) overlap }
+{
+    overlap.map(|overlap| Offence {
+        first: domain,
+        second: overlap.second,
+    })
+}
+
+// The first two windows of a domain that share an address, where each is on a region.
+#[tactic(auto, using(crate::proofs::WindowsByExtent::windows_sized))]
+fn overlap(alloc: Global, regions: &Regions, domain: &Domain) -> Result<Option<Offence>, NoMemory>
+    requires sizes { list_all is_laid regions.now.items.now ≡ true }
+    requires on_regions { undeclared_in regions.now.items.now domain.now ≡ None }
+    ensures { IfOk result (λ o. o ≡ first_overlap (map (window_extent regions.now.items.now) domain.now.memory)) }
+{
+    let extents = extents(alloc, regions, domain.memory.items())?;
+    first_overlap(alloc, &extents)
+}
+
+// The same, told by the domain and the later one.
+fn overlap_in(
+    alloc: Global,
+    regions: &Regions,
+    domain: &Domain,
+) -> Result<Option<Offence>, NoMemory>
+    requires sizes { list_all is_laid regions.now.items.now ≡ true }
+    requires on_regions { undeclared_in regions.now.items.now domain.now ≡ None }
+    ensures { IfOk result (λ o. o ≡ overlap_in regions.now.items.now domain.now) }
+{
+    let overlap = overlap(alloc, regions, domain)?;
+    Ok(second_of(domain.name, overlap))
+}
+
+// The first such windows of all domains.
+fn overlap_of(
+    alloc: Global,
+    regions: &Regions,
+    domains: &[Domain],
+) -> Result<Option<Offence>, NoMemory>
+    requires sizes { list_all is_laid regions.now.items.now ≡ true }
+    requires on_regions { first_in (undeclared_in regions.now.items.now) domains.now ≡ None }
+    ensures { IfOk result (λ o. o ≡ first_in (overlap_in regions.now.items.now) domains.now) }
+{
+    for domain in domains {
+        if let Some(offence) = overlap_in(alloc, regions, domain)? {
+            return Ok(Some(offence));
+        }
+    }
+    Ok(None)
+}
+
+// The same of all domains: the first window at an address that isn't a page's.
+fn unaligned_of(domains: &[Domain]) -> Option<Offence>
+    ensures { result ≡ first_in unaligned_in domains.now }
+{
+    first(domains, |domain| unaligned_in(domain))
+}
+
+// The first that ends behind the guest addresses.
+fn outside_of(regions: &Regions, domains: &[Domain]) -> Option<Offence>
+    ensures { result ≡ first_in (outside_in regions.now.items.now) domains.now }
+{
+    first(domains, |domain| outside_in(regions, domain))
+}
+
+// The first with a right to execute.
+fn executable_of(domains: &[Domain]) -> Option<Offence>
+    ensures { result ≡ first_in executable_in domains.now }
+{
+    first(domains, |domain| executable_in(domain))
+}
+
+// The first window of all domains on no region.
+fn undeclared_of(regions: &Regions, domains: &[Domain]) -> Option<Offence>
+    ensures { result ≡ first_in (undeclared_in regions.now.items.now) domains.now }
+{
+    first(domains, |domain| undeclared_in(regions, domain))
+}
+
+// The conditions in turn.
+fn of_windows(
+    alloc: Global,
+    regions: &Regions,
+    domains: &[Domain],
+) -> Result<Option<Offence>, NoMemory>
+    requires { list_all is_laid regions.now.items.now ≡ true }
+    ensures { IfOk result (λ o. o ≡ windows_offence regions.now.items.now domains.now) }
+{
+    if let Some(offence) = undeclared_of(regions, domains) {
+        return Ok(Some(offence));
+    }
+    if let Some(offence) = unaligned_of(domains) {
+        return Ok(Some(offence));
+    }
+    if let Some(offence) = outside_of(regions, domains) {
+        return Ok(Some(offence));
+    }
+    if let Some(offence) = executable_of(domains) {
+        return Ok(Some(offence));
+    }
+    overlap_of(alloc, regions, domains)
+}
+
+/// The first offence against rule 22, if any: a domain and a region, of the first window that isn't
+/// on a declared region, else of the first at an address that isn't a page's, else of the first that
+/// ends too high, else of the first with a right to execute, else of the first that overlaps one
+/// before it in its domain.
+///
+/// Answers `NoMemory` where memory was refused.
+#[tactic(auto, using(crate::proofs::WindowsByExtent::regions_unique, crate::proofs::WindowsByExtent::regions_laid, crate::proofs::WindowsByExtent::windows_by_place))]
+pub fn domain_windows(alloc: Global, policy: &Resolved) -> Result<Option<Offence>, NoMemory>
+    requires { offence_4 (source_of policy.now) ≡ None }
+    ensures { IfOk result (λ o. o ≡ offence_22 (source_of policy.now)) }
+{
+    let regions = Regions::of(alloc, policy.memory())?;
+    of_windows(alloc, &regions, policy.device_domains())
+}
