@@ -1,0 +1,3 @@
+pub mod ChosenEntries
+pub mod Mapped
+pub mod WindowsByPlace
