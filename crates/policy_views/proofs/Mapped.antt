@@ -2,8 +2,9 @@
 use Rattle.std.proofs.Common.{◌≡◌, ℕ, suc, ◌+◌, Bool, true, false, cond, List, [], ◌∷◌, ◌++◌, map, Option, Some, None, refl, sym, ap, ◌∙◌, arith}
 use Rattle.std.proofs.lemmas.List.{map-append}
 use Rattle.std.specs.Prelude.{option_map, slice_get}
+use Rattle.std.specs.Option.{option_map_or}
 use Rattle.std.specs.List.{cons_option, enumerate_from, filter_map, find, flat_map, list_all}
-use Rattle.std.proofs.lemmas.Bool.{and_parts}
+use Rattle.std.proofs.lemmas.Bool.{and_from, and_parts}
 
 cons_map : {V W : Type 0} (h : V → W) (o : Option V) (vs : List V) → cons_option (option_map h o) (map h vs) ≡ map h (cons_option o vs)
 cons_map h None vs = refl
@@ -67,3 +68,12 @@ found_same by n test ok from to none same tells (x ∷ xs) all =
       | true ↦ λ e. tells x parts.0 e
       | false ↦ λ e. found_same by n test ok from to none same tells xs parts.1
     ] refl
+
+-- each that isn't missing passes
+pub all_filtered : {X V : Type 0} (test : V → Bool) (g : X → Option V) → ((x : X) → option_map_or test (g x) true ≡ true) → (xs : List X) → list_all test (filter_map g xs) ≡ true
+all_filtered test g passes [] = refl
+all_filtered {X} {V} test g passes (x ∷ xs) =
+    elim (g x) as (λ o. option_map_or test o true ≡ true → list_all test (cons_option o (filter_map g xs)) ≡ true) [
+      | None ↦ λ h. all_filtered test g passes xs
+      | Some v ↦ λ h. and_from (test v) (list_all test (filter_map g xs)) h (all_filtered test g passes xs)
+    ] (passes x)
