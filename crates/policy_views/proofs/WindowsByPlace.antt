@@ -96,16 +96,18 @@ module _ (r : Resolution) (q : IsResolved r) (subject : List ℕ) where
 
 -- ---- of a component
 
+-- the component at the place of a use, by its name
+pub component_at : (r : Resolution) → IsResolved r → (used : ComponentUse) (c : Component) → slice_get r.components used.used ≡ Some c → component_by (source_of r) (Some (component_named r used)) ≡ Some c
+unfolding source_of
+component_at r q used c is = found_at_place (λ x. x.name) r.components used.used (unique (source_of r) q.names).components (slice_get_within r.components used.used c is) ∙ is
+
 -- each place of a list that is there is among the names
 pub within_names : {X : Type 0} (f : X → List ℕ) (xs : List X) (k : ℕ) (x : X) → slice_get xs k ≡ Some x → k < length (map f xs)
 within_names f xs k x is = let many : length (map f xs) ≡ length xs = length-map xs f in let l : k < length xs = slice_get_within xs k x is in omega (arith, many, l)
 
 module _ (r : Resolution) (q : IsResolved r) (t : NamedSubject) (used : ComponentUse) (c : Component) (uses : t.component ≡ Some (component_named r used)) (is : slice_get r.components used.used ≡ Some c) (placed : component_placed r used ≡ true) where
   pub component_is : component_by (source_of r) t.component ≡ Some c
-  unfolding source_of
-  component_is =
-      ap (component_by (source_of r)) uses
-      ∙ (found_at_place (λ x. x.name) r.components used.used (unique (source_of r) q.names).components (slice_get_within r.components used.used c is) ∙ is)
+  component_is = ap (component_by (source_of r)) uses ∙ component_at r q used c is
 
   pub entries_placed : list_all (λ e. entry_placed r used.used e.logical e.physical) used.map ≡ true
   entries_placed = (and_parts _ _ placed).1
