@@ -162,7 +162,7 @@ same_region r q k x subject v (Given j) is named = refl
 same_region r q k x subject v (Device i j) is named = refl
 same_region r q k x subject v (State j) is named = refl
 
-any_same : {X : Type 0} (p q ok : X → Bool) → ((x : X) → ok x ≡ true → p x ≡ q x) → (xs : List X) → list_all ok xs ≡ true → list_any p xs ≡ list_any q xs
+pub any_same : {X : Type 0} (p q ok : X → Bool) → ((x : X) → ok x ≡ true → p x ≡ q x) → (xs : List X) → list_all ok xs ≡ true → list_any p xs ≡ list_any q xs
 any_same p q ok same [] all = refl
 any_same p q ok same (x ∷ xs) all =
     let parts = and_parts (ok x) (list_all ok xs) all in
