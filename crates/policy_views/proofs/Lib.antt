@@ -1,5 +1,6 @@
 pub mod ChosenEntries
 pub mod EndsByPlace
+pub mod EntriesNoted
 pub mod ExtentsByPlace
 pub mod Mapped
 pub mod RegionsByPlace

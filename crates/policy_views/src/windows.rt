@@ -2,15 +2,16 @@
 ghost use Rattle.std.specs.Prelude.{◌≡◌, map, IfOk, option_copied};
 ghost use Rattle.std.specs.List.{filter_map, flat_map, enumerate_from};
 ghost use Rattle.policy_meaning.specs.Windows.{role_rights};
+ghost use Rattle.policy_views.specs.Entries.{chosen_channel, chosen_region};
 ghost use Rattle.policy_views.specs.Views.{channel_view, component_channel_view, component_views, device_view, monitor_view, provided_view, region_view, required_view, use_views, views_of};
 
-use crate::entries::entry_for;
+use crate::entries::{Choice, Wants, choices};
 use crate::view::{Shown, View};
 use muen_num::NoMemory;
 use muen_num::limits::PAGE;
 use policy_lawful::Resolved;
 use policy_lawful::resolved::{
-    ChannelUse, ComponentUse, DeviceMapping, DeviceUse, MapEntry, Mapping, Monitor, Subject, Wanted,
+    ChannelUse, ComponentUse, DeviceMapping, DeviceUse, MapEntry, Mapping, Monitor, Subject,
 };
 use policy_types::source::{Component, ComponentChannel, Provided, Required};
 use policy_types::{Rights, Role};
@@ -99,36 +100,42 @@ fn provided_view(place: usize, provided: &Provided) -> View
 
 fn required_view(
     policy: &Resolved,
-    entries: &[MapEntry],
+    choices: &[Option<Choice>],
     place: usize,
     required: &Required,
 ) -> Option<View>
-    ensures { result ≡ required_view policy.now entries.now (place, required.now) }
+    ensures { result ≡ chosen_region policy.now choices.now (place, required.now) }
 {
-    let entry = entry_for(entries, Wanted::Memory(place))?;
-    region_view(
-        policy,
-        entry.physical,
-        required.virtual_address,
-        entry.rights.unwrap_or(required.rights),
-    )
+    match choices.get(place) {
+        Some(Some(choice)) => region_view(
+            policy,
+            choice.physical,
+            required.virtual_address,
+            choice.rights.unwrap_or(required.rights),
+        ),
+        _ => None,
+    }
 }
 
 fn component_channel_view(
     policy: &Resolved,
-    entries: &[MapEntry],
+    choices: &[Option<Choice>],
     place: usize,
     channel: &ComponentChannel,
 ) -> Option<View>
-    ensures { result ≡ component_channel_view policy.now entries.now (place, channel.now) }
+    ensures { result ≡ chosen_channel policy.now choices.now (place, channel.now) }
 {
-    let entry = entry_for(entries, Wanted::Channel(place))?;
-    channel_view(
-        policy,
-        entry.physical,
-        channel.virtual_address,
-        channel.role,
-    )
+    match choices.get(place) {
+        Some(Some(choice)) => {
+            channel_view(
+                policy,
+                choice.physical,
+                channel.virtual_address,
+                channel.role,
+            )
+        }
+        _ => None,
+    }
 }
 
 fn of_mappings(
@@ -192,34 +199,62 @@ fn of_provided(alloc: Global, provides: &[Provided]) -> Result<Vec<View>, AllocE
         .collect(alloc)
 }
 
+fn chosen_regions(
+    alloc: Global,
+    policy: &Resolved,
+    choices: &[Option<Choice>],
+    memory: &[Required],
+) -> Result<Vec<View>, AllocError>
+    ensures { IfOk result (λ v. v.items ≡ filter_map (chosen_region policy.now choices.now) (enumerate_from 0 memory.now)) }
+{
+    memory
+        .iter()
+        .enumerate()
+        .filter_map(|(place, required)| required_view(policy, choices, place, required))
+        .collect(alloc)
+}
+
+#[tactic(auto, using(crate::proofs::EntriesNoted::regions_chosen))]
 fn of_required(
     alloc: Global,
     policy: &Resolved,
     entries: &[MapEntry],
     memory: &[Required],
-) -> Result<Vec<View>, AllocError>
+) -> Result<Vec<View>, NoMemory>
     ensures { IfOk result (λ v. v.items ≡ filter_map (required_view policy.now entries.now) (enumerate_from 0 memory.now)) }
 {
-    memory
+    let choices = choices(alloc, Wants::Memory, memory.len(), entries)?;
+    let views = chosen_regions(alloc, policy, &choices, memory)?;
+    Ok(views)
+}
+
+fn chosen_channels(
+    alloc: Global,
+    policy: &Resolved,
+    choices: &[Option<Choice>],
+    channels: &[ComponentChannel],
+) -> Result<Vec<View>, AllocError>
+    ensures { IfOk result (λ v. v.items ≡ filter_map (chosen_channel policy.now choices.now) (enumerate_from 0 channels.now)) }
+{
+    channels
         .iter()
         .enumerate()
-        .filter_map(|(place, required)| required_view(policy, entries, place, required))
+        .filter_map(|(place, channel)| component_channel_view(policy, choices, place, channel))
         .collect(alloc)
 }
 
+#[tactic(auto, using(crate::proofs::EntriesNoted::channels_chosen))]
 fn of_component_channels(
     alloc: Global,
     policy: &Resolved,
     entries: &[MapEntry],
     channels: &[ComponentChannel],
-) -> Result<Vec<View>, AllocError>
+) -> Result<Vec<View>, NoMemory>
     ensures { IfOk result (λ v. v.items ≡ filter_map (component_channel_view policy.now entries.now) (enumerate_from 0 channels.now)) }
 {
-    channels
-        .iter()
-        .enumerate()
-        .filter_map(|(place, channel)| component_channel_view(policy, entries, place, channel))
-        .collect(alloc)
+    let choices = choices(alloc, Wants::Channel, channels.len(), entries)?;
+    let views = chosen_channels(alloc, policy, &choices, channels)?;
+    Ok(views)
 }
 
 fn of_component(
