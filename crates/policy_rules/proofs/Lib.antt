@@ -2,6 +2,7 @@ pub mod CpusByPlace
 pub mod GroupsByPlace
 pub mod LimitsByPlace
 pub mod MajorsByPlace
+pub mod NamesAdded
 pub mod NotBuilt
 pub mod RangesByPlace
 pub mod RulesJoined

@@ -4,5 +4,6 @@ pub mod Groups
 pub mod Keys
 pub mod Limits
 pub mod Majors
+pub mod Names
 pub mod Windows
 pub mod Writers

@@ -1,54 +1,78 @@
--- Which subjects have windows on a region, where a region is told by its place.
-use Rattle.std.specs.Prelude.{◌≡◌, ℕ, ◌<◌, ◌==◌, ◌&&◌, not, Bool, true, false, List, length, slice_index_or, Option, Some, None, option_map}
+-- Rule 8 of a resolved policy: who has windows on a region, told by its place.
+use Rattle.std.specs.Prelude.{◌≡◌, ℕ, ◌<◌, ◌==◌, ◌&&◌, not, Bool, true, false, List, [], ◌∷◌, ◌++◌, length, map, slice_index_or, Option, Some, None, option_and_then, option_map, if◌then◌else◌}
 use Rattle.std.specs.Option.{option_or}
-use Rattle.std.specs.List.{find, list_any, All}
+use Rattle.std.specs.List.{filter_map, find, flat_map, list_any}
 use Rattle.std.specs.Str.{bytes_eq}
-use Rattle.policy_lawful.specs.Offences.{two}
-use Rattle.policy_lawful.specs.declared.offence.Offence.{Offence}
+use Rattle.muen_num.specs.Search.{first_after, unless}
 use Rattle.muen_num.specs.declared.access.Kind.TheVariants.{Write}
+use Rattle.policy_lawful.specs.Offences.{two}
+use Rattle.policy_lawful.specs.Resolution.{Resolution}
+use Rattle.policy_lawful.specs.Rules.{is_declared}
+use Rattle.policy_lawful.specs.declared.offence.Offence.{Offence}
+use Rattle.policy_lawful.specs.declared.resolved.Subject.{Subject}
 use Rattle.policy_types.specs.Rights.{allows}
 use Rattle.policy_types.specs.declared.source.Region.{Region}
-use Rattle.policy_lawful.specs.declared.resolved.Mapping.{Mapping}
-use Rattle.policy_lawful.specs.declared.resolved.Subject.{Subject}
+use Rattle.policy_views.specs.Views.{is_on_region, views_of}
+use Rattle.policy_views.specs.declared.view.View.{View}
+use Rattle.policy_rules.specs.declared.writers.User.{User}
 
--- each window of the subject is on one of this many regions
-abbrev pub IsWithin : ℕ → Subject → Type 0
-IsWithin regions s = All (λ m. m.region < regions) s.memory
+-- ---- users of a region
 
-abbrev pub may_write : Mapping → Bool
-may_write m = allows m.rights Write
+-- the subject of this name as a user of the region at a place, by one of its windows
+abbrev pub user_of : ℕ → List ℕ → View → Option User
+user_of place name v =
+    if is_on_region place v.shows then Some (record { name = name; writes = allows v.rights Write }) else None
 
--- the subject has a window on the region at this place
-abbrev pub shows : ℕ → Subject → Bool
-shows place s = list_any (λ m. m.region == place) s.memory
+-- by all of its windows
+abbrev pub uses_of : Resolution → ℕ → Subject → List User
+uses_of r place s = filter_map (user_of place s.name) (views_of r s)
 
--- and one with the right to write
-abbrev pub alters : ℕ → Subject → Bool
-alters place s = list_any (λ m. (m.region == place) && may_write m) s.memory
+-- these subjects as users, in order
+abbrev pub users_of : Resolution → ℕ → List Subject → List User
+users_of r place subjects = flat_map (uses_of r place) subjects
 
--- the name of the first subject that may write the region at this place
-abbrev pub writer_of : List Subject → ℕ → Option (List ℕ)
-writer_of subjects place = option_map (λ s. s.name) (find (alters place) subjects)
+-- a list that has one more, or not
+abbrev pub added : List User → Bool → User → List User
+added old false u = old
+added old true u = old ++ u ∷ []
 
--- there is a writer, and it has another name
-abbrev pub is_other : Option (List ℕ) → List ℕ → Bool
-is_other None name = false
-is_other (Some writer) name = not (bytes_eq name writer)
+-- a list that has this one more, if there is one
+abbrev pub with_user : List User → Option User → List User
+with_user old None = old
+with_user old (Some u) = old ++ u ∷ []
 
--- the name of the first subject other than the writer that has a window on the region at this place
-abbrev pub other_of : List Subject → Option (List ℕ) → ℕ → Option (List ℕ)
-other_of subjects writer place = option_map (λ s. s.name) (find (λ s. is_other writer s.name && shows place s) subjects)
+-- at each region's place its users among these subjects
+pub record HasUsers (r : Resolution) (users : List (List User)) (subjects : List Subject) : Type 0 where
+  pub room : length users ≡ length r.memory
+  pub at : (k : ℕ) → k < length r.memory → slice_index_or users k [] ≡ users_of r k subjects
 
--- a place at which a name was noted, or not: the first name stays
-abbrev pub noted : Option (List ℕ) → Bool → List ℕ → Option (List ℕ)
-noted old false name = old
-noted old true name = option_or old (Some name)
+-- ---- what a region's users do wrong
 
--- a list of this length, with these names at its places
-pub record HasNames (names : List (Option (List ℕ))) (many : ℕ) (name_of : ℕ → Option (List ℕ)) : Type 0 where
-  pub room : length names ≡ many
-  pub at : (k : ℕ) → k < many → slice_index_or names k None ≡ name_of k
+-- the first other than the writer, if there is a writer
+abbrev pub other_among : List User → List ℕ → Option User → Option Offence
+other_among users region writer =
+    option_and_then (λ w. option_map (λ u. two region u.name) (find (λ u. not (bytes_eq u.name w.name)) users)) writer
 
--- a region with its place, at which a name stands
-abbrev pub named_at : List (Option (List ℕ)) → ℕ × Region → Option Offence
-named_at names (place, r) = option_map (two r.name) (slice_index_or names place None)
+-- the first that isn't among these names
+abbrev pub stranger_among : List (List ℕ) → List ℕ → List User → Option Offence
+stranger_among names region users =
+    option_map (λ u. two region u.name) (find (λ u. not (list_any (bytes_eq u.name) names)) users)
+
+-- a name of a region's list that stood before, or that isn't among these names
+abbrev pub not_shared : List (List ℕ) → List ℕ → List (List ℕ) → List ℕ → Option Offence
+not_shared names region before name =
+    unless (not (list_any (bytes_eq name) before) && list_any (bytes_eq name) names) (two region name)
+
+-- of a region with a list: the first user that it doesn't name, else the first name that stood before or is no user's
+abbrev pub sharing_fault : List User → Region → Option Offence
+sharing_fault users x =
+    option_or (option_map (λ u. two x.name u.name) (find (λ u. not (is_declared x.shared_memory u.name)) users))
+    (first_after (λ before name. unless (not (is_declared before name) && is_declared (map (λ u. u.name) users) name) (two x.name name)) [] x.shared_memory)
+
+abbrev pub users_fault : List User → Region → Option Offence
+users_fault users x =
+    if length x.shared_memory == 0 then other_among users x.name (find (λ u. u.writes) users) else sharing_fault users x
+
+-- of a region with its place
+abbrev pub fault_at : List (List User) → ℕ × Region → Option Offence
+fault_at users (place, x) = users_fault (slice_index_or users place []) x

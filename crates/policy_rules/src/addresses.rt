@@ -1,18 +1,20 @@
 // Rule 4: addresses and sizes.
-ghost use Rattle.std.specs.Prelude.{◌≡◌, ◌+◌, true};
+ghost use Rattle.std.specs.Prelude.{◌≡◌, ◌+◌, true, IfOk};
 ghost use Rattle.muen_num.specs.Search.{first_in, unless};
-ghost use Rattle.policy_lawful.specs.Offences.{alone};
+ghost use Rattle.policy_lawful.specs.Offences.{alone, two};
 ghost use Rattle.policy_lawful.specs.Rules.{is_page_aligned, is_page_size, is_physical, is_guest, is_alignment, is_fixed, is_laid, offence_4};
-ghost use Rattle.policy_lawful.specs.Resolution.{source_of};
-ghost use Rattle.policy_types.specs.Built.{is_built};
-ghost use Rattle.policy_rules.specs.Windows.{addresses_offence};
+ghost use Rattle.policy_lawful.specs.Resolution.{IsResolved, source_of};
+ghost use Rattle.policy_rules.specs.Windows.{addresses_offence, component_channel_offence, component_ranges, device_offence, elements_offence, provided_offence, range_offence, required_offence};
 
 use crate::windows::outside;
-use muen_num::first;
 use muen_num::limits::{GUEST_END, LARGE_PAGE, PAGE, PHYSICAL_END};
+use muen_num::{Name, NoMemory, first};
 use policy_lawful::Offence;
-use policy_lawful::resolved::{Resolved, Subject};
-use policy_types::source::{Block, Region};
+use policy_lawful::resolved::Resolved;
+use policy_types::source::{
+    Block, Channel, Component, ComponentChannel, Device, Provided, Region, Required,
+};
+use std::alloc::Global;
 
 fn is_page_aligned(n: u64) -> bool
     ensures { result ≡ is_page_aligned n }
@@ -76,6 +78,25 @@ fn blocks(blocks: &[Block]) -> Option<Offence>
     })
 }
 
+// The first memory of a device that isn't one.
+fn device(device: &Device) -> Option<Offence>
+    ensures { result ≡ device_offence device.now }
+{
+    first(device.memory.items(), |memory| {
+        Offence {
+            first: device.name,
+            second: memory.name,
+        }
+        .unless(is_physical(memory.physical_address, memory.size))
+    })
+}
+
+fn devices(devices: &[Device]) -> Option<Offence>
+    ensures { result ≡ first_in device_offence devices.now }
+{
+    first(devices, |each| device(each))
+}
+
 // The first region whose size, alignment or address isn't one.
 fn regions(regions: &[Region]) -> Option<Offence>
     ensures { result ≡ first_in (λ r. unless (is_laid r) (alone r.name)) regions.now }
@@ -86,20 +107,95 @@ fn regions(regions: &[Region]) -> Option<Offence>
     )
 }
 
-// The first block, region or window of these that offends.
-fn of_elements(all: &[Block], memory: &[Region], subjects: &[Subject]) -> Option<Offence>
-    ensures { result ≡ addresses_offence all.now memory.now subjects.now }
+// The first channel whose size isn't one.
+fn channels(channels: &[Channel]) -> Option<Offence>
+    ensures { result ≡ first_in (λ c. unless (is_page_size c.size) (alone c.name)) channels.now }
 {
-    blocks(all)
-        .or_else(|| regions(memory))
-        .or_else(|| outside(memory, subjects))
+    first(
+        channels,
+        |channel| Offence::alone(channel.name).unless(is_page_size(channel.size)),
+    )
+}
+
+// What a component has for a logical name, where it isn't a range of guest addresses.
+fn range(by: &Name, logical: Name, address: u64, size: u64) -> Option<Offence>
+    ensures { result ≡ range_offence by.now logical address size }
+{
+    Offence {
+        first: *by,
+        second: logical,
+    }
+    .unless(is_guest(address, size))
+}
+
+fn provided(by: &Name, provides: &[Provided]) -> Option<Offence>
+    ensures { result ≡ first_in (provided_offence by.now) provides.now }
+{
+    first(
+        provides,
+        |x| range(by, x.logical, x.virtual_address, x.size),
+    )
+}
+
+fn required(by: &Name, memory: &[Required]) -> Option<Offence>
+    ensures { result ≡ first_in (required_offence by.now) memory.now }
+{
+    first(memory, |x| range(by, x.logical, x.virtual_address, x.size))
+}
+
+fn component_channels(by: &Name, channels: &[ComponentChannel]) -> Option<Offence>
+    ensures { result ≡ first_in (component_channel_offence by.now) channels.now }
+{
+    first(
+        channels,
+        |x| range(by, x.logical, x.virtual_address, x.size),
+    )
+}
+
+// The first range of a component that isn't one of guest addresses.
+fn component(component: &Component) -> Option<Offence>
+    ensures { result ≡ component_ranges component.now }
+{
+    provided(&component.name, component.provides.items())
+        .or_else(|| required(&component.name, component.memory.items()))
+        .or_else(|| component_channels(&component.name, component.channels.items()))
+}
+
+fn components(components: &[Component]) -> Option<Offence>
+    ensures { result ≡ first_in component_ranges components.now }
+{
+    first(components, |each| component(each))
+}
+
+// The first element that offends, windows aside.
+fn of_elements(policy: &Resolved) -> Option<Offence>
+    ensures { result ≡ elements_offence policy.now }
+{
+    blocks(policy.memory_blocks())
+        .or_else(|| devices(policy.devices()))
+        .or_else(|| regions(policy.memory()))
+        .or_else(|| channels(policy.channels()))
+        .or_else(|| components(policy.components()))
+}
+
+// The first element or window that offends.
+fn of_all(alloc: Global, policy: &Resolved) -> Result<Option<Offence>, NoMemory>
+    ensures value { IfOk result (λ o. o ≡ addresses_offence policy.now) }
+    ensures resolved { IsResolved policy.now }
+{
+    let subjects = policy.subjects();
+    if let Some(offence) = of_elements(policy) {
+        return Ok(Some(offence));
+    }
+    outside(alloc, policy, subjects)
 }
 
 /// Rule 4: the first address or size that isn't one.
+///
+/// Answers `NoMemory` where memory was refused.
 #[tactic(auto, using(crate::proofs::RangesByPlace::addresses_by_place))]
-pub(crate) fn addresses(policy: &Resolved) -> Option<Offence>
-    requires { is_built (source_of policy.now) ≡ true }
-    ensures { result ≡ offence_4 (source_of policy.now) }
+pub(crate) fn addresses(alloc: Global, policy: &Resolved) -> Result<Option<Offence>, NoMemory>
+    ensures { IfOk result (λ o. o ≡ offence_4 (source_of policy.now)) }
 {
-    of_elements(policy.memory_blocks(), policy.memory(), policy.subjects())
+    of_all(alloc, policy)
 }

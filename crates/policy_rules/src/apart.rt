@@ -1,19 +1,18 @@
-// Rules 5 and 18: windows of a subject, and blocks of memory, that share no address.
-ghost use Rattle.std.specs.Prelude.{◌≡◌, None, map, true, IfOk};
-ghost use Rattle.std.specs.List.{list_all};
+// Rules 5 and 18: windows of a subject, and blocks and devices' memory, that share no address.
+ghost use Rattle.std.specs.Prelude.{◌≡◌, None, map, IfOk};
+ghost use Rattle.std.specs.List.{flat_map};
 ghost use Rattle.muen_num.specs.Search.{first_in};
-ghost use Rattle.policy_types.specs.Built.{is_built};
 ghost use Rattle.policy_lawful.specs.ByPlace.{block_extent};
 ghost use Rattle.policy_lawful.specs.Resolution.{source_of};
-ghost use Rattle.policy_lawful.specs.Rules.{first_overlap, is_physical, offence_4, offence_5, offence_18};
-ghost use Rattle.policy_rules.specs.Windows.{outside_in, overlap_in};
+ghost use Rattle.policy_lawful.specs.Rules.{offence_4, offence_5, offence_18};
+ghost use Rattle.policy_rules.specs.Windows.{device_extent, device_extents, outside_in, overlap_in, physical_extents};
 
-use crate::overlap::first_overlap;
 use crate::windows::extents;
 use muen_num::NoMemory;
+use policy_extents::first_overlap;
 use policy_lawful::resolved::{Resolved, Subject};
 use policy_lawful::{Extent, Offence};
-use policy_types::source::{Block, Region};
+use policy_types::source::{Block, Device, DeviceMemory};
 use std::alloc::{AllocError, Global};
 
 // A block as a named range of physical memory.
@@ -33,51 +32,82 @@ fn block_extents(alloc: Global, blocks: &[Block]) -> Result<Vec<Extent>, AllocEr
     blocks.iter().map(block_extent).collect(alloc)
 }
 
-// The first two of these blocks that share an address.
-#[tactic(auto, using(crate::proofs::RangesByPlace::blocks_sized))]
-fn of_blocks(alloc: Global, blocks: &[Block]) -> Result<Option<Offence>, NoMemory>
-    requires { list_all (λ b. is_physical b.physical_address b.size) blocks.now ≡ true }
-    ensures { IfOk result (λ o. o ≡ first_overlap (map block_extent blocks.now)) }
+// Memory of a device as a named range of physical memory.
+fn device_extent(memory: &DeviceMemory) -> Extent
+    ensures { result ≡ device_extent memory.now }
 {
-    let extents = block_extents(alloc, blocks)?;
-    first_overlap(alloc, &extents)
+    Extent {
+        name: memory.name,
+        address: memory.physical_address,
+        size: memory.size,
+    }
 }
 
-/// Rule 18: the first two blocks that share an address.
-#[tactic(auto, using(crate::proofs::RangesByPlace::blocks_physical, crate::proofs::RangesByPlace::blocks_apart))]
+fn memory_extents(alloc: Global, memory: &[DeviceMemory]) -> Result<Vec<Extent>, AllocError>
+    ensures { IfOk result (λ v. v.items ≡ map device_extent memory.now) }
+{
+    memory.iter().map(device_extent).collect(alloc)
+}
+
+/// The memory of all devices.
+pub(crate) fn device_extents(alloc: Global, devices: &[Device]) -> Result<Vec<Extent>, NoMemory>
+    ensures { IfOk result (λ v. v.items ≡ device_extents devices.now) }
+{
+    let mut extents = Vec::new(alloc);
+    for device in devices {
+        let memory = memory_extents(alloc, device.memory.items())?;
+        extents.extend_from_slice(&memory)?;
+    }
+    Ok(extents)
+}
+
+// The blocks, then all devices' memory.
+fn physical_extents(alloc: Global, policy: &Resolved) -> Result<Vec<Extent>, NoMemory>
+    ensures { IfOk result (λ v. v.items ≡ physical_extents policy.now.memory_blocks policy.now.devices) }
+{
+    let mut extents = block_extents(alloc, policy.memory_blocks())?;
+    let devices = device_extents(alloc, policy.devices())?;
+    extents.extend_from_slice(&devices)?;
+    Ok(extents)
+}
+
+/// Rule 18: the first two of the blocks and the devices' memory that share an address.
+///
+/// Answers `NoMemory` where memory was refused.
+#[tactic(auto, using(crate::proofs::RangesByPlace::physical_sized, crate::proofs::RangesByPlace::blocks_apart))]
 pub(crate) fn blocks_apart(alloc: Global, policy: &Resolved) -> Result<Option<Offence>, NoMemory>
-    requires built { is_built (source_of policy.now) ≡ true }
-    requires addresses { offence_4 (source_of policy.now) ≡ None }
+    requires { offence_4 (source_of policy.now) ≡ None }
     ensures { IfOk result (λ o. o ≡ offence_18 (source_of policy.now)) }
 {
-    of_blocks(alloc, policy.memory_blocks())
+    let extents = physical_extents(alloc, policy)?;
+    first_overlap(alloc, &extents)
 }
 
 // The first two windows of a subject that share an address.
 #[tactic(auto, using(crate::proofs::RangesByPlace::windows_sized))]
 fn of_subject(
     alloc: Global,
-    regions: &[Region],
+    policy: &Resolved,
     subject: &Subject,
 ) -> Result<Option<Offence>, NoMemory>
-    requires { outside_in regions.now subject.now ≡ None }
-    ensures { IfOk result (λ o. o ≡ overlap_in regions.now subject.now) }
+    requires { outside_in policy.now subject.now ≡ None }
+    ensures { IfOk result (λ o. o ≡ overlap_in policy.now subject.now) }
 {
-    let extents = extents(alloc, regions, subject)?;
+    let extents = extents(alloc, policy, subject)?;
     first_overlap(alloc, &extents)
 }
 
-// The first such windows of all subjects.
+// The first such windows of these subjects.
 fn of_subjects(
     alloc: Global,
-    regions: &[Region],
+    policy: &Resolved,
     subjects: &[Subject],
 ) -> Result<Option<Offence>, NoMemory>
-    requires { first_in (outside_in regions.now) subjects.now ≡ None }
-    ensures { IfOk result (λ o. o ≡ first_in (overlap_in regions.now) subjects.now) }
+    requires { first_in (outside_in policy.now) subjects.now ≡ None }
+    ensures { IfOk result (λ o. o ≡ first_in (overlap_in policy.now) subjects.now) }
 {
     for subject in subjects {
-        if let Some(offence) = of_subject(alloc, regions, subject)? {
+        if let Some(offence) = of_subject(alloc, policy, subject)? {
             return Ok(Some(offence));
         }
     }
@@ -85,11 +115,12 @@ fn of_subjects(
 }
 
 /// Rule 5: the first two windows of a subject that share an address.
+///
+/// Answers `NoMemory` where memory was refused.
 #[tactic(auto, using(crate::proofs::RangesByPlace::none_outside, crate::proofs::RangesByPlace::windows_apart))]
 pub(crate) fn windows_apart(alloc: Global, policy: &Resolved) -> Result<Option<Offence>, NoMemory>
-    requires built { is_built (source_of policy.now) ≡ true }
-    requires addresses { offence_4 (source_of policy.now) ≡ None }
+    requires { offence_4 (source_of policy.now) ≡ None }
     ensures { IfOk result (λ o. o ≡ offence_5 (source_of policy.now)) }
 {
-    of_subjects(alloc, policy.memory(), policy.subjects())
+    of_subjects(alloc, policy, policy.subjects())
 }

@@ -12,7 +12,11 @@ use policy_lawful::Offence;
 pub(crate) enum Key {
     Processor,
     MemoryBlocks,
+    Devices,
     Memory,
+    Channels,
+    Components,
+    Events,
     Subjects,
     MajorFrames,
 }
@@ -26,7 +30,11 @@ impl Key {
         match self {
             Key::Processor => Name::read(b"processor").unwrap(),
             Key::MemoryBlocks => Name::read(b"memoryBlocks").unwrap(),
+            Key::Devices => Name::read(b"devices").unwrap(),
             Key::Memory => Name::read(b"memory").unwrap(),
+            Key::Channels => Name::read(b"channels").unwrap(),
+            Key::Components => Name::read(b"components").unwrap(),
+            Key::Events => Name::read(b"events").unwrap(),
             Key::Subjects => Name::read(b"subjects").unwrap(),
             Key::MajorFrames => Name::read(b"majorFrames").unwrap(),
         }

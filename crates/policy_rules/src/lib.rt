@@ -8,7 +8,7 @@ mod groups;
 mod keys;
 mod limits;
 mod major_frames;
-mod overlap;
+mod names;
 mod rules;
 mod windows;
 mod writers;

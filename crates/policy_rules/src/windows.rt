@@ -1,67 +1,83 @@
 // The windows of subjects, as named ranges of guest addresses.
-ghost use Rattle.std.specs.Prelude.{◌≡◌, option_and_then, IfOk};
+ghost use Rattle.std.specs.Prelude.{◌≡◌, map, IfOk};
 ghost use Rattle.muen_num.specs.Search.{first_in};
-ghost use Rattle.policy_rules.specs.Windows.{extent_in, extents_in, outside, outside_in};
+ghost use Rattle.policy_rules.specs.Windows.{outside, outside_in};
+ghost use Rattle.policy_views.specs.Views.{view_extent, views_of};
 
 use crate::addresses::is_guest;
-use muen_num::{Name, first};
-use policy_lawful::resolved::{Mapping, Subject};
+use muen_num::{Name, NoMemory, first};
+use policy_lawful::resolved::{Resolved, Subject};
 use policy_lawful::{Extent, Offence};
-use policy_types::source::Region;
+use policy_views::{View, views};
 use std::alloc::{AllocError, Global};
 
-// The window of a mapping, where its region is there.
-fn extent(regions: &[Region], mapping: &Mapping) -> Option<Extent>
-    ensures { result ≡ extent_in regions.now mapping.now }
+// A view as a named range of guest addresses.
+fn view_extent(view: &View) -> Extent
+    ensures { result ≡ view_extent view.now }
 {
-    let region = regions.get(mapping.region)?;
-    Some(Extent {
-        name: region.name,
-        address: mapping.virtual_address,
-        size: region.size,
-    })
+    Extent {
+        name: view.name,
+        address: view.guest,
+        size: view.size,
+    }
+}
+
+fn view_extents(alloc: Global, views: &[View]) -> Result<Vec<Extent>, AllocError>
+    ensures { IfOk result (λ v. v.items ≡ map view_extent views.now) }
+{
+    views.iter().map(view_extent).collect(alloc)
 }
 
 /// The windows of a subject.
 pub(crate) fn extents(
     alloc: Global,
-    regions: &[Region],
+    policy: &Resolved,
     subject: &Subject,
-) -> Result<Vec<Extent>, AllocError>
-    ensures { IfOk result (λ v. v.items ≡ extents_in regions.now subject.now) }
+) -> Result<Vec<Extent>, NoMemory>
+    ensures { IfOk result (λ v. v.items ≡ map view_extent (views_of policy.now subject.now)) }
 {
-    let mappings = subject.memory.items();
-    mappings
-        .iter()
-        .filter_map(|mapping| extent(regions, mapping))
-        .collect(alloc)
+    let views = views(alloc, policy, subject)?;
+    let extents = view_extents(alloc, &views)?;
+    Ok(extents)
 }
 
-// A window that isn't a range of guest addresses.
-fn outside_at(regions: &[Region], by: &Name, mapping: &Mapping) -> Option<Offence>
-    ensures { result ≡ option_and_then (outside by.now) (extent_in regions.now mapping.now) }
+// The first of these windows that isn't a range of guest addresses.
+fn outside_among(by: &Name, views: &[View]) -> Option<Offence>
+    ensures { result ≡ first_in (outside by.now) views.now }
 {
-    let extent = extent(regions, mapping)?;
-    Offence {
-        first: *by,
-        second: extent.name,
-    }
-    .unless(is_guest(extent.address, extent.size))
+    first(views, |view| {
+        Offence {
+            first: *by,
+            second: view.name,
+        }
+        .unless(is_guest(view.guest, view.size))
+    })
 }
 
 // The first such window of a subject.
-fn outside_of(regions: &[Region], subject: &Subject) -> Option<Offence>
-    ensures { result ≡ outside_in regions.now subject.now }
+fn outside_of(
+    alloc: Global,
+    policy: &Resolved,
+    subject: &Subject,
+) -> Result<Option<Offence>, NoMemory>
+    ensures { IfOk result (λ o. o ≡ outside_in policy.now subject.now) }
 {
-    first(
-        subject.memory.items(),
-        |mapping| outside_at(regions, &subject.name, mapping),
-    )
+    let views = views(alloc, policy, subject)?;
+    Ok(outside_among(&subject.name, &views))
 }
 
-/// The first window of all subjects that isn't a range of guest addresses.
-pub(crate) fn outside(regions: &[Region], subjects: &[Subject]) -> Option<Offence>
-    ensures { result ≡ first_in (outside_in regions.now) subjects.now }
+/// The first window of these subjects that isn't a range of guest addresses.
+pub(crate) fn outside(
+    alloc: Global,
+    policy: &Resolved,
+    subjects: &[Subject],
+) -> Result<Option<Offence>, NoMemory>
+    ensures { IfOk result (λ o. o ≡ first_in (outside_in policy.now) subjects.now) }
 {
-    first(subjects, |subject| outside_of(regions, subject))
+    for subject in subjects {
+        if let Some(offence) = outside_of(alloc, policy, subject)? {
+            return Ok(Some(offence));
+        }
+    }
+    Ok(None)
 }

@@ -1,122 +1,213 @@
-// Rule 8: what one subject may write, no other maps.
-ghost use Rattle.std.specs.Prelude.{◌≡◌, ℕ, ◌<◌, ◌==◌, ◌&&◌, true, None, length, slice_index_or, IfOk};
-ghost use Rattle.std.specs.List.{All, enumerate_from};
-ghost use Rattle.muen_num.specs.Search.{first_in};
-ghost use Rattle.policy_types.specs.Built.{is_built};
-ghost use Rattle.policy_lawful.specs.Resolution.{source_of};
+// Rule 8: what one subject may write, no other maps, but for regions that are shared.
+ghost use Rattle.std.specs.Prelude.{◌≡◌, ℕ, ◌<◌, ◌==◌, ◌++◌, [], length, map, not, option_copied, option_map, replicate, slice_index_or, IfOk, OnOk};
+ghost use Rattle.std.specs.List.{enumerate_from, filter_map, find};
+ghost use Rattle.muen_num.specs.Search.{first_after, first_in};
+ghost use Rattle.policy_lawful.specs.Resolution.{IsResolved, source_of};
+ghost use Rattle.std.specs.Str.{bytes_eq};
+ghost use Rattle.policy_lawful.specs.Offences.{two};
 ghost use Rattle.policy_lawful.specs.Rules.{offence_8};
-ghost use Rattle.policy_rules.specs.Writers.{IsWithin, shows, alters, writer_of, is_other, other_of, noted, HasNames, named_at};
+ghost use Rattle.policy_rules.specs.Writers.{HasUsers, added, fault_at, not_shared, other_among, sharing_fault, stranger_among, user_of, users_fault, with_user};
 
-use muen_num::{Kind, Name, NoMemory, first_numbered};
-use policy_lawful::resolved::{Mapping, Subject};
+use crate::names::Names;
+use muen_num::{Kind, Name, NoMemory, Seq};
+use policy_lawful::resolved::Subject;
 use policy_lawful::{Offence, Resolved};
 use policy_types::source::Region;
-use std::alloc::Global;
+use policy_views::{Shown, View, views};
+use std::alloc::{AllocError, Global};
 
-// Notes the name at a place, unless one stands there.
-fn note(names: &mut [Option<Name>], place: usize, name: Name)
-    requires { place < length names.old }
-    ensures { (k : ℕ) → slice_index_or names.new k None ≡ noted (slice_index_or names.old k None) (place == k) name }
+// A subject that has a window on a region, and whether it may write by that.
+#[derive(Clone, Copy, Debug, PartialEq, Eq)]
+struct User {
+    name: Name,
+    writes: bool,
+}
+
+// ---- users of each region
+
+// Notes a user at a region's place, where that is there.
+fn note(users: &mut [Seq<User>], place: usize, user: User) -> Result<(), NoMemory>
+    ensures { OnOk result ((k : ℕ) → k < length users.old → slice_index_or users.new k [] ≡ added (slice_index_or users.old k []) (place == k) user) }
 {
-    if names[place].is_none() {
-        names[place] = Some(name);
+    if place < users.len() {
+        users[place].push(user)?;
+    }
+    Ok(())
+}
+
+// Notes the subject of this name at the region that it has this window on, if it is on one.
+#[tactic(auto, using(crate::proofs::WritersByPlace::added_is))]
+fn note_view(users: &mut [Seq<User>], name: Name, view: &View) -> Result<(), NoMemory>
+    ensures { OnOk result ((k : ℕ) → k < length users.old → slice_index_or users.new k [] ≡ with_user (slice_index_or users.old k []) (user_of k name view.now)) }
+{
+    match view.shows {
+        Shown::Memory(place) => {
+            let writes = view.rights.allows(Kind::Write);
+            note(users, place, User { name, writes })
+        }
+        _ => Ok(()),
     }
 }
 
-// Notes the subject at each region that it may write.
-fn note_writer(writers: &mut [Option<Name>], subject: &Subject)
-    requires { IsWithin (length writers.old) subject.now }
-    ensures { (k : ℕ) → slice_index_or writers.new k None ≡ noted (slice_index_or writers.old k None) (alters k subject.now) subject.now.name }
+// Notes the subject of this name at each region that it has one of these windows on.
+#[tactic(auto, using(crate::proofs::WritersByPlace::views_more))]
+fn note_views(users: &mut [Seq<User>], name: Name, views: &[View]) -> Result<(), NoMemory>
+    ensures { OnOk result ((k : ℕ) → k < length users.old → slice_index_or users.new k [] ≡ slice_index_or users.old k [] ++ filter_map (user_of k name) views.now) }
 {
-    for mapping in subject.memory.items() {
-        if mapping.rights.allows(Kind::Write) {
-            note(writers, mapping.region, subject.name);
+    for view in views {
+        note_view(users, name, view)?;
+    }
+    Ok(())
+}
+
+// So many lists with no users.
+fn no_users(alloc: Global, regions: usize) -> Result<Vec<Seq<User>>, NoMemory>
+    ensures { IfOk result (λ v. v.items ≡ replicate regions []) }
+{
+    let mut users = Vec::new(alloc);
+    for _ in 0..regions {
+        users.push(Seq::new(alloc))?;
+    }
+    Ok(users)
+}
+
+// The users of each region, among these subjects.
+#[tactic(auto, using(crate::proofs::WritersByPlace::none_yet, crate::proofs::WritersByPlace::users_more))]
+fn users_of(
+    alloc: Global,
+    policy: &Resolved,
+    subjects: &[Subject],
+) -> Result<Vec<Seq<User>>, NoMemory>
+    ensures { IfOk result (λ v. HasUsers policy.now v.items subjects.now) }
+{
+    let mut users = no_users(alloc, policy.memory().len())?;
+    for subject in subjects {
+        let views = views(alloc, policy, subject)?;
+        note_views(&mut users, subject.name, &views)?;
+    }
+    Ok(users)
+}
+
+// ---- one region
+
+// The first user that isn't the writer.
+fn other_than(users: &[User], region: &Name, writer: &User) -> Option<Offence>
+    ensures { result ≡ option_map (λ u. two region.now u.name) (find (λ u. not (bytes_eq u.name writer.now.name)) users.now) }
+{
+    let other = users.iter().find(|user| user.name != writer.name)?;
+    Some(Offence {
+        first: *region,
+        second: other.name,
+    })
+}
+
+// The first user that may write.
+fn writer<'a>(users: &'a [User]) -> Option<&'a User>
+    ensures { option_copied result ≡ find (λ u. u.writes) users.now }
+{
+    users.iter().find(|user| user.writes)
+}
+
+// The first user other than the first that may write, if one may.
+fn other(users: &[User], region: &Name) -> Option<Offence>
+    ensures { result ≡ other_among users.now region.now (find (λ u. u.writes) users.now) }
+{
+    let writer = writer(users)?;
+    other_than(users, region, writer)
+}
+
+// The first user that isn't among these names.
+fn stranger(names: &Names, region: &Name, users: &[User]) -> Option<Offence>
+    ensures { result ≡ stranger_among names.now region.now users.now }
+{
+    let user = users.iter().find(|user| !names.has(&user.name))?;
+    Some(Offence {
+        first: *region,
+        second: user.name,
+    })
+}
+
+// The first name of a region's list that stood before, or that isn't among these names.
+fn first_not_shared(
+    alloc: Global,
+    names: &Names,
+    region: &Name,
+    list: &[Name],
+) -> Result<Option<Offence>, NoMemory>
+    ensures { IfOk result (λ o. o ≡ first_after (not_shared names.now region.now) [] list.now) }
+{
+    let mut before = Names::new(alloc);
+    for name in list {
+        let is_new = before.add(*name)?;
+        if !(is_new && names.has(name)) {
+            return Ok(Some(Offence {
+                first: *region,
+                second: *name,
+            }));
         }
     }
+    Ok(None)
 }
 
-// The name of the first subject that may write each region.
-fn first_writers(
+fn names_of(alloc: Global, users: &[User]) -> Result<Vec<Name>, AllocError>
+    ensures { IfOk result (λ v. v.items ≡ map (λ u. u.name) users.now) }
+{
+    users.iter().map(|user| user.name).collect(alloc)
+}
+
+// What is wrong with a region that has a list: a user that isn't in it, or a name in it.
+#[tactic(auto, using(crate::proofs::WritersByPlace::shared_first, crate::proofs::WritersByPlace::shared_last))]
+fn of_shared(alloc: Global, region: &Region, users: &[User]) -> Result<Option<Offence>, NoMemory>
+    ensures { IfOk result (λ o. o ≡ sharing_fault users.now region.now) }
+{
+    let list = region.shared_memory.items();
+    let listed = Names::of(alloc, list)?;
+    if let Some(offence) = stranger(&listed, &region.name, users) {
+        return Ok(Some(offence));
+    }
+    let names = names_of(alloc, users)?;
+    let using = Names::of(alloc, &names)?;
+    first_not_shared(alloc, &using, &region.name, list)
+}
+
+// What is wrong with a region, by its users.
+fn of_region(alloc: Global, region: &Region, users: &[User]) -> Result<Option<Offence>, NoMemory>
+    ensures { IfOk result (λ o. o ≡ users_fault users.now region.now) }
+{
+    if region.shared_memory.is_empty() {
+        return Ok(other(users, &region.name));
+    }
+    of_shared(alloc, region, users)
+}
+
+// ---- all regions
+
+// The first region with which something is wrong, where its users stand at its place.
+fn of_regions(
     alloc: Global,
-    regions: usize,
-    subjects: &[Subject],
-) -> Result<Vec<Option<Name>>, NoMemory>
-    requires { All (IsWithin regions) subjects.now }
-    ensures { IfOk result (λ v. HasNames v.items regions (writer_of subjects.now)) }
+    regions: &[Region],
+    users: &[Seq<User>],
+) -> Result<Option<Offence>, NoMemory>
+    requires { length users.now ≡ length regions.now }
+    ensures { IfOk result (λ o. o ≡ first_in (fault_at users.now) (enumerate_from 0 regions.now)) }
 {
-    let mut writers: Vec<Option<Name>> = vec![in alloc; None; regions]?;
-    for subject in subjects {
-        note_writer(&mut writers, subject);
-    }
-    Ok(writers)
-}
-
-// Whether there is a writer, and it has another name.
-fn is_other(writer: &Option<Name>, name: &Name) -> bool
-    ensures { result ≡ is_other writer.now name.now }
-{
-    match writer {
-        None => false,
-        Some(writer) => name != writer,
-    }
-}
-
-// Notes the subject at each region that another subject writes first.
-fn note_other(others: &mut [Option<Name>], writers: &[Option<Name>], subject: &Subject)
-    requires within { IsWithin (length others.old) subject.now }
-    requires room { length others.old ≡ length writers.now }
-    ensures { (k : ℕ) → slice_index_or others.new k None ≡ noted (slice_index_or others.old k None) (is_other (slice_index_or writers.now k None) subject.now.name && shows k subject.now) subject.now.name }
-{
-    for mapping in subject.memory.items() {
-        if is_other(&writers[mapping.region], &subject.name) {
-            note(others, mapping.region, subject.name);
+    for (place, region) in regions.iter().enumerate() {
+        if let Some(offence) = of_region(alloc, region, users[place].items())? {
+            return Ok(Some(offence));
         }
     }
+    Ok(None)
 }
 
-// The name of the first subject other than its writer that maps each region.
-fn first_others(
-    alloc: Global,
-    writers: &[Option<Name>],
-    subjects: &[Subject],
-) -> Result<Vec<Option<Name>>, NoMemory>
-    requires { All (IsWithin (length writers.now)) subjects.now }
-    ensures { IfOk result (λ v. HasNames v.items (length writers.now) (λ k. other_of subjects.now (slice_index_or writers.now k None) k)) }
-{
-    let mut others: Vec<Option<Name>> = vec![in alloc; None; writers.len()]?;
-    for subject in subjects {
-        note_other(&mut others, writers, subject);
-    }
-    Ok(others)
-}
-
-// A region at whose place a name stands.
-fn named_at(names: &[Option<Name>], place: usize, region: &Region) -> Option<Offence>
-    ensures { result ≡ named_at names.now (place, region.now) }
-{
-    match names.get(place) {
-        Some(Some(name)) => Some(Offence {
-            first: region.name,
-            second: *name,
-        }),
-        _ => None,
-    }
-}
-
-// The first region at whose place a name stands.
-fn first_named(regions: &[Region], names: &[Option<Name>]) -> Option<Offence>
-    ensures { result ≡ first_in (named_at names.now) (enumerate_from 0 regions.now) }
-{
-    first_numbered(regions, |place, region| named_at(names, place, region))
-}
-
-/// The first region that one subject may write and another maps, and the first of these others.
-#[tactic(auto, using(crate::proofs::WritersByPlace::within_all, crate::proofs::WritersByPlace::shared_offence))]
+/// Rule 8: the first region that isn't shared, that one subject may write and another maps, with the
+/// first of these others; or that is shared, and is mapped by a subject that its list doesn't name,
+/// or whose list has a name twice or one of no subject that maps it.
+///
+/// Answers `NoMemory` where memory was refused.
+#[tactic(auto, using(crate::proofs::WritersByPlace::writers_by_place))]
 pub(crate) fn writers(alloc: Global, policy: &Resolved) -> Result<Option<Offence>, NoMemory>
-    requires { is_built (source_of policy.now) ≡ true }
     ensures { IfOk result (λ o. o ≡ offence_8 (source_of policy.now)) }
 {
-    let writers = first_writers(alloc, policy.memory().len(), policy.subjects())?;
-    let others = first_others(alloc, &writers, policy.subjects())?;
-    Ok(first_named(policy.memory(), &others))
+    let users = users_of(alloc, policy, policy.subjects())?;
+    of_regions(alloc, policy.memory(), &users)
 }

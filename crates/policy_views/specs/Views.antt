@@ -1,6 +1,6 @@
 -- The windows of a subject and its ends of channels, by the places of what they show (Muen system policy: mappings,
 -- channels, components, devices; monitors are this project's own).
-use Rattle.std.specs.Prelude.{ℕ, ◌==◌, ◌&&◌, Bool, true, false, List, [], ◌++◌, map, slice_get, Option, Some, None, option_map, option_and_then, unwrap_or}
+use Rattle.std.specs.Prelude.{ℕ, ◌==◌, Bool, false, List, [], ◌++◌, map, slice_get, Option, Some, None, option_map, option_and_then, unwrap_or}
 use Rattle.std.specs.Option.{option_map_or}
 use Rattle.std.specs.List.{find, filter_map, flat_map, enumerate_from}
 use Rattle.muen_num.specs.declared.limits.TheConstants.{PAGE}

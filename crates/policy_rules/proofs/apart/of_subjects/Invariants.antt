@@ -6,6 +6,6 @@ use Rattle.policy_rules.proofs.apart.of_subjects.Given as goal
 
 abbrev pub invariant-loop-subject : goal.invariant-loop-subject
 invariant-loop-subject l = record {
-  rest : first_in (overlap_in l.regions) (drop l.subject-index l.subjects) ≡ first_in (overlap_in l.regions) l.subjects;
-  inside : first_in (outside_in l.regions) (drop l.subject-index l.subjects) ≡ None;
+  rest : first_in (overlap_in l.policy) (drop l.subject-index l.subjects) ≡ first_in (overlap_in l.policy) l.subjects;
+  inside : first_in (outside_in l.policy) (drop l.subject-index l.subjects) ≡ None;
 }

@@ -1,9 +1,0 @@
-use Rattle.std.proofs.Common.{◌≡◌, ℕ, None, slice_index_or, take}
-use Rattle.std.specs.Prelude.{◌==◌, ◌&&◌}
-use Rattle.std.specs.List.{list_any}
-use Rattle.policy_rules.specs.Writers.{may_write, noted}
-use Rattle.policy_rules.proofs.writers.note_writer.Given as goal
-
-abbrev pub invariant-loop-mapping : goal.invariant-loop-mapping
-invariant-loop-mapping l =
-    (k : ℕ) → slice_index_or l.writers k None ≡ noted (slice_index_or l.fn.writers k None) (list_any (λ m. (m.region == k) && may_write m) (take l.mapping-index l.mapping-items)) l.subject.name

@@ -1,0 +1,54 @@
+-- For each logical name of a kind the first entry that a subject has for it, in a table by places.
+use Rattle.std.specs.Prelude.{◌≡◌, ℕ, ◌<◌, Bool, true, false, List, length, slice_index_or, Option, Some, None, option_and_then, option_map, unwrap_or}
+use Rattle.std.specs.Option.{option_or}
+use Rattle.policy_lawful.specs.Resolution.{Resolution}
+use Rattle.policy_lawful.specs.declared.resolved.MapEntry.{MapEntry}
+use Rattle.policy_lawful.specs.declared.resolved.Wanted.{Wanted}
+use Rattle.policy_lawful.specs.declared.resolved.Wanted.TheVariants.{Memory as WantedMemory, Channel as WantedChannel}
+use Rattle.policy_types.specs.declared.source.ComponentChannel.{ComponentChannel}
+use Rattle.policy_types.specs.declared.source.Required.{Required}
+use Rattle.policy_views.specs.Views.{channel_view, entry_for, region_view}
+use Rattle.policy_views.specs.declared.entries.Choice.{Choice}
+use Rattle.policy_views.specs.declared.entries.Wants.{Wants}
+use Rattle.policy_views.specs.declared.entries.Wants.TheVariants.{Memory as WantsMemory, Channel as WantsChannel}
+use Rattle.policy_views.specs.declared.view.End.{End}
+use Rattle.policy_views.specs.declared.view.View.{View}
+
+-- what an entry chooses
+abbrev pub choice_of : MapEntry → Choice
+choice_of e = record { physical = e.physical; rights = e.rights }
+
+-- the logical name at a place among those of a kind
+abbrev pub wanted_at : Wants → ℕ → Wanted
+wanted_at WantsMemory k = WantedMemory k
+wanted_at WantsChannel k = WantedChannel k
+
+-- its place, if it is of the kind
+abbrev pub place_among : Wants → Wanted → Option ℕ
+place_among WantsMemory (WantedMemory k) = Some k
+place_among WantsChannel (WantedChannel k) = Some k
+place_among _ _ = None
+
+-- a place at which a choice was noted, or not: the first stays
+abbrev pub noted : Option Choice → Bool → Choice → Option Choice
+noted old false c = old
+noted old true c = option_or old (Some c)
+
+-- so many choices, each by the first entry for its logical name
+pub record HasChoices (kind : Wants) (choices : List (Option Choice)) (many : ℕ) (entries : List MapEntry) : Type 0 where
+  pub room : length choices ≡ many
+  pub at : (k : ℕ) → k < many → slice_index_or choices k None ≡ option_map choice_of (entry_for entries (wanted_at kind k))
+
+-- ---- views and ends by choices
+
+abbrev pub chosen_region : Resolution → List (Option Choice) → ℕ × Required → Option View
+chosen_region r choices (place, x) =
+    option_and_then (λ c. region_view r c.physical x.virtual_address (unwrap_or c.rights x.rights)) (slice_index_or choices place None)
+
+abbrev pub chosen_channel : Resolution → List (Option Choice) → ℕ × ComponentChannel → Option View
+chosen_channel r choices (place, x) =
+    option_and_then (λ c. channel_view r c.physical x.virtual_address x.role) (slice_index_or choices place None)
+
+abbrev pub chosen_end : List (Option Choice) → ℕ × ComponentChannel → Option End
+chosen_end choices (place, x) =
+    option_map (λ c. record { channel = c.physical; role = x.role; call = x.call; vector = x.vector }) (slice_index_or choices place None)

@@ -1,0 +1,101 @@
+//! The ends of channels of a subject.
+ghost use Rattle.std.specs.Prelude.{◌≡◌, map, IfOk};
+ghost use Rattle.std.specs.List.{filter_map, enumerate_from};
+ghost use Rattle.policy_views.specs.Entries.{chosen_end};
+ghost use Rattle.policy_views.specs.Views.{component_end, ends_of, use_ends};
+
+use crate::entries::{Choice, Wants, choices};
+use crate::view::End;
+use muen_num::NoMemory;
+use policy_lawful::Resolved;
+use policy_lawful::resolved::{ChannelUse, ComponentUse, MapEntry, Subject};
+use policy_types::source::ComponentChannel;
+use std::alloc::{AllocError, Global};
+
+fn component_end(
+    choices: &[Option<Choice>],
+    place: usize,
+    channel: &ComponentChannel,
+) -> Option<End>
+    ensures { result ≡ chosen_end choices.now (place, channel.now) }
+{
+    match choices.get(place) {
+        Some(Some(choice)) => Some(End {
+            channel: choice.physical,
+            role: channel.role,
+            call: channel.call,
+            vector: channel.vector,
+        }),
+        _ => None,
+    }
+}
+
+fn of_channels(alloc: Global, channels: &[ChannelUse]) -> Result<Vec<End>, AllocError>
+    ensures { IfOk result (λ v. v.items ≡ map (λ c. record { channel = c.channel; role = c.role; call = c.call; vector = c.vector }) channels.now) }
+{
+    channels
+        .iter()
+        .map(|c| End {
+            channel: c.channel,
+            role: c.role,
+            call: c.call,
+            vector: c.vector,
+        })
+        .collect(alloc)
+}
+
+fn chosen_ends(
+    alloc: Global,
+    choices: &[Option<Choice>],
+    channels: &[ComponentChannel],
+) -> Result<Vec<End>, AllocError>
+    ensures { IfOk result (λ v. v.items ≡ filter_map (chosen_end choices.now) (enumerate_from 0 channels.now)) }
+{
+    channels
+        .iter()
+        .enumerate()
+        .filter_map(|(place, channel)| component_end(choices, place, channel))
+        .collect(alloc)
+}
+
+#[tactic(auto, using(crate::proofs::EntriesNoted::ends_chosen))]
+fn of_component(
+    alloc: Global,
+    entries: &[MapEntry],
+    channels: &[ComponentChannel],
+) -> Result<Vec<End>, NoMemory>
+    ensures { IfOk result (λ v. v.items ≡ filter_map (component_end entries.now) (enumerate_from 0 channels.now)) }
+{
+    let choices = choices(alloc, Wants::Channel, channels.len(), entries)?;
+    let ends = chosen_ends(alloc, &choices, channels)?;
+    Ok(ends)
+}
+
+fn of_use(
+    alloc: Global,
+    policy: &Resolved,
+    used: &Option<ComponentUse>,
+) -> Result<Vec<End>, NoMemory>
+    ensures { IfOk result (λ v. v.items ≡ use_ends policy.now used.now) }
+{
+    match used {
+        None => Ok(Vec::new(alloc)),
+        Some(used) => match policy.components().get(used.used) {
+            None => Ok(Vec::new(alloc)),
+            Some(component) => of_component(alloc, used.map.items(), component.channels.items()),
+        },
+    }
+}
+
+/// The ends of channels of a subject, its own and then those of its component.
+///
+/// Answers `NoMemory` where memory was refused.
+#[tactic(auto, unfolding(crate::specs::Views::ends_of))]
+pub fn ends(alloc: Global, policy: &Resolved, subject: &Subject) -> Result<Vec<End>, NoMemory>
+    ensures { IfOk result (λ v. v.items ≡ ends_of policy.now subject.now) }
+{
+    let mut ends = of_channels(alloc, subject.channels.items())?;
+    let component = of_use(alloc, policy, &subject.component)?;
+    ends.extend_from_slice(&component)?;
+    Ok(ends)
+}

@@ -1,0 +1,323 @@
+//! The windows of a subject, in order.
+ghost use Rattle.std.specs.Prelude.{◌≡◌, map, IfOk, option_copied};
+ghost use Rattle.std.specs.List.{filter_map, flat_map, enumerate_from};
+ghost use Rattle.policy_meaning.specs.Windows.{role_rights};
+ghost use Rattle.policy_views.specs.Entries.{chosen_channel, chosen_region};
+ghost use Rattle.policy_views.specs.Views.{channel_view, component_channel_view, component_views, device_view, monitor_view, provided_view, region_view, required_view, use_views, views_of};
+
+use crate::entries::{Choice, Wants, choices};
+use crate::view::{Shown, View};
+use muen_num::NoMemory;
+use muen_num::limits::PAGE;
+use policy_lawful::Resolved;
+use policy_lawful::resolved::{
+    ChannelUse, ComponentUse, DeviceMapping, DeviceUse, MapEntry, Mapping, Monitor, Subject,
+};
+use policy_types::source::{Component, ComponentChannel, Provided, Required};
+use policy_types::{Rights, Role};
+use std::alloc::{AllocError, Global};
+
+// A writer may read and write its channel, a reader may read it.
+fn role_rights(role: Role) -> Rights
+    ensures { result ≡ role_rights role }
+{
+    match role {
+        Role::Writer => Rights::READ.union(Rights::WRITE),
+        Role::Reader => Rights::READ,
+    }
+}
+
+fn region_view(policy: &Resolved, place: usize, guest: u64, rights: Rights) -> Option<View>
+    ensures { result ≡ region_view policy.now place guest rights }
+{
+    let region = policy.memory().get(place)?;
+    Some(View {
+        name: region.name,
+        guest,
+        size: region.size,
+        rights,
+        shows: Shown::Memory(place),
+    })
+}
+
+fn channel_view(policy: &Resolved, place: usize, guest: u64, role: Role) -> Option<View>
+    ensures { result ≡ channel_view policy.now place guest role }
+{
+    let channel = policy.channels().get(place)?;
+    Some(View {
+        name: channel.name,
+        guest,
+        size: channel.size,
+        rights: role_rights(role),
+        shows: Shown::Channel(place),
+    })
+}
+
+// Of memory of the device at a place.
+fn device_view(policy: &Resolved, device: usize, mapping: &DeviceMapping) -> Option<View>
+    ensures { result ≡ device_view policy.now device mapping.now }
+{
+    let memory = policy
+        .devices()
+        .get(device)?
+        .memory
+        .items()
+        .get(mapping.memory)?;
+    Some(View {
+        name: memory.name,
+        guest: mapping.virtual_address,
+        size: memory.size,
+        rights: mapping.rights,
+        shows: Shown::Device(device, mapping.memory),
+    })
+}
+
+// Of the state page of the subject that is monitored.
+fn monitor_view(policy: &Resolved, monitor: &Monitor) -> Option<View>
+    ensures { result ≡ monitor_view policy.now monitor.now }
+{
+    let subject = policy.subjects().get(monitor.subject)?;
+    Some(View {
+        name: subject.name,
+        guest: monitor.virtual_address,
+        size: PAGE,
+        rights: monitor.rights,
+        shows: Shown::State(monitor.subject),
+    })
+}
+
+fn provided_view(place: usize, provided: &Provided) -> View
+    ensures { result ≡ provided_view (place, provided.now) }
+{
+    View {
+        name: provided.logical,
+        guest: provided.virtual_address,
+        size: provided.size,
+        rights: provided.rights,
+        shows: Shown::Provided(place),
+    }
+}
+
+fn required_view(
+    policy: &Resolved,
+    choices: &[Option<Choice>],
+    place: usize,
+    required: &Required,
+) -> Option<View>
+    ensures { result ≡ chosen_region policy.now choices.now (place, required.now) }
+{
+    match choices.get(place) {
+        Some(Some(choice)) => region_view(
+            policy,
+            choice.physical,
+            required.virtual_address,
+            choice.rights.unwrap_or(required.rights),
+        ),
+        _ => None,
+    }
+}
+
+fn component_channel_view(
+    policy: &Resolved,
+    choices: &[Option<Choice>],
+    place: usize,
+    channel: &ComponentChannel,
+) -> Option<View>
+    ensures { result ≡ chosen_channel policy.now choices.now (place, channel.now) }
+{
+    match choices.get(place) {
+        Some(Some(choice)) => {
+            channel_view(
+                policy,
+                choice.physical,
+                channel.virtual_address,
+                channel.role,
+            )
+        }
+        _ => None,
+    }
+}
+
+fn of_mappings(
+    alloc: Global,
+    policy: &Resolved,
+    mappings: &[Mapping],
+) -> Result<Vec<View>, AllocError>
+    ensures { IfOk result (λ v. v.items ≡ filter_map (λ m. region_view policy.now m.region m.virtual_address m.rights) mappings.now) }
+{
+    mappings
+        .iter()
+        .filter_map(|m| region_view(policy, m.region, m.virtual_address, m.rights))
+        .collect(alloc)
+}
+
+fn of_channels(
+    alloc: Global,
+    policy: &Resolved,
+    channels: &[ChannelUse],
+) -> Result<Vec<View>, AllocError>
+    ensures { IfOk result (λ v. v.items ≡ filter_map (λ c. channel_view policy.now c.channel c.virtual_address c.role) channels.now) }
+{
+    channels
+        .iter()
+        .filter_map(|c| channel_view(policy, c.channel, c.virtual_address, c.role))
+        .collect(alloc)
+}
+
+fn of_device(alloc: Global, policy: &Resolved, device: &DeviceUse) -> Result<Vec<View>, AllocError>
+    ensures { IfOk result (λ v. v.items ≡ filter_map (device_view policy.now device.now.device) device.now.memory) }
+{
+    let mappings = device.memory.items();
+    mappings
+        .iter()
+        .filter_map(|mapping| device_view(policy, device.device, mapping))
+        .collect(alloc)
+}
+
+fn of_devices(
+    alloc: Global,
+    policy: &Resolved,
+    devices: &[DeviceUse],
+) -> Result<Vec<View>, NoMemory>
+    ensures { IfOk result (λ v. v.items ≡ flat_map (λ d. filter_map (device_view policy.now d.device) d.memory) devices.now) }
+{
+    let mut views = Vec::new(alloc);
+    for device in devices {
+        let part = of_device(alloc, policy, device)?;
+        views.extend_from_slice(&part)?;
+    }
+    Ok(views)
+}
+
+fn of_provided(alloc: Global, provides: &[Provided]) -> Result<Vec<View>, AllocError>
+    ensures { IfOk result (λ v. v.items ≡ map provided_view (enumerate_from 0 provides.now)) }
+{
+    provides
+        .iter()
+        .enumerate()
+        .map(|(place, provided)| provided_view(place, provided))
+        .collect(alloc)
+}
+
+fn chosen_regions(
+    alloc: Global,
+    policy: &Resolved,
+    choices: &[Option<Choice>],
+    memory: &[Required],
+) -> Result<Vec<View>, AllocError>
+    ensures { IfOk result (λ v. v.items ≡ filter_map (chosen_region policy.now choices.now) (enumerate_from 0 memory.now)) }
+{
+    memory
+        .iter()
+        .enumerate()
+        .filter_map(|(place, required)| required_view(policy, choices, place, required))
+        .collect(alloc)
+}
+
+#[tactic(auto, using(crate::proofs::EntriesNoted::regions_chosen))]
+fn of_required(
+    alloc: Global,
+    policy: &Resolved,
+    entries: &[MapEntry],
+    memory: &[Required],
+) -> Result<Vec<View>, NoMemory>
+    ensures { IfOk result (λ v. v.items ≡ filter_map (required_view policy.now entries.now) (enumerate_from 0 memory.now)) }
+{
+    let choices = choices(alloc, Wants::Memory, memory.len(), entries)?;
+    let views = chosen_regions(alloc, policy, &choices, memory)?;
+    Ok(views)
+}
+
+fn chosen_channels(
+    alloc: Global,
+    policy: &Resolved,
+    choices: &[Option<Choice>],
+    channels: &[ComponentChannel],
+) -> Result<Vec<View>, AllocError>
+    ensures { IfOk result (λ v. v.items ≡ filter_map (chosen_channel policy.now choices.now) (enumerate_from 0 channels.now)) }
+{
+    channels
+        .iter()
+        .enumerate()
+        .filter_map(|(place, channel)| component_channel_view(policy, choices, place, channel))
+        .collect(alloc)
+}
+
+#[tactic(auto, using(crate::proofs::EntriesNoted::channels_chosen))]
+fn of_component_channels(
+    alloc: Global,
+    policy: &Resolved,
+    entries: &[MapEntry],
+    channels: &[ComponentChannel],
+) -> Result<Vec<View>, NoMemory>
+    ensures { IfOk result (λ v. v.items ≡ filter_map (component_channel_view policy.now entries.now) (enumerate_from 0 channels.now)) }
+{
+    let choices = choices(alloc, Wants::Channel, channels.len(), entries)?;
+    let views = chosen_channels(alloc, policy, &choices, channels)?;
+    Ok(views)
+}
+
+fn of_component(
+    alloc: Global,
+    policy: &Resolved,
+    entries: &[MapEntry],
+    component: &Component,
+) -> Result<Vec<View>, NoMemory>
+    ensures { IfOk result (λ v. v.items ≡ component_views policy.now entries.now component.now) }
+{
+    let mut views = of_provided(alloc, component.provides.items())?;
+    let required = of_required(alloc, policy, entries, component.memory.items())?;
+    views.extend_from_slice(&required)?;
+    let channels = of_component_channels(alloc, policy, entries, component.channels.items())?;
+    views.extend_from_slice(&channels)?;
+    Ok(views)
+}
+
+fn of_use(
+    alloc: Global,
+    policy: &Resolved,
+    used: &Option<ComponentUse>,
+) -> Result<Vec<View>, NoMemory>
+    ensures { IfOk result (λ v. v.items ≡ use_views policy.now used.now) }
+{
+    match used {
+        None => Ok(Vec::new(alloc)),
+        Some(used) => match policy.components().get(used.used) {
+            None => Ok(Vec::new(alloc)),
+            Some(component) => of_component(alloc, policy, used.map.items(), component),
+        },
+    }
+}
+
+fn of_monitors(
+    alloc: Global,
+    policy: &Resolved,
+    monitors: &[Monitor],
+) -> Result<Vec<View>, AllocError>
+    ensures { IfOk result (λ v. v.items ≡ filter_map (monitor_view policy.now) monitors.now) }
+{
+    monitors
+        .iter()
+        .filter_map(|monitor| monitor_view(policy, monitor))
+        .collect(alloc)
+}
+
+/// The windows of a subject: its mappings, its channels, its devices' memory, those of its
+/// component, the state pages that it monitors.
+///
+/// Answers `NoMemory` where memory was refused.
+#[tactic(auto, unfolding(crate::specs::Views::views_of))]
+pub fn views(alloc: Global, policy: &Resolved, subject: &Subject) -> Result<Vec<View>, NoMemory>
+    ensures { IfOk result (λ v. v.items ≡ views_of policy.now subject.now) }
+{
+    let mut views = of_mappings(alloc, policy, subject.memory.items())?;
+    let channels = of_channels(alloc, policy, subject.channels.items())?;
+    views.extend_from_slice(&channels)?;
+    let devices = of_devices(alloc, policy, subject.devices.items())?;
+    views.extend_from_slice(&devices)?;
+    let component = of_use(alloc, policy, &subject.component)?;
+    views.extend_from_slice(&component)?;
+    let monitors = of_monitors(alloc, policy, subject.monitors.items())?;
+    views.extend_from_slice(&monitors)?;
+    Ok(views)
+}
