@@ -1,0 +1,16 @@
+//! The rules on channels, components, events, interrupts and monitors, over a resolved policy.
+#![tactic(auto)]
+
+mod by_place;
+mod events;
+mod hypercalls;
+mod interrupts;
+mod marks;
+mod monitoring;
+mod numbers;
+mod parties;
+
+pub use events::sourced;
+pub use hypercalls::calls;
+pub use interrupts::vectors;
+pub use monitoring::monitors;
