@@ -1,2 +1,3 @@
 pub mod Overlaps
+pub mod OwnThenPairs
 pub mod Spans

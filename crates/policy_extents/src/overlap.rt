@@ -1,8 +1,10 @@
 // Which two of many ranges overlap first.
-ghost use Rattle.std.specs.Prelude.{◌≡◌, ℕ, ◌+◌, ◌<◌, ◌↔◌, true, length, map, take, nat_lt, nat_le, is_some, None, IfOk, IsTrue};
+ghost use Rattle.std.specs.Prelude.{◌≡◌, ℕ, ◌+◌, ◌<◌, ◌≤◌, ◌↔◌, true, length, map, take, nat_lt, nat_le, slice_get, is_some, option_map, None, IfOk, IsTrue};
+ghost use Rattle.std.specs.Option.{option_or};
 ghost use Rattle.std.specs.List.{All, AllAdjacentBelow, list_all};
 ghost use Rattle.std.specs.List.Sorted.{IsPermutation, IsNonDecreasingBy};
 ghost use Rattle.muen_num.specs.Search.{first_in};
+ghost use Rattle.policy_lawful.specs.Offences.{alone};
 ghost use Rattle.policy_lawful.specs.Rules.{are_apart, overlapping, first_overlap};
 ghost use Rattle.policy_extents.specs.Span.{span_of, IsBelow};
 
@@ -115,8 +117,10 @@ fn earlier(before: &[Extent], last: &Extent) -> Option<Offence>
 }
 
 /// The first two of these ranges that share an address: of those with the least later one, the
-/// one with the least earlier one.
-pub(crate) fn first_overlap(alloc: Global, extents: &[Extent]) -> Result<Option<Offence>, NoMemory>
+/// one with the least earlier one. No range is empty.
+///
+/// Answers `NoMemory` where memory was refused.
+pub fn first_overlap(alloc: Global, extents: &[Extent]) -> Result<Option<Offence>, NoMemory>
     requires { list_all (λ e. nat_lt 0 e.size) extents.now ≡ true }
     ensures { IfOk result (λ o. o ≡ first_overlap extents.now) }
 {
@@ -125,4 +129,27 @@ pub(crate) fn first_overlap(alloc: Global, extents: &[Extent]) -> Result<Option<
     }
     let last = longest_apart(alloc, extents)?;
     Ok(earlier(&extents[..last], &extents[last]))
+}
+
+/// The first offence of these ranges, where the first `sound` of them keep the conditions of their
+/// own, and the next one, if there is one, doesn't: the first two of the sound ones that share an
+/// address, else the next one alone. No sound range is empty.
+///
+/// Answers `NoMemory` where memory was refused.
+pub fn first_fault(
+    alloc: Global,
+    extents: &[Extent],
+    sound: usize,
+) -> Result<Option<Offence>, NoMemory>
+    requires within { sound ≤ length extents.now }
+    requires sizes { list_all (λ e. nat_lt 0 e.size) (take sound extents.now) ≡ true }
+    ensures { IfOk result (λ o. o ≡ option_or (first_overlap (take sound extents.now)) (option_map (λ e. alone e.name) (slice_get extents.now sound))) }
+{
+    if let Some(offence) = first_overlap(alloc, &extents[..sound])? {
+        return Ok(Some(offence));
+    }
+    match extents.get(sound) {
+        None => Ok(None),
+        Some(unsound) => Ok(Some(Offence::alone(unsound.name))),
+    }
 }

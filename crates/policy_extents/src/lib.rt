@@ -1,0 +1,7 @@
+//! Named ranges of addresses: the first two that share an address, and the first that breaks a
+//! condition of its own or shares an address with one before it.
+#![tactic(auto)]
+
+mod overlap;
+
+pub use overlap::{first_fault, first_overlap};
