@@ -1,6 +1,9 @@
+pub mod ChannelsByPlace
 pub mod Distinct
+pub mod EndsByChannel
 pub mod EventsByPlace
 pub mod Items
+pub mod ModesByPlace
 pub mod Monitored
 pub mod MonitorsByPlace
 pub mod NotedItems

@@ -1,5 +1,8 @@
 pub mod ByPlace
 pub mod Calls
+pub mod Channels
+pub mod Directions
+pub mod Ends
 pub mod Events
 pub mod Marks
 pub mod Monitors

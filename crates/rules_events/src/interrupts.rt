@@ -15,7 +15,8 @@ use policy_types::source::Event;
 use policy_views::{End, ends};
 use std::alloc::{AllocError, Global};
 
-fn is_switch(mode: Mode) -> bool
+/// Whether the target also becomes active.
+pub(crate) fn is_switch(mode: Mode) -> bool
     ensures { result ≡ is_switch mode }
 {
     match mode {

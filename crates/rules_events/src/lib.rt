@@ -2,6 +2,9 @@
 #![tactic(auto)]
 
 mod by_place;
+mod channels;
+mod directions;
+mod ends;
 mod events;
 mod hypercalls;
 mod interrupts;
@@ -10,6 +13,8 @@ mod monitoring;
 mod numbers;
 mod parties;
 
+pub use channels::connected;
+pub use directions::modes;
 pub use events::sourced;
 pub use hypercalls::calls;
 pub use interrupts::vectors;

@@ -1,0 +1,214 @@
+//! Rule 13: which subjects an event may join, by its mode.
+ghost use Rattle.std.specs.Prelude.{◌≡◌, ◌==◌, ◌&&◌, ◌++◌, [], length, map, not, slice_index_or, IfOk};
+ghost use Rattle.std.specs.Option.{option_or};
+ghost use Rattle.std.specs.List.{enumerate_from, flat_map, list_all, list_any};
+ghost use Rattle.muen_num.specs.Search.{first_in, unless};
+ghost use Rattle.policy_lawful.specs.MoreRules.{offence_13};
+ghost use Rattle.policy_lawful.specs.Offences.{two};
+ghost use Rattle.policy_lawful.specs.Resolution.{source_of};
+ghost use Rattle.rules_events.specs.ByPlace.{AreItems};
+ghost use Rattle.rules_events.specs.Directions.{stands_in, share, fits_mode, mode_fault, channel_mode, channel_fault, event_fault, memberships, all_memberships, parties_of, channels_fault, events_fault};
+
+use crate::by_place::{at, by_place};
+use crate::ends::{Met, readers_by_channel, writers_by_channel};
+use crate::parties::{Party, sources_by_event, targets_by_event};
+use muen_num::{Mode, Name, NoMemory, Seq, first, first_numbered};
+use policy_lawful::resolved::Group;
+use policy_lawful::{Offence, Resolved};
+use policy_types::source::{Channel, Event};
+use std::alloc::{AllocError, Global};
+
+// Notes a group at each of its members.
+fn note_members(
+    noted: &mut Vec<(usize, usize)>,
+    place: usize,
+    group: &Group,
+) -> Result<(), NoMemory>
+    ensures { IfOk result (λ _. noted.new.items ≡ noted.old.items ++ memberships (place, group.now)) }
+{
+    for member in group.subjects.items() {
+        noted.push((*member, place))?;
+    }
+    Ok(())
+}
+
+fn all_memberships(alloc: Global, groups: &[Group]) -> Result<Vec<(usize, usize)>, NoMemory>
+    ensures { IfOk result (λ v. v.items ≡ all_memberships groups.now) }
+{
+    let mut noted = Vec::new(alloc);
+    for (place, group) in groups.iter().enumerate() {
+        note_members(&mut noted, place, group)?;
+    }
+    Ok(noted)
+}
+
+// For each of so many subjects the places of the groups that list it.
+fn groups_by_member(
+    alloc: Global,
+    groups: &[Group],
+    subjects: usize,
+) -> Result<Vec<Seq<usize>>, NoMemory>
+    ensures { IfOk result (λ v. AreItems v.items subjects (all_memberships groups.now)) }
+{
+    let noted = all_memberships(alloc, groups)?;
+    by_place(alloc, &noted, subjects)
+}
+
+fn stands_in(places: &[usize], place: usize) -> bool
+    ensures { result ≡ stands_in places.now place }
+{
+    places.iter().any(|other| *other == place)
+}
+
+// Whether some place stands in both lists.
+fn share(one: &[usize], other: &[usize]) -> bool
+    ensures { result ≡ share one.now other.now }
+{
+    one.iter().any(|place| stands_in(other, *place))
+}
+
+// Whether an event of this mode may join these subjects, of which the groups are noted.
+fn fits_mode(groups: &[Seq<usize>], mode: Mode, source: &Party, target: &Party) -> bool
+    ensures { result ≡ fits_mode groups.now mode source.now target.now }
+{
+    match mode {
+        Mode::Own => source.name == target.name,
+        Mode::Switch => {
+            source.name != target.name
+                && share(at(groups, source.place), at(groups, target.place))
+        }
+        _ => source.name != target.name,
+    }
+}
+
+fn fits_all(groups: &[Seq<usize>], mode: Mode, source: &Party, targets: &[Party]) -> bool
+    ensures { result ≡ list_all (fits_mode groups.now mode source.now) targets.now }
+{
+    targets
+        .iter()
+        .all(|target| fits_mode(groups, mode, source, target))
+}
+
+// The first source that the mode doesn't let raise the event at all its targets. Where each event
+// has one target (rules 6 and 12), each source is looked at once.
+fn mode_fault(
+    groups: &[Seq<usize>],
+    mode: Mode,
+    name: &Name,
+    sources: &[Party],
+    targets: &[Party],
+) -> Option<Offence>
+    ensures { result ≡ mode_fault groups.now mode name.now sources.now targets.now }
+{
+    first(sources, |source| {
+        let offence = Offence {
+            first: *name,
+            second: source.name,
+        };
+        offence.unless(fits_all(groups, mode, source, targets))
+    })
+}
+
+fn channel_mode(
+    groups: &[Seq<usize>],
+    channel: &Channel,
+    writers: &[Party],
+    readers: &[Party],
+) -> Option<Offence>
+    ensures { result ≡ channel_mode groups.now channel.now channel.now.has_event writers.now readers.now }
+{
+    match channel.has_event {
+        None => None,
+        Some(mode) => mode_fault(groups, mode, &channel.name, writers, readers),
+    }
+}
+
+fn first_channel(
+    groups: &[Seq<usize>],
+    writers: &[Seq<Party>],
+    readers: &[Seq<Party>],
+    channels: &[Channel],
+) -> Option<Offence>
+    ensures { result ≡ first_in (channel_fault groups.now writers.now readers.now) (enumerate_from 0 channels.now) }
+{
+    first_numbered(channels, |place, channel| {
+        channel_mode(groups, channel, at(writers, place), at(readers, place))
+    })
+}
+
+fn first_event(
+    groups: &[Seq<usize>],
+    sources: &[Seq<Party>],
+    targets: &[Seq<Party>],
+    events: &[Event],
+) -> Option<Offence>
+    ensures { result ≡ first_in (event_fault groups.now sources.now targets.now) (enumerate_from 0 events.now) }
+{
+    first_numbered(events, |place, event| {
+        mode_fault(groups, event.mode, &event.name, at(sources, place), at(targets, place))
+    })
+}
+
+fn parties_of_ends(alloc: Global, ends: &[Met]) -> Result<Vec<Party>, AllocError>
+    ensures { IfOk result (λ v. v.items ≡ map (λ m. m.party) ends.now) }
+{
+    ends.iter().map(|end| end.party).collect(alloc)
+}
+
+// The parties of ends, list by list.
+fn parties_of(alloc: Global, lists: &[Seq<Met>]) -> Result<Vec<Seq<Party>>, NoMemory>
+    ensures { IfOk result (λ v. v.items ≡ parties_of lists.now) }
+{
+    let mut parties = Vec::new(alloc);
+    for list in lists {
+        let of_list = parties_of_ends(alloc, list.items())?;
+        parties.push(Seq::of(of_list))?;
+    }
+    Ok(parties)
+}
+
+// The first channel whose mode doesn't fit its ends.
+#[tactic(auto, using(crate::proofs::ModesByPlace::channels_noted))]
+fn channel_modes(
+    alloc: Global,
+    groups: &[Seq<usize>],
+    policy: &Resolved,
+) -> Result<Option<Offence>, NoMemory>
+    ensures { IfOk result (λ o. o ≡ channels_fault policy.now groups.now) }
+{
+    let writers = parties_of(alloc, &writers_by_channel(alloc, policy)?)?;
+    let readers = parties_of(alloc, &readers_by_channel(alloc, policy)?)?;
+    Ok(first_channel(groups, &writers, &readers, policy.channels()))
+}
+
+// The first event whose mode doesn't fit its sources and targets.
+#[tactic(auto, using(crate::proofs::ModesByPlace::events_noted))]
+fn event_modes(
+    alloc: Global,
+    groups: &[Seq<usize>],
+    policy: &Resolved,
+) -> Result<Option<Offence>, NoMemory>
+    ensures { IfOk result (λ o. o ≡ events_fault policy.now groups.now) }
+{
+    let events = policy.events();
+    let sources = sources_by_event(alloc, policy.subjects(), events.len())?;
+    let targets = targets_by_event(alloc, policy.subjects(), events.len())?;
+    Ok(first_event(groups, &sources, &targets, events))
+}
+
+/// The first offence against rule 13, if any, of the channels' events and then of the events: a
+/// source that is, or isn't, the target, as the mode asks, or that no scheduling group lists with a
+/// target to which the mode switches.
+///
+/// Answers `NoMemory` where memory was refused.
+#[tactic(auto, using(crate::proofs::ModesByPlace::modes_by_place))]
+pub fn modes(alloc: Global, policy: &Resolved) -> Result<Option<Offence>, NoMemory>
+    ensures { IfOk result (λ o. o ≡ offence_13 (source_of policy.now)) }
+{
+    let listed = policy.scheduling().groups.items();
+    let groups = groups_by_member(alloc, listed, policy.subjects().len())?;
+    if let Some(offence) = channel_modes(alloc, &groups, policy)? {
+        return Ok(Some(offence));
+    }
+    event_modes(alloc, &groups, policy)
+}
