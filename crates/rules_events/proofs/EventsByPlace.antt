@@ -29,7 +29,7 @@ use Rattle.rules_events.specs.Parties.{party, source_parties, target_parties, so
 use Rattle.rules_events.specs.declared.parties.Party.{Party}
 use Rattle.rules_events.proofs.Items.{of_all, of_one}
 
-abbrev event_names : Resolution → List (List ℕ)
+abbrev pub event_names : Resolution → List (List ℕ)
 event_names r = map (λ x. x.name) r.events
 
 abbrev source_named : Resolution → PlacedSource → EventSource

@@ -1,7 +1,9 @@
 pub mod ChannelsByPlace
+pub mod ComponentsByPlace
 pub mod Distinct
 pub mod EndsByChannel
 pub mod EventsByPlace
+pub mod FirstFault
 pub mod Items
 pub mod ModesByPlace
 pub mod Monitored

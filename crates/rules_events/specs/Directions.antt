@@ -38,10 +38,12 @@ fits_mode groups Switch source target =
     not (bytes_eq source.name target.name) && share (slice_index_or groups source.place []) (slice_index_or groups target.place [])
 fits_mode groups _ source target = not (bytes_eq source.name target.name)
 
--- the first source that doesn't fit all targets
+-- a source that doesn't fit all targets, and the first one
+abbrev pub source_fault : List (List ℕ) → Mode → List ℕ → List Party → Party → Option Offence
+source_fault groups mode name targets s = unless (list_all (fits_mode groups mode s) targets) (two name s.name)
+
 abbrev pub mode_fault : List (List ℕ) → Mode → List ℕ → List Party → List Party → Option Offence
-mode_fault groups mode name sources targets =
-    first_in (λ s. unless (list_all (fits_mode groups mode s) targets) (two name s.name)) sources
+mode_fault groups mode name sources targets = first_in (source_fault groups mode name targets) sources
 
 abbrev pub channel_mode : List (List ℕ) → Channel → Option Mode → List Party → List Party → Option Offence
 channel_mode groups c None writers readers = None

@@ -1,6 +1,7 @@
 pub mod ByPlace
 pub mod Calls
 pub mod Channels
+pub mod Components
 pub mod Directions
 pub mod Ends
 pub mod Events

@@ -7,12 +7,12 @@ ghost use Rattle.policy_lawful.specs.MoreRules.{offence_13};
 ghost use Rattle.policy_lawful.specs.Offences.{two};
 ghost use Rattle.policy_lawful.specs.Resolution.{source_of};
 ghost use Rattle.rules_events.specs.ByPlace.{AreItems};
-ghost use Rattle.rules_events.specs.Directions.{stands_in, share, fits_mode, mode_fault, channel_mode, channel_fault, event_fault, memberships, all_memberships, parties_of, channels_fault, events_fault};
+ghost use Rattle.rules_events.specs.Directions.{stands_in, share, fits_mode, source_fault, mode_fault, channel_mode, channel_fault, event_fault, memberships, all_memberships, parties_of, channels_fault, events_fault};
 
 use crate::by_place::{at, by_place};
 use crate::ends::{Met, readers_by_channel, writers_by_channel};
 use crate::parties::{Party, sources_by_event, targets_by_event};
-use muen_num::{Mode, Name, NoMemory, Seq, first, first_numbered};
+use muen_num::{Mode, Name, NoMemory, Seq, first_numbered};
 use policy_lawful::resolved::Group;
 use policy_lawful::{Offence, Resolved};
 use policy_types::source::{Channel, Event};
@@ -89,8 +89,25 @@ fn fits_all(groups: &[Seq<usize>], mode: Mode, source: &Party, targets: &[Party]
         .all(|target| fits_mode(groups, mode, source, target))
 }
 
-// The first source that the mode doesn't let raise the event at all its targets. Where each event
-// has one target (rules 6 and 12), each source is looked at once.
+// A source that the mode doesn't let raise the event at all its targets.
+fn source_fault(
+    groups: &[Seq<usize>],
+    mode: Mode,
+    name: &Name,
+    source: &Party,
+    targets: &[Party],
+) -> Option<Offence>
+    ensures { result ≡ source_fault groups.now mode name.now targets.now source.now }
+{
+    let offence = Offence {
+        first: *name,
+        second: source.name,
+    };
+    offence.unless(fits_all(groups, mode, source, targets))
+}
+
+// The first such source. Where each event has one target (rules 6 and 12), each source is looked at
+// once.
 fn mode_fault(
     groups: &[Seq<usize>],
     mode: Mode,
@@ -98,15 +115,14 @@ fn mode_fault(
     sources: &[Party],
     targets: &[Party],
 ) -> Option<Offence>
-    ensures { result ≡ mode_fault groups.now mode name.now sources.now targets.now }
+    ensures { result ≡ first_in (source_fault groups.now mode name.now targets.now) sources.now }
 {
-    first(sources, |source| {
-        let offence = Offence {
-            first: *name,
-            second: source.name,
-        };
-        offence.unless(fits_all(groups, mode, source, targets))
-    })
+    for source in sources {
+        if let Some(offence) = source_fault(groups, mode, name, source, targets) {
+            return Some(offence);
+        }
+    }
+    None
 }
 
 fn channel_mode(
@@ -196,6 +212,21 @@ fn event_modes(
     Ok(first_event(groups, &sources, &targets, events))
 }
 
+// The first channel, else the first event, whose mode doesn't fit.
+fn of_modes(
+    alloc: Global,
+    groups: &[Seq<usize>],
+    policy: &Resolved,
+) -> Result<Option<Offence>, NoMemory>
+    ensures { IfOk result (λ o. o ≡ option_or (channels_fault policy.now groups.now) (events_fault policy.now groups.now)) }
+{
+    let offence = channel_modes(alloc, groups, policy)?;
+    if offence.is_some() {
+        return Ok(offence);
+    }
+    event_modes(alloc, groups, policy)
+}
+
 /// The first offence against rule 13, if any, of the channels' events and then of the events: a
 /// source that is, or isn't, the target, as the mode asks, or that no scheduling group lists with a
 /// target to which the mode switches.
@@ -207,8 +238,5 @@ pub fn modes(alloc: Global, policy: &Resolved) -> Result<Option<Offence>, NoMemo
 {
     let listed = policy.scheduling().groups.items();
     let groups = groups_by_member(alloc, listed, policy.subjects().len())?;
-    if let Some(offence) = channel_modes(alloc, &groups, policy)? {
-        return Ok(Some(offence));
-    }
-    event_modes(alloc, &groups, policy)
+    of_modes(alloc, &groups, policy)
 }

@@ -3,6 +3,7 @@
 
 mod by_place;
 mod channels;
+mod components;
 mod directions;
 mod ends;
 mod events;
@@ -14,6 +15,7 @@ mod numbers;
 mod parties;
 
 pub use channels::connected;
+pub use components::mapped;
 pub use directions::modes;
 pub use events::sourced;
 pub use hypercalls::calls;
