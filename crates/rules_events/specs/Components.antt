@@ -9,6 +9,7 @@ use Rattle.policy_lawful.specs.Resolution.{Resolution}
 use Rattle.policy_lawful.specs.declared.offence.Offence.{Offence}
 use Rattle.policy_lawful.specs.declared.resolved.ComponentUse.{ComponentUse}
 use Rattle.policy_lawful.specs.declared.resolved.MapEntry.{MapEntry}
+use Rattle.policy_lawful.specs.declared.resolved.Subject.{Subject}
 use Rattle.policy_lawful.specs.declared.resolved.Wanted.{Wanted}
 use Rattle.policy_lawful.specs.declared.resolved.Wanted.TheVariants.{Memory as WantedMemory, Channel as WantedChannel}
 use Rattle.policy_types.specs.declared.source.Channel.{Channel}
@@ -74,3 +75,6 @@ component_offence r by entries c = option_or (memory_offence r.memory by entries
 abbrev pub use_offence : Resolution → List ℕ → Option ComponentUse → Option Offence
 use_offence r by None = None
 use_offence r by (Some used) = option_map_or (component_offence r by used.map) (slice_get r.components used.used) None
+
+abbrev pub subject_offence : Resolution → Subject → Option Offence
+subject_offence r s = use_offence r s.name s.component

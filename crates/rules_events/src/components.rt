@@ -6,7 +6,7 @@ ghost use Rattle.muen_num.specs.Search.{first_in, unless};
 ghost use Rattle.policy_lawful.specs.MoreRules.{are_within, offence_7};
 ghost use Rattle.policy_lawful.specs.Offences.{two};
 ghost use Rattle.policy_lawful.specs.Resolution.{source_of};
-ghost use Rattle.rules_events.specs.Components.{memory_grant, channel_grant, gives_region, gives_channel, is_memory_mapped, is_channel_mapped, memory_fault, channel_fault, memory_offence, channel_offence, component_offence, use_offence};
+ghost use Rattle.rules_events.specs.Components.{memory_grant, channel_grant, gives_region, gives_channel, is_memory_mapped, is_channel_mapped, memory_fault, channel_fault, memory_offence, channel_offence, component_offence, use_offence, subject_offence};
 
 use crate::by_place::{at, by_place};
 use muen_num::{Name, NoMemory, Seq, first_numbered};
@@ -98,18 +98,30 @@ fn gives_channel(channels: &[Channel], wanted: &ComponentChannel, grant: &Grant)
     }
 }
 
+fn give_region(regions: &[Region], wanted: &Required, grants: &[Grant]) -> bool
+    ensures { result ≡ list_all (gives_region regions.now wanted.now) grants.now }
+{
+    grants.iter().all(|grant| gives_region(regions, wanted, grant))
+}
+
+fn give_channel(channels: &[Channel], wanted: &ComponentChannel, grants: &[Grant]) -> bool
+    ensures { result ≡ list_all (gives_channel channels.now wanted.now) grants.now }
+{
+    grants.iter().all(|grant| gives_channel(channels, wanted, grant))
+}
+
 // Whether a required region is given by one entry, and as it is asked for.
 fn is_memory_mapped(regions: &[Region], wanted: &Required, grants: &[Grant]) -> bool
     ensures { result ≡ is_memory_mapped regions.now wanted.now grants.now }
 {
-    grants.len() == 1 && grants.iter().all(|grant| gives_region(regions, wanted, grant))
+    grants.len() == 1 && give_region(regions, wanted, grants)
 }
 
 // Whether a channel is given by one entry, and as it is asked for.
 fn is_channel_mapped(channels: &[Channel], wanted: &ComponentChannel, grants: &[Grant]) -> bool
     ensures { result ≡ is_channel_mapped channels.now wanted.now grants.now }
 {
-    grants.len() == 1 && grants.iter().all(|grant| gives_channel(channels, wanted, grant))
+    grants.len() == 1 && give_channel(channels, wanted, grants)
 }
 
 // A required region that isn't given.
@@ -240,7 +252,7 @@ fn first_use(
     policy: &Resolved,
     subjects: &[Subject],
 ) -> Result<Option<Offence>, NoMemory>
-    ensures { IfOk result (λ o. o ≡ first_in (λ s. use_offence policy.now s.name s.component) subjects.now) }
+    ensures { IfOk result (λ o. o ≡ first_in (subject_offence policy.now) subjects.now) }
 {
     for subject in subjects {
         let offence = use_offence(alloc, policy, &subject.name, &subject.component)?;
