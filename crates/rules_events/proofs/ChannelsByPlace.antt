@@ -1,5 +1,5 @@
 -- Rule 6 by names and by places.
-use Rattle.std.proofs.Common.{◌≡◌, ℕ, ◌+◌, ◌<◌, Bool, true, List, [], ◌++◌, length, map, Option, Some, None, get_or, refl, sym, ap, ◌∙◌, arith}
+use Rattle.std.proofs.Common.{◌≡◌, ℕ, ◌+◌, ◌<◌, Bool, true, List, [], length, map, Option, Some, None, get_or, sym, ap, ◌∙◌, arith}
 use Rattle.std.specs.Prelude.{◌==◌, ◌&&◌, ◌||◌, is_some, not, nat_le, slice_get}
 use Rattle.std.specs.List.{enumerate_from, list_all}
 use Rattle.std.specs.Str.{bytes_eq}
@@ -17,8 +17,8 @@ use Rattle.policy_lawful.specs.Offences.{alone}
 use Rattle.policy_lawful.specs.Resolution.{Resolution, IsResolved, name_at, source_of}
 use Rattle.policy_meaning.specs.Events.{ChannelEnd}
 use Rattle.policy_types.specs.declared.source.Channel.{Channel}
-use Rattle.rules_events.specs.ByPlace.{AreItems, items_at}
-use Rattle.rules_events.specs.Channels.{channel_fault, fits_event, has_call, has_neither, is_apart, is_connected, is_reached}
+use Rattle.rules_events.specs.ByPlace.{AreItems}
+use Rattle.rules_events.specs.Channels.{channel_fault, fits_event, has_call, has_neither, is_apart, is_connected}
 use Rattle.rules_events.specs.Ends.{all_readers, all_writers}
 use Rattle.rules_events.specs.declared.ends.Met.{Met}
 use Rattle.rules_events.proofs.EndsByChannel.{channel_names, met_named, readers_same, writers_same}

@@ -1,6 +1,6 @@
 -- Rule 7 by names and by places.
-use Rattle.std.proofs.Common.{◌≡◌, ℕ, ◌+◌, ◌<◌, Bool, true, false, cond, List, [], ◌∷◌, length, map, Option, Some, None, get_or, refl, sym, ap, ◌∙◌, arith}
-use Rattle.std.specs.Prelude.{◌==◌, ◌&&◌, filter, is_some, not, nat_lt, option_map, slice_get}
+use Rattle.std.proofs.Common.{◌≡◌, ℕ, ◌+◌, Bool, true, false, cond, List, [], ◌∷◌, length, map, Option, Some, None, refl, sym, ap, ◌∙◌, arith}
+use Rattle.std.specs.Prelude.{◌==◌, ◌&&◌, filter, is_some, not, option_map, slice_get}
 use Rattle.std.specs.Option.{option_map_or, option_or}
 use Rattle.std.specs.List.{enumerate_from, filter_map, find, list_all}
 use Rattle.std.specs.Str.{bytes_eq}
@@ -12,11 +12,10 @@ use Rattle.muen_num.proofs.SameAnswers.{both_numbered, first_in-map, first_numbe
 use Rattle.policy_lawful.specs.MoreRules as rules
 use Rattle.policy_lawful.specs.MoreRules.{are_within, entries_for, offence_7}
 use Rattle.policy_lawful.specs.Offences.{two}
-use Rattle.policy_lawful.specs.Resolution.{Resolution, IsResolved, component_named, component_placed, entry_named, entry_placed, name_at, source_of, subject_named, subject_placed}
+use Rattle.policy_lawful.specs.Resolution.{Resolution, IsResolved, component_named, component_placed, entry_named, entry_placed, source_of, subject_named, subject_placed}
 use Rattle.policy_lawful.specs.Rules.{logical_names, repeated}
 use Rattle.policy_lawful.specs.declared.resolved.ComponentUse.{ComponentUse}
 use Rattle.policy_lawful.specs.declared.resolved.MapEntry.{MapEntry}
-use Rattle.policy_lawful.specs.declared.resolved.Subject.{Subject}
 use Rattle.policy_lawful.specs.declared.resolved.Wanted.{Wanted}
 use Rattle.policy_lawful.specs.declared.resolved.Wanted.TheVariants.{Memory as WantedMemory, Channel as WantedChannel}
 use Rattle.policy_lawful.proofs.Places.{found_at_place}

@@ -1,7 +1,7 @@
 -- The sources and targets of events by names and by places, and rule 12.
-use Rattle.std.proofs.Common.{◌≡◌, ℕ, ◌+◌, ◌<◌, Bool, true, List, [], length, map, Some, None, get_or, sym, ap, ◌∙◌, refl, arith}
+use Rattle.std.proofs.Common.{◌≡◌, ℕ, ◌+◌, ◌<◌, true, List, [], length, map, Some, None, get_or, sym, ap, ◌∙◌, refl, arith}
 use Rattle.std.specs.Prelude.{◌==◌, ◌&&◌, not, filter, nat_le, nat_lt, slice_get}
-use Rattle.std.specs.List.{enumerate_from, flat_map, list_all}
+use Rattle.std.specs.List.{enumerate_from, flat_map}
 use Rattle.std.specs.Str.{bytes_eq}
 use Rattle.std.proofs.lemmas.Bool.{and_parts, ltb-true}
 use Rattle.std.proofs.lemmas.Bool.Decides.{nat_tests}
@@ -13,10 +13,8 @@ use Rattle.policy_lawful.specs.MoreRules.{offence_12, sources_of, targets_of}
 use Rattle.policy_lawful.specs.Offences.{alone}
 use Rattle.policy_lawful.specs.Rules.{repeated}
 use Rattle.policy_lawful.specs.Resolution.{Resolution, IsResolved, name_at, source_of, subject_named, subject_placed}
-use Rattle.policy_lawful.specs.declared.offence.Offence.{Offence}
 use Rattle.policy_lawful.specs.declared.resolved.EventSource.{EventSource as PlacedSource}
 use Rattle.policy_lawful.specs.declared.resolved.EventTarget.{EventTarget as PlacedTarget}
-use Rattle.policy_lawful.specs.declared.resolved.Subject.{Subject as PlacedSubject}
 use Rattle.policy_lawful.proofs.Places.{same_name}
 use Rattle.policy_lawful.proofs.SourceElements.{parts_placed}
 use Rattle.policy_lawful.proofs.UniqueNames.{unique}

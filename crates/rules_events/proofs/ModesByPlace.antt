@@ -1,5 +1,5 @@
 -- Rule 13 by names and by places.
-use Rattle.std.proofs.Common.{◌≡◌, ℕ, zero, suc, ◌+◌, ◌<◌, Bool, true, false, cond, List, [], ◌∷◌, ◌++◌, length, map, Option, Some, None, get_or, refl, sym, ap, ◌∙◌, arith}
+use Rattle.std.proofs.Common.{◌≡◌, ℕ, zero, suc, ◌+◌, ◌<◌, Bool, true, false, cond, List, [], ◌∷◌, length, map, Option, Some, None, get_or, refl, sym, ap, ◌∙◌, arith}
 use Rattle.std.specs.Prelude.{◌==◌, ◌&&◌, ◌||◌, filter, not, nat_lt, slice_get}
 use Rattle.std.specs.Option.{option_or}
 use Rattle.std.specs.List.{enumerate_from, flat_map, list_all, list_any}
@@ -37,7 +37,7 @@ use Rattle.rules_events.specs.declared.ends.Met.{Met}
 use Rattle.rules_events.specs.declared.parties.Party.{Party}
 use Rattle.rules_events.proofs.ChannelsByPlace.{name_of_channel}
 use Rattle.rules_events.proofs.EndsByChannel.{channel_names, met_named, readers_same, writers_same}
-use Rattle.rules_events.proofs.EventsByPlace.{event_names, name_of_event, sources_same, targets_same}
+use Rattle.rules_events.proofs.EventsByPlace.{name_of_event, sources_same, targets_same}
 use Rattle.rules_events.proofs.NotedItems.{items-append}
 
 -- ---- lists

@@ -1,19 +1,17 @@
 -- Marks of subjects that are monitored, one monitor more at a time.
-use Rattle.std.proofs.Common.{◌≡◌, ℕ, ◌+◌, ◌<◌, ◌≤◌, Bool, true, false, cond, List, [], ◌∷◌, ◌++◌, length, get_or, take, drop, Option, Some, None, refl, sym, ap, ◌∙◌, inl, inr, arith}
-use Rattle.std.specs.Prelude.{◌==◌, ◌&&◌, ◌||◌, not, slice_get, option_and_then}
-use Rattle.std.specs.List.{list_any}
+use Rattle.std.proofs.Common.{◌≡◌, ℕ, ◌+◌, ◌<◌, Bool, true, false, cond, List, [], ◌∷◌, ◌++◌, length, get_or, take, drop, Option, None, refl, sym, ap, ◌∙◌, inl, inr, arith}
+use Rattle.std.specs.Prelude.{◌==◌, ◌&&◌, ◌||◌, not, slice_get}
 use Rattle.std.proofs.lemmas.Bool.{cases_lt}
 use Rattle.std.proofs.lemmas.List.{get_or_default, take_more}
 use Rattle.std.proofs.lemmas.List.Folds.{list_any-append}
 use Rattle.std.proofs.lemmas.Option.{slice_get_past}
-use Rattle.muen_num.specs.Search.{first_after, unless}
+use Rattle.muen_num.specs.Search.{first_after}
 use Rattle.muen_num.proofs.FirstSteps.{first_after_step}
-use Rattle.policy_lawful.specs.Offences.{two}
 use Rattle.policy_lawful.specs.declared.resolved.Monitor.{Monitor}
 use Rattle.policy_lawful.specs.declared.resolved.Subject.{Subject}
 use Rattle.policy_lawful.specs.declared.offence.Offence.{Offence}
 use Rattle.rules_events.specs.Marks.{Marks}
-use Rattle.rules_events.specs.Monitors.{AreMarks, is_monitor_of, is_monitored, monitor_fault, monitor_offence, monitors_offence}
+use Rattle.rules_events.specs.Monitors.{AreMarks, is_monitored, monitor_fault, monitor_offence, monitors_offence}
 
 -- what a loop keeps
 pub record Kept (now : List Bool) (subjects : List Subject) (s : Subject) (i : ℕ) : Type 0 where
@@ -92,7 +90,6 @@ pub cleared : (old new : List Bool) (ms : List Monitor) → length new ≡ lengt
 cleared old new ms long had now k l =
     let l' : k < length old = omega arith in
     now k l' ∙ nothing_left (get_or old k false) (is_monitored ms k) (had k l')
-
 
 -- one more monitor that may be
 pub kept : (old new : List Bool) (subjects : List Subject) (s : Subject) (items : List Monitor) (i : ℕ) (d : Monitor) (was : Bool) (o : Option Offence) → items ≡ s.monitors → i < length items

@@ -1,6 +1,6 @@
 -- Rule 24 by names and by places.
-use Rattle.std.proofs.Common.{◌≡◌, ℕ, ◌<◌, Bool, true, false, cond, List, [], ◌∷◌, ◌++◌, length, map, Option, Some, None, refl, sym, ap, ◌∙◌, arith}
-use Rattle.std.specs.Prelude.{◌==◌, ◌&&◌, ◌||◌, not, nat_lt, slice_get, option_and_then, option_map}
+use Rattle.std.proofs.Common.{◌≡◌, ℕ, ◌<◌, Bool, true, List, [], ◌∷◌, ◌++◌, length, map, Option, Some, None, refl, sym, ap, ◌∙◌, arith}
+use Rattle.std.specs.Prelude.{◌==◌, ◌&&◌, ◌||◌, nat_lt, slice_get, option_map}
 use Rattle.std.specs.Option.{option_or}
 use Rattle.std.specs.List.{find, list_all, list_any}
 use Rattle.std.specs.Str.{bytes_eq}
@@ -14,15 +14,13 @@ use Rattle.muen_num.proofs.SameAnswers.{first_in-map}
 use Rattle.policy_lawful.specs.Domains as domains
 use Rattle.policy_lawful.specs.Domains.{is_monitor, offence_24}
 use Rattle.policy_lawful.specs.Offences.{two}
-use Rattle.policy_lawful.specs.Rules.{is_on, repeated, subject_cpu}
+use Rattle.policy_lawful.specs.Rules.{repeated, subject_cpu}
 use Rattle.policy_lawful.specs.Resolution.{Resolution, IsResolved, name_at, source_of, subject_named, subject_placed}
 use Rattle.policy_lawful.specs.declared.resolved.Monitor.{Monitor as PlacedMonitor}
 use Rattle.policy_lawful.specs.declared.resolved.Subject.{Subject as PlacedSubject}
 use Rattle.policy_lawful.proofs.Places.{found_at_place, same_name}
 use Rattle.policy_lawful.proofs.SourceElements.{parts_placed}
 use Rattle.policy_lawful.proofs.UniqueNames.{subject_names, subjects_unique}
-use Rattle.policy_types.specs.Rights.{has}
-use Rattle.policy_types.specs.declared.rights.TheConstants.Rights.{EXECUTE}
 use Rattle.policy_types.specs.declared.source.Monitor.{Monitor}
 use Rattle.rules_events.specs.Monitors.{monitor_offence, monitors_offence, is_monitored}
 

@@ -28,6 +28,7 @@ module _ {X : Type 0} where
           → map (λ y. y.1) (cond b (x ∷ filter (λ y. y.0 == k) (filter (λ x. test x.1) xs)) (filter (λ y. y.0 == k) (filter (λ x. test x.1) xs))) ≡ filter test (map (λ y. y.1) (cond b (x ∷ filter (λ y. y.0 == k) xs) (filter (λ y. y.0 == k) xs)))
       passed x xs rest e true = ap (λ ys. x.1 ∷ ys) rest ∙ ap (λ t. cond t (x.1 ∷ filter test (items_at k xs)) (filter test (items_at k xs))) (sym e)
       passed x xs rest e false = rest
+
       failed : (x : ℕ × X) (xs : List (ℕ × X)) → items_at k (filter (λ x. test x.1) xs) ≡ filter test (items_at k xs) → test x.1 ≡ false → (b : Bool)
           → items_at k (filter (λ x. test x.1) xs) ≡ filter test (map (λ y. y.1) (cond b (x ∷ filter (λ y. y.0 == k) xs) (filter (λ y. y.0 == k) xs)))
       failed x xs rest e true = rest ∙ ap (λ t. cond t (x.1 ∷ filter test (items_at k xs)) (filter test (items_at k xs))) (sym e)

@@ -1,6 +1,6 @@
 -- Rules 14 and 15 by names and by places.
-use Rattle.std.proofs.Common.{◌≡◌, ℕ, ◌-◌, ◌<◌, Bool, true, false, cond, List, [], ◌∷◌, ◌++◌, length, map, Option, Some, None, refl, sym, ap, ◌∙◌, arith}
-use Rattle.std.specs.Prelude.{◌==◌, ◌&&◌, ◌||◌, is_some, nat_le, nat_lt, slice_get}
+use Rattle.std.proofs.Common.{◌≡◌, ℕ, ◌-◌, true, false, List, [], ◌∷◌, ◌++◌, length, map, Option, refl, sym, ap, ◌∙◌, arith}
+use Rattle.std.specs.Prelude.{◌&&◌, ◌||◌, is_some, nat_le, nat_lt}
 use Rattle.std.specs.Option.{option_map_or}
 use Rattle.std.specs.List.{filter_map, flat_map, list_all}
 use Rattle.std.proofs.lemmas.Bool.{and_parts, ltb-true}
@@ -14,9 +14,7 @@ use Rattle.muen_num.proofs.SameAnswers.{first_in-map, list_all_same}
 use Rattle.policy_lawful.specs.MoreRules as rules
 use Rattle.policy_lawful.specs.MoreRules.{are_distinct, are_numbers, are_vectors, call_number, calls_of, is_switch, offence_14, offence_15, trap_reason, vectors_of}
 use Rattle.policy_lawful.specs.Offences.{alone}
-use Rattle.policy_lawful.specs.Rules.{repeated}
 use Rattle.policy_lawful.specs.Resolution.{Resolution, IsResolved, device_named, device_part, name_at, source_of, subject_named, subject_placed}
-use Rattle.policy_lawful.specs.declared.resolved.DeviceUse.{DeviceUse as PlacedDevice}
 use Rattle.policy_lawful.specs.declared.resolved.IrqUse.{IrqUse as PlacedIrq}
 use Rattle.policy_types.specs.declared.source.IrqUse.{IrqUse}
 use Rattle.policy_lawful.specs.declared.resolved.EventSource.{EventSource as PlacedSource}

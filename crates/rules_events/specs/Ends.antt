@@ -6,7 +6,6 @@ use Rattle.policy_lawful.specs.Resolution.{Resolution}
 use Rattle.policy_lawful.specs.declared.resolved.Subject.{Subject}
 use Rattle.policy_views.specs.Views.{ends_of}
 use Rattle.policy_views.specs.declared.view.End.{End}
-use Rattle.rules_events.specs.ByPlace.{items_at}
 use Rattle.rules_events.specs.Parties.{party}
 use Rattle.rules_events.specs.declared.ends.Met.{Met}
 use Rattle.rules_events.specs.declared.parties.Party.{Party}

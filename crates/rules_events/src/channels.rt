@@ -89,16 +89,15 @@ fn is_connected(writers: &[Met], readers: &[Met], mode: Option<Mode>) -> bool
 }
 
 // The first channel whose ends don't fit.
-fn first_fault(
-    writers: &[Seq<Met>],
-    readers: &[Seq<Met>],
-    channels: &[Channel],
-) -> Option<Offence>
+fn first_fault(writers: &[Seq<Met>], readers: &[Seq<Met>], channels: &[Channel]) -> Option<Offence>
     ensures { result ≡ first_in (channel_fault writers.now readers.now) (enumerate_from 0 channels.now) }
 {
     first_numbered(channels, |place, channel| {
-        Offence::alone(channel.name)
-            .unless(is_connected(at(writers, place), at(readers, place), channel.has_event))
+        Offence::alone(channel.name).unless(is_connected(
+            at(writers, place),
+            at(readers, place),
+            channel.has_event,
+        ))
     })
 }
 

@@ -101,13 +101,17 @@ fn gives_channel(channels: &[Channel], wanted: &ComponentChannel, grant: &Grant)
 fn give_region(regions: &[Region], wanted: &Required, grants: &[Grant]) -> bool
     ensures { result ≡ list_all (gives_region regions.now wanted.now) grants.now }
 {
-    grants.iter().all(|grant| gives_region(regions, wanted, grant))
+    grants
+        .iter()
+        .all(|grant| gives_region(regions, wanted, grant))
 }
 
 fn give_channel(channels: &[Channel], wanted: &ComponentChannel, grants: &[Grant]) -> bool
     ensures { result ≡ list_all (gives_channel channels.now wanted.now) grants.now }
 {
-    grants.iter().all(|grant| gives_channel(channels, wanted, grant))
+    grants
+        .iter()
+        .all(|grant| gives_channel(channels, wanted, grant))
 }
 
 // Whether a required region is given by one entry, and as it is asked for.
@@ -166,7 +170,10 @@ fn first_memory(
 ) -> Option<Offence>
     ensures { result ≡ first_in (memory_fault regions.now by.now grants.now) (enumerate_from 0 wanted.now) }
 {
-    first_numbered(wanted, |place, x| memory_fault(regions, by, grants, place, x))
+    first_numbered(
+        wanted,
+        |place, x| memory_fault(regions, by, grants, place, x),
+    )
 }
 
 fn first_channel(
@@ -177,7 +184,10 @@ fn first_channel(
 ) -> Option<Offence>
     ensures { result ≡ first_in (channel_fault channels.now by.now grants.now) (enumerate_from 0 wanted.now) }
 {
-    first_numbered(wanted, |place, x| channel_fault(channels, by, grants, place, x))
+    first_numbered(
+        wanted,
+        |place, x| channel_fault(channels, by, grants, place, x),
+    )
 }
 
 // The first required region that the entries don't give.
@@ -222,11 +232,23 @@ fn component_offence(
 ) -> Result<Option<Offence>, NoMemory>
     ensures { IfOk result (λ o. o ≡ component_offence policy.now by.now entries.now component.now) }
 {
-    let offence = memory_offence(alloc, policy.memory(), by, entries, component.memory.items())?;
+    let offence = memory_offence(
+        alloc,
+        policy.memory(),
+        by,
+        entries,
+        component.memory.items(),
+    )?;
     if offence.is_some() {
         return Ok(offence);
     }
-    channel_offence(alloc, policy.channels(), by, entries, component.channels.items())
+    channel_offence(
+        alloc,
+        policy.channels(),
+        by,
+        entries,
+        component.channels.items(),
+    )
 }
 
 // The first logical name of a subject's component that has no fitting entry.

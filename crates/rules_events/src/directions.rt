@@ -74,8 +74,7 @@ fn fits_mode(groups: &[Seq<usize>], mode: Mode, source: &Party, target: &Party) 
     match mode {
         Mode::Own => source.name == target.name,
         Mode::Switch => {
-            source.name != target.name
-                && share(at(groups, source.place), at(groups, target.place))
+            source.name != target.name && share(at(groups, source.place), at(groups, target.place))
         }
         _ => source.name != target.name,
     }
@@ -161,7 +160,13 @@ fn first_event(
     ensures { result ≡ first_in (event_fault groups.now sources.now targets.now) (enumerate_from 0 events.now) }
 {
     first_numbered(events, |place, event| {
-        mode_fault(groups, event.mode, &event.name, at(sources, place), at(targets, place))
+        mode_fault(
+            groups,
+            event.mode,
+            &event.name,
+            at(sources, place),
+            at(targets, place),
+        )
     })
 }
 

@@ -66,10 +66,7 @@ pub(crate) fn is_writer(role: Role) -> bool
 }
 
 // Those of writers.
-fn of_writers(
-    alloc: Global,
-    noted: &[(usize, Met)],
-) -> Result<Vec<(usize, Met)>, AllocError>
+fn of_writers(alloc: Global, noted: &[(usize, Met)]) -> Result<Vec<(usize, Met)>, AllocError>
     ensures { IfOk result (λ v. v.items ≡ filter (λ x. is_writer x.1.end.role) noted.now) }
 {
     let mut kept = Vec::new(alloc);
@@ -82,10 +79,7 @@ fn of_writers(
 }
 
 // Those of readers.
-fn of_readers(
-    alloc: Global,
-    noted: &[(usize, Met)],
-) -> Result<Vec<(usize, Met)>, AllocError>
+fn of_readers(alloc: Global, noted: &[(usize, Met)]) -> Result<Vec<(usize, Met)>, AllocError>
     ensures { IfOk result (λ v. v.items ≡ filter (λ x. not (is_writer x.1.end.role)) noted.now) }
 {
     let mut kept = Vec::new(alloc);
@@ -100,7 +94,10 @@ fn of_readers(
 /// For each channel the ends of its writers.
 ///
 /// Answers `NoMemory` where memory was refused.
-pub(crate) fn writers_by_channel(alloc: Global, policy: &Resolved) -> Result<Vec<Seq<Met>>, NoMemory>
+pub(crate) fn writers_by_channel(
+    alloc: Global,
+    policy: &Resolved,
+) -> Result<Vec<Seq<Met>>, NoMemory>
     ensures ends { IfOk result (λ v. AreItems v.items (length policy.now.channels) (all_writers policy.now)) }
     ensures resolved { IsResolved policy.now }
 {
@@ -112,7 +109,10 @@ pub(crate) fn writers_by_channel(alloc: Global, policy: &Resolved) -> Result<Vec
 /// For each channel the ends of its readers.
 ///
 /// Answers `NoMemory` where memory was refused.
-pub(crate) fn readers_by_channel(alloc: Global, policy: &Resolved) -> Result<Vec<Seq<Met>>, NoMemory>
+pub(crate) fn readers_by_channel(
+    alloc: Global,
+    policy: &Resolved,
+) -> Result<Vec<Seq<Met>>, NoMemory>
     ensures ends { IfOk result (λ v. AreItems v.items (length policy.now.channels) (all_readers policy.now)) }
     ensures resolved { IsResolved policy.now }
 {

@@ -14,16 +14,13 @@ use policy_types::source::Event;
 use std::alloc::Global;
 
 // The first event without sources, or that hasn't one target.
-fn first_fault(
-    sources: &[Seq<Party>],
-    targets: &[Seq<Party>],
-    events: &[Event],
-) -> Option<Offence>
+fn first_fault(sources: &[Seq<Party>], targets: &[Seq<Party>], events: &[Event]) -> Option<Offence>
     ensures { result ≡ first_in (event_fault sources.now targets.now) (enumerate_from 0 events.now) }
 {
     first_numbered(events, |place, event| {
-        Offence::alone(event.name)
-            .unless(!at(sources, place).is_empty() && at(targets, place).len() == 1)
+        Offence::alone(event.name).unless(
+            !at(sources, place).is_empty() && at(targets, place).len() == 1,
+        )
     })
 }
 

@@ -36,13 +36,19 @@ fn trap_reason(way: SourceWay) -> Option<u64>
 fn calls_of(alloc: Global, sources: &[EventSource]) -> Result<Vec<u64>, AllocError>
     ensures { IfOk result (λ v. v.items ≡ filter_map (λ e. call_number e.way) sources.now) }
 {
-    sources.iter().filter_map(|e| call_number(e.way)).collect(alloc)
+    sources
+        .iter()
+        .filter_map(|e| call_number(e.way))
+        .collect(alloc)
 }
 
 fn traps_of(alloc: Global, sources: &[EventSource]) -> Result<Vec<u64>, AllocError>
     ensures { IfOk result (λ v. v.items ≡ filter_map (λ e. trap_reason e.way) sources.now) }
 {
-    sources.iter().filter_map(|e| trap_reason(e.way)).collect(alloc)
+    sources
+        .iter()
+        .filter_map(|e| trap_reason(e.way))
+        .collect(alloc)
 }
 
 fn calls_of_ends(alloc: Global, ends: &[End]) -> Result<Vec<u64>, AllocError>

@@ -1,4 +1,4 @@
-use Rattle.std.proofs.Common.{◌≡◌, not, take}
+use Rattle.std.proofs.Common.{◌≡◌, take}
 use Rattle.std.specs.Prelude.{filter}
 use Rattle.policy_lawful.specs.MoreRules.{is_writer}
 use Rattle.rules_events.proofs.ends.of_writers.Given as goal

@@ -1,4 +1,4 @@
-use Rattle.std.proofs.Common.{◌≡◌, take, drop, length}
+use Rattle.std.proofs.Common.{◌≡◌, take, drop}
 use Rattle.muen_num.specs.Search.{first_after}
 use Rattle.rules_events.specs.Monitors.{AreMarks, monitor_offence, monitors_offence}
 use Rattle.rules_events.proofs.monitoring.of_monitors.Given as goal
