@@ -10,3 +10,4 @@ pub mod Monitored
 pub mod MonitorsByPlace
 pub mod NotedItems
 pub mod NumbersByPlace
+pub mod Rising

@@ -30,7 +30,8 @@ use Rattle.policy_types.specs.declared.source.Channel.{Channel}
 use Rattle.policy_types.specs.declared.source.Event.{Event}
 use Rattle.policy_views.specs.Views.{ends_of}
 use Rattle.rules_events.specs.ByPlace.{AreItems, items_at}
-use Rattle.rules_events.specs.Directions.{all_memberships, channel_fault, channel_mode, channels_fault, event_fault, events_fault, fits_mode, memberships, mode_fault, parties_of, share, source_fault, stands_in}
+use Rattle.rules_events.specs.Listings.{all_memberships, memberships, share, stands_in}
+use Rattle.rules_events.specs.Directions.{channel_fault, channel_mode, channels_fault, event_fault, events_fault, fits_mode, mode_fault, parties_of, source_fault}
 use Rattle.rules_events.specs.Ends.{all_ends, all_readers, all_writers, met, met_ends}
 use Rattle.rules_events.specs.Parties.{party, source_parties, sources_at, target_parties, targets_at}
 use Rattle.rules_events.specs.declared.ends.Met.{Met}

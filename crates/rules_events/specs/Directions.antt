@@ -1,35 +1,21 @@
 -- Rule 13 of a resolved policy: which subjects an event may join, by its mode.
-use Rattle.std.specs.Prelude.{ℕ, ◌==◌, ◌&&◌, not, Bool, List, [], map, slice_index_or, Option, Some, None}
-use Rattle.std.specs.List.{enumerate_from, flat_map, list_all, list_any}
+use Rattle.std.specs.Prelude.{ℕ, ◌&&◌, not, Bool, List, [], map, slice_index_or, Option, Some, None}
+use Rattle.std.specs.List.{enumerate_from, list_all}
 use Rattle.std.specs.Str.{bytes_eq}
 use Rattle.muen_num.specs.Search.{first_in, unless}
 use Rattle.muen_num.specs.declared.mode.Mode.{Mode}
 use Rattle.muen_num.specs.declared.mode.Mode.TheVariants.{Own, Switch}
 use Rattle.policy_lawful.specs.Offences.{two}
 use Rattle.policy_lawful.specs.declared.offence.Offence.{Offence}
-use Rattle.policy_lawful.specs.declared.resolved.Group.{Group}
 use Rattle.policy_types.specs.declared.source.Channel.{Channel}
 use Rattle.policy_types.specs.declared.source.Event.{Event}
 use Rattle.policy_lawful.specs.Resolution.{Resolution}
 use Rattle.rules_events.specs.ByPlace.{items_at}
 use Rattle.rules_events.specs.Ends.{all_readers, all_writers}
+use Rattle.rules_events.specs.Listings.{share}
 use Rattle.rules_events.specs.Parties.{sources_at, targets_at}
 use Rattle.rules_events.specs.declared.ends.Met.{Met}
 use Rattle.rules_events.specs.declared.parties.Party.{Party}
-
--- a group with its place, at each of its members
-abbrev pub memberships : ℕ × Group → List (ℕ × ℕ)
-memberships (place, g) = map (λ i. (i, place)) g.subjects
-
-abbrev pub all_memberships : List Group → List (ℕ × ℕ)
-all_memberships groups = flat_map memberships (enumerate_from 0 groups)
-
-abbrev pub stands_in : List ℕ → ℕ → Bool
-stands_in places place = list_any (λ j. j == place) places
-
--- some place stands in both lists
-abbrev pub share : List ℕ → List ℕ → Bool
-share one other = list_any (stands_in other) one
 
 -- an event of this mode may join these subjects, of which the groups are noted
 abbrev pub fits_mode : List (List ℕ) → Mode → Party → Party → Bool

@@ -5,6 +5,7 @@ pub mod Components
 pub mod Directions
 pub mod Ends
 pub mod Events
+pub mod Listings
 pub mod Marks
 pub mod Monitors
 pub mod Numbers

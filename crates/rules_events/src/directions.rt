@@ -6,81 +6,29 @@ ghost use Rattle.muen_num.specs.Search.{first_in, unless};
 ghost use Rattle.policy_lawful.specs.MoreRules.{offence_13};
 ghost use Rattle.policy_lawful.specs.Offences.{two};
 ghost use Rattle.policy_lawful.specs.Resolution.{source_of};
-ghost use Rattle.rules_events.specs.ByPlace.{AreItems};
-ghost use Rattle.rules_events.specs.Directions.{stands_in, share, fits_mode, source_fault, mode_fault, channel_mode, channel_fault, event_fault, memberships, all_memberships, parties_of, channels_fault, events_fault};
+ghost use Rattle.rules_events.specs.Directions.{fits_mode, source_fault, mode_fault, channel_mode, channel_fault, event_fault, parties_of, channels_fault, events_fault};
 
-use crate::by_place::{at, by_place};
+use crate::by_place::at;
 use crate::ends::{Met, readers_by_channel, writers_by_channel};
+use crate::listings::Listings;
 use crate::parties::{Party, sources_by_event, targets_by_event};
 use muen_num::{Mode, Name, NoMemory, Seq, first_numbered};
-use policy_lawful::resolved::Group;
 use policy_lawful::{Offence, Resolved};
 use policy_types::source::{Channel, Event};
 use std::alloc::{AllocError, Global};
 
-// Notes a group at each of its members.
-fn note_members(
-    noted: &mut Vec<(usize, usize)>,
-    place: usize,
-    group: &Group,
-) -> Result<(), NoMemory>
-    ensures { IfOk result (λ _. noted.new.items ≡ noted.old.items ++ memberships (place, group.now)) }
-{
-    for member in group.subjects.items() {
-        noted.push((*member, place))?;
-    }
-    Ok(())
-}
-
-fn all_memberships(alloc: Global, groups: &[Group]) -> Result<Vec<(usize, usize)>, NoMemory>
-    ensures { IfOk result (λ v. v.items ≡ all_memberships groups.now) }
-{
-    let mut noted = Vec::new(alloc);
-    for (place, group) in groups.iter().enumerate() {
-        note_members(&mut noted, place, group)?;
-    }
-    Ok(noted)
-}
-
-// For each of so many subjects the places of the groups that list it.
-fn groups_by_member(
-    alloc: Global,
-    groups: &[Group],
-    subjects: usize,
-) -> Result<Vec<Seq<usize>>, NoMemory>
-    ensures { IfOk result (λ v. AreItems v.items subjects (all_memberships groups.now)) }
-{
-    let noted = all_memberships(alloc, groups)?;
-    by_place(alloc, &noted, subjects)
-}
-
-fn stands_in(places: &[usize], place: usize) -> bool
-    ensures { result ≡ stands_in places.now place }
-{
-    places.iter().any(|other| *other == place)
-}
-
-// Whether some place stands in both lists.
-fn share(one: &[usize], other: &[usize]) -> bool
-    ensures { result ≡ share one.now other.now }
-{
-    one.iter().any(|place| stands_in(other, *place))
-}
-
 // Whether an event of this mode may join these subjects, of which the groups are noted.
-fn fits_mode(groups: &[Seq<usize>], mode: Mode, source: &Party, target: &Party) -> bool
+fn fits_mode(groups: &Listings, mode: Mode, source: &Party, target: &Party) -> bool
     ensures { result ≡ fits_mode groups.now mode source.now target.now }
 {
     match mode {
         Mode::Own => source.name == target.name,
-        Mode::Switch => {
-            source.name != target.name && share(at(groups, source.place), at(groups, target.place))
-        }
+        Mode::Switch => { source.name != target.name && groups.share(source.place, target.place) }
         _ => source.name != target.name,
     }
 }
 
-fn fits_all(groups: &[Seq<usize>], mode: Mode, source: &Party, targets: &[Party]) -> bool
+fn fits_all(groups: &Listings, mode: Mode, source: &Party, targets: &[Party]) -> bool
     ensures { result ≡ list_all (fits_mode groups.now mode source.now) targets.now }
 {
     targets
@@ -90,7 +38,7 @@ fn fits_all(groups: &[Seq<usize>], mode: Mode, source: &Party, targets: &[Party]
 
 // A source that the mode doesn't let raise the event at all its targets.
 fn source_fault(
-    groups: &[Seq<usize>],
+    groups: &Listings,
     mode: Mode,
     name: &Name,
     source: &Party,
@@ -108,7 +56,7 @@ fn source_fault(
 // The first such source. Where each event has one target (rules 6 and 12), each source is looked at
 // once.
 fn mode_fault(
-    groups: &[Seq<usize>],
+    groups: &Listings,
     mode: Mode,
     name: &Name,
     sources: &[Party],
@@ -125,7 +73,7 @@ fn mode_fault(
 }
 
 fn channel_mode(
-    groups: &[Seq<usize>],
+    groups: &Listings,
     channel: &Channel,
     writers: &[Party],
     readers: &[Party],
@@ -139,7 +87,7 @@ fn channel_mode(
 }
 
 fn first_channel(
-    groups: &[Seq<usize>],
+    groups: &Listings,
     writers: &[Seq<Party>],
     readers: &[Seq<Party>],
     channels: &[Channel],
@@ -152,7 +100,7 @@ fn first_channel(
 }
 
 fn first_event(
-    groups: &[Seq<usize>],
+    groups: &Listings,
     sources: &[Seq<Party>],
     targets: &[Seq<Party>],
     events: &[Event],
@@ -192,7 +140,7 @@ fn parties_of(alloc: Global, lists: &[Seq<Met>]) -> Result<Vec<Seq<Party>>, NoMe
 #[tactic(auto, using(crate::proofs::ModesByPlace::channels_noted))]
 fn channel_modes(
     alloc: Global,
-    groups: &[Seq<usize>],
+    groups: &Listings,
     policy: &Resolved,
 ) -> Result<Option<Offence>, NoMemory>
     ensures { IfOk result (λ o. o ≡ channels_fault policy.now groups.now) }
@@ -206,7 +154,7 @@ fn channel_modes(
 #[tactic(auto, using(crate::proofs::ModesByPlace::events_noted))]
 fn event_modes(
     alloc: Global,
-    groups: &[Seq<usize>],
+    groups: &Listings,
     policy: &Resolved,
 ) -> Result<Option<Offence>, NoMemory>
     ensures { IfOk result (λ o. o ≡ events_fault policy.now groups.now) }
@@ -220,7 +168,7 @@ fn event_modes(
 // The first channel, else the first event, whose mode doesn't fit.
 fn of_modes(
     alloc: Global,
-    groups: &[Seq<usize>],
+    groups: &Listings,
     policy: &Resolved,
 ) -> Result<Option<Offence>, NoMemory>
     ensures { IfOk result (λ o. o ≡ option_or (channels_fault policy.now groups.now) (events_fault policy.now groups.now)) }
@@ -242,6 +190,6 @@ pub fn modes(alloc: Global, policy: &Resolved) -> Result<Option<Offence>, NoMemo
     ensures { IfOk result (λ o. o ≡ offence_13 (source_of policy.now)) }
 {
     let listed = policy.scheduling().groups.items();
-    let groups = groups_by_member(alloc, listed, policy.subjects().len())?;
+    let groups = Listings::of(alloc, listed, policy.subjects().len())?;
     of_modes(alloc, &groups, policy)
 }

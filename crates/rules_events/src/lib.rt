@@ -9,6 +9,7 @@ mod ends;
 mod events;
 mod hypercalls;
 mod interrupts;
+mod listings;
 mod marks;
 mod monitoring;
 mod numbers;

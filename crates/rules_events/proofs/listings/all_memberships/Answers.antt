@@ -1,7 +1,7 @@
 use Rattle.std.proofs.Common.{◌++◌, sym, ap, ◌∙◌}
-use Rattle.rules_events.specs.Directions.{memberships}
+use Rattle.rules_events.specs.Listings.{memberships}
 use Rattle.rules_events.proofs.NotedItems.{flat_more}
-use Rattle.rules_events.proofs.directions.all_memberships.Goals as goal
+use Rattle.rules_events.proofs.listings.all_memberships.Goals as goal
 
 pub loop-place-preserved : goal.loop-place-preserved
 loop-place-preserved c =
