@@ -1,0 +1,13 @@
+pub mod ChannelsByPlace
+pub mod ComponentsByPlace
+pub mod Distinct
+pub mod EndsByChannel
+pub mod EventsByPlace
+pub mod FirstFault
+pub mod Items
+pub mod ModesByPlace
+pub mod Monitored
+pub mod MonitorsByPlace
+pub mod NotedItems
+pub mod NumbersByPlace
+pub mod Rising

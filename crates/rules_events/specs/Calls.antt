@@ -1,0 +1,22 @@
+-- Rule 14 of a resolved policy: calls and traps.
+use Rattle.std.specs.Prelude.{ℕ, ◌&&◌, Bool, List, ◌++◌, Option}
+use Rattle.std.specs.List.{filter_map}
+use Rattle.muen_num.specs.Search.{unless}
+use Rattle.policy_lawful.specs.MoreRules.{call_number, trap_reason, are_numbers}
+use Rattle.policy_lawful.specs.Offences.{alone}
+use Rattle.policy_lawful.specs.Resolution.{Resolution}
+use Rattle.policy_lawful.specs.declared.offence.Offence.{Offence}
+use Rattle.policy_lawful.specs.declared.resolved.Subject.{Subject}
+use Rattle.policy_views.specs.Views.{ends_of}
+
+abbrev pub calls_at : Resolution → Subject → List ℕ
+calls_at r s = filter_map (λ e. call_number e.way) s.sources ++ filter_map (λ e. e.call) (ends_of r s)
+
+abbrev pub traps_at : Subject → List ℕ
+traps_at s = filter_map (λ e. trap_reason e.way) s.sources
+
+abbrev pub has_numbers : Resolution → Subject → Bool
+has_numbers r s = are_numbers (calls_at r s) && are_numbers (traps_at s)
+
+abbrev pub call_offence : Resolution → Subject → Option Offence
+call_offence r s = unless (has_numbers r s) (alone s.name)

@@ -1,0 +1,12 @@
+-- Rule 12 of a resolved policy: events with a source and one target.
+use Rattle.std.specs.Prelude.{ℕ, ◌==◌, ◌&&◌, not, List, [], length, slice_index_or, Option}
+use Rattle.muen_num.specs.Search.{unless}
+use Rattle.policy_lawful.specs.Offences.{alone}
+use Rattle.policy_lawful.specs.declared.offence.Offence.{Offence}
+use Rattle.policy_types.specs.declared.source.Event.{Event}
+use Rattle.rules_events.specs.declared.parties.Party.{Party}
+
+-- an event with its place, where so many sources and targets are noted
+abbrev pub event_fault : List (List Party) → List (List Party) → ℕ × Event → Option Offence
+event_fault sources targets (place, e) =
+    unless (not (length (slice_index_or sources place []) == 0) && (length (slice_index_or targets place []) == 1)) (alone e.name)

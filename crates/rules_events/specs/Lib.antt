@@ -1,0 +1,13 @@
+pub mod ByPlace
+pub mod Calls
+pub mod Channels
+pub mod Components
+pub mod Directions
+pub mod Ends
+pub mod Events
+pub mod Listings
+pub mod Marks
+pub mod Monitors
+pub mod Numbers
+pub mod Parties
+pub mod Vectors

@@ -1,0 +1,32 @@
+-- Rule 15 of a resolved policy: vectors.
+use Rattle.std.specs.Prelude.{ℕ, ◌&&◌, ◌||◌, Bool, false, List, map, ◌++◌, Option, is_some, slice_get}
+use Rattle.std.specs.Option.{option_map_or}
+use Rattle.std.specs.List.{filter_map, flat_map, list_all}
+use Rattle.muen_num.specs.Search.{unless}
+use Rattle.policy_lawful.specs.MoreRules.{are_vectors, is_switch}
+use Rattle.policy_lawful.specs.Offences.{alone}
+use Rattle.policy_lawful.specs.Resolution.{Resolution}
+use Rattle.policy_lawful.specs.declared.offence.Offence.{Offence}
+use Rattle.policy_lawful.specs.declared.resolved.EventTarget.{EventTarget}
+use Rattle.policy_lawful.specs.declared.resolved.Subject.{Subject}
+use Rattle.policy_types.specs.declared.source.Event.{Event}
+use Rattle.policy_views.specs.Views.{ends_of}
+
+-- the event at a place switches
+abbrev pub switches : List Event → ℕ → Bool
+switches events place = option_map_or (λ e. is_switch e.mode) (slice_get events place) false
+
+abbrev pub has_vector : List Event → EventTarget → Bool
+has_vector events t = is_some t.vector || switches events t.event
+
+abbrev pub irq_vectors : Subject → List ℕ
+irq_vectors s = flat_map (λ d. map (λ i. i.vector) d.irqs) s.devices
+
+abbrev pub vectors_at : Resolution → Subject → List ℕ
+vectors_at r s = filter_map (λ t. t.vector) s.targets ++ filter_map (λ e. e.vector) (ends_of r s) ++ irq_vectors s
+
+abbrev pub has_vectors : Resolution → Subject → Bool
+has_vectors r s = list_all (has_vector r.events) s.targets && are_vectors (vectors_at r s)
+
+abbrev pub vector_offence : Resolution → Subject → Option Offence
+vector_offence r s = unless (has_vectors r s) (alone s.name)

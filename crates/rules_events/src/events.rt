@@ -1,0 +1,39 @@
+//! Rule 12: each event has a source and one target.
+ghost use Rattle.std.specs.Prelude.{◌≡◌, ◌==◌, ◌&&◌, [], length, not, slice_index_or, IfOk};
+ghost use Rattle.std.specs.List.{enumerate_from};
+ghost use Rattle.muen_num.specs.Search.{first_in, unless};
+ghost use Rattle.policy_lawful.specs.MoreRules.{offence_12};
+ghost use Rattle.policy_lawful.specs.Resolution.{source_of};
+ghost use Rattle.rules_events.specs.Events.{event_fault};
+
+use crate::by_place::at;
+use crate::parties::{Party, sources_by_event, targets_by_event};
+use muen_num::{NoMemory, Seq, first_numbered};
+use policy_lawful::{Offence, Resolved};
+use policy_types::source::Event;
+use std::alloc::Global;
+
+// The first event without sources, or that hasn't one target.
+fn first_fault(sources: &[Seq<Party>], targets: &[Seq<Party>], events: &[Event]) -> Option<Offence>
+    ensures { result ≡ first_in (event_fault sources.now targets.now) (enumerate_from 0 events.now) }
+{
+    first_numbered(events, |place, event| {
+        Offence::alone(event.name).unless(
+            !at(sources, place).is_empty() && at(targets, place).len() == 1,
+        )
+    })
+}
+
+/// The first offence against rule 12, if any: an event that no subject raises, or that hasn't
+/// exactly one target.
+///
+/// Answers `NoMemory` where memory was refused.
+#[tactic(auto, using(crate::proofs::EventsByPlace::sourced_by_place))]
+pub fn sourced(alloc: Global, policy: &Resolved) -> Result<Option<Offence>, NoMemory>
+    ensures { IfOk result (λ o. o ≡ offence_12 (source_of policy.now)) }
+{
+    let events = policy.events();
+    let sources = sources_by_event(alloc, policy.subjects(), events.len())?;
+    let targets = targets_by_event(alloc, policy.subjects(), events.len())?;
+    Ok(first_fault(&sources, &targets, events))
+}

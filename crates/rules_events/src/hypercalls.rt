@@ -1,0 +1,111 @@
+//! Rule 14: the numbers of a subject's calls, those of its channels among them, and of its traps.
+ghost use Rattle.std.specs.Prelude.{◌≡◌, ◌&&◌, ◌++◌, IfOk, map};
+ghost use Rattle.std.specs.List.{filter_map};
+ghost use Rattle.muen_num.specs.Search.{first_in, unless};
+ghost use Rattle.policy_lawful.specs.MoreRules.{call_number, trap_reason, are_numbers, offence_14};
+ghost use Rattle.policy_lawful.specs.Resolution.{source_of};
+ghost use Rattle.rules_events.specs.Calls.{calls_at, traps_at, has_numbers, call_offence};
+
+use crate::numbers::are_distinct_in;
+use muen_num::NoMemory;
+use muen_num::limits::MOST_CALLS;
+use policy_lawful::resolved::{EventSource, Subject};
+use policy_lawful::{Offence, Resolved};
+use policy_types::source::SourceWay;
+use policy_views::{End, ends};
+use std::alloc::{AllocError, Global};
+
+fn call_number(way: SourceWay) -> Option<u64>
+    ensures { result ≡ call_number way }
+{
+    match way {
+        SourceWay::Call(number) => Some(number),
+        SourceWay::Trap(_) => None,
+    }
+}
+
+fn trap_reason(way: SourceWay) -> Option<u64>
+    ensures { result ≡ trap_reason way }
+{
+    match way {
+        SourceWay::Call(_) => None,
+        SourceWay::Trap(reason) => Some(reason),
+    }
+}
+
+fn calls_of(alloc: Global, sources: &[EventSource]) -> Result<Vec<u64>, AllocError>
+    ensures { IfOk result (λ v. v.items ≡ filter_map (λ e. call_number e.way) sources.now) }
+{
+    sources
+        .iter()
+        .filter_map(|e| call_number(e.way))
+        .collect(alloc)
+}
+
+fn traps_of(alloc: Global, sources: &[EventSource]) -> Result<Vec<u64>, AllocError>
+    ensures { IfOk result (λ v. v.items ≡ filter_map (λ e. trap_reason e.way) sources.now) }
+{
+    sources
+        .iter()
+        .filter_map(|e| trap_reason(e.way))
+        .collect(alloc)
+}
+
+fn calls_of_ends(alloc: Global, ends: &[End]) -> Result<Vec<u64>, AllocError>
+    ensures { IfOk result (λ v. v.items ≡ filter_map (λ e. e.call) ends.now) }
+{
+    ends.iter().filter_map(|e| e.call).collect(alloc)
+}
+
+// Whether the numbers are below the end of calls and traps, no two equal.
+#[tactic(auto, using(crate::proofs::NumbersByPlace::numbers_in))]
+fn are_numbers(numbers: &[u64]) -> bool
+    ensures { result ≡ are_numbers numbers.now }
+{
+    are_distinct_in(numbers, 0, MOST_CALLS - 1)
+}
+
+// The numbers of a subject's calls, those of its ends of channels behind those of its sources.
+fn calls_at(alloc: Global, policy: &Resolved, subject: &Subject) -> Result<Vec<u64>, NoMemory>
+    ensures { IfOk result (λ v. v.items ≡ calls_at policy.now subject.now) }
+{
+    let mut calls = calls_of(alloc, subject.sources.items())?;
+    let ends = ends(alloc, policy, subject)?;
+    let more = calls_of_ends(alloc, &ends)?;
+    calls.extend_from_slice(&more)?;
+    Ok(calls)
+}
+
+fn has_numbers(alloc: Global, policy: &Resolved, subject: &Subject) -> Result<bool, NoMemory>
+    ensures { IfOk result (λ b. b ≡ has_numbers policy.now subject.now) }
+{
+    let calls = calls_at(alloc, policy, subject)?;
+    let traps = traps_of(alloc, subject.sources.items())?;
+    Ok(are_numbers(&calls) && are_numbers(&traps))
+}
+
+fn first_call(
+    alloc: Global,
+    policy: &Resolved,
+    subjects: &[Subject],
+) -> Result<Option<Offence>, NoMemory>
+    ensures { IfOk result (λ o. o ≡ first_in (call_offence policy.now) subjects.now) }
+{
+    for subject in subjects {
+        if !has_numbers(alloc, policy, subject)? {
+            return Ok(Some(Offence::alone(subject.name)));
+        }
+    }
+    Ok(None)
+}
+
+/// The first offence against rule 14, if any: a subject with two calls of the same number, or two
+/// traps, or with a number that is too great.
+///
+/// Answers `NoMemory` where memory was refused.
+#[tactic(auto, using(crate::proofs::NumbersByPlace::calls_by_place))]
+pub fn calls(alloc: Global, policy: &Resolved) -> Result<Option<Offence>, NoMemory>
+    ensures { IfOk result (λ o. o ≡ offence_14 (source_of policy.now)) }
+{
+    first_call(alloc, policy, policy.subjects())
+}
