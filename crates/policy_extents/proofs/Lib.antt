@@ -1,3 +1,4 @@
+pub mod InsideOne
 pub mod Overlaps
 pub mod OwnThenPairs
 pub mod Spans

@@ -41,7 +41,7 @@ nowhere : Extent
 nowhere = record { name = []; address = 0; size = 0 }
 
 -- no two overlap just where each two are apart
-spans_apart : (xs : List Extent) → first_overlap xs ≡ None → EachTwo IsApart (map span_of xs)
+pub spans_apart : (xs : List Extent) → first_overlap xs ≡ None → EachTwo IsApart (map span_of xs)
 unfolding first_overlap
 spans_apart xs e i j d li lj n =
     let many : length (map span_of xs) ≡ length xs = length-map xs span_of in

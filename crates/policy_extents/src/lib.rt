@@ -2,8 +2,10 @@
 //! condition of its own or shares an address with one before it.
 #![tactic(auto)]
 
+mod inside;
 mod overlap;
 
+pub use inside::count_inside;
 pub use overlap::{first_fault, first_overlap};
 
 #[cfg(test)]

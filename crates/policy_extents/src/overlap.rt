@@ -12,11 +12,11 @@ use muen_num::{NoMemory, first};
 use policy_lawful::{Extent, Offence};
 use std::alloc::{AllocError, Global};
 
-// A range without its name.
+/// A range without its name.
 #[derive(Clone, Copy)]
-struct Span {
-    address: u64,
-    size: u64,
+pub(crate) struct Span {
+    pub address: u64,
+    pub size: u64,
 }
 
 impl Span {
@@ -53,8 +53,8 @@ fn spans(alloc: Global, extents: &[Extent]) -> Result<Vec<Span>, AllocError>
     extents.iter().map(Span::of).collect(alloc)
 }
 
-// The ranges in the order of their addresses.
-fn rising(alloc: Global, extents: &[Extent]) -> Result<Vec<Span>, AllocError>
+/// The ranges in the order of their addresses.
+pub(crate) fn rising(alloc: Global, extents: &[Extent]) -> Result<Vec<Span>, AllocError>
     ensures moved { IfOk result (λ v. IsPermutation (map span_of extents.now) v.items) }
     ensures rising { IfOk result (λ v. IsNonDecreasingBy (λ s. s.address) v.items) }
 {

@@ -1,6 +1,6 @@
 //! Policies that keep every rule.
 ghost use Rattle.std.specs.Prelude.{◌≡◌, None};
-ghost use Rattle.policy_lawful.specs.Resolution.{IsResolved, source_of};
+ghost use Rattle.policy_lawful.specs.Resolution.{source_of};
 ghost use Rattle.policy_lawful.specs.Lawful.{IsLawful, rules_broken};
 
 use crate::resolved::Resolved;
@@ -27,8 +27,7 @@ impl Lawful {
     /// The policy, in which no rule from 3 on is broken.
     #[tactic(auto, using(crate::proofs::KeptRules::is_lawful))]
     pub fn make(resolved: Resolved) -> Lawful
-        requires resolved { IsResolved resolved }
-        requires rules { rules_broken (source_of resolved) ≡ None }
+        requires { rules_broken (source_of resolved) ≡ None }
         ensures { result ≡ resolved }
     {
         Lawful { resolved }

@@ -1,9 +1,10 @@
 pub mod CpusByPlace
+pub mod FixedByExtent
 pub mod GroupsByPlace
 pub mod LimitsByPlace
 pub mod MajorsByPlace
 pub mod NamesAdded
-pub mod NotBuilt
 pub mod RangesByPlace
 pub mod RulesJoined
+pub mod Tau0ByPlace
 pub mod WritersByPlace

@@ -1,7 +1,7 @@
 -- Rule 16 of a resolved policy is that of its source policy: a group is told by its name or by its place.
 use Rattle.std.proofs.Common.{◌≡◌, ℕ, Bool, true, List, [], ◌∷◌, length, map, None, refl, sym, ap, ◌∙◌}
 use Rattle.std.specs.Prelude.{◌==◌, ◌&&◌, not, nat_lt, slice_get}
-use Rattle.std.specs.Option.{option_map_or}
+use Rattle.std.specs.Option.{option_map_or, option_or}
 use Rattle.std.specs.List.{list_any, list_all, enumerate_from}
 use Rattle.std.proofs.lemmas.Bool.{ltb-true}
 use Rattle.std.proofs.lemmas.List.Folds.{list_all-map}
@@ -12,7 +12,7 @@ use Rattle.muen_num.proofs.SearchLaws.{option_or-None}
 use Rattle.policy_lawful.specs.ByPlace.{ticks_in}
 use Rattle.policy_lawful.specs.Offences.{two}
 use Rattle.policy_lawful.specs.Rules as rules
-use Rattle.policy_lawful.specs.Rules.{repeated, major_name, cpu_name, is_on, offence_16}
+use Rattle.policy_lawful.specs.Rules.{repeated, major_name, cpu_name, is_on, offence_16, tau0_offence}
 use Rattle.policy_lawful.specs.Resolution.{Resolution, IsResolved, source_of, cpu_named, major_named, major_placed}
 use Rattle.policy_lawful.specs.declared.resolved.MajorFrame.{MajorFrame as PlacedMajor}
 use Rattle.policy_lawful.specs.declared.resolved.CpuFrames.{CpuFrames as PlacedCpu}
@@ -74,9 +74,11 @@ same_major r k m unique placed =
     (λ cpu. ap (λ b. unless b (two (major_name k) (cpu_name cpu))) (list_any-map (λ c. c.cpu == cpu) (cpu_named r) m.cpus)) (numbers_below r.processor.logical_cpus) in
     simp (option_or-None, entries, missing)
 
-pub majors_by_place : (r : Resolution) → IsResolved r → first_in (major_offence r.scheduling.groups r.processor.logical_cpus) (enumerate_from 0 r.scheduling.major_frames) ≡ offence_16 (source_of r)
+pub majors_by_place : (r : Resolution) → IsResolved r
+    → option_or (first_in (major_offence r.scheduling.groups r.processor.logical_cpus) (enumerate_from 0 r.scheduling.major_frames)) (tau0_offence (source_of r) r.scheduling.tau0) ≡ offence_16 (source_of r)
 unfolding offence_16 source_of
 majors_by_place r resolved =
     let unique = groups_unique r resolved.names in
-    sym (first_numbered-map (major_named r) (rules.major_offence (source_of r)) (major_offence r.scheduling.groups r.processor.logical_cpus) (major_placed r)
-    (λ k m ok. same_major r k m unique ok) 0 r.scheduling.major_frames (parts_placed r resolved.placed).majors)
+    ap (λ o. option_or o (tau0_offence (source_of r) r.scheduling.tau0))
+    (sym (first_numbered-map (major_named r) (rules.major_offence (source_of r)) (major_offence r.scheduling.groups r.processor.logical_cpus) (major_placed r)
+    (λ k m ok. same_major r k m unique ok) 0 r.scheduling.major_frames (parts_placed r resolved.placed).majors))

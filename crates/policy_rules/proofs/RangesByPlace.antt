@@ -49,14 +49,14 @@ none_outside r q h = (parts_none r q h).1
 
 -- ---- ranges that aren't empty
 
-abbrev has_size : Extent → Bool
+abbrev pub has_size : Extent → Bool
 has_size e = nat_lt 0 e.size
 
-sized : (aligned : Bool) (size : ℕ) (below : Bool) → (aligned && is_page_size size && below) ≡ true → nat_lt 0 size ≡ true
+pub sized : (aligned : Bool) (size : ℕ) (below : Bool) → (aligned && is_page_size size && below) ≡ true → nat_lt 0 size ≡ true
 sized aligned size below h =
     (and_parts (is_page_aligned size) (nat_lt 0 size) (and_parts aligned (is_page_size size) (and_parts (aligned && is_page_size size) below h).0).1).1
 
-blocks_sized : (bs : List Block) → list_all (λ b. is_physical b.physical_address b.size) bs ≡ true → list_all has_size (map block_extent bs) ≡ true
+pub blocks_sized : (bs : List Block) → list_all (λ b. is_physical b.physical_address b.size) bs ≡ true → list_all has_size (map block_extent bs) ≡ true
 blocks_sized bs h =
     list_all-map has_size block_extent bs
     ∙ each_from (λ b. is_physical b.physical_address b.size) (λ b. nat_lt 0 b.size) (λ b. sized (is_page_aligned b.physical_address) b.size _) bs h

@@ -1,26 +1,29 @@
--- The least rule that is broken, from its parts.
-use Rattle.std.proofs.Common.{◌≡◌, true, List, [], ◌∷◌, Option, Some, None, refl}
+-- The least rule that is broken, from the rules in turn.
+use Rattle.std.proofs.Common.{◌≡◌, List, [], ◌∷◌, ◌++◌, Option, refl, sym, ap, ◌∙◌}
 use Rattle.std.specs.Option.{option_or}
-use Rattle.policy_types.specs.Built.{is_built}
+use Rattle.policy_lawful.specs.Domains.{offence_21, offence_22, offence_23, offence_24}
 use Rattle.policy_lawful.specs.Lawful.{rules_broken}
+use Rattle.policy_lawful.specs.MoreRules.{offence_6, offence_7, offence_9, offence_10, offence_11, offence_12, offence_13, offence_14, offence_15, offence_19}
 use Rattle.policy_lawful.specs.Offences.{broken}
 use Rattle.policy_lawful.specs.Rules.{offence_3, offence_4, offence_5, offence_8, offence_16, offence_17, offence_18, offence_20}
 use Rattle.muen_num.specs.Search.{first_of}
+use Rattle.muen_num.proofs.SearchLaws.{option_or_assoc}
+use Rattle.policy_types.specs.declared.refusal.Refusal.{Refusal}
 use Rattle.policy_types.specs.declared.source.Source.{Source}
-use Rattle.policy_rules.proofs.NotBuilt.{keeps_others}
-use Rattle.policy_rules.specs.BuiltRules.{memory_broken, plan_broken}
+use Rattle.policy_rules.specs.InTurn.{memory_broken, grants_broken, plan_broken, domains_broken}
 
-joined : {O : Type 0} (a b c d : Option O) (rest : List (Option O)) → option_or (first_of (a ∷ b ∷ c ∷ d ∷ [])) (first_of rest) ≡ first_of (a ∷ b ∷ c ∷ d ∷ rest)
-joined (Some x) b c d rest = refl
-joined None (Some x) c d rest = refl
-joined None None (Some x) d rest = refl
-joined None None None (Some x) rest = refl
-joined None None None None rest = refl
+first_of-append : {O : Type 0} (xs ys : List (Option O)) → first_of (xs ++ ys) ≡ option_or (first_of xs) (first_of ys)
+first_of-append [] ys = refl
+first_of-append (x ∷ xs) ys = ap (option_or x) (first_of-append xs ys) ∙ sym (option_or_assoc x (first_of xs) (first_of ys))
 
-pub rules_joined : (p : Source) → is_built p ≡ true → option_or (memory_broken p) (plan_broken p) ≡ rules_broken p
+pub rules_joined : (p : Source) → option_or (memory_broken p) (option_or (grants_broken p) (option_or (plan_broken p) (domains_broken p))) ≡ rules_broken p
 unfolding rules_broken
-rules_joined p b =
-    let o = keeps_others p b in
-    rw (o.rule_6, o.rule_7, o.rule_9, o.rule_10, o.rule_11, o.rule_12, o.rule_13, o.rule_14, o.rule_15, o.rule_19)
-    (joined (broken 3 (offence_3 p)) (broken 4 (offence_4 p)) (broken 5 (offence_5 p)) (broken 8 (offence_8 p))
-    (broken 16 (offence_16 p) ∷ broken 17 (offence_17 p) ∷ broken 18 (offence_18 p) ∷ broken 20 (offence_20 p) ∷ []))
+rules_joined p =
+    let memory : List (Option Refusal) = broken 3 (offence_3 p) ∷ broken 4 (offence_4 p) ∷ broken 5 (offence_5 p) ∷ broken 6 (offence_6 p) ∷ broken 7 (offence_7 p) ∷ broken 8 (offence_8 p) ∷ [] in
+    let grants : List (Option Refusal) = broken 9 (offence_9 p) ∷ broken 10 (offence_10 p) ∷ broken 11 (offence_11 p) ∷ broken 12 (offence_12 p) ∷ broken 13 (offence_13 p) ∷ broken 14 (offence_14 p) ∷ broken 15 (offence_15 p) ∷ [] in
+    let plan : List (Option Refusal) = broken 16 (offence_16 p) ∷ broken 17 (offence_17 p) ∷ broken 18 (offence_18 p) ∷ broken 19 (offence_19 p) ∷ broken 20 (offence_20 p) ∷ [] in
+    let domains : List (Option Refusal) = broken 21 (offence_21 p) ∷ broken 22 (offence_22 p) ∷ broken 23 (offence_23 p) ∷ broken 24 (offence_24 p) ∷ [] in
+    sym (
+    first_of-append memory (grants ++ plan ++ domains)
+    ∙ ap (option_or (first_of memory)) (first_of-append grants (plan ++ domains) ∙ ap (option_or (first_of grants)) (first_of-append plan domains))
+    )

@@ -1,7 +1,7 @@
 -- The keys and other words that rules name.
 use Rattle.std.specs.Prelude.{ℕ, List, codes}
 use Rattle.policy_rules.specs.declared.keys.Key.{Key}
-use Rattle.policy_rules.specs.declared.keys.Key.TheVariants.{Processor, MemoryBlocks, Devices, Memory, Channels, Components, Events, Subjects, MajorFrames}
+use Rattle.policy_rules.specs.declared.keys.Key.TheVariants.{Processor, MemoryBlocks, Devices, Memory, Channels, Components, Events, Subjects, MajorFrames, Tau0}
 
 abbrev pub key_text : Key → List ℕ
 key_text Processor = codes "processor"
@@ -13,3 +13,4 @@ key_text Components = codes "components"
 key_text Events = codes "events"
 key_text Subjects = codes "subjects"
 key_text MajorFrames = codes "majorFrames"
+key_text Tau0 = codes "tau0"

@@ -1,9 +1,11 @@
-pub mod BuiltRules
 pub mod Cpus
+pub mod Fixed
 pub mod Groups
+pub mod InTurn
 pub mod Keys
 pub mod Limits
 pub mod Majors
 pub mod Names
+pub mod Tau0
 pub mod Windows
 pub mod Writers

@@ -26,7 +26,8 @@ fn block_extent(block: &Block) -> Extent
     }
 }
 
-fn block_extents(alloc: Global, blocks: &[Block]) -> Result<Vec<Extent>, AllocError>
+/// The blocks, as ranges.
+pub(crate) fn block_extents(alloc: Global, blocks: &[Block]) -> Result<Vec<Extent>, AllocError>
     ensures { IfOk result (λ v. v.items ≡ map block_extent blocks.now) }
 {
     blocks.iter().map(block_extent).collect(alloc)

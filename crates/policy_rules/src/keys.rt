@@ -1,7 +1,7 @@
 // The keys and other words that rules name.
 ghost use Rattle.std.specs.Prelude.{◌≡◌};
 ghost use Rattle.muen_num.specs.Search.{unless};
-ghost use Rattle.policy_lawful.specs.Offences.{alone};
+ghost use Rattle.policy_lawful.specs.Offences.{alone, two};
 ghost use Rattle.policy_rules.specs.Keys.{key_text};
 
 use muen_num::Name;
@@ -19,6 +19,7 @@ pub(crate) enum Key {
     Events,
     Subjects,
     MajorFrames,
+    Tau0,
 }
 
 impl Key {
@@ -37,6 +38,7 @@ impl Key {
             Key::Events => Name::read(b"events").unwrap(),
             Key::Subjects => Name::read(b"subjects").unwrap(),
             Key::MajorFrames => Name::read(b"majorFrames").unwrap(),
+            Key::Tau0 => Name::read(b"tau0").unwrap(),
         }
     }
 
@@ -45,5 +47,15 @@ impl Key {
         ensures { result ≡ unless holds (alone (key_text self)) }
     {
         Offence::alone(self.name()).unless(holds)
+    }
+
+    /// The offence of this word and a name.
+    pub(crate) fn with(self, name: Name) -> Offence
+        ensures { result ≡ two (key_text self) name }
+    {
+        Offence {
+            first: self.name(),
+            second: name,
+        }
     }
 }

@@ -4,12 +4,14 @@
 mod addresses;
 mod apart;
 mod cpus;
+mod fixed;
 mod groups;
 mod keys;
 mod limits;
 mod major_frames;
 mod names;
 mod rules;
+mod tau0;
 mod windows;
 mod writers;
 

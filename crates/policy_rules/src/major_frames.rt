@@ -1,6 +1,6 @@
 //! Rule 16: in each major frame every CPU is listed once, with minor frames of its own groups that
 //! have ticks, and the ticks of all CPUs are the same.
-ghost use Rattle.std.specs.Prelude.{◌≡◌, []};
+ghost use Rattle.std.specs.Prelude.{◌≡◌, [], IfOk};
 ghost use Rattle.std.specs.Option.{option_or};
 ghost use Rattle.std.specs.List.{list_all, enumerate_from};
 ghost use Rattle.muen_num.specs.Range.{numbers_below};
@@ -10,10 +10,12 @@ ghost use Rattle.policy_lawful.specs.Rules.{major_name, cpu_name, is_on, offence
 ghost use Rattle.policy_lawful.specs.Resolution.{source_of};
 ghost use Rattle.policy_rules.specs.Majors.{cpu_of_group, is_frame, has_first_ticks, is_listed, is_entry, entry_offence, missing_offence, major_offence};
 
-use muen_num::first_numbered;
+use crate::tau0::tau0;
+use muen_num::{NoMemory, first_numbered};
 use policy_lawful::frame_names::{cpu_name, major_name};
 use policy_lawful::resolved::{CpuFrames, Group, MajorFrame, MinorFrame};
 use policy_lawful::{Offence, Resolved};
+use std::alloc::Global;
 
 // Whether the group at a place is on this CPU.
 fn is_on(groups: &[Group], place: usize, cpu: u64) -> bool
@@ -118,15 +120,20 @@ fn of_majors(groups: &[Group], count: u64, majors: &[MajorFrame]) -> Option<Offe
     )
 }
 
-/// The first offence against rule 16, if any.
+/// The first offence against rule 16, if any: of a major frame, else of who chooses them.
+///
+/// Answers `NoMemory` where memory was refused.
 #[tactic(auto, using(crate::proofs::MajorsByPlace::majors_by_place))]
-pub(crate) fn major_frames(policy: &Resolved) -> Option<Offence>
-    ensures { result ≡ offence_16 (source_of policy.now) }
+pub(crate) fn major_frames(
+    alloc: Global,
+    policy: &Resolved,
+) -> Result<Option<Offence>, NoMemory>
+    ensures { IfOk result (λ o. o ≡ offence_16 (source_of policy.now)) }
 {
     let plan = policy.scheduling();
-    of_majors(
-        plan.groups.items(),
-        policy.processor().logical_cpus,
-        plan.major_frames.items(),
-    )
+    let cpus = policy.processor().logical_cpus;
+    match of_majors(plan.groups.items(), cpus, plan.major_frames.items()) {
+        Some(offence) => Ok(Some(offence)),
+        None => tau0(alloc, policy),
+    }
 }

@@ -1,0 +1,8 @@
+-- So many were inside.
+use Rattle.std.specs.List.{list_any}
+use Rattle.policy_extents.specs.Inside.{holds}
+use Rattle.policy_extents.proofs.InsideOne.{Counting}
+use Rattle.policy_extents.proofs.inside.count_in.Given as goal
+
+abbrev pub invariant-loop-place : goal.invariant-loop-place
+invariant-loop-place l = Counting (λ e. list_any (holds e) l.spans) l.extents l.place

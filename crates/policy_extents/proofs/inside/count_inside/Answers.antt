@@ -1,0 +1,6 @@
+use Rattle.std.proofs.Common.{◌∙◌}
+use Rattle.policy_extents.proofs.InsideOne.{counted}
+use Rattle.policy_extents.proofs.inside.count_inside.Goals as goal
+
+pub returns : goal.returns
+returns c = (rw c.deref.ensures.value at c.count_in.ensures) ∙ counted c.args.blocks.now c.in_ok-spans.spans.items c.args.extents.now c.in_ok-spans.ensures.moved

@@ -1,0 +1,111 @@
+// Rule 16, its end: the subject that chooses the major frames, and the region by which it does.
+ghost use Rattle.std.specs.Prelude.{◌≡◌, ◌&&◌, ◌==◌, length, IfOk};
+ghost use Rattle.std.specs.List.{list_any};
+ghost use Rattle.std.specs.Str.{bytes_eq};
+ghost use Rattle.policy_lawful.specs.Resolution.{source_of};
+ghost use Rattle.policy_lawful.specs.Rules.{tau0_offence};
+ghost use Rattle.policy_rules.specs.Tau0.{chooser_offence, is_chooser, is_on_named, is_own_region, may_write};
+ghost use Rattle.policy_views.specs.Views.{views_of};
+
+use crate::keys::Key;
+use muen_num::{Kind, Name, NoMemory};
+use policy_lawful::resolved::Subject;
+use policy_lawful::{Offence, Resolved};
+use policy_types::source::{Region, Tau0};
+use policy_views::{Shown, View, views};
+use std::alloc::Global;
+
+// Whether it shows a region of this name.
+fn is_on_named(name: Name, view: &View) -> bool
+    ensures { result ≡ is_on_named name view.now view.now.shows }
+{
+    match view.shows {
+        Shown::Memory(_) => view.name == name,
+        _ => false,
+    }
+}
+
+fn may_write(name: Name, views: &[View]) -> bool
+    ensures { result ≡ list_any (may_write name) views.now }
+{
+    views
+        .iter()
+        .any(|view| is_on_named(name, view) && view.rights.allows(Kind::Write))
+}
+
+// Whether this subject is the one that chooses, and may write the region.
+fn is_chooser(
+    alloc: Global,
+    policy: &Resolved,
+    chooser: Tau0,
+    subject: &Subject,
+) -> Result<bool, NoMemory>
+    ensures { IfOk result (λ b. b ≡ is_chooser policy.now chooser subject.now) }
+{
+    if subject.name != chooser.subject {
+        return Ok(false);
+    }
+    let views = views(alloc, policy, subject)?;
+    Ok(may_write(chooser.region, &views))
+}
+
+fn some_chooser(
+    alloc: Global,
+    policy: &Resolved,
+    chooser: Tau0,
+    subjects: &[Subject],
+) -> Result<bool, NoMemory>
+    ensures { IfOk result (λ b. b ≡ list_any (is_chooser policy.now chooser) subjects.now) }
+{
+    for subject in subjects {
+        if is_chooser(alloc, policy, chooser, subject)? {
+            return Ok(true);
+        }
+    }
+    Ok(false)
+}
+
+fn is_declared(subjects: &[Subject], name: Name) -> bool
+    ensures { result ≡ list_any (λ s. bytes_eq s.name name) subjects.now }
+{
+    subjects.iter().any(|subject| subject.name == name)
+}
+
+fn has_own_region(memory: &[Region], name: Name) -> bool
+    ensures { result ≡ list_any (is_own_region name) memory.now }
+{
+    memory
+        .iter()
+        .any(|region| region.name == name && region.shared_memory.is_empty())
+}
+
+fn of_chooser(
+    alloc: Global,
+    policy: &Resolved,
+    chooser: Tau0,
+) -> Result<Option<Offence>, NoMemory>
+    ensures { IfOk result (λ o. o ≡ chooser_offence policy.now chooser) }
+{
+    if !is_declared(policy.subjects(), chooser.subject) {
+        return Ok(Some(Key::Tau0.with(chooser.subject)));
+    }
+    if !has_own_region(policy.memory(), chooser.region) {
+        return Ok(Some(Key::Tau0.with(chooser.region)));
+    }
+    let may = some_chooser(alloc, policy, chooser, policy.subjects())?;
+    Ok(Key::Tau0.with(chooser.region).unless(may))
+}
+
+/// The offence of the subject that chooses the major frames, if one does: it isn't declared, or its
+/// region isn't or is shared, or it may not write that.
+///
+/// Answers `NoMemory` where memory was refused.
+#[tactic(auto, using(crate::proofs::Tau0ByPlace::chooser_by_place, crate::proofs::Tau0ByPlace::no_chooser))]
+pub(crate) fn tau0(alloc: Global, policy: &Resolved) -> Result<Option<Offence>, NoMemory>
+    ensures { IfOk result (λ o. o ≡ tau0_offence (source_of policy.now) policy.now.scheduling.tau0) }
+{
+    match policy.scheduling().tau0 {
+        None => Ok(None),
+        Some(chooser) => of_chooser(alloc, policy, chooser),
+    }
+}
