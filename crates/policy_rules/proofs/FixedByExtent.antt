@@ -4,7 +4,7 @@ use Rattle.std.specs.Prelude.{◌&&◌, ◌+◌, nat_le, nat_lt, option_map, sli
 use Rattle.std.specs.Option.{option_or}
 use Rattle.std.specs.List.{cons_option, filter_map, list_all, list_any, position_or_len}
 use Rattle.std.proofs.lemmas.Bool.{and_from, and_parts}
-use Rattle.std.proofs.lemmas.List.{take-nil}
+use Rattle.std.proofs.Math.Seq.{take-nil}
 use Rattle.std.proofs.lemmas.List.Sums.{prefix_len-le-length}
 use Rattle.muen_num.specs.Search.{first_in, first_after, first_pair, unless}
 use Rattle.muen_num.proofs.FirstPair.{first_pair-append}
