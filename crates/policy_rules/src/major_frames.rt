@@ -7,7 +7,7 @@ ghost use Rattle.muen_num.specs.Range.{numbers_below};
 ghost use Rattle.muen_num.specs.Search.{first_in, first_after};
 ghost use Rattle.policy_lawful.specs.Offences.{two};
 ghost use Rattle.policy_lawful.specs.Rules.{major_name, cpu_name, is_on, offence_16};
-ghost use Rattle.policy_lawful.specs.Resolution.{source_of};
+ghost use Rattle.policy_lawful.specs.Resolution.{IsResolved, source_of};
 ghost use Rattle.policy_rules.specs.Majors.{cpu_of_group, is_frame, has_first_ticks, is_listed, is_entry, entry_offence, missing_offence, major_offence};
 
 use crate::tau0::tau0;
@@ -120,19 +120,29 @@ fn of_majors(groups: &[Group], count: u64, majors: &[MajorFrame]) -> Option<Offe
     )
 }
 
+// The first offence of a major frame of the policy.
+fn of_frames(policy: &Resolved) -> Option<Offence>
+    ensures value { result ≡ first_in (major_offence policy.now.scheduling.groups policy.now.processor.logical_cpus) (enumerate_from 0 policy.now.scheduling.major_frames) }
+    ensures resolved { IsResolved policy.now }
+{
+    let plan = policy.scheduling();
+    of_majors(
+        plan.groups.items(),
+        policy.processor().logical_cpus,
+        plan.major_frames.items(),
+    )
+}
+
 /// The first offence against rule 16, if any: of a major frame, else of who chooses them.
 ///
 /// Answers `NoMemory` where memory was refused.
-#[tactic(auto, using(crate::proofs::MajorsByPlace::majors_by_place))]
 pub(crate) fn major_frames(
     alloc: Global,
     policy: &Resolved,
 ) -> Result<Option<Offence>, NoMemory>
     ensures { IfOk result (λ o. o ≡ offence_16 (source_of policy.now)) }
 {
-    let plan = policy.scheduling();
-    let cpus = policy.processor().logical_cpus;
-    match of_majors(plan.groups.items(), cpus, plan.major_frames.items()) {
+    match of_frames(policy) {
         Some(offence) => Ok(Some(offence)),
         None => tau0(alloc, policy),
     }

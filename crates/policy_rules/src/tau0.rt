@@ -37,10 +37,10 @@ fn may_write(name: Name, views: &[View]) -> bool
 fn is_chooser(
     alloc: Global,
     policy: &Resolved,
-    chooser: Tau0,
+    chooser: &Tau0,
     subject: &Subject,
 ) -> Result<bool, NoMemory>
-    ensures { IfOk result (λ b. b ≡ is_chooser policy.now chooser subject.now) }
+    ensures { IfOk result (λ b. b ≡ is_chooser policy.now chooser.now subject.now) }
 {
     if subject.name != chooser.subject {
         return Ok(false);
@@ -52,10 +52,10 @@ fn is_chooser(
 fn some_chooser(
     alloc: Global,
     policy: &Resolved,
-    chooser: Tau0,
+    chooser: &Tau0,
     subjects: &[Subject],
 ) -> Result<bool, NoMemory>
-    ensures { IfOk result (λ b. b ≡ list_any (is_chooser policy.now chooser) subjects.now) }
+    ensures { IfOk result (λ b. b ≡ list_any (is_chooser policy.now chooser.now) subjects.now) }
 {
     for subject in subjects {
         if is_chooser(alloc, policy, chooser, subject)? {
@@ -82,9 +82,9 @@ fn has_own_region(memory: &[Region], name: Name) -> bool
 fn of_chooser(
     alloc: Global,
     policy: &Resolved,
-    chooser: Tau0,
+    chooser: &Tau0,
 ) -> Result<Option<Offence>, NoMemory>
-    ensures { IfOk result (λ o. o ≡ chooser_offence policy.now chooser) }
+    ensures { IfOk result (λ o. o ≡ chooser_offence policy.now chooser.now) }
 {
     if !is_declared(policy.subjects(), chooser.subject) {
         return Ok(Some(Key::Tau0.with(chooser.subject)));
@@ -104,7 +104,7 @@ fn of_chooser(
 pub(crate) fn tau0(alloc: Global, policy: &Resolved) -> Result<Option<Offence>, NoMemory>
     ensures { IfOk result (λ o. o ≡ tau0_offence (source_of policy.now) policy.now.scheduling.tau0) }
 {
-    match policy.scheduling().tau0 {
+    match &policy.scheduling().tau0 {
         None => Ok(None),
         Some(chooser) => of_chooser(alloc, policy, chooser),
     }
