@@ -89,9 +89,10 @@ held_still name content es (l ∷ ls) others h =
 
 hold_all : (held : Option Store) (ls : List Look) → Seen held ls → Hold (entries_of ls) ls
 hold_all held [] seen = tt
-hold_all held (l ∷ ls) seen =
-    (own l.name (content_of l.reading) (entries_of ls) (none_of ls l.name seen.2),
-    held_still l.name (content_of l.reading) (entries_of ls) ls seen.2 (hold_all held ls seen.3))
+hold_all held (l ∷ ls) seen = (
+  own l.name (content_of l.reading) (entries_of ls) (none_of ls l.name seen.2),
+  held_still l.name (content_of l.reading) (entries_of ls) ls seen.2 (hold_all held ls seen.3),
+)
 
 shown : (held : Option Store) (es : Entries) (ls : List Look) → Seen held ls → Hold es ls → ShowAll (stored es) ls
 shown held es [] seen h = tt

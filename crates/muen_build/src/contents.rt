@@ -149,7 +149,16 @@ fn check_memory<F: Files>(
             owner: region.name,
             part: Part::Whole,
         };
-        check(alloc, name, document, tag, region.size, &region.content, found, files)?;
+        check(
+            alloc,
+            name,
+            document,
+            tag,
+            region.size,
+            &region.content,
+            found,
+            files,
+        )?;
     }
     Ok(())
 }
@@ -230,5 +239,13 @@ pub(crate) fn check_all<F: Files>(
     ensures follows { Follows (F.state files.old) (F.state files.new) }
 {
     check_memory(alloc, name, document, policy.memory(), found, files)?;
-    check_subjects(alloc, name, document, policy.components(), policy.subjects(), found, files)
+    check_subjects(
+        alloc,
+        name,
+        document,
+        policy.components(),
+        policy.subjects(),
+        found,
+        files,
+    )
 }

@@ -15,7 +15,6 @@ mod accepted;
 mod contents;
 
 pub use accepted::{Accepted, BuildEnd, ComponentFiles};
-
 use contents::check_all;
 use muen_outside::Files;
 use policy_lawful::Lawful;

@@ -1,16 +1,11 @@
 -- The numbers of a resolved policy that keeps the rules fit into a plan.
-use Rattle.std.proofs.Common.{◌≡◌, ℕ, ◌+◌, ◌^◌, ◌<◌, ◌≤◌, Bool, true, length, map, sym, ap, ◌∙◌, arith}
+use Rattle.std.proofs.Common.{◌≡◌, ℕ, ◌+◌, ◌^◌, ◌<◌, ◌≤◌, true, length, arith}
 use Rattle.std.specs.Prelude.{◌&&◌, nat_lt, nat_le}
 use Rattle.std.specs.List.{list_all}
 use Rattle.std.proofs.lemmas.Bool.{and_from, and_parts, leb-true, lt-ltb, ltb-true}
-use Rattle.std.proofs.lemmas.List.{length-map}
-use Rattle.std.proofs.lemmas.List.Folds.{list_all-map}
 use Rattle.muen_num.specs.declared.limits.TheConstants.{MOST_CPUS, MOST_MINOR_FRAMES, MOST_SUBJECTS, MOST_TICKS}
-use Rattle.policy_lawful.specs.Resolution.{Resolution, cpu_named, group_named, group_placed, major_named, major_placed, name_at, source_of}
-use Rattle.policy_lawful.specs.Rules.{is_group, is_on, subject_cpu}
+use Rattle.policy_lawful.specs.Resolution.{Resolution, major_placed, source_of}
 use Rattle.policy_lawful.specs.declared.resolved.CpuFrames.{CpuFrames}
-use Rattle.policy_lawful.specs.declared.resolved.Group.{Group}
-use Rattle.policy_lawful.specs.declared.resolved.MinorFrame.{MinorFrame}
 use Rattle.plan_emit.specs.Emitted.{fits_entry, fits_group, fits_major, fits_minor}
 use Rattle.muen_num.proofs.Lists.{each_at_most, each_from, each_of}
 use Rattle.policy_lawful.proofs.KeptByPlace.{cpus_of_groups, entries_within, entry_there, frame_there, has_places, members_there}

@@ -1,5 +1,5 @@
 -- The plan of a resolved policy that keeps the rules is the policy's.
-use Rattle.std.proofs.Common.{◌≡◌, true, None, sym, subst}
+use Rattle.std.proofs.Common.{◌≡◌, true, sym, subst}
 use Rattle.std.specs.List.{list_all}
 use Rattle.image_pack.specs.declared.plan.Plan.{Plan}
 use Rattle.policy_lawful.specs.Lawful.{IsLawful}

@@ -1,5 +1,5 @@
 -- Ranges that lie in others.
-use Rattle.std.specs.Prelude.{◌+◌, ◌&&◌, Bool, List, map, nat_le}
+use Rattle.std.specs.Prelude.{◌+◌, ◌&&◌, Bool, List, nat_le}
 use Rattle.std.specs.List.{list_any}
 use Rattle.policy_lawful.specs.declared.offence.Extent.{Extent}
 use Rattle.policy_extents.specs.Span.{span_of}

@@ -64,11 +64,7 @@ fn count_in(spans: &[Span], extents: &[Extent]) -> usize
 ///
 /// Answers `NoMemory` where memory was refused.
 #[tactic(auto, using(crate::proofs::InsideOne::blocks_below))]
-pub fn count_inside(
-    alloc: Global,
-    blocks: &[Extent],
-    extents: &[Extent],
-) -> Result<usize, NoMemory>
+pub fn count_inside(alloc: Global, blocks: &[Extent], extents: &[Extent]) -> Result<usize, NoMemory>
     requires apart { first_overlap blocks.now ≡ None }
     requires blocks { list_all (λ e. nat_lt 0 e.size) blocks.now ≡ true }
     requires some { list_all (λ e. nat_lt 0 e.size) extents.now ≡ true }

@@ -1,6 +1,6 @@
 -- A policy in which no rule is broken keeps each of them.
 use Rattle.std.proofs.Common.{◌≡◌, None}
-use Rattle.policy_lawful.specs.Lawful.{IsLawful, names_broken, rules_broken}
+use Rattle.policy_lawful.specs.Lawful.{IsLawful, rules_broken}
 use Rattle.policy_lawful.specs.Offences.{broken}
 use Rattle.policy_lawful.specs.Domains.{offence_21, offence_22, offence_23, offence_24}
 use Rattle.policy_lawful.specs.MoreRules.{offence_6, offence_7, offence_9, offence_10, offence_11, offence_12, offence_13, offence_14, offence_15, offence_19}

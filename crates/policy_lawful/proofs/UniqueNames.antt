@@ -6,7 +6,7 @@ use Rattle.std.proofs.lemmas.List.{append-nil, append_assoc}
 use Rattle.muen_num.specs.Search.{first_in, first_after, unless}
 use Rattle.std.specs.Str.{bytes_eq}
 use Rattle.policy_lawful.specs.Offences.{alone}
-use Rattle.policy_lawful.specs.Rules.{device_kinds, kinds_of_names, logical_names, offence_1, repeated}
+use Rattle.policy_lawful.specs.Rules.{device_kinds, logical_names, offence_1, repeated}
 use Rattle.policy_lawful.specs.Resolution.{Resolution, group_named, source_of, subject_named}
 use Rattle.policy_lawful.specs.declared.offence.Offence.{Offence}
 use Rattle.policy_types.specs.declared.source.Component.{Component}

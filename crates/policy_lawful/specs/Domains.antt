@@ -1,8 +1,8 @@
 -- The rules on domains of devices and on monitors, each by its first offence (Muen system policy: device domains, in this
 -- project's profile; Intel VT-d: source identifiers). Rules 21 to 23 go condition by condition, each over all the document.
-use Rattle.std.specs.Prelude.{ℕ, ◌+◌, ◌==◌, ◌&&◌, not, Bool, true, false, List, [], ◌∷◌, ◌++◌, length, map, codes, nat_lt, nat_le, Option, Some, None, is_some, option_map, option_and_then}
+use Rattle.std.specs.Prelude.{ℕ, ◌+◌, ◌==◌, ◌&&◌, not, Bool, true, false, List, [], ◌∷◌, length, map, codes, nat_lt, nat_le, Option, Some, None, is_some}
 use Rattle.std.specs.Option.{option_map_or}
-use Rattle.std.specs.List.{find, list_any, flat_map, filter_map}
+use Rattle.std.specs.List.{find, list_any, flat_map}
 use Rattle.std.specs.Str.{bytes_eq}
 use Rattle.muen_num.specs.declared.limits.TheConstants.{BDF_DEVICES, BDF_FUNCTIONS, GUEST_END, MOST_DOMAINS}
 use Rattle.muen_num.specs.Search.{first_of, first_in, first_after, first_pair, unless}
@@ -14,8 +14,6 @@ use Rattle.policy_types.specs.Rights.{has}
 use Rattle.policy_types.specs.declared.rights.Rights.{Rights}
 use Rattle.policy_types.specs.declared.rights.TheConstants.Rights.{EXECUTE}
 use Rattle.policy_types.specs.declared.source.Bdf.{Bdf}
-use Rattle.policy_types.specs.declared.source.Device.{Device}
-use Rattle.policy_types.specs.declared.source.Domain.{Domain}
 use Rattle.policy_types.specs.declared.source.Mapping.{Mapping}
 use Rattle.policy_types.specs.declared.source.Monitor.{Monitor}
 use Rattle.policy_types.specs.declared.source.Source.{Source}

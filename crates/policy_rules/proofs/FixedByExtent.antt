@@ -1,27 +1,26 @@
 -- Rule 19 is the shared search: each fixed region lies in a block, and no two share an address.
-use Rattle.std.proofs.Common.{◌≡◌, ℕ, zero, suc, ◌≤◌, Bool, true, false, not, List, [], ◌∷◌, length, map, take, cond, Option, Some, None, refl, sym, ap, ◌∙◌}
-use Rattle.std.specs.Prelude.{◌&&◌, ◌+◌, nat_le, nat_lt, option_map, slice_get}
+use Rattle.std.proofs.Common.{◌≡◌, ℕ, zero, suc, ◌≤◌, Bool, true, not, List, [], ◌∷◌, length, take, cond, Option, Some, None, refl, sym, ap, ◌∙◌}
+use Rattle.std.specs.Prelude.{◌&&◌, ◌+◌, nat_lt, option_map, slice_get}
 use Rattle.std.specs.Option.{option_or}
-use Rattle.std.specs.List.{cons_option, filter_map, list_all, list_any, position_or_len}
+use Rattle.std.specs.List.{cons_option, list_all, position_or_len}
 use Rattle.std.proofs.lemmas.Bool.{and_from, and_parts}
 use Rattle.std.proofs.Math.Seq.{take-nil}
 use Rattle.std.proofs.lemmas.List.Sums.{prefix_len-le-length}
-use Rattle.muen_num.specs.Search.{first_in, first_after, first_pair, unless}
+use Rattle.muen_num.specs.Search.{first_pair}
 use Rattle.muen_num.proofs.FirstPair.{first_pair-append}
 use Rattle.muen_num.proofs.Lists.{list_any-map}
-use Rattle.muen_num.proofs.SearchLaws.{none_both, option_or-None}
+use Rattle.muen_num.proofs.SearchLaws.{none_both}
 use Rattle.policy_extents.specs.Inside.{holds}
 use Rattle.policy_extents.specs.Inside as inside
 use Rattle.policy_extents.specs.Span.{span_of}
 use Rattle.policy_extents.proofs.OwnThenPairs.{breaks_at_first, first_fault_is}
 use Rattle.policy_lawful.specs.ByPlace.{block_extent}
-use Rattle.policy_lawful.specs.MoreRules.{fixed_extent, fixed_offence, is_inside, offence_19}
+use Rattle.policy_lawful.specs.MoreRules.{is_inside, offence_19}
 use Rattle.policy_lawful.specs.Offences.{alone}
 use Rattle.policy_lawful.specs.Resolution.{Resolution, source_of}
 use Rattle.policy_lawful.specs.Rules.{first_overlap, is_alignment, is_fixed, is_laid, is_page_aligned, is_page_size, offence_4, offence_18, overlapping}
 use Rattle.policy_lawful.specs.declared.offence.Extent.{Extent}
 use Rattle.policy_lawful.proofs.KeptAddresses.{addresses_kept}
-use Rattle.policy_types.specs.declared.source.Block.{Block}
 use Rattle.policy_types.specs.declared.source.Region.{Region}
 use Rattle.policy_rules.specs.Windows.{device_extents}
 use Rattle.policy_rules.proofs.RangesByPlace.{blocks_sized}

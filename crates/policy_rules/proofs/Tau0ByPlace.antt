@@ -1,12 +1,11 @@
 -- Who chooses the major frames, by what subjects see.
-use Rattle.std.proofs.Common.{◌≡◌, ℕ, Bool, true, List, [], ◌∷◌, map, Option, Some, None, refl, sym, ap, ◌∙◌}
-use Rattle.std.specs.Prelude.{◌&&◌, ◌||◌, ◌==◌, codes, length}
+use Rattle.std.proofs.Common.{◌≡◌, ℕ, true, List, map, Some, None, refl, sym, ap, ◌∙◌}
+use Rattle.std.specs.Prelude.{◌&&◌, codes}
 use Rattle.std.specs.Option.{option_or}
-use Rattle.std.specs.List.{list_all, list_any}
+use Rattle.std.specs.List.{list_any}
 use Rattle.std.specs.Str.{bytes_eq}
-use Rattle.std.proofs.lemmas.Bool.{and_parts}
 use Rattle.muen_num.specs.declared.access.Kind.TheVariants.{Write}
-use Rattle.muen_num.specs.Search.{first_in, unless}
+use Rattle.muen_num.specs.Search.{unless}
 use Rattle.muen_num.proofs.Lists.{all_true, list_any-map}
 use Rattle.muen_num.proofs.SearchLaws.{option_or-None}
 use Rattle.policy_lawful.specs.Offences.{two}

@@ -136,10 +136,7 @@ fn of_frames(policy: &Resolved) -> Option<Offence>
 /// The first offence against rule 16, if any: of a major frame, else of who chooses them.
 ///
 /// Answers `NoMemory` where memory was refused.
-pub(crate) fn major_frames(
-    alloc: Global,
-    policy: &Resolved,
-) -> Result<Option<Offence>, NoMemory>
+pub(crate) fn major_frames(alloc: Global, policy: &Resolved) -> Result<Option<Offence>, NoMemory>
     ensures { IfOk result (λ o. o ≡ offence_16 (source_of policy.now)) }
 {
     match of_frames(policy) {

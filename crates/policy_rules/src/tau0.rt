@@ -28,9 +28,7 @@ fn is_on_named(name: Name, view: &View) -> bool
 fn may_write(name: Name, views: &[View]) -> bool
     ensures { result ≡ list_any (may_write name) views.now }
 {
-    views
-        .iter()
-        .any(|view| is_on_named(name, view) && view.rights.allows(Kind::Write))
+    views.iter().any(|view| is_on_named(name, view) && view.rights.allows(Kind::Write))
 }
 
 // Whether this subject is the one that chooses, and may write the region.
@@ -74,16 +72,10 @@ fn is_declared(subjects: &[Subject], name: Name) -> bool
 fn has_own_region(memory: &[Region], name: Name) -> bool
     ensures { result ≡ list_any (is_own_region name) memory.now }
 {
-    memory
-        .iter()
-        .any(|region| region.name == name && region.shared_memory.is_empty())
+    memory.iter().any(|region| region.name == name && region.shared_memory.is_empty())
 }
 
-fn of_chooser(
-    alloc: Global,
-    policy: &Resolved,
-    chooser: &Tau0,
-) -> Result<Option<Offence>, NoMemory>
+fn of_chooser(alloc: Global, policy: &Resolved, chooser: &Tau0) -> Result<Option<Offence>, NoMemory>
     ensures { IfOk result (λ o. o ≡ chooser_offence policy.now chooser.now) }
 {
     if !is_declared(policy.subjects(), chooser.subject) {

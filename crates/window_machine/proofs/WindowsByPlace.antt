@@ -1,25 +1,22 @@
 -- The windows of a subject with mappings alone are these, each on the region at its place.
-use Rattle.std.proofs.Common.{◌≡◌, ℕ, ◌<◌, true, List, [], ◌∷◌, ◌++◌, length, map, Some, None, refl, sym, ap, ◌∙◌, append-nil}
+use Rattle.std.proofs.Common.{◌≡◌, ℕ, ◌<◌, true, List, [], ◌∷◌, length, map, Some, None, refl, ap, ◌∙◌, append-nil}
 use Rattle.std.specs.Prelude.{nat_lt, option_map}
 use Rattle.std.specs.List.{find, list_all, filter_map, cons_option}
 use Rattle.std.specs.Str.{bytes_eq}
 use Rattle.std.proofs.lemmas.Option.{slice_get-get_or}
-use Rattle.std.proofs.lemmas.List.Folds.{list_all-map}
-use Rattle.std.proofs.lemmas.Bool.{and_from, and_parts, ltb-true}
+use Rattle.std.proofs.lemmas.Bool.{and_parts, ltb-true}
 use Rattle.policy_lawful.specs.Rules.{repeated, window_extent, window_extents, offence_1}
-use Rattle.policy_lawful.specs.Resolution.{Resolution, name_at, mapping_named, subject_named, source_of, subject_placed, are_placed}
+use Rattle.policy_lawful.specs.Resolution.{Resolution, name_at, mapping_named, subject_named, source_of}
 use Rattle.policy_meaning.specs.Thing.{region}
 use Rattle.policy_meaning.specs.Windows.{window, region_window, windows_of}
 use Rattle.policy_types.specs.declared.rights.Rights.{Rights}
 use Rattle.policy_types.specs.declared.source.Source.{Source}
 use Rattle.policy_types.specs.declared.source.Region.{Region}
-use Rattle.policy_types.specs.declared.source.Channel.{Channel}
 use Rattle.policy_lawful.specs.declared.resolved.Mapping.{Mapping}
 use Rattle.policy_lawful.specs.declared.resolved.Subject.{Subject}
-use Rattle.muen_num.proofs.Lists.{each_of, map-map}
+use Rattle.muen_num.proofs.Lists.{map-map}
 use Rattle.policy_lawful.proofs.Places.{found_at_place}
 use Rattle.window_machine.proofs.PlainSubjects.{plain}
-use Rattle.policy_lawful.proofs.SourceElements.{parts_placed}
 use Rattle.policy_lawful.proofs.UniqueNames.{unique}
 use Rattle.window_machine.specs.ByPlace.{is_plain, no_region, region_at, mapping_window, mapping_extent}
 
