@@ -1,5 +1,5 @@
 -- From a lawful policy whose contents are held against files to one that is accepted.
-use Rattle.std.proofs.Common.{◌≡◌, ℕ, inl, inr, ◌⊎◌, List, [], ◌∷◌, Option, Some, None, Ok, Err, ap, ◌∙◌}
+use Rattle.std.proofs.Common.{◌≡◌, ℕ, inl, inr, List, [], ◌∷◌, Ok, Err, ap, ◌∙◌}
 use Rattle.muen_num.specs.Answers.{Answers}
 use Rattle.muen_outside.specs.States.{FilesState}
 use Rattle.policy_lawful.specs.Lawful.{kept_or}
@@ -7,7 +7,7 @@ use Rattle.policy_types.specs.declared.refusal.Refusal.{Refusal}
 use Rattle.policy_types.specs.declared.refusal.Refusal.TheVariants.{NoMemory}
 use Rattle.policy_types.specs.declared.source.Source.{Source}
 use Rattle.muen_build.specs.Accepting.{Accepts, Ends, Files, Passes, Refuses, RefusesDocument, looks_of, of_all}
-use Rattle.muen_build.specs.Looks.{Look, document_look}
+use Rattle.muen_build.specs.Looks.{document_look}
 use Rattle.muen_build.specs.Refusals.{contents_refused, filled_of, lawful_policy_of}
 use Rattle.muen_build.specs.declared.accepted.BuildEnd.{BuildEnd}
 use Rattle.muen_build.specs.declared.accepted.BuildEnd.TheVariants.{Refused}

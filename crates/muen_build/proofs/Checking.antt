@@ -8,7 +8,6 @@ use Rattle.muen_num.proofs.SearchLaws.{first_in-append, first_over-map}
 use Rattle.muen_outside.specs.States.{FilesState}
 use Rattle.muen_outside.specs.Store.{Store}
 use Rattle.policy_types.specs.declared.refusal.Refusal.{Refusal}
-use Rattle.policy_types.specs.declared.source.Content.{Content}
 use Rattle.policy_types.specs.declared.source.Content.TheVariants.{File, Fill, Inline, Zero}
 use Rattle.muen_build.specs.Accepting.{Ends, Files, Grows, Known, NotFound, Passes, Refuses, Why, looks_of, of_all, of_brought, of_filled, part_length}
 use Rattle.muen_build.specs.Filling.{brought_at, filled_provided, filled_region, provided_at}

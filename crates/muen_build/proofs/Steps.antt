@@ -1,23 +1,20 @@
 -- One file, one content, and all of them.
-use Rattle.std.proofs.Common.{◌≡◌, inl, inr, ◌⊎◌, ℕ, ◌+◌, ◌≤◌, ◌<◌, ◌-◌, min, true, false, List, [], ◌∷◌, ◌++◌, length, map, take, drop, get_or, Option, Some, None, refl, sym, ap, subst, ◌∙◌, arith}
+use Rattle.std.proofs.Common.{◌≡◌, inl, inr, ℕ, min, true, false, List, [], ◌∷◌, ◌++◌, length, map, drop, Option, Some, None, refl, sym, ap, subst, ◌∙◌, arith}
 use Rattle.std.specs.Prelude.{nat_le, option_map, if◌then◌else◌}
 use Rattle.std.specs.Str.{bytes_eq}
 use Rattle.std.specs.FinMap.{get}
 use Rattle.std.proofs.lemmas.Bool.{false≢true}
 use Rattle.std.proofs.lemmas.List.{length-take, length-drop, map_push}
 use Rattle.std.proofs.lemmas.Slice.Eq.{bytes_eq-Decides}
-use Rattle.muen_num.specs.Search.{first_in}
 use Rattle.muen_num.specs.declared.limits.TheConstants.{COMPONENT_FILE_MOST, POLICY_MOST}
-use Rattle.muen_num.proofs.FirstSteps.{first_step}
-use Rattle.muen_outside.specs.Counts.{Rose}
 use Rattle.muen_outside.specs.States.{FilesState}
 use Rattle.muen_outside.specs.Store.{Store, Reading, whole, absent, long, reading_of, find_bytes}
 use Rattle.policy_meaning.specs.Contents.{file_part}
 use Rattle.policy_types.specs.declared.refusal.Refusal.{Refusal}
 use Rattle.policy_types.specs.declared.refusal.Refusal.TheVariants.{FileFit, Missing, NoMemory, NoRoom, NotJson, Rule, Shape, TooLong}
-use Rattle.muen_build.specs.Accepting.{Ends, Files, Grows, Has, IsAdded, Known, NotFound, NotRead, RefusedFor, looks_of, part_length}
-use Rattle.muen_build.specs.Looks.{AreOthers, Follows, Look, Saw, Seen, ShowAll, Shows, document_look, file_look, look}
-use Rattle.muen_build.specs.Refusals.{Filled, content_refused, file_refused, filled_refused, is_for_a_file, too_long_for}
+use Rattle.muen_build.specs.Accepting.{Ends, Files, Grows, IsAdded, Known, NotFound, NotRead, looks_of, part_length}
+use Rattle.muen_build.specs.Looks.{AreOthers, Follows, Look, Saw, ShowAll, document_look, file_look, look}
+use Rattle.muen_build.specs.Refusals.{Filled, file_refused, is_for_a_file, too_long_for}
 use Rattle.muen_build.specs.declared.accepted.BuildEnd.{BuildEnd}
 use Rattle.muen_build.specs.declared.accepted.BuildEnd.TheVariants.{FileFault, Refused}
 use Rattle.muen_build.proofs.Looks.{seen_also, show_before, show_last, wider}

@@ -1,18 +1,18 @@
 -- What accepting a policy has seen of files, and what it comes to.
-use Rattle.std.specs.Prelude.{◌≡◌, ◌⊎◌, ℕ, true, List, [], ◌∷◌, ◌++◌, ◌-◌, min, length, map, Option, Some, None, Result, Ok, Err}
+use Rattle.std.specs.Prelude.{◌≡◌, ◌⊎◌, ℕ, true, List, [], ◌∷◌, ◌++◌, ◌-◌, min, length, map, Option, Some, None, Ok, Err}
 use Rattle.std.specs.FinMap.{get}
 use Rattle.muen_num.specs.Search.{first_in}
 use Rattle.muen_num.specs.declared.limits.TheConstants.{COMPONENT_FILE_MOST}
 use Rattle.muen_outside.specs.Counts.{Rose}
 use Rattle.muen_outside.specs.States.{FilesState}
-use Rattle.muen_outside.specs.Store.{Store, Reading, whole, absent, long, reading_of}
+use Rattle.muen_outside.specs.Store.{Store, whole, absent, long, reading_of}
 use Rattle.policy_types.specs.declared.refusal.Refusal.{Refusal}
 use Rattle.policy_types.specs.declared.refusal.Refusal.TheVariants.{Missing, TooLong, NoMemory}
 use Rattle.policy_lawful.specs.declared.resolved.Subject.{Subject}
 use Rattle.policy_types.specs.declared.source.Component.{Component}
 use Rattle.policy_types.specs.declared.source.Source.{Source}
 use Rattle.muen_build.specs.Filling.{brought_at}
-use Rattle.muen_build.specs.Looks.{AreOthers, Look, Saw, Seen, ShowAll, document_look, file_look, look}
+use Rattle.muen_build.specs.Looks.{Look, Saw, Seen, ShowAll, document_look, file_look}
 use Rattle.muen_build.specs.Refusals.{Filled, accepted_policy_of, filled_refused, is_for_a_file}
 use Rattle.muen_build.specs.declared.accepted.BuildEnd.{BuildEnd}
 use Rattle.muen_build.specs.declared.accepted.BuildEnd.TheVariants.{FileFault, Refused}

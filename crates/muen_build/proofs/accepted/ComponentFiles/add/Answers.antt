@@ -1,5 +1,5 @@
 -- A name that wasn't there goes last.
-use Rattle.std.proofs.Common.{◌∙◌, sym, ap}
+use Rattle.std.proofs.Common.{◌∙◌}
 use Rattle.std.specs.Str.{bytes_eq}
 use Rattle.indexmap.proofs.CallerLemmas.{insert_entry-new}
 use Rattle.muen_build.proofs.accepted.ComponentFiles.add.Goals as goal
