@@ -1,12 +1,12 @@
 -- What `boot` answers, as its files are read.
-use Rattle.std.proofs.Common.{◌≡◌, inl, inr, ◌⊎◌, ℕ, ◌≤◌, List, [], ◌∷◌, Option, Some, None, Result, Ok, Err, IfSome, refl, sym, ap, subst, ◌∙◌, arith}
-use Rattle.std.specs.Prelude.{true, false, if◌then◌else◌, option_map}
+use Rattle.std.proofs.Common.{◌≡◌, inl, inr, ℕ, ◌≤◌, List, [], ◌∷◌, Option, Some, None, Result, Ok, Err, IfSome, refl, sym, ap, subst, ◌∙◌, arith}
+use Rattle.std.specs.Prelude.{true, option_map}
 use Rattle.std.specs.FinMap.{get}
 use Rattle.muen_num.specs.Answers.{Explains}
 use Rattle.muen_num.specs.declared.limits.TheConstants.{POLICY_MOST, RECORD_MOST}
 use Rattle.muen_build.specs.Accepting.{Accepts, Ends, Files, Grows, RefusedFor, RefusesDocument, looks_of}
-use Rattle.muen_build.specs.Looks.{Explained, Follows, Look, Saw, Seen, ShowAll, document_look, look}
-use Rattle.muen_build.specs.Refusals.{accepted_policy_of, contents_refused, is_for_a_file}
+use Rattle.muen_build.specs.Looks.{Explained, Follows, Look, Saw, Seen, document_look, look}
+use Rattle.muen_build.specs.Refusals.{accepted_policy_of, is_for_a_file}
 use Rattle.muen_build.specs.declared.accepted.BuildEnd.{BuildEnd}
 use Rattle.muen_build.specs.declared.accepted.BuildEnd.TheVariants.{Refused as RefusedPolicy, FileFault as FaultOfFiles}
 use Rattle.muen_build.proofs.Looks.{explained, seen_first}
@@ -16,14 +16,13 @@ use Rattle.muen_outside.specs.States.{FilesState, SinkState}
 use Rattle.muen_outside.specs.Store.{Store, Reading, whole, absent, long, reading_of}
 use Rattle.policy_lawful.specs.Lawful.{kept_or}
 use Rattle.policy_meaning.specs.Contents.{Held, no_files}
-use Rattle.policy_types.specs.Refusals.{is_no_memory}
 use Rattle.policy_types.specs.declared.refusal.Refusal.{Refusal}
 use Rattle.policy_types.specs.declared.refusal.Refusal.TheVariants.{NotJson, Shape, Rule, Missing as MissingFile, TooLong as TooLongFile, FileFit, NoRoom, NoMemory as NoMemoryFor}
 use Rattle.policy_types.specs.declared.source.Source.{Source}
 use Rattle.subject_model.specs.DeviceRecord.{DeviceRecord}
 use Rattle.subject_model.specs.Run.{trace_of}
 use Rattle.window_machine.specs.Start.{CanLoad}
-use Rattle.muen_top.specs.Answers.{Answer, prints, stops, missing, too_long, refused, record_refused, of_file, carried_answer, policy_answer, record_answer, run_answer, boot_answer}
+use Rattle.muen_top.specs.Answers.{Answer, prints, stops, missing, too_long, record_refused, of_file, carried_answer, policy_answer, run_answer, boot_answer}
 use Rattle.muen_top.specs.Calls.{ComesOf, Came}
 use Rattle.muen_top.specs.Commands.{Command, boot}
 use Rattle.muen_top.specs.FilesSeen.{SawToo, ShownBoth}

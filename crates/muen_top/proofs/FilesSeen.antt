@@ -1,10 +1,10 @@
 -- Files that explain what was seen of two.
-use Rattle.std.proofs.Common.{◌≡◌, ℕ, ◌≤◌, List, [], ◌∷◌, Option, Some, None, IfSome, sym, ap, subst, ◌∙◌}
+use Rattle.std.proofs.Common.{ℕ, ◌≤◌, List, [], ◌∷◌, sym, ap, subst, ◌∙◌}
 use Rattle.std.specs.FinMap.{get}
 use Rattle.muen_build.specs.Looks.{Follows, Saw, Seen, look}
 use Rattle.muen_build.proofs.Looks.{explained, seen_also, seen_first, wider}
 use Rattle.muen_outside.specs.States.{FilesState}
-use Rattle.muen_outside.specs.Store.{Store, Reading, whole, reading_of}
+use Rattle.muen_outside.specs.Store.{Reading, whole, reading_of}
 use Rattle.muen_top.specs.FilesSeen.{SawToo, same, another, ShownBoth}
 
 -- what two reads have seen, where a name that was read before isn't read again

@@ -1,6 +1,6 @@
 -- What is lacking of a resolved policy is what is of its source; and the machine can load a policy of which nothing is.
-use Rattle.std.proofs.Common.{◌≡◌, ℕ, ◌+◌, ◌≤◌, Bool, true, false, not, cond, List, [], ◌∷◌, ◌++◌, length, map, Option, Some, None, refl, sym, ap, ◌∙◌, arith}
-use Rattle.std.specs.Prelude.{◌&&◌, ◌==◌, is_some, nat_le, option_map}
+use Rattle.std.proofs.Common.{◌≡◌, ℕ, ◌+◌, ◌≤◌, true, false, not, cond, List, [], ◌∷◌, ◌++◌, length, map, Option, Some, None, refl, sym, ap, ◌∙◌, arith}
+use Rattle.std.specs.Prelude.{◌==◌, is_some, nat_le, option_map}
 use Rattle.std.specs.List.{find, flat_map, list_all, enumerate_from}
 use Rattle.std.specs.Str.{bytes_eq}
 use Rattle.std.specs.Option.{option_or}
@@ -10,7 +10,7 @@ use Rattle.muen_num.specs.declared.tag.Part.TheVariants.{Whole}
 use Rattle.muen_num.specs.Search.{first_in, first_of, unless}
 use Rattle.muen_num.proofs.SameAnswers.{both_named}
 use Rattle.muen_num.proofs.SearchLaws.{none_both, option_or-None, option_or_assoc, unless_none}
-use Rattle.muen_build.specs.Refusals.{Filled, content_refused, contents_refused, filled_by, filled_of, filled_refused, too_long_for}
+use Rattle.muen_build.specs.Refusals.{Filled, content_refused, contents_refused, filled_by, filled_of, filled_refused}
 use Rattle.policy_lawful.specs.Resolution.{Resolution, source_of, subject_named}
 use Rattle.policy_lawful.specs.declared.resolved.Subject.{Subject as PlacedSubject}
 use Rattle.policy_meaning.specs.Contents.{Held, fits_in}
@@ -26,7 +26,6 @@ use Rattle.window_machine.specs.ByPlace.{is_empty}
 use Rattle.window_machine.specs.Start.{CanLoad, has_fitting_content, has_memory_alone}
 use Rattle.muen_top.specs.Lacking.{is_file, is_none, lacking, region_lack, subject_lack, system_lack}
 use Rattle.muen_top.specs.Lacks.{placed_lack, system_lacks}
-use Rattle.muen_top.specs.declared.lacking.Lack.{Lack}
 use Rattle.muen_top.specs.declared.lacking.Lack.TheVariants.{Memory, Subject as SubjectAt, Tau0}
 use Rattle.muen_top.specs.declared.lacking.RegionKey.TheVariants.{SharedMemory, File as FileKey}
 use Rattle.muen_top.specs.declared.lacking.SubjectKey.TheVariants as key

@@ -1,6 +1,6 @@
 -- What of a policy the machine of `boot` lacks, by its place in the document (this project's own). It looks windows up in
 -- a list, on one CPU, and keeps the regions that the policy itself fills.
-use Rattle.std.specs.Prelude.{ℕ, List, [], ◌∷◌, ◌++◌, ◌==◌, Bool, true, false, not, codes, decimal, length, nat_le, Option, Some, None, is_some, option_map}
+use Rattle.std.specs.Prelude.{ℕ, List, [], ◌∷◌, ◌++◌, ◌==◌, Bool, true, false, not, codes, decimal, length, nat_le, Option, is_some, option_map}
 use Rattle.std.specs.List.{enumerate_from}
 use Rattle.muen_num.specs.Search.{first_of, first_in, unless}
 use Rattle.policy_types.specs.declared.refusal.Refusal.{Refusal}

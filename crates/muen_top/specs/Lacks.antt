@@ -1,5 +1,5 @@
 -- What of a resolved policy the machine of `boot` lacks, and what a call answers that looks for it.
-use Rattle.std.specs.Prelude.{◌≡◌, ◌⊎◌, ℕ, [], ◌∷◌, length, nat_le, Option, Some, None, option_map, Result, Ok, Err}
+use Rattle.std.specs.Prelude.{◌≡◌, ℕ, [], ◌∷◌, nat_le, Option, None, option_map, Result, Ok, Err}
 use Rattle.muen_num.specs.Answers.{Explains}
 use Rattle.muen_num.specs.Search.{first_of, unless}
 use Rattle.policy_lawful.specs.Resolution.{Resolution}
