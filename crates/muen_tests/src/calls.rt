@@ -202,7 +202,7 @@ fn answers(rt: HostRuntime) -> Result<(), Fail> {
             &["boot", "two", "three"],
             2,
             b"",
-            b"muen: shape at /processor/logicalCpus: want not yet built\n",
+            b"muen: rule 20: subjects subjects\n",
         ),
         (
             &["boot", "bare", "three"],
