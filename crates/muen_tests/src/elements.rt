@@ -177,20 +177,6 @@ rule 24: m s | "monitors":[=>"monitors":[{"subject":"s","virtualAddress":0,"righ
 rule 24: m s | "virtualAddress":7340032,"rights":"r"=>"virtualAddress":7340032,"rights":"rx"
 lawful | "virtualAddress":7340032,"rights":"r"=>"virtualAddress":7340032,"rights":"rw""#;
 
-// The document with these changes.
-fn changed(alloc: Global, changes: &[&str]) -> Result<String, Fail> {
-    let mut text = String::from_str(alloc, WHOLE)?;
-    for change in changes {
-        match change.split_once("=>") {
-            Some((old, new)) if text.as_str().contains(old) => {
-                text = text.as_str().replacen(alloc, old, new, 1)?;
-            }
-            _ => return Err(Fail::new("no such place")),
-        }
-    }
-    Ok(text)
-}
-
 // What reading, resolving and checking a document answers.
 fn answer(alloc: Global, text: &str) -> Result<String, Fail> {
     match lawful(alloc, text.as_bytes()) {
@@ -208,13 +194,117 @@ fn elements(rt: HostRuntime) -> Result<(), Fail> {
         PLAN_AND_DOMAINS,
     ] {
         for row in rows.split('\n') {
-            let mut parts = Vec::new(alloc);
+            let mut text = String::from_str(alloc, WHOLE)?;
+            let mut want = "";
             for part in row.split(" | ") {
-                parts.push(part)?;
+                match part.split_once("=>") {
+                    None => want = part,
+                    Some((old, new)) => {
+                        assert!(rt; text.as_str().contains(old), "{row}");
+                        text = text.as_str().replacen(alloc, old, new, 1)?;
+                    }
+                }
             }
-            let text = changed(alloc, &parts[1..])?;
-            assert_eq!(rt; answer(alloc, text.as_str())?.as_str(), parts[0], "{row}");
+            assert_eq!(rt; answer(alloc, text.as_str())?.as_str(), want, "{row}");
         }
+    }
+    Ok(())
+}
+
+// The document with so many items before each of these places; `@` in an item is its number.
+fn longer(alloc: Global, lists: &[(&str, &str)], count: u32) -> Result<String, Fail> {
+    let mut text = String::from_str(alloc, WHOLE)?;
+    for (place, item) in lists {
+        let mut items = String::new(alloc);
+        for i in 0..count {
+            items.push_str(
+                item.replace(alloc, '@', i.to_string(alloc)?.as_str())?
+                    .as_str(),
+            )?;
+            items.push(',')?;
+        }
+        items.push_str(place)?;
+        text = text.as_str().replacen(alloc, *place, items.as_str(), 1)?;
+    }
+    Ok(text)
+}
+
+#[test]
+fn longest_lists(rt: HostRuntime) -> Result<(), Fail> {
+    let alloc = rt.alloc();
+    // The places, how many items are lawful there, and the answer to one more.
+    let cases: [(&[(&str, &str)], u32, &str); 9] = [
+        (
+            &[(r#"{"name":"net""#, r#"{"name":"x@"}"#)],
+            30,
+            "rule 20: devices devices",
+        ),
+        (
+            &[(
+                r#"{"name":"buf""#,
+                r#"{"name":"x@","physicalAddress":"16#9@000#","size":4096}"#,
+            )],
+            14,
+            "rule 20: net net",
+        ),
+        (
+            &[(r#"{"name":"p0""#, r#"{"name":"x@","start":7@,"end":7@}"#)],
+            14,
+            "rule 20: net net",
+        ),
+        (
+            &[(r#"{"name":"rx""#, r#"{"name":"x@"}"#)],
+            15,
+            "rule 20: net net",
+        ),
+        (
+            &[
+                (r#"{"name":"job""#, r#"{"name":"x@","size":4096}"#),
+                (
+                    r#"{"channel":"log","role":"writer""#,
+                    r#"{"channel":"x@","role":"writer","virtualAddress":"16#9@000#"}"#,
+                ),
+                (
+                    r#"{"channel":"log","role":"reader""#,
+                    r#"{"channel":"x@","role":"reader","virtualAddress":"16#9@000#"}"#,
+                ),
+            ],
+            126,
+            "rule 20: channels channels",
+        ),
+        (
+            &[(r#"{"name":"feed""#, r#"{"name":"x@"}"#)],
+            63,
+            "rule 20: components components",
+        ),
+        (
+            &[(
+                r#"{"logical":"text""#,
+                r#"{"logical":"x@","virtualAddress":"16#8@000#","size":4096,"rights":"r"}"#,
+            )],
+            61,
+            "rule 20: feed feed",
+        ),
+        (
+            &[(r#"{"name":"page""#, r#"{"name":"x@","size":4096}"#)],
+            984,
+            "rule 20: memory memory",
+        ),
+        (
+            &[(r#"{"name":"d0""#, r#"{"name":"x@"}"#)],
+            30,
+            "rule 21: deviceDomains deviceDomains",
+        ),
+    ];
+    for (lists, most, want) in cases {
+        let lawful = longer(alloc, lists, most)?;
+        assert_eq!(rt;
+            answer(alloc, lawful.as_str())?.as_str(),
+            "lawful",
+            "{want}"
+        );
+        let broken = longer(alloc, lists, most.saturating_add(1))?;
+        assert_eq!(rt; answer(alloc, broken.as_str())?.as_str(), want);
     }
     Ok(())
 }
