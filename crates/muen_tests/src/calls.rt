@@ -111,7 +111,10 @@ const LOOP: &[u8] = b"{\"processor\":{\"logicalCpus\":1},\
 \"scheduling\":{\"groups\":[{\"name\":\"g\",\"cpu\":0,\"subjects\":[\"one\"]}],\
 \"majorFrames\":[{\"cpus\":[{\"cpu\":0,\"minorFrames\":[{\"group\":\"g\",\"ticks\":10}]}]}]}}";
 
-const TWO_CPUS: &[u8] = b"{\"processor\":{\"logicalCpus\":2},\"scheduling\":{}}";
+const TWO_CPUS: &[u8] = b"{\"processor\":{\"logicalCpus\":2},\
+\"subjects\":[{\"name\":\"one\",\"cpu\":0,\"entry\":0},{\"name\":\"two\",\"cpu\":1,\"entry\":0}],\
+\"scheduling\":{\"groups\":[{\"name\":\"g\",\"cpu\":0,\"subjects\":[\"one\"]},{\"name\":\"h\",\"cpu\":1,\"subjects\":[\"two\"]}],\
+\"majorFrames\":[{\"cpus\":[{\"cpu\":0,\"minorFrames\":[{\"group\":\"g\",\"ticks\":1}]},{\"cpu\":1,\"minorFrames\":[{\"group\":\"h\",\"ticks\":1}]}]}]}}";
 
 const NO_SUBJECT: &[u8] = b"{\"processor\":{\"logicalCpus\":1},\"scheduling\":{}}";
 
@@ -316,6 +319,150 @@ fn contents(rt: HostRuntime) -> Result<(), Fail> {
     Ok(())
 }
 
+// Contents from files: regions of memory, and a component whose regions the subject gets.
+const FROM_FILES: &str = r#"{"processor":{"logicalCpus":1},"memory":[MEMORY],
+"subjects":[{"name":"one","cpu":0,"entry":0}],
+"scheduling":{"groups":[{"name":"g","cpu":0,"subjects":["one"]}],
+"majorFrames":[{"cpus":[{"cpu":0,"minorFrames":[{"group":"g","ticks":1}]}]}]}}"#;
+
+const PROVIDED: &str = r#"{"processor":{"logicalCpus":1},"memory":[MEMORY],
+"components":[{"name":"feed","provides":[{"logical":"text","virtualAddress":0,"size":4096,"rights":"r","content":{"file":"long"}}]}],
+"subjects":[{"name":"one","cpu":0,"entry":0,"component":{"ref":"feed"}}],
+"scheduling":{"groups":[{"name":"g","cpu":0,"subjects":["one"]}],
+"majorFrames":[{"cpus":[{"cpu":0,"minorFrames":[{"group":"g","ticks":1}]}]}]}}"#;
+
+// The policy `p` names files of a page and of 5000 bytes; call 0 reads the policy. The record's file
+// is absent: what the machine lacks comes before it.
+#[test]
+fn component_files(rt: HostRuntime) -> Result<(), Fail> {
+    let alloc = rt.alloc();
+    let cases: [(&str, &str, &[u64], u8, &[u8]); 15] = [
+        (
+            FROM_FILES,
+            r#"{"name":"r","size":4096,"content":{"file":"nothing"}}"#,
+            &[],
+            3,
+            b"muen: missing file nothing\n",
+        ),
+        (
+            FROM_FILES,
+            r#"{"name":"r","size":4096,"content":{"file":"page"}}"#,
+            &[],
+            2,
+            b"muen: shape at /memory/0/content/file: want not yet built\n",
+        ),
+        (
+            FROM_FILES,
+            r#"{"name":"r","size":4096,"content":{"file":"long"}}"#,
+            &[],
+            2,
+            b"muen: r: 5000 bytes in room for 4096\n",
+        ),
+        (
+            FROM_FILES,
+            r#"{"name":"r","size":4096,"content":{"file":"long","offset":903}}"#,
+            &[],
+            2,
+            b"muen: r: 4097 bytes in room for 4096\n",
+        ),
+        (
+            FROM_FILES,
+            r#"{"name":"q","size":4096},{"name":"r","size":4096,"content":{"file":"long","offset":904}}"#,
+            &[],
+            2,
+            b"muen: shape at /memory/1/content/file: want not yet built\n",
+        ),
+        (
+            FROM_FILES,
+            r#"{"name":"r","size":4096,"content":{"file":"long","length":4096}}"#,
+            &[],
+            2,
+            b"muen: shape at /memory/0/content/file: want not yet built\n",
+        ),
+        (
+            FROM_FILES,
+            r#"{"name":"r","size":4096,"content":{"file":"long","offset":5001,"length":9999}}"#,
+            &[],
+            2,
+            b"muen: shape at /memory/0/content/file: want not yet built\n",
+        ),
+        // Of what comes first in memory.
+        (
+            FROM_FILES,
+            r#"{"name":"r","size":4096,"content":{"file":"nothing"}},{"name":"q","size":4096,"content":{"file":"long"}}"#,
+            &[],
+            3,
+            b"muen: missing file nothing\n",
+        ),
+        (
+            FROM_FILES,
+            r#"{"name":"r","size":4096,"content":{"file":"long"}},{"name":"q","size":4096,"content":{"file":"nothing"}}"#,
+            &[],
+            2,
+            b"muen: r: 5000 bytes in room for 4096\n",
+        ),
+        // A file that is named twice is read once, at call 1; another one at call 2.
+        (
+            FROM_FILES,
+            r#"{"name":"r","size":4096,"content":{"file":"page"}},{"name":"q","size":4096,"content":{"file":"page"}}"#,
+            &[2],
+            2,
+            b"muen: shape at /memory/0/content/file: want not yet built\n",
+        ),
+        (
+            FROM_FILES,
+            r#"{"name":"r","size":4096,"content":{"file":"page"}},{"name":"q","size":8192,"content":{"file":"long"}}"#,
+            &[2],
+            4,
+            b"muen: file fault\n",
+        ),
+        // The policy's own name is no call.
+        (
+            FROM_FILES,
+            r#"{"name":"r","size":4096,"content":{"file":"p"}}"#,
+            &[1],
+            2,
+            b"muen: shape at /memory/0/content/file: want not yet built\n",
+        ),
+        (
+            FROM_FILES,
+            r#"{"name":"r","size":4096,"content":{"file":"page"}}"#,
+            &[1],
+            4,
+            b"muen: file fault\n",
+        ),
+        // Provided regions come after memory.
+        (
+            PROVIDED,
+            r#"{"name":"r","size":4096,"content":{"file":"page"}}"#,
+            &[],
+            2,
+            b"muen: one|text: 5000 bytes in room for 4096\n",
+        ),
+        (
+            PROVIDED,
+            r#"{"name":"r","size":4096,"content":{"file":"nothing"}}"#,
+            &[],
+            3,
+            b"muen: missing file nothing\n",
+        ),
+    ];
+    for (document, memory, fails, status, line) in cases {
+        let mut held = Vec::new(alloc);
+        let policy = document.replacen(alloc, "MEMORY", memory, 1)?;
+        held.push(file(alloc, "p", policy.as_bytes())?)?;
+        held.push((String::from_str(alloc, "page")?, vec![in alloc; 1; 4096]?))?;
+        held.push((String::from_str(alloc, "long")?, vec![in alloc; 1; 5000]?))?;
+        let mut files = MemFiles::make(held, Vec::from_slice(alloc, fails)?);
+        let mut out = MemSink::make(alloc, 10, Vec::new(alloc), 0)?;
+        let ended = call(alloc, &["boot", "p", "absent"], &mut files, &mut out)?;
+        assert_eq!(rt; ended.err.as_slice(), line, "{memory}");
+        assert_eq!(rt; ended.status, status, "{memory}");
+        assert_eq!(rt; ended.out.as_slice(), b"".as_slice());
+    }
+    Ok(())
+}
+
 #[test]
 fn faults(rt: HostRuntime) -> Result<(), Fail> {
     let alloc = rt.alloc();
@@ -376,6 +523,17 @@ fn long_files(rt: HostRuntime) -> Result<(), Fail> {
         String::from_str(alloc, "longer")?,
         vec![in alloc; b' '; 16_777_217]?,
     ))?;
+    held.push((
+        String::from_str(alloc, "component")?,
+        vec![in alloc; b' '; 67_108_865]?,
+    ))?;
+    let text = FROM_FILES.replacen(
+        alloc,
+        "MEMORY",
+        r#"{"name":"r","size":4096,"content":{"file":"component","length":1}}"#,
+        1,
+    )?;
+    held.push(file(alloc, "q", text.as_bytes())?)?;
     let mut files = MemFiles::make(held, Vec::new(alloc));
     let mut out = MemSink::make(alloc, 10, Vec::new(alloc), 0)?;
     let policy = call(alloc, &["boot", "long", "p"], &mut files, &mut out)?;
@@ -389,6 +547,12 @@ fn long_files(rt: HostRuntime) -> Result<(), Fail> {
     assert_eq!(rt;
         inputs.err.as_slice(),
         b"muen: file longer has 16777217 bytes\n".as_slice()
+    );
+    let component = call(alloc, &["boot", "q", "absent"], &mut files, &mut out)?;
+    assert_eq!(rt; component.status, 3);
+    assert_eq!(rt;
+        component.err.as_slice(),
+        b"muen: file component has 67108865 bytes\n".as_slice()
     );
     Ok(())
 }

@@ -4,6 +4,8 @@
 #[cfg(test)]
 mod calls;
 #[cfg(test)]
+mod elements;
+#[cfg(test)]
 mod instructions;
 #[cfg(test)]
 mod rules;

@@ -1,10 +1,9 @@
 //! The rules that a policy must keep, over whole documents. Each row changes a lawful policy in some
 //! places; the answers were worked out by hand.
+use muen_build::lawful;
 use muen_num::Name;
 use muen_num::text::append_decimal32;
-use muen_top::lacking::built;
-use muen_top::muen_build::lawful;
-use policy_types::{Refusal, Source};
+use policy_types::Refusal;
 use std::alloc::Global;
 use std::test::Fail;
 
@@ -64,27 +63,6 @@ fn of_refusal(refusal: &Refusal) -> Answer {
 
 fn answer_to(alloc: Global, text: &[u8]) -> Answer {
     match lawful(alloc, text) {
-        Ok(_) => Answer::Lawful,
-        Err(refusal) => of_refusal(&refusal),
-    }
-}
-
-// The same policy on two CPUs, which are not built.
-fn answer_on_two(alloc: Global, text: &[u8]) -> Answer {
-    let read = match policy_json::read(alloc, text) {
-        Ok(source) => source,
-        Err(refusal) => return of_refusal(&refusal),
-    };
-    let mut source: Source = match built(alloc, read) {
-        Ok(source) => source,
-        Err(refusal) => return of_refusal(&refusal),
-    };
-    source.processor.logical_cpus = 2;
-    let resolved = match policy_names::resolve(alloc, source) {
-        Ok(resolved) => resolved,
-        Err(refusal) => return of_refusal(&refusal),
-    };
-    match policy_rules::check(alloc, resolved) {
         Ok(_) => Answer::Lawful,
         Err(refusal) => of_refusal(&refusal),
     }
@@ -474,6 +452,7 @@ fn rules(rt: HostRuntime) -> Result<(), Fail> {
 
 // The second subject with its group on CPU 1, and frames for both CPUs.
 const ON_TWO: &[(&[u8], &[u8])] = &[
+    (b"\"logicalCpus\":1", b"\"logicalCpus\":2"),
     (b"\"name\":\"b\",\"cpu\":0", b"\"name\":\"b\",\"cpu\":1"),
     (b"\"name\":\"gb\",\"cpu\":0", b"\"name\":\"gb\",\"cpu\":1"),
     (
@@ -490,10 +469,17 @@ const ON_TWO: &[(&[u8], &[u8])] = &[
 fn rules_on_two_cpus(rt: HostRuntime) -> Result<(), Fail> {
     let alloc = rt.alloc();
     let cases: [(&[(&[u8], &[u8])], &[(&[u8], &[u8])], Broken); 6] = [
-        (&[], &[], Some((16, b"major.0", b"cpu.1"))),
         (
             &[],
-            &[(b"\"name\":\"gb\",\"cpu\":0", b"\"name\":\"gb\",\"cpu\":1")],
+            &[(b"\"logicalCpus\":1", b"\"logicalCpus\":2")],
+            Some((16, b"major.0", b"cpu.1")),
+        ),
+        (
+            &[],
+            &[
+                (b"\"logicalCpus\":1", b"\"logicalCpus\":2"),
+                (b"\"name\":\"gb\",\"cpu\":0", b"\"name\":\"gb\",\"cpu\":1"),
+            ],
             Some((16, b"major.0", b"cpu.0")),
         ),
         (ON_TWO, &[], None),
@@ -519,7 +505,7 @@ fn rules_on_two_cpus(rt: HostRuntime) -> Result<(), Fail> {
     for (plan, changes, broken) in cases {
         let planned = changed(alloc, LAWFUL, plan)?;
         let text = changed(alloc, &planned, changes)?;
-        assert!(rt; is_answered(&answer_on_two(alloc, &text), broken));
+        assert!(rt; is_answered(&answer_to(alloc, &text), broken));
     }
     Ok(())
 }
