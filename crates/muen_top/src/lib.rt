@@ -32,8 +32,8 @@ use std::alloc::Global;
 /// |---|---|---|
 /// | 0 | the text was put | |
 /// | 1 | the words are none of the forms | `usage: ..` |
-/// | 2 | the policy is no JSON text, breaks the schema or a rule, or has more bytes for a region than there is room | `not JSON`, `shape at PLACE: want WANT`, `rule N: FIRST SECOND`, `REGION: LENGTH bytes in room for ROOM` |
-/// | 3 | a file isn't there, or is longer than 4 MiB (policy) or 16 MiB (record) | `missing file NAME`, `file NAME has LENGTH bytes` |
+/// | 2 | the policy is no JSON text, breaks the schema or a rule, has more bytes for a region than there is room, or has an element that the machine lacks | `not JSON`, `shape at PLACE: want WANT`, `rule N: FIRST SECOND`, `REGION: LENGTH bytes in room for ROOM` |
+/// | 3 | a file isn't there, or is longer than 4 MiB (policy), 64 MiB (a content) or 16 MiB (record) | `missing file NAME`, `file NAME has LENGTH bytes` |
 /// | 4 | a call on `files` failed | `file fault` |
 /// | 6 | the record isn't built | `record refused at line 1: not yet built` |
 /// | 7 | a call on `out` failed; a front of the text was put | `output fault` |
