@@ -1,0 +1,26 @@
+//! Windows as tables map them.
+use policy_types::{Caching, Rights};
+
+/// The greatest page that a window may be mapped by.
+#[derive(Clone, Copy, Debug, PartialEq, Eq)]
+pub enum Leaf {
+    /// 4 KiB.
+    Small,
+    /// 2 MiB.
+    Middle,
+    /// 1 GiB.
+    Large,
+}
+
+/// A window: `size` bytes from the guest address `guest` on are those from the physical address
+/// `place` on.
+#[derive(Clone, Copy, Debug, PartialEq, Eq)]
+pub struct Window {
+    pub guest: u64,
+    /// In bytes.
+    pub size: u64,
+    pub place: u64,
+    pub rights: Rights,
+    pub caching: Caching,
+    pub leaf: Leaf,
+}
