@@ -22,11 +22,12 @@ use muen_num::Seq;
 use muen_num::limits::{POLICY_MOST, RECORD_MOST};
 use muen_outside::{Buffer, FileEnd, Files, Found, Sink, SinkFault};
 use policy_lawful::Lawful;
+use region_alloc::Placed;
 use std::alloc::Global;
 use window_machine::print_run;
 
-// The bytes of a file.
-fn load<'a, F: Files>(
+/// The bytes of a file.
+pub(crate) fn load<'a, F: Files>(
     alloc: Global,
     name: &'a str,
     most: usize,
@@ -67,7 +68,7 @@ fn load_too<'a, F: Files>(
 // What is run.
 #[derive(Drop)]
 struct Booted {
-    policy: Lawful,
+    placed: Placed,
     run: Record,
 }
 
@@ -78,18 +79,18 @@ fn read_both<'a, F: Files>(
     inputs: &'a str,
     files: &mut F,
 ) -> Result<Booted, Stop<'a>>
-    ensures ok { IfOk result (λ b. Ready policy.now inputs.now (F.state files.old) (source_of b.policy) (only_ticks b.run.end)) }
-    ensures loads { IfOk result (λ b. CanLoad (source_of b.policy)) }
+    ensures ok { IfOk result (λ b. Ready policy.now inputs.now (F.state files.old) (source_of b.placed.plain.lawful) (only_ticks b.run.end)) }
+    ensures loads { IfOk result (λ b. CanLoad (source_of b.placed.plain.lawful)) }
     ensures err { IfErr result (NotReady policy.now inputs.now (F.state files.old) (F.state files.new)) }
     ensures follows { Follows (F.state files.old) (F.state files.new) }
 {
     let bytes = load(alloc, policy, POLICY_MOST, files)?;
     let accepted = muen_build::accept(alloc, policy, bytes.items(), files)?;
-    carried(alloc, accepted.policy.resolved())?;
+    carried(alloc, accepted.placed.plain().lawful().resolved())?;
     let bytes = load_too(alloc, policy, bytes, inputs, RECORD_MOST, files)?;
     let run = record_text::read(bytes.items())?;
     Ok(Booted {
-        policy: accepted.policy,
+        placed: accepted.placed,
         run,
     })
 }
@@ -125,7 +126,7 @@ pub(crate) fn boot<'a, F: Files, S: Sink>(
     ensures follows { Follows (F.state files.old) (F.state files.new) }
 {
     match read_both(alloc, policy, inputs, files) {
-        Ok(booted) => run_policy(alloc, &booted.policy, booted.run, out),
+        Ok(booted) => run_policy(alloc, booted.placed.plain().lawful(), booted.run, out),
         Err(stop) => Outcome::Stopped(stop),
     }
 }

@@ -1,0 +1,13 @@
+pub mod Elements
+pub mod EntriesByPlace
+pub mod FirstByPlace
+pub mod LawfulSubjects
+pub mod Mapped
+pub mod MsrsFit
+pub mod NumbersFit
+pub mod Ordered
+pub mod PortsByPlace
+pub mod ReadersByPlace
+pub mod RoutesByPlace
+pub mod TargetsByPlace
+pub mod WindowsInOrder

@@ -1,0 +1,7 @@
+use Rattle.std.proofs.Common.{take}
+use Rattle.std.specs.List.{AllZip}
+use Rattle.expand_grants.specs.Grants.{AreGrantsOf}
+use Rattle.expand_grants.proofs.expand.of_subjects.Given as goal
+
+abbrev pub invariant-loop-subject : goal.invariant-loop-subject
+invariant-loop-subject l = AllZip (AreGrantsOf l.policy) (take l.subject-index l.policy.subjects) l.grants

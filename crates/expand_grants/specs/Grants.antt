@@ -1,0 +1,72 @@
+-- What is granted to a subject, by places, and where the interrupts of devices go.
+use Rattle.std.specs.Prelude.{◌≡◌, ℕ, ◌==◌, ◌&&◌, Bool, false, List, map, nat_le, slice_get, Option, Some, option_map}
+use Rattle.std.specs.List.{AllZip, find}
+use Rattle.expand_grants.specs.Ordered.{in_order}
+use Rattle.expand_grants.specs.Resources.{msr_grant, port_ranges_of}
+use Rattle.expand_grants.specs.declared.granted.EventEntry.{EventEntry}
+use Rattle.expand_grants.specs.declared.granted.Grants.{Grants}
+use Rattle.expand_grants.specs.declared.granted.Route.{Route}
+use Rattle.expand_grants.specs.declared.granted.Way.{Way}
+use Rattle.expand_grants.specs.declared.granted.Way.TheVariants.{Call, Trap}
+use Rattle.policy_lawful.specs.Resolution.{Resolution, name_at, source_of, subject_named}
+use Rattle.policy_lawful.specs.declared.resolved.Subject.{Subject}
+use Rattle.policy_meaning.specs.Events.{Raised, Target, event_of, irq_of}
+use Rattle.policy_types.specs.declared.source.Device.{Device}
+use Rattle.policy_types.specs.declared.source.Irq.{Irq}
+use Rattle.policy_types.specs.declared.source.SourceWay.{SourceWay}
+use Rattle.policy_types.specs.declared.source.SourceWay.TheVariants.{Call as SourceCall, Trap as SourceTrap}
+use Rattle.policy_views.specs.Views.{views_of}
+use Rattle.policy_views.specs.declared.view.View.{View}
+
+-- ---- views
+
+-- by guest address
+abbrev pub is_lower : View → View → Bool
+is_lower a b = nat_le a.guest b.guest
+
+-- ---- events
+
+abbrev pub is_way : SourceWay → Way → Bool
+is_way (SourceCall m) (Call n) = m == n
+is_way (SourceTrap m) (Trap n) = m == n
+is_way _ _ = false
+
+-- a subject and a vector, by the subject's name
+abbrev pub target_named : Resolution → ℕ → Option ℕ → Target
+target_named r subject vector = record { subject = name_at (map (λ s. s.name) r.subjects) subject; vector = vector }
+
+abbrev pub raised_named : Resolution → EventEntry → Raised
+raised_named r e = record { mode = e.mode; target = target_named r e.target e.vector }
+
+-- the event that these entries have for a way
+abbrev pub entry_raised : Resolution → List EventEntry → SourceWay → Option Raised
+entry_raised r entries way = option_map (raised_named r) (find (λ e. is_way way e.way) entries)
+
+-- ---- of a subject
+
+pub record AreGrantsOf (r : Resolution) (s : Subject) (g : Grants) : Type 0 where
+  -- its windows, by guest address
+  pub views : g.views ≡ in_order is_lower (views_of r s)
+  pub ports : g.ports ≡ port_ranges_of (source_of r) (subject_named r s)
+  pub msrs : g.msrs ≡ map msr_grant s.msrs
+  -- for each way the event that the policy has for it
+  pub events : (way : SourceWay) → entry_raised r g.events way ≡ event_of (source_of r) (subject_named r s) way
+
+-- the grants of each subject
+abbrev pub AreGrants : Resolution → List Grants → Type 0
+AreGrants r grants = AllZip (AreGrantsOf r) r.subjects grants
+
+-- ---- interrupts
+
+abbrev pub route_for : List Route → ℕ → ℕ → Option Route
+route_for routes device irq = find (λ t. (t.device == device) && (t.irq == irq)) routes
+
+-- the subject and vector to which an interrupt goes by these routes
+abbrev pub routed : Resolution → List Route → ℕ → ℕ → Option Target
+routed r routes device irq = option_map (λ t. target_named r t.subject (Some t.vector)) (route_for routes device irq)
+
+-- each interrupt of each device goes where the policy grants it
+abbrev pub AreRoutes : Resolution → List Route → Type 0
+AreRoutes r routes =
+    (device irq : ℕ) (d : Device) (i : Irq) → slice_get r.devices device ≡ Some d → slice_get d.irqs irq ≡ Some i
+    → routed r routes device irq ≡ irq_of (source_of r) d.name i.name

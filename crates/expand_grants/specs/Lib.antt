@@ -1,0 +1,7 @@
+pub mod ByPlace
+pub mod Devices
+pub mod Grants
+pub mod Kept
+pub mod Ordered
+pub mod Raising
+pub mod Resources

@@ -1,0 +1,54 @@
+-- The ports and MSRs that are granted to a subject (Muen system policy: device resources, MSRs).
+use Rattle.std.specs.Prelude.{ℕ, ◌+◌, ◌-◌, ◌&&◌, Bool, List, map, filter, nat_le, option_and_then, option_map}
+use Rattle.std.specs.List.{filter_map, find, flat_map, list_any}
+use Rattle.std.specs.Str.{bytes_eq}
+use Rattle.expand_grants.specs.declared.resources.MsrGrant.{MsrGrant}
+use Rattle.expand_grants.specs.declared.resources.PortRange.{PortRange}
+use Rattle.muen_num.specs.Range.{numbers_below}
+use Rattle.muen_num.specs.declared.limits.TheConstants.{LAST_PORT}
+use Rattle.policy_types.specs.declared.source.DeviceUse.{DeviceUse}
+use Rattle.policy_types.specs.declared.source.Msrs.{Msrs}
+use Rattle.policy_types.specs.declared.source.Ports.{Ports}
+use Rattle.policy_types.specs.declared.source.Source.{Source}
+use Rattle.policy_types.specs.declared.source.Subject.{Subject}
+
+-- ---- ports
+
+abbrev pub range_of : Ports → PortRange
+range_of x = record { start = x.start; end = x.end }
+
+-- the ranges of a device that a use of it names
+abbrev pub device_ranges : Source → DeviceUse → List PortRange
+device_ranges p d =
+    filter_map (λ name. option_and_then (λ x. option_map range_of (find (λ r. bytes_eq r.name name) x.io_ports))
+    (find (λ x. bytes_eq x.name d.device) p.devices))
+    d.io_ports
+
+-- the ranges that are granted to a subject, in the grants' order
+unfoldable pub port_ranges_of : Source → Subject → List PortRange
+port_ranges_of p s = flat_map (device_ranges p) s.devices
+
+abbrev pub has_port : PortRange → ℕ → Bool
+has_port r port = nat_le r.start port && nat_le port r.end
+
+-- the ports that are granted to a subject, ascending
+unfoldable pub ports_of : Source → Subject → List ℕ
+ports_of p s = filter (λ port. list_any (λ r. has_port r port) (port_ranges_of p s)) (numbers_below (LAST_PORT + 1))
+
+-- ---- MSRs
+
+abbrev pub msr_grant : Msrs → MsrGrant
+msr_grant m = record { start = m.start; end = m.end; read = m.rights.read; write = m.rights.write }
+
+-- a granted MSR
+pub record Msr : Type 0 where
+  pub index : ℕ
+  pub read : Bool
+  pub write : Bool
+
+abbrev pub msrs_in : Msrs → List Msr
+msrs_in m = map (λ k. record { index = m.start + k; read = m.rights.read; write = m.rights.write }) (numbers_below (m.end + 1 - m.start))
+
+-- the MSRs that are granted to a subject, in the grants' order, ascending in each range
+unfoldable pub msrs_of : Subject → List Msr
+msrs_of s = flat_map msrs_in s.msrs

@@ -1,0 +1,143 @@
+//! The events that a subject raises.
+ghost use Rattle.std.specs.Prelude.{◌≡◌, ◌++◌, true, IfOk};
+ghost use Rattle.std.specs.List.{filter_map, list_all};
+ghost use Rattle.expand_grants.specs.Raising.{all_readers, all_targets, call_entry, end_entry, entries_of, entry, fits_end, fits_ends, fits_number, fits_source, fits_sources, fits_way, source_entry, way_of, writer_call};
+
+use crate::append::push_some;
+use crate::granted::{EventEntry, Way};
+use crate::reached::{Reached, first_reached, small};
+use muen_num::{Mode, NoMemory, Seq};
+use policy_lawful::Resolved;
+use policy_lawful::resolved::{EventSource, Subject};
+use policy_types::Role;
+use policy_types::source::{Channel, Event, SourceWay};
+use policy_views::{End, ends};
+use std::alloc::Global;
+
+fn way_of(way: SourceWay) -> Way
+    requires { fits_way way ≡ true }
+    ensures { result ≡ way_of way }
+{
+    match way {
+        SourceWay::Call(number) => Way::Call(number as u8),
+        SourceWay::Trap(reason) => Way::Trap(reason as u8),
+    }
+}
+
+fn entry(way: Way, mode: Mode, reached: Reached) -> EventEntry
+    ensures { result ≡ entry way mode reached }
+{
+    EventEntry {
+        way,
+        mode,
+        target: reached.subject,
+        vector: reached.vector,
+    }
+}
+
+// The event that a source raises.
+fn source_entry(events: &[Event], targets: &[Reached], source: &EventSource) -> Option<EventEntry>
+    requires { fits_source source.now ≡ true }
+    ensures { result ≡ source_entry events.now targets.now source.now }
+{
+    let event = events.get(source.event)?;
+    let reached = first_reached(targets, source.event)?;
+    Some(entry(way_of(source.way), event.mode, reached))
+}
+
+// Appends the events that sources raise.
+fn add_sources(
+    entries: &mut Vec<EventEntry>,
+    events: &[Event],
+    targets: &[Reached],
+    sources: &[EventSource],
+) -> Result<(), NoMemory>
+    requires { list_all fits_source sources.now ≡ true }
+    ensures { IfOk result (λ _. entries.new.items ≡ entries.old.items ++ filter_map (source_entry events.now targets.now) sources.now) }
+{
+    for source in sources {
+        push_some(entries, source_entry(events, targets, source))?;
+    }
+    Ok(())
+}
+
+// The event of the channel at a place, raised by a call.
+fn call_entry(
+    channels: &[Channel],
+    readers: &[Reached],
+    channel: usize,
+    call: u8,
+) -> Option<EventEntry>
+    ensures { result ≡ call_entry channels.now readers.now channel call }
+{
+    let mode = channels.get(channel)?.has_event?;
+    let reached = first_reached(readers, channel)?;
+    Some(entry(Way::Call(call), mode, reached))
+}
+
+// The call of an end by which an event may be raised: a writer's.
+fn writer_call(end: &End) -> Option<u8>
+    requires { fits_end end.now ≡ true }
+    ensures { result ≡ writer_call end.now end.now.role }
+{
+    match end.role {
+        Role::Writer => small(end.call),
+        Role::Reader => None,
+    }
+}
+
+// The event that an end of a channel raises.
+fn end_entry(channels: &[Channel], readers: &[Reached], end: &End) -> Option<EventEntry>
+    requires { fits_end end.now ≡ true }
+    ensures { result ≡ end_entry channels.now readers.now end.now }
+{
+    match writer_call(end) {
+        None => None,
+        Some(call) => call_entry(channels, readers, end.channel, call),
+    }
+}
+
+// Appends the events that ends of channels raise.
+fn add_ends(
+    entries: &mut Vec<EventEntry>,
+    channels: &[Channel],
+    readers: &[Reached],
+    ends: &[End],
+) -> Result<(), NoMemory>
+    requires { list_all fits_end ends.now ≡ true }
+    ensures { IfOk result (λ _. entries.new.items ≡ entries.old.items ++ filter_map (end_entry channels.now readers.now) ends.now) }
+{
+    for end in ends {
+        push_some(entries, end_entry(channels, readers, end))?;
+    }
+    Ok(())
+}
+
+/// The events that a subject raises, by its sources and then by its ends of channels, where this is
+/// reached by events and by channels.
+///
+/// Answers `NoMemory` where memory was refused.
+pub(crate) fn entries_of(
+    alloc: Global,
+    policy: &Resolved,
+    targets: &[Reached],
+    readers: &[Reached],
+    subject: &Subject,
+) -> Result<Seq<EventEntry>, NoMemory>
+    requires sources { fits_sources subject.now ≡ true }
+    requires ends { fits_ends policy.now subject.now ≡ true }
+    requires targets { targets.now ≡ all_targets policy.now.subjects }
+    requires readers { readers.now ≡ all_readers policy.now }
+    ensures { IfOk result (λ entries. entries ≡ entries_of policy.now subject.now) }
+{
+    let mut entries = Vec::new(alloc);
+    add_sources(
+        &mut entries,
+        policy.events(),
+        targets,
+        subject.sources.items(),
+    )?;
+    let ends = ends(alloc, policy, subject)?;
+    add_ends(&mut entries, policy.channels(), readers, &ends)?;
+    Ok(Seq::of(entries))
+}

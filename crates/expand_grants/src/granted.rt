@@ -1,0 +1,47 @@
+//! What is granted to a subject, and routes of interrupts.
+use crate::resources::{MsrGrant, PortRange};
+use muen_num::{Mode, Seq};
+use policy_views::View;
+
+/// The way in which a subject raises an event.
+#[derive(Clone, Copy, Debug, PartialEq, Eq)]
+pub enum Way {
+    /// The hypercall of this number.
+    Call(u8),
+    /// A trap of this exit reason (Intel SDM volume 3).
+    Trap(u8),
+}
+
+/// An event that a subject raises.
+#[derive(Clone, Copy, Debug, PartialEq, Eq)]
+pub struct EventEntry {
+    pub way: Way,
+    pub mode: Mode,
+    /// The place of the subject that it reaches.
+    pub target: usize,
+    /// The vector that becomes pending there, if any.
+    pub vector: Option<u8>,
+}
+
+/// Where an interrupt of a device goes.
+#[derive(Clone, Copy, Debug, PartialEq, Eq)]
+pub struct Route {
+    /// The device's place.
+    pub device: usize,
+    /// The place among the device's interrupt lines.
+    pub irq: usize,
+    /// The place of the subject that it reaches.
+    pub subject: usize,
+    pub vector: u8,
+}
+
+/// What is granted to a subject.
+#[derive(Drop)]
+pub struct Grants {
+    /// Its windows, by guest address.
+    pub views: Seq<View>,
+    pub ports: Seq<PortRange>,
+    pub msrs: Seq<MsrGrant>,
+    /// The events that it raises, each way once.
+    pub events: Seq<EventEntry>,
+}

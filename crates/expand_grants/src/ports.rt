@@ -1,0 +1,64 @@
+//! The ports that are granted to a subject.
+ghost use Rattle.std.specs.Prelude.{◌≡◌, ◌++◌, true, IfOk};
+ghost use Rattle.std.specs.List.{flat_map, list_all};
+ghost use Rattle.expand_grants.specs.ByPlace.{fits_device, fits_ports, range_at, ranges_at};
+ghost use Rattle.expand_grants.specs.Resources.{range_of};
+
+use crate::append::push_some;
+use crate::resources::PortRange;
+use muen_num::{NoMemory, Seq};
+use policy_lawful::resolved::DeviceUse;
+use policy_types::source::{Device, Ports};
+use std::alloc::Global;
+
+fn range(ports: &Ports) -> PortRange
+    requires { fits_ports ports.now ≡ true }
+    ensures { result ≡ range_of ports.now }
+{
+    PortRange {
+        start: ports.start as u16,
+        end: ports.end as u16,
+    }
+}
+
+// The range at a place of the device at a place.
+fn range_at(devices: &[Device], device: usize, place: usize) -> Option<PortRange>
+    requires { list_all fits_device devices.now ≡ true }
+    ensures { result ≡ range_at devices.now device place }
+{
+    let ports = devices.get(device)?.io_ports.items().get(place)?;
+    Some(range(ports))
+}
+
+// Appends the ranges that a use of a device names.
+fn add_device(
+    ranges: &mut Vec<PortRange>,
+    devices: &[Device],
+    used: &DeviceUse,
+) -> Result<(), NoMemory>
+    requires { list_all fits_device devices.now ≡ true }
+    ensures { IfOk result (λ _. ranges.new.items ≡ ranges.old.items ++ ranges_at devices.now used.now) }
+{
+    for place in used.io_ports.items() {
+        push_some(ranges, range_at(devices, used.device, *place))?;
+    }
+    Ok(())
+}
+
+/// The ranges that these uses of devices name, in order.
+///
+/// Answers `NoMemory` where memory was refused.
+pub(crate) fn port_ranges(
+    alloc: Global,
+    devices: &[Device],
+    uses: &[DeviceUse],
+) -> Result<Seq<PortRange>, NoMemory>
+    requires { list_all fits_device devices.now ≡ true }
+    ensures { IfOk result (λ ranges. ranges ≡ flat_map (ranges_at devices.now) uses.now) }
+{
+    let mut ranges = Vec::new(alloc);
+    for used in uses {
+        add_device(&mut ranges, devices, used)?;
+    }
+    Ok(Seq::of(ranges))
+}

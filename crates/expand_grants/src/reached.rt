@@ -1,0 +1,132 @@
+//! The subjects that events, and events of channels, reach.
+ghost use Rattle.std.specs.Prelude.{◌≡◌, ◌++◌, ◌==◌, true, map, option_map, IfOk};
+ghost use Rattle.std.specs.List.{filter_map, find, list_all};
+ghost use Rattle.policy_lawful.specs.Resolution.{IsResolved};
+ghost use Rattle.expand_grants.specs.Raising.{all_readers, all_targets, first_reached, fits_end, fits_ends, fits_number, fits_target, fits_targets, reader_reached, target_reached};
+
+use crate::append::push_some;
+use muen_num::NoMemory;
+use policy_lawful::Resolved;
+use policy_lawful::resolved::{EventTarget, Subject};
+use policy_types::Role;
+use policy_views::{End, ends};
+use std::alloc::Global;
+
+/// A subject that is reached.
+#[derive(Clone, Copy, Debug, PartialEq, Eq)]
+pub(crate) struct Reached {
+    /// The place of the event, or of the channel, by which it is reached.
+    pub(crate) by: usize,
+    /// The subject's place.
+    pub(crate) subject: usize,
+    /// The vector that becomes pending there, if any.
+    pub(crate) vector: Option<u8>,
+}
+
+/// A number of a policy that fits.
+pub(crate) fn small(number: Option<u64>) -> Option<u8>
+    requires { fits_number number ≡ true }
+    ensures { result ≡ number }
+{
+    match number {
+        None => None,
+        Some(number) => Some(number as u8),
+    }
+}
+
+fn target_reached(place: usize, target: &EventTarget) -> Reached
+    requires { fits_target target.now ≡ true }
+    ensures { result ≡ target_reached place target.now }
+{
+    Reached {
+        by: target.event,
+        subject: place,
+        vector: small(target.vector),
+    }
+}
+
+// Notes that a subject is reached by its targets.
+fn note_targets(
+    noted: &mut Vec<Reached>,
+    place: usize,
+    targets: &[EventTarget],
+) -> Result<(), NoMemory>
+    requires { list_all fits_target targets.now ≡ true }
+    ensures { IfOk result (λ _. noted.new.items ≡ noted.old.items ++ map (target_reached place) targets.now) }
+{
+    for target in targets {
+        noted.push(target_reached(place, target))?;
+    }
+    Ok(())
+}
+
+/// What is reached by events, in the order of the subjects.
+///
+/// Answers `NoMemory` where memory was refused.
+pub(crate) fn all_targets(alloc: Global, subjects: &[Subject]) -> Result<Vec<Reached>, NoMemory>
+    requires { list_all fits_targets subjects.now ≡ true }
+    ensures { IfOk result (λ v. v.items ≡ all_targets subjects.now) }
+{
+    let mut noted = Vec::new(alloc);
+    for (place, subject) in subjects.iter().enumerate() {
+        note_targets(&mut noted, place, subject.targets.items())?;
+    }
+    Ok(noted)
+}
+
+fn reader_reached(place: usize, end: &End) -> Option<Reached>
+    requires { fits_end end.now ≡ true }
+    ensures { result ≡ reader_reached place end.now end.now.role }
+{
+    match end.role {
+        Role::Writer => None,
+        Role::Reader => Some(Reached {
+            by: end.channel,
+            subject: place,
+            vector: small(end.vector),
+        }),
+    }
+}
+
+// Notes that a subject is reached by those of its ends that read.
+fn note_readers(noted: &mut Vec<Reached>, place: usize, ends: &[End]) -> Result<(), NoMemory>
+    requires { list_all fits_end ends.now ≡ true }
+    ensures { IfOk result (λ _. noted.new.items ≡ noted.old.items ++ filter_map (λ e. reader_reached place e e.role) ends.now) }
+{
+    for end in ends {
+        push_some(noted, reader_reached(place, end))?;
+    }
+    Ok(())
+}
+
+/// What is reached by channels, in the order of the subjects.
+///
+/// Answers `NoMemory` where memory was refused.
+pub(crate) fn all_readers(alloc: Global, policy: &Resolved) -> Result<Vec<Reached>, NoMemory>
+    requires { list_all (fits_ends policy.now) policy.now.subjects ≡ true }
+    ensures { IfOk result (λ v. v.items ≡ all_readers policy.now) }
+{
+    let mut noted = Vec::new(alloc);
+    for (place, subject) in policy.subjects().iter().enumerate() {
+        let ends = ends(alloc, policy, subject)?;
+        note_readers(&mut noted, place, &ends)?;
+    }
+    Ok(noted)
+}
+
+// The first that is reached by the event, or by the channel, at a place.
+fn first_lent(list: &[Reached], place: usize) -> Option<&Reached>
+    ensures { option_map (λ x. x.now) result ≡ first_reached list.now place }
+{
+    list.iter().find(|reached| reached.by == place)
+}
+
+/// The first that is reached by the event, or by the channel, at a place.
+pub(crate) fn first_reached(list: &[Reached], place: usize) -> Option<Reached>
+    ensures { result ≡ first_reached list.now place }
+{
+    match first_lent(list, place) {
+        None => None,
+        Some(reached) => Some(*reached),
+    }
+}

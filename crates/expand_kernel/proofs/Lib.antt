@@ -1,0 +1,6 @@
+pub mod BroughtByPlace
+pub mod GrantedViews
+pub mod InTurn
+pub mod LowestFirst
+pub mod Numbering
+pub mod TablePages

@@ -1,0 +1,8 @@
+-- What is known while the subjects are gone through.
+use Rattle.std.proofs.Common.{◌≡◌, take}
+use Rattle.std.specs.List.{flat_map}
+use Rattle.expand_kernel.specs.ByPlace.{brought_at}
+use Rattle.expand_kernel.proofs.numbered.of_subjects.Given as goal
+
+abbrev pub invariant-loop-subject : goal.invariant-loop-subject
+invariant-loop-subject l = l.regions.items ≡ flat_map (brought_at l.components) (take l.subject-index l.subjects)

@@ -1,0 +1,19 @@
+-- A lawful policy with all that follows from it but places.
+use Rattle.std.specs.Prelude.{◌≡◌, List}
+use Rattle.expand_grants.specs.Grants.{AreGrants, AreRoutes}
+use Rattle.expand_grants.specs.declared.granted.Grants.{Grants}
+use Rattle.expand_grants.specs.declared.granted.Route.{Route}
+use Rattle.expand_kernel.specs.Regions.{regions_of}
+use Rattle.expand_kernel.specs.declared.region.Region.{Region}
+use Rattle.policy_lawful.specs.Resolution.{Resolution, source_of}
+
+pub record Expansion : Type 0 where
+  pub lawful : Resolution
+  pub regions : List Region
+  pub grants : List Grants
+  pub routes : List Route
+
+pub record IsExpansion (x : Expansion) : Type 0 where
+  pub regions : x.regions ≡ regions_of (source_of x.lawful)
+  pub grants : AreGrants x.lawful x.grants
+  pub routes : AreRoutes x.lawful x.routes

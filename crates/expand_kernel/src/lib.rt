@@ -1,0 +1,10 @@
+//! All regions of a lawful policy by number, the kernel's with them, and its grants.
+#![tactic(auto)]
+
+mod expanded;
+mod kernel;
+mod numbered;
+mod region;
+
+pub use expanded::{Plain, expand};
+pub use region::{Region, RegionKind};

@@ -1,0 +1,130 @@
+//! The regions of a policy that come from the policy itself, by number: memory, channels, and what
+//! the subjects' components bring along.
+ghost use Rattle.std.specs.Prelude.{◌≡◌, map, IfOk};
+ghost use Rattle.std.specs.List.{flat_map};
+ghost use Rattle.expand_kernel.specs.ByPlace.{brought_at, provided_at};
+ghost use Rattle.expand_kernel.specs.Regions.{anywhere, channel_region, own_region, provided_region};
+
+use crate::region::{Region, RegionKind};
+use muen_num::limits::PAGE;
+use muen_num::{Name, NoMemory, Part, Tag};
+use policy_lawful::resolved::{ComponentUse, Subject};
+use policy_types::source::{Channel, Component, Provided, Region as Memory};
+use std::alloc::{AllocError, Global};
+
+// A region that may be at any page.
+pub(crate) fn anywhere(kind: RegionKind, owner: Name, part: Part, size: u64) -> Region
+    ensures { result ≡ anywhere kind owner part size }
+{
+    Region {
+        tag: Tag { owner, part },
+        kind,
+        size,
+        alignment: PAGE,
+        fixed: None,
+    }
+}
+
+fn own_region(region: &Memory) -> Region
+    ensures { result ≡ own_region region.now }
+{
+    Region {
+        tag: Tag {
+            owner: region.name,
+            part: Part::Whole,
+        },
+        kind: RegionKind::Own,
+        size: region.size,
+        alignment: region.alignment,
+        fixed: region.physical_address,
+    }
+}
+
+fn channel_region(channel: &Channel) -> Region
+    ensures { result ≡ channel_region channel.now }
+{
+    anywhere(RegionKind::Channel, channel.name, Part::Whole, channel.size)
+}
+
+fn provided_region(subject: Name, provided: &Provided) -> Region
+    ensures { result ≡ provided_region subject provided.now }
+{
+    let part = Part::Named(provided.logical);
+    anywhere(RegionKind::Provided, subject, part, provided.size)
+}
+
+/// The regions of memory, in order.
+pub(crate) fn of_memory(alloc: Global, memory: &[Memory]) -> Result<Vec<Region>, AllocError>
+    ensures { IfOk result (λ v. v.items ≡ map own_region memory.now) }
+{
+    memory
+        .iter()
+        .map(|region| own_region(region))
+        .collect(alloc)
+}
+
+/// Those of the channels, in order.
+pub(crate) fn of_channels(alloc: Global, channels: &[Channel]) -> Result<Vec<Region>, AllocError>
+    ensures { IfOk result (λ v. v.items ≡ map channel_region channels.now) }
+{
+    channels
+        .iter()
+        .map(|channel| channel_region(channel))
+        .collect(alloc)
+}
+
+// What a component brings along for a subject.
+fn of_provided(
+    alloc: Global,
+    subject: Name,
+    provides: &[Provided],
+) -> Result<Vec<Region>, AllocError>
+    ensures { IfOk result (λ v. v.items ≡ map (provided_region subject) provides.now) }
+{
+    provides
+        .iter()
+        .map(|provided| provided_region(subject, provided))
+        .collect(alloc)
+}
+
+// What the component of a use brings along.
+fn provided_by<'a>(components: &'a [Component], used: &Option<ComponentUse>) -> &'a [Provided]
+    ensures { result.now ≡ provided_at components.now used.now }
+{
+    match used {
+        None => &[],
+        Some(used) => match components.get(used.used) {
+            None => &[],
+            Some(component) => component.provides.items(),
+        },
+    }
+}
+
+// What a subject's component brings along.
+#[tactic(auto, unfolding(crate::specs::ByPlace::brought_at))]
+fn of_subject(
+    alloc: Global,
+    components: &[Component],
+    subject: &Subject,
+) -> Result<Vec<Region>, AllocError>
+    ensures { IfOk result (λ v. v.items ≡ brought_at components.now subject.now) }
+{
+    let provides = provided_by(components, &subject.component);
+    of_provided(alloc, subject.name, provides)
+}
+
+/// What each subject's component brings along, in the order of the subjects.
+pub(crate) fn of_subjects(
+    alloc: Global,
+    components: &[Component],
+    subjects: &[Subject],
+) -> Result<Vec<Region>, NoMemory>
+    ensures { IfOk result (λ v. v.items ≡ flat_map (brought_at components.now) subjects.now) }
+{
+    let mut regions = Vec::new(alloc);
+    for subject in subjects {
+        let part = of_subject(alloc, components, subject)?;
+        regions.extend_from_slice(&part)?;
+    }
+    Ok(regions)
+}

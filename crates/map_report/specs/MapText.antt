@@ -1,0 +1,86 @@
+-- What `map` prints (this project's own).
+use Rattle.std.specs.Prelude.{ℕ, List, [], ◌++◌, codes, nat_le, Result, Ok, Err, slice_index, if◌then◌else◌}
+use Rattle.std.specs.List.{enumerate_from, flat_map}
+use Rattle.expand_grants.specs.Ordered.{in_order}
+use Rattle.expand_kernel.specs.Regions.{regions_of}
+use Rattle.expand_kernel.specs.declared.region.Region.{Region}
+use Rattle.muen_num.specs.Fixed.{hex16}
+use Rattle.muen_num.specs.Tag.{tag_text}
+use Rattle.muen_num.specs.declared.tag.Part.{Part}
+use Rattle.muen_num.specs.declared.tag.Part.TheVariants.{Named, State, Whole}
+use Rattle.muen_num.specs.declared.tag.Tag.{Tag}
+use Rattle.policy_meaning.specs.Thing.{Thing, region, channel, provided, device_memory, state}
+use Rattle.policy_meaning.specs.Windows.{windows_of}
+use Rattle.policy_types.specs.Rights.{has}
+use Rattle.policy_types.specs.declared.rights.Rights.{Rights}
+use Rattle.policy_types.specs.declared.rights.TheConstants.Rights.{READ, WRITE, EXECUTE}
+use Rattle.policy_types.specs.declared.source.Device.{Device}
+use Rattle.policy_types.specs.declared.source.DeviceMemory.{DeviceMemory}
+use Rattle.policy_types.specs.declared.source.Source.{Source}
+use Rattle.policy_types.specs.declared.source.Subject.{Subject}
+use Rattle.region_alloc.specs.Placement.{placement_of}
+
+-- ---- names and rights
+
+abbrev pub tag : List ℕ → Part → Tag
+tag owner part = record { owner = owner; part = part }
+
+-- the printed name of a thing
+abbrev pub thing_tag : Thing → Tag
+thing_tag (region name) = tag name Whole
+thing_tag (channel name) = tag name Whole
+thing_tag (provided subject logical) = tag subject (Named logical)
+thing_tag (device_memory device name) = tag device (Named name)
+thing_tag (state subject) = tag subject State
+
+abbrev pub letter : Rights → Rights → List ℕ → List ℕ
+letter rights right text = if has rights right then text else []
+
+-- `r`, `w` and `x`, as the rights are there
+abbrev pub rights_text : Rights → List ℕ
+rights_text rights = letter rights READ (codes "r") ++ letter rights WRITE (codes "w") ++ letter rights EXECUTE (codes "x")
+
+-- ---- lines
+
+-- a place in physical memory, a size in bytes, a name
+unfoldable pub place_line : List ℕ → ℕ → ℕ → Tag → List ℕ
+place_line word place size name =
+    word ++ codes " " ++ hex16 place ++ codes " " ++ hex16 size ++ codes " " ++ tag_text name ++ codes "\n"
+
+-- a subject, a guest address, a size in bytes, rights, the name of what is shown
+unfoldable pub window_line : List ℕ → ℕ → ℕ → Rights → Tag → List ℕ
+window_line subject guest size rights name =
+    codes "window " ++ subject ++ codes " " ++ hex16 guest ++ codes " " ++ hex16 size ++ codes " " ++ rights_text rights ++ codes " " ++ tag_text name ++ codes "\n"
+
+-- ---- the text
+
+-- the regions, by number, at these places
+abbrev pub region_lines : List ℕ → List Region → List ℕ
+region_lines places regions =
+    flat_map (λ x. place_line (codes "region") (slice_index places x.0) x.1.size x.1.tag) (enumerate_from 0 regions)
+
+abbrev pub memory_line : List ℕ → DeviceMemory → List ℕ
+memory_line device m = place_line (codes "device") m.physical_address m.size (tag device (Named m.name))
+
+-- the devices' memory
+abbrev pub device_lines : List Device → List ℕ
+device_lines devices = flat_map (λ d. flat_map (memory_line d.name) d.memory) devices
+
+-- the windows of a subject, by guest address
+abbrev pub window_lines : Source → Subject → List ℕ
+window_lines p s =
+    flat_map (λ w. window_line s.name w.guest w.size w.rights (thing_tag w.thing))
+    (in_order (λ v w. nat_le v.guest w.guest) (windows_of p s))
+
+-- where the regions are at these places
+unfoldable pub map_text_at : Source → List ℕ → List ℕ
+map_text_at p places =
+    region_lines places (regions_of p) ++ device_lines p.devices ++ flat_map (window_lines p) p.subjects
+
+abbrev pub text_where : Source → Result (List ℕ) Region → List ℕ
+text_where p (Ok places) = map_text_at p places
+text_where p (Err r) = []
+
+-- the text of a policy whose regions can be placed
+unfoldable pub map_text_of : Source → List ℕ
+map_text_of p = text_where p (placement_of p)

@@ -1,0 +1,117 @@
+//! The lines of a map.
+ghost use Rattle.std.specs.Prelude.{◌≡◌, ◌+◌, ◌≤◌, ◌++◌, length, take};
+ghost use Rattle.map_report.specs.Lines.{laid_word};
+ghost use Rattle.map_report.specs.MapText.{letter, rights_text};
+
+use muen_num::text::{append, append_hex16};
+use muen_num::{Name, Tag};
+use muen_outside::PrintedLine;
+use policy_types::Rights;
+
+// Writes the letter of a right, if it is there.
+fn append_letter(out: &mut [u8], at: usize, rights: Rights, right: Rights, text: &[u8]) -> usize
+    requires { at + length text.now ≤ length out.old }
+    ensures end { result ≤ at + length text.now }
+    ensures text { take result out.new ≡ take at out.old ++ letter rights right text.now }
+{
+    if rights.has(right) {
+        append(out, at, text)
+    } else {
+        at
+    }
+}
+
+fn append_rights(out: &mut [u8], at: usize, rights: Rights) -> usize
+    requires { at + 3 ≤ length out.old }
+    ensures end { result ≤ at + 3 }
+    ensures text { take result out.new ≡ take at out.old ++ rights_text rights }
+{
+    let at = append_letter(out, at, rights, Rights::READ, b"r");
+    let at = append_letter(out, at, rights, Rights::WRITE, b"w");
+    append_letter(out, at, rights, Rights::EXECUTE, b"x")
+}
+
+/// What lies at a place in physical memory.
+#[derive(Clone, Copy)]
+pub(crate) enum Laid {
+    /// A region.
+    Region,
+    /// A device's memory.
+    Device,
+}
+
+fn laid_word(laid: Laid) -> &'static [u8]
+    ensures value { result.now ≡ laid_word laid }
+    ensures within { length result.now ≤ 6 }
+{
+    match laid {
+        Laid::Region => b"region",
+        Laid::Device => b"device",
+    }
+}
+
+/// The line of a region, or of a device's memory.
+#[derive(Clone, Copy)]
+pub(crate) struct PlaceLine {
+    pub laid: Laid,
+    pub place: u64,
+    /// In bytes.
+    pub size: u64,
+    pub tag: Tag,
+}
+
+impl PrintedLine for PlaceLine {
+    ghost use Rattle.map_report.specs.MapText.{place_line};
+    ghost use Rattle.map_report.specs.Lines.{laid_word};
+
+    ghost text = { λ l. place_line (laid_word l.laid) l.place l.size l.tag };
+
+    #[tactic(auto, unfolding(crate::specs::MapText::place_line))]
+    fn write(&self, space: &mut [u8; 256]) -> usize {
+        let mut name = [0u8; 128];
+        let len = self.tag.write(&mut name);
+        let at = append(space, 0, laid_word(self.laid));
+        let at = append(space, at, b" ");
+        let at = append_hex16(space, at, self.place);
+        let at = append(space, at, b" ");
+        let at = append_hex16(space, at, self.size);
+        let at = append(space, at, b" ");
+        let at = append(space, at, &name[..len]);
+        append(space, at, b"\n")
+    }
+}
+
+/// The line of a window.
+#[derive(Clone, Copy)]
+pub(crate) struct WindowLine {
+    pub subject: Name,
+    pub guest: u64,
+    /// In bytes.
+    pub size: u64,
+    pub rights: Rights,
+    /// The name of what it shows.
+    pub tag: Tag,
+}
+
+impl PrintedLine for WindowLine {
+    ghost use Rattle.map_report.specs.MapText.{window_line};
+
+    ghost text = { λ l. window_line l.subject l.guest l.size l.rights l.tag };
+
+    #[tactic(auto, unfolding(crate::specs::MapText::window_line))]
+    fn write(&self, space: &mut [u8; 256]) -> usize {
+        let mut name = [0u8; 128];
+        let len = self.tag.write(&mut name);
+        let at = append(space, 0, b"window ");
+        let at = append(space, at, self.subject.bytes());
+        let at = append(space, at, b" ");
+        let at = append_hex16(space, at, self.guest);
+        let at = append(space, at, b" ");
+        let at = append_hex16(space, at, self.size);
+        let at = append(space, at, b" ");
+        let at = append_rights(space, at, self.rights);
+        let at = append(space, at, b" ");
+        let at = append(space, at, &name[..len]);
+        append(space, at, b"\n")
+    }
+}

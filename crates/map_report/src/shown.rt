@@ -1,0 +1,31 @@
+//! The printed names of what views show.
+ghost use Rattle.std.specs.Prelude.{◌≡◌};
+ghost use Rattle.map_report.specs.MapText.{tag};
+ghost use Rattle.map_report.specs.Views.{shown_tag};
+
+use muen_num::{Name, Part, Tag};
+use policy_lawful::Resolved;
+use policy_views::{Shown, View};
+
+fn part_of(owner: Name, part: Part) -> Tag
+    ensures { result ≡ tag owner part }
+{
+    Tag { owner, part }
+}
+
+/// The printed name of what a view shows to the subject of this name; `None` where it shows memory
+/// of a device that isn't there.
+pub(crate) fn tag(policy: &Resolved, subject: Name, view: &View) -> Option<Tag>
+    ensures { result ≡ shown_tag policy.now subject view.now.name view.now.shows }
+{
+    let name = view.name;
+    match view.shows {
+        Shown::Memory(_) | Shown::Channel(_) => Some(part_of(name, Part::Whole)),
+        Shown::Provided(_) => Some(part_of(subject, Part::Named(name))),
+        Shown::Device(device, _) => {
+            let device = policy.devices().get(device)?;
+            Some(part_of(device.name, Part::Named(name)))
+        }
+        Shown::State(_) => Some(part_of(name, Part::State)),
+    }
+}

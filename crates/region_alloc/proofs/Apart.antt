@@ -1,0 +1,155 @@
+-- A placement keeps each region inside one block, and no two share an address.
+use Rattle.std.proofs.Common.{◌≡◌, ℕ, zero, suc, ◌+◌, ◌<◌, ◌≤◌, ◌⊎◌, inl, inr, true, List, [], ◌∷◌, ◌++◌, length, get_or, map, Some, refl, sym, ap, subst, ◌∙◌, arith}
+use Rattle.std.specs.Prelude.{Result, Ok, Err, slice_get}
+use Rattle.std.specs.List.{AllZip, find, list_any}
+use Rattle.std.specs.Option.{option_map_or}
+use Rattle.std.proofs.Math.ListN.{get_or-append}
+use Rattle.std.proofs.Math.Seq.{get_or-append_seam}
+use Rattle.std.proofs.lemmas.Bool.{cases_lt, eqb-true}
+use Rattle.std.proofs.lemmas.List.{length-map, map_push}
+use Rattle.std.proofs.lemmas.List.Elements.{All-nil}
+use Rattle.expand_kernel.specs.Regions.{regions_of}
+use Rattle.expand_kernel.specs.declared.region.Region.{Region}
+use Rattle.muen_num.proofs.Lists.{found}
+use Rattle.muen_num.proofs.NumbersBelow.{length_numbers}
+use Rattle.muen_num.specs.Range.{numbers_below}
+use Rattle.policy_lawful.specs.Resolution.{Resolution, source_of}
+use Rattle.policy_types.specs.declared.source.Block.{Block}
+use Rattle.region_alloc.specs.Placed.{AreDisjoint, AreInside}
+use Rattle.region_alloc.specs.Placement.{address_in, by_number, in_a_block, in_turn, placed_after, placement_in, placement_of}
+use Rattle.region_alloc.specs.declared.spot.Spot.{Spot}
+use Rattle.region_alloc.proofs.EachInTurn.{each_from_turns, each_in_turn, each_numbered, numbered_at}
+use Rattle.region_alloc.proofs.Sized.{placement_is}
+use Rattle.region_alloc.proofs.Spots.{AreWell, all_found, each_after, is_of, two_found, well_after}
+
+-- ---- lists by number
+
+numbers_length : (f : ℕ → ℕ) (n : ℕ) → length (map f (numbers_below n)) ≡ n
+numbers_length f n = length-map (numbers_below n) f ∙ length_numbers n
+
+at_number : (f : ℕ → ℕ) (n i d : ℕ) → i < n → get_or (map f (numbers_below n)) i d ≡ f i
+at_number f zero i d l = absurd (omega arith)
+at_number f (suc n) i d l =
+    let before = map f (numbers_below n) in
+    let many : length before ≡ n = numbers_length f n in
+    ap (λ xs. get_or xs i d) (map_push f (numbers_below n) n)
+    ∙ elim (cases_lt i n) as (λ _. get_or (before ++ f n ∷ []) i d ≡ f i) [
+      | inl less ↦ get_or-append before (f n ∷ []) d i (omega (arith, many)) ∙ at_number f n i d less
+      | inr more ↦
+          let last : i ≡ length before = omega (arith, many) in
+          let same : n ≡ i = omega arith in
+          ap (λ k. get_or (before ++ f n ∷ []) k d) last ∙ get_or-append_seam before (f n) [] d ∙ ap f same
+    ]
+
+is_there : {X : Type 0} (xs : List X) (i : ℕ) (x : X) → slice_get xs i ≡ Some x → i < length xs
+is_there [] i x e = absurd (cc)
+is_there (y ∷ ys) zero x e = omega arith
+is_there (y ∷ ys) (suc i) x e = let l = is_there ys i x e in omega arith
+
+all_zip : {X : Type 0} (R : X → ℕ → Type 0) (xs : List X) (ys : List ℕ) → length ys ≡ length xs → ((i : ℕ) (x : X) (d : ℕ) → slice_get xs i ≡ Some x → R x (get_or ys i d)) → AllZip R xs ys
+all_zip R [] [] l h = tt
+all_zip R [] (y ∷ ys) l h = absurd (omega arith)
+all_zip R (x ∷ xs) [] l h = absurd (omega arith)
+all_zip R (x ∷ xs) (y ∷ ys) l h = (h 0 x y refl, all_zip R xs ys (omega arith) (λ i z d e. h (suc i) z d e))
+
+-- ---- where each region is
+
+-- there is a region of this number and size
+abbrev Holds : List Region → ℕ → ℕ → Type 0
+Holds regions number size = (r : Region) × (slice_get regions number ≡ Some r) × (size ≡ r.size)
+
+-- its spot is the one that is found, and has its size
+record IsAt (out : List Spot) (number bytes : ℕ) : Type 0 where
+  spot : Spot
+  is : find (is_of number) out ≡ Some spot
+  address : address_in out number ≡ spot.address
+  size : spot.size ≡ bytes
+
+made : (many : ℕ) (placed : Result (List Spot) Region) (places : List ℕ) → by_number many placed ≡ Ok places → (out : List Spot) × (placed ≡ Ok out) × (places ≡ map (address_in out) (numbers_below many))
+made many (Ok out) places e = (out, refl, cc)
+made many (Err r) places e = absurd (cc)
+
+module _ (blocks : List Block) (regions : List Region) (out : List Spot) (placed : placed_after blocks (in_turn regions) [] ≡ Ok out) where
+  well : AreWell blocks (Holds regions) out
+  well =
+      well_after blocks (Holds regions) (in_turn regions) [] out placed
+      (each_in_turn (λ x. Holds regions x.0 x.1.size) regions
+      (each_numbered (λ x. Holds regions x.0 x.1.size) 0 regions (λ i r e. let n : 0 + i ≡ i = omega arith in (r, ap (slice_get regions) n ∙ e, refl))))
+      (record { inside = All-nil (λ q. in_a_block blocks q.address q.size ≡ true); apart = tt; each = All-nil (λ q. Holds regions q.number q.size) })
+
+  is_at : (i : ℕ) (r : Region) → slice_get regions i ≡ Some r → IsAt out i r.size
+  is_at i r e =
+      let n : 0 + i ≡ i = omega arith in
+      let some : list_any (is_of i) out ≡ true =
+      subst (λ k. list_any (is_of k) out ≡ true) n
+      (numbered_at (λ x. list_any (is_of x.0) out ≡ true) 0 regions
+      (each_from_turns (λ x. list_any (is_of x.0) out ≡ true) regions (each_after blocks (Holds regions) (in_turn regions) [] out placed)) i r e) in
+      let f = found (is_of i) out some in
+      let number : f.item.number ≡ i = eqb-true f.item.number i f.passes in
+      let h = all_found (is_of i) (λ q. Holds regions q.number q.size) out f.item f.is well.each in
+      let same : Some h.0 ≡ Some r = sym h.1 ∙ ap (slice_get regions) number ∙ e in
+      let is : h.0 ≡ r = cc in
+      record {
+        spot = f.item;
+        is = f.is;
+        address = ap (λ o. option_map_or (λ q. q.address) o 0) f.is;
+        size = h.2 ∙ ap (λ r. r.size) is;
+      }
+
+  inside_at : (i : ℕ) (r : Region) → slice_get regions i ≡ Some r → in_a_block blocks (address_in out i) r.size ≡ true
+  inside_at i r e =
+      let at = is_at i r e in
+      let h = all_found (is_of i) (λ q. in_a_block blocks q.address q.size ≡ true) out at.spot at.is well.inside in
+      ap (λ a. in_a_block blocks a r.size) at.address ∙ ap (in_a_block blocks at.spot.address) (sym at.size) ∙ h
+
+  apart_at : (i j : ℕ) (a b : Region) → i < j → slice_get regions i ≡ Some a → slice_get regions j ≡ Some b → (address_in out i + a.size ≤ address_in out j) ⊎ (address_in out j + b.size ≤ address_in out i)
+  apart_at i j a b l d e =
+      let p = is_at i a d in
+      let q = is_at j b e in
+      let other : (x : Spot) → is_of i x ≡ true → is_of j x ≡ true → ⊥ =
+      λ x h k. let m = eqb-true x.number i h in let n = eqb-true x.number j k in absurd (omega arith) in
+      let pa = p.address in
+      let qa = q.address in
+      let ps = p.size in
+      let qs = q.size in
+      elim (two_found (is_of i) (is_of j) out p.spot q.spot other p.is q.is well.apart) [
+        | inl before ↦ inl (omega arith)
+        | inr behind ↦ inr (omega arith)
+      ]
+
+module _ (blocks : List Block) (regions : List Region) (places : List ℕ) (e : placement_in blocks regions ≡ Ok places) where
+  parts : (out : List Spot) × (placed_after blocks (in_turn regions) [] ≡ Ok out) × (places ≡ map (address_in out) (numbers_below (length regions)))
+  unfolding placement_in
+  parts = made (length regions) (placed_after blocks (in_turn regions) []) places e
+
+  value_at : (i d : ℕ) → i < length regions → get_or places i d ≡ address_in parts.0 i
+  value_at i d l = ap (λ xs. get_or xs i d) parts.2 ∙ at_number (address_in parts.0) (length regions) i d l
+
+  many : length places ≡ length regions
+  many = ap length parts.2 ∙ numbers_length (address_in parts.0) (length regions)
+
+  pub are_inside : AreInside blocks regions places
+  are_inside =
+      all_zip (λ r place. in_a_block blocks place r.size ≡ true) regions places many
+      (λ i r d k. ap (λ a. in_a_block blocks a r.size) (value_at i d (is_there regions i r k)) ∙ inside_at blocks regions parts.0 parts.1 i r k)
+
+  pub are_disjoint : AreDisjoint regions places
+  are_disjoint i j a b l within h k =
+      let p = value_at i 0 (is_there regions i a h) in
+      let q = value_at j 0 (is_there regions j b k) in
+      elim (apart_at blocks regions parts.0 parts.1 i j a b l h k) [
+        | inl before ↦ inl (omega arith)
+        | inr behind ↦ inr (omega arith)
+      ]
+
+-- ---- of a policy
+
+module _ (r : Resolution) (regions : List Region) (places : List ℕ) (all : regions ≡ regions_of (source_of r)) (e : placement_of (source_of r) ≡ Ok places) where
+  placement : placement_in r.memory_blocks regions ≡ Ok places
+  placement = ap (placement_in r.memory_blocks) all ∙ sym (placement_is r) ∙ e
+
+  pub policy_inside : AreInside r.memory_blocks regions places
+  policy_inside = are_inside r.memory_blocks regions places placement
+
+  pub policy_disjoint : AreDisjoint regions places
+  policy_disjoint = are_disjoint r.memory_blocks regions places placement

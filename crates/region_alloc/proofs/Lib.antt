@@ -1,0 +1,12 @@
+pub mod Apart
+pub mod Carving
+pub mod EachInTurn
+pub mod HasRoom
+pub mod Least
+pub mod Lowest
+pub mod Multiples
+pub mod Placing
+pub mod Rooms
+pub mod Sized
+pub mod Sizes
+pub mod Spots

@@ -1,0 +1,191 @@
+//! The placement of a policy's regions.
+ghost use Rattle.std.specs.Prelude.{◌≡◌, ◌+◌, ◌≤◌, ◌<◌, ◌==◌, [], map, All, IfOk, IfErr, Ok};
+ghost use Rattle.std.specs.List.{find};
+ghost use Rattle.std.specs.Option.{option_copied};
+ghost use Rattle.muen_num.specs.Answers.{Explains};
+ghost use Rattle.muen_num.specs.Range.{numbers_below};
+ghost use Rattle.muen_num.specs.declared.limits.TheConstants.{PHYSICAL_END};
+ghost use Rattle.policy_lawful.specs.Resolution.{source_of};
+ghost use Rattle.region_alloc.specs.Placement.{address_in, no_room, no_room_for, placed_after, placement_in, placement_of};
+
+use crate::gaps::{gaps_of, left_of, lowest};
+use crate::placed::Placed;
+use crate::spot::Spot;
+use crate::turns::in_turn;
+use expand_kernel::{Plain, Region};
+use muen_num::{NoMemory, Seq};
+use policy_types::Refusal;
+use policy_types::source::Block;
+use std::alloc::Global;
+
+// These regions, one after another: where each is placed.
+fn place_each(
+    alloc: Global,
+    blocks: &[Block],
+    turns: &[(usize, Region)],
+) -> Result<Vec<Spot>, Refusal>
+    requires blocks { All (λ b. b.physical_address + b.size ≤ PHYSICAL_END) blocks.now }
+    requires regions { All (λ x. (0 < x.1.size) × (0 < x.1.alignment)) turns.now }
+    ensures ok { IfOk result (λ v. placed_after blocks.now turns.now [] ≡ Ok v.items) }
+    ensures err { IfErr result (Explains Refusal.NoMemory (no_room_for (placed_after blocks.now turns.now []))) }
+{
+    let mut gaps = gaps_of(alloc, blocks)?;
+    let mut spots = Vec::new(alloc);
+    for (number, region) in turns {
+        match lowest(&gaps, region) {
+            None => {
+                return Err(Refusal::NoRoom {
+                    region: region.tag,
+                    size: region.size,
+                });
+            }
+            Some(address) => {
+                let spot = Spot {
+                    number: *number,
+                    address,
+                    size: region.size,
+                };
+                gaps = left_of(alloc, &gaps, spot)?;
+                spots.push(spot)?;
+            }
+        }
+    }
+    Ok(spots)
+}
+
+// Where the region of this number is placed.
+fn spot_of(spots: &[Spot], number: usize) -> Option<&Spot>
+    ensures { option_copied result ≡ find (λ q. q.number == number) spots.now }
+{
+    spots.iter().find(|spot| spot.number == number)
+}
+
+// The address of the region of this number; 0 if it is at none.
+fn address_in(spots: &[Spot], number: usize) -> u64
+    ensures { result ≡ address_in spots.now number }
+{
+    match spot_of(spots, number) {
+        None => 0,
+        Some(spot) => spot.address,
+    }
+}
+
+// The addresses of so many regions, by number.
+fn by_number(alloc: Global, spots: &[Spot], many: usize) -> Result<Seq<u64>, NoMemory>
+    ensures { IfOk result (λ places. places ≡ map (address_in spots.now) (numbers_below many)) }
+{
+    let mut places = Seq::new(alloc);
+    for number in 0..many {
+        places.push(address_in(spots, number))?;
+    }
+    Ok(places)
+}
+
+// The addresses of these regions, by number.
+#[tactic(auto, unfolding(crate::specs::Placement::placement_in))]
+fn places_in(alloc: Global, blocks: &[Block], regions: &[Region]) -> Result<Seq<u64>, Refusal>
+    requires blocks { All (λ b. b.physical_address + b.size ≤ PHYSICAL_END) blocks.now }
+    requires regions { All (λ r. (0 < r.size) × (0 < r.alignment)) regions.now }
+    ensures ok { IfOk result (λ places. placement_in blocks.now regions.now ≡ Ok places) }
+    ensures err { IfErr result (Explains Refusal.NoMemory (no_room_for (placement_in blocks.now regions.now))) }
+{
+    let turns = in_turn(alloc, regions)?;
+    match place_each(alloc, blocks, &turns) {
+        Err(refusal) => Err(refusal),
+        Ok(spots) => Ok(by_number(alloc, &spots, regions.len())?),
+    }
+}
+
+// The addresses of a policy's regions, by number.
+fn places_of(alloc: Global, plain: &Plain) -> Result<Seq<u64>, Refusal>
+    ensures ok { IfOk result (λ places. placement_of (source_of plain.now.lawful) ≡ Ok places) }
+    ensures err { IfErr result (Explains Refusal.NoMemory (no_room (source_of plain.now.lawful))) }
+{
+    let policy = plain.lawful().resolved();
+    places_in(alloc, policy.memory_blocks(), plain.regions())
+}
+
+/// Places the regions of a policy: those that have a place of their own, then the others by size
+/// downwards and then by number, each at the lowest address of its alignment where it lies inside
+/// one memory block and shares no address with a region that was placed before.
+///
+/// Answers `NoRoom` with the first region for which there is no such address, and `NoMemory` where
+/// memory was refused.
+pub fn place(alloc: Global, plain: Plain) -> Result<Placed, Refusal>
+    ensures ok { IfOk result (λ p. p.plain ≡ plain) }
+    ensures room { IfOk result (λ _. no_room (source_of plain.lawful) ≡ None) }
+    ensures err { IfErr result (Explains Refusal.NoMemory (no_room (source_of plain.lawful))) }
+{
+    let places = places_of(alloc, &plain)?;
+    Ok(Placed::of(plain, places))
+}
+
+#[cfg(test)]
+mod tests {
+    use super::places_in;
+    use expand_kernel::{Region, RegionKind};
+    use muen_num::{Name, Part, Tag};
+    use policy_types::Refusal;
+    use policy_types::source::Block;
+    use std::test::Fail;
+
+    fn name() -> Result<Name, Fail> {
+        match Name::read(b"memory") {
+            Some(name) => Ok(name),
+            None => Err(Fail::new("no name")),
+        }
+    }
+
+    fn block(name: Name, physical_address: u64, size: u64) -> Block
+        ensures { (result.physical_address ≡ physical_address) × (result.size ≡ size) }
+    {
+        Block {
+            name,
+            physical_address,
+            size,
+        }
+    }
+
+    fn region(name: Name, size: u64, alignment: u64, fixed: Option<u64>) -> Region
+        ensures { (result.size ≡ size) × (result.alignment ≡ alignment) }
+    {
+        Region {
+            tag: Tag {
+                owner: name,
+                part: Part::Whole,
+            },
+            kind: RegionKind::Own,
+            size,
+            alignment,
+            fixed,
+        }
+    }
+
+    #[test]
+    fn places_few_regions(rt: HostRuntime) -> Result<(), Fail> {
+        let name = name()?;
+        let blocks = [
+            block(name, 0x10_0000, 0x3000),
+            block(name, 0x10_3000, 0x40_0000),
+        ];
+        let regions = [
+            region(name, 0x2000, 0x1000, None),
+            region(name, 0x1000, 0x1000, Some(0x10_0000)),
+            region(name, 0x2000, 0x20_0000, None),
+            region(name, 0x3000, 0x1000, None),
+            region(name, 0x40_0000, 0x1000, None),
+        ];
+        let places = places_in(rt.alloc(), &blocks, &regions[..4])?;
+        let expected = [0x10_1000, 0x10_0000, 0x20_0000, 0x10_3000];
+        assert_eq!(rt; places.items(), expected.as_slice());
+        let refused = places_in(rt.alloc(), &blocks, &regions).err();
+        assert_eq!(rt;
+            refused,
+            Some(Refusal::NoRoom {
+                region: regions[3].tag,
+                size: 0x3000,
+            })
+        );
+        Ok(())
+    }
+}
