@@ -6,7 +6,6 @@ pub mod Lacking
 pub mod Lacks
 pub mod Loads
 pub mod Parsed
-pub mod PolicyCommands
 pub mod RecordText
 pub mod Reports
 pub mod Runs

@@ -22,12 +22,11 @@ use muen_num::Seq;
 use muen_num::limits::{POLICY_MOST, RECORD_MOST};
 use muen_outside::{Buffer, FileEnd, Files, Found, Sink, SinkFault};
 use policy_lawful::Lawful;
-use region_alloc::Placed;
 use std::alloc::Global;
 use window_machine::print_run;
 
-/// The bytes of a file.
-pub(crate) fn load<'a, F: Files>(
+// The bytes of a file.
+fn load<'a, F: Files>(
     alloc: Global,
     name: &'a str,
     most: usize,
@@ -68,7 +67,7 @@ fn load_too<'a, F: Files>(
 // What is run.
 #[derive(Drop)]
 struct Booted {
-    placed: Placed,
+    policy: Lawful,
     run: Record,
 }
 
@@ -79,18 +78,18 @@ fn read_both<'a, F: Files>(
     inputs: &'a str,
     files: &mut F,
 ) -> Result<Booted, Stop<'a>>
-    ensures ok { IfOk result (λ b. Ready policy.now inputs.now (F.state files.old) (source_of b.placed.plain.lawful) (only_ticks b.run.end)) }
-    ensures loads { IfOk result (λ b. CanLoad (source_of b.placed.plain.lawful)) }
+    ensures ok { IfOk result (λ b. Ready policy.now inputs.now (F.state files.old) (source_of b.policy) (only_ticks b.run.end)) }
+    ensures loads { IfOk result (λ b. CanLoad (source_of b.policy)) }
     ensures err { IfErr result (NotReady policy.now inputs.now (F.state files.old) (F.state files.new)) }
     ensures follows { Follows (F.state files.old) (F.state files.new) }
 {
     let bytes = load(alloc, policy, POLICY_MOST, files)?;
     let accepted = muen_build::accept(alloc, policy, bytes.items(), files)?;
-    carried(alloc, accepted.placed.plain().lawful().resolved())?;
+    carried(alloc, accepted.policy.resolved())?;
     let bytes = load_too(alloc, policy, bytes, inputs, RECORD_MOST, files)?;
     let run = record_text::read(bytes.items())?;
     Ok(Booted {
-        placed: accepted.placed,
+        policy: accepted.policy,
         run,
     })
 }
@@ -126,7 +125,7 @@ pub(crate) fn boot<'a, F: Files, S: Sink>(
     ensures follows { Follows (F.state files.old) (F.state files.new) }
 {
     match read_both(alloc, policy, inputs, files) {
-        Ok(booted) => run_policy(alloc, booted.placed.plain().lawful(), booted.run, out),
+        Ok(booted) => run_policy(alloc, &booted.policy, booted.run, out),
         Err(stop) => Outcome::Stopped(stop),
     }
 }

@@ -1,6 +1,4 @@
-pub mod EventWays
 mod Examples
-pub mod Members
 pub mod Relabelled
 pub mod SoloLaws
 pub mod TickLaws

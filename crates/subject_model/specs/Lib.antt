@@ -1,5 +1,4 @@
 pub mod DeviceRecord
-pub mod Flows
 pub mod Run
 pub mod Solo
 pub mod System

@@ -1,5 +1,0 @@
-pub mod ByPlace
-pub mod FlowText
-pub mod Marks
-pub mod Sets
-pub mod TextByPlace

@@ -1,9 +1,0 @@
-//! On whom each subject of a policy can depend, and the text that tells it.
-#![tactic(auto)]
-
-mod faces;
-mod sets;
-mod text;
-
-pub use sets::{FlowSets, flows};
-pub use text::flow_text;
