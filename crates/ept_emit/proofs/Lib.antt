@@ -1,2 +1,9 @@
+pub mod Bytes
 pub mod Counts
-pub mod Tallies
+pub mod Found
+pub mod Written
+pub mod Numbered
+pub mod EntryBits
+pub mod Walked
+pub mod Places
+pub mod Held

@@ -1,9 +1,12 @@
-//! EPT tables of the windows of a subject: so far, how many pages they take (Intel SDM volume 3,
-//! extended page tables of four levels).
+//! Emits the EPT tables that map windows (Intel SDM volume 3, "VMX Support for Address Translation"):
+//! a walk over the tables leads each guest address where its window does.
 #![tactic(auto)]
 
-mod count;
-mod window;
+mod entries;
+mod search;
+mod tables;
 
-pub use count::pages;
-pub use window::{Leaf, Window};
+pub use tables::{emit, eptp};
+
+#[cfg(test)]
+mod tests;

@@ -3,7 +3,7 @@ use Rattle.std.specs.Prelude.{ℕ, ◌^◌, ◌&&◌, Bool, List, map, slice_get
 use Rattle.std.specs.List.{enumerate_from, filter_map, flat_map, list_all}
 use Rattle.expand_grants.specs.Resources.{range_of}
 use Rattle.expand_grants.specs.declared.granted.Route.{Route}
-use Rattle.expand_grants.specs.declared.resources.PortRange.{PortRange}
+use Rattle.policy_types.specs.declared.resources.PortRange.{PortRange}
 use Rattle.policy_lawful.specs.declared.resolved.DeviceUse.{DeviceUse}
 use Rattle.policy_lawful.specs.declared.resolved.IrqUse.{IrqUse}
 use Rattle.policy_lawful.specs.declared.resolved.Subject.{Subject}

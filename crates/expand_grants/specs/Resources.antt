@@ -2,8 +2,8 @@
 use Rattle.std.specs.Prelude.{ℕ, ◌+◌, ◌-◌, ◌&&◌, Bool, List, map, filter, nat_le, option_and_then, option_map}
 use Rattle.std.specs.List.{filter_map, find, flat_map, list_any}
 use Rattle.std.specs.Str.{bytes_eq}
-use Rattle.expand_grants.specs.declared.resources.MsrGrant.{MsrGrant}
-use Rattle.expand_grants.specs.declared.resources.PortRange.{PortRange}
+use Rattle.policy_types.specs.declared.resources.MsrGrant.{MsrGrant}
+use Rattle.policy_types.specs.declared.resources.PortRange.{PortRange}
 use Rattle.muen_num.specs.Range.{numbers_below}
 use Rattle.muen_num.specs.declared.limits.TheConstants.{LAST_PORT}
 use Rattle.policy_types.specs.declared.source.DeviceUse.{DeviceUse}

@@ -1,6 +1,6 @@
 //! What is granted to a subject, and routes of interrupts.
-use crate::resources::{MsrGrant, PortRange};
 use muen_num::{Mode, Seq};
+use policy_types::{MsrGrant, PortRange};
 use policy_views::View;
 
 /// The way in which a subject raises an event.

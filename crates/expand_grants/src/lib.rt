@@ -10,9 +10,7 @@ mod interrupts;
 mod msrs;
 mod ports;
 mod reached;
-mod resources;
 mod windows;
 
 pub use expand::{grants, routes};
 pub use granted::{EventEntry, Grants, Route, Way};
-pub use resources::{MsrGrant, PortRange};

@@ -4,8 +4,8 @@ ghost use Rattle.std.specs.List.{list_all};
 ghost use Rattle.expand_grants.specs.ByPlace.{fits_msrs};
 ghost use Rattle.expand_grants.specs.Resources.{msr_grant};
 
-use crate::resources::MsrGrant;
 use muen_num::{NoMemory, Seq};
+use policy_types::MsrGrant;
 use policy_types::source::Msrs;
 use std::alloc::Global;
 

@@ -5,9 +5,9 @@ ghost use Rattle.expand_grants.specs.ByPlace.{fits_device, fits_ports, range_at,
 ghost use Rattle.expand_grants.specs.Resources.{range_of};
 
 use crate::append::push_some;
-use crate::resources::PortRange;
 use muen_num::{NoMemory, Seq};
 use policy_lawful::resolved::DeviceUse;
+use policy_types::PortRange;
 use policy_types::source::{Device, Ports};
 use std::alloc::Global;
 

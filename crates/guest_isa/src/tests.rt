@@ -1,7 +1,7 @@
 use crate::{Asked, Instr, Wish, ask, decode, encode};
 use muen_num::Size;
-use state_page::SubjectState;
 use std::test::Fail;
+use subject_state::SubjectState;
 
 // The table, spelled by hand.
 #[test]

@@ -5,7 +5,7 @@ use Rattle.std.specs.List.{enumerate_from, flat_map}
 use Rattle.expand_grants.specs.declared.granted.Grants.{Grants}
 use Rattle.expand_kernel.specs.declared.region.Region.{Region}
 use Rattle.map_report.specs.MapText.{device_lines, region_lines, tag, window_line}
-use Rattle.muen_num.specs.declared.tag.Part.TheVariants.{Named, State as StatePage, Whole}
+use Rattle.muen_num.specs.declared.tag.Part.TheVariants.{Named, State as States, Whole}
 use Rattle.muen_num.specs.declared.tag.Tag.{Tag}
 use Rattle.policy_lawful.specs.Resolution.{Resolution}
 use Rattle.policy_lawful.specs.declared.resolved.Subject.{Subject}
@@ -19,7 +19,7 @@ shown_tag r subject name (Memory place) = Some (tag name Whole)
 shown_tag r subject name (Channel place) = Some (tag name Whole)
 shown_tag r subject name (Provided place) = Some (tag subject (Named name))
 shown_tag r subject name (Device device memory) = option_map (λ d. tag d.name (Named name)) (slice_get r.devices device)
-shown_tag r subject name (State place) = Some (tag name StatePage)
+shown_tag r subject name (State place) = Some (tag name States)
 
 abbrev pub tagged_line : List ℕ → View → Option Tag → List ℕ
 tagged_line subject v None = []

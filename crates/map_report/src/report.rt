@@ -191,8 +191,8 @@ fn put_map<S: Sink>(
 /// Puts the map of a policy: `region PLACE SIZE NAME` for each region by number, `device PLACE SIZE
 /// NAME` for each device's memory, then for each subject, by guest address, `window SUBJECT GUEST
 /// SIZE RIGHTS NAME`. Places, sizes and addresses have sixteen hexadecimal digits. The text goes
-/// through the buffer, in which nothing waits before or after, and takes no memory. Where the sink
-/// fails it has a front of the text.
+/// through the buffer, in which nothing may wait before, and takes no memory. Where the sink fails
+/// it has a front of the text.
 #[tactic(auto, using(muen_outside::proofs::Buffered::gives))]
 pub fn map_text<S: Sink>(placed: &Placed, buffer: &mut Buffer, out: &mut S) -> Result<(), SinkFault>
     requires { buffer.old ≡ [] }

@@ -1,17 +1,19 @@
 -- From a lawful policy whose contents are held against files to one that is accepted.
-use Rattle.std.proofs.Common.{◌≡◌, ℕ, inl, inr, List, [], ◌∷◌, Ok, Err, ap, ◌∙◌}
-use Rattle.muen_num.specs.Answers.{Answers}
+use Rattle.std.proofs.Common.{◌≡◌, ℕ, inl, inr, true, false, List, [], ◌∷◌, Some, None, Result, Ok, Err, sym, ap, ◌∙◌}
+use Rattle.std.proofs.lemmas.Bool.{false≢true}
+use Rattle.expand_kernel.specs.declared.region.Region.{Region}
+use Rattle.muen_num.specs.Answers.{Answers, Explains}
 use Rattle.muen_outside.specs.States.{FilesState}
-use Rattle.policy_lawful.specs.Lawful.{kept_or}
 use Rattle.policy_types.specs.declared.refusal.Refusal.{Refusal}
-use Rattle.policy_types.specs.declared.refusal.Refusal.TheVariants.{NoMemory}
+use Rattle.policy_types.specs.declared.refusal.Refusal.TheVariants.{NoMemory, NoRoom}
 use Rattle.policy_types.specs.declared.source.Source.{Source}
-use Rattle.muen_build.specs.Accepting.{Accepts, Ends, Files, Passes, Refuses, RefusesDocument, looks_of, of_all}
-use Rattle.muen_build.specs.Looks.{document_look}
-use Rattle.muen_build.specs.Refusals.{contents_refused, filled_of, lawful_policy_of}
+use Rattle.muen_build.specs.Accepting.{Accepts, Ends, Files, Grows, Passes, Refuses, RefusesDocument, looks_of, of_all}
+use Rattle.muen_build.specs.Looks.{Follows, document_look}
+use Rattle.muen_build.specs.Refusals.{contents_refused, filled_of, is_for_a_file, lawful_policy_of}
 use Rattle.muen_build.specs.declared.accepted.BuildEnd.{BuildEnd}
 use Rattle.muen_build.specs.declared.accepted.BuildEnd.TheVariants.{Refused}
-use Rattle.muen_build.proofs.Refusing.{contents_decide, for_no_file, not_lawful}
+use Rattle.region_alloc.specs.Placement.{no_room, no_room_for, placement_of}
+use Rattle.muen_build.proofs.Refusing.{built_so, contents_first, for_no_file, not_lawful, room_last}
 use Rattle.muen_build.proofs.Steps.{ends_here, ends_so}
 
 -- it isn't lawful
@@ -22,15 +24,39 @@ unlawful_ends name document old new r h =
       | inr e ↦ ends_here (document_look name document ∷ []) (RefusesDocument document) old new r (for_no_file document r e) (λ files s. not_lawful files document r e)
     ]
 
+-- a refusal for want of room is for no file
+room_for_no_file : (answer : Result (List ℕ) Region) (r : Refusal) → no_room_for answer ≡ Some r → is_for_a_file r ≡ false
+room_for_no_file (Ok places) r h = absurd (cc)
+room_for_no_file (Err x) r h = let same : NoRoom x.tag x.size ≡ r = cc in ap is_for_a_file (sym same)
+
+pub no_room_for_no_file : (p : Source) (r : Refusal) → no_room p ≡ Some r → is_for_a_file r ≡ false
+unfolding no_room
+no_room_for_no_file p r h = room_for_no_file (placement_of p) r h
+
 module _ (name document : List ℕ) (p : Source) (is : lawful_policy_of document ≡ Ok p) where
   -- its contents are refused
   pub contents_end : (old new : FilesState) (end : BuildEnd) → Ends (document_look name document ∷ []) (Refuses (of_all (filled_of p))) old new end → Ends (document_look name document ∷ []) (RefusesDocument document) old new end
   unfolding contents_refused
   contents_end old new end e =
       ends_so (document_look name document ∷ []) (Refuses (of_all (filled_of p))) (RefusesDocument document) old new end
-      (λ files r s h. contents_decide files document p is ∙ ap (kept_or p) h) e
+      (λ files r s h. contents_first files document p r is h) e
 
-  -- nothing is refused
-  pub accepts : (found : Files) → Passes (looks_of name document found) (of_all (filled_of p)) → Accepts (looks_of name document found) document p
-  unfolding contents_refused
-  accepts found passes files s = contents_decide files document p is ∙ ap (kept_or p) (passes files s)
+  -- there is no room
+  module _ (found : Files) (passes : Passes (looks_of name document found) (of_all (filled_of p))) where
+    pub room_end : (old new : FilesState) (r : Refusal) → Grows old.held (document_look name document ∷ []) (looks_of name document found) → Follows old new → Explains NoMemory (no_room p) r → Ends (document_look name document ∷ []) (RefusesDocument document) old new (Refused r)
+    unfolding contents_refused
+    room_end old new r grows follows h =
+        elim h [
+          | inl m ↦ inl m
+          | inr e ↦ inr (record {
+            after = looks_of name document found;
+            grows = grows;
+            refuses = λ files s. room_last files document p r is (passes files s) e;
+            missed = λ yes. absurd (false≢true (sym (no_room_for_no_file p r e) ∙ yes));
+          })
+        ]
+
+    -- nothing is refused
+    pub accepts : no_room p ≡ None → Accepts (looks_of name document found) document p
+    unfolding contents_refused
+    accepts room files s = built_so files document p is (passes files s) room

@@ -17,7 +17,8 @@ use Rattle.policy_types.specs.declared.refusal.Fault.{Fault}
 use Rattle.policy_types.specs.declared.refusal.Refusal.{Refusal}
 use Rattle.policy_types.specs.declared.refusal.Refusal.TheVariants.{NotJson, Shape, NoMemory}
 use Rattle.policy_types.specs.declared.source.Source.{Source}
-use Rattle.muen_build.specs.Refusals.{accepted, accepted_policy_of, contents_refused, is_for_a_file, lawful_alone, lawful_policy_of, refusal_of, unlawful}
+use Rattle.region_alloc.specs.Placement.{no_room}
+use Rattle.muen_build.specs.Refusals.{accepted, accepted_policy_of, build_refused, contents_refused, is_for_a_file, laid, laid_policy_of, lawful_alone, lawful_policy_of, refusal_of, unlawful}
 
 -- ---- one reason after another
 
@@ -57,11 +58,11 @@ pub rules_decide : (bytes : List ℕ) (p q : Source) → policy_of bytes ≡ Ok 
 unfolding lawful_policy_of
 rules_decide bytes p q read kept = ap lawful_alone read ∙ second_decides p q (names_broken p) rules_broken kept
 
--- ---- the contents
+-- ---- the contents and the room
 
 unlawful_first : (files : Held) (answer : Result Source Refusal) (r : Refusal) → lawful_alone answer ≡ Err r → accepted files answer ≡ Err r
 unfolding refusal_of
-unlawful_first files (Ok p) r e = first_stays p (unlawful p) (contents_refused files p) r e
+unlawful_first files (Ok p) r e = first_stays p (unlawful p) (build_refused files p) r e
 unlawful_first files (Err x) r e = e
 
 -- a document whose policy isn't lawful isn't accepted
@@ -69,28 +70,80 @@ pub not_lawful : (files : Held) (bytes : List ℕ) (r : Refusal) → lawful_poli
 unfolding lawful_policy_of accepted_policy_of
 not_lawful files bytes r h = unlawful_first files (policy_of bytes) r h
 
-lawful_then : (files : Held) (answer : Result Source Refusal) (q : Source) → lawful_alone answer ≡ Ok q → accepted files answer ≡ kept_or q (contents_refused files q)
+lawful_then : (files : Held) (answer : Result Source Refusal) (q : Source) → lawful_alone answer ≡ Ok q → accepted files answer ≡ kept_or q (build_refused files q)
 unfolding refusal_of
-lawful_then files (Ok p) q e = second_decides p q (unlawful p) (contents_refused files) e
+lawful_then files (Ok p) q e = second_decides p q (unlawful p) (build_refused files) e
 lawful_then files (Err x) q e = absurd (cc)
 
--- where it is, its contents decide
-pub contents_decide : (files : Held) (bytes : List ℕ) (q : Source) → lawful_policy_of bytes ≡ Ok q → accepted_policy_of files bytes ≡ kept_or q (contents_refused files q)
+-- where it is, its contents and its room decide
+pub build_decides : (files : Held) (bytes : List ℕ) (q : Source) → lawful_policy_of bytes ≡ Ok q → accepted_policy_of files bytes ≡ kept_or q (build_refused files q)
 unfolding lawful_policy_of accepted_policy_of
-contents_decide files bytes q e = lawful_then files (policy_of bytes) q e
+build_decides files bytes q e = lawful_then files (policy_of bytes) q e
 
--- and back: a policy that is accepted has contents that are
-accepted_reads : (files : Held) (answer : Result Source Refusal) (q : Source) → accepted files answer ≡ Ok q → (lawful_alone answer ≡ Ok q) × (contents_refused files q ≡ None)
+-- and back: nothing of a policy that is accepted is refused
+accepted_reads : (files : Held) (answer : Result Source Refusal) (q : Source) → accepted files answer ≡ Ok q → (lawful_alone answer ≡ Ok q) × (build_refused files q ≡ None)
 unfolding refusal_of
 accepted_reads files (Err r) q e = absurd (cc)
 accepted_reads files (Ok p) q e =
-    let k = kept_is p q (first_of (unlawful p ∷ contents_refused files p ∷ [])) e in
-    let none = none_both (unlawful p) (option_or (contents_refused files p) None) k.0 in
-    (ap (kept_or p) none.0 ∙ ap Ok k.1, ap (contents_refused files) (sym k.1) ∙ (none_both (contents_refused files p) None none.1).0)
+    let k = kept_is p q (first_of (unlawful p ∷ build_refused files p ∷ [])) e in
+    let none = none_both (unlawful p) (option_or (build_refused files p) None) k.0 in
+    (ap (kept_or p) none.0 ∙ ap Ok k.1, ap (build_refused files) (sym k.1) ∙ (none_both (build_refused files p) None none.1).0)
 
-pub accepted_so : (files : Held) (bytes : List ℕ) (q : Source) → accepted_policy_of files bytes ≡ Ok q → (lawful_policy_of bytes ≡ Ok q) × (contents_refused files q ≡ None)
+accepted_built : (files : Held) (bytes : List ℕ) (q : Source) → accepted_policy_of files bytes ≡ Ok q → (lawful_policy_of bytes ≡ Ok q) × (build_refused files q ≡ None)
 unfolding lawful_policy_of accepted_policy_of
-accepted_so files bytes q e = accepted_reads files (policy_of bytes) q e
+accepted_built files bytes q e = accepted_reads files (policy_of bytes) q e
+
+-- a policy that is accepted is lawful, its contents fit, and there is room for it
+pub record IsBuilt (files : Held) (bytes : List ℕ) (q : Source) : Type 0 where
+  pub lawful : lawful_policy_of bytes ≡ Ok q
+  pub contents : contents_refused files q ≡ None
+  pub room : no_room q ≡ None
+
+pub accepted_so : (files : Held) (bytes : List ℕ) (q : Source) → accepted_policy_of files bytes ≡ Ok q → IsBuilt files bytes q
+unfolding build_refused
+accepted_so files bytes q e =
+    let built = accepted_built files bytes q e in
+    let none = none_both (contents_refused files q) (option_or (no_room q) None) built.1 in
+    record { lawful = built.0; contents = none.0; room = (none_both (no_room q) None none.1).0 }
+
+-- the other way round
+pub built_so : (files : Held) (bytes : List ℕ) (q : Source) → lawful_policy_of bytes ≡ Ok q → contents_refused files q ≡ None → no_room q ≡ None → accepted_policy_of files bytes ≡ Ok q
+unfolding build_refused
+built_so files bytes q lawful contents room =
+    build_decides files bytes q lawful ∙ ap (λ o. kept_or q (first_of (o ∷ no_room q ∷ []))) contents ∙ ap (λ o. kept_or q (first_of (None ∷ o ∷ []))) room
+
+pub contents_first : (files : Held) (bytes : List ℕ) (q : Source) (r : Refusal) → lawful_policy_of bytes ≡ Ok q → contents_refused files q ≡ Some r → accepted_policy_of files bytes ≡ Err r
+unfolding build_refused
+contents_first files bytes q r lawful h = build_decides files bytes q lawful ∙ ap (λ o. kept_or q (first_of (o ∷ no_room q ∷ []))) h
+
+pub room_last : (files : Held) (bytes : List ℕ) (q : Source) (r : Refusal) → lawful_policy_of bytes ≡ Ok q → contents_refused files q ≡ None → no_room q ≡ Some r → accepted_policy_of files bytes ≡ Err r
+unfolding build_refused
+room_last files bytes q r lawful contents room =
+    build_decides files bytes q lawful ∙ ap (λ o. kept_or q (first_of (o ∷ no_room q ∷ []))) contents ∙ ap (λ o. kept_or q (first_of (None ∷ o ∷ []))) room
+
+-- ---- the room alone
+
+laid_then : (answer : Result Source Refusal) (q : Source) → lawful_alone answer ≡ Ok q → laid answer ≡ kept_or q (no_room q)
+laid_then (Ok p) q e = second_decides p q (unlawful p) no_room e
+laid_then (Err x) q e = absurd (cc)
+
+laid_not : (answer : Result Source Refusal) (r : Refusal) → lawful_alone answer ≡ Err r → laid answer ≡ Err r
+laid_not (Ok p) r e = first_stays p (unlawful p) (no_room p) r e
+laid_not (Err x) r e = e
+
+pub unlawful_unlaid : (bytes : List ℕ) (r : Refusal) → lawful_policy_of bytes ≡ Err r → laid_policy_of bytes ≡ Err r
+unfolding lawful_policy_of laid_policy_of
+unlawful_unlaid bytes r h = laid_not (policy_of bytes) r h
+
+-- it isn't lawful
+pub not_laid : (bytes : List ℕ) (r : Refusal) → Answers NoMemory (lawful_policy_of bytes) (Err r) → Answers NoMemory (laid_policy_of bytes) (Err r)
+unfolding lawful_policy_of laid_policy_of
+not_laid bytes r h = refused_for (lawful_policy_of bytes) (laid_policy_of bytes) r (laid_not (policy_of bytes) r) h
+
+-- where it is, its room decides
+pub room_decides : (bytes : List ℕ) (q : Source) → lawful_policy_of bytes ≡ Ok q → laid_policy_of bytes ≡ kept_or q (no_room q)
+unfolding lawful_policy_of laid_policy_of
+room_decides bytes q e = laid_then (policy_of bytes) q e
 
 -- ---- a document whose policy isn't lawful is refused for no file
 

@@ -10,6 +10,7 @@ use Rattle.muen_num.specs.declared.tag.Tag.{Tag}
 use Rattle.muen_outside.specs.Store.{Reading, whole, absent, long, reading_of}
 use Rattle.policy_json.specs.Document.{policy_of}
 use Rattle.policy_lawful.specs.Lawful.{names_broken, rules_broken, kept_or}
+use Rattle.policy_lawful.specs.Resolution.{source_of}
 use Rattle.policy_meaning.specs.Contents.{Held, file_part}
 use Rattle.policy_meaning.specs.Thing.{component_by}
 use Rattle.policy_types.specs.declared.refusal.Refusal.{Refusal}
@@ -18,6 +19,8 @@ use Rattle.policy_types.specs.declared.source.Component.{Component}
 use Rattle.policy_types.specs.declared.source.Content.{Content}
 use Rattle.policy_types.specs.declared.source.Content.TheVariants.{Zero, Fill, Inline, File}
 use Rattle.policy_types.specs.declared.source.Source.{Source}
+use Rattle.region_alloc.specs.Placed.{Placement}
+use Rattle.region_alloc.specs.Placement.{no_room}
 
 -- ---- rules
 
@@ -81,10 +84,14 @@ contents_refused files p = first_in (filled_refused files) (filled_of p)
 
 -- ---- the whole
 
--- why a policy is refused over files that hold this: the least rule that is broken, else the first contents that are
--- refused
+-- what a lawful policy is refused for over files that hold this: the first contents that are refused, else the first
+-- region for which there is no room
+unfoldable pub build_refused : Held → Source → Option Refusal
+build_refused files p = first_of (contents_refused files p ∷ no_room p ∷ [])
+
+-- why a policy is refused over files that hold this: the least rule that is broken, else its contents or its room
 unfoldable pub refusal_of : Held → Source → Option Refusal
-refusal_of files p = first_of (unlawful p ∷ contents_refused files p ∷ [])
+refusal_of files p = first_of (unlawful p ∷ build_refused files p ∷ [])
 
 abbrev pub accepted : Held → Result Source Refusal → Result Source Refusal
 accepted files (Ok p) = kept_or p (refusal_of files p)
@@ -93,6 +100,24 @@ accepted files (Err refusal) = Err refusal
 -- the policy of a document that is accepted over files that hold this, else why it is refused
 unfoldable pub accepted_policy_of : Held → List ℕ → Result Source Refusal
 accepted_policy_of files bytes = accepted files (policy_of bytes)
+
+-- ---- placed, whatever contents are
+
+abbrev pub laid : Result Source Refusal → Result Source Refusal
+laid (Ok p) = kept_or p (first_of (unlawful p ∷ no_room p ∷ []))
+laid (Err refusal) = Err refusal
+
+-- the policy of a document, where it keeps every rule and there is room for its regions; else why not. What files hold is
+-- not looked at
+unfoldable pub laid_policy_of : List ℕ → Result Source Refusal
+laid_policy_of bytes = laid (policy_of bytes)
+
+-- what a call that places has kept, as a source policy
+abbrev pub placed_source : Result Placement Refusal → Result Source Refusal
+placed_source (Ok x) = Ok (source_of x.plain.lawful)
+placed_source (Err refusal) = Err refusal
+
+-- ---- files
 
 -- a refusal for a file that isn't there or is too long
 abbrev pub is_for_a_file : Refusal → Bool

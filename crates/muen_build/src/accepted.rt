@@ -4,8 +4,8 @@ ghost use Rattle.muen_outside.specs.Store.{find_bytes};
 
 use indexmap::IndexMap;
 use muen_num::{Name, NoMemory, Seq};
-use policy_lawful::Lawful;
 use policy_types::Refusal;
+use region_alloc::Placed;
 use std::alloc::{AllocError, Global};
 use std::marker::Model;
 
@@ -89,6 +89,7 @@ impl ComponentFiles {
 /// A policy that is accepted, with the files that its contents name.
 #[derive(Drop)]
 pub struct Accepted {
-    pub policy: Lawful,
+    /// The policy, with the places of its regions.
+    pub placed: Placed,
     pub files: ComponentFiles,
 }

@@ -1,15 +1,16 @@
 //! From a document to a policy that is accepted: it is read, its names are resolved, the rules are
-//! checked, and what it says of memory's contents is held against the room for it. Each component
-//! file is read once.
+//! checked, what it says of memory's contents is held against the room for it, and its regions are
+//! placed. Each component file is read once.
 #![tactic(auto)]
 
-ghost use Rattle.std.specs.Prelude.{◌≡◌, IfOk, IfErr, [], ◌∷◌};
-ghost use Rattle.muen_num.specs.Answers.{Answers};
+ghost use Rattle.std.specs.Prelude.{◌≡◌, IfOk, IfErr, [], ◌∷◌, None};
+ghost use Rattle.muen_num.specs.Answers.{Answers, Explains};
 ghost use Rattle.policy_lawful.specs.Lawful.{kept_source};
 ghost use Rattle.policy_lawful.specs.Resolution.{source_of};
 ghost use Rattle.muen_build.specs.Accepting.{Accepts, Ends, Grows, Passes, Refuses, RefusesDocument, looks_of, of_all};
 ghost use Rattle.muen_build.specs.Looks.{Follows, document_look};
-ghost use Rattle.muen_build.specs.Refusals.{filled_of, lawful_policy_of};
+ghost use Rattle.muen_build.specs.Refusals.{filled_of, laid_policy_of, lawful_policy_of, placed_source};
+ghost use Rattle.region_alloc.specs.Placement.{no_room};
 
 mod accepted;
 mod contents;
@@ -19,6 +20,7 @@ use contents::check_all;
 use muen_outside::Files;
 use policy_lawful::Lawful;
 use policy_types::Refusal;
+use region_alloc::Placed;
 use std::alloc::Global;
 
 /// The policy of a document, where it keeps every rule.
@@ -32,6 +34,28 @@ pub fn lawful(alloc: Global, policy: &[u8]) -> Result<Lawful, Refusal>
     let source = policy_json::read(alloc, policy)?;
     let resolved = policy_names::resolve(alloc, source)?;
     policy_rules::check(alloc, resolved)
+}
+
+// The policy with all that follows from it and the places of its regions.
+fn place(alloc: Global, policy: Lawful) -> Result<Placed, Refusal>
+    ensures ok { IfOk result (λ x. x.plain.lawful ≡ policy) }
+    ensures room { IfOk result (λ _. no_room (source_of policy) ≡ None) }
+    ensures err { IfErr result (Explains Refusal.NoMemory (no_room (source_of policy))) }
+{
+    let plain = expand_kernel::expand(alloc, policy)?;
+    region_alloc::place(alloc, plain)
+}
+
+/// The policy of a document with the places of its regions, where it keeps every rule and there is
+/// room for them.
+///
+/// Answers as `lawful` does where a rule is broken or less; else `NoRoom` with the first region that
+/// has no place, and `NoMemory` where memory was refused. What memory holds is not looked at.
+pub fn lay(alloc: Global, policy: &[u8]) -> Result<Placed, Refusal>
+    ensures { Answers Refusal.NoMemory (laid_policy_of policy.now) (placed_source result) }
+{
+    let policy = lawful(alloc, policy)?;
+    place(alloc, policy)
 }
 
 // The component files that the contents of a policy name, which fit.
@@ -52,14 +76,14 @@ fn read_contents<F: Files>(
     Ok(found)
 }
 
-/// The policy of a document, where it keeps every rule and its contents fit, and the component
-/// files that they name. The document was read under this name: where a content names it, these
+/// The policy of a document with the places of its regions, where it keeps every rule, its contents
+/// fit and there is room for it, and the component files that the contents name. The document was read under this name: where a content names it, these
 /// bytes stand for it. Each other file is read once, where the first content names it.
 ///
 /// Answers as `lawful` does where it is refused for less; else for the first region by number:
 /// `Missing` where there is no file of a content's name, `TooLong` where it is longer than
-/// `COMPONENT_FILE_MOST`, `FileFit` where what a content takes is longer than its region. A fault of
-/// files comes only where their count of faults rose, `Missing` and `TooLong` only where that of
+/// `COMPONENT_FILE_MOST`, `FileFit` where what a content takes is longer than its region; else
+/// `NoRoom` with the first region that has no place. A fault of files comes only where their count of faults rose, `Missing` and `TooLong` only where that of
 /// misses did.
 pub fn accept<F: Files>(
     alloc: Global,
@@ -68,11 +92,12 @@ pub fn accept<F: Files>(
     files: &mut F,
 ) -> Result<Accepted, BuildEnd>
     ensures grows { IfOk result (λ a. Grows (F.state files.old).held (document_look name.now document.now ∷ []) (looks_of name.now document.now a.files)) }
-    ensures accepts { IfOk result (λ a. Accepts (looks_of name.now document.now a.files) document.now (source_of a.policy)) }
+    ensures accepts { IfOk result (λ a. Accepts (looks_of name.now document.now a.files) document.now (source_of a.placed.plain.lawful)) }
     ensures err { IfErr result (Ends (document_look name.now document.now ∷ []) (RefusesDocument document.now) (F.state files.old) (F.state files.new)) }
     ensures follows { Follows (F.state files.old) (F.state files.new) }
 {
     let policy = lawful(alloc, document)?;
     let files = read_contents(alloc, name, document, &policy, files)?;
-    Ok(Accepted { policy, files })
+    let placed = place(alloc, policy)?;
+    Ok(Accepted { placed, files })
 }

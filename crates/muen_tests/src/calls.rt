@@ -40,8 +40,9 @@ const SPACED: &[u8] = b"{\"processor\":{\"logicalCpus\":1},\
 const UNDERSCORED: &[u8] = b"{\"processor\":{\"logicalCpus\":1},\
 \"memoryBlocks\":[{\"name\":\"ram\",\"physicalAddress\":\"16#10__0#\",\"size\":65536}],\"memory\":[{}]}";
 
-// No block; three regions, two of them in windows, of which the second follows on the first.
-const SEVERAL: &[u8] = b"{\"processor\":{\"logicalCpus\":1},\"memory\":[\
+// Three regions, two of them in windows, of which the second follows on the first.
+const SEVERAL: &[u8] = b"{\"processor\":{\"logicalCpus\":1},\
+\"memoryBlocks\":[{\"name\":\"ram\",\"physicalAddress\":1048576,\"size\":131072}],\"memory\":[\
 {\"name\":\"spare\",\"size\":4096,\"content\":{\"fill\":255}},\
 {\"name\":\"code\",\"size\":4096,\"content\":{\"hex\":\"01100000050000001700000000000000\"}},\
 {\"name\":\"lead\",\"size\":4096,\"caching\":\"UC\"}],\
@@ -105,6 +106,7 @@ region ro ad7facb2586fc6e966c004d7d1d16b024f5805ff7cb47c7a85dabd8b48892ca7\n";
 
 // A jump to itself.
 const LOOP: &[u8] = b"{\"processor\":{\"logicalCpus\":1},\
+\"memoryBlocks\":[{\"name\":\"ram\",\"physicalAddress\":1048576,\"size\":131072}],\
 \"memory\":[{\"name\":\"code\",\"size\":4096,\"content\":{\"hex\":\"0d00000000000000\"}}],\
 \"subjects\":[{\"name\":\"one\",\"cpu\":0,\"entry\":0,\
 \"memory\":[{\"region\":\"code\",\"virtualAddress\":0,\"rights\":\"rx\"}]}],\
@@ -112,6 +114,7 @@ const LOOP: &[u8] = b"{\"processor\":{\"logicalCpus\":1},\
 \"majorFrames\":[{\"cpus\":[{\"cpu\":0,\"minorFrames\":[{\"group\":\"g\",\"ticks\":10}]}]}]}}";
 
 const TWO_CPUS: &[u8] = b"{\"processor\":{\"logicalCpus\":2},\
+\"memoryBlocks\":[{\"name\":\"ram\",\"physicalAddress\":1048576,\"size\":131072}],\
 \"subjects\":[{\"name\":\"one\",\"cpu\":0,\"entry\":0},{\"name\":\"two\",\"cpu\":1,\"entry\":0}],\
 \"scheduling\":{\"groups\":[{\"name\":\"g\",\"cpu\":0,\"subjects\":[\"one\"]},{\"name\":\"h\",\"cpu\":1,\"subjects\":[\"two\"]}],\
 \"majorFrames\":[{\"cpus\":[{\"cpu\":0,\"minorFrames\":[{\"group\":\"g\",\"ticks\":1}]},{\"cpu\":1,\"minorFrames\":[{\"group\":\"h\",\"ticks\":1}]}]}]}}";
@@ -260,7 +263,11 @@ fn answers(rt: HostRuntime) -> Result<(), Fail> {
 // A policy of one subject whose frame has these ticks, with regions of a page for which it has so
 // many bytes.
 fn filled(alloc: Global, regions: &[(&[u8], usize)], ticks: &[u8]) -> Result<Vec<u8>, Fail> {
-    let mut text = Vec::from_slice(alloc, b"{\"processor\":{\"logicalCpus\":1},\"memory\":[")?;
+    let mut text = Vec::from_slice(
+        alloc,
+        b"{\"processor\":{\"logicalCpus\":1},\
+\"memoryBlocks\":[{\"name\":\"ram\",\"physicalAddress\":1048576,\"size\":131072}],\"memory\":[",
+    )?;
     for (i, (name, count)) in regions.iter().enumerate() {
         if i > 0 {
             text.push(b',')?;
@@ -320,7 +327,8 @@ fn contents(rt: HostRuntime) -> Result<(), Fail> {
 }
 
 // Contents from files: regions of memory, and a component whose regions the subject gets.
-const FROM_FILES: &str = r#"{"processor":{"logicalCpus":1},"memory":[MEMORY],
+const FROM_FILES: &str = r#"{"processor":{"logicalCpus":1},
+"memoryBlocks":[{"name":"ram","physicalAddress":1048576,"size":131072}],"memory":[MEMORY],
 "subjects":[{"name":"one","cpu":0,"entry":0}],
 "scheduling":{"groups":[{"name":"g","cpu":0,"subjects":["one"]}],
 "majorFrames":[{"cpus":[{"cpu":0,"minorFrames":[{"group":"g","ticks":1}]}]}]}}"#;

@@ -5,7 +5,8 @@ use muen_top::muen;
 use std::alloc::Global;
 use std::test::Fail;
 
-const FRONT: &[u8] = b"{\"processor\":{\"logicalCpus\":1},\"memory\":[\
+const FRONT: &[u8] = b"{\"processor\":{\"logicalCpus\":1},\
+\"memoryBlocks\":[{\"name\":\"ram\",\"physicalAddress\":1048576,\"size\":131072}],\"memory\":[\
 {\"name\":\"code\",\"size\":4096,\"content\":{\"hex\":\"";
 
 // A page to read and write, one to read, and the last page of guest addresses to read.

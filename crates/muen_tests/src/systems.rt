@@ -127,6 +127,7 @@ end a 0000000000400000 0000000000000000 0000000000000000 12\n",
 }
 
 const ENTERED: &[u8] = b"{\"processor\":{\"logicalCpus\":1},\
+\"memoryBlocks\":[{\"name\":\"ram\",\"physicalAddress\":1048576,\"size\":131072}],\
 \"memory\":[{\"name\":\"code\",\"size\":4096,\"content\":{\"hex\":\"";
 
 const ENTRY: &[u8] = b"\"}}],\"subjects\":[{\"name\":\"a\",\"cpu\":0,\"memory\":[\

@@ -10,11 +10,10 @@ use Rattle.muen_build.specs.Refusals.{accepted_policy_of, is_for_a_file}
 use Rattle.muen_build.specs.declared.accepted.BuildEnd.{BuildEnd}
 use Rattle.muen_build.specs.declared.accepted.BuildEnd.TheVariants.{Refused as RefusedPolicy, FileFault as FaultOfFiles}
 use Rattle.muen_build.proofs.Looks.{explained, seen_first}
-use Rattle.muen_build.proofs.Refusing.{accepted_so, contents_decide}
+use Rattle.muen_build.proofs.Refusing.{accepted_so, built_so}
 use Rattle.muen_outside.specs.Counts.{Rose}
 use Rattle.muen_outside.specs.States.{FilesState, SinkState}
 use Rattle.muen_outside.specs.Store.{Store, Reading, whole, absent, long, reading_of}
-use Rattle.policy_lawful.specs.Lawful.{kept_or}
 use Rattle.policy_meaning.specs.Contents.{Held, no_files}
 use Rattle.policy_types.specs.declared.refusal.Refusal.{Refusal}
 use Rattle.policy_types.specs.declared.refusal.Refusal.TheVariants.{NotJson, Shape, Rule, Missing as MissingFile, TooLong as TooLongFile, FileFit, NoRoom, NoMemory as NoMemoryFor}
@@ -65,7 +64,7 @@ pub record Some_files (held : Option Store) : Type 0 where
   pub files : Store
   pub told : IfSome held (λ m. files ≡ m)
 
-some_files : (held : Option Store) → Some_files held
+pub some_files : (held : Option Store) → Some_files held
 some_files None = record { files = no_files; told = tt }
 some_files (Some m) = record { files = m; told = refl }
 
@@ -106,7 +105,7 @@ module _ (policy name : List ℕ) (old new : FilesState) where
 -- ---- the policy
 
 -- a refusal of status 3 is for a file
-for_a_file : (r : Refusal) → refusal_status r ≡ 3 → is_for_a_file r ≡ true
+pub for_a_file : (r : Refusal) → refusal_status r ≡ 3 → is_for_a_file r ≡ true
 for_a_file NotJson h = absurd (omega (arith, h))
 for_a_file (Shape place want) h = absurd (omega (arith, h))
 for_a_file (Rule number first second) h = absurd (omega (arith, h))
@@ -188,12 +187,12 @@ module _ (policy name : List ℕ) (old between : FilesState) (bytes : List ℕ) 
       always files =
           let s = accepting in
           let so = accepted_so s.files bytes p (accepts s.files s.shows) in
-          contents_decide files bytes p so.0 ∙ ap (kept_or p) (same_contents p none files s.files ∙ so.1)
+          built_so files bytes p so.lawful (same_contents p none files s.files ∙ so.contents) so.room
 
       pub loads : CanLoad p
       loads =
           let s = accepting in
-          can_load p s.files none (accepted_so s.files bytes p (accepts s.files s.shows)).1
+          can_load p s.files none (accepted_so s.files bytes p (accepts s.files s.shows)).contents
 
       follows_mid : Follows old mid
       follows_mid = record { held = on.held ∙ follows.held; faults = omega (arith, follows.faults, on.faults); misses = omega (arith, follows.misses, on.misses) }

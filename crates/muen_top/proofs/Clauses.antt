@@ -10,14 +10,14 @@ use Rattle.policy_types.specs.declared.refusal.Refusal.{Refusal}
 use Rattle.policy_types.specs.declared.refusal.Refusal.TheVariants.{NotJson, Shape, Rule, Missing as MissingFile, TooLong as TooLongFile, FileFit, NoRoom, NoMemory as NoMemoryFor}
 use Rattle.subject_model.specs.DeviceRecord.{DeviceRecord}
 use Rattle.muen_top.specs.RecordText.{record_of}
-use Rattle.muen_build.specs.Refusals.{accepted_policy_of}
+use Rattle.muen_build.specs.Refusals.{accepted_policy_of, laid_policy_of, lawful_policy_of}
 use Rattle.muen_top.specs.declared.record_text.RecordFault.{RecordFault}
-use Rattle.muen_top.specs.Answers.{Reason, usage, missing, too_long, refused, record_refused, Answer, prints, stops, of_file, run_answer, carried_answer, policy_answer, boot_answer, answer_of}
+use Rattle.muen_top.specs.Answers.{Reason, usage, missing, too_long, refused, record_refused, Answer, prints, stops, of_file, run_answer, carried_answer, policy_answer, boot_answer, map_answer, map_policy_answer, flows_answer, flows_policy_answer, answer_of}
 use Rattle.muen_top.specs.Lacking.{lacking}
 use Rattle.muen_top.specs.declared.lacking.Lack.{Lack}
 use Rattle.muen_num.specs.declared.limits.TheConstants.{RECORD_MOST}
 use Rattle.muen_top.specs.Calls.{Prints, StopsFor, ComesOf, Ran, IsFault, Answered, RefusesPolicy, LacksFile, RefusesRecord}
-use Rattle.muen_top.specs.Commands.{Command, boot, command_of}
+use Rattle.muen_top.specs.Commands.{Command, boot, map, flows, command_of}
 use Rattle.muen_top.specs.Reports.{refusal_status, reason_status, reason_text, status_of, stop_status, stop_text, Told, Reported, Ends}
 use Rattle.muen_top.specs.declared.outcome.Outcome.{Outcome}
 use Rattle.muen_top.specs.declared.outcome.Outcome.TheVariants.{Done, Stopped, OutputFault}
@@ -147,11 +147,23 @@ no_usage_of_policy : (files : Store) (name : List ℕ) (r : Result Source Refusa
 no_usage_of_policy files name (Ok p) e = no_usage_of_carried files p name (lacking p) e
 no_usage_of_policy files name (Err refusal) e = cc
 
+no_usage_of_map : (r : Result Source Refusal) → map_policy_answer r ≡ stops usage → ⊥
+no_usage_of_map (Ok p) e = cc
+no_usage_of_map (Err refusal) e = cc
+
+no_usage_of_flows : (r : Result Source Refusal) → flows_policy_answer r ≡ stops usage → ⊥
+no_usage_of_flows (Ok p) e = cc
+no_usage_of_flows (Err refusal) e = cc
+
 no_usage : (files : Store) (command : Option Command) → answer_of files command ≡ stops usage → command ≡ None
-unfolding boot_answer
+unfolding boot_answer map_answer flows_answer
 no_usage files None e = refl
 no_usage files (Some (boot policy name)) e =
     absurd (no_usage_of_file policy _ _ (λ bytes h. no_usage_of_policy files name (accepted_policy_of files bytes) h) e)
+no_usage files (Some (map policy)) e =
+    absurd (no_usage_of_file policy _ _ (λ bytes h. no_usage_of_map (laid_policy_of bytes) h) e)
+no_usage files (Some (flows policy)) e =
+    absurd (no_usage_of_file policy _ _ (λ bytes h. no_usage_of_flows (lawful_policy_of bytes) h) e)
 
 -- ---- what is held, where it is told
 

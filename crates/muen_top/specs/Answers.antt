@@ -1,6 +1,8 @@
 -- What a command answers over files that hold this, where no call on files or on a sink fails and memory suffices.
 use Rattle.std.specs.Prelude.{ℕ, List, Option, Some, None, Result, Ok, Err}
 use Rattle.std.specs.FinMap.{get}
+use Rattle.flow_report.specs.FlowText.{flow_text_of}
+use Rattle.map_report.specs.MapText.{map_text_of}
 use Rattle.muen_num.specs.declared.limits.TheConstants.{POLICY_MOST, RECORD_MOST}
 use Rattle.muen_outside.specs.Store.{Reading, whole, absent, long, reading_of}
 use Rattle.policy_meaning.specs.Contents.{Held}
@@ -8,9 +10,9 @@ use Rattle.policy_types.specs.declared.refusal.Refusal.{Refusal}
 use Rattle.policy_types.specs.declared.source.Source.{Source}
 use Rattle.subject_model.specs.DeviceRecord.{DeviceRecord}
 use Rattle.subject_model.specs.Run.{trace_of}
-use Rattle.muen_top.specs.Commands.{Command, boot}
+use Rattle.muen_top.specs.Commands.{Command, boot, map, flows}
 use Rattle.muen_top.specs.RecordText.{record_of}
-use Rattle.muen_build.specs.Refusals.{accepted_policy_of}
+use Rattle.muen_build.specs.Refusals.{accepted_policy_of, laid_policy_of, lawful_policy_of}
 use Rattle.muen_top.specs.Lacking.{lack_refusal, lacking}
 use Rattle.muen_top.specs.declared.lacking.Lack.{Lack}
 use Rattle.muen_top.specs.declared.record_text.RecordFault.{RecordFault}
@@ -40,7 +42,7 @@ of_file name next (whole bytes) = next bytes
 of_file name next absent = stops (missing name)
 of_file name next (long n) = stops (too_long name n)
 
--- ---- `boot`: the policy's file, the policy, what the machine lacks of it, the record's file, the record, the run
+-- ---- `boot`: the policy's file, the policy with its contents and its room, what the machine lacks of it, the record's file, the record, the run
 
 abbrev pub run_answer : Held → Source → Result DeviceRecord RecordFault → Answer
 run_answer files p (Ok run) = prints (trace_of p files run)
@@ -62,9 +64,29 @@ unfoldable pub boot_answer : Held → List ℕ → List ℕ → Answer
 boot_answer files policy name =
     of_file policy (λ bytes. policy_answer files name (accepted_policy_of files bytes)) (reading_of (get files policy) POLICY_MOST)
 
+-- ---- `map`: the policy's file, the policy and its room, the text
+
+abbrev pub map_policy_answer : Result Source Refusal → Answer
+map_policy_answer (Ok p) = prints (map_text_of p)
+map_policy_answer (Err refusal) = stops (refused refusal)
+
+unfoldable pub map_answer : Held → List ℕ → Answer
+map_answer files policy = of_file policy (λ bytes. map_policy_answer (laid_policy_of bytes)) (reading_of (get files policy) POLICY_MOST)
+
+-- ---- `flows`: the policy's file, the policy, the text
+
+abbrev pub flows_policy_answer : Result Source Refusal → Answer
+flows_policy_answer (Ok p) = prints (flow_text_of p)
+flows_policy_answer (Err refusal) = stops (refused refusal)
+
+unfoldable pub flows_answer : Held → List ℕ → Answer
+flows_answer files policy = of_file policy (λ bytes. flows_policy_answer (lawful_policy_of bytes)) (reading_of (get files policy) POLICY_MOST)
+
 -- ---- every command
 
 -- the answer to these words' command
 abbrev pub answer_of : Held → Option Command → Answer
 answer_of files None = stops usage
 answer_of files (Some (boot policy name)) = boot_answer files policy name
+answer_of files (Some (map policy)) = map_answer files policy
+answer_of files (Some (flows policy)) = flows_answer files policy

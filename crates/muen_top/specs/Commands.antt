@@ -5,11 +5,16 @@ use Rattle.std.specs.Str.{bytes_eq}
 pub data Command : Type 0 where
   -- a policy and a device record, by the names of their files: the policy's system runs on the record
   boot : List ℕ → List ℕ → Command
+  -- a policy, by the name of its file: its places and windows are printed
+  map : List ℕ → Command
+  -- a policy, by the name of its file: on whom each subject can depend is printed
+  flows : List ℕ → Command
 
 -- the command that the words after the program's name ask for; none where they have no command's form
 abbrev pub command_of : List (List ℕ) → Option Command
 command_of [] = None
 command_of (word ∷ []) = None
-command_of (word ∷ a ∷ []) = None
+command_of (word ∷ a ∷ []) =
+    if bytes_eq word (codes "map") then Some (map a) else (if bytes_eq word (codes "flows") then Some (flows a) else None)
 command_of (word ∷ a ∷ b ∷ []) = if bytes_eq word (codes "boot") then Some (boot a b) else None
 command_of (word ∷ a ∷ b ∷ c ∷ rest) = None

@@ -6,6 +6,7 @@ pub mod Lacking
 pub mod Lacks
 pub mod Loads
 pub mod Parsed
+pub mod PolicyCommands
 pub mod RecordText
 pub mod Reports
 pub mod Runs

@@ -1,15 +1,18 @@
 -- What reading a command's files comes to.
-use Rattle.std.specs.Prelude.{◌≡◌, ℕ, List, IfSome}
+use Rattle.std.specs.Prelude.{◌≡◌, ℕ, List, [], ◌∷◌, None, IfSome}
 use Rattle.muen_outside.specs.Counts.{Rose}
 use Rattle.muen_outside.specs.States.{FilesState}
-use Rattle.muen_outside.specs.Store.{Store, absent, long}
+use Rattle.muen_outside.specs.Store.{Store, absent, long, whole}
 use Rattle.policy_types.specs.declared.source.Source.{Source}
 use Rattle.subject_model.specs.DeviceRecord.{DeviceRecord}
 use Rattle.subject_model.specs.Run.{trace_of}
 use Rattle.muen_top.specs.Answers.{prints, boot_answer}
 use Rattle.muen_top.specs.Calls.{StopsFor}
-use Rattle.muen_build.specs.Looks.{Saw}
+use Rattle.muen_build.specs.Accepting.{Accepts, Files, Grows, looks_of}
+use Rattle.muen_build.specs.Looks.{Follows, Saw, document_look}
+use Rattle.muen_num.specs.declared.limits.TheConstants.{POLICY_MOST}
 use Rattle.muen_top.specs.FilesSeen.{SawToo}
+use Rattle.muen_top.specs.Lacking.{lacking}
 use Rattle.muen_top.specs.declared.outcome.Stop.{Stop}
 use Rattle.muen_top.specs.declared.outcome.Stop.TheVariants.{Missing, TooLong, FileFault, NoMemory}
 
@@ -42,3 +45,15 @@ pub record NotReady (policy name : List ℕ) (old new : FilesState) (stop : Stop
   pub files : Store
   pub told : IfSome old.held (λ m. files ≡ m)
   pub stops : StopsFor (boot_answer files policy name) old new stop
+
+-- the policy of these bytes is accepted, as the files show that its contents name, and the machine lacks nothing of it
+pub record IsCarried (policy bytes : List ℕ) (old : FilesState) (p : Source) : Type 0 where
+  pub found : Files
+  pub grows : Grows old.held (document_look policy bytes ∷ []) (looks_of policy bytes found)
+  pub accepts : Accepts (looks_of policy bytes found) bytes p
+  pub none : lacking p ≡ None
+
+-- whatever record is named, nothing is printed where the policy's file has given these bytes
+abbrev pub NotCarried : List ℕ → List ℕ → FilesState → FilesState → Stop → Type 0
+NotCarried policy bytes between new stop =
+    (name : List ℕ) (old : FilesState) → Saw policy POLICY_MOST (whole bytes) old between → Follows old between → NotReady policy name old new stop

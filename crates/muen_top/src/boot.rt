@@ -9,24 +9,29 @@ ghost use Rattle.subject_model.specs.Run.{trace_of};
 ghost use Rattle.window_machine.specs.Start.{CanLoad};
 ghost use Rattle.muen_top.specs.Calls.{Came};
 ghost use Rattle.muen_top.specs.Commands.{boot};
+ghost use Rattle.muen_top.specs.Lacking.{lacking};
+ghost use Rattle.muen_top.specs.Lacks.{Carries};
 ghost use Rattle.muen_build.specs.Looks.{Follows, Saw};
 ghost use Rattle.muen_top.specs.FilesSeen.{SawToo};
-ghost use Rattle.muen_top.specs.Loads.{NotRead, NotReadToo, Ready, NotReady};
+ghost use Rattle.muen_top.specs.Loads.{IsCarried, NotCarried, NotRead, NotReadToo, NotReady, Ready};
 ghost use Rattle.muen_top.specs.Runs.{RunsTo};
 
 use crate::lacking::carried;
 use crate::outcome::{Outcome, Stop};
 use crate::record_text;
 use crate::record_text::Record;
+use muen_build::Accepted;
 use muen_num::Seq;
 use muen_num::limits::{POLICY_MOST, RECORD_MOST};
 use muen_outside::{Buffer, FileEnd, Files, Found, Sink, SinkFault};
 use policy_lawful::Lawful;
+use policy_types::Refusal;
+use region_alloc::Placed;
 use std::alloc::Global;
 use window_machine::print_run;
 
-// The bytes of a file.
-fn load<'a, F: Files>(
+/// The bytes of a file.
+pub(crate) fn load<'a, F: Files>(
     alloc: Global,
     name: &'a str,
     most: usize,
@@ -64,10 +69,34 @@ fn load_too<'a, F: Files>(
     load(alloc, name, most, files)
 }
 
+// That the machine lacks nothing of a policy whose regions have places.
+fn carries(alloc: Global, placed: &Placed) -> Result<(), Refusal>
+    ensures { Carries (lacking (source_of placed.now.plain.lawful)) result }
+{
+    carried(alloc, placed.plain().lawful().resolved())
+}
+
+// The policy of these bytes, which are those of this file. It is accepted, and the machine lacks
+// nothing of it.
+fn accept_carried<'a, F: Files>(
+    alloc: Global,
+    policy: &'a str,
+    bytes: &[u8],
+    files: &mut F,
+) -> Result<Accepted, Stop<'a>>
+    ensures ok { IfOk result (λ x. IsCarried policy.now bytes.now (F.state files.old) (source_of x.placed.plain.lawful)) }
+    ensures err { IfErr result (NotCarried policy.now bytes.now (F.state files.old) (F.state files.new)) }
+    ensures follows { Follows (F.state files.old) (F.state files.new) }
+{
+    let accepted = muen_build::accept(alloc, policy, bytes, files)?;
+    carries(alloc, &accepted.placed)?;
+    Ok(accepted)
+}
+
 // What is run.
 #[derive(Drop)]
 struct Booted {
-    policy: Lawful,
+    accepted: Accepted,
     run: Record,
 }
 
@@ -78,20 +107,16 @@ fn read_both<'a, F: Files>(
     inputs: &'a str,
     files: &mut F,
 ) -> Result<Booted, Stop<'a>>
-    ensures ok { IfOk result (λ b. Ready policy.now inputs.now (F.state files.old) (source_of b.policy) (only_ticks b.run.end)) }
-    ensures loads { IfOk result (λ b. CanLoad (source_of b.policy)) }
+    ensures ok { IfOk result (λ b. Ready policy.now inputs.now (F.state files.old) (source_of b.accepted.placed.plain.lawful) (only_ticks b.run.end)) }
+    ensures loads { IfOk result (λ b. CanLoad (source_of b.accepted.placed.plain.lawful)) }
     ensures err { IfErr result (NotReady policy.now inputs.now (F.state files.old) (F.state files.new)) }
     ensures follows { Follows (F.state files.old) (F.state files.new) }
 {
     let bytes = load(alloc, policy, POLICY_MOST, files)?;
-    let accepted = muen_build::accept(alloc, policy, bytes.items(), files)?;
-    carried(alloc, accepted.policy.resolved())?;
+    let accepted = accept_carried(alloc, policy, bytes.items(), files)?;
     let bytes = load_too(alloc, policy, bytes, inputs, RECORD_MOST, files)?;
     let run = record_text::read(bytes.items())?;
-    Ok(Booted {
-        policy: accepted.policy,
-        run,
-    })
+    Ok(Booted { accepted, run })
 }
 
 // Runs a policy that is accepted.
@@ -125,7 +150,12 @@ pub(crate) fn boot<'a, F: Files, S: Sink>(
     ensures follows { Follows (F.state files.old) (F.state files.new) }
 {
     match read_both(alloc, policy, inputs, files) {
-        Ok(booted) => run_policy(alloc, &booted.policy, booted.run, out),
+        Ok(booted) => run_policy(
+            alloc,
+            booted.accepted.placed.plain().lawful(),
+            booted.run,
+            out,
+        ),
         Err(stop) => Outcome::Stopped(stop),
     }
 }

@@ -7,6 +7,7 @@ ghost use Rattle.muen_build.specs.Looks.{Follows};
 use crate::boot::boot;
 use crate::command::Command;
 use crate::outcome::{Outcome, Stop};
+use crate::policy_commands;
 use crate::report::{report, status};
 use muen_outside::{Files, Sink};
 use std::alloc::Global;
@@ -25,6 +26,8 @@ fn work<'a, F: Files, S: Sink>(
     match Command::parse(words) {
         Command::Usage => Outcome::Stopped(Stop::Usage),
         Command::Boot { policy, inputs } => boot(alloc, policy, inputs, files, out),
+        Command::Map(policy) => policy_commands::map(alloc, policy, files, out),
+        Command::Flows(policy) => policy_commands::flows(alloc, policy, files, out),
     }
 }
 

@@ -10,6 +10,10 @@ pub(crate) enum Command<'a> {
     Usage,
     /// The system of a policy runs on a device record, both by the names of their files.
     Boot { policy: &'a str, inputs: &'a str },
+    /// The places and windows of a policy are printed.
+    Map(&'a str),
+    /// On whom each subject of a policy can depend is printed.
+    Flows(&'a str),
 }
 
 impl<'a> Command<'a> {
@@ -18,6 +22,15 @@ impl<'a> Command<'a> {
         ensures { asked result ≡ command_of (map string_bytes words.now) }
     {
         match words {
+            [word, policy] => {
+                if word.as_str() == "map" {
+                    return Command::Map(policy.as_str());
+                }
+                if word.as_str() == "flows" {
+                    return Command::Flows(policy.as_str());
+                }
+                Command::Usage
+            }
             [word, policy, inputs] => {
                 if word.as_str() == "boot" {
                     return Command::Boot {

@@ -16,6 +16,7 @@ mod call;
 mod command;
 pub mod lacking;
 mod outcome;
+mod policy_commands;
 pub mod record_text;
 mod report;
 
@@ -25,17 +26,19 @@ use std::alloc::Global;
 /// Does what the words after the program's name ask for, and answers the status.
 ///
 /// `boot POLICY RECORD` reads a policy and a device record, runs the policy's system on the record,
-/// and puts the text of the run to `out`. No other command is built. On every status but 0 one line
-/// that begins with `muen: ` is put to `err`; a fault of `err` changes no status.
+/// and puts the text of the run to `out`. `map POLICY` puts where the policy's regions lie and what
+/// each subject sees, `flows POLICY` on whom each subject can depend; neither reads a component file.
+/// No other command is built. On every status but 0 one line that begins with `muen: ` is put to
+/// `err`; a fault of `err` changes no status.
 ///
 /// | Status | Comes | Line |
 /// |---|---|---|
 /// | 0 | the text was put | |
 /// | 1 | the words are none of the forms | `usage: ..` |
-/// | 2 | the policy is no JSON text, breaks the schema or a rule, has more bytes for a region than there is room, or has an element that the machine lacks | `not JSON`, `shape at PLACE: want WANT`, `rule N: FIRST SECOND`, `REGION: LENGTH bytes in room for ROOM` |
+/// | 2 | the policy is no JSON text, breaks the schema or a rule, has more bytes for a region than there is room (`boot`), has a region that can't be placed (`boot`, `map`), or has an element that the machine lacks (`boot`) | `not JSON`, `shape at PLACE: want WANT`, `rule N: FIRST SECOND`, `REGION: LENGTH bytes in room for ROOM`, `no room for REGION of SIZE bytes` |
 /// | 3 | a file isn't there, or is longer than 4 MiB (policy), 64 MiB (a content) or 16 MiB (record) | `missing file NAME`, `file NAME has LENGTH bytes` |
 /// | 4 | a call on `files` failed | `file fault` |
-/// | 6 | the record isn't built | `record refused at line 1: not yet built` |
+/// | 6 | the record is refused | `record refused at line LINE: WHY` |
 /// | 7 | a call on `out` failed; a front of the text was put | `output fault` |
 /// | 8 | memory was refused, before the first turn | `out of memory` |
 pub fn muen<F: Files, S: Sink, E: Sink>(

@@ -4,10 +4,12 @@
 
 pub mod refusal;
 mod refusal_text;
+mod resources;
 pub mod rights;
 pub mod source;
 
 pub use refusal::{Fault, Place, Refusal, Want};
+pub use resources::{MsrGrant, PortRange};
 pub use rights::{Caching, MsrRights, Rights, Role};
 pub use source::Source;
 

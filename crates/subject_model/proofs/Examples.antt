@@ -18,7 +18,7 @@ use Rattle.policy_types.specs.declared.source.Subject.{Subject}
 use Rattle.policy_types.specs.declared.source.EventSource.{EventSource}
 use Rattle.policy_types.specs.declared.source.EventTarget.{EventTarget}
 use Rattle.policy_types.specs.declared.source.SourceWay.TheVariants.{Trap as ByTrap}
-use Rattle.state_page.specs.StatePage.{started}
+use Rattle.subject_state.specs.States.{started}
 use Rattle.guest_isa.specs.GuestIsa.{decode_of}
 use Rattle.subject_model.specs.DeviceRecord.{only_ticks}
 use Rattle.subject_model.specs.Solo.{own_of, solo_turn}

@@ -15,7 +15,7 @@ use Rattle.guest_isa.specs.GuestIsa.{decode_of, effect_of}
 use Rattle.guest_isa.specs.declared.instr.Instr.{Instr}
 use Rattle.guest_isa.specs.declared.instr.Wish.{Wish}
 use Rattle.guest_isa.specs.declared.instr.Wish.TheVariants.{Nothing, Set, Load, Store, PortIn, PortOut, ReadMsr, WriteMsr, Tick, Call, Halt}
-use Rattle.state_page.specs.declared.SubjectState.{SubjectState}
+use Rattle.subject_state.specs.declared.SubjectState.{SubjectState}
 use Rattle.subject_model.specs.Solo.{Stored, Answer, Reach, reached, refused, idle, reach_by, reach_of, loaded, stored_to, performed, executed, fetched, attempted, deliverable, unless_delivered, turn_over}
 
 -- where no event is pending, none is delivered

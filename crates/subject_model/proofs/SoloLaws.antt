@@ -2,7 +2,7 @@
 use Rattle.std.proofs.Common.{◌≡◌, Bool, true, false, cond, None, refl, ap, ◌∙◌}
 use Rattle.policy_meaning.specs.Thing.{Thing}
 use Rattle.subject_model.specs.Solo.{Own, Inbox, idle, deliverable, unless_delivered, attempted, bytes_in, solo_turn, turn_over}
-use Rattle.state_page.specs.declared.SubjectState.{SubjectState}
+use Rattle.subject_state.specs.declared.SubjectState.{SubjectState}
 
 pub stopped_idle : (own : Own) (s : SubjectState) (inbox : Inbox) → s.stopped ≡ true → solo_turn own s inbox ≡ idle s
 unfolding solo_turn

@@ -7,7 +7,7 @@ use Rattle.image_pack.specs.Slot.{Slot, slot_at}
 use Rattle.policy_meaning.specs.Frames.{frames_of}
 use Rattle.policy_types.specs.declared.source.Source.{Source}
 use Rattle.policy_types.specs.declared.source.Subject.{Subject}
-use Rattle.state_page.specs.declared.SubjectState.{SubjectState}
+use Rattle.subject_state.specs.declared.SubjectState.{SubjectState}
 use Rattle.subject_model.specs.Solo.{idle, deliverable, own_of, solo_turn}
 use Rattle.subject_model.specs.System.{System, Named, Turner, named, change_named, pending, inbox_of, turner_in, turned_by, turn_answered, system_turn}
 use Rattle.subject_model.proofs.SoloLaws.{stopped_idle, halted_idle}

@@ -8,7 +8,7 @@ use Rattle.guest_isa.specs.GuestIsa.{decode_of, effect_of}
 use Rattle.guest_isa.specs.declared.instr.Instr.{Instr}
 use Rattle.guest_isa.specs.declared.instr.Wish.{Wish}
 use Rattle.guest_isa.specs.declared.instr.Wish.TheVariants.{Nothing, Set, Load, Store, PortIn, PortOut, ReadMsr, WriteMsr, Tick, Call, Halt}
-use Rattle.state_page.specs.declared.SubjectState.{SubjectState}
+use Rattle.subject_state.specs.declared.SubjectState.{SubjectState}
 use Rattle.subject_model.specs.Solo.{Stored, Reach, reached, refused, idle, reach_of, store_at, loaded, stored_to, performed, executed, fetched, attempted, deliverable, unless_delivered, turn_over}
 use Rattle.subject_model.proofs.Relabelled.{LeadsTo, none_deliverable}
 

@@ -1,4 +1,5 @@
 pub mod DeviceRecord
+pub mod Flows
 pub mod Run
 pub mod Solo
 pub mod System

@@ -12,10 +12,10 @@ use Rattle.policy_meaning.specs.Events.{Target, irq_of}
 use Rattle.policy_types.specs.declared.source.Source.{Source}
 use Rattle.policy_types.specs.declared.source.Subject.{Subject}
 use Rattle.subject_model.specs.DeviceRecord.{Input, port_input, memory_input, irq_input, DeviceRecord}
-use Rattle.state_page.specs.StatePage.{started}
+use Rattle.subject_state.specs.States.{started}
 use Rattle.view_text.specs.ViewText.{turn_text, state_text, region_text}
 use Rattle.subject_model.specs.System.{System, named, change_first, overwritten, pends_now, start_of, system_turn}
-use Rattle.state_page.specs.declared.SubjectState.{SubjectState}
+use Rattle.subject_state.specs.declared.SubjectState.{SubjectState}
 use Rattle.view_text.specs.declared.Line.{Line}
 
 -- ---- input

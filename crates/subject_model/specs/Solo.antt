@@ -19,7 +19,7 @@ use Rattle.policy_types.specs.declared.source.Subject.{Subject}
 use Rattle.policy_types.specs.declared.source.SourceWay.{SourceWay}
 use Rattle.policy_types.specs.declared.source.SourceWay.TheVariants.{Call as ByCall, Trap as ByTrap}
 use Rattle.guest_isa.specs.GuestIsa.{decode_of, effect_of, advanced, with_register}
-use Rattle.state_page.specs.declared.SubjectState.{SubjectState}
+use Rattle.subject_state.specs.declared.SubjectState.{SubjectState}
 use Rattle.guest_isa.specs.declared.instr.Instr.{Instr}
 use Rattle.guest_isa.specs.declared.instr.Wish.{Wish}
 use Rattle.guest_isa.specs.declared.instr.Wish.TheVariants.{Nothing, Set as Sets, Load as Loads, Store as Stores, PortIn, PortOut, ReadMsr, WriteMsr, Tick, Call as Calls, Halt as Halts}

@@ -15,9 +15,9 @@ use Rattle.policy_meaning.specs.Events.{Raised, Target, event_of}
 use Rattle.policy_types.specs.declared.source.Source.{Source}
 use Rattle.policy_types.specs.declared.source.Subject.{Subject}
 use Rattle.policy_types.specs.declared.source.SourceWay.{SourceWay}
-use Rattle.state_page.specs.StatePage.{started}
+use Rattle.subject_state.specs.States.{started}
 use Rattle.subject_model.specs.Solo.{Stored, Answer, Things, Inbox, own_of, solo_turn}
-use Rattle.state_page.specs.declared.SubjectState.{SubjectState}
+use Rattle.subject_state.specs.declared.SubjectState.{SubjectState}
 use Rattle.view_text.specs.declared.Line.{Line}
 use Rattle.view_text.specs.declared.What.{What}
 

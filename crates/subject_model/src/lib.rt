@@ -7,10 +7,14 @@
 
 ghost use Rattle.std.specs.Prelude.{◌≡◌, ℕ, true, Some, None};
 ghost use Rattle.image_pack.specs.Slot.{Slot, slot_at};
+ghost use Rattle.policy_meaning.specs.Events.{event_of};
 ghost use Rattle.policy_meaning.specs.Frames.{frames_of};
 ghost use Rattle.policy_meaning.specs.Thing.{Thing};
 ghost use Rattle.policy_types.specs.declared.source.Source.{Source};
-ghost use Rattle.state_page.specs.declared.SubjectState.{SubjectState};
+ghost use Rattle.policy_types.specs.declared.source.SourceWay.{SourceWay};
+ghost use Rattle.policy_types.specs.declared.source.Subject.{Subject};
+ghost use Rattle.subject_state.specs.declared.SubjectState.{SubjectState};
+ghost use Rattle.subject_model.specs.Flows.{by_event, reaches};
 ghost use Rattle.subject_model.specs.Solo.{Own, Inbox, idle, deliverable, bytes_in, solo_turn};
 ghost use Rattle.subject_model.specs.System.{System, Turner, pending, turner_in, system_turn};
 
@@ -46,4 +50,10 @@ pub fn halted_keeps_its_ticks()
         → turner_in p y slot ≡ Some t → t.state.halted ≡ true
         → deliverable t.state (pending y.now t.subject.name) (pending y.later t.subject.name) slot.first ≡ None
         → system_turn p y cpu tick ≡ record { system = y; line = None } }
+{}
+
+/// What a subject raises in any way flows: a subject that the event reaches is one to which it flows
+/// directly, so no way is left out of those that count.
+pub fn every_way_counts()
+    ensures { (p : Source) (u s : Subject) (way : SourceWay) → reaches (event_of p u way) s.name ≡ true → by_event p u s ≡ true }
 {}

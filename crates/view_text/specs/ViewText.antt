@@ -5,7 +5,7 @@ use Rattle.muen_num.specs.Fixed.{hex4, hex8, hex16}
 use Rattle.muen_num.specs.Size.{bytes_of}
 use Rattle.muen_num.specs.Tag.{tag_text}
 use Rattle.muen_num.specs.declared.tag.Tag.{Tag}
-use Rattle.state_page.specs.declared.SubjectState.{SubjectState}
+use Rattle.subject_state.specs.declared.SubjectState.{SubjectState}
 use Rattle.view_text.specs.declared.Line.{Line}
 use Rattle.view_text.specs.declared.What.{What}
 use Rattle.view_text.specs.declared.What.TheVariants.{Ran, Set, Stored, Out, WroteMsr, Inject, Exit}

@@ -8,7 +8,7 @@ use Rattle.muen_num.specs.declared.access.Kind.TheVariants.{Write}
 use Rattle.muen_num.specs.declared.access.Size.{Size}
 use Rattle.muen_num.specs.declared.access.Size.TheVariants.{One, Two, Four, Eight}
 use Rattle.policy_meaning.specs.Windows.{Window}
-use Rattle.state_page.specs.declared.SubjectState.{SubjectState}
+use Rattle.subject_state.specs.declared.SubjectState.{SubjectState}
 use Rattle.subject_model.specs.Solo.{Stored, Reach, reached, refused, reach_of, store_at, stored_bytes, turn_over}
 use Rattle.subject_model.specs.System.{overwritten}
 use Rattle.subject_model.proofs.Relabelled.{LeadsTo}

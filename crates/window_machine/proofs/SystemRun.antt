@@ -22,8 +22,8 @@ use Rattle.muen_num.proofs.Lists.{map-map}
 use Rattle.policy_lawful.proofs.Places.{found_at_place}
 use Rattle.image_pack.specs.declared.plan.Plan.{Plan}
 use Rattle.plan_emit.specs.PlanOf.{IsPlanOf}
-use Rattle.state_page.specs.StatePage.{started}
-use Rattle.state_page.specs.declared.SubjectState.{SubjectState}
+use Rattle.subject_state.specs.States.{started}
+use Rattle.subject_state.specs.declared.SubjectState.{SubjectState}
 use Rattle.view_text.specs.ViewText.{turn_text}
 use Rattle.view_text.specs.declared.Line.{Line}
 use Rattle.subject_model.specs.DeviceRecord.{only_ticks}

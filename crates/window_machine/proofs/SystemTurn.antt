@@ -36,7 +36,7 @@ use Rattle.image_pack.specs.declared.plan.Plan.{Plan}
 use Rattle.image_pack.proofs.ByNumber.{passes_at}
 use Rattle.image_pack.proofs.SlotLaws.{slot_there}
 use Rattle.plan_emit.specs.PlanOf.{IsPlanOf}
-use Rattle.state_page.specs.declared.SubjectState.{SubjectState}
+use Rattle.subject_state.specs.declared.SubjectState.{SubjectState}
 use Rattle.subject_model.specs.Solo.{Answer, Reach, reached, refused, reach_of, store_at, bytes_in, own_of, solo_turn}
 use Rattle.subject_model.specs.System.{System, Named, named, Turner, change_first, change_named, is_shown, pending, with_store, without, raised_by, raises, inbox_of, turner_in, turned_by, turn_answered, answered, system_turn}
 use Rattle.subject_model.proofs.TickLaws.{unchanged}

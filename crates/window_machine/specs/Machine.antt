@@ -15,12 +15,12 @@ use Rattle.policy_lawful.specs.Resolution.{Resolution}
 use Rattle.policy_lawful.specs.declared.resolved.Mapping.{Mapping}
 use Rattle.policy_lawful.specs.declared.resolved.Subject.{Subject}
 use Rattle.policy_types.specs.declared.source.Region.{Region}
-use Rattle.state_page.specs.StatePage.{started}
+use Rattle.subject_state.specs.States.{started}
 use Rattle.view_text.specs.ViewText.{turn_text, region_text}
 use Rattle.subject_model.specs.Solo.{Stored as StoredIn, Answer, Reach as ReachTo, reached, refused, store_at, turn_over}
 use Rattle.subject_model.specs.System.{overwritten, line_at}
 use Rattle.subject_model.specs.Run.{rows_text}
-use Rattle.state_page.specs.declared.SubjectState.{SubjectState}
+use Rattle.subject_state.specs.declared.SubjectState.{SubjectState}
 use Rattle.view_text.specs.declared.Line.{Line}
 use Rattle.window_machine.specs.declared.memory.Holding.{Holding}
 use Rattle.window_machine.specs.declared.memory.Access.{Access}

@@ -5,8 +5,8 @@ ghost use Rattle.window_machine.specs.Machine.{sizes_of, AllFit, answer_of};
 use crate::memory::{Holding, Window};
 use crate::turn::{Turn, take_turn};
 use muen_num::Name;
-use state_page::SubjectState;
 use std::marker::Model;
+use subject_state::SubjectState;
 
 /// A subject: its name, its windows on regions of memory, and its state.
 #[derive(Debug, Drop)]

@@ -13,7 +13,7 @@ use crate::memory::Holding;
 use muen_num::{Name, Part, Tag};
 use muen_outside::{Buffer, PrintedLine, Sink, SinkFault, put_lines};
 use sha2::{Digest, Sha256};
-use state_page::SubjectState;
+use subject_state::SubjectState;
 use view_text::{Line, region_line, state_line, turn_line};
 
 impl PrintedLine for Holding {
@@ -148,9 +148,9 @@ fn put_run<S: Sink>(
 }
 
 /// Runs the machine for these ticks, and prints each turn's line, and at the end each subject's
-/// state and the digest of each region. The text goes through the buffer, in which nothing waits
-/// before or after, and takes no memory. Where the sink fails it has a front of the text, and the
-/// run ends there.
+/// state and the digest of each region. The text goes through the buffer, in which nothing may wait
+/// before, and takes no memory. Where the sink fails it has a front of the text, and the run ends
+/// there.
 #[tactic(auto, using(muen_outside::proofs::Buffered::gives))]
 pub fn print_run<S: Sink>(
     machine: &mut Machine,

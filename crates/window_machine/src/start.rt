@@ -11,8 +11,8 @@ use muen_num::Seq;
 use policy_lawful::resolved::{Mapping, Subject};
 use policy_meaning::content_bytes;
 use policy_types::source::Region;
-use state_page::SubjectState;
 use std::alloc::{AllocError, Global};
+use subject_state::SubjectState;
 
 // A region with its bytes at the start.
 fn hold(alloc: Global, region: &Region) -> Result<Holding, AllocError>

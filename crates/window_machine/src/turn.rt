@@ -11,7 +11,7 @@ use guest_isa::{Wish, ask, decode, with_register};
 use muen_num::limits::{EXIT_EXCEPTION, EXIT_HLT, EXIT_IO, EXIT_RDMSR, EXIT_VMCALL, EXIT_WRMSR};
 use muen_num::{Kind, Size};
 use policy_types::source::SourceWay;
-use state_page::SubjectState;
+use subject_state::SubjectState;
 use view_text::{End, What};
 
 // The bit of an exit's qualification for input from a port.

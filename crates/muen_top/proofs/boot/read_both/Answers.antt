@@ -1,7 +1,7 @@
 use Rattle.std.proofs.lemmas.Result.{err_from_is_err_and}
 use Rattle.policy_lawful.specs.Resolution.{source_of}
 use Rattle.subject_model.specs.DeviceRecord.{only_ticks}
-use Rattle.muen_top.proofs.Booting.{lacked, loads, policy_not_read, policy_refused, ready, record_not_read, record_refused_so}
+use Rattle.muen_top.proofs.Booting.{loads, policy_not_read, ready, record_not_read, record_refused_so}
 use Rattle.muen_top.proofs.boot.read_both.Goals as goal
 
 -- the policy's file isn't read
@@ -10,44 +10,36 @@ returns-in_err-bytes-clause-err g c =
     let left = err_from_is_err_and c.from_residual.result c.from_residual.ensures.1 in
     rw (left.1, left.2) (policy_not_read _ _ _ _ c.in_err-bytes.field-0.0 c.in_err-bytes.ensures.err)
 
--- the policy is refused
+-- the policy isn't accepted, or the machine lacks something of it
 pub returns-in_err-accepted-clause-err : goal.returns-in_err-accepted-clause-err
 returns-in_err-accepted-clause-err g c =
     let left = err_from_is_err_and c.from_residual-in_err-accepted.result c.from_residual-in_err-accepted.ensures.1 in
-    rw (left.1)
-    (policy_refused _ _ _ _ c.in_ok-bytes.bytes c.in_ok-bytes.ensures.ok c.in_ok-bytes.ensures.follows _ c.in_err-accepted.field-0.0 left.0 (rw c.items.ensures at c.in_err-accepted.ensures.err) left.2)
-
--- the machine lacks something of it
-pub returns-in_err-carried-clause-err : goal.returns-in_err-carried-clause-err
-returns-in_err-carried-clause-err g c =
-    let left = err_from_is_err_and c.from_residual-in_err-carried.result c.from_residual-in_err-carried.ensures.1 in
-    rw (left.1)
-    (lacked _ _ _ _ c.in_ok-bytes.bytes c.in_ok-bytes.ensures.ok c.in_ok-bytes.ensures.follows _ c.in_ok-accepted.accepted.files (rw c.items.ensures at c.in_ok-accepted.ensures.grows) (source_of c.in_ok-accepted.accepted.policy) (rw c.items.ensures at c.in_ok-accepted.ensures.accepts) c.accept.ensures.follows
-    c.in_err-carried.field-0.0 left.0 (rw c.resolved.ensures.value at c.in_err-carried.ensures) left.2)
+    let not = rw c.items.ensures at c.in_err-accepted.ensures.err in
+    rw (left.1, left.2) (not _ _ c.in_ok-bytes.ensures.ok c.in_ok-bytes.ensures.follows)
 
 -- the record's file isn't read
 pub returns-in_err-bytes-2-clause-err : goal.returns-in_err-bytes-2-clause-err
 returns-in_err-bytes-2-clause-err g c =
     let left = err_from_is_err_and c.from_residual-in_err-bytes-2.result c.from_residual-in_err-bytes-2.ensures.1 in
+    let is = rw c.items.ensures at c.in_ok-accepted.ensures.ok in
     rw (left.1, left.2)
-    (record_not_read _ _ _ _ c.in_ok-bytes.bytes c.in_ok-bytes.ensures.ok c.in_ok-bytes.ensures.follows _ c.in_ok-accepted.accepted.files (rw c.items.ensures at c.in_ok-accepted.ensures.grows) (source_of c.in_ok-accepted.accepted.policy) (rw c.items.ensures at c.in_ok-accepted.ensures.accepts) c.accept.ensures.follows
-    (rw c.resolved.ensures.value at c.in_ok-carried.ensures) _ c.in_err-bytes-2.field-0.0 c.in_err-bytes-2.ensures.err)
+    (record_not_read _ _ _ _ c.in_ok-bytes.bytes c.in_ok-bytes.ensures.ok c.in_ok-bytes.ensures.follows _ is.found is.grows (source_of c.in_ok-accepted.accepted.placed.plain.lawful) is.accepts c.accept_carried.ensures.follows is.none _ c.in_err-bytes-2.field-0.0 c.in_err-bytes-2.ensures.err)
 
 -- the record is refused
 pub returns-in_err-run-clause-err : goal.returns-in_err-run-clause-err
 returns-in_err-run-clause-err g c =
     let left = err_from_is_err_and c.from_residual-in_err-run.result c.from_residual-in_err-run.ensures.1 in
+    let is = rw c.items.ensures at c.in_ok-accepted.ensures.ok in
     rw (left.1)
-    (record_refused_so _ _ _ _ c.in_ok-bytes.bytes c.in_ok-bytes.ensures.ok c.in_ok-bytes.ensures.follows _ c.in_ok-accepted.accepted.files (rw c.items.ensures at c.in_ok-accepted.ensures.grows) (source_of c.in_ok-accepted.accepted.policy) (rw c.items.ensures at c.in_ok-accepted.ensures.accepts) c.accept.ensures.follows
-    (rw c.resolved.ensures.value at c.in_ok-carried.ensures) _ c.in_ok-bytes-2.bytes c.in_err-run.field-0.0 left.0 c.in_ok-bytes-2.ensures.ok (rw c.items-2.ensures at c.in_err-run.ensures) left.2)
+    (record_refused_so _ _ _ _ c.in_ok-bytes.bytes c.in_ok-bytes.ensures.ok c.in_ok-bytes.ensures.follows _ is.found is.grows (source_of c.in_ok-accepted.accepted.placed.plain.lawful) is.accepts c.accept_carried.ensures.follows is.none _ c.in_ok-bytes-2.bytes c.in_err-run.field-0.0 left.0 c.in_ok-bytes-2.ensures.ok (rw c.items-2.ensures at c.in_err-run.ensures) left.2)
 
 -- both are read
 pub returns-clause-ok : goal.returns-clause-ok
 returns-clause-ok g c =
-    ready _ _ _ _ c.in_ok-bytes.bytes c.in_ok-bytes.ensures.ok c.in_ok-bytes.ensures.follows _ c.in_ok-accepted.accepted.files (rw c.items.ensures at c.in_ok-accepted.ensures.grows) (source_of c.in_ok-accepted.accepted.policy) (rw c.items.ensures at c.in_ok-accepted.ensures.accepts) c.accept.ensures.follows
-    (rw c.resolved.ensures.value at c.in_ok-carried.ensures) _ c.in_ok-bytes-2.bytes (only_ticks c.in_ok-run.run'.end) c.in_ok-bytes-2.ensures.ok (rw c.items-2.ensures at c.in_ok-run.ensures)
+    let is = rw c.items.ensures at c.in_ok-accepted.ensures.ok in
+    ready _ _ _ _ c.in_ok-bytes.bytes c.in_ok-bytes.ensures.ok c.in_ok-bytes.ensures.follows _ is.found is.grows (source_of c.in_ok-accepted.accepted.placed.plain.lawful) is.accepts c.accept_carried.ensures.follows is.none _ c.in_ok-bytes-2.bytes (only_ticks c.in_ok-run.run'.end) c.in_ok-bytes-2.ensures.ok (rw c.items-2.ensures at c.in_ok-run.ensures)
 
 pub returns-clause-loads : goal.returns-clause-loads
 returns-clause-loads g c =
-    loads c.args.policy.now c.args.inputs.now _ _ c.in_ok-bytes.bytes c.in_ok-bytes.ensures.ok c.in_ok-bytes.ensures.follows _ c.in_ok-accepted.accepted.files (rw c.items.ensures at c.in_ok-accepted.ensures.grows) (source_of c.in_ok-accepted.accepted.policy) (rw c.items.ensures at c.in_ok-accepted.ensures.accepts) c.accept.ensures.follows
-    (rw c.resolved.ensures.value at c.in_ok-carried.ensures)
+    let is = rw c.items.ensures at c.in_ok-accepted.ensures.ok in
+    loads c.args.policy.now c.args.inputs.now _ _ c.in_ok-bytes.bytes c.in_ok-bytes.ensures.ok c.in_ok-bytes.ensures.follows _ is.found is.grows (source_of c.in_ok-accepted.accepted.placed.plain.lawful) is.accepts c.accept_carried.ensures.follows is.none

@@ -7,3 +7,9 @@ returns-in-Usage-clause-came g c = rw (← c.parse.ensures, c.in-Usage.is) (unas
 
 pub returns-in-Boot-clause-came : goal.returns-in-Boot-clause-came
 returns-in-Boot-clause-came g c = rw (← c.parse.ensures, c.in-Boot.is) c.boot.ensures.came
+
+pub returns-in-Map-clause-came : goal.returns-in-Map-clause-came
+returns-in-Map-clause-came g c = rw (← c.parse.ensures, c.in-Map.is) c.map.ensures.came
+
+pub returns-in-Flows-clause-came : goal.returns-in-Flows-clause-came
+returns-in-Flows-clause-came g c = rw (← c.parse.ensures, c.in-Flows.is) c.flows.ensures.came

@@ -1,0 +1,6 @@
+-- A tally of the windows so far.
+use Rattle.ept_count.proofs.Tallies.{Tallied}
+use Rattle.ept_count.proofs.count.values_taken.Given as goal
+
+abbrev pub invariant-loop-window : goal.invariant-loop-window
+invariant-loop-window l = Tallied l.windows l.span l.all l.next l.window-index

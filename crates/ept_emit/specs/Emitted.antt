@@ -1,0 +1,72 @@
+-- What the emitted tables mean (Intel SDM volume 3, "VMX Support for Address Translation").
+use Rattle.std.specs.Prelude.{◌≡◌, ℕ, ◌+◌, ◌-◌, ◌*◌, ◌/◌, ◌<◌, ◌≤◌, ◌&&◌, nat_lt, nat_le, Bool, true, if◌then◌else◌, List, length, slice_index, take, drop, All, Option, Some, None}
+use Rattle.std.specs.List.{find}
+use Rattle.ept_count.specs.declared.window.Window.{Window}
+use Rattle.machine_meaning.specs.declared.walk.Walk.{Walk}
+use Rattle.machine_meaning.specs.declared.walk.Walk.TheVariants.{At, Violation}
+use Rattle.machine_meaning.specs.Memory.{Page, is_there, page_of}
+use Rattle.machine_meaning.specs.Walks.{places_read, span}
+use Rattle.muen_num.specs.declared.access.Kind.{Kind}
+use Rattle.policy_types.specs.Rights.{allows}
+use Rattle.ept_emit.specs.Entries.{level_of}
+
+-- the extended-page-table pointer of tables whose PML4 table is at `at`: write back in bits 2:0, the length of walks minus
+-- one in bits 5:3, no flags of accesses in bit 6
+abbrev pub eptp_of : ℕ → ℕ
+eptp_of at = at + (6 + 8 * 3)
+
+-- ---- what windows say
+
+-- the address is one of the window
+abbrev pub holds : ℕ → Window → Bool
+holds addr w = nat_le w.guest addr && nat_lt addr (w.guest + w.size)
+
+-- the window that holds an address
+abbrev pub window_at : List Window → ℕ → Option Window
+window_at ws addr = find (holds addr) ws
+
+abbrev pub translation_in : Option Window → ℕ → Kind → Walk
+translation_in None addr kind = Violation 0
+translation_in (Some w) addr kind =
+    if allows w.rights kind then At (w.place + (addr - w.guest)) else Violation w.rights.0
+
+-- where a window leads an access: to its place, where the window has the right for it
+abbrev pub translation : List Window → ℕ → Kind → Walk
+translation ws addr kind = translation_in (window_at ws addr) addr kind
+
+-- the aligned span around an address that a page of this level maps lies wholly in the window
+pub record IsInside (w : Window) (level addr : ℕ) : Type 0 where
+  pub begins : w.guest ≤ span level * (addr / span level)
+  pub ends : span level * (addr / span level) + span level ≤ w.guest + w.size
+
+-- the size is the greatest of those up to the window's whose aligned span around the address lies wholly in the window
+pub record IsGreatestSize (w : Window) (addr size : ℕ) : Type 0 where
+  pub level : ℕ
+  pub is : size ≡ span level
+  pub allowed : level ≤ level_of w.leaf
+  pub inside : IsInside w level addr
+  pub greatest : (higher : ℕ) → higher ≤ level_of w.leaf → IsInside w higher addr → higher ≤ level
+
+-- ---- a memory that has the tables
+
+-- each page of the tables stands in memory, from the address `at` on
+abbrev pub HasTables : List Page → ℕ → List ℕ → Type 0
+HasTables m at bytes = (k : ℕ) → 4096 * k < length bytes → page_of m (at / 4096 + k) ≡ Some (take 4096 (drop (4096 * k) bytes))
+
+-- each page of the place of each window is there
+abbrev pub HasPlaces : List Page → List Window → Type 0
+HasPlaces m ws = All (λ w. (k : ℕ) → w.place ≤ 4096 * k → 4096 * k < w.place + w.size → is_there m k ≡ true) ws
+
+-- the walk for an address reads an entry of the table of this level in this page: places are read from the PML4 table, of
+-- level 3, on down
+pub record Reads (m : List Page) (eptp addr level page : ℕ) : Type 0 where
+  pub depth : level ≤ 3
+  pub within : 3 - level < length (places_read m eptp addr)
+  pub here : slice_index (places_read m eptp addr) (3 - level) / 4096 ≡ page
+
+-- some walk for an address up to a last one reads the table in this page
+pub record IsReadBy (m : List Page) (eptp last page : ℕ) : Type 0 where
+  pub addr : ℕ
+  pub level : ℕ
+  pub small : addr ≤ last
+  pub reads : Reads m eptp addr level page

@@ -1,0 +1,62 @@
+-- What stands in tables that lie one after another, and which tables lead to which. Tables are numbered from 0, and table k
+-- is in page base + k. A level is that of a table, from 3 of the PML4 table down to 0 of a page table.
+use Rattle.std.specs.Prelude.{◌≡◌, ◌⊎◌, ℕ, zero, suc, ◌+◌, ◌-◌, ◌*◌, ◌/◌, ◌%◌, ◌<◌, ◌≤◌, Bool, true, false, List, Option, Some, None}
+use Rattle.ept_count.specs.declared.window.Window.{Window}
+use Rattle.machine_meaning.specs.Walks.{span}
+use Rattle.ept_emit.specs.Entries.{is_whole, leaf_entry, table_entry, window_on}
+
+abbrev pub Chosen : Type 0 → Type 0 → Bool → Type 0
+Chosen A B true = A
+Chosen A B false = B
+
+-- which table an entry references
+abbrev pub child : ℕ → ℕ → ℕ
+child base word = word / 4096 - base
+
+-- it references one of the tables lo to hi - 1, and has no bit set but those for that
+pub record IsReference (base lo hi word : ℕ) : Type 0 where
+  pub is : word ≡ table_entry (base + child base word)
+  pub low : lo ≤ child base word
+  pub high : child base word < hi
+
+-- by the window that has an address of entry e, the first: without one the entry is 0; a page of it is mapped where that is
+-- allowed; else the entry references a table
+abbrev pub Stands : (ℕ → Type 0) → ℕ → ℕ → ℕ → ℕ → ℕ → ℕ → Option Window → Type 0
+Stands deeper base lo hi level e word None = word ≡ 0
+Stands deeper base lo hi level e word (Some w) =
+    Chosen (word ≡ leaf_entry w level e) (IsReference base lo hi word × deeper (child base word)) (is_whole w level e)
+
+-- **each entry** that a walk for an address meets, from table `table` of this level on, has exactly the bits that it must
+-- have for these windows, and all tables below lie among lo to hi - 1
+unfoldable pub IsWritten : (ℕ → ℕ) → ℕ → ℕ → ℕ → List Window → ℕ → ℕ → ℕ → Type 0
+IsWritten word base lo hi ws zero table addr =
+    Stands (λ c. ⊥) base lo hi 0 (addr / span 0) (word (512 * table + addr / span 0 % 512)) (window_on ws (span 0 * (addr / span 0)) (span 0))
+IsWritten word base lo hi ws (suc level) table addr =
+    Stands (λ c. IsWritten word base lo hi ws level c addr) base lo hi (suc level) (addr / span (suc level)) (word (512 * table + addr / span (suc level) % 512)) (window_on ws (span (suc level) * (addr / span (suc level))) (span (suc level)))
+
+-- what holds of the table c that an entry references, if it references one
+abbrev pub Leads : (ℕ → Type 0) → ℕ → ℕ → ℕ → Option Window → Type 0
+Leads deeper c level e None = ⊥
+Leads deeper c level e (Some w) = Chosen ⊥ (deeper c) (is_whole w level e)
+
+-- a walk for this address comes from table `table` of this level to another table, of level `l` and number `k`
+unfoldable pub Below : (ℕ → ℕ) → ℕ → List Window → ℕ → ℕ → ℕ → ℕ → ℕ → Type 0
+Below word base ws zero table addr l k = ⊥
+Below word base ws (suc level) table addr l k =
+    Leads (λ c. ((l ≡ level) × (k ≡ c)) ⊎ Below word base ws level c addr l k) (child base (word (512 * table + addr / span (suc level) % 512))) (suc level) (addr / span (suc level)) (window_on ws (span (suc level) * (addr / span (suc level))) (span (suc level)))
+
+-- a walk for some address of a set comes to table k
+pub record IsReached (word : ℕ → ℕ) (base : ℕ) (ws : List Window) (level table : ℕ) (Within : ℕ → Type 0) (k : ℕ) : Type 0 where
+  pub addr : ℕ
+  pub depth : ℕ
+  pub within : Within addr
+  pub below : Below word base ws level table addr depth k
+
+-- below table `table`, for the addresses of a set: the entries are as they must be; each of the tables `used` to top - 1 is
+-- at one path, which its level and the address bits above it are; each is reached; and they are numbered in the order in
+-- which ascending addresses reach them
+pub record AreNumbered (word : ℕ → ℕ) (base used top : ℕ) (ws : List Window) (level table : ℕ) (Within : ℕ → Type 0) : Type 0 where
+  pub written : (g : ℕ) → Within g → IsWritten word base used top ws level table g
+  pub paths : (g h l j k : ℕ) → Within g → Within h → Below word base ws level table g l k → Below word base ws level table h j k → (l ≡ j) × (g / span (suc l) ≡ h / span (suc l))
+  pub reached : (k : ℕ) → used ≤ k → k < top → IsReached word base ws level table Within k
+  pub order : (h l j k : ℕ) → Within h → Below word base ws level table h l k → used ≤ j → j ≤ k → IsReached word base ws level table (λ g. Within g × (g ≤ h)) j

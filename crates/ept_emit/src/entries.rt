@@ -1,0 +1,122 @@
+//! The entries of tables, and which pages map windows.
+ghost use Rattle.std.specs.Prelude.{◌≡◌, ◌≢◌, ℕ, ◌+◌, ◌*◌, ◌^◌, ◌<◌, ◌≤◌, length};
+ghost use Rattle.ept_emit.specs.Entries.{IsEmittable, is_whole, leaf_entry, level_of, table_entry, type_of, word_at};
+ghost use Rattle.machine_meaning.specs.Walks.{span};
+
+use bitflags::Flags;
+use ept_count::{Leaf, Window};
+use muen_num::limits::{LARGE_PAGE, PAGE};
+use policy_types::Caching;
+
+/// How many entries a table has (Intel SDM volume 3, EPT).
+pub(crate) const TABLE_ENTRIES: u64 = 512;
+
+/// The bytes that an entry of a page directory pointer table stands for.
+const DIRECTORY_SPAN: u64 = TABLE_ENTRIES * LARGE_PAGE;
+
+/// The bytes that an entry of a PML4 table stands for.
+const POINTER_TABLE_SPAN: u64 = TABLE_ENTRIES * DIRECTORY_SPAN;
+
+/// The bytes of an entry.
+const ENTRY_BYTES: usize = 8;
+
+/// The read, write and execute bits of an entry (Intel SDM volume 3, formats of EPT entries).
+const ALL_RIGHTS: u64 = 7;
+
+/// What the memory type is multiplied by, so that it stands in bits 5:3 of an entry.
+const TYPE_UNIT: u64 = 8;
+
+/// Bit 7 of an entry above a page table: it maps a page.
+const MAPS_PAGE: u64 = 1 << 7;
+
+/// How many bytes an entry of a table of this level stands for: level 3 is that of the PML4 table,
+/// level 0 that of page tables.
+pub(crate) fn span(level: u32) -> u64
+    requires { level < 4 }
+    ensures value { result ≡ span level }
+    ensures small { result ≤ 2 ^ 39 }
+    ensures some { 4096 ≤ result }
+{
+    match level {
+        0 => PAGE,
+        1 => LARGE_PAGE,
+        2 => DIRECTORY_SPAN,
+        _ => POINTER_TABLE_SPAN,
+    }
+}
+
+// The level of the tables whose entries map pages of this size.
+fn level_of(leaf: Leaf) -> u32
+    ensures { result ≡ level_of leaf }
+{
+    match leaf {
+        Leaf::Small => 0,
+        Leaf::Middle => 1,
+        Leaf::Large => 2,
+    }
+}
+
+// The memory type of an entry that maps a page.
+fn type_of(caching: Caching) -> u64
+    ensures value { result ≡ type_of caching }
+    ensures small { result < 8 }
+{
+    match caching {
+        Caching::Uc => 0,
+        Caching::Wc => 1,
+        Caching::Wt => 4,
+        Caching::Wp => 5,
+        Caching::Wb => 6,
+    }
+}
+
+/// Whether this entry of this level maps a page of the window.
+pub(crate) fn is_whole(window: Window, level: u32, entry: u64) -> bool
+    requires emittable { IsEmittable window }
+    requires level { level < 4 }
+    requires small { span level * entry < 2 ^ 48 }
+    ensures { result ≡ is_whole window level entry }
+{
+    if level == 0 {
+        return true;
+    }
+    let bytes = span(level);
+    let start = bytes * entry;
+    level <= level_of(window.leaf)
+        && window.guest <= start
+        && start + bytes <= window.guest + window.size
+}
+
+/// The entry that maps a page of the window.
+pub(crate) fn leaf_entry(window: Window, level: u32, entry: u64) -> u64
+    requires emittable { IsEmittable window }
+    requires level { level < 4 }
+    requires touched { span level * entry < window.guest + window.size }
+    ensures { result ≡ leaf_entry window level entry }
+{
+    let start = span(level) * entry;
+    let size_bit = if level == 0 { 0 } else { MAPS_PAGE };
+    window.place
+        + start.saturating_sub(window.guest)
+        + size_bit
+        + TYPE_UNIT * type_of(window.caching)
+        + u64::from(window.rights.bits())
+}
+
+/// The entry that references the table in a page.
+pub(crate) fn table_entry(page: u64) -> u64
+    requires { page < 2 ^ 28 }
+    ensures { result ≡ table_entry page }
+{
+    PAGE * page + ALL_RIGHTS
+}
+
+/// Writes a word of the tables: entry `i` of table `k` is word `512 * k + i`.
+pub(crate) fn set_word(out: &mut [u8], word: usize, value: u64)
+    requires { 8 * word + 8 ≤ length out.old }
+    ensures here { word_at out.new word ≡ value }
+    ensures others { (j : ℕ) → j ≢ word → word_at out.new j ≡ word_at out.old j }
+{
+    let start = ENTRY_BYTES * word;
+    out[start..start + ENTRY_BYTES].copy_from_slice(&value.to_le_bytes());
+}

@@ -1,0 +1,53 @@
+//! Which window has an address of an entry.
+ghost use Rattle.std.specs.Prelude.{◌≡◌, ◌+◌, ◌*◌, ◌^◌, ◌<◌, ◌≤◌, length, All, IfSome};
+ghost use Rattle.ept_count.specs.Pages.{AreApart};
+ghost use Rattle.ept_emit.specs.Entries.{IsEmittable, window_on};
+ghost use Rattle.ept_emit.specs.Searches.{IsPast};
+ghost use Rattle.machine_meaning.specs.Walks.{span};
+
+use crate::entries::span;
+use ept_count::Window;
+
+// How many windows end by this address.
+fn windows_before(windows: &[Window], address: u64) -> usize
+    requires emittable { All IsEmittable windows.now }
+    requires apart { AreApart windows.now }
+    ensures { IsPast windows.now address result }
+{
+    let mut low = 0;
+    let mut high = windows.len();
+    while low < high {
+        let middle = low + (high - low) / 2;
+        let window = windows[middle];
+        if window.guest + window.size <= address {
+            low = middle + 1;
+        } else {
+            high = middle;
+        }
+    }
+    low
+}
+
+/// The first window that has an address of this entry of this level, by binary search.
+pub(crate) fn window_on(windows: &[Window], level: u32, entry: u64) -> Option<Window>
+    requires emittable { All IsEmittable windows.now }
+    requires apart { AreApart windows.now }
+    requires level { level < 4 }
+    requires small { span level * entry < 2 ^ 48 }
+    ensures value { result ≡ window_on windows.now (span level * entry) (span level) }
+    ensures emittable { IfSome result IsEmittable }
+    ensures touched { IfSome result (λ w. span level * entry < w.guest + w.size) }
+{
+    let bytes = span(level);
+    let start = bytes * entry;
+    let place = windows_before(windows, start);
+    if place == windows.len() {
+        return None;
+    }
+    let window = windows[place];
+    if window.guest < start + bytes {
+        Some(window)
+    } else {
+        None
+    }
+}

@@ -1,0 +1,135 @@
+//! Tables, entry by entry.
+ghost use Rattle.std.specs.Prelude.{◌≡◌, ◌≢◌, ◌⊎◌, ℕ, suc, ◌+◌, ◌-◌, ◌*◌, ◌/◌, ◌%◌, ◌^◌, ◌<◌, ◌≤◌, length, All, List, IfSome};
+ghost use Rattle.ept_count.specs.Pages.{AreApart, ept_pages};
+ghost use Rattle.ept_emit.specs.Emitted.{HasPlaces, HasTables, IsGreatestSize, IsReadBy, Reads, eptp_of, translation, window_at};
+ghost use Rattle.ept_emit.specs.Entries.{IsEmittable, word_at};
+ghost use Rattle.ept_emit.specs.Needs.{needs};
+ghost use Rattle.ept_emit.specs.Tables.{AreNumbered, IsWritten};
+ghost use Rattle.machine_meaning.specs.Memory.{Page};
+ghost use Rattle.machine_meaning.specs.Walks.{leaf_size, places_read, span, walk_of};
+ghost use Rattle.muen_num.specs.declared.access.Kind.{Kind};
+
+use crate::entries::{TABLE_ENTRIES, is_whole, leaf_entry, set_word, table_entry};
+use crate::search::window_on;
+use ept_count::Window;
+use muen_num::limits::PAGE;
+
+/// The level of the PML4 table.
+const ROOT_LEVEL: u32 = 3;
+
+// Writes one entry of a table, and all tables below it, which are those from `used` on. `entry` counts
+// over all tables of the level. Returns the number after the last table.
+#[cycle(writing)]
+fn write_entry(
+    out: &mut [u8],
+    base: u64,
+    used: usize,
+    windows: &[Window],
+    level: u32,
+    table: usize,
+    entry: u64,
+) -> usize
+    requires emittable { All IsEmittable windows.now }
+    requires apart { AreApart windows.now }
+    requires level { level < 4 }
+    requires base { 4096 * base + length out.old ≤ 2 ^ 40 }
+    requires table { table < used }
+    requires entry { span level * (entry + 1) ≤ 2 ^ 48 }
+    requires room { 4096 * (used + needs windows.now level entry 1) ≤ length out.old }
+    ensures few { result ≤ used + needs windows.now level entry 1 }
+    ensures more { used ≤ result }
+    ensures numbered { AreNumbered (word_at out.new) base used result windows.now level table (λ g. g / span level ≡ entry) }
+    ensures rest { (j : ℕ) → j < 512 * used → j ≢ 512 * table + entry % 512 → word_at out.new j ≡ word_at out.old j }
+    ensures beyond { (j : ℕ) → 512 * result ≤ j → word_at out.new j ≡ word_at out.old j }
+{
+    let word = TABLE_ENTRIES as usize * table + (entry % TABLE_ENTRIES) as usize;
+    let Some(window) = window_on(windows, level, entry) else {
+        set_word(out, word, 0);
+        return used;
+    };
+    if is_whole(window, level, entry) {
+        set_word(out, word, leaf_entry(window, level, entry));
+        return used;
+    }
+    set_word(out, word, table_entry(base + used as u64));
+    write_table(out, base, used + 1, windows, level - 1, used, entry)
+}
+
+// Writes a whole table, which the entry `parent` of the level above references, and all tables below
+// it, which are those from `used` on. Returns the number after the last table.
+#[cycle(writing)]
+fn write_table(
+    out: &mut [u8],
+    base: u64,
+    used: usize,
+    windows: &[Window],
+    level: u32,
+    table: usize,
+    parent: u64,
+) -> usize
+    requires emittable { All IsEmittable windows.now }
+    requires apart { AreApart windows.now }
+    requires level { level < 4 }
+    requires base { 4096 * base + length out.old ≤ 2 ^ 40 }
+    requires table { table < used }
+    requires parent { span (suc level) * (parent + 1) ≤ 2 ^ 48 }
+    requires room { 4096 * (used + needs windows.now level (512 * parent) 512) ≤ length out.old }
+    ensures few { result ≤ used + needs windows.now level (512 * parent) 512 }
+    ensures more { used ≤ result }
+    ensures numbered { AreNumbered (word_at out.new) base used result windows.now level table (λ g. g / span level / 512 ≡ parent) }
+    ensures rest { (j : ℕ) → j < 512 * used → j / 512 ≢ table → word_at out.new j ≡ word_at out.old j }
+    ensures beyond { (j : ℕ) → 512 * result ≤ j → word_at out.new j ≡ word_at out.old j }
+{
+    let mut top = used;
+    for i in 0..TABLE_ENTRIES {
+        top = write_entry(
+            out,
+            base,
+            top,
+            windows,
+            level,
+            table,
+            TABLE_ENTRIES * parent + i,
+        );
+    }
+    top
+}
+
+/// Writes the EPT tables for these windows into `out`, which is to lie at the physical address `at`:
+/// the PML4 table first, and each further table in the next page, in the order in which ascending
+/// guest addresses need them. An address of a window is mapped by the greatest page, up to the
+/// window's, whose aligned span around it lies wholly in the window; an entry that maps a page has
+/// the window's rights and memory type, one that references a table has all rights, and all else is 0
+/// (Intel SDM volume 3, "VMX Support for Address Translation").
+///
+/// Windows ascend by guest address and share none. `out` has as many bytes as tables of small pages
+/// would take; pages that larger ones save are zero at the end.
+pub fn emit(windows: &[Window], at: u64, out: &mut [u8])
+    requires emittable { All IsEmittable windows.now }
+    requires apart { AreApart windows.now }
+    requires at { at % 4096 ≡ 0 }
+    requires end { at + 4096 * ept_pages windows.now ≤ 2 ^ 40 }
+    requires room { length out.old ≡ 4096 * ept_pages windows.now }
+    ensures walk { (m : List Page) (addr : ℕ) (kind : Kind) → HasTables m at out.new → HasPlaces m windows.now → addr < 2 ^ 48 → walk_of m (eptp_of at) addr kind ≡ translation windows.now addr kind }
+    ensures alone { (m : List Page) (addr : ℕ) → HasTables m at out.new → addr < 2 ^ 48 → All (λ place. (at ≤ place) × (place + 8 ≤ at + length out.new)) (places_read m (eptp_of at) addr) }
+    ensures paths { (m : List Page) (a b level other page : ℕ) → HasTables m at out.new → a < 2 ^ 48 → b < 2 ^ 48 → Reads m (eptp_of at) a level page → Reads m (eptp_of at) b other page → (level ≡ other) × (a / span (suc level) ≡ b / span (suc level)) }
+    ensures leaves { (m : List Page) (addr : ℕ) → HasTables m at out.new → addr < 2 ^ 48 → IfSome (window_at windows.now addr) (λ w. IsGreatestSize w addr (leaf_size m (eptp_of at) addr)) }
+    ensures order { (m : List Page) (addr level page k : ℕ) → HasTables m at out.new → addr < 2 ^ 48 → Reads m (eptp_of at) addr level page → at / 4096 ≤ k → k ≤ page → IsReadBy m (eptp_of at) addr k }
+    ensures rest { (m : List Page) (k : ℕ) → HasTables m at out.new → k < ept_pages windows.now → IsReadBy m (eptp_of at) (2 ^ 48 - 1) (at / 4096 + k) ⊎ ((i : ℕ) → i < 512 → word_at out.new (512 * k + i) ≡ 0) }
+    ensures entries { (addr : ℕ) → addr < 2 ^ 48 → IsWritten (word_at out.new) (at / 4096) 1 (ept_pages windows.now) windows.now 3 0 addr }
+    ensures len { length out.new ≡ length out.old }
+{
+    out.fill(0);
+    write_table(out, at / PAGE, 1, windows, ROOT_LEVEL, 0, 0);
+}
+
+/// The extended-page-table pointer of tables whose PML4 table is at `at`: memory type write back, walks
+/// of four levels, and no accessed and dirty flags (Intel SDM volume 3, format of the EPTP).
+pub fn eptp(at: u64) -> u64
+    requires { at ≤ 2 ^ 40 }
+    ensures { result ≡ eptp_of at }
+{
+    const WRITE_BACK: u64 = 6;
+    const WALK_LENGTH: u64 = 4;
+    at + WRITE_BACK + 8 * (WALK_LENGTH - 1)
+}

@@ -1,0 +1,12 @@
+//! The walk of EPT tables in memory (Intel SDM volume 3, VMX support for address translation).
+#![tactic(auto)]
+
+mod entry;
+mod plain;
+mod translation;
+
+pub use plain::PlainWalk;
+pub use translation::Translate;
+
+#[cfg(test)]
+mod tests;

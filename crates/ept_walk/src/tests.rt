@@ -1,0 +1,141 @@
+use crate::{PlainWalk, Translate};
+use machine_meaning::Walk;
+use muen_num::{Kind, Seq, Size};
+use phys_mem::{PhysMem, RegionMem, SpanPartBytes};
+use std::alloc::Global;
+use std::test::Fail;
+
+/// The EPTP whose PML4 table is the first page of the tables.
+const EPTP: u64 = 0x10_001e;
+
+/// The page table's address. The page directory is the page before it, and so on up to the PML4
+/// table.
+const PAGE_TABLE: u64 = 0x10_3000;
+
+/// Seven pages from 1 MiB on, for tables, and one page at 2 GiB.
+fn memory(alloc: Global) -> Result<RegionMem, Fail> {
+    let low = SpanPartBytes {
+        place: 0x10_0000,
+        bytes: Seq::of(vec![in alloc; 0; 0x7000]?),
+    };
+    let high = SpanPartBytes {
+        place: 0x8000_0000,
+        bytes: Seq::of(vec![in alloc; 0; 0x1000]?),
+    };
+    let spans = vec![in alloc; low, high]?;
+    Ok(RegionMem::start(alloc, spans)?)
+}
+
+/// Writes an entry into the table of a level, 3 for the PML4 table.
+fn write<M: PhysMem>(mem: &mut M, level: u64, index: u64, entry: u64) {
+    let place = PAGE_TABLE - 0x1000 * (level % 4) + 8 * (index % 512);
+    mem.store(place, Size::Eight, entry);
+}
+
+/// Where a walk for reading ends, with an entry in place of the first one of its level.
+fn walk_with(mem: &mut RegionMem, level: u64, entry: u64) -> Walk {
+    write(mem, 3, 0, 0x10_1007);
+    write(mem, 2, 0, 0x10_2007);
+    write(mem, 1, 0, 0x10_3007);
+    write(mem, 0, 0, 0x10_6037);
+    write(mem, level, 0, entry);
+    PlainWalk::new().walk(mem, EPTP, 0, Kind::Read)
+}
+
+/// Entries that are refused, by their level.
+const REFUSED: [(u64, u64); 27] = [
+    (3, 0x10_1002),
+    (3, 0x10_1004),
+    (3, 0x10_1006),
+    (3, 0x10_100f),
+    (3, 0x10_1047),
+    (3, 0x10_1087),
+    (3, 0x100_0010_1007),
+    (2, 0x10_2002),
+    (2, 0x10_2004),
+    (2, 0x10_200f),
+    (2, 0x10_2047),
+    (2, 0x8_0000_0010_2007),
+    (2, 0x8000_0097),
+    (2, 0x8000_00bf),
+    (2, 0xa000_00b7),
+    (1, 0x10_3006),
+    (1, 0x10_3027),
+    (1, 0x100_0010_3007),
+    (1, 0x8000_009f),
+    (1, 0x8010_00b7),
+    (0, 0x10_6032),
+    (0, 0x10_6034),
+    (0, 0x10_6036),
+    (0, 0x10_6017),
+    (0, 0x10_601f),
+    (0, 0x10_603f),
+    (0, 0x100_0010_6037),
+];
+
+/// Entries that are accepted, and where the walk ends then.
+const ACCEPTED: [(u64, u64, Walk); 7] = [
+    (0, 0xfff0_0000_0010_6f37, Walk::At(0x10_6000)),
+    (0, 0x10_60f7, Walk::At(0x10_6000)),
+    (1, 0x8000_00b7, Walk::At(0x8000_0000)),
+    (2, 0x8000_00b7, Walk::At(0x8000_0000)),
+    (3, 0, Walk::Violation(0)),
+    (1, 0x9999_9007, Walk::Misconfigured),
+    (0, 0x10_7037, Walk::Misconfigured),
+];
+
+#[test]
+fn each_check_at_each_level(rt: HostRuntime) -> Result<(), Fail> {
+    let mut mem = memory(rt.alloc())?;
+    for (level, entry) in REFUSED {
+        assert_eq!(rt;
+            walk_with(&mut mem, level, entry),
+            Walk::Misconfigured,
+            "{level} {entry:x}"
+        );
+    }
+    for (level, entry, end) in ACCEPTED {
+        assert_eq!(rt; walk_with(&mut mem, level, entry), end, "{level} {entry:x}");
+    }
+    Ok(())
+}
+
+#[test]
+fn worked_tables(rt: HostRuntime) -> Result<(), Fail> {
+    let mut mem = memory(rt.alloc())?;
+    write(&mut mem, 3, 0, 0x10_1007);
+    write(&mut mem, 2, 0, 0x10_2007);
+    write(&mut mem, 2, 1, 0x8000_00b3);
+    write(&mut mem, 1, 2, 0x10_3007);
+    write(&mut mem, 0, 0, 0x10_6035);
+    let mut plain = PlainWalk::new();
+    assert_eq!(rt;
+        plain.walk(&mem, EPTP, 0x40_0000, Kind::Read),
+        Walk::At(0x10_6000)
+    );
+    assert_eq!(rt;
+        plain.walk(&mem, EPTP, 0x40_0fff, Kind::Fetch),
+        Walk::At(0x10_6fff)
+    );
+    assert_eq!(rt;
+        plain.walk(&mem, EPTP, 0x40_0000, Kind::Write),
+        Walk::Violation(5)
+    );
+    assert_eq!(rt;
+        plain.walk(&mem, EPTP, 0x40_1000, Kind::Read),
+        Walk::Violation(0)
+    );
+    assert_eq!(rt;
+        plain.walk(&mem, EPTP, 0x4000_0123, Kind::Write),
+        Walk::At(0x8000_0123)
+    );
+    assert_eq!(rt;
+        plain.walk(&mem, EPTP, 0x4000_1000, Kind::Read),
+        Walk::Misconfigured
+    );
+    assert_eq!(rt;
+        plain.walk(&mem, u64::MAX, 0, Kind::Read),
+        Walk::Misconfigured
+    );
+    Ok(())
+}

@@ -1,0 +1,71 @@
+-- Flows by channels, by names and by places.
+use Rattle.std.proofs.Common.{◌≡◌, ℕ, ◌<◌, true, false, List, length, map, None, refl, sym, ap, ◌∙◌, arith}
+use Rattle.std.specs.Prelude.{◌==◌, ◌&&◌, nat_lt}
+use Rattle.std.specs.Option.{option_map_or}
+use Rattle.std.specs.List.{filter_map, list_any}
+use Rattle.std.specs.Str.{bytes_eq}
+use Rattle.std.proofs.lemmas.Bool.{ltb-true}
+use Rattle.std.proofs.lemmas.List.{length-map}
+use Rattle.muen_num.proofs.Lists.{list_any-map}
+use Rattle.policy_lawful.specs.Resolution.{IsResolved, Resolution, name_at, source_of, subject_named, subject_placed}
+use Rattle.policy_lawful.specs.Rules.{repeated}
+use Rattle.policy_lawful.specs.declared.resolved.Subject.{Subject}
+use Rattle.policy_lawful.proofs.Places.{same_name}
+use Rattle.policy_lawful.proofs.UniqueNames.{unique}
+use Rattle.policy_meaning.specs.Events.{ChannelEnd, channel_ends, reads_from}
+use Rattle.policy_types.specs.declared.rights.Role.{Role}
+use Rattle.policy_types.specs.declared.rights.Role.TheVariants.{Writer, Reader}
+use Rattle.policy_views.specs.Views.{end_named, ends_of}
+use Rattle.policy_views.specs.declared.view.End.{End}
+use Rattle.policy_views.proofs.EndsByPlace.{ends_by_place, ends_placed}
+use Rattle.subject_model.specs.Flows.{by_channel, is_writer}
+use Rattle.subject_model.proofs.Members.{any_agree, passes_in}
+use Rattle.flow_report.specs.ByPlace.{channel_read, channel_written, has, meet}
+use Rattle.flow_report.proofs.PlacesOfSubjects.{any_filter_map}
+
+abbrev channel_names : Resolution → List (List ℕ)
+channel_names r = map (λ c. c.name) r.channels
+
+channels_unique : (r : Resolution) → IsResolved r → repeated (channel_names r) ≡ None
+unfolding source_of
+channels_unique r q = (unique (source_of r) q.names).channels
+
+module _ (r : Resolution) (q : IsResolved r) where
+  same_channel : (j k : ℕ) → nat_lt j (length r.channels) ≡ true → nat_lt k (length r.channels) ≡ true → bytes_eq (name_at (channel_names r) j) (name_at (channel_names r) k) ≡ (j == k)
+  same_channel j k a b =
+      let many : length (channel_names r) ≡ length r.channels = length-map r.channels (λ c. c.name) in
+      let left : j < length r.channels = ltb-true j (length r.channels) a in
+      let right : k < length r.channels = ltb-true k (length r.channels) b in
+      same_name (channel_names r) j k (channels_unique r q) (omega (arith, many, left)) (omega (arith, many, right))
+
+  read_at : (f : End) (role : Role) (k : ℕ) → nat_lt f.channel (length r.channels) ≡ true → nat_lt k (length r.channels) ≡ true
+      → reads_from (end_named r f) role (name_at (channel_names r) k) ≡ option_map_or (λ y. y == k) (channel_read role f.channel) false
+  read_at f Reader k a b = same_channel f.channel k a b
+  read_at f Writer k a b = refl
+
+  -- who reads a channel
+  reads_at : (s : Subject) (k : ℕ) → subject_placed r s ≡ true → nat_lt k (length r.channels) ≡ true
+      → list_any (λ f. reads_from f f.role (name_at (channel_names r) k)) (channel_ends (source_of r) (subject_named r s)) ≡ has (filter_map (λ f. channel_read f.role f.channel) (ends_of r s)) k
+  reads_at s k placed b =
+      ap (list_any (λ (f : ChannelEnd). reads_from f f.role (name_at (channel_names r) k))) (ends_by_place r s q placed)
+      ∙ list_any-map (λ (f : ChannelEnd). reads_from f f.role (name_at (channel_names r) k)) (end_named r) (ends_of r s)
+      ∙ any_agree (λ f. reads_from (end_named r f) f.role (name_at (channel_names r) k)) (λ f. option_map_or (λ y. y == k) (channel_read f.role f.channel) false) (ends_of r s)
+      (λ f i. read_at f f.role k (passes_in (λ (e : End). nat_lt e.channel (length r.channels)) (ends_of r s) (ends_placed r s placed) f i) b)
+      ∙ sym (any_filter_map (λ y. y == k) (λ (f : End). channel_read f.role f.channel) (ends_of r s))
+
+  written_at : (s : Subject) (role : Role) (k : ℕ) → subject_placed r s ≡ true → nat_lt k (length r.channels) ≡ true
+      → (is_writer role && list_any (λ f. reads_from f f.role (name_at (channel_names r) k)) (channel_ends (source_of r) (subject_named r s))) ≡ option_map_or (has (filter_map (λ f. channel_read f.role f.channel) (ends_of r s))) (channel_written role k) false
+  written_at s Writer k placed b = reads_at s k placed b
+  written_at s Reader k placed b = refl
+
+  pub channel_same : (u s : Subject) → subject_placed r u ≡ true → subject_placed r s ≡ true
+      → by_channel (source_of r) (subject_named r u) (subject_named r s)
+      ≡ meet (filter_map (λ e. channel_written e.role e.channel) (ends_of r u)) (filter_map (λ e. channel_read e.role e.channel) (ends_of r s))
+  channel_same u s a b =
+      let readers = channel_ends (source_of r) (subject_named r s) in
+      let numbers = filter_map (λ (f : End). channel_read f.role f.channel) (ends_of r s) in
+      ap (list_any (λ (e : ChannelEnd). is_writer e.role && list_any (λ f. reads_from f f.role e.channel) readers)) (ends_by_place r u q a)
+      ∙ list_any-map (λ (e : ChannelEnd). is_writer e.role && list_any (λ f. reads_from f f.role e.channel) readers) (end_named r) (ends_of r u)
+      ∙ any_agree (λ e. is_writer e.role && list_any (λ f. reads_from f f.role (name_at (channel_names r) e.channel)) readers) (λ e. option_map_or (has numbers) (channel_written e.role e.channel) false) (ends_of r u)
+      (λ e i. written_at s e.role e.channel b (passes_in (λ (e : End). nat_lt e.channel (length r.channels)) (ends_of r u) (ends_placed r u a) e i))
+      ∙ sym (any_filter_map (has numbers) (λ (e : End). channel_written e.role e.channel) (ends_of r u))

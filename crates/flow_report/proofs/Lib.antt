@@ -1,0 +1,14 @@
+pub mod ChannelFlows
+pub mod Closures
+pub mod DirectFlows
+pub mod EventFlows
+pub mod EventWaysFlow
+pub mod FacesByPlace
+pub mod FlowsByPlace
+pub mod MarkedSets
+pub mod MemoryFlows
+pub mod MonitorFlows
+pub mod NumberedTexts
+pub mod PlacesOfSubjects
+pub mod Rounds
+pub mod TextOfFlows

@@ -1,0 +1,5 @@
+pub mod ByPlace
+pub mod FlowText
+pub mod Marks
+pub mod Sets
+pub mod TextByPlace

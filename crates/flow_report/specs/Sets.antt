@@ -1,0 +1,24 @@
+-- For each subject of a policy the set of those that can reach it, by places.
+use Rattle.std.specs.Prelude.{◌≡◌, ℕ, Bool, true, false, List, [], ◌∷◌, map}
+use Rattle.std.specs.List.{AllZip}
+use Rattle.policy_types.specs.declared.source.Source.{Source}
+use Rattle.subject_model.specs.Flows.{IsLeastClosed, closure_of}
+
+-- those elements whose place is marked
+unfoldable pub marked : {X : Type 0} → List Bool → List X → List X
+marked [] xs = []
+marked (b ∷ bs) [] = []
+marked (true ∷ bs) (x ∷ xs) = x ∷ marked bs xs
+marked (false ∷ bs) (x ∷ xs) = marked bs xs
+
+-- the subjects, by name, of a set of places
+abbrev pub members_of : Source → List Bool → List (List ℕ)
+members_of p set = marked set (map (λ s. s.name) p.subjects)
+
+-- for each subject the closed set
+abbrev pub AreFlows : Source → List (List Bool) → Type 0
+AreFlows p sets = map (members_of p) sets ≡ map (λ s. closure_of p s.name) p.subjects
+
+-- for each subject the least closed set with it
+abbrev pub AreLeastClosed : Source → List (List Bool) → Type 0
+AreLeastClosed p sets = AllZip (λ s set. IsLeastClosed p s.name (members_of p set)) p.subjects sets

@@ -1,0 +1,9 @@
+//! On whom each subject of a policy can depend, and the text that tells it.
+#![tactic(auto)]
+
+mod faces;
+mod sets;
+mod text;
+
+pub use sets::{FlowSets, flows};
+pub use text::flow_text;

@@ -1,0 +1,122 @@
+//! The closed sets of subjects.
+ghost use Rattle.std.specs.Prelude.{◌≡◌, map, length, IfOk};
+ghost use Rattle.policy_lawful.specs.Resolution.{source_of};
+ghost use Rattle.flow_report.specs.ByPlace.{flows_between, rows_of};
+ghost use Rattle.flow_report.specs.Marks.{after_rounds, alone_marked, round, sets_of, touches};
+ghost use Rattle.flow_report.specs.Sets.{AreFlows, AreLeastClosed};
+
+use crate::faces::{Face, faces, flows_between};
+use muen_num::{NoMemory, Seq};
+use policy_lawful::Lawful;
+use std::alloc::{AllocError, Global};
+use std::marker::Model;
+
+/// For each subject, by place, the set of those that can reach it; a set marks the places of its
+/// members. Contracts see the list of these marks.
+#[derive(Debug, Drop)]
+pub struct FlowSets {
+    sets: Seq<Seq<bool>>,
+}
+
+impl Model for FlowSets {
+    ghost use Rattle.std.specs.Prelude.{Bool, List};
+
+    ghost Value = { List (List Bool) };
+
+    ghost view = { λ f. f.sets };
+}
+
+impl FlowSets {
+    /// The sets of marks.
+    pub(crate) fn sets(&self) -> &[Seq<bool>]
+        ensures { result.now ≡ self.now }
+    {
+        self.sets.items()
+    }
+}
+
+// The subjects to which this one flows directly, among all.
+fn row(alloc: Global, from: &Face, faces: &[Face]) -> Result<Vec<bool>, AllocError>
+    ensures { IfOk result (λ v. v.items ≡ map (flows_between from.now) faces.now) }
+{
+    faces
+        .iter()
+        .map(|to| flows_between(from, to))
+        .collect(alloc)
+}
+
+fn rows(alloc: Global, faces: &[Face]) -> Result<Vec<Seq<bool>>, NoMemory>
+    ensures { IfOk result (λ v. v.items ≡ rows_of faces.now) }
+{
+    let mut rows = Vec::new(alloc);
+    for face in faces {
+        rows.push(Seq::of(row(alloc, face, faces)?))?;
+    }
+    Ok(rows)
+}
+
+// Whether some place is marked in both.
+fn touches(marks: &[bool], row: &[bool]) -> bool
+    ensures { result ≡ touches marks.now row.now }
+{
+    marks.iter().zip(row).any(|(mark, flows)| *mark && *flows)
+}
+
+// The marks, and those whose rows touch them.
+fn round(alloc: Global, rows: &[Seq<bool>], marks: &[bool]) -> Result<Vec<bool>, AllocError>
+    ensures { IfOk result (λ v. v.items ≡ round rows.now marks.now) }
+{
+    marks
+        .iter()
+        .zip(rows)
+        .map(|(mark, row)| *mark || touches(marks, row.items()))
+        .collect(alloc)
+}
+
+// One place alone.
+fn alone_marked(alloc: Global, faces: &[Face], place: usize) -> Result<Vec<bool>, AllocError>
+    ensures { IfOk result (λ v. v.items ≡ alone_marked faces.now place) }
+{
+    faces.iter().map(|face| face.place == place).collect(alloc)
+}
+
+// The set of those that can reach the subject at a place: as many rounds as there are subjects.
+#[tactic(auto, using(crate::proofs::Rounds::by_rounds))]
+fn closed_set(
+    alloc: Global,
+    faces: &[Face],
+    rows: &[Seq<bool>],
+    place: usize,
+) -> Result<Vec<bool>, NoMemory>
+    ensures { IfOk result (λ v. v.items ≡ after_rounds rows.now (alone_marked faces.now place) (length faces.now)) }
+{
+    let mut marks = alone_marked(alloc, faces, place)?;
+    for _ in 0..faces.len() {
+        marks = round(alloc, rows, &marks)?;
+    }
+    Ok(marks)
+}
+
+fn closed_sets(alloc: Global, faces: &[Face]) -> Result<Seq<Seq<bool>>, NoMemory>
+    ensures { IfOk result (λ s. s ≡ sets_of faces.now) }
+{
+    let rows = rows(alloc, faces)?;
+    let mut sets = Seq::new(alloc);
+    for face in faces {
+        sets.push(Seq::of(closed_set(alloc, faces, &rows, face.place)?))?;
+    }
+    Ok(sets)
+}
+
+/// For each subject all that can reach it: itself, and the direct sources of those that do, by
+/// channels, shared memory, events, monitors, and the choice of major frames.
+///
+/// Answers `NoMemory` where memory was refused.
+pub fn flows(alloc: Global, policy: &Lawful) -> Result<FlowSets, NoMemory>
+    ensures sets { IfOk result (AreFlows (source_of policy.now)) }
+    ensures least { IfOk result (AreLeastClosed (source_of policy.now)) }
+{
+    let faces = faces(alloc, policy.resolved())?;
+    let sets = closed_sets(alloc, &faces)?;
+    Ok(FlowSets { sets })
+}

@@ -1,0 +1,185 @@
+//! The text of `flows`.
+ghost use Rattle.std.specs.Prelude.{◌≡◌, ◌++◌, [], false, slice_index_or};
+ghost use Rattle.std.specs.List.{enumerate_from, flat_map};
+ghost use Rattle.muen_outside.specs.Buffered.{Gives, behind};
+ghost use Rattle.muen_outside.specs.Puts.{Puts};
+ghost use Rattle.policy_lawful.specs.Resolution.{source_of};
+ghost use Rattle.flow_report.specs.FlowText.{flow_text_of};
+ghost use Rattle.flow_report.specs.Sets.{AreFlows};
+ghost use Rattle.flow_report.specs.TextByPlace.{line_end, line_start, lines_text, member_at, member_text, members_text};
+
+use crate::sets::FlowSets;
+use muen_num::{Name, Seq};
+use muen_outside::{Buffer, Sink, SinkFault};
+use policy_lawful::Lawful;
+use policy_lawful::resolved::Subject;
+
+// Whether a place is marked; one that isn't there is not.
+fn is_marked(set: &[bool], place: usize) -> bool
+    ensures { result ≡ slice_index_or set.now place false }
+{
+    match set.get(place) {
+        Some(mark) => *mark,
+        None => false,
+    }
+}
+
+// The marks at a place; none where there is no such place.
+fn marks_at(sets: &[Seq<bool>], place: usize) -> &[bool]
+    ensures { result.now ≡ slice_index_or sets.now place [] }
+{
+    match sets.get(place) {
+        Some(set) => set.items(),
+        None => &[],
+    }
+}
+
+// One text behind another.
+#[tactic(auto, using(muen_outside::proofs::Buffered::gives))]
+fn put_two<S: Sink>(
+    first: &[u8],
+    second: &[u8],
+    buffer: &mut Buffer,
+    out: &mut S,
+) -> Result<(), SinkFault>
+    ensures { Gives (first.now ++ second.now) (behind (S.state out.old) buffer.old) (behind (S.state out.new) buffer.new) result }
+{
+    buffer.put(first, out)?;
+    buffer.put(second, out)
+}
+
+#[tactic(auto, using(muen_outside::proofs::Buffered::gives))]
+fn put_three<S: Sink>(
+    first: &[u8],
+    second: &[u8],
+    third: &[u8],
+    buffer: &mut Buffer,
+    out: &mut S,
+) -> Result<(), SinkFault>
+    ensures { Gives (first.now ++ second.now ++ third.now) (behind (S.state out.old) buffer.old) (behind (S.state out.new) buffer.new) result }
+{
+    put_two(first, second, buffer, out)?;
+    buffer.put(third, out)
+}
+
+// The name behind a space, where it is marked.
+#[tactic(auto, using(muen_outside::proofs::Buffered::gives))]
+fn put_member<S: Sink>(
+    marked: bool,
+    name: &Name,
+    buffer: &mut Buffer,
+    out: &mut S,
+) -> Result<(), SinkFault>
+    ensures { Gives (member_text marked name.now) (behind (S.state out.old) buffer.old) (behind (S.state out.new) buffer.new) result }
+{
+    if marked {
+        put_two(b" ", name.bytes(), buffer, out)
+    } else {
+        Ok(())
+    }
+}
+
+// The subjects that are marked, by their numbers.
+#[tactic(auto, using(crate::proofs::NumberedTexts::numbered))]
+fn put_numbered<S: Sink>(
+    set: &[bool],
+    subjects: &[Subject],
+    buffer: &mut Buffer,
+    out: &mut S,
+) -> Result<(), SinkFault>
+    ensures { Gives (flat_map (member_at set.now) (enumerate_from 0 subjects.now)) (behind (S.state out.old) buffer.old) (behind (S.state out.new) buffer.new) result }
+{
+    for (place, subject) in subjects.iter().enumerate() {
+        put_member(is_marked(set, place), &subject.name, buffer, out)?;
+    }
+    Ok(())
+}
+
+fn put_members<S: Sink>(
+    set: &[bool],
+    subjects: &[Subject],
+    buffer: &mut Buffer,
+    out: &mut S,
+) -> Result<(), SinkFault>
+    ensures { Gives (members_text set.now subjects.now) (behind (S.state out.old) buffer.old) (behind (S.state out.new) buffer.new) result }
+{
+    put_numbered(set, subjects, buffer, out)
+}
+
+// What stands before the members of a line.
+#[tactic(auto, unfolding(crate::specs::TextByPlace::line_start))]
+fn put_start<S: Sink>(name: &Name, buffer: &mut Buffer, out: &mut S) -> Result<(), SinkFault>
+    ensures { Gives (line_start name.now) (behind (S.state out.old) buffer.old) (behind (S.state out.new) buffer.new) result }
+{
+    put_three(b"flow ", name.bytes(), b" from", buffer, out)
+}
+
+// What stands behind them.
+#[tactic(auto, unfolding(crate::specs::TextByPlace::line_end))]
+fn put_end<S: Sink>(buffer: &mut Buffer, out: &mut S) -> Result<(), SinkFault>
+    ensures { Gives line_end (behind (S.state out.old) buffer.old) (behind (S.state out.new) buffer.new) result }
+{
+    buffer.put(b"\n", out)
+}
+
+// A line: its start, the members, its end.
+#[tactic(auto, using(muen_outside::proofs::Buffered::gives))]
+fn put_line<S: Sink>(
+    name: &Name,
+    set: &[bool],
+    subjects: &[Subject],
+    buffer: &mut Buffer,
+    out: &mut S,
+) -> Result<(), SinkFault>
+    ensures { Gives (line_start name.now ++ members_text set.now subjects.now ++ line_end) (behind (S.state out.old) buffer.old) (behind (S.state out.new) buffer.new) result }
+{
+    put_start(name, buffer, out)?;
+    put_members(set, subjects, buffer, out)?;
+    put_end(buffer, out)
+}
+
+#[tactic(auto, using(crate::proofs::NumberedTexts::numbered))]
+fn put_lines<S: Sink>(
+    subjects: &[Subject],
+    sets: &[Seq<bool>],
+    buffer: &mut Buffer,
+    out: &mut S,
+) -> Result<(), SinkFault>
+    ensures { Gives (lines_text subjects.now sets.now) (behind (S.state out.old) buffer.old) (behind (S.state out.new) buffer.new) result }
+{
+    for (place, subject) in subjects.iter().enumerate() {
+        put_line(&subject.name, marks_at(sets, place), subjects, buffer, out)?;
+    }
+    Ok(())
+}
+
+// All lines.
+fn put_text<S: Sink>(
+    policy: &Lawful,
+    flows: &FlowSets,
+    buffer: &mut Buffer,
+    out: &mut S,
+) -> Result<(), SinkFault>
+    requires { AreFlows (source_of policy.now) flows.now }
+    ensures { Gives (flow_text_of (source_of policy.now)) (behind (S.state out.old) buffer.old) (behind (S.state out.new) buffer.new) result }
+{
+    put_lines(policy.resolved().subjects(), flows.sets(), buffer, out)
+}
+
+/// Puts a line for each subject: `flow SUBJECT from S1 S2 ..`, the subject itself and all that can
+/// reach it, in the policy's order. The text goes through the buffer, in which nothing may wait
+/// before, and takes no memory. Where the sink fails it has a front of the text.
+#[tactic(auto, using(muen_outside::proofs::Buffered::gives))]
+pub fn flow_text<S: Sink>(
+    policy: &Lawful,
+    flows: &FlowSets,
+    buffer: &mut Buffer,
+    out: &mut S,
+) -> Result<(), SinkFault>
+    requires flows { AreFlows (source_of policy.now) flows.now }
+    requires empty { buffer.old ≡ [] }
+    ensures { Puts (flow_text_of (source_of policy.now)) (S.state out.old) (S.state out.new) result }
+{
+    put_text(policy, flows, buffer, out)?;
+    buffer.flush(out)
+}

@@ -1,0 +1,5 @@
+pub mod PageLaws
+pub mod StoreLaws
+pub mod WalkLaws
+pub mod FieldLaws
+pub mod WalkSteps

@@ -1,0 +1,15 @@
+//! What the machine's memory means: its pages, the walk of EPT tables over them, and which accesses
+//! of ports and of MSRs leave a subject (Intel SDM volume 3). These are definitions in specs/; the
+//! types that they answer with stand here.
+#![tactic(auto)]
+
+mod bit_fields;
+mod laws;
+mod walk;
+
+pub use bit_fields::{bits, with_bits};
+pub use laws::{
+    changes_elsewhere_change_no_walk, pages_change_alone, stores_change_their_bytes,
+    walks_depend_on_their_entries,
+};
+pub use walk::Walk;

@@ -1,0 +1,9 @@
+use Rattle.std.proofs.Common.{◌≡◌, ℕ, Bool, not, take}
+use Rattle.machine_meaning.specs.Exits.{msr_exits}
+use Rattle.msrbm_emit.specs.Msrs.{is_granted}
+use Rattle.msrbm_emit.proofs.bitmap.emit.Given as goal
+
+-- what exits is all but what the grants so far allow
+abbrev pub invariant-loop-grant : goal.invariant-loop-grant
+invariant-loop-grant l =
+    (index : ℕ) (write : Bool) → msr_exits l.bitmap index write ≡ not (is_granted (take l.grant-index l.msrs) index write)

@@ -1,0 +1,55 @@
+//! The area of MSRs.
+ghost use Rattle.std.specs.Prelude.{◌≡◌, ℕ, ◌+◌, ◌-◌, ◌*◌, ◌≤◌, List, ◌++◌, length};
+ghost use Rattle.machine_meaning.specs.Exits.{area_bytes, entry_bytes, entry_size};
+ghost use Rattle.page_parts.specs.Fields.{padded};
+ghost use Rattle.msrbm_emit.specs.Area.{area_of, count_of, entries_of, entry_of, size_of};
+
+use muen_num::limits::{MOST_MSRS, PAGE};
+use page_parts::{clear_all, put_word};
+use policy_types::MsrGrant;
+
+/// The bytes of an entry (Intel SDM volume 3, format of an MSR entry).
+const ENTRY: usize = 16;
+
+/// Where the value stands in an entry.
+const VALUE: usize = 8;
+
+// Puts an entry behind those that are there.
+fn put_entry(area: &mut [u8], at: usize, index: u32)
+    requires { at + entry_size ≤ length area.old }
+    ensures { (front : List ℕ) → length front ≡ at → area.old ≡ padded (length area.old) front
+        → area.new ≡ padded (length area.old) (front ++ entry_bytes (entry_of index)) }
+{
+    put_word(area, at, u64::from(index));
+    put_word(area, at + VALUE, 0);
+}
+
+// Puts the entries of a grant behind those that are there, and tells where they end.
+fn put_entries(area: &mut [u8], at: usize, grant: &MsrGrant) -> usize
+    requires { at + entry_size * size_of grant.now ≤ length area.old }
+    ensures end { result ≡ at + entry_size * size_of grant.now }
+    ensures area { (front : List ℕ) → length front ≡ at → area.old ≡ padded (length area.old) front
+        → area.new ≡ padded (length area.old) (front ++ area_bytes (entries_of grant.now)) }
+{
+    let mut end = at;
+    for index in grant.start..=grant.end {
+        put_entry(area, end, index);
+        end += ENTRY;
+    }
+    end
+}
+
+/// Writes the area of MSRs, a page, whatever stood there before: an entry with the value 0 for each
+/// granted MSR, in the grants' order and ascending in each, and zeros behind them. There are at most
+/// 64 granted MSRs.
+pub fn emit_area(msrs: &[MsrGrant], area: &mut [u8])
+    requires page { length area.old ≡ PAGE }
+    requires few { count_of msrs.now ≤ MOST_MSRS }
+    ensures { area.new ≡ padded PAGE (area_bytes (area_of msrs.now)) }
+{
+    clear_all(area);
+    let mut end = 0;
+    for grant in msrs {
+        end = put_entries(area, end, grant);
+    }
+}

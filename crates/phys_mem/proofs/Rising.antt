@@ -1,0 +1,132 @@
+-- Numbers that rise: how a search finds its first place, and why the pages of spans rise.
+use Rattle.std.proofs.Common.{◌≡◌, inl, inr, ℕ, zero, suc, ◌+◌, ◌*◌, ◌/◌, ◌%◌, ◌^◌, ◌<◌, ◌≤◌, List, [], ◌∷◌, ◌++◌, length, get_or, map, refl, sym, ap, subst, ◌∙◌, append_assoc, arith}
+use Rattle.std.proofs.lemmas.List.{append-nil}
+use Rattle.std.proofs.lemmas.Bool.{cases_lt}
+use Rattle.std.proofs.lemmas.List.Elements.{All-cons, All-nil}
+use Rattle.machine_meaning.specs.Memory.{Page}
+use Rattle.phys_mem.specs.Frames.{pages_by, pages_in, IsRising, NoneBelow, IsFirst}
+use Rattle.phys_mem.specs.Spans.{AreApart, AreSpans, IsSpan, end_of, pages_of_spans}
+use Rattle.phys_mem.specs.declared.spans.SpanPartBytes.{SpanPartBytes}
+
+-- ---- a search
+
+pub not_falling : (ns : List ℕ) → IsRising ns → (i j : ℕ) → i ≤ j → j < length ns → get_or ns i 0 ≤ get_or ns j 0
+not_falling ns rising i j a b =
+    elim (cases_lt i j) [
+      | inl h ↦ let less = rising i j h b in omega (arith, less)
+      | inr h ↦ let same : i ≡ j = omega arith in rw same (omega arith)
+    ]
+
+pub found_first : (ns : List ℕ) (k i : ℕ) → IsRising ns → (i < length ns) × (get_or ns i 0 ≡ k) → IsFirst ns k i
+found_first ns k i rising h =
+    record {
+      within = h.0;
+      here = h.1;
+      before = λ j l e. let less = rising j i l h.0 in omega (arith, less, e, h.1);
+    }
+
+pub found_none : (ns : List ℕ) (k i : ℕ) → (i ≤ length ns) × ((j : ℕ) → j < i → get_or ns j 0 < k) × ((j : ℕ) → i ≤ j → j < length ns → k < get_or ns j 0) → NoneBelow ns k (length ns)
+found_none ns k i h j l e =
+    elim (cases_lt j i) [
+      | inl a ↦ let less = h.1 j a in omega (arith, less, e)
+      | inr a ↦ let more = h.2 j a l in omega (arith, more, e)
+    ]
+
+-- ---- the pages of spans
+
+-- numbers from this one on that rise
+abbrev RisingFrom : ℕ → List ℕ → Type 0
+RisingFrom low [] = Unit {0}
+RisingFrom low (n ∷ ns) = (low ≤ n) × RisingFrom (n + 1) ns
+
+least : (low : ℕ) (ns : List ℕ) → RisingFrom low ns → (i : ℕ) → i < length ns → low ≤ get_or ns i 0
+least low [] h i l = absurd (omega arith)
+least low (n ∷ ns) h zero l = h.0
+least low (n ∷ ns) h (suc i) l =
+    let more = least (n + 1) ns h.1 i (omega arith) in let here = h.0 in omega (arith, more, here)
+
+rising_from : (low : ℕ) (ns : List ℕ) → RisingFrom low ns → IsRising ns
+rising_from low [] h i j a b = absurd (omega arith)
+rising_from low (n ∷ ns) h i zero a b = absurd (omega arith)
+rising_from low (n ∷ ns) h zero (suc j) a b =
+    let more = least (n + 1) ns h.1 j (omega arith) in omega (arith, more)
+rising_from low (n ∷ ns) h (suc i) (suc j) a b = rising_from (n + 1) ns h.1 i j (omega arith) (omega arith)
+
+rising_below : (low high : ℕ) (ns : List ℕ) → low ≤ high → RisingFrom high ns → RisingFrom low ns
+rising_below low high [] a h = tt
+rising_below low high (n ∷ ns) a h = let here = h.0 in (omega (arith, here), h.1)
+
+abbrev numbers_of : List Page → List ℕ
+numbers_of ps = map (λ p. p.number) ps
+
+pages_rising : (n k low : ℕ) (bytes : List ℕ) (rest : List Page) → low ≤ k → RisingFrom (k + n) (numbers_of rest) → RisingFrom low (numbers_of (pages_in n k bytes ++ rest))
+pages_rising zero k low bytes rest a h = rising_below low (k + 0) (numbers_of rest) (omega arith) h
+pages_rising (suc n) k low bytes rest a h =
+    let next : k + suc n ≡ k + 1 + n = omega arith in
+    (a, pages_rising n (k + 1) (k + 1) _ rest (omega arith) (subst (λ j. RisingFrom j (numbers_of rest)) next h))
+
+later_spans : (s : SpanPartBytes) (ss : List SpanPartBytes) → AreSpans (s ∷ ss) → AreSpans ss
+later_spans s ss h =
+    record {
+      each = λ k d l. h.each (suc k) d (omega arith);
+      apart = λ i j d a b. h.apart (suc i) (suc j) d (omega arith) (omega arith);
+    }
+
+end_page : (place bytes next : ℕ) → place % 4096 ≡ 0 → bytes % 4096 ≡ 0 → place + bytes ≤ next → 4096 * (place / 4096 + bytes / 4096) ≤ next
+end_page place bytes next a b h = omega arith
+
+first_page : (low place : ℕ) → 4096 * low ≤ place → low ≤ place / 4096
+first_page low place h = omega arith
+
+spans_rising : (ss : List SpanPartBytes) (low : ℕ) → AreSpans ss → ((i : ℕ) (d : SpanPartBytes) → i < length ss → 4096 * low ≤ (get_or ss i d).place) → RisingFrom low (numbers_of (pages_of_spans ss))
+spans_rising [] low h above = tt
+spans_rising (s ∷ ss) low h above =
+    let here : IsSpan s = h.each 0 s (omega arith) in
+    pages_rising (length s.bytes / 4096) (s.place / 4096) low s.bytes (pages_of_spans ss) (first_page low s.place (above 0 s (omega arith))) (spans_rising ss (s.place / 4096 + length s.bytes / 4096) (later_spans s ss h) (λ i d l. end_page s.place (length s.bytes) (get_or ss i d).place here.aligned here.whole (h.apart 0 (suc i) d (omega arith) (omega arith))))
+
+numbers_by : (ns : List ℕ) (fs : List (List ℕ)) → length ns ≡ length fs → numbers_of (pages_by ns fs) ≡ ns
+numbers_by [] fs e = refl
+numbers_by (n ∷ ns) [] e = absurd (omega arith)
+numbers_by (n ∷ ns) (f ∷ fs) e = ap (λ ks. n ∷ ks) (numbers_by ns fs (omega arith))
+
+-- the numbers of memory that is made of spans rise
+pub numbers_rise : (ns : List ℕ) (fs : List (List ℕ)) (ss : List SpanPartBytes) → AreSpans ss → length ns ≡ length fs → pages_by ns fs ≡ pages_of_spans ss → IsRising ns
+numbers_rise ns fs ss h same e =
+    let is : numbers_of (pages_of_spans ss) ≡ ns = ap numbers_of (sym e) ∙ numbers_by ns fs same in
+    subst (λ ks. IsRising ks) is (rising_from 0 (numbers_of (pages_of_spans ss)) (spans_rising ss 0 h (λ i d l. omega arith)))
+
+-- ---- a loop that takes spans from the front
+
+pub span_small : (rest next : List SpanPartBytes) (s : SpanPartBytes) (bytes : List ℕ) → AreSpans rest → rest ≡ s ∷ next → bytes ≡ s.bytes → s.place / 4096 + length bytes < 2 ^ 64
+span_small rest next s bytes h step is =
+    let here : IsSpan s = (subst AreSpans step h).each 0 s (omega arith) in
+    let low = here.low in
+    rw is (omega (arith, low))
+
+pub spans_after : (rest next : List SpanPartBytes) (s : SpanPartBytes) → AreSpans rest → rest ≡ s ∷ next → AreSpans next
+spans_after rest next s h step = later_spans s next (subst AreSpans step h)
+
+pub spans_turn : (before after all : List Page) (rest next : List SpanPartBytes) (s : SpanPartBytes) (bytes : List ℕ) → before ++ pages_of_spans rest ≡ all → rest ≡ s ∷ next → after ≡ before ++ pages_in (length bytes / 4096) (s.place / 4096) bytes → bytes ≡ s.bytes → after ++ pages_of_spans next ≡ all
+spans_turn before after all rest next s bytes was step added is =
+    let part : List ℕ → List Page = λ bs. pages_in (length bs / 4096) (s.place / 4096) bs in
+    ap (λ ps. ps ++ pages_of_spans next) (added ∙ ap (λ bs. before ++ part bs) is)
+    ∙ (append_assoc before (part s.bytes) (pages_of_spans next) ∙ (ap (λ ss. before ++ pages_of_spans ss) (sym step) ∙ was))
+
+pub spans_done : (ps all : List Page) (rest : List SpanPartBytes) → ps ++ pages_of_spans rest ≡ all → length rest ≡ 0 → ps ≡ all
+spans_done ps all [] h e = sym (append-nil ps) ∙ h
+spans_done ps all (s ∷ rest) h e = absurd (omega arith)
+
+-- ---- two spans
+
+ends_apart : (a b : SpanPartBytes) → end_of a ≤ b.place → AreApart (a ∷ b ∷ [])
+ends_apart a b h i zero d l m = absurd (omega arith)
+ends_apart a b h zero (suc zero) d l m = h
+ends_apart a b h (suc i) (suc zero) d l m = absurd (omega arith)
+ends_apart a b h i (suc (suc j)) d l m = absurd (omega arith)
+
+pub two_spans : (ss : List SpanPartBytes) (a b : SpanPartBytes) → ss ≡ a ∷ b ∷ [] → IsSpan a → IsSpan b → end_of a ≤ b.place → AreSpans ss
+two_spans ss a b e first second apart =
+    rw e (record {
+      each = All-cons IsSpan a (b ∷ []) first (All-cons IsSpan b [] second (All-nil IsSpan));
+      apart = ends_apart a b apart;
+    })

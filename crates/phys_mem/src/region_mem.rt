@@ -1,0 +1,108 @@
+//! Memory that is made of spans.
+ghost use Rattle.std.specs.Prelude.{◌≡◌, MatchOption, length, vec_len};
+ghost use Rattle.phys_mem.specs.Frames.{pages_by, IsRising, NoneBelow, IsFirst};
+
+use crate::little_endian::{number_of, spell};
+use crate::memory::{PAGE_BYTES, PhysMem};
+use crate::spans::{SpanPartBytes, add_pages};
+use muen_num::limits::PAGE;
+use muen_num::{NoMemory, Size};
+use std::alloc::Global;
+
+/// Memory that is made of spans of pages. A page is found by a binary search over the pages' numbers.
+#[derive(Drop)]
+pub struct RegionMem {
+    numbers: Vec<u64>,
+    frames: Vec<[u8; PAGE_BYTES]>,
+    ghost paired: { vec_len numbers ≡ vec_len frames },
+    ghost rising: { IsRising numbers.items },
+}
+
+// The place of a number among numbers that rise.
+fn find(numbers: &[u64], number: u64) -> Option<usize>
+    requires { IsRising numbers.now }
+    ensures { MatchOption result (NoneBelow numbers.now number (length numbers.now)) (IsFirst numbers.now number) }
+{
+    match numbers.binary_search(&number) {
+        Ok(i) => Some(i),
+        Err(_) => None,
+    }
+}
+
+impl RegionMem {
+    ghost use Rattle.std.specs.Prelude.{MatchOption, IfOk};
+    ghost use Rattle.phys_mem.specs.Found.{pages_kept, IsAt, IsNowhere};
+    ghost use Rattle.phys_mem.specs.Spans.{AreSpans, pages_of_spans};
+
+    /// Memory that has these spans and nothing else. They are made of whole pages, ascend, share no
+    /// byte, and end at 2^40 or before it.
+    ///
+    /// # Errors
+    /// Memory is refused.
+    pub fn start(alloc: Global, spans: Vec<SpanPartBytes>) -> Result<RegionMem, NoMemory>
+        requires { AreSpans spans.items }
+        ensures { IfOk result (λ m. pages_kept m ≡ pages_of_spans spans.items) }
+    {
+        let mut numbers = Vec::new(alloc);
+        let mut frames = Vec::new(alloc);
+        for span in spans {
+            add_pages(
+                &mut numbers,
+                &mut frames,
+                span.place / PAGE,
+                span.bytes.items(),
+            )?;
+        }
+        Ok(RegionMem { numbers, frames })
+    }
+
+    // Where the page of this number is kept.
+    fn find_page(&self, number: u64) -> Option<usize>
+        ensures { MatchOption result (IsNowhere self.now number) (IsAt self.now number) }
+    {
+        find(&self.numbers, number)
+    }
+}
+
+impl PhysMem for RegionMem {
+    ghost use Rattle.phys_mem.specs.Found.{pages_kept};
+
+    ghost pages = { pages_kept };
+
+    fn load(&self, at: u64, size: Size) -> Option<u64> {
+        match self.find_page(at / PAGE) {
+            None => None,
+            Some(i) => {
+                let page = &self.frames[i];
+                let from = (at % PAGE) as usize;
+                Some(number_of(&page[from..from + size.bytes() as usize]))
+            }
+        }
+    }
+
+    fn store(&mut self, at: u64, size: Size, value: u64) -> bool {
+        match self.find_page(at / PAGE) {
+            None => false,
+            Some(i) => {
+                let page = &mut self.frames[i];
+                let from = (at % PAGE) as usize;
+                spell(value, &mut page[from..from + size.bytes() as usize]);
+                true
+            }
+        }
+    }
+
+    fn page(&self, at: u64) -> Option<&[u8]> {
+        match self.find_page(at / PAGE) {
+            None => None,
+            Some(i) => Some(self.frames[i].as_slice()),
+        }
+    }
+
+    fn page_mut(&mut self, at: u64) -> Option<&mut [u8; PAGE_BYTES]> {
+        match self.find_page(at / PAGE) {
+            None => None,
+            Some(i) => self.frames.get_mut(i),
+        }
+    }
+}
