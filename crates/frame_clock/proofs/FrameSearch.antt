@@ -4,12 +4,12 @@ use Rattle.std.specs.Prelude.{slice_get}
 use Rattle.std.specs.List.{list_all, flat_map}
 use Rattle.std.proofs.lemmas.Bool.{and_parts}
 use Rattle.std.proofs.lemmas.List.{get_or_default}
-use Rattle.image_pack.specs.Plan.{frame_of, is_major}
-use Rattle.image_pack.specs.Slot.{Slot, frame_slots, slots_from}
-use Rattle.image_pack.specs.declared.plan.GroupPart.{GroupPart}
-use Rattle.image_pack.specs.declared.plan.Minor.{Minor}
-use Rattle.image_pack.specs.declared.plan.Major.{Major}
-use Rattle.image_pack.proofs.SlotLaws.{frame_slot, first_frame, later_frame, frames_at, ticks_of, first_major, later_major}
+use Rattle.image_plan.specs.Plan.{frame_of, is_major}
+use Rattle.image_plan.specs.Slot.{Slot, frame_slots, slots_from}
+use Rattle.image_plan.specs.declared.plan.GroupPart.{GroupPart}
+use Rattle.image_plan.specs.declared.plan.Minor.{Minor}
+use Rattle.image_plan.specs.declared.plan.Major.{Major}
+use Rattle.image_plan.proofs.SlotLaws.{frame_slot, first_frame, later_frame, frames_at, ticks_of, first_major, later_major}
 
 -- an element, and those behind it
 left_from : {X : Type 0} (xs : List X) (i : ℕ) (d : X) → i < length xs → drop i xs ≡ get_or xs i d ∷ drop (i + 1) xs

@@ -6,11 +6,11 @@
 
 ghost use Rattle.std.specs.Prelude.{◌≡◌, ◌<◌, ◌≤◌, ◌%◌, Some, true, length, map, slice_get, sum_by};
 ghost use Rattle.std.specs.List.{flat_map};
-ghost use Rattle.image_pack.specs.Plan.{frame_of, frames_in, cpus_of, is_group_on, is_plan};
-ghost use Rattle.image_pack.specs.Slot.{frame_slots, slots_from, slot_at};
+ghost use Rattle.image_plan.specs.Plan.{frame_of, frames_in, cpus_of, is_group_on, is_plan};
+ghost use Rattle.image_plan.specs.Slot.{frame_slots, slots_from, slot_at};
 ghost use Rattle.frame_clock.specs.FrameSlot.{slot_of};
 
-use image_pack::{Major, Minor, Plan};
+use image_plan::{Major, Minor, Plan};
 use muen_num::limits::MOST_MAJOR_FRAMES;
 
 /// The frame of a CPU at a tick.

@@ -1,9 +1,9 @@
 //! Two CPUs over three rounds of a plan, against slots that were worked out by hand.
 ghost use Rattle.std.specs.Prelude.{◌≡◌, [], ◌∷◌, IfOk, true};
-ghost use Rattle.image_pack.specs.Plan.{cpus_of, is_plan};
+ghost use Rattle.image_plan.specs.Plan.{cpus_of, is_plan};
 
 use crate::{FrameSlot, slot};
-use image_pack::{GroupPart, Major, Minor, Plan};
+use image_plan::{GroupPart, Major, Minor, Plan};
 use muen_num::Seq;
 use std::alloc::{AllocError, Global};
 use std::test::Fail;

@@ -1,3 +1,3 @@
-mod Examples
-pub mod ByNumber
-pub mod SlotLaws
+pub mod CodeLaws
+pub mod ImageLaws
+pub mod SeenNumbers

@@ -1,2 +1,3 @@
-pub mod Plan
-pub mod Slot
+pub mod Codes
+pub mod Image
+pub mod Parts

@@ -1,8 +1,26 @@
-//! The parts of a system image: for now the scheduling plan.
+//! The image of a system: its parts, their bytes, and the way back.
 //!
-//! The frame slot of a CPU at a tick is defined in specs/.
+//! The format is stated once, as a form of bytes (specs/Image.antt). Reading, spelling, the
+//! conditions and the first fault come of it.
 #![tactic(auto)]
 
-pub mod plan;
+mod codes;
+mod image;
+mod items;
+mod outline;
+mod parts;
+mod reading;
+mod writing;
 
-pub use plan::{GroupPart, Major, Minor, Plan};
+pub use image::{Parts, first_fault, one_to_one, pack, unpack};
+pub use image_form::{Field, ImageFault};
+pub use image_plan::{GroupPart, Major, Minor, Plan};
+pub use items::{Item, items_of, put_items};
+pub use outline::{Header, Outline};
+pub use parts::{
+    DevicePart, EventPart, Image, IrqPart, IrqTarget, PortSpan, SpanKind, SpanPart, SubjectPart,
+    WindowPart,
+};
+
+#[cfg(test)]
+mod tests;

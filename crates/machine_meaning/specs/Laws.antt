@@ -1,9 +1,11 @@
 -- Laws of memory and of the walk. None has a premise on how long pages are, on their order, or on which are there, but where it
 -- says so.
-use Rattle.std.specs.Prelude.{◌≡◌, ◌≢◌, ◌⊎◌, ℕ, ◌+◌, ◌*◌, ◌/◌, ◌%◌, ◌^◌, ◌≤◌, List, length, Some, None, option_map}
+use Rattle.std.specs.Prelude.{◌≡◌, ◌≢◌, ◌⊎◌, ℕ, ◌+◌, ◌*◌, ◌/◌, ◌%◌, ◌^◌, ◌≤◌, List, ◌++◌, length, Some, None, option_map}
 use Rattle.std.specs.List.{All}
 use Rattle.muen_num.specs.declared.access.Kind.{Kind}
-use Rattle.machine_meaning.specs.Memory.{Page, page_of, is_there, change, load_of, store_of}
+use Rattle.machine_meaning.specs.Exits.{AreaEntry, entry_bytes, area_bytes, area_index, area_value}
+use Rattle.machine_meaning.specs.Memory.{Page, page_of, is_there, change, write, load_of, store_of}
+use Rattle.machine_meaning.specs.Overwritten.{overwritten}
 use Rattle.machine_meaning.specs.Walks.{walk_of, places_read, leaf_size}
 use Rattle.machine_meaning.specs.Same.{SameOutside, SameEntries}
 
@@ -50,6 +52,21 @@ TheStoredIsLoaded =
 abbrev pub LengthsStay : Type 0
 LengthsStay =
     (m : List Page) (at n v k : ℕ) → option_map length (page_of (store_of m at n v) k) ≡ option_map length (page_of m k)
+
+-- a write overwrites its page
+abbrev pub StoresOverwrite : Type 0
+StoresOverwrite =
+    (m : List Page) (at : ℕ) (bytes : List ℕ) → write m at bytes ≡ change m (at / 4096) (overwritten (at % 4096) bytes)
+
+-- ---- areas of MSRs
+
+-- an entry among others, and whatever follows them: its index is read back modulo 2 ^ 32, and its value modulo 2 ^ 64
+pub record ReadsBack (before : List AreaEntry) (e : AreaEntry) (after : List ℕ) : Type 0 where
+  pub index : area_index (area_bytes before ++ (entry_bytes e ++ after)) (length before) ≡ e.index % 2 ^ 32
+  pub value : area_value (area_bytes before ++ (entry_bytes e ++ after)) (length before) ≡ e.value % 2 ^ 64
+
+abbrev pub AreasAreReadBack : Type 0
+AreasAreReadBack = (before : List AreaEntry) (e : AreaEntry) (after : List ℕ) → ReadsBack before e after
 
 -- ---- walks
 

@@ -1,4 +1,6 @@
 pub mod Exits
+pub mod Overwritten
+pub mod Pending
 pub mod Memory
 pub mod Walks
 pub mod Same

@@ -232,14 +232,14 @@ fn answers(rt: HostRuntime) -> Result<(), Fail> {
             &["boot", "p", "late"],
             6,
             b"",
-            b"muen: record refused at line 1: not yet built\n",
+            b"muen: record refused at line 1: range\n",
         ),
         // One name twice: the file is read once, and isn't a record.
         (
             &["boot", "p", "p"],
             6,
             b"",
-            b"muen: record refused at line 1: not yet built\n",
+            b"muen: record refused at line 1: word\n",
         ),
         (&["boot", "broken", "nothing"], 2, b"", b"muen: not JSON\n"),
         (

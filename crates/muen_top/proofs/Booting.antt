@@ -2,7 +2,7 @@
 use Rattle.std.proofs.Common.{◌≡◌, inl, inr, ℕ, ◌≤◌, List, [], ◌∷◌, Option, Some, None, Result, Ok, Err, IfSome, refl, sym, ap, subst, ◌∙◌, arith}
 use Rattle.std.specs.Prelude.{true, option_map}
 use Rattle.std.specs.FinMap.{get}
-use Rattle.muen_num.specs.Answers.{Explains}
+use Rattle.muen_num.specs.Answers.{Answers, Explains}
 use Rattle.muen_num.specs.declared.limits.TheConstants.{POLICY_MOST, RECORD_MOST}
 use Rattle.muen_build.specs.Accepting.{Accepts, Ends, Files, Grows, RefusedFor, RefusesDocument, looks_of}
 use Rattle.muen_build.specs.Looks.{Explained, Follows, Look, Saw, Seen, document_look, look}
@@ -18,16 +18,18 @@ use Rattle.policy_meaning.specs.Contents.{Held, no_files}
 use Rattle.policy_types.specs.declared.refusal.Refusal.{Refusal}
 use Rattle.policy_types.specs.declared.refusal.Refusal.TheVariants.{NotJson, Shape, Rule, Missing as MissingFile, TooLong as TooLongFile, FileFit, NoRoom, NoMemory as NoMemoryFor}
 use Rattle.policy_types.specs.declared.source.Source.{Source}
-use Rattle.subject_model.specs.DeviceRecord.{DeviceRecord}
+use Rattle.record_text.specs.DeviceRecord.{DeviceRecord}
 use Rattle.subject_model.specs.Run.{trace_of}
-use Rattle.window_machine.specs.Start.{CanLoad}
+use Rattle.window_machine.specs.Start.{CanLoad, IsPlain}
 use Rattle.muen_top.specs.Answers.{Answer, prints, stops, missing, too_long, record_refused, of_file, carried_answer, policy_answer, run_answer, boot_answer}
 use Rattle.muen_top.specs.Calls.{ComesOf, Came}
 use Rattle.muen_top.specs.Commands.{Command, boot}
 use Rattle.muen_top.specs.FilesSeen.{SawToo, ShownBoth}
 use Rattle.muen_top.specs.Lacking.{lack_refusal, lacking}
-use Rattle.muen_top.specs.Loads.{NotRead, NotReadToo, Ready, NotReady}
-use Rattle.muen_top.specs.RecordText.{record_of}
+use Rattle.muen_top.specs.Loads.{IsReady, NotRead, NotReadToo, Ready, NotReady}
+use Rattle.record_text.specs.Reading.{record_of}
+use Rattle.subject_model.specs.Bench.{devices_of}
+use Rattle.muen_top.specs.Records.{IsRun}
 use Rattle.muen_top.specs.Reports.{refusal_status}
 use Rattle.muen_top.specs.Runs.{RunsTo}
 use Rattle.muen_top.specs.Stops.{stop_of_end, stop_of_refusal, stop_of_fault}
@@ -36,8 +38,8 @@ use Rattle.muen_top.specs.declared.outcome.Outcome.{Outcome}
 use Rattle.muen_top.specs.declared.outcome.Outcome.TheVariants.{Done, Stopped, OutputFault}
 use Rattle.muen_top.specs.declared.outcome.Stop.{Stop}
 use Rattle.muen_top.specs.declared.outcome.Stop.TheVariants.{Usage, Missing, TooLong, Refused, RecordRefused, FileFault, NoMemory}
-use Rattle.muen_top.specs.declared.record_text.RecordFault.{RecordFault}
-use Rattle.muen_top.specs.declared.record_text.RecordFault.TheVariants.{NoMemory as NoMemoryForRecord}
+use Rattle.record_text.specs.declared.fault.RecordFault.{RecordFault}
+use Rattle.record_text.specs.declared.fault.RecordFault.TheVariants.{NoMemory as NoMemoryForRecord}
 use Rattle.muen_top.proofs.FilesSeen.{shown_both}
 use Rattle.muen_top.proofs.NothingLacking.{can_load, same_contents}
 
@@ -54,9 +56,9 @@ module _ (files : Store) (policy name : List ℕ) where
   by_lack : (bytes : List ℕ) (p : Source) (lack : Option Lack) → reading_of (get files policy) POLICY_MOST ≡ whole bytes → accepted_policy_of files bytes ≡ Ok p → lacking p ≡ lack → boot_answer files policy name ≡ carried_answer files p name lack
   by_lack bytes p lack is eq found = by_document bytes (Ok p) is eq ∙ ap (carried_answer files p name) found
 
-  by_record : (bytes : List ℕ) (p : Source) (reading : Reading) → reading_of (get files policy) POLICY_MOST ≡ whole bytes → accepted_policy_of files bytes ≡ Ok p → lacking p ≡ None → reading_of (get files name) RECORD_MOST ≡ reading → boot_answer files policy name ≡ of_file name (λ bytes. run_answer files p (record_of bytes)) reading
+  by_record : (bytes : List ℕ) (p : Source) (reading : Reading) → reading_of (get files policy) POLICY_MOST ≡ whole bytes → accepted_policy_of files bytes ≡ Ok p → lacking p ≡ None → reading_of (get files name) RECORD_MOST ≡ reading → boot_answer files policy name ≡ of_file name (λ bytes. run_answer files p (record_of bytes (devices_of p))) reading
   by_record bytes p reading is eq none is' =
-      by_lack bytes p None is eq none ∙ ap (of_file name (λ bytes. run_answer files p (record_of bytes))) is'
+      by_lack bytes p None is eq none ∙ ap (of_file name (λ bytes. run_answer files p (record_of bytes (devices_of p)))) is'
 
 -- ---- files that hold what is told
 
@@ -206,7 +208,7 @@ module _ (policy name : List ℕ) (old between : FilesState) (bytes : List ℕ) 
       both : (new : FilesState) (reading : Reading) → SawToo policy bytes name RECORD_MOST reading mid new → Both reading
       both new reading too = shown_both policy name POLICY_MOST RECORD_MOST bytes reading old between mid new widened saw follows_mid too
 
-      after_both : (reading : Reading) (s : Both reading) → boot_answer s.files policy name ≡ of_file name (λ found. run_answer s.files p (record_of found)) reading
+      after_both : (reading : Reading) (s : Both reading) → boot_answer s.files policy name ≡ of_file name (λ found. run_answer s.files p (record_of found (devices_of p))) reading
       after_both reading s = by_record s.files policy name bytes p reading s.shows (always s.files) none s.shows'
 
       -- ---- the record's file
@@ -234,7 +236,7 @@ module _ (policy name : List ℕ) (old between : FilesState) (bytes : List ℕ) 
 
       -- ---- the record
 
-      pub ready : (new : FilesState) (text : List ℕ) (run : DeviceRecord) → SawToo policy bytes name RECORD_MOST (whole text) mid new → record_of text ≡ Ok run → Ready policy name old p run
+      pub ready : (new : FilesState) (text : List ℕ) (run : DeviceRecord) → SawToo policy bytes name RECORD_MOST (whole text) mid new → record_of text (devices_of p) ≡ Ok run → Ready policy name old p run
       ready new text run too read =
           let s = both new (whole text) too in
           record {
@@ -248,8 +250,13 @@ module _ (policy name : List ℕ) (old between : FilesState) (bytes : List ℕ) 
       of_fault new s fault answer stop made =
           subst (NotReady policy name old new) (sym made) (record { files = s.files; told = s.told; stops = answer })
 
-      pub record_refused_so : (new : FilesState) (text : List ℕ) (fault : RecordFault) (stop : Stop) → SawToo policy bytes name RECORD_MOST (whole text) mid new → record_of text ≡ Err fault → stop ≡ stop_of_fault fault → NotReady policy name old new stop
-      record_refused_so new text fault stop too read made =
+      pub ready_so : (new : FilesState) (text : List ℕ) (end : ℕ) → SawToo policy bytes name RECORD_MOST (whole text) mid new → IsRun p (record_of text (devices_of p)) end → IsReady policy name old p end
+      ready_so new text end too r = record { run = r.run; ends = r.ends; plain = r.plain; ready = ready new text r.run too r.is }
+
+      pub record_refused_so : (new : FilesState) (text : List ℕ) (fault : RecordFault) (stop : Stop) → SawToo policy bytes name RECORD_MOST (whole text) mid new → Answers NoMemoryForRecord (record_of text (devices_of p)) (Err fault) → stop ≡ stop_of_fault fault → NotReady policy name old new stop
+      record_refused_so new text fault stop too (inl is) made =
+          subst (NotReady policy name old new) (sym (made ∙ ap stop_of_fault is)) (out_of_memory policy name old new)
+      record_refused_so new text fault stop too (inr read) made =
           let s = both new (whole text) too in
           let answer : boot_answer s.files policy name ≡ stops (record_refused fault) = after_both (whole text) s ∙ ap (run_answer s.files p) read in
           of_fault new s fault answer stop made
@@ -268,8 +275,10 @@ module _ (policy name : List ℕ) (old new : FilesState) (out out' : SinkState) 
   of_run text (Stopped (RecordRefused f)) answer is h = absurd h.0
   of_run text (Stopped FileFault) answer is h = absurd h.0
 
-  pub ran : (p : Source) (run : DeviceRecord) (outcome : Outcome) → Ready policy name old p run → ((files : Held) → RunsTo (trace_of p files run) out out' outcome) → Came (Some (boot policy name)) old new out out' outcome
-  ran p run outcome r h = record { files = r.files; told = r.told; comes = of_run (trace_of p r.files run) outcome (boot_answer r.files policy name) r.answer (h r.files) }
+  pub ran : (p : Source) (end : ℕ) (outcome : Outcome) → IsReady policy name old p end → ((files : Held) (run : DeviceRecord) → IsPlain p run → run.end ≡ end → RunsTo (trace_of p files run) out out' outcome) → Came (Some (boot policy name)) old new out out' outcome
+  ran p end outcome q h =
+      let r = q.ready in
+      record { files = r.files; told = r.told; comes = of_run (trace_of p r.files q.run) outcome (boot_answer r.files policy name) r.answer (h r.files q.run q.plain q.ends) }
 
   pub stopped : (stop : Stop) → NotReady policy name old new stop → out' ≡ out → Came (Some (boot policy name)) old new out out' (Stopped stop)
   stopped stop r quiet = record { files = r.files; told = r.told; comes = (r.stops, quiet) }

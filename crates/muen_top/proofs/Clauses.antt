@@ -8,10 +8,11 @@ use Rattle.muen_outside.specs.Store.{Store, Reading, whole, absent, long, readin
 use Rattle.policy_types.specs.declared.source.Source.{Source}
 use Rattle.policy_types.specs.declared.refusal.Refusal.{Refusal}
 use Rattle.policy_types.specs.declared.refusal.Refusal.TheVariants.{NotJson, Shape, Rule, Missing as MissingFile, TooLong as TooLongFile, FileFit, NoRoom, NoMemory as NoMemoryFor}
-use Rattle.subject_model.specs.DeviceRecord.{DeviceRecord}
-use Rattle.muen_top.specs.RecordText.{record_of}
+use Rattle.record_text.specs.DeviceRecord.{DeviceRecord}
+use Rattle.record_text.specs.Reading.{record_of}
+use Rattle.subject_model.specs.Bench.{devices_of}
 use Rattle.muen_build.specs.Refusals.{accepted_policy_of, laid_policy_of, lawful_policy_of}
-use Rattle.muen_top.specs.declared.record_text.RecordFault.{RecordFault}
+use Rattle.record_text.specs.declared.fault.RecordFault.{RecordFault}
 use Rattle.muen_top.specs.Answers.{Reason, usage, missing, too_long, refused, record_refused, Answer, prints, stops, of_file, run_answer, carried_answer, policy_answer, boot_answer, map_answer, map_policy_answer, flows_answer, flows_policy_answer, answer_of}
 use Rattle.muen_top.specs.Lacking.{lacking}
 use Rattle.muen_top.specs.declared.lacking.Lack.{Lack}
@@ -140,7 +141,7 @@ no_usage_of_run files p (Err fault) e = cc
 
 no_usage_of_carried : (files : Store) (p : Source) (name : List ℕ) (lack : Option Lack) → carried_answer files p name lack ≡ stops usage → ⊥
 no_usage_of_carried files p name None e =
-    no_usage_of_file name (λ bytes. run_answer files p (record_of bytes)) (reading_of (get files name) RECORD_MOST) (λ bytes h. no_usage_of_run files p (record_of bytes) h) e
+    no_usage_of_file name (λ bytes. run_answer files p (record_of bytes (devices_of p))) (reading_of (get files name) RECORD_MOST) (λ bytes h. no_usage_of_run files p (record_of bytes (devices_of p)) h) e
 no_usage_of_carried files p name (Some lack) e = cc
 
 no_usage_of_policy : (files : Store) (name : List ℕ) (r : Result Source Refusal) → policy_answer files name r ≡ stops usage → ⊥

@@ -8,14 +8,15 @@ use Rattle.muen_outside.specs.Store.{Reading, whole, absent, long, reading_of}
 use Rattle.policy_meaning.specs.Contents.{Held}
 use Rattle.policy_types.specs.declared.refusal.Refusal.{Refusal}
 use Rattle.policy_types.specs.declared.source.Source.{Source}
-use Rattle.subject_model.specs.DeviceRecord.{DeviceRecord}
+use Rattle.record_text.specs.DeviceRecord.{DeviceRecord}
 use Rattle.subject_model.specs.Run.{trace_of}
 use Rattle.muen_top.specs.Commands.{Command, boot, map, flows}
-use Rattle.muen_top.specs.RecordText.{record_of}
+use Rattle.record_text.specs.Reading.{record_of}
+use Rattle.subject_model.specs.Bench.{devices_of}
 use Rattle.muen_build.specs.Refusals.{accepted_policy_of, laid_policy_of, lawful_policy_of}
 use Rattle.muen_top.specs.Lacking.{lack_refusal, lacking}
 use Rattle.muen_top.specs.declared.lacking.Lack.{Lack}
-use Rattle.muen_top.specs.declared.record_text.RecordFault.{RecordFault}
+use Rattle.record_text.specs.declared.fault.RecordFault.{RecordFault}
 
 -- why a command prints nothing
 pub data Reason : Type 0 where
@@ -50,7 +51,7 @@ run_answer files p (Err fault) = stops (record_refused fault)
 
 abbrev pub record_answer : Held → Source → List ℕ → Answer
 record_answer files p name =
-    of_file name (λ bytes. run_answer files p (record_of bytes)) (reading_of (get files name) RECORD_MOST)
+    of_file name (λ bytes. run_answer files p (record_of bytes (devices_of p))) (reading_of (get files name) RECORD_MOST)
 
 abbrev pub carried_answer : Held → Source → List ℕ → Option Lack → Answer
 carried_answer files p name None = record_answer files p name

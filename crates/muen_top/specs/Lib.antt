@@ -7,7 +7,7 @@ pub mod Lacks
 pub mod Loads
 pub mod Parsed
 pub mod PolicyCommands
-pub mod RecordText
+pub mod Records
 pub mod Reports
 pub mod Runs
 pub mod Stops

@@ -4,7 +4,7 @@ use Rattle.muen_outside.specs.Counts.{Rose}
 use Rattle.muen_outside.specs.States.{FilesState}
 use Rattle.muen_outside.specs.Store.{Store, absent, long, whole}
 use Rattle.policy_types.specs.declared.source.Source.{Source}
-use Rattle.subject_model.specs.DeviceRecord.{DeviceRecord}
+use Rattle.record_text.specs.DeviceRecord.{DeviceRecord}
 use Rattle.subject_model.specs.Run.{trace_of}
 use Rattle.muen_top.specs.Answers.{prints, boot_answer}
 use Rattle.muen_top.specs.Calls.{StopsFor}
@@ -13,6 +13,7 @@ use Rattle.muen_build.specs.Looks.{Follows, Saw, document_look}
 use Rattle.muen_num.specs.declared.limits.TheConstants.{POLICY_MOST}
 use Rattle.muen_top.specs.FilesSeen.{SawToo}
 use Rattle.muen_top.specs.Lacking.{lacking}
+use Rattle.window_machine.specs.Start.{IsPlain}
 use Rattle.muen_top.specs.declared.outcome.Stop.{Stop}
 use Rattle.muen_top.specs.declared.outcome.Stop.TheVariants.{Missing, TooLong, FileFault, NoMemory}
 
@@ -39,6 +40,13 @@ pub record Ready (policy name : List ℕ) (old : FilesState) (p : Source) (run :
   pub files : Store
   pub told : IfSome old.held (λ m. files ≡ m)
   pub answer : boot_answer files policy name ≡ prints (trace_of p files run)
+
+-- the same, where the record changes nothing but how long the run is, and the run has so many ticks
+pub record IsReady (policy name : List ℕ) (old : FilesState) (p : Source) (end : ℕ) : Type 0 where
+  pub run : DeviceRecord
+  pub ends : run.end ≡ end
+  pub plain : IsPlain p run
+  pub ready : Ready policy name old p run
 
 -- nothing is printed, as over some files that hold what is told the answer says
 pub record NotReady (policy name : List ℕ) (old new : FilesState) (stop : Stop) : Type 0 where

@@ -6,7 +6,7 @@ use Rattle.policy_types.specs.Refusals.{refusal_text}
 use Rattle.policy_types.specs.declared.refusal.Refusal.{Refusal}
 use Rattle.policy_types.specs.declared.refusal.Refusal.TheVariants.{NotJson, Shape, Rule, Missing as MissingFile, TooLong as TooLongFile, FileFit, NoRoom, NoMemory as NoMemoryFor}
 use Rattle.muen_top.specs.Answers.{Reason, usage, missing, too_long, refused, record_refused, Answer, prints, stops}
-use Rattle.muen_top.specs.RecordText.{record_fault_text}
+use Rattle.record_text.specs.FaultTexts.{record_fault_text}
 use Rattle.muen_top.specs.declared.outcome.Outcome.{Outcome}
 use Rattle.muen_top.specs.declared.outcome.Outcome.TheVariants.{Done, Stopped, OutputFault}
 use Rattle.muen_top.specs.declared.outcome.Stop.{Stop}

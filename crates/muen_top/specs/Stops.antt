@@ -4,8 +4,8 @@ use Rattle.policy_types.specs.Refusals.{is_no_memory}
 use Rattle.policy_types.specs.declared.refusal.Refusal.{Refusal}
 use Rattle.muen_build.specs.declared.accepted.BuildEnd.{BuildEnd}
 use Rattle.muen_build.specs.declared.accepted.BuildEnd.TheVariants.{Refused as RefusedPolicy, FileFault as FaultOfFiles}
-use Rattle.muen_top.specs.declared.record_text.RecordFault.{RecordFault}
-use Rattle.muen_top.specs.declared.record_text.RecordFault.TheVariants.{NoMemory as NoMemoryForRecord}
+use Rattle.record_text.specs.declared.fault.RecordFault.{RecordFault}
+use Rattle.record_text.specs.declared.fault.RecordFault.TheVariants.{NoMemory as NoMemoryForRecord}
 use Rattle.muen_top.specs.declared.outcome.Stop.{Stop}
 use Rattle.muen_top.specs.declared.outcome.Stop.TheVariants.{Refused, RecordRefused, FileFault, NoMemory}
 

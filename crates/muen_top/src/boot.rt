@@ -4,28 +4,31 @@ ghost use Rattle.muen_outside.specs.Puts.{Puts};
 ghost use Rattle.muen_outside.specs.Store.{whole};
 ghost use Rattle.policy_lawful.specs.Resolution.{source_of};
 ghost use Rattle.policy_meaning.specs.Contents.{Held};
-ghost use Rattle.subject_model.specs.DeviceRecord.{only_ticks};
+ghost use Rattle.record_text.specs.Bench.{bench_of};
+ghost use Rattle.record_text.specs.DeviceRecord.{DeviceRecord};
+ghost use Rattle.record_text.specs.Reading.{record_of};
+ghost use Rattle.subject_model.specs.Bench.{devices_of};
 ghost use Rattle.subject_model.specs.Run.{trace_of};
-ghost use Rattle.window_machine.specs.Start.{CanLoad};
+ghost use Rattle.window_machine.specs.Start.{CanLoad, IsPlain};
 ghost use Rattle.muen_top.specs.Calls.{Came};
 ghost use Rattle.muen_top.specs.Commands.{boot};
 ghost use Rattle.muen_top.specs.Lacking.{lacking};
 ghost use Rattle.muen_top.specs.Lacks.{Carries};
 ghost use Rattle.muen_build.specs.Looks.{Follows, Saw};
 ghost use Rattle.muen_top.specs.FilesSeen.{SawToo};
-ghost use Rattle.muen_top.specs.Loads.{IsCarried, NotCarried, NotRead, NotReadToo, NotReady, Ready};
+ghost use Rattle.muen_top.specs.Loads.{IsCarried, IsReady, NotCarried, NotRead, NotReadToo, NotReady};
+ghost use Rattle.muen_top.specs.Records.{Lasts};
 ghost use Rattle.muen_top.specs.Runs.{RunsTo};
 
 use crate::lacking::carried;
 use crate::outcome::{Outcome, Stop};
-use crate::record_text;
-use crate::record_text::Record;
 use muen_build::Accepted;
 use muen_num::Seq;
 use muen_num::limits::{POLICY_MOST, RECORD_MOST};
 use muen_outside::{Buffer, FileEnd, Files, Found, Sink, SinkFault};
 use policy_lawful::Lawful;
 use policy_types::Refusal;
+use record_text::{Devices, RecordFault};
 use region_alloc::Placed;
 use std::alloc::Global;
 use window_machine::print_run;
@@ -97,7 +100,28 @@ fn accept_carried<'a, F: Files>(
 #[derive(Drop)]
 struct Booted {
     accepted: Accepted,
-    run: Record,
+    end: u32,
+}
+
+// What a record may name of a policy without devices.
+#[tactic(auto, unfolding(policy_lawful::specs::Resolution::source_of))]
+fn devices_of(alloc: Global, policy: &Lawful) -> Devices
+    requires { CanLoad (source_of policy.now) }
+    ensures { bench_of result ≡ devices_of (source_of policy.now) }
+{
+    Devices {
+        cpus: policy.resolved().processor().logical_cpus as u8,
+        devices: Seq::new(alloc),
+    }
+}
+
+// How many ticks the run of a policy has that the machine can load, on a record of these bytes.
+fn ticks_of(alloc: Global, policy: &Lawful, bytes: &[u8]) -> Result<u32, RecordFault>
+    requires { CanLoad (source_of policy.now) }
+    ensures { Lasts (source_of policy.now) (record_of bytes.now (devices_of (source_of policy.now))) result }
+{
+    let run = record_text::read(alloc, bytes, &devices_of(alloc, policy))?;
+    Ok(run.end)
 }
 
 // The policy and the record of these files.
@@ -107,7 +131,7 @@ fn read_both<'a, F: Files>(
     inputs: &'a str,
     files: &mut F,
 ) -> Result<Booted, Stop<'a>>
-    ensures ok { IfOk result (λ b. Ready policy.now inputs.now (F.state files.old) (source_of b.accepted.placed.plain.lawful) (only_ticks b.run.end)) }
+    ensures ok { IfOk result (λ b. IsReady policy.now inputs.now (F.state files.old) (source_of b.accepted.placed.plain.lawful) b.end) }
     ensures loads { IfOk result (λ b. CanLoad (source_of b.accepted.placed.plain.lawful)) }
     ensures err { IfErr result (NotReady policy.now inputs.now (F.state files.old) (F.state files.new)) }
     ensures follows { Follows (F.state files.old) (F.state files.new) }
@@ -115,14 +139,14 @@ fn read_both<'a, F: Files>(
     let bytes = load(alloc, policy, POLICY_MOST, files)?;
     let accepted = accept_carried(alloc, policy, bytes.items(), files)?;
     let bytes = load_too(alloc, policy, bytes, inputs, RECORD_MOST, files)?;
-    let run = record_text::read(bytes.items())?;
-    Ok(Booted { accepted, run })
+    let end = ticks_of(alloc, accepted.placed.plain().lawful(), bytes.items())?;
+    Ok(Booted { accepted, end })
 }
 
 // Runs a policy that is accepted.
-fn run_policy<'a, S: Sink>(alloc: Global, policy: &Lawful, run: Record, out: &mut S) -> Outcome<'a>
+fn run_policy<'a, S: Sink>(alloc: Global, policy: &Lawful, end: u32, out: &mut S) -> Outcome<'a>
     requires { CanLoad (source_of policy.now) }
-    ensures { (files : Held) → RunsTo (trace_of (source_of policy.now) files (only_ticks run.end)) (S.state out.old) (S.state out.new) result }
+    ensures { (files : Held) (run : DeviceRecord) → IsPlain (source_of policy.now) run → run.end ≡ end → RunsTo (trace_of (source_of policy.now) files run) (S.state out.old) (S.state out.new) result }
 {
     let mut machine = match window_machine::load(alloc, policy) {
         Ok(machine) => machine,
@@ -132,7 +156,7 @@ fn run_policy<'a, S: Sink>(alloc: Global, policy: &Lawful, run: Record, out: &mu
         Ok(buffer) => buffer,
         Err(_) => return Outcome::Stopped(Stop::NoMemory),
     };
-    match print_run(&mut machine, run.end, &mut buffer, out) {
+    match print_run(&mut machine, end, &mut buffer, out) {
         Ok(()) => Outcome::Done,
         Err(SinkFault) => Outcome::OutputFault,
     }
@@ -153,7 +177,7 @@ pub(crate) fn boot<'a, F: Files, S: Sink>(
         Ok(booted) => run_policy(
             alloc,
             booted.accepted.placed.plain().lawful(),
-            booted.run,
+            booted.end,
             out,
         ),
         Err(stop) => Outcome::Stopped(stop),

@@ -17,7 +17,6 @@ mod command;
 pub mod lacking;
 mod outcome;
 mod policy_commands;
-pub mod record_text;
 mod report;
 
 use muen_outside::{Files, Sink};

@@ -2,9 +2,9 @@
 ghost use Rattle.std.specs.Prelude.{◌≡◌};
 ghost use Rattle.muen_top.specs.Stops.{stop_of_refusal, stop_of_fault};
 
-use crate::record_text::RecordFault;
 use muen_build::BuildEnd;
 use policy_types::Refusal;
+use record_text::RecordFault;
 
 /// Why nothing was printed.
 #[derive(Debug, Drop)]

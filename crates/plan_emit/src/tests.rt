@@ -4,7 +4,7 @@ ghost use Rattle.std.specs.Prelude.{◌≡◌};
 
 use crate::frames::major_parts;
 use crate::groups::group_parts;
-use image_pack::{GroupPart, Minor};
+use image_plan::{GroupPart, Minor};
 use muen_num::{Name, Seq};
 use policy_lawful::resolved::{CpuFrames, Group, MajorFrame, MinorFrame};
 use std::test::Fail;

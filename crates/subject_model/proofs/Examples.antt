@@ -2,7 +2,7 @@
 use Rattle.std.proofs.Common.{◌≡◌, ℕ, List, [], ◌∷◌, Some, None, refl}
 use Rattle.std.specs.Prelude.{codes, replicate}
 use Rattle.std.specs.FinMap.{from_entries}
-use Rattle.image_pack.specs.Slot.{slot_at}
+use Rattle.image_plan.specs.Slot.{slot_at}
 use Rattle.muen_num.specs.declared.mode.Mode.TheVariants.{Switch}
 use Rattle.policy_meaning.specs.Contents.{Held, initial_bytes}
 use Rattle.policy_meaning.specs.Frames.{frames_of}
@@ -20,7 +20,7 @@ use Rattle.policy_types.specs.declared.source.EventTarget.{EventTarget}
 use Rattle.policy_types.specs.declared.source.SourceWay.TheVariants.{Trap as ByTrap}
 use Rattle.subject_state.specs.States.{started}
 use Rattle.guest_isa.specs.GuestIsa.{decode_of}
-use Rattle.subject_model.specs.DeviceRecord.{only_ticks}
+use Rattle.record_text.specs.Reading.{nothing_until}
 use Rattle.subject_model.specs.Solo.{own_of, solo_turn}
 use Rattle.subject_model.specs.System.{start_of, inbox_of, system_turn}
 use Rattle.subject_model.specs.Run.{run_to}
@@ -83,15 +83,15 @@ nothing : Held
 nothing = from_entries []
 
 -- the first subject traps, then the second runs, and then leaves its window
-handover : (run_to two nothing (only_ticks 3) 3).lines ≡ record { tick = 0; cpu = 0; subject = codes "a"; pc = 4096; what = Exit 0 0 0 Trap } ∷ record { tick = 1; cpu = 0; subject = codes "b"; pc = 4096; what = Ran } ∷ record { tick = 2; cpu = 0; subject = codes "b"; pc = 4104; what = Exit 48 4 4104 Stop } ∷ []
+handover : (run_to two nothing (nothing_until 3) 3).lines ≡ record { tick = 0; cpu = 0; subject = codes "a"; pc = 4096; what = Exit 0 0 0 Trap } ∷ record { tick = 1; cpu = 0; subject = codes "b"; pc = 4096; what = Ran } ∷ record { tick = 2; cpu = 0; subject = codes "b"; pc = 4104; what = Exit 48 4 4104 Stop } ∷ []
 unfolding two subject code nothing has start_of things_of initial_bytes started system_turn slot_at frames_of own_of windows_of inbox_of solo_turn decode_of event_of
 handover = refl
 
 -- its vector stays pending, for it doesn't let events in
-pending_after : (run_to two nothing (only_ticks 3) 3).system.now ≡ (codes "a", []) ∷ (codes "b", 40 ∷ []) ∷ []
+pending_after : (run_to two nothing (nothing_until 3) 3).system.now ≡ (codes "a", []) ∷ (codes "b", 40 ∷ []) ∷ []
 unfolding two subject code nothing has start_of things_of initial_bytes started system_turn slot_at frames_of own_of windows_of inbox_of solo_turn decode_of event_of
 pending_after = refl
 
-active_after : (run_to two nothing (only_ticks 3) 3).system.active ≡ codes "b" ∷ []
+active_after : (run_to two nothing (nothing_until 3) 3).system.active ≡ codes "b" ∷ []
 unfolding two subject code nothing has start_of things_of initial_bytes started system_turn slot_at frames_of own_of windows_of inbox_of solo_turn decode_of event_of
 active_after = refl

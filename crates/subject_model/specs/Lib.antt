@@ -1,4 +1,4 @@
-pub mod DeviceRecord
+pub mod Bench
 pub mod Flows
 pub mod Run
 pub mod Solo

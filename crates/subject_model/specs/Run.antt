@@ -7,14 +7,15 @@ use Rattle.muen_num.specs.Range.{numbers_below}
 use Rattle.muen_num.specs.declared.tag.Tag.{Tag}
 use Rattle.muen_num.specs.declared.tag.Part.TheVariants.{Whole, Named as NamedPart, State as StatePart}
 use Rattle.policy_meaning.specs.Thing.{Thing, region, channel, provided, device_memory, state, same_thing}
+use Rattle.machine_meaning.specs.Overwritten.{overwritten}
 use Rattle.policy_meaning.specs.Contents.{Held}
 use Rattle.policy_meaning.specs.Events.{Target, irq_of}
 use Rattle.policy_types.specs.declared.source.Source.{Source}
 use Rattle.policy_types.specs.declared.source.Subject.{Subject}
-use Rattle.subject_model.specs.DeviceRecord.{Input, port_input, memory_input, irq_input, DeviceRecord}
+use Rattle.record_text.specs.DeviceRecord.{NamedInput, port_input, memory_input, irq_input, dma_input, DeviceRecord}
 use Rattle.subject_state.specs.States.{started}
 use Rattle.view_text.specs.ViewText.{turn_text, state_text, region_text}
-use Rattle.subject_model.specs.System.{System, named, change_first, overwritten, pends_now, start_of, system_turn}
+use Rattle.subject_model.specs.System.{System, named, change_first, pends_now, start_of, system_turn}
 use Rattle.subject_state.specs.declared.SubjectState.{SubjectState}
 use Rattle.view_text.specs.declared.Line.{Line}
 
@@ -24,14 +25,16 @@ abbrev pub irq_reaches : Option Target → System → System
 irq_reaches None y = y
 irq_reaches (Some t) y = pends_now t y
 
--- an input is applied; what ports hold isn't read by any instruction that is built
-abbrev pub applied : Source → Input → System → System
+-- an input is applied; what ports hold isn't read by any instruction that is built, and no table lets a device reach memory
+-- by itself
+abbrev pub applied : Source → NamedInput → System → System
 applied p (port_input device port value) y = y
 applied p (memory_input device memory offset bytes) y =
     record y { things = change_first (λ e. same_thing e.0 (device_memory device memory)) (λ e. (e.0, overwritten offset bytes e.1)) y.things }
 applied p (irq_input device irq) y = irq_reaches (irq_of p device irq) y
+applied p (dma_input device addr bytes) y = y
 
-abbrev pub all_applied : Source → ℕ → List (ℕ × Input) → System → System
+abbrev pub all_applied : Source → ℕ → List (ℕ × NamedInput) → System → System
 all_applied p tick [] y = y
 all_applied p tick (e ∷ es) y = all_applied p tick es (if e.0 == tick then applied p e.1 y else y)
 

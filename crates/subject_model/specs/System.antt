@@ -1,10 +1,12 @@
 -- The abstract system: each subject with its own state, the things by name, the pending events, and the active member of
 -- each scheduling group. There is no kernel in it, no table and no place.
-use Rattle.std.specs.Prelude.{ℕ, ◌==◌, not, Bool, List, [], ◌∷◌, ◌++◌, map, filter, length, take, drop, slice_get, slice_set, position, Option, Some, None, option_map, option_and_then, if◌then◌else◌}
+use Rattle.std.specs.Prelude.{ℕ, Bool, List, [], ◌∷◌, map, filter, slice_get, slice_set, position, Option, Some, None, option_map, option_and_then, if◌then◌else◌}
 use Rattle.std.specs.Option.{option_map_or}
 use Rattle.std.specs.List.{find, list_any}
 use Rattle.std.specs.Str.{bytes_eq}
-use Rattle.image_pack.specs.Slot.{Slot, slot_at}
+use Rattle.image_plan.specs.Slot.{Slot, slot_at}
+use Rattle.machine_meaning.specs.Overwritten.{overwritten}
+use Rattle.machine_meaning.specs.Pending.{without, with_vector}
 use Rattle.muen_num.specs.declared.mode.Mode.{Mode}
 use Rattle.muen_num.specs.declared.mode.Mode.TheVariants.{Asap, Async, Own as OwnMode, Switch}
 use Rattle.policy_meaning.specs.Thing.{Thing, same_thing, things_of}
@@ -80,22 +82,10 @@ inbox_of p y s first tick = record {
 
 -- ---- what a turn changes
 
--- with these bytes over those from the offset on
-abbrev pub overwritten : ℕ → List ℕ → List ℕ → List ℕ
-overwritten offset new old = take (length old) (take offset old ++ new ++ drop (length (take offset old ++ new)) old)
-
 abbrev pub with_store : Option (Stored Thing) → Things → Things
 with_store None things = things
 with_store (Some w) things =
     change_first (λ e. same_thing e.0 w.thing) (λ e. (e.0, overwritten w.offset w.bytes e.1)) things
-
-abbrev pub without : Option ℕ → List ℕ → List ℕ
-without None vs = vs
-without (Some v) vs = filter (λ w. not (w == v)) vs
-
-abbrev pub with_vector : Option ℕ → List ℕ → List ℕ
-with_vector None vs = vs
-with_vector (Some v) vs = if list_any (λ w. w == v) vs then vs else v ∷ vs
 
 -- the number of the group in which a subject stands
 abbrev pub group_of : Source → List ℕ → Option ℕ

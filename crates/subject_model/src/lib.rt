@@ -6,7 +6,7 @@
 #![tactic(auto)]
 
 ghost use Rattle.std.specs.Prelude.{◌≡◌, ℕ, true, Some, None};
-ghost use Rattle.image_pack.specs.Slot.{Slot, slot_at};
+ghost use Rattle.image_plan.specs.Slot.{Slot, slot_at};
 ghost use Rattle.policy_meaning.specs.Events.{event_of};
 ghost use Rattle.policy_meaning.specs.Frames.{frames_of};
 ghost use Rattle.policy_meaning.specs.Thing.{Thing};

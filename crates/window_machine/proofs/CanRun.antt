@@ -1,6 +1,6 @@
 -- The machine of a lawful policy can run.
 use Rattle.std.proofs.Common.{◌≡◌, ℕ, ◌-◌, ◌%◌, ◌<◌, ◌≤◌, true, List, [], ◌∷◌, length, map, refl, sym, ap, ◌∙◌, arith, length-append}
-use Rattle.std.specs.Prelude.{◌&&◌, nat_le, nat_lt, replicate}
+use Rattle.std.specs.Prelude.{◌&&◌, nat_lt, replicate}
 use Rattle.std.specs.List.{list_all}
 use Rattle.std.proofs.Math.ListN.{get_or-map}
 use Rattle.std.proofs.lemmas.Bool.{and_parts, eqb-true, leb-true, ltb-true}
@@ -14,7 +14,7 @@ use Rattle.policy_lawful.specs.declared.resolved.Mapping.{Mapping}
 use Rattle.policy_types.specs.declared.source.Region.{Region}
 use Rattle.policy_types.specs.declared.source.Content.{Content}
 use Rattle.policy_types.specs.declared.source.Content.TheVariants.{Zero, Fill, Inline, File}
-use Rattle.image_pack.specs.declared.plan.Plan.{Plan}
+use Rattle.image_plan.specs.declared.plan.Plan.{Plan}
 use Rattle.plan_emit.specs.PlanOf.{IsPlanOf}
 use Rattle.window_machine.specs.Machine.{sizes_of, WindowFits, AllFit, GuestsFit, holding_at_start, window_in, guest_at_start, machine_of, CanRun}
 use Rattle.window_machine.specs.Start.{has_fitting_content}

@@ -10,7 +10,7 @@ use Rattle.muen_num.specs.declared.access.Size.TheVariants.{One, Two, Four, Eigh
 use Rattle.policy_meaning.specs.Windows.{Window}
 use Rattle.subject_state.specs.declared.SubjectState.{SubjectState}
 use Rattle.subject_model.specs.Solo.{Stored, Reach, reached, refused, reach_of, store_at, stored_bytes, turn_over}
-use Rattle.subject_model.specs.System.{overwritten}
+use Rattle.machine_meaning.specs.Overwritten.{overwritten}
 use Rattle.subject_model.proofs.Relabelled.{LeadsTo}
 use Rattle.subject_model.proofs.TurnStores.{MayStore, StoresSo, turn_stores}
 use Rattle.window_machine.specs.Machine.{bytes_at, nothing, sizes_of, AllFit, Within, HaveRoom, stored_for, with_stored}

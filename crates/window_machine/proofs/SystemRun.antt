@@ -1,5 +1,5 @@
 -- The run of a lawful policy is the run of its machine, and its text is what the machine prints.
-use Rattle.std.proofs.Common.{◌≡◌, ℕ, zero, suc, ◌<◌, true, List, [], ◌∷◌, ◌++◌, length, map, Option, Some, None, refl, sym, ap, ◌∙◌, subst, arith}
+use Rattle.std.proofs.Common.{◌≡◌, ℕ, zero, suc, ◌<◌, true, false, cond, eqb, List, [], ◌∷◌, ◌++◌, length, map, Option, Some, None, refl, sym, ap, ◌∙◌, subst, arith}
 use Rattle.std.specs.Prelude.{slice_get, option_map, option_to_list, unwrap_or}
 use Rattle.std.specs.Option.{option_map_or}
 use Rattle.std.specs.List.{find, list_all, flat_map, cons_option}
@@ -20,17 +20,18 @@ use Rattle.policy_types.specs.declared.source.Content.{Content}
 use Rattle.policy_types.specs.declared.source.Content.TheVariants.{Zero, Fill, Inline, File}
 use Rattle.muen_num.proofs.Lists.{map-map}
 use Rattle.policy_lawful.proofs.Places.{found_at_place}
-use Rattle.image_pack.specs.declared.plan.Plan.{Plan}
+use Rattle.image_plan.specs.declared.plan.Plan.{Plan}
 use Rattle.plan_emit.specs.PlanOf.{IsPlanOf}
 use Rattle.subject_state.specs.States.{started}
 use Rattle.subject_state.specs.declared.SubjectState.{SubjectState}
 use Rattle.view_text.specs.ViewText.{turn_text}
 use Rattle.view_text.specs.declared.Line.{Line}
-use Rattle.subject_model.specs.DeviceRecord.{only_ticks}
+use Rattle.record_text.specs.DeviceRecord.{DeviceRecord}
+use Rattle.record_text.specs.Plain.{AllOrders}
 use Rattle.subject_model.specs.System.{System, named, start_of}
-use Rattle.subject_model.specs.Run.{Ran, then_line, turns_of, tick_of, after_lines, run_to, run_of, thing_text, subject_text, final_text, trace_of}
+use Rattle.subject_model.specs.Run.{Ran, then_line, turns_of, order_at, all_applied, tick_of, after_lines, run_to, run_of, thing_text, subject_text, final_text, trace_of}
 use Rattle.window_machine.specs.Machine.{GuestState, MachineState, MachineRan, holding_at_start, guest_at_start, machine_of, machine_after, machine_line, machine_run_to, holding_text, guest_text, machine_final_text, machine_text, CanRun}
-use Rattle.window_machine.specs.Start.{has_fitting_content}
+use Rattle.window_machine.specs.Start.{has_fitting_content, IsPlain}
 use Rattle.window_machine.specs.declared.memory.Holding.{Holding}
 use Rattle.window_machine.proofs.CanRun.{can_run}
 use Rattle.window_machine.proofs.Loadable.{IsLoadable, unique_regions, unique_subjects, one_cpu}
@@ -115,9 +116,20 @@ module _ (r : Resolution) (f : IsLoadable r) where
   cons_option-none None = refl
   cons_option-none (Some x) = refl
 
-  tick_is : (m : MachineState) (end tick : ℕ) → IsMachineOf r f m → tick_of (source_of r) (only_ticks end) tick (system_of (source_of r) m) ≡ record { lines = option_to_list (machine_line m tick); system = system_of (source_of r) (machine_after m tick) }
-  tick_is m end tick o =
-      ap (λ n. turns_of (source_of r) tick (numbers_below n) (system_of (source_of r) m)) (one_cpu r f)
+  -- the order of a tick, whether the record gives it or not
+  same_order : (order : List ℕ) (os : List (ℕ × List ℕ)) → AllOrders order os → (tick : ℕ) → option_map_or (λ (e : ℕ × List ℕ). e.1) (find (λ e. eqb e.0 tick) os) order ≡ order
+  same_order order [] h tick = refl
+  same_order order (o ∷ os) h tick =
+      elim (eqb o.0 tick) as (λ b. option_map_or (λ (e : ℕ × List ℕ). e.1) (cond b (Some o) (find (λ e. eqb e.0 tick) os)) order ≡ order) [
+        | true ↦ h.0
+        | false ↦ same_order order os h.1 tick
+      ]
+
+  tick_is : (m : MachineState) (run : DeviceRecord) (tick : ℕ) → IsPlain (source_of r) run → IsMachineOf r f m → tick_of (source_of r) run tick (system_of (source_of r) m) ≡ record { lines = option_to_list (machine_line m tick); system = system_of (source_of r) (machine_after m tick) }
+  tick_is m run tick plain o =
+      ap (λ inputs. turns_of (source_of r) tick (order_at (source_of r) run tick) (all_applied (source_of r) tick inputs (system_of (source_of r) m))) plain.inputs
+      ∙ ap (λ cpus. turns_of (source_of r) tick cpus (system_of (source_of r) m)) (same_order (numbers_below (source_of r).processor.logical_cpus) run.orders plain.orders tick)
+      ∙ ap (λ n. turns_of (source_of r) tick (numbers_below n) (system_of (source_of r) m)) (one_cpu r f)
       ∙ ap (λ t. then_line t.line (record { lines = []; system = t.system })) (turn_is r f m tick o)
       ∙ ap (λ lines. record { lines = lines; system = system_of (source_of r) (machine_after m tick) }) (cons_option-none (machine_line m tick))
 
@@ -128,12 +140,12 @@ module _ (r : Resolution) (f : IsLoadable r) where
   is_machine_of_run m zero o = o
   is_machine_of_run m (suc n) o = stays r f (machine_run_to m n).machine n (is_machine_of_run m n o)
 
-  run_is : (plan : Plan) → IsPlanOf (source_of r) plan → (files : Held) (end n : ℕ) → run_to (source_of r) files (only_ticks end) n ≡ ran_as (machine_run_to (machine_of r plan) n)
-  run_is plan of files end zero = λ i. record { lines = []; system = start_is files plan i }
-  run_is plan of files end (suc n) =
+  run_is : (plan : Plan) → IsPlanOf (source_of r) plan → (files : Held) (run : DeviceRecord) → IsPlain (source_of r) run → (n : ℕ) → run_to (source_of r) files run n ≡ ran_as (machine_run_to (machine_of r plan) n)
+  run_is plan of files run plain zero = λ i. record { lines = []; system = start_is files plan i }
+  run_is plan of files run plain (suc n) =
       let before = machine_run_to (machine_of r plan) n in
-      ap (λ ran. after_lines ran.lines (tick_of (source_of r) (only_ticks end) n ran.system)) (run_is plan of files end n)
-      ∙ ap (after_lines before.lines) (tick_is before.machine end n (is_machine_of_run (machine_of r plan) n (starts plan of)))
+      ap (λ ran. after_lines ran.lines (tick_of (source_of r) run n ran.system)) (run_is plan of files run plain n)
+      ∙ ap (after_lines before.lines) (tick_is before.machine run n plain (is_machine_of_run (machine_of r plan) n (starts plan of)))
 
   -- ---- the text
 
@@ -163,12 +175,12 @@ module _ (r : Resolution) (f : IsLoadable r) where
       λ i. states i ++ digests m.holdings i
 
   -- the text of a run is that of the machine, whatever files hold
-  pub trace_is : (plan : Plan) → IsPlanOf (source_of r) plan → (files : Held) (end : ℕ) → trace_of (source_of r) files (only_ticks end) ≡ machine_text (machine_of r plan) end
+  pub trace_is : (plan : Plan) → IsPlanOf (source_of r) plan → (files : Held) (run : DeviceRecord) → IsPlain (source_of r) run → trace_of (source_of r) files run ≡ machine_text (machine_of r plan) run.end
   unfolding trace_of machine_text run_of
-  trace_is plan of files end =
-      let ran = machine_run_to (machine_of r plan) end in
-      ap (λ x. flat_map turn_text x.lines ++ final_text (source_of r) x.system) (run_is plan of files end end)
-      ∙ ap (λ text. flat_map turn_text ran.lines ++ text) (final_is ran.machine (is_machine_of_run (machine_of r plan) end (starts plan of)))
+  trace_is plan of files run plain =
+      let ran = machine_run_to (machine_of r plan) run.end in
+      ap (λ x. flat_map turn_text x.lines ++ final_text (source_of r) x.system) (run_is plan of files run plain run.end)
+      ∙ ap (λ text. flat_map turn_text ran.lines ++ text) (final_is ran.machine (is_machine_of_run (machine_of r plan) run.end (starts plan of)))
 
 -- ---- a machine that was loaded
 
@@ -181,5 +193,5 @@ machine_is l regions subjects same who plan guests holdings of_guests of_holding
 pub starts_well : (l : Resolution) → IsLoadable l → (plan : Plan) (guests : List GuestState) (holdings : List Holding) → IsPlanOf (source_of l) plan → record { plan = plan; guests = guests; holdings = holdings } ≡ machine_of l plan → CanRun (record { plan = plan; guests = guests; holdings = holdings })
 starts_well l f plan guests holdings of is = subst CanRun (sym is) (can_run l f plan of)
 
-pub prints_so : (l : Resolution) → IsLoadable l → (plan : Plan) (m : MachineState) → IsPlanOf (source_of l) plan → m ≡ machine_of l plan → (files : Held) (end : ℕ) → trace_of (source_of l) files (only_ticks end) ≡ machine_text m end
-prints_so l f plan m of is files end = trace_is l f plan of files end ∙ ap (λ x. machine_text x end) (sym is)
+pub prints_so : (l : Resolution) → IsLoadable l → (plan : Plan) (m : MachineState) → IsPlanOf (source_of l) plan → m ≡ machine_of l plan → (files : Held) (run : DeviceRecord) → IsPlain (source_of l) run → trace_of (source_of l) files run ≡ machine_text m run.end
+prints_so l f plan m of is files run plain = trace_is l f plan of files run plain ∙ ap (λ x. machine_text x run.end) (sym is)

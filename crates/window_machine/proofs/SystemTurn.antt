@@ -29,20 +29,20 @@ use Rattle.policy_lawful.proofs.SourceElements.{many_subjects}
 use Rattle.policy_lawful.proofs.UniqueNames.{names_of_subjects}
 use Rattle.window_machine.proofs.PlainSubjects.{plain}
 use Rattle.window_machine.proofs.WindowsByPlace.{windows_placed}
-use Rattle.image_pack.specs.Plan.{frames_in, cpus_of}
-use Rattle.image_pack.specs.Slot.{Slot, slot_at}
-use Rattle.image_pack.specs.declared.plan.GroupPart.{GroupPart}
-use Rattle.image_pack.specs.declared.plan.Plan.{Plan}
-use Rattle.image_pack.proofs.ByNumber.{passes_at}
-use Rattle.image_pack.proofs.SlotLaws.{slot_there}
+use Rattle.image_plan.specs.Plan.{frames_in, cpus_of}
+use Rattle.image_plan.specs.Slot.{Slot, slot_at}
+use Rattle.image_plan.specs.declared.plan.GroupPart.{GroupPart}
+use Rattle.image_plan.specs.declared.plan.Plan.{Plan}
+use Rattle.image_plan.proofs.ByNumber.{passes_at}
+use Rattle.image_plan.proofs.SlotLaws.{slot_there}
 use Rattle.plan_emit.specs.PlanOf.{IsPlanOf}
 use Rattle.subject_state.specs.declared.SubjectState.{SubjectState}
 use Rattle.subject_model.specs.Solo.{Answer, Reach, reached, refused, reach_of, store_at, bytes_in, own_of, solo_turn}
-use Rattle.subject_model.specs.System.{System, Named, named, Turner, change_first, change_named, is_shown, pending, with_store, without, raised_by, raises, inbox_of, turner_in, turned_by, turn_answered, answered, system_turn}
+use Rattle.subject_model.specs.System.{System, Named, named, Turner, change_named, is_shown, pending, with_store, raised_by, raises, inbox_of, turner_in, turned_by, turn_answered, system_turn}
 use Rattle.subject_model.proofs.TickLaws.{unchanged}
 use Rattle.subject_model.proofs.Relabelled.{LeadsTo, AllShown, leads, relabelled_window, relabelled_store, relabelled_answer, turn_same}
 use Rattle.subject_model.proofs.TurnStores.{turn_stores}
-use Rattle.window_machine.specs.Machine.{GuestState, MachineState, bytes_at, nobody, no_group, guest_at, active_at, guest_answer, answer_at, with_stored, window_in, guest_at_start, after_turn, line_of_turn, machine_after, machine_line}
+use Rattle.window_machine.specs.Machine.{GuestState, MachineState, bytes_at, nobody, no_group, guest_at, active_at, answer_at, with_stored, window_in, guest_at_start, after_turn, line_of_turn, machine_after, machine_line}
 use Rattle.window_machine.proofs.Loadable.{IsLoadable, ready, unique_regions, unique_subjects, one_cpu}
 use Rattle.window_machine.proofs.Stores.{names_kept}
 use Rattle.window_machine.proofs.ThingsByPlace.{IsFirst, thing_of, thing_at, holding_names, change_at_place, stored_named, same_here}

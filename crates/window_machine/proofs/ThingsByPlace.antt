@@ -13,7 +13,8 @@ use Rattle.policy_lawful.specs.Resolution.{name_at}
 use Rattle.muen_num.proofs.Lists.{find-map, position-map}
 use Rattle.policy_lawful.proofs.Places.{same_self}
 use Rattle.subject_model.specs.Solo.{Stored, bytes_in}
-use Rattle.subject_model.specs.System.{is_shown, change_first, overwritten, with_store}
+use Rattle.machine_meaning.specs.Overwritten.{overwritten}
+use Rattle.subject_model.specs.System.{is_shown, change_first, with_store}
 use Rattle.subject_model.proofs.Relabelled.{relabelled_window, relabelled_store, AllShown}
 use Rattle.subject_model.proofs.TurnStores.{StoresSo}
 use Rattle.window_machine.specs.Machine.{bytes_at, nothing, with_stored}

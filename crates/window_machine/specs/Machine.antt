@@ -2,10 +2,10 @@
 use Rattle.std.specs.Prelude.{◌≡◌, ℕ, suc, zero, ◌+◌, ◌%◌, ◌<◌, ◌≤◌, false, List, [], ◌∷◌, ◌++◌, length, map, slice_index, slice_index_or, slice_set, nat_lt, true, Option, Some, None, option_map, option_to_list}
 use Rattle.std.specs.List.{flat_map, list_all}
 use Rattle.sha2.specs.Sha256.{sha256}
-use Rattle.image_pack.specs.Plan.{is_plan, frames_in}
-use Rattle.image_pack.specs.Slot.{Slot, slot_at}
-use Rattle.image_pack.specs.declared.plan.GroupPart.{GroupPart}
-use Rattle.image_pack.specs.declared.plan.Plan.{Plan}
+use Rattle.image_plan.specs.Plan.{is_plan, frames_in}
+use Rattle.image_plan.specs.Slot.{Slot, slot_at}
+use Rattle.image_plan.specs.declared.plan.GroupPart.{GroupPart}
+use Rattle.image_plan.specs.declared.plan.Plan.{Plan}
 use Rattle.muen_num.specs.Size.{bytes_of}
 use Rattle.muen_num.specs.declared.tag.Part.TheVariants.{Whole}
 use Rattle.window_machine.specs.ByPlace.{region_at}
@@ -18,7 +18,8 @@ use Rattle.policy_types.specs.declared.source.Region.{Region}
 use Rattle.subject_state.specs.States.{started}
 use Rattle.view_text.specs.ViewText.{turn_text, region_text}
 use Rattle.subject_model.specs.Solo.{Stored as StoredIn, Answer, Reach as ReachTo, reached, refused, store_at, turn_over}
-use Rattle.subject_model.specs.System.{overwritten, line_at}
+use Rattle.machine_meaning.specs.Overwritten.{overwritten}
+use Rattle.subject_model.specs.System.{line_at}
 use Rattle.subject_model.specs.Run.{rows_text}
 use Rattle.subject_state.specs.declared.SubjectState.{SubjectState}
 use Rattle.view_text.specs.declared.Line.{Line}

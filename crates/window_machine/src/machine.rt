@@ -4,7 +4,7 @@ ghost use Rattle.std.specs.Prelude.{◌≡◌, ◌<◌, length};
 use crate::guest::Guest;
 use crate::memory::{Holding, settle};
 use frame_clock::slot;
-use image_pack::Plan;
+use image_plan::Plan;
 use std::marker::Model;
 use view_text::Line;
 

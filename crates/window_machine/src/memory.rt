@@ -4,7 +4,7 @@ ghost use Rattle.std.specs.List.{find};
 ghost use Rattle.policy_meaning.specs.Windows.{holds, access_of};
 ghost use Rattle.muen_num.specs.Size.{bytes_of};
 ghost use Rattle.subject_model.specs.Solo.{reach_of, value_at, stored_bytes};
-ghost use Rattle.subject_model.specs.System.{overwritten};
+ghost use Rattle.machine_meaning.specs.Overwritten.{overwritten};
 ghost use Rattle.window_machine.specs.Machine.{access_to, reach_to, stored_for, with_stored, Within, HaveRoom};
 
 use bitflags::Flags;

@@ -1,7 +1,7 @@
 use Rattle.std.proofs.Common.{◌<◌, ◌≤◌, ◌∙◌, sym, length, arith}
 use Rattle.std.specs.Prelude.{slice_index_or}
 use Rattle.std.proofs.lemmas.List.Sums.{sum_by-drop_more}
-use Rattle.image_pack.specs.declared.plan.Minor.{Minor}
+use Rattle.image_plan.specs.declared.plan.Minor.{Minor}
 use Rattle.frame_clock.proofs.FrameSearch.{frame_here, frame_past}
 use Rattle.frame_clock.proofs.in_frames.Goals as goal
 

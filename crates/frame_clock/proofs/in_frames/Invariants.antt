@@ -1,8 +1,8 @@
 use Rattle.std.proofs.Common.{◌≡◌, ◌<◌, map, drop}
 use Rattle.std.specs.Prelude.{slice_get}
 use Rattle.std.specs.List.{sum_by, flat_map}
-use Rattle.image_pack.specs.Plan.{frame_of}
-use Rattle.image_pack.specs.Slot.{frame_slots}
+use Rattle.image_plan.specs.Plan.{frame_of}
+use Rattle.image_plan.specs.Slot.{frame_slots}
 use Rattle.frame_clock.proofs.in_frames.Given as goal
 
 -- the frames that are left have what is left of the tick where all of them have the tick

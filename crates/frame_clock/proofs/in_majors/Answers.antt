@@ -2,11 +2,11 @@ use Rattle.std.proofs.Common.{◌≡◌, ◌<◌, ◌≤◌, ◌∙◌, List, le
 use Rattle.std.specs.Prelude.{slice_get, slice_index_or}
 use Rattle.std.specs.List.{list_all, sum_by, flat_map}
 use Rattle.std.proofs.lemmas.List.Sums.{sum_by-drop_more}
-use Rattle.image_pack.specs.Plan.{cpus_of, frame_of, frames_in, is_major}
-use Rattle.image_pack.specs.Slot.{frame_slots, slots_from}
-use Rattle.image_pack.specs.declared.plan.Major.{Major}
-use Rattle.image_pack.specs.declared.plan.Minor.{Minor}
-use Rattle.image_pack.proofs.SlotLaws.{frames_at, frames_there, has_major, has_majors, major_ticks}
+use Rattle.image_plan.specs.Plan.{cpus_of, frame_of, frames_in, is_major}
+use Rattle.image_plan.specs.Slot.{frame_slots, slots_from}
+use Rattle.image_plan.specs.declared.plan.Major.{Major}
+use Rattle.image_plan.specs.declared.plan.Minor.{Minor}
+use Rattle.image_plan.proofs.SlotLaws.{frames_at, frames_there, has_major, has_majors, major_ticks}
 use Rattle.frame_clock.proofs.FrameSearch.{majors_left, major_here, major_past, frames_read}
 use Rattle.frame_clock.proofs.in_majors.Goals as goal
 

@@ -1,9 +1,9 @@
 use Rattle.std.proofs.Common.{◌≡◌, ◌<◌, true, map, drop}
 use Rattle.std.specs.Prelude.{slice_get}
 use Rattle.std.specs.List.{list_all, sum_by}
-use Rattle.image_pack.specs.Plan.{cpus_of, frames_in, is_major}
-use Rattle.image_pack.specs.Slot.{slots_from}
-use Rattle.image_pack.proofs.SlotLaws.{frames_at}
+use Rattle.image_plan.specs.Plan.{cpus_of, frames_in, is_major}
+use Rattle.image_plan.specs.Slot.{slots_from}
+use Rattle.image_plan.proofs.SlotLaws.{frames_at}
 use Rattle.frame_clock.proofs.in_majors.Given as goal
 
 -- the major frames that are left have what is left of the tick where all of them have the tick

@@ -2,10 +2,10 @@ use Rattle.std.proofs.Common.{◌≡◌, ◌%◌, ◌<◌, ◌∙◌, Some, leng
 use Rattle.std.specs.Prelude.{slice_get}
 use Rattle.std.specs.List.{sum_by}
 use Rattle.std.proofs.Math.Nat.{mod-lt}
-use Rattle.image_pack.specs.Plan.{frames_in}
-use Rattle.image_pack.specs.Slot.{slots_from, slot_at}
-use Rattle.image_pack.specs.declared.plan.Major.{Major}
-use Rattle.image_pack.proofs.SlotLaws.{has_majors, plan_ticks, slot_by_ticks, slot_on_cpu}
+use Rattle.image_plan.specs.Plan.{frames_in}
+use Rattle.image_plan.specs.Slot.{slots_from, slot_at}
+use Rattle.image_plan.specs.declared.plan.Major.{Major}
+use Rattle.image_plan.proofs.SlotLaws.{has_majors, plan_ticks, slot_by_ticks, slot_on_cpu}
 use Rattle.frame_clock.specs.FrameSlot.{slot_of}
 use Rattle.frame_clock.proofs.slot.Goals as goal
 use Rattle.frame_clock.proofs.slot.Goals.{After-in_round, After-in_majors}

@@ -1,8 +1,8 @@
 use Rattle.std.proofs.Common.{◌≡◌, ◌∙◌, true, ℕ, List, [], ◌∷◌, refl}
-use Rattle.image_pack.specs.Plan.{is_plan}
-use Rattle.image_pack.specs.declared.plan.GroupPart.{GroupPart}
-use Rattle.image_pack.specs.declared.plan.Minor.{Minor}
-use Rattle.image_pack.specs.declared.plan.Major.{Major}
+use Rattle.image_plan.specs.Plan.{is_plan}
+use Rattle.image_plan.specs.declared.plan.GroupPart.{GroupPart}
+use Rattle.image_plan.specs.declared.plan.Minor.{Minor}
+use Rattle.image_plan.specs.declared.plan.Major.{Major}
 use Rattle.frame_clock.proofs.tests.plan.Goals as goal
 
 abbrev frame : ℕ → ℕ → Minor

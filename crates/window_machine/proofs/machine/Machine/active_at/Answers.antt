@@ -1,5 +1,5 @@
 use Rattle.std.proofs.Common.{◌<◌, ap, length, arith}
-use Rattle.image_pack.proofs.SlotLaws.{has_majors, group_there}
+use Rattle.image_plan.proofs.SlotLaws.{has_majors, group_there}
 use Rattle.window_machine.proofs.machine.Machine.active_at.Goals as goal
 
 pub slot-slot-requires-clause-cpu : goal.slot-slot-requires-clause-cpu

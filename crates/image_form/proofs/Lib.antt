@@ -1,0 +1,6 @@
+pub mod Forms
+pub mod Leaves
+pub mod Loops
+pub mod NameLaws
+pub mod Puts
+pub mod Theorem

@@ -1,0 +1,49 @@
+-- What the reading of a whole file answers, with its faults by their offsets.
+use Rattle.std.specs.Prelude.{◌≡◌, ℕ, ◌-◌, ◌≤◌, List, length, Result, Ok, Err}
+use Rattle.image_form.specs.declared.fault.ImageFault.{ImageFault}
+use Rattle.image_form.specs.declared.fault.ImageFault.TheVariants as fault
+use Rattle.image_form.specs.declared.fault.Stop.{Stop}
+use Rattle.image_form.specs.declared.fault.Stop.TheVariants.{Short, Bad, Trailing}
+use Rattle.image_form.specs.declared.fault.Halt.{Halt}
+use Rattle.image_form.specs.declared.fault.Halt.TheVariants.{NoMemory, At}
+use Rattle.image_form.specs.Form.{Form, left_of, whole}
+
+-- the fault, by its offset among so many bytes
+abbrev pub placed : ℕ → Stop → ImageFault
+placed total (Short left) = fault.Short (total - left)
+placed total (Bad left field) = fault.Bad (total - left) field
+placed total (Trailing left) = fault.Trailing (total - left)
+
+abbrev pub placed_in : {A : Type 0} → ℕ → Result A Stop → Result A ImageFault
+placed_in total (Ok x) = Ok x
+placed_in total (Err s) = Err (placed total s)
+
+-- what the bytes of a file spell, or the first fault
+unfoldable pub unpacked : {A : Type 0} → Form A → List ℕ → Result A ImageFault
+unpacked f bytes = placed_in (length bytes) (whole f bytes)
+
+-- the fault is what is wanted, unless memory ran out
+abbrev pub IsWanted : {A : Type 0} → Result A ImageFault → ImageFault → Type 0
+IsWanted wanted (fault.Short at) = wanted ≡ Err (fault.Short at)
+IsWanted wanted (fault.Bad at field) = wanted ≡ Err (fault.Bad at field)
+IsWanted wanted (fault.Trailing at) = wanted ≡ Err (fault.Trailing at)
+IsWanted wanted fault.NoMemory = Unit {0}
+
+-- the answer is what is wanted, unless memory ran out
+abbrev pub Tells : {A : Type 0} → Result A ImageFault → Result A ImageFault → Type 0
+Tells wanted (Ok x) = wanted ≡ Ok x
+Tells wanted (Err f) = IsWanted wanted f
+
+-- its field begins among so many bytes
+abbrev pub IsHaltOf : ℕ → Halt → Type 0
+IsHaltOf total NoMemory = Unit {0}
+IsHaltOf total (At s) = left_of s ≤ total
+
+-- the fault tells why a reader of so many bytes stopped
+abbrev pub IsFaultOf : ℕ → Halt → ImageFault → Type 0
+IsFaultOf total NoMemory f = f ≡ fault.NoMemory
+IsFaultOf total (At s) f = f ≡ placed total s
+
+-- no fault but that the bytes end
+abbrev pub IsShort : {A : Type 0} → Result A ImageFault → Type 0
+IsShort r = (at : ℕ) × (r ≡ Err (fault.Short at))

@@ -1,0 +1,209 @@
+//! Why bytes are no image.
+ghost use Rattle.std.specs.Prelude.{◌≡◌};
+ghost use Rattle.muen_num.specs.Pieces.{whole};
+ghost use Rattle.image_form.specs.declared.fault.Halt.TheVariants.{NoMemory as OutOfMemory};
+ghost use Rattle.image_form.specs.Faults.{IsFaultOf, IsHaltOf};
+ghost use Rattle.image_form.specs.FaultText.{fault_place_text, field_text, image_fault_text, image_refused_at};
+
+use itoa::Buffer;
+use muen_num::{NoMemory, Pieces};
+use std::alloc::{AllocError, AllocFailed};
+use std::fmt;
+use thiserror::Error;
+
+/// Which field of an image isn't as it has to be.
+#[derive(Clone, Copy, Debug, PartialEq, Eq)]
+pub enum Field {
+    /// The word that images begin with.
+    Magic,
+    /// How many of something follow.
+    Count,
+    /// A byte that is 0 in each image.
+    Zero,
+    /// The address where something lies.
+    Place,
+    /// How many pages something has.
+    Pages,
+    /// The number of a thing among its kind.
+    Number,
+    /// Which of several kinds a thing is of.
+    Kind,
+    /// Which part of its owner a region is.
+    Part,
+    /// A name.
+    Name,
+    /// The logical CPU of a subject.
+    Cpu,
+    /// The first of several that belong together.
+    First,
+    /// The scheduling group of a subject.
+    Group,
+    /// The MSRs of a subject.
+    Msrs,
+    /// A span of memory.
+    Span,
+    /// The place of a subject's EPT tables.
+    Eptp,
+    /// An event.
+    Event,
+    /// How many ticks a frame has.
+    Ticks,
+    /// A port.
+    Port,
+    /// An interrupt of a device.
+    Irq,
+}
+
+/// The first fault of bytes, with how many bytes are left from where its field begins.
+#[derive(Clone, Copy, Debug, PartialEq, Eq)]
+pub enum Stop {
+    /// The bytes end before the field does.
+    Short(usize),
+    /// The field isn't as it has to be, by itself or by what stands before it.
+    Bad(usize, Field),
+    /// Bytes follow the last field.
+    Trailing(usize),
+}
+
+/// Why a reader stops.
+#[derive(Clone, Copy, Debug, PartialEq, Eq)]
+pub enum Halt {
+    /// Memory was refused.
+    NoMemory,
+    /// The bytes have a fault.
+    At(Stop),
+}
+
+/// Why bytes are no image: the first fault, and the offset at which its field begins.
+#[derive(Clone, Copy, Debug, PartialEq, Eq, Error)]
+pub enum ImageFault {
+    /// The bytes end before the field does.
+    Short { at: u64 },
+    /// The field isn't as it has to be, by itself or by what stands before it.
+    Bad { at: u64, field: Field },
+    /// Bytes follow the last field.
+    Trailing { at: u64 },
+    /// Memory was refused.
+    NoMemory,
+}
+
+impl From<AllocError> for Halt {
+    ghost from_gives = { λ _ halt. halt ≡ OutOfMemory };
+
+    fn from(_: AllocError) -> Halt {
+        Halt::NoMemory
+    }
+}
+
+impl<T: Drop> From<AllocFailed<T>> for Halt {
+    ghost from_gives = { λ _ halt. halt ≡ OutOfMemory };
+
+    fn from(_: AllocFailed<T>) -> Halt {
+        Halt::NoMemory
+    }
+}
+
+impl From<NoMemory> for Halt {
+    ghost from_gives = { λ _ halt. halt ≡ OutOfMemory };
+
+    fn from(_: NoMemory) -> Halt {
+        Halt::NoMemory
+    }
+}
+
+impl Field {
+    /// The field in a word.
+    pub fn as_str(self) -> &'static str
+        ensures { result.now ≡ field_text self }
+    {
+        match self {
+            Field::Magic => "magic",
+            Field::Count => "count",
+            Field::Zero => "zero",
+            Field::Place => "place",
+            Field::Pages => "pages",
+            Field::Number => "number",
+            Field::Kind => "kind",
+            Field::Part => "part",
+            Field::Name => "name",
+            Field::Cpu => "cpu",
+            Field::First => "first",
+            Field::Group => "group",
+            Field::Msrs => "msrs",
+            Field::Span => "span",
+            Field::Eptp => "eptp",
+            Field::Event => "event",
+            Field::Ticks => "ticks",
+            Field::Port => "port",
+            Field::Irq => "irq",
+        }
+    }
+}
+
+// Words that are too long for the search among others.
+#[tactic(auto, unfolding(crate::specs::FaultText::image_refused_at))]
+fn image_refused_at() -> &'static str
+    ensures { result.now ≡ image_refused_at }
+{
+    "image refused at "
+}
+
+impl ImageFault {
+    // The offset, and what is wrong there; no offset where memory was refused.
+    fn place(self) -> (Option<u64>, &'static str)
+        ensures { fault_place_text result.0 result.1.now ≡ image_fault_text self }
+    {
+        match self {
+            ImageFault::Short { at } => (Some(at), "short"),
+            ImageFault::Bad { at, field } => (Some(at), field.as_str()),
+            ImageFault::Trailing { at } => (Some(at), "trailing"),
+            ImageFault::NoMemory => (None, "out of memory"),
+        }
+    }
+
+    /// The text in pieces. The digits of the offset stand in the buffer.
+    pub fn pieces(self, one: &mut Buffer) -> Pieces<'_>
+        ensures { whole result ≡ image_fault_text self }
+    {
+        match self.place() {
+            (Some(at), why) => {
+                let at = one.format(at);
+                (image_refused_at(), at, ": ", why).into()
+            }
+            (None, why) => why.into(),
+        }
+    }
+}
+
+/// The printed text: the offset, and what is wrong there.
+impl fmt::Display for ImageFault {
+    ghost use Rattle.std.specs.Prelude.{Some};
+    ghost use Rattle.image_form.specs.FaultText.{image_fault_text};
+
+    ghost output = { λ fault. Some (image_fault_text fault) };
+
+    fn fmt<W: fmt::Write>(&self, f: &mut fmt::Formatter<W>) -> fmt::Result {
+        let mut one = Buffer::new();
+        write!(f, "{}", self.pieces(&mut one))
+    }
+}
+
+/// Why the reading of so many bytes stopped, with the offset in place of what is left.
+pub fn fault_of(total: usize, halt: Halt) -> ImageFault
+    requires { IsHaltOf total halt }
+    ensures { IsFaultOf total halt result }
+{
+    match halt {
+        Halt::NoMemory => ImageFault::NoMemory,
+        Halt::At(Stop::Short(left)) => ImageFault::Short {
+            at: (total - left) as u64,
+        },
+        Halt::At(Stop::Bad(left, field)) => ImageFault::Bad {
+            at: (total - left) as u64,
+            field,
+        },
+        Halt::At(Stop::Trailing(left)) => ImageFault::Trailing {
+            at: (total - left) as u64,
+        },
+    }
+}

@@ -1,0 +1,12 @@
+//! Forms of bytes: how bytes are read, with the first fault, how a value is spelled, and which
+//! values have a spelling (definitions in specs/, their laws in proofs/); and the readers and
+//! writers of single fields.
+#![tactic(auto)]
+
+pub mod fault;
+pub mod reading;
+#[cfg(test)]
+mod tests;
+pub mod writing;
+
+pub use fault::{Field, Halt, ImageFault, Stop, fault_of};

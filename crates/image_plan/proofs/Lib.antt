@@ -1,0 +1,3 @@
+mod Examples
+pub mod ByNumber
+pub mod SlotLaws

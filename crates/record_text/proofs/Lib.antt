@@ -1,0 +1,9 @@
+pub mod Digits
+pub mod Endings
+pub mod Lawful
+pub mod Lines
+pub mod Orders
+pub mod Parts
+pub mod Rules
+pub mod Ticks
+pub mod PlainRecords

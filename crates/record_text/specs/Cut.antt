@@ -1,0 +1,27 @@
+-- What is left of a text that is cut into parts.
+use Rattle.std.specs.Prelude.{◌≡◌, ℕ, List, [], ◌∷◌, Option, Some, None, Result, Err}
+use Rattle.std.specs.Borrow.{Bor}
+use Rattle.record_text.specs.Words.{parts_of}
+use Rattle.record_text.specs.declared.cut.Words.{Words}
+use Rattle.record_text.specs.declared.fault.LineWant.{LineWant}
+use Rattle.record_text.specs.declared.fault.LineWant.TheVariants.{Count}
+use Rattle.record_text.specs.declared.number.LineEnd.{LineEnd}
+use Rattle.record_text.specs.declared.number.LineEnd.TheVariants.{Want}
+
+-- the parts that are left: none, or at least one
+abbrev pub parts_left : ℕ → Option (Bor (List ℕ)) → List (List ℕ)
+parts_left byte None = []
+parts_left byte (Some rest) = parts_of byte rest.now
+
+-- the words of a line that are left
+abbrev pub words_left : Words → List (List ℕ)
+words_left words = parts_left 32 words.rest
+
+-- the first word was taken, or there was none
+abbrev pub TakesWord : List (List ℕ) → Option (Bor (List ℕ)) → List (List ℕ) → Type 0
+TakesWord before None after = before ≡ []
+TakesWord before (Some word) after = before ≡ word.now ∷ after
+
+-- there is another number of words than what was wanted
+abbrev pub IsMiscounted : {X : Type 0} → Result X LineWant → LineEnd → Type 0
+IsMiscounted r end = (end ≡ Want Count) × (r ≡ Err Count)

@@ -1,0 +1,13 @@
+pub mod Bench
+pub mod Cut
+pub mod DeviceRecord
+pub mod FaultTexts
+pub mod Law
+pub mod Made
+pub mod Placing
+pub mod Plain
+pub mod Reading
+pub mod Saying
+pub mod Steps
+pub mod Table
+pub mod Words

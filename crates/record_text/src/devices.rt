@@ -1,0 +1,65 @@
+//! What a device record may name, and where it goes.
+ghost use Rattle.std.specs.Prelude.{◌+◌, ◌^◌, ◌<◌, ◌≤◌, length};
+ghost use Rattle.muen_num.specs.declared.limits.TheConstants.{MOST_DEVICES};
+
+use muen_num::{Name, Seq};
+
+/// The CPUs and the devices of a system. Where two devices have one name, the first counts.
+#[derive(Debug, Drop)]
+pub struct Devices {
+    /// How many logical CPUs there are, numbered from 0.
+    pub cpus: u8,
+    /// The devices, by number.
+    pub devices: Seq<DevicePlaces>,
+    pub ghost few: { length devices ≤ MOST_DEVICES },
+}
+
+/// A device, with what a record may name of it. Where two of its memories or of its interrupts have
+/// one name, the first counts.
+#[derive(Debug, Drop)]
+pub struct DevicePlaces {
+    pub name: Name,
+    /// Its I/O ports.
+    pub ports: Seq<PortSpan>,
+    /// Its memories.
+    pub memories: Seq<MemoryPlace>,
+    /// Its interrupts.
+    pub irqs: Seq<IrqPlace>,
+}
+
+/// A range of I/O ports.
+#[derive(Clone, Copy, Debug, PartialEq, Eq)]
+pub struct PortSpan {
+    /// The first port.
+    pub start: u16,
+    /// The last port.
+    pub end: u16,
+}
+
+/// A memory of a device.
+#[derive(Debug, Drop)]
+pub struct MemoryPlace {
+    pub name: Name,
+    /// The physical address of its first byte.
+    pub place: u64,
+    /// How many bytes it has.
+    pub bytes: u64,
+    pub ghost fits: { place + bytes < 2 ^ 64 },
+}
+
+/// An interrupt of a device.
+#[derive(Clone, Copy, Debug, PartialEq, Eq)]
+pub struct IrqPlace {
+    pub name: Name,
+    /// Where it goes; `None` where nobody has it.
+    pub target: Option<IrqTarget>,
+}
+
+/// Where an interrupt goes.
+#[derive(Clone, Copy, Debug, PartialEq, Eq)]
+pub struct IrqTarget {
+    /// The number of the subject.
+    pub subject: u8,
+    /// The interrupt vector.
+    pub vector: u8,
+}

@@ -1,0 +1,24 @@
+//! The device record of a run: what the devices of a system do in which tick, in which order the
+//! CPUs take their turns, and how many ticks the run has. It is read from its text exactly, with all
+//! its faults.
+#![tactic(auto)]
+
+mod cut;
+pub mod devices;
+pub mod fault;
+mod laws;
+mod line;
+mod made;
+mod number;
+mod place;
+mod reading;
+pub mod record;
+
+pub use devices::{DevicePlaces, Devices, IrqPlace, IrqTarget, MemoryPlace, PortSpan};
+pub use fault::{LineWant, RecordFault};
+pub use laws::without_devices;
+pub use reading::read;
+pub use record::{INPUT_MOST, Input, Record, TickInput, TickOrder};
+
+#[cfg(test)]
+mod tests;
