@@ -14,43 +14,49 @@ use thiserror::Error;
 /// Which field of an image isn't as it has to be.
 #[derive(Clone, Copy, Debug, PartialEq, Eq)]
 pub enum Field {
-    /// The word that images begin with.
+    /// The eight bytes that an image begins with: `MUENIMG1` or `MUENIMG2`.
     Magic,
-    /// How many of something follow.
+    /// How many of something follow: in the header the logical CPUs, subjects, scheduling groups,
+    /// major frames, devices and spans; in a major frame the minor frames of a CPU; in a device its
+    /// port ranges, memories and IRQs.
     Count,
-    /// A byte that is 0 in each image.
+    /// Bytes that are 0 in each image, all that lie side by side: in the header, a span, a scheduling
+    /// group, a subject, behind the count and the group of minor frames, in a device and in an IRQ.
     Zero,
-    /// The address where something lies.
+    /// The physical address of a span's first byte.
     Place,
-    /// How many pages something has.
+    /// How many pages of 4,096 bytes a span has.
     Pages,
-    /// The number of a thing among its kind.
+    /// The number of a span, by which other parts name it.
     Number,
-    /// Which of several kinds a thing is of.
+    /// Of which kind a span is. It is refused too where tau0 names a span that is no region of the
+    /// policy, and at the last span where all spans together have too many pages.
     Kind,
-    /// Which part of its owner a region is.
+    /// Which part of its owner a span is.
     Part,
-    /// A name.
+    /// A name in 64 bytes: that of a span's owner, of a span's part (or the zeros in its place), of a
+    /// subject, of a device or of an IRQ.
     Name,
-    /// The logical CPU of a subject.
+    /// The number of the logical CPU of a scheduling group or of a subject.
     Cpu,
-    /// The first of several that belong together.
+    /// The number of the subject that is a scheduling group's first member.
     First,
-    /// The scheduling group of a subject.
+    /// The number of the scheduling group of a subject or of a minor frame.
     Group,
-    /// The MSRs of a subject.
+    /// How many entries a subject's MSR area has.
     Msrs,
-    /// A span of memory.
+    /// The number of a span that another part names: the header that of tau0, a subject those of its
+    /// state page, I/O bitmaps, MSR bitmap and MSR area, a device those of its memories.
     Span,
-    /// The place of a subject's EPT tables.
+    /// A subject's extended-page-table pointer (Intel SDM volume 3).
     Eptp,
-    /// An event.
+    /// What a call or a trap of a subject raises: mode, target, vector and a zero, four bytes.
     Event,
-    /// How many ticks a frame has.
+    /// How many ticks a major or a minor frame has.
     Ticks,
-    /// A port.
+    /// The last port of a device's range.
     Port,
-    /// An interrupt of a device.
+    /// The vector of a device's IRQ at the subject that it reaches, 0 where it reaches nobody.
     Irq,
 }
 

@@ -76,7 +76,7 @@ pub fn put_u64(out: &mut Vec<u8>, n: u64) -> Result<(), AllocError>
 
 /// The number, which has a spelling in 2 bytes.
 #[tactic(auto, unfolding(crate::specs::Form::number))]
-pub fn small(n: usize) -> u16
+pub fn as_u16(n: usize) -> u16
     requires { (number w16).fits n }
     ensures { result ≡ n }
 {
@@ -85,7 +85,7 @@ pub fn small(n: usize) -> u16
 
 /// The number, which has a spelling in one byte.
 #[tactic(auto, unfolding(crate::specs::Form::byte))]
-pub fn tiny(n: usize) -> u8
+pub fn as_u8(n: usize) -> u8
     requires { byte.fits n }
     ensures { result ≡ n }
 {

@@ -8,9 +8,9 @@ use Rattle.image_form.proofs.Forms.{Knows, laws, field_laws, field_laws_within, 
 use Rattle.image_form.proofs.NameLaws.{name_laws}
 use Rattle.image_pack.specs.declared.outline.Header.{Header}
 use Rattle.image_pack.specs.declared.outline.Outline.{Outline}
-use Rattle.image_pack.specs.declared.reading.spans.Shelf.{Shelf}
+use Rattle.image_pack.specs.declared.reading.spans.SpansBefore.{SpansBefore}
 use Rattle.image_pack.specs.declared.reading.majors.CpuTicks.{CpuTicks}
-use Rattle.image_pack.specs.declared.reading.majors.Tally.{Tally}
+use Rattle.image_pack.specs.declared.reading.majors.FramesBefore.{FramesBefore}
 use Rattle.image_pack.specs.declared.parts.SpanPart.{SpanPart}
 use Rattle.image_pack.specs.declared.parts.Image.{Image}
 use Rattle.image_pack.specs.Image.{tau0_at, counts, header, title, span, group, subject, minor, frames, major, range, window, irq, device, content, image}
@@ -42,7 +42,7 @@ title_laws : (code : ℕ) → Laws (title code)
 unfolding title
 title_laws code = search (laws, name_laws) depth 40
 
-pub span_laws : (h : Header) (b : Shelf) → Laws (span h b)
+pub span_laws : (h : Header) (b : SpansBefore) → Laws (span h b)
 unfolding span only
 span_laws h b =
     field_laws _ _ _ (only_laws _ _ _ (number_laws w64 wide64)) (λ place. search laws depth 60) (λ place.
@@ -83,9 +83,9 @@ subject_laws o place =
 
 -- ---- the plan
 
-minor_laws : (o : Outline) (t : Tally) → Laws (minor o t)
+minor_laws : (o : Outline) (b : FramesBefore) → Laws (minor o b)
 unfolding minor
-minor_laws o t = search laws depth 40
+minor_laws o b = search laws depth 40
 
 frames_laws : (o : Outline) (c : CpuTicks) → Laws (frames o c)
 unfolding frames

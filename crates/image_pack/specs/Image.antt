@@ -6,6 +6,7 @@ use Rattle.std.specs.List.{list_any, list_all, find, enumerate_from}
 use Rattle.std.specs.Option.{option_map_or}
 use Rattle.std.specs.Str.{bytes_eq}
 use Rattle.muen_num.specs.declared.limits.TheConstants.{PAGE, PHYSICAL_END, MOST_BLOCK_BYTES, MOST_DEVICE_BYTES, MOST_CPUS, MOST_SUBJECTS, MOST_MAJOR_FRAMES, MOST_MINOR_FRAMES, MOST_TICKS, MOST_DEVICES, MOST_PER_DEVICE, MOST_REGIONS, MOST_DEVICE_WINDOWS, MOST_MSRS, MOST_CALLS}
+use Rattle.muen_num.specs.declared.tag.Part.TheVariants.{State, Iobm, Msrbm, Msrs}
 use Rattle.image_form.specs.Form.{Form, number, byte, bytes_of, coded, present, absent, either, only, field, gap, done, items, each}
 use Rattle.image_form.specs.Name.{name}
 use Rattle.image_form.specs.declared.fault.Field.TheVariants as at
@@ -25,9 +26,9 @@ use Rattle.image_pack.specs.declared.parts.WindowPart.{WindowPart}
 use Rattle.image_pack.specs.declared.parts.IrqPart.{IrqPart}
 use Rattle.image_pack.specs.declared.parts.DevicePart.{DevicePart}
 use Rattle.image_pack.specs.declared.parts.Image.{Image}
-use Rattle.image_pack.specs.declared.reading.spans.Shelf.{Shelf}
+use Rattle.image_pack.specs.declared.reading.spans.SpansBefore.{SpansBefore}
 use Rattle.image_pack.specs.declared.reading.majors.CpuTicks.{CpuTicks}
-use Rattle.image_pack.specs.declared.reading.majors.Tally.{Tally}
+use Rattle.image_pack.specs.declared.reading.majors.FramesBefore.{FramesBefore}
 
 -- ---- numbers
 
@@ -70,17 +71,17 @@ header = field (λ h. is_some h.tau0) mark counts
 
 -- ---- spans: they ascend without overlap, and each number comes once
 
-abbrev pub empty_shelf : Header → Shelf
-empty_shelf h = record { end = 0; seen = replicate h.spans false; left = h.spans; pages = 0; device_pages = 0 }
+abbrev pub no_spans_before : Header → SpansBefore
+no_spans_before h = record { end = 0; seen = replicate h.spans false; left = h.spans; pages = 0; device_pages = 0 }
 
-abbrev pub pages_with : Shelf → SpanKind → ℕ → ℕ
+abbrev pub pages_with : SpansBefore → SpanKind → ℕ → ℕ
 pages_with b kind pages = if is_device kind then b.pages else sum32 b.pages pages
 
-abbrev pub device_pages_with : Shelf → SpanKind → ℕ → ℕ
+abbrev pub device_pages_with : SpansBefore → SpanKind → ℕ → ℕ
 device_pages_with b kind pages = if is_device kind then sum32 b.device_pages pages else b.device_pages
 
 -- what a span leaves for the next one
-unfoldable pub after : Header → Shelf → SpanPart → Shelf
+unfoldable pub after : Header → SpansBefore → SpanPart → SpansBefore
 after h b s = record {
   end = s.place + PAGE * s.pages;
   seen = slice_set b.seen s.number true;
@@ -96,7 +97,7 @@ is_place end place = (place % PAGE == 0) && nat_le end place
 abbrev pub is_size : ℕ → ℕ → Bool
 is_size place pages = nat_lt 0 pages && nat_le (place + PAGE * pages) PHYSICAL_END
 
-abbrev pub is_new : Header → Shelf → ℕ → Bool
+abbrev pub is_new : Header → SpansBefore → ℕ → Bool
 is_new h b n = nat_lt n h.spans && not (slice_index_or b.seen n true)
 
 -- the span that tau0 reads is a region of the policy
@@ -105,12 +106,12 @@ suits_tau0 None n kind = true
 suits_tau0 (Some t) n kind = not (n == t) || is_own kind
 
 -- all spans together have no more pages than there may be, those of devices counted apart; it shows at the last
-abbrev pub has_room : Shelf → ℕ → SpanKind → Bool
+abbrev pub has_room : SpansBefore → ℕ → SpanKind → Bool
 has_room b pages kind =
     not (b.left == 1)
     || (nat_le (PAGE * pages_with b kind pages) MOST_BLOCK_BYTES && nat_le (PAGE * device_pages_with b kind pages) MOST_DEVICE_BYTES)
 
-unfoldable pub is_kind : Header → Shelf → ℕ → ℕ → SpanKind → Bool
+unfoldable pub is_kind : Header → SpansBefore → ℕ → ℕ → SpanKind → Bool
 is_kind h b pages n kind = suits_tau0 h.tau0 n kind && has_room b pages kind
 
 abbrev pub kind_byte : Form SpanKind
@@ -120,7 +121,7 @@ kind_byte = coded 1 kind_in kind_bytes at.Kind
 unfoldable pub title : ℕ → Form (Option (List ℕ))
 title code = either (code == 1) (present name) (absent 64 at.Name)
 
-unfoldable pub span : Header → Shelf → Form SpanPart
+unfoldable pub span : Header → SpansBefore → Form SpanPart
 span h b =
     field (λ s. s.place) (only (is_place b.end) at.Place (number w64)) (λ place.
     field (λ s. s.pages) (only (is_size place) at.Pages (number w32)) (λ pages.
@@ -177,10 +178,10 @@ subject o place =
     field (λ s. s.group) (only (is_group_of o place cpu) at.Group byte) (λ in_group.
     field (λ s. s.msrs) (only (λ n. nat_le n MOST_MSRS) at.Msrs byte) (λ msrs.
     gap 1 at.Zero (
-    field (λ s. s.state) (only (is_kernel_span o.spans 2 1) at.Span (number w16)) (λ state.
-    field (λ s. s.iobm) (only (is_kernel_span o.spans 4 2) at.Span (number w16)) (λ iobm.
-    field (λ s. s.msrbm) (only (is_kernel_span o.spans 5 1) at.Span (number w16)) (λ msrbm.
-    field (λ s. s.area) (only (is_kernel_span o.spans 6 1) at.Span (number w16)) (λ area.
+    field (λ s. s.state) (only (is_kernel_span o.spans (part_code State) 1) at.Span (number w16)) (λ state.
+    field (λ s. s.iobm) (only (is_kernel_span o.spans (part_code Iobm) 2) at.Span (number w16)) (λ iobm.
+    field (λ s. s.msrbm) (only (is_kernel_span o.spans (part_code Msrbm) 1) at.Span (number w16)) (λ msrbm.
+    field (λ s. s.area) (only (is_kernel_span o.spans (part_code Msrs) 1) at.Span (number w16)) (λ area.
     gap 4 at.Zero (
     field (λ s. s.eptp) (only is_eptp at.Eptp (number w64)) (λ eptp.
     field (λ s. s.name) name (λ called.
@@ -192,28 +193,28 @@ subject o place =
 -- ---- major frames: the minor frames of each CPU have the major's ticks
 
 -- the minor frame has ticks, and the last one makes the major's
-abbrev pub is_ticks : Tally → ℕ → Bool
-is_ticks t n = nat_lt 0 n && (not (t.left == 1) || (t.sum + n == t.total))
+abbrev pub is_ticks : FramesBefore → ℕ → Bool
+is_ticks b n = nat_lt 0 n && (not (b.left == 1) || (b.sum + n == b.total))
 
-abbrev pub add_ticks : Outline → Tally → Minor → Tally
-add_ticks o t f = record { cpu = t.cpu; total = t.total; sum = sum32 t.sum f.ticks; left = t.left - 1 }
+abbrev pub add_ticks : Outline → FramesBefore → Minor → FramesBefore
+add_ticks o b f = record { cpu = b.cpu; total = b.total; sum = sum32 b.sum f.ticks; left = b.left - 1 }
 
-unfoldable pub minor : Outline → Tally → Form Minor
-minor o t =
-    field (λ f. f.group) (only (is_group_on o.groups t.cpu) at.Group byte) (λ in_group.
+unfoldable pub minor : Outline → FramesBefore → Form Minor
+minor o b =
+    field (λ f. f.group) (only (is_group_on o.groups b.cpu) at.Group byte) (λ in_group.
     gap 3 at.Zero (
-    field (λ f. f.ticks) (only (is_ticks t) at.Ticks (number w32)) (λ ticks.
+    field (λ f. f.ticks) (only (is_ticks b) at.Ticks (number w32)) (λ ticks.
     done (record { group = in_group; ticks = ticks }))))
 
-abbrev pub no_tally : CpuTicks → ℕ → Tally
-no_tally c n = record { cpu = c.cpu; total = c.total; sum = 0; left = n }
+abbrev pub no_frames_before : CpuTicks → ℕ → FramesBefore
+no_frames_before c n = record { cpu = c.cpu; total = c.total; sum = 0; left = n }
 
 -- the minor frames of a CPU
 unfoldable pub frames : Outline → CpuTicks → Form (List Minor)
 frames o c =
     field length (only (is_between 1 MOST_MINOR_FRAMES) at.Count (number w16)) (λ n.
     gap 2 at.Zero (
-    items (add_ticks o) (minor o) (no_tally c n) n))
+    items (add_ticks o) (minor o) (no_frames_before c n) n))
 
 abbrev pub next_cpu : Outline → CpuTicks → List Minor → CpuTicks
 next_cpu o c fs = record { cpu = next_byte c.cpu; total = c.total }
@@ -291,7 +292,7 @@ outline h spans groups = record { header = h; spans = spans; groups = groups }
 unfoldable pub image : Form Image
 image =
     field (λ i. i.header) header (λ h.
-    field (λ i. i.spans) (items (after h) (span h) (empty_shelf h) h.spans) (λ spans.
+    field (λ i. i.spans) (items (after h) (span h) (no_spans_before h) h.spans) (λ spans.
     field (λ i. i.plan.groups) (items (nothing_left h) (group h) 0 h.groups) (λ groups.
     field (λ i. i.subjects) (items (next_place (outline h spans groups)) (subject (outline h spans groups)) 0 h.subjects) (λ subjects.
     field (λ i. i.plan.majors) (items (nothing_left (outline h spans groups)) (major (outline h spans groups)) 0 h.majors) (λ majors.

@@ -1,3 +1,5 @@
 pub mod Codes
 pub mod Image
+pub mod ImageConditions
 pub mod Parts
+pub mod SpanConditions

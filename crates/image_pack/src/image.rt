@@ -4,6 +4,7 @@ ghost use Rattle.image_form.specs.Form.{Form, IsBytes, left_of, whole};
 ghost use Rattle.image_form.specs.Faults.{Tells, unpacked, IsShort};
 ghost use Rattle.image_form.specs.declared.fault.Field.{Field};
 ghost use Rattle.image_pack.specs.Image.{image};
+ghost use Rattle.image_pack.specs.ImageConditions.{KeepsConditions};
 ghost use Rattle.image_pack.specs.Parts.{IsParts, IsImage, counted};
 ghost use Rattle.image_pack.specs.declared.parts.Image.{Image};
 
@@ -11,7 +12,7 @@ use crate::outline::Header;
 use crate::parts::{DevicePart, Image, SpanPart, SubjectPart};
 use crate::reading::whole::all_of;
 use crate::writing::put_image;
-use image_form::writing::{small, tiny};
+use image_form::writing::{as_u8, as_u16};
 use image_form::{ImageFault, fault_of};
 use image_plan::Plan;
 use muen_num::{NoMemory, Seq};
@@ -53,11 +54,11 @@ impl Parts {
     {
         let header = Header {
             cpus,
-            subjects: tiny(subjects.len()),
-            groups: tiny(plan.groups.len()),
-            majors: tiny(plan.majors.len()),
-            devices: tiny(devices.len()),
-            spans: small(spans.len()),
+            subjects: as_u8(subjects.len()),
+            groups: as_u8(plan.groups.len()),
+            majors: as_u8(plan.majors.len()),
+            devices: as_u8(devices.len()),
+            spans: as_u16(spans.len()),
             tau0,
         };
         Parts {
@@ -137,6 +138,11 @@ pub fn one_to_one()
     ensures spelled { (bytes : List ℕ) (i : Image) → IsBytes bytes → unpacked image bytes ≡ Ok i → IsImage bytes i }
     // Different parts have different bytes.
     ensures apart { (i j : Image) → IsParts i → IsParts j → image.spell i ≡ image.spell j → i ≡ j }
+{}
+
+/// The conditions of an image in plain words: parts that keep them are parts of an image.
+pub fn conditions()
+    ensures { (i : Image) → KeepsConditions i → IsParts i }
 {}
 
 /// The fault is the first one.

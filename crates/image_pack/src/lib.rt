@@ -12,7 +12,7 @@ mod parts;
 mod reading;
 mod writing;
 
-pub use image::{Parts, first_fault, one_to_one, pack, unpack};
+pub use image::{Parts, conditions, first_fault, one_to_one, pack, unpack};
 pub use image_form::{Field, ImageFault};
 pub use image_plan::{GroupPart, Major, Minor, Plan};
 pub use items::{Item, items_of, put_items};

@@ -7,8 +7,8 @@ ghost use Rattle.image_pack.specs.Codes.{part_code, part_name};
 ghost use Rattle.image_pack.specs.Image.{tau0_at, counts, header, title, span, group, event, events, subject, minor, frames, major, range, window, irq, device, content, image};
 ghost use Rattle.image_pack.specs.declared.outline.Header.{Header};
 ghost use Rattle.image_pack.specs.declared.outline.Outline.{Outline};
-ghost use Rattle.image_pack.specs.declared.reading.spans.Shelf.{Shelf};
-ghost use Rattle.image_pack.specs.declared.reading.majors.Tally.{Tally};
+ghost use Rattle.image_pack.specs.declared.reading.spans.SpansBefore.{SpansBefore};
+ghost use Rattle.image_pack.specs.declared.reading.majors.FramesBefore.{FramesBefore};
 ghost use Rattle.image_pack.specs.declared.reading.majors.CpuTicks.{CpuTicks};
 
 use crate::codes::{irq_vector_code, mark, part_code, subject_code};
@@ -18,7 +18,7 @@ use crate::parts::{
     DevicePart, EventPart, Image, IrqPart, PortSpan, SpanPart, SubjectPart, WindowPart,
 };
 use image_form::writing::{
-    put_bytes, put_name, put_tag, put_u8, put_u16, put_u32, put_u64, put_zeros, small, tiny,
+    as_u8, as_u16, put_bytes, put_name, put_tag, put_u8, put_u16, put_u32, put_u64, put_zeros,
 };
 use image_plan::{GroupPart, Major, Minor};
 use muen_num::{Part, Seq};
@@ -67,7 +67,7 @@ fn put_title(out: &mut Vec<u8>, part: &Part) -> Result<(), AllocError>
 
 #[tactic(auto, using(image_form::proofs::Puts::appended), unfolding(image_form::specs::Form::field, image_form::specs::Form::only, image_form::specs::Form::gap, image_form::specs::Form::done, image_form::specs::Form::coded, crate::specs::Image::span))]
 pub(crate) fn put_span(out: &mut Vec<u8>, s: &SpanPart) -> Result<(), AllocError>
-    ensures { (h : Header) (b : Shelf) → OnOk result (out.new.items ≡ out.old.items ++ (span h b).spell s.now) }
+    ensures { (h : Header) (b : SpansBefore) → OnOk result (out.new.items ≡ out.old.items ++ (span h b).spell s.now) }
 {
     put_u64(out, s.place)?;
     put_u32(out, s.pages)?;
@@ -122,7 +122,7 @@ pub(crate) fn put_subject(out: &mut Vec<u8>, s: &SubjectPart) -> Result<(), Allo
 
 #[tactic(auto, using(image_form::proofs::Puts::appended), unfolding(image_form::specs::Form::field, image_form::specs::Form::only, image_form::specs::Form::gap, image_form::specs::Form::done, crate::specs::Image::minor))]
 pub(crate) fn put_minor(out: &mut Vec<u8>, f: &Minor) -> Result<(), AllocError>
-    ensures { (o : Outline) (t : Tally) → OnOk result (out.new.items ≡ out.old.items ++ (minor o t).spell f.now) }
+    ensures { (o : Outline) (b : FramesBefore) → OnOk result (out.new.items ≡ out.old.items ++ (minor o b).spell f.now) }
 {
     put_u8(out, f.group)?;
     put_zeros(out, 3)?;
@@ -135,7 +135,7 @@ pub(crate) fn put_frames(out: &mut Vec<u8>, list: &Seq<Minor>) -> Result<(), All
     requires { (o : Outline) × (c : CpuTicks) × (frames o c).fits list.now }
     ensures { (o : Outline) (c : CpuTicks) → OnOk result (out.new.items ≡ out.old.items ++ (frames o c).spell list.now) }
 {
-    put_u16(out, small(list.len()))?;
+    put_u16(out, as_u16(list.len()))?;
     put_zeros(out, 2)?;
     put_items(list.items(), out)?;
     Ok(())
@@ -185,9 +185,9 @@ pub(crate) fn put_device(out: &mut Vec<u8>, d: &DevicePart) -> Result<(), AllocE
     ensures { (o : Outline) (names : List (List ℕ)) → OnOk result (out.new.items ≡ out.old.items ++ (device o names).spell d.now) }
 {
     put_name(out, &d.name)?;
-    put_u8(out, tiny(d.ports.len()))?;
-    put_u8(out, tiny(d.windows.len()))?;
-    put_u8(out, tiny(d.irqs.len()))?;
+    put_u8(out, as_u8(d.ports.len()))?;
+    put_u8(out, as_u8(d.windows.len()))?;
+    put_u8(out, as_u8(d.irqs.len()))?;
     put_zeros(out, 1)?;
     put_items(d.ports.items(), out)?;
     put_items(d.windows.items(), out)?;

@@ -1,5 +1,5 @@
 -- From a lawful policy whose contents are held against files to one that is accepted.
-use Rattle.std.proofs.Common.{◌≡◌, ℕ, inl, inr, true, false, List, [], ◌∷◌, Some, None, Result, Ok, Err, sym, ap, ◌∙◌}
+use Rattle.std.proofs.Common.{◌≡◌, ℕ, inl, inr, false, List, [], ◌∷◌, Some, None, Result, Ok, Err, sym, ap, ◌∙◌}
 use Rattle.std.proofs.lemmas.Bool.{false≢true}
 use Rattle.expand_kernel.specs.declared.region.Region.{Region}
 use Rattle.muen_num.specs.Answers.{Answers, Explains}

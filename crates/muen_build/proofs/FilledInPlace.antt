@@ -12,7 +12,8 @@ use Rattle.policy_lawful.proofs.SourceElements.{parts_placed}
 use Rattle.policy_lawful.proofs.UniqueNames.{unique}
 use Rattle.policy_meaning.specs.Thing.{component_by}
 use Rattle.policy_types.specs.declared.source.Component.{Component}
-use Rattle.muen_build.specs.Filling.{brought_at, filled_at, filled_provided, filled_region, provided_at}
+use Rattle.expand_kernel.specs.ByPlace.{provided_at}
+use Rattle.muen_build.specs.Filling.{brought_at, filled_at, filled_provided, filled_region}
 use Rattle.muen_build.specs.Refusals.{filled_by, filled_of}
 
 -- of the component that was found

@@ -1,5 +1,5 @@
 -- From a lawful policy to one whose regions are placed.
-use Rattle.std.proofs.Common.{◌≡◌, inl, inr, ℕ, false, List, Option, Some, None, Result, Ok, Err, refl, sym, ap, subst, ◌∙◌}
+use Rattle.std.proofs.Common.{◌≡◌, inl, inr, ℕ, false, List, Option, Some, None, Result, Ok, Err, refl, sym, ap, ◌∙◌}
 use Rattle.std.specs.Prelude.{IfOk, IfErr}
 use Rattle.muen_num.specs.Answers.{Answers, Explains}
 use Rattle.policy_lawful.specs.Lawful.{kept_or}

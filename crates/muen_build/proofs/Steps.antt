@@ -67,16 +67,15 @@ ends_here a Refuses old new r none so = inr (record {
 -- ---- the file of a content
 
 -- the document's own name
-pub of_document : (name document : List ℕ) (found : Files) (file : List ℕ) → bytes_eq file name ≡ true → Known (looks_of name document found) file (length document)
-of_document name document found file same files s =
+pub document_reads : (name document : List ℕ) (found : Files) (file : List ℕ) → bytes_eq file name ≡ true → (files : Store) → ShowAll files (looks_of name document found) → reading_of (get files file) COMPONENT_FILE_MOST ≡ whole document
+document_reads name document found file same files s =
     let is : file ≡ name = (bytes_eq-Decides file name).0 same in
-    record {
-      bytes = document;
-      reads = ap (λ n. reading_of (get files n) COMPONENT_FILE_MOST) is ∙ wider POLICY_MOST COMPONENT_FILE_MOST document (get files name) (omega arith) s.0;
-      many = refl;
-    }
+    ap (λ n. reading_of (get files n) COMPONENT_FILE_MOST) is ∙ wider POLICY_MOST COMPONENT_FILE_MOST document (get files name) (omega arith) s.0
 
-shown_among : (files : Store) (found : Files) (file bytes : List ℕ) → ShowAll files (map file_look found) → find_bytes file found ≡ Some bytes → reading_of (get files file) COMPONENT_FILE_MOST ≡ whole bytes
+pub of_document : (name document : List ℕ) (found : Files) (file : List ℕ) → bytes_eq file name ≡ true → Known (looks_of name document found) file (length document)
+of_document name document found file same files s = record { bytes = document; reads = document_reads name document found file same files s; many = refl }
+
+pub shown_among : (files : Store) (found : Files) (file bytes : List ℕ) → ShowAll files (map file_look found) → find_bytes file found ≡ Some bytes → reading_of (get files file) COMPONENT_FILE_MOST ≡ whole bytes
 shown_among files [] file bytes s h = absurd (cc)
 shown_among files (e ∷ es) file bytes s h =
     (elim (bytes_eq file e.0) as (λ b. bytes_eq file e.0 ≡ b → (if b then Some e.1 else find_bytes file es) ≡ Some bytes → reading_of (get files file) COMPONENT_FILE_MOST ≡ whole bytes) [
@@ -98,7 +97,7 @@ of_found name document found file count h files s =
     record { bytes = bytes; reads = shown_among files found file bytes s.1 is.0; many = is.1 }
 
 -- one that is read now
-others_found : (found : Files) (file : List ℕ) → find_bytes file found ≡ None → AreOthers (map file_look found) file
+pub others_found : (found : Files) (file : List ℕ) → find_bytes file found ≡ None → AreOthers (map file_look found) file
 others_found [] file h = tt
 others_found (e ∷ es) file h =
     (elim (bytes_eq file e.0) as (λ b. bytes_eq file e.0 ≡ b → (if b then Some e.1 else find_bytes file es) ≡ None → AreOthers (map file_look (e ∷ es)) file) [

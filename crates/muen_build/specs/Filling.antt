@@ -1,10 +1,9 @@
 -- The regions of a resolved policy that have a content, by places.
-use Rattle.std.specs.Prelude.{ℕ, List, [], ◌++◌, map, slice_get, Option, Some, None}
-use Rattle.std.specs.Option.{option_map_or}
+use Rattle.std.specs.Prelude.{ℕ, List, ◌++◌, map}
 use Rattle.std.specs.List.{flat_map}
+use Rattle.expand_kernel.specs.ByPlace.{provided_at}
 use Rattle.muen_num.specs.declared.tag.Part.TheVariants.{Named, Whole}
 use Rattle.policy_lawful.specs.Resolution.{Resolution}
-use Rattle.policy_lawful.specs.declared.resolved.ComponentUse.{ComponentUse}
 use Rattle.policy_lawful.specs.declared.resolved.Subject.{Subject}
 use Rattle.policy_types.specs.declared.source.Component.{Component}
 use Rattle.policy_types.specs.declared.source.Provided.{Provided}
@@ -22,11 +21,6 @@ filled_region r = record { tag = record { owner = r.name; part = Whole }; size =
 
 abbrev pub filled_provided : List ℕ → Provided → Filled
 filled_provided subject x = record { tag = record { owner = subject; part = Named x.logical }; size = x.size; content = x.content }
-
--- the regions that the component at a use's place brings along
-abbrev pub provided_at : List Component → Option ComponentUse → List Provided
-provided_at components None = []
-provided_at components (Some used) = option_map_or (λ c. c.provides) (slice_get components used.used) []
 
 unfoldable pub brought_at : List Component → Subject → List Filled
 brought_at components s = map (filled_provided s.name) (provided_at components s.component)

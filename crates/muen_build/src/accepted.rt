@@ -76,6 +76,16 @@ impl ComponentFiles {
         }
     }
 
+    /// The bytes of the file of this name, if it was read.
+    pub fn bytes(&self, name: Name) -> Option<&[u8]>
+        ensures { option_map (λ bytes. bytes.now) result ≡ find_bytes name self.now }
+    {
+        match self.files.get(&name) {
+            None => None,
+            Some(bytes) => Some(bytes.items()),
+        }
+    }
+
     /// Adds a file that wasn't read before.
     pub fn add(&mut self, name: Name, bytes: Seq<u8>) -> Result<(), NoMemory>
         requires { find_bytes name self.old ≡ None }

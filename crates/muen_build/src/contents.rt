@@ -4,7 +4,8 @@ ghost use Rattle.muen_num.specs.Search.{as_refusal};
 ghost use Rattle.muen_outside.specs.Store.{find_bytes, whole};
 ghost use Rattle.policy_lawful.specs.Resolution.{source_of};
 ghost use Rattle.muen_build.specs.Accepting.{Ends, Grows, IsAdded, Known, NotFound, NotRead, Passes, Refuses, looks_of, of_all, of_brought, of_filled, part_length};
-ghost use Rattle.muen_build.specs.Filling.{brought_at, filled, filled_provided, filled_region, provided_at};
+ghost use Rattle.expand_kernel.specs.ByPlace.{provided_at};
+ghost use Rattle.muen_build.specs.Filling.{brought_at, filled, filled_provided, filled_region};
 ghost use Rattle.muen_build.specs.Looks.{Follows, Saw};
 ghost use Rattle.muen_build.specs.Refusals.{filled_of, too_long_for};
 
@@ -189,7 +190,10 @@ fn check_provided<F: Files>(
 }
 
 // The regions that a subject's component brings along.
-fn provided_by<'a>(components: &'a [Component], used: &Option<ComponentUse>) -> &'a [Provided]
+pub(crate) fn provided_by<'a>(
+    components: &'a [Component],
+    used: &Option<ComponentUse>,
+) -> &'a [Provided]
     ensures { result.now ≡ provided_at components.now used.now }
 {
     match used {

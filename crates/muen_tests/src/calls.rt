@@ -4,7 +4,7 @@ use muen_top::muen;
 use std::alloc::Global;
 use std::test::Fail;
 
-const POLICY: &[u8] = b"{\"processor\":{\"logicalCpus\":1},\
+pub(crate) const POLICY: &[u8] = b"{\"processor\":{\"logicalCpus\":1},\
 \"memoryBlocks\":[{\"name\":\"ram\",\"physicalAddress\":1048576,\"size\":65536}],\
 \"memory\":[{\"name\":\"code\",\"size\":4096,\"content\":{\"hex\":\"01100000050000001700000000000000\"}}],\
 \"subjects\":[{\"name\":\"one\",\"cpu\":0,\"entry\":4194304,\
@@ -121,15 +121,15 @@ const TWO_CPUS: &[u8] = b"{\"processor\":{\"logicalCpus\":2},\
 
 const NO_SUBJECT: &[u8] = b"{\"processor\":{\"logicalCpus\":1},\"scheduling\":{}}";
 
-const USAGE: &[u8] =
+pub(crate) const USAGE: &[u8] =
     b"muen: usage: build POLICY IMAGE, run IMAGE RECORD, boot POLICY RECORD, map POLICY, flows POLICY, load NUMBER, verify IMAGE POLICY, build POLICY IMAGE DMA, run IMAGE RECORD DMA\n";
 
 // How a call ends: its status, and what the sinks hold.
 #[derive(Drop)]
-struct Ended {
-    status: u8,
-    out: Vec<u8>,
-    err: Vec<u8>,
+pub(crate) struct Ended {
+    pub(crate) status: u8,
+    pub(crate) out: Vec<u8>,
+    pub(crate) err: Vec<u8>,
 }
 
 fn file(alloc: Global, name: &str, bytes: &[u8]) -> Result<(String, Vec<u8>), Fail> {
@@ -140,7 +140,7 @@ fn file(alloc: Global, name: &str, bytes: &[u8]) -> Result<(String, Vec<u8>), Fa
 }
 
 // The files of the calls below; the calls of these numbers fail.
-fn files(alloc: Global, fails: &[u64]) -> Result<MemFiles, Fail> {
+pub(crate) fn files(alloc: Global, fails: &[u64]) -> Result<MemFiles, Fail> {
     let mut held = Vec::new(alloc);
     held.push(file(alloc, "p", POLICY)?)?;
     held.push(file(alloc, "zero", b"end 0")?)?;
@@ -158,7 +158,7 @@ fn files(alloc: Global, fails: &[u64]) -> Result<MemFiles, Fail> {
     Ok(MemFiles::make(held, Vec::from_slice(alloc, fails)?))
 }
 
-fn call(
+pub(crate) fn call(
     alloc: Global,
     words: &[&str],
     files: &mut MemFiles,

@@ -5,7 +5,7 @@ use Rattle.std.specs.FinMap.{get}
 use Rattle.muen_num.specs.Answers.{Answers, Explains}
 use Rattle.muen_num.specs.declared.limits.TheConstants.{POLICY_MOST, RECORD_MOST}
 use Rattle.muen_build.specs.Accepting.{Accepts, Ends, Files, Grows, RefusedFor, RefusesDocument, looks_of}
-use Rattle.muen_build.specs.Looks.{Explained, Follows, Look, Saw, Seen, document_look, look}
+use Rattle.muen_build.specs.Looks.{Explained, Follows, Look, Saw, document_look, look}
 use Rattle.muen_build.specs.Refusals.{accepted_policy_of, is_for_a_file}
 use Rattle.muen_build.specs.declared.accepted.BuildEnd.{BuildEnd}
 use Rattle.muen_build.specs.declared.accepted.BuildEnd.TheVariants.{Refused as RefusedPolicy, FileFault as FaultOfFiles}
@@ -40,7 +40,7 @@ use Rattle.muen_top.specs.declared.outcome.Stop.{Stop}
 use Rattle.muen_top.specs.declared.outcome.Stop.TheVariants.{Usage, Missing, TooLong, Refused, RecordRefused, FileFault, NoMemory}
 use Rattle.record_text.specs.declared.fault.RecordFault.{RecordFault}
 use Rattle.record_text.specs.declared.fault.RecordFault.TheVariants.{NoMemory as NoMemoryForRecord}
-use Rattle.muen_top.proofs.FilesSeen.{shown_both}
+use Rattle.muen_top.proofs.FilesSeen.{explained_after, shown_both}
 use Rattle.muen_top.proofs.NothingLacking.{can_load, same_contents}
 
 -- ---- the answer, as far as is known what files hold
@@ -129,13 +129,9 @@ of_refusal policy name old new (FileFit region room length) h = h
 of_refusal policy name old new (NoRoom region size) h = h
 
 module _ (policy name : List ℕ) (old between : FilesState) (bytes : List ℕ) (saw : Saw policy POLICY_MOST (whole bytes) old between) (follows : Follows old between) where
-  seen_document : Seen old.held (document_look policy bytes ∷ [])
-  seen_document = seen_first policy POLICY_MOST (whole bytes) old between saw
-
   -- files that explain what was seen after the document
   after_document : (after : List Look) → Grows between.held (document_look policy bytes ∷ []) after → Explained old.held after
-  after_document after grows =
-      explained old.held after ((subst (λ held. Grows held (document_look policy bytes ∷ []) after) follows.held grows).seen seen_document)
+  after_document after grows = explained_after policy bytes old between saw follows after grows
 
   refused_so : (new : FilesState) (r : Refusal) → RefusedFor (document_look policy bytes ∷ []) (RefusesDocument bytes) between new r → NotReady policy name old new (Refused r)
   refused_so new r h =

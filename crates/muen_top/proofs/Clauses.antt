@@ -3,7 +3,7 @@ use Rattle.std.proofs.Common.{◌≡◌, inl, inr, ◌⊎◌, ◌≢◌, ℕ, Li
 use Rattle.std.specs.FinMap.{get}
 use Rattle.muen_outside.specs.Counts.{Rose}
 use Rattle.muen_outside.specs.States.{FilesState, SinkState}
-use Rattle.muen_outside.specs.Puts.{Appended, Failed}
+use Rattle.muen_outside.specs.Puts.{Failed}
 use Rattle.muen_outside.specs.Store.{Store, Reading, whole, absent, long, reading_of}
 use Rattle.policy_types.specs.declared.source.Source.{Source}
 use Rattle.policy_types.specs.declared.refusal.Refusal.{Refusal}
@@ -13,12 +13,12 @@ use Rattle.record_text.specs.Reading.{record_of}
 use Rattle.subject_model.specs.Bench.{devices_of}
 use Rattle.muen_build.specs.Refusals.{accepted_policy_of, laid_policy_of, lawful_policy_of}
 use Rattle.record_text.specs.declared.fault.RecordFault.{RecordFault}
-use Rattle.muen_top.specs.Answers.{Reason, usage, missing, too_long, refused, record_refused, Answer, prints, stops, of_file, run_answer, carried_answer, policy_answer, boot_answer, map_answer, map_policy_answer, flows_answer, flows_policy_answer, answer_of}
+use Rattle.muen_top.specs.Answers.{Reason, usage, missing, too_long, refused, record_refused, Answer, prints, writes, stops, of_file, image_answer, build_answer, run_answer, carried_answer, policy_answer, boot_answer, map_answer, map_policy_answer, flows_answer, flows_policy_answer, answer_of}
 use Rattle.muen_top.specs.Lacking.{lacking}
 use Rattle.muen_top.specs.declared.lacking.Lack.{Lack}
 use Rattle.muen_num.specs.declared.limits.TheConstants.{RECORD_MOST}
-use Rattle.muen_top.specs.Calls.{Prints, StopsFor, ComesOf, Ran, IsFault, Answered, RefusesPolicy, LacksFile, RefusesRecord}
-use Rattle.muen_top.specs.Commands.{Command, boot, map, flows, command_of}
+use Rattle.muen_top.specs.Calls.{IsDone, Prints, StopsFor, ComesOf, Ran, IsFault, Answered, RefusesPolicy, LacksFile, RefusesRecord}
+use Rattle.muen_top.specs.Commands.{Command, build, boot, map, flows, command_of}
 use Rattle.muen_top.specs.Reports.{refusal_status, reason_status, reason_text, status_of, stop_status, stop_text, Told, Reported, Ends}
 use Rattle.muen_top.specs.declared.outcome.Outcome.{Outcome}
 use Rattle.muen_top.specs.declared.outcome.Outcome.TheVariants.{Done, Stopped, OutputFault}
@@ -29,7 +29,7 @@ use Rattle.muen_top.specs.declared.outcome.Stop.TheVariants.{Usage, Missing, Too
 
 -- its answer was given, or a call failed, or memory was refused
 data Comes (answer : Answer) (old new : FilesState) (out out' err err' : SinkState) (status : ℕ) : Type 0 where
-  printed : (text : List ℕ) → status ≡ 0 → answer ≡ prints text → Appended text out out' → err' ≡ err → Comes answer old new out out' err err' status
+  done : status ≡ 0 → IsDone answer old new out out' → err' ≡ err → Comes answer old new out out' err err' status
   cut_off : (text : List ℕ) → status ≡ 7 → answer ≡ prints text → Failed text out out' → Comes answer old new out out' err err' status
   stopped : (reason : Reason) → status ≡ reason_status reason → answer ≡ stops reason → out' ≡ out → Told (reason_text reason) err err' → (reason_status reason ≡ 3 → Rose old.misses new.misses) → Comes answer old new out out' err err' status
   failed : status ≡ 4 → Rose old.faults new.faults → out' ≡ out → Comes answer old new out out' err err' status
@@ -49,9 +49,9 @@ module _ (old new : FilesState) (out out' err err' : SinkState) (status : ℕ) w
   of_stop answer NoMemory is for quiet told = no_memory is quiet
 
   of_outcome : (answer : Answer) (outcome : Outcome) → status ≡ status_of outcome → ComesOf answer old new out out' outcome → Reported err err' outcome → Of answer
-  of_outcome (prints text) Done is came told = printed text is refl came told
-  of_outcome (stops reason) Done is came told = absurd came
+  of_outcome answer Done is came told = done is came told
   of_outcome (prints text) OutputFault is came told = cut_off text is refl came
+  of_outcome (writes image p files) OutputFault is came told = absurd came
   of_outcome (stops reason) OutputFault is came told = absurd came
   of_outcome answer (Stopped stop) is came told = of_stop answer stop is came.0 came.1 told
 
@@ -148,6 +148,10 @@ no_usage_of_policy : (files : Store) (name : List ℕ) (r : Result Source Refusa
 no_usage_of_policy files name (Ok p) e = no_usage_of_carried files p name (lacking p) e
 no_usage_of_policy files name (Err refusal) e = cc
 
+no_usage_of_image : (files : Store) (image : List ℕ) (r : Result Source Refusal) → image_answer files image r ≡ stops usage → ⊥
+no_usage_of_image files image (Ok p) e = cc
+no_usage_of_image files image (Err refusal) e = cc
+
 no_usage_of_map : (r : Result Source Refusal) → map_policy_answer r ≡ stops usage → ⊥
 no_usage_of_map (Ok p) e = cc
 no_usage_of_map (Err refusal) e = cc
@@ -157,8 +161,10 @@ no_usage_of_flows (Ok p) e = cc
 no_usage_of_flows (Err refusal) e = cc
 
 no_usage : (files : Store) (command : Option Command) → answer_of files command ≡ stops usage → command ≡ None
-unfolding boot_answer map_answer flows_answer
+unfolding build_answer boot_answer map_answer flows_answer
 no_usage files None e = refl
+no_usage files (Some (build policy image)) e =
+    absurd (no_usage_of_file policy _ _ (λ bytes h. no_usage_of_image files image (accepted_policy_of files bytes) h) e)
 no_usage files (Some (boot policy name)) e =
     absurd (no_usage_of_file policy _ _ (λ bytes h. no_usage_of_policy files name (accepted_policy_of files bytes) h) e)
 no_usage files (Some (map policy)) e =
@@ -193,10 +199,10 @@ module _ (words : List (List ℕ)) (old new : FilesState) (out out' err err' : S
   unfolding given
   answered Such h = record { files = ran.came.files; told = ran.came.told; such = h }
 
-  pub prints_clause : status ≡ 0 → Answered words old.held (λ answer. Prints answer (λ text. Appended text out out'))
-  prints_clause zero =
+  pub done_clause : status ≡ 0 → Answered words old.held (λ answer. IsDone answer old new out out')
+  done_clause zero =
       elim came [
-        | printed text is eq put quiet ↦ answered _ (subst (λ a. Prints a (λ text. Appended text out out')) (sym eq) put)
+        | done is did quiet ↦ answered _ did
         | cut_off text is eq put ↦ absurd (omega arith)
         | stopped reason is eq quiet told rose ↦ absurd (no_reason reason 0 not_zero (sym zero ∙ is))
         | failed is rose quiet ↦ absurd (omega arith)
@@ -206,7 +212,7 @@ module _ (words : List (List ℕ)) (old new : FilesState) (out out' err err' : S
   pub prefix_clause : status ≡ 7 → Answered words old.held (λ answer. Prints answer (λ text. Failed text out out'))
   prefix_clause seven =
       elim came [
-        | printed text is eq put quiet ↦ absurd (omega arith)
+        | done is did quiet ↦ absurd (omega arith)
         | cut_off text is eq put ↦ answered _ (subst (λ a. Prints a (λ text. Failed text out out')) (sym eq) put)
         | stopped reason is eq quiet told rose ↦ absurd (no_reason reason 7 not_seven (sym seven ∙ is))
         | failed is rose quiet ↦ absurd (omega arith)
@@ -216,7 +222,7 @@ module _ (words : List (List ℕ)) (old new : FilesState) (out out' err err' : S
   pub policy_clause : status ≡ 2 → Answered words old.held (RefusesPolicy err err')
   policy_clause two =
       elim came [
-        | printed text is eq put quiet ↦ absurd (omega arith)
+        | done is did quiet ↦ absurd (omega arith)
         | cut_off text is eq put ↦ absurd (omega arith)
         | stopped reason is eq quiet told rose ↦ answered _ (subst (RefusesPolicy err err') (sym eq) (policy_reason err err' reason (sym is ∙ two) told))
         | failed is rose quiet ↦ absurd (omega arith)
@@ -226,7 +232,7 @@ module _ (words : List (List ℕ)) (old new : FilesState) (out out' err err' : S
   pub file_clause : status ≡ 3 → Answered words old.held (LacksFile err err')
   file_clause three =
       elim came [
-        | printed text is eq put quiet ↦ absurd (omega arith)
+        | done is did quiet ↦ absurd (omega arith)
         | cut_off text is eq put ↦ absurd (omega arith)
         | stopped reason is eq quiet told rose ↦ answered _ (subst (LacksFile err err') (sym eq) (file_reason err err' reason (sym is ∙ three) told))
         | failed is rose quiet ↦ absurd (omega arith)
@@ -236,7 +242,7 @@ module _ (words : List (List ℕ)) (old new : FilesState) (out out' err err' : S
   pub record_clause : status ≡ 6 → Answered words old.held (RefusesRecord err err')
   record_clause six =
       elim came [
-        | printed text is eq put quiet ↦ absurd (omega arith)
+        | done is did quiet ↦ absurd (omega arith)
         | cut_off text is eq put ↦ absurd (omega arith)
         | stopped reason is eq quiet told rose ↦ answered _ (subst (RefusesRecord err err') (sym eq) (record_reason err err' reason (sym is ∙ six) told))
         | failed is rose quiet ↦ absurd (omega arith)
@@ -249,10 +255,15 @@ module _ (words : List (List ℕ)) (old new : FilesState) (out out' err err' : S
       from_some old.held (λ m. P (answer_of m (command_of words)))
       (λ m e. subst (λ f. P (answer_of f (command_of words))) (at_some old.held (λ m. ran.came.files ≡ m) m e ran.came.told) h)
 
+  ends_done : (answer : Answer) → IsDone answer old new out out' → status ≡ 0 → err' ≡ err → Ends answer err err' status
+  ends_done (prints text) did is quiet = (is, quiet)
+  ends_done (writes image p files) did is quiet = (is, quiet)
+  ends_done (stops reason) did is quiet = absurd did
+
   pub told_clause : IsFault status ⊎ IfSome old.held (λ m. Ends (answer_of m (command_of words)) err err' status)
   told_clause =
       elim came [
-        | printed text is eq put quiet ↦ inr (over_told (λ a. Ends a err err' status) (subst (λ a. Ends a err err' status) (sym eq) (is, quiet)))
+        | done is did quiet ↦ inr (over_told (λ a. Ends a err err' status) (ends_done given did is quiet))
         | cut_off text is eq put ↦ inl (inr (inl is))
         | stopped reason is eq quiet told rose ↦ inr (over_told (λ a. Ends a err err' status) (subst (λ a. Ends a err err' status) (sym eq) (is, told)))
         | failed is rose quiet ↦ inl (inl is)
@@ -263,7 +274,7 @@ module _ (words : List (List ℕ)) (old new : FilesState) (out out' err err' : S
   unfolding given
   usage_clause one =
       elim came [
-        | printed text is eq put quiet ↦ absurd (omega arith)
+        | done is did quiet ↦ absurd (omega arith)
         | cut_off text is eq put ↦ absurd (omega arith)
         | stopped reason is eq quiet told rose ↦ no_usage ran.came.files (command_of words) (eq ∙ ap stops (is_usage reason (sym is ∙ one)))
         | failed is rose quiet ↦ absurd (omega arith)
@@ -273,7 +284,7 @@ module _ (words : List (List ℕ)) (old new : FilesState) (out out' err err' : S
   pub missed_clause : status ≡ 3 → Rose old.misses new.misses
   missed_clause three =
       elim came [
-        | printed text is eq put quiet ↦ absurd (omega arith)
+        | done is did quiet ↦ absurd (omega arith)
         | cut_off text is eq put ↦ absurd (omega arith)
         | stopped reason is eq quiet told rose ↦ rose (sym is ∙ three)
         | failed is rose quiet ↦ absurd (omega arith)
@@ -283,7 +294,7 @@ module _ (words : List (List ℕ)) (old new : FilesState) (out out' err err' : S
   pub failed_clause : status ≡ 4 → Rose old.faults new.faults
   failed_clause four =
       elim came [
-        | printed text is eq put quiet ↦ absurd (omega arith)
+        | done is did quiet ↦ absurd (omega arith)
         | cut_off text is eq put ↦ absurd (omega arith)
         | stopped reason is eq quiet told rose ↦ absurd (no_reason reason 4 not_four (sym four ∙ is))
         | failed is rose quiet ↦ rose
@@ -293,7 +304,7 @@ module _ (words : List (List ℕ)) (old new : FilesState) (out out' err err' : S
   pub out_rose_clause : status ≡ 7 → Rose out.faults out'.faults
   out_rose_clause seven =
       elim came [
-        | printed text is eq put quiet ↦ absurd (omega arith)
+        | done is did quiet ↦ absurd (omega arith)
         | cut_off text is eq put ↦ put.rose
         | stopped reason is eq quiet told rose ↦ absurd (no_reason reason 7 not_seven (sym seven ∙ is))
         | failed is rose quiet ↦ absurd (omega arith)
@@ -303,7 +314,7 @@ module _ (words : List (List ℕ)) (old new : FilesState) (out out' err err' : S
   pub quiet_out_clause : status ≢ 0 → status ≢ 7 → out' ≡ out
   quiet_out_clause zero seven =
       elim came [
-        | printed text is eq put quiet ↦ absurd (zero is)
+        | done is did quiet ↦ absurd (zero is)
         | cut_off text is eq put ↦ absurd (seven is)
         | stopped reason is eq quiet told rose ↦ quiet
         | failed is rose quiet ↦ quiet
@@ -313,7 +324,7 @@ module _ (words : List (List ℕ)) (old new : FilesState) (out out' err err' : S
   pub quiet_err_clause : status ≡ 0 → err' ≡ err
   quiet_err_clause zero =
       elim came [
-        | printed text is eq put quiet ↦ quiet
+        | done is did quiet ↦ quiet
         | cut_off text is eq put ↦ absurd (omega arith)
         | stopped reason is eq quiet told rose ↦ absurd (no_reason reason 0 not_zero (sym zero ∙ is))
         | failed is rose quiet ↦ absurd (omega arith)

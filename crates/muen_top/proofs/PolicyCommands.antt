@@ -29,23 +29,23 @@ use Rattle.muen_top.specs.declared.outcome.Stop.{Stop}
 use Rattle.muen_top.specs.declared.outcome.Stop.TheVariants.{Usage, Missing, TooLong, Refused, RecordRefused, FileFault, NoMemory}
 use Rattle.muen_top.proofs.Booting.{for_a_file, some_files}
 
--- ---- a command whose answer rests on the policy's file alone
+-- ---- a command that begins with the policy's file
 
-abbrev RestsOn : List ℕ → (List ℕ → Answer) → Command → Type 0
-RestsOn policy next command = (files : Store) → answer_of files (Some command) ≡ of_file policy next (reading_of (get files policy) POLICY_MOST)
+abbrev pub RestsOn : List ℕ → (Store → List ℕ → Answer) → Command → Type 0
+RestsOn policy next command = (files : Store) → answer_of files (Some command) ≡ of_file policy (next files) (reading_of (get files policy) POLICY_MOST)
 
-module _ (policy : List ℕ) (next : List ℕ → Answer) (command : Command) (rests : RestsOn policy next command) (old new : FilesState) where
-  out_of_memory : Stops command old new NoMemory
+module _ (policy : List ℕ) (next : Store → List ℕ → Answer) (command : Command) (rests : RestsOn policy next command) (old new : FilesState) where
+  pub out_of_memory : Stops command old new NoMemory
   out_of_memory = let s = some_files old.held in record { files = s.files; told = s.told; stops = tt }
 
   shown : (reading : Reading) → Saw policy POLICY_MOST reading old new → Explained old.held (look policy POLICY_MOST reading ∷ [])
   shown reading saw = explained old.held (look policy POLICY_MOST reading ∷ []) (seen_first policy POLICY_MOST reading old new saw)
 
-  by_reading : (files : Store) (reading : Reading) → reading_of (get files policy) POLICY_MOST ≡ reading → answer_of files (Some command) ≡ of_file policy next reading
-  by_reading files reading is = rests files ∙ ap (of_file policy next) is
+  by_reading : (files : Store) (reading : Reading) → reading_of (get files policy) POLICY_MOST ≡ reading → answer_of files (Some command) ≡ of_file policy (next files) reading
+  by_reading files reading is = rests files ∙ ap (of_file policy (next files)) is
 
   -- the file isn't read
-  not_read : (stop : Stop) → NotRead policy POLICY_MOST old new stop → Stops command old new stop
+  pub not_read : (stop : Stop) → NotRead policy POLICY_MOST old new stop → Stops command old new stop
   not_read (Missing n) h =
       let s = shown absent h.1 in
       record { files = s.files; told = s.told; stops = (by_reading s.files absent s.shows.0 ∙ ap (λ x. stops (missing x)) (sym h.0), h.1.missed tt) }
@@ -59,22 +59,22 @@ module _ (policy : List ℕ) (next : List ℕ → Answer) (command : Command) (r
   not_read (RecordRefused r) h = absurd h
 
   -- it is read, and so is the policy
-  gives : (bytes : List ℕ) (answer : Answer) → Saw policy POLICY_MOST (whole bytes) old new → next bytes ≡ answer → Gives command old answer
+  gives : (bytes : List ℕ) (answer : Answer) → Saw policy POLICY_MOST (whole bytes) old new → ((files : Store) → next files bytes ≡ answer) → Gives command old answer
   gives bytes answer saw is =
       let s = shown (whole bytes) saw in
-      record { files = s.files; told = s.told; is = by_reading s.files (whole bytes) s.shows.0 ∙ is }
+      record { files = s.files; told = s.told; is = by_reading s.files (whole bytes) s.shows.0 ∙ is s.files }
 
   -- the policy is refused, for no other file
-  refused_so : (bytes : List ℕ) (r : Refusal) → Saw policy POLICY_MOST (whole bytes) old new → next bytes ≡ stops (refused r) → is_for_a_file r ≡ false → Stops command old new (Refused r)
+  refused_so : (bytes : List ℕ) (r : Refusal) → Saw policy POLICY_MOST (whole bytes) old new → ((files : Store) → next files bytes ≡ stops (refused r)) → is_for_a_file r ≡ false → Stops command old new (Refused r)
   refused_so bytes r saw is none =
       let s = shown (whole bytes) saw in
       record {
         files = s.files;
         told = s.told;
-        stops = (by_reading s.files (whole bytes) s.shows.0 ∙ is, λ three. absurd (false≢true (sym none ∙ for_a_file r three)));
+        stops = (by_reading s.files (whole bytes) s.shows.0 ∙ is s.files, λ three. absurd (false≢true (sym none ∙ for_a_file r three)));
       }
 
-  of_refusal : (r : Refusal) → Stops command old new (Refused r) → Stops command old new (stop_of_refusal r)
+  pub of_refusal : (r : Refusal) → Stops command old new (Refused r) → Stops command old new (stop_of_refusal r)
   of_refusal NoMemoryFor h = out_of_memory
   of_refusal NotJson h = h
   of_refusal (Shape place want) h = h
@@ -85,7 +85,7 @@ module _ (policy : List ℕ) (next : List ℕ → Answer) (command : Command) (r
   of_refusal (NoRoom region size) h = h
 
   policy_refused : (bytes : List ℕ) (wanted : Result Source Refusal) (r : Refusal) (stop : Stop) → Saw policy POLICY_MOST (whole bytes) old new → Answers NoMemoryFor wanted (Err r)
-      → (wanted ≡ Err r → next bytes ≡ stops (refused r)) → (wanted ≡ Err r → is_for_a_file r ≡ false) → stop ≡ stop_of_refusal r → Stops command old new stop
+      → (wanted ≡ Err r → (files : Store) → next files bytes ≡ stops (refused r)) → (wanted ≡ Err r → is_for_a_file r ≡ false) → stop ≡ stop_of_refusal r → Stops command old new stop
   policy_refused bytes wanted r stop saw (inl is) answer none made =
       let out : stop ≡ NoMemory = made ∙ ap stop_of_refusal is in
       subst (Stops command old new) (sym out) out_of_memory
@@ -94,8 +94,8 @@ module _ (policy : List ℕ) (next : List ℕ → Answer) (command : Command) (r
 
 -- ---- `map`
 
-map_next : List ℕ → Answer
-map_next bytes = map_policy_answer (laid_policy_of bytes)
+map_next : Store → List ℕ → Answer
+map_next files bytes = map_policy_answer (laid_policy_of bytes)
 
 rests_map : (policy : List ℕ) → RestsOn policy map_next (map policy)
 unfolding map_answer map_next
@@ -108,16 +108,16 @@ module _ (policy : List ℕ) (old new : FilesState) where
   pub map_refused : (bytes : List ℕ) (r : Refusal) (stop : Stop) → Saw policy POLICY_MOST (whole bytes) old new → Answers NoMemoryFor (laid_policy_of bytes) (Err r) → stop ≡ stop_of_refusal r → Stops (map policy) old new stop
   unfolding map_next
   map_refused bytes r stop saw h made =
-      policy_refused policy map_next (map policy) (rests_map policy) old new bytes (laid_policy_of bytes) r stop saw h (ap map_policy_answer) (laid_for_no_file bytes r) made
+      policy_refused policy map_next (map policy) (rests_map policy) old new bytes (laid_policy_of bytes) r stop saw h (λ e files. ap map_policy_answer e) (laid_for_no_file bytes r) made
 
   pub map_gives : (bytes : List ℕ) (p : Source) → Saw policy POLICY_MOST (whole bytes) old new → laid_policy_of bytes ≡ Ok p → Gives (map policy) old (prints (map_text_of p))
   unfolding map_next
-  map_gives bytes p saw is = gives policy map_next (map policy) (rests_map policy) old new bytes (prints (map_text_of p)) saw (ap map_policy_answer is)
+  map_gives bytes p saw is = gives policy map_next (map policy) (rests_map policy) old new bytes (prints (map_text_of p)) saw (λ files. ap map_policy_answer is)
 
 -- ---- `flows`
 
-flows_next : List ℕ → Answer
-flows_next bytes = flows_policy_answer (lawful_policy_of bytes)
+flows_next : Store → List ℕ → Answer
+flows_next files bytes = flows_policy_answer (lawful_policy_of bytes)
 
 rests_flows : (policy : List ℕ) → RestsOn policy flows_next (flows policy)
 unfolding flows_answer flows_next
@@ -130,11 +130,11 @@ module _ (policy : List ℕ) (old new : FilesState) where
   pub flows_refused : (bytes : List ℕ) (r : Refusal) (stop : Stop) → Saw policy POLICY_MOST (whole bytes) old new → Answers NoMemoryFor (lawful_policy_of bytes) (Err r) → stop ≡ stop_of_refusal r → Stops (flows policy) old new stop
   unfolding flows_next
   flows_refused bytes r stop saw h made =
-      policy_refused policy flows_next (flows policy) (rests_flows policy) old new bytes (lawful_policy_of bytes) r stop saw h (ap flows_policy_answer) (for_no_file bytes r) made
+      policy_refused policy flows_next (flows policy) (rests_flows policy) old new bytes (lawful_policy_of bytes) r stop saw h (λ e files. ap flows_policy_answer e) (for_no_file bytes r) made
 
   pub flows_gives : (bytes : List ℕ) (p : Source) → Saw policy POLICY_MOST (whole bytes) old new → lawful_policy_of bytes ≡ Ok p → Gives (flows policy) old (prints (flow_text_of p))
   unfolding flows_next
-  flows_gives bytes p saw is = gives policy flows_next (flows policy) (rests_flows policy) old new bytes (prints (flow_text_of p)) saw (ap flows_policy_answer is)
+  flows_gives bytes p saw is = gives policy flows_next (flows policy) (rests_flows policy) old new bytes (prints (flow_text_of p)) saw (λ files. ap flows_policy_answer is)
 
 -- ---- the end
 

@@ -10,7 +10,7 @@ use Rattle.policy_types.specs.declared.refusal.Refusal.{Refusal}
 use Rattle.policy_types.specs.declared.source.Source.{Source}
 use Rattle.record_text.specs.DeviceRecord.{DeviceRecord}
 use Rattle.subject_model.specs.Run.{trace_of}
-use Rattle.muen_top.specs.Commands.{Command, boot, map, flows}
+use Rattle.muen_top.specs.Commands.{Command, build, boot, map, flows}
 use Rattle.record_text.specs.Reading.{record_of}
 use Rattle.subject_model.specs.Bench.{devices_of}
 use Rattle.muen_build.specs.Refusals.{accepted_policy_of, laid_policy_of, lawful_policy_of}
@@ -18,7 +18,7 @@ use Rattle.muen_top.specs.Lacking.{lack_refusal, lacking}
 use Rattle.muen_top.specs.declared.lacking.Lack.{Lack}
 use Rattle.record_text.specs.declared.fault.RecordFault.{RecordFault}
 
--- why a command prints nothing
+-- why a command prints and writes nothing
 pub data Reason : Type 0 where
   -- the words have no command's form
   usage : Reason
@@ -34,6 +34,8 @@ pub data Reason : Type 0 where
 pub data Answer : Type 0 where
   -- this text is printed
   prints : List ℕ → Answer
+  -- an image that is sound for this policy over these files is written under this name, and nothing is printed
+  writes : List ℕ → Source → Held → Answer
   -- nothing is printed, for this reason
   stops : Reason → Answer
 
@@ -42,6 +44,16 @@ abbrev pub of_file : List ℕ → (List ℕ → Answer) → Reading → Answer
 of_file name next (whole bytes) = next bytes
 of_file name next absent = stops (missing name)
 of_file name next (long n) = stops (too_long name n)
+
+-- ---- `build`: the policy's file, the policy with its contents and its room, the image
+
+abbrev pub image_answer : Held → List ℕ → Result Source Refusal → Answer
+image_answer files image (Ok p) = writes image p files
+image_answer files image (Err refusal) = stops (refused refusal)
+
+unfoldable pub build_answer : Held → List ℕ → List ℕ → Answer
+build_answer files policy image =
+    of_file policy (λ bytes. image_answer files image (accepted_policy_of files bytes)) (reading_of (get files policy) POLICY_MOST)
 
 -- ---- `boot`: the policy's file, the policy with its contents and its room, what the machine lacks of it, the record's file, the record, the run
 
@@ -88,6 +100,7 @@ flows_answer files policy = of_file policy (λ bytes. flows_policy_answer (lawfu
 -- the answer to these words' command
 abbrev pub answer_of : Held → Option Command → Answer
 answer_of files None = stops usage
+answer_of files (Some (build policy image)) = build_answer files policy image
 answer_of files (Some (boot policy name)) = boot_answer files policy name
 answer_of files (Some (map policy)) = map_answer files policy
 answer_of files (Some (flows policy)) = flows_answer files policy

@@ -4,8 +4,9 @@ use Rattle.muen_outside.specs.Counts.{Rose}
 use Rattle.muen_outside.specs.States.{FilesState, SinkState}
 use Rattle.muen_outside.specs.Puts.{Appended, Failed}
 use Rattle.muen_outside.specs.Store.{Store}
-use Rattle.muen_top.specs.Answers.{usage, missing, too_long, refused, record_refused, Answer, prints, stops, answer_of}
+use Rattle.muen_top.specs.Answers.{usage, missing, too_long, refused, record_refused, Answer, prints, writes, stops, answer_of}
 use Rattle.muen_top.specs.Commands.{Command, command_of}
+use Rattle.muen_top.specs.Images.{Wrote}
 use Rattle.muen_top.specs.Reports.{reason_text, refusal_status, status_of, Told, Reported}
 use Rattle.muen_top.specs.declared.outcome.Outcome.{Outcome}
 use Rattle.muen_top.specs.declared.outcome.Outcome.TheVariants.{Done, Stopped, OutputFault}
@@ -17,7 +18,13 @@ use Rattle.muen_top.specs.declared.outcome.Stop.TheVariants.{Usage, Missing, Too
 -- a text is printed, and this holds of it
 abbrev pub Prints : Answer → (List ℕ → Type 0) → Type 0
 Prints (prints text) Holds = Holds text
-Prints (stops reason) Holds = ⊥
+Prints _ Holds = ⊥
+
+-- it is done as it is answered: the text is put, or an image is written and nothing is put
+abbrev pub IsDone : Answer → FilesState → FilesState → SinkState → SinkState → Type 0
+IsDone (prints text) old new out out' = Appended text out out'
+IsDone (writes image p files) old new out out' = Wrote image p files old new × (out' ≡ out)
+IsDone (stops reason) old new out out' = ⊥
 
 -- nothing is printed: so it is answered, or a call on files failed, or memory was refused. A file that is missing or too
 -- long is a miss
@@ -32,7 +39,7 @@ StopsFor answer old new FileFault = Rose old.faults new.faults
 StopsFor answer old new NoMemory = Unit {0}
 
 abbrev pub ComesOf : Answer → FilesState → FilesState → SinkState → SinkState → Outcome → Type 0
-ComesOf answer old new out out' Done = Prints answer (λ text. Appended text out out')
+ComesOf answer old new out out' Done = IsDone answer old new out out'
 ComesOf answer old new out out' (Stopped stop) = StopsFor answer old new stop × (out' ≡ out)
 ComesOf answer old new out out' OutputFault = Prints answer (λ text. Failed text out out')
 

@@ -3,6 +3,8 @@ use Rattle.std.specs.Prelude.{ℕ, List, [], ◌∷◌, Option, Some, None, code
 use Rattle.std.specs.Str.{bytes_eq}
 
 pub data Command : Type 0 where
+  -- a policy and an image, by the names of their files: the policy's image is written
+  build : List ℕ → List ℕ → Command
   -- a policy and a device record, by the names of their files: the policy's system runs on the record
   boot : List ℕ → List ℕ → Command
   -- a policy, by the name of its file: its places and windows are printed
@@ -16,5 +18,6 @@ command_of [] = None
 command_of (word ∷ []) = None
 command_of (word ∷ a ∷ []) =
     if bytes_eq word (codes "map") then Some (map a) else (if bytes_eq word (codes "flows") then Some (flows a) else None)
-command_of (word ∷ a ∷ b ∷ []) = if bytes_eq word (codes "boot") then Some (boot a b) else None
+command_of (word ∷ a ∷ b ∷ []) =
+    if bytes_eq word (codes "build") then Some (build a b) else (if bytes_eq word (codes "boot") then Some (boot a b) else None)
 command_of (word ∷ a ∷ b ∷ c ∷ rest) = None

@@ -2,6 +2,8 @@ pub mod Answers
 pub mod Calls
 pub mod Commands
 pub mod FilesSeen
+pub mod Images
+pub mod Kept
 pub mod Lacking
 pub mod Lacks
 pub mod Loads

@@ -5,7 +5,7 @@ use Rattle.muen_outside.specs.Puts.{Appended, Failed}
 use Rattle.policy_types.specs.Refusals.{refusal_text}
 use Rattle.policy_types.specs.declared.refusal.Refusal.{Refusal}
 use Rattle.policy_types.specs.declared.refusal.Refusal.TheVariants.{NotJson, Shape, Rule, Missing as MissingFile, TooLong as TooLongFile, FileFit, NoRoom, NoMemory as NoMemoryFor}
-use Rattle.muen_top.specs.Answers.{Reason, usage, missing, too_long, refused, record_refused, Answer, prints, stops}
+use Rattle.muen_top.specs.Answers.{Reason, usage, missing, too_long, refused, record_refused, Answer, prints, writes, stops}
 use Rattle.record_text.specs.FaultTexts.{record_fault_text}
 use Rattle.muen_top.specs.declared.outcome.Outcome.{Outcome}
 use Rattle.muen_top.specs.declared.outcome.Outcome.TheVariants.{Done, Stopped, OutputFault}
@@ -62,6 +62,7 @@ Told text old new = Appended (line_of text) old new ⊎ Failed (line_of text) ol
 -- a call that answers so has this status, and tells its reason, if there is one
 abbrev pub Ends : Answer → SinkState → SinkState → ℕ → Type 0
 Ends (prints text) err err' status = (status ≡ 0) × (err' ≡ err)
+Ends (writes image p files) err err' status = (status ≡ 0) × (err' ≡ err)
 Ends (stops reason) err err' status = (status ≡ reason_status reason) × Told (reason_text reason) err err'
 
 -- ---- of the outcome of a command

@@ -2,9 +2,11 @@
 ghost use Rattle.std.specs.Prelude.{◌≡◌, None, map, string_bytes};
 ghost use Rattle.muen_top.specs.Calls.{Came, Ran};
 ghost use Rattle.muen_top.specs.Commands.{command_of};
-ghost use Rattle.muen_build.specs.Looks.{Follows};
+ghost use Rattle.muen_top.specs.Kept.{KeepsFiles};
+ghost use Rattle.muen_top.specs.Reports.{status_of};
 
 use crate::boot::boot;
+use crate::build::build;
 use crate::command::Command;
 use crate::outcome::{Outcome, Stop};
 use crate::policy_commands;
@@ -20,11 +22,12 @@ fn work<'a, F: Files, S: Sink>(
     out: &mut S,
 ) -> Outcome<'a>
     ensures came { Came (command_of (map string_bytes words.now)) (F.state files.old) (F.state files.new) (S.state out.old) (S.state out.new) result }
-    ensures follows { Follows (F.state files.old) (F.state files.new) }
+    ensures keeps { KeepsFiles (command_of (map string_bytes words.now)) (status_of result) (F.state files.old) (F.state files.new) }
     ensures no_command { command_of (map string_bytes words.now) ≡ None → (result ≡ Outcome.Stopped Stop.Usage) × (F.state files.new ≡ F.state files.old) }
 {
     match Command::parse(words) {
         Command::Usage => Outcome::Stopped(Stop::Usage),
+        Command::Build { policy, image } => build(alloc, policy, image, files),
         Command::Boot { policy, inputs } => boot(alloc, policy, inputs, files, out),
         Command::Map(policy) => policy_commands::map(alloc, policy, files, out),
         Command::Flows(policy) => policy_commands::flows(alloc, policy, files, out),
@@ -40,7 +43,7 @@ pub(crate) fn call<F: Files, S: Sink, E: Sink>(
     err: &mut E,
 ) -> u8
     ensures ran { Ran (map string_bytes words.now) (F.state files.old) (F.state files.new) (S.state out.old) (S.state out.new) (E.state err.old) (E.state err.new) result }
-    ensures follows { Follows (F.state files.old) (F.state files.new) }
+    ensures keeps { KeepsFiles (command_of (map string_bytes words.now)) result (F.state files.old) (F.state files.new) }
     ensures no_command { command_of (map string_bytes words.now) ≡ None → (result ≡ 1) × (F.state files.new ≡ F.state files.old) }
 {
     let outcome = work(alloc, words, files, out);

@@ -8,6 +8,8 @@ ghost use Rattle.muen_top.specs.Parsed.{asked};
 pub(crate) enum Command<'a> {
     /// The words have no command's form.
     Usage,
+    /// An image is written for a policy, both by the names of their files.
+    Build { policy: &'a str, image: &'a str },
     /// The system of a policy runs on a device record, both by the names of their files.
     Boot { policy: &'a str, inputs: &'a str },
     /// The places and windows of a policy are printed.
@@ -31,11 +33,17 @@ impl<'a> Command<'a> {
                 }
                 Command::Usage
             }
-            [word, policy, inputs] => {
+            [word, policy, second] => {
+                if word.as_str() == "build" {
+                    return Command::Build {
+                        policy: policy.as_str(),
+                        image: second.as_str(),
+                    };
+                }
                 if word.as_str() == "boot" {
                     return Command::Boot {
                         policy: policy.as_str(),
-                        inputs: inputs.as_str(),
+                        inputs: second.as_str(),
                     };
                 }
                 Command::Usage

@@ -3,15 +3,16 @@
 
 ghost use Rattle.std.specs.Prelude.{◌≡◌, ◌≢◌, ◌⊎◌, IfSome, None, map, string_bytes};
 ghost use Rattle.muen_outside.specs.Counts.{Rose};
-ghost use Rattle.muen_outside.specs.Puts.{Appended, Failed};
+ghost use Rattle.muen_outside.specs.Puts.{Failed};
 ghost use Rattle.muen_top.specs.Answers.{answer_of};
-ghost use Rattle.muen_top.specs.Calls.{Answered, IsFault, LacksFile, Prints, RefusesPolicy, RefusesRecord};
+ghost use Rattle.muen_top.specs.Calls.{Answered, IsDone, IsFault, LacksFile, Prints, RefusesPolicy, RefusesRecord};
 ghost use Rattle.muen_top.specs.Commands.{command_of};
-ghost use Rattle.muen_build.specs.Looks.{Follows};
+ghost use Rattle.muen_top.specs.Kept.{KeepsFiles};
 ghost use Rattle.muen_top.specs.Reports.{Ends, Reported, status_of};
 ghost use Rattle.muen_top.specs.declared.outcome.Outcome.{Outcome};
 
 mod boot;
+mod build;
 mod call;
 mod command;
 pub mod lacking;
@@ -24,22 +25,24 @@ use std::alloc::Global;
 
 /// Does what the words after the program's name ask for, and answers the status.
 ///
-/// `boot POLICY RECORD` reads a policy and a device record, runs the policy's system on the record,
-/// and puts the text of the run to `out`. `map POLICY` puts where the policy's regions lie and what
+/// `build POLICY IMAGE` reads a policy and the files that it names, and writes an image that is
+/// sound for them under the name IMAGE, in one call of `files` and only where everything before was
+/// accepted. `boot POLICY RECORD` reads a policy and a device record, runs the policy's system on the
+/// record, and puts the text of the run to `out`. `map POLICY` puts where the policy's regions lie and what
 /// each subject sees, `flows POLICY` on whom each subject can depend; neither reads a component file.
 /// No other command is built. On every status but 0 one line that begins with `muen: ` is put to
 /// `err`; a fault of `err` changes no status.
 ///
 /// | Status | Comes | Line |
 /// |---|---|---|
-/// | 0 | the text was put | |
+/// | 0 | the text was put, or the image was written | |
 /// | 1 | the words are none of the forms | `usage: ..` |
-/// | 2 | the policy is no JSON text, breaks the schema or a rule, has more bytes for a region than there is room (`boot`), has a region that can't be placed (`boot`, `map`), or has an element that the machine lacks (`boot`) | `not JSON`, `shape at PLACE: want WANT`, `rule N: FIRST SECOND`, `REGION: LENGTH bytes in room for ROOM`, `no room for REGION of SIZE bytes` |
+/// | 2 | the policy is no JSON text, breaks the schema or a rule, has more bytes for a region than there is room (`build`, `boot`), has a region that can't be placed (`build`, `boot`, `map`), or has an element that the machine lacks (`boot`) | `not JSON`, `shape at PLACE: want WANT`, `rule N: FIRST SECOND`, `REGION: LENGTH bytes in room for ROOM`, `no room for REGION of SIZE bytes` |
 /// | 3 | a file isn't there, or is longer than 4 MiB (policy), 64 MiB (a content) or 16 MiB (record) | `missing file NAME`, `file NAME has LENGTH bytes` |
-/// | 4 | a call on `files` failed | `file fault` |
+/// | 4 | a call on `files` failed; where the image was to be written, what stands under its name may have changed | `file fault` |
 /// | 6 | the record is refused | `record refused at line LINE: WHY` |
 /// | 7 | a call on `out` failed; a front of the text was put | `output fault` |
-/// | 8 | memory was refused, before the first turn | `out of memory` |
+/// | 8 | memory was refused, before the first turn; where the image was to be written, what stands under its name may have changed | `out of memory` |
 pub fn muen<F: Files, S: Sink, E: Sink>(
     alloc: Global,
     words: &[String],
@@ -47,10 +50,12 @@ pub fn muen<F: Files, S: Sink, E: Sink>(
     out: &mut S,
     err: &mut E,
 ) -> u8
-    // The headline: the text that is put is the words' answer, over some files that hold what is
-    // told. For `boot` that is the text of the policy's run on the record, in which each subject
-    // takes its turns alone.
-    ensures prints { result ≡ 0 → Answered (map string_bytes words.now) (F.state files.old).held (λ answer. Prints answer (λ text. Appended text (S.state out.old) (S.state out.new))) }
+    // The headline: what is put or written is the words' answer, over some files that hold what is
+    // told. For `boot` a text is put, that of the policy's run on the record, in which each subject
+    // takes its turns alone. For `build` an image is written that is sound for the policy and the
+    // files, as they were before: where files tell, it stands under the image's name, and all else
+    // that they hold is as before; and nothing is put.
+    ensures done { result ≡ 0 → Answered (map string_bytes words.now) (F.state files.old).held (λ answer. IsDone answer (F.state files.old) (F.state files.new) (S.state out.old) (S.state out.new)) }
     ensures prefix { result ≡ 7 → Answered (map string_bytes words.now) (F.state files.old).held (λ answer. Prints answer (λ text. Failed text (S.state out.old) (S.state out.new))) }
 
     // On a refusal it is the reason in that answer.
@@ -72,8 +77,8 @@ pub fn muen<F: Files, S: Sink, E: Sink>(
     // One line is put to `err` where the status isn't 0.
     ensures reports { (outcome : Outcome) × (result ≡ status_of outcome) × Reported (E.state err.old) (E.state err.new) outcome }
 
-    // Files stay, and nothing is put where nothing is to be.
-    ensures follows { Follows (F.state files.old) (F.state files.new) }
+    // Files stay, but for the image that `build` writes, and nothing is put where nothing is to be.
+    ensures keeps { KeepsFiles (command_of (map string_bytes words.now)) result (F.state files.old) (F.state files.new) }
     ensures quiet_out { result ≢ 0 → result ≢ 7 → S.state out.new ≡ S.state out.old }
     ensures quiet_err { result ≡ 0 → E.state err.new ≡ E.state err.old }
 {

@@ -6,7 +6,7 @@ use muen_build::BuildEnd;
 use policy_types::Refusal;
 use record_text::RecordFault;
 
-/// Why nothing was printed.
+/// Why nothing was printed, and no image was written whole.
 #[derive(Debug, Drop)]
 pub(crate) enum Stop<'a> {
     /// The words have no command's form.
@@ -71,7 +71,7 @@ impl<'a> From<RecordFault> for Stop<'a> {
 /// How a command comes to an end.
 #[derive(Debug, Drop)]
 pub(crate) enum Outcome<'a> {
-    /// All was printed.
+    /// All was printed, or the image was written.
     Done,
     /// Nothing was printed.
     Stopped(Stop<'a>),

@@ -3,7 +3,7 @@
 
 ghost use Rattle.std.specs.Prelude.{◌≡◌};
 ghost use Rattle.image_form.specs.Form.{Form, Gives, items};
-ghost use Rattle.image_pack.specs.Image.{is_between, is_ticks, add_ticks, minor, frames, next_cpu, major, no_tally, nothing_left};
+ghost use Rattle.image_pack.specs.Image.{is_between, is_ticks, add_ticks, minor, frames, next_cpu, major, no_frames_before, nothing_left};
 
 use crate::items::{Item, items_of};
 use crate::outline::Outline;
@@ -27,18 +27,18 @@ pub struct CpuTicks {
 /// What the minor frames of a CPU before one leave: how many ticks all are to have, how many those
 /// before have, and how many frames are still to come.
 #[derive(Clone, Copy, Debug, PartialEq, Eq)]
-pub struct Tally {
+pub struct FramesBefore {
     pub cpu: u8,
     pub total: u32,
     pub sum: u32,
     pub left: u16,
 }
 
-fn is_ticks(tally: &Tally, ticks: u32) -> bool
-    ensures { result ≡ is_ticks tally.now ticks }
+fn is_ticks(before: &FramesBefore, ticks: u32) -> bool
+    ensures { result ≡ is_ticks before.now ticks }
 {
     0 < ticks
-        && (tally.left != 1 || u64::from(tally.sum) + u64::from(ticks) == u64::from(tally.total))
+        && (before.left != 1 || u64::from(before.sum) + u64::from(ticks) == u64::from(before.total))
 }
 
 impl Item for Minor {
@@ -46,7 +46,7 @@ impl Item for Minor {
 
     type Among = Outline;
 
-    type Before = Tally;
+    type Before = FramesBefore;
 
     ghost next = { add_ticks };
 
@@ -56,7 +56,7 @@ impl Item for Minor {
     fn read<'a>(
         alloc: Global,
         among: &Outline,
-        before: &mut Tally,
+        before: &mut FramesBefore,
         bytes: &'a [u8],
     ) -> Result<(Minor, &'a [u8]), Halt> {
         let (group, rest) = byte_of(bytes)?;
@@ -101,13 +101,13 @@ impl Item for Seq<Minor> {
             return Err(bad(bytes, Field::Count));
         }
         let rest = gap_of(rest, 2, Field::Zero)?;
-        let tally = Tally {
+        let first = FramesBefore {
             cpu: before.cpu,
             total: before.total,
             sum: 0,
             left: count,
         };
-        let (frames, rest) = items_of::<Minor>(alloc, among, tally, count as usize, rest)?;
+        let (frames, rest) = items_of::<Minor>(alloc, among, first, count as usize, rest)?;
         before.cpu = before.cpu.saturating_add(1);
         Ok((frames, rest))
     }

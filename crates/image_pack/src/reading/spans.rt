@@ -3,7 +3,7 @@
 
 ghost use Rattle.std.specs.Prelude.{◌≡◌, ◌+◌, ◌*◌, ◌<◌, ◌≤◌, IfOk, IsTrue, length};
 ghost use Rattle.image_form.specs.Form.{Form, Gives, items};
-ghost use Rattle.image_pack.specs.Image.{after, sum32, pages_with, device_pages_with, is_place, is_size, is_new, suits_tau0, has_room, is_kind, title, span, empty_shelf};
+ghost use Rattle.image_pack.specs.Image.{after, sum32, pages_with, device_pages_with, is_place, is_size, is_new, suits_tau0, has_room, is_kind, title, span, no_spans_before};
 
 use crate::codes::{is_part, kind_byte_of, part_of};
 use crate::items::{Item, items_of};
@@ -18,7 +18,7 @@ use std::alloc::{AllocError, Global};
 
 /// What the spans before one leave.
 #[derive(Drop)]
-pub struct Shelf {
+pub struct SpansBefore {
     /// Where the last of them ends.
     pub end: u64,
     /// Which numbers came.
@@ -45,7 +45,7 @@ fn is_size(place: u64, pages: u32) -> bool
     0 < pages && place <= PHYSICAL_END && place + PAGE * u64::from(pages) <= PHYSICAL_END
 }
 
-fn is_new(header: &Header, before: &Shelf, number: u16) -> bool
+fn is_new(header: &Header, before: &SpansBefore, number: u16) -> bool
     ensures { result ≡ is_new header.now before.now number }
 {
     if number >= header.spans {
@@ -66,7 +66,7 @@ fn suits_tau0(tau0: Option<u16>, number: u16, kind: SpanKind) -> bool
     }
 }
 
-fn pages_with(before: &Shelf, kind: SpanKind, pages: u32) -> u32
+fn pages_with(before: &SpansBefore, kind: SpanKind, pages: u32) -> u32
     ensures { result ≡ pages_with before.now kind pages }
 {
     if kind.is_device() {
@@ -76,7 +76,7 @@ fn pages_with(before: &Shelf, kind: SpanKind, pages: u32) -> u32
     }
 }
 
-fn device_pages_with(before: &Shelf, kind: SpanKind, pages: u32) -> u32
+fn device_pages_with(before: &SpansBefore, kind: SpanKind, pages: u32) -> u32
     ensures { result ≡ device_pages_with before.now kind pages }
 {
     if kind.is_device() {
@@ -86,7 +86,7 @@ fn device_pages_with(before: &Shelf, kind: SpanKind, pages: u32) -> u32
     }
 }
 
-fn has_room(before: &Shelf, pages: u32, kind: SpanKind) -> bool
+fn has_room(before: &SpansBefore, pages: u32, kind: SpanKind) -> bool
     ensures { result ≡ has_room before.now pages kind }
 {
     before.left != 1
@@ -95,7 +95,7 @@ fn has_room(before: &Shelf, pages: u32, kind: SpanKind) -> bool
 }
 
 #[tactic(auto, unfolding(crate::specs::Image::is_kind))]
-fn is_kind(header: &Header, before: &Shelf, pages: u32, number: u16, kind: SpanKind) -> bool
+fn is_kind(header: &Header, before: &SpansBefore, pages: u32, number: u16, kind: SpanKind) -> bool
     ensures { result ≡ is_kind header.now before.now pages number kind }
 {
     suits_tau0(header.tau0, number, kind) && has_room(before, pages, kind)
@@ -118,7 +118,7 @@ fn title_of(code: u8, bytes: &[u8]) -> Result<(Option<Name>, &[u8]), Halt>
 
 // Notes a span for those behind it.
 #[tactic(auto, unfolding(crate::specs::Image::after))]
-fn note(before: &mut Shelf, span: &SpanPart)
+fn note(before: &mut SpansBefore, span: &SpanPart)
     requires end { span.now.place + PAGE * span.now.pages ≤ PHYSICAL_END }
     requires number { span.now.number < length before.old.seen }
     ensures { (h : Header) → before.new ≡ after h before.old span.now }
@@ -135,7 +135,7 @@ impl Item for SpanPart {
 
     type Among = Header;
 
-    type Before = Shelf;
+    type Before = SpansBefore;
 
     ghost next = { after };
 
@@ -145,7 +145,7 @@ impl Item for SpanPart {
     fn read<'a>(
         alloc: Global,
         among: &Header,
-        before: &mut Shelf,
+        before: &mut SpansBefore,
         bytes: &'a [u8],
     ) -> Result<(SpanPart, &'a [u8]), Halt> {
         let (place, rest) = u64_of(bytes)?;
@@ -198,11 +198,11 @@ impl Item for SpanPart {
     }
 }
 
-fn empty_shelf(alloc: Global, header: &Header) -> Result<Shelf, AllocError>
-    ensures { IfOk result (λ s. s ≡ empty_shelf header.now) }
+fn no_spans_before(alloc: Global, header: &Header) -> Result<SpansBefore, AllocError>
+    ensures { IfOk result (λ s. s ≡ no_spans_before header.now) }
 {
     let seen = Seq::of(vec![in alloc; false; header.spans as usize]?);
-    Ok(Shelf {
+    Ok(SpansBefore {
         end: 0,
         seen,
         left: header.spans,
@@ -218,8 +218,8 @@ pub(crate) fn spans_of<'a>(
     header: &Header,
     bytes: &'a [u8],
 ) -> Result<(Seq<SpanPart>, &'a [u8]), Halt>
-    ensures { Gives (λ x. (x.0, x.1.now)) result ((items (after header.now) (span header.now) (empty_shelf header.now) header.now.spans).read bytes.now) }
+    ensures { Gives (λ x. (x.0, x.1.now)) result ((items (after header.now) (span header.now) (no_spans_before header.now) header.now.spans).read bytes.now) }
 {
-    let shelf = empty_shelf(alloc, header)?;
-    items_of::<SpanPart>(alloc, header, shelf, header.spans as usize, bytes)
+    let before = no_spans_before(alloc, header)?;
+    items_of::<SpanPart>(alloc, header, before, header.spans as usize, bytes)
 }

@@ -6,6 +6,7 @@ ghost use Rattle.image_form.specs.Form.{Form, Gives, only, number};
 ghost use Rattle.image_form.specs.declared.fault.Field.{Field};
 ghost use Rattle.std.specs.Int.{w16};
 ghost use Rattle.image_plan.specs.Plan.{is_group_on};
+ghost use Rattle.image_pack.specs.Codes.{part_code};
 ghost use Rattle.image_pack.specs.Image.{is_first_here, is_group_of, is_kernel_span, is_eptp, event, events, subject, next_place, nothing_left};
 
 use crate::codes::{event_at, event_bytes, part_code};
@@ -17,8 +18,8 @@ use image_form::reading::{bad, byte_of, gap_of, name_of, u16_of, u64_of};
 use image_form::writing::put_tag;
 use image_form::{Field, Halt};
 use image_plan::GroupPart;
-use muen_num::Seq;
 use muen_num::limits::{MOST_CALLS, MOST_MSRS, PAGE, PHYSICAL_END};
+use muen_num::{Part, Seq};
 use std::alloc::{AllocError, Global};
 
 /// The lowest 12 bits of an extended-page-table pointer: four levels of tables, write-back memory.
@@ -49,11 +50,12 @@ fn is_group_of(outline: &Outline, place: u8, cpu: u8, number: u8) -> bool
         && is_first_here(outline.groups.items(), place, number)
 }
 
-// Whether a span with this number is the part of this code of its owner, with so many pages.
+// Whether a span with this number is this part of its owner, with so many pages.
 #[tactic(auto, unfolding(crate::specs::Image::is_kernel_span))]
-fn is_kernel_span(spans: &[SpanPart], code: u8, pages: u32, number: u16) -> bool
-    ensures { result ≡ is_kernel_span spans.now code pages number }
+fn is_kernel_span(spans: &[SpanPart], part: &Part, pages: u32, number: u16) -> bool
+    ensures { result ≡ is_kernel_span spans.now (part_code part.now) pages number }
 {
+    let code = part_code(part);
     spans.iter().any(|span| {
         span.number == number && part_code(&span.tag.part) == code && pages <= span.pages
     })
@@ -62,14 +64,14 @@ fn is_kernel_span(spans: &[SpanPart], code: u8, pages: u32, number: u16) -> bool
 // The number of such a span.
 fn kernel_span_of<'a>(
     outline: &Outline,
-    code: u8,
+    part: &Part,
     pages: u32,
     bytes: &'a [u8],
 ) -> Result<(u16, &'a [u8]), Halt>
-    ensures { Gives (λ x. (x.0, x.1.now)) result ((only (is_kernel_span outline.now.spans code pages) Field.Span (number w16)).read bytes.now) }
+    ensures { Gives (λ x. (x.0, x.1.now)) result ((only (is_kernel_span outline.now.spans (part_code part.now) pages) Field.Span (number w16)).read bytes.now) }
 {
     let (number, rest) = u16_of(bytes)?;
-    if is_kernel_span(outline.spans.items(), code, pages, number) {
+    if is_kernel_span(outline.spans.items(), part, pages, number) {
         Ok((number, rest))
     } else {
         Err(bad(bytes, Field::Span))
@@ -153,10 +155,10 @@ impl Item for SubjectPart {
             return Err(bad(at, Field::Msrs));
         }
         let rest = gap_of(rest, 1, Field::Zero)?;
-        let (state, rest) = kernel_span_of(among, 2, 1, rest)?;
-        let (iobm, rest) = kernel_span_of(among, 4, 2, rest)?;
-        let (msrbm, rest) = kernel_span_of(among, 5, 1, rest)?;
-        let (area, rest) = kernel_span_of(among, 6, 1, rest)?;
+        let (state, rest) = kernel_span_of(among, &Part::State, 1, rest)?;
+        let (iobm, rest) = kernel_span_of(among, &Part::Iobm, 2, rest)?;
+        let (msrbm, rest) = kernel_span_of(among, &Part::Msrbm, 1, rest)?;
+        let (area, rest) = kernel_span_of(among, &Part::Msrs, 1, rest)?;
         let at = gap_of(rest, 4, Field::Zero)?;
         let (eptp, rest) = u64_of(at)?;
         if !is_eptp(eptp) {

@@ -1,5 +1,4 @@
 use Rattle.std.proofs.lemmas.Result.{err_from_is_err_and}
-use Rattle.policy_lawful.specs.Resolution.{source_of}
 use Rattle.muen_build.proofs.Refusing.{not_laid}
 use Rattle.muen_build.proofs.Placing.{laid_so}
 use Rattle.muen_build.proofs.lay.Goals as goal

@@ -1,8 +1,8 @@
-use Rattle.muen_top.proofs.Clauses.{prints_clause, prefix_clause, policy_clause, file_clause, record_clause, told_clause, usage_clause, missed_clause, failed_clause, out_rose_clause, quiet_out_clause, quiet_err_clause}
+use Rattle.muen_top.proofs.Clauses.{done_clause, prefix_clause, policy_clause, file_clause, record_clause, told_clause, usage_clause, missed_clause, failed_clause, out_rose_clause, quiet_out_clause, quiet_err_clause}
 use Rattle.muen_top.proofs.muen.Goals as goal
 
-pub returns-clause-prints : goal.returns-clause-prints
-returns-clause-prints g c = prints_clause _ _ _ _ _ _ _ _ c.call.ensures.ran
+pub returns-clause-done : goal.returns-clause-done
+returns-clause-done g c = done_clause _ _ _ _ _ _ _ _ c.call.ensures.ran
 
 pub returns-clause-prefix : goal.returns-clause-prefix
 returns-clause-prefix g c = prefix_clause _ _ _ _ _ _ _ _ c.call.ensures.ran

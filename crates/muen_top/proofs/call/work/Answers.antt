@@ -5,6 +5,9 @@ use Rattle.muen_top.proofs.call.work.Goals as goal
 pub returns-in-Usage-clause-came : goal.returns-in-Usage-clause-came
 returns-in-Usage-clause-came g c = rw (← c.parse.ensures, c.in-Usage.is) (unasked None _ _ _ refl)
 
+pub returns-in-Build-clause-came : goal.returns-in-Build-clause-came
+returns-in-Build-clause-came g c = rw (← c.parse.ensures, c.in-Build.is) (c.build.ensures.came _)
+
 pub returns-in-Boot-clause-came : goal.returns-in-Boot-clause-came
 returns-in-Boot-clause-came g c = rw (← c.parse.ensures, c.in-Boot.is) c.boot.ensures.came
 

@@ -1,0 +1,4 @@
+pub mod DevicesByPlace
+pub mod EntriesReach
+pub mod KeptEvents
+pub mod TablesByPlace

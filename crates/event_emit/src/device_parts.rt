@@ -1,0 +1,157 @@
+//! The devices of a policy, as an image has them.
+ghost use Rattle.std.specs.Prelude.{◌≡◌, ◌+◌, ◌<◌, ◌^◌, true, length, map, option_map, IfOk, IfSome};
+ghost use Rattle.std.specs.List.{list_all, sum_by};
+ghost use Rattle.event_emit.specs.ByPlace.{AreFew, RouteFew, device_part, device_parts, irq_parts, irq_target, port_span, window_parts};
+ghost use Rattle.event_emit.specs.Tables.{AreDevices};
+ghost use Rattle.expand_grants.specs.ByPlace.{fits_device, fits_ports};
+ghost use Rattle.expand_grants.specs.Grants.{route_for};
+
+use crate::event_tables::are_named;
+use expand_grants::Route;
+use expand_kernel::Plain;
+use image_pack::{DevicePart, IrqPart, IrqTarget, PortSpan, WindowPart};
+use muen_num::{NoMemory, Seq};
+use policy_types::source::{Device, Irq, Ports};
+use std::alloc::Global;
+
+fn port_span(ports: &Ports) -> PortSpan
+    requires { fits_ports ports.now ≡ true }
+    ensures { result ≡ port_span ports.now }
+{
+    PortSpan {
+        start: ports.start as u16,
+        end: ports.end as u16,
+    }
+}
+
+fn port_spans(alloc: Global, ports: &[Ports]) -> Result<Seq<PortSpan>, NoMemory>
+    requires { list_all fits_ports ports.now ≡ true }
+    ensures { IfOk result (λ spans. spans ≡ map port_span ports.now) }
+{
+    let mut spans = Seq::new(alloc);
+    for range in ports {
+        spans.push(port_span(range))?;
+    }
+    Ok(spans)
+}
+
+// So many spans of memory, numbered from `first` on.
+#[tactic(auto, unfolding(crate::specs::ByPlace::window_parts))]
+fn window_parts(alloc: Global, first: u16, count: usize) -> Result<Seq<WindowPart>, NoMemory>
+    requires { first + count < 2 ^ 16 }
+    ensures { IfOk result (λ parts. parts ≡ window_parts first count) }
+{
+    let mut parts = Seq::new(alloc);
+    for k in 0..count {
+        parts.push(WindowPart {
+            span: first + k as u16,
+        })?;
+    }
+    Ok(parts)
+}
+
+fn irq_target(route: &Route) -> IrqTarget
+    requires { route.now.subject < 2 ^ 8 }
+    ensures { result ≡ irq_target route.now }
+{
+    IrqTarget {
+        subject: route.subject as u8,
+        vector: route.vector,
+    }
+}
+
+// The first of these routes for the interrupt at a place of the device at a place.
+fn route_for(routes: &[Route], device: usize, irq: usize) -> Option<&Route>
+    ensures { option_map (λ t. t.now) result ≡ route_for routes.now device irq }
+{
+    routes
+        .iter()
+        .find(|route| route.device == device && route.irq == irq)
+}
+
+// Whom the interrupt at a place of the device at a place reaches.
+fn target_of(routes: &[Route], device: usize, irq: usize) -> Option<IrqTarget>
+    requires { IfSome (route_for routes.now device irq) (λ t. t.subject < 2 ^ 8) }
+    ensures { result ≡ option_map irq_target (route_for routes.now device irq) }
+{
+    match route_for(routes, device, irq) {
+        None => None,
+        Some(route) => Some(irq_target(route)),
+    }
+}
+
+// The interrupts of the device at a place.
+fn irq_parts(
+    alloc: Global,
+    routes: &[Route],
+    device: usize,
+    irqs: &[Irq],
+) -> Result<Seq<IrqPart>, NoMemory>
+    requires { RouteFew routes.now device (length irqs.now) }
+    ensures { IfOk result (λ parts. parts ≡ irq_parts routes.now device irqs.now) }
+{
+    let mut parts = Seq::new(alloc);
+    for (place, irq) in irqs.iter().enumerate() {
+        parts.push(IrqPart {
+            name: irq.name,
+            target: target_of(routes, device, place),
+        })?;
+    }
+    Ok(parts)
+}
+
+// The device at a place, whose memory is numbered from `first` on.
+fn device_part(
+    alloc: Global,
+    routes: &[Route],
+    place: usize,
+    first: u16,
+    device: &Device,
+) -> Result<DevicePart, NoMemory>
+    requires ports { fits_device device.now ≡ true }
+    requires routes { RouteFew routes.now place (length device.now.irqs) }
+    requires spans { first + length device.now.memory < 2 ^ 16 }
+    ensures { IfOk result (λ part. part ≡ device_part routes.now place first device.now) }
+{
+    Ok(DevicePart {
+        name: device.name,
+        ports: port_spans(alloc, device.io_ports.items())?,
+        windows: window_parts(alloc, first, device.memory.len())?,
+        irqs: irq_parts(alloc, routes, place, device.irqs.items())?,
+    })
+}
+
+// These devices, whose memory is numbered on from one to the next, from `first` on.
+#[tactic(auto, unfolding(crate::specs::ByPlace::device_parts))]
+fn device_parts(
+    alloc: Global,
+    routes: &[Route],
+    first: u16,
+    devices: &[Device],
+) -> Result<Seq<DevicePart>, NoMemory>
+    requires ports { list_all fits_device devices.now ≡ true }
+    requires routes { AreFew routes.now devices.now }
+    requires spans { first + sum_by (λ d. length d.memory) devices.now < 2 ^ 16 }
+    ensures { IfOk result (λ parts. parts ≡ device_parts routes.now 0 first devices.now) }
+{
+    let mut parts = Seq::new(alloc);
+    let mut next = first;
+    for (place, device) in devices.iter().enumerate() {
+        parts.push(device_part(alloc, routes, place, next, device)?)?;
+        next += device.memory.len() as u16;
+    }
+    Ok(parts)
+}
+
+/// The devices of the policy, where the spans of their memory are numbered from `first` on.
+///
+/// Answers `NoMemory` where memory was refused.
+pub fn devices(alloc: Global, plain: &Plain, first: u16) -> Result<Seq<DevicePart>, NoMemory>
+    requires { first + sum_by (λ d. length d.memory) plain.now.lawful.devices < 2 ^ 16 }
+    ensures { IfOk result (AreDevices plain.now.lawful first plain.now.lawful.devices) }
+{
+    let policy = plain.lawful().resolved();
+    // A target that is named is one of the subjects, since no name is empty.
+    prove!(are_named(policy.subjects()));
+    device_parts(alloc, plain.routes(), first, policy.devices())
+}

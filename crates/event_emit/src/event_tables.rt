@@ -1,0 +1,135 @@
+//! The tables of events of subjects.
+ghost use Rattle.std.specs.Prelude.{◌≡◌, ◌<◌, ◌^◌, true, map, option_map, IfOk, IfSome};
+ghost use Rattle.std.specs.List.{All, AllZip, find, list_all};
+ghost use Rattle.event_emit.specs.ByPlace.{ReachFew, entry_at, event_part, has_name, has_way, table_of, tables_of};
+ghost use Rattle.event_emit.specs.Tables.{AreTables};
+ghost use Rattle.expand_grants.specs.declared.granted.Way.TheVariants.{Call, Trap};
+
+use expand_grants::{EventEntry, Grants, Way};
+use expand_kernel::Plain;
+use image_pack::EventPart;
+use muen_num::limits::MOST_CALLS;
+use muen_num::{NoMemory, Seq};
+use policy_lawful::resolved::Subject;
+use std::alloc::Global;
+
+/// The tables of events of a subject.
+#[derive(Clone, Debug, PartialEq, Eq, Drop)]
+pub struct EventTables {
+    /// What its calls raise, by their numbers, 64 of them.
+    pub calls: Seq<Option<EventPart>>,
+    /// What its traps raise, by their exit reasons, 64 of them.
+    pub traps: Seq<Option<EventPart>>,
+}
+
+/// Whether each subject has a name that isn't empty: each has, as no name is empty.
+#[tactic(auto, unfolding(muen_num::specs::Naming::is_name))]
+pub(crate) fn are_named(subjects: &[Subject]) -> bool
+    ensures named { list_all has_name subjects.now ≡ true }
+    ensures holds { result ≡ true }
+{
+    for subject in subjects {
+        if subject.name.bytes().is_empty() {
+            return false;
+        }
+    }
+    true
+}
+
+fn has_way(entry: &EventEntry, way: Way) -> bool
+    ensures { result ≡ has_way way entry.now }
+{
+    match (entry.way, way) {
+        (Way::Call(a), Way::Call(b)) | (Way::Trap(a), Way::Trap(b)) => a == b,
+        _ => false,
+    }
+}
+
+fn event_part(entry: &EventEntry) -> EventPart
+    requires { entry.now.target < 2 ^ 8 }
+    ensures { result ≡ event_part entry.now }
+{
+    EventPart {
+        mode: entry.mode,
+        target: entry.target as u8,
+        vector: entry.vector,
+    }
+}
+
+// The first of these entries for a way.
+fn entry_for(entries: &[EventEntry], way: Way) -> Option<&EventEntry>
+    ensures { option_map (λ e. e.now) result ≡ find (has_way way) entries.now }
+{
+    entries.iter().find(|entry| has_way(entry, way))
+}
+
+// The event that these entries have for a way.
+fn entry_at(entries: &[EventEntry], way: Way) -> Option<EventPart>
+    requires { IfSome (find (has_way way) entries.now) (λ e. e.target < 2 ^ 8) }
+    ensures { result ≡ entry_at entries.now way }
+{
+    match entry_for(entries, way) {
+        None => None,
+        Some(entry) => Some(event_part(entry)),
+    }
+}
+
+// What these entries raise by calls, by their numbers.
+#[tactic(auto, unfolding(crate::specs::ByPlace::table_of))]
+fn calls(alloc: Global, entries: &[EventEntry]) -> Result<Seq<Option<EventPart>>, NoMemory>
+    requires { ReachFew entries.now }
+    ensures { IfOk result (λ table. table ≡ table_of entries.now Call) }
+{
+    let mut table = Seq::new(alloc);
+    for number in 0..MOST_CALLS as u8 {
+        table.push(entry_at(entries, Way::Call(number)))?;
+    }
+    Ok(table)
+}
+
+// What they raise by traps, by their exit reasons.
+#[tactic(auto, unfolding(crate::specs::ByPlace::table_of))]
+fn traps(alloc: Global, entries: &[EventEntry]) -> Result<Seq<Option<EventPart>>, NoMemory>
+    requires { ReachFew entries.now }
+    ensures { IfOk result (λ table. table ≡ table_of entries.now Trap) }
+{
+    let mut table = Seq::new(alloc);
+    for reason in 0..MOST_CALLS as u8 {
+        table.push(entry_at(entries, Way::Trap(reason)))?;
+    }
+    Ok(table)
+}
+
+// The tables of a subject with these grants.
+fn tables_of(alloc: Global, grants: &Grants) -> Result<EventTables, NoMemory>
+    requires { ReachFew grants.now.events }
+    ensures { IfOk result (λ tables. tables ≡ tables_of grants.now) }
+{
+    Ok(EventTables {
+        calls: calls(alloc, grants.events.items())?,
+        traps: traps(alloc, grants.events.items())?,
+    })
+}
+
+fn all_tables(alloc: Global, grants: &[Grants]) -> Result<Seq<EventTables>, NoMemory>
+    requires { All (λ g. ReachFew g.events) grants.now }
+    ensures { IfOk result (λ tables. tables ≡ map tables_of grants.now) }
+{
+    let mut tables = Seq::new(alloc);
+    for granted in grants {
+        tables.push(tables_of(alloc, granted)?)?;
+    }
+    Ok(tables)
+}
+
+/// For each subject, in their order, what its calls and its traps raise, each by its number.
+///
+/// Answers `NoMemory` where memory was refused.
+pub fn tables(alloc: Global, plain: &Plain) -> Result<Seq<EventTables>, NoMemory>
+    ensures { IfOk result (AllZip (AreTables plain.now.lawful) plain.now.lawful.subjects) }
+{
+    let policy = plain.lawful().resolved();
+    // A target that is named is one of the subjects, since no name is empty.
+    prove!(are_named(policy.subjects()));
+    all_tables(alloc, plain.grants())
+}

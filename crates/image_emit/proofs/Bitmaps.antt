@@ -1,0 +1,130 @@
+-- Exactly those accesses of ports and MSRs don't exit that the policy grants the subject.
+use Rattle.std.proofs.Common.{◌≡◌, ℕ, zero, suc, ◌+◌, ◌-◌, ◌*◌, ◌<◌, ◌==◌, Bool, true, false, not, List, [], ◌∷◌, length, map, take, drop, refl, sym, ap, ap₂, ◌∙◌, arith, inl, inr, length-drop}
+use Rattle.std.specs.Prelude.{◌&&◌, ◌||◌, nat_le, nat_lt, if◌then◌else◌}
+use Rattle.std.specs.List.{flat_map, list_all, list_any}
+use Rattle.std.proofs.lemmas.Bool.{cases_Bool, leb-true, lt-ltb}
+use Rattle.std.proofs.lemmas.Bool.Decides.{nat_tests}
+use Rattle.std.proofs.lemmas.List.{take_all}
+use Rattle.std.proofs.lemmas.List.Folds.{list_all-append, list_any-append}
+use Rattle.expand_grants.specs.Resources.{Msr, msr_grant, msrs_in, msrs_of, port_ranges_of, ports_of}
+use Rattle.image_emit.specs.Made.{IsMade, Made, image_of, policy_of}
+use Rattle.image_emit.proofs.PlacesBySubject.{each_subject}
+use Rattle.image_emit.proofs.PlacesOfKernel.{kernel_bytes_at}
+use Rattle.image_emit.proofs.BitmapsOfPorts.{any_port}
+use Rattle.image_meaning.specs.Memory.{bytes_at, page_at}
+use Rattle.image_meaning.specs.Sound.{ForEachSubject, HasBitmaps, are_granted, is_granted}
+use Rattle.iobm_emit.specs.Ports.{is_granted as is_port_granted, is_granted_access}
+use Rattle.machine_meaning.specs.Exits.{msr_exits, port_exits}
+use Rattle.msrbm_emit.specs.Msrs.{allows, has_msr, is_granted as is_msr_granted}
+use Rattle.muen_num.proofs.Lists.{list_any-map}
+use Rattle.muen_num.specs.Range.{numbers_below}
+use Rattle.muen_num.specs.declared.limits.TheConstants.{LAST_PORT, PAGE}
+use Rattle.muen_num.specs.declared.tag.Part.TheVariants.{Iobm, Msrbm}
+use Rattle.policy_lawful.specs.Resolution.{Resolution, source_of, subject_named}
+use Rattle.policy_lawful.specs.declared.resolved.Subject.{Subject as PlacedSubject}
+use Rattle.policy_types.specs.declared.resources.PortRange.{PortRange}
+use Rattle.policy_types.specs.declared.source.Msrs.{Msrs}
+use Rattle.policy_types.specs.declared.source.Source.{Source}
+use Rattle.policy_types.specs.declared.source.Subject.{Subject}
+use Rattle.subject_emit.specs.Mapped.{kernel_first}
+
+-- ---- ports
+
+all_below : (f g : ℕ → Bool) (n : ℕ) → ((k : ℕ) → k < n → f k ≡ g k) → list_all f (numbers_below n) ≡ list_all g (numbers_below n)
+all_below f g zero h = refl
+all_below f g (suc n) h =
+    let rest = all_below f g n (λ k l. h k (omega (arith, l))) in
+    let last = h n (omega arith) in
+    list_all-append f (numbers_below n) (n ∷ [])
+    ∙ (λ i. rest i && (last i && true))
+    ∙ sym (list_all-append g (numbers_below n) (n ∷ []))
+
+-- a port is granted that one of the ranges has
+port_granted : (p : Source) (s : Subject) (ranges : List PortRange) (port : ℕ) → ranges ≡ port_ranges_of p s → port < 65536 → is_port_granted ranges port ≡ list_any (λ n. n == port) (ports_of p s)
+unfolding is_port_granted
+port_granted p s ranges port is l =
+    ap (λ ranges. is_port_granted ranges port) is
+    ∙ sym (any_port p s port ∙ ap (λ b. b && is_port_granted (port_ranges_of p s) port) (lt-ltb port 65536 l))
+
+access_granted : (p : Source) (s : Subject) (ranges : List PortRange) (port size : ℕ) → ranges ≡ port_ranges_of p s → is_granted_access ranges port size ≡ are_granted (ports_of p s) port size
+unfolding is_granted_access
+access_granted p s ranges port size is = elim (cases_Bool (nat_le (port + size) (LAST_PORT + 1))) [
+  | inl within ↦
+      let l = leb-true (port + size) (LAST_PORT + 1) within in
+      ap (λ b. nat_le (port + size) (LAST_PORT + 1) && b)
+      (all_below (λ k. is_port_granted ranges (port + k)) (λ k. list_any (λ n. n == port + k) (ports_of p s)) size (λ k low. port_granted p s ranges (port + k) is (omega (arith, l, low))))
+  | inr past ↦ rw past refl
+]
+
+-- ---- MSRs
+
+and_false : (b : Bool) → (b && false || false) ≡ false
+and_false true = refl
+and_false false = refl
+
+joined : (a b c ok : Bool) → (a || b) ≡ c → (a && ok || (b && ok || false)) ≡ (c && ok)
+joined true b true ok h = elim ok as (λ ok. (ok || (b && ok || false)) ≡ ok) [ true ↦ refl | false ↦ and_false b ]
+joined true b false ok h = absurd (cc)
+joined false true true ok h = elim ok as (λ ok. (ok || false) ≡ ok) [ true ↦ refl | false ↦ refl ]
+joined false true false ok h = absurd (cc)
+joined false false true ok h = absurd (cc)
+joined false false false ok h = refl
+
+one_more : (start index n : ℕ) → ((nat_le start index && nat_lt index (start + n)) || (start + n == index)) ≡ (nat_le start index && nat_lt index (start + suc n))
+one_more start index n = grind (arith, nat_tests)
+
+none_yet : (start index : ℕ) → (nat_le start index && nat_lt index (start + 0)) ≡ false
+none_yet start index = grind (arith, nat_tests)
+
+numbered : (start index : ℕ) (ok : Bool) (n : ℕ) → list_any (λ k. (start + k == index) && ok) (numbers_below n) ≡ ((nat_le start index && nat_lt index (start + n)) && ok)
+numbered start index ok zero = ap (λ b. b && ok) (sym (none_yet start index))
+numbered start index ok (suc n) =
+    list_any-append (λ k. (start + k == index) && ok) (numbers_below n) (n ∷ [])
+    ∙ ap (λ b. b || ((start + n == index) && ok || false)) (numbered start index ok n)
+    ∙ joined (nat_le start index && nat_lt index (start + n)) (start + n == index) (nat_le start index && nat_lt index (start + suc n)) ok (one_more start index n)
+
+in_range : (start end index : ℕ) → (nat_le start index && nat_lt index (start + (end + 1 - start))) ≡ (nat_le start index && nat_le index end)
+in_range start end index = grind (arith, nat_tests)
+
+-- that of one range
+one_range : (x : Msrs) (index : ℕ) (write : Bool) → list_any (λ (m : Msr). (m.index == index) && (if write then m.write else m.read)) (msrs_in x) ≡ (has_msr (msr_grant x) index && allows (msr_grant x) write)
+one_range x index write =
+    let ok : Bool = if write then x.rights.write else x.rights.read in
+    list_any-map (λ (m : Msr). (m.index == index) && (if write then m.write else m.read)) (λ k. record { index = x.start + k; read = x.rights.read; write = x.rights.write }) (numbers_below (x.end + 1 - x.start))
+    ∙ numbered x.start index ok (x.end + 1 - x.start)
+    ∙ ap (λ b. b && ok) (in_range x.start x.end index)
+
+msr_granted : (ranges : List Msrs) (index : ℕ) (write : Bool) → list_any (λ (m : Msr). (m.index == index) && (if write then m.write else m.read)) (flat_map msrs_in ranges) ≡ is_msr_granted (map msr_grant ranges) index write
+unfolding is_msr_granted
+msr_granted [] index write = refl
+msr_granted (x ∷ xs) index write =
+    list_any-append (λ (m : Msr). (m.index == index) && (if write then m.write else m.read)) (msrs_in x) (flat_map msrs_in xs)
+    ∙ ap₂ (λ a b. a || b) (one_range x index write) (msr_granted xs index write)
+
+granted_of : (r : Resolution) (s : PlacedSubject) (index : ℕ) (write : Bool) → is_granted (msrs_of (subject_named r s)) index write ≡ is_msr_granted (map msr_grant s.msrs) index write
+unfolding msrs_of
+granted_of r s index write = msr_granted s.msrs index write
+
+-- ---- both
+
+two_pages : (bytes : List ℕ) → length bytes ≡ 2 * PAGE → take PAGE (drop PAGE bytes) ≡ drop PAGE bytes
+two_pages bytes long = take_all PAGE (drop PAGE bytes) (omega (arith, long, length-drop PAGE bytes))
+
+pub bitmaps : (m : Made) → IsMade m → ForEachSubject (source_of (policy_of m)) (image_of m) (HasBitmaps (source_of (policy_of m)) (image_of m))
+bitmaps m h =
+    each_subject m h (HasBitmaps (source_of (policy_of m)) (image_of m))
+    (λ k s g t q at.
+    let i = image_of m in
+    let first = kernel_first (policy_of m) k in
+    let named = subject_named (policy_of m) s in
+    let ports : bytes_at i (first + 2) ≡ q.ports = kernel_bytes_at m h k s g t q at 2 (2 * PAGE) Iobm q.ports refl refl in
+    let msrs : bytes_at i (first + 3) ≡ q.msrs = kernel_bytes_at m h k s g t q at 3 PAGE Msrbm q.msrs refl refl in
+    let a : page_at i (first + 2) 0 ≡ take PAGE q.ports = ap (λ (b : List ℕ). take PAGE (drop (PAGE * 0) b)) ports in
+    let b : page_at i (first + 2) 1 ≡ drop PAGE q.ports = ap (λ (b : List ℕ). take PAGE (drop (PAGE * 1) b)) ports ∙ two_pages q.ports at.pages.ports_len in
+    let c : page_at i (first + 3) 0 ≡ q.msrs = ap (λ (b : List ℕ). take PAGE (drop (PAGE * 0) b)) msrs ∙ take_all PAGE q.msrs (omega (arith, at.pages.msrs_len)) in
+    record {
+      ports = λ port size.
+          (λ j. port_exits (a j) (b j) port size) ∙ at.pages.ports port size ∙ ap not (access_granted (source_of (policy_of m)) named g.ports port size at.grants.ports);
+      msrs = λ index write.
+          ap (λ x. msr_exits x index write) c ∙ at.pages.msrs index write ∙ ap not (ap (λ x. is_msr_granted x index write) at.grants.msrs ∙ sym (granted_of (policy_of m) s index write));
+    })

@@ -1,0 +1,74 @@
+-- How many bytes each span has in the image.
+use Rattle.std.proofs.Common.{◌≡◌, ℕ, ◌*◌, ◌/◌, ◌%◌, ◌⊎◌, inl, inr, All, List, [], ◌∷◌, length, map, get_or, Some, false, refl, sym, ap, ◌∙◌, subst, arith}
+use Rattle.std.specs.Prelude.{if◌then◌else◌, slice_get, unwrap_or}
+use Rattle.std.specs.List.{AllZip}
+use Rattle.std.proofs.lemmas.List.Elements.{All-head, All-tail}
+use Rattle.std.proofs.lemmas.List.Sorted.{All-permutation}
+use Rattle.std.proofs.lemmas.Option.{get_or_from_slice_get, slice_get-get_or, slice_get_past, slice_get_within, unwrap_or-slice_get}
+use Rattle.expand_kernel.specs.declared.region.RegionKind.{RegionKind}
+use Rattle.expand_kernel.specs.declared.region.RegionKind.TheVariants.{Own, Channel, Provided, Kernel}
+use Rattle.image_emit.specs.Made.{IsMade, Made, content_at, policy_of, region_bytes}
+use Rattle.image_emit.proofs.RegionSizes.{bytes_many, bytes_sized}
+use Rattle.image_emit.proofs.NumberedSpans.{IsMemoryAt, IsRegionAt, span_is}
+use Rattle.image_pack.specs.Codes.{is_device}
+use Rattle.image_pack.specs.ImageConditions.{IsContent}
+use Rattle.image_pack.specs.declared.parts.SpanPart.{SpanPart}
+use Rattle.muen_num.specs.declared.limits.TheConstants.{PAGE}
+use Rattle.policy_lawful.specs.Resolution.{source_of}
+use Rattle.span_emit.specs.Spans.{span_kind, spans_of}
+use Rattle.span_emit.proofs.KeptRegions.{IsWhole, regions_whole}
+
+-- ---- regions are whole pages
+
+pub whole_regions : (m : Made) → IsMade m → All IsWhole m.placed.plain.regions
+whole_regions m h = subst (All IsWhole) (sym h.expansion.regions) (regions_whole (source_of (policy_of m)) h.lawful.rule_4)
+
+pub all_at : {X : Type 0} (P : X → Type 0) (xs : List X) (n : ℕ) (x : X) → All P xs → slice_get xs n ≡ Some x → P x
+all_at P xs n x all at = subst P (get_or_from_slice_get xs n x x at) (all n x (slice_get_within xs n x at))
+
+pub whole_size : (size : ℕ) → size % PAGE ≡ 0 → PAGE * (size / PAGE) ≡ size
+whole_size size h = omega (arith, h)
+
+-- no region is a device's memory
+pub region_kind : (kind : RegionKind) → is_device (span_kind kind) ≡ false
+region_kind Own = refl
+region_kind Channel = refl
+region_kind Provided = refl
+region_kind Kernel = refl
+
+-- what holds of each and its image holds of a list beside its images
+beside : {X Y : Type 0} (R : X → Y → Type 0) (f : X → Y) (xs : List X) → All (λ x. R x (f x)) xs → AllZip R xs (map f xs)
+beside R f [] h = tt
+beside R f (x ∷ xs) h = (All-head (λ x. R x (f x)) x xs h, beside R f xs (All-tail (λ x. R x (f x)) x xs h))
+
+-- ---- each span
+
+module _ (m : Made) (h : IsMade m) where
+  of_region : (n : ℕ) (s : SpanPart) → IsRegionAt m n s → IsContent s (content_at m s)
+  of_region n s a =
+      let size : PAGE * (a.region.size / PAGE) ≡ a.region.size = whole_size a.region.size (all_at IsWhole m.placed.plain.regions n a.region (whole_regions m h) a.there).pages in
+      subst (λ s. IsContent s (content_at m s)) (sym a.is)
+      (bytes_sized m h n a.region a.there
+      ∙ sym size
+      ∙ ap (λ b. if b then 0 else PAGE * (a.region.size / PAGE)) (sym (region_kind a.region.kind)))
+
+  of_memory : (n : ℕ) (s : SpanPart) → IsMemoryAt m n s → IsContent s (content_at m s)
+  of_memory n s a =
+      subst (λ s. IsContent s (content_at m s)) (sym a.is)
+      (ap length (sym (unwrap_or-slice_get (region_bytes m) n []) ∙ ap (λ o. unwrap_or o []) (slice_get_past (region_bytes m) n (omega (arith, bytes_many m h, a.behind)))))
+
+  of_either : (n : ℕ) (s : SpanPart) → IsRegionAt m n s ⊎ IsMemoryAt m n s → IsContent s (content_at m s)
+  of_either n s (inl a) = of_region n s a
+  of_either n s (inr a) = of_memory n s a
+
+  -- a span has as many bytes in the image as pages; a device's memory has none
+  pub content_lengths : (n : ℕ) (s : SpanPart) → slice_get (spans_of m.placed) n ≡ Some s → length (content_at m s) ≡ (if is_device s.kind then 0 else PAGE * s.pages)
+  content_lengths n s at = of_either n s (span_is m h n s at)
+
+  pub each_content : All (λ s. IsContent s (content_at m s)) m.spans
+  each_content =
+      All-permutation (λ s. IsContent s (content_at m s)) (spans_of m.placed) m.spans h.numbered
+      (λ k d l. content_lengths k (get_or (spans_of m.placed) k d) (slice_get-get_or (spans_of m.placed) k d l))
+
+  pub contents_kept : AllZip IsContent m.spans (map (content_at m) m.spans)
+  contents_kept = beside IsContent (content_at m) m.spans each_content

@@ -1,0 +1,113 @@
+-- Numbers of placed policies fit.
+use Rattle.std.proofs.Common.{◌≡◌, ◌∙◌, refl, sym, ap, arith, ℕ, suc, ◌+◌, ◌<◌, ◌≤◌, true, List, [], ◌∷◌, length, nat_le, nat_lt, le-leb, Some, None}
+use Rattle.std.specs.Prelude.{slice_get}
+use Rattle.std.specs.List.{AllZip, list_all, sum_by}
+use Rattle.std.proofs.lemmas.Bool.{ltb-true, lt-ltb}
+use Rattle.std.proofs.lemmas.List.{length-map}
+use Rattle.std.proofs.lemmas.List.Folds.{list_all-map}
+use Rattle.std.proofs.lemmas.Slice.Zip.{AllZip-long}
+use Rattle.expand_grants.specs.Grants.{AreGrantsOf}
+use Rattle.expand_grants.specs.declared.granted.Grants.{Grants}
+use Rattle.image_emit.specs.Fitting.{AreFew}
+use Rattle.image_emit.specs.Known.{IsKnown}
+use Rattle.msrbm_emit.specs.Area.{count_of}
+use Rattle.muen_num.proofs.Lists.{each_from, there}
+use Rattle.policy_lawful.proofs.KeptPlan.{PlanKept, plan_kept}
+use Rattle.policy_lawful.specs.Rules.{offence_20}
+use Rattle.policy_lawful.specs.Resolution.{Resolution, source_of, subject_named}
+use Rattle.policy_lawful.specs.declared.resolved.Subject.{Subject}
+use Rattle.region_alloc.specs.Placed.{Placement}
+use Rattle.span_emit.proofs.KeptSums.{sums_kept, windows_length}
+use Rattle.span_emit.specs.Spans.{memories_of}
+use Rattle.subject_emit.proofs.KeptMsrs.{msrs_few}
+use Rattle.subject_emit.proofs.Numbered.{has_places}
+use Rattle.subject_emit.proofs.Pieces.{other_at}
+use Rattle.subject_emit.proofs.PlacesFit.{tables_there}
+use Rattle.subject_emit.specs.Sound.{IsSound}
+
+pub sound_known : (x : Placement) → IsKnown x → IsSound x
+sound_known x k = record {
+  resolved = k.resolved;
+  lawful = k.lawful;
+  grants = k.expansion.grants;
+  regions = k.expansion.regions;
+  places = k.placement;
+}
+
+-- each subject's MSRs, from any place on
+msrs_from : (r : Resolution) → offence_20 (source_of r) ≡ None → (ss : List Subject) (gs : List Grants) → ((j : ℕ) (s : Subject) → slice_get ss j ≡ Some s → (k : ℕ) × (slice_get r.subjects k ≡ Some s)) → AllZip (AreGrantsOf r) ss gs → list_all (λ g. nat_le (count_of g.msrs) 64) gs ≡ true
+msrs_from r h [] [] at z = refl
+msrs_from r h [] (g ∷ gs) at z = absurd z
+msrs_from r h (s ∷ ss) [] at z = absurd z
+msrs_from r h (s ∷ ss) (g ∷ gs) at z =
+    let here = at 0 s refl in
+    rw (le-leb (count_of g.msrs) 64 (msrs_few r here.0 s g here.1 z.0 h)) (msrs_from r h ss gs (λ j t e. at (suc j) t e) z.1)
+
+cpus_small : (r : Resolution) → PlanKept r → list_all (λ s. nat_lt s.cpu 8) r.subjects ≡ true
+unfolding source_of
+cpus_small r k =
+    each_from (λ s. nat_lt s.cpu r.processor.logical_cpus) (λ s. nat_lt s.cpu 8)
+    (λ s low. let below = ltb-true s.cpu r.processor.logical_cpus low in let most = k.cpus.most in lt-ltb s.cpu 8 (omega (arith, below, most)))
+    r.subjects (sym (list_all-map (λ s. nat_lt s.cpu r.processor.logical_cpus) (subject_named r) r.subjects) ∙ k.cpus.subjects)
+
+groups_many : (r : Resolution) → length (source_of r).scheduling.groups ≡ length r.scheduling.groups
+unfolding source_of
+groups_many r = length-map r.scheduling.groups _
+
+subjects_many : (r : Resolution) → length (source_of r).subjects ≡ length r.subjects
+unfolding source_of
+subjects_many r = length-map r.subjects (subject_named r)
+
+pub are_few : (x : Placement) → IsKnown x → AreFew x
+are_few x k =
+    let r = x.plain.lawful in
+    let sound = sound_known x k in
+    let plan = plan_kept r k.resolved k.lawful in
+    let places = has_places x sound in
+    let sums = sums_kept (source_of r) k.lawful.rule_20 in
+    let few_regions = sums.regions in
+    let regions = ap length k.expansion.regions in
+    let grants : length x.plain.grants ≡ length r.subjects = AllZip-long (AreGrantsOf r) r.subjects x.plain.grants k.expansion.grants in
+    let as_many : length x.places ≡ length x.plain.regions = AllZip-long _ x.plain.regions x.places k.inside in
+    let groups = groups_many r in
+    let subjects = subjects_many r in
+    let few_groups = plan.members.few in
+    let most = plan.limits.most_subjects in
+    record {
+      places = places;
+      regions = omega (arith, places, as_many, regions, few_regions);
+      groups = omega (arith, groups, subjects, few_groups, most);
+      subjects = omega (arith, subjects, most);
+      tables = λ n low.
+          let s = there r.subjects n low in
+          let g = other_at (AreGrantsOf r) r.subjects x.plain.grants n s.0 k.expansion.grants s.1 in
+          let at = tables_there x sound n s.0 g.0 s.1 g.1 in
+          let end = at.end in
+          omega (arith, end);
+      cpus = cpus_small r plan;
+      msrs = msrs_from r k.lawful.rule_20 r.subjects x.plain.grants (λ j s e. (j, e)) k.expansion.grants;
+      grants = grants;
+    }
+
+-- there are few regions, and few spans with those of devices' memory
+pub regions_few : (x : Placement) → IsKnown x → length x.plain.regions ≤ 1024
+regions_few x k =
+    let few = (sums_kept (source_of x.plain.lawful) k.lawful.rule_20).regions in
+    let regions = ap length k.expansion.regions in
+    omega (arith, few, regions)
+
+same_devices : (r : Resolution) → (source_of r).devices ≡ r.devices
+unfolding source_of
+same_devices r = refl
+
+pub spans_few : (x : Placement) → IsKnown x → length x.plain.regions + sum_by (λ d. length d.memory) x.plain.lawful.devices < 65536
+spans_few x k =
+    let few = regions_few x k in
+    let windows = (sums_kept (source_of x.plain.lawful) k.lawful.rule_20).windows in
+    let same = ap (λ ds. length (memories_of ds)) (same_devices x.plain.lawful) in
+    let many = windows_length x.plain.lawful.devices in
+    omega (arith, few, windows, same, many)
+
+pub cpus_few : (x : Placement) → IsKnown x → x.plain.lawful.processor.logical_cpus ≤ 8
+unfolding source_of
+cpus_few x k = (plan_kept x.plain.lawful k.resolved k.lawful).cpus.most

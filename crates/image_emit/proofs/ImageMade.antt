@@ -1,0 +1,123 @@
+-- What the parts that were made one after another come to.
+use Rattle.std.proofs.Common.{◌≡◌, ◌∙◌, refl, sym, ap, ap₂, subst, ℕ, List, length, Option}
+use Rattle.std.specs.List.Sorted.{IsPermutation}
+use Rattle.event_emit.specs.Tables.{AreDevices}
+use Rattle.image_emit.proofs.Areas.{areas}
+use Rattle.image_emit.proofs.Bitmaps.{bitmaps}
+use Rattle.image_emit.proofs.Conditions.{keeps}
+use Rattle.image_emit.proofs.ContentLengths.{contents_kept}
+use Rattle.image_emit.proofs.Contents.{contents}
+use Rattle.image_emit.proofs.GreatestPages.{leaves}
+use Rattle.image_emit.proofs.OwnPages.{own_pages}
+use Rattle.image_emit.proofs.Paths.{paths}
+use Rattle.image_emit.proofs.PlacesKept.{placed}
+use Rattle.image_emit.proofs.PlanEvents.{plan_and_events}
+use Rattle.image_emit.proofs.States.{states}
+use Rattle.image_emit.proofs.Tables.{tables}
+use Rattle.image_emit.proofs.Walks.{walks}
+use Rattle.image_emit.specs.Built.{HasGreatestPages, HasOnePathPerTable, HasPlacement}
+use Rattle.image_emit.specs.Gathered.{AreParts, IsHeld}
+use Rattle.image_emit.specs.Known.{IsKnown}
+use Rattle.image_emit.specs.Made.{IsFilled, IsImageOf, IsMade, Made, choice_of, image_of, policy_of, thing_bytes}
+use Rattle.image_meaning.specs.Sound.{ForEachSubject, IsSound}
+use Rattle.image_pack.proofs.ConditionsFit.{conditions_fit}
+use Rattle.image_pack.specs.Parts.{IsParts, counted}
+use Rattle.image_pack.specs.SpanConditions.{AreSpans}
+use Rattle.image_pack.specs.declared.parts.DevicePart.{DevicePart}
+use Rattle.image_pack.specs.declared.parts.Image.{Image}
+use Rattle.image_pack.specs.declared.parts.SpanPart.{SpanPart}
+use Rattle.image_pack.specs.declared.parts.SubjectPart.{SubjectPart}
+use Rattle.image_plan.specs.declared.plan.Plan.{Plan}
+use Rattle.plan_emit.specs.PlanOf.{IsPlanOf}
+use Rattle.policy_lawful.specs.Resolution.{source_of}
+use Rattle.policy_meaning.specs.Contents.{Held}
+use Rattle.policy_types.specs.declared.source.Source.{Source}
+use Rattle.region_alloc.specs.Placed.{Placement}
+use Rattle.span_emit.specs.Spans.{spans_of}
+
+module _ (x : Placement) (things : List (List ℕ)) (spans : List SpanPart) (held : List (List ℕ)) (parts : List SubjectPart) (plan : Plan) (devices : List DevicePart)
+    (known : IsKnown x) (filled : IsFilled x things) (numbered : IsPermutation (spans_of x) spans) (are : AreSpans spans) (h : IsHeld x things spans held) (p : AreParts x parts)
+    (plans : IsPlanOf (source_of x.plain.lawful) plan) (are_devices : AreDevices x.plain.lawful (length x.plain.regions) x.plain.lawful.devices devices) where
+  all : Made
+  all = record { placed = x; things = things; pages = h.pages; events = p.events; devices = devices; plan = plan; spans = spans }
+
+  is_made : IsMade all
+  unfolding all
+  is_made = record {
+    resolved = known.resolved;
+    lawful = known.lawful;
+    expansion = known.expansion;
+    placement = known.placement;
+    inside = known.inside;
+    disjoint = known.disjoint;
+    subjects_named = known.subjects_named;
+    devices_named = known.devices_named;
+    filled = filled;
+    pages = h.are;
+    events = p.are;
+    devices = are_devices;
+    plan = plans;
+    spans = are;
+    numbered = numbered;
+  }
+
+  -- these parts are an image that is made
+  pub image_made : IsImageOf x things (counted x.plain.lawful.processor.logical_cpus (choice_of x.plain.lawful) spans parts plan devices held)
+  unfolding all image_of
+  image_made = record {
+    made = all;
+    is = is_made;
+    placed = refl;
+    held = refl;
+    image = ap₂ (λ a b. counted x.plain.lawful.processor.logical_cpus (choice_of x.plain.lawful) spans a plan devices b) p.made h.held_by;
+  }
+
+-- the same, of counts that are the policy's
+pub image_of_parts : (x : Placement) (things : List (List ℕ)) (spans : List SpanPart) (held : List (List ℕ)) (parts : List SubjectPart) (plan : Plan) (devices : List DevicePart) (cpus : ℕ) (tau0 : Option ℕ)
+    → IsKnown x → IsFilled x things → IsPermutation (spans_of x) spans → AreSpans spans → IsHeld x things spans held → AreParts x parts → IsPlanOf (source_of x.plain.lawful) plan
+    → AreDevices x.plain.lawful (length x.plain.regions) x.plain.lawful.devices devices → cpus ≡ x.plain.lawful.processor.logical_cpus → tau0 ≡ choice_of x.plain.lawful
+    → IsImageOf x things (counted cpus tau0 spans parts plan devices held)
+image_of_parts x things spans held parts plan devices cpus tau0 known filled numbered are h p plans are_devices same chosen =
+    subst (λ n. IsImageOf x things (counted n tau0 spans parts plan devices held)) (sym same)
+    (subst (λ t. IsImageOf x things (counted x.plain.lawful.processor.logical_cpus t spans parts plan devices held)) (sym chosen)
+    (image_made x things spans held parts plan devices known filled numbered are h p plans are_devices))
+
+-- it keeps the conditions of an image
+pub parts_fit : (x : Placement) (things : List (List ℕ)) (i : Image) → IsImageOf x things i → IsParts i
+parts_fit x things i m = subst (λ j. IsParts j) (sym m.image) (conditions_fit (image_of m.made) (keeps m.made m.is (contents_kept m.made m.is)))
+
+of_made : (files : Held) (m : Made) → IsMade m → m.things ≡ thing_bytes files (policy_of m) → IsSound (source_of (policy_of m)) files (image_of m)
+of_made files m h e = record {
+  lawful = h.lawful;
+  contents = contents files m h e;
+  walks = walks m h;
+  tables = tables m h;
+  bitmaps = bitmaps m h;
+  msr_areas = areas m h;
+  fresh_states = states m h;
+  own_pages = own_pages m h;
+  plan_and_events = plan_and_events m h;
+}
+
+-- it is sound, where things hold what the policy says
+pub is_sound : (x : Placement) (things : List (List ℕ)) (i : Image) → IsImageOf x things i → (files : Held) → things ≡ thing_bytes files x.plain.lawful → IsSound (source_of x.plain.lawful) files i
+is_sound x things i m files e =
+    let held : m.made.things ≡ thing_bytes files (policy_of m.made) = m.held ∙ e ∙ ap (λ (y : Placement). thing_bytes files y.plain.lawful) (sym m.placed) in
+    subst (λ j. IsSound (source_of x.plain.lawful) files j) (sym m.image)
+    (subst (λ (y : Placement). IsSound (source_of y.plain.lawful) files (image_of m.made)) m.placed (of_made files m.made m.is held))
+
+-- ---- and what it has beside
+
+module _ (x : Placement) (things : List (List ℕ)) (i : Image) (m : IsImageOf x things i) where
+  -- what holds of the image that the parts make holds of it
+  so : (P : Source → Image → Type 0) → P (source_of (policy_of m.made)) (image_of m.made) → P (source_of x.plain.lawful) i
+  so P h = subst (λ j. P (source_of x.plain.lawful) j) (sym m.image) (subst (λ (y : Placement). P (source_of y.plain.lawful) (image_of m.made)) m.placed h)
+
+  pub is_placed : HasPlacement (source_of x.plain.lawful) i
+  is_placed = so (λ p j. HasPlacement p j) (placed m.made m.is)
+
+  pub has_paths : HasOnePathPerTable i
+  has_paths = so (λ p j. HasOnePathPerTable j) (paths m.made m.is)
+
+  pub has_leaves : ForEachSubject (source_of x.plain.lawful) i (HasGreatestPages (source_of x.plain.lawful) i)
+  has_leaves = so (λ p j. ForEachSubject p j (HasGreatestPages p j)) (leaves m.made m.is)

@@ -1,0 +1,86 @@
+-- The subjects of an image, made one after another.
+use Rattle.std.proofs.Common.{◌≡◌, ◌∙◌, refl, sym, ap, ap₂, subst, arith, ℕ, suc, ◌+◌, ◌<◌, ◌≤◌, List, [], ◌∷◌, ◌++◌, append-nil, append_assoc, length, length-append, map, zip, drop, get_or, nat_lt, nat_le}
+use Rattle.std.specs.List.{enumerate_from}
+use Rattle.std.proofs.lemmas.Bool.{leb-true, ltb-true}
+use Rattle.std.proofs.lemmas.List.Sums.{AllPass-from_list_all}
+use Rattle.image_form.proofs.Loops.{drop_more}
+use Rattle.event_emit.specs.declared.event_tables.EventTables.{EventTables}
+use Rattle.expand_grants.specs.declared.granted.Grants.{Grants}
+use Rattle.image_emit.specs.Fitting.{AreFew}
+use Rattle.image_emit.specs.Made.{subject_part}
+use Rattle.image_emit.specs.Parting.{IsParting, parts_from}
+use Rattle.image_pack.specs.declared.parts.SubjectPart.{SubjectPart}
+use Rattle.msrbm_emit.specs.Area.{count_of}
+use Rattle.policy_lawful.specs.declared.resolved.Subject.{Subject}
+use Rattle.region_alloc.specs.Placed.{Placement}
+
+pub none_made : (x : Placement) (events : List EventTables) → IsParting x events events []
+none_made x events = record { whole = refl; many = omega arith }
+
+drop_next : {A : Type 0} (xs : List A) (n : ℕ) (x : A) → n < length xs → x ≡ get_or xs n x → drop n xs ≡ x ∷ drop (n + 1) xs
+drop_next xs n x l is = drop_more xs n x l is
+
+-- one more subject is made
+pub one_made : (x : Placement) (events left : List EventTables) (parts more : List SubjectPart) (t : EventTables) (s : Subject) (g : Grants)
+    → length parts < length x.plain.lawful.subjects → length parts < length x.plain.grants → s ≡ get_or x.plain.lawful.subjects (length parts) s → g ≡ get_or x.plain.grants (length parts) g
+    → more ≡ parts ++ subject_part x (length parts, (s, (g, t))) ∷ [] → IsParting x events (t ∷ left) parts → IsParting x events left more
+one_made x events left parts more t s g ls lg is ig pushed h =
+    let n = length parts in
+    let next : length more ≡ n + 1 = ap length pushed ∙ length-append parts (subject_part x (n, (s, (g, t))) ∷ []) in
+    let ss : drop n x.plain.lawful.subjects ≡ s ∷ drop (n + 1) x.plain.lawful.subjects = drop_next x.plain.lawful.subjects n s ls is in
+    let gs : drop n x.plain.grants ≡ g ∷ drop (n + 1) x.plain.grants = drop_next x.plain.grants n g lg ig in
+    let from : parts_from x n (t ∷ left) ≡ subject_part x (n, (s, (g, t))) ∷ parts_from x (n + 1) left =
+    ap₂ (λ (us : List Subject) (vs : List Grants). map (subject_part x) (enumerate_from n (zip us (zip vs (t ∷ left))))) ss gs in
+    record {
+      whole =
+          ap₂ (λ a k. a ++ parts_from x k left) pushed next
+          ∙ append_assoc parts (subject_part x (n, (s, (g, t))) ∷ []) (parts_from x (n + 1) left)
+          ∙ ap (λ b. parts ++ b) (sym from)
+          ∙ h.whole;
+      many = let m = h.many in omega (arith, next, m);
+    }
+
+nothing : (B : Type 0) → List B
+nothing B = []
+
+zip_none : {A B : Type 0} (xs : List A) → zip xs (nothing B) ≡ []
+unfolding nothing
+zip_none [] = refl
+zip_none (x ∷ xs) = refl
+
+none_left : (x : Placement) (n : ℕ) → parts_from x n [] ≡ []
+unfolding nothing
+none_left x n =
+    ap (λ (gs : List (Grants × EventTables)). map (subject_part x) (enumerate_from n (zip (drop n x.plain.lawful.subjects) gs))) (zip_none (drop n x.plain.grants))
+    ∙ ap (λ (ss : List (Subject × (Grants × EventTables))). map (subject_part x) (enumerate_from n ss)) (zip_none (drop n x.plain.lawful.subjects))
+
+-- all are made
+pub all_made : (x : Placement) (events left : List EventTables) (parts : List SubjectPart) → length left ≡ 0 → IsParting x events left parts → parts ≡ parts_from x 0 events
+all_made x events (t ∷ left) parts none h = absurd (omega (arith, none))
+all_made x events [] parts none h = sym (append-nil parts) ∙ ap (λ a. parts ++ a) (sym (none_left x (length parts))) ∙ h.whole
+
+-- numbers of the subject at a place fit
+pub cpu_fits : (x : Placement) (k : ℕ) (d : Subject) → AreFew x → k < length x.plain.lawful.subjects → (get_or x.plain.lawful.subjects k d).cpu < 8
+cpu_fits x k d few l = ltb-true (get_or x.plain.lawful.subjects k d).cpu 8 (AllPass-from_list_all (λ s. nat_lt s.cpu 8) x.plain.lawful.subjects few.cpus k d l)
+
+pub msrs_fit : (x : Placement) (k : ℕ) (d : Grants) → AreFew x → k < length x.plain.grants → count_of (get_or x.plain.grants k d).msrs ≤ 64
+msrs_fit x k d few l = leb-true (count_of (get_or x.plain.grants k d).msrs) 64 (AllPass-from_list_all (λ g. nat_le (count_of g.msrs) 64) x.plain.grants few.msrs k d l)
+
+-- a subject is left while what one raises is
+pub some_left : (x : Placement) (events all left : List EventTables) (t : EventTables) (parts : List SubjectPart) (n : ℕ) → IsParting x events all parts → all ≡ t ∷ left → length events ≡ length x.plain.lawful.subjects → n ≡ length parts → n < length x.plain.lawful.subjects
+some_left x events all left t parts n h is many place =
+    let sum = h.many in
+    let next : length all ≡ suc (length left) = ap length is in
+    omega (arith, sum, next, many, place)
+
+pub at_subject : (x : Placement) (events left all : List EventTables) (parts more : List SubjectPart) (t : EventTables) (s : Subject) (g : Grants) (n : ℕ) (ss : List Subject) (gs : List Grants) (part : SubjectPart)
+    → AreFew x → length events ≡ length x.plain.lawful.subjects → n ≡ length parts → all ≡ t ∷ left → ss ≡ x.plain.lawful.subjects → gs ≡ x.plain.grants → s ≡ get_or ss n s → g ≡ get_or gs n g
+    → part ≡ subject_part x (n, (s, (g, t))) → more ≡ parts ++ part ∷ [] → IsParting x events all parts → IsParting x events left more
+at_subject x events left all parts more t s g n ss gs part few many place is sub grant at given made pushed h =
+    let here = some_left x events all left t parts n h is many place in
+    let same = few.grants in
+    let s_at : s ≡ get_or x.plain.lawful.subjects (length parts) s = at ∙ (λ i. get_or (sub i) (place i) s) in
+    let g_at : g ≡ get_or x.plain.grants (length parts) g = given ∙ (λ i. get_or (grant i) (place i) g) in
+    one_made x events left parts more t s g (omega (arith, here, place)) (omega (arith, here, place, same)) s_at g_at
+    (pushed ∙ ap (λ q. parts ++ q ∷ []) (made ∙ ap (λ k. subject_part x (k, (s, (g, t)))) place))
+    (subst (λ l. IsParting x events l parts) is h)

@@ -1,0 +1,182 @@
+-- The subjects of the image that is made are the policy's.
+use Rattle.std.proofs.Common.{◌≡◌, ◌∙◌, refl, sym, ap, arith, ℕ, suc, ◌+◌, ◌<◌, Bool, true, false, cond, not, ◌||◌, List, [], ◌∷◌, length, map, Option, Some, None}
+use Rattle.std.specs.Prelude.{◌==◌, nat_lt, option_map, position, slice_get, slice_index_or, unwrap_or}
+use Rattle.std.specs.List.{AllZip, count_by, enumerate_from, list_all, list_any, position_or_len, sum_by, zip}
+use Rattle.std.specs.Str.{bytes_eq}
+use Rattle.std.proofs.lemmas.Bool.{and_parts, eqb-true, lt-ltb, ltb-true}
+use Rattle.std.proofs.lemmas.List.{get_or-map, length-map}
+use Rattle.std.proofs.lemmas.List.Sums.{sum_by-cons}
+use Rattle.std.proofs.lemmas.Option.{get_or_from_slice_get, slice_get-map, slice_get_within}
+use Rattle.std.proofs.lemmas.Slice.Zip.{AllZip-long}
+use Rattle.event_emit.specs.Tables.{AreTables, irq_named, part_raised}
+use Rattle.event_emit.specs.declared.event_tables.EventTables.{EventTables}
+use Rattle.expand_grants.specs.Grants.{AreGrantsOf, target_named}
+use Rattle.expand_grants.specs.declared.granted.Grants.{Grants}
+use Rattle.image_emit.specs.Made.{IsMade, Made, group_at, image_of, policy_of, subject_part}
+use Rattle.image_meaning.specs.Named.{raised, reached, target}
+use Rattle.image_meaning.specs.Sound.{ForEachSubject, IsSubjectOf}
+use Rattle.image_pack.specs.declared.parts.EventPart.{EventPart}
+use Rattle.image_pack.specs.declared.parts.IrqTarget.{IrqTarget}
+use Rattle.image_pack.specs.declared.parts.SubjectPart.{SubjectPart}
+use Rattle.muen_num.proofs.Lists.{list_any-map, passes_at, position-map}
+use Rattle.policy_lawful.proofs.KeptMembers.{members_kept}
+use Rattle.policy_lawful.proofs.Places.{same_name}
+use Rattle.policy_lawful.proofs.SourceElements.{parts_placed}
+use Rattle.policy_lawful.proofs.UniqueNames.{subject_names, subjects_unique}
+use Rattle.policy_lawful.specs.Resolution.{Resolution, group_named, group_placed, name_at, source_of, subject_named}
+use Rattle.policy_lawful.specs.Rules.{repeated, times_listed}
+use Rattle.policy_lawful.specs.declared.resolved.Group.{Group as PlacedGroup}
+use Rattle.policy_lawful.specs.declared.resolved.Subject.{Subject}
+use Rattle.policy_meaning.specs.Events.{Raised, Target}
+use Rattle.policy_types.specs.declared.source.Group.{Group}
+use Rattle.region_alloc.specs.Placed.{Placement}
+use Rattle.subject_model.specs.System.{group_of}
+
+-- ---- the first that passes
+
+-- of two tests that agree on each element
+any_same : {X : Type 0} (p q ok : X → Bool) → ((x : X) → ok x ≡ true → p x ≡ q x) → (xs : List X) → list_all ok xs ≡ true → list_any p xs ≡ list_any q xs
+any_same p q ok same [] all = refl
+any_same p q ok same (x ∷ xs) all =
+    let parts = and_parts (ok x) (list_all ok xs) all in
+    ap (λ b. b || list_any p xs) (same x parts.0) ∙ ap (λ b. q x || b) (any_same p q ok same xs parts.1)
+
+place_same : {X : Type 0} (p q ok : X → Bool) → ((x : X) → ok x ≡ true → p x ≡ q x) → (xs : List X) → list_all ok xs ≡ true → position_or_len p xs ≡ position_or_len q xs
+place_same p q ok same [] all = refl
+place_same p q ok same (x ∷ xs) all =
+    let parts = and_parts (ok x) (list_all ok xs) all in
+    ap (λ b. cond (not b) (1 + position_or_len p xs) 0) (same x parts.0)
+    ∙ ap (λ n. cond (not (q x)) (1 + n) 0) (place_same p q ok same xs parts.1)
+
+pub position_there : {X : Type 0} (test : X → Bool) (xs : List X) → position_or_len test xs < length xs → position test xs ≡ Some (position_or_len test xs)
+position_there test xs l = ap (λ b. cond b (Some (position_or_len test xs)) None) (lt-ltb (position_or_len test xs) (length xs) l)
+
+-- where what is summed is 0 but where the test passes
+some_passes : {X : Type 0} (test : X → Bool) (f : X → ℕ) → ((x : X) → test x ≡ false → f x ≡ 0) → (xs : List X) → 0 < sum_by f xs → position_or_len test xs < length xs
+some_passes test f none [] l = absurd (omega (arith, l))
+some_passes test f none (x ∷ xs) l =
+    let sum : sum_by f (x ∷ xs) ≡ f x + sum_by f xs = sum_by-cons f x xs in
+    elim (test x) as (λ b. test x ≡ b → cond (not b) (1 + position_or_len test xs) 0 < suc (length xs)) [
+      | true ↦ λ _. omega arith
+      | false ↦ λ e.
+          let zero : f x ≡ 0 = none x e in
+          let later : position_or_len test xs < length xs = some_passes test f none xs (omega (arith, l, sum, zero)) in
+          omega (arith, later)
+    ] refl
+
+uncounted : {X : Type 0} (test : X → Bool) (xs : List X) → list_any test xs ≡ false → count_by test xs ≡ 0
+uncounted test [] h = refl
+uncounted test (x ∷ xs) h =
+    let sum : count_by test (x ∷ xs) ≡ cond (test x) 1 0 + count_by test xs = sum_by-cons (λ y. cond (test y) 1 0) x xs in
+    elim (test x) as (λ b. (b || list_any test xs) ≡ false → count_by test (x ∷ xs) ≡ cond b 1 0 + count_by test xs → count_by test (x ∷ xs) ≡ 0) [
+      | true ↦ λ k _. absurd (cc)
+      | false ↦ λ k e. let later : count_by test xs ≡ 0 = uncounted test xs k in omega (arith, e, later)
+    ] h sum
+
+-- ---- groups
+
+-- a group lists the name of a subject just where it has the subject's place
+lists_alike : (r : Resolution) (k : ℕ) → repeated (subject_names r) ≡ None → k < length r.subjects → (g : PlacedGroup) → group_placed r g ≡ true
+    → list_any (λ n. bytes_eq n (name_at (subject_names r) k)) (map (name_at (subject_names r)) g.subjects) ≡ list_any (λ n. n == k) g.subjects
+lists_alike r k unique within g placed =
+    let names = subject_names r in
+    let many : length names ≡ length r.subjects = length-map r.subjects (λ s. s.name) in
+    list_any-map (λ n. bytes_eq n (name_at names k)) (name_at names) g.subjects
+    ∙ any_same (λ i. bytes_eq (name_at names i) (name_at names k)) (λ i. i == k) (λ i. nat_lt i (length r.subjects))
+    (λ i ok. let l : i < length r.subjects = ltb-true i (length r.subjects) ok in same_name names i k unique (omega (arith, l, many)) (omega (arith, within, many)))
+    g.subjects placed
+
+pub name_of : (r : Resolution) (k : ℕ) (s : Subject) → slice_get r.subjects k ≡ Some s → name_at (subject_names r) k ≡ s.name
+name_of r k s at =
+    get_or-map (λ x. x.name) r.subjects k s [] (slice_get_within r.subjects k s at) ∙ ap (λ x. x.name) (get_or_from_slice_get r.subjects k s s at)
+
+-- the group of a subject, by name and by place
+pub in_group : (m : Made) → IsMade m → (k : ℕ) (s : Subject) → slice_get (policy_of m).subjects k ≡ Some s → group_of (source_of (policy_of m)) s.name ≡ Some (group_at (policy_of m) k)
+unfolding source_of
+in_group m h k s at =
+    let r = policy_of m in
+    let groups = map (group_named r) r.scheduling.groups in
+    let test : Group → Bool = λ g. list_any (λ n. bytes_eq n s.name) g.subjects in
+    let has : PlacedGroup → Bool = λ g. list_any (λ n. n == k) g.subjects in
+    let unique = subjects_unique r h.resolved.names in
+    let within = slice_get_within r.subjects k s at in
+    let kept = members_kept (source_of r) h.lawful.rule_17 in
+    let once : times_listed (source_of r) s.name ≡ 1 =
+    eqb-true (times_listed (source_of r) s.name) 1
+    (passes_at (λ x. times_listed (source_of r) x.name == 1) (source_of r).subjects k (subject_named r s) kept.once (slice_get-map (subject_named r) r.subjects k ∙ ap (option_map (subject_named r)) at)) in
+    let some : position_or_len test groups < length groups =
+    some_passes test (λ g. count_by (λ n. bytes_eq n s.name) g.subjects) (λ g. uncounted (λ n. bytes_eq n s.name) g.subjects) groups (omega (arith, once)) in
+    let many : length groups ≡ length r.scheduling.groups = length-map r.scheduling.groups (group_named r) in
+    let alike : (g : PlacedGroup) → group_placed r g ≡ true → test (group_named r g) ≡ has g = λ g ok.
+    ap (λ name. list_any (λ n. bytes_eq n name) (group_named r g).subjects) (sym (name_of r k s at)) ∙ lists_alike r k unique within g ok in
+    let same : position_or_len test groups ≡ position_or_len has r.scheduling.groups =
+    position-map test (group_named r) r.scheduling.groups
+    ∙ place_same (λ g. test (group_named r g)) has (group_placed r) alike r.scheduling.groups (parts_placed r h.resolved.placed).groups in
+    let number : group_at r k ≡ position_or_len has r.scheduling.groups =
+    ap (λ o. unwrap_or o 0) (position_there has r.scheduling.groups (omega (arith, some, many, same))) in
+    position_there test groups some ∙ ap Some (same ∙ sym number)
+
+-- ---- whom events and interrupts reach
+
+names_are : (x : Placement) (from : ℕ) (ss : List Subject) (gs : List Grants) (ts : List EventTables) → length gs ≡ length ss → length ts ≡ length ss
+    → map (λ (q : SubjectPart). q.name) (map (subject_part x) (enumerate_from from (zip ss (zip gs ts)))) ≡ map (λ s. s.name) ss
+names_are x from [] gs ts a b = refl
+names_are x from (s ∷ ss) [] ts a b = absurd (omega (arith, a))
+names_are x from (s ∷ ss) (g ∷ gs) [] a b = absurd (omega (arith, b))
+names_are x from (s ∷ ss) (g ∷ gs) (t ∷ ts) a b = ap (λ names. s.name ∷ names) (names_are x (from + 1) ss gs ts (omega (arith, a)) (omega (arith, b)))
+
+-- the image's subjects have the policy's names
+pub names_in_image : (m : Made) → IsMade m → map (λ s. s.name) (image_of m).subjects ≡ subject_names (policy_of m)
+unfolding image_of
+names_in_image m h =
+    let r = policy_of m in
+    names_are m.placed 0 r.subjects m.placed.plain.grants m.events (AllZip-long (AreGrantsOf r) r.subjects m.placed.plain.grants h.expansion.grants)
+    (AllZip-long (AreTables r) r.subjects m.events h.events)
+
+same_target : (m : Made) → IsMade m → (subject : ℕ) (vector : Option ℕ) → target (image_of m) subject vector ≡ target_named (policy_of m) subject vector
+same_target m h subject vector =
+    let by : List (List ℕ) → Target = λ names. record { subject = slice_index_or names subject []; vector = vector } in
+    ap by (names_in_image m h)
+
+same_raised : (m : Made) → IsMade m → (o : Option EventPart) → option_map (raised (image_of m)) o ≡ option_map (part_raised (policy_of m)) o
+same_raised m h None = refl
+same_raised m h (Some e) =
+    let by : Target → Raised = λ t. record { mode = e.mode; target = t } in
+    ap (λ t. Some (by t)) (same_target m h e.target e.vector)
+
+pub same_reached : (m : Made) → IsMade m → (o : Option IrqTarget) → option_map (reached (image_of m)) o ≡ option_map (irq_named (policy_of m)) o
+same_reached m h None = refl
+same_reached m h (Some t) = ap Some (same_target m h t.subject (Some t.vector))
+
+-- ---- subjects
+
+module _ (m : Made) (h : IsMade m) where
+  is_subject : (k : ℕ) (s : Subject) (g : Grants) (t : EventTables) → slice_get (policy_of m).subjects k ≡ Some s → AreTables (policy_of m) s t
+      → IsSubjectOf (source_of (policy_of m)) (image_of m) (subject_named (policy_of m) s) (subject_part m.placed (k, (s, (g, t))))
+  is_subject k s g t at are = record {
+    name = refl;
+    cpu = refl;
+    in_group = in_group m h k s at;
+    calls = λ n l. same_raised m h (slice_index_or t.calls n None) ∙ are.calls.raises n l;
+    traps = λ n l. same_raised m h (slice_index_or t.traps n None) ∙ are.traps.raises n l;
+  }
+
+  each_subject : (from : ℕ) (ss : List Subject) (gs : List Grants) (ts : List EventTables) → length gs ≡ length ss → AllZip (AreTables (policy_of m)) ss ts
+      → ((k : ℕ) (s : Subject) → slice_get ss k ≡ Some s → slice_get (policy_of m).subjects (from + k) ≡ Some s)
+      → AllZip (IsSubjectOf (source_of (policy_of m)) (image_of m)) (map (subject_named (policy_of m)) ss) (map (subject_part m.placed) (enumerate_from from (zip ss (zip gs ts))))
+  each_subject from [] gs ts a are at = tt
+  each_subject from (s ∷ ss) [] ts a are at = absurd (omega (arith, a))
+  each_subject from (s ∷ ss) (g ∷ gs) [] a are at = absurd are
+  each_subject from (s ∷ ss) (g ∷ gs) (t ∷ ts) a are at =
+      let here : from ≡ from + 0 = omega arith in (
+        is_subject from s g t (ap (slice_get (policy_of m).subjects) here ∙ at 0 s refl) are.0,
+        each_subject (from + 1) ss gs ts (omega (arith, a)) are.1 (λ k x e. let more : from + 1 + k ≡ from + suc k = omega arith in ap (slice_get (policy_of m).subjects) more ∙ at (suc k) x e),
+      )
+
+  -- **the subjects** of the image are the policy's
+  pub subjects_of_policy : ForEachSubject (source_of (policy_of m)) (image_of m) (IsSubjectOf (source_of (policy_of m)) (image_of m))
+  unfolding source_of image_of
+  subjects_of_policy =
+      let r = policy_of m in
+      each_subject 0 r.subjects m.placed.plain.grants m.events (AllZip-long (AreGrantsOf r) r.subjects m.placed.plain.grants h.expansion.grants) h.events
+      (λ k s e. let n : 0 + k ≡ k = omega arith in ap (slice_get r.subjects) n ∙ e)

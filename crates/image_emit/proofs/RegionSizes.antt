@@ -1,0 +1,149 @@
+-- The bytes of the regions of an image, by number, are as many as the regions' sizes say.
+use Rattle.std.proofs.Common.{◌≡◌, ℕ, zero, suc, ◌+◌, ◌-◌, ◌*◌, ◌≤◌, List, [], ◌∷◌, ◌++◌, length, map, get_or, take, refl, sym, ap, ap₂, ◌∙◌, arith, length-append, Some}
+use Rattle.std.proofs.Math.Seq.{take-append_seam}
+use Rattle.std.specs.Prelude.{option_map, replicate, slice_get}
+use Rattle.std.specs.List.{AllZip, enumerate_from, flat_map, zip}
+use Rattle.std.proofs.lemmas.List.{length-map, length-replicate, map-append, take_all}
+use Rattle.std.proofs.lemmas.List.Sums.{sum_by-cons}
+use Rattle.std.proofs.lemmas.Option.{get_or_from_slice_get, slice_get-map}
+use Rattle.ept_count.specs.Pages.{ept_pages}
+use Rattle.expand_grants.specs.declared.granted.Grants.{Grants}
+use Rattle.expand_kernel.specs.ByPlace.{brought_at, kernel_for, kernel_for_each, mapped_views, provided_at}
+use Rattle.expand_kernel.specs.Regions.{channel_region, own_region, provided_region}
+use Rattle.expand_kernel.specs.declared.region.Region.{Region}
+use Rattle.expand_kernel.proofs.Numbering.{regions_by_place}
+use Rattle.image_emit.specs.Made.{IsMade, Made, kernel_bytes, policy_of, region_bytes}
+use Rattle.machine_meaning.specs.Exits.{area_bytes}
+use Rattle.msrbm_emit.specs.Area.{area_of, count_of, entries_of, entry_of, size_of}
+use Rattle.msrbm_emit.proofs.AreaLaws.{length-area}
+use Rattle.muen_num.specs.Range.{numbers_below}
+use Rattle.muen_num.specs.declared.limits.TheConstants.{PAGE}
+use Rattle.page_parts.specs.Fields.{padded}
+use Rattle.policy_lawful.specs.declared.resolved.Subject.{Subject}
+use Rattle.policy_types.specs.declared.resources.MsrGrant.{MsrGrant}
+use Rattle.policy_types.specs.declared.source.Component.{Component}
+use Rattle.region_alloc.specs.Placed.{Placement}
+use Rattle.state_page.specs.StatePage.{page_bytes}
+use Rattle.subject_emit.specs.Mapped.{kernel_first}
+use Rattle.subject_emit.specs.Pages.{ArePages}
+use Rattle.subject_emit.specs.declared.subject_pages.SubjectPages.{SubjectPages}
+use Rattle.subject_emit.proofs.SamePages.{pages_same}
+use Rattle.subject_state.specs.States.{started}
+
+-- ---- pages of the kernel
+
+length-padded : (size : ℕ) (front : List ℕ) → length front ≤ size → length (padded size front) ≡ size
+unfolding padded
+length-padded size front few =
+    length-append front (replicate (size - length front) 0)
+    ∙ ap (λ n. length front + n) (length-replicate (size - length front) 0)
+    ∙ omega (arith, few)
+
+length-page : (entry : ℕ) → length (page_bytes (started entry)) ≡ PAGE
+unfolding page_bytes started
+length-page entry = length-padded PAGE _ (omega arith)
+
+length-numbers_below : (n : ℕ) → length (numbers_below n) ≡ n
+length-numbers_below zero = refl
+length-numbers_below (suc n) = length-append (numbers_below n) (n ∷ []) ∙ omega (arith, length-numbers_below n)
+
+length-entries_of : (m : MsrGrant) → length (entries_of m) ≡ size_of m
+unfolding entries_of
+length-entries_of m = length-map (numbers_below (size_of m)) (λ k. entry_of (m.start + k)) ∙ length-numbers_below (size_of m)
+
+length-area_of : (msrs : List MsrGrant) → length (area_of msrs) ≡ count_of msrs
+unfolding area_of count_of
+length-area_of [] = refl
+length-area_of (m ∷ msrs) = length-append (entries_of m) (area_of msrs) ∙ (ap₂ (λ a b. a + b) (length-entries_of m) (length-area_of msrs) ∙ sym (sum_by-cons size_of m msrs))
+
+-- the kernel's pages for each subject have the sizes of its regions
+kernel_sizes : (x : Placement) (n : ℕ) (es : List (Subject × Grants)) (qs : List SubjectPages) → AllZip (λ (e : ℕ × (Subject × Grants)) q. ArePages x e.0 e.1.0 e.1.1 q) (enumerate_from n es) qs
+    → map (λ b. length b) (flat_map kernel_bytes qs) ≡ map (λ r. r.size) (flat_map kernel_for es)
+kernel_sizes x n [] [] h = refl
+kernel_sizes x n [] (q ∷ qs) h = absurd h
+kernel_sizes x n (e ∷ es) [] h = absurd h
+kernel_sizes x n (e ∷ es) (q ∷ qs) h =
+    let p = h.0 in
+    let state : length q.state ≡ PAGE = ap length p.state ∙ length-page e.0.entry in
+    let tables : length q.tables ≡ ept_pages (mapped_views e.1.views) * PAGE = p.tables.len ∙ ap (λ k. PAGE * k) (pages_same x n e.1) ∙ omega arith in
+    let entries = area_of e.1.msrs in
+    let area : length q.area ≡ PAGE = ap length p.area ∙ length-padded PAGE (area_bytes entries) (omega (arith, length-area entries, length-area_of e.1.msrs, p.few)) in
+    let rest = kernel_sizes x (n + 1) es qs h.1 in
+    λ i. state i ∷ tables i ∷ p.ports_len i ∷ p.msrs_len i ∷ area i ∷ rest i
+
+-- ---- the regions that aren't the kernel's
+
+as_many : (cs : List Component) (ss : List Subject) → length (flat_map (brought_at cs) ss) ≡ length (flat_map (λ s. provided_at cs s.component) ss)
+unfolding brought_at
+as_many cs [] = refl
+as_many cs (s ∷ ss) =
+    let own = provided_at cs s.component in
+    let here = length-map own (provided_region s.name) in
+    let rest = as_many cs ss in
+    length-append (map (provided_region s.name) own) (flat_map (brought_at cs) ss)
+    ∙ (λ i. here i + rest i)
+    ∙ sym (length-append own (flat_map (λ s. provided_at cs s.component) ss))
+
+-- by number: memory, channels, what components bring along
+abbrev pub first_regions : Made → List Region
+first_regions m =
+    map own_region (policy_of m).memory
+    ++ map channel_region (policy_of m).channels
+    ++ flat_map (brought_at (policy_of m).components) (policy_of m).subjects
+
+abbrev pub last_regions : Made → List Region
+last_regions m = kernel_for_each (policy_of m).subjects m.placed.plain.grants
+
+pub regions_are : (m : Made) → IsMade m → m.placed.plain.regions ≡ first_regions m ++ last_regions m
+regions_are m h = h.expansion.regions ∙ sym (regions_by_place (policy_of m) m.placed.plain.grants h.resolved h.expansion.grants)
+
+pub first_many : (m : Made) → length (first_regions m) ≡ kernel_first (policy_of m) 0
+first_many m =
+    let r = policy_of m in
+    let memory = map own_region r.memory in
+    let channels = map channel_region r.channels in
+    let brought = flat_map (brought_at r.components) r.subjects in
+    let a = length-append (memory ++ channels) brought in
+    let b = length-append memory channels in
+    let c = length-map r.memory own_region in
+    let d = length-map r.channels channel_region in
+    let e = as_many r.components r.subjects in
+    let whole = ap (λ ss. length (flat_map (λ s. provided_at r.components s.component) ss)) (take_all (length r.subjects) r.subjects (omega arith)) in
+    omega (arith, a, b, c, d, e, whole)
+
+-- the things have the sizes of the first regions
+pub things_sized : (m : Made) → IsMade m → map (λ b. length b) m.things ≡ map (λ r. r.size) (first_regions m)
+things_sized m h =
+    let many : length m.things ≡ length (first_regions m) = h.filled.many ∙ sym (first_many m) in
+    let taken : take (length m.things) m.placed.plain.regions ≡ first_regions m = (λ i. take (many i) (regions_are m h i)) ∙ take-append_seam (first_regions m) (last_regions m) in
+    h.filled.sizes ∙ ap (map (λ (r : Region). r.size)) taken
+
+-- ---- all
+
+pub sizes : (m : Made) → IsMade m → map (λ b. length b) (region_bytes m) ≡ map (λ r. r.size) m.placed.plain.regions
+unfolding kernel_for_each
+sizes m h =
+    let kernel = kernel_sizes m.placed 0 (zip (policy_of m).subjects m.placed.plain.grants) m.pages h.pages in
+    map-append (λ b. length b) m.things (flat_map kernel_bytes m.pages)
+    ∙ (λ i. things_sized m h i ++ kernel i)
+    ∙ sym (map-append (λ (r : Region). r.size) (first_regions m) (last_regions m))
+    ∙ ap (map (λ (r : Region). r.size)) (sym (regions_are m h))
+
+-- as many as there are regions
+pub bytes_many : (m : Made) → IsMade m → length (region_bytes m) ≡ length m.placed.plain.regions
+bytes_many m h =
+    sym (length-map (region_bytes m) (λ b. length b))
+    ∙ ap length (sizes m h)
+    ∙ length-map m.placed.plain.regions (λ r. r.size)
+
+length_at : (bs : List (List ℕ)) (n : ℕ) → length (get_or bs n []) ≡ get_or (map (λ b. length b) bs) n 0
+length_at [] n = refl
+length_at (b ∷ bs) zero = refl
+length_at (b ∷ bs) (suc n) = length_at bs n
+
+-- the region of a number has as many bytes as its size says
+pub bytes_sized : (m : Made) → IsMade m → (n : ℕ) (r : Region) → slice_get m.placed.plain.regions n ≡ Some r → length (get_or (region_bytes m) n []) ≡ r.size
+bytes_sized m h n r at =
+    length_at (region_bytes m) n
+    ∙ ap (λ ns. get_or ns n 0) (sizes m h)
+    ∙ get_or_from_slice_get (map (λ r. r.size) m.placed.plain.regions) n r.size 0 (slice_get-map (λ r. r.size) m.placed.plain.regions n ∙ ap (option_map (λ (r : Region). r.size)) at)

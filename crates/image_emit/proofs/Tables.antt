@@ -1,0 +1,64 @@
+-- Each entry that a walk for a subject reads lies in a span of tables.
+use Rattle.std.proofs.Common.{◌≡◌, ℕ, ◌+◌, ◌*◌, ◌<◌, ◌≤◌, Bool, true, length, take, drop, Some, refl, ap, ◌∙◌, arith, le-leb}
+use Rattle.std.specs.Prelude.{◌&&◌, nat_le}
+use Rattle.std.proofs.lemmas.Bool.{and_from}
+use Rattle.ept_count.specs.Pages.{ept_pages}
+use Rattle.ept_emit.specs.Emitted.{HasTables}
+use Rattle.event_emit.specs.declared.event_tables.EventTables.{EventTables}
+use Rattle.expand_grants.specs.declared.granted.Grants.{Grants}
+use Rattle.expand_kernel.specs.ByPlace.{mapped_views}
+use Rattle.image_emit.specs.Made.{IsMade, Made, image_of, policy_of}
+use Rattle.image_emit.proofs.PagesThere.{page_there}
+use Rattle.image_emit.proofs.PlacesBySubject.{IsPlaced, each_subject}
+use Rattle.image_emit.proofs.PlacesOfKernel.{kernel_content, kernel_numbered, kernel_span}
+use Rattle.image_emit.proofs.SpansAt.{some_span}
+use Rattle.image_meaning.specs.Memory.{memory_of}
+use Rattle.image_meaning.specs.Sound.{ForEachSubject, ReadsTables, is_in_tables, is_tables}
+use Rattle.image_pack.specs.SpanConditions.{end_of}
+use Rattle.image_pack.specs.declared.parts.SpanPart.{SpanPart}
+use Rattle.muen_num.specs.declared.limits.TheConstants.{PAGE}
+use Rattle.muen_num.specs.declared.tag.Part.TheVariants.{Ept}
+use Rattle.policy_lawful.specs.Resolution.{source_of}
+use Rattle.policy_lawful.specs.declared.resolved.Subject.{Subject}
+use Rattle.subject_emit.specs.Pages.{tables_at}
+use Rattle.subject_emit.specs.declared.subject_pages.SubjectPages.{SubjectPages}
+use Rattle.subject_emit.proofs.SamePages.{pages_same}
+
+module _ (m : Made) (h : IsMade m) (k : ℕ) (s : Subject) (g : Grants) (t : EventTables) (q : SubjectPages) (at : IsPlaced m k s g t q) where
+  abbrev many : ℕ
+  many = ept_pages (mapped_views g.views)
+
+  -- the span of the subject's tables
+  abbrev tables_span : SpanPart
+  tables_span = kernel_span m h k s g t q at 1 (many * PAGE) Ept
+
+  pub tables_long : length q.tables ≡ 4096 * many
+  tables_long = at.pages.tables.len ∙ ap (λ n. 4096 * n) (pages_same m.placed k g)
+
+  -- has so many pages
+  span_pages : tables_span.pages ≡ many
+  span_pages = omega arith
+
+  -- the tables stand in memory
+  pub has_tables : HasTables (memory_of (image_of m)) (tables_at m.placed k) q.tables
+  has_tables j l =
+      let within : j < tables_span.pages = omega (arith, span_pages, tables_long, l) in
+      page_there m h _ tables_span (kernel_numbered m h k s g t q at 1 (many * PAGE) Ept refl) j within
+      ∙ ap (λ b. Some (take 4096 (drop (4096 * j) b))) (kernel_content m h k s g t q at 1 (many * PAGE) Ept q.tables refl)
+
+  in_span : (place : ℕ) → tables_at m.placed k ≤ place → place + 8 ≤ tables_at m.placed k + length q.tables → is_in_tables (image_of m) place ≡ true
+  unfolding image_of
+  in_span place low high =
+      let test : SpanPart → Bool = λ s. is_tables s && nat_le s.place place && nat_le (place + 8) (end_of s) in
+      let numbered = kernel_numbered m h k s g t q at 1 (many * PAGE) Ept refl in
+      let a : nat_le tables_span.place place ≡ true = le-leb _ _ low in
+      let b : nat_le (place + 8) (end_of tables_span) ≡ true = le-leb _ _ (omega (arith, span_pages, tables_long, high)) in
+      let passes : test tables_span ≡ true = and_from (nat_le tables_span.place place) _ a b in
+      some_span m h test _ tables_span numbered passes
+
+pub tables : (m : Made) → IsMade m → ForEachSubject (source_of (policy_of m)) (image_of m) (λ s q. ReadsTables (image_of m) q)
+tables m h =
+    each_subject m h (λ s q. ReadsTables (image_of m) q)
+    (λ k s g t q at addr l i d low.
+    let lies = at.pages.tables.alone (memory_of (image_of m)) addr (has_tables m h k s g t q at) l i d low in
+    in_span m h k s g t q at _ lies.0 lies.1)

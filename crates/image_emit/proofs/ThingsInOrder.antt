@@ -1,0 +1,92 @@
+-- The things of a resolved policy, in the order of their numbers.
+use Rattle.std.proofs.Common.{◌≡◌, ℕ, true, List, [], ◌++◌, length, map, Option, Some, None, refl, sym, ap, ◌∙◌}
+use Rattle.std.specs.Prelude.{nat_lt, option_map, slice_get}
+use Rattle.std.specs.Option.{option_map_or}
+use Rattle.std.specs.List.{flat_map}
+use Rattle.std.proofs.lemmas.Bool.{and_parts, ltb-true}
+use Rattle.std.proofs.lemmas.List.Folds.{flat_map-map}
+use Rattle.expand_kernel.specs.ByPlace.{provided_at}
+use Rattle.image_emit.proofs.PiecesOfLists.{map_pieces, flat_map_at}
+use Rattle.muen_num.proofs.Lists.{map-map, passes_at}
+use Rattle.policy_lawful.specs.Resolution.{IsResolved, Resolution, component_named, component_placed, source_of, subject_named, subject_placed}
+use Rattle.policy_lawful.specs.declared.resolved.ComponentUse.{ComponentUse}
+use Rattle.policy_lawful.specs.declared.resolved.Subject.{Subject}
+use Rattle.policy_lawful.proofs.Places.{found_at_place}
+use Rattle.policy_lawful.proofs.SourceElements.{parts_placed}
+use Rattle.policy_lawful.proofs.UniqueNames.{unique}
+use Rattle.policy_meaning.specs.Thing.{Thing, channel, component_by, device_memory, provided, provided_by, region, things_of}
+use Rattle.policy_types.specs.declared.source.Component.{Component}
+use Rattle.policy_types.specs.declared.source.Device.{Device}
+use Rattle.policy_types.specs.declared.source.DeviceMemory.{DeviceMemory}
+use Rattle.policy_types.specs.declared.source.Subject.{Subject as NamedSubject}
+use Rattle.policy_views.proofs.WindowsByPlace.{subject_parts}
+use Rattle.span_emit.specs.Spans.{memories_of}
+
+-- ---- in the order of their numbers
+
+abbrev pub provided_things : List Component → Subject → List Thing
+provided_things components s = map (λ x. provided s.name x.logical) (provided_at components s.component)
+
+-- those that have regions
+abbrev pub region_things : Resolution → List Thing
+region_things r =
+    map (λ x. region x.name) r.memory
+    ++ map (λ c. channel c.name) r.channels
+    ++ flat_map (provided_things r.components) r.subjects
+
+abbrev pub memory_thing : List ℕ × DeviceMemory → Thing
+memory_thing x = device_memory x.0 x.1.name
+
+-- those of devices
+abbrev pub memory_things : Resolution → List Thing
+memory_things r = map memory_thing (memories_of r.devices)
+
+-- ---- they are the source policy's
+
+-- the component at a use's place
+abbrev pub used_component : Resolution → Option ComponentUse → Option Component
+used_component r None = None
+used_component r (Some used) = slice_get r.components used.used
+
+-- what it brings along
+pub brings : (r : Resolution) (o : Option ComponentUse) → provided_at r.components o ≡ option_map_or (λ c. c.provides) (used_component r o) []
+brings r None = refl
+brings r (Some used) = refl
+
+provided_of : (name : List ℕ) (o : Option Component) → provided_by name o ≡ map (λ x. provided name x.logical) (option_map_or (λ c. c.provides) o [])
+provided_of name None = refl
+provided_of name (Some c) = refl
+
+module _ (r : Resolution) (q : IsResolved r) where
+  use_by_name : (o : Option ComponentUse) → option_map_or (component_placed r) o true ≡ true → component_by (source_of r) (option_map (component_named r) o) ≡ used_component r o
+  unfolding source_of
+  use_by_name None placed = refl
+  use_by_name (Some used) placed =
+      found_at_place (λ (c : Component). c.name) r.components used.used (unique (source_of r) q.names).components
+      (ltb-true used.used (length r.components) (and_parts (nat_lt used.used (length r.components)) _ placed).0)
+
+  -- the component of a subject, by its name
+  pub component_is : (k : ℕ) (s : Subject) → slice_get r.subjects k ≡ Some s → component_by (source_of r) (subject_named r s).component ≡ used_component r s.component
+  component_is k s at =
+      let placed : subject_placed r s ≡ true = passes_at (subject_placed r) r.subjects k s (parts_placed r q.placed).subjects at in
+      use_by_name s.component (subject_parts r s placed).component
+
+  provided_are : (k : ℕ) (s : Subject) → slice_get r.subjects k ≡ Some s → provided_by s.name (component_by (source_of r) (subject_named r s).component) ≡ provided_things r.components s
+  provided_are k s at =
+      ap (provided_by s.name) (component_is k s at)
+      ∙ provided_of s.name (used_component r s.component)
+      ∙ ap (map (λ x. provided s.name x.logical)) (sym (brings r s.component))
+
+  provided_all : flat_map (λ (s : NamedSubject). provided_by s.name (component_by (source_of r) s.component)) (map (subject_named r) r.subjects) ≡ flat_map (provided_things r.components) r.subjects
+  provided_all =
+      flat_map-map (λ (s : NamedSubject). provided_by s.name (component_by (source_of r) s.component)) (subject_named r) r.subjects
+      ∙ flat_map_at (λ s. provided_by s.name (component_by (source_of r) (subject_named r s).component)) (provided_things r.components) r.subjects provided_are
+
+  memories_all : (ds : List Device) → flat_map (λ d. map (λ m. device_memory d.name m.name) d.memory) ds ≡ map memory_thing (memories_of ds)
+  memories_all ds =
+      flat_map_at (λ d. map (λ m. device_memory d.name m.name) d.memory) (λ d. map memory_thing (map (λ m. (d.name, m)) d.memory)) ds (λ k d at. sym (map-map memory_thing (λ m. (d.name, m)) d.memory))
+      ∙ sym (map_pieces memory_thing (λ d. map (λ m. (d.name, m)) d.memory) ds)
+
+  pub things_are : things_of (source_of r) ≡ region_things r ++ memory_things r
+  unfolding things_of source_of
+  things_are = λ i. map (λ x. region x.name) r.memory ++ map (λ c. channel c.name) r.channels ++ provided_all i ++ memories_all r.devices i

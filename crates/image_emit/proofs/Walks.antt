@@ -1,0 +1,98 @@
+-- The walks for a subject's guest addresses go exactly where its windows lead.
+use Rattle.std.proofs.Common.{◌≡◌, ℕ, ◌+◌, ◌-◌, ◌≤◌, Bool, true, false, List, map, Option, Some, None, refl, sym, ap, ◌∙◌, subst, arith}
+use Rattle.std.specs.Prelude.{◌&&◌, nat_le, nat_lt, option_map, slice_get, if◌then◌else◌}
+use Rattle.std.specs.List.{find}
+use Rattle.std.specs.List.Sorted.{IsPermutation}
+use Rattle.std.proofs.lemmas.List.Sorted.{IsPermutation-map}
+use Rattle.std.proofs.lemmas.Bool.{and_parts, leb-true, ltb-true}
+use Rattle.std.proofs.lemmas.Option.{get_or_from_slice_get, slice_get_within}
+use Rattle.ept_emit.specs.Emitted.{holds as is_in, translation, translation_in, window_at}
+use Rattle.expand_grants.specs.Grants.{AreGrantsOf, is_lower}
+use Rattle.expand_grants.specs.declared.granted.Grants.{Grants}
+use Rattle.expand_grants.proofs.Ordered.{in_order_permutes}
+use Rattle.expand_kernel.specs.ByPlace.{CanMap}
+use Rattle.expand_kernel.proofs.Numbering.{can_map_granted}
+use Rattle.image_emit.specs.Made.{IsMade, Made, image_of, policy_of}
+use Rattle.image_emit.proofs.PlacesShown.{place_shown}
+use Rattle.image_emit.proofs.PlacesBySubject.{each_subject}
+use Rattle.image_emit.proofs.PlacesOfShown.{has_places}
+use Rattle.image_emit.proofs.Tables.{has_tables}
+use Rattle.image_emit.proofs.WalksByWindow.{ArePassedOnce, found_contained, found_permuted}
+use Rattle.image_meaning.specs.Memory.{memory_of}
+use Rattle.image_meaning.specs.Sound.{ForEachSubject, HasWalks, led, place_of}
+use Rattle.machine_meaning.specs.declared.walk.Walk.TheVariants.{At, Violation}
+use Rattle.muen_num.proofs.Lists.{find-map, passes_at}
+use Rattle.muen_num.specs.declared.access.Kind.{Kind}
+use Rattle.policy_lawful.specs.Resolution.{source_of, subject_named, subject_placed}
+use Rattle.policy_lawful.specs.declared.resolved.Subject.{Subject}
+use Rattle.policy_lawful.proofs.SourceElements.{parts_placed}
+use Rattle.policy_meaning.specs.Thing.{Thing}
+use Rattle.policy_meaning.specs.Windows.{access_by, access_of, byte, holds, violation, windows_of}
+use Rattle.policy_types.specs.Rights.{allows}
+use Rattle.policy_types.specs.declared.rights.Rights.{Rights}
+use Rattle.policy_views.specs.Views.{thing_shown, view_window, views_of}
+use Rattle.policy_views.specs.declared.view.View.{View}
+use Rattle.policy_views.proofs.WindowsByPlace.{windows_by_place}
+use Rattle.subject_emit.specs.Mapped.{mapped, mapped_windows, shown_place}
+use Rattle.subject_emit.proofs.SamePages.{apart_mapped}
+
+-- the view holds the address
+abbrev pub on_view : ℕ → View → Bool
+on_view addr v = nat_le v.guest addr && nat_lt addr (v.guest + v.size)
+
+not_both : (addr a m b n : ℕ) → a + m ≤ b → (nat_le a addr && nat_lt addr (a + m)) ≡ true → (nat_le b addr && nat_lt addr (b + n)) ≡ true → ⊥
+not_both addr a m b n apart p q =
+    let high = ltb-true addr (a + m) (and_parts (nat_le a addr) (nat_lt addr (a + m)) p).1 in
+    let low = leb-true b addr (and_parts (nat_le b addr) (nat_lt addr (b + n)) q).0 in
+    omega (arith, apart, high, low)
+
+-- a byte where there is the right, and the rights that were found where there isn't
+by_rights : (place : Thing → ℕ) (b : Bool) (x : Thing) (to offset : ℕ) (rights : Rights) → place x ≡ to → (if b then At (to + offset) else Violation rights.0) ≡ led place (if b then byte x offset else violation rights)
+by_rights place true x to offset rights e = ap (λ n. At (n + offset)) (sym e)
+by_rights place false x to offset rights e = refl
+
+module _ (m : Made) (h : IsMade m) (k : ℕ) (s : Subject) (g : Grants) (at : slice_get (policy_of m).subjects k ≡ Some s) (there : slice_get m.placed.plain.grants k ≡ Some g) (granted : AreGrantsOf (policy_of m) s g) where
+  abbrev pub views : List View
+  views = views_of (policy_of m) s
+
+  -- no address is in two windows
+  once : (addr : ℕ) → ArePassedOnce (is_in addr) (mapped_windows m.placed k g)
+  once addr =
+      let can : CanMap g.views =
+      subst (λ g. CanMap g.views) (get_or_from_slice_get m.placed.plain.grants k g g there)
+      (can_map_granted (policy_of m) m.placed.plain.grants h.resolved h.lawful h.expansion.grants k g (slice_get_within m.placed.plain.grants k g there)) in
+      let apart = apart_mapped m.placed k g can.apart in
+      λ i j d l n p q. not_both addr _ _ _ _ (apart i j d l n) p q
+
+  -- the window that tables map is that which the policy grants
+  pub mapped_at : (addr : ℕ) → window_at (mapped_windows m.placed k g) addr ≡ option_map (mapped m.placed k) (find (on_view addr) views)
+  mapped_at addr =
+      let moved : IsPermutation views g.views = subst (IsPermutation views) (sym granted.views) (in_order_permutes is_lower views) in
+      sym (found_permuted (is_in addr) (map (mapped m.placed k) views) (mapped_windows m.placed k g) (IsPermutation-map (mapped m.placed k) views g.views moved) (once addr))
+      ∙ find-map (is_in addr) (mapped m.placed k) views
+
+  pub granted_at : (addr : ℕ) → find (λ w. holds w addr) (windows_of (source_of (policy_of m)) (subject_named (policy_of m) s)) ≡ option_map (view_window (policy_of m) s.name) (find (on_view addr) views)
+  granted_at addr =
+      let placed : subject_placed (policy_of m) s ≡ true = passes_at (subject_placed (policy_of m)) (policy_of m).subjects k s (parts_placed (policy_of m) h.resolved.placed).subjects at in
+      ap (find (λ w. holds w addr)) (windows_by_place (policy_of m) s h.resolved placed)
+      ∙ find-map (λ w. holds w addr) (view_window (policy_of m) s.name) views
+
+  led_by : (addr : ℕ) (kind : Kind) (o : Option View) → find (on_view addr) views ≡ o
+      → translation_in (option_map (mapped m.placed k) o) addr kind ≡ led (place_of (source_of (policy_of m)) (image_of m)) (access_by (option_map (view_window (policy_of m) s.name) o) addr kind)
+  led_by addr kind None e = refl
+  led_by addr kind (Some v) e =
+      by_rights (place_of (source_of (policy_of m)) (image_of m)) (allows v.rights kind) (thing_shown (policy_of m) s.name v v.shows) (shown_place m.placed k v.shows) (addr - v.guest) v.rights
+      (place_shown m h k s v at (found_contained (on_view addr) views v e))
+
+  leads : (addr : ℕ) (kind : Kind) → translation (mapped_windows m.placed k g) addr kind ≡ led (place_of (source_of (policy_of m)) (image_of m)) (access_of (windows_of (source_of (policy_of m)) (subject_named (policy_of m) s)) addr kind)
+  leads addr kind =
+      ap (λ o. translation_in o addr kind) (mapped_at addr)
+      ∙ led_by addr kind (find (on_view addr) views) refl
+      ∙ ap (λ o. led (place_of (source_of (policy_of m)) (image_of m)) (access_by o addr kind)) (sym (granted_at addr))
+
+pub walks : (m : Made) → IsMade m → ForEachSubject (source_of (policy_of m)) (image_of m) (HasWalks (source_of (policy_of m)) (image_of m))
+walks m h =
+    each_subject m h (HasWalks (source_of (policy_of m)) (image_of m))
+    (λ k s g t q at addr kind l.
+    at.pages.tables.walk (memory_of (image_of m)) addr kind (has_tables m h k s g t q at) (has_places m h k s g at.subject at.grants) l
+    ∙ leads m h k s g at.subject at.granted at.grants addr kind)

@@ -1,0 +1,8 @@
+-- What is known while the subjects are gone through.
+use Rattle.std.proofs.Common.{take, zip}
+use Rattle.std.specs.List.{AllZip, enumerate_from}
+use Rattle.subject_emit.specs.Pages.{ArePages}
+use Rattle.image_emit.proofs.image.all_pages.Given as goal
+
+abbrev pub invariant-loop-place : goal.invariant-loop-place
+invariant-loop-place l = AllZip (λ e q. ArePages l.placed e.0 e.1.0 e.1.1 q) (take l.place (enumerate_from 0 (zip l.placed.plain.lawful.subjects l.placed.plain.grants))) l.all

@@ -1,0 +1,7 @@
+pub mod Built
+pub mod Fitting
+pub mod Gathered
+pub mod Known
+pub mod Made
+pub mod Parting
+pub mod Taking

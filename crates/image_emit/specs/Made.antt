@@ -1,0 +1,132 @@
+-- What the image of a placed policy is made of, and the image that it makes (this project's own format).
+use Rattle.std.specs.Prelude.{◌≡◌, ℕ, ◌+◌, ◌==◌, ◌&&◌, true, List, [], ◌∷◌, ◌++◌, length, map, zip, take, replicate, position, slice_index_or, Option, option_and_then, unwrap_or}
+use Rattle.std.specs.Str.{bytes_eq}
+use Rattle.std.specs.List.{AllZip, enumerate_from, flat_map, list_all, list_any}
+use Rattle.std.specs.List.Sorted.{IsPermutation}
+use Rattle.ept_emit.specs.Emitted.{eptp_of}
+use Rattle.event_emit.specs.Tables.{AreDevices, AreTables}
+use Rattle.event_emit.specs.declared.event_tables.EventTables.{EventTables}
+use Rattle.expand_grants.specs.declared.granted.Grants.{Grants}
+use Rattle.expand_kernel.specs.ByPlace.{provided_at}
+use Rattle.expand_kernel.specs.Expansion.{IsExpansion}
+use Rattle.image_pack.specs.Parts.{counted}
+use Rattle.image_pack.specs.SpanConditions.{AreSpans}
+use Rattle.image_pack.specs.declared.parts.DevicePart.{DevicePart}
+use Rattle.image_pack.specs.declared.parts.Image.{Image}
+use Rattle.image_pack.specs.declared.parts.SpanPart.{SpanPart}
+use Rattle.image_pack.specs.declared.parts.SubjectPart.{SubjectPart}
+use Rattle.image_plan.specs.declared.plan.Plan.{Plan}
+use Rattle.msrbm_emit.specs.Area.{count_of}
+use Rattle.muen_num.specs.Naming.{is_name}
+use Rattle.plan_emit.specs.PlanOf.{IsPlanOf}
+use Rattle.policy_lawful.specs.Lawful.{IsLawful}
+use Rattle.policy_lawful.specs.Resolution.{IsResolved, Resolution, source_of}
+use Rattle.policy_lawful.specs.declared.resolved.Subject.{Subject}
+use Rattle.policy_meaning.specs.Contents.{Held, content_bytes}
+use Rattle.region_alloc.specs.Placed.{AreDisjoint, AreInside, IsPlacement, Placement}
+use Rattle.span_emit.specs.Spans.{spans_of}
+use Rattle.subject_emit.specs.Mapped.{kernel_first}
+use Rattle.subject_emit.specs.Pages.{ArePages, tables_at}
+use Rattle.subject_emit.specs.declared.subject_pages.SubjectPages.{SubjectPages}
+
+-- what an image is made of
+pub record Made : Type 0 where
+  pub placed : Placement
+  -- the bytes of the regions that aren't the kernel's, by number
+  pub things : List (List ℕ)
+  -- of each subject
+  pub pages : List SubjectPages
+  pub events : List EventTables
+  pub devices : List DevicePart
+  pub plan : Plan
+  -- by their places
+  pub spans : List SpanPart
+
+abbrev pub policy_of : Made → Resolution
+policy_of m = m.placed.plain.lawful
+
+-- ---- the image
+
+-- what the kernel's regions for a subject hold, in order
+abbrev pub kernel_bytes : SubjectPages → List (List ℕ)
+kernel_bytes q = q.state ∷ q.tables ∷ q.ports ∷ q.msrs ∷ q.area ∷ []
+
+-- what each region holds, by number
+abbrev pub region_bytes : Made → List (List ℕ)
+region_bytes m = m.things ++ flat_map kernel_bytes m.pages
+
+-- what a span has in the image; a device's memory, whose numbers come behind the regions', has nothing
+abbrev pub content_at : Made → SpanPart → List ℕ
+content_at m s = slice_index_or (region_bytes m) s.number []
+
+-- the number of the group in which the subject at a place stands
+abbrev pub group_at : Resolution → ℕ → ℕ
+group_at r place = unwrap_or (position (λ g. list_any (λ n. n == place) g.subjects) r.scheduling.groups) 0
+
+-- the subject at a place, with what it is granted and the events that it raises
+abbrev pub subject_part : Placement → ℕ × (Subject × (Grants × EventTables)) → SubjectPart
+subject_part x (place, (s, (g, t))) = record {
+  cpu = s.cpu;
+  group = group_at x.plain.lawful place;
+  msrs = count_of g.msrs;
+  state = kernel_first x.plain.lawful place;
+  iobm = kernel_first x.plain.lawful place + 2;
+  msrbm = kernel_first x.plain.lawful place + 3;
+  area = kernel_first x.plain.lawful place + 4;
+  eptp = eptp_of (tables_at x place);
+  name = s.name;
+  calls = t.calls;
+  traps = t.traps;
+}
+
+abbrev pub subject_parts : Made → List SubjectPart
+subject_parts m =
+    map (subject_part m.placed) (enumerate_from 0 (zip (policy_of m).subjects (zip m.placed.plain.grants m.events)))
+
+-- the number of the region whose first byte chooses the next major frame
+abbrev pub choice_of : Resolution → Option ℕ
+choice_of r = option_and_then (λ t. position (λ m. bytes_eq m.name t.region) r.memory) r.scheduling.tau0
+
+unfoldable pub image_of : Made → Image
+image_of m =
+    counted (policy_of m).processor.logical_cpus (choice_of (policy_of m)) m.spans (subject_parts m) m.plan m.devices (map (content_at m) m.spans)
+
+-- ---- what is known of what it is made of
+
+-- the bytes of the regions that aren't the kernel's, by number, where files hold this
+abbrev pub thing_bytes : Held → Resolution → List (List ℕ)
+thing_bytes files r =
+    map (λ m. content_bytes files m.size m.content) r.memory
+    ++ map (λ c. replicate c.size 0) r.channels
+    ++ flat_map (λ s. map (λ x. content_bytes files x.size x.content) (provided_at r.components s.component)) r.subjects
+
+-- the regions that aren't the kernel's have as many bytes as their sizes say
+pub record IsFilled (x : Placement) (things : List (List ℕ)) : Type 0 where
+  pub many : length things ≡ kernel_first x.plain.lawful 0
+  pub sizes : map (λ bytes. length bytes) things ≡ map (λ r. r.size) (take (length things) x.plain.regions)
+
+pub record IsMade (m : Made) : Type 0 where
+  pub resolved : IsResolved (policy_of m)
+  pub lawful : IsLawful (source_of (policy_of m))
+  pub expansion : IsExpansion m.placed.plain
+  pub placement : IsPlacement m.placed
+  pub inside : AreInside (policy_of m).memory_blocks m.placed.plain.regions m.placed.places
+  pub disjoint : AreDisjoint m.placed.plain.regions m.placed.places
+  -- names are names
+  pub subjects_named : list_all (λ s. is_name s.name) (policy_of m).subjects ≡ true
+  pub devices_named : list_all (λ d. is_name d.name && list_all (λ i. is_name i.name) d.irqs) (policy_of m).devices ≡ true
+  pub filled : IsFilled m.placed m.things
+  pub pages : AllZip (λ e q. ArePages m.placed e.0 e.1.0 e.1.1 q) (enumerate_from 0 (zip (policy_of m).subjects m.placed.plain.grants)) m.pages
+  pub events : AllZip (AreTables (policy_of m)) (policy_of m).subjects m.events
+  pub devices : AreDevices (policy_of m) (length m.placed.plain.regions) (policy_of m).devices m.devices
+  pub plan : IsPlanOf (source_of (policy_of m)) m.plan
+  pub spans : AreSpans m.spans
+  pub numbered : IsPermutation (spans_of m.placed) m.spans
+
+-- the image that some such parts make
+pub record IsImageOf (x : Placement) (things : List (List ℕ)) (i : Image) : Type 0 where
+  pub made : Made
+  pub is : IsMade made
+  pub placed : made.placed ≡ x
+  pub held : made.things ≡ things
+  pub image : i ≡ image_of made

@@ -1,0 +1,113 @@
+//! The image as a whole.
+ghost use Rattle.std.specs.Prelude.{◌≡◌, ◌<◌, ◌^◌, length, IfOk};
+ghost use Rattle.image_emit.specs.Built.{HasGreatestPages, HasOnePathPerTable, HasPlacement};
+ghost use Rattle.image_emit.specs.Fitting.{AreFew};
+ghost use Rattle.image_emit.specs.Gathered.{AreAllPages, AreParts, AreReadable, IsHeld};
+ghost use Rattle.image_emit.specs.Made.{IsFilled, IsImageOf, thing_bytes};
+ghost use Rattle.image_meaning.specs.Sound.{ForEachSubject, IsSound};
+ghost use Rattle.image_pack.specs.SpanConditions.{HaveDifferentNumbers};
+ghost use Rattle.policy_lawful.specs.Resolution.{source_of};
+ghost use Rattle.policy_meaning.specs.Contents.{Held};
+
+use crate::promises::known;
+use crate::span_bytes::{contents, region_bytes};
+use crate::subjects::{choice_of, grants_of, subject_parts, subjects_of};
+use event_emit::{devices, tables};
+use image_pack::{Parts, SpanPart, SubjectPart};
+use muen_num::{NoMemory, Seq};
+use plan_emit::plan;
+use policy_lawful::Resolved;
+use region_alloc::Placed;
+use span_emit::spans;
+use std::alloc::Global;
+use subject_emit::{SubjectPages, pages};
+
+// The pages of each subject.
+fn all_pages(alloc: Global, placed: &Placed) -> Result<Seq<SubjectPages>, NoMemory>
+    requires readable { AreReadable placed.now }
+    requires as_many { length placed.now.plain.grants ≡ length placed.now.plain.lawful.subjects }
+    ensures { IfOk result (AreAllPages placed.now) }
+{
+    let subjects = subjects_of(placed);
+    let grants = grants_of(placed);
+    let mut all = Seq::new(alloc);
+    for place in 0..subjects.len() {
+        let of_subject = pages(alloc, placed, place, &subjects[place], &grants[place])?;
+        all.push(of_subject)?;
+    }
+    Ok(all)
+}
+
+// What the spans hold.
+fn held(
+    alloc: Global,
+    placed: &Placed,
+    things: Seq<Seq<u8>>,
+    spans: &[SpanPart],
+) -> Result<Seq<Seq<u8>>, NoMemory>
+    requires readable { AreReadable placed.now }
+    requires as_many { length placed.now.plain.grants ≡ length placed.now.plain.lawful.subjects }
+    requires numbers { HaveDifferentNumbers spans.now }
+    ensures { IfOk result (IsHeld placed.now things spans.now) }
+{
+    let pages = all_pages(alloc, placed)?;
+    let bytes = region_bytes(things, pages)?;
+    contents(alloc, spans, bytes)
+}
+
+// The subjects with the events that they raise.
+fn subjects(alloc: Global, placed: &Placed) -> Result<Seq<SubjectPart>, NoMemory>
+    requires { AreFew placed.now }
+    ensures { IfOk result (AreParts placed.now) }
+{
+    let events = tables(alloc, placed.plain())?;
+    subject_parts(alloc, placed, events)
+}
+
+fn policy_of(placed: &Placed) -> &Resolved
+    ensures { result.now ≡ placed.now.plain.lawful }
+{
+    placed.plain().lawful().resolved()
+}
+
+fn cpus(placed: &Placed) -> u8
+    requires { placed.now.plain.lawful.processor.logical_cpus < 2 ^ 8 }
+    ensures { result ≡ placed.now.plain.lawful.processor.logical_cpus }
+{
+    policy_of(placed).processor().logical_cpus as u8
+}
+
+// The number of the first span of a device's memory, behind those of the regions.
+fn first_device(placed: &Placed) -> u16
+    requires { length placed.now.plain.regions < 2 ^ 16 }
+    ensures { result ≡ length placed.now.plain.regions }
+{
+    placed.plain().regions().len() as u16
+}
+
+/// The image of a placed policy, whose regions that aren't the kernel's hold these bytes, by number.
+/// For files with which they are what the policy says, the image is sound for the policy. Each region
+/// lies where the policy's placement has it, no table is read at two paths, and each window is mapped by
+/// the greatest pages that it allows.
+///
+/// Each region has as many bytes as its size says, and all windows may be read. Answers `NoMemory`
+/// where memory was refused.
+pub fn emit(alloc: Global, placed: &Placed, things: Seq<Seq<u8>>) -> Result<Parts, NoMemory>
+    requires filled { IsFilled placed.now things }
+    requires readable { AreReadable placed.now }
+    ensures made { IfOk result (IsImageOf placed.now things) }
+    ensures sound { IfOk result (λ i. (files : Held) → things ≡ thing_bytes files placed.now.plain.lawful → IsSound (source_of placed.now.plain.lawful) files i) }
+    ensures placed { IfOk result (HasPlacement (source_of placed.now.plain.lawful)) }
+    ensures paths { IfOk result HasOnePathPerTable }
+    ensures leaves { IfOk result (λ i. ForEachSubject (source_of placed.now.plain.lawful) i (HasGreatestPages (source_of placed.now.plain.lawful) i)) }
+{
+    known(placed);
+    let plain = placed.plain();
+    let spans = spans(alloc, placed)?;
+    let held = held(alloc, placed, things, spans.items())?;
+    let subjects = subjects(alloc, placed)?;
+    let plan = plan(alloc, plain.lawful())?;
+    let devices = devices(alloc, plain, first_device(placed))?;
+    let tau0 = choice_of(policy_of(placed));
+    Ok(Parts::make(cpus(placed), tau0, spans, subjects, plan, devices, held))
+}

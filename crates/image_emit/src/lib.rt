@@ -1,0 +1,9 @@
+//! The image of a placed policy: spans with their bytes, subjects, plan and devices.
+#![tactic(auto)]
+
+mod image;
+mod promises;
+mod span_bytes;
+mod subjects;
+
+pub use image::emit;

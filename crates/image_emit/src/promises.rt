@@ -1,0 +1,52 @@
+//! What is known of placed policies.
+ghost use Rattle.std.specs.Prelude.{◌≡◌, ◌&&◌, true};
+ghost use Rattle.std.specs.List.{list_all};
+ghost use Rattle.image_emit.specs.Known.{IsKnown};
+ghost use Rattle.muen_num.specs.Naming.{is_name};
+
+use policy_lawful::resolved::Subject;
+use policy_types::source::{Device, Irq};
+use region_alloc::Placed;
+
+// The names of subjects are names.
+fn subjects_named(subjects: &[Subject])
+    ensures { list_all (λ s. is_name s.name) subjects.now ≡ true }
+{
+    for subject in subjects {
+        let _name = subject.name.bytes();
+    }
+}
+
+// So are those of interrupts.
+fn irqs_named(irqs: &[Irq])
+    ensures { list_all (λ i. is_name i.name) irqs.now ≡ true }
+{
+    for irq in irqs {
+        let _name = irq.name.bytes();
+    }
+}
+
+// And of devices.
+fn devices_named(devices: &[Device])
+    ensures { list_all (λ d. is_name d.name && list_all (λ i. is_name i.name) d.irqs) devices.now ≡ true }
+{
+    for device in devices {
+        let _name = device.name.bytes();
+        irqs_named(device.irqs.items());
+    }
+}
+
+/// All that a placed policy promises, at once.
+pub(crate) fn known(placed: &Placed)
+    ensures { IsKnown placed.now }
+{
+    let plain = placed.plain();
+    let policy = plain.lawful().resolved();
+    let _memory = policy.memory();
+    let _regions = plain.regions();
+    let _grants = plain.grants();
+    let _routes = plain.routes();
+    let _places = placed.places();
+    subjects_named(policy.subjects());
+    devices_named(policy.devices());
+}

@@ -1,0 +1,152 @@
+//! The subjects of an image.
+ghost use Rattle.std.specs.Prelude.{◌≡◌, ◌==◌, ◌<◌, ◌≤◌, ◌^◌, map, zip, length, position, IfOk, unwrap_or};
+ghost use Rattle.std.specs.List.{enumerate_from, list_any};
+ghost use Rattle.std.specs.Str.{bytes_eq};
+ghost use Rattle.image_emit.specs.Fitting.{AreFew};
+ghost use Rattle.image_emit.specs.Made.{choice_of, subject_part};
+ghost use Rattle.msrbm_emit.specs.Area.{count_of, size_of};
+
+use ept_emit::eptp;
+use event_emit::EventTables;
+use expand_grants::Grants;
+use image_pack::SubjectPart;
+use muen_num::limits::{MOST_MSRS, MOST_REGIONS};
+use muen_num::{Name, NoMemory, Seq};
+use policy_lawful::Resolved;
+use policy_lawful::resolved::{Group, Subject};
+use policy_types::MsrGrant;
+use policy_types::source::Region;
+use region_alloc::Placed;
+use std::alloc::Global;
+use subject_emit::{kernel_first, tables_at};
+
+fn has_member(group: &Group, place: usize) -> bool
+    ensures { result ≡ list_any (λ n. n == place) group.now.subjects }
+{
+    group.subjects.items().iter().any(|n| *n == place)
+}
+
+// The first group that has the subject at a place, by its number.
+fn group_with(groups: &[Group], place: usize) -> Option<usize>
+    ensures { result ≡ position (λ g. list_any (λ n. n == place) g.subjects) groups.now }
+{
+    groups.iter().position(|group| has_member(group, place))
+}
+
+// The number of the group in which the subject at a place stands.
+fn group_at(groups: &[Group], place: usize) -> u8
+    requires { length groups.now ≤ 32 }
+    ensures { result ≡ unwrap_or (position (λ g. list_any (λ n. n == place) g.subjects) groups.now) 0 }
+{
+    match group_with(groups, place) {
+        None => 0,
+        Some(number) => number as u8,
+    }
+}
+
+// How many MSRs a grant has.
+fn size_of(grant: &MsrGrant) -> u64
+    ensures { result ≡ size_of grant.now }
+{
+    (u64::from(grant.end) + 1).saturating_sub(u64::from(grant.start))
+}
+
+// How many MSRs are granted.
+#[tactic(auto, unfolding(msrbm_emit::specs::Area::count_of))]
+fn count_of(msrs: &[MsrGrant]) -> u64
+    requires { count_of msrs.now ≤ MOST_MSRS }
+    ensures { result ≡ count_of msrs.now }
+{
+    let mut count = 0;
+    for grant in msrs {
+        count += size_of(grant);
+    }
+    count
+}
+
+// The subject at a place, which is granted this and raises these events.
+fn subject_part(
+    placed: &Placed,
+    place: usize,
+    subject: &Subject,
+    granted: &Grants,
+    events: EventTables,
+) -> SubjectPart
+    requires few { AreFew placed.now }
+    requires there { place < length placed.now.plain.lawful.subjects }
+    requires cpu { subject.now.cpu < 2 ^ 8 }
+    requires msrs { count_of granted.now.msrs ≤ MOST_MSRS }
+    ensures { result ≡ subject_part placed.now (place, (subject.now, (granted.now, events))) }
+{
+    let policy = placed.plain().lawful().resolved();
+    let first = kernel_first(policy, place) as u16;
+    let EventTables { calls, traps } = events;
+    SubjectPart {
+        cpu: subject.cpu as u8,
+        group: group_at(policy.scheduling().groups.items(), place),
+        msrs: count_of(granted.msrs.items()) as u8,
+        state: first,
+        iobm: first + 2,
+        msrbm: first + 3,
+        area: first + 4,
+        eptp: eptp(tables_at(placed, place)),
+        name: subject.name,
+        calls,
+        traps,
+    }
+}
+
+/// The subjects of a placed policy.
+pub(crate) fn subjects_of(placed: &Placed) -> &[Subject]
+    ensures { result.now ≡ placed.now.plain.lawful.subjects }
+{
+    placed.plain().lawful().resolved().subjects()
+}
+
+/// What is granted to each subject of a placed policy.
+pub(crate) fn grants_of(placed: &Placed) -> &[Grants]
+    ensures { result.now ≡ placed.now.plain.grants }
+{
+    placed.plain().grants()
+}
+
+/// The subjects of the image, in order; what each raises is handed in.
+pub(crate) fn subject_parts(
+    alloc: Global,
+    placed: &Placed,
+    events: Seq<EventTables>,
+) -> Result<Seq<SubjectPart>, NoMemory>
+    requires few { AreFew placed.now }
+    requires as_many { length events ≡ length placed.now.plain.lawful.subjects }
+    ensures { IfOk result (λ parts. parts ≡ map (subject_part placed.now) (enumerate_from 0 (zip placed.now.plain.lawful.subjects (zip placed.now.plain.grants events)))) }
+{
+    let subjects = subjects_of(placed);
+    let grants = grants_of(placed);
+    let mut parts = Seq::new(alloc);
+    for tables in events.into_vec() {
+        let place = parts.len();
+        let part = subject_part(placed, place, &subjects[place], &grants[place], tables);
+        parts.push(part)?;
+    }
+    Ok(parts)
+}
+
+fn region_named(memory: &[Region], name: Name) -> Option<usize>
+    ensures { result ≡ position (λ m. bytes_eq m.name name) memory.now }
+{
+    memory.iter().position(|region| region.name == name)
+}
+
+/// The number of the region whose first byte chooses the next major frame, if one does.
+pub(crate) fn choice_of(policy: &Resolved) -> Option<u16>
+    requires { length policy.now.memory ≤ MOST_REGIONS }
+    ensures { result ≡ choice_of policy.now }
+{
+    match &policy.scheduling().tau0 {
+        None => None,
+        Some(chooser) => match region_named(policy.memory(), chooser.region) {
+            None => None,
+            Some(number) => Some(number as u16),
+        },
+    }
+}

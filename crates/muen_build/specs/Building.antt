@@ -1,0 +1,33 @@
+-- What building an image has seen of files, and what it comes to.
+use Rattle.std.specs.Prelude.{◌≡◌, ℕ, List, Option, Ok}
+use Rattle.image_emit.specs.Built.{HasGreatestPages, HasOnePathPerTable, HasPlacement}
+use Rattle.image_meaning.specs.Sound.{ForEachSubject, IsSound}
+use Rattle.image_pack.specs.Parts.{IsImage}
+use Rattle.image_pack.specs.declared.parts.Image.{Image}
+use Rattle.muen_build.specs.Accepting.{Grows}
+use Rattle.muen_build.specs.Looks.{Look, ShowAll}
+use Rattle.muen_build.specs.Refusals.{accepted_policy_of}
+use Rattle.muen_outside.specs.Store.{Store}
+use Rattle.policy_types.specs.declared.source.Source.{Source}
+
+-- bytes are the image of parts that are sound for this policy over these files; its regions lie where the policy's placement
+-- has them, no page of tables is read at two paths, and each window is mapped by the greatest pages that it allows
+pub record IsImageFor (p : Source) (files : Store) (bytes : List ℕ) : Type 0 where
+  pub parts : Image
+  pub image : IsImage bytes parts
+  pub sound : IsSound p files parts
+  pub placed : HasPlacement p parts
+  pub paths : HasOnePathPerTable parts
+  pub leaves : ForEachSubject p parts (HasGreatestPages p parts)
+
+-- over files that hold this a document is accepted as some policy, and the bytes are an image for it
+pub record IsBuilt (document : List ℕ) (files : Store) (bytes : List ℕ) : Type 0 where
+  pub policy : Source
+  pub accepted : accepted_policy_of files document ≡ Ok policy
+  pub is : IsImageFor policy files bytes
+
+-- looks were added, and in files that show them all the bytes are built of the document
+pub record Builds (held : Option Store) (looks : List Look) (document bytes : List ℕ) : Type 0 where
+  pub after : List Look
+  pub grows : Grows held looks after
+  pub built : (files : Store) → ShowAll files after → IsBuilt document files bytes

@@ -1,0 +1,67 @@
+//! The image of a document's policy.
+ghost use Rattle.std.specs.Prelude.{◌≡◌, IfErr, IfOk, Ok, [], ◌∷◌};
+ghost use Rattle.image_emit.specs.Built.{HasGreatestPages, HasOnePathPerTable, HasPlacement};
+ghost use Rattle.image_meaning.specs.Sound.{ForEachSubject, IsSound};
+ghost use Rattle.muen_build.specs.Accepting.{Accepts, Ends, RefusesDocument, looks_of};
+ghost use Rattle.muen_build.specs.Building.{Builds};
+ghost use Rattle.muen_build.specs.Looks.{Follows, ShowAll, document_look};
+ghost use Rattle.muen_build.specs.Refusals.{lawful_policy_of};
+ghost use Rattle.muen_outside.specs.Store.{Store};
+ghost use Rattle.policy_lawful.specs.Resolution.{source_of};
+
+use crate::accept;
+use crate::accepted::{Accepted, BuildEnd, ComponentFiles};
+use crate::things::things;
+use image_emit::emit;
+use image_pack::{Parts, pack};
+use muen_num::NoMemory;
+use muen_outside::Files;
+use region_alloc::Placed;
+use std::alloc::Global;
+
+// The parts of the image of a policy that is accepted with these files, which are given up.
+fn parts(
+    alloc: Global,
+    name: &str,
+    document: &[u8],
+    placed: &Placed,
+    found: ComponentFiles,
+) -> Result<Parts, NoMemory>
+    requires lawful { lawful_policy_of document.now ≡ Ok (source_of placed.now.plain.lawful) }
+    requires accepts { Accepts (looks_of name.now document.now found) document.now (source_of placed.now.plain.lawful) }
+    ensures sound { IfOk result (λ i. (files : Store) → ShowAll files (looks_of name.now document.now found) → IsSound (source_of placed.now.plain.lawful) files i) }
+    ensures placed { IfOk result (HasPlacement (source_of placed.now.plain.lawful)) }
+    ensures paths { IfOk result HasOnePathPerTable }
+    ensures leaves { IfOk result (λ i. ForEachSubject (source_of placed.now.plain.lawful) i (HasGreatestPages (source_of placed.now.plain.lawful) i)) }
+{
+    let plain = placed.plain();
+    let policy = plain.lawful().resolved();
+    let _memory = policy.memory();
+    let _regions = plain.regions();
+    let _grants = plain.grants();
+    let things = things(alloc, name, document, &found, policy)?;
+    emit(alloc, placed, things)
+}
+
+/// The image of the policy of a document, with the component files that its contents name. The
+/// document was read under this name. Files are read as `accept` reads them.
+///
+/// Answers as `accept` does where the policy is refused or a call on files fails, and `NoMemory`
+/// where memory was refused.
+pub fn build<F: Files>(
+    alloc: Global,
+    name: &str,
+    document: &[u8],
+    files: &mut F,
+) -> Result<Vec<u8>, BuildEnd>
+    ensures builds { IfOk result (λ image. Builds (F.state files.old).held (document_look name.now document.now ∷ []) document.now image.items) }
+    ensures err { IfErr result (Ends (document_look name.now document.now ∷ []) (RefusesDocument document.now) (F.state files.old) (F.state files.new)) }
+    ensures follows { Follows (F.state files.old) (F.state files.new) }
+{
+    let Accepted {
+        placed,
+        files: found,
+    } = accept(alloc, name, document, files)?;
+    let parts = parts(alloc, name, document, &placed, found)?;
+    Ok(pack(alloc, &parts)?)
+}

@@ -1,0 +1,212 @@
+//! What a policy's regions hold, made of the files that were read.
+ghost use Rattle.std.specs.Prelude.{◌≡◌, ◌++◌, IfOk, OnOk, map, replicate};
+ghost use Rattle.std.specs.List.{flat_map};
+ghost use Rattle.expand_kernel.specs.ByPlace.{provided_at};
+ghost use Rattle.muen_build.specs.Reading.{content_read, read_bytes, sized, things_read};
+ghost use Rattle.policy_meaning.specs.Contents.{file_part};
+
+use crate::accepted::ComponentFiles;
+use crate::contents::provided_by;
+use muen_num::{Name, NoMemory, Seq};
+use policy_lawful::Resolved;
+use policy_lawful::resolved::Subject;
+use policy_types::source::{Channel, Component, Content, Provided, Region};
+use std::alloc::{AllocError, Global};
+
+// So many bytes of this value.
+fn filled(alloc: Global, size: u64, byte: u8) -> Result<Seq<u8>, AllocError>
+    ensures { IfOk result (λ bytes. bytes ≡ replicate size byte) }
+{
+    let bytes = vec![in alloc; byte; size as usize]?;
+    Ok(Seq::of(bytes))
+}
+
+// These bytes in a room of so many, with zeros behind them.
+fn sized(alloc: Global, size: u64, bytes: &[u8]) -> Result<Seq<u8>, AllocError>
+    ensures { IfOk result (λ all. all ≡ sized size bytes.now) }
+{
+    let mut all = Vec::with_capacity(alloc, size as usize)?;
+    all.extend_from_slice(bytes)?;
+    all.resize(size as usize, 0)?;
+    Ok(Seq::of(all))
+}
+
+// What a content takes of a file's bytes: those from an offset on, at most so many.
+fn part(bytes: &[u8], offset: u64, most: Option<u64>) -> &[u8]
+    ensures { result.now ≡ file_part offset most bytes.now }
+{
+    let start = bytes.len().min(offset as usize);
+    let rest = &bytes[start..];
+    match most {
+        None => rest,
+        Some(most) => &rest[..rest.len().min(most as usize)],
+    }
+}
+
+// The bytes of a file: the document's, where it is named, else those that were read.
+fn file_bytes<'a>(name: &str, document: &'a [u8], found: &'a ComponentFiles, file: Name) -> &'a [u8]
+    ensures { result.now ≡ read_bytes name.now document.now found.now file }
+{
+    if file.as_str() == name {
+        return document;
+    }
+    match found.bytes(file) {
+        None => &[],
+        Some(bytes) => bytes,
+    }
+}
+
+// A content in a room of so many bytes.
+fn content(
+    alloc: Global,
+    name: &str,
+    document: &[u8],
+    found: &ComponentFiles,
+    size: u64,
+    content: &Content,
+) -> Result<Seq<u8>, AllocError>
+    ensures { IfOk result (λ bytes. bytes ≡ content_read name.now document.now found.now size content.now) }
+{
+    match content {
+        Content::Zero => filled(alloc, size, 0),
+        Content::Fill(byte) => filled(alloc, size, *byte),
+        Content::Inline(bytes) => sized(alloc, size, bytes.items()),
+        Content::File {
+            name: file,
+            offset,
+            length,
+        } => {
+            let bytes = file_bytes(name, document, found, *file);
+            sized(alloc, size, part(bytes, *offset, *length))
+        }
+    }
+}
+
+// The regions of memory, in order.
+fn put_memory(
+    alloc: Global,
+    name: &str,
+    document: &[u8],
+    found: &ComponentFiles,
+    memory: &[Region],
+    things: &mut Vec<Seq<u8>>,
+) -> Result<(), AllocError>
+    ensures { OnOk result (things.new.items ≡ things.old.items ++ map (λ m. content_read name.now document.now found.now m.size m.content) memory.now) }
+{
+    for region in memory {
+        things.push(content(alloc, name, document, found, region.size, &region.content)?)?;
+    }
+    Ok(())
+}
+
+// The channels, in order.
+fn put_channels(
+    alloc: Global,
+    channels: &[Channel],
+    things: &mut Vec<Seq<u8>>,
+) -> Result<(), AllocError>
+    ensures { OnOk result (things.new.items ≡ things.old.items ++ map (λ c. replicate c.size 0) channels.now) }
+{
+    for channel in channels {
+        things.push(filled(alloc, channel.size, 0)?)?;
+    }
+    Ok(())
+}
+
+// The regions that a component brings along, in order.
+fn put_provided(
+    alloc: Global,
+    name: &str,
+    document: &[u8],
+    found: &ComponentFiles,
+    provided: &[Provided],
+    things: &mut Vec<Seq<u8>>,
+) -> Result<(), AllocError>
+    ensures { OnOk result (things.new.items ≡ things.old.items ++ map (λ x. content_read name.now document.now found.now x.size x.content) provided.now) }
+{
+    for x in provided {
+        things.push(content(alloc, name, document, found, x.size, &x.content)?)?;
+    }
+    Ok(())
+}
+
+// Those of all subjects, in order.
+fn put_subjects(
+    alloc: Global,
+    name: &str,
+    document: &[u8],
+    found: &ComponentFiles,
+    components: &[Component],
+    subjects: &[Subject],
+    things: &mut Vec<Seq<u8>>,
+) -> Result<(), AllocError>
+    ensures { OnOk result (things.new.items ≡ things.old.items ++ flat_map (λ s. map (λ x. content_read name.now document.now found.now x.size x.content) (provided_at components.now s.component)) subjects.now) }
+{
+    for subject in subjects {
+        let provided = provided_by(components, &subject.component);
+        put_provided(alloc, name, document, found, provided, things)?;
+    }
+    Ok(())
+}
+
+/// The bytes of a policy's regions that aren't the kernel's, by number: those of memory, the
+/// channels, then those that each subject's component brings along. Each has as many bytes as its
+/// size says. The document was read under this name, and the other files were found.
+pub(crate) fn things(
+    alloc: Global,
+    name: &str,
+    document: &[u8],
+    found: &ComponentFiles,
+    policy: &Resolved,
+) -> Result<Seq<Seq<u8>>, AllocError>
+    ensures { IfOk result (λ things. things ≡ things_read name.now document.now found.now policy.now) }
+{
+    let mut things = Vec::new(alloc);
+    put_memory(alloc, name, document, found, policy.memory(), &mut things)?;
+    put_channels(alloc, policy.channels(), &mut things)?;
+    put_subjects(
+        alloc,
+        name,
+        document,
+        found,
+        policy.components(),
+        policy.subjects(),
+        &mut things,
+    )?;
+    Ok(Seq::of(things))
+}
+
+#[cfg(test)]
+mod tests {
+    use super::content;
+    use crate::accepted::ComponentFiles;
+    use muen_num::{Name, Seq};
+    use policy_types::source::Content;
+    use std::test::Fail;
+
+    #[test]
+    fn files_fill_their_room(rt: HostRuntime) -> Result<(), Fail> {
+        let alloc = rt.alloc();
+        let (Some(own), Some(code)) = (Name::read(b"policy"), Name::read(b"code")) else {
+            return Err(Fail::new("no names"));
+        };
+        let mut found = ComponentFiles::new(alloc);
+        found.add(code, Seq::of(Vec::from_slice(alloc, b"abcdef")?))?;
+        let cases: [(Name, u64, Option<u64>, &[u8]); 4] = [
+            (code, 0, None, b"abcdef\0\0"),
+            (code, 2, Some(3), b"cde\0\0\0\0\0"),
+            (code, 9, Some(3), b"\0\0\0\0\0\0\0\0"),
+            (own, 1, None, b"}\0\0\0\0\0\0\0"),
+        ];
+        for (name, offset, length, want) in cases {
+            let file = Content::File {
+                name,
+                offset,
+                length,
+            };
+            let bytes = content(alloc, "policy", b"{}", &found, 8, &file)?;
+            assert_eq!(rt; bytes.items(), want);
+        }
+        Ok(())
+    }
+}

@@ -1,0 +1,21 @@
+-- What `build` writes.
+use Rattle.std.specs.Prelude.{◌≡◌, ℕ, List, IfSome}
+use Rattle.muen_build.specs.Building.{IsImageFor}
+use Rattle.muen_outside.specs.States.{FilesState}
+use Rattle.muen_outside.specs.Store.{Store, insert_known}
+use Rattle.policy_types.specs.declared.source.Source.{Source}
+use Rattle.muen_top.specs.Answers.{writes, build_answer}
+
+-- an image for this policy over these files stands under this name now, and under each other name what stood there
+pub record Wrote (image : List ℕ) (p : Source) (files : Store) (old new : FilesState) : Type 0 where
+  pub bytes : List ℕ
+  pub is : IsImageFor p files bytes
+  pub held : new.held ≡ insert_known old.held image bytes
+
+-- over some files that hold what is told, the answer is an image for this policy, under whatever name, and the bytes are one
+pub record IsMade (policy : List ℕ) (old : FilesState) (bytes : List ℕ) : Type 0 where
+  pub files : Store
+  pub told : IfSome old.held (λ m. files ≡ m)
+  pub p : Source
+  pub answer : (image : List ℕ) → build_answer files policy image ≡ writes image p files
+  pub is : IsImageFor p files bytes

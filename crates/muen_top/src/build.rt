@@ -1,0 +1,58 @@
+// The command `build`: a policy is read, and its image is written.
+ghost use Rattle.std.specs.Prelude.{ℕ, List, Some, IfOk, IfErr};
+ghost use Rattle.muen_outside.specs.States.{SinkState};
+ghost use Rattle.muen_build.specs.Looks.{Follows};
+ghost use Rattle.muen_top.specs.Calls.{Came};
+ghost use Rattle.muen_top.specs.Commands.{build as build_command};
+ghost use Rattle.muen_top.specs.Images.{IsMade};
+ghost use Rattle.muen_top.specs.Kept.{IsWriteOf, KeepsFiles};
+ghost use Rattle.muen_top.specs.PolicyCommands.{Stops};
+ghost use Rattle.muen_top.specs.Reports.{status_of};
+
+use crate::boot::load;
+use crate::outcome::{Outcome, Stop};
+use muen_num::limits::POLICY_MOST;
+use muen_outside::{FileEnd, Files};
+use std::alloc::Global;
+
+// An image for the policy of this file.
+fn image_of<'a, F: Files>(
+    alloc: Global,
+    policy: &'a str,
+    files: &mut F,
+) -> Result<Vec<u8>, Stop<'a>>
+    ensures ok { IfOk result (λ v. IsMade policy.now (F.state files.old) v.items) }
+    ensures err { IfErr result (λ stop. (image : List ℕ) → Stops (build_command policy.now image) (F.state files.old) (F.state files.new) stop) }
+    ensures follows { Follows (F.state files.old) (F.state files.new) }
+{
+    let bytes = load(alloc, policy, POLICY_MOST, files)?;
+    let image = muen_build::build(alloc, policy, bytes.items(), files)?;
+    Ok(image)
+}
+
+// Puts the bytes under the name of the image.
+fn write_image<'a, F: Files>(alloc: Global, image: &str, bytes: &[u8], files: &mut F) -> Outcome<'a>
+    ensures { IsWriteOf image.now bytes.now (F.state files.old) (F.state files.new) result }
+{
+    match files.write(alloc, image, bytes) {
+        Ok(()) => Outcome::Done,
+        Err(FileEnd::Failed) => Outcome::Stopped(Stop::FileFault),
+        Err(FileEnd::NoMemory) => Outcome::Stopped(Stop::NoMemory),
+    }
+}
+
+/// Reads the policy, and writes its image. Nothing is written where one isn't made.
+pub(crate) fn build<'a, F: Files>(
+    alloc: Global,
+    policy: &'a str,
+    image: &'a str,
+    files: &mut F,
+) -> Outcome<'a>
+    ensures came { (out : SinkState) → Came (Some (build_command policy.now image.now)) (F.state files.old) (F.state files.new) out out result }
+    ensures keeps { KeepsFiles (Some (build_command policy.now image.now)) (status_of result) (F.state files.old) (F.state files.new) }
+{
+    match image_of(alloc, policy, files) {
+        Ok(bytes) => write_image(alloc, image, &bytes, files),
+        Err(stop) => Outcome::Stopped(stop),
+    }
+}

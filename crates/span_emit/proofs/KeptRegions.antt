@@ -1,0 +1,134 @@
+-- Rule 4: the regions of a lawful policy are whole pages, and may be only where pages begin.
+use Rattle.std.proofs.Common.{◌≡◌, ℕ, ◌%◌, inl, inr, Bool, true, All, List, [], ◌∷◌, map, Option, Some, None, refl, sym, ap, ◌∙◌, arith}
+use Rattle.std.specs.Prelude.{◌&&◌, ◌==◌, nat_lt}
+use Rattle.std.specs.List.{flat_map, list_all}
+use Rattle.std.specs.Str.{bytes_eq}
+use Rattle.std.proofs.lemmas.Bool.{and_parts, eqb-true, or_cases}
+use Rattle.std.proofs.lemmas.List.Elements.{All-append, All-from_recursion, All-map, All-nil}
+use Rattle.ept_count.specs.Pages.{ept_pages}
+use Rattle.expand_kernel.specs.Regions.{channel_region, kernel_regions, kernel_regions_of, mapped_window, own_region, provided_region, provided_regions, regions_of}
+use Rattle.expand_kernel.specs.declared.region.Region.{Region}
+use Rattle.image_pack.specs.Codes.{is_part, part_code}
+use Rattle.muen_num.proofs.Lists.{found_among}
+use Rattle.muen_num.proofs.SearchLaws.{all_none, all_pass, none_both}
+use Rattle.muen_num.specs.Search.{first_in, unless}
+use Rattle.muen_num.specs.declared.limits.TheConstants.{LARGE_PAGE, PAGE}
+use Rattle.policy_lawful.specs.Offences.{alone, two}
+use Rattle.policy_lawful.specs.Rules.{component_offence, is_alignment, is_fixed, is_guest, is_laid, is_page_aligned, is_page_size, is_physical, offence_4}
+use Rattle.policy_meaning.specs.Thing.{component_by}
+use Rattle.policy_meaning.specs.Windows.{windows_of}
+use Rattle.policy_types.specs.declared.source.Channel.{Channel}
+use Rattle.policy_types.specs.declared.source.Component.{Component}
+use Rattle.policy_types.specs.declared.source.ComponentUse.{ComponentUse}
+use Rattle.policy_types.specs.declared.source.Provided.{Provided}
+use Rattle.policy_types.specs.declared.source.Region.{Region as SourceRegion}
+use Rattle.policy_types.specs.declared.source.Source.{Source}
+use Rattle.policy_types.specs.declared.source.Subject.{Subject}
+use Rattle.region_alloc.specs.Placement.{suits}
+use Rattle.span_emit.specs.Spans.{span_kind}
+use Rattle.span_emit.proofs.PairLaws.{all_from}
+
+-- a region of whole pages, that is a part which a region of its kind may be, and that may be only where a page begins
+pub record IsWhole (r : Region) : Type 0 where
+  pub pages : r.size % PAGE ≡ 0
+  pub part : is_part (span_kind r.kind) (part_code r.tag.part) ≡ true
+  pub placed : (a : ℕ) → suits r r.fixed a ≡ true → a % PAGE ≡ 0
+
+all_flat : {X Y : Type 0} (P : Y → Type 0) (f : X → List Y) → ((x : X) → All P (f x)) → (xs : List X) → All P (flat_map f xs)
+all_flat P f h [] = All-nil P
+all_flat P f h (x ∷ xs) = All-append P (f x) (flat_map f xs) (h x) (all_flat P f h xs)
+
+-- ---- by kind
+
+pub whole_size : (size : ℕ) → is_page_size size ≡ true → size % PAGE ≡ 0
+whole_size size h = eqb-true (size % PAGE) 0 (and_parts (is_page_aligned size) (nat_lt 0 size) h).0
+
+on_pages : (alignment a : ℕ) → is_alignment alignment ≡ true → a % alignment ≡ 0 → a % PAGE ≡ 0
+on_pages alignment a h e = elim (or_cases (alignment == PAGE) (alignment == LARGE_PAGE) h) [
+  | inl small ↦ ap (λ m. a % m) (sym (eqb-true alignment PAGE small)) ∙ e
+  | inr large ↦ let whole : a % LARGE_PAGE ≡ 0 = ap (λ m. a % m) (sym (eqb-true alignment LARGE_PAGE large)) ∙ e in omega arith
+]
+
+fixed_places : (r : SourceRegion) (fixed : Option ℕ) → is_alignment r.alignment ≡ true → is_fixed r fixed ≡ true → (a : ℕ) → suits (own_region r) fixed a ≡ true → a % PAGE ≡ 0
+fixed_places r None alignment h a s = on_pages r.alignment a alignment (eqb-true (a % r.alignment) 0 s)
+fixed_places r (Some own) alignment h a s =
+    let both = and_parts (is_physical own r.size) (own % r.alignment == 0) h in
+    on_pages r.alignment a alignment (ap (λ n. n % r.alignment) (eqb-true a own s) ∙ eqb-true (own % r.alignment) 0 both.1)
+
+whole_laid : (r : SourceRegion) → is_laid r ≡ true → IsWhole (own_region r)
+whole_laid r h =
+    let both = and_parts (is_page_size r.size && is_alignment r.alignment) (is_fixed r r.physical_address) h in
+    let parts = and_parts (is_page_size r.size) (is_alignment r.alignment) both.0 in
+    record { pages = whole_size r.size parts.0; part = refl; placed = fixed_places r r.physical_address parts.1 both.1 }
+
+whole_channel : (c : Channel) → is_page_size c.size ≡ true → IsWhole (channel_region c)
+whole_channel c h = record { pages = whole_size c.size h; part = refl; placed = λ a s. eqb-true (a % PAGE) 0 s }
+
+whole_provided : (subject : List ℕ) (x : Provided) → is_guest x.virtual_address x.size ≡ true → IsWhole (provided_region subject x)
+whole_provided subject x h =
+    let both = and_parts (is_page_aligned x.virtual_address && is_page_size x.size) _ h in
+    record {
+      pages = whole_size x.size (and_parts (is_page_aligned x.virtual_address) (is_page_size x.size) both.0).1;
+      part = refl;
+      placed = λ a s. eqb-true (a % PAGE) 0 s;
+    }
+
+abbrev brings : Component → Bool
+brings c = list_all (λ x. is_guest x.virtual_address x.size) c.provides
+
+component_brings : (c : Component) → component_offence c ≡ None → brings c ≡ true
+component_brings c h =
+    all_pass (λ x. is_guest x.virtual_address x.size) (λ x. two c.name x.logical) c.provides
+    (none_both (first_in (λ x. unless (is_guest x.virtual_address x.size) (two c.name x.logical)) c.provides) _ h).0
+
+provided_whole : (subject : List ℕ) (c : Option Component) → ((x : Component) → c ≡ Some x → brings x ≡ true) → All IsWhole (provided_regions subject c)
+provided_whole subject None h = All-nil IsWhole
+provided_whole subject (Some c) h =
+    All-map IsWhole (provided_region subject) c.provides
+    (all_from (λ x. is_guest x.virtual_address x.size) (λ x. IsWhole (provided_region subject x)) (whole_provided subject) c.provides (h c refl))
+
+used_brings : (p : Source) (used : Option ComponentUse) → list_all brings p.components ≡ true → (x : Component) → component_by p used ≡ Some x → brings x ≡ true
+used_brings p None all x e = absurd (cc)
+used_brings p (Some used) all x e = found_among (λ c. bytes_eq c.name used.used) brings p.components x e all
+
+kernel_whole : (subject : List ℕ) (pages : ℕ) → All IsWhole (kernel_regions subject pages)
+kernel_whole subject pages =
+    All-from_recursion IsWhole (kernel_regions subject pages) (
+      record { pages = refl; part = refl; placed = λ a s. eqb-true (a % PAGE) 0 s },
+      (
+        record { pages = omega arith; part = refl; placed = λ a s. eqb-true (a % PAGE) 0 s },
+        (
+          record { pages = refl; part = refl; placed = λ a s. eqb-true (a % PAGE) 0 s },
+          (
+            record { pages = refl; part = refl; placed = λ a s. eqb-true (a % PAGE) 0 s },
+            (
+              record { pages = refl; part = refl; placed = λ a s. eqb-true (a % PAGE) 0 s },
+              tt,
+            ),
+          ),
+        ),
+      ),
+    )
+
+kernel_whole_of : (p : Source) (s : Subject) → All IsWhole (kernel_regions_of p s)
+kernel_whole_of p s = kernel_whole s.name (ept_pages (map mapped_window (windows_of p s)))
+
+-- ---- all
+
+pub regions_whole : (p : Source) → offence_4 p ≡ None → All IsWhole (regions_of p)
+unfolding offence_4 regions_of
+regions_whole p h =
+    let blocks = none_both (first_in (λ b. unless (is_physical b.physical_address b.size) (alone b.name)) p.memory_blocks) _ h in
+    let devices = none_both (first_in (λ d. first_in (λ m. unless (is_physical m.physical_address m.size) (two d.name m.name)) d.memory) p.devices) _ blocks.1 in
+    let memory = none_both (first_in (λ r. unless (is_laid r) (alone r.name)) p.memory) _ devices.1 in
+    let channels = none_both (first_in (λ c. unless (is_page_size c.size) (alone c.name)) p.channels) _ memory.1 in
+    let components = none_both (first_in component_offence p.components) _ channels.1 in
+    let brought = all_none brings component_offence component_brings p.components components.0 in
+    let own = All-map IsWhole own_region p.memory (all_from is_laid (λ r. IsWhole (own_region r)) whole_laid p.memory (all_pass is_laid (λ r. alone r.name) p.memory memory.0)) in
+    let ends = All-map IsWhole channel_region p.channels (all_from (λ c. is_page_size c.size) (λ c. IsWhole (channel_region c)) whole_channel p.channels (all_pass (λ c. is_page_size c.size) (λ c. alone c.name) p.channels channels.0)) in
+    let provided = all_flat IsWhole (λ s. provided_regions s.name (component_by p s.component)) (λ s. provided_whole s.name (component_by p s.component) (used_brings p s.component brought)) p.subjects in
+    let kernel = all_flat IsWhole (kernel_regions_of p) (kernel_whole_of p) p.subjects in
+    All-append IsWhole _ (flat_map (kernel_regions_of p) p.subjects)
+    (All-append IsWhole _ (flat_map (λ s. provided_regions s.name (component_by p s.component)) p.subjects)
+    (All-append IsWhole (map own_region p.memory) (map channel_region p.channels) own ends) provided)
+    kernel

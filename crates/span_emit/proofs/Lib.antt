@@ -1,0 +1,13 @@
+pub mod DeviceSpans
+pub mod Image
+pub mod InTurn
+pub mod KeptDevices
+pub mod KeptRegions
+pub mod KeptSums
+pub mod Numbers
+pub mod Pages
+pub mod PairLaws
+pub mod Placed
+pub mod PlacesAligned
+pub mod RegionSpans
+pub mod Room

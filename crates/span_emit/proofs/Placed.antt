@@ -1,0 +1,118 @@
+-- What is known of a placed policy's blocks, devices, regions and places.
+use Rattle.std.proofs.Common.{◌≡◌, ℕ, ◌+◌, ◌/◌, ◌%◌, ◌<◌, ◌≤◌, ◌^◌, All, List, [], ◌∷◌, ◌++◌, length, sym, ap, ◌∙◌, subst, arith}
+use Rattle.std.specs.Prelude.{Ok}
+use Rattle.std.specs.List.{sum_by}
+use Rattle.std.proofs.lemmas.List.Elements.{All-cons, All-nil, All-weaker}
+use Rattle.expand_kernel.specs.Expansion.{Expansion}
+use Rattle.expand_kernel.specs.Regions.{regions_of}
+use Rattle.expand_kernel.specs.declared.region.Region.{Region}
+use Rattle.image_pack.specs.declared.parts.SpanPart.{SpanPart}
+use Rattle.muen_num.specs.declared.limits.TheConstants.{MOST_BLOCK_BYTES, MOST_DEVICE_BYTES, MOST_DEVICE_WINDOWS, MOST_REGIONS, PAGE}
+use Rattle.policy_lawful.specs.Lawful.{IsLawful}
+use Rattle.policy_lawful.specs.Resolution.{Resolution, source_of}
+use Rattle.policy_types.specs.declared.source.Block.{Block}
+use Rattle.policy_types.specs.declared.source.Device.{Device}
+use Rattle.policy_types.specs.declared.source.DeviceMemory.{DeviceMemory}
+use Rattle.region_alloc.proofs.Lowest.{ends_well}
+use Rattle.region_alloc.proofs.Placing.{IsSized}
+use Rattle.region_alloc.proofs.Sized.{blocks_end, regions_sized}
+use Rattle.region_alloc.specs.Placed.{AreDisjoint, AreInside, Placement}
+use Rattle.region_alloc.specs.Placement.{placement_of}
+use Rattle.span_emit.specs.Spans.{device_spans, memories_of, region_spans, spans_of}
+use Rattle.span_emit.proofs.DeviceSpans.{some_block}
+use Rattle.span_emit.proofs.KeptDevices.{AreApart, IsPhysical, devices_apart, devices_physical}
+use Rattle.span_emit.proofs.KeptRegions.{IsWhole, regions_whole}
+use Rattle.span_emit.proofs.KeptSums.{sums_kept}
+use Rattle.span_emit.proofs.PlacesAligned.{places_aligned}
+use Rattle.span_emit.proofs.RegionSpans.{as_many, many_spans}
+
+pub record IsPlaced (blocks : List Block) (devices : List Device) (regions : List Region) (places : List ℕ) : Type 0 where
+  pub whole : All IsWhole regions
+  pub sized : All IsSized regions
+  pub aligned : All (λ a. a % PAGE ≡ 0) places
+  pub inside : AreInside blocks regions places
+  pub disjoint : AreDisjoint regions places
+  pub ends : All ends_well blocks
+  pub physical : All (λ x. IsPhysical x.1) (memories_of devices)
+  pub apart : AreApart blocks (memories_of devices)
+  pub few : length regions ≤ MOST_REGIONS
+  pub block_bytes : sum_by (λ b. b.size) blocks ≤ MOST_BLOCK_BYTES
+  pub windows : length (memories_of devices) ≤ MOST_DEVICE_WINDOWS
+  pub device_bytes : sum_by (λ x. x.1.size) (memories_of devices) ≤ MOST_DEVICE_BYTES
+
+pub is_placed : (r : Resolution) (regions : List Region) (places : List ℕ) → IsLawful (source_of r) → regions ≡ regions_of (source_of r) → placement_of (source_of r) ≡ Ok places
+    → AreInside r.memory_blocks regions places → AreDisjoint regions places → IsPlaced r.memory_blocks r.devices regions places
+unfolding source_of
+is_placed r regions places lawful all e inside disjoint =
+    let whole = regions_whole (source_of r) lawful.rule_4 in
+    let sums = sums_kept (source_of r) lawful.rule_20 in
+    record {
+      whole = subst (All IsWhole) (sym all) whole;
+      sized = subst (All IsSized) (sym all) (regions_sized (source_of r) lawful.rule_4);
+      aligned = places_aligned (source_of r) places e whole;
+      inside = inside;
+      disjoint = disjoint;
+      ends = blocks_end r lawful;
+      physical = devices_physical (source_of r) lawful.rule_4;
+      apart = devices_apart (source_of r) lawful.rule_18;
+      few = subst (λ (rs : List Region). length rs ≤ MOST_REGIONS) (sym all) sums.regions;
+      block_bytes = sums.block_bytes;
+      windows = sums.windows;
+      device_bytes = sums.device_bytes;
+    }
+
+-- from what the calls that lend the parts of a placed policy tell
+pub from_calls : (x : Placement) (plain : Expansion) (lawful resolved : Resolution) (devices : List Device) (regions : List Region) (places : List ℕ)
+    → plain ≡ x.plain → lawful ≡ plain.lawful → resolved ≡ lawful → IsLawful (source_of lawful) → devices ≡ resolved.devices → regions ≡ plain.regions → regions ≡ regions_of (source_of plain.lawful)
+    → placement_of (source_of x.plain.lawful) ≡ Ok places → AreInside x.plain.lawful.memory_blocks x.plain.regions places → AreDisjoint x.plain.regions places
+    → IsPlaced x.plain.lawful.memory_blocks devices regions places
+from_calls x plain lawful resolved devices regions places is is_lawful is_resolved keeps are_devices are_regions all place inside disjoint =
+    let blocks = x.plain.lawful.memory_blocks in
+    let here : lawful ≡ x.plain.lawful = is_lawful ∙ ap (λ p. p.lawful) is in
+    let those : regions ≡ x.plain.regions = are_regions ∙ ap (λ p. p.regions) is in
+    let these : devices ≡ x.plain.lawful.devices = are_devices ∙ ap (λ r. r.devices) (is_resolved ∙ here) in
+    let whole : x.plain.regions ≡ regions_of (source_of x.plain.lawful) = sym those ∙ all ∙ ap (λ p. regions_of (source_of p.lawful)) is in
+    subst (λ (ds : List Device). IsPlaced blocks ds regions places) (sym these)
+    (subst (λ (rs : List Region). IsPlaced blocks x.plain.lawful.devices rs places) (sym those)
+    (is_placed x.plain.lawful x.plain.regions places (subst (λ (r : Resolution). IsLawful (source_of r)) here keeps) whole place inside disjoint))
+
+-- ---- that the numbers fit
+
+small_regions : (blocks : List Block) (rs : List Region) (ps : List ℕ) → All ends_well blocks → AreInside blocks rs ps → All (λ r. r.size / PAGE < 2 ^ 32) rs
+small_regions blocks [] ps ends h = All-nil (λ (r : Region). r.size / PAGE < 2 ^ 32)
+small_regions blocks (r ∷ rs) [] ends h = absurd h
+small_regions blocks (r ∷ rs) (p ∷ ps) ends h =
+    let b = some_block ends_well blocks p r.size ends h.0 in
+    let high = b.high in
+    let end = b.holds in
+    All-cons (λ (r : Region). r.size / PAGE < 2 ^ 32) r rs (omega arith) (small_regions blocks rs ps ends h.1)
+
+module _ (blocks : List Block) (devices : List Device) (regions : List Region) (places : List ℕ) (h : IsPlaced blocks devices regions places) where
+  pub few_regions : length regions ≤ 2 ^ 16
+  few_regions = let few = h.few in omega arith
+
+  pub regions_small : All (λ r. r.size / PAGE < 2 ^ 32) regions
+  regions_small = small_regions blocks regions places h.ends h.inside
+
+  pub memories_small : All (λ x. x.1.size / PAGE < 2 ^ 32) (memories_of devices)
+  memories_small =
+      All-weaker (λ (x : List ℕ × DeviceMemory). IsPhysical x.1) (λ (x : List ℕ × DeviceMemory). x.1.size / PAGE < 2 ^ 32)
+      (λ x is. let low = is.low in omega arith) (memories_of devices) h.physical
+
+  pub few_spans : (rs : List SpanPart) → rs ≡ region_spans regions places → length rs + length (memories_of devices) ≤ 2 ^ 16
+  few_spans rs is =
+      let e = ap length is in
+      let many = many_spans regions places (as_many blocks regions places h.inside) in
+      let few = h.few in
+      let windows = h.windows in
+      omega arith
+
+  -- all of them
+  pub all_spans : (x : Placement) (rs ss : List SpanPart) → regions ≡ x.plain.regions → places ≡ x.places → devices ≡ x.plain.lawful.devices → rs ≡ region_spans regions places → ss ≡ rs ++ device_spans (length rs) devices → ss ≡ spans_of x
+  unfolding spans_of
+  all_spans x rs ss are_regions are_places are_devices first all =
+      let e : length rs ≡ length regions = ap length first ∙ many_spans regions places (as_many blocks regions places h.inside) in
+      all
+      ∙ ap (λ n. rs ++ device_spans n devices) e
+      ∙ ap (λ xs. xs ++ device_spans (length regions) devices) first
+      ∙ (λ i. region_spans (are_regions i) (are_places i) ++ device_spans (length (are_regions i)) (are_devices i))

@@ -1,0 +1,49 @@
+-- The spans of a placed policy's image (this project's own format): its regions at their places, and its devices' memory.
+use Rattle.std.specs.Prelude.{ℕ, ◌/◌, List, ◌++◌, length, map, zip}
+use Rattle.std.specs.List.{enumerate_from, flat_map}
+use Rattle.expand_kernel.specs.declared.region.Region.{Region}
+use Rattle.expand_kernel.specs.declared.region.RegionKind.{RegionKind}
+use Rattle.expand_kernel.specs.declared.region.RegionKind.TheVariants.{Own as OwnRegion, Channel as ChannelRegion, Provided as ProvidedRegion, Kernel as KernelRegion}
+use Rattle.image_pack.specs.declared.parts.SpanKind.{SpanKind}
+use Rattle.image_pack.specs.declared.parts.SpanKind.TheVariants.{Own, Channel, Provided, Kernel, Device}
+use Rattle.image_pack.specs.declared.parts.SpanPart.{SpanPart}
+use Rattle.muen_num.specs.declared.limits.TheConstants.{PAGE}
+use Rattle.muen_num.specs.declared.tag.Part.TheVariants.{Named}
+use Rattle.policy_types.specs.declared.source.Device.{Device as SourceDevice}
+use Rattle.policy_types.specs.declared.source.DeviceMemory.{DeviceMemory}
+use Rattle.region_alloc.specs.Placed.{Placement}
+
+abbrev pub span_kind : RegionKind → SpanKind
+span_kind OwnRegion = Own
+span_kind ChannelRegion = Channel
+span_kind ProvidedRegion = Provided
+span_kind KernelRegion = Kernel
+
+-- the region of this number at its place
+abbrev pub region_span : ℕ × (Region × ℕ) → SpanPart
+region_span (number, (r, place)) =
+    record { place = place; pages = r.size / PAGE; number = number; kind = span_kind r.kind; tag = r.tag }
+
+abbrev pub region_spans : List Region → List ℕ → List SpanPart
+region_spans regions places = map region_span (enumerate_from 0 (zip regions places))
+
+-- each device's memory with the device's name, in order
+abbrev pub memories_of : List SourceDevice → List (List ℕ × DeviceMemory)
+memories_of devices = flat_map (λ d. map (λ m. (d.name, m)) d.memory) devices
+
+abbrev pub device_span : ℕ × (List ℕ × DeviceMemory) → SpanPart
+device_span (number, (device, m)) = record {
+  place = m.physical_address;
+  pages = m.size / PAGE;
+  number = number;
+  kind = Device;
+  tag = record { owner = device; part = Named m.name };
+}
+
+-- numbered from this number on
+abbrev pub device_spans : ℕ → List SourceDevice → List SpanPart
+device_spans first devices = map device_span (enumerate_from first (memories_of devices))
+
+-- by number: the regions, then the devices' memory
+unfoldable pub spans_of : Placement → List SpanPart
+spans_of x = region_spans x.plain.regions x.places ++ device_spans (length x.plain.regions) x.plain.lawful.devices

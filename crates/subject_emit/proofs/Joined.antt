@@ -1,0 +1,16 @@
+-- Two bitmaps, one after the other.
+use Rattle.std.proofs.Common.{◌≡◌, ℕ, Bool, List, ◌++◌, length, take, drop, sym, ap, ◌∙◌}
+use Rattle.std.proofs.Math.Seq.{take-append_seam, drop-append_seam}
+use Rattle.machine_meaning.specs.Exits.{port_exits}
+
+-- as many bytes as were written
+pub written : (n : ℕ) (new old : List ℕ) → length new ≡ n → take n (new ++ old) ≡ new
+written n new old long = ap (λ k. take k (new ++ old)) (sym long) ∙ take-append_seam new old
+
+-- bitmaps that are joined are the two
+pub exits_joined : (n : ℕ) (a b both : List ℕ) (exits : ℕ → ℕ → Bool) → both ≡ a ++ b → length a ≡ n → ((port size : ℕ) → port_exits a b port size ≡ exits port size)
+    → (port size : ℕ) → port_exits (take n both) (drop n both) port size ≡ exits port size
+exits_joined n a b both exits is long h port size =
+    (λ i. port_exits (take (sym long i) (is i)) (drop (sym long i) (is i)) port size)
+    ∙ (λ i. port_exits (take-append_seam a b i) (drop-append_seam a b i) port size)
+    ∙ h port size

@@ -1,0 +1,12 @@
+pub mod Emittable
+pub mod Joined
+pub mod KeptMsrs
+pub mod KeptSizes
+pub mod Numbered
+pub mod Pieces
+pub mod PlacesFit
+pub mod Rooms
+pub mod SamePages
+pub mod ShownViews
+pub mod Suited
+pub mod TablesReady

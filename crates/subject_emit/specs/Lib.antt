@@ -1,0 +1,5 @@
+pub mod Mapped
+pub mod Pages
+pub mod Ready
+pub mod Shows
+pub mod Sound

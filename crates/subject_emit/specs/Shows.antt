@@ -1,0 +1,49 @@
+-- What windows show is there, and windows may be read.
+use Rattle.std.specs.Prelude.{◌≡◌, ℕ, ◌+◌, ◌%◌, ◌<◌, ◌≤◌, List, [], length, slice_get, Option, Some, option_and_then, option_map}
+use Rattle.std.specs.Option.{option_map_or}
+use Rattle.expand_kernel.specs.ByPlace.{provided_at}
+use Rattle.muen_num.specs.declared.limits.TheConstants.{PAGE}
+use Rattle.policy_lawful.specs.Resolution.{Resolution}
+use Rattle.policy_types.specs.declared.rights.Rights.{Rights}
+use Rattle.policy_types.specs.declared.source.Provided.{Provided as Brought}
+use Rattle.policy_views.specs.declared.view.Shown.{Shown}
+use Rattle.policy_views.specs.declared.view.Shown.TheVariants.{Memory, Channel, Provided, Device, State}
+use Rattle.policy_views.specs.declared.view.View.{View}
+use Rattle.region_alloc.specs.Placed.{Placement}
+use Rattle.subject_emit.specs.Mapped.{brought_before, kernel_first}
+
+-- reading is among the rights, and they are some of reading, writing and executing
+pub record IsReadable (rights : Rights) : Type 0 where
+  pub known : rights.0 < 8
+  pub read : rights.0 % 2 ≡ 1
+
+-- what the component of the subject at a place brings along
+abbrev pub brought_to : Resolution → ℕ → List Brought
+brought_to r subject = option_map_or (λ s. provided_at r.components s.component) (slice_get r.subjects subject) []
+
+-- the bytes of what the subject at a place is shown, if it is there
+abbrev pub shown_size : Resolution → ℕ → Shown → Option ℕ
+shown_size r subject (Memory n) = option_map (λ m. m.size) (slice_get r.memory n)
+shown_size r subject (Channel n) = option_map (λ c. c.size) (slice_get r.channels n)
+shown_size r subject (Provided n) = option_map (λ p. p.size) (slice_get (brought_to r subject) n)
+shown_size r subject (Device device memory) =
+    option_and_then (λ d. option_map (λ m. m.size) (slice_get d.memory memory)) (slice_get r.devices device)
+shown_size r subject (State other) = option_map (λ _. PAGE) (slice_get r.subjects other)
+
+-- the view shows the whole of something that is there
+abbrev pub IsShown : Resolution → ℕ → View → Type 0
+IsShown r subject v = shown_size r subject v.shows ≡ Some v.size
+
+-- as many places as regions, by the numbers of these
+abbrev pub HasPlaces : Placement → Type 0
+HasPlaces x = length x.places ≡ kernel_first x.plain.lawful (length x.plain.lawful.subjects)
+
+-- the region that the subject at a place is shown has a number with a place
+abbrev pub IsNumbered : Placement → ℕ → Shown → Type 0
+IsNumbered x subject (Memory n) = n < length x.places
+IsNumbered x subject (Channel n) = length x.plain.lawful.memory + n < length x.places
+IsNumbered x subject (Provided n) =
+    (subject ≤ length x.plain.lawful.subjects)
+    × (length x.plain.lawful.memory + length x.plain.lawful.channels + brought_before x.plain.lawful subject + n < length x.places)
+IsNumbered x subject (Device device memory) = Unit {0}
+IsNumbered x subject (State other) = other < length x.plain.lawful.subjects

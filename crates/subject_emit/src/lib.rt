@@ -1,0 +1,15 @@
+//! What the kernel keeps for each subject of a placed policy: its state page, its EPT tables, its I/O
+//! and MSR bitmaps and its MSR area.
+#![tactic(auto)]
+
+mod bitmaps;
+mod known;
+mod mapped;
+mod numbers;
+mod subject_pages;
+mod tables;
+
+pub use known::sound;
+pub use numbers::kernel_first;
+pub use subject_pages::{SubjectPages, pages};
+pub use tables::tables_at;
