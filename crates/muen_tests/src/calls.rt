@@ -132,7 +132,7 @@ pub(crate) struct Ended {
     pub(crate) err: Vec<u8>,
 }
 
-fn file(alloc: Global, name: &str, bytes: &[u8]) -> Result<(String, Vec<u8>), Fail> {
+pub(crate) fn file(alloc: Global, name: &str, bytes: &[u8]) -> Result<(String, Vec<u8>), Fail> {
     Ok((
         String::from_str(alloc, name)?,
         Vec::from_slice(alloc, bytes)?,

@@ -1,0 +1,2 @@
+mod ByTick
+mod Spelling

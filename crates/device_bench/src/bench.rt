@@ -1,0 +1,189 @@
+//! The devices of a run.
+ghost use Rattle.std.specs.Prelude.{◌≡◌, ℕ, ◌+◌, ◌^◌, ◌==◌, ◌<◌, ◌≤◌, slice_get, slice_set, length, filter, option_map, IfOk};
+ghost use Rattle.std.specs.List.{AllWithin, find};
+ghost use Rattle.std.specs.List.Sorted.{IsNonDecreasingBy};
+ghost use Rattle.machine_meaning.specs.Memory.{le_number};
+ghost use Rattle.muen_num.specs.Size.{bytes_of};
+ghost use Rattle.device_bench.specs.Devices.{IsInOrder, inputs_at, order_at, zeros, no_inputs, value_of_ports};
+
+use muen_num::limits::LAST_PORT;
+use muen_num::{NoMemory, Size};
+use record_text::{Record, TickInput, TickOrder};
+use std::alloc::Global;
+use std::marker::Model;
+
+/// How many I/O ports there are.
+const PORTS: usize = LAST_PORT as usize + 1;
+
+/// How many values a byte has.
+const BYTE_VALUES: u32 = 256;
+
+/// What stands in a record by its tick.
+trait Ticked {
+    /// The tick.
+    ghost tick: { Self → ℕ };
+
+    /// The tick.
+    fn tick(&self) -> u32
+        ensures { result ≡ tick self.now };
+}
+
+impl Ticked for TickInput {
+    ghost tick = { λ i. i.tick };
+
+    fn tick(&self) -> u32 {
+        self.tick
+    }
+}
+
+impl Ticked for TickOrder {
+    ghost tick = { λ o. o.tick };
+
+    fn tick(&self) -> u32 {
+        self.tick
+    }
+}
+
+/// The devices of a run, by its record: what they do in each tick, and the input byte of each I/O
+/// port.
+#[derive(Debug, Drop)]
+pub struct Bench {
+    run: Record,
+    ports: Vec<u8>,
+}
+
+impl Model for Bench {
+    ghost use Rattle.device_bench.specs.Devices.{BenchState, IsBench};
+
+    ghost Value = { BenchState };
+
+    ghost view = { λ b. record { run = b.run; ports = b.ports.items } };
+
+    ghost invariant = { λ b. IsBench (record { run = b.run; ports = b.ports.items }) };
+}
+
+// How many of these stand before a tick.
+fn count_before<T: Ticked>(items: &[T], tick: u64) -> usize
+    requires { IsNonDecreasingBy T.tick items.now }
+    ensures bound { result ≤ length items.now }
+    ensures before { AllWithin (λ x. T.tick x < tick) items.now 0 result }
+    ensures behind { AllWithin (λ x. tick ≤ T.tick x) items.now result (length items.now) }
+{
+    items.partition_point(|item| u64::from(item.tick()) < tick)
+}
+
+// The inputs of a tick.
+fn inputs_of(inputs: &[TickInput], tick: u64) -> &[TickInput]
+    requires order { IsNonDecreasingBy (λ i. i.tick) inputs.now }
+    requires tick { tick < 2 ^ 32 }
+    ensures { result.now ≡ filter (λ i. i.tick == tick) inputs.now }
+{
+    let first = count_before(inputs, tick);
+    let past = count_before(inputs, tick + 1);
+    &inputs[first..past]
+}
+
+// The order at a place.
+fn order_at(orders: &[TickOrder], place: usize) -> Option<&TickOrder>
+    ensures { option_map (λ o. o.now) result ≡ slice_get orders.now place }
+{
+    orders.get(place)
+}
+
+// The order of a tick.
+fn order_of(orders: &[TickOrder], tick: u64) -> Option<&TickOrder>
+    requires { IsNonDecreasingBy (λ o. o.tick) orders.now }
+    ensures { option_map (λ o. o.now) result ≡ find (λ o. o.tick == tick) orders.now }
+{
+    let first = count_before(orders, tick);
+    match order_at(orders, first) {
+        None => None,
+        Some(order) => {
+            if u64::from(order.tick) == tick {
+                Some(order)
+            } else {
+                None
+            }
+        }
+    }
+}
+
+// The number that bytes spell, the lowest first.
+fn number_of(bytes: &[u8]) -> u32
+    requires { length bytes.now ≤ 4 }
+    ensures { result ≡ le_number bytes.now }
+{
+    match bytes {
+        [] => 0,
+        [first, rest @ ..] => u32::from(*first) + BYTE_VALUES * number_of(rest),
+    }
+}
+
+// So many zeros.
+#[tactic(auto, unfolding(crate::specs::Devices::zeros))]
+fn zeros(alloc: Global, count: usize) -> Result<Vec<u8>, NoMemory>
+    ensures zeros { IfOk result (λ z. z.items ≡ zeros count) }
+    ensures length { IfOk result (λ z. length z.items ≡ count) }
+{
+    Ok(vec![in alloc; 0; count]?)
+}
+
+impl Bench {
+    /// The devices of a run with this record, which is in order. No port has had an input.
+    ///
+    /// # Errors
+    /// Memory is refused.
+    pub fn start(alloc: Global, run: Record) -> Result<Bench, NoMemory>
+        requires { IsInOrder run }
+        ensures { IfOk result (λ b. b ≡ record { run = run; ports = no_inputs }) }
+    {
+        Ok(Bench {
+            run,
+            ports: zeros(alloc, PORTS)?,
+        })
+    }
+
+    /// The inputs of a tick, in their order. It is found in time that grows with the logarithm of the
+    /// record's inputs.
+    pub fn inputs(&self, tick: u32) -> &[TickInput]
+        ensures { result.now ≡ inputs_at self.now.run tick }
+    {
+        inputs_of(self.run.inputs.items(), u64::from(tick))
+    }
+
+    /// The order in which the CPUs take their turns in a tick. None where the record gives none, and
+    /// they take them by number.
+    pub fn order(&self, tick: u32) -> Option<&[u8]>
+        ensures { option_map (λ o. o.now) result ≡ order_at self.now.run tick }
+    {
+        match order_of(self.run.orders.items(), u64::from(tick)) {
+            None => None,
+            Some(order) => Some(order.cpus.items()),
+        }
+    }
+
+    /// How many ticks the run has.
+    pub fn end(&self) -> u32
+        ensures { result ≡ self.now.run.end }
+    {
+        self.run.end
+    }
+
+    /// The input byte of a port becomes this value.
+    pub fn set_port(&mut self, port: u16, value: u8)
+        ensures { self.new ≡ record self.old { ports = slice_set self.old.ports port value } }
+    {
+        self.ports[port as usize] = value;
+    }
+
+    /// What is read of so many ports from this one on, at most four of them and none past the last:
+    /// the byte of the lowest port is the lowest.
+    pub fn port_in(&self, port: u16, size: Size) -> u32
+        requires few { bytes_of size ≤ 4 }
+        requires end { port + bytes_of size ≤ LAST_PORT + 1 }
+        ensures { result ≡ value_of_ports self.now.ports port (bytes_of size) }
+    {
+        let first = port as usize;
+        number_of(&self.ports[first..first + size.bytes() as usize])
+    }
+}

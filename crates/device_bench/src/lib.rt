@@ -1,0 +1,9 @@
+//! The devices of a run: what they do in each tick, and what their ports hold.
+#![tactic(auto)]
+
+mod bench;
+
+pub use bench::Bench;
+
+#[cfg(test)]
+mod tests;

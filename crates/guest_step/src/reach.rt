@@ -1,0 +1,20 @@
+//! Where accesses of memory lead.
+
+/// Where an access of memory leads, in a world whose places are called `X`.
+#[derive(Clone, Copy, Debug, PartialEq, Eq)]
+pub enum Reach<X> {
+    /// To the bytes of a place from an offset on.
+    Reached {
+        place: X,
+        offset: u64,
+    },
+    /// To an exit.
+    Refused {
+        /// The exit reason.
+        reason: u8,
+        /// The exit qualification.
+        qualification: u64,
+        /// The guest address, where the exit has one.
+        addr: u64,
+    },
+}

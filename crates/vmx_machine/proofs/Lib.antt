@@ -1,0 +1,4 @@
+pub mod ChangeLaws
+pub mod AreaSteps
+pub mod StoreWithin
+pub mod MachineLaws

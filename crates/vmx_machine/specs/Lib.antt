@@ -1,0 +1,4 @@
+pub mod Changed
+pub mod MsrFile
+pub mod Machine
+pub mod Within

@@ -1,0 +1,31 @@
+-- The MSR file of a CPU: the values of the MSRs that an MSR bitmap covers (Intel SDM volume 3, "MSR-Bitmap Address").
+use Rattle.std.specs.Prelude.{ℕ, ◌+◌, ◌-◌, ◌&&◌, nat_le, if◌then◌else◌, List, replicate, slice_get, Option, Some, None, option_and_then}
+use Rattle.muen_num.specs.declared.limits.TheConstants.{LOW_MSR_LAST, HIGH_MSR_FIRST, HIGH_MSR_LAST}
+use Rattle.vmx_machine.specs.Changed.{change_at}
+
+-- where the file has an MSR: those of the low range from 0 on, and those of the high range behind them
+abbrev pub place_of : ℕ → Option ℕ
+place_of index =
+    if nat_le index LOW_MSR_LAST
+    then Some index
+    else (if nat_le HIGH_MSR_FIRST index && nat_le index HIGH_MSR_LAST then Some (LOW_MSR_LAST + 1 + (index - HIGH_MSR_FIRST)) else None)
+
+-- how many MSRs it has
+abbrev pub most : ℕ
+most = LOW_MSR_LAST + 1 + (HIGH_MSR_LAST + 1 - HIGH_MSR_FIRST)
+
+-- at first all are 0
+unfoldable pub zeros : ℕ → List ℕ
+zeros n = replicate n 0
+
+-- the value of an MSR, if the file has it
+abbrev pub value_in : List ℕ → ℕ → Option ℕ
+value_in file index = option_and_then (slice_get file) (place_of index)
+
+abbrev pub put_at : Option ℕ → ℕ → List ℕ → List ℕ
+put_at None value file = file
+put_at (Some i) value file = change_at i (λ _. value) file
+
+-- with this value of an MSR; an MSR that it doesn't have is passed over
+abbrev pub with_msr : ℕ → ℕ → List ℕ → List ℕ
+with_msr index value file = put_at (place_of index) value file

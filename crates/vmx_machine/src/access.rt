@@ -1,0 +1,151 @@
+//! Where accesses of memory, of ports and of MSRs lead.
+ghost use Rattle.std.specs.Prelude.{◌≡◌, ◌/◌, ◌%◌, ◌^◌, ◌<◌, ◌≤◌};
+ghost use Rattle.muen_num.specs.Size.{bytes_of};
+ghost use Rattle.guest_step.specs.Step.{reach_of};
+ghost use Rattle.vmx_machine.specs.Machine.{look_in, ports_exit, ports_input, msr_exits_in, msr_input};
+ghost use Rattle.vmx_machine.specs.Within.{LeadsWithin};
+
+use crate::control::Control;
+use crate::msr_file::MsrFile;
+use crate::pages::{bytes_of_page, number_of};
+use device_bench::Bench;
+use ept_walk::Translate;
+use guest_step::Reach;
+use machine_meaning::{Walk, msr_exits, port_exits};
+use muen_num::limits::{
+    EXIT_EPT_MISCONFIGURATION, EXIT_EPT_VIOLATION, EXIT_EXCEPTION, GUEST_END, PAGE,
+};
+use muen_num::{Kind, Size};
+use phys_mem::PhysMem;
+
+/// The bit of an EPT violation's qualification at which the rights found begin.
+const FOUND: u64 = 1 << 3;
+
+// A physical address, by its page.
+fn in_page(place: u64, size: Size) -> Reach<u64>
+    requires { place % bytes_of size ≡ 0 }
+    ensures place { result ≡ Reach.Reached (place / 4096) (place % 4096) }
+    ensures within { LeadsWithin (bytes_of size) result }
+{
+    Reach::Reached {
+        place: place / PAGE,
+        offset: place % PAGE,
+    }
+}
+
+// Where the walk leads for a guest address.
+fn look<M: PhysMem, T: Translate>(
+    mem: &M,
+    walk: &mut T,
+    eptp: u64,
+    kind: Kind,
+    addr: u64,
+    size: Size,
+) -> Reach<u64>
+    requires fits { T.fits walk.old (M.pages mem.now) }
+    requires addr { addr < GUEST_END }
+    requires aligned { addr % bytes_of size ≡ 0 }
+    ensures place { result ≡ look_in (M.pages mem.now) eptp kind addr }
+    ensures within { LeadsWithin (bytes_of size) result }
+    ensures fits { T.fits walk.new (M.pages mem.now) }
+{
+    match walk.walk(mem, eptp, addr, kind) {
+        Walk::At(place) => in_page(place, size),
+        Walk::Violation(rights) => Reach::Refused {
+            reason: EXIT_EPT_VIOLATION,
+            qualification: u64::from(kind.bit()) + FOUND * rights,
+            addr,
+        },
+        Walk::Misconfigured => Reach::Refused {
+            reason: EXIT_EPT_MISCONFIGURATION,
+            qualification: 0,
+            addr,
+        },
+    }
+}
+
+/// Where an access of memory leads, by its faults in their order.
+pub(crate) fn reach<M: PhysMem, T: Translate>(
+    mem: &M,
+    walk: &mut T,
+    eptp: u64,
+    kind: Kind,
+    addr: u64,
+    size: Size,
+) -> Reach<u64>
+    requires { T.fits walk.old (M.pages mem.now) }
+    ensures place { result ≡ reach_of (look_in (M.pages mem.now) eptp) kind (bytes_of size) addr }
+    ensures within { LeadsWithin (bytes_of size) result }
+    ensures fits { T.fits walk.new (M.pages mem.now) }
+{
+    if addr % u64::from(size.bytes()) != 0 {
+        return Reach::Refused {
+            reason: EXIT_EXCEPTION,
+            qualification: 0,
+            addr: 0,
+        };
+    }
+    if addr >= GUEST_END {
+        return Reach::Refused {
+            reason: EXIT_EPT_VIOLATION,
+            qualification: u64::from(kind.bit()),
+            addr,
+        };
+    }
+    look(mem, walk, eptp, kind, addr, size)
+}
+
+/// Whether an access of ports exits, by the I/O bitmaps as they are in memory now.
+pub(crate) fn ports_exit<M: PhysMem>(mem: &M, control: &Control, port: u16, size: Size) -> bool
+    ensures { result ≡ ports_exit (M.pages mem.now) control.now port (bytes_of size) }
+{
+    let page = number_of(control.io_bitmaps);
+    let a = bytes_of_page(mem, page);
+    let b = bytes_of_page(mem, page + 1);
+    port_exits(a, b, port, size)
+}
+
+/// What is read of ports, unless that exits.
+pub(crate) fn ports_input<M: PhysMem>(
+    mem: &M,
+    control: &Control,
+    bench: &Bench,
+    port: u16,
+    size: Size,
+) -> Option<u64>
+    requires { bytes_of size ≤ 4 }
+    ensures { result ≡ ports_input (M.pages mem.now) control.now bench.now.ports port (bytes_of size) }
+{
+    if ports_exit(mem, control, port, size) {
+        None
+    } else {
+        Some(u64::from(bench.port_in(port, size)))
+    }
+}
+
+/// Whether an access of an MSR exits, by the MSR bitmap as it is in memory now.
+pub(crate) fn msr_exits_in<M: PhysMem>(mem: &M, control: &Control, index: u32, write: bool) -> bool
+    ensures { result ≡ msr_exits_in (M.pages mem.now) control.now index write }
+{
+    msr_exits(
+        bytes_of_page(mem, number_of(control.msr_bitmap)),
+        index,
+        write,
+    )
+}
+
+/// The value of an MSR, unless reading it exits.
+pub(crate) fn msr_input<M: PhysMem>(
+    mem: &M,
+    control: &Control,
+    file: &MsrFile,
+    index: u32,
+) -> Option<u64>
+    ensures { result ≡ msr_input (M.pages mem.now) control.now file.now index }
+{
+    if msr_exits_in(mem, control, index, false) {
+        None
+    } else {
+        file.get(u64::from(index))
+    }
+}

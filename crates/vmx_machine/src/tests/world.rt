@@ -1,0 +1,166 @@
+//! A subject's pages, made by hand. Its tables are four pages from 1 MiB on; behind them lie a page of
+//! code, one of data, its state page, I/O bitmaps A and B, its MSR bitmap and its MSR area, and the
+//! state page and the MSR area of another subject. A device's page is at 2 GiB.
+ghost use Rattle.std.specs.Prelude.{◌≡◌, ◌<◌, ◌^◌, length, IfOk};
+
+use crate::{Control, Machine};
+use device_bench::Bench;
+use ept_walk::PlainWalk;
+use muen_num::{Seq, Size};
+use phys_mem::{PhysMem, RegionMem, SpanPartBytes};
+use record_text::Record;
+use std::alloc::Global;
+use std::test::Fail;
+
+pub(super) const PAGE_TABLE: u64 = 0x10_3000;
+
+pub(super) const CODE: u64 = 0x10_4000;
+
+pub(super) const DATA: u64 = 0x10_5000;
+
+pub(super) const STATE: u64 = 0x10_6000;
+
+const OTHER_STATE: u64 = 0x10_b000;
+
+pub(super) const BITMAP_A: u64 = 0x10_7000;
+
+pub(super) const MSR_BITMAP: u64 = 0x10_9000;
+
+pub(super) const AREA: u64 = 0x10_a000;
+
+const OTHER_AREA: u64 = 0x10_c000;
+
+pub(super) const DEVICE: u64 = 0x8000_0000;
+
+/// What the CPU is told of the subject. Its area has one entry.
+pub(super) const CONTROL: Control = Control {
+    state: 0x106,
+    eptp: 0x10_001e,
+    io_bitmaps: 0x107,
+    msr_bitmap: 0x109,
+    msr_area: 0x10a,
+    msrs: 1,
+};
+
+/// The other subject has the same tables and bitmaps.
+pub(super) const OTHER: Control = Control {
+    state: 0x10b,
+    eptp: 0x10_001e,
+    io_bitmaps: 0x107,
+    msr_bitmap: 0x109,
+    msr_area: 0x10c,
+    msrs: 1,
+};
+
+/// The MSR that the subjects may read and write.
+pub(super) const MSR: u64 = 0xC000_0082;
+
+/// The entries of the page table: the guest page at 400000H is the code, and behind it are the data,
+/// the page table itself, bitmap A, the MSR bitmap, the area, a page that isn't there, and a page
+/// that may only be read.
+const PAGES: [u64; 8] = [
+    0x10_4035,
+    0x10_5033,
+    0x10_3033,
+    0x10_7033,
+    0x10_9033,
+    0x10_a033,
+    0x8000_1037,
+    0x10_5031,
+];
+
+/// A subject at an instruction, and two of its registers.
+#[derive(Clone, Copy, Debug)]
+pub(super) struct Start {
+    pub pc: u64,
+    /// The instruction at the start of the code, as a word.
+    pub word: u64,
+    pub r1: u64,
+    pub r2: u64,
+}
+
+fn memory(alloc: Global) -> Result<RegionMem, Fail> {
+    let low = SpanPartBytes {
+        place: 0x10_0000,
+        bytes: Seq::of(vec![in alloc; 0; 0xd000]?),
+    };
+    let device = SpanPartBytes {
+        place: DEVICE,
+        bytes: Seq::of(vec![in alloc; 0; 0x1000]?),
+    };
+    let spans = vec![in alloc; low, device]?;
+    Ok(RegionMem::start(alloc, spans)?)
+}
+
+// The word at a place that is a multiple of eight.
+fn set<M: PhysMem>(mem: &mut M, at: u64, word: u64)
+    requires { at < 2 ^ 48 }
+{
+    mem.store(at - at % 8, Size::Eight, word);
+}
+
+fn set_tables<M: PhysMem>(mem: &mut M) {
+    set(mem, 0x10_0000, 0x10_1007);
+    set(mem, 0x10_1000, 0x10_2007);
+    set(mem, 0x10_2010, 0x10_3007);
+    for (i, entry) in PAGES.iter().enumerate() {
+        set(mem, PAGE_TABLE + 8 * i as u64, *entry);
+    }
+}
+
+// The ports 3F8H to 3FFH are granted, and the MSR.
+fn set_bitmaps<M: PhysMem>(mem: &mut M) {
+    for i in 0..0x600u64 {
+        set(mem, BITMAP_A + 8 * i, u64::MAX);
+    }
+    mem.store(BITMAP_A + 0x7f, Size::One, 0);
+    mem.store(MSR_BITMAP + 1040, Size::One, 0xfb);
+    mem.store(MSR_BITMAP + 3088, Size::One, 0xfb);
+    set(mem, AREA, MSR);
+    set(mem, AREA + 8, 5);
+    set(mem, OTHER_AREA, MSR);
+}
+
+fn set_state<M: PhysMem>(mem: &mut M, state: u64, start: Start)
+    requires { state < 2 ^ 40 }
+{
+    set(mem, state + 8, start.r1);
+    set(mem, state + 16, start.r2);
+    set(mem, state + 128, start.pc);
+    set(mem, state + 152, 8);
+}
+
+/// A machine on which the subject is entered.
+pub(super) fn machine(alloc: Global, start: Start) -> Result<Machine<RegionMem, PlainWalk>, Fail>
+    ensures { IfOk result (λ m. length m.cpus ≡ 1) }
+{
+    let mut mem = memory(alloc)?;
+    set_tables(&mut mem);
+    set_bitmaps(&mut mem);
+    set(&mut mem, CODE, start.word);
+    set_state(&mut mem, STATE, start);
+    set_state(&mut mem, OTHER_STATE, start);
+    let mut machine = Machine::start(alloc, mem, PlainWalk::new(), 1)?;
+    machine.enter(0, CONTROL);
+    Ok(machine)
+}
+
+/// Devices of which the input bytes of the ports 3FCH to 3FFH are 1, 2, 3 and 4.
+pub(super) fn bench(alloc: Global) -> Result<Bench, Fail> {
+    let run = Record {
+        end: 9,
+        inputs: Seq::new(alloc),
+        orders: Seq::new(alloc),
+    };
+    let mut bench = Bench::start(alloc, run)?;
+    for i in 0..4u8 {
+        bench.set_port(0x3fc + u16::from(i), i + 1);
+    }
+    Ok(bench)
+}
+
+/// The word of an instruction: its opcode, its registers, its size code and its immediate.
+pub(super) fn word(opcode: u8, registers: u8, size: u8, immediate: u32) -> u64 {
+    let low = u32::from_le_bytes([opcode, registers, size, 0]);
+    u64::from(low) + (u64::from(immediate) << 32)
+}
