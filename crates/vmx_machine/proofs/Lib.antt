@@ -1,4 +1,3 @@
-pub mod ChangeLaws
 pub mod AreaSteps
 pub mod StoreWithin
 pub mod MachineLaws

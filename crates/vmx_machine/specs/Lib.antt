@@ -1,4 +1,3 @@
-pub mod Changed
 pub mod MsrFile
 pub mod Machine
 pub mod Within

@@ -20,7 +20,7 @@ use Rattle.guest_step.specs.declared.end.StepEnd.TheVariants.{Plain}
 use Rattle.guest_step.specs.declared.finish.Finish.{Finish}
 use Rattle.guest_step.specs.declared.reach.Reach.{Reach}
 use Rattle.guest_step.specs.declared.reach.Reach.TheVariants.{Reached, Refused}
-use Rattle.vmx_machine.specs.Changed.{change_at}
+use Rattle.look_up.specs.ByNumber.{change_at}
 use Rattle.vmx_machine.specs.MsrFile.{value_in, with_msr, zeros, most}
 use Rattle.vmx_machine.specs.declared.control.Control.{Control}
 use Rattle.vmx_machine.specs.declared.cpu.Cpu.{Cpu}

@@ -1,6 +1,6 @@
 //! The machine-specific registers of a CPU.
 ghost use Rattle.std.specs.Prelude.{◌≡◌, slice_get, length, IfOk};
-ghost use Rattle.vmx_machine.specs.Changed.{change_at};
+ghost use Rattle.look_up.specs.ByNumber.{change_at};
 ghost use Rattle.vmx_machine.specs.MsrFile.{place_of, value_in, with_msr, most, zeros};
 
 use muen_num::NoMemory;
@@ -43,7 +43,7 @@ fn place_of(index: u64) -> Option<usize>
 }
 
 // Another value at a place, if there is one.
-#[tactic(auto, using(crate::proofs::ChangeLaws::set_is, crate::proofs::ChangeLaws::past_is))]
+#[tactic(auto, using(look_up::proofs::ChangeLaws::set_is, look_up::proofs::ChangeLaws::past_is))]
 fn put_value(values: &mut [u64], place: usize, value: u64)
     ensures { values.new ≡ change_at place (λ _. value) values.old }
 {

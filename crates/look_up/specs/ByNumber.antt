@@ -1,4 +1,4 @@
--- Lists of which one element is changed.
+-- Lists by number, of which one element is changed.
 use Rattle.std.specs.Prelude.{ℕ, zero, suc, List, [], ◌∷◌}
 
 -- element i is what the function makes of it; where there is none, the list stays

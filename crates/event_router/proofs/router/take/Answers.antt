@@ -1,0 +1,8 @@
+use Rattle.std.proofs.Common.{[]}
+use Rattle.event_router.specs.Vectors.{without_vector}
+use Rattle.look_up.proofs.ChangeLaws.{made_is}
+use Rattle.event_router.proofs.router.take.Goals as goal
+
+pub returns-then-subject-sets : goal.returns-then-subject-sets
+returns-then-subject-sets c =
+    made_is c.args.subject (without_vector c.args.vector) c.args.sets.now (record { marks = [] }) c.take.new.self c.if-subject-sets.true c.take.ensures

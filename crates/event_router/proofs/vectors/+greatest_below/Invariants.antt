@@ -1,0 +1,4 @@
+use Rattle.event_router.proofs.vectors.+greatest_below.Given as goal
+
+abbrev pub decreases-greatest_below : goal.decreases-greatest_below
+decreases-greatest_below l = l.end
