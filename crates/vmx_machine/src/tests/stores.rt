@@ -85,7 +85,14 @@ fn tables_and_bitmaps(rt: HostRuntime) -> Result<(), Fail> {
             next: word(0x11, 0x30, 0, 0x3f0),
             end: StepEnd::Set { reg: 3, value: 0 },
         },
-        // the code itself changes
+        // MSR 0 may be read now
+        Case {
+            at: 0x40_4000,
+            value: 0xfe,
+            next: word(0x13, 0x30, 0, 0),
+            end: StepEnd::Set { reg: 3, value: 0 },
+        },
+        // what was stored is loaded
         Case {
             at: 0x40_1000,
             value: 0x17,
