@@ -1,1 +1,2 @@
 pub mod FrameSlot
+pub mod FramePlace

@@ -1,10 +1,13 @@
 //! Which frame a CPU has at a tick.
 //!
-//! The definition lays a plan's frames out tick by tick; the code counts ticks instead: first the
-//! major frames', then those of the CPU's minor frames in the one major frame that has the tick.
+//! The definitions lay a plan's frames out tick by tick; the code counts ticks instead. Which major
+//! frame runs is a place (`FramePlace`) that goes on from tick to tick (`advance`). Where the major
+//! frames just follow each other, a tick alone tells the slot (`cyclic_slot`).
 #![tactic(auto)]
 
-ghost use Rattle.std.specs.Prelude.{◌≡◌, ◌<◌, ◌≤◌, ◌%◌, Some, true, length, map, slice_get, sum_by};
+mod place;
+
+ghost use Rattle.std.specs.Prelude.{◌≡◌, ◌<◌, ◌≤◌, ◌%◌, Some, true, length, map, option_map, slice_get, sum_by};
 ghost use Rattle.std.specs.List.{flat_map};
 ghost use Rattle.image_plan.specs.Plan.{frame_of, frames_in, cpus_of, is_group_on, is_plan};
 ghost use Rattle.image_plan.specs.Slot.{frame_slots, slots_from, slot_at};
@@ -12,12 +15,13 @@ ghost use Rattle.frame_clock.specs.FrameSlot.{slot_of};
 
 use image_plan::{Major, Minor, Plan};
 use muen_num::limits::MOST_MAJOR_FRAMES;
+pub use place::{FramePlace, advance, slot};
 
 /// The frame of a CPU at a tick.
 #[derive(Clone, Copy, Debug, PartialEq, Eq)]
 pub struct FrameSlot {
     /// The number of the major frame.
-    pub major: u8,
+    pub major: usize,
     /// The number of the scheduling group that has the CPU.
     pub group: u8,
     /// Whether it is the first tick of its minor frame.
@@ -42,24 +46,23 @@ fn in_round(tick: u32, total: u64) -> u32
     (u64::from(tick) % total) as u32
 }
 
-// The slot at a tick of a major frame, of a CPU with these minor frames in it.
-fn in_frames(frames: &[Minor], major: u8, tick: u32) -> FrameSlot
-    requires { tick < sum_by (λ f. f.ticks) frames.now }
-    ensures { slice_get (flat_map (frame_slots major) (map frame_of frames.now)) tick ≡ Some (slot_of result) }
+// The slot at a tick of a major frame, of a CPU with these minor frames in it. None behind them.
+fn in_frames(frames: &[Minor], major: usize, tick: u32) -> Option<FrameSlot>
+    ensures { slice_get (flat_map (frame_slots major) (map frame_of frames.now)) tick ≡ option_map slot_of result }
 {
     let mut rest = tick;
     for frame in frames {
         if rest < frame.ticks {
-            return FrameSlot {
+            return Some(FrameSlot {
                 major,
                 group: frame.group,
                 first: rest == 0,
                 left: frame.ticks - rest,
-            };
+            });
         }
         rest -= frame.ticks;
     }
-    unreachable!()
+    None
 }
 
 // The slot at a tick of all major frames.
@@ -74,16 +77,19 @@ fn in_majors(p: &Plan, cpu: u8, tick: u32) -> FrameSlot
     for (place, major) in majors.iter().enumerate() {
         if rest < major.ticks {
             let frames = &major.cpus.items()[cpu as usize];
-            return in_frames(frames.items(), place as u8, rest);
+            match in_frames(frames.items(), place, rest) {
+                Some(slot) => return slot,
+                None => unreachable!(),
+            }
         }
         rest -= major.ticks;
     }
     unreachable!()
 }
 
-/// The frame of a CPU at a tick: the plan's major frames run in order, again and again, and in each
-/// the CPU's minor frames in order.
-pub fn slot(p: &Plan, cpu: u8, tick: u32) -> FrameSlot
+/// The frame of a CPU at a tick, where the plan's major frames run in order, again and again, and in
+/// each the CPU's minor frames in order.
+pub fn cyclic_slot(p: &Plan, cpu: u8, tick: u32) -> FrameSlot
     requires plan { is_plan p.now ≡ true }
     requires cpu { cpu < cpus_of p.now }
     ensures slot { slot_at (frames_in p.now cpu) tick ≡ Some (slot_of result) }

@@ -2,7 +2,7 @@
 ghost use Rattle.std.specs.Prelude.{◌≡◌, [], ◌∷◌, IfOk, true};
 ghost use Rattle.image_plan.specs.Plan.{cpus_of, is_plan};
 
-use crate::{FrameSlot, slot};
+use crate::{FramePlace, FrameSlot, advance, cyclic_slot, slot};
 use image_plan::{GroupPart, Major, Minor, Plan};
 use muen_num::Seq;
 use std::alloc::{AllocError, Global};
@@ -56,7 +56,7 @@ fn plan(alloc: Global) -> Result<Plan, AllocError>
     })
 }
 
-fn frame_slot(major: u8, group: u8, first: bool, left: u32) -> FrameSlot {
+fn frame_slot(major: usize, group: u8, first: bool, left: u32) -> FrameSlot {
     FrameSlot {
         major,
         group,
@@ -80,11 +80,50 @@ fn the_frames_begin_anew(rt: HostRuntime) -> Result<(), Fail> {
     for begin in [0u32, 5, 10, 15, 4_294_967_290] {
         for (place, (zero, one)) in round.iter().enumerate() {
             let tick = begin + place as u32;
-            assert_eq!(rt; slot(&plan, 0, tick), *zero, "CPU 0 at {tick}");
-            assert_eq!(rt; slot(&plan, 1, tick), *one, "CPU 1 at {tick}");
+            assert_eq!(rt; cyclic_slot(&plan, 0, tick), *zero, "CPU 0 at {tick}");
+            assert_eq!(rt; cyclic_slot(&plan, 1, tick), *one, "CPU 1 at {tick}");
         }
     }
-    assert_eq!(rt; slot(&plan, 0, u32::MAX), frame_slot(0, 0, true, 1));
-    assert_eq!(rt; slot(&plan, 1, u32::MAX), frame_slot(0, 3, true, 2));
+    assert_eq!(rt; cyclic_slot(&plan, 0, u32::MAX), frame_slot(0, 0, true, 1));
+    assert_eq!(rt; cyclic_slot(&plan, 1, u32::MAX), frame_slot(0, 3, true, 2));
+    Ok(())
+}
+
+// The place goes on from tick to tick, and gives the same slots where nothing is picked.
+#[test]
+fn places(rt: HostRuntime) -> Result<(), Fail> {
+    let plan = plan(rt.alloc())?;
+    let mut at = FramePlace::first();
+    for tick in 0u32..13 {
+        at = advance(&plan, at, None, tick);
+        for cpu in [0u8, 1] {
+            let cyclic = cyclic_slot(&plan, cpu, tick);
+            assert_eq!(rt; slot(&plan, at, cpu, tick), Some(cyclic), "{cpu} {tick}");
+        }
+    }
+    let first = FramePlace::first();
+    // within a major frame nothing is picked
+    assert_eq!(rt; advance(&plan, first, Some(1), 2), first);
+    let start = 3;
+    let cases = [
+        (Some(0u8), 0usize),
+        (Some(1), 1),
+        (Some(2), 0),
+        (Some(255), 0),
+        (None, 1),
+    ];
+    for (pick, major) in cases {
+        assert_eq!(rt; advance(&plan, first, pick, 3), FramePlace { major, start });
+    }
+    let last = FramePlace { major: 1, start: 3 };
+    let again = FramePlace { major: 1, start: 5 };
+    assert_eq!(rt;
+        advance(&plan, last, None, 5),
+        FramePlace { major: 0, start: 5 }
+    );
+    assert_eq!(rt; advance(&plan, last, Some(9), 5), again);
+    // no such CPU, no such tick of the major frame
+    assert_eq!(rt; slot(&plan, first, 2, 0), None);
+    assert_eq!(rt; slot(&plan, first, 0, 3), None);
     Ok(())
 }

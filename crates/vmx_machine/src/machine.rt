@@ -2,7 +2,8 @@
 ghost use Rattle.std.specs.Prelude.{◌≡◌, ◌+◌, ◌^◌, ◌<◌, length, replicate, slice_get, IfOk};
 ghost use Rattle.guest_step.specs.Finish.{injected, finished};
 ghost use Rattle.look_up.specs.ByNumber.{change_at};
-ghost use Rattle.vmx_machine.specs.Machine.{put_on, put_off_by, with_state, fresh, started, entered, left_by, left, step_on, state_on, vector_injected, exit_finished, machine_step, device_wrote};
+ghost use Rattle.state_page.specs.StatePage.{state_in};
+ghost use Rattle.vmx_machine.specs.Machine.{page_at, put_on, put_off_by, with_state, fresh, started, entered, left_by, left, step_on, state_on, vector_injected, exit_finished, machine_step, device_wrote};
 
 use crate::control::Control;
 use crate::cpu::{Cpu, Entered};
@@ -193,6 +194,13 @@ impl<M: PhysMem, T: Translate> Machine<M, T> {
             None => None,
             Some(on) => Some(on.state),
         }
+    }
+
+    /// The state that a state page has, by the page's number.
+    pub fn state_in(&self, page: u32) -> SubjectState
+        ensures { result ≡ state_in (page_at self.now.pages page) }
+    {
+        state_in(&self.mem, number_of(page))
     }
 
     /// A subject goes onto a CPU: its state is read from its state page, and the entries of its area

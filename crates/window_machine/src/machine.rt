@@ -3,7 +3,7 @@ ghost use Rattle.std.specs.Prelude.{◌≡◌, ◌<◌, length};
 
 use crate::guest::Guest;
 use crate::memory::{Holding, settle};
-use frame_clock::slot;
+use frame_clock::cyclic_slot;
 use image_plan::Plan;
 use std::marker::Model;
 use view_text::Line;
@@ -61,7 +61,7 @@ impl Machine {
         ensures value { result ≡ active_at self.now.plan tick }
         ensures there { result < length self.now.guests }
     {
-        let slot = slot(&self.plan, 0, tick);
+        let slot = cyclic_slot(&self.plan, 0, tick);
         usize::from(self.plan.groups.items()[usize::from(slot.group)].first)
     }
 

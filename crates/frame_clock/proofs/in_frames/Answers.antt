@@ -1,6 +1,5 @@
 use Rattle.std.proofs.Common.{◌<◌, ◌≤◌, ◌∙◌, sym, length, arith}
 use Rattle.std.specs.Prelude.{slice_index_or}
-use Rattle.std.proofs.lemmas.List.Sums.{sum_by-drop_more}
 use Rattle.image_plan.specs.declared.plan.Minor.{Minor}
 use Rattle.frame_clock.proofs.FrameSearch.{frame_here, frame_past}
 use Rattle.frame_clock.proofs.in_frames.Goals as goal
@@ -12,7 +11,7 @@ pub returns-then-rest-frame : goal.returns-then-rest-frame
 returns-then-rest-frame c =
     let i = c.loop-frame.frame-index in
     let fs = c.args.frames.now in
-    sym c.loop-frame.invariant.at ∙ frame_here c.args.major fs i c.loop-frame.rest nothing (omega arith) (omega arith)
+    sym c.loop-frame.invariant ∙ frame_here c.args.major fs i c.loop-frame.rest nothing (omega arith) (omega arith)
 
 pub loop-frame-preserved : goal.loop-frame-preserved
 loop-frame-preserved c =
@@ -20,8 +19,4 @@ loop-frame-preserved c =
     let fs = c.args.frames.now in
     let within : i < length fs = omega arith in
     let past : (slice_index_or fs i nothing).ticks ≤ c.loop-frame.rest = omega arith in
-    let left = sum_by-drop_more (λ (f : Minor). f.ticks) fs i nothing within in
-    record {
-      at = frame_past c.args.major fs i c.loop-frame.rest nothing within past ∙ c.loop-frame.invariant.at;
-      within = omega (arith, left, past, c.loop-frame.invariant.within);
-    }
+    frame_past c.args.major fs i c.loop-frame.rest nothing within past ∙ c.loop-frame.invariant

@@ -1,6 +1,6 @@
-use Rattle.std.proofs.Common.{◌≡◌, ◌<◌, map, drop}
+use Rattle.std.proofs.Common.{◌≡◌, map, drop}
 use Rattle.std.specs.Prelude.{slice_get}
-use Rattle.std.specs.List.{sum_by, flat_map}
+use Rattle.std.specs.List.{flat_map}
 use Rattle.image_plan.specs.Plan.{frame_of}
 use Rattle.image_plan.specs.Slot.{frame_slots}
 use Rattle.frame_clock.proofs.in_frames.Given as goal
@@ -8,7 +8,4 @@ use Rattle.frame_clock.proofs.in_frames.Given as goal
 -- the frames that are left have what is left of the tick where all of them have the tick
 abbrev pub invariant-loop-frame : goal.invariant-loop-frame
 invariant-loop-frame l =
-    record {
-      at : slice_get (flat_map (frame_slots l.major) (map frame_of (drop l.frame-index l.frames))) l.rest ≡ slice_get (flat_map (frame_slots l.major) (map frame_of l.frames)) l.tick;
-      within : l.rest < sum_by (λ f. f.ticks) (drop l.frame-index l.frames);
-    }
+    slice_get (flat_map (frame_slots l.major) (map frame_of (drop l.frame-index l.frames))) l.rest ≡ slice_get (flat_map (frame_slots l.major) (map frame_of l.frames)) l.tick

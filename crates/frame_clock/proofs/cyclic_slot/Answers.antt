@@ -7,8 +7,8 @@ use Rattle.image_plan.specs.Slot.{slots_from, slot_at}
 use Rattle.image_plan.specs.declared.plan.Major.{Major}
 use Rattle.image_plan.proofs.SlotLaws.{has_majors, plan_ticks, slot_by_ticks, slot_on_cpu}
 use Rattle.frame_clock.specs.FrameSlot.{slot_of}
-use Rattle.frame_clock.proofs.slot.Goals as goal
-use Rattle.frame_clock.proofs.slot.Goals.{After-in_round, After-in_majors}
+use Rattle.frame_clock.proofs.cyclic_slot.Goals as goal
+use Rattle.frame_clock.proofs.cyclic_slot.Goals.{After-in_round, After-in_majors}
 
 pub ticks_in-total-requires : goal.ticks_in-total-requires
 ticks_in-total-requires c =

@@ -1,0 +1,72 @@
+-- The minor frames of a CPU in the major frame of a place.
+use Rattle.std.proofs.Common.{◌≡◌, ℕ, ◌+◌, ◌-◌, ◌<◌, ◌∙◌, List, [], ◌∷◌, Option, Some, None, inl, inr, map, refl, sym, ap, arith}
+use Rattle.std.specs.Prelude.{slice_get, option_map, option_and_then, unwrap_or}
+use Rattle.std.specs.List.{flat_map}
+use Rattle.std.proofs.lemmas.Option.{slice_get-map, unwrap_or-slice_get}
+use Rattle.image_plan.specs.Plan.{frame_of, frames_in}
+use Rattle.image_plan.specs.Slot.{Slot, frame_slots}
+use Rattle.image_plan.specs.declared.plan.Major.{Major}
+use Rattle.image_plan.specs.declared.plan.Minor.{Minor}
+use Rattle.image_plan.specs.declared.plan.Plan.{Plan}
+use Rattle.image_plan.proofs.SlotLaws.{frames_at, frame_slot, first_frame, later_frame, ticks_of}
+use Rattle.muen_num.specs.Frame.{Frame}
+use Rattle.std.proofs.lemmas.Bool.{cases_lt}
+use Rattle.std.proofs.lemmas.Option.{none-some}
+use Rattle.std.proofs.lemmas.List.Sums.{sum_by-cons}
+use Rattle.frame_clock.specs.FrameSlot.{slot_of}
+use Rattle.frame_clock.specs.declared.FrameSlot.{FrameSlot}
+use Rattle.frame_clock.specs.FramePlace.{slot_in}
+use Rattle.frame_clock.specs.declared.place.FramePlace.{FramePlace}
+
+-- the slot at a tick, of these minor frames of a place's major frame
+abbrev slot_of_frames : FramePlace → ℕ → List Frame → Option Slot
+slot_of_frames at tick fs = slice_get (flat_map (frame_slots at.major) fs) (tick - at.start)
+
+joined : (at : FramePlace) (tick cpu : ℕ) (o : Option Major) → option_and_then (slot_of_frames at tick) (option_map (frames_at cpu) o) ≡ option_and_then (λ m. slot_of_frames at tick (frames_at cpu m)) o
+joined at tick cpu None = refl
+joined at tick cpu (Some m) = refl
+
+by_major : (p : Plan) (cpu : ℕ) (at : FramePlace) (tick : ℕ) (o : Option Major) → slice_get p.majors at.major ≡ o → slot_in (frames_in p cpu) at tick ≡ option_and_then (λ m. slot_of_frames at tick (frames_at cpu m)) o
+unfolding frames_in
+by_major p cpu at tick o is =
+    ap (option_and_then (slot_of_frames at tick)) (slice_get-map (frames_at cpu) p.majors at.major ∙ ap (option_map (frames_at cpu)) is)
+    ∙ joined at tick cpu o
+
+pub no_major : (p : Plan) (cpu : ℕ) (at : FramePlace) (tick : ℕ) → slice_get p.majors at.major ≡ None → None ≡ slot_in (frames_in p cpu) at tick
+no_major p cpu at tick is = sym (by_major p cpu at tick None is)
+
+-- the minor frames of a CPU; none of a CPU that isn't there
+frames_are : (m : Major) (cpu : ℕ) (o : Option (List Minor)) → slice_get m.cpus cpu ≡ o → frames_at cpu m ≡ map frame_of (unwrap_or o [])
+frames_are m cpu o is = ap (map frame_of) (sym (unwrap_or-slice_get m.cpus cpu []) ∙ ap (λ x. unwrap_or x []) is)
+
+by_cpu : (p : Plan) (cpu : ℕ) (at : FramePlace) (tick : ℕ) (m : Major) (o : Option (List Minor)) → slice_get p.majors at.major ≡ Some m → slice_get m.cpus cpu ≡ o → slot_in (frames_in p cpu) at tick ≡ slot_of_frames at tick (map frame_of (unwrap_or o []))
+by_cpu p cpu at tick m o is fs = by_major p cpu at tick (Some m) is ∙ ap (slot_of_frames at tick) (frames_are m cpu o fs)
+
+pub no_cpu : (p : Plan) (cpu : ℕ) (at : FramePlace) (tick : ℕ) (m : Major) → slice_get p.majors at.major ≡ Some m → slice_get m.cpus cpu ≡ None → None ≡ slot_in (frames_in p cpu) at tick
+no_cpu p cpu at tick m is none = sym (by_cpu p cpu at tick m None is none)
+
+pub in_frames_there : (p : Plan) (cpu : ℕ) (at : FramePlace) (tick : ℕ) (m : Major) (fs : List Minor) → slice_get p.majors at.major ≡ Some m → slice_get m.cpus cpu ≡ Some fs → slice_get (flat_map (frame_slots at.major) (map frame_of fs)) (tick - at.start) ≡ slot_in (frames_in p cpu) at tick
+in_frames_there p cpu at tick m fs is found = sym (by_cpu p cpu at tick m (Some fs) is found)
+
+-- ---- a tick that the frames have has a slot
+
+none_first : (major : ℕ) (f : Frame) (fs : List Frame) (k : ℕ) → k < f.ticks → slice_get (flat_map (frame_slots major) (f ∷ fs)) k ≡ None → ⊥
+none_first major f fs k l none = none-some (frame_slot major f k) (sym none ∙ first_frame major f fs k l)
+
+pub slot_there : (major : ℕ) (fs : List Frame) (k : ℕ) → k < ticks_of fs → slice_get (flat_map (frame_slots major) fs) k ≡ None → ⊥
+slot_there major [] k l none = absurd (omega arith)
+slot_there major (f ∷ fs) k l none =
+    let all = sum_by-cons (λ (g : Frame). g.ticks) f fs in
+    elim (cases_lt k f.ticks) as (λ _. ⊥) [
+      | inl h ↦ none_first major f fs k h none
+      | inr h ↦
+          let back : f.ticks + (k - f.ticks) ≡ k = omega (arith, h) in
+          slot_there major fs (k - f.ticks) (omega (arith, all, l, h))
+          (sym (later_frame major f fs (k - f.ticks)) ∙ ap (slice_get (flat_map (frame_slots major) (f ∷ fs))) back ∙ none)
+    ]
+
+-- the slot that was found, where the ticks of these minor frames are more than the tick
+pub found_there : (major : ℕ) (fs : List Minor) (k ticks : ℕ) (o : Option FrameSlot) → ticks_of (map frame_of fs) ≡ ticks → k < ticks
+    → slice_get (flat_map (frame_slots major) (map frame_of fs)) k ≡ option_map slot_of o → o ≡ None → ⊥
+found_there major fs k ticks o total l is none =
+    slot_there major (map frame_of fs) k (omega (arith, total, l)) (is ∙ ap (option_map slot_of) none)

@@ -1,0 +1,36 @@
+-- Which major frame comes next, and which minor frame a CPU has in it (this project's profile of Muen's scheduling plans). The
+-- major frames run in the plan's order, again and again, unless a pick names the next one.
+use Rattle.std.specs.Prelude.{ℕ, ◌+◌, ◌-◌, ◌==◌, if◌then◌else◌, nat_lt, List, map, length, slice_get, Option, Some, None, option_and_then}
+use Rattle.std.specs.List.{flat_map}
+use Rattle.muen_num.specs.Frame.{Frame}
+use Rattle.image_plan.specs.Slot.{Slot, frame_slots}
+use Rattle.image_plan.specs.declared.plan.Plan.{Plan}
+use Rattle.frame_clock.specs.declared.place.FramePlace.{FramePlace}
+
+-- the first major frame, from tick 0 on
+abbrev pub first_place : FramePlace
+first_place = record { major = 0; start = 0 }
+
+-- the major frame after this one, of so many: the one that is picked; the same one again where there is no such; and the one
+-- behind it where nothing is picked
+abbrev pub next_major : ℕ → ℕ → Option ℕ → ℕ
+next_major count major (Some pick) = if nat_lt pick count then pick else major
+next_major count major None = if nat_lt (major + 1) count then major + 1 else 0
+
+-- how many ticks each major frame has
+abbrev pub ticks_of_majors : Plan → List ℕ
+ticks_of_majors p = map (λ m. m.ticks) p.majors
+
+abbrev pub place_by : ℕ → FramePlace → Option ℕ → ℕ → Option ℕ → FramePlace
+place_by count at pick tick None = at
+place_by count at pick tick (Some ticks) =
+    if tick == at.start + ticks then record { major = next_major count at.major pick; start = tick } else at
+
+-- the place at a tick, by the place at the tick before: where that one's ticks are over, the next major frame begins
+abbrev pub place_at : List ℕ → FramePlace → Option ℕ → ℕ → FramePlace
+place_at ticks at pick tick = place_by (length ticks) at pick tick (slice_get ticks at.major)
+
+-- the slot of a CPU at a tick of a place, of the CPU's minor frames in each of the major frames
+abbrev pub slot_in : List (List Frame) → FramePlace → ℕ → Option Slot
+slot_in frames at tick =
+    option_and_then (λ m. slice_get (flat_map (frame_slots at.major) m) (tick - at.start)) (slice_get frames at.major)

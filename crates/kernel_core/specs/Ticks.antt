@@ -1,0 +1,103 @@
+-- The kernel over a run: how a tick begins, what inputs do, and how all ends (this project's own).
+use Rattle.std.specs.Prelude.{ℕ, ◌+◌, ◌^◌, ◌<◌, List, [], ◌∷◌, map, length, replicate, slice_get, slice_set, Option, Some, None, option_and_then, unwrap_or}
+use Rattle.std.specs.List.{All}
+use Rattle.muen_num.specs.Range.{numbers_below}
+use Rattle.machine_meaning.specs.Memory.{Page}
+use Rattle.record_text.specs.declared.record.Input.{Input}
+use Rattle.record_text.specs.declared.record.Input.TheVariants.{Port, Mem, Irq, Idle, Dma}
+use Rattle.record_text.specs.declared.record.Record.{Record}
+use Rattle.device_bench.specs.Devices.{IsInOrder, inputs_at, order_at, no_inputs}
+use Rattle.frame_clock.specs.FramePlace.{place_at, ticks_of_majors, first_place}
+use Rattle.event_router.specs.Router.{started as router_started, pends_now}
+use Rattle.tick_run.specs.Run.{Clocked, Ran, run_to}
+use Rattle.view_text.specs.declared.Line.{Line}
+use Rattle.vmx_machine.specs.Machine.{MachineState, page_at, started as machine_started, left, device_wrote}
+use Rattle.kernel_core.specs.Kernel.{Live, turn_of}
+use Rattle.kernel_core.specs.declared.setup.Setup.{Setup}
+
+-- ---- the start: nobody is on a CPU, nothing is pending, and no port has had an input
+
+abbrev pub live_started : Setup → ℕ → List Page → Live
+live_started setup cpus pages = record {
+  machine = machine_started pages cpus;
+  router = router_started setup.subjects setup.plan.groups;
+  on = replicate cpus None;
+  ports = no_inputs;
+  place = first_place;
+}
+
+-- ---- a tick begins
+
+-- the byte that chooses the next major frame: the first of this page
+abbrev pub pick_of : Option ℕ → List Page → Option ℕ
+pick_of tau0 pages = option_and_then (λ page. slice_get (page_at pages page) 0) tau0
+
+abbrev pub begins : Setup → ℕ → Live → Live
+begins setup tick k =
+    record k { place = place_at (ticks_of_majors setup.plan) k.place (pick_of setup.tau0 k.machine.pages) tick }
+
+-- ---- inputs; no table lets a device reach memory by itself
+
+abbrev pub takes : Input → Live → Live
+takes (Port port value) k = record k { ports = slice_set k.ports port value }
+takes (Mem at bytes) k = record k { machine = device_wrote at bytes k.machine }
+takes (Irq subject vector) k = record k { router = pends_now subject (Some vector) k.router }
+takes Idle k = k
+takes (Dma device addr bytes) k = k
+
+-- an input, if there is one
+abbrev pub takes_any : Option Input → Live → Live
+takes_any None k = k
+takes_any (Some i) k = takes i k
+
+-- **the kernel on the clock**
+abbrev pub kernel : Setup → Clocked Live Input Line
+kernel setup = record { begins = begins setup; takes = takes; turn = turn_of setup }
+
+-- ---- by a record
+
+abbrev pub tick_inputs : Record → ℕ → List Input
+tick_inputs run tick = map (λ i. i.input) (inputs_at run tick)
+
+-- the CPUs as the record orders them, by number where it doesn't
+abbrev pub tick_order : Record → ℕ → ℕ → List ℕ
+tick_order run cpus tick = unwrap_or (order_at run tick) (numbers_below cpus)
+
+-- the run of a record's first n ticks
+abbrev pub kernel_run_to : Setup → Record → ℕ → List Page → ℕ → Ran Live Line
+kernel_run_to setup run cpus pages n =
+    run_to (kernel setup) (tick_inputs run) (tick_order run cpus) n (live_started setup cpus pages)
+
+-- ---- the end: all CPUs are left, by number
+
+abbrev pub all_left : List ℕ → MachineState → MachineState
+all_left [] m = m
+all_left (cpu ∷ cpus) m = all_left cpus (left cpu m)
+
+abbrev pub ended : ℕ → Live → Live
+ended cpus k = record k { machine = all_left (numbers_below cpus) k.machine; on = replicate cpus None }
+
+-- ---- the kernel's value
+
+pub record KernelState : Type 0 where
+  pub setup : Setup
+  -- how many CPUs there are
+  pub cpus : ℕ
+  pub run : Record
+  pub live : Live
+  -- the tick that comes or is open
+  pub tick : ℕ
+
+abbrev pub kernel_started : Setup → Record → ℕ → List Page → KernelState
+kernel_started setup run cpus pages = record { setup = setup; cpus = cpus; run = run; live = live_started setup cpus pages; tick = 0 }
+
+-- ---- records that a kernel can run
+
+-- what is written into memory ends below 2 ^ 64
+abbrev pub IsLow : Input → Type 0
+IsLow (Mem at bytes) = at + length bytes < 2 ^ 64
+IsLow _ = Unit {0}
+
+pub record CanRun (run : Record) : Type 0 where
+  pub in_order : IsInOrder run
+  pub low : All (λ i. IsLow i.input) run.inputs

@@ -1,0 +1,41 @@
+//! What the kernel makes of an exit.
+ghost use Rattle.std.specs.Prelude.{◌≡◌, option_and_then, slice_get};
+ghost use Rattle.kernel_core.specs.Kernel.{end_of, entry, event_of};
+
+use image_pack::{EventPart, SubjectPart};
+use muen_num::limits::{EXIT_HLT, EXIT_VMCALL};
+use view_text::End;
+
+// The event of a number.
+fn entry(events: &[Option<EventPart>], n: usize) -> Option<EventPart>
+    ensures { result ≡ entry events.now n }
+{
+    match events.get(n) {
+        None => None,
+        Some(event) => *event,
+    }
+}
+
+/// The event that an exit of a subject raises, if it raises one: by the number of its call, or by the
+/// reason of its trap.
+pub(crate) fn event_of(part: &SubjectPart, reason: u8, call: u64) -> Option<EventPart>
+    ensures { result ≡ event_of part.now reason call }
+{
+    match reason {
+        EXIT_HLT => None,
+        EXIT_VMCALL => entry(part.calls.items(), call as usize),
+        _ => entry(part.traps.items(), reason as usize),
+    }
+}
+
+/// How the kernel ends an exit, by whether it raises an event.
+pub(crate) fn end_of(reason: u8, raises: bool) -> End
+    ensures { result ≡ end_of reason raises }
+{
+    match reason {
+        EXIT_HLT => End::Halt,
+        EXIT_VMCALL => End::On,
+        _ if raises => End::Trap,
+        _ => End::Stop,
+    }
+}

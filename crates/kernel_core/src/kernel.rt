@@ -1,0 +1,328 @@
+//! The kernel and its turns.
+ghost use Rattle.std.specs.Prelude.{◌≡◌, ◌<◌, length, slice_get, option_map, None, Some, IfOk};
+ghost use Rattle.image_pack.specs.declared.parts.SubjectPart.{SubjectPart};
+ghost use Rattle.look_up.specs.ByNumber.{change_at};
+ghost use Rattle.event_router.specs.Router.{deliverable, taken};
+ghost use Rattle.vmx_machine.specs.Machine.{entered, left, state_on};
+ghost use Rattle.kernel_core.specs.Kernel.{turn_of, turn_in_slot, turn_of_member, turn_of_subject, switched, goes_on, acts_on, acts, delivers, injects, goes_further, handled, exit_handled, raised_by, event_of, vector_for};
+ghost use Rattle.kernel_core.specs.Ticks.{CanRun, kernel_started};
+
+use crate::exit::{end_of, event_of};
+use crate::on_cpus::{nobody, on_cpu, put_on};
+use crate::setup::Setup;
+use crate::turn::Turn;
+use device_bench::Bench;
+use ept_walk::Translate;
+use event_router::Router;
+use frame_clock::{FramePlace, slot};
+use guest_step::{Finish, StepEnd};
+use image_pack::{EventPart, SubjectPart};
+use muen_num::{Name, NoMemory};
+use phys_mem::PhysMem;
+use record_text::Record;
+use std::alloc::Global;
+use std::marker::Model;
+use subject_state::SubjectState;
+use view_text::{Line, What};
+use vmx_machine::{Control, Machine};
+
+/// The kernel of a system that runs on a record.
+#[derive(Drop)]
+pub struct Kernel<M: PhysMem, T: Translate> {
+    pub(crate) setup: Setup,
+    pub(crate) cpus: u8,
+    pub(crate) machine: Machine<M, T>,
+    pub(crate) router: Router,
+    pub(crate) on: Vec<Option<u8>>,
+    pub(crate) bench: Bench,
+    pub(crate) place: FramePlace,
+    pub(crate) tick: u32,
+}
+
+impl<M: PhysMem, T: Translate> Model for Kernel<M, T> {
+    ghost use Rattle.std.specs.Prelude.{◌≡◌, length};
+    ghost use Rattle.kernel_core.specs.Ticks.{KernelState, CanRun};
+
+    ghost Value = { KernelState };
+
+    ghost view = { λ k. record {
+      setup = k.setup;
+      cpus = k.cpus;
+      run = k.bench.run;
+      live = record { machine = k.machine; router = k.router; on = k.on.items; ports = k.bench.ports; place = k.place };
+      tick = k.tick;
+    } };
+
+    ghost invariant = { λ k. (length k.on.items ≡ k.cpus) × (length k.machine.cpus ≡ k.cpus) × CanRun k.bench.run };
+}
+
+impl<M: PhysMem, T: Translate> Kernel<M, T> {
+    /// The kernel at the start: nobody is on a CPU, nothing is pending, the first member of each
+    /// group is active, no port has had an input, and the first major frame begins.
+    ///
+    /// # Errors
+    /// Memory is refused.
+    pub fn start(
+        alloc: Global,
+        setup: Setup,
+        cpus: u8,
+        input: Record,
+        mem: M,
+        walk: T,
+    ) -> Result<Kernel<M, T>, NoMemory>
+        requires fits { T.fits walk (M.pages mem) }
+        requires run { CanRun input }
+        ensures { IfOk result (λ k. k ≡ kernel_started setup input cpus (M.pages mem)) }
+    {
+        let machine = Machine::start(alloc, mem, walk, cpus)?;
+        let router = Router::start(alloc, setup.subjects.items(), setup.plan.groups.items())?;
+        let on = nobody(alloc, cpus)?;
+        let bench = Bench::start(alloc, input)?;
+        Ok(Kernel {
+            setup,
+            cpus,
+            machine,
+            router,
+            on,
+            bench,
+            place: FramePlace::first(),
+            tick: 0,
+        })
+    }
+
+    /// What the kernel knows of its system.
+    pub fn setup(&self) -> &Setup
+        ensures { result.now ≡ self.now.setup }
+    {
+        &self.setup
+    }
+
+    /// The memory.
+    pub fn mem(&self) -> &M
+        ensures { M.pages result.now ≡ self.now.live.machine.pages }
+    {
+        self.machine.mem()
+    }
+
+    // ---- an exit
+
+    // The event that an exit of a subject raises, if it raises one.
+    fn event_of(&self, subject: u8, reason: u8, call: u64) -> Option<EventPart>
+        ensures { (part : SubjectPart) → slice_get self.now.setup.subjects subject ≡ Some part → result ≡ event_of part reason call }
+    {
+        match part_at(self.setup.subjects.items(), subject as usize) {
+            None => None,
+            Some(part) => event_of(part, reason, call),
+        }
+    }
+
+    // The kernel acts on an exit, which raises this event, if one.
+    fn handle_exit(
+        &mut self,
+        turn: Turn,
+        reason: u8,
+        qualification: u64,
+        addr: u64,
+        event: Option<EventPart>,
+    ) -> Line
+        requires { turn.cpu < length self.old.live.machine.cpus }
+        ensures state { self.new ≡ record self.old { live = (exit_handled turn reason qualification addr event self.old.live).state } }
+        ensures line { Some result ≡ (exit_handled turn reason qualification addr event self.old.live).line }
+    {
+        let raises = event.is_some();
+        self.machine
+            .finish(turn.cpu as usize, Finish::after(reason, raises));
+        raise(&mut self.router, &event);
+        turn.line(What::Exit {
+            reason,
+            qualification,
+            addr,
+            end: end_of(reason, raises),
+        })
+    }
+
+    // After a step of a subject that ended so.
+    fn handle(&mut self, turn: Turn, subject: u8, end: StepEnd) -> Line
+        requires { turn.cpu < length self.old.live.machine.cpus }
+        ensures state { (part : SubjectPart) → slice_get self.old.setup.subjects subject ≡ Some part → self.new ≡ record self.old { live = (handled turn part end self.old.live).state } }
+        ensures line { (part : SubjectPart) → slice_get self.old.setup.subjects subject ≡ Some part → Some result ≡ (handled turn part end self.old.live).line }
+    {
+        match end {
+            StepEnd::Plain => turn.line(What::Ran),
+            StepEnd::Set { reg, value } => turn.line(What::Set { reg, value }),
+            StepEnd::Stored { size, addr, value } => turn.line(What::Stored { size, addr, value }),
+            StepEnd::Out { size, port, value } => turn.line(What::Out { size, port, value }),
+            StepEnd::WroteMsr { index, value } => turn.line(What::WroteMsr { index, value }),
+            StepEnd::Exit {
+                reason,
+                qualification,
+                addr,
+                call,
+            } => {
+                let event = self.event_of(subject, reason, call);
+                self.handle_exit(turn, reason, qualification, addr, event)
+            }
+        }
+    }
+
+    // ---- the cases of a turn, of the subject that is on the CPU
+
+    // Where nothing is delivered.
+    fn go_further(&mut self, turn: Turn, subject: u8, state: &SubjectState) -> Option<Line>
+        requires { turn.cpu < length self.old.live.machine.cpus }
+        ensures state { (part : SubjectPart) → slice_get self.old.setup.subjects subject ≡ Some part → self.new ≡ record self.old { live = (goes_further turn part state.now self.old.live).state } }
+        ensures line { (part : SubjectPart) → slice_get self.old.setup.subjects subject ≡ Some part → result ≡ (goes_further turn part state.now self.old.live).line }
+    {
+        if state.halted {
+            return None;
+        }
+        let end = self.machine.step(turn.cpu as usize, turn.tick, &self.bench);
+        Some(self.handle(turn, subject, end))
+    }
+
+    // The vector that is delivered, if one is. It isn't pending any more.
+    fn take_vector(&mut self, subject: u8, first: bool, state: &SubjectState) -> Option<u8>
+        ensures vector { result ≡ vector_for subject first state.now self.old.live.router }
+        ensures state { self.new ≡ record self.old { live = record self.old.live { router = taken subject result self.old.live.router } } }
+        ensures none { result ≡ None → self.new ≡ self.old }
+    {
+        if state.interrupts {
+            self.router.deliver(subject, first || state.exited)
+        } else {
+            None
+        }
+    }
+
+    fn act(&mut self, turn: Turn, subject: u8, first: bool, state: &SubjectState) -> Option<Line>
+        requires { turn.cpu < length self.old.live.machine.cpus }
+        ensures state { (part : SubjectPart) → slice_get self.old.setup.subjects subject ≡ Some part → self.new ≡ record self.old { live = (acts turn subject part first state.now self.old.live).state } }
+        ensures line { (part : SubjectPart) → slice_get self.old.setup.subjects subject ≡ Some part → result ≡ (acts turn subject part first state.now self.old.live).line }
+    {
+        if state.stopped {
+            return None;
+        }
+        match self.take_vector(subject, first, state) {
+            Some(vector) => {
+                self.machine.inject(turn.cpu as usize, vector);
+                Some(turn.line(What::Inject { vector }))
+            }
+            None => self.go_further(turn, subject, state),
+        }
+    }
+
+    fn act_on(&mut self, cpu: u8, subject: u8, name: Name, first: bool) -> Option<Line>
+        requires { cpu < length self.old.live.machine.cpus }
+        ensures state { (part : SubjectPart) → slice_get self.old.setup.subjects subject ≡ Some part → name ≡ part.name → self.new ≡ record self.old { live = (acts_on cpu self.old.tick subject part first self.old.live).state } }
+        ensures line { (part : SubjectPart) → slice_get self.old.setup.subjects subject ≡ Some part → name ≡ part.name → result ≡ (acts_on cpu self.old.tick subject part first self.old.live).line }
+    {
+        match self.machine.state(cpu as usize) {
+            None => None,
+            Some(state) => {
+                let turn = Turn {
+                    tick: self.tick,
+                    cpu,
+                    subject: name,
+                    pc: state.pc,
+                };
+                self.act(turn, subject, first, &state)
+            }
+        }
+    }
+
+    // ---- whose turn it is
+
+    // A subject goes onto a CPU, and who was there leaves it before.
+    fn go_on(&mut self, cpu: u8, subject: u8, control: Control)
+        requires { cpu < length self.old.live.machine.cpus }
+        ensures state { self.new ≡ record self.old { live = goes_on cpu subject control self.old.live } }
+        ensures cpus { length self.new.live.machine.cpus ≡ length self.old.live.machine.cpus }
+    {
+        self.machine.leave(cpu as usize);
+        self.machine.enter(cpu as usize, control);
+        put_on(&mut self.on, cpu as usize, subject);
+    }
+
+    // A subject goes onto a CPU where it isn't there already.
+    fn switch(&mut self, cpu: u8, subject: u8, control: Control, on: Option<u8>)
+        requires { cpu < length self.old.live.machine.cpus }
+        ensures state { self.new ≡ record self.old { live = switched cpu subject control on self.old.live } }
+        ensures cpus { length self.new.live.machine.cpus ≡ length self.old.live.machine.cpus }
+    {
+        match on {
+            None => self.go_on(cpu, subject, control),
+            Some(there) => {
+                if there != subject {
+                    self.go_on(cpu, subject, control);
+                }
+            }
+        }
+    }
+
+    // The turn of a subject of this name.
+    fn turn_of_named(
+        &mut self,
+        cpu: u8,
+        subject: u8,
+        name: Name,
+        first: bool,
+        on: Option<u8>,
+    ) -> Option<Line>
+        requires { cpu < length self.old.live.machine.cpus }
+        ensures state { (part : SubjectPart) → slice_get self.old.setup.subjects subject ≡ Some part → name ≡ part.name → self.new ≡ record self.old { live = (turn_of_subject cpu self.old.tick subject first on (Some part) (slice_get self.old.setup.controls subject) self.old.live).state } }
+        ensures line { (part : SubjectPart) → slice_get self.old.setup.subjects subject ≡ Some part → name ≡ part.name → result ≡ (turn_of_subject cpu self.old.tick subject first on (Some part) (slice_get self.old.setup.controls subject) self.old.live).line }
+    {
+        let control = control_at(self.setup.controls.items(), subject as usize)?;
+        self.switch(cpu, subject, control, on);
+        self.act_on(cpu, subject, name, first)
+    }
+
+    // The turn of a subject, by its number.
+    fn turn_of_subject(&mut self, cpu: u8, subject: u8, first: bool, on: Option<u8>) -> Option<Line>
+        requires { cpu < length self.old.live.machine.cpus }
+        ensures state { self.new ≡ record self.old { live = (turn_of_subject cpu self.old.tick subject first on (slice_get self.old.setup.subjects subject) (slice_get self.old.setup.controls subject) self.old.live).state } }
+        ensures line { result ≡ (turn_of_subject cpu self.old.tick subject first on (slice_get self.old.setup.subjects subject) (slice_get self.old.setup.controls subject) self.old.live).line }
+    {
+        match part_at(self.setup.subjects.items(), subject as usize) {
+            None => None,
+            Some(part) => {
+                let name = part.name;
+                self.turn_of_named(cpu, subject, name, first, on)
+            }
+        }
+    }
+
+    /// The turn of a CPU in the tick, and its line, if it has one: that of the active member of the
+    /// group that has the CPU. A CPU that isn't there takes no turn.
+    pub fn turn(&mut self, cpu: u8) -> Option<Line>
+        ensures state { self.new ≡ record self.old { live = (turn_of self.old.setup cpu self.old.tick self.old.live).state } }
+        ensures line { result ≡ (turn_of self.old.setup cpu self.old.tick self.old.live).line }
+    {
+        let on = on_cpu(&self.on, cpu as usize)?;
+        let slot = slot(&self.setup.plan, self.place, cpu, self.tick)?;
+        let subject = self.router.active(slot.group)?;
+        self.turn_of_subject(cpu, subject, slot.first, on)
+    }
+}
+
+// The parts of a subject.
+fn part_at(subjects: &[SubjectPart], subject: usize) -> Option<&SubjectPart>
+    ensures { option_map (λ s. s.now) result ≡ slice_get subjects.now subject }
+{
+    subjects.get(subject)
+}
+
+// What a CPU is told of a subject.
+pub(crate) fn control_at(controls: &[Control], subject: usize) -> Option<Control>
+    ensures { result ≡ slice_get controls.now subject }
+{
+    controls.get(subject).copied()
+}
+
+// An event is raised, if there is one.
+fn raise(router: &mut Router, event: &Option<EventPart>)
+    ensures { router.new ≡ raised_by event.now router.old }
+{
+    if let Some(event) = event {
+        router.raise(event);
+    }
+}

@@ -1,0 +1,29 @@
+//! Which subject is on which CPU, by numbers.
+ghost use Rattle.std.specs.Prelude.{◌≡◌, ◌<◌, List, ℕ, length, replicate, slice_get, Option, None, Some, IfOk};
+ghost use Rattle.look_up.specs.ByNumber.{change_at};
+
+use muen_num::NoMemory;
+use std::alloc::Global;
+
+/// Nobody is on so many CPUs.
+pub(crate) fn nobody(alloc: Global, cpus: u8) -> Result<Vec<Option<u8>>, NoMemory>
+    ensures { IfOk result (λ v. v.items ≡ replicate cpus None) }
+{
+    Ok(vec![in alloc; None; cpus as usize]?)
+}
+
+/// Who is on a CPU. None where there is no such CPU.
+pub(crate) fn on_cpu(on: &[Option<u8>], cpu: usize) -> Option<Option<u8>>
+    ensures { result ≡ slice_get on.now cpu }
+{
+    on.get(cpu).copied()
+}
+
+/// A subject goes onto a CPU.
+#[tactic(auto, using(look_up::proofs::ChangeLaws::set_is))]
+pub(crate) fn put_on(on: &mut [Option<u8>], cpu: usize, subject: u8)
+    requires { cpu < length on.old }
+    ensures { on.new ≡ change_at cpu (λ _. Some subject) on.old }
+{
+    on[cpu] = Some(subject);
+}

@@ -1,0 +1,169 @@
+//! Ticks: how one begins, in which order the CPUs take their turns, and how a run ends.
+ghost use Rattle.std.specs.Prelude.{◌≡◌, ◌+◌, ◌*◌, ◌<◌, ◌≤◌, ◌^◌, None, length, replicate, map, slice_get, option_map};
+ghost use Rattle.muen_num.specs.Range.{numbers_below};
+ghost use Rattle.device_bench.specs.Devices.{order_at};
+ghost use Rattle.tick_run.specs.Run.{all_taken, begun};
+ghost use Rattle.state_page.specs.StatePage.{state_in};
+ghost use Rattle.vmx_machine.specs.Machine.{page_at};
+ghost use Rattle.kernel_core.specs.Ticks.{all_left, begins, ended, kernel, pick_of, takes_any, tick_inputs, tick_order};
+
+use crate::kernel::{Kernel, control_at};
+use ept_walk::Translate;
+use frame_clock::advance;
+use muen_num::limits::PAGE;
+use phys_mem::PhysMem;
+use record_text::{Input, TickInput};
+use subject_state::SubjectState;
+use vmx_machine::Machine;
+
+// The first byte of a page, by its number.
+fn first_byte<M: PhysMem>(mem: &M, page: u32) -> Option<u8>
+    ensures { result ≡ slice_get (page_at (M.pages mem.now) page) 0 }
+{
+    match mem.page(PAGE * u64::from(page)) {
+        None => None,
+        Some(bytes) => bytes.first().copied(),
+    }
+}
+
+// The byte that chooses the next major frame, if one does.
+fn pick<M: PhysMem>(mem: &M, tau0: Option<u32>) -> Option<u8>
+    ensures { result ≡ pick_of tau0 (M.pages mem.now) }
+{
+    match tau0 {
+        None => None,
+        Some(page) => first_byte(mem, page),
+    }
+}
+
+// The CPU of this place in the order by number.
+#[tactic(auto, using(muen_num::proofs::NumbersBelow::number_at, crate::proofs::Orders::past_numbers))]
+fn by_number(cpus: u8, place: usize) -> Option<u8>
+    ensures { result ≡ slice_get (numbers_below cpus) place }
+{
+    if place < cpus as usize {
+        Some(place as u8)
+    } else {
+        None
+    }
+}
+
+impl<M: PhysMem, T: Translate> Kernel<M, T> {
+    // The next major frame begins, where the one that runs is over.
+    fn begin_frame(&mut self)
+        ensures { self.new ≡ record self.old { live = begins self.old.setup self.old.tick self.old.live } }
+    {
+        let pick = pick(self.machine.mem(), self.setup.tau0);
+        self.place = advance(&self.setup.plan, self.place, pick, self.tick);
+    }
+
+    // How many inputs the tick has.
+    fn count(&self) -> usize
+        ensures { result ≡ length (tick_inputs self.now.run self.now.tick) }
+    {
+        self.bench.inputs(self.tick).len()
+    }
+
+    // The input of the tick at this place comes.
+    fn take_input(&mut self, place: usize)
+        ensures { self.new ≡ record self.old { live = takes_any (slice_get (tick_inputs self.old.run self.old.tick) place) self.old.live } }
+    {
+        match input_at(self.bench.inputs(self.tick), place) {
+            None => {}
+            Some(Input::Port { port, value }) => {
+                let (port, value) = (*port, *value);
+                self.bench.set_port(port, value);
+            }
+            Some(Input::Mem { at, bytes }) => self.machine.device_write(*at, bytes.items()),
+            Some(Input::Irq { subject, vector }) => self.router.raise_irq(*subject, *vector),
+            Some(Input::Idle) | Some(Input::Dma { .. }) => {}
+        }
+    }
+
+    // The inputs of the tick come, in their order.
+    fn take_inputs(&mut self)
+        ensures { self.new ≡ record self.old { live = all_taken (kernel self.old.setup) (tick_inputs self.old.run self.old.tick) self.old.live } }
+    {
+        for place in 0..self.count() {
+            self.take_input(place);
+        }
+    }
+
+    /// A tick begins: the next major frame, where the one that runs is over, and then the record's
+    /// inputs of the tick, in their order.
+    pub fn begin_tick(&mut self)
+        ensures { self.new ≡ record self.old { live = begun (kernel self.old.setup) self.old.tick (tick_inputs self.old.run self.old.tick) self.old.live } }
+    {
+        self.begin_frame();
+        self.take_inputs();
+    }
+
+    /// How many turns the tick has.
+    #[tactic(auto, using(muen_num::proofs::NumbersBelow::length_numbers))]
+    pub fn turns(&self) -> usize
+        ensures { result ≡ length (tick_order self.now.run self.now.cpus self.now.tick) }
+    {
+        match self.bench.order(self.tick) {
+            None => self.cpus as usize,
+            Some(order) => order.len(),
+        }
+    }
+
+    /// The CPU that takes the turn of this place in the tick: as the record orders them, and by number
+    /// where it doesn't. None behind the last.
+    pub fn cpu_at(&self, place: usize) -> Option<u8>
+        ensures { result ≡ slice_get (tick_order self.now.run self.now.cpus self.now.tick) place }
+    {
+        match self.bench.order(self.tick) {
+            None => by_number(self.cpus, place),
+            Some(order) => order.get(place).copied(),
+        }
+    }
+
+    /// The tick is over, and the next one comes.
+    pub fn end_tick(&mut self)
+        requires { self.old.tick + 1 < 2 ^ 32 }
+        ensures { self.new ≡ record self.old { tick = self.old.tick + 1 } }
+    {
+        self.tick += 1;
+    }
+
+    /// The run is over: all CPUs are left, by number.
+    pub fn finish(&mut self)
+        ensures { self.new ≡ record self.old { live = ended self.old.cpus self.old.live } }
+    {
+        leave_all(&mut self.machine, self.cpus as usize);
+        self.on.fill(None);
+    }
+
+    /// The state of a subject, as its state page has it. None where there is no such subject.
+    pub fn state(&self, subject: usize) -> Option<SubjectState>
+        ensures { result ≡ option_map (λ c. state_in (page_at self.now.live.machine.pages c.state)) (slice_get self.now.setup.controls subject) }
+    {
+        match control_at(self.setup.controls.items(), subject) {
+            None => None,
+            Some(control) => Some(self.machine.state_in(control.state)),
+        }
+    }
+}
+
+// These many CPUs are left, by number.
+fn leave_all<M: PhysMem, T: Translate>(machine: &mut Machine<M, T>, cpus: usize)
+    requires { cpus ≤ length machine.old.cpus }
+    ensures machine { machine.new ≡ all_left (numbers_below cpus) machine.old }
+    ensures cpus { length machine.new.cpus ≡ length machine.old.cpus }
+{
+    for cpu in 0..cpus {
+        machine.leave(cpu);
+    }
+}
+
+// The input at a place.
+fn input_at(inputs: &[TickInput], place: usize) -> Option<&Input>
+    ensures { option_map (λ i. i.now) result ≡ slice_get (map (λ i. i.input) inputs.now) place }
+{
+    match inputs.get(place) {
+        None => None,
+        Some(found) => Some(&found.input),
+    }
+}

@@ -1,0 +1,23 @@
+-- Systems that run alike.
+use Rattle.std.specs.Prelude.{◌≡◌, ℕ, List}
+use Rattle.std.specs.List.{AllZip}
+use Rattle.tick_run.specs.Run.{Turned, Clocked, Ran}
+
+-- the states are alike, and the lines are the same
+pub record AreAlikeTurns {S T L : Type 0} (Same : S → T → Type 0) (a : Turned S L) (b : Turned T L) : Type 0 where
+  pub state : Same a.state b.state
+  pub line : b.line ≡ a.line
+
+pub record AreAlikeRuns {S T L : Type 0} (Same : S → T → Type 0) (a : Ran S L) (b : Ran T L) : Type 0 where
+  pub state : Same a.state b.state
+  pub lines : b.lines ≡ a.lines
+
+-- what one does in a state the other does in each that is alike
+pub record AreAlike {S T I J L : Type 0} (Same : S → T → Type 0) (SameInput : I → J → Type 0) (a : Clocked S I L) (b : Clocked T J L) : Type 0 where
+  pub begins : (tick : ℕ) (s : S) (t : T) → Same s t → Same (a.begins tick s) (b.begins tick t)
+  pub takes : (i : I) (j : J) (s : S) (t : T) → SameInput i j → Same s t → Same (a.takes i s) (b.takes j t)
+  pub turn : (cpu tick : ℕ) (s : S) (t : T) → Same s t → AreAlikeTurns Same (a.turn cpu tick s) (b.turn cpu tick t)
+
+-- the inputs of each tick are alike, in their order
+abbrev pub AlikeInputs : {I J : Type 0} → (I → J → Type 0) → (ℕ → List I) → (ℕ → List J) → Type 0
+AlikeInputs SameInput inputs inputs' = (tick : ℕ) → AllZip SameInput (inputs tick) (inputs' tick)
