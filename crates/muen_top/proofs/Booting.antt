@@ -1,5 +1,5 @@
 -- What `boot` answers, as its files are read.
-use Rattle.std.proofs.Common.{◌≡◌, inl, inr, ℕ, ◌≤◌, List, [], ◌∷◌, Option, Some, None, Result, Ok, Err, IfSome, refl, sym, ap, subst, ◌∙◌, arith}
+use Rattle.std.proofs.Common.{◌≡◌, inl, inr, ℕ, List, [], ◌∷◌, Option, Some, None, Result, Ok, Err, IfSome, refl, sym, ap, subst, ◌∙◌, arith}
 use Rattle.std.specs.Prelude.{true, option_map}
 use Rattle.std.specs.FinMap.{get}
 use Rattle.muen_num.specs.Answers.{Answers, Explains}
@@ -21,7 +21,7 @@ use Rattle.policy_types.specs.declared.source.Source.{Source}
 use Rattle.record_text.specs.DeviceRecord.{DeviceRecord}
 use Rattle.subject_model.specs.Run.{trace_of}
 use Rattle.window_machine.specs.Start.{CanLoad, IsPlain}
-use Rattle.muen_top.specs.Answers.{Answer, prints, stops, missing, too_long, record_refused, of_file, carried_answer, policy_answer, run_answer, boot_answer}
+use Rattle.muen_top.specs.Answers.{Answer, prints, stops, missing, too_long, record_refused, of_file, carried_answer, policy_answer, trace_answer, boot_answer}
 use Rattle.muen_top.specs.Calls.{ComesOf, Came}
 use Rattle.muen_top.specs.Commands.{Command, boot}
 use Rattle.muen_top.specs.FilesSeen.{SawToo, ShownBoth}
@@ -37,7 +37,7 @@ use Rattle.muen_top.specs.declared.lacking.Lack.{Lack}
 use Rattle.muen_top.specs.declared.outcome.Outcome.{Outcome}
 use Rattle.muen_top.specs.declared.outcome.Outcome.TheVariants.{Done, Stopped, OutputFault}
 use Rattle.muen_top.specs.declared.outcome.Stop.{Stop}
-use Rattle.muen_top.specs.declared.outcome.Stop.TheVariants.{Usage, Missing, TooLong, Refused, RecordRefused, FileFault, NoMemory}
+use Rattle.muen_top.specs.declared.outcome.Stop.TheVariants.{Usage, Missing, TooLong, Refused, ImageRefused, RecordRefused, FileFault, NoMemory}
 use Rattle.record_text.specs.declared.fault.RecordFault.{RecordFault}
 use Rattle.record_text.specs.declared.fault.RecordFault.TheVariants.{NoMemory as NoMemoryForRecord}
 use Rattle.muen_top.proofs.FilesSeen.{explained_after, shown_both}
@@ -56,9 +56,9 @@ module _ (files : Store) (policy name : List ℕ) where
   by_lack : (bytes : List ℕ) (p : Source) (lack : Option Lack) → reading_of (get files policy) POLICY_MOST ≡ whole bytes → accepted_policy_of files bytes ≡ Ok p → lacking p ≡ lack → boot_answer files policy name ≡ carried_answer files p name lack
   by_lack bytes p lack is eq found = by_document bytes (Ok p) is eq ∙ ap (carried_answer files p name) found
 
-  by_record : (bytes : List ℕ) (p : Source) (reading : Reading) → reading_of (get files policy) POLICY_MOST ≡ whole bytes → accepted_policy_of files bytes ≡ Ok p → lacking p ≡ None → reading_of (get files name) RECORD_MOST ≡ reading → boot_answer files policy name ≡ of_file name (λ bytes. run_answer files p (record_of bytes (devices_of p))) reading
+  by_record : (bytes : List ℕ) (p : Source) (reading : Reading) → reading_of (get files policy) POLICY_MOST ≡ whole bytes → accepted_policy_of files bytes ≡ Ok p → lacking p ≡ None → reading_of (get files name) RECORD_MOST ≡ reading → boot_answer files policy name ≡ of_file name (λ bytes. trace_answer files p (record_of bytes (devices_of p))) reading
   by_record bytes p reading is eq none is' =
-      by_lack bytes p None is eq none ∙ ap (of_file name (λ bytes. run_answer files p (record_of bytes (devices_of p)))) is'
+      by_lack bytes p None is eq none ∙ ap (of_file name (λ bytes. trace_answer files p (record_of bytes (devices_of p)))) is'
 
 -- ---- files that hold what is told
 
@@ -102,6 +102,7 @@ module _ (policy name : List ℕ) (old new : FilesState) where
   policy_not_read NoMemory h = out_of_memory
   policy_not_read Usage h = absurd h
   policy_not_read (Refused r) h = absurd h
+  policy_not_read (ImageRefused f) h = absurd h
   policy_not_read (RecordRefused r) h = absurd h
 
 -- ---- the policy
@@ -195,16 +196,13 @@ module _ (policy name : List ℕ) (old between : FilesState) (bytes : List ℕ) 
       follows_mid : Follows old mid
       follows_mid = record { held = on.held ∙ follows.held; faults = omega (arith, follows.faults, on.faults); misses = omega (arith, follows.misses, on.misses) }
 
-      widened : POLICY_MOST ≤ RECORD_MOST
-      widened = omega arith
-
       abbrev Both : Reading → Type 0
       Both reading = ShownBoth old.held policy POLICY_MOST (whole bytes) name RECORD_MOST reading
 
       both : (new : FilesState) (reading : Reading) → SawToo policy bytes name RECORD_MOST reading mid new → Both reading
-      both new reading too = shown_both policy name POLICY_MOST RECORD_MOST bytes reading old between mid new widened saw follows_mid too
+      both new reading too = shown_both policy name POLICY_MOST RECORD_MOST bytes reading old between mid new saw follows_mid too
 
-      after_both : (reading : Reading) (s : Both reading) → boot_answer s.files policy name ≡ of_file name (λ found. run_answer s.files p (record_of found (devices_of p))) reading
+      after_both : (reading : Reading) (s : Both reading) → boot_answer s.files policy name ≡ of_file name (λ found. trace_answer s.files p (record_of found (devices_of p))) reading
       after_both reading s = by_record s.files policy name bytes p reading s.shows (always s.files) none s.shows'
 
       -- ---- the record's file
@@ -228,6 +226,7 @@ module _ (policy name : List ℕ) (old between : FilesState) (bytes : List ℕ) 
       record_not_read new NoMemory h = out_of_memory policy name old new
       record_not_read new Usage h = absurd h
       record_not_read new (Refused r) h = absurd h
+      record_not_read new (ImageRefused f) h = absurd h
       record_not_read new (RecordRefused r) h = absurd h
 
       -- ---- the record
@@ -238,7 +237,7 @@ module _ (policy name : List ℕ) (old between : FilesState) (bytes : List ℕ) 
           record {
             files = s.files;
             told = s.told;
-            answer = after_both (whole text) s ∙ ap (run_answer s.files p) read;
+            answer = after_both (whole text) s ∙ ap (trace_answer s.files p) read;
           }
 
       of_fault : (new : FilesState) {reading : Reading} (s : Both reading) (fault : RecordFault) → boot_answer s.files policy name ≡ stops (record_refused fault) → (stop : Stop) → stop ≡ stop_of_fault fault → NotReady policy name old new stop
@@ -254,7 +253,7 @@ module _ (policy name : List ℕ) (old between : FilesState) (bytes : List ℕ) 
           subst (NotReady policy name old new) (sym (made ∙ ap stop_of_fault is)) (out_of_memory policy name old new)
       record_refused_so new text fault stop too (inr read) made =
           let s = both new (whole text) too in
-          let answer : boot_answer s.files policy name ≡ stops (record_refused fault) = after_both (whole text) s ∙ ap (run_answer s.files p) read in
+          let answer : boot_answer s.files policy name ≡ stops (record_refused fault) = after_both (whole text) s ∙ ap (trace_answer s.files p) read in
           of_fault new s fault answer stop made
 
 -- ---- the run
@@ -268,6 +267,7 @@ module _ (policy name : List ℕ) (old new : FilesState) (out out' : SinkState) 
   of_run text (Stopped (Missing n)) answer is h = absurd h.0
   of_run text (Stopped (TooLong n k)) answer is h = absurd h.0
   of_run text (Stopped (Refused r)) answer is h = absurd h.0
+  of_run text (Stopped (ImageRefused f)) answer is h = absurd h.0
   of_run text (Stopped (RecordRefused f)) answer is h = absurd h.0
   of_run text (Stopped FileFault) answer is h = absurd h.0
 

@@ -1,6 +1,11 @@
 -- The clauses of a whole call, from what came of its command.
 use Rattle.std.proofs.Common.{◌≡◌, inl, inr, ◌⊎◌, ◌≢◌, ℕ, List, Option, Some, None, IfSome, Result, Ok, Err, refl, sym, ap, subst, ◌∙◌, arith}
 use Rattle.std.specs.FinMap.{get}
+use Rattle.image_form.specs.Faults.{unpacked}
+use Rattle.image_form.specs.declared.fault.ImageFault.{ImageFault}
+use Rattle.image_load.specs.Placing.{image_bench}
+use Rattle.image_pack.specs.Image.{image as image_form}
+use Rattle.image_pack.specs.declared.parts.Image.{Image}
 use Rattle.muen_outside.specs.Counts.{Rose}
 use Rattle.muen_outside.specs.States.{FilesState, SinkState}
 use Rattle.muen_outside.specs.Puts.{Failed}
@@ -13,17 +18,17 @@ use Rattle.record_text.specs.Reading.{record_of}
 use Rattle.subject_model.specs.Bench.{devices_of}
 use Rattle.muen_build.specs.Refusals.{accepted_policy_of, laid_policy_of, lawful_policy_of}
 use Rattle.record_text.specs.declared.fault.RecordFault.{RecordFault}
-use Rattle.muen_top.specs.Answers.{Reason, usage, missing, too_long, refused, record_refused, Answer, prints, writes, stops, of_file, image_answer, build_answer, run_answer, carried_answer, policy_answer, boot_answer, map_answer, map_policy_answer, flows_answer, flows_policy_answer, answer_of}
+use Rattle.muen_top.specs.Answers.{Reason, usage, missing, too_long, refused, image_refused, record_refused, Answer, prints, writes, stops, of_file, image_answer, build_answer, trace_answer, carried_answer, policy_answer, boot_answer, named_answer, unpacked_answer, run_answer, map_answer, map_policy_answer, flows_answer, flows_policy_answer, answer_of}
 use Rattle.muen_top.specs.Lacking.{lacking}
 use Rattle.muen_top.specs.declared.lacking.Lack.{Lack}
 use Rattle.muen_num.specs.declared.limits.TheConstants.{RECORD_MOST}
-use Rattle.muen_top.specs.Calls.{IsDone, Prints, StopsFor, ComesOf, Ran, IsFault, Answered, RefusesPolicy, LacksFile, RefusesRecord}
-use Rattle.muen_top.specs.Commands.{Command, build, boot, map, flows, command_of}
+use Rattle.muen_top.specs.Calls.{IsDone, Prints, StopsFor, ComesOf, Ran, IsFault, Answered, RefusesPolicy, LacksFile, RefusesImage, RefusesRecord}
+use Rattle.muen_top.specs.Commands.{Command, build, boot, run, map, flows, command_of}
 use Rattle.muen_top.specs.Reports.{refusal_status, reason_status, reason_text, status_of, stop_status, stop_text, Told, Reported, Ends}
 use Rattle.muen_top.specs.declared.outcome.Outcome.{Outcome}
 use Rattle.muen_top.specs.declared.outcome.Outcome.TheVariants.{Done, Stopped, OutputFault}
 use Rattle.muen_top.specs.declared.outcome.Stop.{Stop}
-use Rattle.muen_top.specs.declared.outcome.Stop.TheVariants.{Usage, Missing, TooLong, Refused, RecordRefused, FileFault, NoMemory}
+use Rattle.muen_top.specs.declared.outcome.Stop.TheVariants.{Usage, Missing, TooLong, Refused, ImageRefused, RecordRefused, FileFault, NoMemory}
 
 -- ---- what came of a command
 
@@ -44,6 +49,7 @@ module _ (old new : FilesState) (out out' err err' : SinkState) (status : ℕ) w
   of_stop answer (Missing name) is for quiet told = stopped (missing name.now) is for.0 quiet told (λ h. for.1)
   of_stop answer (TooLong name n) is for quiet told = stopped (too_long name.now n) is for.0 quiet told (λ h. for.1)
   of_stop answer (Refused refusal) is for quiet told = stopped (refused refusal) is for.0 quiet told for.1
+  of_stop answer (ImageRefused fault) is for quiet told = stopped (image_refused fault) is for quiet told (λ h. absurd (omega arith))
   of_stop answer (RecordRefused fault) is for quiet told = stopped (record_refused fault) is for quiet told (λ h. absurd (omega arith))
   of_stop answer FileFault is for quiet told = failed is for quiet
   of_stop answer NoMemory is for quiet told = no_memory is quiet
@@ -68,33 +74,34 @@ refusal_statuses (NoRoom region size) = inl refl
 refusal_statuses NoMemoryFor = inr (inr refl)
 
 abbrev OfReason : ℕ → Type 0
-OfReason n = (n ≡ 1) ⊎ ((n ≡ 6) ⊎ ((n ≡ 2) ⊎ ((n ≡ 3) ⊎ (n ≡ 8))))
+OfReason n = (n ≡ 1) ⊎ ((n ≡ 5) ⊎ ((n ≡ 6) ⊎ ((n ≡ 2) ⊎ ((n ≡ 3) ⊎ (n ≡ 8)))))
 
 reason_statuses : (reason : Reason) → OfReason (reason_status reason)
 reason_statuses usage = inl refl
-reason_statuses (missing name) = inr (inr (inr (inl refl)))
-reason_statuses (too_long name n) = inr (inr (inr (inl refl)))
-reason_statuses (refused refusal) = inr (inr (refusal_statuses refusal))
-reason_statuses (record_refused fault) = inr (inl refl)
+reason_statuses (missing name) = inr (inr (inr (inr (inl refl))))
+reason_statuses (too_long name n) = inr (inr (inr (inr (inl refl))))
+reason_statuses (refused refusal) = inr (inr (inr (refusal_statuses refusal)))
+reason_statuses (image_refused fault) = inr (inl refl)
+reason_statuses (record_refused fault) = inr (inr (inl refl))
 
 -- a status that no reason has
 no_reason : (reason : Reason) (n : ℕ) → (OfReason n → ⊥) → n ≡ reason_status reason → ⊥
 no_reason reason n not is = not (subst OfReason (sym is) (reason_statuses reason))
 
 not_zero : OfReason 0 → ⊥
-not_zero h = elim h [ inl a ↦ omega arith | inr b ↦ elim b [ inl a ↦ omega arith | inr c ↦ elim c [ inl a ↦ omega arith | inr d ↦ elim d [ inl a ↦ omega arith | inr e ↦ omega arith ] ] ] ]
+not_zero h = elim h [ inl a ↦ omega arith | inr b ↦ elim b [ inl a ↦ omega arith | inr c ↦ elim c [ inl a ↦ omega arith | inr d ↦ elim d [ inl a ↦ omega arith | inr e ↦ elim e [ inl a ↦ omega arith | inr f ↦ omega arith ] ] ] ] ]
 
 not_four : OfReason 4 → ⊥
-not_four h = elim h [ inl a ↦ omega arith | inr b ↦ elim b [ inl a ↦ omega arith | inr c ↦ elim c [ inl a ↦ omega arith | inr d ↦ elim d [ inl a ↦ omega arith | inr e ↦ omega arith ] ] ] ]
+not_four h = elim h [ inl a ↦ omega arith | inr b ↦ elim b [ inl a ↦ omega arith | inr c ↦ elim c [ inl a ↦ omega arith | inr d ↦ elim d [ inl a ↦ omega arith | inr e ↦ elim e [ inl a ↦ omega arith | inr f ↦ omega arith ] ] ] ] ]
 
 not_seven : OfReason 7 → ⊥
-not_seven h = elim h [ inl a ↦ omega arith | inr b ↦ elim b [ inl a ↦ omega arith | inr c ↦ elim c [ inl a ↦ omega arith | inr d ↦ elim d [ inl a ↦ omega arith | inr e ↦ omega arith ] ] ] ]
+not_seven h = elim h [ inl a ↦ omega arith | inr b ↦ elim b [ inl a ↦ omega arith | inr c ↦ elim c [ inl a ↦ omega arith | inr d ↦ elim d [ inl a ↦ omega arith | inr e ↦ elim e [ inl a ↦ omega arith | inr f ↦ omega arith ] ] ] ] ]
 
-refusal_not : (r : Refusal) (n : ℕ) → n ≡ 1 ⊎ n ≡ 6 → refusal_status r ≡ n → ⊥
+refusal_not : (r : Refusal) (n : ℕ) → n ≡ 1 ⊎ (n ≡ 5 ⊎ n ≡ 6) → refusal_status r ≡ n → ⊥
 refusal_not r n which is =
     elim which [
       | inl a ↦ elim (refusal_statuses r) [ inl b ↦ omega arith | inr b ↦ elim b [ inl c ↦ omega arith | inr c ↦ omega arith ] ]
-      | inr a ↦ elim (refusal_statuses r) [ inl b ↦ omega arith | inr b ↦ elim b [ inl c ↦ omega arith | inr c ↦ omega arith ] ]
+      | inr a ↦ elim a [ inl d ↦ elim (refusal_statuses r) [ inl b ↦ omega arith | inr b ↦ elim b [ inl c ↦ omega arith | inr c ↦ omega arith ] ] | inr d ↦ elim (refusal_statuses r) [ inl b ↦ omega arith | inr b ↦ elim b [ inl c ↦ omega arith | inr c ↦ omega arith ] ] ]
     ]
 
 -- ---- of the reasons with a status, those of a kind
@@ -105,6 +112,7 @@ module _ (err err' : SinkState) where
   policy_reason (missing name) is told = absurd (omega arith)
   policy_reason (too_long name n) is told = absurd (omega arith)
   policy_reason (refused refusal) is told = (is, told)
+  policy_reason (image_refused fault) is told = absurd (omega arith)
   policy_reason (record_refused fault) is told = absurd (omega arith)
 
   file_reason : (reason : Reason) → reason_status reason ≡ 3 → Told (reason_text reason) err err' → LacksFile err err' (stops reason)
@@ -112,13 +120,23 @@ module _ (err err' : SinkState) where
   file_reason (missing name) is told = told
   file_reason (too_long name n) is told = told
   file_reason (refused refusal) is told = (is, told)
+  file_reason (image_refused fault) is told = absurd (omega arith)
   file_reason (record_refused fault) is told = absurd (omega arith)
+
+  image_reason : (reason : Reason) → reason_status reason ≡ 5 → Told (reason_text reason) err err' → RefusesImage err err' (stops reason)
+  image_reason usage is told = absurd (omega arith)
+  image_reason (missing name) is told = absurd (omega arith)
+  image_reason (too_long name n) is told = absurd (omega arith)
+  image_reason (refused refusal) is told = absurd (refusal_not refusal 5 (inr (inl refl)) is)
+  image_reason (image_refused fault) is told = told
+  image_reason (record_refused fault) is told = absurd (omega arith)
 
   record_reason : (reason : Reason) → reason_status reason ≡ 6 → Told (reason_text reason) err err' → RefusesRecord err err' (stops reason)
   record_reason usage is told = absurd (omega arith)
   record_reason (missing name) is told = absurd (omega arith)
   record_reason (too_long name n) is told = absurd (omega arith)
-  record_reason (refused refusal) is told = absurd (refusal_not refusal 6 (inr refl) is)
+  record_reason (refused refusal) is told = absurd (refusal_not refusal 6 (inr (inr refl)) is)
+  record_reason (image_refused fault) is told = absurd (omega arith)
   record_reason (record_refused fault) is told = told
 
 is_usage : (reason : Reason) → reason_status reason ≡ 1 → reason ≡ usage
@@ -126,6 +144,7 @@ is_usage usage is = refl
 is_usage (missing name) is = absurd (omega arith)
 is_usage (too_long name n) is = absurd (omega arith)
 is_usage (refused refusal) is = absurd (refusal_not refusal 1 (inl refl) is)
+is_usage (image_refused fault) is = absurd (omega arith)
 is_usage (record_refused fault) is = absurd (omega arith)
 
 -- ---- only words with no command's form are answered so
@@ -135,13 +154,13 @@ no_usage_of_file name next (whole bytes) h e = h bytes e
 no_usage_of_file name next absent h e = cc
 no_usage_of_file name next (long n) h e = cc
 
-no_usage_of_run : (files : Store) (p : Source) (r : Result DeviceRecord RecordFault) → run_answer files p r ≡ stops usage → ⊥
-no_usage_of_run files p (Ok run) e = cc
-no_usage_of_run files p (Err fault) e = cc
+no_usage_of_trace : (files : Store) (p : Source) (r : Result DeviceRecord RecordFault) → trace_answer files p r ≡ stops usage → ⊥
+no_usage_of_trace files p (Ok input) e = cc
+no_usage_of_trace files p (Err fault) e = cc
 
 no_usage_of_carried : (files : Store) (p : Source) (name : List ℕ) (lack : Option Lack) → carried_answer files p name lack ≡ stops usage → ⊥
 no_usage_of_carried files p name None e =
-    no_usage_of_file name (λ bytes. run_answer files p (record_of bytes (devices_of p))) (reading_of (get files name) RECORD_MOST) (λ bytes h. no_usage_of_run files p (record_of bytes (devices_of p)) h) e
+    no_usage_of_file name (λ bytes. trace_answer files p (record_of bytes (devices_of p))) (reading_of (get files name) RECORD_MOST) (λ bytes h. no_usage_of_trace files p (record_of bytes (devices_of p)) h) e
 no_usage_of_carried files p name (Some lack) e = cc
 
 no_usage_of_policy : (files : Store) (name : List ℕ) (r : Result Source Refusal) → policy_answer files name r ≡ stops usage → ⊥
@@ -152,6 +171,15 @@ no_usage_of_image : (files : Store) (image : List ℕ) (r : Result Source Refusa
 no_usage_of_image files image (Ok p) e = cc
 no_usage_of_image files image (Err refusal) e = cc
 
+no_usage_of_named : (i : Image) (r : Result DeviceRecord RecordFault) → named_answer i r ≡ stops usage → ⊥
+no_usage_of_named i (Ok named) e = cc
+no_usage_of_named i (Err fault) e = cc
+
+no_usage_of_unpacked : (files : Store) (name : List ℕ) (r : Result Image ImageFault) → unpacked_answer files name r ≡ stops usage → ⊥
+no_usage_of_unpacked files name (Ok i) e =
+    no_usage_of_file name (λ bytes. named_answer i (record_of bytes (image_bench i))) (reading_of (get files name) RECORD_MOST) (λ bytes h. no_usage_of_named i (record_of bytes (image_bench i)) h) e
+no_usage_of_unpacked files name (Err fault) e = cc
+
 no_usage_of_map : (r : Result Source Refusal) → map_policy_answer r ≡ stops usage → ⊥
 no_usage_of_map (Ok p) e = cc
 no_usage_of_map (Err refusal) e = cc
@@ -161,12 +189,14 @@ no_usage_of_flows (Ok p) e = cc
 no_usage_of_flows (Err refusal) e = cc
 
 no_usage : (files : Store) (command : Option Command) → answer_of files command ≡ stops usage → command ≡ None
-unfolding build_answer boot_answer map_answer flows_answer
+unfolding build_answer boot_answer run_answer map_answer flows_answer
 no_usage files None e = refl
 no_usage files (Some (build policy image)) e =
     absurd (no_usage_of_file policy _ _ (λ bytes h. no_usage_of_image files image (accepted_policy_of files bytes) h) e)
 no_usage files (Some (boot policy name)) e =
     absurd (no_usage_of_file policy _ _ (λ bytes h. no_usage_of_policy files name (accepted_policy_of files bytes) h) e)
+no_usage files (Some (run image name)) e =
+    absurd (no_usage_of_file image _ _ (λ bytes h. no_usage_of_unpacked files name (unpacked image_form bytes) h) e)
 no_usage files (Some (map policy)) e =
     absurd (no_usage_of_file policy _ _ (λ bytes h. no_usage_of_map (laid_policy_of bytes) h) e)
 no_usage files (Some (flows policy)) e =
@@ -235,6 +265,16 @@ module _ (words : List (List ℕ)) (old new : FilesState) (out out' err err' : S
         | done is did quiet ↦ absurd (omega arith)
         | cut_off text is eq put ↦ absurd (omega arith)
         | stopped reason is eq quiet told rose ↦ answered _ (subst (LacksFile err err') (sym eq) (file_reason err err' reason (sym is ∙ three) told))
+        | failed is rose quiet ↦ absurd (omega arith)
+        | no_memory is quiet ↦ absurd (omega arith)
+      ]
+
+  pub image_clause : status ≡ 5 → Answered words old.held (RefusesImage err err')
+  image_clause five =
+      elim came [
+        | done is did quiet ↦ absurd (omega arith)
+        | cut_off text is eq put ↦ absurd (omega arith)
+        | stopped reason is eq quiet told rose ↦ answered _ (subst (RefusesImage err err') (sym eq) (image_reason err err' reason (sym is ∙ five) told))
         | failed is rose quiet ↦ absurd (omega arith)
         | no_memory is quiet ↦ absurd (omega arith)
       ]

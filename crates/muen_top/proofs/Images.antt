@@ -15,7 +15,7 @@ use Rattle.policy_types.specs.declared.refusal.Refusal.{Refusal}
 use Rattle.policy_types.specs.declared.source.Source.{Source}
 use Rattle.muen_top.specs.Answers.{Answer, of_file, image_answer, build_answer}
 use Rattle.muen_top.specs.Calls.{ComesOf, Came}
-use Rattle.muen_top.specs.Commands.{Command, build, boot, map, flows}
+use Rattle.muen_top.specs.Commands.{Command, build, boot, run, map, flows}
 use Rattle.muen_top.specs.Images.{IsMade, Wrote}
 use Rattle.muen_top.specs.Kept.{IsWriteOf, KeepsFiles, KeepsHeld, MayWrite}
 use Rattle.muen_top.specs.Loads.{NotRead}
@@ -25,7 +25,7 @@ use Rattle.muen_top.specs.Stops.{stop_of_end, stop_of_refusal}
 use Rattle.muen_top.specs.declared.outcome.Outcome.{Outcome}
 use Rattle.muen_top.specs.declared.outcome.Outcome.TheVariants.{Done, Stopped, OutputFault}
 use Rattle.muen_top.specs.declared.outcome.Stop.{Stop}
-use Rattle.muen_top.specs.declared.outcome.Stop.TheVariants.{Usage, Missing, TooLong, Refused, RecordRefused, FileFault, NoMemory}
+use Rattle.muen_top.specs.declared.outcome.Stop.TheVariants.{Usage, Missing, TooLong, Refused, ImageRefused, RecordRefused, FileFault, NoMemory}
 use Rattle.muen_top.proofs.Booting.{for_a_file, some_files}
 use Rattle.muen_top.proofs.FilesSeen.{explained_after}
 use Rattle.muen_top.proofs.PolicyCommands.{RestsOn, not_read, of_refusal, out_of_memory}
@@ -35,7 +35,7 @@ use Rattle.muen_top.proofs.PolicyCommands.{RestsOn, not_read, of_refusal, out_of
 image_next : List ℕ → Store → List ℕ → Answer
 image_next image files bytes = image_answer files image (accepted_policy_of files bytes)
 
-rests : (policy image : List ℕ) → RestsOn policy (image_next image) (build policy image)
+rests : (policy image : List ℕ) → RestsOn POLICY_MOST policy (image_next image) (build policy image)
 unfolding build_answer image_next
 rests policy image files = refl
 
@@ -48,13 +48,13 @@ by_document files policy image bytes answer is eq =
 
 module _ (policy image : List ℕ) (old new : FilesState) where
   pub image_not_read : (stop : Stop) → NotRead policy POLICY_MOST old new stop → Stops (build policy image) old new stop
-  image_not_read stop h = not_read policy (image_next image) (build policy image) (rests policy image) old new stop h
+  image_not_read stop h = not_read POLICY_MOST policy (image_next image) (build policy image) (rests policy image) old new stop h
 
   no_memory : Stops (build policy image) old new NoMemory
-  no_memory = out_of_memory policy (image_next image) (build policy image) (rests policy image) old new
+  no_memory = out_of_memory POLICY_MOST policy (image_next image) (build policy image) (rests policy image) old new
 
   refusal_of : (r : Refusal) → Stops (build policy image) old new (Refused r) → Stops (build policy image) old new (stop_of_refusal r)
-  refusal_of r h = of_refusal policy (image_next image) (build policy image) (rests policy image) old new r h
+  refusal_of r h = of_refusal POLICY_MOST policy (image_next image) (build policy image) (rests policy image) old new r h
 
   file_fault : Rose old.faults new.faults → Stops (build policy image) old new FileFault
   file_fault h = let s = some_files old.held in record { files = s.files; told = s.told; stops = h }
@@ -101,6 +101,7 @@ held_still : (command : Option Command) (status : ℕ) (old new : Option Store) 
 held_still None status old new is = is
 held_still (Some (build policy image)) status old new is = inl is
 held_still (Some (boot policy name)) status old new is = is
+held_still (Some (run image name)) status old new is = is
 held_still (Some (map policy)) status old new is = is
 held_still (Some (flows policy)) status old new is = is
 
@@ -127,6 +128,7 @@ module _ (policy image bytes : List ℕ) (old mid new : FilesState) (follows : F
   image_written (Stopped (Missing n)) w = absurd w.ends
   image_written (Stopped (TooLong n k)) w = absurd w.ends
   image_written (Stopped (Refused r)) w = absurd w.ends
+  image_written (Stopped (ImageRefused f)) w = absurd w.ends
   image_written (Stopped (RecordRefused f)) w = absurd w.ends
   image_written OutputFault w = absurd w.ends
 
@@ -138,6 +140,7 @@ module _ (policy image bytes : List ℕ) (old mid new : FilesState) (follows : F
   may_write (Stopped (Missing n)) w = absurd w.ends
   may_write (Stopped (TooLong n k)) w = absurd w.ends
   may_write (Stopped (Refused r)) w = absurd w.ends
+  may_write (Stopped (ImageRefused f)) w = absurd w.ends
   may_write (Stopped (RecordRefused f)) w = absurd w.ends
   may_write OutputFault w = absurd w.ends
 

@@ -26,26 +26,26 @@ use Rattle.muen_top.specs.Stops.{stop_of_refusal}
 use Rattle.muen_top.specs.declared.outcome.Outcome.{Outcome}
 use Rattle.muen_top.specs.declared.outcome.Outcome.TheVariants.{Done, Stopped, OutputFault}
 use Rattle.muen_top.specs.declared.outcome.Stop.{Stop}
-use Rattle.muen_top.specs.declared.outcome.Stop.TheVariants.{Usage, Missing, TooLong, Refused, RecordRefused, FileFault, NoMemory}
+use Rattle.muen_top.specs.declared.outcome.Stop.TheVariants.{Usage, Missing, TooLong, Refused, ImageRefused, RecordRefused, FileFault, NoMemory}
 use Rattle.muen_top.proofs.Booting.{for_a_file, some_files}
 
--- ---- a command that begins with the policy's file
+-- ---- a command that begins with a file
 
-abbrev pub RestsOn : List ℕ → (Store → List ℕ → Answer) → Command → Type 0
-RestsOn policy next command = (files : Store) → answer_of files (Some command) ≡ of_file policy (next files) (reading_of (get files policy) POLICY_MOST)
+abbrev pub RestsOn : ℕ → List ℕ → (Store → List ℕ → Answer) → Command → Type 0
+RestsOn most name next command = (files : Store) → answer_of files (Some command) ≡ of_file name (next files) (reading_of (get files name) most)
 
-module _ (policy : List ℕ) (next : Store → List ℕ → Answer) (command : Command) (rests : RestsOn policy next command) (old new : FilesState) where
+module _ (most : ℕ) (name : List ℕ) (next : Store → List ℕ → Answer) (command : Command) (rests : RestsOn most name next command) (old new : FilesState) where
   pub out_of_memory : Stops command old new NoMemory
   out_of_memory = let s = some_files old.held in record { files = s.files; told = s.told; stops = tt }
 
-  shown : (reading : Reading) → Saw policy POLICY_MOST reading old new → Explained old.held (look policy POLICY_MOST reading ∷ [])
-  shown reading saw = explained old.held (look policy POLICY_MOST reading ∷ []) (seen_first policy POLICY_MOST reading old new saw)
+  shown : (reading : Reading) → Saw name most reading old new → Explained old.held (look name most reading ∷ [])
+  shown reading saw = explained old.held (look name most reading ∷ []) (seen_first name most reading old new saw)
 
-  by_reading : (files : Store) (reading : Reading) → reading_of (get files policy) POLICY_MOST ≡ reading → answer_of files (Some command) ≡ of_file policy (next files) reading
-  by_reading files reading is = rests files ∙ ap (of_file policy (next files)) is
+  by_reading : (files : Store) (reading : Reading) → reading_of (get files name) most ≡ reading → answer_of files (Some command) ≡ of_file name (next files) reading
+  by_reading files reading is = rests files ∙ ap (of_file name (next files)) is
 
   -- the file isn't read
-  pub not_read : (stop : Stop) → NotRead policy POLICY_MOST old new stop → Stops command old new stop
+  pub not_read : (stop : Stop) → NotRead name most old new stop → Stops command old new stop
   not_read (Missing n) h =
       let s = shown absent h.1 in
       record { files = s.files; told = s.told; stops = (by_reading s.files absent s.shows.0 ∙ ap (λ x. stops (missing x)) (sym h.0), h.1.missed tt) }
@@ -56,16 +56,17 @@ module _ (policy : List ℕ) (next : Store → List ℕ → Answer) (command : C
   not_read NoMemory h = out_of_memory
   not_read Usage h = absurd h
   not_read (Refused r) h = absurd h
+  not_read (ImageRefused f) h = absurd h
   not_read (RecordRefused r) h = absurd h
 
-  -- it is read, and so is the policy
-  gives : (bytes : List ℕ) (answer : Answer) → Saw policy POLICY_MOST (whole bytes) old new → ((files : Store) → next files bytes ≡ answer) → Gives command old answer
+  -- it is read, and so is what it holds
+  gives : (bytes : List ℕ) (answer : Answer) → Saw name most (whole bytes) old new → ((files : Store) → next files bytes ≡ answer) → Gives command old answer
   gives bytes answer saw is =
       let s = shown (whole bytes) saw in
       record { files = s.files; told = s.told; is = by_reading s.files (whole bytes) s.shows.0 ∙ is s.files }
 
   -- the policy is refused, for no other file
-  refused_so : (bytes : List ℕ) (r : Refusal) → Saw policy POLICY_MOST (whole bytes) old new → ((files : Store) → next files bytes ≡ stops (refused r)) → is_for_a_file r ≡ false → Stops command old new (Refused r)
+  refused_so : (bytes : List ℕ) (r : Refusal) → Saw name most (whole bytes) old new → ((files : Store) → next files bytes ≡ stops (refused r)) → is_for_a_file r ≡ false → Stops command old new (Refused r)
   refused_so bytes r saw is none =
       let s = shown (whole bytes) saw in
       record {
@@ -84,7 +85,7 @@ module _ (policy : List ℕ) (next : Store → List ℕ → Answer) (command : C
   of_refusal (FileFit region room length) h = h
   of_refusal (NoRoom region size) h = h
 
-  policy_refused : (bytes : List ℕ) (wanted : Result Source Refusal) (r : Refusal) (stop : Stop) → Saw policy POLICY_MOST (whole bytes) old new → Answers NoMemoryFor wanted (Err r)
+  policy_refused : (bytes : List ℕ) (wanted : Result Source Refusal) (r : Refusal) (stop : Stop) → Saw name most (whole bytes) old new → Answers NoMemoryFor wanted (Err r)
       → (wanted ≡ Err r → (files : Store) → next files bytes ≡ stops (refused r)) → (wanted ≡ Err r → is_for_a_file r ≡ false) → stop ≡ stop_of_refusal r → Stops command old new stop
   policy_refused bytes wanted r stop saw (inl is) answer none made =
       let out : stop ≡ NoMemory = made ∙ ap stop_of_refusal is in
@@ -97,44 +98,44 @@ module _ (policy : List ℕ) (next : Store → List ℕ → Answer) (command : C
 map_next : Store → List ℕ → Answer
 map_next files bytes = map_policy_answer (laid_policy_of bytes)
 
-rests_map : (policy : List ℕ) → RestsOn policy map_next (map policy)
+rests_map : (policy : List ℕ) → RestsOn POLICY_MOST policy map_next (map policy)
 unfolding map_answer map_next
 rests_map policy files = refl
 
 module _ (policy : List ℕ) (old new : FilesState) where
   pub map_not_read : (stop : Stop) → NotRead policy POLICY_MOST old new stop → Stops (map policy) old new stop
-  map_not_read stop h = not_read policy map_next (map policy) (rests_map policy) old new stop h
+  map_not_read stop h = not_read POLICY_MOST policy map_next (map policy) (rests_map policy) old new stop h
 
   pub map_refused : (bytes : List ℕ) (r : Refusal) (stop : Stop) → Saw policy POLICY_MOST (whole bytes) old new → Answers NoMemoryFor (laid_policy_of bytes) (Err r) → stop ≡ stop_of_refusal r → Stops (map policy) old new stop
   unfolding map_next
   map_refused bytes r stop saw h made =
-      policy_refused policy map_next (map policy) (rests_map policy) old new bytes (laid_policy_of bytes) r stop saw h (λ e files. ap map_policy_answer e) (laid_for_no_file bytes r) made
+      policy_refused POLICY_MOST policy map_next (map policy) (rests_map policy) old new bytes (laid_policy_of bytes) r stop saw h (λ e files. ap map_policy_answer e) (laid_for_no_file bytes r) made
 
   pub map_gives : (bytes : List ℕ) (p : Source) → Saw policy POLICY_MOST (whole bytes) old new → laid_policy_of bytes ≡ Ok p → Gives (map policy) old (prints (map_text_of p))
   unfolding map_next
-  map_gives bytes p saw is = gives policy map_next (map policy) (rests_map policy) old new bytes (prints (map_text_of p)) saw (λ files. ap map_policy_answer is)
+  map_gives bytes p saw is = gives POLICY_MOST policy map_next (map policy) (rests_map policy) old new bytes (prints (map_text_of p)) saw (λ files. ap map_policy_answer is)
 
 -- ---- `flows`
 
 flows_next : Store → List ℕ → Answer
 flows_next files bytes = flows_policy_answer (lawful_policy_of bytes)
 
-rests_flows : (policy : List ℕ) → RestsOn policy flows_next (flows policy)
+rests_flows : (policy : List ℕ) → RestsOn POLICY_MOST policy flows_next (flows policy)
 unfolding flows_answer flows_next
 rests_flows policy files = refl
 
 module _ (policy : List ℕ) (old new : FilesState) where
   pub flows_not_read : (stop : Stop) → NotRead policy POLICY_MOST old new stop → Stops (flows policy) old new stop
-  flows_not_read stop h = not_read policy flows_next (flows policy) (rests_flows policy) old new stop h
+  flows_not_read stop h = not_read POLICY_MOST policy flows_next (flows policy) (rests_flows policy) old new stop h
 
   pub flows_refused : (bytes : List ℕ) (r : Refusal) (stop : Stop) → Saw policy POLICY_MOST (whole bytes) old new → Answers NoMemoryFor (lawful_policy_of bytes) (Err r) → stop ≡ stop_of_refusal r → Stops (flows policy) old new stop
   unfolding flows_next
   flows_refused bytes r stop saw h made =
-      policy_refused policy flows_next (flows policy) (rests_flows policy) old new bytes (lawful_policy_of bytes) r stop saw h (λ e files. ap flows_policy_answer e) (for_no_file bytes r) made
+      policy_refused POLICY_MOST policy flows_next (flows policy) (rests_flows policy) old new bytes (lawful_policy_of bytes) r stop saw h (λ e files. ap flows_policy_answer e) (for_no_file bytes r) made
 
   pub flows_gives : (bytes : List ℕ) (p : Source) → Saw policy POLICY_MOST (whole bytes) old new → lawful_policy_of bytes ≡ Ok p → Gives (flows policy) old (prints (flow_text_of p))
   unfolding flows_next
-  flows_gives bytes p saw is = gives policy flows_next (flows policy) (rests_flows policy) old new bytes (prints (flow_text_of p)) saw (λ files. ap flows_policy_answer is)
+  flows_gives bytes p saw is = gives POLICY_MOST policy flows_next (flows policy) (rests_flows policy) old new bytes (prints (flow_text_of p)) saw (λ files. ap flows_policy_answer is)
 
 -- ---- the end
 
@@ -147,6 +148,7 @@ module _ (command : Command) (old new : FilesState) (out out' : SinkState) where
   of_text text (Stopped (Missing n)) answer is h = absurd h.0
   of_text text (Stopped (TooLong n k)) answer is h = absurd h.0
   of_text text (Stopped (Refused r)) answer is h = absurd h.0
+  of_text text (Stopped (ImageRefused f)) answer is h = absurd h.0
   of_text text (Stopped (RecordRefused f)) answer is h = absurd h.0
   of_text text (Stopped FileFault) answer is h = absurd h.0
 

@@ -2,20 +2,26 @@
 use Rattle.std.specs.Prelude.{ℕ, List, Option, Some, None, Result, Ok, Err}
 use Rattle.std.specs.FinMap.{get}
 use Rattle.flow_report.specs.FlowText.{flow_text_of}
+use Rattle.image_form.specs.Faults.{unpacked}
+use Rattle.image_load.specs.Placing.{image_bench, image_record}
+use Rattle.image_pack.specs.Image.{image as image_form}
+use Rattle.image_pack.specs.declared.parts.Image.{Image}
 use Rattle.map_report.specs.MapText.{map_text_of}
-use Rattle.muen_num.specs.declared.limits.TheConstants.{POLICY_MOST, RECORD_MOST}
+use Rattle.muen_num.specs.declared.limits.TheConstants.{IMAGE_MOST, POLICY_MOST, RECORD_MOST}
 use Rattle.muen_outside.specs.Store.{Reading, whole, absent, long, reading_of}
 use Rattle.policy_meaning.specs.Contents.{Held}
 use Rattle.policy_types.specs.declared.refusal.Refusal.{Refusal}
 use Rattle.policy_types.specs.declared.source.Source.{Source}
 use Rattle.record_text.specs.DeviceRecord.{DeviceRecord}
 use Rattle.subject_model.specs.Run.{trace_of}
-use Rattle.muen_top.specs.Commands.{Command, build, boot, map, flows}
+use Rattle.muen_run.specs.RunText.{image_text}
+use Rattle.muen_top.specs.Commands.{Command, build, boot, run, map, flows}
 use Rattle.record_text.specs.Reading.{record_of}
 use Rattle.subject_model.specs.Bench.{devices_of}
 use Rattle.muen_build.specs.Refusals.{accepted_policy_of, laid_policy_of, lawful_policy_of}
 use Rattle.muen_top.specs.Lacking.{lack_refusal, lacking}
 use Rattle.muen_top.specs.declared.lacking.Lack.{Lack}
+use Rattle.image_form.specs.declared.fault.ImageFault.{ImageFault}
 use Rattle.record_text.specs.declared.fault.RecordFault.{RecordFault}
 
 -- why a command prints and writes nothing
@@ -28,6 +34,8 @@ pub data Reason : Type 0 where
   too_long : List ℕ → ℕ → Reason
   -- the policy is refused
   refused : Refusal → Reason
+  -- the image is refused
+  image_refused : ImageFault → Reason
   -- the device record is refused
   record_refused : RecordFault → Reason
 
@@ -57,13 +65,13 @@ build_answer files policy image =
 
 -- ---- `boot`: the policy's file, the policy with its contents and its room, what the machine lacks of it, the record's file, the record, the run
 
-abbrev pub run_answer : Held → Source → Result DeviceRecord RecordFault → Answer
-run_answer files p (Ok run) = prints (trace_of p files run)
-run_answer files p (Err fault) = stops (record_refused fault)
+abbrev pub trace_answer : Held → Source → Result DeviceRecord RecordFault → Answer
+trace_answer files p (Ok input) = prints (trace_of p files input)
+trace_answer files p (Err fault) = stops (record_refused fault)
 
 abbrev pub record_answer : Held → Source → List ℕ → Answer
 record_answer files p name =
-    of_file name (λ bytes. run_answer files p (record_of bytes (devices_of p))) (reading_of (get files name) RECORD_MOST)
+    of_file name (λ bytes. trace_answer files p (record_of bytes (devices_of p))) (reading_of (get files name) RECORD_MOST)
 
 abbrev pub carried_answer : Held → Source → List ℕ → Option Lack → Answer
 carried_answer files p name None = record_answer files p name
@@ -76,6 +84,24 @@ policy_answer files name (Err refusal) = stops (refused refusal)
 unfoldable pub boot_answer : Held → List ℕ → List ℕ → Answer
 boot_answer files policy name =
     of_file policy (λ bytes. policy_answer files name (accepted_policy_of files bytes)) (reading_of (get files policy) POLICY_MOST)
+
+-- ---- `run`: the image's file, the image, the record's file, the record for this image, the run
+
+abbrev pub named_answer : Image → Result DeviceRecord RecordFault → Answer
+named_answer i (Ok named) = prints (image_text i (image_record i named))
+named_answer i (Err fault) = stops (record_refused fault)
+
+abbrev pub input_answer : Held → Image → List ℕ → Answer
+input_answer files i name =
+    of_file name (λ bytes. named_answer i (record_of bytes (image_bench i))) (reading_of (get files name) RECORD_MOST)
+
+abbrev pub unpacked_answer : Held → List ℕ → Result Image ImageFault → Answer
+unpacked_answer files name (Ok i) = input_answer files i name
+unpacked_answer files name (Err fault) = stops (image_refused fault)
+
+unfoldable pub run_answer : Held → List ℕ → List ℕ → Answer
+run_answer files image name =
+    of_file image (λ bytes. unpacked_answer files name (unpacked image_form bytes)) (reading_of (get files image) IMAGE_MOST)
 
 -- ---- `map`: the policy's file, the policy and its room, the text
 
@@ -102,5 +128,6 @@ abbrev pub answer_of : Held → Option Command → Answer
 answer_of files None = stops usage
 answer_of files (Some (build policy image)) = build_answer files policy image
 answer_of files (Some (boot policy name)) = boot_answer files policy name
+answer_of files (Some (run image name)) = run_answer files image name
 answer_of files (Some (map policy)) = map_answer files policy
 answer_of files (Some (flows policy)) = flows_answer files policy

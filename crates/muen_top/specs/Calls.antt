@@ -4,14 +4,14 @@ use Rattle.muen_outside.specs.Counts.{Rose}
 use Rattle.muen_outside.specs.States.{FilesState, SinkState}
 use Rattle.muen_outside.specs.Puts.{Appended, Failed}
 use Rattle.muen_outside.specs.Store.{Store}
-use Rattle.muen_top.specs.Answers.{usage, missing, too_long, refused, record_refused, Answer, prints, writes, stops, answer_of}
+use Rattle.muen_top.specs.Answers.{usage, missing, too_long, refused, image_refused, record_refused, Answer, prints, writes, stops, answer_of}
 use Rattle.muen_top.specs.Commands.{Command, command_of}
 use Rattle.muen_top.specs.Images.{Wrote}
 use Rattle.muen_top.specs.Reports.{reason_text, refusal_status, status_of, Told, Reported}
 use Rattle.muen_top.specs.declared.outcome.Outcome.{Outcome}
 use Rattle.muen_top.specs.declared.outcome.Outcome.TheVariants.{Done, Stopped, OutputFault}
 use Rattle.muen_top.specs.declared.outcome.Stop.{Stop}
-use Rattle.muen_top.specs.declared.outcome.Stop.TheVariants.{Usage, Missing, TooLong, Refused, RecordRefused, FileFault, NoMemory}
+use Rattle.muen_top.specs.declared.outcome.Stop.TheVariants.{Usage, Missing, TooLong, Refused, ImageRefused, RecordRefused, FileFault, NoMemory}
 
 -- ---- the outcome of a command whose answer is this
 
@@ -34,6 +34,7 @@ StopsFor answer old new (Missing name) = (answer ≡ stops (missing name.now)) �
 StopsFor answer old new (TooLong name n) = (answer ≡ stops (too_long name.now n)) × Rose old.misses new.misses
 StopsFor answer old new (Refused refusal) =
     (answer ≡ stops (refused refusal)) × (refusal_status refusal ≡ 3 → Rose old.misses new.misses)
+StopsFor answer old new (ImageRefused fault) = answer ≡ stops (image_refused fault)
 StopsFor answer old new (RecordRefused fault) = answer ≡ stops (record_refused fault)
 StopsFor answer old new FileFault = Rose old.faults new.faults
 StopsFor answer old new NoMemory = Unit {0}
@@ -68,8 +69,8 @@ pub record Answered (words : List (List ℕ)) (held : Option Store) (Such : Answ
   pub told : IfSome held (λ m. files ≡ m)
   pub such : Such (answer_of files (command_of words))
 
--- of the answers that print nothing, those on a policy, on a missing or too long file, and on a record. A refusal of the
--- policy may be for a file that it names: which of the two it is, its status says
+-- of the answers that print nothing, those on a policy, on a missing or too long file, on an image, and on a record. A
+-- refusal of the policy may be for a file that it names: which of the two it is, its status says
 abbrev pub RefusesPolicy : SinkState → SinkState → Answer → Type 0
 RefusesPolicy err err' (stops (refused refusal)) = (refusal_status refusal ≡ 2) × Told (reason_text (refused refusal)) err err'
 RefusesPolicy err err' _ = ⊥
@@ -79,6 +80,10 @@ LacksFile err err' (stops (missing name)) = Told (reason_text (missing name)) er
 LacksFile err err' (stops (too_long name n)) = Told (reason_text (too_long name n)) err err'
 LacksFile err err' (stops (refused refusal)) = (refusal_status refusal ≡ 3) × Told (reason_text (refused refusal)) err err'
 LacksFile err err' _ = ⊥
+
+abbrev pub RefusesImage : SinkState → SinkState → Answer → Type 0
+RefusesImage err err' (stops (image_refused fault)) = Told (reason_text (image_refused fault)) err err'
+RefusesImage err err' _ = ⊥
 
 abbrev pub RefusesRecord : SinkState → SinkState → Answer → Type 0
 RefusesRecord err err' (stops (record_refused fault)) = Told (reason_text (record_refused fault)) err err'

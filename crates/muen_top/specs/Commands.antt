@@ -7,6 +7,8 @@ pub data Command : Type 0 where
   build : List ℕ → List ℕ → Command
   -- a policy and a device record, by the names of their files: the policy's system runs on the record
   boot : List ℕ → List ℕ → Command
+  -- an image and a device record, by the names of their files: the image runs on the record
+  run : List ℕ → List ℕ → Command
   -- a policy, by the name of its file: its places and windows are printed
   map : List ℕ → Command
   -- a policy, by the name of its file: on whom each subject can depend is printed
@@ -19,5 +21,7 @@ command_of (word ∷ []) = None
 command_of (word ∷ a ∷ []) =
     if bytes_eq word (codes "map") then Some (map a) else (if bytes_eq word (codes "flows") then Some (flows a) else None)
 command_of (word ∷ a ∷ b ∷ []) =
-    if bytes_eq word (codes "build") then Some (build a b) else (if bytes_eq word (codes "boot") then Some (boot a b) else None)
+    if bytes_eq word (codes "build") then Some (build a b)
+    else (if bytes_eq word (codes "boot") then Some (boot a b)
+    else (if bytes_eq word (codes "run") then Some (run a b) else None))
 command_of (word ∷ a ∷ b ∷ c ∷ rest) = None

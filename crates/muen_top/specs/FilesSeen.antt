@@ -1,14 +1,14 @@
 -- What a command has seen of two files.
-use Rattle.std.specs.Prelude.{◌≡◌, ℕ, false, List, Option, IfSome}
+use Rattle.std.specs.Prelude.{◌≡◌, ℕ, false, List, Option, Some, IfSome}
 use Rattle.std.specs.Str.{bytes_eq}
 use Rattle.std.specs.FinMap.{get}
 use Rattle.muen_build.specs.Looks.{Saw}
 use Rattle.muen_outside.specs.States.{FilesState}
-use Rattle.muen_outside.specs.Store.{Store, Reading, whole, reading_of}
+use Rattle.muen_outside.specs.Store.{Store, Reading, reading_of}
 
--- what a later read has seen: a name that was read before is not read again, and what was seen stands for it
+-- what a later read has seen: of a name that was read before, what was seen then stands for it, with the limit of this read
 pub data SawToo (before : List ℕ) (bytes : List ℕ) (name : List ℕ) (most : ℕ) (reading : Reading) (old new : FilesState) : Type 0 where
-  same : name ≡ before → reading ≡ whole bytes → new ≡ old → SawToo before bytes name most reading old new
+  same : name ≡ before → reading ≡ reading_of (Some bytes) most → SawToo before bytes name most reading old new
   another : bytes_eq name before ≡ false → Saw name most reading old new → SawToo before bytes name most reading old new
 
 -- files that hold what is told show this under a name, and that under another

@@ -1,8 +1,8 @@
 -- What reading a command's files comes to.
-use Rattle.std.specs.Prelude.{◌≡◌, ℕ, List, [], ◌∷◌, None, IfSome}
+use Rattle.std.specs.Prelude.{◌≡◌, ℕ, List, [], ◌∷◌, Some, None, IfSome}
 use Rattle.muen_outside.specs.Counts.{Rose}
 use Rattle.muen_outside.specs.States.{FilesState}
-use Rattle.muen_outside.specs.Store.{Store, absent, long, whole}
+use Rattle.muen_outside.specs.Store.{Store, absent, long, reading_of, whole}
 use Rattle.policy_types.specs.declared.source.Source.{Source}
 use Rattle.record_text.specs.DeviceRecord.{DeviceRecord}
 use Rattle.subject_model.specs.Run.{trace_of}
@@ -24,6 +24,13 @@ NotRead name most old new (TooLong n k) = (n.now ≡ name) × Saw name most (lon
 NotRead name most old new FileFault = Rose old.faults new.faults
 NotRead name most old new NoMemory = Unit {0}
 NotRead name most old new _ = ⊥
+
+-- why bytes that were read are none for another limit: they are too many
+abbrev pub NotWithin : List ℕ → List ℕ → ℕ → FilesState → FilesState → Stop → Type 0
+NotWithin name bytes most old new (TooLong n k) = (n.now ≡ name) × (long k ≡ reading_of (Some bytes) most) × Rose old.misses new.misses
+NotWithin name bytes most old new FileFault = Rose old.faults new.faults
+NotWithin name bytes most old new NoMemory = Unit {0}
+NotWithin name bytes most old new _ = ⊥
 
 -- why a later read gives none
 abbrev pub NotReadToo : List ℕ → List ℕ → List ℕ → ℕ → FilesState → FilesState → Stop → Type 0

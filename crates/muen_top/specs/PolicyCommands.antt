@@ -1,4 +1,4 @@
--- What a command that reads a policy alone comes to.
+-- What a command that reads files comes to.
 use Rattle.std.specs.Prelude.{◌≡◌, Some, IfSome}
 use Rattle.muen_outside.specs.States.{FilesState}
 use Rattle.muen_outside.specs.Store.{Store}

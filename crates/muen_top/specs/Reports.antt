@@ -2,15 +2,16 @@
 use Rattle.std.specs.Prelude.{◌≡◌, ℕ, List, ◌++◌, ◌⊎◌, codes, decimal}
 use Rattle.muen_outside.specs.States.{SinkState}
 use Rattle.muen_outside.specs.Puts.{Appended, Failed}
+use Rattle.image_form.specs.FaultText.{image_fault_text}
 use Rattle.policy_types.specs.Refusals.{refusal_text}
 use Rattle.policy_types.specs.declared.refusal.Refusal.{Refusal}
 use Rattle.policy_types.specs.declared.refusal.Refusal.TheVariants.{NotJson, Shape, Rule, Missing as MissingFile, TooLong as TooLongFile, FileFit, NoRoom, NoMemory as NoMemoryFor}
-use Rattle.muen_top.specs.Answers.{Reason, usage, missing, too_long, refused, record_refused, Answer, prints, writes, stops}
+use Rattle.muen_top.specs.Answers.{Reason, usage, missing, too_long, refused, image_refused, record_refused, Answer, prints, writes, stops}
 use Rattle.record_text.specs.FaultTexts.{record_fault_text}
 use Rattle.muen_top.specs.declared.outcome.Outcome.{Outcome}
 use Rattle.muen_top.specs.declared.outcome.Outcome.TheVariants.{Done, Stopped, OutputFault}
 use Rattle.muen_top.specs.declared.outcome.Stop.{Stop}
-use Rattle.muen_top.specs.declared.outcome.Stop.TheVariants.{Usage, Missing, TooLong, Refused, RecordRefused, FileFault, NoMemory}
+use Rattle.muen_top.specs.declared.outcome.Stop.TheVariants.{Usage, Missing, TooLong, Refused, ImageRefused, RecordRefused, FileFault, NoMemory}
 
 -- ---- texts
 
@@ -28,6 +29,7 @@ reason_text usage = usage_text
 reason_text (missing name) = missing_text name
 reason_text (too_long name n) = too_long_text name n
 reason_text (refused refusal) = refusal_text refusal
+reason_text (image_refused fault) = image_fault_text fault
 reason_text (record_refused fault) = record_fault_text fault
 
 -- ---- statuses
@@ -47,6 +49,7 @@ reason_status usage = 1
 reason_status (missing name) = 3
 reason_status (too_long name n) = 3
 reason_status (refused refusal) = refusal_status refusal
+reason_status (image_refused fault) = 5
 reason_status (record_refused fault) = 6
 
 -- ---- how a call has ended
@@ -72,6 +75,7 @@ stop_text Usage = usage_text
 stop_text (Missing name) = missing_text name.now
 stop_text (TooLong name n) = too_long_text name.now n
 stop_text (Refused refusal) = refusal_text refusal
+stop_text (ImageRefused fault) = image_fault_text fault
 stop_text (RecordRefused fault) = record_fault_text fault
 stop_text FileFault = codes "file fault"
 stop_text NoMemory = codes "out of memory"
@@ -81,6 +85,7 @@ stop_status Usage = 1
 stop_status (Missing name) = 3
 stop_status (TooLong name n) = 3
 stop_status (Refused refusal) = refusal_status refusal
+stop_status (ImageRefused fault) = 5
 stop_status (RecordRefused fault) = 6
 stop_status FileFault = 4
 stop_status NoMemory = 8

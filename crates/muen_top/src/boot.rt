@@ -1,7 +1,6 @@
 // The command `boot`: a policy and a record are read, and the run is printed.
 ghost use Rattle.std.specs.Prelude.{◌≡◌, Some, IfOk, IfErr};
 ghost use Rattle.muen_outside.specs.Puts.{Puts};
-ghost use Rattle.muen_outside.specs.Store.{whole};
 ghost use Rattle.policy_lawful.specs.Resolution.{source_of};
 ghost use Rattle.policy_meaning.specs.Contents.{Held};
 ghost use Rattle.record_text.specs.Bench.{bench_of};
@@ -14,63 +13,24 @@ ghost use Rattle.muen_top.specs.Calls.{Came};
 ghost use Rattle.muen_top.specs.Commands.{boot};
 ghost use Rattle.muen_top.specs.Lacking.{lacking};
 ghost use Rattle.muen_top.specs.Lacks.{Carries};
-ghost use Rattle.muen_build.specs.Looks.{Follows, Saw};
-ghost use Rattle.muen_top.specs.FilesSeen.{SawToo};
-ghost use Rattle.muen_top.specs.Loads.{IsCarried, IsReady, NotCarried, NotRead, NotReadToo, NotReady};
+ghost use Rattle.muen_build.specs.Looks.{Follows};
+ghost use Rattle.muen_top.specs.Loads.{IsCarried, IsReady, NotCarried, NotReady};
 ghost use Rattle.muen_top.specs.Records.{Lasts};
 ghost use Rattle.muen_top.specs.Runs.{RunsTo};
 
 use crate::lacking::carried;
+use crate::loading::{load, load_too};
 use crate::outcome::{Outcome, Stop};
 use muen_build::Accepted;
 use muen_num::Seq;
 use muen_num::limits::{POLICY_MOST, RECORD_MOST};
-use muen_outside::{Buffer, FileEnd, Files, Found, Sink, SinkFault};
+use muen_outside::{Buffer, Files, Sink, SinkFault};
 use policy_lawful::Lawful;
 use policy_types::Refusal;
 use record_text::{Devices, RecordFault};
 use region_alloc::Placed;
 use std::alloc::Global;
 use window_machine::print_run;
-
-/// The bytes of a file.
-pub(crate) fn load<'a, F: Files>(
-    alloc: Global,
-    name: &'a str,
-    most: usize,
-    files: &mut F,
-) -> Result<Seq<u8>, Stop<'a>>
-    ensures ok { IfOk result (λ bytes. Saw name.now most (whole bytes) (F.state files.old) (F.state files.new)) }
-    ensures err { IfErr result (NotRead name.now most (F.state files.old) (F.state files.new)) }
-    ensures follows { Follows (F.state files.old) (F.state files.new) }
-{
-    match files.read(alloc, name, most) {
-        Ok(Found::Bytes(bytes)) => Ok(bytes),
-        Ok(Found::Missing) => Err(Stop::Missing(name)),
-        Ok(Found::TooLong(n)) => Err(Stop::TooLong(name, n)),
-        Err(FileEnd::Failed) => Err(Stop::FileFault),
-        Err(FileEnd::NoMemory) => Err(Stop::NoMemory),
-    }
-}
-
-// The bytes of a file, after those of the file `before`. Each name is read once.
-fn load_too<'a, F: Files>(
-    alloc: Global,
-    before: &str,
-    bytes: Seq<u8>,
-    name: &'a str,
-    most: usize,
-    files: &mut F,
-) -> Result<Seq<u8>, Stop<'a>>
-    ensures ok { IfOk result (λ found. SawToo before.now bytes name.now most (whole found) (F.state files.old) (F.state files.new)) }
-    ensures err { IfErr result (NotReadToo before.now bytes name.now most (F.state files.old) (F.state files.new)) }
-    ensures follows { Follows (F.state files.old) (F.state files.new) }
-{
-    if name == before {
-        return Ok(bytes);
-    }
-    load(alloc, name, most, files)
-}
 
 // That the machine lacks nothing of a policy whose regions have places.
 fn carries(alloc: Global, placed: &Placed) -> Result<(), Refusal>

@@ -9,7 +9,7 @@ ghost use Rattle.muen_top.specs.Kept.{IsWriteOf, KeepsFiles};
 ghost use Rattle.muen_top.specs.PolicyCommands.{Stops};
 ghost use Rattle.muen_top.specs.Reports.{status_of};
 
-use crate::boot::load;
+use crate::loading::load;
 use crate::outcome::{Outcome, Stop};
 use muen_num::limits::POLICY_MOST;
 use muen_outside::{FileEnd, Files};

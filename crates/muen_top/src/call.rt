@@ -11,6 +11,7 @@ use crate::command::Command;
 use crate::outcome::{Outcome, Stop};
 use crate::policy_commands;
 use crate::report::{report, status};
+use crate::run::run;
 use muen_outside::{Files, Sink};
 use std::alloc::Global;
 
@@ -29,6 +30,7 @@ fn work<'a, F: Files, S: Sink>(
         Command::Usage => Outcome::Stopped(Stop::Usage),
         Command::Build { policy, image } => build(alloc, policy, image, files),
         Command::Boot { policy, inputs } => boot(alloc, policy, inputs, files, out),
+        Command::Run { image, inputs } => run(alloc, image, inputs, files, out),
         Command::Map(policy) => policy_commands::map(alloc, policy, files, out),
         Command::Flows(policy) => policy_commands::flows(alloc, policy, files, out),
     }

@@ -12,6 +12,8 @@ pub(crate) enum Command<'a> {
     Build { policy: &'a str, image: &'a str },
     /// The system of a policy runs on a device record, both by the names of their files.
     Boot { policy: &'a str, inputs: &'a str },
+    /// An image runs on a device record, both by the names of their files.
+    Run { image: &'a str, inputs: &'a str },
     /// The places and windows of a policy are printed.
     Map(&'a str),
     /// On whom each subject of a policy can depend is printed.
@@ -33,16 +35,22 @@ impl<'a> Command<'a> {
                 }
                 Command::Usage
             }
-            [word, policy, second] => {
+            [word, first, second] => {
                 if word.as_str() == "build" {
                     return Command::Build {
-                        policy: policy.as_str(),
+                        policy: first.as_str(),
                         image: second.as_str(),
                     };
                 }
                 if word.as_str() == "boot" {
                     return Command::Boot {
-                        policy: policy.as_str(),
+                        policy: first.as_str(),
+                        inputs: second.as_str(),
+                    };
+                }
+                if word.as_str() == "run" {
+                    return Command::Run {
+                        image: first.as_str(),
                         inputs: second.as_str(),
                     };
                 }

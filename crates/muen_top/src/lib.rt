@@ -5,7 +5,7 @@ ghost use Rattle.std.specs.Prelude.{◌≡◌, ◌≢◌, ◌⊎◌, IfSome, Non
 ghost use Rattle.muen_outside.specs.Counts.{Rose};
 ghost use Rattle.muen_outside.specs.Puts.{Failed};
 ghost use Rattle.muen_top.specs.Answers.{answer_of};
-ghost use Rattle.muen_top.specs.Calls.{Answered, IsDone, IsFault, LacksFile, Prints, RefusesPolicy, RefusesRecord};
+ghost use Rattle.muen_top.specs.Calls.{Answered, IsDone, IsFault, LacksFile, Prints, RefusesImage, RefusesPolicy, RefusesRecord};
 ghost use Rattle.muen_top.specs.Commands.{command_of};
 ghost use Rattle.muen_top.specs.Kept.{KeepsFiles};
 ghost use Rattle.muen_top.specs.Reports.{Ends, Reported, status_of};
@@ -16,9 +16,11 @@ mod build;
 mod call;
 mod command;
 pub mod lacking;
+mod loading;
 mod outcome;
 mod policy_commands;
 mod report;
+mod run;
 
 use muen_outside::{Files, Sink};
 use std::alloc::Global;
@@ -28,21 +30,23 @@ use std::alloc::Global;
 /// `build POLICY IMAGE` reads a policy and the files that it names, and writes an image that is
 /// sound for them under the name IMAGE, in one call of `files` and only where everything before was
 /// accepted. `boot POLICY RECORD` reads a policy and a device record, runs the policy's system on the
-/// record, and puts the text of the run to `out`. `map POLICY` puts where the policy's regions lie and what
-/// each subject sees, `flows POLICY` on whom each subject can depend; neither reads a component file.
-/// No other command is built. On every status but 0 one line that begins with `muen: ` is put to
-/// `err`; a fault of `err` changes no status.
+/// record, and puts the text of the run to `out`. `run IMAGE RECORD` reads an image and a device record
+/// for it, runs the image on the record, and puts the text of that run to `out`. `map POLICY` puts where
+/// the policy's regions lie and what each subject sees, `flows POLICY` on whom each subject can depend;
+/// neither reads a component file. No other command is built. On every status but 0 one line that begins
+/// with `muen: ` is put to `err`; a fault of `err` changes no status.
 ///
 /// | Status | Comes | Line |
 /// |---|---|---|
 /// | 0 | the text was put, or the image was written | |
 /// | 1 | the words are none of the forms | `usage: ..` |
 /// | 2 | the policy is no JSON text, breaks the schema or a rule, has more bytes for a region than there is room (`build`, `boot`), has a region that can't be placed (`build`, `boot`, `map`), or has an element that the machine lacks (`boot`) | `not JSON`, `shape at PLACE: want WANT`, `rule N: FIRST SECOND`, `REGION: LENGTH bytes in room for ROOM`, `no room for REGION of SIZE bytes` |
-/// | 3 | a file isn't there, or is longer than 4 MiB (policy), 64 MiB (a content) or 16 MiB (record) | `missing file NAME`, `file NAME has LENGTH bytes` |
+/// | 3 | a file isn't there, or is longer than 4 MiB (policy), 64 MiB (a content), 96 MiB (image) or 16 MiB (record) | `missing file NAME`, `file NAME has LENGTH bytes` |
 /// | 4 | a call on `files` failed; where the image was to be written, what stands under its name may have changed | `file fault` |
-/// | 6 | the record is refused | `record refused at line LINE: WHY` |
+/// | 5 | the image is refused (`run`) | `image refused at AT: FIELD` |
+/// | 6 | the record is refused (`boot`, `run`) | `record refused at line LINE: WHY` |
 /// | 7 | a call on `out` failed; a front of the text was put | `output fault` |
-/// | 8 | memory was refused, before the first turn; where the image was to be written, what stands under its name may have changed | `out of memory` |
+/// | 8 | memory was refused, before the first turn; or one name stood for image and record, its file was too long for a record, and then lost all its bytes (`run`); where the image was to be written, what stands under its name may have changed | `out of memory` |
 pub fn muen<F: Files, S: Sink, E: Sink>(
     alloc: Global,
     words: &[String],
@@ -52,15 +56,17 @@ pub fn muen<F: Files, S: Sink, E: Sink>(
 ) -> u8
     // The headline: what is put or written is the words' answer, over some files that hold what is
     // told. For `boot` a text is put, that of the policy's run on the record, in which each subject
-    // takes its turns alone. For `build` an image is written that is sound for the policy and the
-    // files, as they were before: where files tell, it stands under the image's name, and all else
-    // that they hold is as before; and nothing is put.
+    // takes its turns alone. For `run` it is the text of the image's run on the record, as the record
+    // is read for this image, on a machine with its kernel. For `build` an image is written that is
+    // sound for the policy and the files, as they were before: where files tell, it stands under the
+    // image's name, and all else that they hold is as before; and nothing is put.
     ensures done { result ≡ 0 → Answered (map string_bytes words.now) (F.state files.old).held (λ answer. IsDone answer (F.state files.old) (F.state files.new) (S.state out.old) (S.state out.new)) }
     ensures prefix { result ≡ 7 → Answered (map string_bytes words.now) (F.state files.old).held (λ answer. Prints answer (λ text. Failed text (S.state out.old) (S.state out.new))) }
 
     // On a refusal it is the reason in that answer.
     ensures refuses_policy { result ≡ 2 → Answered (map string_bytes words.now) (F.state files.old).held (RefusesPolicy (E.state err.old) (E.state err.new)) }
     ensures lacks_file { result ≡ 3 → Answered (map string_bytes words.now) (F.state files.old).held (LacksFile (E.state err.old) (E.state err.new)) }
+    ensures refuses_image { result ≡ 5 → Answered (map string_bytes words.now) (F.state files.old).held (RefusesImage (E.state err.old) (E.state err.new)) }
     ensures refuses_record { result ≡ 6 → Answered (map string_bytes words.now) (F.state files.old).held (RefusesRecord (E.state err.old) (E.state err.new)) }
 
     // Where files tell what they hold, the call ends as these words are answered over them, but for

@@ -2,6 +2,7 @@
 ghost use Rattle.std.specs.Prelude.{◌≡◌};
 ghost use Rattle.muen_top.specs.Stops.{stop_of_refusal, stop_of_fault};
 
+use image_pack::ImageFault;
 use muen_build::BuildEnd;
 use policy_types::Refusal;
 use record_text::RecordFault;
@@ -17,6 +18,8 @@ pub(crate) enum Stop<'a> {
     TooLong(&'a str, u64),
     /// The policy is refused.
     Refused(Refusal),
+    /// The image is refused.
+    ImageRefused(ImageFault),
     /// The device record is refused.
     RecordRefused(RecordFault),
     /// A call on files failed.
@@ -50,6 +53,20 @@ impl<'a> From<BuildEnd> for Stop<'a> {
         match end {
             BuildEnd::Refused(refusal) => Stop::from(refusal),
             BuildEnd::FileFault => Stop::FileFault,
+        }
+    }
+}
+
+impl<'a> From<ImageFault> for Stop<'a> {
+    ghost use Rattle.std.specs.Prelude.{◌≡◌};
+    ghost use Rattle.muen_top.specs.Stops.{stop_of_image_fault};
+
+    ghost from_gives = { λ fault stop. stop ≡ stop_of_image_fault fault };
+
+    fn from(fault: ImageFault) -> Stop<'a> {
+        match fault {
+            ImageFault::NoMemory => Stop::NoMemory,
+            _ => Stop::ImageRefused(fault),
         }
     }
 }

@@ -10,7 +10,7 @@ ghost use Rattle.muen_top.specs.Commands.{flows as flows_command, map as map_com
 ghost use Rattle.muen_top.specs.PolicyCommands.{Gives, Stops};
 ghost use Rattle.muen_top.specs.Runs.{RunsTo};
 
-use crate::boot::load;
+use crate::loading::load;
 use crate::outcome::{Outcome, Stop};
 use flow_report::flow_text;
 use map_report::map_text;

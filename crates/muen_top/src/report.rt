@@ -30,6 +30,7 @@ fn pieces<'a>(stop: &'a Stop<'_>, one: &'a mut Buffer, two: &'a mut Buffer) -> P
             ("file ", *name, " has ", length, " bytes").into()
         }
         Stop::Refused(refusal) => refusal.pieces(one, two),
+        Stop::ImageRefused(fault) => fault.pieces(one),
         Stop::RecordRefused(fault) => fault.pieces(one),
         Stop::FileFault => "file fault".into(),
         Stop::NoMemory => "out of memory".into(),
@@ -91,6 +92,7 @@ pub(crate) fn status(outcome: &Outcome<'_>) -> u8
         Outcome::Stopped(Stop::Refused(refusal)) => refusal_status(refusal),
         Outcome::Stopped(Stop::Missing(_) | Stop::TooLong(_, _)) => 3,
         Outcome::Stopped(Stop::FileFault) => 4,
+        Outcome::Stopped(Stop::ImageRefused(_)) => 5,
         Outcome::Stopped(Stop::RecordRefused(_)) => 6,
         Outcome::OutputFault => 7,
         Outcome::Stopped(Stop::NoMemory) => 8,

@@ -1,8 +1,12 @@
-//! Whole calls of `map` and `flows` on files and sinks in memory, against texts that were worked out
-//! by hand.
+//! Whole calls of `map`, `flows` and `run` on files and sinks in memory, against texts that were
+//! worked out by hand.
 #![tactic(auto)]
 
 #[cfg(test)]
 mod reports;
+#[cfg(test)]
+mod run_systems;
+#[cfg(test)]
+mod runs;
 #[cfg(test)]
 mod systems;

@@ -17,7 +17,7 @@ fn one(alloc: Global, block: &str, more: &str, content: &str, ticks: &str) -> Re
 }
 
 // The file `p` holds the policy; the calls with these numbers fail.
-fn files(alloc: Global, policy: &str, fails: &[u64]) -> Result<MemFiles, Fail> {
+pub(crate) fn files(alloc: Global, policy: &str, fails: &[u64]) -> Result<MemFiles, Fail> {
     let mut held = Vec::new(alloc);
     held.push((
         String::from_str(alloc, "p")?,
@@ -28,13 +28,13 @@ fn files(alloc: Global, policy: &str, fails: &[u64]) -> Result<MemFiles, Fail> {
 
 // How a call ends: its status, and what the sinks hold.
 #[derive(Drop)]
-struct Ended {
-    status: u8,
-    out: Vec<u8>,
-    err: Vec<u8>,
+pub(crate) struct Ended {
+    pub status: u8,
+    pub out: Vec<u8>,
+    pub err: Vec<u8>,
 }
 
-fn call(
+pub(crate) fn call(
     alloc: Global,
     words: &[&str],
     files: &mut MemFiles,

@@ -1,4 +1,4 @@
-use Rattle.muen_top.proofs.Clauses.{done_clause, prefix_clause, policy_clause, file_clause, record_clause, told_clause, usage_clause, missed_clause, failed_clause, out_rose_clause, quiet_out_clause, quiet_err_clause}
+use Rattle.muen_top.proofs.Clauses.{done_clause, prefix_clause, policy_clause, file_clause, image_clause, record_clause, told_clause, usage_clause, missed_clause, failed_clause, out_rose_clause, quiet_out_clause, quiet_err_clause}
 use Rattle.muen_top.proofs.muen.Goals as goal
 
 pub returns-clause-done : goal.returns-clause-done
@@ -12,6 +12,9 @@ returns-clause-refuses_policy g c = policy_clause _ _ _ _ _ _ _ _ c.call.ensures
 
 pub returns-clause-lacks_file : goal.returns-clause-lacks_file
 returns-clause-lacks_file g c = file_clause _ _ _ _ _ _ _ _ c.call.ensures.ran
+
+pub returns-clause-refuses_image : goal.returns-clause-refuses_image
+returns-clause-refuses_image g c = image_clause _ _ _ _ _ _ _ _ c.call.ensures.ran
 
 pub returns-clause-refuses_record : goal.returns-clause-refuses_record
 returns-clause-refuses_record g c = record_clause _ _ _ _ _ _ _ _ c.call.ensures.ran

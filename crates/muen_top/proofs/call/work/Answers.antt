@@ -11,6 +11,9 @@ returns-in-Build-clause-came g c = rw (← c.parse.ensures, c.in-Build.is) (c.bu
 pub returns-in-Boot-clause-came : goal.returns-in-Boot-clause-came
 returns-in-Boot-clause-came g c = rw (← c.parse.ensures, c.in-Boot.is) c.boot.ensures.came
 
+pub returns-in-Run-clause-came : goal.returns-in-Run-clause-came
+returns-in-Run-clause-came g c = rw (← c.parse.ensures, c.in-Run.is) c.run.ensures.came
+
 pub returns-in-Map-clause-came : goal.returns-in-Map-clause-came
 returns-in-Map-clause-came g c = rw (← c.parse.ensures, c.in-Map.is) c.map.ensures.came
 

@@ -1,0 +1,27 @@
+use Rattle.std.proofs.Common.{◌≡◌, ℕ, List, [], ◌∷◌, ◌++◌, length, append-nil, inl, inr, refl, sym, ap, ◌∙◌, arith}
+use Rattle.phys_mem.specs.declared.spans.SpanPartBytes.{SpanPartBytes}
+use Rattle.image_pack.specs.declared.parts.SpanPart.{SpanPart}
+use Rattle.image_load.specs.Loaded.{loaded_spans}
+use Rattle.image_load.proofs.memory.load_spans.Goals as goal
+
+-- no span is left, or no bytes are
+no_spans : (ss : List SpanPart) (bs : List (List ℕ)) → length ss ≡ 0 → loaded_spans ss bs ≡ []
+no_spans [] bs none = refl
+no_spans (s ∷ ss) bs none = absurd (omega arith)
+
+no_bytes : (ss : List SpanPart) (bs : List (List ℕ)) → length bs ≡ 0 → loaded_spans ss bs ≡ []
+no_bytes [] bs none = refl
+no_bytes (s ∷ ss) [] none = refl
+no_bytes (s ∷ ss) (b ∷ bs) none = absurd (omega arith)
+
+all_loaded : (loaded all : List SpanPartBytes) (ss : List SpanPart) (bs : List (List ℕ)) → loaded ++ loaded_spans ss bs ≡ all → loaded_spans ss bs ≡ [] → loaded ≡ all
+all_loaded loaded all ss bs was none = sym (append-nil loaded) ∙ (ap (λ x. loaded ++ x) (sym none) ∙ was)
+
+pub returns : goal.returns
+returns c =
+    let ss = c.loop-span.span-iterator.a.rest.now in
+    let bs = c.loop-span.span-iterator.b.rest.items in
+    elim c.in-None.ensures.steps [
+      | inl e ↦ all_loaded _ _ ss bs c.loop-span.invariant (no_spans ss bs e.1.0)
+      | inr e ↦ all_loaded _ _ ss bs c.loop-span.invariant (no_bytes ss bs (omega (arith, e.1.0, c.loop-span.span-iterator.b.rest.ok.0)))
+    ]

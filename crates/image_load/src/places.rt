@@ -1,0 +1,158 @@
+//! What a device record may name of an image.
+ghost use Rattle.std.specs.Prelude.{◌≡◌, ◌++◌, ◌≤◌, IfOk, OnOk, length, map, option_map, option_to_list};
+ghost use Rattle.std.specs.List.{AllZip, flat_map};
+ghost use Rattle.muen_num.specs.declared.limits.TheConstants.{MOST_DEVICES};
+ghost use Rattle.image_load.specs.Loading.{AreLow, IsLow};
+ghost use Rattle.image_load.specs.Places.{HasDevices, IsPlaced, irq_place, named_memory, port_place};
+ghost use Rattle.image_load.specs.Placing.{memory_of_span, memory_of_window};
+
+use crate::spans::span_numbered;
+use image_pack::{DevicePart, Image, IrqPart, SpanPart, WindowPart};
+use muen_num::limits::PAGE;
+use muen_num::{NoMemory, Part, Seq};
+use record_text::{DevicePlaces, Devices, IrqPlace, IrqTarget, MemoryPlace, PortSpan};
+use std::alloc::{AllocError, Global};
+
+// A range of ports.
+fn port_place(range: &image_pack::PortSpan) -> PortSpan
+    ensures { result ≡ port_place range.now }
+{
+    PortSpan {
+        start: range.start,
+        end: range.end,
+    }
+}
+
+// The ranges of ports.
+fn ports_of(alloc: Global, ranges: &[image_pack::PortSpan]) -> Result<Vec<PortSpan>, AllocError>
+    ensures { IfOk result (λ v. v.items ≡ map port_place ranges.now) }
+{
+    ranges.iter().map(port_place).collect(alloc)
+}
+
+// An interrupt, and where it goes.
+fn irq_place(irq: &IrqPart) -> IrqPlace
+    ensures { result ≡ irq_place irq.now }
+{
+    IrqPlace {
+        name: irq.name,
+        target: irq.target.map(|target| IrqTarget {
+            subject: target.subject,
+            vector: target.vector,
+        }),
+    }
+}
+
+// The interrupts.
+fn irqs_of(alloc: Global, irqs: &[IrqPart]) -> Result<Vec<IrqPlace>, AllocError>
+    ensures { IfOk result (λ v. v.items ≡ map irq_place irqs.now) }
+{
+    irqs.iter().map(irq_place).collect(alloc)
+}
+
+// The memory that a span is, if it is a device's.
+fn memory_of_span(span: &SpanPart) -> Option<MemoryPlace>
+    requires { IsLow span.now }
+    ensures { option_map named_memory result ≡ memory_of_span span.now }
+{
+    if !span.kind.is_device() {
+        return None;
+    }
+    match span.tag.part {
+        Part::Named(name) => Some(MemoryPlace {
+            name,
+            place: span.place,
+            bytes: PAGE * u64::from(span.pages),
+        }),
+        _ => None,
+    }
+}
+
+// The memory of a window.
+fn memory_of_window(spans: &[SpanPart], window: &WindowPart) -> Option<MemoryPlace>
+    requires { AreLow spans.now }
+    ensures { option_map named_memory result ≡ memory_of_window spans.now window.now }
+{
+    memory_of_span(span_numbered(spans, window.span)?)
+}
+
+// Appends the memory of a window.
+fn push_memory(
+    memories: &mut Vec<MemoryPlace>,
+    spans: &[SpanPart],
+    window: &WindowPart,
+) -> Result<(), AllocError>
+    requires { AreLow spans.now }
+    ensures { OnOk result (map named_memory memories.new.items
+        ≡ map named_memory memories.old.items ++ option_to_list (memory_of_window spans.now window.now)) }
+{
+    if let Some(memory) = memory_of_window(spans, window) {
+        memories.push(memory)?;
+    }
+    Ok(())
+}
+
+// The memories of these windows.
+fn memories_of(
+    alloc: Global,
+    spans: &[SpanPart],
+    windows: &[WindowPart],
+) -> Result<Vec<MemoryPlace>, AllocError>
+    requires { AreLow spans.now }
+    ensures { IfOk result (λ v. map named_memory v.items ≡ flat_map (λ w. option_to_list (memory_of_window spans.now w)) windows.now) }
+{
+    let mut memories = Vec::new(alloc);
+    for window in windows {
+        push_memory(&mut memories, spans, window)?;
+    }
+    Ok(memories)
+}
+
+// A device, with what a record may name of it.
+fn place_device(
+    alloc: Global,
+    spans: &[SpanPart],
+    device: &DevicePart,
+) -> Result<DevicePlaces, AllocError>
+    requires { AreLow spans.now }
+    ensures { IfOk result (IsPlaced spans.now device.now) }
+{
+    Ok(DevicePlaces {
+        name: device.name,
+        ports: Seq::of(ports_of(alloc, device.ports.items())?),
+        memories: Seq::of(memories_of(alloc, spans, device.windows.items())?),
+        irqs: Seq::of(irqs_of(alloc, device.irqs.items())?),
+    })
+}
+
+// The devices, by number.
+fn place_devices(
+    alloc: Global,
+    spans: &[SpanPart],
+    devices: &[DevicePart],
+) -> Result<Vec<DevicePlaces>, AllocError>
+    requires { AreLow spans.now }
+    ensures { IfOk result (λ v. AllZip (IsPlaced spans.now) devices.now v.items) }
+{
+    let mut places = Vec::new(alloc);
+    for device in devices {
+        places.push(place_device(alloc, spans, device)?)?;
+    }
+    Ok(places)
+}
+
+/// What a device record may name of an image, and where it goes.
+///
+/// # Errors
+/// Memory is refused.
+pub(crate) fn devices_of(alloc: Global, image: &Image) -> Result<Devices, NoMemory>
+    requires low { AreLow image.now.spans }
+    requires few { length image.now.devices ≤ MOST_DEVICES }
+    ensures { IfOk result (HasDevices image.now) }
+{
+    let devices = place_devices(alloc, image.spans.items(), image.devices.items())?;
+    Ok(Devices {
+        cpus: image.header.cpus,
+        devices: Seq::of(devices),
+    })
+}

@@ -1,0 +1,3 @@
+mod LowSpans
+mod Numbered
+mod RunSteps

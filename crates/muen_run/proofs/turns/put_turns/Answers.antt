@@ -1,0 +1,7 @@
+use Rattle.std.proofs.Common.{arith}
+use Rattle.muen_run.proofs.RunSteps.{turn_exit}
+use Rattle.muen_run.proofs.turns.put_turns.Goals as goal
+
+pub returns-in_err-put_line-clause-lines : goal.returns-in_err-put_line-clause-lines
+returns-in_err-put_line-clause-lines g c =
+    turn_exit c.args.kernel.now c.loop-place.place c.loop-place.kernel c.turn_at-line.result _ _ _ _ c.from_residual.ensures.0 (omega arith) c.loop-place.invariant.state c.turn_at-line.ensures.line c.loop-place.invariant.text c.in_err-put_line.ensures

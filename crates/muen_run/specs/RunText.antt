@@ -1,0 +1,82 @@
+-- The text of an image's run: the lines of all turns, each subject's state at the end, and a digest of each region and of each
+-- device's memory (this project's own).
+use Rattle.std.specs.Prelude.{ℕ, ◌+◌, ◌/◌, ◌==◌, Bool, not, true, false, if◌then◌else◌, List, [], ◌++◌, length, slice_get, Option, Some, None}
+use Rattle.std.specs.List.{find, flat_map}
+use Rattle.sha2.specs.Sha256.{sha256}
+use Rattle.muen_num.specs.Range.{numbers_below}
+use Rattle.muen_num.specs.declared.limits.TheConstants.{PAGE}
+use Rattle.machine_meaning.specs.Memory.{Page}
+use Rattle.state_page.specs.StatePage.{state_in}
+use Rattle.image_pack.specs.declared.parts.Image.{Image}
+use Rattle.image_pack.specs.declared.parts.SpanKind.{SpanKind}
+use Rattle.image_pack.specs.declared.parts.SpanKind.TheVariants.{Own, Channel, Provided, Kernel as OfKernel, Device}
+use Rattle.image_pack.specs.declared.parts.SpanPart.{SpanPart}
+use Rattle.image_pack.specs.declared.parts.SubjectPart.{SubjectPart}
+use Rattle.record_text.specs.declared.record.Record.{Record}
+use Rattle.subject_model.specs.Run.{rows_text}
+use Rattle.view_text.specs.ViewText.{turn_text, region_text}
+use Rattle.view_text.specs.declared.Line.{Line}
+use Rattle.vmx_machine.specs.Machine.{page_at}
+use Rattle.vmx_machine.specs.declared.control.Control.{Control}
+use Rattle.tick_run.specs.Run.{Ran}
+use Rattle.kernel_core.specs.Kernel.{Live}
+use Rattle.kernel_core.specs.Ticks.{kernel_run_to, ended}
+use Rattle.kernel_core.specs.declared.setup.Setup.{Setup}
+use Rattle.image_load.specs.Loaded.{memory_of, setup_of}
+
+-- ---- the final states: what each subject's state page has
+
+abbrev pub subject_text : List Page → Option SubjectPart → Option Control → List ℕ
+subject_text pages (Some s) (Some c) = rows_text s.name (state_in (page_at pages c.state))
+subject_text pages (Some s) None = []
+subject_text pages None c = []
+
+-- of the subject with this number
+abbrev pub numbered_subject_text : Setup → List Page → ℕ → List ℕ
+numbered_subject_text setup pages n = subject_text pages (slice_get setup.subjects n) (slice_get setup.controls n)
+
+abbrev pub states_text : Setup → List Page → List ℕ
+states_text setup pages = flat_map (numbered_subject_text setup pages) (numbers_below (length setup.subjects))
+
+-- ---- the digests: of each region, and of each device's memory
+
+-- the bytes of so many pages from this one on
+abbrev pub bytes_from : List Page → ℕ → ℕ → List ℕ
+bytes_from pages first n = flat_map (λ j. page_at pages (first + j)) (numbers_below n)
+
+abbrev pub digest_in : List Page → SpanPart → List ℕ
+digest_in pages s = sha256 (bytes_from pages (s.place / PAGE) s.pages)
+
+-- what is printed as a region, and what as a device's memory; what the kernel has for a subject isn't printed
+abbrev pub prints_as : Bool → SpanKind → Bool
+prints_as device Own = not device
+prints_as device Channel = not device
+prints_as device Provided = not device
+prints_as device OfKernel = false
+prints_as device Device = device
+
+abbrev pub span_text : Bool → List Page → Option SpanPart → List ℕ
+span_text device pages None = []
+span_text device pages (Some s) = if prints_as device s.kind then region_text s.tag device (digest_in pages s) else []
+
+-- of the span with this number
+abbrev pub numbered_span_text : Bool → List SpanPart → List Page → ℕ → List ℕ
+numbered_span_text device spans pages n = span_text device pages (find (λ s. s.number == n) spans)
+
+abbrev pub spans_text : Bool → List SpanPart → List Page → List ℕ
+spans_text device spans pages = flat_map (numbered_span_text device spans pages) (numbers_below (length spans))
+
+-- ---- the whole
+
+-- the final lines
+abbrev pub final_text : Setup → List SpanPart → List Page → List ℕ
+final_text setup spans pages = states_text setup pages ++ (spans_text false spans pages ++ spans_text true spans pages)
+
+-- the lines of these turns, and then the final lines
+abbrev pub ran_text : Setup → List SpanPart → ℕ → Ran Live Line → List ℕ
+ran_text setup spans cpus ran = flat_map turn_text ran.lines ++ final_text setup spans (ended cpus ran.state).machine.pages
+
+-- **the text** of an image's run on a record: all its ticks, and then the final lines
+unfoldable pub image_text : Image → Record → List ℕ
+image_text i run =
+    ran_text (setup_of i) i.spans i.header.cpus (kernel_run_to (setup_of i) run i.header.cpus (memory_of i) run.end)

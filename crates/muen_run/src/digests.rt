@@ -1,0 +1,118 @@
+// The final lines of regions and of devices' memories.
+ghost use Rattle.std.specs.Prelude.{◌≡◌, ◌+◌, ◌/◌, ◌^◌, ◌<◌, ◌≤◌, ◌==◌, option_map};
+ghost use Rattle.std.specs.List.{find};
+ghost use Rattle.sha2.specs.Sha256.{sha256};
+ghost use Rattle.muen_outside.specs.Buffered.{Gives, behind};
+ghost use Rattle.vmx_machine.specs.Machine.{page_at};
+ghost use Rattle.view_text.specs.ViewText.{region_text};
+ghost use Rattle.image_load.specs.Loading.{AreLow, IsLow};
+ghost use Rattle.muen_run.specs.RunText.{bytes_from, digest_in, numbered_span_text, prints_as, spans_text};
+
+use image_pack::{SpanKind, SpanPart};
+use muen_num::limits::PAGE;
+use muen_outside::{Buffer, Sink, SinkFault};
+use phys_mem::PhysMem;
+use sha2::{Digest, Sha256};
+use view_text::region_line;
+
+// The bytes of a page. None where it isn't there.
+fn bytes_of_page<M: PhysMem>(mem: &M, page: u64) -> &[u8]
+    requires { page < 2 ^ 52 }
+    ensures { result.now ≡ page_at (M.pages mem.now) page }
+{
+    match mem.page(PAGE * page) {
+        None => &[],
+        Some(bytes) => bytes,
+    }
+}
+
+// The digest of so many pages from this one on.
+fn digest_of<M: PhysMem>(mem: &M, first: u64, pages: u32) -> [u8; 32]
+    requires { first + pages ≤ 2 ^ 52 }
+    ensures { result ≡ sha256 (bytes_from (M.pages mem.now) first pages) }
+{
+    let mut hasher = Sha256::new();
+    for page in 0..pages {
+        hasher.update(bytes_of_page(mem, first + u64::from(page)));
+    }
+    hasher.finalize()
+}
+
+// The line of a span.
+#[tactic(auto, using(crate::proofs::LowSpans::low_pages))]
+fn put_span<S: Sink, M: PhysMem>(
+    mem: &M,
+    span: &SpanPart,
+    device: bool,
+    buffer: &mut Buffer,
+    out: &mut S,
+) -> Result<(), SinkFault>
+    requires { IsLow span.now }
+    ensures { Gives (region_text span.now.tag device (digest_in (M.pages mem.now) span.now)) (behind (S.state out.old) buffer.old) (behind (S.state out.new) buffer.new) result }
+{
+    let mut space = [0u8; 256];
+    let digest = digest_of(mem, span.place / PAGE, span.pages);
+    let n = region_line(&span.tag, device, &digest, &mut space);
+    buffer.put(&space[..n], out)
+}
+
+// Whether a span of this kind is printed, as a device's memory or as a region.
+fn prints_as(device: bool, kind: SpanKind) -> bool
+    ensures { result ≡ prints_as device kind }
+{
+    match kind {
+        SpanKind::Own | SpanKind::Channel | SpanKind::Provided => !device,
+        SpanKind::Kernel => false,
+        SpanKind::Device => device,
+    }
+}
+
+// The span with this number.
+fn span_numbered(spans: &[SpanPart], n: usize) -> Option<&SpanPart>
+    ensures { option_map (λ s. s.now) result ≡ find (λ s. s.number == n) spans.now }
+{
+    spans.iter().find(|span| usize::from(span.number) == n)
+}
+
+// The line of the span with this number, where it is printed.
+#[tactic(auto, using(muen_outside::proofs::Buffered::gives))]
+fn put_numbered<S: Sink, M: PhysMem>(
+    mem: &M,
+    spans: &[SpanPart],
+    n: usize,
+    device: bool,
+    buffer: &mut Buffer,
+    out: &mut S,
+) -> Result<(), SinkFault>
+    requires { AreLow spans.now }
+    ensures { Gives (numbered_span_text device spans.now (M.pages mem.now) n) (behind (S.state out.old) buffer.old) (behind (S.state out.new) buffer.new) result }
+{
+    match span_numbered(spans, n) {
+        None => Ok(()),
+        Some(span) => {
+            if prints_as(device, span.kind) {
+                put_span(mem, span, device, buffer, out)
+            } else {
+                Ok(())
+            }
+        }
+    }
+}
+
+/// The lines of all regions, or of all devices' memories, by their numbers.
+#[tactic(auto, using(crate::proofs::Numbered::numbered))]
+pub(crate) fn put_spans<S: Sink, M: PhysMem>(
+    mem: &M,
+    spans: &[SpanPart],
+    device: bool,
+    buffer: &mut Buffer,
+    out: &mut S,
+) -> Result<(), SinkFault>
+    requires { AreLow spans.now }
+    ensures { Gives (spans_text device spans.now (M.pages mem.now)) (behind (S.state out.old) buffer.old) (behind (S.state out.new) buffer.new) result }
+{
+    for n in 0..spans.len() {
+        put_numbered(mem, spans, n, device, buffer, out)?;
+    }
+    Ok(())
+}

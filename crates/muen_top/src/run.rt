@@ -1,0 +1,74 @@
+// The command `run`: an image and a record are read, and the image's run is printed.
+ghost use Rattle.std.specs.Prelude.{Some, IfOk, IfErr};
+ghost use Rattle.kernel_core.specs.Ticks.{CanRun};
+ghost use Rattle.muen_run.specs.RunText.{image_text};
+ghost use Rattle.muen_build.specs.Looks.{Follows};
+ghost use Rattle.muen_top.specs.Answers.{prints};
+ghost use Rattle.muen_top.specs.Calls.{Came};
+ghost use Rattle.muen_top.specs.Commands.{run as run_command};
+ghost use Rattle.muen_top.specs.PolicyCommands.{Gives, Stops};
+ghost use Rattle.muen_top.specs.Runs.{RunsTo};
+
+use crate::loading::{load, load_too};
+use crate::outcome::{Outcome, Stop};
+use image_load::read_record;
+use image_pack::{Parts, unpack};
+use muen_num::limits::{IMAGE_MOST, RECORD_MOST};
+use muen_outside::{Files, Sink};
+use muen_run::RunEnd;
+use record_text::Record;
+use std::alloc::Global;
+
+// What is run.
+#[derive(Drop)]
+struct Loaded {
+    parts: Parts,
+    input: Record,
+}
+
+// The image and the record of these files.
+fn read_both<'a, F: Files>(
+    alloc: Global,
+    image: &'a str,
+    inputs: &'a str,
+    files: &mut F,
+) -> Result<Loaded, Stop<'a>>
+    ensures ok { IfOk result (λ x. Gives (run_command image.now inputs.now) (F.state files.old) (prints (image_text x.parts x.input))) }
+    ensures can_run { IfOk result (λ x. CanRun x.input) }
+    ensures err { IfErr result (Stops (run_command image.now inputs.now) (F.state files.old) (F.state files.new)) }
+    ensures follows { Follows (F.state files.old) (F.state files.new) }
+{
+    let bytes = load(alloc, image, IMAGE_MOST, files)?;
+    let parts = unpack(alloc, bytes.items())?;
+    let bytes = load_too(alloc, image, bytes, inputs, RECORD_MOST, files)?;
+    let input = read_record(alloc, &parts, bytes.items())?;
+    Ok(Loaded { parts, input })
+}
+
+fn run_image<'a, S: Sink>(alloc: Global, parts: Parts, input: Record, out: &mut S) -> Outcome<'a>
+    requires { CanRun input }
+    ensures { RunsTo (image_text parts input) (S.state out.old) (S.state out.new) result }
+{
+    match muen_run::run(alloc, parts, input, out) {
+        Ok(()) => Outcome::Done,
+        Err(RunEnd::OutFault) => Outcome::OutputFault,
+        Err(RunEnd::NoMemory) => Outcome::Stopped(Stop::NoMemory),
+    }
+}
+
+/// Reads the image and the record, and prints the run.
+pub(crate) fn run<'a, F: Files, S: Sink>(
+    alloc: Global,
+    image: &'a str,
+    inputs: &'a str,
+    files: &mut F,
+    out: &mut S,
+) -> Outcome<'a>
+    ensures came { Came (Some (run_command image.now inputs.now)) (F.state files.old) (F.state files.new) (S.state out.old) (S.state out.new) result }
+    ensures follows { Follows (F.state files.old) (F.state files.new) }
+{
+    match read_both(alloc, image, inputs, files) {
+        Ok(Loaded { parts, input }) => run_image(alloc, parts, input, out),
+        Err(stop) => Outcome::Stopped(stop),
+    }
+}
