@@ -7,13 +7,12 @@ use Rattle.image_plan.specs.declared.plan.GroupPart.{GroupPart}
 use Rattle.muen_num.specs.declared.mode.Mode.{Mode}
 use Rattle.muen_num.specs.declared.mode.Mode.TheVariants.{Asap, Async, Own, Switch}
 use Rattle.event_router.specs.Vectors.{no_vectors, has, with_vector, without_vector, delivered}
-use Rattle.event_router.specs.declared.vectors.VectorSet.{VectorSet}
 
 pub record RouterState : Type 0 where
   -- each subject's pending vectors that are deliverable at any turn
-  pub pending_now : List VectorSet
+  pub pending_now : List (List Bool)
   -- each subject's pending vectors that wait for a minor frame or an exit
-  pub pending_later : List VectorSet
+  pub pending_later : List (List Bool)
   -- each subject's scheduling group
   pub groups : List ℕ
   -- each group's active member
@@ -30,7 +29,7 @@ started subjects groups = record {
 
 -- ---- events are raised
 
-abbrev pub pends : Option ℕ → ℕ → List VectorSet → List VectorSet
+abbrev pub pends : Option ℕ → ℕ → List (List Bool) → List (List Bool)
 pends None subject sets = sets
 pends (Some v) subject sets = change_at subject (with_vector v) sets
 
@@ -59,7 +58,7 @@ raised e r = raised_as e.mode e.target e.vector r
 
 -- ---- events are delivered
 
-abbrev pub delivered_by : Option VectorSet → Option VectorSet → Bool → Option ℕ
+abbrev pub delivered_by : Option (List Bool) → Option (List Bool) → Bool → Option ℕ
 delivered_by (Some now) (Some later) entry = delivered now later entry
 delivered_by (Some now) None entry = None
 delivered_by None later entry = None
@@ -76,7 +75,7 @@ taken subject (Some v) r =
 
 -- ---- what is pending
 
-abbrev pub has_in : Option VectorSet → ℕ → Bool
+abbrev pub has_in : Option (List Bool) → ℕ → Bool
 has_in None v = false
 has_in (Some s) v = has s v
 

@@ -6,7 +6,6 @@ mod router;
 mod vectors;
 
 pub use router::Router;
-pub use vectors::VectorSet;
 
 #[cfg(test)]
 mod tests;

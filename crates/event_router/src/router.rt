@@ -1,5 +1,5 @@
 //! Pending events, and active members.
-ghost use Rattle.std.specs.Prelude.{◌≡◌, slice_get, map, Some, IfOk};
+ghost use Rattle.std.specs.Prelude.{◌≡◌, slice_get, map, Some, IfOk, option_map};
 ghost use Rattle.look_up.specs.ByNumber.{change_at};
 ghost use Rattle.event_router.specs.Vectors.{no_vectors, with_vector, without_vector};
 ghost use Rattle.event_router.specs.Router.{started, pends, pends_now, with_active, raised, delivered_by, deliverable, taken, is_pending, has_in};
@@ -22,41 +22,42 @@ pub struct Router {
 }
 
 impl Model for Router {
+    ghost use Rattle.std.specs.Prelude.{map};
     ghost use Rattle.event_router.specs.Router.{RouterState};
 
     ghost Value = { RouterState };
 
-    ghost view = { λ r. record { pending_now = r.pending_now.items; pending_later = r.pending_later.items; groups = r.groups.items; active = r.active.items } };
+    ghost view = { λ r. record { pending_now = map (λ s. s.marks) r.pending_now.items; pending_later = map (λ s. s.marks) r.pending_later.items; groups = r.groups.items; active = r.active.items } };
 }
 
 // An empty set for each subject.
 fn empty_sets(alloc: Global, subjects: &[SubjectPart]) -> Result<Vec<VectorSet>, AllocError>
-    ensures { IfOk result (λ v. v.items ≡ map (λ s. no_vectors) subjects.now) }
+    ensures { IfOk result (λ v. map (λ s. s.marks) v.items ≡ map (λ s. no_vectors) subjects.now) }
 {
     subjects.iter().map(|_| VectorSet::new()).collect(alloc)
 }
 
-// Puts a vector, if there is one, into a subject's set.
-#[tactic(auto, using(look_up::proofs::ChangeLaws::change_is, look_up::proofs::ChangeLaws::past_is))]
+// Puts a vector into a subject's set.
 fn put(sets: &mut [VectorSet], subject: usize, vector: u8)
-    ensures { sets.new ≡ change_at subject (with_vector vector) sets.old }
+    ensures { map (λ s. s.marks) sets.new ≡ change_at subject (with_vector vector) (map (λ s. s.marks) sets.old) }
 {
     if subject < sets.len() {
-        sets[subject].put(vector);
+        sets[subject] = sets[subject].with(vector);
     }
 }
 
-#[tactic(auto, using(look_up::proofs::ChangeLaws::change_is, look_up::proofs::ChangeLaws::past_is))]
+// Takes a vector out of a subject's set.
 fn take(sets: &mut [VectorSet], subject: usize, vector: u8)
-    ensures { sets.new ≡ change_at subject (without_vector vector) sets.old }
+    ensures { map (λ s. s.marks) sets.new ≡ change_at subject (without_vector vector) (map (λ s. s.marks) sets.old) }
 {
     if subject < sets.len() {
-        sets[subject].take(vector);
+        sets[subject] = sets[subject].without(vector);
     }
 }
 
+// Puts a vector, if there is one, into a subject's set.
 fn pend(sets: &mut [VectorSet], subject: usize, vector: Option<u8>)
-    ensures { sets.new ≡ pends vector subject sets.old }
+    ensures { map (λ s. s.marks) sets.new ≡ pends vector subject (map (λ s. s.marks) sets.old) }
 {
     if let Some(vector) = vector {
         put(sets, subject, vector);
@@ -82,14 +83,14 @@ fn hand_over(active: &mut [u8], groups: &[u8], subject: u8)
 }
 
 // The set of a subject.
-fn set_of(sets: &[VectorSet], subject: usize) -> Option<VectorSet>
-    ensures { result ≡ slice_get sets.now subject }
+fn set_of(sets: &[VectorSet], subject: usize) -> Option<&VectorSet>
+    ensures { option_map (λ s. s.now.marks) result ≡ slice_get (map (λ s. s.marks) sets.now) subject }
 {
-    sets.get(subject).copied()
+    sets.get(subject)
 }
 
 fn has_in(sets: &[VectorSet], subject: usize, vector: u8) -> bool
-    ensures { result ≡ has_in (slice_get sets.now subject) vector }
+    ensures { result ≡ has_in (slice_get (map (λ s. s.marks) sets.now) subject) vector }
 {
     match set_of(sets, subject) {
         None => false,
@@ -175,14 +176,14 @@ impl Router {
 }
 
 // By the two sets of a subject.
-fn delivered_by(now: Option<VectorSet>, later: Option<VectorSet>, entry: bool) -> Option<u8>
-    ensures { result ≡ delivered_by now later entry }
+fn delivered_by(now: Option<&VectorSet>, later: Option<&VectorSet>, entry: bool) -> Option<u8>
+    ensures { result ≡ delivered_by (option_map (λ s. s.now.marks) now.entry) (option_map (λ s. s.now.marks) later.entry) entry }
 {
     match now {
         None => None,
         Some(now) => match later {
             None => None,
-            Some(later) => delivered(&now, &later, entry),
+            Some(later) => delivered(now, later, entry),
         },
     }
 }
