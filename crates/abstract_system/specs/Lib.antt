@@ -1,0 +1,6 @@
+pub mod ByKey
+pub mod Alone
+pub mod System
+pub mod Clock
+pub mod Trace
+pub mod Laws

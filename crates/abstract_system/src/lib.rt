@@ -1,0 +1,84 @@
+//! The abstract system, and laws of it.
+//!
+//! The definitions stand in specs/: what a subject does alone (`Alone`), the system and its turn
+//! (`System`), the system on the clock (`Clock`), and the text of a run (`Trace`). The functions here
+//! carry laws of them; no command calls one.
+#![tactic(auto)]
+
+ghost use Rattle.std.specs.Prelude.{◌≡◌, ℕ, List, Some, None, true, slice_get};
+ghost use Rattle.guest_step.specs.Step.{MsrWrite};
+ghost use Rattle.guest_step.specs.declared.reach.Reach.TheVariants.{Reached};
+ghost use Rattle.muen_num.specs.declared.access.Kind.{Kind};
+ghost use Rattle.muen_num.specs.declared.mode.Mode.TheVariants.{Switch};
+ghost use Rattle.policy_meaning.specs.Events.{Raised, Target, event_of};
+ghost use Rattle.policy_meaning.specs.Thing.{Thing, state};
+ghost use Rattle.policy_meaning.specs.Windows.{access_of, byte};
+ghost use Rattle.policy_types.specs.declared.source.Source.{Source};
+ghost use Rattle.policy_types.specs.declared.source.SourceWay.{SourceWay};
+ghost use Rattle.policy_types.specs.declared.source.Subject.{Subject};
+ghost use Rattle.state_page.specs.StatePage.{page_bytes};
+ghost use Rattle.subject_model.specs.System.{group_of};
+ghost use Rattle.subject_state.specs.declared.SubjectState.{SubjectState};
+ghost use Rattle.abstract_system.specs.Alone.{Inbox, MsrValues, Own, OwnState, TurnAnswer, alone, are_granted, bytes_in, solo_turn, thing_in, vector_for, waits};
+ghost use Rattle.abstract_system.specs.Laws.{AreOthers, KeepsOthers, StoresElsewhere};
+ghost use Rattle.abstract_system.specs.System.{System, answered, happens_as, named, raised_by, with_own, with_write};
+
+/// A stopped subject does nothing, and its turn has no line.
+pub fn stopped_does_nothing()
+    ensures { (own : Own) (mine : OwnState) (inbox : Inbox) → mine.state.stopped ≡ true → solo_turn own mine inbox ≡ waits mine.state }
+{}
+
+/// A halted subject to which no event can be delivered does nothing, and its turn has no line.
+pub fn halted_waits()
+    ensures { (own : Own) (mine : OwnState) (inbox : Inbox) → mine.state.halted ≡ true → vector_for mine.state inbox ≡ None
+        → solo_turn own mine inbox ≡ waits mine.state }
+{}
+
+/// A turn depends on the bytes of the things that reach the subject, the input bytes of its ports,
+/// its pending events, whether its minor frame begins, and the tick, and on nothing else that is
+/// outside it.
+pub fn turn_sees_its_inbox_alone()
+    ensures { (own : Own) (mine : OwnState) (a b : Inbox) → ((x : Thing) → bytes_in a.things x ≡ bytes_in b.things x)
+        → a.ports ≡ b.ports → a.now ≡ b.now → a.later ≡ b.later → a.first ≡ b.first → a.tick ≡ b.tick
+        → solo_turn own mine a ≡ solo_turn own mine b }
+{}
+
+/// What a subject reaches is what a window of its with the right for this access shows there.
+pub fn windows_alone_are_reached()
+    ensures { (own : Own) (values : MsrValues) (inbox : Inbox) (kind : Kind) (addr : ℕ) (x : Thing) (offset : ℕ)
+        → (alone own values inbox).look kind addr ≡ Reached x offset → access_of own.windows addr kind ≡ byte x offset }
+{}
+
+/// Ports are read only where each of them is granted.
+pub fn granted_ports_alone_are_read()
+    ensures { (own : Own) (values : MsrValues) (inbox : Inbox) (port size value : ℕ)
+        → (alone own values inbox).input port size ≡ Some value → are_granted own.ports port size ≡ true }
+{}
+
+/// After its turn the state page of a subject is that of its new state.
+pub fn the_page_is_that_of_the_state()
+    ensures { (p : Source) (s : Subject) (a : TurnAnswer) (y : System) (page : List ℕ)
+        → thing_in y.things (state s.name) ≡ Some page → StoresElsewhere s a.stored
+        → thing_in (answered p s a y).things (state s.name) ≡ Some (page_bytes a.state) }
+{}
+
+/// A turn writes the MSRs of its subject, and those of no other.
+pub fn own_msrs_alone_are_written()
+    ensures own { (name : List ℕ) (s : SubjectState) (m : MsrWrite) (y : System) (values : MsrValues) → named y.msrs name ≡ Some values
+        → named (with_own name s (Some m) y).msrs name ≡ Some (with_write (Some m) values) }
+    ensures others { (name other : List ℕ) (s : SubjectState) (m : MsrWrite) (y : System) → AreOthers name other
+        → named (with_own name s (Some m) y).msrs other ≡ named y.msrs other }
+{}
+
+/// What a subject raises pends at the event's target, and at no other subject, the source no more
+/// than any other.
+pub fn events_reach_their_target_alone()
+    ensures { (p : Source) (s : Subject) (way : SourceWay) (e : Raised) (y : System) → event_of p s way ≡ Some e
+        → KeepsOthers e.target.subject y (raised_by p s (Some way) y) }
+{}
+
+/// A handover makes its target the active member of its group, whose turn comes next in it.
+pub fn a_handover_counts_from_the_next_turn()
+    ensures { (p : Source) (t : Target) (y : System) (group : ℕ) (member : List ℕ) → group_of p t.subject ≡ Some group
+        → slice_get y.active group ≡ Some member → slice_get (happens_as p Switch t y).active group ≡ Some t.subject }
+{}

@@ -1,0 +1,6 @@
+pub mod DeviceMemories
+pub mod FinalTexts
+pub mod FlatLists
+pub mod RecordFacts
+pub mod SameInputs
+pub mod Traces

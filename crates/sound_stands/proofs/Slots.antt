@@ -1,0 +1,123 @@
+-- The plan of a sound image is that of its policy: it has as many CPUs, the same slots, and each group on the CPU of its members.
+use Rattle.std.proofs.Common.{◌≡◌, ℕ, ◌-◌, ◌<◌, Bool, true, false, List, [], ◌∷◌, map, Option, Some, None, refl, sym, ap, subst, ◌∙◌, inl, inr}
+use Rattle.std.specs.Prelude.{◌==◌, nat_lt, option_and_then, option_map, slice_get, slice_index_or}
+use Rattle.std.specs.Option.{option_map_or}
+use Rattle.std.specs.List.{flat_map, list_all}
+use Rattle.std.proofs.lemmas.Bool.{and_from, and_parts, cases_lt, eqb-true}
+use Rattle.std.proofs.lemmas.List.Concat.{flat_map-cons}
+use Rattle.std.proofs.lemmas.List.Folds.{list_all-append, list_all-map}
+use Rattle.std.proofs.lemmas.Option.{slice_get-map}
+use Rattle.abstract_system.specs.Clock.{ticks_of_majors}
+use Rattle.frame_clock.specs.FramePlace.{slot_in, ticks_of_majors as ticks_in_plan}
+use Rattle.frame_clock.specs.declared.place.FramePlace.{FramePlace}
+use Rattle.image_meaning.specs.Named.{bench_of}
+use Rattle.image_meaning.specs.Sound.{IsSound}
+use Rattle.image_pack.specs.ImageConditions.{KeepsConditions}
+use Rattle.image_pack.specs.declared.parts.Image.{Image}
+use Rattle.image_pack.specs.declared.parts.SubjectPart.{SubjectPart}
+use Rattle.image_plan.proofs.SlotLaws.{frame_slot, frames_at, frames_there, has_majors, major_ticks, ticks_of}
+use Rattle.image_plan.specs.Plan.{cpus_of, frame_of, frames_in, is_group_on, is_major, is_minor, is_plan}
+use Rattle.image_plan.specs.Slot.{Slot, frame_slots}
+use Rattle.image_plan.specs.declared.plan.GroupPart.{GroupPart}
+use Rattle.image_plan.specs.declared.plan.Major.{Major}
+use Rattle.image_plan.specs.declared.plan.Minor.{Minor}
+use Rattle.image_plan.specs.declared.plan.Plan.{Plan}
+use Rattle.muen_num.proofs.Lists.{passes_at}
+use Rattle.muen_num.specs.Frame.{Frame}
+use Rattle.muen_num.specs.Range.{numbers_below}
+use Rattle.policy_meaning.specs.Contents.{Held}
+use Rattle.policy_meaning.specs.Frames.{frames_of}
+use Rattle.policy_types.specs.declared.source.Source.{Source}
+use Rattle.sound_stands.proofs.PlanFacts.{no_slots}
+use Rattle.sound_stands.proofs.SubjectFacts.{subject_kept}
+
+-- ---- CPUs and slots
+
+-- an image has as many CPUs as its policy
+pub same_cpus : (p : Source) (files : Held) (i : Image) → IsSound p files i → i.header.cpus ≡ p.processor.logical_cpus
+unfolding bench_of
+same_cpus p files i sound = ap (λ b. b.cpus) sound.plan_and_events.bench
+
+-- a CPU that is there has the slots of the policy
+pub slots : (p : Source) (files : Held) (i : Image) → IsSound p files i → (cpu : ℕ) (place : FramePlace) (tick : ℕ) → cpu < p.processor.logical_cpus → slot_in (frames_in i.plan cpu) place tick ≡ slot_in (frames_of p cpu) place tick
+slots p files i sound cpu place tick low = ap (λ frames. slot_in frames place tick) (sound.plan_and_events.plan.frames cpu low)
+
+-- ---- the groups of slots
+
+abbrev slot_on : List GroupPart → ℕ → Slot → Bool
+slot_on groups cpu s = is_group_on groups cpu s.group
+
+always : (b : Bool) (ks : List ℕ) → b ≡ true → list_all (λ k. b) ks ≡ true
+always b [] h = refl
+always b (k ∷ ks) h = and_from b (list_all (λ k. b) ks) h (always b ks h)
+
+-- each tick of a minor frame is for the frame's group
+frame_on : (groups : List GroupPart) (cpu major : ℕ) (f : Minor) → is_minor groups cpu f ≡ true → list_all (slot_on groups cpu) (frame_slots major (frame_of f)) ≡ true
+frame_on groups cpu major f h =
+    let on = (and_parts (nat_lt 0 f.ticks) (is_group_on groups cpu f.group) h).1 in
+    list_all-map (slot_on groups cpu) (frame_slot major (frame_of f)) (numbers_below f.ticks) ∙ always (is_group_on groups cpu f.group) (numbers_below f.ticks) on
+
+frames_on : (groups : List GroupPart) (cpu major : ℕ) (fs : List Minor) → list_all (is_minor groups cpu) fs ≡ true → list_all (slot_on groups cpu) (flat_map (frame_slots major) (map frame_of fs)) ≡ true
+frames_on groups cpu major [] all = refl
+frames_on groups cpu major (f ∷ fs) all =
+    let parts = and_parts (is_minor groups cpu f) (list_all (is_minor groups cpu) fs) all in
+    let here = frame_slots major (frame_of f) in
+    let later = flat_map (frame_slots major) (map frame_of fs) in
+    ap (list_all (slot_on groups cpu)) (flat_map-cons (frame_slots major) (frame_of f) (map frame_of fs))
+    ∙ list_all-append (slot_on groups cpu) here later
+    ∙ and_from (list_all (slot_on groups cpu) here) (list_all (slot_on groups cpu) later) (frame_on groups cpu major f parts.0) (frames_on groups cpu major fs parts.1)
+
+-- a slot of a major frame of the plan
+in_major : (plan : Plan) (cpu : ℕ) (at : FramePlace) (tick : ℕ) (slot : Slot) → is_plan plan ≡ true → cpu < cpus_of plan → (o : Option Major) → slice_get plan.majors at.major ≡ o
+    → option_and_then (λ (fs : List Frame). slice_get (flat_map (frame_slots at.major) fs) (tick - at.start)) (option_map (frames_at cpu) o) ≡ Some slot → is_group_on plan.groups cpu slot.group ≡ true
+in_major plan cpu at tick slot valid low None there is = absurd (cc (is))
+in_major plan cpu at tick slot valid low (Some m) there is =
+    let major = passes_at (is_major plan.groups (cpus_of plan)) plan.majors at.major m (has_majors plan valid).each there in
+    let each = (frames_there plan.groups (cpus_of plan) m cpu major low).each in
+    passes_at (slot_on plan.groups cpu) (flat_map (frame_slots at.major) (frames_at cpu m)) (tick - at.start) slot (frames_on plan.groups cpu at.major (slice_index_or m.cpus cpu []) each) is
+
+-- the group of a slot is on the CPU that has the slot
+pub group_of_slot : (plan : Plan) (cpu : ℕ) (at : FramePlace) (tick : ℕ) (slot : Slot) → is_plan plan ≡ true → cpu < cpus_of plan → slot_in (frames_in plan cpu) at tick ≡ Some slot → is_group_on plan.groups cpu slot.group ≡ true
+unfolding frames_in
+group_of_slot plan cpu at tick slot valid low is =
+    in_major plan cpu at tick slot valid low (slice_get plan.majors at.major) refl
+    (ap (option_and_then (λ (fs : List Frame). slice_get (flat_map (frame_slots at.major) fs) (tick - at.start))) (sym (slice_get-map (frames_at cpu) plan.majors at.major)) ∙ is)
+
+-- a group is on one CPU
+one_cpu : (o : Option GroupPart) (a b : ℕ) → option_map_or (λ g. g.cpu == a) o false ≡ true → option_map_or (λ g. g.cpu == b) o false ≡ true → a ≡ b
+one_cpu None a b h k = absurd (cc (h))
+one_cpu (Some g) a b h k = sym (eqb-true g.cpu a h) ∙ eqb-true g.cpu b k
+
+-- who is in the group of a slot is on the CPU that has the slot
+pub planned : (p : Source) (files : Held) (i : Image) → KeepsConditions i → IsSound p files i → (cpu : ℕ) (place : FramePlace) (tick : ℕ) (slot : Slot) (s : ℕ) (q : SubjectPart)
+    → slot_in (frames_of p cpu) place tick ≡ Some slot → slice_get i.subjects s ≡ Some q → q.group ≡ slot.group → q.cpu ≡ cpu
+planned p files i keeps sound cpu place tick slot s q is at same =
+    elim (cases_lt cpu p.processor.logical_cpus) [
+      | inl low ↦
+          let plan = sound.plan_and_events.plan in
+          let on = group_of_slot i.plan cpu place tick slot plan.valid (subst (λ n. cpu < n) (sym plan.cpus) low) (slots p files i sound cpu place tick low ∙ is) in
+          let mine = (subject_kept i keeps s q at).1.in_group in
+          one_cpu (slice_get i.plan.groups slot.group) q.cpu cpu (subst (λ n. is_group_on i.plan.groups q.cpu n ≡ true) same mine) on
+      | inr high ↦ absurd (let none = no_slots p sound.lawful cpu place tick high in cc (none, is))
+    ]
+
+-- ---- the ticks of major frames
+
+ticks_by : (groups : List GroupPart) (cpus : ℕ) (ms : List Major) → list_all (is_major groups cpus) ms ≡ true → 0 < cpus → map ticks_of (map (frames_at 0) ms) ≡ map (λ m. m.ticks) ms
+ticks_by groups cpus [] all low = refl
+ticks_by groups cpus (m ∷ ms) all low =
+    let parts = and_parts (is_major groups cpus m) (list_all (is_major groups cpus) ms) all in
+    rw (major_ticks groups cpus m 0 parts.0 low, ticks_by groups cpus ms parts.1 low) refl
+
+ticks_in_frames : (plan : Plan) → is_plan plan ≡ true → map ticks_of (frames_in plan 0) ≡ ticks_in_plan plan
+unfolding frames_in
+ticks_in_frames plan valid =
+    let has = has_majors plan valid in
+    ticks_by plan.groups (cpus_of plan) plan.majors has.each has.cpu
+
+-- major frames have the ticks of the policy
+pub majors : (p : Source) (files : Held) (i : Image) → IsSound p files i → ticks_in_plan i.plan ≡ ticks_of_majors p
+majors p files i sound =
+    let plan = sound.plan_and_events.plan in
+    let some : 0 < p.processor.logical_cpus = subst (λ n. 0 < n) plan.cpus (has_majors i.plan plan.valid).cpu in
+    sym (ticks_in_frames i.plan plan.valid) ∙ ap (map ticks_of) (plan.frames 0 some)

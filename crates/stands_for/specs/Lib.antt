@@ -1,0 +1,5 @@
+pub mod Ground
+pub mod Fixed
+pub mod Held
+pub mod Stands
+pub mod Inputs
