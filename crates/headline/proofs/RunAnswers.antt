@@ -1,0 +1,42 @@
+-- The answer to `run` on a sound image.
+use Rattle.std.proofs.Common.{◌≡◌, ℕ, List, Some, ap, ◌∙◌}
+use Rattle.std.specs.FinMap.{get}
+use Rattle.std.specs.Prelude.{Ok}
+use Rattle.abstract_system.specs.Trace.{trace_of}
+use Rattle.image_form.specs.Faults.{unpacked}
+use Rattle.image_form.proofs.Theorem.{back}
+use Rattle.image_load.specs.Placing.{image_bench}
+use Rattle.image_meaning.specs.Sound.{IsSound}
+use Rattle.image_pack.specs.Image.{image as image_form}
+use Rattle.image_pack.specs.ImageConditions.{KeepsConditions}
+use Rattle.image_pack.specs.declared.parts.Image.{Image}
+use Rattle.image_pack.proofs.ImageLaws.{image_laws}
+use Rattle.muen_build.specs.Building.{IsImageFor}
+use Rattle.muen_num.specs.declared.limits.TheConstants.{IMAGE_MOST, RECORD_MOST}
+use Rattle.muen_outside.specs.Store.{reading_of, whole}
+use Rattle.muen_top.specs.Answers.{answer_of, named_answer, of_file, prints, run_answer, unpacked_answer}
+use Rattle.muen_top.specs.Commands.{run}
+use Rattle.policy_meaning.specs.Contents.{Held}
+use Rattle.policy_types.specs.declared.source.Source.{Source}
+use Rattle.record_text.specs.DeviceRecord.{DeviceRecord}
+use Rattle.record_text.specs.Reading.{record_of}
+use Rattle.sound_runs.proofs.SameInputs.{same_bench}
+use Rattle.sound_runs.proofs.Traces.{traces_are}
+use Rattle.sound_stands.specs.GroundOf.{AreSmall}
+use Rattle.subject_model.specs.Bench.{devices_of}
+
+pub run_prints : (files held : Held) (name other bytes text : List ℕ) (i : Image) (p : Source) (r : DeviceRecord) → reading_of (get files name) IMAGE_MOST ≡ whole bytes → unpacked image_form bytes ≡ Ok i → KeepsConditions i → IsSound p held i → AreSmall p i → reading_of (get files other) RECORD_MOST ≡ whole text → record_of text (devices_of p) ≡ Ok r → answer_of files (Some (run name other)) ≡ prints (trace_of p held r)
+unfolding run_answer
+run_prints files held name other bytes text i p r image_there parts keeps sound small record_there named =
+    ap (of_file name (λ bytes. unpacked_answer files other (unpacked image_form bytes))) image_there
+    ∙ (ap (unpacked_answer files other) parts
+    ∙ (ap (of_file other (λ bytes. named_answer i (record_of bytes (image_bench i)))) record_there
+    ∙ (ap (λ b. named_answer i (record_of text b)) (same_bench i keeps ∙ sound.plan_and_events.bench)
+    ∙ (ap (named_answer i) named
+    ∙ ap prints (traces_are p held i text r keeps sound small named)))))
+
+pub built_prints : (files held : Held) (name other bytes text : List ℕ) (p : Source) (r : DeviceRecord) (built : IsImageFor p held bytes) → reading_of (get files name) IMAGE_MOST ≡ whole bytes → KeepsConditions built.parts → AreSmall p built.parts → reading_of (get files other) RECORD_MOST ≡ whole text → record_of text (devices_of p) ≡ Ok r → answer_of files (Some (run name other)) ≡ prints (trace_of p held r)
+built_prints files held name other bytes text p r built image_there keeps small record_there named =
+    run_prints files held name other bytes text built.parts p r image_there
+    (ap (unpacked image_form) built.image.bytes_are ∙ back image_form image_laws built.parts built.image.parts)
+    keeps built.sound small record_there named
