@@ -1,2 +1,3 @@
 pub mod KeyLaws
 mod SystemLaws
+mod CyclicFrames

@@ -6,8 +6,11 @@
 #![tactic(auto)]
 
 ghost use Rattle.std.specs.Prelude.{◌≡◌, ℕ, List, Some, None, true, slice_get};
+ghost use Rattle.frame_clock.specs.FramePlace.{slot_in};
 ghost use Rattle.guest_step.specs.Step.{MsrWrite};
 ghost use Rattle.guest_step.specs.declared.reach.Reach.TheVariants.{Reached};
+ghost use Rattle.image_plan.specs.Slot.{slot_at};
+ghost use Rattle.muen_num.specs.Frame.{Frame};
 ghost use Rattle.muen_num.specs.declared.access.Kind.{Kind};
 ghost use Rattle.muen_num.specs.declared.mode.Mode.TheVariants.{Switch};
 ghost use Rattle.policy_meaning.specs.Events.{Raised, Target, event_of};
@@ -20,7 +23,7 @@ ghost use Rattle.state_page.specs.StatePage.{page_bytes};
 ghost use Rattle.subject_model.specs.System.{group_of};
 ghost use Rattle.subject_state.specs.declared.SubjectState.{SubjectState};
 ghost use Rattle.abstract_system.specs.Alone.{Inbox, MsrValues, Own, OwnState, TurnAnswer, alone, are_granted, bytes_in, solo_turn, thing_in, vector_for, waits};
-ghost use Rattle.abstract_system.specs.Laws.{AreOthers, KeepsOthers, StoresElsewhere};
+ghost use Rattle.abstract_system.specs.Laws.{AreFrames, AreOthers, KeepsOthers, StoresElsewhere, place_after};
 ghost use Rattle.abstract_system.specs.System.{System, answered, happens_as, named, raised_by, with_own, with_write};
 
 /// A stopped subject does nothing, and its turn has no line.
@@ -81,4 +84,11 @@ pub fn events_reach_their_target_alone()
 pub fn a_handover_counts_from_the_next_turn()
     ensures { (p : Source) (t : Target) (y : System) (group : ℕ) (member : List ℕ) → group_of p t.subject ≡ Some group
         → slice_get y.active group ≡ Some member → slice_get (happens_as p Switch t y).active group ≡ Some t.subject }
+{}
+
+/// Where nothing picks one, the major frames run in their order, again and again: the slot at a tick
+/// is that of the row of all ticks.
+pub fn frames_go_cyclically()
+    ensures { (frames : List (List Frame)) (ticks : List ℕ) (tick : ℕ) → AreFrames frames ticks
+        → slot_in frames (place_after ticks tick) tick ≡ slot_at frames tick }
 {}

@@ -4,7 +4,8 @@ use Rattle.std.specs.FinMap.{get}
 use Rattle.std.specs.Prelude.{Ok}
 use Rattle.abstract_system.specs.Trace.{trace_of}
 use Rattle.image_form.specs.Faults.{unpacked}
-use Rattle.image_form.proofs.Theorem.{back}
+use Rattle.image_form.specs.Form.{IsBytes}
+use Rattle.image_form.proofs.Theorem.{back, spelled}
 use Rattle.image_load.specs.Placing.{image_bench}
 use Rattle.image_meaning.specs.Sound.{IsSound}
 use Rattle.image_pack.specs.Image.{image as image_form}
@@ -20,14 +21,15 @@ use Rattle.policy_meaning.specs.Contents.{Held}
 use Rattle.policy_types.specs.declared.source.Source.{Source}
 use Rattle.record_text.specs.DeviceRecord.{DeviceRecord}
 use Rattle.record_text.specs.Reading.{record_of}
+use Rattle.sound_runs.proofs.PartsKeep.{parts_keep}
 use Rattle.sound_runs.proofs.SameInputs.{same_bench}
 use Rattle.sound_runs.proofs.Traces.{traces_are}
 use Rattle.sound_stands.specs.GroundOf.{AreSmall}
 use Rattle.subject_model.specs.Bench.{devices_of}
 
-pub run_prints : (files held : Held) (name other bytes text : List ℕ) (i : Image) (p : Source) (r : DeviceRecord) → reading_of (get files name) IMAGE_MOST ≡ whole bytes → unpacked image_form bytes ≡ Ok i → KeepsConditions i → IsSound p held i → AreSmall p i → reading_of (get files other) RECORD_MOST ≡ whole text → record_of text (devices_of p) ≡ Ok r → answer_of files (Some (run name other)) ≡ prints (trace_of p held r)
+with_conditions : (files held : Held) (name other bytes text : List ℕ) (i : Image) (p : Source) (r : DeviceRecord) → reading_of (get files name) IMAGE_MOST ≡ whole bytes → unpacked image_form bytes ≡ Ok i → KeepsConditions i → IsSound p held i → AreSmall p i → reading_of (get files other) RECORD_MOST ≡ whole text → record_of text (devices_of p) ≡ Ok r → answer_of files (Some (run name other)) ≡ prints (trace_of p held r)
 unfolding run_answer
-run_prints files held name other bytes text i p r image_there parts keeps sound small record_there named =
+with_conditions files held name other bytes text i p r image_there parts keeps sound small record_there named =
     ap (of_file name (λ bytes. unpacked_answer files other (unpacked image_form bytes))) image_there
     ∙ (ap (unpacked_answer files other) parts
     ∙ (ap (of_file other (λ bytes. named_answer i (record_of bytes (image_bench i)))) record_there
@@ -35,8 +37,12 @@ run_prints files held name other bytes text i p r image_there parts keeps sound 
     ∙ (ap (named_answer i) named
     ∙ ap prints (traces_are p held i text r keeps sound small named)))))
 
-pub built_prints : (files held : Held) (name other bytes text : List ℕ) (p : Source) (r : DeviceRecord) (built : IsImageFor p held bytes) → reading_of (get files name) IMAGE_MOST ≡ whole bytes → KeepsConditions built.parts → AreSmall p built.parts → reading_of (get files other) RECORD_MOST ≡ whole text → record_of text (devices_of p) ≡ Ok r → answer_of files (Some (run name other)) ≡ prints (trace_of p held r)
-built_prints files held name other bytes text p r built image_there keeps small record_there named =
-    run_prints files held name other bytes text built.parts p r image_there
+pub run_prints : (files held : Held) (name other bytes text : List ℕ) (i : Image) (p : Source) (r : DeviceRecord) → reading_of (get files name) IMAGE_MOST ≡ whole bytes → unpacked image_form bytes ≡ Ok i → IsBytes bytes → IsSound p held i → AreSmall p i → reading_of (get files other) RECORD_MOST ≡ whole text → record_of text (devices_of p) ≡ Ok r → answer_of files (Some (run name other)) ≡ prints (trace_of p held r)
+run_prints files held name other bytes text i p r image_there parts all_bytes sound small record_there named =
+    with_conditions files held name other bytes text i p r image_there parts (parts_keep i (spelled image_form image_laws bytes i all_bytes parts).0) sound small record_there named
+
+pub built_prints : (files held : Held) (name other bytes text : List ℕ) (p : Source) (r : DeviceRecord) (built : IsImageFor p held bytes) → reading_of (get files name) IMAGE_MOST ≡ whole bytes → AreSmall p built.parts → reading_of (get files other) RECORD_MOST ≡ whole text → record_of text (devices_of p) ≡ Ok r → answer_of files (Some (run name other)) ≡ prints (trace_of p held r)
+built_prints files held name other bytes text p r built image_there small record_there named =
+    with_conditions files held name other bytes text built.parts p r image_there
     (ap (unpacked image_form) built.image.bytes_are ∙ back image_form image_laws built.parts built.image.parts)
-    keeps built.sound small record_there named
+    (parts_keep built.parts built.image.parts) built.sound small record_there named

@@ -9,9 +9,9 @@ ghost use Rattle.std.specs.FinMap.{get};
 ghost use Rattle.std.specs.Prelude.{◌≡◌, ℕ, List, Some, Ok};
 ghost use Rattle.abstract_system.specs.Trace.{trace_of};
 ghost use Rattle.image_form.specs.Faults.{unpacked};
+ghost use Rattle.image_form.specs.Form.{IsBytes};
 ghost use Rattle.image_meaning.specs.Sound.{IsSound};
 ghost use Rattle.image_pack.specs.Image.{image as image_form};
-ghost use Rattle.image_pack.specs.ImageConditions.{KeepsConditions};
 ghost use Rattle.image_pack.specs.declared.parts.Image.{Image};
 ghost use Rattle.muen_build.specs.Building.{IsImageFor};
 ghost use Rattle.muen_num.specs.declared.limits.TheConstants.{IMAGE_MOST, RECORD_MOST};
@@ -31,7 +31,7 @@ ghost use Rattle.subject_model.specs.Bench.{devices_of};
 pub fn run_prints_what_the_system_does()
     ensures { (files held : Held) (name other bytes text : List ℕ) (i : Image) (p : Source) (r : DeviceRecord)
         → reading_of (get files name) IMAGE_MOST ≡ whole bytes → unpacked image_form bytes ≡ Ok i
-        → KeepsConditions i → IsSound p held i → AreSmall p i
+        → IsBytes bytes → IsSound p held i → AreSmall p i
         → reading_of (get files other) RECORD_MOST ≡ whole text → record_of text (devices_of p) ≡ Ok r
         → answer_of files (Some (run name other)) ≡ prints (trace_of p held r) }
 {}
@@ -40,7 +40,7 @@ pub fn run_prints_what_the_system_does()
 /// they are held when `run` reads them.
 pub fn run_of_what_was_built_prints_what_the_system_does()
     ensures { (files held : Held) (name other bytes text : List ℕ) (p : Source) (r : DeviceRecord) (built : IsImageFor p held bytes)
-        → reading_of (get files name) IMAGE_MOST ≡ whole bytes → KeepsConditions built.parts → AreSmall p built.parts
+        → reading_of (get files name) IMAGE_MOST ≡ whole bytes → AreSmall p built.parts
         → reading_of (get files other) RECORD_MOST ≡ whole text → record_of text (devices_of p) ≡ Ok r
         → answer_of files (Some (run name other)) ≡ prints (trace_of p held r) }
 {}

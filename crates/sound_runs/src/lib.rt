@@ -8,6 +8,7 @@ ghost use Rattle.abstract_system.specs.Trace.{trace_of};
 ghost use Rattle.image_load.specs.Placing.{image_bench, image_record};
 ghost use Rattle.image_meaning.specs.Sound.{IsSound};
 ghost use Rattle.image_pack.specs.ImageConditions.{KeepsConditions};
+ghost use Rattle.image_pack.specs.Parts.{IsParts};
 ghost use Rattle.image_pack.specs.declared.parts.Image.{Image};
 ghost use Rattle.muen_run.specs.RunText.{image_text};
 ghost use Rattle.policy_meaning.specs.Contents.{Held};
@@ -25,4 +26,9 @@ pub fn sound_images_run_as_their_systems()
     ensures trace { (p : Source) (files : Held) (i : Image) (text : List ℕ) (r : DeviceRecord) → KeepsConditions i → IsSound p files i → AreSmall p i
         → record_of text (devices_of p) ≡ Ok r → image_text i (image_record i r) ≡ trace_of p files r }
     ensures bench { (p : Source) (files : Held) (i : Image) → KeepsConditions i → IsSound p files i → image_bench i ≡ devices_of p }
+{}
+
+/// Parts that have a spelling keep the conditions of an image.
+pub fn what_has_a_spelling_keeps_the_conditions()
+    ensures { (i : Image) → IsParts i → KeepsConditions i }
 {}
