@@ -1,1 +1,2 @@
+pub mod ContentBytes
 mod RunAnswers

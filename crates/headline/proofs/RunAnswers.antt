@@ -1,14 +1,17 @@
 -- The answer to `run` on a sound image.
-use Rattle.std.proofs.Common.{◌≡◌, ℕ, List, Some, ap, ◌∙◌}
+use Rattle.std.proofs.Common.{◌≡◌, subst, ℕ, List, Some, ap, ◌∙◌}
 use Rattle.std.specs.FinMap.{get}
+use Rattle.std.specs.List.{All}
 use Rattle.std.specs.Prelude.{Ok}
 use Rattle.abstract_system.specs.Trace.{trace_of}
 use Rattle.image_form.specs.Faults.{unpacked}
 use Rattle.image_form.specs.Form.{IsBytes}
 use Rattle.image_form.proofs.Theorem.{back, spelled}
+use Rattle.headline.proofs.ContentBytes.{contents_of_bytes}
 use Rattle.image_load.specs.Placing.{image_bench}
 use Rattle.image_meaning.specs.Sound.{IsSound}
 use Rattle.image_pack.specs.Image.{image as image_form}
+use Rattle.image_pack.specs.Parts.{IsParts}
 use Rattle.image_pack.specs.ImageConditions.{KeepsConditions}
 use Rattle.image_pack.specs.declared.parts.Image.{Image}
 use Rattle.image_pack.proofs.ImageLaws.{image_laws}
@@ -25,6 +28,7 @@ use Rattle.sound_runs.proofs.PartsKeep.{parts_keep}
 use Rattle.sound_runs.proofs.SameInputs.{same_bench}
 use Rattle.sound_runs.proofs.Traces.{traces_are}
 use Rattle.sound_stands.specs.GroundOf.{AreSmall}
+use Rattle.stands_for.specs.Held.{IsWord}
 use Rattle.subject_model.specs.Bench.{devices_of}
 
 with_conditions : (files held : Held) (name other bytes text : List ℕ) (i : Image) (p : Source) (r : DeviceRecord) → reading_of (get files name) IMAGE_MOST ≡ whole bytes → unpacked image_form bytes ≡ Ok i → KeepsConditions i → IsSound p held i → AreSmall p i → reading_of (get files other) RECORD_MOST ≡ whole text → record_of text (devices_of p) ≡ Ok r → answer_of files (Some (run name other)) ≡ prints (trace_of p held r)
@@ -37,12 +41,16 @@ with_conditions files held name other bytes text i p r image_there parts keeps s
     ∙ (ap (named_answer i) named
     ∙ ap prints (traces_are p held i text r keeps sound small named)))))
 
-pub run_prints : (files held : Held) (name other bytes text : List ℕ) (i : Image) (p : Source) (r : DeviceRecord) → reading_of (get files name) IMAGE_MOST ≡ whole bytes → unpacked image_form bytes ≡ Ok i → IsBytes bytes → IsSound p held i → AreSmall p i → reading_of (get files other) RECORD_MOST ≡ whole text → record_of text (devices_of p) ≡ Ok r → answer_of files (Some (run name other)) ≡ prints (trace_of p held r)
-run_prints files held name other bytes text i p r image_there parts all_bytes sound small record_there named =
-    with_conditions files held name other bytes text i p r image_there parts (parts_keep i (spelled image_form image_laws bytes i all_bytes parts).0) sound small record_there named
+are_small : (p : Source) (i : Image) (bytes : List ℕ) → IsBytes bytes → IsParts i → bytes ≡ image_form.spell i → All (λ s. IsWord s.entry) p.subjects → AreSmall p i
+are_small p i bytes all_bytes parts bytes_are words = record { contents = contents_of_bytes i parts (subst IsBytes bytes_are all_bytes); entries = words }
 
-pub built_prints : (files held : Held) (name other bytes text : List ℕ) (p : Source) (r : DeviceRecord) (built : IsImageFor p held bytes) → reading_of (get files name) IMAGE_MOST ≡ whole bytes → AreSmall p built.parts → reading_of (get files other) RECORD_MOST ≡ whole text → record_of text (devices_of p) ≡ Ok r → answer_of files (Some (run name other)) ≡ prints (trace_of p held r)
-built_prints files held name other bytes text p r built image_there small record_there named =
+pub run_prints : (files held : Held) (name other bytes text : List ℕ) (i : Image) (p : Source) (r : DeviceRecord) → reading_of (get files name) IMAGE_MOST ≡ whole bytes → unpacked image_form bytes ≡ Ok i → IsBytes bytes → IsSound p held i → All (λ s. IsWord s.entry) p.subjects → reading_of (get files other) RECORD_MOST ≡ whole text → record_of text (devices_of p) ≡ Ok r → answer_of files (Some (run name other)) ≡ prints (trace_of p held r)
+run_prints files held name other bytes text i p r image_there parts all_bytes sound words record_there named =
+    let form = spelled image_form image_laws bytes i all_bytes parts in
+    with_conditions files held name other bytes text i p r image_there parts (parts_keep i form.0) sound (are_small p i bytes all_bytes form.0 form.1 words) record_there named
+
+pub built_prints : (files held : Held) (name other bytes text : List ℕ) (p : Source) (r : DeviceRecord) → IsImageFor p held bytes → reading_of (get files name) IMAGE_MOST ≡ whole bytes → IsBytes bytes → All (λ s. IsWord s.entry) p.subjects → reading_of (get files other) RECORD_MOST ≡ whole text → record_of text (devices_of p) ≡ Ok r → answer_of files (Some (run name other)) ≡ prints (trace_of p held r)
+built_prints files held name other bytes text p r built image_there all_bytes words record_there named =
     with_conditions files held name other bytes text built.parts p r image_there
     (ap (unpacked image_form) built.image.bytes_are ∙ back image_form image_laws built.parts built.image.parts)
-    (parts_keep built.parts built.image.parts) built.sound small record_there named
+    (parts_keep built.parts built.image.parts) built.sound (are_small p built.parts bytes all_bytes built.image.parts built.image.bytes_are words) record_there named

@@ -1,0 +1,50 @@
+-- What an image has for contents are bytes where the image's own bytes are.
+use Rattle.std.proofs.Common.{ℕ, zero, suc, arith, List, [], ◌∷◌, ◌++◌, subst}
+use Rattle.std.specs.List.{All}
+use Rattle.std.proofs.lemmas.List.{append_assoc}
+use Rattle.image_form.specs.Form.{IsBytes, bytes_of, done, each, each_fit, each_spelled, field, items}
+use Rattle.image_pack.specs.Image.{after, after_device, content, device, group, header, image, major, next_place, no_spans_before, nothing_left, outline, span, subject}
+use Rattle.image_pack.specs.Parts.{IsParts}
+use Rattle.image_pack.specs.declared.parts.Image.{Image}
+use Rattle.image_pack.specs.declared.parts.SpanPart.{SpanPart}
+use Rattle.stands_for.specs.Held.{IsByte}
+
+front_bytes : (a b : List ℕ) → IsBytes (a ++ b) → All IsByte a
+front_bytes [] b h k d l = absurd (omega (arith, l))
+front_bytes (x ∷ a) b h zero d l = h zero
+front_bytes (x ∷ a) b h (suc k) d l = front_bytes a b (λ i. h (suc i)) k d (omega (arith, l))
+
+behind_bytes : (a b : List ℕ) → IsBytes (a ++ b) → IsBytes b
+behind_bytes [] b h = h
+behind_bytes (x ∷ a) b h = behind_bytes a b (λ i. h (suc i))
+
+abbrev spelled_contents : List SpanPart → List (List ℕ) → List ℕ
+spelled_contents = each_spelled (λ s. (content s).spell)
+
+each_of_bytes : (spans : List SpanPart) (contents : List (List ℕ)) (more : List ℕ) → each_fit (λ s. (content s).fits) spans contents → IsBytes (spelled_contents spans contents ++ more) → All (All IsByte) contents
+unfolding each_fit each_spelled content bytes_of
+each_of_bytes [] [] more f h k d l = absurd (omega (arith, l))
+each_of_bytes [] (b ∷ bs) more f h k d l = absurd f
+each_of_bytes (s ∷ ss) [] more f h k d l = absurd f
+each_of_bytes (s ∷ ss) (b ∷ bs) more f h zero d l =
+    front_bytes b (spelled_contents ss bs ++ more) (subst IsBytes (append_assoc b (spelled_contents ss bs) more) h)
+each_of_bytes (s ∷ ss) (b ∷ bs) more f h (suc k) d l =
+    each_of_bytes ss bs more f.1 (behind_bytes b (spelled_contents ss bs ++ more) (subst IsBytes (append_assoc b (spelled_contents ss bs) more) h)) k d (omega (arith, l))
+
+pub contents_of_bytes : (i : Image) → IsParts i → IsBytes (image.spell i) → All (All IsByte) i.contents
+unfolding image field done each
+contents_of_bytes i f h =
+    let o = outline i.header i.spans i.plan.groups in
+    let contents = spelled_contents i.spans i.contents ++ [] in
+    let devices = (items (after_device o) (device o) [] i.header.devices).spell i.devices in
+    let majors = (items (nothing_left o) (major o) 0 i.header.majors).spell i.plan.majors in
+    let subjects = (items (next_place o) (subject o) 0 i.header.subjects).spell i.subjects in
+    let groups = (items (nothing_left i.header) (group i.header) 0 i.header.groups).spell i.plan.groups in
+    let spans = (items (after i.header) (span i.header) (no_spans_before i.header) i.header.spans).spell i.spans in
+    each_of_bytes i.spans i.contents [] f.1.1.1.1.1.1.0
+    (behind_bytes devices contents
+    (behind_bytes majors (devices ++ contents)
+    (behind_bytes subjects (majors ++ (devices ++ contents))
+    (behind_bytes groups (subjects ++ (majors ++ (devices ++ contents)))
+    (behind_bytes spans (groups ++ (subjects ++ (majors ++ (devices ++ contents))))
+    (behind_bytes (header.spell i.header) (spans ++ (groups ++ (subjects ++ (majors ++ (devices ++ contents))))) h))))))
