@@ -3,6 +3,5 @@ pub mod StoreLaws
 pub mod WalkLaws
 pub mod FieldLaws
 pub mod WalkSteps
-pub mod OverwrittenLaws
 pub mod AreaLaws
 pub mod ExitLaws

@@ -4,8 +4,7 @@ use Rattle.std.specs.Prelude.{◌≡◌, ◌≢◌, ◌⊎◌, ℕ, ◌+◌, ◌
 use Rattle.std.specs.List.{All}
 use Rattle.muen_num.specs.declared.access.Kind.{Kind}
 use Rattle.machine_meaning.specs.Exits.{AreaEntry, entry_bytes, area_bytes, area_index, area_value}
-use Rattle.machine_meaning.specs.Memory.{Page, page_of, is_there, change, write, load_of, store_of}
-use Rattle.machine_meaning.specs.Overwritten.{overwritten}
+use Rattle.machine_meaning.specs.Memory.{Page, page_of, is_there, change, load_of, store_of}
 use Rattle.machine_meaning.specs.Walks.{walk_of, places_read, leaf_size}
 use Rattle.machine_meaning.specs.Same.{SameOutside, SameEntries}
 
@@ -52,11 +51,6 @@ TheStoredIsLoaded =
 abbrev pub LengthsStay : Type 0
 LengthsStay =
     (m : List Page) (at n v k : ℕ) → option_map length (page_of (store_of m at n v) k) ≡ option_map length (page_of m k)
-
--- a write overwrites its page
-abbrev pub StoresOverwrite : Type 0
-StoresOverwrite =
-    (m : List Page) (at : ℕ) (bytes : List ℕ) → write m at bytes ≡ change m (at / 4096) (overwritten (at % 4096) bytes)
 
 -- ---- areas of MSRs
 

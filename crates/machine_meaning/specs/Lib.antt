@@ -1,5 +1,4 @@
 pub mod Exits
-pub mod Overwritten
 pub mod Pending
 pub mod Memory
 pub mod Walks

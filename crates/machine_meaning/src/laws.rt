@@ -1,5 +1,5 @@
 //! Laws of memory and of walks: functions that do nothing, whose contracts say them.
-ghost use Rattle.machine_meaning.specs.Laws.{OtherPagesStay, ThePageChanges, PagesStayThere, NoPageIsMade, OtherPagesLoadTheSame, OtherBytesStay, TheStoredIsLoaded, LengthsStay, StoresOverwrite, AreasAreReadBack, SameWalks, SamePlaces, SameSizes, StoresDifferInTheirBytes, ChangesDifferInTheirPage, WalksElsewhereStay};
+ghost use Rattle.machine_meaning.specs.Laws.{OtherPagesStay, ThePageChanges, PagesStayThere, NoPageIsMade, OtherPagesLoadTheSame, OtherBytesStay, TheStoredIsLoaded, LengthsStay, AreasAreReadBack, SameWalks, SamePlaces, SameSizes, StoresDifferInTheirBytes, ChangesDifferInTheirPage, WalksElsewhereStay};
 
 /// A change of a page changes that page as it says and no other, and makes or removes none.
 pub fn pages_change_alone()
@@ -15,11 +15,6 @@ pub fn stores_change_their_bytes()
     ensures apart { OtherBytesStay }
     ensures stored { TheStoredIsLoaded }
     ensures lengths { LengthsStay }
-{}
-
-/// A write puts its bytes over those of its page from the offset on, as far as the page has room.
-pub fn stores_overwrite()
-    ensures { StoresOverwrite }
 {}
 
 /// What an area of MSRs says in each entry is what was written there.

@@ -12,6 +12,6 @@ pub use bit_fields::{bits, with_bits};
 pub use exits::{msr_exits, port_exits};
 pub use laws::{
     areas_are_read_back, changes_elsewhere_change_no_walk, pages_change_alone,
-    stores_change_their_bytes, stores_overwrite, walks_depend_on_their_entries,
+    stores_change_their_bytes, walks_depend_on_their_entries,
 };
 pub use walk::Walk;

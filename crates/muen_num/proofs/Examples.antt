@@ -1,8 +1,7 @@
--- Names, numbers, limits, deliveries and ranges, worked out.
+-- Names, numbers, limits and ranges, worked out.
 use Rattle.std.proofs.Common.{◌≡◌, ℕ, ◌*◌, ◌^◌, ◌≤◌, ◌<◌, true, false, [], ◌∷◌, refl, arith}
-use Rattle.std.specs.Prelude.{Some, None, codes, replicate}
+use Rattle.std.specs.Prelude.{codes, replicate}
 use Rattle.hex.specs.Hex.{encode_with}
-use Rattle.muen_num.specs.Deliver.{delivered}
 use Rattle.muen_num.specs.Fixed.{hex4}
 use Rattle.muen_num.specs.Naming.{is_name}
 use Rattle.muen_num.specs.Range.{numbers_below}
@@ -62,20 +61,6 @@ four_tables = refl
 -- the kernel's regions leave room for a policy's
 kernel_regions : (subjects : ℕ) → subjects ≤ MOST_SUBJECTS → KERNEL_REGIONS * subjects < MOST_REGIONS
 kernel_regions subjects h = omega arith
-
--- ---- deliveries
-
-greatest_now : delivered (40 ∷ 50 ∷ 45 ∷ []) (60 ∷ []) false ≡ Some 50
-greatest_now = refl
-
-later_too : delivered (40 ∷ 50 ∷ []) (60 ∷ 32 ∷ []) true ≡ Some 60
-later_too = refl
-
-now_above_later : delivered (70 ∷ []) (60 ∷ []) true ≡ Some 70
-now_above_later = refl
-
-only_later : delivered [] (60 ∷ []) false ≡ None
-only_later = refl
 
 -- ---- ranges
 

@@ -1,6 +1,5 @@
 pub mod Access
 pub mod Answers
-pub mod Deliver
 pub mod Fixed
 pub mod Frame
 pub mod Memory

@@ -2,7 +2,7 @@
 use Rattle.std.specs.Prelude.{ℕ, Bool, true, false, List, ◌++◌, codes, decimal}
 use Rattle.muen_num.specs.Tag.{tag_text}
 use Rattle.policy_types.specs.declared.refusal.Want.{Want}
-use Rattle.policy_types.specs.declared.refusal.Want.TheVariants.{Number, Byte, Name, Rights, Caching, Mode, Role, Hexadecimal, List as WantList, Object, KnownKeys, Present, OneContent, CallOrTrap, NotYetBuilt}
+use Rattle.policy_types.specs.declared.refusal.Want.TheVariants.{Number, Byte, Name, Rights, Caching, Mode, Role, Hexadecimal, List as WantList, Object, KnownKeys, Present, OneContent, CallOrTrap}
 use Rattle.policy_types.specs.declared.refusal.Refusal.{Refusal}
 use Rattle.policy_types.specs.declared.refusal.Refusal.TheVariants.{NotJson, Shape, Rule, Missing, TooLong, FileFit, NoRoom, NoMemory}
 
@@ -21,7 +21,6 @@ want_text KnownKeys = codes "known keys"
 want_text Present = codes "present"
 want_text OneContent = codes "one content"
 want_text CallOrTrap = codes "call or trap"
-want_text NotYetBuilt = codes "not yet built"
 
 unfoldable pub bytes_in_room_for : List ℕ
 bytes_in_room_for = codes " bytes in room for "

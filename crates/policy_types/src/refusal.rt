@@ -101,8 +101,6 @@ pub enum Want {
     OneContent,
     /// Exactly one of the two ways in which an event is raised.
     CallOrTrap,
-    /// The part that this key is for isn't built.
-    NotYetBuilt,
 }
 
 /// The first place of a document that breaks the schema, and what was wanted there.

@@ -28,7 +28,6 @@ impl Want {
             Want::Present => "present",
             Want::OneContent => "one content",
             Want::CallOrTrap => "call or trap",
-            Want::NotYetBuilt => "not yet built",
         }
     }
 }

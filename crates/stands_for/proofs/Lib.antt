@@ -3,7 +3,6 @@ pub mod Holds
 pub mod AreaLaws
 pub mod StateLaws
 pub mod StepLaws
-mod AlikeSteps
 pub mod FrameLaws
 pub mod WorldLaws
 pub mod Moves

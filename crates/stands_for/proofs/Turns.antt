@@ -28,7 +28,7 @@ use Rattle.guest_step.specs.declared.finish.Finish.{Finish}
 use Rattle.device_bench.specs.Devices.{value_of_ports}
 use Rattle.guest_step.specs.Named.{renamed, renamed_store}
 use Rattle.guest_step.specs.Step.{Answer, MsrWrite, Stored, World, step}
-use Rattle.stands_for.proofs.AlikeSteps.{step_alike}
+use Rattle.guest_step.proofs.Alike.{step_alike}
 use Rattle.guest_step.specs.declared.end.StepEnd.{StepEnd}
 use Rattle.guest_step.specs.declared.end.StepEnd.TheVariants as ends
 use Rattle.subject_state.specs.declared.SubjectState.{SubjectState}

@@ -1,5 +1,5 @@
 -- Systems that run alike.
-use Rattle.std.specs.Prelude.{◌≡◌, ℕ, List}
+use Rattle.std.specs.Prelude.{◌≡◌, ℕ, ◌<◌, List}
 use Rattle.std.specs.List.{AllZip}
 use Rattle.tick_run.specs.Run.{Turned, Clocked, Ran}
 
@@ -12,12 +12,13 @@ pub record AreAlikeRuns {S T L : Type 0} (Same : S → T → Type 0) (a : Ran S 
   pub state : Same a.state b.state
   pub lines : b.lines ≡ a.lines
 
--- what one does in a state the other does in each that is alike
-pub record AreAlike {S T I J L : Type 0} (Same : S → T → Type 0) (SameInput : I → J → Type 0) (a : Clocked S I L) (b : Clocked T J L) : Type 0 where
+-- what one does in a state the other does in each that is alike, in turns at ticks below a bound
+pub record AreAlike {S T I J L : Type 0} (Same : S → T → Type 0) (SameInput : I → J → Type 0) (most : ℕ) (a : Clocked S I L) (b : Clocked T J L) : Type 0 where
   pub begins : (tick : ℕ) (s : S) (t : T) → Same s t → Same (a.begins tick s) (b.begins tick t)
   pub takes : (i : I) (j : J) (s : S) (t : T) → SameInput i j → Same s t → Same (a.takes i s) (b.takes j t)
-  pub turn : (cpu tick : ℕ) (s : S) (t : T) → Same s t → AreAlikeTurns Same (a.turn cpu tick s) (b.turn cpu tick t)
+  pub turn : (cpu tick : ℕ) (s : S) (t : T) → tick < most → Same s t → AreAlikeTurns Same (a.turn cpu tick s) (b.turn cpu tick t)
 
--- the inputs of each tick are alike, in their order
-abbrev pub AlikeInputs : {I J : Type 0} → (I → J → Type 0) → (ℕ → List I) → (ℕ → List J) → Type 0
-AlikeInputs SameInput inputs inputs' = (tick : ℕ) → AllZip SameInput (inputs tick) (inputs' tick)
+-- in each tick below a bound the inputs are alike, in their order, and CPUs have the same order
+pub record AreAlikeTicks {I J : Type 0} (SameInput : I → J → Type 0) (most : ℕ) (inputs : ℕ → List I) (inputs' : ℕ → List J) (order order' : ℕ → List ℕ) : Type 0 where
+  pub taken : (tick : ℕ) → tick < most → AllZip SameInput (inputs tick) (inputs' tick)
+  pub orders : (tick : ℕ) → tick < most → order tick ≡ order' tick
