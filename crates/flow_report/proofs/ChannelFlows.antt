@@ -18,8 +18,8 @@ use Rattle.policy_types.specs.declared.rights.Role.TheVariants.{Writer, Reader}
 use Rattle.policy_views.specs.Views.{end_named, ends_of}
 use Rattle.policy_views.specs.declared.view.End.{End}
 use Rattle.policy_views.proofs.EndsByPlace.{ends_by_place, ends_placed}
-use Rattle.subject_model.specs.Flows.{by_channel, is_writer}
-use Rattle.subject_model.proofs.Members.{any_agree, passes_in}
+use Rattle.flow_report.specs.Flows.{by_channel, is_writer}
+use Rattle.muen_num.proofs.Members.{any_agree, passes_in}
 use Rattle.flow_report.specs.ByPlace.{channel_read, channel_written, has, meet}
 use Rattle.flow_report.proofs.PlacesOfSubjects.{any_filter_map}
 

@@ -8,8 +8,8 @@ use Rattle.std.proofs.lemmas.Slice.Eq.{bytes_eq-Decides}
 use Rattle.policy_lawful.proofs.Places.{same_self}
 use Rattle.policy_types.specs.declared.source.Source.{Source}
 use Rattle.policy_types.specs.declared.source.Subject.{Subject}
-use Rattle.subject_model.specs.Flows.{IsClosed, IsLeastClosed, closure_of, flows_to, is_member, rounds, with_sources}
-use Rattle.subject_model.proofs.Members.{In, all_from, all_in, any_in, any_some, filter_fits, filter_grows, filter_in, filter_some, map_in, map_some}
+use Rattle.flow_report.specs.Flows.{IsClosed, IsLeastClosed, closure_of, flows_to, is_member, rounds, with_sources}
+use Rattle.muen_num.proofs.Members.{In, all_from, all_in, any_in, any_some, filter_fits, filter_grows, filter_in, filter_some, map_in, map_some}
 
 -- ---- members by a test
 

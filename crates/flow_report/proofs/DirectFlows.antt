@@ -4,8 +4,8 @@ use Rattle.std.specs.Prelude.{◌||◌}
 use Rattle.policy_lawful.specs.Resolution.{IsResolved, Resolution, source_of, subject_named}
 use Rattle.policy_lawful.specs.declared.resolved.Subject.{Subject}
 use Rattle.policy_lawful.proofs.UniqueNames.{unique}
-use Rattle.subject_model.specs.Flows.{by_channel, by_event, by_memory, flows_to}
-use Rattle.subject_model.proofs.Members.{In, map_in}
+use Rattle.flow_report.specs.Flows.{by_channel, by_event, by_memory, flows_to}
+use Rattle.muen_num.proofs.Members.{In, map_in}
 use Rattle.flow_report.specs.ByPlace.{face_of, flows_between}
 use Rattle.flow_report.proofs.ChannelFlows.{channel_same}
 use Rattle.flow_report.proofs.EventFlows.{sources_same}

@@ -25,9 +25,9 @@ use Rattle.policy_types.specs.declared.source.EventTarget.{EventTarget}
 use Rattle.policy_types.specs.declared.source.SourceWay.{SourceWay}
 use Rattle.policy_types.specs.declared.source.Subject.{Subject as NamedSubject}
 use Rattle.policy_views.proofs.WindowsByPlace.{name_there}
-use Rattle.subject_model.specs.Flows.{reaches}
-use Rattle.subject_model.proofs.EventWays.{by_source}
-use Rattle.subject_model.proofs.Members.{any_agree}
+use Rattle.flow_report.specs.Flows.{reaches}
+use Rattle.flow_report.proofs.EventWays.{by_source}
+use Rattle.muen_num.proofs.Members.{any_agree}
 use Rattle.flow_report.specs.ByPlace.{first_target, has, reached_by}
 use Rattle.flow_report.proofs.EventWaysFlow.{by_sources}
 use Rattle.flow_report.proofs.PlacesOfSubjects.{At, any_filter_map, same_subject}

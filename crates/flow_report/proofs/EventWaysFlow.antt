@@ -13,9 +13,9 @@ use Rattle.policy_types.specs.declared.source.Channel.{Channel}
 use Rattle.policy_types.specs.declared.source.Source.{Source}
 use Rattle.policy_types.specs.declared.source.SourceWay.{SourceWay}
 use Rattle.policy_types.specs.declared.source.Subject.{Subject}
-use Rattle.subject_model.specs.Flows.{by_channel, by_event, is_writer, reaches, ways_of}
-use Rattle.subject_model.proofs.EventWays.{by_either, by_source, end_of_way, from_source, source_of_way, way_counts}
-use Rattle.subject_model.proofs.Members.{In, any_in, any_some, filter_some, flat_some, map_some}
+use Rattle.flow_report.specs.Flows.{by_channel, by_event, is_writer, reaches, ways_of}
+use Rattle.flow_report.proofs.EventWays.{by_either, by_source, end_of_way, from_source, source_of_way, way_counts}
+use Rattle.muen_num.proofs.Members.{In, any_in, any_some, filter_some, flat_some, map_some}
 use Rattle.flow_report.proofs.MarkedSets.{HasUniqueNames}
 use Rattle.flow_report.proofs.PlacesOfSubjects.{at_in}
 

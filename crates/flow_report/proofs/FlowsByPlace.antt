@@ -9,8 +9,8 @@ use Rattle.muen_num.proofs.Lists.{map-map}
 use Rattle.policy_lawful.specs.Resolution.{IsResolved, Resolution, source_of, subject_named}
 use Rattle.policy_lawful.specs.declared.resolved.Subject.{Subject}
 use Rattle.policy_types.specs.declared.source.Subject.{Subject as NamedSubject}
-use Rattle.subject_model.specs.Flows.{closure_of, flows_to}
-use Rattle.subject_model.proofs.Members.{In, map_agree}
+use Rattle.flow_report.specs.Flows.{closure_of, flows_to}
+use Rattle.muen_num.proofs.Members.{In, map_agree}
 use Rattle.flow_report.specs.ByPlace.{face_of, faces_of, flows_between, rows_of}
 use Rattle.flow_report.specs.Marks.{after_rounds, alone_marked, sets_of}
 use Rattle.flow_report.specs.Sets.{AreFlows, members_of}

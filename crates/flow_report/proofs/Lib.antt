@@ -2,6 +2,7 @@ pub mod ChannelFlows
 pub mod Closures
 pub mod DirectFlows
 pub mod EventFlows
+pub mod EventWays
 pub mod EventWaysFlow
 pub mod FacesByPlace
 pub mod FlowsByPlace

@@ -6,11 +6,11 @@ use Rattle.std.specs.Str.{bytes_eq}
 use Rattle.std.proofs.lemmas.Bool.Decides.{same_from_decides}
 use Rattle.policy_types.specs.declared.source.Source.{Source}
 use Rattle.policy_types.specs.declared.source.Subject.{Subject}
-use Rattle.subject_model.specs.Flows.{IsLeastClosed, closure_of, flows_to, is_member, rounds}
+use Rattle.flow_report.specs.Flows.{IsLeastClosed, closure_of, flows_to, is_member, rounds}
 use Rattle.flow_report.specs.Marks.{after_rounds, round, touches}
 use Rattle.flow_report.specs.Sets.{AreFlows, AreLeastClosed, marked, members_of}
 use Rattle.flow_report.proofs.Closures.{after_by_test, after_in, after_some, closure_after, closure_is_least, joins, members_after, test_after}
-use Rattle.subject_model.proofs.Members.{In, any_agree, map_agree}
+use Rattle.muen_num.proofs.Members.{In, any_agree, map_agree}
 
 -- ---- marks that are a test's
 

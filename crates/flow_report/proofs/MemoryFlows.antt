@@ -20,8 +20,8 @@ use Rattle.policy_views.specs.declared.view.Shown.TheVariants.{Memory, Channel, 
 use Rattle.policy_views.specs.declared.view.View.{View}
 use Rattle.policy_views.proofs.RegionsByPlace.{has_name, is_named, maps_at, place_there, views_named}
 use Rattle.policy_views.proofs.WindowsByPlace.{windows_by_place}
-use Rattle.subject_model.specs.Flows.{by_memory, is_region}
-use Rattle.subject_model.proofs.Members.{any_agree, passes_in}
+use Rattle.flow_report.specs.Flows.{by_memory, is_region}
+use Rattle.muen_num.proofs.Members.{any_agree, passes_in}
 use Rattle.flow_report.specs.ByPlace.{has, meet, region_changed, region_shown}
 use Rattle.flow_report.proofs.PlacesOfSubjects.{any_filter_map}
 

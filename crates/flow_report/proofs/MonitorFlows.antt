@@ -14,8 +14,8 @@ use Rattle.policy_lawful.proofs.UniqueNames.{subject_names}
 use Rattle.policy_types.specs.Rights.{allows}
 use Rattle.policy_types.specs.declared.source.Monitor.{Monitor as NamedMonitor}
 use Rattle.policy_views.proofs.WindowsByPlace.{subject_parts}
-use Rattle.subject_model.specs.Flows.{by_change, by_plan, by_sight}
-use Rattle.subject_model.proofs.Members.{any_agree, passes_in}
+use Rattle.flow_report.specs.Flows.{by_change, by_plan, by_sight}
+use Rattle.muen_num.proofs.Members.{any_agree, passes_in}
 use Rattle.flow_report.specs.ByPlace.{has, is_chooser, subject_changed}
 use Rattle.flow_report.proofs.PlacesOfSubjects.{At, any_filter_map, is_placed, same_subject}
 

@@ -17,7 +17,7 @@ use Rattle.policy_lawful.proofs.UniqueNames.{subject_names, subjects_unique}
 use Rattle.policy_types.specs.declared.source.Source.{Source}
 use Rattle.policy_types.specs.declared.source.Subject.{Subject as NamedSubject}
 use Rattle.policy_views.proofs.WindowsByPlace.{name_there}
-use Rattle.subject_model.proofs.Members.{In}
+use Rattle.muen_num.proofs.Members.{In}
 use Rattle.flow_report.proofs.MarkedSets.{HasUniqueNames}
 
 -- ---- lists

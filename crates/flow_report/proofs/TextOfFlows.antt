@@ -8,8 +8,8 @@ use Rattle.policy_lawful.specs.Resolution.{Resolution, source_of, subject_named}
 use Rattle.policy_lawful.specs.declared.resolved.Subject.{Subject}
 use Rattle.policy_lawful.proofs.UniqueNames.{names_of_subjects, subject_names}
 use Rattle.policy_types.specs.declared.source.Subject.{Subject as NamedSubject}
-use Rattle.subject_model.specs.Flows.{closure_of}
-use Rattle.subject_model.proofs.Members.{In}
+use Rattle.flow_report.specs.Flows.{closure_of}
+use Rattle.muen_num.proofs.Members.{In}
 use Rattle.flow_report.specs.FlowText.{flow_line, flow_text_of}
 use Rattle.flow_report.specs.Sets.{AreFlows, marked, members_of}
 use Rattle.flow_report.specs.TextByPlace.{line_at, line_end, line_start, lines_text, member_at, member_text, members_text}

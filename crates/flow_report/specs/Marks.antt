@@ -1,7 +1,7 @@
 -- Sets of places by marks, and the rounds that close them.
 use Rattle.std.specs.Prelude.{ℕ, ◌==◌, ◌&&◌, ◌||◌, Bool, List, length, map}
 use Rattle.std.specs.List.{list_any, zip}
-use Rattle.subject_model.specs.Flows.{rounds}
+use Rattle.flow_report.specs.Flows.{rounds}
 use Rattle.flow_report.specs.ByPlace.{rows_of}
 use Rattle.flow_report.specs.declared.faces.Face.{Face}
 

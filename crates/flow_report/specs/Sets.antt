@@ -2,7 +2,7 @@
 use Rattle.std.specs.Prelude.{◌≡◌, ℕ, Bool, true, false, List, [], ◌∷◌, map}
 use Rattle.std.specs.List.{AllZip}
 use Rattle.policy_types.specs.declared.source.Source.{Source}
-use Rattle.subject_model.specs.Flows.{IsLeastClosed, closure_of}
+use Rattle.flow_report.specs.Flows.{IsLeastClosed, closure_of}
 
 -- those elements whose place is marked
 unfoldable pub marked : {X : Type 0} → List Bool → List X → List X

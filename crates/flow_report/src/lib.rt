@@ -4,6 +4,8 @@
 mod faces;
 mod sets;
 mod text;
+mod ways;
 
 pub use sets::{FlowSets, flows};
 pub use text::flow_text;
+pub use ways::every_way_counts;

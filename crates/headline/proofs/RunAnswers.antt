@@ -3,7 +3,7 @@ use Rattle.std.proofs.Common.{◌≡◌, subst, ℕ, List, Some, ap, ◌∙◌}
 use Rattle.std.specs.FinMap.{get}
 use Rattle.std.specs.List.{All}
 use Rattle.std.specs.Prelude.{Ok}
-use Rattle.abstract_system.specs.Trace.{trace_of}
+use Rattle.subject_model.specs.Trace.{trace_of}
 use Rattle.image_form.specs.Faults.{unpacked}
 use Rattle.image_form.specs.Form.{IsBytes}
 use Rattle.image_form.proofs.Theorem.{back, spelled}
@@ -29,7 +29,7 @@ use Rattle.sound_runs.proofs.SameInputs.{same_bench}
 use Rattle.sound_runs.proofs.Traces.{traces_are}
 use Rattle.sound_stands.specs.GroundOf.{AreSmall}
 use Rattle.stands_for.specs.Held.{IsWord}
-use Rattle.subject_model.specs.Bench.{devices_of}
+use Rattle.image_meaning.specs.Bench.{devices_of}
 
 with_conditions : (files held : Held) (name other bytes text : List ℕ) (i : Image) (p : Source) (r : DeviceRecord) → reading_of (get files name) IMAGE_MOST ≡ whole bytes → unpacked image_form bytes ≡ Ok i → KeepsConditions i → IsSound p held i → AreSmall p i → reading_of (get files other) RECORD_MOST ≡ whole text → record_of text (devices_of p) ≡ Ok r → answer_of files (Some (run name other)) ≡ prints (trace_of p held r)
 unfolding run_answer

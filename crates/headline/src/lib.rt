@@ -8,7 +8,7 @@
 ghost use Rattle.std.specs.FinMap.{get};
 ghost use Rattle.std.specs.List.{All};
 ghost use Rattle.std.specs.Prelude.{◌≡◌, ℕ, List, Some, Ok};
-ghost use Rattle.abstract_system.specs.Trace.{trace_of};
+ghost use Rattle.subject_model.specs.Trace.{trace_of};
 ghost use Rattle.image_form.specs.Faults.{unpacked};
 ghost use Rattle.image_form.specs.Form.{IsBytes};
 ghost use Rattle.image_meaning.specs.Sound.{IsSound};
@@ -24,7 +24,7 @@ ghost use Rattle.policy_types.specs.declared.source.Source.{Source};
 ghost use Rattle.record_text.specs.DeviceRecord.{DeviceRecord};
 ghost use Rattle.record_text.specs.Reading.{record_of};
 ghost use Rattle.stands_for.specs.Held.{IsWord};
-ghost use Rattle.subject_model.specs.Bench.{devices_of};
+ghost use Rattle.image_meaning.specs.Bench.{devices_of};
 
 /// Where files hold an image that is sound for a policy over these or other files, and a record of the
 /// policy's devices, with any order of the CPUs in each tick, `run` prints the text of the policy's

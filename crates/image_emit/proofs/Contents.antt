@@ -22,13 +22,12 @@ use Rattle.muen_num.proofs.Lists.{get_left}
 use Rattle.muen_num.specs.declared.limits.TheConstants.{PAGE}
 use Rattle.policy_lawful.specs.Resolution.{source_of}
 use Rattle.policy_meaning.specs.Contents.{Held, initial_bytes}
-use Rattle.policy_meaning.specs.Thing.{Thing, channel, region}
+use Rattle.policy_meaning.specs.Thing.{Thing, channel, region, thing_tag}
 use Rattle.policy_types.specs.declared.source.DeviceMemory.{DeviceMemory}
 use Rattle.policy_types.specs.declared.source.Source.{Source}
 use Rattle.span_emit.specs.Spans.{device_span, memories_of, region_span, region_spans, span_kind, spans_of}
 use Rattle.span_emit.proofs.KeptDevices.{IsPhysical, devices_physical}
 use Rattle.span_emit.proofs.KeptRegions.{IsWhole}
-use Rattle.subject_model.specs.Run.{thing_tag}
 
 all_front : {X : Type 0} (P : X → Type 0) (xs ys : List X) → All P (xs ++ ys) → All P xs
 all_front P [] ys h = All-nil P

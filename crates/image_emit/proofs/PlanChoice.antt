@@ -18,12 +18,11 @@ use Rattle.muen_num.specs.Search.{first_in}
 use Rattle.policy_lawful.specs.Offences.{two}
 use Rattle.policy_lawful.specs.Resolution.{source_of}
 use Rattle.policy_lawful.specs.Rules.{major_offence, majors_of, offence_16, tau0_offence}
-use Rattle.policy_meaning.specs.Thing.{component_by, region}
+use Rattle.policy_meaning.specs.Thing.{component_by, region, thing_tag}
 use Rattle.policy_types.specs.declared.source.Region.{Region as SourceRegion}
 use Rattle.policy_types.specs.declared.source.Source.{Source}
 use Rattle.policy_types.specs.declared.source.Tau0.{Tau0}
 use Rattle.span_emit.specs.Spans.{region_span}
-use Rattle.subject_model.specs.Run.{thing_tag}
 
 -- where some element passes a test, the first that does has a place
 pub first_place : {X : Type 0} (test : X → Bool) (xs : List X) → list_any test xs ≡ true → position_or_len test xs < length xs

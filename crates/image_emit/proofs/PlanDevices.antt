@@ -22,15 +22,14 @@ use Rattle.muen_num.proofs.Lists.{get_left, get_right, map-map}
 use Rattle.muen_num.specs.Range.{numbers_below}
 use Rattle.muen_num.specs.declared.limits.TheConstants.{PAGE}
 use Rattle.policy_lawful.specs.Resolution.{Resolution, source_of}
-use Rattle.policy_meaning.specs.Thing.{device_memory}
+use Rattle.policy_meaning.specs.Thing.{device_memory, thing_tag}
 use Rattle.policy_types.specs.declared.source.Device.{Device as SourceDevice}
 use Rattle.policy_types.specs.declared.source.DeviceMemory.{DeviceMemory}
 use Rattle.policy_types.specs.declared.source.Irq.{Irq}
 use Rattle.record_text.specs.Bench.{Bench, BenchDevice}
 use Rattle.span_emit.proofs.KeptDevices.{IsPhysical, devices_physical}
 use Rattle.span_emit.specs.Spans.{device_span, device_spans, memories_of, region_spans, spans_of}
-use Rattle.subject_model.specs.Bench.{bench_device as device_of, devices_of}
-use Rattle.subject_model.specs.Run.{thing_tag}
+use Rattle.image_meaning.specs.Bench.{bench_device as device_of, devices_of}
 
 -- ---- memory
 

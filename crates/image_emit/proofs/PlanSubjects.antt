@@ -30,7 +30,7 @@ use Rattle.policy_lawful.specs.declared.resolved.Subject.{Subject}
 use Rattle.policy_meaning.specs.Events.{Raised, Target}
 use Rattle.policy_types.specs.declared.source.Group.{Group}
 use Rattle.region_alloc.specs.Placed.{Placement}
-use Rattle.subject_model.specs.System.{group_of}
+use Rattle.policy_meaning.specs.Frames.{group_of}
 
 -- ---- the first that passes
 

@@ -1,3 +1,4 @@
+pub mod Bench
 pub mod Memory
 pub mod Named
 pub mod Sound

@@ -27,7 +27,7 @@ use Rattle.plan_emit.specs.PlanOf.{IsPlanOf}
 use Rattle.policy_lawful.specs.Lawful.{IsLawful}
 use Rattle.policy_meaning.specs.Contents.{Held, initial_bytes}
 use Rattle.policy_meaning.specs.Events.{event_of, irq_of}
-use Rattle.policy_meaning.specs.Thing.{Thing, region, channel, provided, device_memory, state, same_thing, things_of}
+use Rattle.policy_meaning.specs.Thing.{Thing, region, channel, provided, device_memory, state, same_thing, things_of, thing_tag}
 use Rattle.policy_meaning.specs.Windows.{Access, access_of, byte, violation, windows_of}
 use Rattle.policy_types.specs.declared.source.Device.{Device as SourceDevice}
 use Rattle.policy_types.specs.declared.source.Irq.{Irq}
@@ -35,9 +35,8 @@ use Rattle.policy_types.specs.declared.source.Source.{Source}
 use Rattle.policy_types.specs.declared.source.SourceWay.TheVariants.{Call, Trap}
 use Rattle.policy_types.specs.declared.source.Subject.{Subject}
 use Rattle.state_page.specs.StatePage.{page_bytes}
-use Rattle.subject_model.specs.Bench.{devices_of}
-use Rattle.subject_model.specs.Run.{thing_tag}
-use Rattle.subject_model.specs.System.{group_of}
+use Rattle.image_meaning.specs.Bench.{devices_of}
+use Rattle.policy_meaning.specs.Frames.{group_of}
 use Rattle.subject_state.specs.States.{started}
 
 -- of each subject of the policy and its part of the image, in order

@@ -3,6 +3,7 @@ pub mod FirstNumber
 pub mod FirstPair
 pub mod FirstSteps
 pub mod Lists
+pub mod Members
 pub mod NameText
 pub mod NumbersBelow
 pub mod Room

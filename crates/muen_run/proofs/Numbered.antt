@@ -8,7 +8,7 @@ use Rattle.muen_num.specs.Range.{numbers_below}
 use Rattle.machine_meaning.specs.Memory.{Page}
 use Rattle.state_page.specs.StatePage.{state_in}
 use Rattle.subject_state.specs.declared.SubjectState.{SubjectState}
-use Rattle.subject_model.specs.Run.{rows_text}
+use Rattle.view_text.specs.ViewText.{rows_text}
 use Rattle.image_pack.specs.declared.parts.SubjectPart.{SubjectPart}
 use Rattle.vmx_machine.specs.Machine.{page_at}
 use Rattle.vmx_machine.specs.declared.control.Control.{Control}

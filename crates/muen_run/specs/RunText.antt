@@ -13,8 +13,7 @@ use Rattle.image_pack.specs.declared.parts.SpanKind.TheVariants.{Own, Channel, P
 use Rattle.image_pack.specs.declared.parts.SpanPart.{SpanPart}
 use Rattle.image_pack.specs.declared.parts.SubjectPart.{SubjectPart}
 use Rattle.record_text.specs.declared.record.Record.{Record}
-use Rattle.subject_model.specs.Run.{rows_text}
-use Rattle.view_text.specs.ViewText.{turn_text, region_text}
+use Rattle.view_text.specs.ViewText.{rows_text, turn_text, region_text}
 use Rattle.view_text.specs.declared.Line.{Line}
 use Rattle.vmx_machine.specs.Machine.{page_at}
 use Rattle.vmx_machine.specs.declared.control.Control.{Control}

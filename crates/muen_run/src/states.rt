@@ -2,7 +2,7 @@
 ghost use Rattle.std.specs.Prelude.{◌≡◌, ◌≤◌, option_map, slice_get};
 ghost use Rattle.std.specs.List.{flat_map};
 ghost use Rattle.muen_outside.specs.Buffered.{Gives, behind};
-ghost use Rattle.subject_model.specs.Run.{rows_text};
+ghost use Rattle.view_text.specs.ViewText.{rows_text};
 ghost use Rattle.muen_run.specs.RunText.{numbered_subject_text, states_text};
 
 use ept_walk::Translate;

@@ -19,7 +19,7 @@ use Rattle.policy_types.specs.declared.refusal.Refusal.{Refusal}
 use Rattle.policy_types.specs.declared.refusal.Refusal.TheVariants.{NotJson, Shape, Rule, Missing as MissingFile, TooLong as TooLongFile, FileFit, NoRoom, NoMemory as NoMemoryFor}
 use Rattle.policy_types.specs.declared.source.Source.{Source}
 use Rattle.record_text.specs.DeviceRecord.{DeviceRecord}
-use Rattle.subject_model.specs.Run.{trace_of}
+use Rattle.subject_model.specs.Lines.{trace_of}
 use Rattle.window_machine.specs.Start.{CanLoad, IsPlain}
 use Rattle.muen_top.specs.Answers.{Answer, prints, stops, missing, too_long, record_refused, of_file, carried_answer, policy_answer, trace_answer, boot_answer}
 use Rattle.muen_top.specs.Calls.{ComesOf, Came}
@@ -28,7 +28,7 @@ use Rattle.muen_top.specs.FilesSeen.{SawToo, ShownBoth}
 use Rattle.muen_top.specs.Lacking.{lack_refusal, lacking}
 use Rattle.muen_top.specs.Loads.{IsReady, NotRead, NotReadToo, Ready, NotReady}
 use Rattle.record_text.specs.Reading.{record_of}
-use Rattle.subject_model.specs.Bench.{devices_of}
+use Rattle.image_meaning.specs.Bench.{devices_of}
 use Rattle.muen_top.specs.Records.{IsRun}
 use Rattle.muen_top.specs.Reports.{refusal_status}
 use Rattle.muen_top.specs.Runs.{RunsTo}

@@ -15,7 +15,7 @@ use Rattle.policy_types.specs.declared.refusal.Refusal.{Refusal}
 use Rattle.policy_types.specs.declared.refusal.Refusal.TheVariants.{NotJson, Shape, Rule, Missing as MissingFile, TooLong as TooLongFile, FileFit, NoRoom, NoMemory as NoMemoryFor}
 use Rattle.record_text.specs.DeviceRecord.{DeviceRecord}
 use Rattle.record_text.specs.Reading.{record_of}
-use Rattle.subject_model.specs.Bench.{devices_of}
+use Rattle.image_meaning.specs.Bench.{devices_of}
 use Rattle.muen_build.specs.Refusals.{accepted_policy_of, laid_policy_of, lawful_policy_of}
 use Rattle.record_text.specs.declared.fault.RecordFault.{RecordFault}
 use Rattle.muen_top.specs.Answers.{Reason, usage, missing, too_long, refused, image_refused, record_refused, Answer, prints, writes, stops, of_file, image_answer, build_answer, trace_answer, carried_answer, policy_answer, boot_answer, named_answer, unpacked_answer, run_answer, map_answer, map_policy_answer, flows_answer, flows_policy_answer, answer_of}

@@ -4,7 +4,7 @@ use Rattle.policy_types.specs.declared.source.Source.{Source}
 use Rattle.record_text.specs.DeviceRecord.{DeviceRecord}
 use Rattle.record_text.specs.Reading.{record_of}
 use Rattle.record_text.proofs.PlainRecords.{without_devices}
-use Rattle.subject_model.specs.Bench.{bench_device, devices_of}
+use Rattle.image_meaning.specs.Bench.{bench_device, devices_of}
 use Rattle.window_machine.specs.Start.{CanLoad, IsPlain}
 
 pub plain_record : (p : Source) → CanLoad p → (text : List ℕ) (run : DeviceRecord) → record_of text (devices_of p) ≡ Ok run → IsPlain p run

@@ -13,11 +13,11 @@ use Rattle.policy_meaning.specs.Contents.{Held}
 use Rattle.policy_types.specs.declared.refusal.Refusal.{Refusal}
 use Rattle.policy_types.specs.declared.source.Source.{Source}
 use Rattle.record_text.specs.DeviceRecord.{DeviceRecord}
-use Rattle.subject_model.specs.Run.{trace_of}
+use Rattle.subject_model.specs.Lines.{trace_of}
 use Rattle.muen_run.specs.RunText.{image_text}
 use Rattle.muen_top.specs.Commands.{Command, build, boot, run, map, flows}
 use Rattle.record_text.specs.Reading.{record_of}
-use Rattle.subject_model.specs.Bench.{devices_of}
+use Rattle.image_meaning.specs.Bench.{devices_of}
 use Rattle.muen_build.specs.Refusals.{accepted_policy_of, laid_policy_of, lawful_policy_of}
 use Rattle.muen_top.specs.Lacking.{lack_refusal, lacking}
 use Rattle.muen_top.specs.declared.lacking.Lack.{Lack}

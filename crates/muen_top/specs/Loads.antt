@@ -5,7 +5,7 @@ use Rattle.muen_outside.specs.States.{FilesState}
 use Rattle.muen_outside.specs.Store.{Store, absent, long, reading_of, whole}
 use Rattle.policy_types.specs.declared.source.Source.{Source}
 use Rattle.record_text.specs.DeviceRecord.{DeviceRecord}
-use Rattle.subject_model.specs.Run.{trace_of}
+use Rattle.subject_model.specs.Lines.{trace_of}
 use Rattle.muen_top.specs.Answers.{prints, boot_answer}
 use Rattle.muen_top.specs.Calls.{StopsFor}
 use Rattle.muen_build.specs.Accepting.{Accepts, Files, Grows, looks_of}

@@ -1,7 +1,7 @@
 -- The frames of the scheduling plan (Muen kernel report: major and minor frames).
 use Rattle.std.specs.Prelude.{ℕ, ◌==◌, List, [], ◌∷◌, map, Option, option_map, position}
 use Rattle.std.specs.Option.{option_map_or}
-use Rattle.std.specs.List.{find, filter_map}
+use Rattle.std.specs.List.{find, filter_map, list_any}
 use Rattle.std.specs.Str.{bytes_eq}
 use Rattle.muen_num.specs.Frame.{Frame}
 use Rattle.policy_types.specs.declared.source.Source.{Source}
@@ -29,3 +29,7 @@ frames_of p cpu = map (major_frames_of p cpu) p.scheduling.major_frames
 abbrev pub first_member : List (List ℕ) → List ℕ
 first_member [] = []
 first_member (name ∷ names) = name
+
+-- the number of the group in which the subject of this name stands
+abbrev pub group_of : Source → List ℕ → Option ℕ
+group_of p name = position (λ g. list_any (λ n. bytes_eq n name) g.subjects) p.scheduling.groups

@@ -1,8 +1,10 @@
 -- What a window shows: a thing, by its kind and its names in the source policy (Muen system policy: memory, channels,
 -- components, devices).
-use Rattle.std.specs.Prelude.{ℕ, ◌&&◌, Bool, false, List, [], ◌++◌, map, Option, Some, None}
+use Rattle.std.specs.Prelude.{ℕ, ◌&&◌, Bool, true, false, List, [], ◌++◌, map, Option, Some, None}
 use Rattle.std.specs.List.{find, flat_map}
 use Rattle.std.specs.Str.{bytes_eq}
+use Rattle.muen_num.specs.declared.tag.Part.TheVariants.{Whole, Named, State}
+use Rattle.muen_num.specs.declared.tag.Tag.{Tag}
 use Rattle.policy_types.specs.declared.source.Source.{Source}
 use Rattle.policy_types.specs.declared.source.Component.{Component}
 use Rattle.policy_types.specs.declared.source.ComponentUse.{ComponentUse}
@@ -26,6 +28,19 @@ same_thing (provided s a) (provided t b) = bytes_eq s t && bytes_eq a b
 same_thing (device_memory d a) (device_memory e b) = bytes_eq d e && bytes_eq a b
 same_thing (state a) (state b) = bytes_eq a b
 same_thing _ _ = false
+
+-- the name by which a thing is printed
+abbrev pub thing_tag : Thing → Tag
+thing_tag (region name) = record { owner = name; part = Whole }
+thing_tag (channel name) = record { owner = name; part = Whole }
+thing_tag (provided subject logical) = record { owner = subject; part = Named logical }
+thing_tag (device_memory device memory) = record { owner = device; part = Named memory }
+thing_tag (state subject) = record { owner = subject; part = State }
+
+-- the memory of a device
+abbrev pub is_device : Thing → Bool
+is_device (device_memory device memory) = true
+is_device _ = false
 
 -- the component that a subject uses
 abbrev pub component_by : Source → Option ComponentUse → Option Component

@@ -24,14 +24,13 @@ use Rattle.image_pack.specs.declared.parts.SpanPart.{SpanPart}
 use Rattle.image_pack.specs.declared.parts.WindowPart.{WindowPart}
 use Rattle.muen_num.specs.declared.tag.Tag.{Tag}
 use Rattle.policy_meaning.specs.Contents.{Held}
-use Rattle.policy_meaning.specs.Thing.{Thing, device_memory, same_thing, things_of}
+use Rattle.policy_meaning.specs.Thing.{Thing, device_memory, same_thing, things_of, thing_tag}
 use Rattle.policy_types.specs.declared.source.Device.{Device}
 use Rattle.policy_types.specs.declared.source.DeviceMemory.{DeviceMemory}
 use Rattle.policy_types.specs.declared.source.Source.{Source}
 use Rattle.record_text.specs.Bench.{Bench, BenchDevice}
-use Rattle.abstract_system.proofs.KeyLaws.{same_thing_self}
-use Rattle.subject_model.specs.Bench.{bench_device as device_of}
-use Rattle.subject_model.specs.Run.{thing_tag}
+use Rattle.subject_model.proofs.KeyLaws.{same_thing_self}
+use Rattle.image_meaning.specs.Bench.{bench_device as device_of}
 use Rattle.sound_stands.specs.GroundOf.{ground_of}
 use Rattle.sound_stands.proofs.ListFacts.{all_at, any_at, filtered_there, first_at, found_at, from_some, kept_there, same_at, same_some}
 use Rattle.sound_stands.proofs.MemoryFacts.{by_its_number, span_with}

@@ -18,18 +18,17 @@ use Rattle.image_pack.specs.declared.parts.SubjectPart.{SubjectPart}
 use Rattle.image_meaning.specs.Memory.{Span, by_number, span_at}
 use Rattle.image_meaning.specs.Sound.{AreContents, IsSpanOf, is_kernel, kind_of, thing_spans}
 use Rattle.policy_meaning.specs.Contents.{Held}
-use Rattle.policy_meaning.specs.Thing.{Thing, region, channel, provided, device_memory, component_by, provided_by, things_of}
+use Rattle.policy_meaning.specs.Thing.{Thing, region, channel, provided, device_memory, component_by, provided_by, things_of, thing_tag}
 use Rattle.policy_types.specs.declared.source.Component.{Component}
 use Rattle.policy_types.specs.declared.source.Source.{Source}
 use Rattle.policy_types.specs.declared.source.Subject.{Subject}
-use Rattle.subject_model.specs.Run.{rows_text, thing_tag}
-use Rattle.view_text.specs.ViewText.{region_text}
+use Rattle.view_text.specs.ViewText.{rows_text, region_text}
 use Rattle.vmx_machine.specs.Machine.{page_at}
 use Rattle.vmx_machine.specs.declared.control.Control.{Control}
 use Rattle.kernel_core.specs.declared.setup.Setup.{Setup}
-use Rattle.abstract_system.specs.Alone.{bytes_in}
-use Rattle.abstract_system.specs.System.{System, state_of}
-use Rattle.abstract_system.specs.Trace.{final_text as system_text, state_text, subject_text, thing_text}
+use Rattle.subject_model.specs.Alone.{bytes_in}
+use Rattle.subject_model.specs.System.{System, state_of}
+use Rattle.subject_model.specs.Trace.{final_text as system_text, state_text, subject_text, thing_text}
 use Rattle.muen_run.specs.RunText.{bytes_from, final_text, numbered_span_text, numbered_subject_text, prints_as, span_text, spans_text, states_text, subject_text as part_text}
 use Rattle.sound_runs.proofs.FlatLists.{AllMadeBy, each_made, first_pass, flat_kept, flat_looked, flat_numbers, flat_same, found_beside, joined_made, mapped_made, no_items, second_pass}
 

@@ -12,7 +12,7 @@ use Rattle.std.proofs.lemmas.Slice.Eq.{bytes_eq-Decides}
 use Rattle.muen_num.proofs.Lists.{find-map, list_any-map}
 use Rattle.muen_num.specs.Range.{numbers_below}
 use Rattle.muen_num.specs.declared.limits.TheConstants.{PAGE}
-use Rattle.abstract_system.specs.Clock.{inputs_at, order_at}
+use Rattle.subject_model.specs.Clock.{inputs_at, order_at}
 use Rattle.image_load.specs.Placing.{NamedMemory, bench_device_of, bytes_into, device_called, image_bench, image_record, input_of, irq_input_of, is_in_range, memories_of, memory_input_of, memory_of_span, memory_of_window, port_input_of, raised, tick_input_of}
 use Rattle.image_meaning.specs.Memory.{Span}
 use Rattle.image_meaning.specs.Named.{bench_device, bench_of, reached, subject_name, window_memory}
@@ -43,7 +43,7 @@ use Rattle.sound_stands.specs.GroundOf.{ground_of}
 use Rattle.stands_for.specs.Ground.{Ground, IsSubject, name_at}
 use Rattle.stands_for.specs.Held.{IsByte}
 use Rattle.stands_for.specs.Inputs.{SameInput, SameIrq}
-use Rattle.subject_model.specs.Bench.{devices_of, bench_device as device_of}
+use Rattle.image_meaning.specs.Bench.{devices_of, bench_device as device_of}
 use Rattle.sound_runs.proofs.RecordFacts.{IsReadFor, IsSmall}
 
 -- ---- the bench of an image

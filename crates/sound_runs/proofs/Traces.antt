@@ -23,7 +23,7 @@ use Rattle.policy_types.specs.declared.source.Source.{Source}
 use Rattle.record_text.specs.DeviceRecord.{DeviceRecord}
 use Rattle.record_text.specs.Reading.{record_of}
 use Rattle.record_text.specs.declared.record.Record.{Record}
-use Rattle.subject_model.specs.Bench.{devices_of}
+use Rattle.image_meaning.specs.Bench.{devices_of}
 use Rattle.tick_run.specs.Run.{Ran, run_to}
 use Rattle.tick_run.specs.Alike.{AreAlikeRuns}
 use Rattle.state_page.specs.StatePage.{state_in}
@@ -31,15 +31,15 @@ use Rattle.vmx_machine.specs.Machine.{page_at}
 use Rattle.vmx_machine.specs.declared.control.Control.{Control}
 use Rattle.view_text.specs.ViewText.{turn_text}
 use Rattle.view_text.specs.declared.Line.{Line}
-use Rattle.abstract_system.specs.Alone.{thing_in}
-use Rattle.abstract_system.specs.Clock.{inputs_at, order_at, run_of, system}
-use Rattle.abstract_system.specs.System.{System, first_page, start_of, state_of}
-use Rattle.abstract_system.specs.Trace.{final_text as system_text, trace_of}
+use Rattle.subject_model.specs.Alone.{thing_in}
+use Rattle.subject_model.specs.Clock.{inputs_at, order_at, run_of, system}
+use Rattle.subject_model.specs.System.{System, first_page, start_of, state_of}
+use Rattle.subject_model.specs.Trace.{final_text as system_text, trace_of}
 use Rattle.stands_for.specs.Ground.{Ground, IsSubject}
 use Rattle.stands_for.specs.Fixed.{IsFixed}
 use Rattle.stands_for.specs.Stands.{StandsFor}
 use Rattle.stands_for.proofs.Ends.{IsNoState, final_bytes, final_state, run_lengths}
-use Rattle.abstract_system.proofs.KeyLaws.{same_thing_self}
+use Rattle.subject_model.proofs.KeyLaws.{same_thing_self}
 use Rattle.stands_for.proofs.Runs.{runs_stand}
 use Rattle.stands_for.proofs.Turns.{turn_stands}
 use Rattle.sound_stands.specs.GroundOf.{AreSmall, ground_of}
@@ -106,9 +106,11 @@ module _ (p : Source) (files : Held) (i : Image) (keeps : KeepsConditions i) (so
   runs : AreAlikeRuns (StandsFor g) machine_ran system_ran
   unfolding ground_of
   runs =
-      runs_stand g fixed (turn_stands g fixed) (tick_inputs record_at) (inputs_at r)
-      (λ tick _. inputs_alike p i keeps sound.plan_and_events.bench memories (targets_of p i keeps sound.plan_and_events.bench sound.plan_and_events.devices sound.plan_and_events.subjects numbered) r tick read)
-      (tick_order record_at i.header.cpus) (order_at p r) (λ tick _. orders_alike p i i.header.cpus r tick cpus_same)
+      runs_stand g fixed (turn_stands g fixed) (tick_inputs record_at) (inputs_at r) (tick_order record_at i.header.cpus) (order_at p r)
+      (record {
+        taken = λ tick _. inputs_alike p i keeps sound.plan_and_events.bench memories (targets_of p i keeps sound.plan_and_events.bench sound.plan_and_events.devices sound.plan_and_events.subjects numbered) r tick read;
+        orders = λ tick _. orders_alike p i i.header.cpus r tick cpus_same;
+      })
       r.end (omega (arith, read.ticks)) (live_started (setup_of i) i.header.cpus (memory_of i)) (start_of p files) start
 
   abbrev pages_then : List Page

@@ -4,7 +4,7 @@
 #![tactic(auto)]
 
 ghost use Rattle.std.specs.Prelude.{◌≡◌, ℕ, List, Ok};
-ghost use Rattle.abstract_system.specs.Trace.{trace_of};
+ghost use Rattle.subject_model.specs.Trace.{trace_of};
 ghost use Rattle.image_load.specs.Placing.{image_bench, image_record};
 ghost use Rattle.image_meaning.specs.Sound.{IsSound};
 ghost use Rattle.image_pack.specs.ImageConditions.{KeepsConditions};
@@ -16,7 +16,7 @@ ghost use Rattle.policy_types.specs.declared.source.Source.{Source};
 ghost use Rattle.record_text.specs.DeviceRecord.{DeviceRecord};
 ghost use Rattle.record_text.specs.Reading.{record_of};
 ghost use Rattle.sound_stands.specs.GroundOf.{AreSmall};
-ghost use Rattle.subject_model.specs.Bench.{devices_of};
+ghost use Rattle.image_meaning.specs.Bench.{devices_of};
 
 /// For every policy and files for which an image is sound, and every device record of the policy's
 /// devices with any order of the CPUs in each tick: the text of the image's run is the text of the

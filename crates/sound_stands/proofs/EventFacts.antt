@@ -13,7 +13,7 @@ use Rattle.muen_num.proofs.Lists.{found_among, list_any-map, passes_at}
 use Rattle.muen_num.proofs.SearchLaws.{all_pass, none_append, unless_none}
 use Rattle.muen_num.specs.Search.{first_in}
 use Rattle.muen_num.specs.declared.limits.TheConstants.{MOST_CALLS}
-use Rattle.abstract_system.specs.Alone.{has_trap}
+use Rattle.subject_model.specs.Alone.{has_trap}
 use Rattle.policy_lawful.specs.Lawful.{IsLawful}
 use Rattle.policy_lawful.specs.MoreRules.{are_distinct, are_numbers, call_number, calls_of, offence_12, offence_14, sources_of, targets_of, trap_reason}
 use Rattle.policy_lawful.specs.Offences.{alone, two}

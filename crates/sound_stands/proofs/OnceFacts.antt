@@ -14,7 +14,7 @@ use Rattle.policy_types.specs.declared.source.Component.{Component}
 use Rattle.policy_types.specs.declared.source.ComponentUse.{ComponentUse}
 use Rattle.policy_types.specs.declared.source.Device.{Device}
 use Rattle.policy_types.specs.declared.source.Source.{Source}
-use Rattle.subject_model.proofs.Members.{In, append_some, flat_some, map_in, map_some}
+use Rattle.muen_num.proofs.Members.{In, append_some, flat_some, map_in, map_some}
 use Rattle.sound_stands.proofs.ListFacts.{found_at, same_some}
 
 -- ---- elements and places

@@ -14,7 +14,7 @@ use Rattle.policy_meaning.specs.Contents.{Held}
 use Rattle.policy_meaning.specs.Thing.{Thing, state, same_thing, things_of}
 use Rattle.policy_types.specs.declared.source.Source.{Source}
 use Rattle.policy_types.specs.declared.source.Subject.{Subject}
-use Rattle.abstract_system.proofs.KeyLaws.{same_things, same_thing_self, state_names}
+use Rattle.subject_model.proofs.KeyLaws.{same_things, same_thing_self, state_names}
 use Rattle.vmx_machine.specs.declared.control.Control.{Control}
 use Rattle.sound_stands.specs.GroundOf.{ground_of}
 use Rattle.sound_stands.proofs.ListFacts.{found_changed, found_only, from_some, zipped_at, zipped_both}

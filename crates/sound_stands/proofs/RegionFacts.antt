@@ -17,11 +17,10 @@ use Rattle.image_pack.specs.declared.parts.SpanPart.{SpanPart}
 use Rattle.muen_num.proofs.NumbersBelow.{number_at}
 use Rattle.muen_num.specs.Range.{numbers_below}
 use Rattle.policy_meaning.specs.Contents.{Held}
-use Rattle.policy_meaning.specs.Thing.{region, same_thing, things_of}
+use Rattle.policy_meaning.specs.Thing.{region, same_thing, things_of, thing_tag}
 use Rattle.policy_types.specs.declared.source.Source.{Source}
 use Rattle.policy_types.specs.declared.source.Tau0.{Tau0}
-use Rattle.abstract_system.proofs.KeyLaws.{same_thing_self}
-use Rattle.subject_model.specs.Run.{thing_tag}
+use Rattle.subject_model.proofs.KeyLaws.{same_thing_self}
 use Rattle.sound_stands.specs.GroundOf.{ground_of}
 use Rattle.sound_stands.proofs.ListFacts.{any_at, filtered_there, first_at, kept_there, same_at, same_some}
 use Rattle.sound_stands.proofs.MemoryFacts.{by_its_number, span_with}

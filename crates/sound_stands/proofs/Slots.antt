@@ -7,7 +7,7 @@ use Rattle.std.proofs.lemmas.Bool.{and_from, and_parts, cases_lt, eqb-true}
 use Rattle.std.proofs.lemmas.List.Concat.{flat_map-cons}
 use Rattle.std.proofs.lemmas.List.Folds.{list_all-append, list_all-map}
 use Rattle.std.proofs.lemmas.Option.{slice_get-map}
-use Rattle.abstract_system.specs.Clock.{ticks_of_majors}
+use Rattle.subject_model.specs.Clock.{ticks_of_majors}
 use Rattle.frame_clock.specs.FramePlace.{slot_in, ticks_of_majors as ticks_in_plan}
 use Rattle.frame_clock.specs.declared.place.FramePlace.{FramePlace}
 use Rattle.image_meaning.specs.Named.{bench_of}

@@ -10,10 +10,9 @@ use Rattle.image_pack.specs.ImageConditions.{KeepsConditions}
 use Rattle.image_pack.specs.declared.parts.Image.{Image}
 use Rattle.muen_num.specs.Range.{numbers_below}
 use Rattle.policy_meaning.specs.Contents.{Held, initial_bytes}
-use Rattle.policy_meaning.specs.Thing.{Thing, region, channel, provided, device_memory, state, same_thing, things_of}
+use Rattle.policy_meaning.specs.Thing.{Thing, region, channel, provided, device_memory, state, same_thing, things_of, thing_tag}
 use Rattle.policy_types.specs.declared.source.Source.{Source}
-use Rattle.abstract_system.proofs.KeyLaws.{same_things}
-use Rattle.subject_model.specs.Run.{thing_tag}
+use Rattle.subject_model.proofs.KeyLaws.{same_things}
 use Rattle.sound_stands.specs.GroundOf.{ground_of, pages_in}
 use Rattle.sound_stands.proofs.ListFacts.{any_passing, both_at, filtered_at, found_at, found_changed, found_some, kept_at, other_at, zipped_at, zipped_both}
 use Rattle.sound_stands.proofs.MemoryFacts.{SpanIn, span_by}

@@ -5,11 +5,11 @@ use Rattle.std.specs.List.{enumerate_from, find, list_any}
 use Rattle.std.specs.Str.{bytes_eq}
 use Rattle.std.proofs.lemmas.Bool.{cases_Bool, false_from_ne_true, lt-ltb, ltb-true, or_parts}
 use Rattle.std.proofs.lemmas.Bool.Decides.{nat_tests}
-use Rattle.abstract_system.specs.Alone.{thing_in}
-use Rattle.abstract_system.specs.System.{named}
+use Rattle.subject_model.specs.Alone.{thing_in}
+use Rattle.subject_model.specs.System.{named}
 use Rattle.policy_meaning.specs.Thing.{Thing, state, same_thing}
 use Rattle.policy_types.specs.declared.source.Subject.{Subject}
-use Rattle.abstract_system.proofs.KeyLaws.{same_things}
+use Rattle.subject_model.proofs.KeyLaws.{same_things}
 
 -- ---- one value, over and over
 

@@ -6,7 +6,7 @@ use Rattle.std.proofs.lemmas.Bool.{eq-eqb, eqb-true}
 use Rattle.std.proofs.lemmas.List.{get_or-replicate, length-replicate}
 use Rattle.std.proofs.lemmas.List.Elements.{All-replicate}
 use Rattle.std.proofs.lemmas.Option.{slice_get-map, unwrap_or-slice_get}
-use Rattle.abstract_system.specs.System.{named, start_of, subject_named}
+use Rattle.subject_model.specs.System.{named, start_of, subject_named}
 use Rattle.event_router.specs.Router.{started as router_started}
 use Rattle.event_router.specs.Vectors.{no_marks, no_vectors}
 use Rattle.image_meaning.specs.Named.{bench_of}

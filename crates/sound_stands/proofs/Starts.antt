@@ -5,8 +5,8 @@ use Rattle.std.specs.List.{All, enumerate_from, list_any}
 use Rattle.std.proofs.lemmas.Bool.{cases_Bool, true≢false}
 use Rattle.std.proofs.lemmas.List.{length-replicate}
 use Rattle.std.proofs.lemmas.List.Elements.{All-replicate}
-use Rattle.abstract_system.specs.Alone.{MsrValues, Things, msr_value, thing_in}
-use Rattle.abstract_system.specs.System.{Named, first_inputs, first_page, named, start_of, subject_named}
+use Rattle.subject_model.specs.Alone.{MsrValues, Things, msr_value, thing_in}
+use Rattle.subject_model.specs.System.{Named, first_inputs, first_page, named, start_of, subject_named}
 use Rattle.device_bench.specs.Devices.{no_inputs, zeros}
 use Rattle.expand_grants.specs.Resources.{msrs_of}
 use Rattle.image_load.specs.Loaded.{memory_of as loaded_memory, setup_of}
@@ -25,7 +25,7 @@ use Rattle.policy_types.specs.declared.source.Subject.{Subject}
 use Rattle.state_page.specs.StatePage.{page_bytes}
 use Rattle.subject_state.specs.States.{started}
 use Rattle.stands_for.proofs.Holds.{held_off}
-use Rattle.abstract_system.proofs.KeyLaws.{same_thing_self}
+use Rattle.subject_model.proofs.KeyLaws.{same_thing_self}
 use Rattle.stands_for.specs.Fixed.{IsFixed}
 use Rattle.stands_for.specs.Ground.{part}
 use Rattle.stands_for.specs.Held.{AreEntries, HasMsr, Held, IsByte, IsOwn, entry_value, held_by, is_on, on_pages}

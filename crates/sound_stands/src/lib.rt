@@ -5,7 +5,7 @@
 //! one.
 #![tactic(auto)]
 
-ghost use Rattle.abstract_system.specs.System.{start_of};
+ghost use Rattle.subject_model.specs.System.{start_of};
 ghost use Rattle.image_load.specs.Loaded.{memory_of, setup_of};
 ghost use Rattle.image_meaning.specs.Sound.{IsSound};
 ghost use Rattle.image_pack.specs.ImageConditions.{KeepsConditions};

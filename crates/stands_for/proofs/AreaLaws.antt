@@ -17,7 +17,7 @@ use Rattle.machine_meaning.proofs.StoreLaws.{length-le_bytes, over_apart, length
 use Rattle.vmx_machine.specs.Machine.{entries_in, filled, save_value, entry_saved, saved}
 use Rattle.vmx_machine.specs.MsrFile.{place_of, most, value_in, put_at, with_msr}
 use Rattle.vmx_machine.proofs.StoreWithin.{stored_within}
-use Rattle.abstract_system.specs.Alone.{is_in}
+use Rattle.subject_model.specs.Alone.{is_in}
 use Rattle.stands_for.specs.Held.{IsByte, IsWord, FitsFile, AreDistinct, indices, entry_value}
 
 -- ---- the MSR file

@@ -21,15 +21,15 @@ use Rattle.vmx_machine.specs.declared.control.Control.{Control}
 use Rattle.vmx_machine.specs.declared.cpu.Cpu.{Cpu}
 use Rattle.vmx_machine.specs.declared.cpu.Entered.{Entered}
 use Rattle.kernel_core.specs.Kernel.{Live}
-use Rattle.abstract_system.specs.Alone.{MsrValues, Things, msr_value, thing_in}
-use Rattle.abstract_system.specs.System.{System, change_named, change_thing, with_bytes, with_own, with_store, with_write}
+use Rattle.subject_model.specs.Alone.{MsrValues, Things, msr_value, thing_in}
+use Rattle.subject_model.specs.System.{System, change_named, change_thing, with_bytes, with_own, with_store, with_write}
 use Rattle.stands_for.specs.Ground.{Ground, Joined, thing_at, state_at, area_at, IsAt, place_in}
 use Rattle.stands_for.specs.Fixed.{IsFixed, Watches}
 use Rattle.stands_for.specs.Held.{Held, held_by, held, is_on, on_cpu, on_pages, FitsState, FitsFile, IsByte, IsOwn, IsWord}
 use Rattle.stands_for.specs.Stands.{Shows, HasPages, SameEntered, FitsCpu, FitsEntered, StandsFor, Running}
 use Rattle.stands_for.proofs.AreaLaws.{with_msr_fits, with_msr_other}
 use Rattle.stands_for.proofs.StateLaws.{over_small}
-use Rattle.abstract_system.proofs.KeyLaws.{value_changed, value_other, names_apart, numbers_apart, things_apart, state_names}
+use Rattle.subject_model.proofs.KeyLaws.{value_changed, value_other, names_apart, numbers_apart, things_apart, state_names}
 use Rattle.stands_for.proofs.FrameLaws.{change_elsewhere, thing_changes}
 use Rattle.stands_for.proofs.Holds.{same_found, not_some, found_before, some_changed, not_on, held_off, held_apart_on, held_same, own_same, each_subject}
 use Rattle.stands_for.proofs.Moves.{state_spot}

@@ -14,10 +14,10 @@ use Rattle.record_text.specs.declared.record.Input.TheVariants.{Port, Mem, Irq, 
 use Rattle.vmx_machine.specs.Machine.{written}
 use Rattle.kernel_core.specs.Kernel.{Live}
 use Rattle.kernel_core.specs.Ticks.{pick_of, begins as kernel_begins, takes as kernel_takes}
-use Rattle.abstract_system.specs.Alone.{Things, thing_in}
-use Rattle.abstract_system.specs.ByKey.{change_of}
-use Rattle.abstract_system.specs.Clock.{begins, pick_in, takes}
-use Rattle.abstract_system.specs.System.{System, change_thing, with_bytes}
+use Rattle.subject_model.specs.Alone.{Things, thing_in}
+use Rattle.subject_model.specs.ByKey.{change_of}
+use Rattle.subject_model.specs.Clock.{begins, pick_in, takes}
+use Rattle.subject_model.specs.System.{System, change_thing, with_bytes}
 use Rattle.stands_for.specs.Ground.{Ground, part}
 use Rattle.stands_for.specs.Fixed.{IsFixed}
 use Rattle.stands_for.specs.Held.{IsByte}

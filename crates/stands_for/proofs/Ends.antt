@@ -33,14 +33,14 @@ use Rattle.vmx_machine.specs.declared.cpu.Cpu.{Cpu}
 use Rattle.vmx_machine.specs.declared.cpu.Entered.{Entered}
 use Rattle.kernel_core.specs.Kernel.{Live}
 use Rattle.kernel_core.specs.Ticks.{all_left, ended}
-use Rattle.abstract_system.specs.Alone.{MsrValues, Things, TurnAnswer, own_of, solo_turn, thing_in}
-use Rattle.abstract_system.specs.System.{System, answered, change_thing, happens, inbox_of, named, pends_now, raised_by, state_of, subject_named, system_turn, turn_from, turn_in_slot, turn_of_member, turn_of_subject, with_active, with_bytes, with_own, with_store}
-use Rattle.abstract_system.specs.Clock.{begins, irq_reaches, system, takes}
+use Rattle.subject_model.specs.Alone.{MsrValues, Things, TurnAnswer, own_of, solo_turn, thing_in}
+use Rattle.subject_model.specs.System.{System, answered, change_thing, happens, inbox_of, named, pends_now, raised_by, state_of, subject_named, system_turn, turn_from, turn_in_slot, turn_of_member, turn_of_subject, with_active, with_bytes, with_own, with_store}
+use Rattle.subject_model.specs.Clock.{begins, irq_reaches, system, takes}
 use Rattle.stands_for.specs.Ground.{Ground, Joined, part}
 use Rattle.stands_for.specs.Fixed.{IsFixed}
 use Rattle.stands_for.specs.Held.{Held, held, is_on, on_pages}
 use Rattle.stands_for.specs.Stands.{SameEntered, StandsFor}
-use Rattle.abstract_system.proofs.KeyLaws.{cases_thing, things_apart, value_changed, value_other}
+use Rattle.subject_model.proofs.KeyLaws.{cases_thing, things_apart, value_changed, value_other}
 use Rattle.stands_for.proofs.Holds.{held_off, not_some}
 use Rattle.stands_for.proofs.Moves.{left_by_nobody, left_by_subject, left_pages, left_with, off}
 

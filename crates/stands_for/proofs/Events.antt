@@ -15,15 +15,15 @@ use Rattle.look_up.proofs.ChangeLaws.{element_changes, others_stay}
 use Rattle.event_router.specs.Vectors.{with_vector, without_vector}
 use Rattle.event_router.specs.Router.{RouterState, hands_over, pends, pends_now as kernel_pends_now, pends_later as kernel_pends_later, raised_as, taken}
 use Rattle.kernel_core.specs.Kernel.{Live, entry, raised_by as kernel_raised_by}
-use Rattle.subject_model.specs.System.{group_of}
+use Rattle.policy_meaning.specs.Frames.{group_of}
 use Rattle.vmx_machine.specs.declared.control.Control.{Control}
-use Rattle.abstract_system.specs.System.{Named, System, change_named, happens, happens_as, named, pends_now, pends_later, raised_by, took, with_active}
+use Rattle.subject_model.specs.System.{Named, System, change_named, happens, happens_as, named, pends_now, pends_later, raised_by, took, with_active}
 use Rattle.stands_for.specs.Ground.{Ground, IsSubject, Joined, name_at, raised_of}
 use Rattle.stands_for.specs.Fixed.{IsFixed}
 use Rattle.stands_for.specs.Held.{SameSet}
 use Rattle.stands_for.specs.Stands.{IsMember, RouterStands, StandsFor}
 use Rattle.stands_for.proofs.SetLaws.{set_with, set_without}
-use Rattle.abstract_system.proofs.KeyLaws.{value_changed, value_other, names_apart}
+use Rattle.subject_model.proofs.KeyLaws.{value_changed, value_other, names_apart}
 use Rattle.stands_for.proofs.Holds.{each_subject, found_before}
 
 option_same : {A : Type 0} (o : Option A) → option_map (λ a. a) o ≡ o

@@ -19,13 +19,13 @@ use Rattle.policy_meaning.specs.Thing.{Thing, same_thing}
 use Rattle.guest_step.specs.Step.{word_at}
 use Rattle.vmx_machine.specs.Machine.{look_in, msr_exits_in, ports_exit, page_at, reach_by}
 use Rattle.vmx_machine.specs.declared.control.Control.{Control}
-use Rattle.abstract_system.specs.Alone.{Things, thing_in}
-use Rattle.abstract_system.specs.System.{change_thing}
+use Rattle.subject_model.specs.Alone.{Things, thing_in}
+use Rattle.subject_model.specs.System.{change_thing}
 use Rattle.stands_for.specs.Ground.{Ground, Spot, thing_at, IsAt, part}
 use Rattle.stands_for.specs.Held.{IsByte}
 use Rattle.stands_for.specs.Fixed.{IsFixed}
 use Rattle.stands_for.specs.Stands.{Shows}
-use Rattle.abstract_system.proofs.KeyLaws.{value_changed, value_other, things_apart, cases_thing}
+use Rattle.subject_model.proofs.KeyLaws.{value_changed, value_other, things_apart, cases_thing}
 
 -- ---- parts of bytes
 

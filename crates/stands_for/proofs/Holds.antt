@@ -2,8 +2,8 @@
 use Rattle.std.proofs.Common.{◌≡◌, ℕ, false, Option, Some, None, List, refl, sym, ap, ◌∙◌, subst, inl, inr}
 use Rattle.std.specs.Prelude.{option_map, slice_get, is_some}
 use Rattle.std.proofs.lemmas.Bool.{cases_eq, ne_eqb}
-use Rattle.abstract_system.specs.Alone.{MsrValues, Things, thing_in}
-use Rattle.abstract_system.specs.System.{Named, named}
+use Rattle.subject_model.specs.Alone.{MsrValues, Things, thing_in}
+use Rattle.subject_model.specs.System.{Named, named}
 use Rattle.image_pack.specs.declared.parts.SubjectPart.{SubjectPart}
 use Rattle.look_up.specs.ByNumber.{change_at}
 use Rattle.look_up.proofs.ChangeLaws.{element_changes, others_stay}

@@ -20,8 +20,8 @@ use Rattle.vmx_machine.specs.declared.control.Control.{Control}
 use Rattle.vmx_machine.specs.declared.cpu.Cpu.{Cpu}
 use Rattle.vmx_machine.specs.declared.cpu.Entered.{Entered}
 use Rattle.kernel_core.specs.Kernel.{Live, goes_on, switched}
-use Rattle.abstract_system.specs.Alone.{Things, is_in, thing_in}
-use Rattle.abstract_system.specs.System.{System}
+use Rattle.subject_model.specs.Alone.{Things, is_in, thing_in}
+use Rattle.subject_model.specs.System.{System}
 use Rattle.stands_for.specs.Ground.{Ground, Joined, Spot, thing_at, state_at, area_at, IsAt}
 use Rattle.stands_for.specs.Fixed.{IsFixed}
 use Rattle.stands_for.specs.Held.{AreDistinct, entry_value, Held, held_by, held, on_cpu, on_pages, is_on, AreEntries, FitsFile, IsByte, IsOwn, MsrsAre, indices}

@@ -7,8 +7,8 @@ use Rattle.tick_run.specs.Alike.{AreAlike, AreAlikeRuns, AreAlikeTicks, AreAlike
 use Rattle.tick_run.proofs.AlikeRuns.{runs_alike}
 use Rattle.kernel_core.specs.Kernel.{Live, turn_of}
 use Rattle.kernel_core.specs.Ticks.{kernel}
-use Rattle.abstract_system.specs.Clock.{system}
-use Rattle.abstract_system.specs.System.{System, system_turn}
+use Rattle.subject_model.specs.Clock.{system}
+use Rattle.subject_model.specs.System.{System, system_turn}
 use Rattle.stands_for.specs.Ground.{Ground}
 use Rattle.stands_for.specs.Fixed.{IsFixed}
 use Rattle.stands_for.specs.Held.{IsWord}

@@ -7,7 +7,7 @@ use Rattle.std.proofs.lemmas.List.{get_or-set_other, get_or-set_same, length-set
 use Rattle.machine_meaning.specs.Pending.{with_vector as with_in, without as without_in}
 use Rattle.event_router.specs.Vectors.{delivered as delivered_marks, greatest as greatest_mark, has, with_vector, without_vector}
 use Rattle.event_router.specs.Router.{delivered_by}
-use Rattle.abstract_system.specs.Alone.{delivered, greatest, is_in}
+use Rattle.subject_model.specs.Alone.{delivered, greatest, is_in}
 use Rattle.stands_for.specs.Held.{IsSameSet, SameSet}
 
 -- ---- a vector more, and one less

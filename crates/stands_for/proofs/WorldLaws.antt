@@ -24,13 +24,13 @@ use Rattle.kernel_core.specs.Kernel.{Live}
 use Rattle.vmx_machine.specs.Machine.{machine_world, msr_exits_in, page_at, ports_exit}
 use Rattle.vmx_machine.specs.declared.control.Control.{Control}
 use Rattle.vmx_machine.specs.declared.cpu.Cpu.{Cpu}
-use Rattle.abstract_system.specs.Alone.{Things, alone, are_granted, bytes_in, input_byte, is_granted, own_of, reach_by, thing_in}
-use Rattle.abstract_system.specs.System.{System, inbox_of, is_shown}
+use Rattle.subject_model.specs.Alone.{Things, alone, are_granted, bytes_in, input_byte, is_granted, own_of, reach_by, thing_in}
+use Rattle.subject_model.specs.System.{System, inbox_of, is_shown}
 use Rattle.stands_for.specs.Ground.{Ground, Joined, place_in}
 use Rattle.stands_for.specs.Held.{held_by}
 use Rattle.stands_for.specs.Fixed.{IsFixed, Watches}
 use Rattle.stands_for.specs.Stands.{Running}
-use Rattle.abstract_system.proofs.KeyLaws.{same_things, value_filtered}
+use Rattle.subject_model.proofs.KeyLaws.{same_things, value_filtered}
 use Rattle.stands_for.proofs.FrameLaws.{aligned_alike, look_stays, msrs_stay, ports_stay, word_of_part}
 
 -- ---- ports

@@ -1,8 +1,8 @@
 -- What holds of a policy and a machine for it as long as both run.
 use Rattle.std.specs.Prelude.{◌≡◌, ◌⊎◌, ℕ, ◌+◌, ◌/◌, ◌%◌, ◌<◌, ◌≤◌, true, false, Bool, List, Some, None, is_some, option_map, slice_get}
 use Rattle.std.specs.List.{All}
-use Rattle.abstract_system.specs.Alone.{is_granted}
-use Rattle.abstract_system.specs.Clock.{ticks_of_majors}
+use Rattle.subject_model.specs.Alone.{is_granted}
+use Rattle.subject_model.specs.Clock.{ticks_of_majors}
 use Rattle.expand_grants.specs.Resources.{msrs_of}
 use Rattle.frame_clock.specs.FramePlace.{slot_in, ticks_of_majors as ticks_in_plan}
 use Rattle.frame_clock.specs.declared.place.FramePlace.{FramePlace}
@@ -21,7 +21,7 @@ use Rattle.policy_types.specs.declared.source.Subject.{Subject}
 use Rattle.policy_types.specs.declared.source.Tau0.{Tau0}
 use Rattle.vmx_machine.specs.MsrFile.{place_of}
 use Rattle.vmx_machine.specs.declared.control.Control.{Control}
-use Rattle.abstract_system.specs.System.{is_shown}
+use Rattle.subject_model.specs.System.{is_shown}
 use Rattle.stands_for.specs.Ground.{Ground, Joined, IsSubject, Spot, IsAt}
 
 -- x is the state page of another subject on the CPU of this one

@@ -1,7 +1,7 @@
 -- A policy's system and a machine for it: which number stands for which subject, and which pages for which thing.
 use Rattle.std.specs.Prelude.{◌≡◌, ℕ, ◌+◌, ◌*◌, ◌/◌, ◌%◌, ◌<◌, not, Bool, List, take, drop, Some, is_some, option_map, slice_get, unwrap_or, []}
-use Rattle.abstract_system.specs.Alone.{are_granted, has_trap, is_granted, reach_by}
-use Rattle.abstract_system.specs.System.{subject_named}
+use Rattle.subject_model.specs.Alone.{are_granted, has_trap, is_granted, reach_by}
+use Rattle.subject_model.specs.System.{subject_named}
 use Rattle.expand_grants.specs.Resources.{msrs_of, ports_of}
 use Rattle.guest_step.specs.Named.{renamed_reach}
 use Rattle.image_pack.specs.declared.parts.EventPart.{EventPart}
@@ -17,7 +17,7 @@ use Rattle.policy_meaning.specs.Windows.{access_of, windows_of}
 use Rattle.policy_types.specs.declared.source.Source.{Source}
 use Rattle.policy_types.specs.declared.source.SourceWay.TheVariants.{Call, Trap}
 use Rattle.policy_types.specs.declared.source.Subject.{Subject}
-use Rattle.subject_model.specs.System.{group_of}
+use Rattle.policy_meaning.specs.Frames.{group_of}
 use Rattle.vmx_machine.specs.Machine.{look_in, msr_exits_in, ports_exit}
 use Rattle.vmx_machine.specs.declared.control.Control.{Control}
 

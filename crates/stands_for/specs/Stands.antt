@@ -1,8 +1,8 @@
 -- When the state of a machine and its kernel stands for a state of the abstract system.
 use Rattle.std.specs.Prelude.{◌≡◌, ℕ, ◌+◌, ◌*◌, ◌<◌, ◌≤◌, nat_lt, true, List, map, length, Option, Some, None, is_some, option_map, slice_get}
 use Rattle.std.specs.List.{All}
-use Rattle.abstract_system.specs.Alone.{Things, thing_in}
-use Rattle.abstract_system.specs.System.{Named, System, named}
+use Rattle.subject_model.specs.Alone.{Things, thing_in}
+use Rattle.subject_model.specs.System.{Named, System, named}
 use Rattle.event_router.specs.Router.{RouterState}
 use Rattle.image_pack.specs.declared.parts.SubjectPart.{SubjectPart}
 use Rattle.kernel_core.specs.Kernel.{Live}

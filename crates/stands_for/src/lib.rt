@@ -7,8 +7,8 @@
 #![tactic(auto)]
 
 ghost use Rattle.std.specs.Prelude.{◌≡◌, ℕ};
-ghost use Rattle.abstract_system.specs.Clock.{begins as system_begins, takes as system_takes};
-ghost use Rattle.abstract_system.specs.System.{System, system_turn};
+ghost use Rattle.subject_model.specs.Clock.{begins as system_begins, takes as system_takes};
+ghost use Rattle.subject_model.specs.System.{System, system_turn};
 ghost use Rattle.kernel_core.specs.Kernel.{Live, turn_of};
 ghost use Rattle.kernel_core.specs.Ticks.{begins, ended, takes};
 ghost use Rattle.record_text.specs.DeviceRecord.{NamedInput};

@@ -23,7 +23,7 @@ use Rattle.guest_isa.specs.GuestIsa.{decode_of}
 use Rattle.record_text.specs.Reading.{nothing_until}
 use Rattle.subject_model.specs.Solo.{own_of, solo_turn}
 use Rattle.subject_model.specs.System.{start_of, inbox_of, system_turn}
-use Rattle.subject_model.specs.Run.{run_to}
+use Rattle.subject_model.specs.Lines.{run_to}
 use Rattle.view_text.specs.declared.What.TheVariants.{Ran, Exit}
 use Rattle.view_text.specs.declared.End.TheVariants.{Trap, Stop}
 

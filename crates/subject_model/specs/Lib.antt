@@ -1,5 +1,6 @@
-pub mod Bench
-pub mod Flows
-pub mod Run
-pub mod Solo
+pub mod ByKey
+pub mod Alone
 pub mod System
+pub mod Clock
+pub mod Trace
+pub mod Laws

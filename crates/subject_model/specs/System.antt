@@ -1,66 +1,84 @@
--- The abstract system: each subject with its own state, the things by name, the pending events, and the active member of
--- each scheduling group. There is no kernel in it, no table and no place.
-use Rattle.std.specs.Prelude.{ℕ, Bool, List, [], ◌∷◌, map, filter, slice_get, slice_set, position, Option, Some, None, option_map, option_and_then, if◌then◌else◌}
-use Rattle.std.specs.Option.{option_map_or}
+-- The abstract system: the things by name, with the state page of each subject among them, the values of each subject's MSRs, the
+-- ports' input bytes, the pending events, the active member of each scheduling group, and the major frame that runs. There is no
+-- kernel in it, no table and no place (this project's own, after Muen's system policy).
+use Rattle.std.specs.Prelude.{ℕ, ◌+◌, ◌==◌, Bool, List, [], ◌++◌, map, filter, replicate, slice_get, slice_index_or, Option, Some, None, option_map, unwrap_or}
 use Rattle.std.specs.List.{find, list_any}
 use Rattle.std.specs.Str.{bytes_eq}
-use Rattle.image_plan.specs.Slot.{Slot, slot_at}
-use Rattle.machine_meaning.specs.Overwritten.{overwritten}
+use Rattle.expand_grants.specs.Resources.{msrs_of, ports_of}
+use Rattle.frame_clock.specs.FramePlace.{first_place, slot_in}
+use Rattle.frame_clock.specs.declared.place.FramePlace.{FramePlace}
+use Rattle.guest_step.specs.Step.{Stored, MsrWrite}
+use Rattle.image_plan.specs.Slot.{Slot}
+use Rattle.look_up.specs.ByNumber.{change_at}
+use Rattle.machine_meaning.specs.Memory.{over}
 use Rattle.machine_meaning.specs.Pending.{without, with_vector}
+use Rattle.muen_num.specs.declared.limits.TheConstants.{LAST_PORT}
 use Rattle.muen_num.specs.declared.mode.Mode.{Mode}
 use Rattle.muen_num.specs.declared.mode.Mode.TheVariants.{Asap, Async, Own as OwnMode, Switch}
-use Rattle.policy_meaning.specs.Thing.{Thing, same_thing, things_of}
-use Rattle.policy_meaning.specs.Windows.{Window, windows_of}
 use Rattle.policy_meaning.specs.Contents.{Held, initial_bytes}
-use Rattle.policy_meaning.specs.Frames.{frames_of, first_member}
 use Rattle.policy_meaning.specs.Events.{Raised, Target, event_of}
+use Rattle.policy_meaning.specs.Frames.{first_member, frames_of, group_of}
+use Rattle.policy_meaning.specs.Thing.{Thing, state, same_thing, things_of}
+use Rattle.policy_meaning.specs.Windows.{Window, windows_of}
 use Rattle.policy_types.specs.declared.source.Source.{Source}
-use Rattle.policy_types.specs.declared.source.Subject.{Subject}
 use Rattle.policy_types.specs.declared.source.SourceWay.{SourceWay}
+use Rattle.policy_types.specs.declared.source.Subject.{Subject}
+use Rattle.state_page.specs.StatePage.{page_bytes, state_in}
 use Rattle.subject_state.specs.States.{started}
-use Rattle.subject_model.specs.Solo.{Stored, Answer, Things, Inbox, own_of, solo_turn}
 use Rattle.subject_state.specs.declared.SubjectState.{SubjectState}
+use Rattle.tick_run.specs.Run.{Turned}
 use Rattle.view_text.specs.declared.Line.{Line}
 use Rattle.view_text.specs.declared.What.{What}
+use Rattle.subject_model.specs.ByKey.{value_of, change_of}
+use Rattle.subject_model.specs.Alone.{Inbox, MsrValues, Things, TurnAnswer, own_of, solo_turn, thing_in}
 
--- ---- values by name
-
+-- values by the names of subjects
 abbrev pub Named : Type 0 → Type 0
 Named X = List (List ℕ × X)
 
 abbrev pub named : {X : Type 0} → Named X → List ℕ → Option X
-named entries name = option_map (λ e. e.1) (find (λ e. bytes_eq e.0 name) entries)
-
--- the first for which the test holds is changed
-abbrev pub change_first : {X : Type 0} → (X → Bool) → (X → X) → List X → List X
-change_first test change [] = []
-change_first test change (x ∷ xs) = if test x then change x ∷ xs else x ∷ change_first test change xs
+named entries name = value_of bytes_eq entries name
 
 abbrev pub change_named : {X : Type 0} → List ℕ → (X → X) → Named X → Named X
-change_named name change entries = change_first (λ e. bytes_eq e.0 name) (λ e. (e.0, change e.1)) entries
+change_named name f entries = change_of bytes_eq name f entries
+
+abbrev pub change_thing : Thing → (List ℕ → List ℕ) → Things → Things
+change_thing x f things = change_of same_thing x f things
 
 -- ---- the state
 
 pub record System : Type 0 where
-  -- each subject's own state
-  pub states : Named SubjectState
-  -- each thing's bytes
+  -- each thing's bytes; the state page of each subject is one
   pub things : Things
+  -- the values of each subject's MSRs
+  pub msrs : Named MsrValues
+  -- the input byte of each port
+  pub ports : List ℕ
   -- each subject's pending vectors that are deliverable at any turn
   pub now : Named (List ℕ)
   -- each subject's pending vectors that wait for a minor frame or an exit
   pub later : Named (List ℕ)
   -- each group's active member, by the group's number
   pub active : List (List ℕ)
+  -- the major frame that runs, and its first tick
+  pub place : FramePlace
+
+unfoldable pub first_page : Subject → List ℕ
+first_page s = page_bytes (started s.entry)
+
+unfoldable pub first_inputs : List ℕ
+first_inputs = replicate (LAST_PORT + 1) 0
 
 -- the state at the start
 unfoldable pub start_of : Source → Held → System
 start_of p files = record {
-  states = map (λ s. (s.name, started s.entry)) p.subjects;
-  things = map (λ x. (x, initial_bytes p files x)) (things_of p);
+  things = map (λ x. (x, initial_bytes p files x)) (things_of p) ++ map (λ s. (state s.name, first_page s)) p.subjects;
+  msrs = map (λ s. (s.name, map (λ m. (m.index, 0)) (msrs_of s))) p.subjects;
+  ports = first_inputs;
   now = map (λ s. (s.name, [])) p.subjects;
   later = map (λ s. (s.name, [])) p.subjects;
   active = map (λ g. first_member g.subjects) p.scheduling.groups;
+  place = first_place;
 }
 
 -- ---- what reaches a subject
@@ -69,31 +87,41 @@ abbrev pub is_shown : List (Window Thing) → Thing → Bool
 is_shown windows x = list_any (λ w. same_thing w.thing x) windows
 
 abbrev pub pending : Named (List ℕ) → List ℕ → List ℕ
-pending sets name = option_map_or (λ vs. vs) (named sets name) []
+pending sets name = unwrap_or (named sets name) []
 
 unfoldable pub inbox_of : Source → System → Subject → Bool → ℕ → Inbox
 inbox_of p y s first tick = record {
   things = filter (λ e. is_shown (windows_of p s) e.0) y.things;
+  ports = map (λ n. (n, slice_index_or y.ports n 0)) (ports_of p s);
   now = pending y.now s.name;
   later = pending y.later s.name;
   first = first;
   tick = tick;
 }
 
--- ---- what a turn changes
+-- ---- what a turn changes, one after another: the subject's own state, a thing, a pending set, what an event does
 
-abbrev pub with_store : Option (Stored Thing) → Things → Things
-with_store None things = things
-with_store (Some w) things =
-    change_first (λ e. same_thing e.0 w.thing) (λ e. (e.0, overwritten w.offset w.bytes e.1)) things
+abbrev pub with_write : Option MsrWrite → MsrValues → MsrValues
+with_write None values = values
+with_write (Some w) values = change_of (λ a b. a == b) w.index (λ _. w.value) values
 
--- the number of the group in which a subject stands
-abbrev pub group_of : Source → List ℕ → Option ℕ
-group_of p name = position (λ g. list_any (λ n. bytes_eq n name) g.subjects) p.scheduling.groups
+-- the subject's page is that of its state, and all else on it 0
+abbrev pub with_own : List ℕ → SubjectState → Option MsrWrite → System → System
+with_own name s m y = record y {
+  things = change_thing (state name) (λ _. page_bytes s) y.things;
+  msrs = change_named name (with_write m) y.msrs;
+}
 
-abbrev pub with_active : Option ℕ → List ℕ → List (List ℕ) → List (List ℕ)
-with_active None name active = active
-with_active (Some g) name active = slice_set active g name
+abbrev pub with_bytes : Thing → ℕ → List ℕ → System → System
+with_bytes x offset bytes y = record y { things = change_thing x (λ old. over old offset bytes) y.things }
+
+abbrev pub with_store : Option (Stored Thing) → System → System
+with_store None y = y
+with_store (Some w) y = with_bytes w.place w.offset w.bytes y
+
+-- a vector isn't pending any more
+abbrev pub took : List ℕ → Option ℕ → System → System
+took name v y = record y { now = change_named name (without v) y.now; later = change_named name (without v) y.later }
 
 abbrev pub pends_now : Target → System → System
 pends_now t y = record y { now = change_named t.subject (with_vector t.vector) y.now }
@@ -101,63 +129,69 @@ pends_now t y = record y { now = change_named t.subject (with_vector t.vector) y
 abbrev pub pends_later : Target → System → System
 pends_later t y = record y { later = change_named t.subject (with_vector t.vector) y.later }
 
-abbrev pub reaches : Source → Mode → Target → System → System
-reaches p Asap t y = pends_now t y
-reaches p Async t y = pends_later t y
-reaches p OwnMode t y = pends_now t y
-reaches p Switch t y =
-    record (pends_now t y) { active = with_active (group_of p t.subject) t.subject y.active }
+abbrev pub with_active : Option ℕ → List ℕ → System → System
+with_active None name y = y
+with_active (Some g) name y = record y { active = change_at g (λ _. name) y.active }
 
-abbrev pub raises : Source → Option Raised → System → System
-raises p None y = y
-raises p (Some e) y = reaches p e.mode e.target y
+-- a handover makes the target the active member of its group
+abbrev pub happens_as : Source → Mode → Target → System → System
+happens_as p Asap t y = pends_now t y
+happens_as p Async t y = pends_later t y
+happens_as p OwnMode t y = pends_now t y
+happens_as p Switch t y = with_active (group_of p t.subject) t.subject (pends_now t y)
+
+abbrev pub happens : Source → Option Raised → System → System
+happens p None y = y
+happens p (Some e) y = happens_as p e.mode e.target y
 
 abbrev pub raised_by : Source → Subject → Option SourceWay → System → System
 raised_by p s None y = y
-raised_by p s (Some way) y = raises p (event_of p s way) y
+raised_by p s (Some way) y = happens p (event_of p s way) y
 
--- the answer of a subject's turn is put into the system
-abbrev pub answered : Source → Subject → Answer Thing → System → System
-answered p s a y = raised_by p s a.raised (record {
-  states = change_named s.name (λ _. a.state) y.states;
-  things = with_store a.stored y.things;
-  now = change_named s.name (without a.taken) y.now;
-  later = change_named s.name (without a.taken) y.later;
-  active = y.active;
-})
+-- the answer of a subject's turn is put into the system; its page is that of its state also after a turn with no line
+abbrev pub answered : Source → Subject → TurnAnswer → System → System
+answered p s a y = raised_by p s a.raised (took s.name a.taken (with_store a.stored (with_own s.name a.state a.msr y)))
 
 -- ---- the turn
-
-pub record Turned : Type 0 where
-  pub system : System
-  pub line : Option Line
 
 abbrev pub line_at : ℕ → ℕ → List ℕ → ℕ → What → Line
 line_at tick cpu subject pc what = record { tick = tick; cpu = cpu; subject = subject; pc = pc; what = what }
 
-abbrev pub turn_answered : Source → System → ℕ → ℕ → Subject → SubjectState → Answer Thing → Turned
-turn_answered p y cpu tick s state a = record {
-  system = answered p s a y;
-  line = option_map (line_at tick cpu s.name state.pc) a.what;
-}
+abbrev pub idle : System → Turned System Line
+idle y = record { state = y; line = None }
 
--- whose turn it is: a frame slot, its group's active member, and that subject's own state
-pub record Turner : Type 0 where
-  pub slot : Slot
-  pub subject : Subject
-  pub state : SubjectState
+abbrev pub turn_answered : Source → ℕ → ℕ → Subject → ℕ → TurnAnswer → System → Turned System Line
+turn_answered p cpu tick s pc a y =
+    record { state = answered p s a y; line = option_map (line_at tick cpu s.name pc) a.what }
 
-abbrev pub turner_in : Source → System → Slot → Option Turner
-turner_in p y slot =
-    option_and_then (λ name. option_and_then (λ s. option_map (λ state. record { slot = slot; subject = s; state = state }) (named y.states s.name)) (find (λ s. bytes_eq s.name name) p.subjects))
-    (slice_get y.active slot.group)
+-- of this subject, by its own state
+abbrev pub turn_from : Source → ℕ → ℕ → Bool → Subject → Option SubjectState → Option MsrValues → System → Turned System Line
+turn_from p cpu tick first s (Some st) (Some values) y =
+    turn_answered p cpu tick s st.pc (solo_turn (own_of p s) (record { state = st; msrs = values }) (inbox_of p y s first tick)) y
+turn_from p cpu tick first s (Some st) None y = idle y
+turn_from p cpu tick first s None values y = idle y
 
-abbrev pub turned_by : Source → System → ℕ → ℕ → Option Turner → Turned
-turned_by p y cpu tick None = record { system = y; line = None }
-turned_by p y cpu tick (Some t) =
-    turn_answered p y cpu tick t.subject t.state (solo_turn (own_of p t.subject) t.state (inbox_of p y t.subject t.slot.first tick))
+-- its state is what its page says
+abbrev pub state_of : System → List ℕ → Option SubjectState
+state_of y name = option_map state_in (thing_in y.things (state name))
 
--- the turn of a CPU at a tick
-unfoldable pub system_turn : Source → System → ℕ → ℕ → Turned
-system_turn p y cpu tick =
-    turned_by p y cpu tick (option_and_then (turner_in p y) (slot_at (frames_of p cpu) tick))
+abbrev pub turn_of_subject : Source → ℕ → ℕ → Bool → Option Subject → System → Turned System Line
+turn_of_subject p cpu tick first None y = idle y
+turn_of_subject p cpu tick first (Some s) y = turn_from p cpu tick first s (state_of y s.name) (named y.msrs s.name) y
+
+abbrev pub subject_named : Source → List ℕ → Option Subject
+subject_named p name = find (λ s. bytes_eq s.name name) p.subjects
+
+-- by the active member of the slot's group
+abbrev pub turn_of_member : Source → ℕ → ℕ → Bool → Option (List ℕ) → System → Turned System Line
+turn_of_member p cpu tick first None y = idle y
+turn_of_member p cpu tick first (Some name) y = turn_of_subject p cpu tick first (subject_named p name) y
+
+-- by the slot
+abbrev pub turn_in_slot : Source → ℕ → ℕ → Option Slot → System → Turned System Line
+turn_in_slot p cpu tick None y = idle y
+turn_in_slot p cpu tick (Some slot) y = turn_of_member p cpu tick slot.first (slice_get y.active slot.group) y
+
+-- **the turn** of a CPU in a tick
+abbrev pub system_turn : Source → ℕ → ℕ → System → Turned System Line
+system_turn p cpu tick y = turn_in_slot p cpu tick (slot_in (frames_of p cpu) y.place tick) y

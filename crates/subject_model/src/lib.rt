@@ -1,59 +1,94 @@
 //! The abstract system, and laws of it.
 //!
-//! The definitions stand in specs/: what a subject does alone (`Solo`), the system and its turn
-//! (`System`), and runs with their text (`Run`). The functions here carry laws of them; no command
-//! calls one.
+//! The definitions stand in specs/: what a subject does alone (`Alone`), the system and its turn
+//! (`System`), the system on the clock (`Clock`), and the text of a run (`Trace`). The functions here
+//! carry laws of them; no command calls one.
 #![tactic(auto)]
 
-ghost use Rattle.std.specs.Prelude.{◌≡◌, ℕ, true, Some, None};
-ghost use Rattle.image_plan.specs.Slot.{Slot, slot_at};
-ghost use Rattle.policy_meaning.specs.Events.{event_of};
-ghost use Rattle.policy_meaning.specs.Frames.{frames_of};
-ghost use Rattle.policy_meaning.specs.Thing.{Thing};
+ghost use Rattle.std.specs.Prelude.{◌≡◌, ℕ, List, Some, None, true, slice_get};
+ghost use Rattle.frame_clock.specs.FramePlace.{slot_in};
+ghost use Rattle.guest_step.specs.Step.{MsrWrite};
+ghost use Rattle.guest_step.specs.declared.reach.Reach.TheVariants.{Reached};
+ghost use Rattle.image_plan.specs.Slot.{slot_at};
+ghost use Rattle.muen_num.specs.Frame.{Frame};
+ghost use Rattle.muen_num.specs.declared.access.Kind.{Kind};
+ghost use Rattle.muen_num.specs.declared.mode.Mode.TheVariants.{Switch};
+ghost use Rattle.policy_meaning.specs.Events.{Raised, Target, event_of};
+ghost use Rattle.policy_meaning.specs.Thing.{Thing, state};
+ghost use Rattle.policy_meaning.specs.Windows.{access_of, byte};
 ghost use Rattle.policy_types.specs.declared.source.Source.{Source};
 ghost use Rattle.policy_types.specs.declared.source.SourceWay.{SourceWay};
 ghost use Rattle.policy_types.specs.declared.source.Subject.{Subject};
+ghost use Rattle.state_page.specs.StatePage.{page_bytes};
+ghost use Rattle.policy_meaning.specs.Frames.{group_of};
 ghost use Rattle.subject_state.specs.declared.SubjectState.{SubjectState};
-ghost use Rattle.subject_model.specs.Flows.{by_event, reaches};
-ghost use Rattle.subject_model.specs.Solo.{Own, Inbox, idle, deliverable, bytes_in, solo_turn};
-ghost use Rattle.subject_model.specs.System.{System, Turner, pending, turner_in, system_turn};
+ghost use Rattle.subject_model.specs.Alone.{Inbox, MsrValues, Own, OwnState, TurnAnswer, alone, are_granted, bytes_in, solo_turn, thing_in, vector_for, waits};
+ghost use Rattle.subject_model.specs.Laws.{AreFrames, AreOthers, KeepsOthers, StoresElsewhere, place_after};
+ghost use Rattle.subject_model.specs.System.{System, answered, happens_as, named, raised_by, with_own, with_write};
 
 /// A stopped subject does nothing, and its turn has no line.
 pub fn stopped_does_nothing()
-    ensures { (own : Own) (s : SubjectState) (inbox : Inbox) → s.stopped ≡ true → solo_turn own s inbox ≡ idle s }
+    ensures { (own : Own) (mine : OwnState) (inbox : Inbox) → mine.state.stopped ≡ true → solo_turn own mine inbox ≡ waits mine.state }
 {}
 
 /// A halted subject to which no event can be delivered does nothing, and its turn has no line.
 pub fn halted_waits()
-    ensures { (own : Own) (s : SubjectState) (inbox : Inbox) → s.halted ≡ true
-        → deliverable s inbox.now inbox.later inbox.first ≡ None → solo_turn own s inbox ≡ idle s }
+    ensures { (own : Own) (mine : OwnState) (inbox : Inbox) → mine.state.halted ≡ true → vector_for mine.state inbox ≡ None
+        → solo_turn own mine inbox ≡ waits mine.state }
 {}
 
-/// A turn depends on the bytes of the things that reach the subject, its pending events, whether
-/// its minor frame begins, and the tick, and on nothing else that is outside it.
+/// A turn depends on the bytes of the things that reach the subject, the input bytes of its ports,
+/// its pending events, whether its minor frame begins, and the tick, and on nothing else that is
+/// outside it.
 pub fn turn_sees_its_inbox_alone()
-    ensures { (own : Own) (s : SubjectState) (a b : Inbox) → ((x : Thing) → bytes_in a.things x ≡ bytes_in b.things x)
-        → a.now ≡ b.now → a.later ≡ b.later → a.first ≡ b.first → a.tick ≡ b.tick → solo_turn own s a ≡ solo_turn own s b }
+    ensures { (own : Own) (mine : OwnState) (a b : Inbox) → ((x : Thing) → bytes_in a.things x ≡ bytes_in b.things x)
+        → a.ports ≡ b.ports → a.now ≡ b.now → a.later ≡ b.later → a.first ≡ b.first → a.tick ≡ b.tick
+        → solo_turn own mine a ≡ solo_turn own mine b }
 {}
 
-/// A stopped subject keeps its ticks: in a tick whose frame slot is its group's, no line is printed
-/// and the system stays as it is. The tick is passed on neither to another member nor to another
-/// group.
-pub fn stopped_keeps_its_ticks()
-    ensures { (p : Source) (y : System) (cpu tick : ℕ) (slot : Slot) (t : Turner) → slot_at (frames_of p cpu) tick ≡ Some slot
-        → turner_in p y slot ≡ Some t → t.state.stopped ≡ true → system_turn p y cpu tick ≡ record { system = y; line = None } }
+/// What a subject reaches is what a window of its with the right for this access shows there.
+pub fn windows_alone_are_reached()
+    ensures { (own : Own) (values : MsrValues) (inbox : Inbox) (kind : Kind) (addr : ℕ) (x : Thing) (offset : ℕ)
+        → (alone own values inbox).look kind addr ≡ Reached x offset → access_of own.windows addr kind ≡ byte x offset }
 {}
 
-/// So does a halted subject to which no event can be delivered.
-pub fn halted_keeps_its_ticks()
-    ensures { (p : Source) (y : System) (cpu tick : ℕ) (slot : Slot) (t : Turner) → slot_at (frames_of p cpu) tick ≡ Some slot
-        → turner_in p y slot ≡ Some t → t.state.halted ≡ true
-        → deliverable t.state (pending y.now t.subject.name) (pending y.later t.subject.name) slot.first ≡ None
-        → system_turn p y cpu tick ≡ record { system = y; line = None } }
+/// Ports are read only where each of them is granted.
+pub fn granted_ports_alone_are_read()
+    ensures { (own : Own) (values : MsrValues) (inbox : Inbox) (port size value : ℕ)
+        → (alone own values inbox).input port size ≡ Some value → are_granted own.ports port size ≡ true }
 {}
 
-/// What a subject raises in any way flows: a subject that the event reaches is one to which it flows
-/// directly, so no way is left out of those that count.
-pub fn every_way_counts()
-    ensures { (p : Source) (u s : Subject) (way : SourceWay) → reaches (event_of p u way) s.name ≡ true → by_event p u s ≡ true }
+/// After its turn the state page of a subject is that of its new state.
+pub fn the_page_is_that_of_the_state()
+    ensures { (p : Source) (s : Subject) (a : TurnAnswer) (y : System) (page : List ℕ)
+        → thing_in y.things (state s.name) ≡ Some page → StoresElsewhere s a.stored
+        → thing_in (answered p s a y).things (state s.name) ≡ Some (page_bytes a.state) }
+{}
+
+/// A turn writes the MSRs of its subject, and those of no other.
+pub fn own_msrs_alone_are_written()
+    ensures own { (name : List ℕ) (s : SubjectState) (m : MsrWrite) (y : System) (values : MsrValues) → named y.msrs name ≡ Some values
+        → named (with_own name s (Some m) y).msrs name ≡ Some (with_write (Some m) values) }
+    ensures others { (name other : List ℕ) (s : SubjectState) (m : MsrWrite) (y : System) → AreOthers name other
+        → named (with_own name s (Some m) y).msrs other ≡ named y.msrs other }
+{}
+
+/// What a subject raises pends at the event's target, and at no other subject, the source no more
+/// than any other.
+pub fn events_reach_their_target_alone()
+    ensures { (p : Source) (s : Subject) (way : SourceWay) (e : Raised) (y : System) → event_of p s way ≡ Some e
+        → KeepsOthers e.target.subject y (raised_by p s (Some way) y) }
+{}
+
+/// A handover makes its target the active member of its group, whose turn comes next in it.
+pub fn a_handover_counts_from_the_next_turn()
+    ensures { (p : Source) (t : Target) (y : System) (group : ℕ) (member : List ℕ) → group_of p t.subject ≡ Some group
+        → slice_get y.active group ≡ Some member → slice_get (happens_as p Switch t y).active group ≡ Some t.subject }
+{}
+
+/// Where nothing picks one, the major frames run in their order, again and again: the slot at a tick
+/// is that of the row of all ticks.
+pub fn frames_go_cyclically()
+    ensures { (frames : List (List Frame)) (ticks : List ℕ) (tick : ℕ) → AreFrames frames ticks
+        → slot_in frames (place_after ticks tick) tick ≡ slot_at frames tick }
 {}

@@ -1,5 +1,6 @@
 -- The lines that a run prints (this project's own).
-use Rattle.std.specs.Prelude.{ℕ, ◌+◌, ◌-◌, ◌*◌, ◌==◌, Bool, true, false, List, ◌++◌, slice_index, codes, decimal, if◌then◌else◌}
+use Rattle.std.specs.Prelude.{ℕ, ◌+◌, ◌-◌, ◌*◌, ◌==◌, Bool, true, false, List, [], ◌∷◌, ◌++◌, slice_index, codes, decimal, if◌then◌else◌}
+use Rattle.std.specs.List.{flat_map}
 use Rattle.hex.specs.Hex.{encode_lower}
 use Rattle.muen_num.specs.Fixed.{hex4, hex8, hex16}
 use Rattle.muen_num.specs.Size.{bytes_of}
@@ -55,6 +56,10 @@ registers_text subject regs first =
 abbrev pub state_text : List ℕ → SubjectState → ℕ → List ℕ
 state_text subject s row =
     if row == 0 then end_line_text subject s else registers_text subject s.regs (4 * (row - 1))
+
+-- the five lines of a subject's final state
+abbrev pub rows_text : List ℕ → SubjectState → List ℕ
+rows_text subject s = flat_map (state_text subject s) (0 ∷ 1 ∷ 2 ∷ 3 ∷ 4 ∷ [])
 
 abbrev pub kind_word : Bool → List ℕ
 kind_word true = codes "device"

@@ -1,4 +1,4 @@
-use Rattle.subject_model.proofs.SoloLaws.{halted_idle}
+use Rattle.subject_model.proofs.SystemLaws.{halted_idle}
 use Rattle.subject_model.proofs.halted_waits.Goals as goal
 
 pub returns : goal.returns

@@ -1,4 +1,4 @@
-use Rattle.subject_model.proofs.SoloLaws.{inbox_alone}
+use Rattle.subject_model.proofs.SystemLaws.{inbox_alone}
 use Rattle.subject_model.proofs.turn_sees_its_inbox_alone.Goals as goal
 
 pub returns : goal.returns

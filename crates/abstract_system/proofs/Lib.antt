@@ -1,3 +1,0 @@
-pub mod KeyLaws
-mod SystemLaws
-mod CyclicFrames

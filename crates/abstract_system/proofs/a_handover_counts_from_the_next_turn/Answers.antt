@@ -1,5 +1,0 @@
-use Rattle.abstract_system.proofs.SystemLaws.{handed_over}
-use Rattle.abstract_system.proofs.a_handover_counts_from_the_next_turn.Goals as goal
-
-pub returns : goal.returns
-returns c = handed_over

@@ -1,5 +1,0 @@
-use Rattle.abstract_system.proofs.SystemLaws.{port_alone}
-use Rattle.abstract_system.proofs.granted_ports_alone_are_read.Goals as goal
-
-pub returns : goal.returns
-returns c = port_alone

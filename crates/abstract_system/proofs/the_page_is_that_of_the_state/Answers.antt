@@ -1,5 +1,0 @@
-use Rattle.abstract_system.proofs.SystemLaws.{page_after}
-use Rattle.abstract_system.proofs.the_page_is_that_of_the_state.Goals as goal
-
-pub returns : goal.returns
-returns c = page_after

@@ -1,6 +1,0 @@
-pub mod ByKey
-pub mod Alone
-pub mod System
-pub mod Clock
-pub mod Trace
-pub mod Laws
