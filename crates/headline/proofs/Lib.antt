@@ -1,2 +1,0 @@
-pub mod ContentBytes
-mod RunAnswers
