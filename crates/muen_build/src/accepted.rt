@@ -86,6 +86,19 @@ impl ComponentFiles {
         }
     }
 
+    /// The bytes of the file that has this text for its name, if it was read. A text that is no name is
+    /// that of none.
+    pub fn bytes_named(&self, name: &str) -> Option<&[u8]>
+        ensures { option_map (λ bytes. bytes.now) result ≡ find_bytes name.now self.now }
+    {
+        for (file, bytes) in self.files.iter() {
+            if file.as_str() == name {
+                return Some(bytes.items());
+            }
+        }
+        None
+    }
+
     /// Adds a file that wasn't read before.
     pub fn add(&mut self, name: Name, bytes: Seq<u8>) -> Result<(), NoMemory>
         requires { find_bytes name self.old ≡ None }

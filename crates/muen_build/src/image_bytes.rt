@@ -3,7 +3,7 @@ ghost use Rattle.std.specs.Prelude.{◌≡◌, IfErr, IfOk, Ok, [], ◌∷◌};
 ghost use Rattle.image_emit.specs.Built.{HasGreatestPages, HasOnePathPerTable, HasPlacement};
 ghost use Rattle.image_meaning.specs.Sound.{ForEachSubject, IsSound};
 ghost use Rattle.muen_build.specs.Accepting.{Accepts, Ends, RefusesDocument, looks_of};
-ghost use Rattle.muen_build.specs.Building.{Builds};
+ghost use Rattle.muen_build.specs.Building.{Builds, IsImageFor};
 ghost use Rattle.muen_build.specs.Looks.{Follows, ShowAll, document_look};
 ghost use Rattle.muen_build.specs.Refusals.{lawful_policy_of};
 ghost use Rattle.muen_outside.specs.Store.{Store};
@@ -19,17 +19,17 @@ use muen_outside::Files;
 use region_alloc::Placed;
 use std::alloc::Global;
 
-// The parts of the image of a policy that is accepted with these files, which are given up.
+// The parts of the image of a policy that is accepted with these files.
 fn parts(
     alloc: Global,
     name: &str,
     document: &[u8],
     placed: &Placed,
-    found: ComponentFiles,
+    found: &ComponentFiles,
 ) -> Result<Parts, NoMemory>
     requires lawful { lawful_policy_of document.now ≡ Ok (source_of placed.now.plain.lawful) }
-    requires accepts { Accepts (looks_of name.now document.now found) document.now (source_of placed.now.plain.lawful) }
-    ensures sound { IfOk result (λ i. (files : Store) → ShowAll files (looks_of name.now document.now found) → IsSound (source_of placed.now.plain.lawful) files i) }
+    requires accepts { Accepts (looks_of name.now document.now found.now) document.now (source_of placed.now.plain.lawful) }
+    ensures sound { IfOk result (λ i. (files : Store) → ShowAll files (looks_of name.now document.now found.now) → IsSound (source_of placed.now.plain.lawful) files i) }
     ensures placed { IfOk result (HasPlacement (source_of placed.now.plain.lawful)) }
     ensures paths { IfOk result HasOnePathPerTable }
     ensures leaves { IfOk result (λ i. ForEachSubject (source_of placed.now.plain.lawful) i (HasGreatestPages (source_of placed.now.plain.lawful) i)) }
@@ -39,8 +39,27 @@ fn parts(
     let _memory = policy.memory();
     let _regions = plain.regions();
     let _grants = plain.grants();
-    let things = things(alloc, name, document, &found, policy)?;
+    let things = things(alloc, name, document, found, policy)?;
     emit(alloc, placed, things)
+}
+
+/// The image of a policy that is accepted with these files. Its document was read under this name.
+///
+/// Answers `NoMemory` where memory was refused.
+pub fn image(
+    alloc: Global,
+    name: &str,
+    document: &[u8],
+    placed: &Placed,
+    found: &ComponentFiles,
+) -> Result<Vec<u8>, NoMemory>
+    requires lawful { lawful_policy_of document.now ≡ Ok (source_of placed.now.plain.lawful) }
+    requires accepts { Accepts (looks_of name.now document.now found.now) document.now (source_of placed.now.plain.lawful) }
+    ensures { IfOk result (λ image. (files : Store) → ShowAll files (looks_of name.now document.now found.now) → IsImageFor (source_of placed.now.plain.lawful) files image.items) }
+{
+    let parts = parts(alloc, name, document, placed, found)?;
+    let image = pack(alloc, &parts)?;
+    Ok(image)
 }
 
 /// The image of the policy of a document, with the component files that its contents name. The
@@ -62,6 +81,5 @@ pub fn build<F: Files>(
         placed,
         files: found,
     } = accept(alloc, name, document, files)?;
-    let parts = parts(alloc, name, document, &placed, found)?;
-    Ok(pack(alloc, &parts)?)
+    Ok(image(alloc, name, document, &placed, &found)?)
 }

@@ -27,7 +27,7 @@ mod things;
 
 pub use accepted::{Accepted, BuildEnd, ComponentFiles};
 use contents::check_all;
-pub use image_bytes::build;
+pub use image_bytes::{build, image};
 use muen_outside::Files;
 use policy_lawful::Lawful;
 use policy_types::Refusal;

@@ -18,12 +18,11 @@ use Rattle.record_text.specs.Reading.{record_of}
 use Rattle.image_meaning.specs.Bench.{devices_of}
 use Rattle.muen_build.specs.Refusals.{accepted_policy_of, laid_policy_of, lawful_policy_of}
 use Rattle.record_text.specs.declared.fault.RecordFault.{RecordFault}
-use Rattle.muen_top.specs.Answers.{Reason, usage, missing, too_long, refused, image_refused, record_refused, Answer, prints, writes, stops, of_file, image_answer, build_answer, trace_answer, carried_answer, policy_answer, boot_answer, named_answer, unpacked_answer, run_answer, map_answer, map_policy_answer, flows_answer, flows_policy_answer, answer_of}
-use Rattle.muen_top.specs.Lacking.{lacking}
-use Rattle.muen_top.specs.declared.lacking.Lack.{Lack}
+use Rattle.muen_top.specs.Answers.{Reason, usage, missing, too_long, refused, image_refused, record_refused, Answer, prints, writes, stops, of_file, image_answer, build_answer, trace_answer, policy_answer, boot_answer, named_answer, unpacked_answer, run_answer, map_answer, map_policy_answer, flows_answer, flows_policy_answer, answer_of}
 use Rattle.muen_num.specs.declared.limits.TheConstants.{RECORD_MOST}
 use Rattle.muen_top.specs.Calls.{IsDone, Prints, StopsFor, ComesOf, Ran, IsFault, Answered, RefusesPolicy, LacksFile, RefusesImage, RefusesRecord}
 use Rattle.muen_top.specs.Commands.{Command, build, boot, run, map, flows, command_of}
+use Rattle.muen_top.specs.Headline.{PrintsText}
 use Rattle.muen_top.specs.Reports.{refusal_status, reason_status, reason_text, status_of, stop_status, stop_text, Told, Reported, Ends}
 use Rattle.muen_top.specs.declared.outcome.Outcome.{Outcome}
 use Rattle.muen_top.specs.declared.outcome.Outcome.TheVariants.{Done, Stopped, OutputFault}
@@ -158,13 +157,9 @@ no_usage_of_trace : (files : Store) (p : Source) (r : Result DeviceRecord Record
 no_usage_of_trace files p (Ok input) e = cc
 no_usage_of_trace files p (Err fault) e = cc
 
-no_usage_of_carried : (files : Store) (p : Source) (name : List ℕ) (lack : Option Lack) → carried_answer files p name lack ≡ stops usage → ⊥
-no_usage_of_carried files p name None e =
-    no_usage_of_file name (λ bytes. trace_answer files p (record_of bytes (devices_of p))) (reading_of (get files name) RECORD_MOST) (λ bytes h. no_usage_of_trace files p (record_of bytes (devices_of p)) h) e
-no_usage_of_carried files p name (Some lack) e = cc
-
 no_usage_of_policy : (files : Store) (name : List ℕ) (r : Result Source Refusal) → policy_answer files name r ≡ stops usage → ⊥
-no_usage_of_policy files name (Ok p) e = no_usage_of_carried files p name (lacking p) e
+no_usage_of_policy files name (Ok p) e =
+    no_usage_of_file name (λ bytes. trace_answer files p (record_of bytes (devices_of p))) (reading_of (get files name) RECORD_MOST) (λ bytes h. no_usage_of_trace files p (record_of bytes (devices_of p)) h) e
 no_usage_of_policy files name (Err refusal) e = cc
 
 no_usage_of_image : (files : Store) (image : List ℕ) (r : Result Source Refusal) → image_answer files image r ≡ stops usage → ⊥
@@ -210,6 +205,9 @@ at_some o P x e h = let f : IfSome (Some x) P = subst (λ q. IfSome q P) e h in 
 from_some : {X : Type 0} (o : Option X) (P : X → Type 0) → ((x : X) → o ≡ Some x → P x) → IfSome o P
 from_some None P h = tt
 from_some (Some x) P h = h x refl
+
+prints_not_stops : (text : List ℕ) (reason : Reason) → prints text ≡ stops reason → ⊥
+prints_not_stops text reason e = cc
 
 -- ---- a whole call
 
@@ -370,3 +368,17 @@ module _ (words : List (List ℕ)) (old new : FilesState) (out out' err err' : S
         | failed is rose quiet ↦ absurd (omega arith)
         | no_memory is quiet ↦ absurd (omega arith)
       ]
+
+  -- ---- where the answer is a text
+
+  printed_as : (text : List ℕ) (answer : Answer) → answer ≡ prints text → Comes answer old new out out' err err' status → PrintsText text out out' status
+  printed_as text answer eq (done is did quiet) = inr (is, subst (λ a. IsDone a old new out out') eq did)
+  printed_as text answer eq (cut_off t is e put) = inl (inr (inl is))
+  printed_as text answer eq (stopped reason is e quiet told rose) = absurd (prints_not_stops text reason (sym eq ∙ e))
+  printed_as text answer eq (failed is rose quiet) = inl (inl is)
+  printed_as text answer eq (no_memory is quiet) = inl (inr (inr is))
+
+  pub prints_clause : (m : Store) (text : List ℕ) → old.held ≡ Some m → answer_of m (command_of words) ≡ prints text → PrintsText text out out' status
+  unfolding given
+  prints_clause m text e is =
+      printed_as text given (ap (λ f. answer_of f (command_of words)) (at_some old.held (λ m. ran.came.files ≡ m) m e ran.came.told) ∙ is) came

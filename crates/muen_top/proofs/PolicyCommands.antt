@@ -27,7 +27,7 @@ use Rattle.muen_top.specs.declared.outcome.Outcome.{Outcome}
 use Rattle.muen_top.specs.declared.outcome.Outcome.TheVariants.{Done, Stopped, OutputFault}
 use Rattle.muen_top.specs.declared.outcome.Stop.{Stop}
 use Rattle.muen_top.specs.declared.outcome.Stop.TheVariants.{Usage, Missing, TooLong, Refused, ImageRefused, RecordRefused, FileFault, NoMemory}
-use Rattle.muen_top.proofs.Booting.{for_a_file, some_files}
+use Rattle.muen_top.proofs.Told.{for_a_file, some_files}
 
 -- ---- a command that begins with a file
 

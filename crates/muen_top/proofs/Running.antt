@@ -29,7 +29,7 @@ use Rattle.muen_top.specs.PolicyCommands.{Gives, Stops}
 use Rattle.muen_top.specs.Stops.{stop_of_fault, stop_of_image_fault}
 use Rattle.muen_top.specs.declared.outcome.Stop.{Stop}
 use Rattle.muen_top.specs.declared.outcome.Stop.TheVariants.{Usage, Missing, TooLong, Refused, ImageRefused, RecordRefused, FileFault, NoMemory}
-use Rattle.muen_top.proofs.Booting.{some_files}
+use Rattle.muen_top.proofs.Told.{some_files}
 use Rattle.muen_top.proofs.FilesSeen.{shown_both}
 use Rattle.muen_top.proofs.PolicyCommands.{RestsOn, not_read, out_of_memory}
 

@@ -13,14 +13,12 @@ use Rattle.policy_meaning.specs.Contents.{Held}
 use Rattle.policy_types.specs.declared.refusal.Refusal.{Refusal}
 use Rattle.policy_types.specs.declared.source.Source.{Source}
 use Rattle.record_text.specs.DeviceRecord.{DeviceRecord}
-use Rattle.subject_model.specs.Lines.{trace_of}
+use Rattle.subject_model.specs.Trace.{trace_of}
 use Rattle.muen_run.specs.RunText.{image_text}
 use Rattle.muen_top.specs.Commands.{Command, build, boot, run, map, flows}
 use Rattle.record_text.specs.Reading.{record_of}
 use Rattle.image_meaning.specs.Bench.{devices_of}
 use Rattle.muen_build.specs.Refusals.{accepted_policy_of, laid_policy_of, lawful_policy_of}
-use Rattle.muen_top.specs.Lacking.{lack_refusal, lacking}
-use Rattle.muen_top.specs.declared.lacking.Lack.{Lack}
 use Rattle.image_form.specs.declared.fault.ImageFault.{ImageFault}
 use Rattle.record_text.specs.declared.fault.RecordFault.{RecordFault}
 
@@ -63,7 +61,7 @@ unfoldable pub build_answer : Held → List ℕ → List ℕ → Answer
 build_answer files policy image =
     of_file policy (λ bytes. image_answer files image (accepted_policy_of files bytes)) (reading_of (get files policy) POLICY_MOST)
 
--- ---- `boot`: the policy's file, the policy with its contents and its room, what the machine lacks of it, the record's file, the record, the run
+-- ---- `boot`: the policy's file, the policy with its contents and its room, the record's file, the record, the run of the policy's system
 
 abbrev pub trace_answer : Held → Source → Result DeviceRecord RecordFault → Answer
 trace_answer files p (Ok input) = prints (trace_of p files input)
@@ -73,12 +71,8 @@ abbrev pub record_answer : Held → Source → List ℕ → Answer
 record_answer files p name =
     of_file name (λ bytes. trace_answer files p (record_of bytes (devices_of p))) (reading_of (get files name) RECORD_MOST)
 
-abbrev pub carried_answer : Held → Source → List ℕ → Option Lack → Answer
-carried_answer files p name None = record_answer files p name
-carried_answer files p name (Some lack) = stops (refused (lack_refusal lack))
-
 abbrev pub policy_answer : Held → List ℕ → Result Source Refusal → Answer
-policy_answer files name (Ok p) = carried_answer files p name (lacking p)
+policy_answer files name (Ok p) = record_answer files p name
 policy_answer files name (Err refusal) = stops (refused refusal)
 
 unfoldable pub boot_answer : Held → List ℕ → List ℕ → Answer

@@ -2,7 +2,7 @@
 use Rattle.std.specs.Prelude.{◌≡◌, ℕ, false, List, Option, Some, IfSome}
 use Rattle.std.specs.Str.{bytes_eq}
 use Rattle.std.specs.FinMap.{get}
-use Rattle.muen_build.specs.Looks.{Saw}
+use Rattle.muen_build.specs.Looks.{AreOthers, Look, Saw, ShowAll}
 use Rattle.muen_outside.specs.States.{FilesState}
 use Rattle.muen_outside.specs.Store.{Store, Reading, reading_of}
 
@@ -17,3 +17,16 @@ pub record ShownBoth (held : Option Store) (name : List ℕ) (most : ℕ) (readi
   pub told : IfSome held (λ m. files ≡ m)
   pub shows : reading_of (get files name) most ≡ reading
   pub shows' : reading_of (get files name') most' ≡ reading'
+
+-- what a read has seen after these looks: of a name of which they show what it holds, that stands for it, with the limit of
+-- this read
+pub data SawAfter (looks : List Look) (name : List ℕ) (most : ℕ) (reading : Reading) (old new : FilesState) : Type 0 where
+  known : (content : List ℕ) → ((files : Store) → ShowAll files looks → get files name ≡ Some content) → reading ≡ reading_of (Some content) most → SawAfter looks name most reading old new
+  unknown : AreOthers looks name → Saw name most reading old new → SawAfter looks name most reading old new
+
+-- files that hold what is told show these looks, and this under a name
+pub record ShownAfter (held : Option Store) (looks : List Look) (name : List ℕ) (most : ℕ) (reading : Reading) : Type 0 where
+  pub files : Store
+  pub told : IfSome held (λ m. files ≡ m)
+  pub shows : ShowAll files looks
+  pub shows' : reading_of (get files name) most ≡ reading

@@ -2,14 +2,12 @@ pub mod Answers
 pub mod Calls
 pub mod Commands
 pub mod FilesSeen
+pub mod Headline
 pub mod Images
 pub mod Kept
-pub mod Lacking
-pub mod Lacks
 pub mod Loads
 pub mod Parsed
 pub mod PolicyCommands
-pub mod Records
 pub mod Reports
 pub mod Runs
 pub mod Stops

@@ -1,125 +1,99 @@
-// The command `boot`: a policy and a record are read, and the run is printed.
-ghost use Rattle.std.specs.Prelude.{◌≡◌, Some, IfOk, IfErr};
-ghost use Rattle.muen_outside.specs.Puts.{Puts};
+// The command `boot`: a policy and a record are read, and the run of the policy's image is printed. The
+// image is written in memory, as `build` writes it, and is read again and run as `run` does it.
+ghost use Rattle.std.specs.Prelude.{◌≡◌, Some, Ok, IfOk, IfErr};
+ghost use Rattle.kernel_core.specs.Ticks.{CanRun};
+ghost use Rattle.muen_build.specs.Accepting.{Accepts, looks_of};
+ghost use Rattle.muen_build.specs.Looks.{Follows, ShowAll};
+ghost use Rattle.muen_build.specs.Refusals.{lawful_policy_of};
+ghost use Rattle.muen_num.specs.declared.limits.TheConstants.{RECORD_MOST};
+ghost use Rattle.muen_outside.specs.Store.{Store, whole};
+ghost use Rattle.muen_run.specs.RunText.{image_text};
 ghost use Rattle.policy_lawful.specs.Resolution.{source_of};
-ghost use Rattle.policy_meaning.specs.Contents.{Held};
-ghost use Rattle.record_text.specs.Bench.{bench_of};
-ghost use Rattle.record_text.specs.DeviceRecord.{DeviceRecord};
-ghost use Rattle.record_text.specs.Reading.{record_of};
-ghost use Rattle.image_meaning.specs.Bench.{devices_of};
-ghost use Rattle.subject_model.specs.Lines.{trace_of};
-ghost use Rattle.window_machine.specs.Start.{CanLoad, IsPlain};
+ghost use Rattle.muen_top.specs.Answers.{prints};
 ghost use Rattle.muen_top.specs.Calls.{Came};
-ghost use Rattle.muen_top.specs.Commands.{boot};
-ghost use Rattle.muen_top.specs.Lacking.{lacking};
-ghost use Rattle.muen_top.specs.Lacks.{Carries};
-ghost use Rattle.muen_build.specs.Looks.{Follows};
-ghost use Rattle.muen_top.specs.Loads.{IsCarried, IsReady, NotCarried, NotReady};
-ghost use Rattle.muen_top.specs.Records.{Lasts};
-ghost use Rattle.muen_top.specs.Runs.{RunsTo};
+ghost use Rattle.muen_top.specs.Commands.{boot as boot_command};
+ghost use Rattle.muen_top.specs.FilesSeen.{SawAfter};
+ghost use Rattle.muen_top.specs.Loads.{IsReadBack, NotReadAfter};
+ghost use Rattle.muen_top.specs.PolicyCommands.{Gives, Stops};
+ghost use Rattle.muen_top.specs.Runs.{OnlyMemory};
 
-use crate::lacking::carried;
-use crate::loading::{load, load_too};
+use crate::loading::{load, load_too, within};
 use crate::outcome::{Outcome, Stop};
-use muen_build::Accepted;
-use muen_num::Seq;
+use crate::run::{Loaded, run_image};
+use image_load::read_record;
+use image_pack::{Parts, unpack};
+use muen_build::{ComponentFiles, accept, image};
+use muen_num::{NoMemory, Seq};
 use muen_num::limits::{POLICY_MOST, RECORD_MOST};
-use muen_outside::{Buffer, Files, Sink, SinkFault};
-use policy_lawful::Lawful;
-use policy_types::Refusal;
-use record_text::{Devices, RecordFault};
+use muen_outside::{Files, Sink};
 use region_alloc::Placed;
 use std::alloc::Global;
-use window_machine::print_run;
 
-// That the machine lacks nothing of a policy whose regions have places.
-fn carries(alloc: Global, placed: &Placed) -> Result<(), Refusal>
-    ensures { Carries (lacking (source_of placed.now.plain.lawful)) result }
+// The image of a policy that is accepted with these files, read from the bytes that `build` would write.
+fn parts_of<'a>(
+    alloc: Global,
+    name: &str,
+    document: &[u8],
+    placed: &Placed,
+    found: &ComponentFiles,
+) -> Result<Parts, Stop<'a>>
+    requires lawful { lawful_policy_of document.now ≡ Ok (source_of placed.now.plain.lawful) }
+    requires accepts { Accepts (looks_of name.now document.now found.now) document.now (source_of placed.now.plain.lawful) }
+    ensures ok { IfOk result (λ i. (files : Store) → ShowAll files (looks_of name.now document.now found.now) → IsReadBack (source_of placed.now.plain.lawful) files i) }
+    ensures err { IfErr result (λ stop. (files : Store) → ShowAll files (looks_of name.now document.now found.now) → OnlyMemory stop) }
 {
-    carried(alloc, placed.plain().lawful().resolved())
+    let bytes = image(alloc, name, document, placed, found)?;
+    let parts = unpack(alloc, &bytes)?;
+    Ok(parts)
 }
 
-// The policy of these bytes, which are those of this file. It is accepted, and the machine lacks
-// nothing of it.
-fn accept_carried<'a, F: Files>(
+// The bytes of a file, copied.
+fn copy(alloc: Global, bytes: &[u8]) -> Result<Seq<u8>, NoMemory>
+    ensures { IfOk result (λ copied. whole copied ≡ whole bytes.now) }
+{
+    let mut copied = Vec::with_capacity(alloc, bytes.len())?;
+    copied.extend_from_slice(bytes)?;
+    Ok(Seq::of(copied))
+}
+
+// The bytes of the record's file. Where it has the name of one of the policy's files, what was read
+// stands for it.
+fn load_record<'a, F: Files>(
     alloc: Global,
-    policy: &'a str,
-    bytes: &[u8],
+    policy: &str,
+    document: Seq<u8>,
+    found: &ComponentFiles,
+    name: &'a str,
     files: &mut F,
-) -> Result<Accepted, Stop<'a>>
-    ensures ok { IfOk result (λ x. IsCarried policy.now bytes.now (F.state files.old) (source_of x.placed.plain.lawful)) }
-    ensures err { IfErr result (NotCarried policy.now bytes.now (F.state files.old) (F.state files.new)) }
+) -> Result<Seq<u8>, Stop<'a>>
+    ensures ok { IfOk result (λ bytes. SawAfter (looks_of policy.now document found.now) name.now RECORD_MOST (whole bytes) (F.state files.old) (F.state files.new)) }
+    ensures err { IfErr result (NotReadAfter (looks_of policy.now document found.now) name.now RECORD_MOST (F.state files.old) (F.state files.new)) }
     ensures follows { Follows (F.state files.old) (F.state files.new) }
 {
-    let accepted = muen_build::accept(alloc, policy, bytes, files)?;
-    carries(alloc, &accepted.placed)?;
-    Ok(accepted)
-}
-
-// What is run.
-#[derive(Drop)]
-struct Booted {
-    accepted: Accepted,
-    end: u32,
-}
-
-// What a record may name of a policy without devices.
-#[tactic(auto, unfolding(policy_lawful::specs::Resolution::source_of))]
-fn devices_of(alloc: Global, policy: &Lawful) -> Devices
-    requires { CanLoad (source_of policy.now) }
-    ensures { bench_of result ≡ devices_of (source_of policy.now) }
-{
-    Devices {
-        cpus: policy.resolved().processor().logical_cpus as u8,
-        devices: Seq::new(alloc),
+    match found.bytes_named(name) {
+        Some(bytes) => within(alloc, copy(alloc, bytes)?, name, RECORD_MOST, files),
+        None => load_too(alloc, policy, document, name, RECORD_MOST, files),
     }
 }
 
-// How many ticks the run of a policy has that the machine can load, on a record of these bytes.
-fn ticks_of(alloc: Global, policy: &Lawful, bytes: &[u8]) -> Result<u32, RecordFault>
-    requires { CanLoad (source_of policy.now) }
-    ensures { Lasts (source_of policy.now) (record_of bytes.now (devices_of (source_of policy.now))) result }
-{
-    let run = record_text::read(alloc, bytes, &devices_of(alloc, policy))?;
-    Ok(run.end)
-}
-
-// The policy and the record of these files.
+// The image of the policy of this file, and the record of that one.
 fn read_both<'a, F: Files>(
     alloc: Global,
     policy: &'a str,
     inputs: &'a str,
     files: &mut F,
-) -> Result<Booted, Stop<'a>>
-    ensures ok { IfOk result (λ b. IsReady policy.now inputs.now (F.state files.old) (source_of b.accepted.placed.plain.lawful) b.end) }
-    ensures loads { IfOk result (λ b. CanLoad (source_of b.accepted.placed.plain.lawful)) }
-    ensures err { IfErr result (NotReady policy.now inputs.now (F.state files.old) (F.state files.new)) }
+) -> Result<Loaded, Stop<'a>>
+    ensures ok { IfOk result (λ x. Gives (boot_command policy.now inputs.now) (F.state files.old) (prints (image_text x.parts x.input))) }
+    ensures can_run { IfOk result (λ x. CanRun x.input) }
+    ensures err { IfErr result (Stops (boot_command policy.now inputs.now) (F.state files.old) (F.state files.new)) }
     ensures follows { Follows (F.state files.old) (F.state files.new) }
 {
-    let bytes = load(alloc, policy, POLICY_MOST, files)?;
-    let accepted = accept_carried(alloc, policy, bytes.items(), files)?;
-    let bytes = load_too(alloc, policy, bytes, inputs, RECORD_MOST, files)?;
-    let end = ticks_of(alloc, accepted.placed.plain().lawful(), bytes.items())?;
-    Ok(Booted { accepted, end })
-}
-
-// Runs a policy that is accepted.
-fn run_policy<'a, S: Sink>(alloc: Global, policy: &Lawful, end: u32, out: &mut S) -> Outcome<'a>
-    requires { CanLoad (source_of policy.now) }
-    ensures { (files : Held) (run : DeviceRecord) → IsPlain (source_of policy.now) run → run.end ≡ end → RunsTo (trace_of (source_of policy.now) files run) (S.state out.old) (S.state out.new) result }
-{
-    let mut machine = match window_machine::load(alloc, policy) {
-        Ok(machine) => machine,
-        Err(_) => return Outcome::Stopped(Stop::NoMemory),
-    };
-    let mut buffer = match Buffer::make(alloc) {
-        Ok(buffer) => buffer,
-        Err(_) => return Outcome::Stopped(Stop::NoMemory),
-    };
-    match print_run(&mut machine, end, &mut buffer, out) {
-        Ok(()) => Outcome::Done,
-        Err(SinkFault) => Outcome::OutputFault,
-    }
+    let document = load(alloc, policy, POLICY_MOST, files)?;
+    let accepted = accept(alloc, policy, document.items(), files)?;
+    let parts = parts_of(alloc, policy, document.items(), &accepted.placed, &accepted.files)?;
+    let bytes = load_record(alloc, policy, document, &accepted.files, inputs, files)?;
+    let input = read_record(alloc, &parts, bytes.items())?;
+    Ok(Loaded { parts, input })
 }
 
 /// Reads the policy and the record, and prints the run.
@@ -130,16 +104,11 @@ pub(crate) fn boot<'a, F: Files, S: Sink>(
     files: &mut F,
     out: &mut S,
 ) -> Outcome<'a>
-    ensures came { Came (Some (boot policy.now inputs.now)) (F.state files.old) (F.state files.new) (S.state out.old) (S.state out.new) result }
+    ensures came { Came (Some (boot_command policy.now inputs.now)) (F.state files.old) (F.state files.new) (S.state out.old) (S.state out.new) result }
     ensures follows { Follows (F.state files.old) (F.state files.new) }
 {
     match read_both(alloc, policy, inputs, files) {
-        Ok(booted) => run_policy(
-            alloc,
-            booted.accepted.placed.plain().lawful(),
-            booted.end,
-            out,
-        ),
+        Ok(Loaded { parts, input }) => run_image(alloc, parts, input, out),
         Err(stop) => Outcome::Stopped(stop),
     }
 }

@@ -1,12 +1,18 @@
 //! The commands of the program `muen`.
 #![tactic(auto)]
 
-ghost use Rattle.std.specs.Prelude.{◌≡◌, ◌≢◌, ◌⊎◌, IfSome, None, map, string_bytes};
+ghost use Rattle.std.specs.Prelude.{◌≡◌, ◌≢◌, ◌⊎◌, ℕ, List, IfSome, Some, None, map, string_bytes};
 ghost use Rattle.muen_outside.specs.Counts.{Rose};
 ghost use Rattle.muen_outside.specs.Puts.{Failed};
+ghost use Rattle.muen_outside.specs.Store.{Store};
+ghost use Rattle.policy_meaning.specs.Contents.{Held};
+ghost use Rattle.policy_types.specs.declared.source.Source.{Source};
+ghost use Rattle.record_text.specs.DeviceRecord.{DeviceRecord};
+ghost use Rattle.subject_model.specs.Trace.{trace_of};
 ghost use Rattle.muen_top.specs.Answers.{answer_of};
 ghost use Rattle.muen_top.specs.Calls.{Answered, IsDone, IsFault, LacksFile, Prints, RefusesImage, RefusesPolicy, RefusesRecord};
-ghost use Rattle.muen_top.specs.Commands.{command_of};
+ghost use Rattle.muen_top.specs.Commands.{boot, command_of, run};
+ghost use Rattle.muen_top.specs.Headline.{HoldsBuilt, HoldsPolicy, HoldsRecord, HoldsSound, PrintsText};
 ghost use Rattle.muen_top.specs.Kept.{KeepsFiles};
 ghost use Rattle.muen_top.specs.Reports.{Ends, Reported, status_of};
 ghost use Rattle.muen_top.specs.declared.outcome.Outcome.{Outcome};
@@ -15,7 +21,6 @@ mod boot;
 mod build;
 mod call;
 mod command;
-pub mod lacking;
 mod loading;
 mod outcome;
 mod policy_commands;
@@ -29,9 +34,10 @@ use std::alloc::Global;
 ///
 /// `build POLICY IMAGE` reads a policy and the files that it names, and writes an image that is
 /// sound for them under the name IMAGE, in one call of `files` and only where everything before was
-/// accepted. `boot POLICY RECORD` reads a policy and a device record, runs the policy's system on the
-/// record, and puts the text of the run to `out`. `run IMAGE RECORD` reads an image and a device record
-/// for it, runs the image on the record, and puts the text of that run to `out`. `map POLICY` puts where
+/// accepted. `boot POLICY RECORD` reads a policy and the files that it names, and a device record, makes
+/// the same image in memory, runs it on the record, and puts the text of the run to `out`. `run IMAGE
+/// RECORD` reads an image and a device record for it, runs the image on the record, and puts the text of
+/// that run to `out`. `map POLICY` puts where
 /// the policy's regions lie and what each subject sees, `flows POLICY` on whom each subject can depend;
 /// neither reads a component file. No other command is built. On every status but 0 one line that begins
 /// with `muen: ` is put to `err`; a fault of `err` changes no status.
@@ -40,13 +46,13 @@ use std::alloc::Global;
 /// |---|---|---|
 /// | 0 | the text was put, or the image was written | |
 /// | 1 | the words are none of the forms | `usage: ..` |
-/// | 2 | the policy is no JSON text, breaks the schema or a rule, has more bytes for a region than there is room (`build`, `boot`), has a region that can't be placed (`build`, `boot`, `map`), or has an element that the machine lacks (`boot`) | `not JSON`, `shape at PLACE: want WANT`, `rule N: FIRST SECOND`, `REGION: LENGTH bytes in room for ROOM`, `no room for REGION of SIZE bytes` |
+/// | 2 | the policy is no JSON text, breaks the schema or a rule, has more bytes for a region than there is room (`build`, `boot`), or has a region that can't be placed (`build`, `boot`, `map`) | `not JSON`, `shape at PLACE: want WANT`, `rule N: FIRST SECOND`, `REGION: LENGTH bytes in room for ROOM`, `no room for REGION of SIZE bytes` |
 /// | 3 | a file isn't there, or is longer than 4 MiB (policy), 64 MiB (a content), 96 MiB (image) or 16 MiB (record) | `missing file NAME`, `file NAME has LENGTH bytes` |
 /// | 4 | a call on `files` failed; where the image was to be written, what stands under its name may have changed | `file fault` |
 /// | 5 | the image is refused (`run`) | `image refused at AT: FIELD` |
 /// | 6 | the record is refused (`boot`, `run`) | `record refused at line LINE: WHY` |
 /// | 7 | a call on `out` failed; a front of the text was put | `output fault` |
-/// | 8 | memory was refused, before the first turn; or one name stood for image and record, its file was too long for a record, and then lost all its bytes (`run`); where the image was to be written, what stands under its name may have changed | `out of memory` |
+/// | 8 | memory was refused, before the first turn; or the record had the name of a file that was read before, which was too long for a record and then lost all its bytes (`boot`, `run`); where the image was to be written, what stands under its name may have changed | `out of memory` |
 pub fn muen<F: Files, S: Sink, E: Sink>(
     alloc: Global,
     words: &[String],
@@ -54,12 +60,26 @@ pub fn muen<F: Files, S: Sink, E: Sink>(
     out: &mut S,
     err: &mut E,
 ) -> u8
-    // The headline: what is put or written is the words' answer, over some files that hold what is
-    // told. For `boot` a text is put, that of the policy's run on the record, in which each subject
-    // takes its turns alone. For `run` it is the text of the image's run on the record, as the record
-    // is read for this image, on a machine with its kernel. For `build` an image is written that is
-    // sound for the policy and the files, as they were before: where files tell, it stands under the
-    // image's name, and all else that they hold is as before; and nothing is put.
+    // The headline. Where files hold a policy that is accepted, and a record of its devices with any
+    // order of the CPUs in each tick, `boot` prints the text of the policy's system, in which each
+    // subject acts alone on its own state and what the policy lets reach it.
+    ensures boots { (m : Store) (policy inputs : List ℕ) (p : Source) (r : DeviceRecord) → (F.state files.old).held ≡ Some m
+        → command_of (map string_bytes words.now) ≡ Some (boot policy inputs) → HoldsPolicy m policy p → HoldsRecord m inputs p r
+        → PrintsText (trace_of p m r) (S.state out.old) (S.state out.new) result }
+    // So does `run` where they hold an image that is sound for the policy over these or other files,
+    ensures runs_sound { (m : Store) (image inputs : List ℕ) (p : Source) (built_of : Held) (r : DeviceRecord) → (F.state files.old).held ≡ Some m
+        → command_of (map string_bytes words.now) ≡ Some (run image inputs) → HoldsSound m image p built_of → HoldsRecord m inputs p r
+        → PrintsText (trace_of p built_of r) (S.state out.old) (S.state out.new) result }
+    // and where they hold the image that `build` has written for it.
+    ensures runs_built { (m : Store) (image inputs : List ℕ) (p : Source) (built_of : Held) (r : DeviceRecord) → (F.state files.old).held ≡ Some m
+        → command_of (map string_bytes words.now) ≡ Some (run image inputs) → HoldsBuilt m image p built_of → HoldsRecord m inputs p r
+        → PrintsText (trace_of p built_of r) (S.state out.old) (S.state out.new) result }
+
+    // What is put or written is the words' answer, over some files that hold what is told. For `boot` it
+    // is the text of the policy's system. For `run` it is the text of the image's run on the record, as
+    // the record is read for this image, on a machine with its kernel. For `build` an image is written
+    // that is sound for the policy and the files, as they were before: where files tell, it stands under
+    // the image's name, and all else that they hold is as before; and nothing is put.
     ensures done { result ≡ 0 → Answered (map string_bytes words.now) (F.state files.old).held (λ answer. IsDone answer (F.state files.old) (F.state files.new) (S.state out.old) (S.state out.new)) }
     ensures prefix { result ≡ 7 → Answered (map string_bytes words.now) (F.state files.old).held (λ answer. Prints answer (λ text. Failed text (S.state out.old) (S.state out.new))) }
 

@@ -30,9 +30,9 @@ pub(crate) fn load<'a, F: Files>(
     }
 }
 
-// The bytes that were read of this file, if there are no more than `most`. Where there are more, a
-// call that reads none of them lets `files` count the miss.
-fn within<'a, F: Files>(
+/// The bytes that were read of this file, if there are no more than `most`. Where there are more, a
+/// call that reads none of them lets `files` count the miss.
+pub(crate) fn within<'a, F: Files>(
     alloc: Global,
     bytes: Seq<u8>,
     name: &'a str,

@@ -4,6 +4,7 @@ ghost use Rattle.muen_top.specs.Stops.{stop_of_refusal, stop_of_fault};
 
 use image_pack::ImageFault;
 use muen_build::BuildEnd;
+use muen_num::NoMemory;
 use policy_types::Refusal;
 use record_text::RecordFault;
 
@@ -26,6 +27,18 @@ pub(crate) enum Stop<'a> {
     FileFault,
     /// Memory was refused.
     NoMemory,
+}
+
+impl<'a> From<NoMemory> for Stop<'a> {
+    ghost use Rattle.std.specs.Prelude.{◌≡◌};
+    ghost use Rattle.muen_top.specs.declared.outcome.Stop.TheVariants as stops;
+
+    ghost from_gives = { λ refused stop. stop ≡ stops.NoMemory };
+
+    fn from(refused: NoMemory) -> Stop<'a> {
+        let NoMemory = refused;
+        Stop::NoMemory
+    }
 }
 
 impl<'a> From<Refusal> for Stop<'a> {

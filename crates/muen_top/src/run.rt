@@ -19,11 +19,11 @@ use muen_run::RunEnd;
 use record_text::Record;
 use std::alloc::Global;
 
-// What is run.
+/// What is run: an image, and a record for it.
 #[derive(Drop)]
-struct Loaded {
-    parts: Parts,
-    input: Record,
+pub(crate) struct Loaded {
+    pub(crate) parts: Parts,
+    pub(crate) input: Record,
 }
 
 // The image and the record of these files.
@@ -45,7 +45,13 @@ fn read_both<'a, F: Files>(
     Ok(Loaded { parts, input })
 }
 
-fn run_image<'a, S: Sink>(alloc: Global, parts: Parts, input: Record, out: &mut S) -> Outcome<'a>
+/// Runs an image on a record for it, and prints the run.
+pub(crate) fn run_image<'a, S: Sink>(
+    alloc: Global,
+    parts: Parts,
+    input: Record,
+    out: &mut S,
+) -> Outcome<'a>
     requires { CanRun input }
     ensures { RunsTo (image_text parts input) (S.state out.old) (S.state out.new) result }
 {

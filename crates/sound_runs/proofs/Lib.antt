@@ -3,6 +3,7 @@ pub mod DevicesKeep
 pub mod FinalTexts
 pub mod FlatLists
 pub mod FramesKeep
+pub mod ImageRuns
 pub mod PartsKeep
 pub mod RecordFacts
 pub mod SameInputs

@@ -42,7 +42,7 @@ use Rattle.stands_for.proofs.Ends.{IsNoState, final_bytes, final_state, run_leng
 use Rattle.subject_model.proofs.KeyLaws.{same_thing_self}
 use Rattle.stands_for.proofs.Runs.{runs_stand}
 use Rattle.stands_for.proofs.Turns.{turn_stands}
-use Rattle.sound_stands.specs.GroundOf.{AreSmall, ground_of}
+use Rattle.sound_stands.specs.GroundOf.{HoldsBytes, ground_of}
 use Rattle.sound_stands.proofs.Fixes.{fixed_of}
 use Rattle.sound_stands.proofs.ListFacts.{any_at, same_at}
 use Rattle.sound_stands.proofs.OnceFacts.{thing_once}
@@ -70,7 +70,7 @@ same_length None b xs e h = absurd (cc (e))
 no_state : (x : Thing) → is_kernel (kind_of x) ≡ false → IsNoState x
 no_state x h name e = absurd (true≢false (sym (ap (λ z. is_kernel (kind_of z)) e) ∙ h))
 
-module _ (p : Source) (files : Held) (i : Image) (keeps : KeepsConditions i) (sound : IsSound p files i) (small : AreSmall p i) (r : DeviceRecord) (read : IsReadFor (devices_of p) r) where
+module _ (p : Source) (files : Held) (i : Image) (keeps : KeepsConditions i) (sound : IsSound p files i) (small : HoldsBytes i) (r : DeviceRecord) (read : IsReadFor (devices_of p) r) where
   abbrev g : Ground
   g = ground_of p i
 
@@ -158,5 +158,5 @@ module _ (p : Source) (files : Held) (i : Image) (keeps : KeepsConditions i) (so
   same_text = ap (λ ls. flat_map turn_text ls ++ final_text (setup_of i) i.spans pages_then) (sym runs.lines) ∙ ap (λ t. flat_map turn_text system_ran.lines ++ t) same_final
 
 -- .. for every record that is read for the policy's devices
-pub traces_are : (p : Source) (files : Held) (i : Image) (text : List ℕ) (r : DeviceRecord) → KeepsConditions i → IsSound p files i → AreSmall p i → record_of text (devices_of p) ≡ Ok r → image_text i (image_record i r) ≡ trace_of p files r
+pub traces_are : (p : Source) (files : Held) (i : Image) (text : List ℕ) (r : DeviceRecord) → KeepsConditions i → IsSound p files i → HoldsBytes i → record_of text (devices_of p) ≡ Ok r → image_text i (image_record i r) ≡ trace_of p files r
 traces_are p files i text r keeps sound small e = same_text p files i keeps sound small r (record_is_read (devices_of p) text r e)

@@ -8,14 +8,14 @@ ghost use Rattle.subject_model.specs.Trace.{trace_of};
 ghost use Rattle.image_load.specs.Placing.{image_bench, image_record};
 ghost use Rattle.image_meaning.specs.Sound.{IsSound};
 ghost use Rattle.image_pack.specs.ImageConditions.{KeepsConditions};
-ghost use Rattle.image_pack.specs.Parts.{IsParts};
+ghost use Rattle.image_form.specs.Form.{IsBytes};
+ghost use Rattle.image_pack.specs.Parts.{IsImage, IsParts};
 ghost use Rattle.image_pack.specs.declared.parts.Image.{Image};
 ghost use Rattle.muen_run.specs.RunText.{image_text};
 ghost use Rattle.policy_meaning.specs.Contents.{Held};
 ghost use Rattle.policy_types.specs.declared.source.Source.{Source};
 ghost use Rattle.record_text.specs.DeviceRecord.{DeviceRecord};
 ghost use Rattle.record_text.specs.Reading.{record_of};
-ghost use Rattle.sound_stands.specs.GroundOf.{AreSmall};
 ghost use Rattle.image_meaning.specs.Bench.{devices_of};
 
 /// For every policy and files for which an image is sound, and every device record of the policy's
@@ -23,9 +23,9 @@ ghost use Rattle.image_meaning.specs.Bench.{devices_of};
 /// abstract system's run, in which each subject acts alone on its own state and what reaches it. And
 /// a record may name of the image what it may name of the policy.
 pub fn sound_images_run_as_their_systems()
-    ensures trace { (p : Source) (files : Held) (i : Image) (text : List ℕ) (r : DeviceRecord) → KeepsConditions i → IsSound p files i → AreSmall p i
-        → record_of text (devices_of p) ≡ Ok r → image_text i (image_record i r) ≡ trace_of p files r }
-    ensures bench { (p : Source) (files : Held) (i : Image) → KeepsConditions i → IsSound p files i → image_bench i ≡ devices_of p }
+    ensures trace { (p : Source) (files : Held) (bytes : List ℕ) (i : Image) (text : List ℕ) (r : DeviceRecord) → IsBytes bytes → IsImage bytes i
+        → IsSound p files i → record_of text (devices_of p) ≡ Ok r → image_text i (image_record i r) ≡ trace_of p files r }
+    ensures bench { (p : Source) (files : Held) (bytes : List ℕ) (i : Image) → IsImage bytes i → IsSound p files i → image_bench i ≡ devices_of p }
 {}
 
 /// Parts that have a spelling keep the conditions of an image.

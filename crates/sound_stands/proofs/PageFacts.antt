@@ -26,7 +26,7 @@ use Rattle.stands_for.specs.Held.{IsByte}
 use Rattle.state_page.specs.StatePage.{page_bytes}
 use Rattle.subject_state.specs.States.{started}
 use Rattle.vmx_machine.specs.declared.control.Control.{Control}
-use Rattle.sound_stands.specs.GroundOf.{AreSmall, ground_of, is_kept}
+use Rattle.sound_stands.specs.GroundOf.{HoldsBytes, ground_of, is_kept}
 use Rattle.sound_stands.proofs.ListFacts.{all_at, any_passing, first_at, other_at, same_at}
 use Rattle.sound_stands.proofs.MemoryFacts.{memory_small, numbered_page, numbered_page_long, page_there, same_memory}
 use Rattle.sound_stands.proofs.SpanFacts.{HasPage, KernelSpan, kernel_kind, page_in, page_kept}
@@ -150,5 +150,5 @@ msr_page_there p i keeps s q c here at =
 
 -- ---- bytes
 
-pub small_pages : (p : Source) (i : Image) → AreSmall p i → (k : ℕ) (page : List ℕ) → page_of (loaded_memory i) k ≡ Some page → All IsByte page
-small_pages p i small k page at = memory_small i small.contents k page at
+pub small_pages : (p : Source) (i : Image) → HoldsBytes i → (k : ℕ) (page : List ℕ) → page_of (loaded_memory i) k ≡ Some page → All IsByte page
+small_pages p i small k page at = memory_small i small k page at

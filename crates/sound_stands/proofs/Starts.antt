@@ -33,7 +33,7 @@ use Rattle.stands_for.specs.Stands.{HasPages, Shows, StandsFor}
 use Rattle.vmx_machine.specs.Machine.{entries_in, fresh}
 use Rattle.vmx_machine.specs.declared.control.Control.{Control}
 use Rattle.vmx_machine.specs.declared.cpu.Cpu.{Cpu}
-use Rattle.sound_stands.specs.GroundOf.{AreSmall, ground_of}
+use Rattle.sound_stands.specs.GroundOf.{HoldsBytes, ground_of}
 use Rattle.sound_stands.proofs.ListFacts.{all_at, any_at, both_at}
 use Rattle.sound_stands.proofs.MsrFacts.{msrs_differ}
 use Rattle.sound_stands.proofs.PageFacts.{area_page_there, its_control, small_pages, state_page_there, thing_pages}
@@ -102,7 +102,7 @@ module _ (p : Source) (files : HeldFiles) (i : Image) (keeps : KeepsConditions i
       named_map (λ s. map (λ m. (m.index, 0)) (msrs_of s)) p.subjects n.name
       ∙ ap (option_map (λ (s : Subject). map (λ m. (m.index, 0)) (msrs_of s))) found
 
-  shown : AreSmall p i → Shows (ground_of p i) (loaded_memory i) (start_of p files).things
+  shown : HoldsBytes i → Shows (ground_of p i) (loaded_memory i) (start_of p files).things
   unfolding ground_of
   shown small = record {
     bytes = λ x j low.
@@ -155,7 +155,7 @@ module _ (p : Source) (files : HeldFiles) (i : Image) (keeps : KeepsConditions i
   -- ---- the whole
 
   -- **the machine stands for the system at the start**
-  pub start_stands : AreSmall p i → IsFixed (ground_of p i) → StandsFor (ground_of p i) (live_started (setup_of i) i.header.cpus (loaded_memory i)) (start_of p files)
+  pub start_stands : HoldsBytes i → IsFixed (ground_of p i) → StandsFor (ground_of p i) (live_started (setup_of i) i.header.cpus (loaded_memory i)) (start_of p files)
   unfolding ground_of start_of
   start_stands small fixed = record {
     shows = shown small;

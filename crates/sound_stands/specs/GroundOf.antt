@@ -12,7 +12,7 @@ use Rattle.muen_num.specs.declared.tag.Part.TheVariants.{Ept, Iobm, Msrbm}
 use Rattle.policy_meaning.specs.Thing.{Thing, same_thing, things_of}
 use Rattle.policy_types.specs.declared.source.Source.{Source}
 use Rattle.stands_for.specs.Ground.{Ground}
-use Rattle.stands_for.specs.Held.{IsByte, IsWord}
+use Rattle.stands_for.specs.Held.{IsByte}
 
 -- how many pages the span of a thing has; none where it is no thing of the policy
 abbrev pub pages_in : Source → Image → Thing → ℕ
@@ -36,7 +36,6 @@ ground_of p i = record {
   memory = memory_of i;
 }
 
--- numbers are in the range of their kinds, as they are in a policy and an image that were read
-pub record AreSmall (p : Source) (i : Image) : Type 0 where
-  pub contents : All (All IsByte) i.contents
-  pub entries : All (λ s. IsWord s.entry) p.subjects
+-- what its spans hold at the start are bytes, as they are in an image that was read
+abbrev pub HoldsBytes : Image → Type 0
+HoldsBytes i = All (All IsByte) i.contents

@@ -15,7 +15,7 @@ ghost use Rattle.policy_meaning.specs.Contents.{Held};
 ghost use Rattle.policy_types.specs.declared.source.Source.{Source};
 ghost use Rattle.stands_for.specs.Fixed.{IsFixed};
 ghost use Rattle.stands_for.specs.Stands.{StandsFor};
-ghost use Rattle.sound_stands.specs.GroundOf.{AreSmall, ground_of};
+ghost use Rattle.sound_stands.specs.GroundOf.{HoldsBytes, ground_of};
 
 /// What a machine needs as long as it runs holds of every sound image: subjects, events, frames,
 /// tables, bitmaps and windows are the policy's, and no page serves two.
@@ -25,6 +25,6 @@ pub fn sound_images_hold_together()
 
 /// At the start the machine of a sound image stands for the policy's system.
 pub fn sound_images_stand_at_the_start()
-    ensures { (p : Source) (files : Held) (i : Image) → KeepsConditions i → IsSound p files i → AreSmall p i
+    ensures { (p : Source) (files : Held) (i : Image) → KeepsConditions i → IsSound p files i → HoldsBytes i
         → StandsFor (ground_of p i) (live_started (setup_of i) i.header.cpus (memory_of i)) (start_of p files) }
 {}

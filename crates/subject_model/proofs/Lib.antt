@@ -1,3 +1,4 @@
 pub mod KeyLaws
 mod SystemLaws
 mod CyclicFrames
+mod KeptTicks

@@ -1,13 +1,19 @@
 -- What laws of the abstract system speak of.
-use Rattle.std.specs.Prelude.{◌≡◌, ℕ, zero, suc, ◌<◌, List, length, map, Option, Some, None}
+use Rattle.std.specs.Prelude.{◌≡◌, ℕ, zero, suc, ◌<◌, Bool, List, length, map, slice_get, Option, Some, None}
 use Rattle.std.specs.List.{All, sum_by}
-use Rattle.frame_clock.specs.FramePlace.{first_place, place_at}
+use Rattle.frame_clock.specs.FramePlace.{first_place, place_at, slot_in}
 use Rattle.frame_clock.specs.declared.place.FramePlace.{FramePlace}
 use Rattle.guest_step.specs.Step.{Stored}
+use Rattle.image_plan.specs.Slot.{Slot}
 use Rattle.muen_num.specs.Frame.{Frame}
+use Rattle.policy_meaning.specs.Frames.{frames_of}
 use Rattle.policy_meaning.specs.Thing.{Thing, state}
+use Rattle.policy_types.specs.declared.source.Source.{Source}
 use Rattle.policy_types.specs.declared.source.Subject.{Subject}
-use Rattle.subject_model.specs.System.{System, named}
+use Rattle.state_page.specs.StatePage.{page_bytes}
+use Rattle.subject_state.specs.declared.SubjectState.{SubjectState}
+use Rattle.subject_model.specs.Alone.{MsrValues}
+use Rattle.subject_model.specs.System.{System, change_thing, named, state_of, subject_named}
 
 -- two names differ
 abbrev pub AreOthers : List ℕ → List ℕ → Type 0
@@ -22,6 +28,23 @@ StoresElsewhere s (Some w) = w.place ≡ state s.name → ⊥
 pub record KeepsOthers (name : List ℕ) (y z : System) : Type 0 where
   pub now : (other : List ℕ) → AreOthers name other → named z.now other ≡ named y.now other
   pub later : (other : List ℕ) → AreOthers name other → named z.later other ≡ named y.later other
+
+-- whose turn it is in a tick: this subject's, which is the active member of the slot's group, with its state and the values of
+-- its MSRs; and whether the tick is the first of its minor frame
+pub record IsTurnOf (p : Source) (cpu tick : ℕ) (y : System) (s : Subject) (first : Bool) (st : SubjectState) : Type 0 where
+  pub slot : Slot
+  pub member : List ℕ
+  pub values : MsrValues
+  pub in_slot : slot_in (frames_of p cpu) y.place tick ≡ Some slot
+  pub begins : slot.first ≡ first
+  pub active : slice_get y.active slot.group ≡ Some member
+  pub is : subject_named p member ≡ Some s
+  pub stands : state_of y s.name ≡ Some st
+  pub has : named y.msrs s.name ≡ Some values
+
+-- the system, but that a subject's page is that of this state
+abbrev pub with_page : List ℕ → SubjectState → System → System
+with_page name st y = record y { things = change_thing (state name) (λ _. page_bytes st) y.things }
 
 -- these are the ticks of the major frames, by a CPU's minor frames in each; there is a major frame, and each has ticks
 pub record AreFrames (frames : List (List Frame)) (ticks : List ℕ) : Type 0 where

@@ -5,7 +5,7 @@
 //! carry laws of them; no command calls one.
 #![tactic(auto)]
 
-ghost use Rattle.std.specs.Prelude.{◌≡◌, ℕ, List, Some, None, true, slice_get};
+ghost use Rattle.std.specs.Prelude.{◌≡◌, ℕ, Bool, List, Some, None, true, slice_get};
 ghost use Rattle.frame_clock.specs.FramePlace.{slot_in};
 ghost use Rattle.guest_step.specs.Step.{MsrWrite};
 ghost use Rattle.guest_step.specs.declared.reach.Reach.TheVariants.{Reached};
@@ -23,8 +23,8 @@ ghost use Rattle.state_page.specs.StatePage.{page_bytes};
 ghost use Rattle.policy_meaning.specs.Frames.{group_of};
 ghost use Rattle.subject_state.specs.declared.SubjectState.{SubjectState};
 ghost use Rattle.subject_model.specs.Alone.{Inbox, MsrValues, Own, OwnState, TurnAnswer, alone, are_granted, bytes_in, solo_turn, thing_in, vector_for, waits};
-ghost use Rattle.subject_model.specs.Laws.{AreFrames, AreOthers, KeepsOthers, StoresElsewhere, place_after};
-ghost use Rattle.subject_model.specs.System.{System, answered, happens_as, named, raised_by, with_own, with_write};
+ghost use Rattle.subject_model.specs.Laws.{AreFrames, AreOthers, IsTurnOf, KeepsOthers, StoresElsewhere, place_after, with_page};
+ghost use Rattle.subject_model.specs.System.{System, answered, happens_as, inbox_of, named, raised_by, system_turn, with_own, with_write};
 
 /// A stopped subject does nothing, and its turn has no line.
 pub fn stopped_does_nothing()
@@ -35,6 +35,21 @@ pub fn stopped_does_nothing()
 pub fn halted_waits()
     ensures { (own : Own) (mine : OwnState) (inbox : Inbox) → mine.state.halted ≡ true → vector_for mine.state inbox ≡ None
         → solo_turn own mine inbox ≡ waits mine.state }
+{}
+
+/// A stopped subject keeps its ticks: in a tick whose frame slot is its group's, no line is printed,
+/// and the system stays as it is, but that the subject's page is that of its state. The tick is passed
+/// on neither to another member nor to another group.
+pub fn stopped_keeps_its_ticks()
+    ensures { (p : Source) (cpu tick : ℕ) (y : System) (s : Subject) (first : Bool) (st : SubjectState) → IsTurnOf p cpu tick y s first st
+        → st.stopped ≡ true → system_turn p cpu tick y ≡ record { state = with_page s.name st y; line = None } }
+{}
+
+/// So does a halted subject to which no event can be delivered.
+pub fn halted_keeps_its_ticks()
+    ensures { (p : Source) (cpu tick : ℕ) (y : System) (s : Subject) (first : Bool) (st : SubjectState) → IsTurnOf p cpu tick y s first st
+        → st.halted ≡ true → vector_for st (inbox_of p y s first tick) ≡ None
+        → system_turn p cpu tick y ≡ record { state = with_page s.name st y; line = None } }
 {}
 
 /// A turn depends on the bytes of the things that reach the subject, the input bytes of its ports,

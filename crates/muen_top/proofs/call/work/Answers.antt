@@ -1,5 +1,5 @@
 use Rattle.std.proofs.Common.{None, refl}
-use Rattle.muen_top.proofs.Booting.{unasked}
+use Rattle.muen_top.proofs.Told.{unasked}
 use Rattle.muen_top.proofs.call.work.Goals as goal
 
 pub returns-in-Usage-clause-came : goal.returns-in-Usage-clause-came

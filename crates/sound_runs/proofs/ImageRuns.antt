@@ -1,13 +1,25 @@
--- What an image has for contents are bytes where the image's own bytes are.
-use Rattle.std.proofs.Common.{ℕ, zero, suc, arith, List, [], ◌∷◌, ◌++◌, subst}
+-- What an image has for contents are bytes where the image's own bytes are, and so its run is its system's.
+use Rattle.std.proofs.Common.{◌≡◌, ◌∙◌, ℕ, zero, suc, arith, List, [], ◌∷◌, ◌++◌, Ok, subst}
 use Rattle.std.specs.List.{All}
 use Rattle.std.proofs.lemmas.List.{append_assoc}
 use Rattle.image_form.specs.Form.{IsBytes, bytes_of, done, each, each_fit, each_spelled, field, items}
 use Rattle.image_pack.specs.Image.{after, after_device, content, device, group, header, image, major, next_place, no_spans_before, nothing_left, outline, span, subject}
-use Rattle.image_pack.specs.Parts.{IsParts}
+use Rattle.image_load.specs.Placing.{image_bench, image_record}
+use Rattle.image_meaning.specs.Bench.{devices_of}
+use Rattle.image_meaning.specs.Sound.{IsSound}
+use Rattle.image_pack.specs.Parts.{IsImage, IsParts}
 use Rattle.image_pack.specs.declared.parts.Image.{Image}
 use Rattle.image_pack.specs.declared.parts.SpanPart.{SpanPart}
+use Rattle.muen_run.specs.RunText.{image_text}
+use Rattle.policy_meaning.specs.Contents.{Held}
+use Rattle.policy_types.specs.declared.source.Source.{Source}
+use Rattle.record_text.specs.DeviceRecord.{DeviceRecord}
+use Rattle.record_text.specs.Reading.{record_of}
 use Rattle.stands_for.specs.Held.{IsByte}
+use Rattle.subject_model.specs.Trace.{trace_of}
+use Rattle.sound_runs.proofs.PartsKeep.{parts_keep}
+use Rattle.sound_runs.proofs.SameInputs.{same_bench}
+use Rattle.sound_runs.proofs.Traces.{traces_are}
 
 front_bytes : (a b : List ℕ) → IsBytes (a ++ b) → All IsByte a
 front_bytes [] b h k d l = absurd (omega (arith, l))
@@ -48,3 +60,12 @@ contents_of_bytes i f h =
     (behind_bytes groups (subjects ++ (majors ++ (devices ++ contents)))
     (behind_bytes spans (groups ++ (subjects ++ (majors ++ (devices ++ contents))))
     (behind_bytes (header.spell i.header) (spans ++ (groups ++ (subjects ++ (majors ++ (devices ++ contents))))) h))))))
+
+-- ---- so the image of these bytes runs as its system
+
+pub image_runs : (p : Source) (files : Held) (bytes : List ℕ) (i : Image) (text : List ℕ) (r : DeviceRecord) → IsBytes bytes → IsImage bytes i → IsSound p files i → record_of text (devices_of p) ≡ Ok r → image_text i (image_record i r) ≡ trace_of p files r
+image_runs p files bytes i text r all_bytes is sound named =
+    traces_are p files i text r (parts_keep i is.parts) sound (contents_of_bytes i is.parts (subst IsBytes is.bytes_are all_bytes)) named
+
+pub image_bench_is : (p : Source) (files : Held) (bytes : List ℕ) (i : Image) → IsImage bytes i → IsSound p files i → image_bench i ≡ devices_of p
+image_bench_is p files bytes i is sound = same_bench i (parts_keep i is.parts) ∙ sound.plan_and_events.bench

@@ -1,0 +1,45 @@
+-- Files that hold what is told, refusals that are for a file, and words that ask for nothing.
+use Rattle.std.proofs.Common.{◌≡◌, ℕ, Option, Some, None, IfSome, refl, subst, arith}
+use Rattle.std.specs.Prelude.{true}
+use Rattle.muen_build.specs.Refusals.{is_for_a_file}
+use Rattle.muen_outside.specs.States.{FilesState, SinkState}
+use Rattle.muen_outside.specs.Store.{Store}
+use Rattle.policy_meaning.specs.Contents.{no_files}
+use Rattle.policy_types.specs.declared.refusal.Refusal.{Refusal}
+use Rattle.policy_types.specs.declared.refusal.Refusal.TheVariants.{NotJson, Shape, Rule, Missing as MissingFile, TooLong as TooLongFile, FileFit, NoRoom, NoMemory as NoMemoryFor}
+use Rattle.muen_top.specs.Calls.{Came}
+use Rattle.muen_top.specs.Commands.{Command}
+use Rattle.muen_top.specs.Reports.{refusal_status}
+use Rattle.muen_top.specs.declared.outcome.Outcome.TheVariants.{Stopped}
+use Rattle.muen_top.specs.declared.outcome.Stop.TheVariants.{Usage}
+
+-- ---- files that hold what is told
+
+pub record Some_files (held : Option Store) : Type 0 where
+  pub files : Store
+  pub told : IfSome held (λ m. files ≡ m)
+
+pub some_files : (held : Option Store) → Some_files held
+some_files None = record { files = no_files; told = tt }
+some_files (Some m) = record { files = m; told = refl }
+
+-- ---- refusals
+
+-- a refusal of status 3 is for a file
+pub for_a_file : (r : Refusal) → refusal_status r ≡ 3 → is_for_a_file r ≡ true
+for_a_file NotJson h = absurd (omega (arith, h))
+for_a_file (Shape place want) h = absurd (omega (arith, h))
+for_a_file (Rule number first second) h = absurd (omega (arith, h))
+for_a_file (MissingFile file) h = refl
+for_a_file (TooLongFile file length) h = refl
+for_a_file (FileFit region room length) h = absurd (omega (arith, h))
+for_a_file (NoRoom region size) h = absurd (omega (arith, h))
+for_a_file NoMemoryFor h = absurd (omega (arith, h))
+
+-- ---- no command
+
+-- words with no command's form
+pub unasked : (command : Option Command) (old new : FilesState) (out : SinkState) → None ≡ command → Came command old new out out (Stopped Usage)
+unasked command old new out is =
+    let s = some_files old.held in
+    subst (λ c. Came c old new out out (Stopped Usage)) is (record { files = s.files; told = s.told; comes = (refl, refl) })
