@@ -1,5 +1,6 @@
 -- A subject that does nothing keeps its ticks.
-use Rattle.std.proofs.Common.{◌≡◌, ℕ, Bool, true, List, [], ◌∷◌, Some, None, refl, ap, ◌∙◌, inl, inr, subst}
+use Rattle.std.proofs.Common.{◌≡◌, ℕ, Bool, true, List, [], ◌∷◌, Some, None, refl, ap, ◌∙◌, inl, inr}
+use Rattle.std.specs.Str.{bytes_eq}
 use Rattle.std.proofs.lemmas.Bool.{cases_Bool}
 use Rattle.machine_meaning.specs.Pending.{without}
 use Rattle.policy_types.specs.declared.source.Source.{Source}
@@ -24,9 +25,9 @@ unchanged same k f is (e ∷ es) =
 waited : (p : Source) (s : Subject) (st : SubjectState) (y : System) → answered p s (waits st) y ≡ with_page s.name st y
 waited p s st y =
     λ i. record (with_page s.name st y) {
-      msrs = unchanged _ s.name (with_write None) (λ v. refl) y.msrs i;
-      now = unchanged _ s.name (without None) (λ v. refl) y.now i;
-      later = unchanged _ s.name (without None) (λ v. refl) y.later i;
+      msrs = unchanged bytes_eq s.name (with_write None) (λ v. refl) y.msrs i;
+      now = unchanged bytes_eq s.name (without None) (λ v. refl) y.now i;
+      later = unchanged bytes_eq s.name (without None) (λ v. refl) y.later i;
     }
 
 module _ (p : Source) (cpu tick : ℕ) (y : System) (s : Subject) (first : Bool) (st : SubjectState) (h : IsTurnOf p cpu tick y s first st) where
