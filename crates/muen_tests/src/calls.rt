@@ -113,11 +113,26 @@ const LOOP: &[u8] = b"{\"processor\":{\"logicalCpus\":1},\
 \"scheduling\":{\"groups\":[{\"name\":\"g\",\"cpu\":0,\"subjects\":[\"one\"]}],\
 \"majorFrames\":[{\"cpus\":[{\"cpu\":0,\"minorFrames\":[{\"group\":\"g\",\"ticks\":10}]}]}]}}";
 
+// Two subjects without a window, each on a CPU of its own: both stop at their first fetch.
 const TWO_CPUS: &[u8] = b"{\"processor\":{\"logicalCpus\":2},\
 \"memoryBlocks\":[{\"name\":\"ram\",\"physicalAddress\":1048576,\"size\":131072}],\
 \"subjects\":[{\"name\":\"one\",\"cpu\":0,\"entry\":0},{\"name\":\"two\",\"cpu\":1,\"entry\":0}],\
 \"scheduling\":{\"groups\":[{\"name\":\"g\",\"cpu\":0,\"subjects\":[\"one\"]},{\"name\":\"h\",\"cpu\":1,\"subjects\":[\"two\"]}],\
 \"majorFrames\":[{\"cpus\":[{\"cpu\":0,\"minorFrames\":[{\"group\":\"g\",\"ticks\":1}]},{\"cpu\":1,\"minorFrames\":[{\"group\":\"h\",\"ticks\":1}]}]}]}}";
+
+const TWO_CPUS_RAN: &[u8] =
+    b"0 0 one 0000000000000000 exit 48 0000000000000004 0000000000000000 stop\n\
+0 1 two 0000000000000000 exit 48 0000000000000004 0000000000000000 stop\n\
+end one 0000000000000000 0000000000000000 0000000000000000 12\n\
+regs one 0 0000000000000000 0000000000000000 0000000000000000 0000000000000000\n\
+regs one 4 0000000000000000 0000000000000000 0000000000000000 0000000000000000\n\
+regs one 8 0000000000000000 0000000000000000 0000000000000000 0000000000000000\n\
+regs one 12 0000000000000000 0000000000000000 0000000000000000 0000000000000000\n\
+end two 0000000000000000 0000000000000000 0000000000000000 12\n\
+regs two 0 0000000000000000 0000000000000000 0000000000000000 0000000000000000\n\
+regs two 4 0000000000000000 0000000000000000 0000000000000000 0000000000000000\n\
+regs two 8 0000000000000000 0000000000000000 0000000000000000 0000000000000000\n\
+regs two 12 0000000000000000 0000000000000000 0000000000000000 0000000000000000\n";
 
 const NO_SUBJECT: &[u8] = b"{\"processor\":{\"logicalCpus\":1},\"scheduling\":{}}";
 
@@ -187,6 +202,7 @@ fn answers(rt: HostRuntime) -> Result<(), Fail> {
         (&["boot", "several", "three"], 0, SEVERAL_RAN, b""),
         (&["boot", "past", "three"], 0, PAST_RAN, b""),
         (&["boot", "ro", "three"], 0, READ_ONLY_RAN, b""),
+        (&["boot", "two", "three"], 0, TWO_CPUS_RAN, b""),
         (&[], 1, b"", USAGE),
         (&["run", "p"], 1, b"", USAGE),
         (&["boot", "p", "three", "more"], 1, b"", USAGE),
@@ -203,12 +219,6 @@ fn answers(rt: HostRuntime) -> Result<(), Fail> {
             2,
             b"",
             b"muen: shape at /memoryBlocks/0/physicalAddress: want number\n",
-        ),
-        (
-            &["boot", "two", "three"],
-            2,
-            b"",
-            b"muen: shape at /processor/logicalCpus: want not yet built\n",
         ),
         (
             &["boot", "bare", "three"],
@@ -340,7 +350,7 @@ const PROVIDED: &str = r#"{"processor":{"logicalCpus":1},"memory":[MEMORY],
 "majorFrames":[{"cpus":[{"cpu":0,"minorFrames":[{"group":"g","ticks":1}]}]}]}}"#;
 
 // The policy `p` names files of a page and of 5000 bytes; call 0 reads the policy. The record's file
-// is absent: what the machine lacks comes before it.
+// is absent: it is read once the policy is accepted.
 #[test]
 fn component_files(rt: HostRuntime) -> Result<(), Fail> {
     let alloc = rt.alloc();
@@ -356,8 +366,8 @@ fn component_files(rt: HostRuntime) -> Result<(), Fail> {
             FROM_FILES,
             r#"{"name":"r","size":4096,"content":{"file":"page"}}"#,
             &[],
-            2,
-            b"muen: shape at /memory/0/content/file: want not yet built\n",
+            3,
+            b"muen: missing file absent\n",
         ),
         (
             FROM_FILES,
@@ -377,22 +387,22 @@ fn component_files(rt: HostRuntime) -> Result<(), Fail> {
             FROM_FILES,
             r#"{"name":"q","size":4096},{"name":"r","size":4096,"content":{"file":"long","offset":904}}"#,
             &[],
-            2,
-            b"muen: shape at /memory/1/content/file: want not yet built\n",
+            3,
+            b"muen: missing file absent\n",
         ),
         (
             FROM_FILES,
             r#"{"name":"r","size":4096,"content":{"file":"long","length":4096}}"#,
             &[],
-            2,
-            b"muen: shape at /memory/0/content/file: want not yet built\n",
+            3,
+            b"muen: missing file absent\n",
         ),
         (
             FROM_FILES,
             r#"{"name":"r","size":4096,"content":{"file":"long","offset":5001,"length":9999}}"#,
             &[],
-            2,
-            b"muen: shape at /memory/0/content/file: want not yet built\n",
+            3,
+            b"muen: missing file absent\n",
         ),
         // Of what comes first in memory.
         (
@@ -409,13 +419,14 @@ fn component_files(rt: HostRuntime) -> Result<(), Fail> {
             2,
             b"muen: r: 5000 bytes in room for 4096\n",
         ),
-        // A file that is named twice is read once, at call 1; another one at call 2.
+        // A file that is named twice is read once, at call 1, and the record at call 2; another one is
+        // read at call 2.
         (
             FROM_FILES,
             r#"{"name":"r","size":4096,"content":{"file":"page"}},{"name":"q","size":4096,"content":{"file":"page"}}"#,
-            &[2],
-            2,
-            b"muen: shape at /memory/0/content/file: want not yet built\n",
+            &[3],
+            3,
+            b"muen: missing file absent\n",
         ),
         (
             FROM_FILES,
@@ -424,13 +435,13 @@ fn component_files(rt: HostRuntime) -> Result<(), Fail> {
             4,
             b"muen: file fault\n",
         ),
-        // The policy's own name is no call.
+        // The policy's own name is no call: the record is read at call 1.
         (
             FROM_FILES,
             r#"{"name":"r","size":4096,"content":{"file":"p"}}"#,
-            &[1],
-            2,
-            b"muen: shape at /memory/0/content/file: want not yet built\n",
+            &[2],
+            3,
+            b"muen: missing file absent\n",
         ),
         (
             FROM_FILES,
@@ -467,6 +478,39 @@ fn component_files(rt: HostRuntime) -> Result<(), Fail> {
         assert_eq!(rt; ended.err.as_slice(), line, "{memory}");
         assert_eq!(rt; ended.status, status, "{memory}");
         assert_eq!(rt; ended.out.as_slice(), b"".as_slice());
+    }
+    Ok(())
+}
+
+// A record of the name of a file that was read before: these bytes stand for it, and it is no call.
+#[test]
+fn records_that_were_read(rt: HostRuntime) -> Result<(), Fail> {
+    let alloc = rt.alloc();
+    let stopped: &[u8] =
+        b"0 0 one 0000000000000000 exit 48 0000000000000004 0000000000000000 stop\n\
+end one 0000000000000000 0000000000000000 0000000000000000 12\n";
+    let refused: &[u8] = b"muen: record refused at line 1: word\n";
+    // The file of the content and of the record, the call that would fail, and what comes.
+    let cases: [(&str, u64, u8, &[u8], &[u8]); 3] = [
+        ("three", 2, 0, stopped, b""),
+        ("page", 2, 6, b"", refused),
+        ("p", 1, 6, b"", refused),
+    ];
+    for (name, failing, status, begin, line) in cases {
+        let content = r#"{"name":"r","size":4096,"content":{"file":"FILE"}}"#;
+        let memory = content.replacen(alloc, "FILE", name, 1)?;
+        let policy = FROM_FILES.replacen(alloc, "MEMORY", memory.as_str(), 1)?;
+        let mut held = Vec::new(alloc);
+        held.push(file(alloc, "p", policy.as_bytes())?)?;
+        held.push(file(alloc, "three", b"end 3\n")?)?;
+        held.push((String::from_str(alloc, "page")?, vec![in alloc; 1; 4096]?))?;
+        let mut files = MemFiles::make(held, Vec::from_slice(alloc, &[failing])?);
+        let mut out = MemSink::make(alloc, 1000, Vec::new(alloc), 0)?;
+        let ended = call(alloc, &["boot", "p", name], &mut files, &mut out)?;
+        assert_eq!(rt; ended.err.as_slice(), line, "{name}");
+        assert_eq!(rt; ended.status, status, "{name}");
+        assert!(rt; ended.out.starts_with(begin), "{name}");
+        assert_eq!(rt; ended.out.is_empty(), status != 0, "{name}");
     }
     Ok(())
 }
@@ -522,45 +566,36 @@ fn blocks(rt: HostRuntime) -> Result<(), Fail> {
 fn long_files(rt: HostRuntime) -> Result<(), Fail> {
     let alloc = rt.alloc();
     let mut held = Vec::new(alloc);
-    held.push((
-        String::from_str(alloc, "long")?,
-        vec![in alloc; b' '; 4_194_305]?,
-    ))?;
+    for (name, length) in [
+        ("long", 4_194_305),
+        ("longer", 16_777_217),
+        ("component", 67_108_865),
+    ] {
+        held.push((
+            String::from_str(alloc, name)?,
+            vec![in alloc; b' '; length]?,
+        ))?;
+    }
     held.push(file(alloc, "p", POLICY)?)?;
-    held.push((
-        String::from_str(alloc, "longer")?,
-        vec![in alloc; b' '; 16_777_217]?,
-    ))?;
-    held.push((
-        String::from_str(alloc, "component")?,
-        vec![in alloc; b' '; 67_108_865]?,
-    ))?;
-    let text = FROM_FILES.replacen(
-        alloc,
-        "MEMORY",
-        r#"{"name":"r","size":4096,"content":{"file":"component","length":1}}"#,
-        1,
-    )?;
-    held.push(file(alloc, "q", text.as_bytes())?)?;
+    for (name, content) in [("q", "component"), ("s", "longer")] {
+        let memory = r#"{"name":"r","size":4096,"content":{"file":"FILE","length":1}}"#;
+        let memory = memory.replacen(alloc, "FILE", content, 1)?;
+        let policy = FROM_FILES.replacen(alloc, "MEMORY", memory.as_str(), 1)?;
+        held.push(file(alloc, name, policy.as_bytes())?)?;
+    }
     let mut files = MemFiles::make(held, Vec::new(alloc));
     let mut out = MemSink::make(alloc, 10, Vec::new(alloc), 0)?;
-    let policy = call(alloc, &["boot", "long", "p"], &mut files, &mut out)?;
-    assert_eq!(rt; policy.status, 3);
-    assert_eq!(rt;
-        policy.err.as_slice(),
-        b"muen: file long has 4194305 bytes\n".as_slice()
-    );
-    let inputs = call(alloc, &["boot", "p", "longer"], &mut files, &mut out)?;
-    assert_eq!(rt; inputs.status, 3);
-    assert_eq!(rt;
-        inputs.err.as_slice(),
-        b"muen: file longer has 16777217 bytes\n".as_slice()
-    );
-    let component = call(alloc, &["boot", "q", "absent"], &mut files, &mut out)?;
-    assert_eq!(rt; component.status, 3);
-    assert_eq!(rt;
-        component.err.as_slice(),
-        b"muen: file component has 67108865 bytes\n".as_slice()
-    );
+    // The last record is a file that was read for a content: a record may have fewer bytes.
+    let cases: [(&str, &str, &[u8]); 4] = [
+        ("long", "p", b"muen: file long has 4194305 bytes\n"),
+        ("p", "longer", b"muen: file longer has 16777217 bytes\n"),
+        ("q", "absent", b"muen: file component has 67108865 bytes\n"),
+        ("s", "longer", b"muen: file longer has 16777217 bytes\n"),
+    ];
+    for (policy, record, line) in cases {
+        let ended = call(alloc, &["boot", policy, record], &mut files, &mut out)?;
+        assert_eq!(rt; ended.status, 3);
+        assert_eq!(rt; ended.err.as_slice(), line);
+    }
     Ok(())
 }

@@ -1,7 +1,9 @@
-//! Whole calls of `map`, `flows` and `run` on files and sinks in memory, against texts that were
+//! Whole calls of `map`, `flows`, `run` and `boot` on files and sinks in memory, against texts that were
 //! worked out by hand.
 #![tactic(auto)]
 
+#[cfg(test)]
+mod boot_and_run;
 #[cfg(test)]
 mod reports;
 #[cfg(test)]

@@ -9,7 +9,13 @@ use std::test::Fail;
 
 // The policy of one subject with this size of its block, these regions before its own, this content
 // and these ticks.
-fn one(alloc: Global, block: &str, more: &str, content: &str, ticks: &str) -> Result<String, Fail> {
+pub(crate) fn one(
+    alloc: Global,
+    block: &str,
+    more: &str,
+    content: &str,
+    ticks: &str,
+) -> Result<String, Fail> {
     let text = ONE.replacen(alloc, "BLOCK", block, 1)?;
     let text = text.replacen(alloc, "MORE", more, 1)?;
     let text = text.replacen(alloc, "CONTENT", content, 1)?;

@@ -65,3 +65,15 @@ pub(crate) const LEAVES: &str =
 {"name":"gb","cpu":0,
 "subjects":["b"]}],"majorFrames":[{"cpus":[{"cpu":0,"minorFrames":[{"group":"ga","ticks":2},
 {"group":"gb","ticks":2}]}]}]}}"#;
+
+/// A device with ports, a memory and an interrupt line, and MSRs, all granted to one subject.
+pub(crate) const DEVICE: &str =
+    r#"{"processor":{"logicalCpus":1},"memoryBlocks":[{"name":"ram","physicalAddress":1048576,"size":1048576}],
+"devices":[{"name":"net","memory":[{"name":"buf","physicalAddress":2097152,"size":4096}],
+"ioPorts":[{"name":"regs","start":768,"end":783}],"irqs":[{"name":"rx"}]}],
+"memory":[{"name":"code","size":4096,"content":{"hex":"0190000020ff3f001a090000000000001800000000000000111700000003000001200000000070000b320300000000000c3203000800000001500000740100001435000000000000136500000000000012170000010300000d000000c0ffffff0b420100000000001b00000000000000"}}],
+"subjects":[{"name":"one","cpu":0,"entry":4194304,
+"memory":[{"region":"code","virtualAddress":4194304,"rights":"rx"}],
+"devices":[{"device":"net","memory":[{"memory":"buf","virtualAddress":7340032,"rights":"rw"}],"ioPorts":["regs"],"irqs":[{"irq":"rx","vector":40}]}],
+"msrs":[{"start":372,"end":374,"rights":"rw"}]}],
+"scheduling":{"groups":[{"name":"g","cpu":0,"subjects":["one"]}],"majorFrames":[{"cpus":[{"cpu":0,"minorFrames":[{"group":"g","ticks":10}]}]}]}}"#;

@@ -54,7 +54,7 @@ fn text(alloc: Global, policy: &str, record: &str) -> Result<String, Fail> {
 }
 
 // The text has all these lines.
-fn has_lines(text: &str, lines: &[&str]) -> bool {
+pub(crate) fn has_lines(text: &str, lines: &[&str]) -> bool {
     lines.iter().all(|line| text.contains(*line))
 }
 
