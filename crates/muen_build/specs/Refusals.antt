@@ -1,5 +1,5 @@
 -- What a policy with its files is refused for (this project's own order): it is no JSON text, it breaks the schema, it
--- breaks a rule, then contents are missing or don't fit.
+-- breaks a rule, then contents are missing or don't fit, then there is no room for a region.
 use Rattle.std.specs.Prelude.{ℕ, Bool, true, false, List, [], ◌∷◌, ◌++◌, length, map, nat_le, Option, Some, None, Result, Ok, Err, if◌then◌else◌}
 use Rattle.std.specs.List.{flat_map}
 use Rattle.std.specs.FinMap.{get}

@@ -1,4 +1,4 @@
--- What a command has seen of two files.
+-- What a command has seen of files that it reads one after another.
 use Rattle.std.specs.Prelude.{◌≡◌, ℕ, false, List, Option, Some, IfSome}
 use Rattle.std.specs.Str.{bytes_eq}
 use Rattle.std.specs.FinMap.{get}
