@@ -1,7 +1,6 @@
 -- What building an image has seen of files, and what it comes to.
 use Rattle.std.specs.Prelude.{◌≡◌, ℕ, List, Option, Ok}
 use Rattle.image_emit.specs.Built.{HasGreatestPages, HasOnePathPerTable, HasPlacement}
-use Rattle.image_form.specs.Form.{IsBytes}
 use Rattle.image_meaning.specs.Sound.{ForEachSubject, IsSound}
 use Rattle.image_pack.specs.Parts.{IsImage}
 use Rattle.image_pack.specs.declared.parts.Image.{Image}
@@ -15,7 +14,6 @@ use Rattle.policy_types.specs.declared.source.Source.{Source}
 -- has them, no page of tables is read at two paths, and each window is mapped by the greatest pages that it allows
 pub record IsImageFor (p : Source) (files : Store) (bytes : List ℕ) : Type 0 where
   pub parts : Image
-  pub all_bytes : IsBytes bytes
   pub image : IsImage bytes parts
   pub sound : IsSound p files parts
   pub placed : HasPlacement p parts

@@ -1,11 +1,18 @@
 -- What `boot` answers, as its files are read.
-use Rattle.std.proofs.Common.{◌≡◌, inl, inr, ℕ, List, [], ◌∷◌, Result, Ok, Err, refl, sym, ap, subst, ◌∙◌, arith}
+use Rattle.std.proofs.Common.{◌≡◌, inl, inr, ℕ, List, [], ◌∷◌, Result, Ok, Err, IfErr, IfOk, refl, sym, ap, subst, ◌∙◌, arith}
 use Rattle.std.specs.FinMap.{get}
+use Rattle.image_form.specs.Faults.{Tells}
+use Rattle.image_form.specs.Form.{IsBytes}
+use Rattle.image_form.specs.declared.fault.ImageFault.{ImageFault}
+use Rattle.image_form.specs.declared.fault.ImageFault.TheVariants.{Short, Bad, Trailing, NoMemory as NoMemoryForImage}
 use Rattle.image_load.specs.Placing.{image_bench, image_record}
 use Rattle.image_meaning.specs.Bench.{devices_of}
+use Rattle.image_meaning.specs.Sound.{IsSound}
+use Rattle.image_pack.specs.Parts.{IsImage}
 use Rattle.image_pack.specs.declared.parts.Image.{Image}
 use Rattle.muen_build.specs.Accepting.{Accepts, Ends, Files, Grows, RefusedFor, RefusesDocument, looks_of}
-use Rattle.muen_build.specs.Looks.{Explained, Follows, Saw, Seen, ShowAll, document_look}
+use Rattle.muen_build.specs.Building.{IsImageFor}
+use Rattle.muen_build.specs.Looks.{Explained, Follows, Look, Saw, Seen, ShowAll, document_look}
 use Rattle.muen_build.specs.Refusals.{accepted_policy_of}
 use Rattle.muen_build.specs.declared.accepted.BuildEnd.{BuildEnd}
 use Rattle.muen_build.specs.declared.accepted.BuildEnd.TheVariants.{Refused as RefusedPolicy, FileFault as FaultOfFiles}
@@ -28,15 +35,39 @@ use Rattle.sound_runs.proofs.ImageRuns.{image_bench_is, image_runs}
 use Rattle.muen_top.specs.Answers.{Answer, prints, stops, missing, too_long, record_refused, of_file, policy_answer, trace_answer, boot_answer}
 use Rattle.muen_top.specs.Commands.{boot}
 use Rattle.muen_top.specs.FilesSeen.{SawAfter, ShownAfter}
-use Rattle.muen_top.specs.Loads.{IsReadBack, NotRead, NotReadAfter}
+use Rattle.muen_top.specs.Loads.{IsReadBack, IsReadOf, NotRead, NotReadAfter}
 use Rattle.muen_top.specs.PolicyCommands.{Gives, Stops}
 use Rattle.muen_top.specs.Runs.{OnlyMemory}
-use Rattle.muen_top.specs.Stops.{stop_of_end, stop_of_fault, stop_of_refusal}
+use Rattle.muen_top.specs.Stops.{stop_of_end, stop_of_fault, stop_of_image_fault, stop_of_refusal}
 use Rattle.muen_top.specs.declared.outcome.Stop.{Stop}
 use Rattle.muen_top.specs.declared.outcome.Stop.TheVariants.{Usage, Missing, TooLong, Refused, ImageRefused, RecordRefused, FileFault, NoMemory}
 use Rattle.muen_top.proofs.FilesSeen.{explained_after, shown_after}
 use Rattle.muen_top.proofs.PolicyCommands.{RestsOn, not_read, of_refusal, out_of_memory}
 use Rattle.muen_top.proofs.Told.{for_a_file, some_files}
+
+-- ---- an image that is read again
+
+pub read_so : (i j : Image) → Tells (Ok i) (Ok j) → i ≡ j
+read_so i j h = cc (h)
+
+pub unread_so : (i : Image) (fault : ImageFault) (stop : Stop) → Tells (Ok i) (Err fault) → stop ≡ stop_of_image_fault fault → OnlyMemory stop
+unread_so i NoMemoryForImage stop h made = subst OnlyMemory (sym made) tt
+unread_so i (Short at) stop h made = absurd (cc (h))
+unread_so i (Bad at field) stop h made = absurd (cc (h))
+unread_so i (Trailing at) stop h made = absurd (cc (h))
+
+module _ (p : Source) (looks : List Look) (bytes : List ℕ) (all_bytes : IsBytes bytes) (built : (files : Store) → ShowAll files looks → IsImageFor p files bytes) where
+  pub back_so : (result : Result Image Stop) → ((i : Image) → IsImage bytes i → IsReadOf i result) → IfOk result (λ i. (files : Store) → ShowAll files looks → IsReadBack p files i)
+  back_so (Ok j) only =
+      λ files s.
+      let b = built files s in
+      let same = only b.parts b.image in
+      record { bytes = bytes; all_bytes = all_bytes; image = subst (IsImage bytes) same b.image; sound = subst (IsSound p files) same b.sound }
+  back_so (Err stop) only = tt
+
+  pub not_back : (result : Result Image Stop) → ((i : Image) → IsImage bytes i → IsReadOf i result) → IfErr result (λ stop. (files : Store) → ShowAll files looks → OnlyMemory stop)
+  not_back (Ok j) only = tt
+  not_back (Err stop) only = λ files s. let b = built files s in only b.parts b.image
 
 -- ---- the answer
 

@@ -45,4 +45,4 @@ module _ (m : Store) (name inputs : List ℕ) (p : Source) (r : DeviceRecord) (s
     -- .. and of one that `build` has written
     pub built_prints : HoldsBuilt m name p files → answer_of m (Some (run name inputs)) ≡ prints (trace_of p files r)
     built_prints h =
-        sound_prints (record { bytes = h.bytes; parts = h.built.parts; read = h.read; all_bytes = h.built.all_bytes; image = h.built.image; sound = h.built.sound })
+        sound_prints (record { bytes = h.bytes; parts = h.built.parts; read = h.read; all_bytes = h.all_bytes; image = h.built.image; sound = h.built.sound })

@@ -37,6 +37,7 @@ pub record HoldsSound (m : Store) (name : List ℕ) (p : Source) (files : Held) 
 pub record HoldsBuilt (m : Store) (name : List ℕ) (p : Source) (files : Held) : Type 0 where
   pub bytes : List ℕ
   pub read : reading_of (get m name) IMAGE_MOST ≡ whole bytes
+  pub all_bytes : IsBytes bytes
   pub built : IsImageFor p files bytes
 
 -- .. a record of the devices of this policy, which says this

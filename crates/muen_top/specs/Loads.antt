@@ -1,5 +1,5 @@
 -- What reading a command's files comes to.
-use Rattle.std.specs.Prelude.{◌≡◌, ℕ, List, Some}
+use Rattle.std.specs.Prelude.{◌≡◌, ℕ, List, Some, Result, Ok, Err}
 use Rattle.image_form.specs.Form.{IsBytes}
 use Rattle.image_meaning.specs.Sound.{IsSound}
 use Rattle.image_pack.specs.Parts.{IsImage}
@@ -10,6 +10,7 @@ use Rattle.muen_outside.specs.States.{FilesState}
 use Rattle.muen_outside.specs.Store.{Store, absent, long, reading_of}
 use Rattle.policy_types.specs.declared.source.Source.{Source}
 use Rattle.muen_top.specs.FilesSeen.{SawAfter, SawToo}
+use Rattle.muen_top.specs.Runs.{OnlyMemory}
 use Rattle.muen_top.specs.declared.outcome.Stop.{Stop}
 use Rattle.muen_top.specs.declared.outcome.Stop.TheVariants.{Missing, TooLong, FileFault, NoMemory}
 
@@ -45,6 +46,11 @@ NotReadAfter looks name most old new NoMemory = Unit {0}
 NotReadAfter looks name most old new _ = ⊥
 
 -- ---- the image of an accepted policy, read again
+
+-- what reading the bytes of an image of these parts comes to
+abbrev pub IsReadOf : Image → Result Image Stop → Type 0
+IsReadOf i (Ok j) = i ≡ j
+IsReadOf i (Err stop) = OnlyMemory stop
 
 -- the bytes of an image of these parts, which is sound for this policy over files that hold this
 pub record IsReadBack (p : Source) (files : Store) (i : Image) : Type 0 where

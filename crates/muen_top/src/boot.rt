@@ -1,6 +1,9 @@
 // The command `boot`: a policy and a record are read, and the run of the policy's image is printed. The
 // image is written in memory, as `build` writes it, and is read again and run as `run` does it.
 ghost use Rattle.std.specs.Prelude.{◌≡◌, Some, Ok, IfOk, IfErr};
+ghost use Rattle.image_form.specs.Form.{IsBytes};
+ghost use Rattle.image_pack.specs.Parts.{IsImage};
+ghost use Rattle.image_pack.specs.declared.parts.Image.{Image};
 ghost use Rattle.kernel_core.specs.Ticks.{CanRun};
 ghost use Rattle.muen_build.specs.Accepting.{Accepts, looks_of};
 ghost use Rattle.muen_build.specs.Looks.{Follows, ShowAll};
@@ -13,7 +16,7 @@ ghost use Rattle.muen_top.specs.Answers.{prints};
 ghost use Rattle.muen_top.specs.Calls.{Came};
 ghost use Rattle.muen_top.specs.Commands.{boot as boot_command};
 ghost use Rattle.muen_top.specs.FilesSeen.{SawAfter};
-ghost use Rattle.muen_top.specs.Loads.{IsReadBack, NotReadAfter};
+ghost use Rattle.muen_top.specs.Loads.{IsReadBack, IsReadOf, NotReadAfter};
 ghost use Rattle.muen_top.specs.PolicyCommands.{Gives, Stops};
 ghost use Rattle.muen_top.specs.Runs.{OnlyMemory};
 
@@ -29,6 +32,15 @@ use muen_outside::{Files, Sink};
 use region_alloc::Placed;
 use std::alloc::Global;
 
+// The parts of the image of these bytes.
+fn read_back<'a>(alloc: Global, bytes: &[u8]) -> Result<Parts, Stop<'a>>
+    ensures all_bytes { IsBytes bytes.now }
+    ensures only { (i : Image) → IsImage bytes.now i → IsReadOf i result }
+{
+    let parts = unpack(alloc, bytes)?;
+    Ok(parts)
+}
+
 // The image of a policy that is accepted with these files, read from the bytes that `build` would write.
 fn parts_of<'a>(
     alloc: Global,
@@ -43,8 +55,7 @@ fn parts_of<'a>(
     ensures err { IfErr result (λ stop. (files : Store) → ShowAll files (looks_of name.now document.now found.now) → OnlyMemory stop) }
 {
     let bytes = image(alloc, name, document, placed, found)?;
-    let parts = unpack(alloc, &bytes)?;
-    Ok(parts)
+    read_back(alloc, &bytes)
 }
 
 // The bytes of a file, copied.
