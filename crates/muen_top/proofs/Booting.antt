@@ -16,7 +16,7 @@ use Rattle.muen_build.specs.Looks.{Explained, Follows, Look, Saw, Seen, ShowAll,
 use Rattle.muen_build.specs.Refusals.{accepted_policy_of}
 use Rattle.muen_build.specs.declared.accepted.BuildEnd.{BuildEnd}
 use Rattle.muen_build.specs.declared.accepted.BuildEnd.TheVariants.{Refused as RefusedPolicy, FileFault as FaultOfFiles}
-use Rattle.muen_build.proofs.Looks.{explained, seen_first}
+use Rattle.muen_build.proofs.Looks.{seen_first}
 use Rattle.muen_num.specs.Answers.{Answers}
 use Rattle.muen_num.specs.declared.limits.TheConstants.{POLICY_MOST, RECORD_MOST}
 use Rattle.muen_outside.specs.Counts.{Rose}

@@ -3,13 +3,12 @@ use Rattle.std.proofs.Common.{◌≡◌, ℕ, true, false, List, [], ◌∷◌, 
 use Rattle.std.specs.Prelude.{nat_lt, if◌then◌else◌}
 use Rattle.std.specs.FinMap.{get}
 use Rattle.muen_build.specs.Accepting.{Files, Grows, looks_of}
-use Rattle.muen_build.specs.Looks.{Explained, Follows, Look, Saw, Seen, ShowAll, document_look, look}
+use Rattle.muen_build.specs.Looks.{Explained, Follows, Look, Saw, Seen, document_look, look}
 use Rattle.muen_build.proofs.Looks.{explained, seen_also, seen_first, show_before, show_last}
 use Rattle.muen_build.proofs.Steps.{others_found, shown_among}
 use Rattle.muen_num.specs.declared.limits.TheConstants.{COMPONENT_FILE_MOST, POLICY_MOST}
-use Rattle.muen_outside.specs.Counts.{Rose}
 use Rattle.muen_outside.specs.States.{FilesState}
-use Rattle.muen_outside.specs.Store.{Store, Reading, whole, absent, long, find_bytes, reading_of}
+use Rattle.muen_outside.specs.Store.{Reading, whole, absent, long, find_bytes, reading_of}
 use Rattle.muen_top.specs.FilesSeen.{SawToo, same, another, SawAfter, known, unknown, ShownAfter, ShownBoth}
 use Rattle.muen_top.specs.Loads.{NotReadAfter, NotReadToo, NotWithin}
 use Rattle.muen_top.specs.declared.outcome.Stop.{Stop}
@@ -69,6 +68,13 @@ shown_after looks name most reading old mid new seen follows (unknown others als
       shows = show_before files.files looks (look name most reading) files.shows;
       shows' = show_last files.files looks (look name most reading) files.shows;
     }
+
+-- the same bytes
+pub whole_same : (a b : List ℕ) → whole a ≡ whole b → a ≡ b
+whole_same a b e = cc (e)
+
+pub component_copied : {copied bytes : List ℕ} {o : Option (List ℕ)} → copied ≡ bytes → Some bytes ≡ o → o ≡ Some copied
+component_copied e is = sym is ∙ ap Some (sym e)
 
 module _ (policy document : List ℕ) (found : Files) (name : List ℕ) (most : ℕ) (old new : FilesState) where
   -- a component file that was read

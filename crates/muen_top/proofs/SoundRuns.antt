@@ -1,15 +1,13 @@
 -- What the program answers where files hold a policy, or an image that is sound for one, and a record of its devices.
-use Rattle.std.proofs.Common.{◌≡◌, ℕ, List, Some, Ok, ap, sym, ◌∙◌}
-use Rattle.std.specs.FinMap.{get}
+use Rattle.std.proofs.Common.{◌≡◌, ℕ, List, Some, ap, ◌∙◌}
 use Rattle.image_form.specs.Faults.{unpacked}
 use Rattle.image_form.proofs.Theorem.{back}
-use Rattle.image_load.specs.Placing.{image_bench, image_record}
+use Rattle.image_load.specs.Placing.{image_bench}
 use Rattle.image_meaning.specs.Bench.{devices_of}
 use Rattle.image_pack.specs.Image.{image as image_form}
 use Rattle.image_pack.proofs.ImageLaws.{image_laws}
 use Rattle.muen_build.specs.Refusals.{accepted_policy_of}
-use Rattle.muen_num.specs.declared.limits.TheConstants.{IMAGE_MOST, POLICY_MOST, RECORD_MOST}
-use Rattle.muen_outside.specs.Store.{Store, reading_of}
+use Rattle.muen_outside.specs.Store.{Store}
 use Rattle.policy_meaning.specs.Contents.{Held}
 use Rattle.policy_types.specs.declared.source.Source.{Source}
 use Rattle.record_text.specs.DeviceRecord.{DeviceRecord}

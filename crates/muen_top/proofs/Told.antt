@@ -1,5 +1,5 @@
 -- Files that hold what is told, refusals that are for a file, and words that ask for nothing.
-use Rattle.std.proofs.Common.{◌≡◌, ℕ, Option, Some, None, IfSome, refl, subst, arith}
+use Rattle.std.proofs.Common.{◌≡◌, Option, Some, None, IfSome, refl, subst, arith}
 use Rattle.std.specs.Prelude.{true}
 use Rattle.muen_build.specs.Refusals.{is_for_a_file}
 use Rattle.muen_outside.specs.States.{FilesState, SinkState}

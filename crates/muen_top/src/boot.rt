@@ -26,8 +26,8 @@ use crate::run::{Loaded, run_image};
 use image_load::read_record;
 use image_pack::{Parts, unpack};
 use muen_build::{ComponentFiles, accept, image};
-use muen_num::{NoMemory, Seq};
 use muen_num::limits::{POLICY_MOST, RECORD_MOST};
+use muen_num::{NoMemory, Seq};
 use muen_outside::{Files, Sink};
 use region_alloc::Placed;
 use std::alloc::Global;
@@ -101,7 +101,13 @@ fn read_both<'a, F: Files>(
 {
     let document = load(alloc, policy, POLICY_MOST, files)?;
     let accepted = accept(alloc, policy, document.items(), files)?;
-    let parts = parts_of(alloc, policy, document.items(), &accepted.placed, &accepted.files)?;
+    let parts = parts_of(
+        alloc,
+        policy,
+        document.items(),
+        &accepted.placed,
+        &accepted.files,
+    )?;
     let bytes = load_record(alloc, policy, document, &accepted.files, inputs, files)?;
     let input = read_record(alloc, &parts, bytes.items())?;
     Ok(Loaded { parts, input })

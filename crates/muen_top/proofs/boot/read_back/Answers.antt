@@ -1,4 +1,3 @@
-use Rattle.std.proofs.Common.{arith}
 use Rattle.std.proofs.lemmas.Result.{err_from_is_err_and}
 use Rattle.muen_top.proofs.Booting.{read_so, unread_so}
 use Rattle.muen_top.proofs.boot.read_back.Goals as goal

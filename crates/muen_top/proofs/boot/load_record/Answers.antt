@@ -1,0 +1,25 @@
+use Rattle.std.proofs.Common.{sym}
+use Rattle.std.proofs.lemmas.Result.{IfErr-weaker, IfOk-weaker}
+use Rattle.muen_outside.specs.Store.{whole}
+use Rattle.muen_top.proofs.FilesSeen.{component_copied, no_component, no_other, of_another, of_component, whole_same}
+use Rattle.muen_top.proofs.boot.load_record.Goals as goal
+
+-- a component file has this name
+
+pub returns-in_ok-copy-in-Some-clause-ok : goal.returns-in_ok-copy-in-Some-clause-ok
+returns-in_ok-copy-in-Some-clause-ok g c =
+    let same = whole_same c.in_ok-copy-in-Some.field-0 c.in-Some.bytes.now c.in_ok-copy-in-Some.ensures in
+    IfOk-weaker c.within.result _ _ (λ bytes is. of_component _ _ _ _ _ _ _ c.in_ok-copy-in-Some.field-0 (whole bytes) (component_copied same c.in-Some.ensures) is) c.within.ensures.ok
+
+pub returns-in_ok-copy-in-Some-clause-err : goal.returns-in_ok-copy-in-Some-clause-err
+returns-in_ok-copy-in-Some-clause-err g c =
+    let same = whole_same c.in_ok-copy-in-Some.field-0 c.in-Some.bytes.now c.in_ok-copy-in-Some.ensures in
+    IfErr-weaker c.within.result _ _ (λ stop is. no_component _ _ _ _ _ _ _ c.in_ok-copy-in-Some.field-0 stop (component_copied same c.in-Some.ensures) is) c.within.ensures.err
+
+-- none has
+
+pub returns-in-None-clause-ok : goal.returns-in-None-clause-ok
+returns-in-None-clause-ok g c = IfOk-weaker c.load_too.result _ _ (λ bytes is. of_another _ _ _ _ _ _ _ (whole bytes) (sym c.in-None.ensures) is) c.load_too.ensures.ok
+
+pub returns-in-None-clause-err : goal.returns-in-None-clause-err
+returns-in-None-clause-err g c = IfErr-weaker c.load_too.result _ _ (λ stop is. no_other _ _ _ _ _ _ _ stop (sym c.in-None.ensures) is) c.load_too.ensures.err
