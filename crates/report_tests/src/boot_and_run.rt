@@ -12,19 +12,25 @@ use std::test::Fail;
 const CODE_FILE: &[u8] = b"\xff\xff\xff\xff\xff\xff\xff\xff\
 \x01\x10\x00\x00\x05\x00\x00\x00\x17\x00\x00\x00\x00\x00\x00\x00";
 
+// Adds a file.
+fn add(
+    alloc: Global,
+    held: &mut Vec<(String, Vec<u8>)>,
+    name: &str,
+    bytes: &[u8],
+) -> Result<(), Fail> {
+    let name = String::from_str(alloc, name)?;
+    let bytes = Vec::from_slice(alloc, bytes)?;
+    held.push((name, bytes))?;
+    Ok(())
+}
+
 // The policy `p`, the record `r`, and the file `code.bin`.
 fn held(alloc: Global, policy: &str, record: &str) -> Result<MemFiles, Fail> {
     let mut held = Vec::new(alloc);
-    for (name, bytes) in [
-        ("p", policy.as_bytes()),
-        ("r", record.as_bytes()),
-        ("code.bin", CODE_FILE),
-    ] {
-        held.push((
-            String::from_str(alloc, name)?,
-            Vec::from_slice(alloc, bytes)?,
-        ))?;
-    }
+    add(alloc, &mut held, "p", policy.as_bytes())?;
+    add(alloc, &mut held, "r", record.as_bytes())?;
+    add(alloc, &mut held, "code.bin", CODE_FILE)?;
     Ok(MemFiles::make(held, Vec::new(alloc)))
 }
 
