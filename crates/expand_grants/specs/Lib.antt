@@ -1,5 +1,4 @@
 pub mod ByPlace
-pub mod Devices
 pub mod Grants
 pub mod Kept
 pub mod Ordered

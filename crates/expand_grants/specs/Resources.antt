@@ -1,6 +1,6 @@
 -- The ports and MSRs that are granted to a subject (Muen system policy: device resources, MSRs).
-use Rattle.std.specs.Prelude.{ℕ, ◌+◌, ◌-◌, ◌&&◌, Bool, List, map, filter, nat_le, option_and_then, option_map}
-use Rattle.std.specs.List.{filter_map, find, flat_map, list_any}
+use Rattle.std.specs.Prelude.{ℕ, ◌+◌, ◌-◌, ◌==◌, ◌&&◌, if◌then◌else◌, Bool, List, map, filter, nat_le, option_and_then, option_map}
+use Rattle.std.specs.List.{filter_map, find, flat_map, list_all, list_any}
 use Rattle.std.specs.Str.{bytes_eq}
 use Rattle.policy_types.specs.declared.resources.MsrGrant.{MsrGrant}
 use Rattle.policy_types.specs.declared.resources.PortRange.{PortRange}
@@ -35,6 +35,11 @@ has_port r port = nat_le r.start port && nat_le port r.end
 unfoldable pub ports_of : Source → Subject → List ℕ
 ports_of p s = filter (λ port. list_any (λ r. has_port r port) (port_ranges_of p s)) (numbers_below (LAST_PORT + 1))
 
+-- an access of so many bytes doesn't go past the last port, and each port that it touches is granted
+abbrev pub are_granted : List ℕ → ℕ → ℕ → Bool
+are_granted ports port size =
+    nat_le (port + size) (LAST_PORT + 1) && list_all (λ k. list_any (λ n. n == port + k) ports) (numbers_below size)
+
 -- ---- MSRs
 
 abbrev pub msr_grant : Msrs → MsrGrant
@@ -52,3 +57,7 @@ msrs_in m = map (λ k. record { index = m.start + k; read = m.rights.read; write
 -- the MSRs that are granted to a subject, in the grants' order, ascending in each range
 unfoldable pub msrs_of : Subject → List Msr
 msrs_of s = flat_map msrs_in s.msrs
+
+-- the MSR is granted for reads, or for writes
+abbrev pub is_granted : List Msr → ℕ → Bool → Bool
+is_granted msrs index write = list_any (λ m. (m.index == index) && (if write then m.write else m.read)) msrs

@@ -1,5 +1,5 @@
 -- The minor frames of a CPU in the major frame of a place.
-use Rattle.std.proofs.Common.{◌≡◌, ℕ, ◌+◌, ◌-◌, ◌<◌, ◌∙◌, List, [], ◌∷◌, Option, Some, None, inl, inr, map, refl, sym, ap, arith}
+use Rattle.std.proofs.Common.{◌≡◌, ℕ, ◌-◌, ◌∙◌, List, [], Option, Some, None, map, refl, sym, ap}
 use Rattle.std.specs.Prelude.{slice_get, option_map, option_and_then, unwrap_or}
 use Rattle.std.specs.List.{flat_map}
 use Rattle.std.proofs.lemmas.Option.{slice_get-map, unwrap_or-slice_get}
@@ -8,13 +8,8 @@ use Rattle.image_plan.specs.Slot.{Slot, frame_slots}
 use Rattle.image_plan.specs.declared.plan.Major.{Major}
 use Rattle.image_plan.specs.declared.plan.Minor.{Minor}
 use Rattle.image_plan.specs.declared.plan.Plan.{Plan}
-use Rattle.image_plan.proofs.SlotLaws.{frames_at, frame_slot, first_frame, later_frame, ticks_of}
+use Rattle.image_plan.proofs.SlotLaws.{frames_at}
 use Rattle.muen_num.specs.Frame.{Frame}
-use Rattle.std.proofs.lemmas.Bool.{cases_lt}
-use Rattle.std.proofs.lemmas.Option.{none-some}
-use Rattle.std.proofs.lemmas.List.Sums.{sum_by-cons}
-use Rattle.frame_clock.specs.FrameSlot.{slot_of}
-use Rattle.frame_clock.specs.declared.FrameSlot.{FrameSlot}
 use Rattle.frame_clock.specs.FramePlace.{slot_in}
 use Rattle.frame_clock.specs.declared.place.FramePlace.{FramePlace}
 
@@ -47,26 +42,3 @@ no_cpu p cpu at tick m is none = sym (by_cpu p cpu at tick m None is none)
 
 pub in_frames_there : (p : Plan) (cpu : ℕ) (at : FramePlace) (tick : ℕ) (m : Major) (fs : List Minor) → slice_get p.majors at.major ≡ Some m → slice_get m.cpus cpu ≡ Some fs → slice_get (flat_map (frame_slots at.major) (map frame_of fs)) (tick - at.start) ≡ slot_in (frames_in p cpu) at tick
 in_frames_there p cpu at tick m fs is found = sym (by_cpu p cpu at tick m (Some fs) is found)
-
--- ---- a tick that the frames have has a slot
-
-none_first : (major : ℕ) (f : Frame) (fs : List Frame) (k : ℕ) → k < f.ticks → slice_get (flat_map (frame_slots major) (f ∷ fs)) k ≡ None → ⊥
-none_first major f fs k l none = none-some (frame_slot major f k) (sym none ∙ first_frame major f fs k l)
-
-pub slot_there : (major : ℕ) (fs : List Frame) (k : ℕ) → k < ticks_of fs → slice_get (flat_map (frame_slots major) fs) k ≡ None → ⊥
-slot_there major [] k l none = absurd (omega arith)
-slot_there major (f ∷ fs) k l none =
-    let all = sum_by-cons (λ (g : Frame). g.ticks) f fs in
-    elim (cases_lt k f.ticks) as (λ _. ⊥) [
-      | inl h ↦ none_first major f fs k h none
-      | inr h ↦
-          let back : f.ticks + (k - f.ticks) ≡ k = omega (arith, h) in
-          slot_there major fs (k - f.ticks) (omega (arith, all, l, h))
-          (sym (later_frame major f fs (k - f.ticks)) ∙ ap (slice_get (flat_map (frame_slots major) (f ∷ fs))) back ∙ none)
-    ]
-
--- the slot that was found, where the ticks of these minor frames are more than the tick
-pub found_there : (major : ℕ) (fs : List Minor) (k ticks : ℕ) (o : Option FrameSlot) → ticks_of (map frame_of fs) ≡ ticks → k < ticks
-    → slice_get (flat_map (frame_slots major) (map frame_of fs)) k ≡ option_map slot_of o → o ≡ None → ⊥
-found_there major fs k ticks o total l is none =
-    slot_there major (map frame_of fs) k (omega (arith, total, l)) (is ∙ ap (option_map slot_of) none)

@@ -1,35 +1,24 @@
 //! Two CPUs over three rounds of a plan, against slots that were worked out by hand.
-ghost use Rattle.std.specs.Prelude.{◌≡◌, [], ◌∷◌, IfOk, true};
-ghost use Rattle.image_plan.specs.Plan.{cpus_of, is_plan};
-
-use crate::{FramePlace, FrameSlot, advance, cyclic_slot, slot};
+use crate::{FramePlace, FrameSlot, advance, slot};
 use image_plan::{GroupPart, Major, Minor, Plan};
 use muen_num::Seq;
 use std::alloc::{AllocError, Global};
 use std::test::Fail;
 
-fn frame(group: u8, ticks: u32) -> Minor
-    ensures { result ≡ record { group = group; ticks = ticks } }
-{
+fn frame(group: u8, ticks: u32) -> Minor {
     Minor { group, ticks }
 }
 
-fn group(cpu: u8) -> GroupPart
-    ensures { result ≡ record { cpu = cpu; first = 0 } }
-{
+fn group(cpu: u8) -> GroupPart {
     GroupPart { cpu, first: 0 }
 }
 
-fn frames(alloc: Global, minors: &[Minor]) -> Result<Seq<Minor>, AllocError>
-    ensures { IfOk result (λ s. s ≡ minors.now) }
-{
+fn frames(alloc: Global, minors: &[Minor]) -> Result<Seq<Minor>, AllocError> {
     Ok(Seq::of(minors.to_vec(alloc)?))
 }
 
 // A major frame of two CPUs.
-fn major(alloc: Global, ticks: u32, zero: &[Minor], one: &[Minor]) -> Result<Major, AllocError>
-    ensures { IfOk result (λ m. m ≡ record { ticks = ticks; cpus = zero.now ∷ one.now ∷ [] }) }
-{
+fn major(alloc: Global, ticks: u32, zero: &[Minor], one: &[Minor]) -> Result<Major, AllocError> {
     let zero = frames(alloc, zero)?;
     let one = frames(alloc, one)?;
     let cpus = Seq::of(vec![in alloc; zero, one]?);
@@ -37,10 +26,7 @@ fn major(alloc: Global, ticks: u32, zero: &[Minor], one: &[Minor]) -> Result<Maj
 }
 
 // Two major frames, of 3 and 2 ticks, over two CPUs with two groups each.
-fn plan(alloc: Global) -> Result<Plan, AllocError>
-    ensures plan { IfOk result (λ p. is_plan p ≡ true) }
-    ensures cpus { IfOk result (λ p. cpus_of p ≡ 2) }
-{
+fn plan(alloc: Global) -> Result<Plan, AllocError> {
     let groups = vec![in alloc; group(0), group(0), group(1), group(1)]?;
     let first = major(
         alloc,
@@ -76,31 +62,27 @@ fn the_frames_begin_anew(rt: HostRuntime) -> Result<(), Fail> {
         (frame_slot(1, 1, true, 2), frame_slot(1, 2, true, 1)),
         (frame_slot(1, 1, false, 1), frame_slot(1, 3, true, 1)),
     ];
-    // rounds begin at these ticks
-    for begin in [0u32, 5, 10, 15, 4_294_967_290] {
-        for (place, (zero, one)) in round.iter().enumerate() {
-            let tick = begin + place as u32;
-            assert_eq!(rt; cyclic_slot(&plan, 0, tick), *zero, "CPU 0 at {tick}");
-            assert_eq!(rt; cyclic_slot(&plan, 1, tick), *one, "CPU 1 at {tick}");
-        }
+    let mut at = FramePlace::first();
+    for tick in 0usize..13 {
+        at = advance(&plan, at, None, tick as u32);
+        let (zero, one) = round[tick % 5];
+        assert_eq!(rt;
+            slot(&plan, at, 0, tick as u32),
+            Some(zero),
+            "CPU 0 at {tick}"
+        );
+        assert_eq!(rt;
+            slot(&plan, at, 1, tick as u32),
+            Some(one),
+            "CPU 1 at {tick}"
+        );
     }
-    assert_eq!(rt; cyclic_slot(&plan, 0, u32::MAX), frame_slot(0, 0, true, 1));
-    assert_eq!(rt; cyclic_slot(&plan, 1, u32::MAX), frame_slot(0, 3, true, 2));
     Ok(())
 }
 
-// The place goes on from tick to tick, and gives the same slots where nothing is picked.
 #[test]
 fn places(rt: HostRuntime) -> Result<(), Fail> {
     let plan = plan(rt.alloc())?;
-    let mut at = FramePlace::first();
-    for tick in 0u32..13 {
-        at = advance(&plan, at, None, tick);
-        for cpu in [0u8, 1] {
-            let cyclic = cyclic_slot(&plan, cpu, tick);
-            assert_eq!(rt; slot(&plan, at, cpu, tick), Some(cyclic), "{cpu} {tick}");
-        }
-    }
     let first = FramePlace::first();
     // within a major frame nothing is picked
     assert_eq!(rt; advance(&plan, first, Some(1), 2), first);

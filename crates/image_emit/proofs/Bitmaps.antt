@@ -6,13 +6,13 @@ use Rattle.std.proofs.lemmas.Bool.{cases_Bool, leb-true, lt-ltb}
 use Rattle.std.proofs.lemmas.Bool.Decides.{nat_tests}
 use Rattle.std.proofs.lemmas.List.{take_all}
 use Rattle.std.proofs.lemmas.List.Folds.{list_all-append, list_any-append}
-use Rattle.expand_grants.specs.Resources.{Msr, msr_grant, msrs_in, msrs_of, port_ranges_of, ports_of}
+use Rattle.expand_grants.specs.Resources.{Msr, are_granted, is_granted, msr_grant, msrs_in, msrs_of, port_ranges_of, ports_of}
 use Rattle.image_emit.specs.Made.{IsMade, Made, image_of, policy_of}
 use Rattle.image_emit.proofs.PlacesBySubject.{each_subject}
 use Rattle.image_emit.proofs.PlacesOfKernel.{kernel_bytes_at}
 use Rattle.image_emit.proofs.BitmapsOfPorts.{any_port}
 use Rattle.image_meaning.specs.Memory.{bytes_at, page_at}
-use Rattle.image_meaning.specs.Sound.{ForEachSubject, HasBitmaps, are_granted, is_granted}
+use Rattle.image_meaning.specs.Sound.{ForEachSubject, HasBitmaps}
 use Rattle.iobm_emit.specs.Ports.{is_granted as is_port_granted, is_granted_access}
 use Rattle.machine_meaning.specs.Exits.{msr_exits, port_exits}
 use Rattle.msrbm_emit.specs.Msrs.{allows, has_msr, is_granted as is_msr_granted}

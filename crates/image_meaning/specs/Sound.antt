@@ -1,9 +1,9 @@
 -- When an image is sound for a policy and its files (this project's own; tables, bitmaps and areas as in Intel SDM volume 3).
-use Rattle.std.specs.Prelude.{◌≡◌, ℕ, ◌+◌, ◌*◌, ◌<◌, ◌==◌, ◌&&◌, not, Bool, true, false, List, [], ◌∷◌, ◌++◌, map, filter, length, nat_le, slice_index_or, zip, Some, None, option_map, if◌then◌else◌}
+use Rattle.std.specs.Prelude.{◌≡◌, ℕ, ◌+◌, ◌*◌, ◌<◌, ◌==◌, ◌&&◌, not, Bool, true, false, List, [], ◌∷◌, ◌++◌, map, filter, length, nat_le, slice_index_or, zip, Some, None, option_map}
 use Rattle.std.specs.Option.{option_map_or}
-use Rattle.std.specs.List.{All, AllPairs, AllZip, find, list_all, list_any}
+use Rattle.std.specs.List.{All, AllPairs, AllZip, find, list_any}
 use Rattle.std.specs.List.Sorted.{IsPermutation}
-use Rattle.expand_grants.specs.Resources.{Msr, msrs_of, ports_of}
+use Rattle.expand_grants.specs.Resources.{are_granted, is_granted, msrs_of, ports_of}
 use Rattle.image_meaning.specs.Memory.{Span, bytes_at, bytes_of, by_number, memory_of, page_at, place_at}
 use Rattle.image_meaning.specs.Named.{bench_of, raised, reached, tag_at}
 use Rattle.image_pack.specs.Codes.{part_code}
@@ -21,7 +21,7 @@ use Rattle.machine_meaning.specs.declared.walk.Walk.{Walk}
 use Rattle.machine_meaning.specs.declared.walk.Walk.TheVariants.{At, Violation}
 use Rattle.muen_num.specs.Range.{numbers_below}
 use Rattle.muen_num.specs.declared.access.Kind.{Kind}
-use Rattle.muen_num.specs.declared.limits.TheConstants.{GUEST_END, LAST_PORT, MOST_CALLS, PAGE}
+use Rattle.muen_num.specs.declared.limits.TheConstants.{GUEST_END, MOST_CALLS, PAGE}
 use Rattle.muen_num.specs.declared.tag.Part.TheVariants.{Ept}
 use Rattle.plan_emit.specs.PlanOf.{IsPlanOf}
 use Rattle.policy_lawful.specs.Lawful.{IsLawful}
@@ -108,15 +108,6 @@ ReadsTables i q =
     (addr : ℕ) → addr < GUEST_END → All (λ at. is_in_tables i at ≡ true) (places_read (memory_of i) q.eptp addr)
 
 -- ---- bitmaps
-
--- an access of so many bytes doesn't go past the last port, and each port that it touches is granted
-abbrev pub are_granted : List ℕ → ℕ → ℕ → Bool
-are_granted ports port size =
-    nat_le (port + size) (LAST_PORT + 1) && list_all (λ k. list_any (λ n. n == port + k) ports) (numbers_below size)
-
--- the MSR is granted for reads, or for writes
-abbrev pub is_granted : List Msr → ℕ → Bool → Bool
-is_granted msrs index write = list_any (λ m. (m.index == index) && (if write then m.write else m.read)) msrs
 
 -- **the bitmaps**: exactly those accesses of ports and MSRs don't exit that the policy grants the subject
 pub record HasBitmaps (p : Source) (i : Image) (s : Subject) (q : SubjectPart) : Type 0 where

@@ -1,26 +1,23 @@
--- Laws of the frame slots: how many ticks a CPU has, where each of them stands, and that a valid plan has a slot at each
--- tick, with a group on the CPU.
-use Rattle.std.proofs.Common.{◌≡◌, ℕ, zero, suc, ◌+◌, ◌-◌, ◌%◌, ◌<◌, ◌≤◌, Bool, true, false, List, [], ◌∷◌, ◌++◌, length, map, Option, Some, None, refl, sym, ap, ◌∙◌, subst, arith, length-append}
+-- Laws of the frame slots: how many ticks a CPU has, where each of them stands, and what a valid plan has.
+use Rattle.std.proofs.Common.{◌≡◌, ℕ, zero, suc, ◌+◌, ◌-◌, ◌<◌, ◌≤◌, true, false, List, [], ◌∷◌, ◌++◌, length, map, Option, Some, None, refl, sym, ap, ◌∙◌, subst, arith, length-append}
 use Rattle.std.specs.Prelude.{◌==◌, ◌&&◌, slice_get, slice_index_or, option_map, nat_lt, nat_le}
 use Rattle.std.specs.Option.{option_map_or}
 use Rattle.std.specs.List.{list_all, sum_by, enumerate_from, flat_map}
-use Rattle.std.proofs.lemmas.Bool.{and_parts, and_from, ltb-true, leb-true, eqb-true}
+use Rattle.std.proofs.lemmas.Bool.{and_parts, ltb-true, leb-true, eqb-true}
 use Rattle.std.proofs.lemmas.List.{length-map}
 use Rattle.std.proofs.lemmas.List.Concat.{flat_map-cons}
-use Rattle.std.proofs.lemmas.List.Folds.{list_all-append, list_all-map}
 use Rattle.std.proofs.lemmas.List.Sums.{sum_by-cons}
 use Rattle.std.proofs.lemmas.Option.{slice_get-map, slice_get_within}
-use Rattle.std.proofs.Math.Nat.{mod-lt}
 use Rattle.muen_num.specs.Frame.{Frame}
 use Rattle.muen_num.specs.Range.{numbers_below}
 use Rattle.muen_num.specs.declared.limits.TheConstants.{MOST_CPUS, MOST_MAJOR_FRAMES, MOST_MINOR_FRAMES, MOST_TICKS}
-use Rattle.image_plan.specs.Plan.{frame_of, frames_in, cpus_of, is_group_on, is_minor, is_cpu, is_major, is_plan}
-use Rattle.image_plan.specs.Slot.{Slot, frame_slots, slots_from, slot_at}
+use Rattle.image_plan.specs.Plan.{frame_of, cpus_of, is_group_on, is_minor, is_cpu, is_major, is_plan}
+use Rattle.image_plan.specs.Slot.{Slot, frame_slots, slots_from}
 use Rattle.image_plan.specs.declared.plan.GroupPart.{GroupPart}
 use Rattle.image_plan.specs.declared.plan.Minor.{Minor}
 use Rattle.image_plan.specs.declared.plan.Major.{Major}
 use Rattle.image_plan.specs.declared.plan.Plan.{Plan}
-use Rattle.image_plan.proofs.ByNumber.{get_left, get_right, there, passes_at, length_numbers, number_at}
+use Rattle.image_plan.proofs.ByNumber.{get_left, get_right, length_numbers, number_at}
 
 -- ---- a minor frame
 
@@ -198,99 +195,3 @@ minor_ticks (f ∷ fs) =
 pub major_ticks : (groups : List GroupPart) (cpus : ℕ) (m : Major) (cpu : ℕ) → is_major groups cpus m ≡ true → cpu < cpus → ticks_of (frames_at cpu m) ≡ m.ticks
 major_ticks groups cpus m cpu h l =
     minor_ticks (slice_index_or m.cpus cpu []) ∙ (frames_there groups cpus m cpu h l).total
-
--- those of a CPU in all major frames are the major frames'
-pub majors_ticks : (groups : List GroupPart) (cpus : ℕ) (ms : List Major) (cpu : ℕ) → list_all (is_major groups cpus) ms ≡ true → cpu < cpus → sum_by ticks_of (map (frames_at cpu) ms) ≡ sum_by (λ m. m.ticks) ms
-majors_ticks groups cpus [] cpu all l = refl
-majors_ticks groups cpus (m ∷ ms) cpu all l =
-    let parts = and_parts (is_major groups cpus m) (list_all (is_major groups cpus) ms) all in
-    sum_by-cons ticks_of (frames_at cpu m) (map (frames_at cpu) ms)
-    ∙ (λ i. major_ticks groups cpus m cpu parts.0 l i + majors_ticks groups cpus ms cpu parts.1 l i)
-    ∙ sym (sum_by-cons (λ (n : Major). n.ticks) m ms)
-
-some_ticks : (groups : List GroupPart) (cpus : ℕ) (ms : List Major) → list_all (is_major groups cpus) ms ≡ true → 0 < length ms → 0 < sum_by (λ m. m.ticks) ms
-some_ticks groups cpus [] all l = absurd (omega arith)
-some_ticks groups cpus (m ∷ ms) all l =
-    let parts = and_parts (is_major groups cpus m) (list_all (is_major groups cpus) ms) all in
-    let here = (has_major groups cpus m parts.0).some in
-    let split : sum_by (λ n. n.ticks) (m ∷ ms) ≡ m.ticks + sum_by (λ n. n.ticks) ms = sum_by-cons (λ (n : Major). n.ticks) m ms in
-    omega (arith, here, split)
-
--- a valid plan has ticks
-pub plan_ticks : (p : Plan) → is_plan p ≡ true → 0 < sum_by (λ m. m.ticks) p.majors
-plan_ticks p h = let a = has_majors p h in some_ticks p.groups (cpus_of p) p.majors a.each a.some
-
--- ---- the groups of a valid plan's slots
-
-abbrev slot_on : List GroupPart → ℕ → Slot → Bool
-slot_on groups cpu s = is_group_on groups cpu s.group
-
-always : {X : Type 0} (b : Bool) (xs : List X) → b ≡ true → list_all (λ x. b) xs ≡ true
-always b [] h = refl
-always b (x ∷ xs) h = and_from b (list_all (λ y. b) xs) h (always b xs h)
-
-frame_on : (groups : List GroupPart) (cpu major : ℕ) (f : Minor) → is_minor groups cpu f ≡ true → list_all (slot_on groups cpu) (frame_slots major (frame_of f)) ≡ true
-frame_on groups cpu major f h =
-    let on = (and_parts (nat_lt 0 f.ticks) (is_group_on groups cpu f.group) h).1 in
-    list_all-map (slot_on groups cpu) (frame_slot major (frame_of f)) (numbers_below f.ticks)
-    ∙ always (is_group_on groups cpu f.group) (numbers_below f.ticks) on
-
-both_on : (groups : List GroupPart) (cpu : ℕ) (xs ys : List Slot) → list_all (slot_on groups cpu) xs ≡ true → list_all (slot_on groups cpu) ys ≡ true → list_all (slot_on groups cpu) (xs ++ ys) ≡ true
-both_on groups cpu xs ys h k =
-    list_all-append (slot_on groups cpu) xs ys
-    ∙ and_from (list_all (slot_on groups cpu) xs) (list_all (slot_on groups cpu) ys) h k
-
-frames_on : (groups : List GroupPart) (cpu major : ℕ) (fs : List Minor) → list_all (is_minor groups cpu) fs ≡ true → list_all (slot_on groups cpu) (flat_map (frame_slots major) (map frame_of fs)) ≡ true
-frames_on groups cpu major [] all = refl
-frames_on groups cpu major (f ∷ fs) all =
-    let parts = and_parts (is_minor groups cpu f) (list_all (is_minor groups cpu) fs) all in
-    ap (list_all (slot_on groups cpu)) (flat_map-cons (frame_slots major) (frame_of f) (map frame_of fs))
-    ∙ both_on groups cpu (frame_slots major (frame_of f)) (flat_map (frame_slots major) (map frame_of fs)) (frame_on groups cpu major f parts.0) (frames_on groups cpu major fs parts.1)
-
-majors_on : (groups : List GroupPart) (cpus cpu major : ℕ) (ms : List Major) → list_all (is_major groups cpus) ms ≡ true → cpu < cpus → list_all (slot_on groups cpu) (slots_from major (map (frames_at cpu) ms)) ≡ true
-majors_on groups cpus cpu major [] all l = refl
-majors_on groups cpus cpu major (m ∷ ms) all l =
-    let parts = and_parts (is_major groups cpus m) (list_all (is_major groups cpus) ms) all in
-    let here = frames_on groups cpu major (slice_index_or m.cpus cpu []) (frames_there groups cpus m cpu parts.0 l).each in
-    both_on groups cpu (flat_map (frame_slots major) (frames_at cpu m)) (slots_from (major + 1) (map (frames_at cpu) ms)) here (majors_on groups cpus cpu (major + 1) ms parts.1 l)
-
--- ---- the slot at a tick
-
-pub record IsThere (p : Plan) (cpu tick : ℕ) : Type 0 where
-  pub slot : Slot
-  pub is : slot_at (frames_in p cpu) tick ≡ Some slot
-  pub on : is_group_on p.groups cpu slot.group ≡ true
-
--- as many slots as a valid plan has ticks
-pub length_plan : (p : Plan) (cpu : ℕ) → is_plan p ≡ true → cpu < cpus_of p → length (slots_from 0 (frames_in p cpu)) ≡ sum_by (λ m. m.ticks) p.majors
-unfolding frames_in
-length_plan p cpu h l =
-    length_slots 0 (map (frames_at cpu) p.majors) ∙ majors_ticks p.groups (cpus_of p) p.majors cpu (has_majors p h).each l
-
--- at each tick a CPU of a valid plan has a slot, and its group is there and on this CPU
-pub slot_there : (p : Plan) (cpu tick : ℕ) → is_plan p ≡ true → cpu < cpus_of p → IsThere p cpu tick
-unfolding frames_in slot_at
-slot_there p cpu tick h l =
-    let slots = slots_from 0 (map (frames_at cpu) p.majors) in
-    let many : length slots ≡ sum_by (λ m. m.ticks) p.majors = length_plan p cpu h l in
-    let some = plan_ticks p h in
-    let place : tick % length slots < length slots = mod-lt tick (omega (arith, many, some)) in
-    let found = there slots (tick % length slots) place in
-    record {
-      slot = found.0;
-      is = found.1;
-      on = passes_at (slot_on p.groups cpu) slots (tick % length slots) found.0 (majors_on p.groups (cpus_of p) cpu 0 p.majors (has_majors p h).each l) found.1;
-    }
-
--- the group of any slot that it has is on this CPU
-pub slot_on_cpu : (p : Plan) (cpu tick : ℕ) (s : Slot) → is_plan p ≡ true → cpu < cpus_of p → slot_at (frames_in p cpu) tick ≡ Some s → is_group_on p.groups cpu s.group ≡ true
-slot_on_cpu p cpu tick s h l e =
-    let t = slot_there p cpu tick h l in
-    let same : t.slot ≡ s = cc (t.is, e) in
-    subst (λ u. is_group_on p.groups cpu u.group ≡ true) same t.on
-
--- the slot at a tick of a valid plan, by the plan's ticks
-pub slot_by_ticks : (p : Plan) (cpu tick : ℕ) → is_plan p ≡ true → cpu < cpus_of p → slot_at (frames_in p cpu) tick ≡ slice_get (slots_from 0 (frames_in p cpu)) (tick % sum_by (λ m. m.ticks) p.majors)
-unfolding slot_at
-slot_by_ticks p cpu tick h l =
-    ap (λ n. slice_get (slots_from 0 (frames_in p cpu)) (tick % n)) (length_plan p cpu h l)

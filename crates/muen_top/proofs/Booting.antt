@@ -30,7 +30,7 @@ use Rattle.record_text.specs.Steps.{mapped}
 use Rattle.record_text.specs.declared.fault.RecordFault.{RecordFault}
 use Rattle.record_text.specs.declared.fault.RecordFault.TheVariants.{NoMemory as NoMemoryForRecord}
 use Rattle.record_text.specs.declared.record.Record.{Record}
-use Rattle.record_text.proofs.PlainRecords.{mapped_err, mapped_ok}
+use Rattle.record_text.proofs.Mapped.{mapped_err, mapped_ok}
 use Rattle.sound_runs.proofs.ImageRuns.{image_bench_is, image_runs}
 use Rattle.muen_top.specs.Answers.{Answer, prints, stops, missing, too_long, record_refused, of_file, policy_answer, trace_answer, boot_answer}
 use Rattle.muen_top.specs.Commands.{boot}

@@ -20,7 +20,7 @@ use Rattle.record_text.specs.Steps.{mapped}
 use Rattle.record_text.specs.declared.fault.RecordFault.{RecordFault}
 use Rattle.record_text.specs.declared.fault.RecordFault.TheVariants.{NoMemory as NoMemoryForRecord}
 use Rattle.record_text.specs.declared.record.Record.{Record}
-use Rattle.record_text.proofs.PlainRecords.{mapped_err, mapped_ok}
+use Rattle.record_text.proofs.Mapped.{mapped_err, mapped_ok}
 use Rattle.muen_top.specs.Answers.{Answer, prints, stops, missing, too_long, record_refused, of_file, named_answer, unpacked_answer, run_answer}
 use Rattle.muen_top.specs.Commands.{run}
 use Rattle.muen_top.specs.FilesSeen.{SawToo, ShownBoth}

@@ -1,5 +1,5 @@
 -- What memory holds at the start (Muen system policy: memory regions and their content).
-use Rattle.std.specs.Prelude.{ℕ, ◌-◌, Bool, true, false, List, [], ◌++◌, length, take, drop, replicate, nat_le, Option, Some, None, option_and_then}
+use Rattle.std.specs.Prelude.{ℕ, ◌-◌, List, [], ◌++◌, length, take, drop, replicate, Option, Some, None, option_and_then}
 use Rattle.std.specs.Option.{option_map_or}
 use Rattle.std.specs.List.{find}
 use Rattle.std.specs.Str.{bytes_eq}
@@ -55,11 +55,3 @@ initial_bytes p files (device_memory device name) =
     (option_and_then (λ d. find (λ m. bytes_eq m.name name) d.memory) (find (λ d. bytes_eq d.name device) p.devices))
     []
 initial_bytes p files (state subject) = []
-
--- ---- contents that fit
-
--- a content that is no file's has no more bytes than there is room for
-abbrev pub fits_in : ℕ → Content → Bool
-fits_in size (Inline bytes) = nat_le (length bytes) size
-fits_in size (File name offset most) = false
-fits_in size _ = true

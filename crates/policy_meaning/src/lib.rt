@@ -1,8 +1,4 @@
 //! What a policy means: its things, the windows on them that a subject is granted and what an
 //! access may touch, what memory holds at the start, the frames of the scheduling plan, and which
-//! event reaches whom. These are definitions in specs/; the code makes what memory holds.
+//! event reaches whom. These are definitions alone, in specs/.
 #![tactic(auto)]
-
-mod contents;
-
-pub use contents::content_bytes;

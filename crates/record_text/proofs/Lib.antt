@@ -6,4 +6,4 @@ pub mod Orders
 pub mod Parts
 pub mod Rules
 pub mod Ticks
-pub mod PlainRecords
+pub mod Mapped

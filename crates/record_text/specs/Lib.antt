@@ -5,7 +5,6 @@ pub mod FaultTexts
 pub mod Law
 pub mod Made
 pub mod Placing
-pub mod Plain
 pub mod Reading
 pub mod Saying
 pub mod Steps

@@ -6,7 +6,6 @@
 mod cut;
 pub mod devices;
 pub mod fault;
-mod laws;
 mod line;
 mod made;
 mod number;
@@ -16,7 +15,6 @@ pub mod record;
 
 pub use devices::{DevicePlaces, Devices, IrqPlace, IrqTarget, MemoryPlace, PortSpan};
 pub use fault::{LineWant, RecordFault};
-pub use laws::without_devices;
 pub use reading::read;
 pub use record::{INPUT_MOST, Input, Record, TickInput, TickOrder};
 

@@ -5,8 +5,8 @@ use Rattle.std.specs.Prelude.{not, slice_get, unwrap_or}
 use Rattle.std.specs.List.{find, zip}
 use Rattle.std.specs.Option.{option_map_or}
 use Rattle.std.proofs.lemmas.Option.{slice_get-map}
-use Rattle.subject_model.specs.Alone.{are_granted, is_granted, reach_by}
-use Rattle.expand_grants.specs.Resources.{msrs_of, ports_of}
+use Rattle.subject_model.specs.Alone.{reach_by}
+use Rattle.expand_grants.specs.Resources.{are_granted, is_granted, msrs_of, ports_of}
 use Rattle.guest_step.specs.Named.{renamed_reach}
 use Rattle.guest_step.specs.declared.reach.Reach.TheVariants.{Reached}
 use Rattle.image_load.specs.Loaded.{memory_of}

@@ -8,8 +8,8 @@ use Rattle.std.proofs.lemmas.List.{drop-take, map-append, take-take}
 use Rattle.std.proofs.lemmas.List.Sorted.{list_any-IsPermutation, sum_by-IsPermutation}
 use Rattle.std.proofs.lemmas.List.Sums.{sum_by-cons}
 use Rattle.std.proofs.lemmas.Option.{slice_get-map, slice_get_within}
-use Rattle.subject_model.specs.Alone.{is_granted, is_in, msr_value}
-use Rattle.expand_grants.specs.Resources.{Msr, msrs_of}
+use Rattle.subject_model.specs.Alone.{is_in, msr_value}
+use Rattle.expand_grants.specs.Resources.{Msr, is_granted, msrs_of}
 use Rattle.machine_meaning.specs.Exits.{AreaEntry, area_index, area_value}
 use Rattle.machine_meaning.specs.Memory.{le_number}
 use Rattle.muen_num.proofs.NumbersBelow.{length_numbers, number_at}

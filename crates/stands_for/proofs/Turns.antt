@@ -42,7 +42,7 @@ use Rattle.vmx_machine.specs.declared.control.Control.{Control}
 use Rattle.vmx_machine.specs.declared.cpu.Cpu.{Cpu}
 use Rattle.vmx_machine.specs.declared.cpu.Entered.{Entered}
 use Rattle.kernel_core.specs.Kernel.{Live, acts_on, delivers, end_of as kernel_end_of, entry, event_of, handled, idle as kernel_idle, raised_by as kernel_raised_by, stepped as kernel_stepped, turn_in_slot as kernel_turn_in_slot, turn_of, turn_of_member as kernel_turn_of_member, turn_on, vector_for as kernel_vector_for, switched}
-use Rattle.subject_model.specs.Alone.{Inbox, MsrValues, is_granted, msr_value, alone, end_of, has_trap, injects, own_of, reach_by, solo_turn, state_after, stepped, unless_delivered, vector_for, waits, way_after, way_of, what_of}
+use Rattle.subject_model.specs.Alone.{Inbox, MsrValues, msr_value, alone, end_of, has_trap, injects, own_of, reach_by, solo_turn, state_after, stepped, unless_delivered, vector_for, waits, way_after, way_of, what_of}
 use Rattle.subject_model.specs.System.{System, inbox_of, line_at, named, raised_by, state_of, system_turn, took, turn_answered, turn_from, turn_in_slot, turn_of_member, with_own, with_store}
 use Rattle.stands_for.specs.Ground.{Ground, Joined, name_at, place_in}
 use Rattle.stands_for.specs.Fixed.{IsFixed, Sees}
@@ -51,7 +51,7 @@ use Rattle.stands_for.specs.Stands.{FitsEntered, Running, StandsFor}
 use Rattle.stands_for.proofs.SetLaws.{same_delivered}
 use Rattle.page_parts.proofs.FieldLaws.{length-le_bytes}
 use Rattle.stands_for.proofs.StateLaws.{finished_fits, injected_fits, le_bytes_small, le_number_small}
-use Rattle.expand_grants.specs.Resources.{msrs_of}
+use Rattle.expand_grants.specs.Resources.{is_granted, msrs_of}
 use Rattle.stands_for.proofs.AreaLaws.{value_fits}
 use Rattle.stands_for.proofs.StepLaws.{FitsWorld, IsStored, step_fits, step_msr, step_stored}
 use Rattle.stands_for.proofs.WorldLaws.{worlds_alike}

@@ -12,7 +12,7 @@ use Rattle.muen_num.specs.declared.access.Kind.{Kind}
 use Rattle.muen_num.specs.declared.access.Size.{Size}
 use Rattle.muen_num.specs.declared.limits.TheConstants.{LAST_PORT}
 use Rattle.device_bench.specs.Devices.{value_of_ports}
-use Rattle.expand_grants.specs.Resources.{msrs_of, ports_of}
+use Rattle.expand_grants.specs.Resources.{are_granted, is_granted, msrs_of, ports_of}
 use Rattle.policy_meaning.specs.Thing.{Thing, same_thing}
 use Rattle.policy_meaning.specs.Windows.{Access, byte, violation, access_of, windows_of}
 use Rattle.policy_types.specs.declared.source.Subject.{Subject}
@@ -24,7 +24,7 @@ use Rattle.kernel_core.specs.Kernel.{Live}
 use Rattle.vmx_machine.specs.Machine.{machine_world, msr_exits_in, page_at, ports_exit}
 use Rattle.vmx_machine.specs.declared.control.Control.{Control}
 use Rattle.vmx_machine.specs.declared.cpu.Cpu.{Cpu}
-use Rattle.subject_model.specs.Alone.{Things, alone, are_granted, bytes_in, input_byte, is_granted, own_of, reach_by, thing_in}
+use Rattle.subject_model.specs.Alone.{Things, alone, bytes_in, input_byte, own_of, reach_by, thing_in}
 use Rattle.subject_model.specs.System.{System, inbox_of, is_shown}
 use Rattle.stands_for.specs.Ground.{Ground, Joined, place_in}
 use Rattle.stands_for.specs.Held.{held_by}

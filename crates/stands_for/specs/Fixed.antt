@@ -1,9 +1,8 @@
 -- What holds of a policy and a machine for it as long as both run.
 use Rattle.std.specs.Prelude.{◌≡◌, ◌⊎◌, ℕ, ◌+◌, ◌/◌, ◌%◌, ◌<◌, ◌≤◌, true, false, Bool, List, Some, None, is_some, option_map, slice_get}
 use Rattle.std.specs.List.{All}
-use Rattle.subject_model.specs.Alone.{is_granted}
 use Rattle.subject_model.specs.Clock.{ticks_of_majors}
-use Rattle.expand_grants.specs.Resources.{msrs_of}
+use Rattle.expand_grants.specs.Resources.{is_granted, msrs_of}
 use Rattle.frame_clock.specs.FramePlace.{slot_in, ticks_of_majors as ticks_in_plan}
 use Rattle.frame_clock.specs.declared.place.FramePlace.{FramePlace}
 use Rattle.image_pack.specs.declared.parts.EventPart.{EventPart}

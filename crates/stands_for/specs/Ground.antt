@@ -1,8 +1,8 @@
 -- A policy's system and a machine for it: which number stands for which subject, and which pages for which thing.
 use Rattle.std.specs.Prelude.{◌≡◌, ℕ, ◌+◌, ◌*◌, ◌/◌, ◌%◌, ◌<◌, not, Bool, List, take, drop, Some, is_some, option_map, slice_get, unwrap_or, []}
-use Rattle.subject_model.specs.Alone.{are_granted, has_trap, is_granted, reach_by}
+use Rattle.subject_model.specs.Alone.{has_trap, reach_by}
 use Rattle.subject_model.specs.System.{subject_named}
-use Rattle.expand_grants.specs.Resources.{msrs_of, ports_of}
+use Rattle.expand_grants.specs.Resources.{are_granted, is_granted, msrs_of, ports_of}
 use Rattle.guest_step.specs.Named.{renamed_reach}
 use Rattle.image_pack.specs.declared.parts.EventPart.{EventPart}
 use Rattle.image_pack.specs.declared.parts.SubjectPart.{SubjectPart}

@@ -1,10 +1,10 @@
 -- What a subject has for itself in a machine, wherever it is kept: on its CPU, or on its pages.
 use Rattle.std.specs.Prelude.{◌≡◌, ℕ, ◌^◌, ◌==◌, ◌<◌, Bool, true, false, if◌then◌else◌, List, [], ◌∷◌, length, Option, Some, None, option_map, slice_get, unwrap_or}
 use Rattle.std.specs.List.{All}
-use Rattle.subject_model.specs.Alone.{MsrValues, Things, is_granted, is_in, msr_value, thing_in}
+use Rattle.subject_model.specs.Alone.{MsrValues, Things, is_in, msr_value, thing_in}
 use Rattle.subject_model.specs.System.{Named, named}
 use Rattle.event_router.specs.Vectors.{has}
-use Rattle.expand_grants.specs.Resources.{msrs_of}
+use Rattle.expand_grants.specs.Resources.{is_granted, msrs_of}
 use Rattle.image_pack.specs.declared.parts.SubjectPart.{SubjectPart}
 use Rattle.kernel_core.specs.Kernel.{Live}
 use Rattle.machine_meaning.specs.Exits.{AreaEntry}

@@ -2,6 +2,7 @@
 use Rattle.std.proofs.Common.{◌≡◌, ℕ, ◌+◌, cond, map, Bool, true, false, ◌||◌, List, Option, Some, None, refl, sym, ap, ◌∙◌, subst}
 use Rattle.std.specs.Prelude.{option_map, slice_get}
 use Rattle.std.specs.Str.{bytes_eq}
+use Rattle.expand_grants.specs.Resources.{are_granted, is_granted}
 use Rattle.guest_step.specs.Step.{MsrWrite, Stored, World, step}
 use Rattle.guest_step.specs.declared.reach.Reach.TheVariants.{Reached}
 use Rattle.machine_meaning.specs.Memory.{le_number}
@@ -20,7 +21,7 @@ use Rattle.policy_types.specs.declared.source.Subject.{Subject}
 use Rattle.state_page.specs.StatePage.{page_bytes}
 use Rattle.policy_meaning.specs.Frames.{group_of}
 use Rattle.subject_state.specs.declared.SubjectState.{SubjectState}
-use Rattle.subject_model.specs.Alone.{Inbox, MsrValues, Own, OwnState, TurnAnswer, alone, are_granted, bytes_in, delivered, input_byte, input_of, is_granted, msr_input, reach_by, solo_turn, stepped, thing_in, unless_delivered, vector_for, waits}
+use Rattle.subject_model.specs.Alone.{Inbox, MsrValues, Own, OwnState, TurnAnswer, alone, bytes_in, delivered, input_byte, input_of, msr_input, reach_by, solo_turn, stepped, thing_in, unless_delivered, vector_for, waits}
 use Rattle.subject_model.specs.Laws.{AreOthers, KeepsOthers, StoresElsewhere}
 use Rattle.subject_model.specs.System.{System, answered, happens, happens_as, named, pends_now, raised_by, took, with_active, with_own, with_store, with_write}
 use Rattle.subject_model.proofs.KeyLaws.{names_apart, things_apart, value_changed, value_other}

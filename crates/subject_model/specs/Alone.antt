@@ -1,9 +1,9 @@
 -- A subject alone (this project's own machine; exits and qualifications as in Intel SDM volume 3): what it is given for itself,
 -- what reaches it, and its turn, which sees its own state, these two, and nothing else.
-use Rattle.std.specs.Prelude.{ℕ, zero, suc, ◌+◌, ◌*◌, ◌==◌, ◌&&◌, ◌||◌, Bool, true, false, nat_le, if◌then◌else◌, List, [], map, Option, Some, None}
-use Rattle.std.specs.List.{list_all, list_any}
+use Rattle.std.specs.Prelude.{ℕ, zero, suc, ◌+◌, ◌*◌, ◌==◌, ◌&&◌, ◌||◌, Bool, true, false, if◌then◌else◌, List, [], map, Option, Some, None}
+use Rattle.std.specs.List.{list_any}
 use Rattle.std.specs.Option.{option_map_or}
-use Rattle.expand_grants.specs.Resources.{Msr, msrs_of, ports_of}
+use Rattle.expand_grants.specs.Resources.{Msr, are_granted, is_granted, msrs_of, ports_of}
 use Rattle.guest_step.specs.Finish.{finished, finish_of, injected}
 use Rattle.guest_step.specs.Step.{World, Stored, MsrWrite, Answer, step}
 use Rattle.guest_step.specs.declared.end.StepEnd.{StepEnd}
@@ -14,7 +14,7 @@ use Rattle.machine_meaning.specs.Memory.{le_number}
 use Rattle.muen_num.specs.Access.{kind_bit}
 use Rattle.muen_num.specs.Range.{numbers_below}
 use Rattle.muen_num.specs.declared.access.Kind.{Kind}
-use Rattle.muen_num.specs.declared.limits.TheConstants.{EXIT_EPT_VIOLATION, EXIT_HLT, EXIT_VMCALL, LAST_PORT}
+use Rattle.muen_num.specs.declared.limits.TheConstants.{EXIT_EPT_VIOLATION, EXIT_HLT, EXIT_VMCALL}
 use Rattle.policy_meaning.specs.Events.{traps_of}
 use Rattle.policy_meaning.specs.Thing.{Thing, same_thing}
 use Rattle.policy_meaning.specs.Windows.{Window, Access, byte, violation, access_of, windows_of}
@@ -93,11 +93,6 @@ abbrev pub reach_by : Kind → ℕ → Access Thing → Reach Thing
 reach_by kind addr (byte x offset) = Reached x offset
 reach_by kind addr (violation found) = Refused EXIT_EPT_VIOLATION (kind_bit kind + 8 * found.0) addr
 
--- an access of so many bytes doesn't go past the last port, and each port that it touches is granted
-abbrev pub are_granted : List ℕ → ℕ → ℕ → Bool
-are_granted ports port size =
-    nat_le (port + size) (LAST_PORT + 1) && list_all (λ k. list_any (λ n. n == port + k) ports) (numbers_below size)
-
 abbrev pub input_byte : List (ℕ × ℕ) → ℕ → ℕ
 input_byte ports port = option_map_or (λ b. b) (value_of (λ a b. a == b) ports port) 0
 
@@ -107,10 +102,6 @@ input_of granted ports port size =
     if are_granted granted port size
     then Some (le_number (map (λ k. input_byte ports (port + k)) (numbers_below size)))
     else None
-
--- the MSR is granted for reads, or for writes
-abbrev pub is_granted : List Msr → ℕ → Bool → Bool
-is_granted msrs index write = list_any (λ m. (m.index == index) && (if write then m.write else m.read)) msrs
 
 abbrev pub msr_input : List Msr → MsrValues → ℕ → Option ℕ
 msr_input granted values index = if is_granted granted index false then msr_value values index else None

@@ -89,9 +89,13 @@ is_shown windows x = list_any (λ w. same_thing w.thing x) windows
 abbrev pub pending : Named (List ℕ) → List ℕ → List ℕ
 pending sets name = unwrap_or (named sets name) []
 
+-- all that its windows show
+abbrev pub shown_to : Source → Subject → System → Things
+shown_to p s y = filter (λ e. is_shown (windows_of p s) e.0) y.things
+
 unfoldable pub inbox_of : Source → System → Subject → Bool → ℕ → Inbox
 inbox_of p y s first tick = record {
-  things = filter (λ e. is_shown (windows_of p s) e.0) y.things;
+  things = shown_to p s y;
   ports = map (λ n. (n, slice_index_or y.ports n 0)) (ports_of p s);
   now = pending y.now s.name;
   later = pending y.later s.name;

@@ -6,6 +6,7 @@
 #![tactic(auto)]
 
 ghost use Rattle.std.specs.Prelude.{◌≡◌, ℕ, Bool, List, Some, None, true, slice_get};
+ghost use Rattle.expand_grants.specs.Resources.{are_granted};
 ghost use Rattle.frame_clock.specs.FramePlace.{slot_in};
 ghost use Rattle.guest_step.specs.Step.{MsrWrite};
 ghost use Rattle.guest_step.specs.declared.reach.Reach.TheVariants.{Reached};
@@ -22,7 +23,7 @@ ghost use Rattle.policy_types.specs.declared.source.Subject.{Subject};
 ghost use Rattle.state_page.specs.StatePage.{page_bytes};
 ghost use Rattle.policy_meaning.specs.Frames.{group_of};
 ghost use Rattle.subject_state.specs.declared.SubjectState.{SubjectState};
-ghost use Rattle.subject_model.specs.Alone.{Inbox, MsrValues, Own, OwnState, TurnAnswer, alone, are_granted, bytes_in, solo_turn, thing_in, vector_for, waits};
+ghost use Rattle.subject_model.specs.Alone.{Inbox, MsrValues, Own, OwnState, TurnAnswer, alone, bytes_in, solo_turn, thing_in, vector_for, waits};
 ghost use Rattle.subject_model.specs.Laws.{AreFrames, AreOthers, IsTurnOf, KeepsOthers, StoresElsewhere, place_after, with_page};
 ghost use Rattle.subject_model.specs.System.{System, answered, happens_as, inbox_of, named, raised_by, system_turn, with_own, with_write};
 
