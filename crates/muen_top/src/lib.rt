@@ -34,13 +34,13 @@ use std::alloc::Global;
 ///
 /// `build POLICY IMAGE` reads a policy and the files that it names, and writes an image that is
 /// sound for them under the name IMAGE, in one call of `files` and only where everything before was
-/// accepted. `boot POLICY RECORD` reads a policy and the files that it names, and a device record, makes
-/// the same image in memory, runs it on the record, and puts the text of the run to `out`. `run IMAGE
-/// RECORD` reads an image and a device record for it, runs the image on the record, and puts the text of
-/// that run to `out`. `map POLICY` puts where
-/// the policy's regions lie and what each subject sees, `flows POLICY` on whom each subject can depend;
-/// neither reads a component file. No other command is built. On every status but 0 one line that begins
-/// with `muen: ` is put to `err`; a fault of `err` changes no status.
+/// accepted. `boot POLICY RECORD` reads a policy and the files that it names, and a device record,
+/// makes the same image in memory, runs it on the record, and puts the text of the run to `out`. `run
+/// IMAGE RECORD` reads an image and a device record for it, runs the image on the record, and puts the
+/// text of that run to `out`. `map POLICY` puts where the policy's regions lie and what each subject
+/// sees, `flows POLICY` on whom each subject can depend; neither reads a component file. No other
+/// command is built. On every status but 0 one line that begins with `muen: ` is put to `err`; a fault
+/// of `err` changes no status.
 ///
 /// | Status | Comes | Line |
 /// |---|---|---|
