@@ -1,66 +1,109 @@
 //! Images that are spelled here byte by byte, and what unpacking says of them and of damaged ones.
-use crate::{Image, Parts, pack, unpack};
+use crate::{EventPart, Image, IrqTarget, Parts, PortSpan, pack, unpack};
+use muen_num::Mode;
 use std::alloc::Global;
 use std::test::Fail;
 
 mod faults;
-mod gateway;
 mod spelled;
 
-use spelled::{adler32, chosen, plain};
+use spelled::{CHOSEN, PLAIN, adler32, spelled};
+
+// What unpacking bytes answers, as a text: `image`, or the fault.
+fn answer(alloc: Global, bytes: &[u8]) -> Result<String, Fail> {
+    match unpack(alloc, bytes) {
+        Ok(_) => Ok(String::from_str(alloc, "image")?),
+        Err(fault) => Ok(fault.to_string(alloc)?),
+    }
+}
 
 fn is_packed_as(alloc: Global, parts: &Parts, bytes: &[u8]) -> Result<bool, Fail> {
     let again = pack(alloc, parts)?;
     Ok(again.as_slice() == bytes)
 }
 
-fn is_packed_again(alloc: Global, bytes: &[u8]) -> Result<bool, Fail> {
-    match unpack(alloc, bytes) {
-        Ok(parts) => is_packed_as(alloc, &parts, bytes),
-        Err(_) => Ok(false),
-    }
-}
-
 #[test]
 fn there_and_back(rt: HostRuntime) -> Result<(), Fail> {
     let alloc = rt.alloc();
-    let bytes = plain(alloc)?;
+    let bytes = spelled(alloc, PLAIN)?;
     assert_eq!(rt; bytes.len(), 42_576);
     // that of the bytes that `share/spell_image.py` spells of `examples/one_subject.json`
     assert_eq!(rt; adler32(&bytes), 0x8EB4_E317);
-    assert_eq!(rt; is_packed_again(alloc, &bytes)?, true);
-    let bytes = chosen(alloc)?;
-    assert_eq!(rt; is_packed_again(alloc, &bytes)?, true);
+    match unpack(alloc, &bytes) {
+        Ok(parts) => assert!(rt; is_packed_as(alloc, &parts, &bytes)?),
+        Err(fault) => assert!(rt; false, "{fault}"),
+    }
     Ok(())
 }
 
-// What the second system's devices and calls are.
-fn has_its_devices(image: &Image) -> Option<bool> {
-    let device = image.devices.items().get(0)?;
-    let nobody = device.irqs.items().get(1)?;
-    Some(device.name.as_str() == "card" && nobody.target.is_none())
+fn event(mode: Mode, target: u8, vector: Option<u8>) -> Option<EventPart> {
+    Some(EventPart {
+        mode,
+        target,
+        vector,
+    })
 }
 
 fn has_its_calls(image: &Image) -> Option<bool> {
     let subject = image.subjects.items().get(0)?;
-    let call = subject.calls.items().get(3)?;
-    Some(call.map(|event| event.vector) == Some(None))
+    let calls = [
+        event(Mode::Asap, 0, Some(32)),
+        event(Mode::Async, 0, Some(255)),
+        event(Mode::Own, 1, Some(40)),
+        event(Mode::Switch, 0, None),
+        event(Mode::Switch, 1, Some(33)),
+        None,
+    ];
+    Some(subject.calls.items().starts_with(&calls))
+}
+
+fn has_its_subjects(image: &Image) -> Option<bool> {
+    let subject = image.subjects.items().get(1)?;
+    let place = (subject.cpu, subject.group, subject.msrs);
+    Some(place == (1, 1, 64) && subject.name.as_str() == "t.-_9")
+}
+
+fn has_its_device(image: &Image) -> Option<bool> {
+    let device = image.devices.items().get(0)?;
+    let ports = device.ports.items().get(0)?;
+    let irq = device.irqs.items().get(0)?;
+    let nobody = device.irqs.items().get(1)?;
+    let target = IrqTarget {
+        subject: 0,
+        vector: 43,
+    };
+    let range = PortSpan {
+        start: 768,
+        end: 783,
+    };
+    let has_irqs = irq.target == Some(target) && nobody.target.is_none();
+    Some(device.name.as_str() == "card" && *ports == range && irq.name.as_str() == "rx" && has_irqs)
+}
+
+// The minor frames of CPU 0 in the first major frame: twice group 0.
+fn has_its_frames(image: &Image) -> Option<bool> {
+    let major = image.plan.majors.items().get(0)?;
+    let minors = major.cpus.items().get(0)?;
+    let ticks = [(0u8, 2u32), (0, 3)];
+    let mut pairs = minors.items().iter().zip(ticks);
+    let as_told = pairs.all(|(minor, frame)| (minor.group, minor.ticks) == frame);
+    Some(major.ticks == 5 && minors.len() == 2 && as_told)
 }
 
 #[test]
 fn parts_of_an_image(rt: HostRuntime) -> Result<(), Fail> {
-    let bytes = chosen(rt.alloc())?;
-    let seen = match unpack(rt.alloc(), &bytes) {
+    let bytes = spelled(rt.alloc(), CHOSEN)?;
+    match unpack(rt.alloc(), &bytes) {
         Ok(parts) => {
             let image = parts.image();
-            (
-                image.header.tau0,
-                has_its_devices(image),
-                has_its_calls(image),
-            )
+            assert_eq!(rt; image.header.tau0, Some(4));
+            assert_eq!(rt; has_its_calls(image), Some(true));
+            assert_eq!(rt; has_its_subjects(image), Some(true));
+            assert_eq!(rt; has_its_device(image), Some(true));
+            assert_eq!(rt; has_its_frames(image), Some(true));
+            assert!(rt; is_packed_as(rt.alloc(), &parts, &bytes)?);
         }
-        Err(_) => (None, None, None),
-    };
-    assert_eq!(rt; seen, (Some(4), Some(true), Some(true)));
+        Err(fault) => assert!(rt; false, "{fault}"),
+    }
     Ok(())
 }
