@@ -47,6 +47,3 @@ fn in_frames(frames: &[Minor], major: usize, tick: u32) -> Option<FrameSlot>
     }
     None
 }
-
-#[cfg(test)]
-mod tests;

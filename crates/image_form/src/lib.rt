@@ -5,8 +5,6 @@
 
 pub mod fault;
 pub mod reading;
-#[cfg(test)]
-mod tests;
 pub mod writing;
 
 pub use fault::{Field, Halt, ImageFault, Stop, fault_of};

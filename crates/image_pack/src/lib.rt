@@ -21,6 +21,3 @@ pub use parts::{
     DevicePart, EventPart, Image, IrqPart, IrqTarget, PortSpan, SpanKind, SpanPart, SubjectPart,
     WindowPart,
 };
-
-#[cfg(test)]
-mod tests;

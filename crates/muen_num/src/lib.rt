@@ -19,6 +19,3 @@ pub use pieces::Pieces;
 pub use searches::{first, first_numbered, first_pair};
 pub use seq::{NoMemory, Seq};
 pub use tag::{Part, Tag};
-
-#[cfg(test)]
-mod tests;

@@ -10,8 +10,6 @@ mod mem_files;
 mod mem_sink;
 mod pieces;
 mod sink;
-#[cfg(test)]
-mod tests;
 mod writer_sink;
 
 pub use buffer::Buffer;

@@ -7,6 +7,3 @@ mod overlap;
 
 pub use inside::count_inside;
 pub use overlap::{first_fault, first_overlap};
-
-#[cfg(test)]
-mod tests;

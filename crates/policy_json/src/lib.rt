@@ -42,6 +42,3 @@ pub fn read(alloc: Global, bytes: &[u8]) -> Result<Source, Refusal>
         Err(ReadEnd::NoMemory) => Err(Refusal::NoMemory),
     }
 }
-
-#[cfg(test)]
-mod tests;

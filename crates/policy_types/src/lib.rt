@@ -12,6 +12,3 @@ pub use refusal::{Fault, Place, Refusal, Want};
 pub use resources::{MsrGrant, PortRange};
 pub use rights::{Caching, MsrRights, Rights, Role};
 pub use source::Source;
-
-#[cfg(test)]
-mod tests;

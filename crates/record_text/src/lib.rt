@@ -17,6 +17,3 @@ pub use devices::{DevicePlaces, Devices, IrqPlace, IrqTarget, MemoryPlace, PortS
 pub use fault::{LineWant, RecordFault};
 pub use reading::read;
 pub use record::{INPUT_MOST, Input, Record, TickInput, TickOrder};
-
-#[cfg(test)]
-mod tests;

@@ -1,8 +1,8 @@
 //! The calls that take memory, with ample of it.
 ghost use Rattle.std.specs.Prelude.{◌≡◌};
 
-use crate::{first_fault, first_overlap};
 use muen_num::Name;
+use policy_extents::{first_fault, first_overlap};
 use policy_lawful::{Extent, Offence};
 use std::test::Fail;
 

@@ -1,6 +1,6 @@
 //! The rights against the bits of an EPT entry.
-use crate::Rights;
 use bitflags::Flags;
+use policy_types::Rights;
 
 #[test]
 fn has_the_bits_of_an_ept_entry(rt: HostRuntime) {

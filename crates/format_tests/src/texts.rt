@@ -1,9 +1,9 @@
 //! Names, tags, numbers and a list, as they are printed.
-use crate::text::{
+use muen_num::text::{
     append, append_decimal, append_decimal8, append_decimal32, append_hex4, append_hex8,
     append_hex16, append_hex32,
 };
-use crate::{Name, Part, Seq, Tag, first_pair};
+use muen_num::{Name, Part, Seq, Tag, first_pair};
 use std::test::Fail;
 
 // Each row is a text, and that of the name that it is, or `none`.

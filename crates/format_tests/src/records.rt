@@ -1,6 +1,6 @@
 //! Records with their faults, and with their values.
-use crate::{DevicePlaces, Devices, IrqPlace, IrqTarget, MemoryPlace, PortSpan, read};
 use muen_num::{Name, Seq};
+use record_text::{DevicePlaces, Devices, IrqPlace, IrqTarget, MemoryPlace, PortSpan, read};
 use std::alloc::Global;
 use std::test::Fail;
 

@@ -1,5 +1,5 @@
 //! Two CPUs over three rounds of a plan, against slots that were worked out by hand.
-use crate::{FramePlace, FrameSlot, advance, slot};
+use frame_clock::{FramePlace, FrameSlot, advance, slot};
 use image_plan::{GroupPart, Major, Minor, Plan};
 use muen_num::Seq;
 use std::alloc::{AllocError, Global};

@@ -1,7 +1,7 @@
 //! Each reader of a field on bytes made by hand, and the printed texts.
-use crate::fault::{Field, Halt, ImageFault, Stop};
-use crate::reading::{byte_of, bytes_upto, gap_of, name_of, tag_of, u16_of, u32_of, u64_of};
-use crate::writing::put_name;
+use image_form::fault::{Field, Halt, ImageFault, Stop};
+use image_form::reading::{byte_of, bytes_upto, gap_of, name_of, tag_of, u16_of, u32_of, u64_of};
+use image_form::writing::put_name;
 use std::test::Fail;
 
 fn short(left: usize) -> Halt {

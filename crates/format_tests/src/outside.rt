@@ -1,9 +1,9 @@
 //! Runs of the traits' four implementations.
-use crate::{
+use muen_num::Seq;
+use muen_outside::{
     Buffer, FileEnd, Files, FolderFiles, Found, MemFiles, MemSink, Sink, SinkFault, WriterSink,
     put_pieces,
 };
-use muen_num::Seq;
 use std::alloc::Global;
 use std::fs;
 use std::test::Fail;

@@ -1,5 +1,5 @@
 //! Images that are spelled here byte by byte, and what unpacking says of them and of damaged ones.
-use crate::{EventPart, Image, IrqTarget, Parts, PortSpan, pack, unpack};
+use image_pack::{EventPart, Image, IrqTarget, Parts, PortSpan, pack, unpack};
 use muen_num::Mode;
 use std::alloc::Global;
 use std::test::Fail;

@@ -1,5 +1,5 @@
 //! Documents, with the text of the first place that breaks the schema, or with none.
-use crate::read;
+use policy_json::read;
 use policy_types::Refusal;
 use std::test::Fail;
 
