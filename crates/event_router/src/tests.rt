@@ -47,18 +47,14 @@ fn event(mode: Mode, target: u8, vector: Option<u8>) -> EventPart {
 fn greatest_vector_first(rt: HostRuntime) -> Result<(), Fail> {
     let mut router = router(rt.alloc())?;
     router.raise_irq(1, 40);
-    router.raise(&event(Mode::Asap, 1, Some(200)));
     router.raise(&event(Mode::Own, 1, Some(200)));
     router.raise(&event(Mode::Async, 1, Some(255)));
-    router.raise(&event(Mode::Asap, 0, Some(32)));
     assert!(rt; router.pending(1, 255));
-    assert!(rt; !router.pending(1, 32));
     assert_eq!(rt; router.deliver(1, false), Some(200));
     assert_eq!(rt; router.deliver(1, true), Some(255));
     assert_eq!(rt; router.deliver(1, true), Some(40));
     assert_eq!(rt; router.deliver(1, true), None);
     assert!(rt; !router.pending(1, 200));
-    assert_eq!(rt; router.deliver(0, false), Some(32));
     assert_eq!(rt; router.deliver(9, true), None);
     Ok(())
 }
@@ -66,17 +62,16 @@ fn greatest_vector_first(rt: HostRuntime) -> Result<(), Fail> {
 #[test]
 fn handovers(rt: HostRuntime) -> Result<(), Fail> {
     let mut router = router(rt.alloc())?;
+    router.raise(&event(Mode::Switch, 2, None));
     assert_eq!(rt;
         (router.active(0), router.active(1), router.active(2)),
-        (Some(0), Some(1), None)
+        (Some(2), Some(1), None)
     );
-    router.raise(&event(Mode::Switch, 2, None));
-    assert_eq!(rt; (router.active(0), router.active(1)), (Some(2), Some(1)));
-    assert_eq!(rt; router.deliver(2, true), None);
     router.raise(&event(Mode::Switch, 0, Some(33)));
     assert_eq!(rt; router.active(0), Some(0));
     assert_eq!(rt; router.deliver(0, false), Some(33));
-    router.raise(&event(Mode::Asap, 1, Some(40)));
-    assert_eq!(rt; (router.active(0), router.active(1)), (Some(0), Some(1)));
+    router.raise(&event(Mode::Asap, 2, Some(40)));
+    assert!(rt; router.pending(2, 40));
+    assert_eq!(rt; router.active(0), Some(0));
     Ok(())
 }

@@ -4,7 +4,6 @@ ghost use Rattle.std.specs.Prelude.{◌≡◌};
 
 use crate::frames::major_parts;
 use crate::groups::group_parts;
-use image_plan::{GroupPart, Minor};
 use muen_num::{Name, Seq};
 use policy_lawful::resolved::{CpuFrames, Group, MajorFrame, MinorFrame};
 use std::test::Fail;
@@ -27,12 +26,9 @@ fn groups_by_number(rt: HostRuntime) -> Result<(), Fail> {
             subjects: Seq::of(vec![in alloc; 1usize]?),
         },
     ];
-    let parts = group_parts(alloc, &groups)?;
-    let expected = [
-        GroupPart { cpu: 1, first: 2 },
-        GroupPart { cpu: 0, first: 1 },
-    ];
-    assert_eq!(rt; parts.items(), expected.as_slice());
+    let parts = format!(in alloc; "{:?}", group_parts(alloc, &groups)?.items())?;
+    let expected = "[GroupPart { cpu: 1, first: 2 }, GroupPart { cpu: 0, first: 1 }]";
+    assert_eq!(rt; parts.as_str(), expected);
     Ok(())
 }
 
@@ -59,10 +55,6 @@ fn major(entries: Vec<CpuFrames>) -> MajorFrame
     }
 }
 
-fn minor(group: u8, ticks: u32) -> Minor {
-    Minor { group, ticks }
-}
-
 #[test]
 fn frames_by_cpu(rt: HostRuntime) -> Result<(), Fail> {
     let alloc = rt.alloc();
@@ -74,18 +66,9 @@ fn frames_by_cpu(rt: HostRuntime) -> Result<(), Fail> {
         major(vec![in alloc; split, whole]?),
         major(vec![in alloc; short, other]?),
     ];
-    let parts = major_parts(alloc, 2, &frames)?;
-    let expected: [(u32, &[Minor], &[Minor]); 2] = [
-        (100, &[minor(1, 100)], &[minor(0, 30), minor(2, 70)]),
-        (5, &[minor(1, 5)], &[minor(2, 5)]),
-    ];
-    assert_eq!(rt; parts.len(), expected.len());
-    for (part, (ticks, first, second)) in parts.items().iter().zip(expected) {
-        assert_eq!(rt; part.ticks, ticks);
-        assert_eq!(rt; part.cpus.len(), 2);
-        for (cpu, minors) in part.cpus.items().iter().zip([first, second]) {
-            assert_eq!(rt; cpu.items(), minors);
-        }
-    }
+    let parts = format!(in alloc; "{:?}", major_parts(alloc, 2, &frames)?.items())?;
+    let expected =
+        "[Major { ticks: 100, cpus: Seq { vec: [Seq { vec: [Minor { group: 1, ticks: 100 }] }, Seq { vec: [Minor { group: 0, ticks: 30 }, Minor { group: 2, ticks: 70 }] }] } }, Major { ticks: 5, cpus: Seq { vec: [Seq { vec: [Minor { group: 1, ticks: 5 }] }, Seq { vec: [Minor { group: 2, ticks: 5 }] }] } }]";
+    assert_eq!(rt; parts.as_str(), expected);
     Ok(())
 }

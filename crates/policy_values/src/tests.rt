@@ -14,39 +14,43 @@ fn value(alloc: Global, text: &str) -> Result<Value, Fail> {
     }
 }
 
+// Each row is a JSON text, and the number that it is, or `none`.
+const NUMBERS: &str = r##"0=>0
+18446744073709551615=>18446744073709551615
+"16#0010_0000#"=>1048576
+"16#ff#"=>255
+"16#FF#"=>255
+"16#0_0#"=>0
+"16#0000_ffff_ffff_ffff_ffff#"=>18446744073709551615
+18446744073709551616=>none
+-1=>none
+1.0=>none
+1e3=>none
+true=>none
+[1]=>none
+"1"=>none
+"16#10__0#"=>none
+"16#_1#"=>none
+"16#1_#"=>none
+"16##"=>none
+"16#g#"=>none
+"16#1"=>none
+"16#1##"=>none
+"16#10000000000000000#"=>none
+"0x10"=>none"##;
+
 #[test]
 fn numbers(rt: HostRuntime) -> Result<(), Fail> {
-    let cases = [
-        ("0", Some(0)),
-        ("18446744073709551615", Some(18446744073709551615)),
-        ("\"16#0010_0000#\"", Some(1048576)),
-        ("\"16#ff#\"", Some(255)),
-        ("\"16#FF#\"", Some(255)),
-        ("\"16#0_0#\"", Some(0)),
-        (
-            "\"16#0000_ffff_ffff_ffff_ffff#\"",
-            Some(18446744073709551615),
-        ),
-        ("18446744073709551616", None),
-        ("-1", None),
-        ("1.0", None),
-        ("1e3", None),
-        ("true", None),
-        ("[1]", None),
-        ("\"1\"", None),
-        ("\"16#10__0#\"", None),
-        ("\"16#_1#\"", None),
-        ("\"16#1_#\"", None),
-        ("\"16##\"", None),
-        ("\"16#g#\"", None),
-        ("\"16#1\"", None),
-        ("\"16#1##\"", None),
-        ("\"16#10000000000000000#\"", None),
-        ("\"0x10\"", None),
-    ];
-    for (text, wanted) in cases {
-        let found = value(rt.alloc(), text)?;
-        assert_eq!(rt; number_of(&found), wanted, "{text}");
+    let alloc = rt.alloc();
+    for row in NUMBERS.split('\n') {
+        let Some((text, want)) = row.split_once("=>") else {
+            return Err(Fail::new("no row"));
+        };
+        let found = match number_of(&value(alloc, text)?) {
+            Some(number) => number.to_string(alloc)?,
+            None => String::from_str(alloc, "none")?,
+        };
+        assert_eq!(rt; found.as_str(), want, "{text}");
     }
     Ok(())
 }
