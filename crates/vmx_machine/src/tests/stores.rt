@@ -1,7 +1,10 @@
 //! What a subject stores counts from its next access on.
 ghost use Rattle.std.specs.Prelude.{◌≡◌, length, IfOk};
 
-use super::world::{AREA, CODE, CONTROL, DEVICE, MSR, OTHER, STATE, Start, bench, machine, word};
+use super::world::{
+    AREA, CODE, CONTROL, DEVICE, MSR, OTHER, PC, STATE, Start, bench, exit, machine, set_register,
+    subject_at, word,
+};
 use crate::Machine;
 use ept_walk::PlainWalk;
 use guest_step::{Finish, StepEnd};
@@ -10,102 +13,49 @@ use phys_mem::{PhysMem, RegionMem};
 use std::alloc::Global;
 use std::test::Fail;
 
-/// The start of the code.
-const PC: u64 = 0x40_0000;
-
-/// The second instruction of a subject whose first stores the byte of register 2 where register 1
-/// says, and how it ends.
-#[derive(Clone, Copy, Debug)]
-struct Case {
+// A machine of which the subject has stored a byte, and is at its next instruction.
+fn after_store(
+    alloc: Global,
     at: u64,
     value: u64,
     next: u64,
-    end: StepEnd,
-}
-
-// A machine of which the subject has stored, and is at its next instruction.
-fn after_store(alloc: Global, case: Case) -> Result<Machine<RegionMem, PlainWalk>, Fail>
+) -> Result<Machine<RegionMem, PlainWalk>, Fail>
     ensures { IfOk result (λ m. length m.cpus ≡ 1) }
 {
     let start = Start {
         pc: PC,
         word: word(0x0c, 0x21, 0, 0),
-        r1: case.at,
-        r2: case.value,
+        r1: at,
+        r2: value,
     };
     let mut machine = machine(alloc, start)?;
-    machine.device_write(CODE + 8, &case.next.to_le_bytes());
+    machine.device_write(CODE + 8, &next.to_le_bytes());
     machine.step(0, 7, &bench(alloc)?);
     Ok(machine)
-}
-
-fn exit(reason: u8, qualification: u64, addr: u64) -> StepEnd {
-    StepEnd::Exit {
-        reason,
-        qualification,
-        addr,
-        call: 0,
-    }
 }
 
 #[test]
 fn tables_and_bitmaps(rt: HostRuntime) -> Result<(), Fail> {
     let bench = bench(rt.alloc())?;
+    let load = word(0x0b, 0x30, 0, 0x40_1000);
+    // where which byte is stored, the next instruction, and how it ends
     let cases = [
         // the entry of the data page is no longer present, and then is a misconfiguration
-        Case {
-            at: 0x40_2008,
-            value: 0,
-            next: word(0x0b, 0x30, 0, 0x40_1000),
-            end: exit(48, 1, 0x40_1000),
-        },
-        Case {
-            at: 0x40_2008,
-            value: 0x32,
-            next: word(0x0b, 0x30, 0, 0x40_1000),
-            end: exit(49, 0, 0x40_1000),
-        },
+        (0x40_2008, 0, load, exit(48, 1, 0x40_1000)),
+        (0x40_2008, 0x32, load, exit(49, 0, 0x40_1000)),
         // the entry of the code itself
-        Case {
-            at: 0x40_2000,
-            value: 0x31,
-            next: 0,
-            end: exit(48, 0xc, 0x40_0008),
-        },
+        (0x40_2000, 0x31, 0, exit(48, 0xc, 0x40_0008)),
         // port 3F8H isn't granted any more, and port 3F0H is
-        Case {
-            at: 0x40_307f,
-            value: 1,
-            next: word(0x11, 0x30, 0, 0x3f8),
-            end: exit(30, 0x3f8_0008, 0),
-        },
-        Case {
-            at: 0x40_307e,
-            value: 0,
-            next: word(0x11, 0x30, 0, 0x3f0),
-            end: StepEnd::Set { reg: 3, value: 0 },
-        },
+        (0x40_307f, 1, 0x3f8_0000_3011, exit(30, 0x3f8_0008, 0)),
+        (0x40_307e, 0, 0x3f0_0000_3011, set_register(3, 0)),
         // MSR 0 may be read now
-        Case {
-            at: 0x40_4000,
-            value: 0xfe,
-            next: word(0x13, 0x30, 0, 0),
-            end: StepEnd::Set { reg: 3, value: 0 },
-        },
+        (0x40_4000, 0xfe, 0x3013, set_register(3, 0)),
         // what was stored is loaded
-        Case {
-            at: 0x40_1000,
-            value: 0x17,
-            next: word(0x0b, 0x30, 0, 0x40_1000),
-            end: StepEnd::Set {
-                reg: 3,
-                value: 0x17,
-            },
-        },
+        (0x40_1000, 0x17, load, set_register(3, 0x17)),
     ];
-    for case in cases {
-        let mut machine = after_store(rt.alloc(), case)?;
-        assert_eq!(rt; machine.step(0, 7, &bench), case.end, "{case:?}");
+    for (at, value, next, end) in cases {
+        let mut machine = after_store(rt.alloc(), at, value, next)?;
+        assert_eq!(rt; machine.step(0, 7, &bench), end, "{at:x} {value:x}");
     }
     Ok(())
 }
@@ -117,13 +67,7 @@ const ENTRIES: [(u64, u64, u64); 3] = [(0, 0x82, 5), (0, 0x83, 0), (3, 0x40, 5)]
 #[test]
 fn area_by_the_index_on_leaving(rt: HostRuntime) -> Result<(), Fail> {
     for (offset, value, saved) in ENTRIES {
-        let case = Case {
-            at: 0x40_5000 + offset,
-            value,
-            next: 0,
-            end: StepEnd::Plain,
-        };
-        let mut machine = after_store(rt.alloc(), case)?;
+        let mut machine = after_store(rt.alloc(), 0x40_5000 + offset, value, 0)?;
         machine.leave(0);
         assert_eq!(rt;
             machine.mem().load(AREA + 8, Size::Eight),
@@ -167,13 +111,7 @@ fn msrs_of_two_on_one_cpu(rt: HostRuntime) -> Result<(), Fail> {
 
 #[test]
 fn state_page_of_who_left(rt: HostRuntime) -> Result<(), Fail> {
-    let start = Start {
-        pc: PC,
-        word: word(0x17, 0, 0, 0),
-        r1: 3,
-        r2: 4,
-    };
-    let mut machine = machine(rt.alloc(), start)?;
+    let mut machine = machine(rt.alloc(), subject_at(PC, 0x17, 3))?;
     machine.device_write(STATE + 200, &[1]);
     machine.step(0, 7, &bench(rt.alloc())?);
     machine.finish(0, Finish::Halt);
@@ -196,13 +134,7 @@ fn state_page_of_who_left(rt: HostRuntime) -> Result<(), Fail> {
 
 #[test]
 fn bytes_of_a_device(rt: HostRuntime) -> Result<(), Fail> {
-    let start = Start {
-        pc: PC,
-        word: 0,
-        r1: 0,
-        r2: 0,
-    };
-    let mut machine = machine(rt.alloc(), start)?;
+    let mut machine = machine(rt.alloc(), subject_at(PC, 0, 0))?;
     machine.device_write(DEVICE + 0xffe, &[1, 2, 3, 4]);
     machine.device_write(DEVICE - 1, &[5, 6]);
     machine.device_write(DEVICE + 9, &[]);

@@ -6,25 +6,22 @@ ghost use Rattle.std.specs.Prelude.{◌≡◌, ◌<◌, ◌^◌, length, IfOk};
 use crate::{Control, Machine};
 use device_bench::Bench;
 use ept_walk::PlainWalk;
+use guest_step::StepEnd;
 use muen_num::{Seq, Size};
 use phys_mem::{PhysMem, RegionMem, SpanPartBytes};
 use record_text::Record;
 use std::alloc::Global;
 use std::test::Fail;
 
-pub(super) const PAGE_TABLE: u64 = 0x10_3000;
-
 pub(super) const CODE: u64 = 0x10_4000;
-
-pub(super) const DATA: u64 = 0x10_5000;
 
 pub(super) const STATE: u64 = 0x10_6000;
 
 const OTHER_STATE: u64 = 0x10_b000;
 
-pub(super) const BITMAP_A: u64 = 0x10_7000;
+const BITMAP_A: u64 = 0x10_7000;
 
-pub(super) const MSR_BITMAP: u64 = 0x10_9000;
+const MSR_BITMAP: u64 = 0x10_9000;
 
 pub(super) const AREA: u64 = 0x10_a000;
 
@@ -52,21 +49,33 @@ pub(super) const OTHER: Control = Control {
     msrs: 1,
 };
 
+/// The start of the code, as the subjects see it.
+pub(super) const PC: u64 = 0x40_0000;
+
 /// The MSR that the subjects may read and write.
 pub(super) const MSR: u64 = 0xC000_0082;
 
-/// The entries of the page table: the guest page at 400000H is the code, and behind it are the data,
-/// the page table itself, bitmap A, the MSR bitmap, the area, a page that isn't there, and a page
-/// that may only be read.
-const PAGES: [u64; 8] = [
-    0x10_4035,
-    0x10_5033,
-    0x10_3033,
-    0x10_7033,
-    0x10_9033,
-    0x10_a033,
-    0x8000_1037,
-    0x10_5031,
+/// Words of memory. The guest page at 400000H is the code, and behind it are the data, the page table
+/// itself, bitmap A, the MSR bitmap, the area, a page that isn't there, and a page that may only be
+/// read. The ports 3F8H to 3FFH are granted, and the MSR.
+const WORDS: [(u64, u64); 17] = [
+    (0x10_0000, 0x10_1007),
+    (0x10_1000, 0x10_2007),
+    (0x10_2010, 0x10_3007),
+    (0x10_3000, 0x10_4035),
+    (0x10_3008, 0x10_5033),
+    (0x10_3010, 0x10_3033),
+    (0x10_3018, 0x10_7033),
+    (0x10_3020, 0x10_9033),
+    (0x10_3028, 0x10_a033),
+    (0x10_3030, 0x8000_1037),
+    (0x10_3038, 0x10_5031),
+    (BITMAP_A + 0x78, 0x00ff_ffff_ffff_ffff),
+    (MSR_BITMAP + 1040, 0xffff_ffff_ffff_fffb),
+    (MSR_BITMAP + 3088, 0xffff_ffff_ffff_fffb),
+    (AREA, MSR),
+    (AREA + 8, 5),
+    (OTHER_AREA, MSR),
 ];
 
 /// A subject at an instruction, and two of its registers.
@@ -77,6 +86,16 @@ pub(super) struct Start {
     pub word: u64,
     pub r1: u64,
     pub r2: u64,
+}
+
+/// A subject with 7 in register 2.
+pub(super) fn subject_at(pc: u64, word: u64, r1: u64) -> Start {
+    Start {
+        pc,
+        word,
+        r1,
+        r2: 7,
+    }
 }
 
 fn memory(alloc: Global) -> Result<RegionMem, Fail> {
@@ -92,33 +111,23 @@ fn memory(alloc: Global) -> Result<RegionMem, Fail> {
     Ok(RegionMem::start(alloc, spans)?)
 }
 
-// The word at a place that is a multiple of eight.
-fn set<M: PhysMem>(mem: &mut M, at: u64, word: u64)
-    requires { at < 2 ^ 48 }
-{
-    mem.store(at - at % 8, Size::Eight, word);
+// The word at a place below 2^48 that is a multiple of eight.
+fn set<M: PhysMem>(mem: &mut M, at: u64, word: u64) {
+    let place = at % (1 << 48);
+    mem.store(place - place % 8, Size::Eight, word);
 }
 
-fn set_tables<M: PhysMem>(mem: &mut M) {
-    set(mem, 0x10_0000, 0x10_1007);
-    set(mem, 0x10_1000, 0x10_2007);
-    set(mem, 0x10_2010, 0x10_3007);
-    for (i, entry) in PAGES.iter().enumerate() {
-        set(mem, PAGE_TABLE + 8 * i as u64, *entry);
-    }
-}
-
-// The ports 3F8H to 3FFH are granted, and the MSR.
+// All bits of the bitmaps.
 fn set_bitmaps<M: PhysMem>(mem: &mut M) {
     for i in 0..0x600u64 {
         set(mem, BITMAP_A + 8 * i, u64::MAX);
     }
-    mem.store(BITMAP_A + 0x7f, Size::One, 0);
-    mem.store(MSR_BITMAP + 1040, Size::One, 0xfb);
-    mem.store(MSR_BITMAP + 3088, Size::One, 0xfb);
-    set(mem, AREA, MSR);
-    set(mem, AREA + 8, 5);
-    set(mem, OTHER_AREA, MSR);
+}
+
+fn set_words<M: PhysMem>(mem: &mut M) {
+    for (at, word) in WORDS {
+        set(mem, at, word);
+    }
 }
 
 fn set_state<M: PhysMem>(mem: &mut M, state: u64, start: Start)
@@ -135,8 +144,8 @@ pub(super) fn machine(alloc: Global, start: Start) -> Result<Machine<RegionMem, 
     ensures { IfOk result (λ m. length m.cpus ≡ 1) }
 {
     let mut mem = memory(alloc)?;
-    set_tables(&mut mem);
     set_bitmaps(&mut mem);
+    set_words(&mut mem);
     set(&mut mem, CODE, start.word);
     set_state(&mut mem, STATE, start);
     set_state(&mut mem, OTHER_STATE, start);
@@ -163,4 +172,17 @@ pub(super) fn bench(alloc: Global) -> Result<Bench, Fail> {
 pub(super) fn word(opcode: u8, registers: u8, size: u8, immediate: u32) -> u64 {
     let low = u32::from_le_bytes([opcode, registers, size, 0]);
     u64::from(low) + (u64::from(immediate) << 32)
+}
+
+pub(super) fn exit(reason: u8, qualification: u64, addr: u64) -> StepEnd {
+    StepEnd::Exit {
+        reason,
+        qualification,
+        addr,
+        call: 0,
+    }
+}
+
+pub(super) fn set_register(reg: u8, value: u64) -> StepEnd {
+    StepEnd::Set { reg, value }
 }
