@@ -6,6 +6,3 @@ mod router;
 mod vectors;
 
 pub use router::Router;
-
-#[cfg(test)]
-mod tests;

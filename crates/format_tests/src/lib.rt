@@ -21,3 +21,5 @@ mod records;
 mod rights;
 #[cfg(test)]
 mod texts;
+#[cfg(test)]
+mod values;

@@ -8,6 +8,3 @@ mod spelling;
 pub use effect::{ask, with_register};
 pub use instr::{Asked, Instr, Wish};
 pub use spelling::{decode, encode};
-
-#[cfg(test)]
-mod tests;

@@ -13,6 +13,3 @@ pub use end::StepEnd;
 pub use finish::{Finish, inject};
 pub use laws::alike_worlds_step_alike;
 pub use reach::Reach;
-
-#[cfg(test)]
-mod tests;

@@ -48,16 +48,3 @@ pub fn with_bits(word: u64, low: u32, high: u32, value: u64) -> u64
 {
     bits_above(word, high) | (value << low | bits_below(word, low))
 }
-
-#[cfg(test)]
-mod tests {
-    use super::{bits, with_bits};
-
-    #[test]
-    fn fields_of_an_entry(rt: HostRuntime) {
-        assert_eq!(rt; bits(0x8000_00b3, 12, 51), 0x80000);
-        assert_eq!(rt; bits(u64::MAX, 0, 63), u64::MAX);
-        assert_eq!(rt; with_bits(u64::MAX, 12, 51, 1), 0xfff0_0000_0000_1fff);
-        assert_eq!(rt; with_bits(7, 63, 63, 1), 0x8000_0000_0000_0007);
-    }
-}

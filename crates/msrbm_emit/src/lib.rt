@@ -7,6 +7,3 @@ mod bitmap;
 
 pub use area::emit_area;
 pub use bitmap::emit;
-
-#[cfg(test)]
-mod tests;

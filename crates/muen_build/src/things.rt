@@ -175,38 +175,3 @@ pub(crate) fn things(
     )?;
     Ok(Seq::of(things))
 }
-
-#[cfg(test)]
-mod tests {
-    use super::content;
-    use crate::accepted::ComponentFiles;
-    use muen_num::{Name, Seq};
-    use policy_types::source::Content;
-    use std::test::Fail;
-
-    #[test]
-    fn files_fill_their_room(rt: HostRuntime) -> Result<(), Fail> {
-        let alloc = rt.alloc();
-        let (Some(own), Some(code)) = (Name::read(b"policy"), Name::read(b"code")) else {
-            return Err(Fail::new("no names"));
-        };
-        let mut found = ComponentFiles::new(alloc);
-        found.add(code, Seq::of(Vec::from_slice(alloc, b"abcdef")?))?;
-        let cases: [(Name, u64, Option<u64>, &[u8]); 4] = [
-            (code, 0, None, b"abcdef\0\0"),
-            (code, 2, Some(3), b"cde\0\0\0\0\0"),
-            (code, 9, Some(3), b"\0\0\0\0\0\0\0\0"),
-            (own, 1, None, b"}\0\0\0\0\0\0\0"),
-        ];
-        for (name, offset, length, want) in cases {
-            let file = Content::File {
-                name,
-                offset,
-                length,
-            };
-            let bytes = content(alloc, "policy", b"{}", &found, 8, &file)?;
-            assert_eq!(rt; bytes.items(), want);
-        }
-        Ok(())
-    }
-}

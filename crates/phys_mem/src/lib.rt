@@ -12,6 +12,3 @@ mod spans;
 pub use memory::{PAGE_BYTES, PhysMem};
 pub use region_mem::RegionMem;
 pub use spans::SpanPartBytes;
-
-#[cfg(test)]
-mod tests;

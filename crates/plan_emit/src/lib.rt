@@ -8,6 +8,3 @@ mod frames;
 mod groups;
 
 pub use emit::plan;
-
-#[cfg(test)]
-mod tests;

@@ -7,6 +7,3 @@ mod texts;
 
 pub use number::{byte_of, number_of};
 pub use texts::{caching_of, hexadecimal_of, mode_of, msr_rights_of, name_of, rights_of, role_of};
-
-#[cfg(test)]
-mod tests;

@@ -19,6 +19,3 @@ pub use control::Control;
 pub use cpu::{Cpu, Entered};
 pub use machine::Machine;
 pub use msr_file::MsrFile;
-
-#[cfg(test)]
-mod tests;

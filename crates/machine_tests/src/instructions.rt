@@ -1,5 +1,5 @@
 //! The table, spelled by hand. What instructions do is worked out in `proofs/Examples.antt`.
-use crate::{decode, encode};
+use guest_isa::{decode, encode};
 use std::test::Fail;
 
 // Each row has eight bytes, and the instruction that they spell, or `None`.

@@ -1,5 +1,5 @@
 //! Bytes at places that were computed by hand.
-use crate::{emit, emit_area};
+use msrbm_emit::{emit, emit_area};
 use policy_types::MsrGrant;
 use std::test::Fail;
 
@@ -34,7 +34,7 @@ fn bits_of_two_grants(rt: HostRuntime) -> Result<(), Fail> {
 }
 
 #[test]
-#[tactic(auto, unfolding(crate::specs::Area::count_of))]
+#[tactic(auto, unfolding(msrbm_emit::specs::Area::count_of))]
 fn area_of_two_grants(rt: HostRuntime) -> Result<(), Fail> {
     let mut area = vec![in rt.alloc(); 0xFFu8; 4096]?;
     emit_area(&[SYSENTER, EFER], &mut area);

@@ -1,5 +1,5 @@
 //! What the kernel makes of exits and events.
-use crate::{Finish, inject};
+use guest_step::{Finish, inject};
 use std::test::Fail;
 use subject_state::SubjectState;
 

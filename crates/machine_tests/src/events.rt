@@ -1,5 +1,5 @@
 //! Three subjects in two groups.
-use crate::Router;
+use event_router::Router;
 use image_pack::{EventPart, SubjectPart};
 use image_plan::GroupPart;
 use muen_num::{Mode, Name, Seq};

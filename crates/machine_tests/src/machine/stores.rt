@@ -5,13 +5,13 @@ use super::world::{
     AREA, CODE, CONTROL, DEVICE, MSR, OTHER, PC, STATE, Start, bench, exit, machine, set_register,
     subject_at, word,
 };
-use crate::Machine;
 use ept_walk::PlainWalk;
 use guest_step::{Finish, StepEnd};
 use muen_num::Size;
 use phys_mem::{PhysMem, RegionMem};
 use std::alloc::Global;
 use std::test::Fail;
+use vmx_machine::Machine;
 
 // A machine of which the subject has stored a byte, and is at its next instruction.
 fn after_store(

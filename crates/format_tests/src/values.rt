@@ -1,5 +1,5 @@
 //! Values, with what they stand for.
-use crate::{byte_of, mode_of, msr_rights_of, number_of, rights_of, role_of};
+use policy_values::{byte_of, mode_of, msr_rights_of, number_of, rights_of, role_of};
 use muen_num::Mode;
 use policy_types::{MsrRights, Role};
 use serde_json::Value;

@@ -1,7 +1,7 @@
 use Rattle.std.proofs.Common.{◌≡◌, length, ap, arith}
 use Rattle.phys_mem.specs.declared.spans.SpanPartBytes.{SpanPartBytes}
 use Rattle.phys_mem.proofs.Rising.{two_spans}
-use Rattle.vmx_machine.proofs.tests.world.memory.Goals as goal
+use Rattle.machine_tests.proofs.machine.world.memory.Goals as goal
 
 pub start-requires : goal.start-requires
 start-requires c =

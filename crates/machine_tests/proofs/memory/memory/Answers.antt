@@ -1,7 +1,7 @@
 use Rattle.std.proofs.Common.{◌≡◌, length, ap, arith}
 use Rattle.phys_mem.specs.declared.spans.SpanPartBytes.{SpanPartBytes}
 use Rattle.phys_mem.proofs.Rising.{two_spans}
-use Rattle.phys_mem.proofs.tests.memory.Goals as goal
+use Rattle.machine_tests.proofs.memory.memory.Goals as goal
 
 pub start-requires : goal.start-requires
 start-requires c =

@@ -1,5 +1,5 @@
-use crate::{PhysMem, RegionMem, SpanPartBytes};
 use muen_num::{Seq, Size};
+use phys_mem::{PhysMem, RegionMem, SpanPartBytes};
 use std::alloc::Global;
 use std::test::Fail;
 

@@ -1,5 +1,5 @@
 use Rattle.std.proofs.Common.{◌≡◌, length}
-use Rattle.vmx_machine.proofs.tests.stores.msrs_of_two_on_one_cpu.Given as goal
+use Rattle.machine_tests.proofs.machine.stores.msrs_of_two_on_one_cpu.Given as goal
 
 -- one CPU
 abbrev pub invariant-loop-control : goal.invariant-loop-control

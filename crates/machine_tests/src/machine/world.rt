@@ -3,7 +3,6 @@
 //! state page and the MSR area of another subject. A device's page is at 2 GiB.
 ghost use Rattle.std.specs.Prelude.{◌≡◌, ◌<◌, ◌^◌, length, IfOk};
 
-use crate::{Control, Machine};
 use device_bench::Bench;
 use ept_walk::PlainWalk;
 use guest_step::StepEnd;
@@ -12,6 +11,7 @@ use phys_mem::{PhysMem, RegionMem, SpanPartBytes};
 use record_text::Record;
 use std::alloc::Global;
 use std::test::Fail;
+use vmx_machine::{Control, Machine};
 
 pub(super) const CODE: u64 = 0x10_4000;
 
