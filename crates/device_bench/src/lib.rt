@@ -4,6 +4,3 @@
 mod bench;
 
 pub use bench::Bench;
-
-#[cfg(test)]
-mod tests;

@@ -7,6 +7,3 @@ mod search;
 mod tables;
 
 pub use tables::{emit, eptp};
-
-#[cfg(test)]
-mod tests;

@@ -7,6 +7,3 @@ mod translation;
 
 pub use plain::PlainWalk;
 pub use translation::Translate;
-
-#[cfg(test)]
-mod tests;

@@ -4,6 +4,8 @@
 #![tactic(auto)]
 
 #[cfg(test)]
+mod bench;
+#[cfg(test)]
 mod bits;
 #[cfg(test)]
 mod counts;
@@ -23,3 +25,7 @@ mod msr_bitmaps;
 mod pages;
 #[cfg(test)]
 mod port_bitmaps;
+#[cfg(test)]
+mod tables;
+#[cfg(test)]
+mod walks;

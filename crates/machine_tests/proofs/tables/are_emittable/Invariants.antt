@@ -1,7 +1,7 @@
 use Rattle.std.proofs.Common.{ℕ, ◌+◌, ◌<◌, ◌≤◌, get_or}
 use Rattle.ept_count.specs.declared.window.Window.{Window}
 use Rattle.ept_emit.specs.Entries.{IsEmittable}
-use Rattle.ept_emit.proofs.tests.are_emittable.Given as goal
+use Rattle.machine_tests.proofs.tables.are_emittable.Given as goal
 
 -- the windows so far may be emitted, and end where `end` says
 abbrev pub invariant-loop-window : goal.invariant-loop-window

@@ -1,4 +1,4 @@
-use crate::{PlainWalk, Translate};
+use ept_walk::{PlainWalk, Translate};
 use machine_meaning::Walk;
 use muen_num::{Kind, Seq, Size};
 use phys_mem::{PhysMem, RegionMem, SpanPartBytes};
@@ -42,39 +42,29 @@ fn walk_with(mem: &mut RegionMem, level: u64, entry: u64) -> Walk {
     PlainWalk::new().walk(mem, EPTP, 0, Kind::Read)
 }
 
-/// Entries that are refused, by their level.
-const REFUSED: [(u64, u64); 27] = [
-    (3, 0x10_1002),
-    (3, 0x10_1004),
-    (3, 0x10_1006),
-    (3, 0x10_100f),
-    (3, 0x10_1047),
-    (3, 0x10_1087),
-    (3, 0x100_0010_1007),
-    (2, 0x10_2002),
-    (2, 0x10_2004),
-    (2, 0x10_200f),
-    (2, 0x10_2047),
-    (2, 0x8_0000_0010_2007),
-    (2, 0x8000_0097),
-    (2, 0x8000_00bf),
-    (2, 0xa000_00b7),
-    (1, 0x10_3006),
-    (1, 0x10_3027),
-    (1, 0x100_0010_3007),
-    (1, 0x8000_009f),
-    (1, 0x8010_00b7),
-    (0, 0x10_6032),
-    (0, 0x10_6034),
-    (0, 0x10_6036),
-    (0, 0x10_6017),
-    (0, 0x10_601f),
-    (0, 0x10_603f),
-    (0, 0x100_0010_6037),
-];
-
-/// Entries that are accepted, and where the walk ends then.
-const ACCEPTED: [(u64, u64, Walk); 7] = [
+/// Entries by their level, and where the walk ends with one.
+const ENTRIES: [(u64, u64, Walk); 28] = [
+    (3, 0x10_1002, Walk::Misconfigured),
+    (3, 0x10_1004, Walk::Misconfigured),
+    (3, 0x10_1006, Walk::Misconfigured),
+    (3, 0x10_100f, Walk::Misconfigured),
+    (3, 0x10_1047, Walk::Misconfigured),
+    (3, 0x10_1087, Walk::Misconfigured),
+    (3, 0x100_0010_1007, Walk::Misconfigured),
+    (2, 0x8_0000_0010_2007, Walk::Misconfigured),
+    (2, 0x8000_0097, Walk::Misconfigured),
+    (2, 0x8000_00bf, Walk::Misconfigured),
+    (2, 0xa000_00b7, Walk::Misconfigured),
+    (1, 0x10_3027, Walk::Misconfigured),
+    (1, 0x8000_009f, Walk::Misconfigured),
+    (1, 0x8010_00b7, Walk::Misconfigured),
+    (0, 0x10_6032, Walk::Misconfigured),
+    (0, 0x10_6034, Walk::Misconfigured),
+    (0, 0x10_6036, Walk::Misconfigured),
+    (0, 0x10_6017, Walk::Misconfigured),
+    (0, 0x10_601f, Walk::Misconfigured),
+    (0, 0x10_603f, Walk::Misconfigured),
+    (0, 0x100_0010_6037, Walk::Misconfigured),
     (0, 0xfff0_0000_0010_6f37, Walk::At(0x10_6000)),
     (0, 0x10_60f7, Walk::At(0x10_6000)),
     (1, 0x8000_00b7, Walk::At(0x8000_0000)),
@@ -85,20 +75,24 @@ const ACCEPTED: [(u64, u64, Walk); 7] = [
 ];
 
 #[test]
-fn each_check_at_each_level(rt: HostRuntime) -> Result<(), Fail> {
+fn each_check(rt: HostRuntime) -> Result<(), Fail> {
     let mut mem = memory(rt.alloc())?;
-    for (level, entry) in REFUSED {
-        assert_eq!(rt;
-            walk_with(&mut mem, level, entry),
-            Walk::Misconfigured,
-            "{level} {entry:x}"
-        );
-    }
-    for (level, entry, end) in ACCEPTED {
+    for (level, entry, end) in ENTRIES {
         assert_eq!(rt; walk_with(&mut mem, level, entry), end, "{level} {entry:x}");
     }
     Ok(())
 }
+
+/// Walks over the worked tables: the EPTP, the guest address, what is done there, and where it ends.
+const WALKS: [(u64, u64, Kind, Walk); 7] = [
+    (EPTP, 0x40_0000, Kind::Read, Walk::At(0x10_6000)),
+    (EPTP, 0x40_0fff, Kind::Fetch, Walk::At(0x10_6fff)),
+    (EPTP, 0x40_0000, Kind::Write, Walk::Violation(5)),
+    (EPTP, 0x40_1000, Kind::Read, Walk::Violation(0)),
+    (EPTP, 0x4000_0123, Kind::Write, Walk::At(0x8000_0123)),
+    (EPTP, 0x4000_1000, Kind::Read, Walk::Misconfigured),
+    (u64::MAX, 0, Kind::Read, Walk::Misconfigured),
+];
 
 #[test]
 fn worked_tables(rt: HostRuntime) -> Result<(), Fail> {
@@ -109,33 +103,8 @@ fn worked_tables(rt: HostRuntime) -> Result<(), Fail> {
     write(&mut mem, 1, 2, 0x10_3007);
     write(&mut mem, 0, 0, 0x10_6035);
     let mut plain = PlainWalk::new();
-    assert_eq!(rt;
-        plain.walk(&mem, EPTP, 0x40_0000, Kind::Read),
-        Walk::At(0x10_6000)
-    );
-    assert_eq!(rt;
-        plain.walk(&mem, EPTP, 0x40_0fff, Kind::Fetch),
-        Walk::At(0x10_6fff)
-    );
-    assert_eq!(rt;
-        plain.walk(&mem, EPTP, 0x40_0000, Kind::Write),
-        Walk::Violation(5)
-    );
-    assert_eq!(rt;
-        plain.walk(&mem, EPTP, 0x40_1000, Kind::Read),
-        Walk::Violation(0)
-    );
-    assert_eq!(rt;
-        plain.walk(&mem, EPTP, 0x4000_0123, Kind::Write),
-        Walk::At(0x8000_0123)
-    );
-    assert_eq!(rt;
-        plain.walk(&mem, EPTP, 0x4000_1000, Kind::Read),
-        Walk::Misconfigured
-    );
-    assert_eq!(rt;
-        plain.walk(&mem, u64::MAX, 0, Kind::Read),
-        Walk::Misconfigured
-    );
+    for (eptp, guest, kind, end) in WALKS {
+        assert_eq!(rt; plain.walk(&mem, eptp, guest, kind), end, "{guest:x}");
+    }
     Ok(())
 }

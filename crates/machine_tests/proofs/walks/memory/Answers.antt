@@ -2,7 +2,7 @@ use Rattle.std.proofs.Common.{◌≡◌, ◌+◌, ◌≤◌, length, ap, arith}
 use Rattle.phys_mem.specs.Spans.{IsSpan, end_of}
 use Rattle.phys_mem.specs.declared.spans.SpanPartBytes.{SpanPartBytes}
 use Rattle.phys_mem.proofs.Rising.{two_spans}
-use Rattle.ept_walk.proofs.tests.memory.Goals as goal
+use Rattle.machine_tests.proofs.walks.memory.Goals as goal
 
 pub start-requires : goal.start-requires
 start-requires c =

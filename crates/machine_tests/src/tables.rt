@@ -4,9 +4,9 @@ ghost use Rattle.ept_count.specs.Pages.{AreApart, IsMapped};
 ghost use Rattle.ept_emit.specs.Entries.{IsEmittable, level_of};
 ghost use Rattle.machine_meaning.specs.Walks.{span};
 
-use crate::{emit, eptp};
 use bitflags::Flags;
 use ept_count::{Leaf, Window, pages};
+use ept_emit::{emit, eptp};
 use muen_num::limits::{GUEST_END, LARGE_PAGE, PAGE, PHYSICAL_END};
 use policy_types::{Caching, Rights};
 use std::alloc::{AllocError, Global};
@@ -120,30 +120,10 @@ fn small(guest: u64, place: u64, rights: Rights, caching: Caching) -> Window {
     }
 }
 
-fn code(place: u64) -> Window {
-    small(
-        0x40_0000,
-        place,
-        Rights::READ.union(Rights::EXECUTE),
-        Caching::Wb,
-    )
-}
-
-#[test]
-fn one_small_page(rt: HostRuntime) -> Result<(), Fail> {
-    let expected = [
-        (0, 0, 0x10_1007),
-        (1, 0, 0x10_2007),
-        (2, 2, 0x10_3007),
-        (3, 0, 0x10_6035),
-    ];
-    assert_eq!(rt; eptp(TABLES_AT), 0x10_001E);
-    assert_eq!(rt; emits(rt.alloc(), &[code(0x10_6000)], &expected)?, true);
-    Ok(())
-}
-
 #[test]
 fn a_large_page_beside_a_small_one(rt: HostRuntime) -> Result<(), Fail> {
+    let rights = Rights::READ.union(Rights::EXECUTE);
+    let code = small(0x40_0000, 0x10_7000, rights, Caching::Wb);
     let data = Window {
         guest: 0x80_0000,
         size: LARGE_PAGE,
@@ -159,10 +139,8 @@ fn a_large_page_beside_a_small_one(rt: HostRuntime) -> Result<(), Fail> {
         (2, 4, 0x20_00b3),
         (3, 0, 0x10_7035),
     ];
-    assert_eq!(rt;
-        emits(rt.alloc(), &[code(0x10_7000), data], &expected)?,
-        true
-    );
+    assert_eq!(rt; eptp(TABLES_AT), 0x10_001E);
+    assert_eq!(rt; emits(rt.alloc(), &[code, data], &expected)?, true);
     Ok(())
 }
 
