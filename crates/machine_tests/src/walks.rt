@@ -84,7 +84,7 @@ fn each_check(rt: HostRuntime) -> Result<(), Fail> {
 }
 
 /// Walks over the worked tables: the EPTP, the guest address, what is done there, and where it ends.
-const WALKS: [(u64, u64, Kind, Walk); 7] = [
+const WALKS: [(u64, u32, Kind, Walk); 7] = [
     (EPTP, 0x40_0000, Kind::Read, Walk::At(0x10_6000)),
     (EPTP, 0x40_0fff, Kind::Fetch, Walk::At(0x10_6fff)),
     (EPTP, 0x40_0000, Kind::Write, Walk::Violation(5)),
@@ -102,9 +102,9 @@ fn worked_tables(rt: HostRuntime) -> Result<(), Fail> {
     write(&mut mem, 2, 1, 0x8000_00b3);
     write(&mut mem, 1, 2, 0x10_3007);
     write(&mut mem, 0, 0, 0x10_6035);
-    let mut plain = PlainWalk::new();
     for (eptp, guest, kind, end) in WALKS {
-        assert_eq!(rt; plain.walk(&mem, eptp, guest, kind), end, "{guest:x}");
+        let walk = PlainWalk::new().walk(&mem, eptp, u64::from(guest), kind);
+        assert_eq!(rt; walk, end, "{guest:x}");
     }
     Ok(())
 }

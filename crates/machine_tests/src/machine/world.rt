@@ -111,10 +111,9 @@ fn memory(alloc: Global) -> Result<RegionMem, Fail> {
     Ok(RegionMem::start(alloc, spans)?)
 }
 
-// The word at a place below 2^48 that is a multiple of eight.
+// The word at a place that is a multiple of eight.
 fn set<M: PhysMem>(mem: &mut M, at: u64, word: u64) {
-    let place = at % (1 << 48);
-    mem.store(place - place % 8, Size::Eight, word);
+    mem.store(at - at % 8, Size::Eight, word);
 }
 
 // All bits of the bitmaps.
