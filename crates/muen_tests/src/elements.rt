@@ -1,10 +1,7 @@
-//! The rules on every element, over one document that has all of them. Each answer was worked out by
-//! hand from the text of the rules.
-use muen_build::lawful;
-use std::alloc::Global;
-use std::test::Fail;
+//! The rules on every element, over one document that has all of them: what rules.rt goes through. Each
+//! answer was worked out by hand from the text of the rules.
 
-const WHOLE: &str = r#"{"processor":{"logicalCpus":2},
+pub(crate) const WHOLE: &str = r#"{"processor":{"logicalCpus":2},
 "memoryBlocks":[{"name":"ram","physicalAddress":16777216,"size":2097152}],
 "devices":[{"name":"net","memory":[{"name":"buf","physicalAddress":134217728,"size":4096},{"name":"aux","physicalAddress":134221824,"size":4096}],
 "ioPorts":[{"name":"p0","start":0,"end":10},{"name":"p1","start":11,"end":20}],"irqs":[{"name":"rx"}],"bdf":{"bus":0,"device":3,"function":0}},
@@ -39,9 +36,8 @@ const WHOLE: &str = r#"{"processor":{"logicalCpus":2},
 "deviceDomains":[{"name":"d0","devices":["net"],"memory":[{"region":"dma","virtualAddress":4096,"rights":"rw"},{"region":"dmb","virtualAddress":12288,"rights":"r"}]},
 {"name":"d1","devices":["disk"]}]}"#;
 
-// Each row is a line with the answer and, behind bars, changes to the document: the text before `=>`
-// gives way at its first place to that behind it.
-const REFERENCES_AND_CHANNELS: &str = r#"lawful
+// Each row is a line with the answer and, behind bars, changes to the document.
+pub(crate) const REFERENCES_AND_CHANNELS: &str = r#"lawful
 rule 1: page page | {"name":"log"=>{"name":"page"
 rule 1: text text | "logical":"m"=>"logical":"text"
 rule 1: rx rx | "irqs":[{"name":"rx"}=>"irqs":[{"name":"rx"},{"name":"rx"}
@@ -100,7 +96,7 @@ lawful | "virtualAddress":5242880,"rights":"r"}]=>"virtualAddress":5242880,"righ
 lawful | "memory":[{"region":"page"=>"memory":[{"region":"store","virtualAddress":0,"rights":"r"},{"region":"page"
 rule 8: store t | "memory":[{"region":"page"=>"memory":[{"region":"store","virtualAddress":0,"rights":"r"},{"region":"page" | "physical":"store","rights":"r"=>"physical":"store""#;
 
-const DEVICES_AND_EVENTS: &str =
+pub(crate) const DEVICES_AND_EVENTS: &str =
     r#"rule 9: net buf | "memory":"buf",=>"memory":"buf","virtualAddress":0,"rights":"r"},{"memory":"buf",
 rule 9: disk p2 | "ioPorts":["p2"]=>"ioPorts":["p2","p2"]
 rule 9: net rx | "monitors":[=>"devices":[{"device":"net","irqs":[{"irq":"rx","vector":60}]}],"monitors":[
@@ -141,7 +137,8 @@ rule 15: b b | {"event":"turn"}=>{"event":"turn","vector":40}
 rule 15: c c | "vector":51=>"vector":50
 rule 15: s s | "vector":33=>"vector":31"#;
 
-const PLAN_AND_DOMAINS: &str = r#"rule 16: tau0 x | "tau0":{"subject":"t"=>"tau0":{"subject":"x"
+pub(crate) const PLAN_AND_DOMAINS: &str =
+    r#"rule 16: tau0 x | "tau0":{"subject":"t"=>"tau0":{"subject":"x"
 rule 16: tau0 job | "region":"page"}=>"region":"job"}
 rule 16: tau0 shared | "subject":"t","region":"page"=>"subject":"a","region":"shared"
 rule 16: tau0 store | "subject":"t","region":"page"=>"subject":"s","region":"store"
@@ -180,137 +177,3 @@ rule 24: m m | "monitors":[{"subject":"s"=>"monitors":[{"subject":"m"
 rule 24: m s | "monitors":[=>"monitors":[{"subject":"s","virtualAddress":0,"rights":"r"},
 rule 24: m s | "virtualAddress":7340032,"rights":"r"=>"virtualAddress":7340032,"rights":"rx"
 lawful | "virtualAddress":7340032,"rights":"r"=>"virtualAddress":7340032,"rights":"rw""#;
-
-// What reading, resolving and checking a document answers.
-fn answer(alloc: Global, text: &str) -> Result<String, Fail> {
-    match lawful(alloc, text.as_bytes()) {
-        Ok(_) => Ok(String::from_str(alloc, "lawful")?),
-        Err(refusal) => Ok(refusal.to_string(alloc)?),
-    }
-}
-
-#[test]
-fn elements(rt: HostRuntime) -> Result<(), Fail> {
-    let alloc = rt.alloc();
-    for rows in [
-        REFERENCES_AND_CHANNELS,
-        DEVICES_AND_EVENTS,
-        PLAN_AND_DOMAINS,
-    ] {
-        for row in rows.split('\n') {
-            let (want, changes) = match row.split_once(" | ") {
-                Some(parts) => parts,
-                None => (row, ""),
-            };
-            let mut text = String::from_str(alloc, WHOLE)?;
-            for change in changes.split(" | ") {
-                match change.split_once("=>") {
-                    Some((old, new)) => {
-                        assert!(rt; text.as_str().contains(old), "{row}");
-                        text = text.as_str().replacen(alloc, old, new, 1)?;
-                    }
-                    None => assert!(rt; changes.is_empty(), "{row}"),
-                }
-            }
-            assert_eq!(rt; answer(alloc, text.as_str())?.as_str(), want, "{row}");
-        }
-    }
-    Ok(())
-}
-
-// The document with so many items before each of these places; `@` in an item is its number.
-fn longer(alloc: Global, lists: &[(&str, &str)], count: u32) -> Result<String, Fail> {
-    let mut text = String::from_str(alloc, WHOLE)?;
-    for (place, item) in lists {
-        let mut items = String::new(alloc);
-        for i in 0..count {
-            items.push_str(
-                item.replace(alloc, '@', i.to_string(alloc)?.as_str())?
-                    .as_str(),
-            )?;
-            items.push(',')?;
-        }
-        items.push_str(place)?;
-        text = text.as_str().replacen(alloc, *place, items.as_str(), 1)?;
-    }
-    Ok(text)
-}
-
-#[test]
-fn longest_lists(rt: HostRuntime) -> Result<(), Fail> {
-    let alloc = rt.alloc();
-    // The places, how many items are lawful there, and the answer to one more.
-    let cases: [(&[(&str, &str)], u32, &[u8]); 9] = [
-        (
-            &[(r#"{"name":"net""#, r#"{"name":"x@"}"#)],
-            30,
-            b"rule 20: devices devices",
-        ),
-        (
-            &[(
-                r#"{"name":"buf""#,
-                r#"{"name":"x@","physicalAddress":"16#9@000#","size":4096}"#,
-            )],
-            14,
-            b"rule 20: net net",
-        ),
-        (
-            &[(r#"{"name":"p0""#, r#"{"name":"x@","start":7@,"end":7@}"#)],
-            14,
-            b"rule 20: net net",
-        ),
-        (
-            &[(r#"{"name":"rx""#, r#"{"name":"x@"}"#)],
-            15,
-            b"rule 20: net net",
-        ),
-        (
-            &[
-                (r#"{"name":"job""#, r#"{"name":"x@","size":4096}"#),
-                (
-                    r#"{"channel":"log","role":"writer""#,
-                    r#"{"channel":"x@","role":"writer","virtualAddress":"16#9@000#"}"#,
-                ),
-                (
-                    r#"{"channel":"log","role":"reader""#,
-                    r#"{"channel":"x@","role":"reader","virtualAddress":"16#9@000#"}"#,
-                ),
-            ],
-            126,
-            b"rule 20: channels channels",
-        ),
-        (
-            &[(r#"{"name":"feed""#, r#"{"name":"x@"}"#)],
-            63,
-            b"rule 20: components components",
-        ),
-        (
-            &[(
-                r#"{"logical":"text""#,
-                r#"{"logical":"x@","virtualAddress":"16#8@000#","size":4096,"rights":"r"}"#,
-            )],
-            61,
-            b"rule 20: feed feed",
-        ),
-        (
-            &[(r#"{"name":"page""#, r#"{"name":"x@","size":4096}"#)],
-            984,
-            b"rule 20: memory memory",
-        ),
-        (
-            &[(r#"{"name":"d0""#, r#"{"name":"x@"}"#)],
-            30,
-            b"rule 21: deviceDomains deviceDomains",
-        ),
-    ];
-    for (lists, most, want) in cases {
-        let lawful = longer(alloc, lists, most)?;
-        assert_eq!(rt;
-            answer(alloc, lawful.as_str())?.as_bytes(),
-            b"lawful".as_slice()
-        );
-        let broken = longer(alloc, lists, most.saturating_add(1))?;
-        assert_eq!(rt; answer(alloc, broken.as_str())?.as_bytes(), want);
-    }
-    Ok(())
-}

@@ -6,10 +6,10 @@ mod calls;
 #[cfg(test)]
 mod elements;
 #[cfg(test)]
+mod held;
+#[cfg(test)]
 mod images;
 #[cfg(test)]
 mod instructions;
 #[cfg(test)]
 mod rules;
-#[cfg(test)]
-mod systems;

@@ -1,9 +1,8 @@
 //! Calls of `boot`. It prints what `run` prints of the image that `build` writes; and what a subject
 //! prints doesn't depend on one from which nothing flows to it.
-use crate::reports::{Ended, call, one};
+use crate::held::{Ended, call, changed, file, has_pieces};
 use crate::run_systems::{CHANNEL, DEVICE, EVENT, HANDOVER};
-use crate::runs::has_lines;
-use crate::systems::{CHOICE, GATEWAY, MONITOR, SHARED};
+use crate::systems::{CHOICE, GATEWAY, MONITOR, ONE, SHARED};
 use muen_outside::{MemFiles, MemSink};
 use std::alloc::Global;
 use std::test::Fail;
@@ -12,25 +11,12 @@ use std::test::Fail;
 const CODE_FILE: &[u8] = b"\xff\xff\xff\xff\xff\xff\xff\xff\
 \x01\x10\x00\x00\x05\x00\x00\x00\x17\x00\x00\x00\x00\x00\x00\x00";
 
-// Adds a file.
-fn add(
-    alloc: Global,
-    held: &mut Vec<(String, Vec<u8>)>,
-    name: &str,
-    bytes: &[u8],
-) -> Result<(), Fail> {
-    let name = String::from_str(alloc, name)?;
-    let bytes = Vec::from_slice(alloc, bytes)?;
-    held.push((name, bytes))?;
-    Ok(())
-}
-
 // The policy `p`, the record `r`, and the file `code.bin`.
 fn held(alloc: Global, policy: &str, record: &str) -> Result<MemFiles, Fail> {
     let mut held = Vec::new(alloc);
-    add(alloc, &mut held, "p", policy.as_bytes())?;
-    add(alloc, &mut held, "r", record.as_bytes())?;
-    add(alloc, &mut held, "code.bin", CODE_FILE)?;
+    held.push(file(alloc, "p", policy.as_bytes())?)?;
+    held.push(file(alloc, "r", record.as_bytes())?)?;
+    held.push(file(alloc, "code.bin", CODE_FILE)?)?;
     Ok(MemFiles::make(held, Vec::new(alloc)))
 }
 
@@ -38,18 +24,18 @@ fn held(alloc: Global, policy: &str, record: &str) -> Result<MemFiles, Fail> {
 fn booted(alloc: Global, policy: &str, record: &str) -> Result<Ended, Fail> {
     let mut files = held(alloc, policy, record)?;
     let mut out = MemSink::make(alloc, 1_000_000, Vec::new(alloc), 0)?;
-    call(alloc, &["boot", "p", "r"], &mut files, &mut out)
+    call(alloc, "boot p r", &mut files, &mut out)
 }
 
 // How `run` ends on the image that `build` writes.
 fn built_and_ran(alloc: Global, policy: &str, record: &str) -> Result<Ended, Fail> {
     let mut files = held(alloc, policy, record)?;
     let mut out = MemSink::make(alloc, 1_000_000, Vec::new(alloc), 0)?;
-    let built = call(alloc, &["build", "p", "i"], &mut files, &mut out)?;
+    let built = call(alloc, "build p i", &mut files, &mut out)?;
     if built.status != 0 || !built.out.is_empty() {
         return Err(Fail::new("no image"));
     }
-    call(alloc, &["run", "i", "r"], &mut files, &mut out)
+    call(alloc, "run i r", &mut files, &mut out)
 }
 
 // What was put by a call that ended well.
@@ -57,119 +43,170 @@ fn text_of(ended: Ended) -> Result<String, Fail> {
     if ended.status != 0 || !ended.err.is_empty() {
         return Err(Fail::new("refused"));
     }
-    match String::from_utf8(ended.out) {
-        Ok(text) => Ok(text),
-        Err(_) => Err(Fail::new("no text")),
-    }
+    Ok(ended.out)
 }
 
-// Systems of several elements: a policy, a record, how the text begins, and further lines of it.
-const SYSTEMS: [(&str, &str, &str, &[&str]); 9] = [
-    (
-        CHANNEL,
-        "order 0 0 1\norder 4 0 1\nend 5\n",
-        "0 0 writer 0000000000400000 r1=0000000000000007\n\
-         0 1 reader 0000000000400000 r2=0000000000600000\n",
-        &[
-            "\n4 0 writer 0000000000400020 store 8 0000000000600000 0000000000000007\n\
-             4 1 reader 0000000000400020 r5=0000000000000007\n",
-            "\nregs reader 4 0000000000000000 0000000000000007 ",
-            "\nregion ch ",
-        ],
-    ),
-    (
-        CHANNEL,
-        "order 0 1 0\norder 4 1 0\nend 5\n",
-        "0 1 reader 0000000000400000 r2=0000000000600000\n\
-         0 0 writer 0000000000400000 r1=0000000000000007\n",
-        &[
-            "\n4 1 reader 0000000000400020 r5=0000000000000000\n\
-             4 0 writer 0000000000400020 store 8 0000000000600000 0000000000000007\n",
-            "\nregs reader 4 0000000000000000 0000000000000000 ",
-        ],
-    ),
-    (
-        EVENT,
-        "end 14\n",
-        "0 0 a 0000000000400000 r3=0000000000000001\n\
-         0 1 b 0000000000400000 r9=00000000003fff20\n",
-        &["\n7 1 b 0000000000400038 inject 40\n8 0 a "],
-    ),
-    (
-        HANDOVER,
-        "end 16\n",
-        "0 0 a 0000000000400000 r3=0000000000000001\n",
-        &[
-            "\n3 0 a 0000000000400018 exit 18 0000000000000000 0000000000000000 on\n4 0 c ",
-            "\n8 0 b 0000000000700000 exit 48 0000000000000004 0000000000700000 stop\n12 0 c ",
-        ],
-    ),
-    (
-        GATEWAY,
-        GATEWAY_RECORD,
-        "0 0 plain 0000000000400000 r1=0000000000000007\n\
-         0 1 keys 0000000000400000 r1=0000000000000007\n",
-        &[
-            "\n34 0 black 0000000000400020 inject 40\n",
-            "\n35 0 black 0000000000400030 r5=0000000000000005\n",
-            "\n36 0 black 0000000000400038 out 1 0300 00000005\n",
-            "\n230 0 black 0000000000400028 inject 43\n",
-            "\nregion plain|text ",
-        ],
-    ),
-    (
-        SHARED,
-        "end 12\n",
-        "0 0 writer 0000000000400000 r1=0000000000000007\n",
-        &["\n5 0 reader 0000000000400008 r5=0000000000000007\n"],
-    ),
-    (
-        CHOICE,
-        "end 9\n",
-        "0 0 t 0000000000400000 r1=0000000000000001\n",
-        &["\n2 0 t 0000000000400010 store 1 0000000000500000 0000000000000001\n3 0 a "],
-    ),
-    (
-        MONITOR,
-        "end 5\n",
-        "0 0 s 0000000000400000 r1=0000000000000005\n",
-        &[
-            "\n3 0 m 0000000000400008 r5=0000000000000005\n",
-            "\n4 0 m 0000000000400010 r6=000000000000000a\n",
-        ],
-    ),
-    (
-        DEVICE,
-        "port 2 net 768 171\nmem 4 net buf 0 0102030405060708\nirq 6 net rx\nend 16\n",
-        "0 0 one 0000000000400000 r9=00000000003fff20\n",
-        &[
-            "\n3 0 one 0000000000400018 r1=00000000000000ab\n",
-            "\n5 0 one 0000000000400028 r3=0807060504030201\n\
-             6 0 one 0000000000400030 inject 40\n\
-             7 0 one 0000000000400060 r4=0000000000000201\n\
-             8 0 one 0000000000400068 -\n\
-             9 0 one 0000000000400030 store 8 0000000000700008 0807060504030201\n",
-            "\n11 0 one 0000000000400040 wrmsr 00000174 0807060504030201\n\
-             12 0 one 0000000000400048 r6=0807060504030201\n\
-             13 0 one 0000000000400050 out 1 0301 000000ab\n",
-            // The eight bytes twice, and then zeros.
-            "\ndevice net|buf 366447bf910f46ae2d5c302a63775e8ab920e6f692c00a1b8d68f6a1f08055d6\n",
-        ],
-    ),
-];
+// Systems of several elements. Each block has a record, whose lines end with strokes, and changes to the
+// system; then come pieces of the text, between which are three points.
+const CHANNEL_RUNS: &str = "\
+end 5/
+0 0 writer 0000000000400000 r1=0000000000000007
+...
+4 0 writer 0000000000400020 store 8 0000000000600000 0000000000000007
+4 1 reader 0000000000400020 r5=0000000000000007
+...
+regs reader 4 0000000000000000 0000000000000007 ...
+
+order 0 0 1/order 4 0 1/end 5/
+0 0 writer 0000000000400000 r1=0000000000000007
+0 1 reader 0000000000400000 r2=0000000000600000
+...
+4 0 writer 0000000000400020 store 8 0000000000600000 0000000000000007
+4 1 reader 0000000000400020 r5=0000000000000007
+...
+regs reader 4 0000000000000000 0000000000000007 ...
+region ch ...
+
+order 0 1 0/order 4 1 0/end 5/
+0 1 reader 0000000000400000 r2=0000000000600000
+0 0 writer 0000000000400000 r1=0000000000000007
+...
+4 1 reader 0000000000400020 r5=0000000000000000
+4 0 writer 0000000000400020 store 8 0000000000600000 0000000000000007
+...
+regs reader 4 0000000000000000 0000000000000000 ...";
+
+// Deliverable at any turn, or at the first tick of a minor frame.
+const EVENT_RUNS: &str = r#"end 14/
+0 0 a 0000000000400000 r3=0000000000000001
+0 1 b 0000000000400000 r9=00000000003fff20
+...
+6 1 b 0000000000400030 -
+...
+7 1 b 0000000000400038 inject 40
+8 0 a ...
+8 1 b 0000000000400060 -
+...
+9 1 b 0000000000400038 -
+...
+13 1 b 0000000000400058 -
+...
+
+end 11/ | "asap"=>"async"
+...
+7 1 b 0000000000400038 -
+...
+9 1 b 0000000000400048 -
+...
+10 1 b 0000000000400050 inject 40
+..."#;
+
+// A handover counts from the group's next turn, whatever the target does then.
+const HANDOVER_RUNS: &str = "\
+end 16/
+0 0 a 0000000000400000 r3=0000000000000001
+...
+3 0 a 0000000000400018 exit 18 0000000000000000 0000000000000000 on
+4 0 c ...
+8 0 b 0000000000700000 exit 48 0000000000000004 0000000000700000 stop
+12 0 c ...
+end b 0000000000700000 0000000000000000 0000000000000000 12
+...";
+
+const GATEWAY_RUNS: &str = "\
+port 100 net 768 5/irq 200 net rx/end 300/
+0 0 plain 0000000000400000 r1=0000000000000007
+0 1 keys 0000000000400000 r1=0000000000000007
+...
+34 0 black 0000000000400020 inject 40
+...
+35 0 black 0000000000400030 r5=0000000000000005
+...
+36 0 black 0000000000400038 out 1 0300 00000005
+...
+230 0 black 0000000000400028 inject 43
+...
+region sealed ...
+region plain|text ...";
+
+const SHARED_RUNS: &str = "\
+end 12/
+0 0 writer 0000000000400000 r1=0000000000000007
+...
+5 0 reader 0000000000400008 r5=0000000000000007
+...";
+
+const CHOICE_RUNS: &str = "\
+end 9/
+0 0 t 0000000000400000 r1=0000000000000001
+...
+2 0 t 0000000000400010 store 1 0000000000500000 0000000000000001
+3 0 a ...
+6 0 a ...
+8 0 a ...
+
+end 9/ | 0110000001000000=>0110000002000000
+...
+3 0 t 0000000000400018 -
+...";
+
+const MONITOR_RUNS: &str = "\
+end 5/
+0 0 s 0000000000400000 r1=0000000000000005
+...
+3 0 m 0000000000400008 r5=0000000000000005
+...
+4 0 m 0000000000400010 r6=000000000000000a
+...";
+
+// The eight bytes twice in the device's memory, and then zeros.
+const DEVICE_RUNS: &str = "\
+port 2 net 768 171/mem 4 net buf 0 0102030405060708/irq 6 net rx/end 16/
+0 0 one 0000000000400000 r9=00000000003fff20
+...
+3 0 one 0000000000400018 r1=00000000000000ab
+...
+5 0 one 0000000000400028 r3=0807060504030201
+6 0 one 0000000000400030 inject 40
+7 0 one 0000000000400060 r4=0000000000000201
+8 0 one 0000000000400068 -
+9 0 one 0000000000400030 store 8 0000000000700008 0807060504030201
+...
+11 0 one 0000000000400040 wrmsr 00000174 0807060504030201
+12 0 one 0000000000400048 r6=0807060504030201
+13 0 one 0000000000400050 out 1 0301 000000ab
+...
+device net|buf 366447bf910f46ae2d5c302a63775e8ab920e6f692c00a1b8d68f6a1f08055d6
+...";
 
 #[test]
 fn both_print_the_same(rt: HostRuntime) -> Result<(), Fail> {
     let alloc = rt.alloc();
-    for (policy, record, begin, lines) in SYSTEMS {
-        let at_once = booted(alloc, policy, record)?;
-        let in_two = built_and_ran(alloc, policy, record)?;
-        assert_eq!(rt; at_once.status, 0, "{begin}");
-        assert_eq!(rt; in_two.status, 0, "{begin}");
-        assert!(rt; at_once.out.as_slice() == in_two.out.as_slice(), "{begin}");
-        let text = text_of(at_once)?;
-        assert!(rt; text.starts_with(begin), "{begin}");
-        assert!(rt; has_lines(text.as_str(), lines), "{begin}");
+    for (system, blocks) in [
+        (CHANNEL, CHANNEL_RUNS),
+        (EVENT, EVENT_RUNS),
+        (HANDOVER, HANDOVER_RUNS),
+        (GATEWAY, GATEWAY_RUNS),
+        (SHARED, SHARED_RUNS),
+        (CHOICE, CHOICE_RUNS),
+        (MONITOR, MONITOR_RUNS),
+        (DEVICE, DEVICE_RUNS),
+    ] {
+        for block in blocks.split("\n\n") {
+            let Some((inputs, pieces)) = block.split_once('\n') else {
+                return Err(Fail::new("no pieces"));
+            };
+            let (record, changes) = match inputs.split_once(" | ") {
+                Some(parts) => parts,
+                None => (inputs, ""),
+            };
+            let record = record.replace(alloc, '/', "\n")?;
+            let policy = changed(alloc, system, changes)?;
+            let at_once = text_of(booted(alloc, policy.as_str(), record.as_str())?)?;
+            let in_two = text_of(built_and_ran(alloc, policy.as_str(), record.as_str())?)?;
+            assert!(rt; at_once.as_str() == in_two.as_str(), "{block}");
+            assert!(rt; has_pieces(at_once.as_str(), pieces), "{block}");
+        }
     }
     Ok(())
 }
@@ -189,11 +226,11 @@ region code d4837ed1427735f0510903e5523cb11cd438da2eb85d4aaea180ec5efa8719aa\n";
 fn one_subject(rt: HostRuntime) -> Result<(), Fail> {
     let alloc = rt.alloc();
     let contents = [
-        r#"{"hex":"01100000050000001700000000000000"}"#,
-        r#"{"file":"code.bin","offset":8,"length":16}"#,
+        r#"{"fill":0}=>{"hex":"01100000050000001700000000000000"}"#,
+        r#"{"fill":0}=>{"file":"code.bin","offset":8,"length":16}"#,
     ];
     for content in contents {
-        let policy = one(alloc, "65536", "", content, "10")?;
+        let policy = changed(alloc, ONE, content)?;
         let at_once = booted(alloc, policy.as_str(), "end 3\n")?;
         let in_two = built_and_ran(alloc, policy.as_str(), "end 3\n")?;
         assert_eq!(rt; text_of(at_once)?.as_str(), ONE_RAN, "{content}");
@@ -224,12 +261,12 @@ fn both_refuse_the_same(rt: HostRuntime) -> Result<(), Fail> {
         let in_two = built_and_ran(alloc, policy, record)?;
         assert_eq!(rt; at_once.status, 6, "{record}");
         assert_eq!(rt; in_two.status, 6, "{record}");
-        assert_eq!(rt; at_once.err.as_slice(), in_two.err.as_slice(), "{record}");
+        assert_eq!(rt; at_once.err.as_str(), in_two.err.as_str(), "{record}");
         assert!(rt;
-            at_once.err.starts_with(b"muen: record refused at "),
+            at_once.err.as_str().starts_with("muen: record refused at "),
             "{record}"
         );
-        assert!(rt; at_once.err.ends_with(line.as_bytes()), "{record}");
+        assert!(rt; at_once.err.as_str().ends_with(line), "{record}");
         assert!(rt; at_once.out.is_empty() && in_two.out.is_empty(), "{record}");
     }
     Ok(())

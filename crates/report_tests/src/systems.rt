@@ -1,13 +1,13 @@
 //! Systems, and what is printed of them.
 
-/// One subject that sees a page; its block, further regions, contents and ticks are filled in.
+/// One subject that sees a page; one to change.
 pub(crate) const ONE: &str = r#"{"processor":{"logicalCpus":1},
-"memoryBlocks":[{"name":"ram","physicalAddress":"16#0010_0000#","size":BLOCK}],
-"memory":[MORE{"name":"code","size":4096,"content":CONTENT}],
+"memoryBlocks":[{"name":"ram","physicalAddress":"16#0010_0000#","size":65536}],
+"memory":[{"name":"code","size":4096,"content":{"fill":0}}],
 "subjects":[{"name":"one","cpu":0,"entry":"16#0040_0000#",
 "memory":[{"region":"code","virtualAddress":"16#0040_0000#","rights":"rx"}]}],
 "scheduling":{"groups":[{"name":"g","cpu":0,"subjects":["one"]}],
-"majorFrames":[{"cpus":[{"cpu":0,"minorFrames":[{"group":"g","ticks":TICKS}]}]}]}}"#;
+"majorFrames":[{"cpus":[{"cpu":0,"minorFrames":[{"group":"g","ticks":10}]}]}]}}"#;
 
 pub(crate) const ONE_MAP: &str = "\
 region 0000000000106000 0000000000001000 code\n\
