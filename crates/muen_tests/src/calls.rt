@@ -1,8 +1,8 @@
 //! Whole calls over files and sinks in memory.
-use crate::held::{call, changed, file, has_pieces, numbers, text_of};
 use muen_outside::{MemFiles, MemSink};
 use std::alloc::Global;
 use std::test::Fail;
+use test_calls::{call, changed, file, has_pieces, numbers, text_of};
 
 pub(crate) const POLICY: &str = r#"{"processor":{"logicalCpus":1},
 "memoryBlocks":[{"name":"ram","physicalAddress":1048576,"size":65536}],
@@ -149,9 +149,9 @@ const FILES: [(&str, &str); 12] = [
 // They, and files of a page and of 5000 bytes; the calls of these digits fail.
 pub(crate) fn files(alloc: Global, policy: &str, fails: &str) -> Result<MemFiles, Fail> {
     let mut held = Vec::new(alloc);
-    held.push(file(alloc, "p", policy)?)?;
+    held.push(file(alloc, "p", policy.as_bytes())?)?;
     for (name, text) in FILES {
-        held.push(file(alloc, name, text)?)?;
+        held.push(file(alloc, name, text.as_bytes())?)?;
     }
     held.push((String::from_str(alloc, "page")?, vec![in alloc; 1; 4096]?))?;
     held.push((String::from_str(alloc, "long")?, vec![in alloc; 1; 5000]?))?;
@@ -320,8 +320,8 @@ fn faults(rt: HostRuntime) -> Result<(), Fail> {
 fn blocks(rt: HostRuntime) -> Result<(), Fail> {
     let alloc = rt.alloc();
     let mut held = Vec::new(alloc);
-    held.push(file(alloc, "loop", LOOP)?)?;
-    held.push(file(alloc, "long", "end 3000")?)?;
+    held.push(file(alloc, "loop", LOOP.as_bytes())?)?;
+    held.push(file(alloc, "long", b"end 3000")?)?;
     let mut files = MemFiles::make(held, Vec::new(alloc));
     let mut out = MemSink::make(alloc, 200_000, Vec::new(alloc), 0)?;
     let whole = call(alloc, "boot loop long", &mut files, &mut out)?;
@@ -345,7 +345,7 @@ boot s longer | 3 muen: file longer has 16777217 bytes"#;
 fn long_files(rt: HostRuntime) -> Result<(), Fail> {
     let alloc = rt.alloc();
     let mut held = Vec::new(alloc);
-    held.push(file(alloc, "p", POLICY)?)?;
+    held.push(file(alloc, "p", POLICY.as_bytes())?)?;
     for (name, length, policy) in [
         ("long", 4_194_305, ""),
         ("longer", 16_777_217, "s"),
@@ -358,7 +358,7 @@ fn long_files(rt: HostRuntime) -> Result<(), Fail> {
         let memory = r#"{"name":"r","size":4096,"content":{"file":"FILE","length":1}}"#;
         let text = FROM_FILES.replacen(alloc, "MEMORY", memory, 1)?;
         let text = text.as_str().replacen(alloc, "FILE", name, 1)?;
-        held.push(file(alloc, policy, text.as_str())?)?;
+        held.push(file(alloc, policy, text.as_str().as_bytes())?)?;
     }
     let mut files = MemFiles::make(held, Vec::new(alloc));
     let mut out = MemSink::make(alloc, 10, Vec::new(alloc), 0)?;

@@ -1,8 +1,8 @@
 //! Calls of `build`. Which bytes an image has is tested where it is packed.
 use crate::calls::{FROM_FILES, POLICY, files};
-use crate::held::{call, changed};
 use muen_outside::{MemFiles, MemSink};
 use std::test::Fail;
+use test_calls::{call, changed};
 
 // Whether an image stands under a name: the bytes with which it begins.
 fn has_image(files: &MemFiles, name: &str) -> bool {

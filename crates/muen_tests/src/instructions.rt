@@ -1,9 +1,9 @@
 //! Whole calls of `boot` on systems of one and of two subjects, over files and sinks in memory. The
 //! expected lines were worked out by hand.
-use crate::held::{call, changed, file, has_pieces};
 use muen_outside::{MemFiles, MemSink};
 use std::alloc::Global;
 use std::test::Fail;
+use test_calls::{call, changed, file, has_pieces};
 
 // A subject with a page to read and write, one to read, and the last page of guest addresses to read.
 const ONE: &str = r#"{"processor":{"logicalCpus":1},
@@ -277,8 +277,8 @@ end 2 | CODE=>01200000000040000c12010002000000
 // What a policy prints on a record.
 fn booted(alloc: Global, policy: &str, record: &str) -> Result<String, Fail> {
     let mut held = Vec::new(alloc);
-    held.push(file(alloc, "p", policy)?)?;
-    held.push(file(alloc, "r", record)?)?;
+    held.push(file(alloc, "p", policy.as_bytes())?)?;
+    held.push(file(alloc, "r", record.as_bytes())?)?;
     let mut files = MemFiles::make(held, Vec::new(alloc));
     let mut out = MemSink::make(alloc, 3000, Vec::new(alloc), 0)?;
     let ended = call(alloc, "boot p r", &mut files, &mut out)?;

@@ -6,8 +6,6 @@ mod calls;
 #[cfg(test)]
 mod elements;
 #[cfg(test)]
-mod held;
-#[cfg(test)]
 mod images;
 #[cfg(test)]
 mod instructions;

@@ -1,11 +1,11 @@
 //! Calls of `boot`. It prints what `run` prints of the image that `build` writes; and what a subject
 //! prints doesn't depend on one from which nothing flows to it.
-use crate::held::{Ended, call, changed, file, has_pieces};
 use crate::run_systems::{CHANNEL, DEVICE, EVENT, HANDOVER};
 use crate::systems::{CHOICE, GATEWAY, MONITOR, ONE, SHARED};
 use muen_outside::{MemFiles, MemSink};
 use std::alloc::Global;
 use std::test::Fail;
+use test_calls::{Ended, call, changed, file, has_pieces};
 
 // A file whose sixteen bytes behind the first eight are the code of ONE_RAN.
 const CODE_FILE: &[u8] = b"\xff\xff\xff\xff\xff\xff\xff\xff\

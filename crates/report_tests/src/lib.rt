@@ -5,8 +5,6 @@
 #[cfg(test)]
 mod boot_and_run;
 #[cfg(test)]
-mod held;
-#[cfg(test)]
 mod reports;
 #[cfg(test)]
 mod run_systems;

@@ -1,10 +1,10 @@
 //! Calls of `build`, and then of `run` on the image that was written.
-use crate::held::{Ended, call, file, numbers};
 use crate::run_systems::{CHANNEL, LEAVES};
 use crate::systems::GATEWAY;
 use muen_outside::{MemFiles, MemSink};
 use std::alloc::Global;
 use std::test::Fail;
+use test_calls::{Ended, call, file, numbers};
 
 // The image of a policy.
 fn image(alloc: Global, policy: &str) -> Result<Vec<u8>, Fail> {

@@ -1,28 +1,31 @@
-//! What the tests share: calls on files and sinks in memory, and documents with changes.
+//! What the tests of whole calls share: calls of `muen` on files and sinks in memory, and documents
+//! with changes.
+#![tactic(auto)]
+
 use muen_outside::{MemFiles, MemSink};
 use muen_top::muen;
 use std::alloc::Global;
 use std::test::Fail;
 
-// How a call ends: its status, and what the sinks hold.
+/// How a call ends: its status, and what the sinks hold.
 #[derive(Drop)]
-pub(crate) struct Ended {
+pub struct Ended {
     pub status: u8,
     pub out: String,
     pub err: String,
 }
 
 impl Ended {
-    // The status, a space, and what the second sink holds.
-    pub(crate) fn answer(&self, alloc: Global) -> Result<String, Fail> {
+    /// The status, a space, and what the second sink holds.
+    pub fn answer(&self, alloc: Global) -> Result<String, Fail> {
         let mut text = self.status.to_string(alloc)?;
         text.push(' ')?;
         text.push_str(self.err.as_str())?;
         Ok(text)
     }
 
-    // The same of a single line, without its end.
-    pub(crate) fn line(&self, alloc: Global) -> Result<String, Fail> {
+    /// The same of a single line, without its end.
+    pub fn line(&self, alloc: Global) -> Result<String, Fail> {
         let Some((line, "")) = self.err.as_str().split_once('\n') else {
             return Err(Fail::new("no line"));
         };
@@ -33,15 +36,15 @@ impl Ended {
     }
 }
 
-pub(crate) fn file(alloc: Global, name: &str, text: &str) -> Result<(String, Vec<u8>), Fail> {
+pub fn file(alloc: Global, name: &str, bytes: &[u8]) -> Result<(String, Vec<u8>), Fail> {
     Ok((
         String::from_str(alloc, name)?,
-        Vec::from_slice(alloc, text.as_bytes())?,
+        Vec::from_slice(alloc, bytes)?,
     ))
 }
 
-// The numbers of one digit each.
-pub(crate) fn numbers(alloc: Global, digits: &str) -> Result<Vec<u64>, Fail> {
+/// The numbers of one digit each.
+pub fn numbers(alloc: Global, digits: &str) -> Result<Vec<u64>, Fail> {
     let mut list = Vec::new(alloc);
     for digit in digits.as_bytes() {
         list.push(u64::from((*digit).saturating_sub(b'0')))?;
@@ -49,15 +52,15 @@ pub(crate) fn numbers(alloc: Global, digits: &str) -> Result<Vec<u64>, Fail> {
     Ok(list)
 }
 
-pub(crate) fn text_of(alloc: Global, bytes: &[u8]) -> Result<String, Fail> {
+pub fn text_of(alloc: Global, bytes: &[u8]) -> Result<String, Fail> {
     match String::from_utf8(bytes.to_vec(alloc)?) {
         Ok(text) => Ok(text),
         Err(_) => Err(Fail::new("no text")),
     }
 }
 
-// A call with these words, between which are spaces.
-pub(crate) fn call(
+/// A call with these words, between which are spaces.
+pub fn call(
     alloc: Global,
     words: &str,
     files: &mut MemFiles,
@@ -78,9 +81,9 @@ pub(crate) fn call(
     })
 }
 
-// The document with changes, between which are bars: the text before `=>` gives way at its first place
-// to that behind it.
-pub(crate) fn changed(alloc: Global, document: &str, changes: &str) -> Result<String, Fail> {
+/// The document with changes, between which are bars: the text before `=>` gives way at its first place
+/// to that behind it.
+pub fn changed(alloc: Global, document: &str, changes: &str) -> Result<String, Fail> {
     let mut text = String::from_str(alloc, document)?;
     for change in changes.split(" | ") {
         match change.split_once("=>") {
@@ -95,8 +98,8 @@ pub(crate) fn changed(alloc: Global, document: &str, changes: &str) -> Result<St
     Ok(text)
 }
 
-// Whether a text has these pieces, between which are three points: the first one at its begin.
-pub(crate) fn has_pieces(text: &str, pieces: &str) -> bool {
+/// Whether a text has these pieces, between which are three points: the first one at its begin.
+pub fn has_pieces(text: &str, pieces: &str) -> bool {
     match pieces.split_once("...") {
         Some((begin, others)) => {
             for piece in others.split("...") {
