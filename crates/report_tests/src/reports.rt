@@ -132,7 +132,7 @@ fn faults(rt: HostRuntime) -> Result<(), Fail> {
     ] {
         let mut held = Vec::new(alloc);
         held.push(file(alloc, "p", FIXED.as_bytes())?)?;
-        let mut files = MemFiles::make(held, Vec::new(alloc));
+        let mut files = MemFiles::make(held, numbers(alloc, "1")?);
         let mut out = MemSink::make(alloc, 10, Vec::new(alloc), 0)?;
         let ended = call(alloc, words, &mut files, &mut out)?;
         assert_eq!(rt; ended.status, status, "{words}");
