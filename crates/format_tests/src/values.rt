@@ -1,7 +1,7 @@
 //! Values, with what they stand for.
-use policy_values::{byte_of, mode_of, msr_rights_of, number_of, rights_of, role_of};
 use muen_num::Mode;
 use policy_types::{MsrRights, Role};
+use policy_values::{byte_of, mode_of, msr_rights_of, number_of, rights_of, role_of};
 use serde_json::Value;
 use std::alloc::Global;
 use std::test::Fail;
