@@ -2,7 +2,7 @@
 use Rattle.std.proofs.Common.{◌≡◌, ℕ, ◌+◌, cond, map, Bool, true, false, ◌||◌, List, Option, Some, None, refl, sym, ap, ◌∙◌, subst}
 use Rattle.std.specs.Prelude.{option_map, slice_get}
 use Rattle.std.specs.Str.{bytes_eq}
-use Rattle.expand_grants.specs.Resources.{are_granted, is_granted}
+use Rattle.expand_grants.specs.Resources.{are_granted}
 use Rattle.guest_step.specs.Step.{MsrWrite, Stored, World, step}
 use Rattle.guest_step.specs.declared.reach.Reach.TheVariants.{Reached}
 use Rattle.machine_meaning.specs.Memory.{le_number}
@@ -21,7 +21,7 @@ use Rattle.policy_types.specs.declared.source.Subject.{Subject}
 use Rattle.state_page.specs.StatePage.{page_bytes}
 use Rattle.policy_meaning.specs.Frames.{group_of}
 use Rattle.subject_state.specs.declared.SubjectState.{SubjectState}
-use Rattle.subject_model.specs.Alone.{Inbox, MsrValues, Own, OwnState, TurnAnswer, alone, bytes_in, delivered, input_byte, input_of, msr_input, reach_by, solo_turn, stepped, thing_in, unless_delivered, vector_for, waits}
+use Rattle.subject_model.specs.Alone.{Inbox, MsrValues, Own, OwnState, TurnAnswer, alone, bytes_in, delivered, input_byte, input_of, reach_by, solo_turn, stepped, thing_in, unless_delivered, vector_for, waits}
 use Rattle.subject_model.specs.Laws.{AreOthers, KeepsOthers, StoresElsewhere}
 use Rattle.subject_model.specs.System.{System, answered, happens, happens_as, named, pends_now, raised_by, took, with_active, with_own, with_store, with_write}
 use Rattle.subject_model.proofs.KeyLaws.{names_apart, things_apart, value_changed, value_other}
@@ -43,27 +43,21 @@ halted_idle own mine inbox halted none = by_stop own mine inbox mine.state.stopp
 
 -- ---- an inbox by its parts
 
-abbrev world_by : Own → MsrValues → (Thing → List ℕ) → List (ℕ × ℕ) → ℕ → World Thing
-world_by own values bytes ports tick = record {
-  look = λ kind addr. reach_by kind addr (access_of own.windows addr kind);
-  bytes = bytes;
-  input = input_of own.ports ports;
-  output = are_granted own.ports;
-  msr = msr_input own.msrs values;
-  sets_msr = λ index. is_granted own.msrs index true;
-  tick = tick;
-}
+-- the world of a subject by the parts of its inbox
+abbrev world_by : Own → MsrValues → Inbox → (Thing → List ℕ) → List (ℕ × ℕ) → ℕ → World Thing
+world_by own values inbox bytes ports tick =
+    record (alone own values inbox) { bytes = bytes; input = input_of own.ports ports; tick = tick }
 
-abbrev turn_by : Own → OwnState → (Thing → List ℕ) → List (ℕ × ℕ) → List ℕ → List ℕ → Bool → ℕ → TurnAnswer
-turn_by own mine bytes ports now later first tick =
+abbrev turn_by : Own → OwnState → Inbox → (Thing → List ℕ) → List (ℕ × ℕ) → List ℕ → List ℕ → Bool → ℕ → TurnAnswer
+turn_by own mine inbox bytes ports now later first tick =
     cond mine.state.stopped (waits mine.state)
     (unless_delivered mine.state (cond mine.state.interrupts (delivered now later (first || mine.state.exited)) None)
-    (cond mine.state.halted (waits mine.state) (stepped own.traps (step (world_by own mine.msrs bytes ports tick) mine.state))))
+    (cond mine.state.halted (waits mine.state) (stepped own.traps (step (world_by own mine.msrs inbox bytes ports tick) mine.state))))
 
 pub inbox_alone : (own : Own) (mine : OwnState) (a b : Inbox) → ((x : Thing) → bytes_in a.things x ≡ bytes_in b.things x) → a.ports ≡ b.ports → a.now ≡ b.now → a.later ≡ b.later → a.first ≡ b.first → a.tick ≡ b.tick → solo_turn own mine a ≡ solo_turn own mine b
 unfolding solo_turn
 inbox_alone own mine a b bytes ports now later first tick =
-    λ i. turn_by own mine (λ x. bytes x i) (ports i) (now i) (later i) (first i) (tick i)
+    λ i. turn_by own mine a (λ x. bytes x i) (ports i) (now i) (later i) (first i) (tick i)
 
 pub window_alone : (own : Own) (values : MsrValues) (inbox : Inbox) (kind : Kind) (addr : ℕ) (x : Thing) (offset : ℕ) → (alone own values inbox).look kind addr ≡ Reached x offset → access_of own.windows addr kind ≡ byte x offset
 window_alone own values inbox kind addr x offset h = by_access (access_of own.windows addr kind) h
