@@ -2,15 +2,17 @@
 use Rattle.std.proofs.Common.{◌≡◌, ℕ, true, false, List, [], ◌∷◌, ◌++◌, length, Option, Some, None, sym, ap, subst, ◌∙◌}
 use Rattle.std.specs.Prelude.{nat_lt, if◌then◌else◌}
 use Rattle.std.specs.FinMap.{get}
+use Rattle.std.specs.Str.{bytes_eq}
+use Rattle.std.proofs.lemmas.Slice.Eq.{bytes_eq-Decides}
 use Rattle.muen_build.specs.Accepting.{Files, Grows, looks_of}
-use Rattle.muen_build.specs.Looks.{Explained, Follows, Look, Saw, Seen, document_look, look}
+use Rattle.muen_build.specs.Looks.{AreOthers, Explained, Follows, Look, Saw, Seen, ShowAll, document_look, look}
 use Rattle.muen_build.proofs.Looks.{explained, seen_also, seen_first, show_before, show_last}
 use Rattle.muen_build.proofs.Steps.{others_found, shown_among}
 use Rattle.muen_num.specs.declared.limits.TheConstants.{COMPONENT_FILE_MOST, POLICY_MOST}
 use Rattle.muen_outside.specs.States.{FilesState}
-use Rattle.muen_outside.specs.Store.{Reading, whole, absent, long, find_bytes, reading_of}
-use Rattle.muen_top.specs.FilesSeen.{SawToo, same, another, SawAfter, known, unknown, ShownAfter, ShownBoth}
-use Rattle.muen_top.specs.Loads.{NotReadAfter, NotReadToo, NotWithin}
+use Rattle.muen_outside.specs.Store.{Store, Reading, whole, absent, long, find_bytes, reading_of}
+use Rattle.muen_top.specs.FilesSeen.{SawAfter, known, unknown, ShownAfter}
+use Rattle.muen_top.specs.Loads.{NotReadAfter, NotWithin}
 use Rattle.muen_top.specs.declared.outcome.Stop.{Stop}
 use Rattle.muen_top.specs.declared.outcome.Stop.TheVariants.{Usage, Missing, TooLong, Refused, ImageRefused, RecordRefused, FileFault, NoMemory}
 
@@ -22,27 +24,6 @@ content_is most bytes (Some found) e =
       | true ↦ λ h. absurd (cc)
       | false ↦ λ h. cc
     ]) e
-
--- what two reads have seen, where a name that was read before isn't read again
-pub shown_both : (name name' : List ℕ) (most most' : ℕ) (bytes : List ℕ) (reading' : Reading) (old between mid new : FilesState) → Saw name most (whole bytes) old between → Follows old mid → SawToo name bytes name' most' reading' mid new → ShownBoth old.held name most (whole bytes) name' most' reading'
-shown_both name name' most most' bytes reading' old between mid new saw follows (same is eq) =
-    let one = explained old.held (look name most (whole bytes) ∷ []) (seen_first name most (whole bytes) old between saw) in
-    record {
-      files = one.files;
-      told = one.told;
-      shows = one.shows.0;
-      shows' =
-          ap (λ n. reading_of (get one.files n) most') is
-          ∙ ap (λ content. reading_of content most') (content_is most bytes (get one.files name) one.shows.0)
-          ∙ sym eq;
-    }
-shown_both name name' most most' bytes reading' old between mid new saw follows (another ne also) =
-    let first = seen_first name most (whole bytes) old between saw in
-    let both : Seen old.held (look name most (whole bytes) ∷ look name' most' reading' ∷ []) =
-    subst (λ held. Seen held (look name most (whole bytes) ∷ look name' most' reading' ∷ [])) follows.held
-    (seen_also (look name most (whole bytes) ∷ []) name' most' reading' mid new also (ne, tt) (subst (λ held. Seen held (look name most (whole bytes) ∷ [])) (sym follows.held) first)) in
-    let files = explained old.held (look name most (whole bytes) ∷ look name' most' reading' ∷ []) both in
-    record { files = files.files; told = files.told; shows = files.shows.0; shows' = files.shows.1.0 }
 
 -- what was seen after a policy's document
 pub explained_after : (policy bytes : List ℕ) (old between : FilesState) → Saw policy POLICY_MOST (whole bytes) old between → Follows old between → (after : List Look) → Grows between.held (document_look policy bytes ∷ []) after → Explained old.held after
@@ -76,35 +57,59 @@ whole_same a b e = cc (e)
 pub component_copied : {copied bytes : List ℕ} {o : Option (List ℕ)} → copied ≡ bytes → Some bytes ≡ o → o ≡ Some copied
 component_copied e is = sym is ∙ ap Some (sym e)
 
+module _ (looks : List Look) (name : List ℕ) (most : ℕ) (old new : FilesState) where
+  -- .. which gives no bytes: of a name of which the looks show what it holds
+  pub not_within : (bytes : List ℕ) → ((files : Store) → ShowAll files looks → get files name ≡ Some bytes) → (stop : Stop) → NotWithin name bytes most old new stop → NotReadAfter looks name most old new stop
+  not_within bytes is (TooLong n k) h = (h.0, known bytes is h.1, h.2)
+  not_within bytes is FileFault h = h
+  not_within bytes is NoMemory h = tt
+  not_within bytes is (Missing n) h = absurd h
+  not_within bytes is Usage h = absurd h
+  not_within bytes is (Refused r) h = absurd h
+  not_within bytes is (ImageRefused f) h = absurd h
+  not_within bytes is (RecordRefused r) h = absurd h
+
+-- of the name of one file that was read before
+module _ (before bytes name : List ℕ) (limit : ℕ) (same : bytes_eq name before ≡ true) (most : ℕ) (old new : FilesState) where
+  held_before : (files : Store) → ShowAll files (look before limit (whole bytes) ∷ []) → get files name ≡ Some bytes
+  held_before files s = ap (get files) ((bytes_eq-Decides name before).0 same) ∙ content_is limit bytes (get files before) s.0
+
+  pub known_before : (reading : Reading) → reading ≡ reading_of (Some bytes) most → SawAfter (look before limit (whole bytes) ∷ []) name most reading old new
+  known_before reading eq = known bytes held_before eq
+
+  pub not_before : (stop : Stop) → NotWithin name bytes most old new stop → NotReadAfter (look before limit (whole bytes) ∷ []) name most old new stop
+  not_before stop h = not_within (look before limit (whole bytes) ∷ []) name most old new bytes held_before stop h
+
+module _ (l : Look) (ls : List Look) (name : List ℕ) (most : ℕ) (old new : FilesState) where
+  -- after one look, and so after more, at other names
+  pub after_more : (reading : Reading) → AreOthers ls name → SawAfter (l ∷ []) name most reading old new → SawAfter (l ∷ ls) name most reading old new
+  after_more reading others (known content is eq) = known content (λ files s. is files (s.0, tt)) eq
+  after_more reading others (unknown other also) = unknown (other.0, others) also
+
+  pub not_after_more : (stop : Stop) → AreOthers ls name → NotReadAfter (l ∷ []) name most old new stop → NotReadAfter (l ∷ ls) name most old new stop
+  not_after_more (Missing n) others h = (h.0, after_more absent others h.1, h.2)
+  not_after_more (TooLong n k) others h = (h.0, after_more (long k) others h.1, h.2)
+  not_after_more FileFault others h = h
+  not_after_more NoMemory others h = tt
+  not_after_more Usage others h = absurd h
+  not_after_more (Refused r) others h = absurd h
+  not_after_more (ImageRefused f) others h = absurd h
+  not_after_more (RecordRefused r) others h = absurd h
+
 module _ (policy document : List ℕ) (found : Files) (name : List ℕ) (most : ℕ) (old new : FilesState) where
+  held_by_component : (bytes : List ℕ) → find_bytes name found ≡ Some bytes → (files : Store) → ShowAll files (looks_of policy document found) → get files name ≡ Some bytes
+  held_by_component bytes is files s = content_is COMPONENT_FILE_MOST bytes (get files name) (shown_among files found name bytes s.1 is)
+
   -- a component file that was read
   pub of_component : (bytes : List ℕ) (reading : Reading) → find_bytes name found ≡ Some bytes → reading ≡ reading_of (Some bytes) most → SawAfter (looks_of policy document found) name most reading old new
-  of_component bytes reading is eq =
-      known bytes (λ files s. content_is COMPONENT_FILE_MOST bytes (get files name) (shown_among files found name bytes s.1 is)) eq
+  of_component bytes reading is eq = known bytes (held_by_component bytes is) eq
+
+  pub no_component : (bytes : List ℕ) (stop : Stop) → find_bytes name found ≡ Some bytes → NotWithin name bytes most old new stop → NotReadAfter (looks_of policy document found) name most old new stop
+  no_component bytes stop is h = not_within (looks_of policy document found) name most old new bytes (held_by_component bytes is) stop h
 
   -- the policy's document, or another file
-  pub of_another : (reading : Reading) → find_bytes name found ≡ None → SawToo policy document name most reading old new → SawAfter (looks_of policy document found) name most reading old new
-  of_another reading none (same is eq) =
-      known document (λ files s. ap (get files) is ∙ content_is POLICY_MOST document (get files policy) s.0) eq
-  of_another reading none (another ne also) = unknown (ne, others_found found name none) also
+  pub of_another : (reading : Reading) → find_bytes name found ≡ None → SawAfter (document_look policy document ∷ []) name most reading old new → SawAfter (looks_of policy document found) name most reading old new
+  of_another reading none h = after_more (document_look policy document) _ name most old new reading (others_found found name none) h
 
-  -- .. which gives no bytes
-  pub no_component : (bytes : List ℕ) (stop : Stop) → find_bytes name found ≡ Some bytes → NotWithin name bytes most old new stop → NotReadAfter (looks_of policy document found) name most old new stop
-  no_component bytes (TooLong n k) is h = (h.0, of_component bytes (long k) is h.1, h.2)
-  no_component bytes FileFault is h = h
-  no_component bytes NoMemory is h = tt
-  no_component bytes (Missing n) is h = absurd h
-  no_component bytes Usage is h = absurd h
-  no_component bytes (Refused r) is h = absurd h
-  no_component bytes (ImageRefused f) is h = absurd h
-  no_component bytes (RecordRefused r) is h = absurd h
-
-  pub no_other : (stop : Stop) → find_bytes name found ≡ None → NotReadToo policy document name most old new stop → NotReadAfter (looks_of policy document found) name most old new stop
-  no_other (Missing n) none h = (h.0, of_another absent none h.1, h.2)
-  no_other (TooLong n k) none h = (h.0, of_another (long k) none h.1, h.2)
-  no_other FileFault none h = h
-  no_other NoMemory none h = tt
-  no_other Usage none h = absurd h
-  no_other (Refused r) none h = absurd h
-  no_other (ImageRefused f) none h = absurd h
-  no_other (RecordRefused r) none h = absurd h
+  pub no_other : (stop : Stop) → find_bytes name found ≡ None → NotReadAfter (document_look policy document ∷ []) name most old new stop → NotReadAfter (looks_of policy document found) name most old new stop
+  no_other stop none h = not_after_more (document_look policy document) _ name most old new stop (others_found found name none) h

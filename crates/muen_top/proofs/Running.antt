@@ -7,7 +7,7 @@ use Rattle.image_form.specs.declared.fault.ImageFault.TheVariants.{Short, Bad, T
 use Rattle.image_load.specs.Placing.{image_bench, image_record}
 use Rattle.image_pack.specs.Image.{image as image_form}
 use Rattle.image_pack.specs.declared.parts.Image.{Image}
-use Rattle.muen_build.specs.Looks.{Follows, Saw, look}
+use Rattle.muen_build.specs.Looks.{Follows, Look, Saw, look}
 use Rattle.muen_build.proofs.Looks.{explained, seen_first}
 use Rattle.muen_num.specs.Answers.{Answers}
 use Rattle.muen_num.specs.declared.limits.TheConstants.{IMAGE_MOST, RECORD_MOST}
@@ -23,14 +23,14 @@ use Rattle.record_text.specs.declared.record.Record.{Record}
 use Rattle.record_text.proofs.Mapped.{mapped_err, mapped_ok}
 use Rattle.muen_top.specs.Answers.{Answer, prints, stops, missing, too_long, record_refused, of_file, named_answer, unpacked_answer, run_answer}
 use Rattle.muen_top.specs.Commands.{run}
-use Rattle.muen_top.specs.FilesSeen.{SawToo, ShownBoth}
-use Rattle.muen_top.specs.Loads.{NotRead, NotReadToo}
+use Rattle.muen_top.specs.FilesSeen.{SawAfter, ShownAfter}
+use Rattle.muen_top.specs.Loads.{NotRead, NotReadAfter}
 use Rattle.muen_top.specs.PolicyCommands.{Gives, Stops}
 use Rattle.muen_top.specs.Stops.{stop_of_fault, stop_of_image_fault}
 use Rattle.muen_top.specs.declared.outcome.Stop.{Stop}
 use Rattle.muen_top.specs.declared.outcome.Stop.TheVariants.{Usage, Missing, TooLong, Refused, ImageRefused, RecordRefused, FileFault, NoMemory}
 use Rattle.muen_top.proofs.Told.{some_files}
-use Rattle.muen_top.proofs.FilesSeen.{shown_both}
+use Rattle.muen_top.proofs.FilesSeen.{shown_after}
 use Rattle.muen_top.proofs.PolicyCommands.{RestsOn, not_read, out_of_memory}
 
 -- ---- the answer
@@ -79,18 +79,21 @@ module _ (image name : List ℕ) (old mid : FilesState) (bytes : List ℕ) (saw 
   -- ---- the record's file, where the image is one
 
   module _ (follows : Follows old mid) (i : Image) (is : unpacked image_form bytes ≡ Ok i) (new : FilesState) where
-    abbrev Both : Reading → Type 0
-    Both reading = ShownBoth old.held image IMAGE_MOST (whole bytes) name RECORD_MOST reading
+    abbrev seen : List Look
+    seen = look image IMAGE_MOST (whole bytes) ∷ []
 
-    both : (reading : Reading) → SawToo image bytes name RECORD_MOST reading mid new → Both reading
-    both reading too = shown_both image name IMAGE_MOST RECORD_MOST bytes reading old mid mid new saw follows too
+    abbrev Both : Reading → Type 0
+    Both reading = ShownAfter old.held seen name RECORD_MOST reading
+
+    both : (reading : Reading) → SawAfter seen name RECORD_MOST reading mid new → Both reading
+    both reading after = shown_after seen name RECORD_MOST reading old mid new (seen_first image IMAGE_MOST (whole bytes) old mid saw) follows after
 
     after_both : (reading : Reading) (s : Both reading) → run_answer s.files image name ≡ of_file name (λ found. named_answer i (record_of found (image_bench i))) reading
     after_both reading s =
-        by_image s.files image name bytes (Ok i) s.shows is
+        by_image s.files image name bytes (Ok i) s.shows.0 is
         ∙ ap (of_file name (λ found. named_answer i (record_of found (image_bench i)))) s.shows'
 
-    pub input_not_read : (stop : Stop) → NotReadToo image bytes name RECORD_MOST mid new stop → Stops (run image name) old new stop
+    pub input_not_read : (stop : Stop) → NotReadAfter seen name RECORD_MOST mid new stop → Stops (run image name) old new stop
     input_not_read (Missing n) h =
         let s = both absent h.1 in
         record {
@@ -119,18 +122,18 @@ module _ (image name : List ℕ) (old mid : FilesState) (bytes : List ℕ) (saw 
     of_fault s fault answer stop made =
         subst (Stops (run image name) old new) (sym made) (record { files = s.files; told = s.told; stops = answer })
 
-    pub input_refused_so : (text : List ℕ) (fault : RecordFault) (stop : Stop) → SawToo image bytes name RECORD_MOST (whole text) mid new → Answers NoMemoryForRecord (mapped (image_record i) (record_of text (image_bench i))) (Err fault) → stop ≡ stop_of_fault fault → Stops (run image name) old new stop
-    input_refused_so text fault stop too (inl is) made =
+    pub input_refused_so : (text : List ℕ) (fault : RecordFault) (stop : Stop) → SawAfter seen name RECORD_MOST (whole text) mid new → Answers NoMemoryForRecord (mapped (image_record i) (record_of text (image_bench i))) (Err fault) → stop ≡ stop_of_fault fault → Stops (run image name) old new stop
+    input_refused_so text fault stop after (inl is) made =
         subst (Stops (run image name) old new) (sym (made ∙ ap stop_of_fault is)) (no_memory image name old new)
-    input_refused_so text fault stop too (inr read) made =
-        let s = both (whole text) too in
+    input_refused_so text fault stop after (inr read) made =
+        let s = both (whole text) after in
         let named = mapped_err (image_record i) (record_of text (image_bench i)) fault read in
         let answer : run_answer s.files image name ≡ stops (record_refused fault) = after_both (whole text) s ∙ ap (named_answer i) named in
         of_fault s fault answer stop made
 
-    pub input_read : (text : List ℕ) (input : Record) → SawToo image bytes name RECORD_MOST (whole text) mid new → mapped (image_record i) (record_of text (image_bench i)) ≡ Ok input → Gives (run image name) old (prints (image_text i input))
-    input_read text input too read =
-        let s = both (whole text) too in
+    pub input_read : (text : List ℕ) (input : Record) → SawAfter seen name RECORD_MOST (whole text) mid new → mapped (image_record i) (record_of text (image_bench i)) ≡ Ok input → Gives (run image name) old (prints (image_text i input))
+    input_read text input after read =
+        let s = both (whole text) after in
         let named = mapped_ok (image_record i) (record_of text (image_bench i)) input read in
         record {
           files = s.files;

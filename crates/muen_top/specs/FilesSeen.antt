@@ -1,22 +1,9 @@
 -- What a command has seen of files that it reads one after another.
-use Rattle.std.specs.Prelude.{◌≡◌, ℕ, false, List, Option, Some, IfSome}
-use Rattle.std.specs.Str.{bytes_eq}
+use Rattle.std.specs.Prelude.{◌≡◌, ℕ, List, Option, Some, IfSome}
 use Rattle.std.specs.FinMap.{get}
 use Rattle.muen_build.specs.Looks.{AreOthers, Look, Saw, ShowAll}
 use Rattle.muen_outside.specs.States.{FilesState}
 use Rattle.muen_outside.specs.Store.{Store, Reading, reading_of}
-
--- what a later read has seen: of a name that was read before, what was seen then stands for it, with the limit of this read
-pub data SawToo (before : List ℕ) (bytes : List ℕ) (name : List ℕ) (most : ℕ) (reading : Reading) (old new : FilesState) : Type 0 where
-  same : name ≡ before → reading ≡ reading_of (Some bytes) most → SawToo before bytes name most reading old new
-  another : bytes_eq name before ≡ false → Saw name most reading old new → SawToo before bytes name most reading old new
-
--- files that hold what is told show this under a name, and that under another
-pub record ShownBoth (held : Option Store) (name : List ℕ) (most : ℕ) (reading : Reading) (name' : List ℕ) (most' : ℕ) (reading' : Reading) : Type 0 where
-  pub files : Store
-  pub told : IfSome held (λ m. files ≡ m)
-  pub shows : reading_of (get files name) most ≡ reading
-  pub shows' : reading_of (get files name') most' ≡ reading'
 
 -- what a read has seen after these looks: of a name of which they show what it holds, that stands for it, with the limit of
 -- this read

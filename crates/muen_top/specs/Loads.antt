@@ -9,7 +9,7 @@ use Rattle.muen_outside.specs.Counts.{Rose}
 use Rattle.muen_outside.specs.States.{FilesState}
 use Rattle.muen_outside.specs.Store.{Store, absent, long, reading_of}
 use Rattle.policy_types.specs.declared.source.Source.{Source}
-use Rattle.muen_top.specs.FilesSeen.{SawAfter, SawToo}
+use Rattle.muen_top.specs.FilesSeen.{SawAfter}
 use Rattle.muen_top.specs.Runs.{OnlyMemory}
 use Rattle.muen_top.specs.declared.outcome.Stop.{Stop}
 use Rattle.muen_top.specs.declared.outcome.Stop.TheVariants.{Missing, TooLong, FileFault, NoMemory}
@@ -28,14 +28,6 @@ NotWithin name bytes most old new (TooLong n k) = (n.now ≡ name) × (long k �
 NotWithin name bytes most old new FileFault = Rose old.faults new.faults
 NotWithin name bytes most old new NoMemory = Unit {0}
 NotWithin name bytes most old new _ = ⊥
-
--- why a later read gives none
-abbrev pub NotReadToo : List ℕ → List ℕ → List ℕ → ℕ → FilesState → FilesState → Stop → Type 0
-NotReadToo before bytes name most old new (Missing n) = (n.now ≡ name) × SawToo before bytes name most absent old new × Rose old.misses new.misses
-NotReadToo before bytes name most old new (TooLong n k) = (n.now ≡ name) × SawToo before bytes name most (long k) old new × Rose old.misses new.misses
-NotReadToo before bytes name most old new FileFault = Rose old.faults new.faults
-NotReadToo before bytes name most old new NoMemory = Unit {0}
-NotReadToo before bytes name most old new _ = ⊥
 
 -- why a read after these looks gives none
 abbrev pub NotReadAfter : List Look → List ℕ → ℕ → FilesState → FilesState → Stop → Type 0

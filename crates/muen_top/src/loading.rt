@@ -1,9 +1,9 @@
 // How a command reads its files.
-ghost use Rattle.std.specs.Prelude.{◌≡◌, Some, IfOk, IfErr};
+ghost use Rattle.std.specs.Prelude.{◌≡◌, ℕ, [], ◌∷◌, Some, IfOk, IfErr};
 ghost use Rattle.muen_outside.specs.Store.{reading_of, whole};
-ghost use Rattle.muen_build.specs.Looks.{Follows, Saw};
-ghost use Rattle.muen_top.specs.FilesSeen.{SawToo};
-ghost use Rattle.muen_top.specs.Loads.{NotRead, NotReadToo, NotWithin};
+ghost use Rattle.muen_build.specs.Looks.{Follows, Saw, look};
+ghost use Rattle.muen_top.specs.FilesSeen.{SawAfter};
+ghost use Rattle.muen_top.specs.Loads.{NotRead, NotReadAfter, NotWithin};
 
 use crate::outcome::Stop;
 use muen_num::Seq;
@@ -56,8 +56,8 @@ pub(crate) fn within<'a, F: Files>(
     }
 }
 
-/// The bytes of a file, after those of the file `before`. Where both have one name, what was read stands
-/// for it.
+/// The bytes of a file, after those of the file `before`, whatever the limit was with which they were
+/// read. Where both have one name, what was read stands for it.
 pub(crate) fn load_too<'a, F: Files>(
     alloc: Global,
     before: &str,
@@ -66,8 +66,8 @@ pub(crate) fn load_too<'a, F: Files>(
     most: usize,
     files: &mut F,
 ) -> Result<Seq<u8>, Stop<'a>>
-    ensures ok { IfOk result (λ found. SawToo before.now bytes name.now most (whole found) (F.state files.old) (F.state files.new)) }
-    ensures err { IfErr result (NotReadToo before.now bytes name.now most (F.state files.old) (F.state files.new)) }
+    ensures ok { (limit : ℕ) → IfOk result (λ found. SawAfter (look before.now limit (whole bytes) ∷ []) name.now most (whole found) (F.state files.old) (F.state files.new)) }
+    ensures err { (limit : ℕ) → IfErr result (NotReadAfter (look before.now limit (whole bytes) ∷ []) name.now most (F.state files.old) (F.state files.new)) }
     ensures follows { Follows (F.state files.old) (F.state files.new) }
 {
     if name == before {

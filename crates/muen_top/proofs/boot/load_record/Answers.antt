@@ -1,5 +1,6 @@
 use Rattle.std.proofs.Common.{sym}
 use Rattle.std.proofs.lemmas.Result.{IfErr-weaker, IfOk-weaker}
+use Rattle.muen_num.specs.declared.limits.TheConstants.{POLICY_MOST}
 use Rattle.muen_outside.specs.Store.{whole}
 use Rattle.muen_top.proofs.FilesSeen.{component_copied, no_component, no_other, of_another, of_component, whole_same}
 use Rattle.muen_top.proofs.boot.load_record.Goals as goal
@@ -19,7 +20,7 @@ returns-in_ok-copy-in-Some-clause-err g c =
 -- none has
 
 pub returns-in-None-clause-ok : goal.returns-in-None-clause-ok
-returns-in-None-clause-ok g c = IfOk-weaker c.load_too.result _ _ (λ bytes is. of_another _ _ _ _ _ _ _ (whole bytes) (sym c.in-None.ensures) is) c.load_too.ensures.ok
+returns-in-None-clause-ok g c = IfOk-weaker c.load_too.result _ _ (λ bytes is. of_another _ _ _ _ _ _ _ (whole bytes) (sym c.in-None.ensures) is) (c.load_too.ensures.ok POLICY_MOST)
 
 pub returns-in-None-clause-err : goal.returns-in-None-clause-err
-returns-in-None-clause-err g c = IfErr-weaker c.load_too.result _ _ (λ stop is. no_other _ _ _ _ _ _ _ stop (sym c.in-None.ensures) is) c.load_too.ensures.err
+returns-in-None-clause-err g c = IfErr-weaker c.load_too.result _ _ (λ stop is. no_other _ _ _ _ _ _ _ stop (sym c.in-None.ensures) is) (c.load_too.ensures.err POLICY_MOST)

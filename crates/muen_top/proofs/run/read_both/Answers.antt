@@ -1,4 +1,5 @@
 use Rattle.std.proofs.lemmas.Result.{err_from_is_err_and}
+use Rattle.muen_num.specs.declared.limits.TheConstants.{IMAGE_MOST}
 use Rattle.muen_top.proofs.Running.{image_not_read, image_refused_so, input_not_read, input_read, input_refused_so}
 use Rattle.muen_top.proofs.run.read_both.Goals as goal
 
@@ -20,16 +21,16 @@ pub returns-in_err-bytes-2-clause-err : goal.returns-in_err-bytes-2-clause-err
 returns-in_err-bytes-2-clause-err g c =
     let left = err_from_is_err_and c.from_residual-in_err-bytes-2.result c.from_residual-in_err-bytes-2.ensures.1 in
     rw (left.1, left.2)
-    (input_not_read _ _ _ _ c.in_ok-bytes.bytes c.in_ok-bytes.ensures.ok c.in_ok-bytes.ensures.follows c.in_ok-parts.parts (rw c.items.ensures at c.in_ok-parts.ensures.exact) _ c.in_err-bytes-2.field-0.0 c.in_err-bytes-2.ensures.err)
+    (input_not_read _ _ _ _ c.in_ok-bytes.bytes c.in_ok-bytes.ensures.ok c.in_ok-bytes.ensures.follows c.in_ok-parts.parts (rw c.items.ensures at c.in_ok-parts.ensures.exact) _ c.in_err-bytes-2.field-0.0 (c.in_err-bytes-2.ensures.err IMAGE_MOST))
 
 -- the record is refused
 pub returns-in_err-input-clause-err : goal.returns-in_err-input-clause-err
 returns-in_err-input-clause-err g c =
     let left = err_from_is_err_and c.from_residual-in_err-input.result c.from_residual-in_err-input.ensures.1 in
     rw (left.1)
-    (input_refused_so _ _ _ _ c.in_ok-bytes.bytes c.in_ok-bytes.ensures.ok c.in_ok-bytes.ensures.follows c.in_ok-parts.parts (rw c.items.ensures at c.in_ok-parts.ensures.exact) _ c.in_ok-bytes-2.bytes c.in_err-input.field-0.0 left.0 c.in_ok-bytes-2.ensures.ok (rw c.items-2.ensures at c.in_err-input.ensures.exact) left.2)
+    (input_refused_so _ _ _ _ c.in_ok-bytes.bytes c.in_ok-bytes.ensures.ok c.in_ok-bytes.ensures.follows c.in_ok-parts.parts (rw c.items.ensures at c.in_ok-parts.ensures.exact) _ c.in_ok-bytes-2.bytes c.in_err-input.field-0.0 left.0 (c.in_ok-bytes-2.ensures.ok IMAGE_MOST) (rw c.items-2.ensures at c.in_err-input.ensures.exact) left.2)
 
 -- both are read
 pub returns-clause-ok : goal.returns-clause-ok
 returns-clause-ok g c =
-    input_read _ _ _ _ c.in_ok-bytes.bytes c.in_ok-bytes.ensures.ok c.in_ok-bytes.ensures.follows c.in_ok-parts.parts (rw c.items.ensures at c.in_ok-parts.ensures.exact) _ c.in_ok-bytes-2.bytes c.in_ok-input.input c.in_ok-bytes-2.ensures.ok (rw c.items-2.ensures at c.in_ok-input.ensures.exact)
+    input_read _ _ _ _ c.in_ok-bytes.bytes c.in_ok-bytes.ensures.ok c.in_ok-bytes.ensures.follows c.in_ok-parts.parts (rw c.items.ensures at c.in_ok-parts.ensures.exact) _ c.in_ok-bytes-2.bytes c.in_ok-input.input (c.in_ok-bytes-2.ensures.ok IMAGE_MOST) (rw c.items-2.ensures at c.in_ok-input.ensures.exact)
