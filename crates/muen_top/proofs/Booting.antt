@@ -35,7 +35,7 @@ use Rattle.sound_runs.proofs.ImageRuns.{image_bench_is, image_runs}
 use Rattle.muen_top.specs.Answers.{Answer, prints, stops, missing, too_long, record_refused, of_file, policy_answer, trace_answer, boot_answer}
 use Rattle.muen_top.specs.Commands.{boot}
 use Rattle.muen_top.specs.FilesSeen.{SawAfter, ShownAfter}
-use Rattle.muen_top.specs.Loads.{IsReadBack, IsReadOf, NotRead, NotReadAfter}
+use Rattle.muen_top.specs.Loads.{IsReadBack, IsReadOf, NotMade, refused, unmade, NotRead, NotReadAfter}
 use Rattle.muen_top.specs.PolicyCommands.{Gives, Stops}
 use Rattle.muen_top.specs.Runs.{OnlyMemory}
 use Rattle.muen_top.specs.Stops.{stop_of_end, stop_of_fault, stop_of_image_fault, stop_of_refusal}
@@ -113,7 +113,7 @@ module _ (policy name : List ℕ) (old between : FilesState) (bytes : List ℕ) 
         );
       }
 
-  pub policy_refused : (new : FilesState) (end : BuildEnd) (stop : Stop) → Ends (document_look policy bytes ∷ []) (RefusesDocument bytes) between new end → stop ≡ stop_of_end end → Stops (boot policy name) old new stop
+  policy_refused : (new : FilesState) (end : BuildEnd) (stop : Stop) → Ends (document_look policy bytes ∷ []) (RefusesDocument bytes) between new end → stop ≡ stop_of_end end → Stops (boot policy name) old new stop
   policy_refused new (RefusedPolicy r) stop (inl is) made =
       let out : stop ≡ NoMemory = made ∙ ap stop_of_refusal is in
       subst (Stops (boot policy name) old new) (sym out) (no_memory policy name old new)
@@ -135,7 +135,7 @@ module _ (policy name : List ℕ) (old between : FilesState) (bytes : List ℕ) 
     follows_mid = record { held = on.held ∙ follows.held; faults = omega (arith, follows.faults, on.faults); misses = omega (arith, follows.misses, on.misses) }
 
     -- its image is written and read again, unless memory was refused
-    pub parts_refused : (stop : Stop) → ((files : Store) → ShowAll files (looks_of policy bytes found) → OnlyMemory stop) → Stops (boot policy name) old mid stop
+    parts_refused : (stop : Stop) → ((files : Store) → ShowAll files (looks_of policy bytes found) → OnlyMemory stop) → Stops (boot policy name) old mid stop
     parts_refused stop h = only stop (h accepting.files accepting.shows)
       where
         only : (stop : Stop) → OnlyMemory stop → Stops (boot policy name) old mid stop
@@ -213,3 +213,9 @@ module _ (policy name : List ℕ) (old between : FilesState) (bytes : List ℕ) 
                 ∙ (ap prints (sym (image_runs p s.files b.bytes i text named.0 b.all_bytes b.image b.sound says))
                 ∙ ap (λ r. prints (image_text i r)) named.2));
           }
+
+  -- ---- the document gives no image
+
+  pub not_made : (mid : FilesState) (on : Follows between mid) (stop : Stop) → NotMade policy bytes between mid stop → Stops (boot policy name) old mid stop
+  not_made mid on stop (refused end ends made) = policy_refused mid end stop ends made
+  not_made mid on stop (unmade found grows only) = parts_refused mid found grows on stop only

@@ -1,16 +1,19 @@
 -- What reading a command's files comes to.
-use Rattle.std.specs.Prelude.{◌≡◌, ℕ, List, Some, Result, Ok, Err}
+use Rattle.std.specs.Prelude.{◌≡◌, ℕ, List, [], ◌∷◌, Some, Result, Ok, Err}
 use Rattle.image_form.specs.Form.{IsBytes}
 use Rattle.image_meaning.specs.Sound.{IsSound}
 use Rattle.image_pack.specs.Parts.{IsImage}
 use Rattle.image_pack.specs.declared.parts.Image.{Image}
-use Rattle.muen_build.specs.Looks.{Look, Saw}
+use Rattle.muen_build.specs.Accepting.{Accepts, Ends, Files, Grows, RefusesDocument, looks_of}
+use Rattle.muen_build.specs.Looks.{Look, Saw, ShowAll, document_look}
+use Rattle.muen_build.specs.declared.accepted.BuildEnd.{BuildEnd}
 use Rattle.muen_outside.specs.Counts.{Rose}
 use Rattle.muen_outside.specs.States.{FilesState}
 use Rattle.muen_outside.specs.Store.{Store, absent, long, reading_of}
 use Rattle.policy_types.specs.declared.source.Source.{Source}
 use Rattle.muen_top.specs.FilesSeen.{SawAfter}
 use Rattle.muen_top.specs.Runs.{OnlyMemory}
+use Rattle.muen_top.specs.Stops.{stop_of_end}
 use Rattle.muen_top.specs.declared.outcome.Stop.{Stop}
 use Rattle.muen_top.specs.declared.outcome.Stop.TheVariants.{Missing, TooLong, FileFault, NoMemory}
 
@@ -50,3 +53,17 @@ pub record IsReadBack (p : Source) (files : Store) (i : Image) : Type 0 where
   pub all_bytes : IsBytes bytes
   pub image : IsImage bytes i
   pub sound : IsSound p files i
+
+-- ---- what a policy's document gives, after the look at it
+
+-- the files that its contents name, and its image, read again
+pub record IsMade (policy document : List ℕ) (old : FilesState) (found : Files) (i : Image) : Type 0 where
+  pub source : Source
+  pub grows : Grows old.held (document_look policy document ∷ []) (looks_of policy document found)
+  pub accepts : Accepts (looks_of policy document found) document source
+  pub back : (files : Store) → ShowAll files (looks_of policy document found) → IsReadBack source files i
+
+-- why it gives none: the policy isn't accepted, or memory was refused for the image
+pub data NotMade (policy document : List ℕ) (old new : FilesState) (stop : Stop) : Type 0 where
+  refused : (end : BuildEnd) → Ends (document_look policy document ∷ []) (RefusesDocument document) old new end → stop ≡ stop_of_end end → NotMade policy document old new stop
+  unmade : (found : Files) → Grows old.held (document_look policy document ∷ []) (looks_of policy document found) → ((files : Store) → ShowAll files (looks_of policy document found) → OnlyMemory stop) → NotMade policy document old new stop

@@ -16,7 +16,7 @@ ghost use Rattle.muen_top.specs.Answers.{prints};
 ghost use Rattle.muen_top.specs.Calls.{Came};
 ghost use Rattle.muen_top.specs.Commands.{boot as boot_command};
 ghost use Rattle.muen_top.specs.FilesSeen.{SawAfter};
-ghost use Rattle.muen_top.specs.Loads.{IsReadBack, IsReadOf, NotReadAfter};
+ghost use Rattle.muen_top.specs.Loads.{IsMade, IsReadBack, IsReadOf, NotMade, NotReadAfter};
 ghost use Rattle.muen_top.specs.PolicyCommands.{Gives, Stops};
 ghost use Rattle.muen_top.specs.Runs.{OnlyMemory};
 
@@ -87,6 +87,32 @@ fn load_record<'a, F: Files>(
     }
 }
 
+// The image of a policy, and the files that its contents name.
+#[derive(Drop)]
+struct Made {
+    parts: Parts,
+    files: ComponentFiles,
+}
+
+// The image of the policy of this document, if it is accepted.
+fn make<'a, F: Files>(
+    alloc: Global,
+    policy: &str,
+    document: &[u8],
+    files: &mut F,
+) -> Result<Made, Stop<'a>>
+    ensures ok { IfOk result (λ m. IsMade policy.now document.now (F.state files.old) m.files m.parts) }
+    ensures err { IfErr result (NotMade policy.now document.now (F.state files.old) (F.state files.new)) }
+    ensures follows { Follows (F.state files.old) (F.state files.new) }
+{
+    let accepted = accept(alloc, policy, document, files)?;
+    let parts = parts_of(alloc, policy, document, &accepted.placed, &accepted.files)?;
+    Ok(Made {
+        parts,
+        files: accepted.files,
+    })
+}
+
 // The image of the policy of this file, and the record of that one.
 fn read_both<'a, F: Files>(
     alloc: Global,
@@ -100,15 +126,9 @@ fn read_both<'a, F: Files>(
     ensures follows { Follows (F.state files.old) (F.state files.new) }
 {
     let document = load(alloc, policy, POLICY_MOST, files)?;
-    let accepted = accept(alloc, policy, document.items(), files)?;
-    let parts = parts_of(
-        alloc,
-        policy,
-        document.items(),
-        &accepted.placed,
-        &accepted.files,
-    )?;
-    let bytes = load_record(alloc, policy, document, &accepted.files, inputs, files)?;
+    let made = make(alloc, policy, document.items(), files)?;
+    let bytes = load_record(alloc, policy, document, &made.files, inputs, files)?;
+    let parts = made.parts;
     let input = read_record(alloc, &parts, bytes.items())?;
     Ok(Loaded { parts, input })
 }
