@@ -81,5 +81,7 @@ pub fn build<F: Files>(
         placed,
         files: found,
     } = accept(alloc, name, document, files)?;
-    Ok(image(alloc, name, document, &placed, &found)?)
+    let image = image(alloc, name, document, &placed, &found);
+    drop(placed);
+    Ok(image?)
 }

@@ -25,7 +25,7 @@ use crate::outcome::{Outcome, Stop};
 use crate::run::{Loaded, run_image};
 use image_load::read_record;
 use image_pack::{Parts, unpack};
-use muen_build::{ComponentFiles, accept, image};
+use muen_build::{Accepted, ComponentFiles, accept, image};
 use muen_num::limits::{POLICY_MOST, RECORD_MOST};
 use muen_num::{NoMemory, Seq};
 use muen_outside::{Files, Sink};
@@ -105,11 +105,15 @@ fn make<'a, F: Files>(
     ensures err { IfErr result (NotMade policy.now document.now (F.state files.old) (F.state files.new)) }
     ensures follows { Follows (F.state files.old) (F.state files.new) }
 {
-    let accepted = accept(alloc, policy, document, files)?;
-    let parts = parts_of(alloc, policy, document, &accepted.placed, &accepted.files)?;
+    let Accepted {
+        placed,
+        files: found,
+    } = accept(alloc, policy, document, files)?;
+    let parts = parts_of(alloc, policy, document, &placed, &found);
+    drop(placed);
     Ok(Made {
-        parts,
-        files: accepted.files,
+        parts: parts?,
+        files: found,
     })
 }
 

@@ -4,23 +4,23 @@ use Rattle.muen_top.specs.Loads.{refused, unmade}
 use Rattle.muen_top.proofs.boot.make.Goals as goal
 
 -- the policy isn't accepted
-pub returns-in_err-accepted-clause-err : goal.returns-in_err-accepted-clause-err
-returns-in_err-accepted-clause-err g c =
+pub returns-in_err-placed-clause-err : goal.returns-in_err-placed-clause-err
+returns-in_err-placed-clause-err g c =
     let left = err_from_is_err_and c.from_residual.result c.from_residual.ensures.1 in
-    rw (left.1) (refused c.in_err-accepted.field-0.0 c.in_err-accepted.ensures.err left.2)
+    rw (left.1) (refused c.in_err-placed.field-0.0 c.in_err-placed.ensures.err left.2)
 
 -- memory was refused for its image
 pub returns-in_err-parts-clause-err : goal.returns-in_err-parts-clause-err
 returns-in_err-parts-clause-err g c =
     let left = err_from_is_err_and c.from_residual-in_err-parts.result c.from_residual-in_err-parts.ensures.1 in
-    rw (left.1, left.2) (unmade c.in_ok-accepted.accepted.files c.in_ok-accepted.ensures.grows c.in_err-parts.ensures.err)
+    rw (left.1, left.2) (unmade c.in_ok-placed.field-0.files c.in_ok-placed.ensures.grows c.in_err-parts.ensures.err)
 
 -- it is made
 pub returns-clause-ok : goal.returns-clause-ok
 returns-clause-ok g c =
     record {
-      source = source_of c.in_ok-accepted.accepted.placed.plain.lawful;
-      grows = c.in_ok-accepted.ensures.grows;
-      accepts = c.in_ok-accepted.ensures.accepts;
+      source = source_of c.in_ok-placed.field-0.placed.plain.lawful;
+      grows = c.in_ok-placed.ensures.grows;
+      accepts = c.in_ok-placed.ensures.accepts;
       back = c.in_ok-parts.ensures.ok;
     }

@@ -1,0 +1,16 @@
+use Rattle.policy_lawful.specs.Resolution.{source_of}
+use Rattle.muen_build.specs.Accepting.{looks_of}
+use Rattle.muen_build.proofs.image_bytes.build.Goals as goal
+
+-- the policy is accepted, and its image is written
+pub returns-clause-builds : goal.returns-clause-builds
+returns-clause-builds g c =
+    record {
+      after = looks_of c.args.name.now c.args.document.now c.in_ok-placed.field-0.files;
+      grows = c.in_ok-placed.ensures.grows;
+      built = λ files shows. record {
+        policy = source_of c.in_ok-placed.field-0.placed.plain.lawful;
+        accepted = c.in_ok-placed.ensures.accepts files shows;
+        is = c.in_ok-image.ensures files shows;
+      };
+    }
