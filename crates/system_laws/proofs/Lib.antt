@@ -1,3 +1,4 @@
 mod Each
 mod Untouched
 mod StatePages
+mod LastViews
