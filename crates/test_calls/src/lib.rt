@@ -11,12 +11,14 @@ use std::test::Fail;
 #[derive(Drop)]
 pub struct Ended {
     pub status: u8,
+    /// What was put to the output.
     pub out: String,
+    /// What was put to the error sink.
     pub err: String,
 }
 
 impl Ended {
-    /// The status, a space, and what the second sink holds.
+    /// The status, a space, and what was put to the error sink.
     pub fn answer(&self, alloc: Global) -> Result<String, Fail> {
         let mut text = self.status.to_string(alloc)?;
         text.push(' ')?;
@@ -24,7 +26,7 @@ impl Ended {
         Ok(text)
     }
 
-    /// The same of a single line, without its end.
+    /// The same without the end of the line. An error where other than one line was put.
     pub fn line(&self, alloc: Global) -> Result<String, Fail> {
         let Some((line, "")) = self.err.as_str().split_once('\n') else {
             return Err(Fail::new("no line"));
@@ -36,6 +38,7 @@ impl Ended {
     }
 }
 
+/// A file as `MemFiles` takes it: its name and its bytes.
 pub fn file(alloc: Global, name: &str, bytes: &[u8]) -> Result<(String, Vec<u8>), Fail> {
     Ok((
         String::from_str(alloc, name)?,
@@ -43,7 +46,7 @@ pub fn file(alloc: Global, name: &str, bytes: &[u8]) -> Result<(String, Vec<u8>)
     ))
 }
 
-/// The numbers of one digit each.
+/// The numbers of one digit each: the calls that fail, as `MemFiles` and `MemSink` take them.
 pub fn numbers(alloc: Global, digits: &str) -> Result<Vec<u64>, Fail> {
     let mut list = Vec::new(alloc);
     for digit in digits.as_bytes() {
@@ -52,6 +55,7 @@ pub fn numbers(alloc: Global, digits: &str) -> Result<Vec<u64>, Fail> {
     Ok(list)
 }
 
+/// Bytes as a text. An error where they are none.
 pub fn text_of(alloc: Global, bytes: &[u8]) -> Result<String, Fail> {
     match String::from_utf8(bytes.to_vec(alloc)?) {
         Ok(text) => Ok(text),
@@ -59,7 +63,7 @@ pub fn text_of(alloc: Global, bytes: &[u8]) -> Result<String, Fail> {
     }
 }
 
-/// A call with these words, between which are spaces.
+/// A call of `muen` with these words, between which are spaces; none where there is no text.
 pub fn call(
     alloc: Global,
     words: &str,
@@ -82,7 +86,7 @@ pub fn call(
 }
 
 /// The document with changes, between which are bars: the text before `=>` gives way at its first place
-/// to that behind it.
+/// to that behind it. An error where it has no place in the document.
 pub fn changed(alloc: Global, document: &str, changes: &str) -> Result<String, Fail> {
     let mut text = String::from_str(alloc, document)?;
     for change in changes.split(" | ") {
@@ -98,7 +102,8 @@ pub fn changed(alloc: Global, document: &str, changes: &str) -> Result<String, F
     Ok(text)
 }
 
-/// Whether a text has these pieces, between which are three points: the first one at its begin.
+/// Whether a text begins with the first of these pieces, between which are three points, and has the
+/// others anywhere; whether it is the piece where there is but one.
 pub fn has_pieces(text: &str, pieces: &str) -> bool {
     match pieces.split_once("...") {
         Some((begin, others)) => {
