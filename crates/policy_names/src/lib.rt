@@ -7,7 +7,7 @@ ghost use Rattle.muen_num.specs.Answers.{Answers};
 ghost use Rattle.policy_lawful.specs.Keeps.{Keeps};
 ghost use Rattle.policy_lawful.specs.Lawful.{names_broken, kept_or, kept_source};
 ghost use Rattle.policy_lawful.specs.Offences.{broken};
-ghost use Rattle.policy_lawful.specs.Resolution.{source_of, are_placed};
+ghost use Rattle.policy_lawful.specs.Resolution.{IsResolved, source_of, are_placed};
 ghost use Rattle.policy_lawful.specs.Rules.{offence_2};
 ghost use Rattle.policy_names.specs.Outline.{with_places};
 ghost use Rattle.policy_names.specs.Places.{StandsFor};
@@ -53,6 +53,17 @@ fn find_places(alloc: Global, scope: &Scope) -> Result<(Seq<Subject>, Scheduling
     ))
 }
 
+// The same, where the names are unique.
+#[tactic(auto, using(crate::proofs::Resolved::resolution))]
+fn places_of(alloc: Global, source: &Source) -> Result<(Seq<Subject>, Scheduling), Refusal>
+    ensures { let p = source.now in Keeps (names_broken p) (λ x. IsResolved (with_places p x.0 x.1) × (source_of (with_places p x.0 x.1) ≡ p)) result }
+{
+    let scope = Scope::of(alloc, source)?;
+    let places = find_places(alloc, &scope);
+    drop(scope);
+    places
+}
+
 /// Resolves the references of a policy.
 ///
 /// Answers `Rule` with the first offence against rule 1, that names are unique for each kind, else
@@ -62,9 +73,7 @@ fn find_places(alloc: Global, scope: &Scope) -> Result<(Seq<Subject>, Scheduling
 pub fn resolve(alloc: Global, source: Source) -> Result<Resolved, Refusal>
     ensures { Answers NoMemory (kept_or source (names_broken source)) (kept_source result) }
 {
-    let scope = Scope::of(alloc, &source)?;
-    let (subjects, scheduling) = find_places(alloc, &scope)?;
-    drop(scope);
+    let (subjects, scheduling) = places_of(alloc, &source)?;
     let Source {
         processor,
         memory_blocks,

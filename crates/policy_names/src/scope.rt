@@ -1,5 +1,6 @@
 //! What the elements of a policy may refer to.
 ghost use Rattle.std.specs.Prelude.{◌≡◌, ◌<◌, length, map, slice_get, None, Some, IfNone, IfSome};
+ghost use Rattle.std.specs.Option.{option_or};
 ghost use Rattle.policy_lawful.specs.Keeps.{Keeps};
 ghost use Rattle.policy_lawful.specs.Offences.{broken};
 ghost use Rattle.policy_lawful.specs.Rules.{offence_1};
@@ -47,9 +48,15 @@ fn index_hardware(alloc: Global, source: &Source) -> Result<(Index, Seq<DeviceNa
     Ok((devices, parts))
 }
 
+// The components and what they want.
+type Components = (Index, Seq<WantedNames>);
+
+// The events, the subjects and the groups.
+type Members = (Index, Index, Index);
+
 // The indexes of the components and of what they want.
 #[tactic(auto, unfolding(crate::specs::Parts::components_repeat), using(crate::proofs::Refusals::one_behind_another))]
-fn index_components(alloc: Global, source: &Source) -> Result<(Index, Seq<WantedNames>), Refusal>
+fn index_components(alloc: Global, source: &Source) -> Result<Components, Refusal>
     ensures { let p = source.now in Keeps (broken 1 (components_repeat p)) (λ x. (x.0 ≡ map (λ c. c.name) p.components) × (x.1 ≡ map names_of_wanted p.components)) result }
 {
     let components = Index::of(alloc, source.components.items())?;
@@ -59,13 +66,22 @@ fn index_components(alloc: Global, source: &Source) -> Result<(Index, Seq<Wanted
 
 // The indexes of the events, of the subjects and of the groups.
 #[tactic(auto, unfolding(crate::specs::Parts::members_repeat), using(crate::proofs::Refusals::one_behind_another))]
-fn index_members(alloc: Global, source: &Source) -> Result<(Index, Index, Index), Refusal>
+fn index_members(alloc: Global, source: &Source) -> Result<Members, Refusal>
     ensures { let p = source.now in Keeps (broken 1 (members_repeat p)) (λ x. (x.0 ≡ map (λ e. e.name) p.events) × (x.1 ≡ map (λ s. s.name) p.subjects) × (x.2 ≡ map (λ g. g.name) p.scheduling.groups)) result }
 {
     let events = Index::of(alloc, source.events.items())?;
     let subjects = Index::of(alloc, source.subjects.items())?;
     let groups = Index::of(alloc, source.scheduling.groups.items())?;
     Ok((events, subjects, groups))
+}
+
+// The indexes of the components and behind them.
+#[tactic(auto, using(crate::proofs::Refusals::one_behind_another))]
+fn index_software(alloc: Global, source: &Source) -> Result<(Components, Members), Refusal>
+    ensures { let p = source.now in Keeps (broken 1 (option_or (components_repeat p) (members_repeat p))) (λ x. (x.0.0 ≡ map (λ c. c.name) p.components) × (x.0.1 ≡ map names_of_wanted p.components) × (x.1.0 ≡ map (λ e. e.name) p.events) × (x.1.1 ≡ map (λ s. s.name) p.subjects) × (x.1.2 ≡ map (λ g. g.name) p.scheduling.groups)) result }
+{
+    let components = index_components(alloc, source)?;
+    Ok((components, index_members(alloc, source)?))
 }
 
 impl<'a> Scope<'a> {
@@ -83,8 +99,7 @@ impl<'a> Scope<'a> {
             source.memory.items(),
             source.channels.items(),
         )?;
-        let (components, wanted) = index_components(alloc, source)?;
-        let (events, subjects, groups) = index_members(alloc, source)?;
+        let ((components, wanted), (events, subjects, groups)) = index_software(alloc, source)?;
         Ok(Scope {
             source,
             devices,
