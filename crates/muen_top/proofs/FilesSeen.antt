@@ -58,7 +58,7 @@ pub component_copied : {copied bytes : List ℕ} {o : Option (List ℕ)} → cop
 component_copied e is = sym is ∙ ap Some (sym e)
 
 module _ (looks : List Look) (name : List ℕ) (most : ℕ) (old new : FilesState) where
-  -- .. which gives no bytes: of a name of which the looks show what it holds
+  -- a read that gives no bytes, of a name of which the looks show what it holds
   pub not_within : (bytes : List ℕ) → ((files : Store) → ShowAll files looks → get files name ≡ Some bytes) → (stop : Stop) → NotWithin name bytes most old new stop → NotReadAfter looks name most old new stop
   not_within bytes is (TooLong n k) h = (h.0, known bytes is h.1, h.2)
   not_within bytes is FileFault h = h
