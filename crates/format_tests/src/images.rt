@@ -11,15 +11,23 @@ use spelled::{CHOSEN, PLAIN, adler32, spelled};
 
 // What unpacking bytes answers, as a text: `image`, or the fault.
 fn answer(alloc: Global, bytes: &[u8]) -> Result<String, Fail> {
-    match unpack(alloc, bytes) {
-        Ok(_) => Ok(String::from_str(alloc, "image")?),
-        Err(fault) => Ok(fault.to_string(alloc)?),
+    match unpack(alloc, bytes).err() {
+        None => Ok(String::from_str(alloc, "image")?),
+        Some(fault) => Ok(fault.to_string(alloc)?),
     }
 }
 
 fn is_packed_as(alloc: Global, parts: &Parts, bytes: &[u8]) -> Result<bool, Fail> {
     let again = pack(alloc, parts)?;
     Ok(again.as_slice() == bytes)
+}
+
+// Whether the bytes are those of an image that is packed as these again.
+fn comes_back(alloc: Global, bytes: &[u8]) -> Result<bool, Fail> {
+    match unpack(alloc, bytes) {
+        Ok(parts) => is_packed_as(alloc, &parts, bytes),
+        Err(_) => Ok(false),
+    }
 }
 
 #[test]
@@ -29,10 +37,7 @@ fn there_and_back(rt: HostRuntime) -> Result<(), Fail> {
     assert_eq!(rt; bytes.len(), 42_576);
     // that of the bytes that `share/spell_image.py` spells of `examples/one_subject.json`
     assert_eq!(rt; adler32(&bytes), 0x8EB4_E317);
-    match unpack(alloc, &bytes) {
-        Ok(parts) => assert!(rt; is_packed_as(alloc, &parts, &bytes)?),
-        Err(fault) => assert!(rt; false, "{fault}"),
-    }
+    assert!(rt; comes_back(alloc, &bytes)?);
     Ok(())
 }
 
@@ -90,20 +95,30 @@ fn has_its_frames(image: &Image) -> Option<bool> {
     Some(major.ticks == 5 && minors.len() == 2 && as_told)
 }
 
+// The number of tau0, and whether the calls, the subjects, the device and the frames are as spelled.
+fn has_its_parts(alloc: Global, bytes: &[u8]) -> (Option<u16>, [Option<bool>; 4]) {
+    match unpack(alloc, bytes) {
+        Ok(parts) => {
+            let image = parts.image();
+            let has = [
+                has_its_calls(image),
+                has_its_subjects(image),
+                has_its_device(image),
+                has_its_frames(image),
+            ];
+            (image.header.tau0, has)
+        }
+        Err(_) => (None, [None; 4]),
+    }
+}
+
 #[test]
 fn parts_of_an_image(rt: HostRuntime) -> Result<(), Fail> {
     let bytes = spelled(rt.alloc(), CHOSEN)?;
-    match unpack(rt.alloc(), &bytes) {
-        Ok(parts) => {
-            let image = parts.image();
-            assert_eq!(rt; image.header.tau0, Some(4));
-            assert_eq!(rt; has_its_calls(image), Some(true));
-            assert_eq!(rt; has_its_subjects(image), Some(true));
-            assert_eq!(rt; has_its_device(image), Some(true));
-            assert_eq!(rt; has_its_frames(image), Some(true));
-            assert!(rt; is_packed_as(rt.alloc(), &parts, &bytes)?);
-        }
-        Err(fault) => assert!(rt; false, "{fault}"),
-    }
+    assert_eq!(rt;
+        has_its_parts(rt.alloc(), &bytes),
+        (Some(4), [Some(true); 4])
+    );
+    assert!(rt; comes_back(rt.alloc(), &bytes)?);
     Ok(())
 }
