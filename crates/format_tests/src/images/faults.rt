@@ -165,6 +165,12 @@ fn changed(alloc: Global, image: &[u8], changes: &str) -> Result<Vec<u8>, Fail> 
     Ok(bytes)
 }
 
+// What unpacking it answers.
+fn answer_with(alloc: Global, image: &[u8], changes: &str) -> Result<String, Fail> {
+    let bytes = changed(alloc, image, changes)?;
+    answer(alloc, &bytes)
+}
+
 #[test]
 fn faults(rt: HostRuntime) -> Result<(), Fail> {
     let alloc = rt.alloc();
@@ -172,8 +178,8 @@ fn faults(rt: HostRuntime) -> Result<(), Fail> {
         let image = spelled(alloc, words)?;
         for row in rows.split('\n') {
             let (want, changes) = row.split_once(" | ").ok_or("a row")?;
-            let bytes = changed(alloc, &image, changes)?;
-            assert_eq!(rt; answer(alloc, &bytes)?.as_str(), want, "{row}");
+            let found = answer_with(alloc, &image, changes)?;
+            assert_eq!(rt; found.as_str(), want, "{row}");
         }
     }
     Ok(())
