@@ -1,3 +1,5 @@
+pub mod Each
+pub mod SlotGroups
 pub mod PolicyFacts
 pub mod EventFacts
 pub mod MsrFacts

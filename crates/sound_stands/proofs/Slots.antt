@@ -1,11 +1,10 @@
 -- The plan of a sound image is that of its policy: it has as many CPUs, the same slots, and each group on the CPU of its members.
-use Rattle.std.proofs.Common.{◌≡◌, ℕ, ◌-◌, ◌<◌, Bool, true, false, List, [], ◌∷◌, map, Option, Some, None, refl, sym, ap, subst, ◌∙◌, inl, inr}
+use Rattle.std.proofs.Common.{◌≡◌, ℕ, ◌-◌, ◌<◌, true, false, List, [], ◌∷◌, map, Option, Some, None, refl, sym, ap, subst, ◌∙◌, inl, inr}
 use Rattle.std.specs.Prelude.{◌==◌, nat_lt, option_and_then, option_map, slice_get, slice_index_or}
 use Rattle.std.specs.Option.{option_map_or}
 use Rattle.std.specs.List.{flat_map, list_all}
-use Rattle.std.proofs.lemmas.Bool.{and_from, and_parts, cases_lt, eqb-true}
-use Rattle.std.proofs.lemmas.List.Concat.{flat_map-cons}
-use Rattle.std.proofs.lemmas.List.Folds.{list_all-append, list_all-map}
+use Rattle.std.proofs.lemmas.Bool.{and_parts, cases_lt, eqb-true}
+use Rattle.std.proofs.lemmas.List.Folds.{list_all-map}
 use Rattle.std.proofs.lemmas.Option.{slice_get-map}
 use Rattle.subject_model.specs.Clock.{ticks_of_majors}
 use Rattle.frame_clock.specs.FramePlace.{slot_in, ticks_of_majors as ticks_in_plan}
@@ -15,20 +14,20 @@ use Rattle.image_meaning.specs.Sound.{IsSound}
 use Rattle.image_pack.specs.ImageConditions.{KeepsConditions}
 use Rattle.image_pack.specs.declared.parts.Image.{Image}
 use Rattle.image_pack.specs.declared.parts.SubjectPart.{SubjectPart}
-use Rattle.image_plan.proofs.SlotLaws.{frame_slot, frames_at, frames_there, has_majors, major_ticks, ticks_of}
+use Rattle.image_plan.proofs.SlotLaws.{frames_at, frames_there, has_majors, major_ticks, ticks_of}
 use Rattle.image_plan.specs.Plan.{cpus_of, frame_of, frames_in, is_group_on, is_major, is_minor, is_plan}
 use Rattle.image_plan.specs.Slot.{Slot, frame_slots}
 use Rattle.image_plan.specs.declared.plan.GroupPart.{GroupPart}
 use Rattle.image_plan.specs.declared.plan.Major.{Major}
 use Rattle.image_plan.specs.declared.plan.Minor.{Minor}
 use Rattle.image_plan.specs.declared.plan.Plan.{Plan}
-use Rattle.muen_num.proofs.Lists.{passes_at}
+use Rattle.muen_num.proofs.Lists.{each_from, passes_at}
 use Rattle.muen_num.specs.Frame.{Frame}
-use Rattle.muen_num.specs.Range.{numbers_below}
 use Rattle.policy_meaning.specs.Contents.{Held}
 use Rattle.policy_meaning.specs.Frames.{frames_of}
 use Rattle.policy_types.specs.declared.source.Source.{Source}
 use Rattle.sound_stands.proofs.PlanFacts.{no_slots}
+use Rattle.sound_stands.proofs.SlotGroups.{at_slot}
 use Rattle.sound_stands.proofs.SubjectFacts.{subject_kept}
 
 -- ---- CPUs and slots
@@ -44,28 +43,11 @@ slots p files i sound cpu place tick low = ap (λ frames. slot_in frames place t
 
 -- ---- the groups of slots
 
-abbrev slot_on : List GroupPart → ℕ → Slot → Bool
-slot_on groups cpu s = is_group_on groups cpu s.group
-
-always : (b : Bool) (ks : List ℕ) → b ≡ true → list_all (λ k. b) ks ≡ true
-always b [] h = refl
-always b (k ∷ ks) h = and_from b (list_all (λ k. b) ks) h (always b ks h)
-
--- each tick of a minor frame is for the frame's group
-frame_on : (groups : List GroupPart) (cpu major : ℕ) (f : Minor) → is_minor groups cpu f ≡ true → list_all (slot_on groups cpu) (frame_slots major (frame_of f)) ≡ true
-frame_on groups cpu major f h =
-    let on = (and_parts (nat_lt 0 f.ticks) (is_group_on groups cpu f.group) h).1 in
-    list_all-map (slot_on groups cpu) (frame_slot major (frame_of f)) (numbers_below f.ticks) ∙ always (is_group_on groups cpu f.group) (numbers_below f.ticks) on
-
-frames_on : (groups : List GroupPart) (cpu major : ℕ) (fs : List Minor) → list_all (is_minor groups cpu) fs ≡ true → list_all (slot_on groups cpu) (flat_map (frame_slots major) (map frame_of fs)) ≡ true
-frames_on groups cpu major [] all = refl
-frames_on groups cpu major (f ∷ fs) all =
-    let parts = and_parts (is_minor groups cpu f) (list_all (is_minor groups cpu) fs) all in
-    let here = frame_slots major (frame_of f) in
-    let later = flat_map (frame_slots major) (map frame_of fs) in
-    ap (list_all (slot_on groups cpu)) (flat_map-cons (frame_slots major) (frame_of f) (map frame_of fs))
-    ∙ list_all-append (slot_on groups cpu) here later
-    ∙ and_from (list_all (slot_on groups cpu) here) (list_all (slot_on groups cpu) later) (frame_on groups cpu major f parts.0) (frames_on groups cpu major fs parts.1)
+-- each minor frame is for a group on its CPU
+frames_on : (groups : List GroupPart) (cpu : ℕ) (fs : List Minor) → list_all (is_minor groups cpu) fs ≡ true → list_all (λ f. is_group_on groups cpu f.group) (map frame_of fs) ≡ true
+frames_on groups cpu fs all =
+    list_all-map (λ f. is_group_on groups cpu f.group) frame_of fs
+    ∙ each_from (is_minor groups cpu) (λ f. is_group_on groups cpu f.group) (λ f h. (and_parts (nat_lt 0 f.ticks) (is_group_on groups cpu f.group) h).1) fs all
 
 -- a slot of a major frame of the plan
 in_major : (plan : Plan) (cpu : ℕ) (at : FramePlace) (tick : ℕ) (slot : Slot) → is_plan plan ≡ true → cpu < cpus_of plan → (o : Option Major) → slice_get plan.majors at.major ≡ o
@@ -74,7 +56,7 @@ in_major plan cpu at tick slot valid low None there is = absurd (cc (is))
 in_major plan cpu at tick slot valid low (Some m) there is =
     let major = passes_at (is_major plan.groups (cpus_of plan)) plan.majors at.major m (has_majors plan valid).each there in
     let each = (frames_there plan.groups (cpus_of plan) m cpu major low).each in
-    passes_at (slot_on plan.groups cpu) (flat_map (frame_slots at.major) (frames_at cpu m)) (tick - at.start) slot (frames_on plan.groups cpu at.major (slice_index_or m.cpus cpu []) each) is
+    at_slot (is_group_on plan.groups cpu) at.major (frames_at cpu m) (tick - at.start) slot (frames_on plan.groups cpu (slice_index_or m.cpus cpu []) each) is
 
 -- the group of a slot is on the CPU that has the slot
 pub group_of_slot : (plan : Plan) (cpu : ℕ) (at : FramePlace) (tick : ℕ) (slot : Slot) → is_plan plan ≡ true → cpu < cpus_of plan → slot_in (frames_in plan cpu) at tick ≡ Some slot → is_group_on plan.groups cpu slot.group ≡ true

@@ -2,7 +2,7 @@
 -- of another subject on the same CPU.
 use Rattle.std.proofs.Common.{◌≡◌, ℕ, zero, suc, ◌+◌, ◌-◌, ◌%◌, ◌<◌, ◌≤◌, ◌⊎◌, inl, inr, Bool, true, false, cond, not, List, [], ◌∷◌, ◌++◌, length, map, Option, Some, None, refl, sym, ap, subst, ◌∙◌, arith, true≢false}
 use Rattle.std.specs.Prelude.{◌==◌, ◌&&◌, is_some, nat_le, nat_lt, option_and_then, option_map, slice_get, unwrap_or}
-use Rattle.std.specs.List.{AllByRecursion, cons_option, filter_map, find, flat_map, list_all, list_any}
+use Rattle.std.specs.List.{AllByRecursion, filter_map, find, flat_map, list_all, list_any}
 use Rattle.std.specs.Str.{bytes_eq}
 use Rattle.std.proofs.lemmas.Bool.{and_from, and_parts, eqb-true, leb-true, ltb-true}
 use Rattle.std.proofs.lemmas.List.Folds.{list_all-map}
@@ -45,27 +45,15 @@ use Rattle.policy_types.specs.declared.source.Region.{Region}
 use Rattle.policy_types.specs.declared.source.Required.{Required}
 use Rattle.policy_types.specs.declared.source.Source.{Source}
 use Rattle.policy_types.specs.declared.source.Subject.{Subject}
+use Rattle.sound_stands.proofs.Each.{each_append, each_flat, each_some as each_made, if_some}
 use Rattle.sound_stands.proofs.PolicyFacts.{found_again, found_any, found_by_name, found_passes, found_place, passes_any}
 use Rattle.sound_stands.proofs.ThingFacts.{channel_is_thing, channel_long, device_is_thing, device_long, provided_is_thing, provided_long, region_is_thing, region_long}
 
 -- ---- what holds of each element
 
 module _ {X : Type 0} (P : X → Type 0) where
-  each_append : (xs ys : List X) → AllByRecursion P xs → AllByRecursion P ys → AllByRecursion P (xs ++ ys)
-  each_append [] ys a b = b
-  each_append (x ∷ xs) ys a b = (a.0, each_append xs ys a.1 b)
-
-  each_option : (o : Option X) (xs : List X) → ((x : X) → o ≡ Some x → P x) → AllByRecursion P xs → AllByRecursion P (cons_option o xs)
-  each_option None xs h a = a
-  each_option (Some x) xs h a = (h x refl, a)
-
   each_some : {Y : Type 0} (g : Y → Option X) → ((y : Y) (x : X) → g y ≡ Some x → P x) → (ys : List Y) → AllByRecursion P (filter_map g ys)
-  each_some g h [] = tt
-  each_some g h (y ∷ ys) = each_option (g y) (filter_map g ys) (h y) (each_some g h ys)
-
-  each_flat : {Y : Type 0} (g : Y → List X) → ((y : Y) → AllByRecursion P (g y)) → (ys : List Y) → AllByRecursion P (flat_map g ys)
-  each_flat g h [] = tt
-  each_flat g h (y ∷ ys) = each_append (g y) (flat_map g ys) (h y) (each_flat g h ys)
+  each_some g h ys = each_made P g (λ y. if_some P (g y) (h y)) ys
 
   each_image : {Y : Type 0} (f : Y → X) (ys : List Y) → ((j : ℕ) (y : Y) → slice_get ys j ≡ Some y → P (f y)) → AllByRecursion P (map f ys)
   each_image f [] h = tt

@@ -1,4 +1,8 @@
-mod Each
+mod Kept
 mod Untouched
 mod StatePages
 mod LastViews
+mod ActiveMembers
+mod SlotCpus
+mod OwnLines
+mod LinesOfViews

@@ -1,19 +1,17 @@
 -- Where no subject has a monitor, state pages are those of states in each state of a run.
-use Rattle.std.proofs.Common.{◌≡◌, ℕ, zero, suc, Bool, List, [], ◌∷◌, map, Option, Some, None, ap, ◌∙◌, inl, inr}
-use Rattle.std.specs.Prelude.{option_map, slice_get}
+use Rattle.std.proofs.Common.{◌≡◌, ℕ, Bool, List, [], map, Option, Some, None, ap, subst, ◌∙◌, inl, inr}
+use Rattle.std.specs.Prelude.{option_map}
 use Rattle.std.specs.List.{All, AllByRecursion}
 use Rattle.std.specs.Option.{IfSome}
 use Rattle.std.specs.Str.{bytes_eq}
 use Rattle.std.proofs.lemmas.List.Elements.{recursion_from_All}
-use Rattle.frame_clock.specs.FramePlace.{slot_in}
 use Rattle.guest_step.specs.Step.{Stored}
-use Rattle.image_plan.specs.Slot.{Slot}
 use Rattle.machine_meaning.specs.Memory.{over}
 use Rattle.muen_num.specs.declared.mode.Mode.{Mode}
 use Rattle.muen_num.specs.declared.mode.Mode.TheVariants.{Asap, Async, Own as OwnMode, Switch}
 use Rattle.policy_meaning.specs.Contents.{Held, initial_bytes}
 use Rattle.policy_meaning.specs.Events.{Raised, Target, event_of, irq_of}
-use Rattle.policy_meaning.specs.Frames.{frames_of, group_of}
+use Rattle.policy_meaning.specs.Frames.{group_of}
 use Rattle.policy_meaning.specs.Thing.{Thing, device_memory, same_thing, state, things_of}
 use Rattle.policy_types.specs.declared.source.Source.{Source}
 use Rattle.policy_types.specs.declared.source.SourceWay.{SourceWay}
@@ -22,14 +20,15 @@ use Rattle.record_text.specs.DeviceRecord.{NamedInput, port_input, memory_input,
 use Rattle.state_page.specs.StatePage.{page_bytes}
 use Rattle.subject_state.specs.States.{started}
 use Rattle.subject_state.specs.declared.SubjectState.{SubjectState}
-use Rattle.tick_run.specs.Run.{all_taken, begun, run_to, tick_ran, turns}
+use Rattle.tick_run.specs.Run.{run_to}
 use Rattle.subject_model.specs.Alone.{MsrValues, OwnState, Things, TurnAnswer, own_of, solo_turn, thing_in}
-use Rattle.subject_model.specs.Clock.{begins, irq_reaches, system, takes}
-use Rattle.subject_model.specs.System.{System, answered, change_thing, first_page, happens, happens_as, inbox_of, named, pends_now, raised_by, start_of, state_of, subject_named, system_turn, took, turn_from, turn_in_slot, turn_of_member, turn_of_subject, with_active, with_own, with_store}
+use Rattle.subject_model.specs.Clock.{irq_reaches, system, takes}
+use Rattle.subject_model.specs.System.{System, answered, change_thing, first_page, happens, happens_as, inbox_of, pends_now, raised_by, start_of, subject_named, took, with_active, with_own, with_store}
 use Rattle.subject_model.proofs.KeyLaws.{cases_thing, things_apart, value_changed, value_other}
 use Rattle.sound_stands.proofs.StartLists.{made_behind, states_map}
 use Rattle.system_laws.specs.Pages.{IsStatePage}
-use Rattle.system_laws.proofs.Each.{found}
+use Rattle.sound_stands.proofs.Each.{found}
+use Rattle.system_laws.proofs.Kept.{run_keeps}
 use Rattle.system_laws.proofs.Untouched.{StoresNoPage, pages_apart, turn_no_page, windows_no_page}
 
 -- a state, and that the page under this name is that of it
@@ -110,55 +109,18 @@ module _ (name : List ℕ) where
       let own : System = with_own q.name a.state a.msr y in
       raised_kept p q a.raised (took q.name a.taken (with_store a.stored own)) (store_kept a.stored own none (own_kept q.name a.state y.things h))
 
-  module _ (p : Source) (cpu tick : ℕ) where
-    from_kept : (first : Bool) (q : Subject) → q.monitors ≡ [] → (st : Option SubjectState) (values : Option MsrValues) (y : System) → Paged name y.things → Paged name (turn_from p cpu tick first q st values y).state.things
-    unfolding own_of
-    from_kept first q nobody (Some st) (Some values) y h =
-        let mine : OwnState = record { state = st; msrs = values } in
-        answer_kept p q (solo_turn (own_of p q) mine (inbox_of p y q first tick)) y
-        (turn_no_page (own_of p q) mine (inbox_of p y q first tick) (windows_no_page p q nobody)) h
-    from_kept first q nobody (Some st) None y h = h
-    from_kept first q nobody None values y h = h
-
-    subject_kept : (first : Bool) (o : Option Subject) → IfSome o (λ q. q.monitors ≡ []) → (y : System) → Paged name y.things → Paged name (turn_of_subject p cpu tick first o y).state.things
-    subject_kept first None nobody y h = h
-    subject_kept first (Some q) nobody y h = from_kept first q nobody (state_of y q.name) (named y.msrs q.name) y h
-
-    module _ (nobody : AllByRecursion (λ (q : Subject). q.monitors ≡ []) p.subjects) where
-      member_kept : (first : Bool) (o : Option (List ℕ)) (y : System) → Paged name y.things → Paged name (turn_of_member p cpu tick first o y).state.things
-      member_kept first None y h = h
-      member_kept first (Some member) y h =
-          subject_kept first (subject_named p member) (found (λ (q : Subject). q.monitors ≡ []) (λ s. bytes_eq s.name member) p.subjects nobody) y h
-
-      slot_kept : (o : Option Slot) (y : System) → Paged name y.things → Paged name (turn_in_slot p cpu tick o y).state.things
-      slot_kept None y h = h
-      slot_kept (Some slot) y h = member_kept slot.first (slice_get y.active slot.group) y h
-
-      turn_kept : (y : System) → Paged name y.things → Paged name (system_turn p cpu tick y).state.things
-      turn_kept y h = slot_kept (slot_in (frames_of p cpu) y.place tick) y h
-
-  -- ---- a run
-
-  module _ (p : Source) (nobody : AllByRecursion (λ (q : Subject). q.monitors ≡ []) p.subjects) where
-    inputs_kept : (is : List NamedInput) (y : System) → Paged name y.things → Paged name (all_taken (system p) is y).things
-    inputs_kept [] y h = h
-    inputs_kept (i ∷ is) y h = inputs_kept is (takes p i y) (input_kept p i y h)
-
-    turns_kept : (tick : ℕ) (cpus : List ℕ) (y : System) → Paged name y.things → Paged name (turns (system p) tick cpus y).state.things
-    turns_kept tick [] y h = h
-    turns_kept tick (cpu ∷ cpus) y h = turns_kept tick cpus (system_turn p cpu tick y).state (turn_kept p cpu tick nobody y h)
-
-    tick_kept : (tick : ℕ) (is : List NamedInput) (order : List ℕ) (y : System) → Paged name y.things → Paged name (tick_ran (system p) tick is order y).state.things
-    tick_kept tick is order y h = turns_kept tick order (begun (system p) tick is y) (inputs_kept is (begins p tick y) h)
-
-    run_kept : (inputs : ℕ → List NamedInput) (order : ℕ → List ℕ) (n : ℕ) (y : System) → Paged name y.things → Paged name (run_to (system p) inputs order n y).state.things
-    run_kept inputs order zero y h = h
-    run_kept inputs order (suc n) y h =
-        tick_kept n (inputs n) (order n) (run_to (system p) inputs order n y).state (run_kept inputs order n y h)
+  solo_kept : (p : Source) → AllByRecursion (λ (q : Subject). q.monitors ≡ []) p.subjects → (first : Bool) (tick : ℕ) (q : Subject) (member : List ℕ) → subject_named p member ≡ Some q → (st : SubjectState) (values : MsrValues) (y : System) → Paged name y.things
+      → Paged name (answered p q (solo_turn (own_of p q) (record { state = st; msrs = values }) (inbox_of p y q first tick)) y).things
+  unfolding own_of
+  solo_kept p nobody first tick q member is st values y h =
+      let mine : OwnState = record { state = st; msrs = values } in
+      let none : q.monitors ≡ [] = subst (λ o. IfSome o (λ q. q.monitors ≡ [])) is (found (λ (q : Subject). q.monitors ≡ []) (λ s. bytes_eq s.name member) p.subjects nobody) in
+      answer_kept p q (solo_turn (own_of p q) mine (inbox_of p y q first tick)) y
+      (turn_no_page (own_of p q) mine (inbox_of p y q first tick) (windows_no_page p q none)) h
 
 pub pages_stay : (p : Source) (files : Held) (inputs : ℕ → List NamedInput) (order : ℕ → List ℕ) (n : ℕ) (s : Subject) → All (λ q. q.monitors ≡ []) p.subjects → subject_named p s.name ≡ Some s
     → IsStatePage (run_to (system p) inputs order n (start_of p files)).state s.name
 pages_stay p files inputs order n s nobody is =
     let each = recursion_from_All (λ (q : Subject). q.monitors ≡ []) p.subjects nobody in
-    let at = run_kept s.name p each inputs order n (start_of p files) (started_paged p files s is) in
+    let at = run_keeps p (λ y. Paged s.name y.things) (λ tick y h. h) (input_kept s.name p) (solo_kept s.name p each) inputs order n (start_of p files) (started_paged p files s is) in
     record { state = at.0; is = at.1 }

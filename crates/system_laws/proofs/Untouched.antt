@@ -33,7 +33,7 @@ use Rattle.subject_state.specs.declared.SubjectState.{SubjectState}
 use Rattle.subject_model.specs.Alone.{Inbox, Own, OwnState, alone, reach_by, solo_turn, stepped, unless_delivered, vector_for, waits}
 use Rattle.subject_model.proofs.KeyLaws.{same_things}
 use Rattle.stands_for.proofs.StepLaws.{step_stored}
-use Rattle.system_laws.proofs.Each.{chained, each_append, each_flat, each_map, each_some, found, if_some, mapped}
+use Rattle.sound_stands.proofs.Each.{chained, each_append, each_flat, each_map, each_some, found, if_some, mapped}
 
 -- it is the state page of no subject
 abbrev pub NoPage : Thing → Type 0

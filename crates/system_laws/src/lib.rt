@@ -1,19 +1,23 @@
 //! Laws over runs of the abstract system.
 //!
-//! What they speak of stands in specs/ (`Pages`, `LastViews`). The functions here carry the laws; no command calls
+//! What they speak of stands in specs/ (`Pages`, `LastViews`, `LinesOf`). The functions here carry the laws; no command calls
 //! one.
 #![tactic(auto)]
 
-ghost use Rattle.std.specs.Prelude.{◌≡◌, ℕ, suc, List, [], Some, All, option_map, slice_get};
+ghost use Rattle.std.specs.Prelude.{◌≡◌, ℕ, suc, List, [], Some, All, IsTrue, option_map, slice_get};
+ghost use Rattle.std.specs.List.{filter_map};
+ghost use Rattle.policy_lawful.specs.Lawful.{IsLawful};
 ghost use Rattle.policy_meaning.specs.Contents.{Held};
 ghost use Rattle.policy_types.specs.declared.source.Source.{Source};
 ghost use Rattle.policy_types.specs.declared.source.Subject.{Subject};
 ghost use Rattle.record_text.specs.DeviceRecord.{DeviceRecord, NamedInput};
+ghost use Rattle.record_text.specs.Reading.{are_distinct};
 ghost use Rattle.tick_run.specs.Run.{run_to};
 ghost use Rattle.subject_model.specs.Clock.{order_at, run_of, system};
 ghost use Rattle.subject_model.specs.System.{start_of, subject_named};
 ghost use Rattle.subject_model.specs.View.{through, view_of};
 ghost use Rattle.system_laws.specs.LastViews.{at_rest, without_line};
+ghost use Rattle.system_laws.specs.LinesOf.{lines_of};
 ghost use Rattle.system_laws.specs.Pages.{IsStatePage};
 
 /// Where no subject monitors another one, the page of each subject is that of a state, with zeros
@@ -29,4 +33,12 @@ pub fn state_pages_are_their_subjects()
 pub fn last_views_are_the_end()
     ensures { (p : Source) (files : Held) (r : DeviceRecord) (s : Subject) (n : ℕ) → r.end ≡ suc n → through s.cpu (order_at p r n) ≡ order_at p r n
         → option_map without_line (slice_get (view_of p files r s) n) ≡ Some (at_rest p s (run_of p files r).state) }
+{}
+
+/// The lines that a run prints of a subject are those that its view shows, one tick after another: a
+/// turn prints of a subject of its own CPU alone, and each CPU has one turn in a tick. The policy is lawful,
+/// and no order of the record names a CPU twice.
+pub fn lines_are_those_of_the_views()
+    ensures { (p : Source) (files : Held) (r : DeviceRecord) (s : Subject) → IsLawful p → subject_named p s.name ≡ Some s → All (λ o. IsTrue (are_distinct o.1)) r.orders
+        → lines_of s.name (run_of p files r).lines ≡ filter_map (λ v. v.line) (view_of p files r s) }
 {}
