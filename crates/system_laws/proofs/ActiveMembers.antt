@@ -23,10 +23,13 @@ use Rattle.policy_types.specs.declared.source.Source.{Source}
 use Rattle.policy_types.specs.declared.source.SourceWay.{SourceWay}
 use Rattle.policy_types.specs.declared.source.Subject.{Subject}
 use Rattle.record_text.specs.DeviceRecord.{NamedInput, port_input, memory_input, irq_input, dma_input}
+use Rattle.policy_lawful.proofs.KeptMembers.{MembersKept}
+use Rattle.system_laws.proofs.Kept.{begun_keeps, run_keeps, turn_keeps}
+use Rattle.tick_run.specs.Run.{begun, run_to}
 use Rattle.subject_state.specs.declared.SubjectState.{SubjectState}
 use Rattle.subject_model.specs.Alone.{MsrValues, TurnAnswer, own_of, solo_turn}
-use Rattle.subject_model.specs.Clock.{irq_reaches, takes}
-use Rattle.subject_model.specs.System.{System, answered, happens, happens_as, inbox_of, pends_now, raised_by, start_of, subject_named, took, with_active, with_own, with_store}
+use Rattle.subject_model.specs.Clock.{irq_reaches, system, takes}
+use Rattle.subject_model.specs.System.{System, answered, happens, happens_as, inbox_of, pends_now, raised_by, start_of, subject_named, system_turn, took, with_active, with_own, with_store}
 
 -- whether a group lists a name
 abbrev pub lists : List ℕ → Group → Bool
@@ -49,7 +52,7 @@ first_listed p g h =
 first_of : Group → List ℕ
 first_of g = first_member g.subjects
 
-pub started_listed : (p : Source) (files : Held) → list_all (is_group p) p.scheduling.groups ≡ true → AreListed p (start_of p files).active
+started_listed : (p : Source) (files : Held) → list_all (is_group p) p.scheduling.groups ≡ true → AreListed p (start_of p files).active
 unfolding start_of first_of
 started_listed p files groups k name g is there =
     let same : Some (first_of g) ≡ Some name = sym (slice_get-map first_of p.scheduling.groups k ∙ ap (option_map first_of) there) ∙ is in
@@ -103,7 +106,7 @@ module _ (p : Source) where
       let own : System = with_own q.name a.state a.msr y in
       raised_listed q a.raised (took q.name a.taken (with_store a.stored own)) (store_listed a.stored own h)
 
-  pub solo_listed : (first : Bool) (tick : ℕ) (q : Subject) (member : List ℕ) → subject_named p member ≡ Some q → (st : SubjectState) (values : MsrValues) (y : System) → AreListed p y.active
+  solo_listed : (first : Bool) (tick : ℕ) (q : Subject) (member : List ℕ) → subject_named p member ≡ Some q → (st : SubjectState) (values : MsrValues) (y : System) → AreListed p y.active
       → AreListed p (answered p q (solo_turn (own_of p q) (record { state = st; msrs = values }) (inbox_of p y q first tick)) y).active
   solo_listed first tick q member is st values y h =
       answer_listed q (solo_turn (own_of p q) (record { state = st; msrs = values }) (inbox_of p y q first tick)) y h
@@ -112,8 +115,19 @@ module _ (p : Source) where
   irq_listed None y h = h
   irq_listed (Some t) y h = h
 
-  pub input_listed : (i : NamedInput) (y : System) → AreListed p y.active → AreListed p (takes p i y).active
+  input_listed : (i : NamedInput) (y : System) → AreListed p y.active → AreListed p (takes p i y).active
   input_listed (port_input device port value) y h = h
   input_listed (memory_input device memory offset bytes) y h = h
   input_listed (irq_input device irq) y h = irq_listed (irq_of p device irq) y h
   input_listed (dma_input device addr bytes) y h = h
+
+-- ---- a run
+
+pub turn_listed : (p : Source) (cpu tick : ℕ) (y : System) → AreListed p y.active → AreListed p (system_turn p cpu tick y).state.active
+turn_listed p cpu tick y h = turn_keeps p (λ y. AreListed p y.active) (λ tick y h. h) (input_listed p) (solo_listed p) cpu tick y h
+
+-- before the turns of a tick
+pub begun_listed : (p : Source) (files : Held) → MembersKept p → (inputs : ℕ → List NamedInput) (order : ℕ → List ℕ) (n : ℕ) → AreListed p (begun (system p) n (inputs n) (run_to (system p) inputs order n (start_of p files)).state).active
+begun_listed p files members inputs order n =
+    begun_keeps p (λ y. AreListed p y.active) (λ tick y h. h) (input_listed p) (solo_listed p) n (inputs n) (run_to (system p) inputs order n (start_of p files)).state
+    (run_keeps p (λ y. AreListed p y.active) (λ tick y h. h) (input_listed p) (solo_listed p) inputs order n (start_of p files) (started_listed p files members.groups))

@@ -8,39 +8,58 @@ use Rattle.policy_types.specs.declared.source.Source.{Source}
 use Rattle.policy_types.specs.declared.source.Subject.{Subject}
 use Rattle.record_text.specs.DeviceRecord.{NamedInput}
 use Rattle.subject_state.specs.declared.SubjectState.{SubjectState}
-use Rattle.tick_run.specs.Run.{all_taken, begun, run_to, tick_ran, turns}
+use Rattle.tick_run.specs.Run.{Turned, all_taken, begun, run_to, tick_ran, turns}
+use Rattle.view_text.specs.declared.Line.{Line}
 use Rattle.subject_model.specs.Alone.{MsrValues, own_of, solo_turn}
 use Rattle.subject_model.specs.Clock.{begins, system, takes}
-use Rattle.subject_model.specs.System.{System, answered, inbox_of, named, state_of, subject_named, system_turn, turn_from, turn_in_slot, turn_of_member, turn_of_subject}
+use Rattle.subject_model.specs.System.{System, answered, idle, inbox_of, named, state_of, subject_named, system_turn, turn_answered, turn_from, turn_in_slot, turn_of_member, turn_of_subject}
+
+-- ---- a turn
+
+-- the turn of this subject in a slot, by its own state
+abbrev pub acted : Source → ℕ → ℕ → Bool → Subject → SubjectState → MsrValues → System → Turned System Line
+acted p cpu tick first q st values y =
+    turn_answered p cpu tick q st.pc (solo_turn (own_of p q) (record { state = st; msrs = values }) (inbox_of p y q first tick)) y
+
+-- whose turn it is
+pub record HasTurn (p : Source) (cpu tick : ℕ) (y : System) (slot : Slot) (member : List ℕ) (q : Subject) : Type 0 where
+  pub in_slot : slot_in (frames_of p cpu) y.place tick ≡ Some slot
+  pub active : slice_get y.active slot.group ≡ Some member
+  pub is : subject_named p member ≡ Some q
+
+-- what holds where nothing happens, and where a subject has acted, holds after a turn
+module _ (p : Source) (cpu tick : ℕ) (y : System) (R : Turned System Line → Type 0) (nothing : R (idle y))
+    (acts : (slot : Slot) (member : List ℕ) (q : Subject) (st : SubjectState) (values : MsrValues) → HasTurn p cpu tick y slot member q → R (acted p cpu tick slot.first q st values y)) where
+  by_own : (slot : Slot) (member : List ℕ) (q : Subject) → HasTurn p cpu tick y slot member q → (st : Option SubjectState) (values : Option MsrValues) → R (turn_from p cpu tick slot.first q st values y)
+  by_own slot member q has (Some st) (Some values) = acts slot member q st values has
+  by_own slot member q has (Some st) None = nothing
+  by_own slot member q has None values = nothing
+
+  by_subject : (slot : Slot) (member : List ℕ) → slot_in (frames_of p cpu) y.place tick ≡ Some slot → slice_get y.active slot.group ≡ Some member → (o : Option Subject) → subject_named p member ≡ o → R (turn_of_subject p cpu tick slot.first o y)
+  by_subject slot member in_slot active None is = nothing
+  by_subject slot member in_slot active (Some q) is =
+      by_own slot member q (record { in_slot = in_slot; active = active; is = is }) (state_of y q.name) (named y.msrs q.name)
+
+  by_member : (slot : Slot) → slot_in (frames_of p cpu) y.place tick ≡ Some slot → (o : Option (List ℕ)) → slice_get y.active slot.group ≡ o → R (turn_of_member p cpu tick slot.first o y)
+  by_member slot in_slot None active = nothing
+  by_member slot in_slot (Some member) active = by_subject slot member in_slot active (subject_named p member) refl
+
+  by_slot : (o : Option Slot) → slot_in (frames_of p cpu) y.place tick ≡ o → R (turn_in_slot p cpu tick o y)
+  by_slot None in_slot = nothing
+  by_slot (Some slot) in_slot = by_member slot in_slot (slice_get y.active slot.group) refl
+
+  pub turn_cases : R (system_turn p cpu tick y)
+  turn_cases = by_slot (slot_in (frames_of p cpu) y.place tick) refl
+
+-- ---- a run
 
 module _ (p : Source) (P : System → Type 0)
     (begins_keep : (tick : ℕ) (y : System) → P y → P (begins p tick y))
     (input_keeps : (i : NamedInput) (y : System) → P y → P (takes p i y))
     (answer_keeps : (first : Bool) (tick : ℕ) (q : Subject) (member : List ℕ) → subject_named p member ≡ Some q → (st : SubjectState) (values : MsrValues) (y : System) → P y → P (answered p q (solo_turn (own_of p q) (record { state = st; msrs = values }) (inbox_of p y q first tick)) y)) where
-  -- ---- a turn
-
-  module _ (cpu tick : ℕ) where
-    from_keeps : (first : Bool) (q : Subject) (member : List ℕ) → subject_named p member ≡ Some q → (st : Option SubjectState) (values : Option MsrValues) (y : System) → P y → P (turn_from p cpu tick first q st values y).state
-    from_keeps first q member is (Some st) (Some values) y h = answer_keeps first tick q member is st values y h
-    from_keeps first q member is (Some st) None y h = h
-    from_keeps first q member is None values y h = h
-
-    subject_keeps : (first : Bool) (member : List ℕ) (o : Option Subject) → subject_named p member ≡ o → (y : System) → P y → P (turn_of_subject p cpu tick first o y).state
-    subject_keeps first member None is y h = h
-    subject_keeps first member (Some q) is y h = from_keeps first q member is (state_of y q.name) (named y.msrs q.name) y h
-
-    member_keeps : (first : Bool) (o : Option (List ℕ)) (y : System) → P y → P (turn_of_member p cpu tick first o y).state
-    member_keeps first None y h = h
-    member_keeps first (Some member) y h = subject_keeps first member (subject_named p member) refl y h
-
-    slot_keeps : (o : Option Slot) (y : System) → P y → P (turn_in_slot p cpu tick o y).state
-    slot_keeps None y h = h
-    slot_keeps (Some slot) y h = member_keeps slot.first (slice_get y.active slot.group) y h
-
-    pub turn_keeps : (y : System) → P y → P (system_turn p cpu tick y).state
-    turn_keeps y h = slot_keeps (slot_in (frames_of p cpu) y.place tick) y h
-
-  -- ---- a run
+  pub turn_keeps : (cpu tick : ℕ) (y : System) → P y → P (system_turn p cpu tick y).state
+  turn_keeps cpu tick y h =
+      turn_cases p cpu tick y (λ t. P t.state) h (λ slot member q st values has. answer_keeps slot.first tick q member has.is st values y h)
 
   inputs_keep : (is : List NamedInput) (y : System) → P y → P (all_taken (system p) is y)
   inputs_keep [] y h = h

@@ -1,4 +1,5 @@
 mod Kept
+mod Unmoved
 mod Untouched
 mod StatePages
 mod LastViews
@@ -6,3 +7,5 @@ mod ActiveMembers
 mod SlotCpus
 mod OwnLines
 mod LinesOfViews
+mod OwnStates
+mod AloneViews

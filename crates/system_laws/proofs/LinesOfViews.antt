@@ -4,11 +4,10 @@ use Rattle.std.specs.Prelude.{◌==◌, ◌||◌, not, IsTrue}
 use Rattle.std.specs.Option.{IfSome, option_map_or}
 use Rattle.std.specs.List.{All, AllByRecursion, cons_option, filter, filter_map, find, list_any}
 use Rattle.std.specs.Str.{bytes_eq}
-use Rattle.std.proofs.lemmas.Bool.{and_from, and_parts, eqb-false, eqb-true, false_from_ne_true, ne_eqb, not-true, or_from, or_parts}
+use Rattle.std.proofs.lemmas.Bool.{and_from, and_parts, eqb-false, eqb-true, ne_eqb, not-true, or_from, or_parts}
 use Rattle.std.proofs.lemmas.List.{map-append}
 use Rattle.std.proofs.lemmas.List.Elements.{filter-append, filter_map-append, recursion_from_All}
 use Rattle.std.proofs.lemmas.List.Folds.{list_any-append}
-use Rattle.std.proofs.lemmas.Slice.Eq.{bytes_eq-Decides}
 use Rattle.muen_num.specs.Range.{numbers_below}
 use Rattle.policy_lawful.proofs.KeptMajors.{MajorsKept, majors_kept}
 use Rattle.policy_lawful.proofs.KeptMembers.{MembersKept, members_kept}
@@ -24,10 +23,9 @@ use Rattle.subject_model.specs.Clock.{inputs_at, order_at, run_of, system}
 use Rattle.subject_model.specs.System.{System, start_of, subject_named, system_turn}
 use Rattle.subject_model.specs.View.{Seen, ran_through, seen_in, through, view_of}
 use Rattle.system_laws.specs.LinesOf.{lines_of}
-use Rattle.system_laws.proofs.ActiveMembers.{AreListed, input_listed, solo_listed, started_listed}
+use Rattle.system_laws.proofs.ActiveMembers.{AreListed, begun_listed, turn_listed}
 use Rattle.sound_stands.proofs.Each.{found}
-use Rattle.system_laws.proofs.Kept.{begun_keeps, run_keeps, turn_keeps}
-use Rattle.system_laws.proofs.OwnLines.{IsOfCpu, turn_line}
+use Rattle.system_laws.proofs.OwnLines.{other_line}
 
 -- ---- each CPU once
 
@@ -48,7 +46,7 @@ none_above (suc n) m l =
     ∙ or_from (list_any (λ y. y == m) (numbers_below n)) ((n == m) || false) (none_above n m (omega (arith, l)))
     (or_from (n == m) false (ne_eqb n m (λ e. let is : n ≡ m = e in omega (arith, l, is))) refl)
 
-numbers_distinct : (n : ℕ) → are_distinct (numbers_below n) ≡ true
+pub numbers_distinct : (n : ℕ) → are_distinct (numbers_below n) ≡ true
 numbers_distinct zero = refl
 numbers_distinct (suc n) = distinct_behind (numbers_below n) n (numbers_distinct n) (none_above n n (omega arith))
 
@@ -64,7 +62,7 @@ module _ (test : Line → Bool) where
   filter_other None ls h = refl
   filter_other (Some l) ls h = ap (λ b. cond b (l ∷ filter test ls) (filter test ls)) h
 
-  find_other : (o : Option Line) (ls : List Line) → IfSome o (λ l. test l ≡ false) → find test (cons_option o ls) ≡ find test ls
+  pub find_other : (o : Option Line) (ls : List Line) → IfSome o (λ l. test l ≡ false) → find test (cons_option o ls) ≡ find test ls
   find_other None ls h = refl
   find_other (Some l) ls h = ap (λ b. cond b (Some l) (find test ls)) h
 
@@ -77,23 +75,6 @@ module _ (test : Line → Bool) where
       ]
 
 module _ (p : Source) (majors : MajorsKept p) (members : MembersKept p) (s : Subject) (is : subject_named p s.name ≡ Some s) where
-  turn_listed : (cpu tick : ℕ) (y : System) → AreListed p y.active → AreListed p (system_turn p cpu tick y).state.active
-  turn_listed cpu tick y h = turn_keeps p (λ y. AreListed p y.active) (λ tick y h. h) (input_listed p) (solo_listed p) cpu tick y h
-
-  -- ---- the turn of another CPU
-
-  other_line : (cpu : ℕ) (l : Line) → (cpu == s.cpu) ≡ false → IsOfCpu p cpu l → bytes_eq l.subject s.name ≡ false
-  other_line cpu l apart of =
-      false_from_ne_true (bytes_eq l.subject s.name) (λ e.
-      let same : of.subject.name ≡ s.name = sym of.line ∙ (bytes_eq-Decides l.subject s.name).0 e in
-      let both : Some of.subject ≡ Some s = sym of.is ∙ ap (subject_named p) same ∙ is in
-      let one : of.subject ≡ s = cc (both) in
-      eqb-false cpu s.cpu apart (sym of.on ∙ ap (λ q. q.cpu) one))
-
-  quiet : (cpu : ℕ) (o : Option Line) → (cpu == s.cpu) ≡ false → IfSome o (IsOfCpu p cpu) → IfSome o (λ l. bytes_eq l.subject s.name ≡ false)
-  quiet cpu None apart of = tt
-  quiet cpu (Some l) apart of = other_line cpu l apart of
-
   -- ---- the turns of a tick
 
   module _ (tick : ℕ) where
@@ -102,8 +83,8 @@ module _ (p : Source) (majors : MajorsKept p) (members : MembersKept p) (s : Sub
     none_of (c ∷ cs) y h out =
         let parts = or_parts (c == s.cpu) (list_any (λ c. c == s.cpu) cs) out in
         let turned = system_turn p c tick y in
-        filter_other (λ l. bytes_eq l.subject s.name) turned.line (turns (system p) tick cs turned.state).lines (quiet c turned.line parts.0 (turn_line p c tick majors members y h))
-        ∙ none_of cs turned.state (turn_listed c tick y h) parts.1
+        filter_other (λ l. bytes_eq l.subject s.name) turned.line (turns (system p) tick cs turned.state).lines (other_line p majors members s is c tick y h parts.0)
+        ∙ none_of cs turned.state (turn_listed p c tick y h) parts.1
 
     of_turns : (cpus : List ℕ) (y : System) → AreListed p y.active → are_distinct cpus ≡ true
         → lines_of s.name (turns (system p) tick cpus y).lines ≡ cons_option (find (λ l. bytes_eq l.subject s.name) (turns (system p) tick (through s.cpu cpus) y).lines) []
@@ -112,13 +93,13 @@ module _ (p : Source) (majors : MajorsKept p) (members : MembersKept p) (s : Sub
         let parts = and_parts (not (list_any (λ m. m == c) cs)) (are_distinct cs) d in
         let turned = system_turn p c tick y in
         let rest = (turns (system p) tick cs turned.state).lines in
-        let later = turn_listed c tick y h in
+        let later = turn_listed p c tick y h in
         elim (c == s.cpu) as (λ b. (c == s.cpu) ≡ b → lines_of s.name (cons_option turned.line rest) ≡ cons_option (find (λ l. bytes_eq l.subject s.name) (turns (system p) tick (cond b (c ∷ []) (c ∷ through s.cpu cs)) y).lines) []) [
           | true ↦ λ e.
               let others : list_any (λ m. m == s.cpu) cs ≡ false = subst (λ n. list_any (λ m. m == n) cs ≡ false) (eqb-true c s.cpu e) (not-true (list_any (λ m. m == c) cs) parts.0) in
               last_one (λ l. bytes_eq l.subject s.name) turned.line rest (none_of cs turned.state later others)
           | false ↦ λ e.
-              let out = quiet c turned.line e (turn_line p c tick majors members y h) in
+              let out = other_line p majors members s is c tick y h e in
               filter_other (λ l. bytes_eq l.subject s.name) turned.line rest out
               ∙ of_turns cs turned.state later parts.1
               ∙ ap (λ o. cons_option o []) (sym (find_other (λ l. bytes_eq l.subject s.name) turned.line (turns (system p) tick (through s.cpu cs) turned.state).lines out))
@@ -127,16 +108,10 @@ module _ (p : Source) (majors : MajorsKept p) (members : MembersKept p) (s : Sub
   -- ---- a run
 
   module _ (files : Held) (r : DeviceRecord) (once : AllByRecursion (λ (e : ℕ × List ℕ). IsTrue (are_distinct e.1)) r.orders) where
-    tick_listed : (n : ℕ) → AreListed p (begun (system p) n (inputs_at r n) (run_to (system p) (inputs_at r) (order_at p r) n (start_of p files)).state).active
-    tick_listed n =
-        begun_keeps p (λ y. AreListed p y.active) (λ tick y h. h) (input_listed p) (solo_listed p) n (inputs_at r n)
-        (run_to (system p) (inputs_at r) (order_at p r) n (start_of p files)).state
-        (run_keeps p (λ y. AreListed p y.active) (λ tick y h. h) (input_listed p) (solo_listed p) (inputs_at r) (order_at p r) n (start_of p files) (started_listed p files members.groups))
-
     of_tick : (n : ℕ) → lines_of s.name (tick_ran (system p) n (inputs_at r n) (order_at p r n) (run_to (system p) (inputs_at r) (order_at p r) n (start_of p files)).state).lines
         ≡ cons_option (seen_in p s (ran_through p files r s.cpu n)).line []
     of_tick n =
-        of_turns n (order_at p r n) (begun (system p) n (inputs_at r n) (run_to (system p) (inputs_at r) (order_at p r) n (start_of p files)).state) (tick_listed n)
+        of_turns n (order_at p r n) (begun (system p) n (inputs_at r n) (run_to (system p) (inputs_at r) (order_at p r) n (start_of p files)).state) (begun_listed p files members (inputs_at r) (order_at p r) n)
         (order_distinct (find (λ e. e.0 == n) r.orders) p.processor.logical_cpus (found (λ (e : ℕ × List ℕ). IsTrue (are_distinct e.1)) (λ e. e.0 == n) r.orders once))
 
     lines_to : (n : ℕ) → lines_of s.name (run_to (system p) (inputs_at r) (order_at p r) n (start_of p files)).lines
