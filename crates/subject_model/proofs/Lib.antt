@@ -1,4 +1,4 @@
 pub mod KeyLaws
-mod SystemLaws
+pub mod SystemLaws
 mod CyclicFrames
 mod KeptTicks

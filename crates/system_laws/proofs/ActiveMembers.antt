@@ -24,20 +24,13 @@ use Rattle.policy_types.specs.declared.source.SourceWay.{SourceWay}
 use Rattle.policy_types.specs.declared.source.Subject.{Subject}
 use Rattle.record_text.specs.DeviceRecord.{NamedInput, port_input, memory_input, irq_input, dma_input}
 use Rattle.policy_lawful.proofs.KeptMembers.{MembersKept}
+use Rattle.system_laws.specs.Members.{AreListed, lists}
 use Rattle.system_laws.proofs.Kept.{begun_keeps, run_keeps, turn_keeps}
 use Rattle.tick_run.specs.Run.{begun, run_to}
 use Rattle.subject_state.specs.declared.SubjectState.{SubjectState}
 use Rattle.subject_model.specs.Alone.{MsrValues, TurnAnswer, own_of, solo_turn}
 use Rattle.subject_model.specs.Clock.{irq_reaches, system, takes}
 use Rattle.subject_model.specs.System.{System, answered, happens, happens_as, inbox_of, pends_now, raised_by, start_of, subject_named, system_turn, took, with_active, with_own, with_store}
-
--- whether a group lists a name
-abbrev pub lists : List ℕ → Group → Bool
-lists name g = list_any (λ n. bytes_eq n name) g.subjects
-
--- each of these active members is listed by its group
-abbrev pub AreListed : Source → List (List ℕ) → Type 0
-AreListed p active = (k : ℕ) (name : List ℕ) (g : Group) → slice_get active k ≡ Some name → slice_get p.scheduling.groups k ≡ Some g → lists name g ≡ true
 
 -- ---- the start
 

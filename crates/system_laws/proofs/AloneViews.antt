@@ -36,7 +36,8 @@ use Rattle.machine_meaning.proofs.ExitLaws.{any_below}
 use Rattle.expand_grants.specs.Resources.{msrs_of}
 use Rattle.state_page.specs.StatePage.{state_in}
 use Rattle.system_laws.proofs.StatePages.{first_paged}
-use Rattle.system_laws.proofs.ActiveMembers.{AreListed, begun_listed, turn_listed}
+use Rattle.system_laws.specs.Members.{AreListed}
+use Rattle.system_laws.proofs.ActiveMembers.{begun_listed, turn_listed}
 use Rattle.system_laws.proofs.Kept.{acted}
 use Rattle.system_laws.proofs.LinesOfViews.{find_other, numbers_distinct}
 use Rattle.system_laws.proofs.OwnLines.{listed_passes, named_so}

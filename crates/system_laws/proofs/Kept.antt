@@ -10,6 +10,7 @@ use Rattle.record_text.specs.DeviceRecord.{NamedInput}
 use Rattle.subject_state.specs.declared.SubjectState.{SubjectState}
 use Rattle.tick_run.specs.Run.{Turned, all_taken, begun, run_to, tick_ran, turns}
 use Rattle.view_text.specs.declared.Line.{Line}
+use Rattle.system_laws.specs.Members.{HasTurn}
 use Rattle.subject_model.specs.Alone.{MsrValues, own_of, solo_turn}
 use Rattle.subject_model.specs.Clock.{begins, system, takes}
 use Rattle.subject_model.specs.System.{System, answered, idle, inbox_of, named, state_of, subject_named, system_turn, turn_answered, turn_from, turn_in_slot, turn_of_member, turn_of_subject}
@@ -20,12 +21,6 @@ use Rattle.subject_model.specs.System.{System, answered, idle, inbox_of, named, 
 abbrev pub acted : Source → ℕ → ℕ → Bool → Subject → SubjectState → MsrValues → System → Turned System Line
 acted p cpu tick first q st values y =
     turn_answered p cpu tick q st.pc (solo_turn (own_of p q) (record { state = st; msrs = values }) (inbox_of p y q first tick)) y
-
--- whose turn it is
-pub record HasTurn (p : Source) (cpu tick : ℕ) (y : System) (slot : Slot) (member : List ℕ) (q : Subject) : Type 0 where
-  pub in_slot : slot_in (frames_of p cpu) y.place tick ≡ Some slot
-  pub active : slice_get y.active slot.group ≡ Some member
-  pub is : subject_named p member ≡ Some q
 
 -- what holds where nothing happens, and where a subject has acted, holds after a turn
 module _ (p : Source) (cpu tick : ℕ) (y : System) (R : Turned System Line → Type 0) (nothing : R (idle y))

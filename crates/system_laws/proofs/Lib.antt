@@ -1,11 +1,11 @@
-mod Kept
-mod Unmoved
-mod Untouched
-mod StatePages
+pub mod Kept
+pub mod Unmoved
+pub mod Untouched
+pub mod StatePages
 mod LastViews
-mod ActiveMembers
-mod SlotCpus
-mod OwnLines
-mod LinesOfViews
-mod OwnStates
+pub mod ActiveMembers
+pub mod SlotCpus
+pub mod OwnLines
+pub mod LinesOfViews
+pub mod OwnStates
 mod AloneViews

@@ -23,7 +23,8 @@ use Rattle.subject_model.specs.Clock.{inputs_at, order_at, run_of, system}
 use Rattle.subject_model.specs.System.{System, start_of, subject_named, system_turn}
 use Rattle.subject_model.specs.View.{Seen, ran_through, seen_in, through, view_of}
 use Rattle.system_laws.specs.LinesOf.{lines_of}
-use Rattle.system_laws.proofs.ActiveMembers.{AreListed, begun_listed, turn_listed}
+use Rattle.system_laws.specs.Members.{AreListed}
+use Rattle.system_laws.proofs.ActiveMembers.{begun_listed, turn_listed}
 use Rattle.sound_stands.proofs.Each.{found}
 use Rattle.system_laws.proofs.OwnLines.{other_line}
 

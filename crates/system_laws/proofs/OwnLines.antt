@@ -19,9 +19,9 @@ use Rattle.view_text.specs.declared.What.{What}
 use Rattle.sound_stands.proofs.PolicyFacts.{found_passes}
 use Rattle.subject_model.specs.Alone.{own_of, solo_turn}
 use Rattle.subject_model.specs.System.{System, inbox_of, line_at, subject_named, system_turn}
-use Rattle.system_laws.proofs.ActiveMembers.{AreListed, lists}
+use Rattle.system_laws.specs.Members.{AreListed, HasTurn, lists}
 use Rattle.sound_stands.proofs.Each.{mapped}
-use Rattle.system_laws.proofs.Kept.{HasTurn, turn_cases}
+use Rattle.system_laws.proofs.Kept.{turn_cases}
 use Rattle.system_laws.proofs.SlotCpus.{slot_here}
 
 -- what holds of each of a list holds of one that it lists

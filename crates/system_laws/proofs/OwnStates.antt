@@ -22,7 +22,7 @@ use Rattle.subject_model.specs.Laws.{StoresElsewhere}
 use Rattle.subject_model.specs.System.{System, answered, inbox_of, named, state_of, subject_named, system_turn, took, with_own, with_store, with_write}
 use Rattle.subject_model.proofs.KeyLaws.{names_apart, things_apart, value_changed, value_other}
 use Rattle.system_laws.specs.AloneRun.{is_altered, on_page}
-use Rattle.system_laws.proofs.ActiveMembers.{AreListed}
+use Rattle.system_laws.specs.Members.{AreListed}
 use Rattle.system_laws.proofs.Kept.{acted, turn_cases}
 use Rattle.system_laws.proofs.OwnLines.{not_of, other_name, turn_on}
 use Rattle.system_laws.proofs.Unmoved.{by_irq, by_raised}
@@ -43,7 +43,7 @@ own_stays s y z mine stays h = record { state = ap (option_map state_in) stays.p
 
 -- ---- a store
 
-store_msrs : (o : Option (Stored Thing)) (y : System) → (with_store o y).msrs ≡ y.msrs
+pub store_msrs : (o : Option (Stored Thing)) (y : System) → (with_store o y).msrs ≡ y.msrs
 store_msrs None y = refl
 store_msrs (Some w) y = refl
 
@@ -54,7 +54,7 @@ store_stays s (Some w) y h =
 
 -- ---- the answer of another subject, and its own
 
-other_answer : (p : Source) (s q : Subject) (a : TurnAnswer) (y : System) → (q.name ≡ s.name → ⊥) → StoresElsewhere s a.stored → StaysOwn s y (answered p q a y)
+pub other_answer : (p : Source) (s q : Subject) (a : TurnAnswer) (y : System) → (q.name ≡ s.name → ⊥) → StoresElsewhere s a.stored → StaysOwn s y (answered p q a y)
 other_answer p s q a y ne elsewhere =
     let own : System = with_own q.name a.state a.msr y in
     let rest = by_raised p q a.raised (took q.name a.taken (with_store a.stored own)) in

@@ -1,0 +1,133 @@
+-- Lists of which one element alone is counted.
+use Rattle.std.proofs.Common.{◌≡◌, ℕ, zero, suc, ◌+◌, ◌≤◌, Bool, true, false, cond, List, [], ◌∷◌, length, Some, None, refl, sym, ap, subst, ◌∙◌, inl, inr, arith}
+use Rattle.std.specs.Prelude.{◌&&◌, ◌||◌, nat_lt, not, position, slice_get}
+use Rattle.std.specs.List.{count_by, flat_map, list_any, position_or_len, sum_by}
+use Rattle.std.proofs.lemmas.Bool.{and_parts, lt-ltb, or_cases}
+use Rattle.std.proofs.lemmas.Option.{slice_get_within}
+use Rattle.std.proofs.lemmas.List.Sums.{sum_by-cons}
+use Rattle.muen_num.proofs.Members.{In, left_in, right_in}
+
+-- an element of what one makes
+pub flat_in : {X Y : Type 0} (f : X → List Y) (xs : List X) (x : X) (y : Y) → In x xs → In y (f x) → In y (flat_map f xs)
+flat_in f [] x y h k = absurd h
+flat_in f (z ∷ zs) x y (inl same) k = left_in (f z) (flat_map f zs) y (subst (λ x. In y (f x)) (sym same) k)
+flat_in f (z ∷ zs) x y (inr h) k = right_in (f z) (flat_map f zs) y (flat_in f zs x y h k)
+
+-- of a list of one
+pub single : {X : Type 0} (xs : List X) (a b : X) → length xs ≡ 1 → In a xs → In b xs → a ≡ b
+single [] a b one h k = absurd h
+single (x ∷ []) a b one (inl e) (inl f) = sym e ∙ f
+single (x ∷ []) a b one (inl e) (inr k) = absurd k
+single (x ∷ []) a b one (inr h) k = absurd h
+single (x ∷ y ∷ ys) a b one h k = absurd (omega (arith, one))
+
+-- ---- sums
+
+pub one_counted : {X : Type 0} (f : X → ℕ) (xs : List X) (x : X) → In x xs → 1 ≤ f x → 1 ≤ sum_by f xs
+one_counted f [] x h some = absurd h
+one_counted f (y ∷ ys) x (inl same) some =
+    let here : 1 ≤ f y = subst (λ x. 1 ≤ f x) (sym same) some in
+    let sum : sum_by f (y ∷ ys) ≡ f y + sum_by f ys = sum_by-cons f y ys in
+    omega (arith, here, sum)
+one_counted f (y ∷ ys) x (inr h) some =
+    let later = one_counted f ys x h some in
+    let sum : sum_by f (y ∷ ys) ≡ f y + sum_by f ys = sum_by-cons f y ys in
+    omega (arith, later, sum)
+
+-- two that differ
+pub two_counted : {X : Type 0} (f : X → ℕ) (xs : List X) (a b : X) → (a ≡ b → ⊥) → In a xs → In b xs → 1 ≤ f a → 1 ≤ f b → 2 ≤ sum_by f xs
+two_counted f [] a b ne h k m n = absurd h
+two_counted f (y ∷ ys) a b ne (inl e) (inl g) m n = absurd (ne (sym e ∙ g))
+two_counted f (y ∷ ys) a b ne (inl e) (inr k) m n =
+    let here : 1 ≤ f y = subst (λ x. 1 ≤ f x) (sym e) m in
+    let later = one_counted f ys b k n in
+    let sum : sum_by f (y ∷ ys) ≡ f y + sum_by f ys = sum_by-cons f y ys in
+    omega (arith, here, later, sum)
+two_counted f (y ∷ ys) a b ne (inr h) (inl g) m n =
+    let here : 1 ≤ f y = subst (λ x. 1 ≤ f x) (sym g) n in
+    let later = one_counted f ys a h m in
+    let sum : sum_by f (y ∷ ys) ≡ f y + sum_by f ys = sum_by-cons f y ys in
+    omega (arith, here, later, sum)
+two_counted f (y ∷ ys) a b ne (inr h) (inr k) m n =
+    let later = two_counted f ys a b ne h k m n in
+    let sum : sum_by f (y ∷ ys) ≡ f y + sum_by f ys = sum_by-cons f y ys in
+    omega (arith, later, sum)
+
+-- one that passes is counted
+pub passing_counted : {X : Type 0} (test : X → Bool) (xs : List X) (x : X) → In x xs → test x ≡ true → 1 ≤ count_by test xs
+passing_counted test xs x h passes = one_counted (λ x. cond (test x) 1 0) xs x h (rw passes (omega arith))
+
+-- ---- places
+
+-- where two tests pass once each at most, and somewhere both do, they pass first at the same place
+pub same_place : {X : Type 0} (p q : X → Bool) (f g : X → ℕ) → ((x : X) → p x ≡ true → 1 ≤ f x) → ((x : X) → q x ≡ true → 1 ≤ g x) → (xs : List X) → sum_by f xs ≤ 1 → sum_by g xs ≤ 1 → list_any (λ x. p x && q x) xs ≡ true
+    → position_or_len p xs ≡ position_or_len q xs
+same_place p q f g counts marks [] few scarce both = refl
+same_place {X} p q f g counts marks (x ∷ xs) few scarce both =
+    let sum : sum_by f (x ∷ xs) ≡ f x + sum_by f xs = sum_by-cons f x xs in
+    let marked : sum_by g (x ∷ xs) ≡ g x + sum_by g xs = sum_by-cons g x xs in
+    elim (p x) as (λ b. p x ≡ b → ((b && q x) || list_any (λ x. p x && q x) xs) ≡ true → cond (not b) (1 + position_or_len p xs) 0 ≡ position_or_len q (x ∷ xs)) [
+      | true ↦ λ e h. elim (q x) as (λ c. q x ≡ c → (c || list_any (λ x. p x && q x) xs) ≡ true → 0 ≡ cond (not c) (1 + position_or_len q xs) 0) [
+        | true ↦ λ _ _. refl
+        | false ↦ λ _ later.
+            let here = counts x e in
+            let more = some_both p q f counts xs later in
+            absurd (omega (arith, here, more, sum, few))
+      ] refl h
+      | false ↦ λ e h. elim (q x) as (λ c. q x ≡ c → 1 + position_or_len p xs ≡ cond (not c) (1 + position_or_len q xs) 0) [
+        | true ↦ λ k.
+            let here = marks x k in
+            let more = some_second p q g marks xs h in
+            absurd (omega (arith, here, more, marked, scarce))
+        | false ↦ λ _.
+            let fewer : sum_by f xs ≤ 1 = omega (arith, sum, few) in
+            let scarcer : sum_by g xs ≤ 1 = omega (arith, marked, scarce) in
+            ap (λ n. 1 + n) (same_place p q f g counts marks xs fewer scarcer h)
+      ] refl
+    ] refl both
+  where
+    some_both : {X : Type 0} (p q : X → Bool) (f : X → ℕ) → ((x : X) → p x ≡ true → 1 ≤ f x) → (xs : List X) → list_any (λ x. p x && q x) xs ≡ true → 1 ≤ sum_by f xs
+    some_both p q f counts [] h = absurd (cc (h))
+    some_both p q f counts (x ∷ xs) h =
+        let sum : sum_by f (x ∷ xs) ≡ f x + sum_by f xs = sum_by-cons f x xs in
+        elim (or_cases (p x && q x) (list_any (λ x. p x && q x) xs) h) as (λ _. 1 ≤ sum_by f (x ∷ xs)) [
+          | inl e ↦ let here = counts x (and_parts (p x) (q x) e).0 in omega (arith, here, sum)
+          | inr k ↦ let later = some_both p q f counts xs k in omega (arith, later, sum)
+        ]
+
+    some_second : {X : Type 0} (p q : X → Bool) (g : X → ℕ) → ((x : X) → q x ≡ true → 1 ≤ g x) → (xs : List X) → list_any (λ x. p x && q x) xs ≡ true → 1 ≤ sum_by g xs
+    some_second p q g marks [] h = absurd (cc (h))
+    some_second p q g marks (x ∷ xs) h =
+        let sum : sum_by g (x ∷ xs) ≡ g x + sum_by g xs = sum_by-cons g x xs in
+        elim (or_cases (p x && q x) (list_any (λ x. p x && q x) xs) h) as (λ _. 1 ≤ sum_by g (x ∷ xs)) [
+          | inl e ↦ let here = marks x (and_parts (p x) (q x) e).1 in omega (arith, here, sum)
+          | inr k ↦ let later = some_second p q g marks xs k in omega (arith, later, sum)
+        ]
+
+-- what stands at a place is an element
+pub in_at : {X : Type 0} (xs : List X) (k : ℕ) (x : X) → slice_get xs k ≡ Some x → In x xs
+in_at [] k x at = absurd (cc (at))
+in_at (y ∷ ys) zero x at = inl (cc (at))
+in_at (y ∷ ys) (suc k) x at = inr (in_at ys k x at)
+
+-- where a test passes once at most, it passes first wherever it passes
+first_place : {X : Type 0} (test : X → Bool) (f : X → ℕ) → ((x : X) → test x ≡ true → 1 ≤ f x) → (xs : List X) (k : ℕ) (x : X) → sum_by f xs ≤ 1 → slice_get xs k ≡ Some x → test x ≡ true → position_or_len test xs ≡ k
+first_place test f counts [] k x few at passes = absurd (cc (at))
+first_place test f counts (y ∷ ys) zero x few at passes =
+    let same : y ≡ x = cc (at) in
+    ap (λ b. cond (not b) (1 + position_or_len test ys) 0) (ap test same ∙ passes)
+first_place {X} test f counts (y ∷ ys) (suc k) x few at passes =
+    let sum : sum_by f (y ∷ ys) ≡ f y + sum_by f ys = sum_by-cons f y ys in
+    let fewer : sum_by f ys ≤ 1 = omega (arith, sum, few) in
+    let later : position_or_len test ys ≡ k = first_place test f counts ys k x fewer at passes in
+    let some : 1 ≤ sum_by f ys = one_counted f ys x (in_at ys k x at) (counts x passes) in
+    elim (test y) as (λ b. test y ≡ b → cond (not b) (1 + position_or_len test ys) 0 ≡ suc k) [
+      | true ↦ λ e. let here : 1 ≤ f y = counts y e in absurd (omega (arith, here, some, sum, few))
+      | false ↦ λ _. omega (arith, later)
+    ] refl
+
+pub only_place : {X : Type 0} (test : X → Bool) (f : X → ℕ) → ((x : X) → test x ≡ true → 1 ≤ f x) → (xs : List X) (k : ℕ) (x : X) → sum_by f xs ≤ 1 → slice_get xs k ≡ Some x → test x ≡ true → position test xs ≡ Some k
+only_place test f counts xs k x few at passes =
+    let place = first_place test f counts xs k x few at passes in
+    let within = slice_get_within xs k x at in
+    ap (λ n. cond (nat_lt n (length xs)) (Some n) None) place ∙ ap (λ b. cond b (Some k) None) (lt-ltb k (length xs) within)

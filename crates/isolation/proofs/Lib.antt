@@ -1,0 +1,16 @@
+mod Windows
+mod Counts
+mod Conflicts
+mod Switches
+mod Stores
+mod Outsiders
+mod OutsiderTurns
+mod Inboxes
+mod Alike
+mod Turners
+mod BothRaise
+mod BothTurns
+mod CpuTurns
+mod MergedInputs
+mod MergedTurns
+mod TwoSystems

@@ -1,0 +1,111 @@
+-- Two policies with their files and records that agree on what reaches the members of a set of subjects (this project's own).
+use Rattle.std.specs.Prelude.{◌≡◌, ℕ, ◌<◌, ◌==◌, ◌&&◌, Bool, false, true, List, filter, Option, Some, None, if◌then◌else◌, option_and_then, slice_get}
+use Rattle.std.specs.List.{list_any}
+use Rattle.std.specs.Option.{option_map_or}
+use Rattle.std.specs.Str.{bytes_eq}
+use Rattle.expand_grants.specs.Resources.{ports_of}
+use Rattle.flow_report.specs.Flows.{is_member, reaches}
+use Rattle.frame_clock.specs.FramePlace.{slot_in}
+use Rattle.frame_clock.specs.declared.place.FramePlace.{FramePlace}
+use Rattle.muen_num.specs.declared.mode.Mode.{Mode}
+use Rattle.muen_num.specs.declared.mode.Mode.TheVariants.{Switch}
+use Rattle.policy_meaning.specs.Contents.{Held}
+use Rattle.policy_meaning.specs.Events.{Raised, Target, event_of, irq_of}
+use Rattle.policy_meaning.specs.Frames.{first_member, frames_of, group_of}
+use Rattle.policy_meaning.specs.Thing.{Thing, device_memory}
+use Rattle.policy_meaning.specs.Windows.{windows_of}
+use Rattle.policy_types.specs.declared.source.Source.{Source}
+use Rattle.policy_types.specs.declared.source.SourceWay.{SourceWay}
+use Rattle.policy_types.specs.declared.source.Subject.{Subject}
+use Rattle.policy_types.specs.declared.source.Tau0.{Tau0}
+use Rattle.record_text.specs.DeviceRecord.{DeviceRecord, NamedInput, port_input, memory_input, irq_input, dma_input}
+use Rattle.subject_model.specs.Alone.{own_of, thing_in}
+use Rattle.subject_model.specs.Clock.{inputs_at, order_at, ticks_of_majors}
+use Rattle.subject_model.specs.Laws.{place_after}
+use Rattle.subject_model.specs.System.{is_shown, start_of, subject_named}
+
+-- ---- what agrees for one subject
+
+-- an event hands the CPU over
+abbrev pub hands_over : Option Raised → Bool
+hands_over None = false
+hands_over (Some e) = is_switch e.mode
+  where
+    is_switch : Mode → Bool
+    is_switch Switch = true
+    is_switch _ = false
+
+-- an event, if it is to the subject of this name
+abbrev pub only_to : List ℕ → Option Raised → Option Raised
+only_to name o = if reaches o name then o else None
+
+-- where an interrupt goes, if it is to the subject of this name
+abbrev pub irq_to : List ℕ → Option Target → Option Target
+irq_to name o = if option_map_or (λ t. bytes_eq t.subject name) o false then o else None
+
+-- it is the first listed member of its group
+abbrev pub is_first : Source → List ℕ → Bool
+is_first p name =
+    option_map_or (λ g. bytes_eq (first_member g.subjects) name) (option_and_then (λ k. slice_get p.scheduling.groups k) (group_of p name)) false
+
+-- whether its group has the subject's CPU at a tick of a place, and where it has, whether the tick is the first of its minor frame
+abbrev pub own_slot : Source → Subject → FramePlace → ℕ → Option Bool
+own_slot p s at tick =
+    option_and_then (λ slot. if option_map_or (λ k. k == slot.group) (group_of p s.name) false then Some slot.first else None)
+    (slot_in (frames_of p s.cpu) at tick)
+
+-- for a member, under its name in both policies
+pub record AgreeFor (members : List (List ℕ)) (p q : Source) (f g : Held) (s z : Subject) : Type 0 where
+  -- what it is given for itself
+  pub own : own_of p s ≡ own_of q z
+  -- in which ways it hands its CPU over, and which events it raises at members
+  pub switches : (way : SourceWay) → hands_over (event_of p s way) ≡ hands_over (event_of q z way)
+  pub events : (m : Subject) → is_member members m ≡ true → (way : SourceWay) → only_to m.name (event_of p s way) ≡ only_to m.name (event_of q z way)
+  pub first : is_first p s.name ≡ is_first q z.name
+  -- the bytes at the start of all that its windows show
+  pub contents : (x : Thing) → is_shown (windows_of p s) x ≡ true → thing_in (start_of p f).things x ≡ thing_in (start_of q g).things x
+  -- the interrupts that are granted to it
+  pub irqs : (device irq : List ℕ) → irq_to s.name (irq_of p device irq) ≡ irq_to s.name (irq_of q device irq)
+
+-- ---- what agrees of records
+
+-- an input reaches a member
+abbrev pub touches : Source → List (List ℕ) → NamedInput → Bool
+touches p members (port_input device port value) = list_any (λ s. is_member members s && list_any (λ n. n == port) (ports_of p s)) p.subjects
+touches p members (memory_input device memory offset bytes) =
+    list_any (λ s. is_member members s && is_shown (windows_of p s) (device_memory device memory)) p.subjects
+touches p members (irq_input device irq) =
+    option_map_or (λ t. list_any (λ s. is_member members s && bytes_eq s.name t.subject) p.subjects) (irq_of p device irq) false
+touches p members (dma_input device addr bytes) = false
+
+-- a member is on this CPU
+abbrev pub holds_member : Source → List (List ℕ) → ℕ → Bool
+holds_member p members cpu = list_any (λ s. is_member members s && (s.cpu == cpu)) p.subjects
+
+-- ---- what agrees of the plans
+
+-- the place at a tick, where nothing ever picks a major frame
+abbrev pub plain_place : Source → ℕ → FramePlace
+plain_place p tick = place_after (ticks_of_majors p) tick
+
+-- the CPUs go to the groups of members at the same ticks: where nobody chooses frames in either policy, of each tick; where the
+-- same subject chooses them by the same region in both, of each tick of each major frame, of which there are as many, and as long
+pub data AgreeOnFrames (members : List (List ℕ)) (p q : Source) (ends : ℕ) : Type 0 where
+  unchosen : p.scheduling.tau0 ≡ None → q.scheduling.tau0 ≡ None
+      → ((s z : Subject) → is_member members s ≡ true → subject_named p s.name ≡ Some s → subject_named q s.name ≡ Some z → (tick : ℕ) → tick < ends
+      → own_slot p s (plain_place p tick) tick ≡ own_slot q z (plain_place q tick) tick)
+      → AgreeOnFrames members p q ends
+  chosen : (t u : Tau0) → p.scheduling.tau0 ≡ Some t → q.scheduling.tau0 ≡ Some u → t.subject ≡ u.subject → t.region ≡ u.region → ticks_of_majors p ≡ ticks_of_majors q
+      → ((s z : Subject) → is_member members s ≡ true → subject_named p s.name ≡ Some s → subject_named q s.name ≡ Some z → (at : FramePlace) (tick : ℕ) → own_slot p s at tick ≡ own_slot q z at tick)
+      → AgreeOnFrames members p q ends
+
+-- ---- all of it
+
+pub record Agree (members : List (List ℕ)) (p q : Source) (f g : Held) (r t : DeviceRecord) (ends : ℕ) : Type 0 where
+  -- both policies declare each member
+  pub there : (s : Subject) → is_member members s ≡ true → subject_named p s.name ≡ Some s → (z : Subject) × (subject_named q s.name ≡ Some z)
+  pub back : (z : Subject) → is_member members z ≡ true → subject_named q z.name ≡ Some z → (s : Subject) × (subject_named p z.name ≡ Some s)
+  pub each : (s z : Subject) → is_member members s ≡ true → subject_named p s.name ≡ Some s → subject_named q s.name ≡ Some z → AgreeFor members p q f g s z
+  pub frames : AgreeOnFrames members p q ends
+  pub inputs : (tick : ℕ) → tick < ends → filter (touches p members) (inputs_at r tick) ≡ filter (touches q members) (inputs_at t tick)
+  pub orders : (tick : ℕ) → tick < ends → filter (holds_member p members) (order_at p r tick) ≡ filter (holds_member q members) (order_at q t tick)
