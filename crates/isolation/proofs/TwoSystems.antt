@@ -12,7 +12,7 @@ use Rattle.expand_grants.specs.Resources.{msrs_of}
 use Rattle.frame_clock.specs.FramePlace.{first_place, place_at}
 use Rattle.frame_clock.specs.declared.place.FramePlace.{FramePlace}
 use Rattle.image_plan.proofs.ByNumber.{length_numbers, number_at}
-use Rattle.muen_num.proofs.Members.{In, any_in, any_some, find_in}
+use Rattle.muen_num.proofs.Members.{In, all_in, any_in, any_some, find_in}
 use Rattle.muen_num.specs.Range.{numbers_below}
 use Rattle.muen_num.specs.declared.access.Kind.TheVariants.{Write}
 use Rattle.policy_lawful.proofs.KeptMembers.{members_kept}
@@ -33,7 +33,8 @@ use Rattle.record_text.specs.DeviceRecord.{DeviceRecord, NamedInput, port_input,
 use Rattle.state_page.specs.StatePage.{page_bytes, state_in}
 use Rattle.subject_state.specs.States.{started}
 use Rattle.tick_run.specs.Run.{all_taken, begun, run_to, turns}
-use Rattle.flow_report.specs.Flows.{IsClosed, by_plan, is_member}
+use Rattle.flow_report.specs.Flows.{IsClosed, by_plan, closure_of, is_member}
+use Rattle.flow_report.proofs.Closures.{closure_is_least}
 use Rattle.muen_num.proofs.SearchLaws.{none_both, unless_none}
 use Rattle.muen_num.specs.Search.{first_in}
 use Rattle.policy_lawful.specs.Offences.{two}
@@ -315,3 +316,12 @@ same_views p q f g r t members lawful lawful_too closed closed_too agree s w mem
     let same_b : seen_in q w (ran_through q g t w.cpu n) ≡ b = cc (right) in
     subst (λ v. AreSameViews v b) same_a (subst (AreSameViews (seen_in p s (ran_through p f r s.cpu n))) same_b
     (in_tick p q lawful lawful_too members closed closed_too f g r t (min r.end t.end) agree s member found n under w is))
+
+-- the set of a subject has it and is closed
+pub same_by_flows : (p q : Source) (f g : Held) (r t : DeviceRecord) (s w : Subject) → IsLawful p → IsLawful q → subject_named p s.name ≡ Some s → subject_named q s.name ≡ Some w → IsClosed q (closure_of p s.name) → Agree (closure_of p s.name) p q f g r t (min r.end t.end) → (n : ℕ) (a b : Seen)
+    → slice_get (view_of p f r s) n ≡ Some a → slice_get (view_of q g t w) n ≡ Some b → AreSameViews a b
+same_by_flows p q f g r t s w lawful lawful_too found is closed_too agree n a b at at' =
+    let least = closure_is_least p s.name in
+    let in_s = (find_in (λ x. bytes_eq x.name s.name) p.subjects s found).0 in
+    let member = all_in (λ x. bytes_eq x.name s.name ≡ true → is_member (closure_of p s.name) x ≡ true) p.subjects least.has s in_s ((bytes_eq-Decides s.name s.name).1 refl) in
+    same_views p q f g r t (closure_of p s.name) lawful lawful_too least.closed closed_too agree s w member found is n a b at at'

@@ -7,8 +7,7 @@ use Rattle.expand_grants.specs.Resources.{ports_of}
 use Rattle.flow_report.specs.Flows.{is_member, reaches}
 use Rattle.frame_clock.specs.FramePlace.{slot_in}
 use Rattle.frame_clock.specs.declared.place.FramePlace.{FramePlace}
-use Rattle.muen_num.specs.declared.mode.Mode.{Mode}
-use Rattle.muen_num.specs.declared.mode.Mode.TheVariants.{Switch}
+use Rattle.policy_lawful.specs.MoreRules.{is_switch}
 use Rattle.policy_meaning.specs.Contents.{Held}
 use Rattle.policy_meaning.specs.Events.{Raised, Target, event_of, irq_of}
 use Rattle.policy_meaning.specs.Frames.{first_member, frames_of, group_of}
@@ -30,10 +29,6 @@ use Rattle.subject_model.specs.System.{is_shown, start_of, subject_named}
 abbrev pub hands_over : Option Raised → Bool
 hands_over None = false
 hands_over (Some e) = is_switch e.mode
-  where
-    is_switch : Mode → Bool
-    is_switch Switch = true
-    is_switch _ = false
 
 -- an event, if it is to the subject of this name
 abbrev pub only_to : List ℕ → Option Raised → Option Raised

@@ -7,7 +7,7 @@
 #![tactic(auto)]
 
 ghost use Rattle.std.specs.Prelude.{◌≡◌, ℕ, List, Some, false, min, slice_get, true};
-ghost use Rattle.flow_report.specs.Flows.{IsClosed, is_member};
+ghost use Rattle.flow_report.specs.Flows.{IsClosed, closure_of, is_member};
 ghost use Rattle.image_plan.specs.Slot.{Slot};
 ghost use Rattle.policy_lawful.specs.Lawful.{IsLawful};
 ghost use Rattle.policy_meaning.specs.Contents.{Held};
@@ -36,5 +36,13 @@ pub fn outsiders_change_nothing()
 pub fn members_see_the_same()
     ensures { (p q : Source) (f g : Held) (r t : DeviceRecord) (members : List (List ℕ)) → IsLawful p → IsLawful q → IsClosed p members → IsClosed q members
         → Agree members p q f g r t (min r.end t.end) → (s w : Subject) → is_member members s ≡ true → subject_named p s.name ≡ Some s → subject_named q s.name ≡ Some w
+        → (n : ℕ) (a b : Seen) → slice_get (view_of p f r s) n ≡ Some a → slice_get (view_of q g t w) n ≡ Some b → AreSameViews a b }
+{}
+
+/// So it is for each subject with the set that `flows` prints of it (`closure_of`): whoever isn't in this set
+/// changes nothing of what the subject sees.
+pub fn sets_of_flows_are_enough()
+    ensures { (p q : Source) (f g : Held) (r t : DeviceRecord) (s w : Subject) → IsLawful p → IsLawful q → subject_named p s.name ≡ Some s → subject_named q s.name ≡ Some w
+        → IsClosed q (closure_of p s.name) → Agree (closure_of p s.name) p q f g r t (min r.end t.end)
         → (n : ℕ) (a b : Seen) → slice_get (view_of p f r s) n ≡ Some a → slice_get (view_of q g t w) n ≡ Some b → AreSameViews a b }
 {}
