@@ -14,3 +14,4 @@ mod CpuTurns
 mod MergedInputs
 mod MergedTurns
 mod TwoSystems
+mod TwoTexts

@@ -272,7 +272,7 @@ module _ (p q : Source) (lawful : IsLawful p) (lawful_too : IsLawful q) (members
 
   -- ---- views
 
-  in_tick : (n : ℕ) → n < ends → (w : Subject) → subject_named q m.name ≡ Some w → AreSameViews (seen_in p m (ran_through p f r m.cpu n)) (seen_in q w (ran_through q g t w.cpu n))
+  pub in_tick : (n : ℕ) → n < ends → (w : Subject) → subject_named q m.name ≡ Some w → AreSameViews (seen_in p m (ran_through p f r m.cpu n)) (seen_in q w (ran_through q g t w.cpu n))
   in_tick n low w is =
       let pair = agree.each m w member found is in
       let name = same_name p q m w pair.own in

@@ -6,7 +6,7 @@
 //! them (`Agree`). The functions here carry the laws; no command calls one.
 #![tactic(auto)]
 
-ghost use Rattle.std.specs.Prelude.{◌≡◌, ℕ, List, Some, false, min, slice_get, true};
+ghost use Rattle.std.specs.Prelude.{◌≡◌, ℕ, List, Some, All, IsTrue, false, min, slice_get, true};
 ghost use Rattle.flow_report.specs.Flows.{IsClosed, closure_of, is_member};
 ghost use Rattle.image_plan.specs.Slot.{Slot};
 ghost use Rattle.policy_lawful.specs.Lawful.{IsLawful};
@@ -14,8 +14,11 @@ ghost use Rattle.policy_meaning.specs.Contents.{Held};
 ghost use Rattle.policy_types.specs.declared.source.Source.{Source};
 ghost use Rattle.policy_types.specs.declared.source.Subject.{Subject};
 ghost use Rattle.record_text.specs.DeviceRecord.{DeviceRecord};
+ghost use Rattle.record_text.specs.Reading.{are_distinct};
+ghost use Rattle.subject_model.specs.Clock.{run_of};
 ghost use Rattle.subject_model.specs.System.{System, subject_named, system_turn};
 ghost use Rattle.subject_model.specs.View.{Seen, view_of};
+ghost use Rattle.system_laws.specs.LinesOf.{lines_of};
 ghost use Rattle.system_laws.specs.Members.{AreListed, HasTurn};
 ghost use Rattle.isolation.specs.Agree.{Agree};
 ghost use Rattle.isolation.specs.Alike.{AreAlike, AreSameViews};
@@ -45,4 +48,13 @@ pub fn sets_of_flows_are_enough()
     ensures { (p q : Source) (f g : Held) (r t : DeviceRecord) (s w : Subject) → IsLawful p → IsLawful q → subject_named p s.name ≡ Some s → subject_named q s.name ≡ Some w
         → IsClosed q (closure_of p s.name) → Agree (closure_of p s.name) p q f g r t (min r.end t.end)
         → (n : ℕ) (a b : Seen) → slice_get (view_of p f r s) n ≡ Some a → slice_get (view_of q g t w) n ≡ Some b → AreSameViews a b }
+{}
+
+/// And so are the lines that are printed of a member, where both runs have as many ticks and no order of a
+/// record names a CPU twice.
+pub fn members_print_the_same()
+    ensures { (p q : Source) (f g : Held) (r t : DeviceRecord) (members : List (List ℕ)) → IsLawful p → IsLawful q → IsClosed p members → IsClosed q members
+        → Agree members p q f g r t (min r.end t.end) → r.end ≡ t.end → All (λ o. IsTrue (are_distinct o.1)) r.orders → All (λ o. IsTrue (are_distinct o.1)) t.orders
+        → (s w : Subject) → is_member members s ≡ true → subject_named p s.name ≡ Some s → subject_named q s.name ≡ Some w
+        → lines_of s.name (run_of p f r).lines ≡ lines_of s.name (run_of q g t).lines }
 {}
