@@ -50,17 +50,18 @@ module _ (p : Source) (members : List (List ℕ)) (cpu tick : ℕ) (y : System) 
 
 -- ---- in both
 
-module _ (p q : Source) (lawful : IsLawful p) (lawful_too : IsLawful q) (members : List (List ℕ)) (closed : IsClosed p members) (closed_too : IsClosed q members) (f g : Held) (r t : DeviceRecord) (ends : ℕ) (agree : Agree members p q f g r t ends) (tick : ℕ) where
-  -- the members have the same slots
-  abbrev pub SameSlots : System → System → Type 0
-  SameSlots y z = (s w : Subject) → is_member members s ≡ true → subject_named p s.name ≡ Some s → subject_named q s.name ≡ Some w → own_slot p s y.place tick ≡ own_slot q w z.place tick
+-- the members have the same slots at this tick
+abbrev pub SameSlots : Source → Source → List (List ℕ) → ℕ → System → System → Type 0
+SameSlots p q members tick y z =
+    (s w : Subject) → is_member members s ≡ true → subject_named p s.name ≡ Some s → subject_named q s.name ≡ Some w → own_slot p s y.place tick ≡ own_slot q w z.place tick
 
+module _ (p q : Source) (lawful : IsLawful p) (lawful_too : IsLawful q) (members : List (List ℕ)) (closed : IsClosed p members) (closed_too : IsClosed q members) (f g : Held) (r t : DeviceRecord) (ends : ℕ) (agree : Agree members p q f g r t ends) (tick : ℕ) where
   -- members are alike after it, and it prints the same of each
   pub record SameSteps (a b : Turned System Line) : Type 0 where
     pub alike : AreAlike p q members a.state b.state
     pub lines : (s : Subject) → is_member members s ≡ true → subject_named p s.name ≡ Some s → find (λ l. bytes_eq l.subject s.name) (cons_option a.line []) ≡ find (λ l. bytes_eq l.subject s.name) (cons_option b.line [])
 
-  module _ (cpu : ℕ) (y z : System) (listed : AreListed p y.active) (listed_too : AreListed q z.active) (h : AreAlike p q members y z) (slots : SameSlots y z) where
+  module _ (cpu : ℕ) (y z : System) (listed : AreListed p y.active) (listed_too : AreListed q z.active) (h : AreAlike p q members y z) (slots : SameSlots p q members tick y z) where
     outsiders : (o : Option (Slot × Subject)) → turner p cpu tick y ≡ o → IsOutside p members cpu tick y o → (k : Option (Slot × Subject)) → turner q cpu tick z ≡ k → IsOutside q members cpu tick z k → SameSteps (system_turn p cpu tick y) (system_turn q cpu tick z)
     outsiders o is out k is' out' =
         let left = outsiders_turn p lawful members closed cpu tick y listed (outside_has p members cpu tick y o is out) in

@@ -25,7 +25,7 @@ use Rattle.system_laws.proofs.Unmoved.{by_raised}
 use Rattle.isolation.specs.Agree.{Agree, holds_member, own_slot}
 use Rattle.isolation.specs.Alike.{AreAlike}
 use Rattle.isolation.proofs.Alike.{alike_left, alike_right, same_member, same_name}
-use Rattle.isolation.proofs.CpuTurns.{IsOutside, SameSteps, outside_has, outside_line, steps_both}
+use Rattle.isolation.proofs.CpuTurns.{IsOutside, SameSlots, SameSteps, outside_has, outside_line, steps_both}
 use Rattle.isolation.proofs.OutsiderTurns.{outsiders_turn}
 use Rattle.isolation.proofs.Stores.{by_store}
 use Rattle.isolation.proofs.Turners.{has_turner, turner, turner_acts}
@@ -72,15 +72,12 @@ module _ (p : Source) (lawful : IsLawful p) (members : List (List ℕ)) (closed 
 -- ---- all turns of a tick
 
 module _ (p q : Source) (lawful : IsLawful p) (lawful_too : IsLawful q) (members : List (List ℕ)) (closed : IsClosed p members) (closed_too : IsClosed q members) (f g : Held) (r t : DeviceRecord) (ends : ℕ) (agree : Agree members p q f g r t ends) (tick : ℕ) where
-  abbrev pub Slots : System → System → Type 0
-  Slots y z = (s w : Subject) → is_member members s ≡ true → subject_named p s.name ≡ Some s → subject_named q s.name ≡ Some w → own_slot p s y.place tick ≡ own_slot q w z.place tick
-
   -- the two before some turns
   pub record Ready (y z : System) : Type 0 where
     pub listed : AreListed p y.active
     pub listed_too : AreListed q z.active
     pub alike : AreAlike p q members y z
-    pub slots : Slots y z
+    pub slots : SameSlots p q members tick y z
 
   ready_left : (c : ℕ) (y z : System) → holds_member p members c ≡ false → Ready y z → Ready (system_turn p c tick y).state z
   ready_left c y z empty h =

@@ -125,9 +125,6 @@ module _ (p : Source) (name : List ℕ) where
 
 -- who isn't in the group isn't touched, and in the group neither is active before and after
 module _ (p : Source) (name : List ℕ) (y : System) where
-  active_by : (o : Option ℕ) → System → Bool
-  active_by o y = option_map_or (λ member. bytes_eq member name) (option_and_then (λ g. slice_get y.active g) o) false
-
   at_own : (g : ℕ) (a b : List ℕ) → slice_get y.active g ≡ Some a → bytes_eq a name ≡ false → bytes_eq b name ≡ false → (o : Option ℕ)
       → option_map_or (λ member. bytes_eq member name) (option_and_then (λ k. slice_get (change_at g (λ _. b) y.active) k) o) false ≡ option_map_or (λ member. bytes_eq member name) (option_and_then (λ k. slice_get y.active k) o) false
   at_own g a b at before after None = refl

@@ -52,6 +52,7 @@ use Rattle.system_laws.proofs.Unmoved.{by_irq}
 use Rattle.isolation.specs.Agree.{Agree, AgreeOnFrames, chosen, holds_member, is_first, own_slot, plain_place, unchosen}
 use Rattle.isolation.specs.Alike.{AreAlike, AreSameViews, is_active}
 use Rattle.isolation.proofs.Alike.{same_cpu, same_entry, same_member, same_name, same_windows}
+use Rattle.isolation.proofs.CpuTurns.{SameSlots}
 use Rattle.isolation.proofs.Inboxes.{shown_alike}
 use Rattle.isolation.proofs.MergedInputs.{inputs_both}
 use Rattle.isolation.proofs.MergedTurns.{Ready, turn_place, turns_both}
@@ -206,11 +207,8 @@ module _ (p q : Source) (lawful : IsLawful p) (lawful_too : IsLawful q) (members
   Placed (unchosen a b c) n y z = (y.place ≡ placed p n) × (z.place ≡ placed q n)
   Placed (chosen a b c d e k l o) n y z = y.place ≡ z.place
 
-  abbrev Slots : ℕ → System → System → Type 0
-  Slots n y z = (s w : Subject) → is_member members s ≡ true → subject_named p s.name ≡ Some s → subject_named q s.name ≡ Some w → own_slot p s y.place n ≡ own_slot q w z.place n
-
   -- a tick begins
-  begun_slots : (fr : AgreeOnFrames members p q ends) (n : ℕ) → n < ends → (y z : System) → AreAlike p q members y z → Placed fr n y z → Slots n (begins p n y) (begins q n z) × Placed fr (suc n) (begins p n y) (begins q n z)
+  begun_slots : (fr : AgreeOnFrames members p q ends) (n : ℕ) → n < ends → (y z : System) → AreAlike p q members y z → Placed fr n y z → SameSlots p q members n (begins p n y) (begins q n z) × Placed fr (suc n) (begins p n y) (begins q n z)
   unfolding placed
   begun_slots (unchosen a b c) n low y z h at =
       let left : (begins p n y).place ≡ plain_place p n = ap (λ o. place_at (ticks_of_majors p) y.place (pick_in y o) n) a ∙ begun_place p n y.place at.0 in

@@ -53,7 +53,7 @@ fn find_places(alloc: Global, scope: &Scope) -> Result<(Seq<Subject>, Scheduling
     ))
 }
 
-// The same, where the names are unique.
+// The same of any policy, whose names are indexed first.
 #[tactic(auto, using(crate::proofs::Resolved::resolution))]
 fn places_of(alloc: Global, source: &Source) -> Result<(Seq<Subject>, Scheduling), Refusal>
     ensures { let p = source.now in Keeps (names_broken p) (λ x. IsResolved (with_places p x.0 x.1) × (source_of (with_places p x.0 x.1) ≡ p)) result }

@@ -48,10 +48,10 @@ fn index_hardware(alloc: Global, source: &Source) -> Result<(Index, Seq<DeviceNa
     Ok((devices, parts))
 }
 
-// The components and what they want.
+// Of the components and of what they want.
 type Components = (Index, Seq<WantedNames>);
 
-// The events, the subjects and the groups.
+// Of the events, of the subjects and of the groups.
 type Members = (Index, Index, Index);
 
 // The indexes of the components and of what they want.
@@ -75,9 +75,12 @@ fn index_members(alloc: Global, source: &Source) -> Result<Members, Refusal>
     Ok((events, subjects, groups))
 }
 
-// The indexes of the components and behind them.
+// The indexes of the components, and behind them those of the events, the subjects and the groups.
 #[tactic(auto, using(crate::proofs::Refusals::one_behind_another))]
-fn index_software(alloc: Global, source: &Source) -> Result<(Components, Members), Refusal>
+fn index_components_and_members(
+    alloc: Global,
+    source: &Source,
+) -> Result<(Components, Members), Refusal>
     ensures { let p = source.now in Keeps (broken 1 (option_or (components_repeat p) (members_repeat p))) (λ x. (x.0.0 ≡ map (λ c. c.name) p.components) × (x.0.1 ≡ map names_of_wanted p.components) × (x.1.0 ≡ map (λ e. e.name) p.events) × (x.1.1 ≡ map (λ s. s.name) p.subjects) × (x.1.2 ≡ map (λ g. g.name) p.scheduling.groups)) result }
 {
     let components = index_components(alloc, source)?;
@@ -99,7 +102,9 @@ impl<'a> Scope<'a> {
             source.memory.items(),
             source.channels.items(),
         )?;
-        let ((components, wanted), (events, subjects, groups)) = index_software(alloc, source)?;
+        let ((components, wanted), (events, subjects, groups)) = index_components_and_members(
+            alloc, source,
+        )?;
         Ok(Scope {
             source,
             devices,

@@ -1,8 +1,8 @@
 -- The view of a subject that no monitor may write is that of the subject by itself, on what reaches it.
-use Rattle.std.proofs.Common.{◌≡◌, ℕ, zero, suc, Bool, true, false, cond, List, [], ◌∷◌, map, Option, Some, None, refl, sym, ap, subst, ◌∙◌}
-use Rattle.std.specs.Prelude.{◌==◌, ◌||◌, nat_lt, not, option_map, slice_get, IsTrue}
+use Rattle.std.proofs.Common.{◌≡◌, ℕ, zero, suc, ◌<◌, Bool, true, false, cond, List, [], ◌∷◌, map, Option, Some, None, refl, sym, ap, subst, ◌∙◌}
+use Rattle.std.specs.Prelude.{◌==◌, ◌||◌, nat_lt, not, option_map, slice_get}
 use Rattle.std.specs.Option.{IfSome, option_map_or}
-use Rattle.std.specs.List.{All, AllByRecursion, cons_option, find, list_all, list_any}
+use Rattle.std.specs.List.{All, AllByRecursion, cons_option, find, list_any}
 use Rattle.std.specs.Str.{bytes_eq}
 use Rattle.std.proofs.lemmas.Bool.{and_parts, eqb-true, eq-eqb, ltb-true, not-true, or_parts, true≢false}
 use Rattle.std.proofs.lemmas.List.Elements.{recursion_from_All}
@@ -21,6 +21,7 @@ use Rattle.policy_meaning.specs.Frames.{frames_of}
 use Rattle.policy_types.specs.declared.source.Source.{Source}
 use Rattle.policy_types.specs.declared.source.Subject.{Subject}
 use Rattle.record_text.specs.DeviceRecord.{DeviceRecord}
+use Rattle.record_text.specs.Law.{NamesEachOnce}
 use Rattle.record_text.specs.Reading.{are_distinct}
 use Rattle.subject_state.specs.declared.SubjectState.{SubjectState}
 use Rattle.tick_run.specs.Run.{Turned, begun, run_to, turns}
@@ -29,7 +30,7 @@ use Rattle.subject_model.specs.Alone.{Inbox, MsrValues, OwnState, TurnAnswer, ow
 use Rattle.subject_model.specs.Clock.{inputs_at, order_at, system}
 use Rattle.subject_model.specs.System.{System, idle, inbox_of, line_at, named, start_of, state_of, subject_named, system_turn, turn_from, turn_in_slot, turn_of_member, turn_of_subject}
 use Rattle.subject_model.specs.View.{ran_through, seen_in, through, view_of}
-use Rattle.system_laws.specs.AloneRun.{after_tick, alone_in, alone_to, alone_view, before, is_altered, is_order, own_part, reaching, reaching_at, reaching_member, reaching_slot, says_in, started_alone}
+use Rattle.system_laws.specs.AloneRun.{after_tick, alone_in, alone_to, alone_view, before, is_altered, own_part, reaching, reaching_at, reaching_member, reaching_slot, says_in, started_alone}
 use Rattle.sound_stands.proofs.Each.{found, mapped}
 use Rattle.sound_stands.proofs.StartLists.{named_map}
 use Rattle.machine_meaning.proofs.ExitLaws.{any_below}
@@ -40,7 +41,8 @@ use Rattle.system_laws.specs.Members.{AreListed}
 use Rattle.system_laws.proofs.ActiveMembers.{begun_listed, turn_listed}
 use Rattle.system_laws.proofs.Kept.{acted}
 use Rattle.system_laws.proofs.LinesOfViews.{find_other, numbers_distinct}
-use Rattle.system_laws.proofs.OwnLines.{listed_passes, named_so}
+use Rattle.system_laws.proofs.Orders.{names_all}
+use Rattle.system_laws.proofs.OwnLines.{named_so}
 use Rattle.system_laws.proofs.OwnStates.{IsOthers, IsOwn, begun_stays, others_acted, others_turn, own_answer, own_stays}
 use Rattle.system_laws.proofs.Untouched.{solo_elsewhere}
 
@@ -152,15 +154,10 @@ module _ (p : Source) (s : Subject) (is : subject_named p s.name ≡ Some s) (no
 
 -- ---- each CPU has its turn
 
-order_is : (p : Source) (order : List ℕ) → is_order p order ≡ true → (cpu : ℕ) → list_any (λ n. n == cpu) (numbers_below p.processor.logical_cpus) ≡ true → (are_distinct order ≡ true) × (list_any (λ c. c == cpu) order ≡ true)
-order_is p order h cpu there =
-    let parts = and_parts (are_distinct order) (list_all (λ cpu. list_any (λ c. c == cpu) order) (numbers_below p.processor.logical_cpus)) h in
-    (parts.0, listed_passes (λ a b. a == b) eqb-true (λ cpu. list_any (λ c. c == cpu) order) (numbers_below p.processor.logical_cpus) cpu parts.1 there)
-
-orders_there : (p : Source) (o : Option (ℕ × List ℕ)) → IfSome o (λ e. IsTrue (is_order p e.1)) → (cpu : ℕ) → list_any (λ n. n == cpu) (numbers_below p.processor.logical_cpus) ≡ true
+orders_there : (p : Source) (o : Option (ℕ × List ℕ)) → IfSome o (λ e. NamesEachOnce p.processor.logical_cpus e.1) → (cpu : ℕ) → cpu < p.processor.logical_cpus
     → (are_distinct (option_map_or (λ e. e.1) o (numbers_below p.processor.logical_cpus)) ≡ true) × (list_any (λ c. c == cpu) (option_map_or (λ e. e.1) o (numbers_below p.processor.logical_cpus)) ≡ true)
-orders_there p None h cpu there = (numbers_distinct p.processor.logical_cpus, there)
-orders_there p (Some e) h cpu there = order_is p e.1 h cpu there
+orders_there p None h cpu low = (numbers_distinct p.processor.logical_cpus, any_below (λ n. n == cpu) p.processor.logical_cpus cpu low (eq-eqb cpu cpu refl))
+orders_there p (Some e) h cpu low = (h.distinct, names_all p.processor.logical_cpus e.1 h cpu low)
 
 -- ---- a run
 
@@ -169,10 +166,10 @@ unfolding start_of
 started_own p s is files =
     record { state = ap (option_map state_in) (first_paged p files s is); msrs = named_map (λ n. map (λ m. (m.index, 0)) (msrs_of n)) p.subjects s.name ∙ ap (option_map (λ n. map (λ m. (m.index, 0)) (msrs_of n))) is }
 
-module _ (p : Source) (s : Subject) (is : subject_named p s.name ≡ Some s) (none : is_altered p s ≡ false) (lawful : IsLawful p) (files : Held) (r : DeviceRecord) (orders : AllByRecursion (λ (e : ℕ × List ℕ). IsTrue (is_order p e.1)) r.orders) where
-  own_number : list_any (λ n. n == s.cpu) (numbers_below p.processor.logical_cpus) ≡ true
+module _ (p : Source) (s : Subject) (is : subject_named p s.name ≡ Some s) (none : is_altered p s ≡ false) (lawful : IsLawful p) (files : Held) (r : DeviceRecord) (orders : AllByRecursion (λ (e : ℕ × List ℕ). NamesEachOnce p.processor.logical_cpus e.1) r.orders) where
+  own_number : s.cpu < p.processor.logical_cpus
   own_number =
-      any_below (λ n. n == s.cpu) p.processor.logical_cpus s.cpu (ltb-true s.cpu p.processor.logical_cpus (found_among (λ q. bytes_eq q.name s.name) (λ q. nat_lt q.cpu p.processor.logical_cpus) p.subjects s is (cpus_kept p lawful.rule_3).subjects)) (eq-eqb s.cpu s.cpu refl)
+      ltb-true s.cpu p.processor.logical_cpus (found_among (λ q. bytes_eq q.name s.name) (λ q. nat_lt q.cpu p.processor.logical_cpus) p.subjects s is (cpus_kept p lawful.rule_3).subjects)
 
   abbrev alone_after : ℕ → OwnState
   alone_after n = alone_to (own_of p s) (reaching_at p files r s) n (started_alone s)
@@ -181,7 +178,7 @@ module _ (p : Source) (s : Subject) (is : subject_named p s.name ≡ Some s) (no
       → IsAloneIn p s is none (majors_kept p lawful.rule_16) (members_kept p lawful.rule_17) n (reaching_at p files r s n) mine (through s.cpu (order_at p r n)) (order_at p r n) (begun (system p) n (inputs_at r n) (run_to (system p) (inputs_at r) (order_at p r) n (start_of p files)).state)
   in_tick n mine h =
       let y = begun (system p) n (inputs_at r n) (run_to (system p) (inputs_at r) (order_at p r) n (start_of p files)).state in
-      let there = orders_there p (find (λ e. e.0 == n) r.orders) (found (λ (e : ℕ × List ℕ). IsTrue (is_order p e.1)) (λ e. e.0 == n) r.orders orders) s.cpu own_number in
+      let there = orders_there p (find (λ e. e.0 == n) r.orders) (found (λ (e : ℕ × List ℕ). NamesEachOnce p.processor.logical_cpus e.1) (λ e. e.0 == n) r.orders orders) s.cpu own_number in
       in_turns p s is none (majors_kept p lawful.rule_16) (members_kept p lawful.rule_17) n (order_at p r n) y mine
       (begun_listed p files (members_kept p lawful.rule_17) (inputs_at r) (order_at p r) n)
       (begun_stays p s n (inputs_at r n) (run_to (system p) (inputs_at r) (order_at p r) n (start_of p files)).state mine h) there.0 there.1
@@ -196,10 +193,10 @@ module _ (p : Source) (s : Subject) (is : subject_named p s.name ≡ Some s) (no
       let at = in_tick n (alone_after n) (run_alone n) in
       λ i. record { line = at.line i; state = at.own.state i; msrs = at.own.msrs i }
 
-pub views_alone : (p : Source) (files : Held) (r : DeviceRecord) (s : Subject) → IsLawful p → subject_named p s.name ≡ Some s → is_altered p s ≡ false → All (λ e. IsTrue (is_order p e.1)) r.orders
+pub views_alone : (p : Source) (files : Held) (r : DeviceRecord) (s : Subject) → IsLawful p → subject_named p s.name ≡ Some s → is_altered p s ≡ false → All (λ e. NamesEachOnce p.processor.logical_cpus e.1) r.orders
     → map own_part (view_of p files r s) ≡ alone_view (own_of p s) (reaching_at p files r s) (started_alone s) r.end
 unfolding view_of
 views_alone p files r s lawful is none orders =
-    let each = recursion_from_All (λ (e : ℕ × List ℕ). IsTrue (is_order p e.1)) r.orders orders in
+    let each = recursion_from_All (λ (e : ℕ × List ℕ). NamesEachOnce p.processor.logical_cpus e.1) r.orders orders in
     map-map own_part (λ tick. seen_in p s (ran_through p files r s.cpu tick)) (numbers_below r.end)
     ∙ (λ i. map (λ tick. seen_alone p s is none lawful files r each tick i) (numbers_below r.end))

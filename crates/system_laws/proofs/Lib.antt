@@ -9,3 +9,4 @@ pub mod OwnLines
 pub mod LinesOfViews
 pub mod OwnStates
 mod AloneViews
+mod Orders

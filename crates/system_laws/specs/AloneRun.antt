@@ -1,6 +1,6 @@
 -- A subject by itself on the clock (this project's own): its own state and its lines, by what reaches it at its turns.
 use Rattle.std.specs.Prelude.{ℕ, zero, suc, ◌==◌, ◌&&◌, Bool, List, [], ◌∷◌, map, Option, Some, None, if◌then◌else◌, option_map, slice_get}
-use Rattle.std.specs.List.{list_all, list_any}
+use Rattle.std.specs.List.{list_any}
 use Rattle.std.specs.Str.{bytes_eq}
 use Rattle.expand_grants.specs.Resources.{msrs_of}
 use Rattle.frame_clock.specs.FramePlace.{slot_in}
@@ -14,7 +14,6 @@ use Rattle.policy_types.specs.declared.source.Monitor.{Monitor}
 use Rattle.policy_types.specs.declared.source.Source.{Source}
 use Rattle.policy_types.specs.declared.source.Subject.{Subject}
 use Rattle.record_text.specs.DeviceRecord.{DeviceRecord}
-use Rattle.record_text.specs.Reading.{are_distinct}
 use Rattle.state_page.specs.StatePage.{page_bytes, state_in}
 use Rattle.subject_state.specs.States.{started}
 use Rattle.subject_state.specs.declared.SubjectState.{SubjectState}
@@ -36,11 +35,6 @@ abbrev pub is_altered : Source → Subject → Bool
 is_altered p s = list_any (λ q. list_any (alters s.name) q.monitors) p.subjects
 
 -- ---- what reaches a subject in a run
-
--- this order of CPUs has each of them once
-abbrev pub is_order : Source → List ℕ → Bool
-is_order p order =
-    are_distinct order && list_all (λ cpu. list_any (λ c. c == cpu) order) (numbers_below p.processor.logical_cpus)
 
 -- by the active member of the slot's group
 abbrev pub reaching_member : Source → Subject → ℕ → Bool → Option (List ℕ) → System → Option Inbox

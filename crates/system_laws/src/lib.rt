@@ -11,13 +11,14 @@ ghost use Rattle.policy_meaning.specs.Contents.{Held};
 ghost use Rattle.policy_types.specs.declared.source.Source.{Source};
 ghost use Rattle.policy_types.specs.declared.source.Subject.{Subject};
 ghost use Rattle.record_text.specs.DeviceRecord.{DeviceRecord, NamedInput};
+ghost use Rattle.record_text.specs.Law.{NamesEachOnce};
 ghost use Rattle.record_text.specs.Reading.{are_distinct};
 ghost use Rattle.tick_run.specs.Run.{run_to};
 ghost use Rattle.subject_model.specs.Alone.{own_of};
 ghost use Rattle.subject_model.specs.Clock.{order_at, run_of, system};
 ghost use Rattle.subject_model.specs.System.{start_of, subject_named};
 ghost use Rattle.subject_model.specs.View.{through, view_of};
-ghost use Rattle.system_laws.specs.AloneRun.{alone_view, is_altered, is_order, own_part, reaching_at, started_alone};
+ghost use Rattle.system_laws.specs.AloneRun.{alone_view, is_altered, own_part, reaching_at, started_alone};
 ghost use Rattle.system_laws.specs.LastViews.{at_rest, without_line};
 ghost use Rattle.system_laws.specs.LinesOf.{lines_of};
 ghost use Rattle.system_laws.specs.Pages.{IsStatePage};
@@ -49,8 +50,8 @@ pub fn lines_are_those_of_the_views()
 /// the subject by itself (`alone_view`): it begins with its first state, and in each tick its own state, the
 /// values of its MSRs and its line come of what they were and of what reaches it at its turn
 /// (`reaching_at`: the bytes that its windows show, the input bytes of its ports, its pending events), and of
-/// nothing else. The policy is lawful, and each order of the record names each CPU once.
+/// nothing else. The policy is lawful, and each order of the record names each CPU once, as in every record that is read.
 pub fn views_are_those_of_subjects_alone()
     ensures { (p : Source) (files : Held) (r : DeviceRecord) (s : Subject) → IsLawful p → subject_named p s.name ≡ Some s → is_altered p s ≡ false
-        → All (λ o. IsTrue (is_order p o.1)) r.orders → map own_part (view_of p files r s) ≡ alone_view (own_of p s) (reaching_at p files r s) (started_alone s) r.end }
+        → All (λ o. NamesEachOnce p.processor.logical_cpus o.1) r.orders → map own_part (view_of p files r s) ≡ alone_view (own_of p s) (reaching_at p files r s) (started_alone s) r.end }
 {}
