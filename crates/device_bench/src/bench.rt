@@ -7,7 +7,7 @@ ghost use Rattle.muen_num.specs.Size.{bytes_of};
 ghost use Rattle.device_bench.specs.Devices.{IsInOrder, inputs_at, order_at, zeros, no_inputs, value_of_ports};
 
 use muen_num::limits::LAST_PORT;
-use muen_num::{NoMemory, Size};
+use muen_num::{NoMemory, AccessSize};
 use record_text::{Record, TickInput, TickOrder};
 use std::alloc::Global;
 use std::marker::Model;
@@ -178,7 +178,7 @@ impl Bench {
 
     /// What is read of so many ports from this one on, at most four of them and none past the last:
     /// the byte of the lowest port is the lowest.
-    pub fn port_in(&self, port: u16, size: Size) -> u32
+    pub fn port_in(&self, port: u16, size: AccessSize) -> u32
         requires few { bytes_of size ≤ 4 }
         requires end { port + bytes_of size ≤ LAST_PORT + 1 }
         ensures { result ≡ value_of_ports self.now.ports port (bytes_of size) }

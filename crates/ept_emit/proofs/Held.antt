@@ -9,8 +9,8 @@ use Rattle.machine_meaning.specs.declared.walk.Walk.TheVariants.{At, Violation}
 use Rattle.machine_meaning.specs.Memory.{Page, page_of, is_there, le_number, load_of}
 use Rattle.machine_meaning.specs.Walks.{span, entry_of, root_of, walk_of, walk_from, places_read, places_from, leaf_size, end_span}
 use Rattle.muen_num.specs.Access.{kind_bit}
-use Rattle.muen_num.specs.declared.access.Kind.{Kind}
-use Rattle.muen_num.specs.declared.access.Kind.TheVariants.{Read, Write, Fetch}
+use Rattle.muen_num.specs.declared.access.AccessKind.{AccessKind}
+use Rattle.muen_num.specs.declared.access.AccessKind.TheVariants.{Read, Write, Fetch}
 use Rattle.policy_types.specs.Rights.{allows, has}
 use Rattle.ept_emit.specs.Entries.{IsEmittable, word_at}
 use Rattle.ept_emit.specs.Emitted.{HasPlaces, HasTables, IsGreatestSize, IsReadBy, Reads, eptp_of, translation, translation_in, window_at}
@@ -41,13 +41,13 @@ has_entries m at n out room h k i lt small =
     ∙ (ap (λ bytes. Some (le_number bytes)) (part_of out (8 * i) (4096 * k) 8 4096 (omega arith))
     ∙ ap (λ j. Some (le_number (take 8 (drop j out)))) e)
 
-allowed_is : (w : Window) (kind : Kind) → allows w.rights kind ≡ (bit_and w.rights.0 (kind_bit kind) == kind_bit kind)
+allowed_is : (w : Window) (kind : AccessKind) → allows w.rights kind ≡ (bit_and w.rights.0 (kind_bit kind) == kind_bit kind)
 unfolding has
 allowed_is w Read = refl
 allowed_is w Write = refl
 allowed_is w Fetch = refl
 
-leads_is : (o : Option Window) (addr : ℕ) (kind : Kind) → leads o addr (kind_bit kind) ≡ translation_in o addr kind
+leads_is : (o : Option Window) (addr : ℕ) (kind : AccessKind) → leads o addr (kind_bit kind) ≡ translation_in o addr kind
 leads_is None addr kind = refl
 leads_is (Some w) addr kind = ap (λ b. if b then At (w.place + (addr - w.guest)) else Violation w.rights.0) (sym (allowed_is w kind))
 
@@ -71,7 +71,7 @@ module _ (m : List Page) (at n total : ℕ) (out : List ℕ) (ws : List Window) 
   bounded : at / 4096 + n ≤ 2 ^ 28
   bounded = omega arith
 
-  pub walk_held : (addr : ℕ) (kind : Kind) → addr < 2 ^ 48 → HasPlaces m ws → walk_of m (eptp_of at) addr kind ≡ translation ws addr kind
+  pub walk_held : (addr : ℕ) (kind : AccessKind) → addr < 2 ^ 48 → HasPlaces m ws → walk_of m (eptp_of at) addr kind ≡ translation ws addr kind
   walk_held addr kind lt places =
       ap (λ t. walk_from (entry_of m) (is_there m) addr (kind_bit kind) 3 t 7) (root_is at page)
       ∙ (walk_written (entry_of m) (is_there m) (word_at out) (at / 4096) 1 n ws addr (kind_bit kind) bounded entries ok places 3 0 some (numbered.written addr (in_all addr lt))

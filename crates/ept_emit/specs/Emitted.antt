@@ -6,7 +6,7 @@ use Rattle.machine_meaning.specs.declared.walk.Walk.{Walk}
 use Rattle.machine_meaning.specs.declared.walk.Walk.TheVariants.{At, Violation}
 use Rattle.machine_meaning.specs.Memory.{Page, is_there, page_of}
 use Rattle.machine_meaning.specs.Walks.{places_read, span}
-use Rattle.muen_num.specs.declared.access.Kind.{Kind}
+use Rattle.muen_num.specs.declared.access.AccessKind.{AccessKind}
 use Rattle.policy_types.specs.Rights.{allows}
 use Rattle.ept_emit.specs.Entries.{level_of}
 
@@ -25,13 +25,13 @@ holds addr w = nat_le w.guest addr && nat_lt addr (w.guest + w.size)
 abbrev pub window_at : List Window → ℕ → Option Window
 window_at ws addr = find (holds addr) ws
 
-abbrev pub translation_in : Option Window → ℕ → Kind → Walk
+abbrev pub translation_in : Option Window → ℕ → AccessKind → Walk
 translation_in None addr kind = Violation 0
 translation_in (Some w) addr kind =
     if allows w.rights kind then At (w.place + (addr - w.guest)) else Violation w.rights.0
 
 -- where a window leads an access: to its place, where the window has the right for it
-abbrev pub translation : List Window → ℕ → Kind → Walk
+abbrev pub translation : List Window → ℕ → AccessKind → Walk
 translation ws addr kind = translation_in (window_at ws addr) addr kind
 
 -- the aligned span around an address that a page of this level maps lies wholly in the window

@@ -7,7 +7,7 @@ ghost use Rattle.ept_emit.specs.Needs.{needs};
 ghost use Rattle.ept_emit.specs.Tables.{AreNumbered, IsWritten};
 ghost use Rattle.machine_meaning.specs.Memory.{Page};
 ghost use Rattle.machine_meaning.specs.Walks.{leaf_size, places_read, span, walk_of};
-ghost use Rattle.muen_num.specs.declared.access.Kind.{Kind};
+ghost use Rattle.muen_num.specs.declared.access.AccessKind.{AccessKind};
 
 use crate::entries::{TABLE_ENTRIES, is_whole, leaf_entry, set_word, table_entry};
 use crate::search::window_on;
@@ -110,7 +110,7 @@ pub fn emit(windows: &[Window], at: u64, out: &mut [u8])
     requires at { at % 4096 ≡ 0 }
     requires end { at + 4096 * ept_pages windows.now ≤ 2 ^ 40 }
     requires room { length out.old ≡ 4096 * ept_pages windows.now }
-    ensures walk { (m : List Page) (addr : ℕ) (kind : Kind) → HasTables m at out.new → HasPlaces m windows.now → addr < 2 ^ 48 → walk_of m (eptp_of at) addr kind ≡ translation windows.now addr kind }
+    ensures walk { (m : List Page) (addr : ℕ) (kind : AccessKind) → HasTables m at out.new → HasPlaces m windows.now → addr < 2 ^ 48 → walk_of m (eptp_of at) addr kind ≡ translation windows.now addr kind }
     ensures alone { (m : List Page) (addr : ℕ) → HasTables m at out.new → addr < 2 ^ 48 → All (λ place. (at ≤ place) × (place + 8 ≤ at + length out.new)) (places_read m (eptp_of at) addr) }
     ensures paths { (m : List Page) (a b level other page : ℕ) → HasTables m at out.new → a < 2 ^ 48 → b < 2 ^ 48 → Reads m (eptp_of at) a level page → Reads m (eptp_of at) b other page → (level ≡ other) × (a / span (suc level) ≡ b / span (suc level)) }
     ensures leaves { (m : List Page) (addr : ℕ) → HasTables m at out.new → addr < 2 ^ 48 → IfSome (window_at windows.now addr) (λ w. IsGreatestSize w addr (leaf_size m (eptp_of at) addr)) }

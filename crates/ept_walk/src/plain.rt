@@ -9,7 +9,7 @@ use crate::entry::{
 };
 use machine_meaning::Walk;
 use muen_num::limits::PAGE;
-use muen_num::{Kind, Size};
+use muen_num::{AccessKind, AccessSize};
 use phys_mem::PhysMem;
 
 /// The rights of a walk before it has read an entry: all of them.
@@ -36,7 +36,7 @@ fn read_entry<M: PhysMem>(mem: &M, level: u32, table: u64, addr: u64) -> Option<
     requires table { table < 2 ^ 52 }
     ensures { result ≡ entry_of (M.pages mem.now) table (index_at level addr) }
 {
-    mem.load(entry_place(level, table, addr), Size::Eight)
+    mem.load(entry_place(level, table, addr), AccessSize::Eight)
 }
 
 // Where a walk ends that has come to this physical address: first the rights are checked, and then
@@ -81,7 +81,7 @@ impl Translate for PlainWalk {
 
     ghost fits = { FitsEvery };
 
-    fn walk<M: PhysMem>(&mut self, mem: &M, eptp: u64, addr: u64, kind: Kind) -> Walk {
+    fn walk<M: PhysMem>(&mut self, mem: &M, eptp: u64, addr: u64, kind: AccessKind) -> Walk {
         walk_from(mem, addr, kind.bit() as u64, PML4, eptp / PAGE, ALL_RIGHTS)
     }
 

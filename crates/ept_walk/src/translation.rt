@@ -5,7 +5,7 @@ ghost use Rattle.machine_meaning.specs.Same.{SameOutside};
 ghost use Rattle.machine_meaning.specs.Walks.{walk_of};
 
 use machine_meaning::Walk;
-use muen_num::Kind;
+use muen_num::AccessKind;
 use phys_mem::PhysMem;
 
 /// Translates guest addresses, by walking EPT tables or by what it keeps of earlier walks.
@@ -15,7 +15,7 @@ pub trait Translate: Drop {
 
     /// The walk for an access of this kind at a guest address, by the tables of an EPTP as they are
     /// in memory now. The tables may have any content, and the EPTP any value.
-    fn walk<M: PhysMem>(&mut self, mem: &M, eptp: u64, addr: u64, kind: Kind) -> Walk
+    fn walk<M: PhysMem>(&mut self, mem: &M, eptp: u64, addr: u64, kind: AccessKind) -> Walk
         requires fits { fits self.old (M.pages mem.now) }
         requires addr { addr < 2 ^ 48 }
         ensures walk { result ≡ walk_of (M.pages mem.now) eptp addr kind }

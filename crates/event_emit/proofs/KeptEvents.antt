@@ -14,8 +14,8 @@ use Rattle.image_pack.specs.Codes.{is_switch as switches, is_vector, vector_code
 use Rattle.muen_num.proofs.Lists.{each_of, found_among}
 use Rattle.muen_num.proofs.SearchLaws.{all_pass}
 use Rattle.muen_num.specs.declared.limits.TheConstants.{FIRST_VECTOR, LAST_VECTOR}
-use Rattle.muen_num.specs.declared.mode.Mode.{Mode}
-use Rattle.muen_num.specs.declared.mode.Mode.TheVariants.{Asap, Async, Own, Switch}
+use Rattle.muen_num.specs.declared.mode.EventMode.{EventMode}
+use Rattle.muen_num.specs.declared.mode.EventMode.TheVariants.{Asap, Async, Own, Switch}
 use Rattle.policy_lawful.specs.MoreRules.{are_distinct, are_vectors, fits_event, has_vector, is_connected, is_switch, is_writer, offence_15, offence_6, readers_of, vectors_of, writers_of}
 use Rattle.policy_lawful.specs.Offences.{alone}
 use Rattle.policy_meaning.specs.Events.{ChannelEnd, Raised, Target, channel_ends, channel_event, channel_targets, event_of, event_targets, irq_of, named_event, reads_from, same_way, writes_by}
@@ -41,7 +41,7 @@ abbrev is_free_if_any : Option ℕ → Bool
 is_free_if_any v = option_map_or is_free v true
 
 -- it reaches a subject with a name, under a vector that the mode allows
-abbrev reaches : Mode → Target → Bool
+abbrev reaches : EventMode → Target → Bool
 reaches mode t = has_letters t.subject && is_vector mode (vector_code t.vector)
 
 -- an event that does so
@@ -52,7 +52,7 @@ is_raised x = reaches x.mode x.target
 abbrev pub is_routed : Target → Bool
 is_routed t = has_letters t.subject && option_map_or is_free t.vector false
 
-allowed : (mode : Mode) (v : Option ℕ) → is_free_if_any v ≡ true → (is_some v || is_switch mode) ≡ true → is_vector mode (vector_code v) ≡ true
+allowed : (mode : EventMode) (v : Option ℕ) → is_free_if_any v ≡ true → (is_some v || is_switch mode) ≡ true → is_vector mode (vector_code v) ≡ true
 allowed mode (Some n) h k = ap (λ b. b || (n == 0 && switches mode)) (and_parts (nat_le FIRST_VECTOR n) (nat_le n LAST_VECTOR) h).0
 allowed Switch None h k = refl
 allowed Asap None h k = absurd (cc)
@@ -69,7 +69,7 @@ found_passes test (y ∷ ys) x h =
       | false ↦ λ _ is. found_passes test ys x is
     ] refl h
 
-first_raised : (mode : Mode) (ts : List Target) → list_all (reaches mode) ts ≡ true → option_map_or is_raised (option_map (λ t. record { mode = mode; target = t }) (slice_get ts 0)) true ≡ true
+first_raised : (mode : EventMode) (ts : List Target) → list_all (reaches mode) ts ≡ true → option_map_or is_raised (option_map (λ t. record { mode = mode; target = t }) (slice_get ts 0)) true ≡ true
 first_raised mode [] h = refl
 first_raised mode (t ∷ ts) h = (and_parts (reaches mode t) (list_all (reaches mode) ts) h).0
 
@@ -163,15 +163,15 @@ module _ (p : Source) (names : list_all (λ s. has_letters s.name) p.subjects �
   end_reached subject e = record { subject = subject; vector = e.vector }
 
   -- what rule 6 asks of a reader where the channel has an event of this mode
-  abbrev hears : Mode → List ℕ × ChannelEnd → Bool
+  abbrev hears : EventMode → List ℕ × ChannelEnd → Bool
   hears mode e = not (is_some e.1.call) && (is_some e.1.vector || is_switch mode)
 
-  readers_hear : (writers readers : List (List ℕ × ChannelEnd)) (o : Option Mode) (mode : Mode) → o ≡ Some mode → fits_event writers readers o ≡ true → list_all (hears mode) readers ≡ true
+  readers_hear : (writers readers : List (List ℕ × ChannelEnd)) (o : Option EventMode) (mode : EventMode) → o ≡ Some mode → fits_event writers readers o ≡ true → list_all (hears mode) readers ≡ true
   readers_hear writers readers o mode is h =
       let fits : fits_event writers readers (Some mode) ≡ true = ap (fits_event writers readers) (sym is) ∙ h in
       (and_parts _ (list_all (hears mode) readers) fits).1
 
-  module _ (name : List ℕ) (c : Channel) (mode : Mode) (is : find (λ c. bytes_eq c.name name) p.channels ≡ Some c) (has : c.has_event ≡ Some mode) where
+  module _ (name : List ℕ) (c : Channel) (mode : EventMode) (is : find (λ c. bytes_eq c.name name) p.channels ≡ Some c) (has : c.has_event ≡ Some mode) where
     of_end : (subject : List ℕ) → has_letters subject ≡ true → (e : ChannelEnd) (role : Role)
         → (not (bytes_eq e.channel name) || (not (not (is_writer role)) || hears mode (subject, e))) ≡ true → is_free_if_any e.vector ≡ true
         → (not (reads_from e role name) || reaches mode (end_reached subject e)) ≡ true
@@ -230,7 +230,7 @@ module _ (p : Source) (names : list_all (λ s. has_letters s.name) p.subjects �
         | Some c ↦ λ is. by_mode c is c.has_event refl
       ] refl
     where
-      by_mode : (c : Channel) → find (λ c. bytes_eq c.name name) p.channels ≡ Some c → (m : Option Mode) → c.has_event ≡ m
+      by_mode : (c : Channel) → find (λ c. bytes_eq c.name name) p.channels ≡ Some c → (m : Option EventMode) → c.has_event ≡ m
           → option_map_or is_raised (option_and_then (λ m. option_map (λ t. record { mode = m; target = t }) (slice_get (channel_targets p name) 0)) m) true ≡ true
       by_mode c is None has = refl
       by_mode c is (Some mode) has = first_raised mode (channel_targets p name) (readers_reached name c mode is has)

@@ -8,7 +8,7 @@ ghost use Rattle.expand_grants.specs.Grants.{route_for};
 
 use crate::event_tables::are_named;
 use expand_grants::Route;
-use expand_kernel::Plain;
+use expand_kernel::Expanded;
 use image_pack::{DevicePart, IrqPart, IrqTarget, PortSpan, WindowPart};
 use muen_num::{NoMemory, Seq};
 use policy_types::source::{Device, Irq, Ports};
@@ -146,7 +146,7 @@ fn device_parts(
 /// The devices of the policy, where the spans of their memory are numbered from `first` on.
 ///
 /// Answers `NoMemory` where memory was refused.
-pub fn devices(alloc: Global, plain: &Plain, first: u16) -> Result<Seq<DevicePart>, NoMemory>
+pub fn devices(alloc: Global, plain: &Expanded, first: u16) -> Result<Seq<DevicePart>, NoMemory>
     requires { first + sum_by (λ d. length d.memory) plain.now.lawful.devices < 2 ^ 16 }
     ensures { IfOk result (AreDevices plain.now.lawful first plain.now.lawful.devices) }
 {

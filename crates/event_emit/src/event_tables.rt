@@ -6,7 +6,7 @@ ghost use Rattle.event_emit.specs.Tables.{AreTables};
 ghost use Rattle.expand_grants.specs.declared.granted.Way.TheVariants.{Call, Trap};
 
 use expand_grants::{EventEntry, Grants, Way};
-use expand_kernel::Plain;
+use expand_kernel::Expanded;
 use image_pack::EventPart;
 use muen_num::limits::MOST_CALLS;
 use muen_num::{NoMemory, Seq};
@@ -125,7 +125,7 @@ fn all_tables(alloc: Global, grants: &[Grants]) -> Result<Seq<EventTables>, NoMe
 /// For each subject, in their order, what its calls and its traps raise, each by its number.
 ///
 /// Answers `NoMemory` where memory was refused.
-pub fn tables(alloc: Global, plain: &Plain) -> Result<Seq<EventTables>, NoMemory>
+pub fn tables(alloc: Global, plain: &Expanded) -> Result<Seq<EventTables>, NoMemory>
     ensures { IfOk result (AllZip (AreTables plain.now.lawful) plain.now.lawful.subjects) }
 {
     let policy = plain.lawful().resolved();

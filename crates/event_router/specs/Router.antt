@@ -4,8 +4,8 @@ use Rattle.look_up.specs.ByNumber.{change_at}
 use Rattle.image_pack.specs.declared.parts.EventPart.{EventPart}
 use Rattle.image_pack.specs.declared.parts.SubjectPart.{SubjectPart}
 use Rattle.image_plan.specs.declared.plan.GroupPart.{GroupPart}
-use Rattle.muen_num.specs.declared.mode.Mode.{Mode}
-use Rattle.muen_num.specs.declared.mode.Mode.TheVariants.{Asap, Async, Own, Switch}
+use Rattle.muen_num.specs.declared.mode.EventMode.{EventMode}
+use Rattle.muen_num.specs.declared.mode.EventMode.TheVariants.{Asap, Async, Own, Switch}
 use Rattle.event_router.specs.Vectors.{no_vectors, has, with_vector, without_vector, delivered}
 
 pub record RouterState : Type 0 where
@@ -47,7 +47,7 @@ with_active (Some g) subject active = change_at g (λ _. subject) active
 abbrev pub hands_over : ℕ → RouterState → RouterState
 hands_over subject r = record r { active = with_active (slice_get r.groups subject) subject r.active }
 
-abbrev pub raised_as : Mode → ℕ → Option ℕ → RouterState → RouterState
+abbrev pub raised_as : EventMode → ℕ → Option ℕ → RouterState → RouterState
 raised_as Asap target vector r = pends_now target vector r
 raised_as Async target vector r = pends_later target vector r
 raised_as Own target vector r = pends_now target vector r

@@ -7,7 +7,7 @@ ghost use Rattle.event_router.specs.Router.{started, pends, pends_now, with_acti
 use crate::vectors::{VectorSet, delivered};
 use image_pack::{EventPart, SubjectPart};
 use image_plan::GroupPart;
-use muen_num::{Mode, NoMemory};
+use muen_num::{EventMode, NoMemory};
 use std::alloc::{AllocError, Global};
 use std::marker::Model;
 
@@ -125,9 +125,9 @@ impl Router {
     {
         let target = event.target as usize;
         match event.mode {
-            Mode::Asap | Mode::Own => pend(&mut self.pending_now, target, event.vector),
-            Mode::Async => pend(&mut self.pending_later, target, event.vector),
-            Mode::Switch => {
+            EventMode::Asap | EventMode::Own => pend(&mut self.pending_now, target, event.vector),
+            EventMode::Async => pend(&mut self.pending_later, target, event.vector),
+            EventMode::Switch => {
                 pend(&mut self.pending_now, target, event.vector);
                 hand_over(&mut self.active, &self.groups, event.target);
             }

@@ -9,7 +9,7 @@ use Rattle.std.proofs.lemmas.List.{length-map}
 use Rattle.std.proofs.lemmas.List.Folds.{list_all-append, list_all-map}
 use Rattle.muen_num.proofs.Lists.{all_true, each_from, passes_at, there}
 use Rattle.muen_num.proofs.SearchLaws.{all_pass}
-use Rattle.muen_num.specs.declared.mode.Mode.{Mode}
+use Rattle.muen_num.specs.declared.mode.EventMode.{EventMode}
 use Rattle.policy_lawful.specs.MoreRules.{fits_event, is_connected, is_writer, offence_6, readers_of, writers_of}
 use Rattle.policy_lawful.specs.Offences.{alone}
 use Rattle.policy_lawful.specs.Resolution.{IsResolved, Resolution, name_at, source_of, subject_named, subject_placed}
@@ -23,7 +23,7 @@ use Rattle.policy_types.specs.declared.rights.Role.TheVariants.{Reader, Writer}
 use Rattle.policy_types.specs.declared.source.Channel.{Channel}
 use Rattle.policy_types.specs.declared.source.Subject.{Subject as NamedSubject}
 use Rattle.policy_views.specs.Views.{end_named, ends_of}
-use Rattle.policy_views.specs.declared.view.End.{End}
+use Rattle.policy_views.specs.declared.view.ChannelEnd.{ChannelEnd}
 use Rattle.policy_views.proofs.EndsByPlace.{ends_by_place, ends_placed}
 use Rattle.policy_views.proofs.WindowsByPlace.{name_there}
 use Rattle.expand_grants.specs.Grants.{raised_named}
@@ -39,11 +39,11 @@ abbrev pub channel_names : Resolution → List (List ℕ)
 channel_names r = map (λ x. x.name) r.channels
 
 -- what a channel's event reaches, and what is raised by that
-raised_by : (r : Resolution) (way : Way) (mode : Mode) (o : Option Reached) → option_map (λ t. record { mode = mode; target = t }) (option_map (reaches r) o) ≡ option_map (raised_named r) (option_map (entry way mode) o)
+raised_by : (r : Resolution) (way : Way) (mode : EventMode) (o : Option Reached) → option_map (λ t. record { mode = mode; target = t }) (option_map (reaches r) o) ≡ option_map (raised_named r) (option_map (entry way mode) o)
 raised_by r way mode None = refl
 raised_by r way mode (Some x) = refl
 
-raised_in : (r : Resolution) (way : Way) (m : Option Mode) (o : Option Reached)
+raised_in : (r : Resolution) (way : Way) (m : Option EventMode) (o : Option Reached)
     → option_and_then (λ mode. option_map (λ t. record { mode = mode; target = t }) (option_map (reaches r) o)) m ≡ option_map (raised_named r) (option_and_then (λ mode. option_map (entry way mode) o) m)
 raised_in r way None o = refl
 raised_in r way (Some mode) o = raised_by r way mode o
@@ -57,12 +57,12 @@ module _ (r : Resolution) (q : IsResolved r) (k : ℕ) (within : k < length r.ch
       same_name (channel_names r) j k (unique (source_of r) q.names).channels (omega (arith, many, here)) (omega (arith, many, within))
 
   -- an end of this role
-  reads_same : (place : ℕ) (e : End) (role : Role) → nat_lt e.channel (length r.channels) ≡ true
+  reads_same : (place : ℕ) (e : ChannelEnd) (role : Role) → nat_lt e.channel (length r.channels) ≡ true
       → reads_from (end_named r e) role (name_at (channel_names r) k) ≡ option_map_or (λ (x : Reached). x.by == k) (reader_reached place e role) false
   reads_same place e Writer ok = refl
   reads_same place e Reader ok = same_channel e.channel ok
 
-  out_same : (place : ℕ) (name : List ℕ) → name_at (map (λ s. s.name) r.subjects) place ≡ name → (e : End) (role : Role) (x : Reached) → reader_reached place e role ≡ Some x
+  out_same : (place : ℕ) (name : List ℕ) → name_at (map (λ s. s.name) r.subjects) place ≡ name → (e : ChannelEnd) (role : Role) (x : Reached) → reader_reached place e role ≡ Some x
       → record { subject = name; vector = e.vector } ≡ reaches r x
   out_same place name at e Writer x is = absurd (cc)
   out_same place name at e Reader x is =
@@ -132,7 +132,7 @@ module _ (r : Resolution) (q : IsResolved r) (k : ℕ) (within : k < length r.ch
 
   -- what is told of each writer of the channel is told of an end that writes it
   pub writer_tells : (t : List ℕ × ChannelEnd → Bool) → list_all t (writers_of (source_of r) (name_at (channel_names r) k)) ≡ true
-      → (j i : ℕ) (s : Subject) (e : End) → slice_get r.subjects j ≡ Some s → subject_placed r s ≡ true → slice_get (ends_of r s) i ≡ Some e → e.channel ≡ k
+      → (j i : ℕ) (s : Subject) (e : ChannelEnd) → slice_get r.subjects j ≡ Some s → subject_placed r s ≡ true → slice_get (ends_of r s) i ≡ Some e → e.channel ≡ k
       → (not (is_writer e.role) || t (s.name, end_named r e)) ≡ true
   unfolding source_of
   writer_tells t all j i s e at h in_it here =
@@ -155,7 +155,7 @@ module _ (r : Resolution) (q : IsResolved r) (k : ℕ) (within : k < length r.ch
       ap (λ b. not b || t' (s.name, end_named r e)) (sym same) ∙ mine
 
   -- a writer's call raises an event
-  raises : (e : End) (c : Channel) (m : Option Mode) (role : Role) (call : Option ℕ)
+  raises : (e : ChannelEnd) (c : Channel) (m : Option EventMode) (role : Role) (call : Option ℕ)
       → (not (is_writer role) || option_map_or (λ _. true) m (not (is_some call))) ≡ true → option_map_or (λ _. is_some (first_reached (all_readers r) k)) m true ≡ true
       → option_map_or (λ n. is_some (option_and_then (λ mode. option_map (entry (Call n) mode) (first_reached (all_readers r) k)) m)) (writer_call (record { channel = e.channel; role = role; call = call; vector = e.vector }) role) true ≡ true
   raises e c m Reader call h there = refl
@@ -164,7 +164,7 @@ module _ (r : Resolution) (q : IsResolved r) (k : ℕ) (within : k < length r.ch
   raises e c (Some mode) Writer (Some n) h there = some-map (entry (Call n) mode) (first_reached (all_readers r) k) ∙ there
 
   -- what the rule asks of the ends, by the channel's event
-  calls_by : (writers readers : List (List ℕ × ChannelEnd)) (m : Option Mode) → fits_event writers readers m ≡ true → list_all (λ x. option_map_or (λ _. true) m (not (is_some x.1.call))) writers ≡ true
+  calls_by : (writers readers : List (List ℕ × ChannelEnd)) (m : Option EventMode) → fits_event writers readers m ≡ true → list_all (λ x. option_map_or (λ _. true) m (not (is_some x.1.call))) writers ≡ true
   calls_by writers readers None h =
       let parts = and_parts (list_all (λ e. not (is_some e.1.call) && not (is_some e.1.vector)) writers) (list_all (λ e. not (is_some e.1.call) && not (is_some e.1.vector)) readers)
       (sym (list_all-append (λ e. not (is_some e.1.call) && not (is_some e.1.vector)) writers readers) ∙ h) in
@@ -174,17 +174,17 @@ module _ (r : Resolution) (q : IsResolved r) (k : ℕ) (within : k < length r.ch
       calls_alone xs h = each_from (λ e. not (is_some e.1.call) && not (is_some e.1.vector)) (λ x. not (is_some x.1.call)) (λ e a. (and_parts (not (is_some e.1.call)) (not (is_some e.1.vector)) a).0) xs h
   calls_by writers readers (Some mode) h = all_true writers
 
-  one_by : (writers readers : List (List ℕ × ChannelEnd)) (m : Option Mode) → fits_event writers readers m ≡ true → option_map_or (λ _. length readers == 1) m true ≡ true
+  one_by : (writers readers : List (List ℕ × ChannelEnd)) (m : Option EventMode) → fits_event writers readers m ≡ true → option_map_or (λ _. length readers == 1) m true ≡ true
   one_by writers readers None h = refl
   one_by writers readers (Some mode) h = (and_parts _ _ (and_parts _ _ h).0).0
 
-  reader_there : (m : Option Mode) → option_map_or (λ _. length (readers_of (source_of r) (name_at (channel_names r) k)) == 1) m true ≡ true → option_map_or (λ _. is_some (first_reached (all_readers r) k)) m true ≡ true
+  reader_there : (m : Option EventMode) → option_map_or (λ _. length (readers_of (source_of r) (name_at (channel_names r) k)) == 1) m true ≡ true → option_map_or (λ _. is_some (first_reached (all_readers r) k)) m true ≡ true
   reader_there None h = refl
   reader_there (Some mode) h =
       sym (some-map (reaches r) (first_reached (all_readers r) k)) ∙ ap is_some (sym first_reader)
       ∙ first_there (readers_of (source_of r) (name_at (channel_names r) k)) (channel_targets (source_of r) (name_at (channel_names r) k)) (many_readers (name_at (channel_names r) k)) h
 
-  pub call_raises : offence_6 (source_of r) ≡ None → (j i : ℕ) (s : Subject) (e : End) → slice_get r.subjects j ≡ Some s → subject_placed r s ≡ true → slice_get (ends_of r s) i ≡ Some e → e.channel ≡ k
+  pub call_raises : offence_6 (source_of r) ≡ None → (j i : ℕ) (s : Subject) (e : ChannelEnd) → slice_get r.subjects j ≡ Some s → subject_placed r s ≡ true → slice_get (ends_of r s) i ≡ Some e → e.channel ≡ k
       → option_map_or (λ n. is_some (call_entry r.channels (all_readers r) k n)) (writer_call e e.role) true ≡ true
   unfolding source_of offence_6
   call_raises lawful j i s e at h in_it here =

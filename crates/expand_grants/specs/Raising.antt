@@ -6,7 +6,7 @@ use Rattle.expand_grants.specs.declared.granted.EventEntry.{EventEntry}
 use Rattle.expand_grants.specs.declared.granted.Way.{Way}
 use Rattle.expand_grants.specs.declared.granted.Way.TheVariants.{Call, Trap}
 use Rattle.expand_grants.specs.declared.reached.Reached.{Reached}
-use Rattle.muen_num.specs.declared.mode.Mode.{Mode}
+use Rattle.muen_num.specs.declared.mode.EventMode.{EventMode}
 use Rattle.policy_lawful.specs.Resolution.{Resolution}
 use Rattle.policy_lawful.specs.declared.resolved.EventSource.{EventSource}
 use Rattle.policy_lawful.specs.declared.resolved.EventTarget.{EventTarget}
@@ -18,7 +18,7 @@ use Rattle.policy_types.specs.declared.source.Event.{Event}
 use Rattle.policy_types.specs.declared.source.SourceWay.{SourceWay}
 use Rattle.policy_types.specs.declared.source.SourceWay.TheVariants.{Call as SourceCall, Trap as SourceTrap}
 use Rattle.policy_views.specs.Views.{ends_of}
-use Rattle.policy_views.specs.declared.view.End.{End}
+use Rattle.policy_views.specs.declared.view.ChannelEnd.{ChannelEnd}
 
 -- ---- subjects that are reached
 
@@ -33,7 +33,7 @@ abbrev pub all_targets : List Subject → List Reached
 all_targets subjects = flat_map subject_targets (enumerate_from 0 subjects)
 
 -- a subject at a place by an end of this role
-abbrev pub reader_reached : ℕ → End → Role → Option Reached
+abbrev pub reader_reached : ℕ → ChannelEnd → Role → Option Reached
 reader_reached place e Reader = Some (record { by = e.channel; subject = place; vector = e.vector })
 reader_reached place e Writer = None
 
@@ -54,7 +54,7 @@ abbrev pub way_of : SourceWay → Way
 way_of (SourceCall n) = Call n
 way_of (SourceTrap n) = Trap n
 
-abbrev pub entry : Way → Mode → Reached → EventEntry
+abbrev pub entry : Way → EventMode → Reached → EventEntry
 entry way mode x = record { way = way; mode = mode; target = x.subject; vector = x.vector }
 
 -- by a source
@@ -67,11 +67,11 @@ call_entry channels readers channel n =
     option_and_then (λ c. option_and_then (λ mode. option_map (entry (Call n) mode) (first_reached readers channel)) c.has_event) (slice_get channels channel)
 
 -- the call of an end of this role by which an event may be raised
-abbrev pub writer_call : End → Role → Option ℕ
+abbrev pub writer_call : ChannelEnd → Role → Option ℕ
 writer_call e Writer = e.call
 writer_call e Reader = None
 
-abbrev pub end_entry : List Channel → List Reached → End → Option EventEntry
+abbrev pub end_entry : List Channel → List Reached → ChannelEnd → Option EventEntry
 end_entry channels readers e = option_and_then (call_entry channels readers e.channel) (writer_call e e.role)
 
 -- by the sources of a subject, then by its ends of channels
@@ -91,7 +91,7 @@ fits_target t = fits_number t.vector
 abbrev pub fits_targets : Subject → Bool
 fits_targets s = list_all fits_target s.targets
 
-abbrev pub fits_end : End → Bool
+abbrev pub fits_end : ChannelEnd → Bool
 fits_end e = fits_number e.call && fits_number e.vector
 
 abbrev pub fits_ends : Resolution → Subject → Bool

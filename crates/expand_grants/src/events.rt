@@ -6,12 +6,12 @@ ghost use Rattle.expand_grants.specs.Raising.{all_readers, all_targets, call_ent
 use crate::append::push_some;
 use crate::granted::{EventEntry, Way};
 use crate::reached::{Reached, first_reached, small};
-use muen_num::{Mode, NoMemory, Seq};
+use muen_num::{EventMode, NoMemory, Seq};
 use policy_lawful::Resolved;
 use policy_lawful::resolved::{EventSource, Subject};
 use policy_types::Role;
 use policy_types::source::{Channel, Event, SourceWay};
-use policy_views::{End, ends};
+use policy_views::{ChannelEnd, ends};
 use std::alloc::Global;
 
 fn way_of(way: SourceWay) -> Way
@@ -24,7 +24,7 @@ fn way_of(way: SourceWay) -> Way
     }
 }
 
-fn entry(way: Way, mode: Mode, reached: Reached) -> EventEntry
+fn entry(way: Way, mode: EventMode, reached: Reached) -> EventEntry
     ensures { result ≡ entry way mode reached }
 {
     EventEntry {
@@ -76,7 +76,7 @@ fn call_entry(
 }
 
 // The call of an end by which an event may be raised: a writer's.
-fn writer_call(end: &End) -> Option<u8>
+fn writer_call(end: &ChannelEnd) -> Option<u8>
     requires { fits_end end.now ≡ true }
     ensures { result ≡ writer_call end.now end.now.role }
 {
@@ -87,7 +87,7 @@ fn writer_call(end: &End) -> Option<u8>
 }
 
 // The event that an end of a channel raises.
-fn end_entry(channels: &[Channel], readers: &[Reached], end: &End) -> Option<EventEntry>
+fn end_entry(channels: &[Channel], readers: &[Reached], end: &ChannelEnd) -> Option<EventEntry>
     requires { fits_end end.now ≡ true }
     ensures { result ≡ end_entry channels.now readers.now end.now }
 {
@@ -102,7 +102,7 @@ fn add_ends(
     entries: &mut Vec<EventEntry>,
     channels: &[Channel],
     readers: &[Reached],
-    ends: &[End],
+    ends: &[ChannelEnd],
 ) -> Result<(), NoMemory>
     requires { list_all fits_end ends.now ≡ true }
     ensures { IfOk result (λ _. entries.new.items ≡ entries.old.items ++ filter_map (end_entry channels.now readers.now) ends.now) }

@@ -1,5 +1,5 @@
 //! What is granted to a subject, and routes of interrupts.
-use muen_num::{Mode, Seq};
+use muen_num::{EventMode, Seq};
 use policy_types::{MsrGrant, PortRange};
 use policy_views::View;
 
@@ -16,7 +16,7 @@ pub enum Way {
 #[derive(Clone, Copy, Debug, PartialEq, Eq)]
 pub struct EventEntry {
     pub way: Way,
-    pub mode: Mode,
+    pub mode: EventMode,
     /// The place of the subject that it reaches.
     pub target: usize,
     /// The vector that becomes pending there, if any.

@@ -9,8 +9,8 @@ use Rattle.expand_kernel.specs.declared.region.Region.{Region}
 use Rattle.expand_kernel.specs.declared.region.RegionKind.{RegionKind}
 use Rattle.expand_kernel.specs.declared.region.RegionKind.TheVariants.{Own, Channel, Provided, Kernel}
 use Rattle.muen_num.specs.declared.limits.TheConstants.{PAGE}
-use Rattle.muen_num.specs.declared.tag.Part.{Part}
-use Rattle.muen_num.specs.declared.tag.Part.TheVariants.{Whole, Named, State, Ept, Iobm, Msrbm, Msrs}
+use Rattle.muen_num.specs.declared.tag.TagPart.{TagPart}
+use Rattle.muen_num.specs.declared.tag.TagPart.TheVariants.{Whole, Named, State, Ept, Iobm, Msrbm, Msrs}
 use Rattle.policy_meaning.specs.Thing.{component_by}
 use Rattle.policy_meaning.specs.Windows.{Window, windows_of}
 use Rattle.policy_types.specs.declared.rights.Caching.TheVariants.{Wb}
@@ -22,7 +22,7 @@ use Rattle.policy_types.specs.declared.source.Source.{Source}
 use Rattle.policy_types.specs.declared.source.Subject.{Subject}
 
 -- a region that may be at any page
-abbrev pub anywhere : RegionKind → List ℕ → Part → ℕ → Region
+abbrev pub anywhere : RegionKind → List ℕ → TagPart → ℕ → Region
 anywhere kind owner part size =
     record { tag = record { owner = owner; part = part }; kind = kind; size = size; alignment = PAGE; fixed = None }
 

@@ -17,14 +17,14 @@ use std::marker::Model;
 /// A lawful policy with its regions by number, what is granted to each subject, and where the
 /// interrupts of devices go.
 #[derive(Drop)]
-pub struct Plain {
+pub struct Expanded {
     lawful: Lawful,
     regions: Seq<Region>,
     grants: Seq<Grants>,
     routes: Seq<Route>,
 }
 
-impl Model for Plain {
+impl Model for Expanded {
     ghost use Rattle.expand_kernel.specs.Expansion.{Expansion, IsExpansion};
 
     ghost Value = { Expansion };
@@ -44,7 +44,7 @@ impl Model for Plain {
     }) };
 }
 
-impl Plain {
+impl Expanded {
     /// The policy.
     pub fn lawful(&self) -> &Lawful
         ensures { result.now ≡ self.now.lawful }
@@ -102,13 +102,13 @@ fn regions_by_number(
 /// All that follows from a lawful policy but places.
 ///
 /// Answers `NoMemory` where memory was refused.
-pub fn expand(alloc: Global, lawful: Lawful) -> Result<Plain, NoMemory>
+pub fn expand(alloc: Global, lawful: Lawful) -> Result<Expanded, NoMemory>
     ensures { IfOk result (λ p. p.lawful ≡ lawful) }
 {
     let grants = grants(alloc, &lawful)?;
     let routes = routes(alloc, &lawful)?;
     let regions = regions_by_number(alloc, &lawful, grants.items())?;
-    Ok(Plain {
+    Ok(Expanded {
         lawful,
         regions,
         grants,

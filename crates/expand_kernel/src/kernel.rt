@@ -10,7 +10,7 @@ use crate::region::{Region, RegionKind};
 use ept_count::{Leaf, Window, pages};
 use expand_grants::Grants;
 use muen_num::limits::PAGE;
-use muen_num::{Name, NoMemory, Part};
+use muen_num::{Name, NoMemory, TagPart};
 use policy_lawful::resolved::Subject;
 use policy_types::Caching;
 use policy_views::View;
@@ -54,11 +54,11 @@ fn kernel_regions(subject: Name, pages: u64) -> [Region; 5]
     ensures { result ≡ kernel_regions subject pages }
 {
     [
-        anywhere(RegionKind::Kernel, subject, Part::State, PAGE),
-        anywhere(RegionKind::Kernel, subject, Part::Ept, pages * PAGE),
-        anywhere(RegionKind::Kernel, subject, Part::Iobm, 2 * PAGE),
-        anywhere(RegionKind::Kernel, subject, Part::Msrbm, PAGE),
-        anywhere(RegionKind::Kernel, subject, Part::Msrs, PAGE),
+        anywhere(RegionKind::Kernel, subject, TagPart::State, PAGE),
+        anywhere(RegionKind::Kernel, subject, TagPart::Ept, pages * PAGE),
+        anywhere(RegionKind::Kernel, subject, TagPart::Iobm, 2 * PAGE),
+        anywhere(RegionKind::Kernel, subject, TagPart::Msrbm, PAGE),
+        anywhere(RegionKind::Kernel, subject, TagPart::Msrs, PAGE),
     ]
 }
 

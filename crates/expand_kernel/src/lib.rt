@@ -6,5 +6,5 @@ mod kernel;
 mod numbered;
 mod region;
 
-pub use expanded::{Plain, expand};
+pub use expanded::{Expanded, expand};
 pub use region::{Region, RegionKind};

@@ -7,13 +7,13 @@ ghost use Rattle.expand_kernel.specs.Regions.{anywhere, channel_region, own_regi
 
 use crate::region::{Region, RegionKind};
 use muen_num::limits::PAGE;
-use muen_num::{Name, NoMemory, Part, Tag};
+use muen_num::{Name, NoMemory, TagPart, Tag};
 use policy_lawful::resolved::{ComponentUse, Subject};
 use policy_types::source::{Channel, Component, Provided, Region as Memory};
 use std::alloc::{AllocError, Global};
 
 // A region that may be at any page.
-pub(crate) fn anywhere(kind: RegionKind, owner: Name, part: Part, size: u64) -> Region
+pub(crate) fn anywhere(kind: RegionKind, owner: Name, part: TagPart, size: u64) -> Region
     ensures { result ≡ anywhere kind owner part size }
 {
     Region {
@@ -31,7 +31,7 @@ fn own_region(region: &Memory) -> Region
     Region {
         tag: Tag {
             owner: region.name,
-            part: Part::Whole,
+            part: TagPart::Whole,
         },
         kind: RegionKind::Own,
         size: region.size,
@@ -43,13 +43,13 @@ fn own_region(region: &Memory) -> Region
 fn channel_region(channel: &Channel) -> Region
     ensures { result ≡ channel_region channel.now }
 {
-    anywhere(RegionKind::Channel, channel.name, Part::Whole, channel.size)
+    anywhere(RegionKind::Channel, channel.name, TagPart::Whole, channel.size)
 }
 
 fn provided_region(subject: Name, provided: &Provided) -> Region
     ensures { result ≡ provided_region subject provided.now }
 {
-    let part = Part::Named(provided.logical);
+    let part = TagPart::Named(provided.logical);
     anywhere(RegionKind::Provided, subject, part, provided.size)
 }
 

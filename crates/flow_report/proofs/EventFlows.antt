@@ -8,7 +8,7 @@ use Rattle.std.proofs.lemmas.Bool.{and_parts, ltb-false, ltb-true}
 use Rattle.std.proofs.lemmas.List.{length-map}
 use Rattle.std.proofs.lemmas.List.Folds.{find_at}
 use Rattle.std.proofs.lemmas.Option.{slice_get_past}
-use Rattle.muen_num.specs.declared.mode.Mode.{Mode}
+use Rattle.muen_num.specs.declared.mode.EventMode.{EventMode}
 use Rattle.muen_num.proofs.Lists.{find-map, found_among, list_any-map, there}
 use Rattle.policy_lawful.specs.Resolution.{IsResolved, Resolution, name_at, source_of, subject_named, subject_placed}
 use Rattle.policy_lawful.specs.Rules.{repeated}
@@ -62,7 +62,7 @@ sources_placed r t ok = (and_parts _ _ (and_parts _ _ (and_parts _ _ ok).0).0).1
 abbrev hits : List ℕ → Option Target → Bool
 hits name o = option_map_or (λ t. bytes_eq t.subject name) o false
 
-reaches_mode : (m : Mode) (o : Option Target) (name : List ℕ) → reaches (option_map (λ t. record { mode = m; target = t }) o) name ≡ hits name o
+reaches_mode : (m : EventMode) (o : Option Target) (name : List ℕ) → reaches (option_map (λ t. record { mode = m; target = t }) o) name ≡ hits name o
 reaches_mode m None name = refl
 reaches_mode m (Some t) name = refl
 

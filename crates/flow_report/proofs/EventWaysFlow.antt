@@ -5,7 +5,7 @@ use Rattle.std.specs.List.{find, list_any}
 use Rattle.std.specs.Str.{bytes_eq}
 use Rattle.std.proofs.lemmas.Bool.{and_from}
 use Rattle.std.proofs.lemmas.Slice.Eq.{bytes_eq-Decides}
-use Rattle.muen_num.specs.declared.mode.Mode.{Mode}
+use Rattle.muen_num.specs.declared.mode.EventMode.{EventMode}
 use Rattle.policy_meaning.specs.Events.{ChannelEnd, Target, channel_ends, channel_event, channel_targets, event_of, reads_from, writes_by}
 use Rattle.policy_types.specs.declared.rights.Role.{Role}
 use Rattle.policy_types.specs.declared.rights.Role.TheVariants.{Writer, Reader}
@@ -36,7 +36,7 @@ record Hit (o : Option Target) (name : List ℕ) : Type 0 where
   is : o ≡ Some target
   named : bytes_eq target.subject name ≡ true
 
-hit_by_mode : (h : Option Mode) (o : Option Target) (name : List ℕ) → reaches (option_and_then (λ m. option_map (λ t. record { mode = m; target = t }) o) h) name ≡ true → Hit o name
+hit_by_mode : (h : Option EventMode) (o : Option Target) (name : List ℕ) → reaches (option_and_then (λ m. option_map (λ t. record { mode = m; target = t }) o) h) name ≡ true → Hit o name
 hit_by_mode None o name h = absurd (cc)
 hit_by_mode (Some m) None name h = absurd (cc)
 hit_by_mode (Some m) (Some t) name h = record { target = t; is = refl; named = h }

@@ -14,7 +14,7 @@ use Rattle.muen_num.proofs.Members.{In, map_agree}
 use Rattle.flow_report.specs.ByPlace.{face_of, faces_of, flows_between, rows_of}
 use Rattle.flow_report.specs.Marks.{after_rounds, alone_marked, sets_of}
 use Rattle.flow_report.specs.Sets.{AreFlows, members_of}
-use Rattle.flow_report.specs.declared.faces.Face.{Face}
+use Rattle.flow_report.specs.declared.faces.Contacts.{Contacts}
 use Rattle.flow_report.proofs.DirectFlows.{flows_same, names_unique}
 use Rattle.flow_report.proofs.MarkedSets.{members_are}
 use Rattle.flow_report.proofs.PlacesOfSubjects.{At, at_number, own_name, same_subject}
@@ -66,7 +66,7 @@ module _ (r : Resolution) (q : IsResolved r) where
 
   alone_same : (x : ℕ × Subject) → In x numbered → alone_marked (faces_of r) x.0 ≡ map (λ u. bytes_eq u.name x.1.name) (source_of r).subjects
   alone_same x h =
-      map-map (λ (f : Face). f.place == x.0) (face_of r) numbered
+      map-map (λ (f : Contacts). f.place == x.0) (face_of r) numbered
       ∙ map_agree (λ y. (face_of r y).place == x.0) (λ y. bytes_eq y.1.name x.1.name) numbered (λ y k. place_same x y h k)
       ∙ sym (map-map (λ (u : NamedSubject). bytes_eq u.name x.1.name) named numbered)
       ∙ ap (map (λ (u : NamedSubject). bytes_eq u.name x.1.name)) (sym subjects_numbered)
@@ -79,7 +79,7 @@ module _ (r : Resolution) (q : IsResolved r) where
 
   pub flows_are : AreFlows (source_of r) (sets_of (faces_of r))
   flows_are =
-      let set : Face → List Bool = λ f. after_rounds (rows_of (faces_of r)) (alone_marked (faces_of r) f.place) (length (faces_of r)) in
+      let set : Contacts → List Bool = λ f. after_rounds (rows_of (faces_of r)) (alone_marked (faces_of r) f.place) (length (faces_of r)) in
       ap (map (members_of (source_of r))) (map-map set (face_of r) numbered)
       ∙ map-map (members_of (source_of r)) (λ x. set (face_of r x)) numbered
       ∙ map_agree (λ x. members_of (source_of r) (set (face_of r x))) (λ x. closure_of (source_of r) (named x).name) numbered (λ x h. set_same x h)

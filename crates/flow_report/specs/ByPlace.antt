@@ -3,7 +3,7 @@ use Rattle.std.specs.Prelude.{ℕ, ◌==◌, ◌||◌, Bool, false, List, map, O
 use Rattle.std.specs.Option.{option_map_or}
 use Rattle.std.specs.List.{enumerate_from, filter_map, find, list_any}
 use Rattle.std.specs.Str.{bytes_eq}
-use Rattle.muen_num.specs.declared.access.Kind.TheVariants.{Write}
+use Rattle.muen_num.specs.declared.access.AccessKind.TheVariants.{Write}
 use Rattle.policy_lawful.specs.Resolution.{Resolution}
 use Rattle.policy_lawful.specs.declared.resolved.EventSource.{EventSource}
 use Rattle.policy_lawful.specs.declared.resolved.Monitor.{Monitor}
@@ -18,7 +18,7 @@ use Rattle.policy_views.specs.Views.{ends_of, views_of}
 use Rattle.policy_views.specs.declared.view.Shown.{Shown}
 use Rattle.policy_views.specs.declared.view.Shown.TheVariants.{Memory}
 use Rattle.policy_views.specs.declared.view.View.{View}
-use Rattle.flow_report.specs.declared.faces.Face.{Face}
+use Rattle.flow_report.specs.declared.faces.Contacts.{Contacts}
 
 -- ---- ends of channels and views
 
@@ -66,7 +66,7 @@ is_chooser o name = option_map_or (λ t. bytes_eq t.subject name) o false
 
 -- ---- faces
 
-abbrev pub face_of : Resolution → ℕ × Subject → Face
+abbrev pub face_of : Resolution → ℕ × Subject → Contacts
 face_of r (place, s) = record {
   place = place;
   writes = filter_map (λ e. channel_written e.role e.channel) (ends_of r s);
@@ -80,7 +80,7 @@ face_of r (place, s) = record {
 }
 
 -- of each subject, in the policy's order
-abbrev pub faces_of : Resolution → List Face
+abbrev pub faces_of : Resolution → List Contacts
 faces_of r = map (face_of r) (enumerate_from 0 r.subjects)
 
 -- ---- direct flows
@@ -93,10 +93,10 @@ abbrev pub meet : List ℕ → List ℕ → Bool
 meet xs ys = list_any (has ys) xs
 
 -- what the first does can reach the second
-unfoldable pub flows_between : Face → Face → Bool
+unfoldable pub flows_between : Contacts → Contacts → Bool
 flows_between u s =
     meet u.writes s.reads || meet u.changes s.maps || has u.reaches s.place || u.chooses || has s.watches u.place || has u.alters s.place
 
 -- for each subject the subjects to which it flows directly
-abbrev pub rows_of : List Face → List (List Bool)
+abbrev pub rows_of : List Contacts → List (List Bool)
 rows_of faces = map (λ u. map (flows_between u) faces) faces

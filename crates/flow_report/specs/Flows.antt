@@ -4,7 +4,7 @@ use Rattle.std.specs.Prelude.{◌≡◌, ℕ, zero, suc, ◌&&◌, ◌||◌, Boo
 use Rattle.std.specs.Option.{option_map_or}
 use Rattle.std.specs.List.{All, filter_map, list_any}
 use Rattle.std.specs.Str.{bytes_eq}
-use Rattle.muen_num.specs.declared.access.Kind.TheVariants.{Write}
+use Rattle.muen_num.specs.declared.access.AccessKind.TheVariants.{Write}
 use Rattle.policy_meaning.specs.Events.{Raised, channel_ends, event_of, reads_from}
 use Rattle.policy_meaning.specs.Thing.{Thing, region, same_thing}
 use Rattle.policy_meaning.specs.Windows.{windows_of}

@@ -3,7 +3,7 @@ use Rattle.std.specs.Prelude.{ℕ, ◌==◌, ◌&&◌, ◌||◌, Bool, List, len
 use Rattle.std.specs.List.{list_any, zip}
 use Rattle.flow_report.specs.Flows.{rounds}
 use Rattle.flow_report.specs.ByPlace.{rows_of}
-use Rattle.flow_report.specs.declared.faces.Face.{Face}
+use Rattle.flow_report.specs.declared.faces.Contacts.{Contacts}
 
 -- a place is marked in both
 abbrev pub touches : List Bool → List Bool → Bool
@@ -18,9 +18,9 @@ unfoldable pub after_rounds : List (List Bool) → List Bool → ℕ → List Bo
 after_rounds rows marks n = rounds n (round rows) marks
 
 -- one face alone
-abbrev pub alone_marked : List Face → ℕ → List Bool
+abbrev pub alone_marked : List Contacts → ℕ → List Bool
 alone_marked faces place = map (λ f. f.place == place) faces
 
 -- for each face the closed set
-abbrev pub sets_of : List Face → List (List Bool)
+abbrev pub sets_of : List Contacts → List (List Bool)
 sets_of faces = map (λ f. after_rounds (rows_of faces) (alone_marked faces f.place) (length faces)) faces

@@ -5,17 +5,17 @@ ghost use Rattle.policy_lawful.specs.Resolution.{IsResolved};
 ghost use Rattle.policy_meaning.specs.Events.{same_way};
 ghost use Rattle.flow_report.specs.ByPlace.{channel_read, channel_written, event_by, face_of, faces_of, first_target, flows_between, has, is_chooser, meet, reached_by, region_changed, region_shown, subject_changed};
 
-use muen_num::{Kind, Name, NoMemory, Seq};
+use muen_num::{AccessKind, Name, NoMemory, Seq};
 use policy_lawful::Resolved;
 use policy_lawful::resolved::{EventSource, Monitor, Subject};
 use policy_types::Role;
 use policy_types::source::{SourceWay, Tau0};
-use policy_views::{End, Shown, View, ends, views};
+use policy_views::{ChannelEnd, Shown, View, ends, views};
 use std::alloc::{AllocError, Global};
 
 /// A subject's place, and by places what it gives to others and takes from them.
 #[derive(Debug, Drop)]
-pub(crate) struct Face {
+pub(crate) struct Contacts {
     pub place: usize,
     /// The channels that it writes.
     pub writes: Seq<usize>,
@@ -35,7 +35,7 @@ pub(crate) struct Face {
     pub alters: Seq<usize>,
 }
 
-fn channel_written(end: &End) -> Option<usize>
+fn channel_written(end: &ChannelEnd) -> Option<usize>
     ensures { result ≡ channel_written end.now.role end.now.channel }
 {
     match end.role {
@@ -44,7 +44,7 @@ fn channel_written(end: &End) -> Option<usize>
     }
 }
 
-fn channel_read(end: &End) -> Option<usize>
+fn channel_read(end: &ChannelEnd) -> Option<usize>
     ensures { result ≡ channel_read end.now.role end.now.channel }
 {
     match end.role {
@@ -65,7 +65,7 @@ fn region_shown(shows: Shown) -> Option<usize>
 fn region_changed(view: &View) -> Option<usize>
     ensures { result ≡ region_changed view.now }
 {
-    if view.rights.allows(Kind::Write) {
+    if view.rights.allows(AccessKind::Write) {
         region_shown(view.shows)
     } else {
         None
@@ -118,7 +118,7 @@ fn reached_by(subjects: &[Subject], sources: &[EventSource], way: SourceWay) -> 
 fn subject_changed(monitor: &Monitor) -> Option<usize>
     ensures { result ≡ subject_changed monitor.now }
 {
-    if monitor.rights.allows(Kind::Write) {
+    if monitor.rights.allows(AccessKind::Write) {
         Some(monitor.subject)
     } else {
         None
@@ -134,7 +134,7 @@ fn is_chooser(tau0: &Option<Tau0>, name: &Name) -> bool
     }
 }
 
-fn written(alloc: Global, ends: &[End]) -> Result<Vec<usize>, AllocError>
+fn written(alloc: Global, ends: &[ChannelEnd]) -> Result<Vec<usize>, AllocError>
     ensures { IfOk result (λ v. v.items ≡ filter_map (λ e. channel_written e.role e.channel) ends.now) }
 {
     ends.iter()
@@ -142,7 +142,7 @@ fn written(alloc: Global, ends: &[End]) -> Result<Vec<usize>, AllocError>
         .collect(alloc)
 }
 
-fn read(alloc: Global, ends: &[End]) -> Result<Vec<usize>, AllocError>
+fn read(alloc: Global, ends: &[ChannelEnd]) -> Result<Vec<usize>, AllocError>
     ensures { IfOk result (λ v. v.items ≡ filter_map (λ e. channel_read e.role e.channel) ends.now) }
 {
     ends.iter().filter_map(|e| channel_read(e)).collect(alloc)
@@ -200,13 +200,13 @@ fn make_face(
     policy: &Resolved,
     place: usize,
     subject: &Subject,
-) -> Result<Face, NoMemory>
+) -> Result<Contacts, NoMemory>
     ensures { IfOk result (λ f. f ≡ face_of policy.now (place, subject.now)) }
 {
     let ends = ends(alloc, policy, subject)?;
     let views = views(alloc, policy, subject)?;
     let (sources, monitors) = (subject.sources.items(), subject.monitors.items());
-    Ok(Face {
+    Ok(Contacts {
         place,
         writes: Seq::of(written(alloc, &ends)?),
         reads: Seq::of(read(alloc, &ends)?),
@@ -223,7 +223,7 @@ fn numbered_faces(
     alloc: Global,
     policy: &Resolved,
     subjects: &[Subject],
-) -> Result<Vec<Face>, NoMemory>
+) -> Result<Vec<Contacts>, NoMemory>
     ensures { IfOk result (λ v. v.items ≡ map (face_of policy.now) (enumerate_from 0 subjects.now)) }
 {
     let mut faces = Vec::new(alloc);
@@ -236,7 +236,7 @@ fn numbered_faces(
 /// The faces of all subjects, in the policy's order.
 ///
 /// Answers `NoMemory` where memory was refused.
-pub(crate) fn faces(alloc: Global, policy: &Resolved) -> Result<Vec<Face>, NoMemory>
+pub(crate) fn faces(alloc: Global, policy: &Resolved) -> Result<Vec<Contacts>, NoMemory>
     ensures faces { IfOk result (λ v. v.items ≡ faces_of policy.now) }
     ensures resolved { IsResolved policy.now }
 {
@@ -258,7 +258,7 @@ fn meet(first: &[usize], second: &[usize]) -> bool
 
 /// Whether what the first does can reach the second directly.
 #[tactic(auto, unfolding(crate::specs::ByPlace::flows_between))]
-pub(crate) fn flows_between(from: &Face, to: &Face) -> bool
+pub(crate) fn flows_between(from: &Contacts, to: &Contacts) -> bool
     ensures { result ≡ flows_between from.now to.now }
 {
     meet(from.writes.items(), to.reads.items())

@@ -5,7 +5,7 @@ ghost use Rattle.flow_report.specs.ByPlace.{flows_between, rows_of};
 ghost use Rattle.flow_report.specs.Marks.{after_rounds, alone_marked, round, sets_of, touches};
 ghost use Rattle.flow_report.specs.Sets.{AreFlows, AreLeastClosed};
 
-use crate::faces::{Face, faces, flows_between};
+use crate::faces::{Contacts, faces, flows_between};
 use muen_num::{NoMemory, Seq};
 use policy_lawful::Lawful;
 use std::alloc::{AllocError, Global};
@@ -36,7 +36,7 @@ impl FlowSets {
 }
 
 // The subjects to which this one flows directly, among all.
-fn row(alloc: Global, from: &Face, faces: &[Face]) -> Result<Vec<bool>, AllocError>
+fn row(alloc: Global, from: &Contacts, faces: &[Contacts]) -> Result<Vec<bool>, AllocError>
     ensures { IfOk result (λ v. v.items ≡ map (flows_between from.now) faces.now) }
 {
     faces
@@ -45,7 +45,7 @@ fn row(alloc: Global, from: &Face, faces: &[Face]) -> Result<Vec<bool>, AllocErr
         .collect(alloc)
 }
 
-fn rows(alloc: Global, faces: &[Face]) -> Result<Vec<Seq<bool>>, NoMemory>
+fn rows(alloc: Global, faces: &[Contacts]) -> Result<Vec<Seq<bool>>, NoMemory>
     ensures { IfOk result (λ v. v.items ≡ rows_of faces.now) }
 {
     let mut rows = Vec::new(alloc);
@@ -74,7 +74,7 @@ fn round(alloc: Global, rows: &[Seq<bool>], marks: &[bool]) -> Result<Vec<bool>,
 }
 
 // One place alone.
-fn alone_marked(alloc: Global, faces: &[Face], place: usize) -> Result<Vec<bool>, AllocError>
+fn alone_marked(alloc: Global, faces: &[Contacts], place: usize) -> Result<Vec<bool>, AllocError>
     ensures { IfOk result (λ v. v.items ≡ alone_marked faces.now place) }
 {
     faces.iter().map(|face| face.place == place).collect(alloc)
@@ -84,7 +84,7 @@ fn alone_marked(alloc: Global, faces: &[Face], place: usize) -> Result<Vec<bool>
 #[tactic(auto, using(crate::proofs::Rounds::by_rounds))]
 fn closed_set(
     alloc: Global,
-    faces: &[Face],
+    faces: &[Contacts],
     rows: &[Seq<bool>],
     place: usize,
 ) -> Result<Vec<bool>, NoMemory>
@@ -97,7 +97,7 @@ fn closed_set(
     Ok(marks)
 }
 
-fn closed_sets(alloc: Global, faces: &[Face]) -> Result<Seq<Seq<bool>>, NoMemory>
+fn closed_sets(alloc: Global, faces: &[Contacts]) -> Result<Seq<Seq<bool>>, NoMemory>
     ensures { IfOk result (λ s. s ≡ sets_of faces.now) }
 {
     let rows = rows(alloc, faces)?;

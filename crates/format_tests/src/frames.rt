@@ -1,5 +1,5 @@
 //! Two CPUs over three rounds of a plan, against slots that were worked out by hand.
-use frame_clock::{FramePlace, FrameSlot, advance, slot};
+use frame_clock::{FrameAt, FrameSlot, advance, slot};
 use image_plan::{GroupPart, Major, Minor, Plan};
 use muen_num::Seq;
 use std::alloc::{AllocError, Global};
@@ -62,7 +62,7 @@ fn the_frames_begin_anew(rt: HostRuntime) -> Result<(), Fail> {
         (frame_slot(1, 1, true, 2), frame_slot(1, 2, true, 1)),
         (frame_slot(1, 1, false, 1), frame_slot(1, 3, true, 1)),
     ];
-    let mut at = FramePlace::first();
+    let mut at = FrameAt::first();
     for tick in 0usize..13 {
         at = advance(&plan, at, None, tick as u32);
         let (zero, one) = round[tick % 5];
@@ -83,7 +83,7 @@ fn the_frames_begin_anew(rt: HostRuntime) -> Result<(), Fail> {
 #[test]
 fn places(rt: HostRuntime) -> Result<(), Fail> {
     let plan = plan(rt.alloc())?;
-    let first = FramePlace::first();
+    let first = FrameAt::first();
     // within a major frame nothing is picked
     assert_eq!(rt; advance(&plan, first, Some(1), 2), first);
     let start = 3;
@@ -95,13 +95,13 @@ fn places(rt: HostRuntime) -> Result<(), Fail> {
         (None, 1),
     ];
     for (pick, major) in cases {
-        assert_eq!(rt; advance(&plan, first, pick, 3), FramePlace { major, start });
+        assert_eq!(rt; advance(&plan, first, pick, 3), FrameAt { major, start });
     }
-    let last = FramePlace { major: 1, start: 3 };
-    let again = FramePlace { major: 1, start: 5 };
+    let last = FrameAt { major: 1, start: 3 };
+    let again = FrameAt { major: 1, start: 5 };
     assert_eq!(rt;
         advance(&plan, last, None, 5),
-        FramePlace { major: 0, start: 5 }
+        FrameAt { major: 0, start: 5 }
     );
     assert_eq!(rt; advance(&plan, last, Some(9), 5), again);
     // no such CPU, no such tick of the major frame

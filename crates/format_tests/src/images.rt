@@ -1,6 +1,6 @@
 //! Images that are spelled here byte by byte, and what unpacking says of them and of damaged ones.
 use image_pack::{EventPart, Image, IrqTarget, Parts, PortSpan, pack, unpack};
-use muen_num::Mode;
+use muen_num::EventMode;
 use std::alloc::Global;
 use std::test::Fail;
 
@@ -41,7 +41,7 @@ fn there_and_back(rt: HostRuntime) -> Result<(), Fail> {
     Ok(())
 }
 
-fn event(mode: Mode, target: u8, vector: Option<u8>) -> Option<EventPart> {
+fn event(mode: EventMode, target: u8, vector: Option<u8>) -> Option<EventPart> {
     Some(EventPart {
         mode,
         target,
@@ -52,11 +52,11 @@ fn event(mode: Mode, target: u8, vector: Option<u8>) -> Option<EventPart> {
 fn has_its_calls(image: &Image) -> Option<bool> {
     let subject = image.subjects.items().get(0)?;
     let calls = [
-        event(Mode::Asap, 0, Some(32)),
-        event(Mode::Async, 0, Some(255)),
-        event(Mode::Own, 1, Some(40)),
-        event(Mode::Switch, 0, None),
-        event(Mode::Switch, 1, Some(33)),
+        event(EventMode::Asap, 0, Some(32)),
+        event(EventMode::Async, 0, Some(255)),
+        event(EventMode::Own, 1, Some(40)),
+        event(EventMode::Switch, 0, None),
+        event(EventMode::Switch, 1, Some(33)),
         None,
     ];
     Some(subject.calls.items().starts_with(&calls))

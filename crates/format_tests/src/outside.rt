@@ -1,7 +1,7 @@
 //! Runs of the traits' four implementations.
 use muen_num::Seq;
 use muen_outside::{
-    Buffer, FileEnd, Files, FolderFiles, Found, MemFiles, MemSink, Sink, SinkFault, WriterSink,
+    Buffer, FileError, Files, FolderFiles, Found, MemFiles, MemSink, Sink, SinkFault, WriterSink,
     put_pieces,
 };
 use std::alloc::Global;
@@ -23,9 +23,9 @@ fn files_in_memory(rt: HostRuntime) -> Result<(), Fail> {
     assert_eq!(rt; files.read(alloc, "a", 3), Ok(whole));
     assert_eq!(rt; files.read(alloc, "a", 2), Ok(Found::TooLong(3)));
     assert_eq!(rt; files.read(alloc, "b", 9), Ok(Found::Missing));
-    assert_eq!(rt; files.read(alloc, "a", 9), Err(FileEnd::Failed));
+    assert_eq!(rt; files.read(alloc, "a", 9), Err(FileError::Failed));
     assert_eq!(rt; files.write(alloc, "b", b"new"), Ok(()));
-    assert_eq!(rt; files.write(alloc, "b", b"lost"), Err(FileEnd::Failed));
+    assert_eq!(rt; files.write(alloc, "b", b"lost"), Err(FileError::Failed));
     assert_eq!(rt; files.get("b"), Some(b"new".as_slice()));
     Ok(())
 }
@@ -42,8 +42,8 @@ fn files_in_a_folder(rt: HostRuntime) -> Result<(), Fail> {
     assert_eq!(rt; files.read(alloc, name, 1), Ok(Found::TooLong(2)));
     let none = "muen_outside_none";
     assert_eq!(rt; files.read(alloc, none, 9), Ok(Found::Missing));
-    assert_eq!(rt; files.read(alloc, ".", 9), Err(FileEnd::Failed));
-    assert_eq!(rt; files.write(alloc, ".", b"xyz"), Err(FileEnd::Failed));
+    assert_eq!(rt; files.read(alloc, ".", 9), Err(FileError::Failed));
+    assert_eq!(rt; files.write(alloc, ".", b"xyz"), Err(FileError::Failed));
     fs::remove_file(&rt, name)?;
     Ok(())
 }

@@ -1,6 +1,6 @@
 //! Records with their faults, and with their values.
 use muen_num::{Name, Seq};
-use record_text::{DevicePlaces, Devices, IrqPlace, IrqTarget, MemoryPlace, PortSpan, read};
+use record_text::{RecordDevice, Devices, RecordIrq, IrqTarget, RecordMemory, PortSpan, read};
 use std::alloc::Global;
 use std::test::Fail;
 
@@ -12,16 +12,16 @@ fn name(text: &str) -> Result<Name, Fail> {
 }
 
 // An interrupt that a subject has, and one that nobody has.
-fn irqs(alloc: Global) -> Result<Seq<IrqPlace>, Fail> {
+fn irqs(alloc: Global) -> Result<Seq<RecordIrq>, Fail> {
     let target = IrqTarget {
         subject: 3,
         vector: 43,
     };
-    let rx = IrqPlace {
+    let rx = RecordIrq {
         name: name("rx")?,
         target: Some(target),
     };
-    let tx = IrqPlace {
+    let tx = RecordIrq {
         name: name("tx")?,
         target: None,
     };
@@ -30,7 +30,7 @@ fn irqs(alloc: Global) -> Result<Seq<IrqPlace>, Fail> {
 
 // Two CPUs and two devices, the second of which has nothing.
 fn devices(alloc: Global) -> Result<Devices, Fail> {
-    let buf = MemoryPlace {
+    let buf = RecordMemory {
         name: name("buf")?,
         place: 0x20_0000,
         bytes: 4096,
@@ -39,13 +39,13 @@ fn devices(alloc: Global) -> Result<Devices, Fail> {
         start: 768,
         end: 783,
     };
-    let net = DevicePlaces {
+    let net = RecordDevice {
         name: name("net")?,
         ports: Seq::of(Vec::from_slice(alloc, &[regs])?),
         memories: Seq::of(Vec::from_array(alloc, [buf])?),
         irqs: irqs(alloc)?,
     };
-    let disk = DevicePlaces {
+    let disk = RecordDevice {
         name: name("disk")?,
         ports: Seq::new(alloc),
         memories: Seq::new(alloc),

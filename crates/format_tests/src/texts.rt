@@ -3,7 +3,7 @@ use muen_num::text::{
     append, append_decimal, append_decimal8, append_decimal32, append_hex4, append_hex8,
     append_hex16, append_hex32,
 };
-use muen_num::{Name, Part, Seq, Tag, first_pair};
+use muen_num::{Name, TagPart, Seq, Tag, first_pair};
 use std::test::Fail;
 
 // Each row is a text, and that of the name that it is, or `none`.
@@ -40,13 +40,13 @@ fn writes_tags(rt: HostRuntime) -> Result<(), Fail> {
     };
     let mut text = String::new(alloc);
     for part in [
-        Part::Whole,
-        Part::Named(ring),
-        Part::State,
-        Part::Ept,
-        Part::Iobm,
-        Part::Msrbm,
-        Part::Msrs,
+        TagPart::Whole,
+        TagPart::Named(ring),
+        TagPart::State,
+        TagPart::Ept,
+        TagPart::Iobm,
+        TagPart::Msrbm,
+        TagPart::Msrs,
     ] {
         text.push_str(Tag { owner, part }.to_string(alloc)?.as_str())?;
         text.push(' ')?;

@@ -1,5 +1,5 @@
 //! Values, with what they stand for.
-use muen_num::Mode;
+use muen_num::EventMode;
 use policy_types::{MsrRights, Role};
 use policy_values::{byte_of, mode_of, msr_rights_of, number_of, rights_of, role_of};
 use serde_json::Value;
@@ -60,7 +60,7 @@ fn other_kinds(rt: HostRuntime) -> Result<(), Fail> {
     let alloc = rt.alloc();
     assert_eq!(rt; byte_of(&value(alloc, "\"16#FF#\"")?), Some(255));
     assert_eq!(rt; byte_of(&value(alloc, "256")?), None);
-    assert_eq!(rt; mode_of(&value(alloc, "\"self\"")?), Some(Mode::Own));
+    assert_eq!(rt; mode_of(&value(alloc, "\"self\"")?), Some(EventMode::Own));
     assert_eq!(rt; mode_of(&value(alloc, "\"own\"")?), None);
     assert_eq!(rt; role_of(&value(alloc, "\"reader\"")?), Some(Role::Reader));
     let write = MsrRights {

@@ -1,2 +1,2 @@
 pub mod FrameSlot
-pub mod FramePlace
+pub mod FrameAt

@@ -1,7 +1,7 @@
 //! Which frame a CPU has at a tick.
 //!
 //! The definitions lay a plan's frames out tick by tick; the code counts ticks instead. Which major
-//! frame runs is a place (`FramePlace`) that goes on from tick to tick (`advance`), and tells each
+//! frame runs is a place (`FrameAt`) that goes on from tick to tick (`advance`), and tells each
 //! CPU's slot (`slot`).
 #![tactic(auto)]
 
@@ -14,7 +14,7 @@ ghost use Rattle.image_plan.specs.Slot.{frame_slots};
 ghost use Rattle.frame_clock.specs.FrameSlot.{slot_of};
 
 use image_plan::Minor;
-pub use place::{FramePlace, advance, slot};
+pub use place::{FrameAt, advance, slot};
 
 /// The frame of a CPU at a tick.
 #[derive(Clone, Copy, Debug, PartialEq, Eq)]

@@ -2,7 +2,7 @@
 ghost use Rattle.std.specs.Prelude.{◌≡◌, ◌<◌, length, map, option_map, slice_get};
 ghost use Rattle.image_plan.specs.Plan.{frames_in};
 ghost use Rattle.frame_clock.specs.FrameSlot.{slot_of};
-ghost use Rattle.frame_clock.specs.FramePlace.{next_major, place_at, slot_in, ticks_of_majors, first_place};
+ghost use Rattle.frame_clock.specs.FrameAt.{next_major, place_at, slot_in, ticks_of_majors, first_place};
 
 use crate::{FrameSlot, in_frames};
 use image_plan::{Major, Minor, Plan};
@@ -10,19 +10,19 @@ use muen_num::Seq;
 
 /// A major frame that runs, and since when.
 #[derive(Clone, Copy, Debug, PartialEq, Eq)]
-pub struct FramePlace {
+pub struct FrameAt {
     /// The number of the major frame.
     pub major: usize,
     /// Its first tick.
     pub start: u32,
 }
 
-impl FramePlace {
+impl FrameAt {
     /// The first major frame, from tick 0 on.
-    pub fn first() -> FramePlace
+    pub fn first() -> FrameAt
         ensures { result ≡ first_place }
     {
-        FramePlace { major: 0, start: 0 }
+        FrameAt { major: 0, start: 0 }
     }
 }
 
@@ -70,7 +70,7 @@ fn next_major(count: usize, major: usize, pick: Option<u8>) -> usize
 /// The place at a tick, by the place at the tick before: where that one's ticks are over, the next
 /// major frame begins. That is the one that is picked, by its number, and the same one again where
 /// there is no such; where nothing is picked it is the one behind it, and the first behind the last.
-pub fn advance(p: &Plan, at: FramePlace, pick: Option<u8>, tick: u32) -> FramePlace
+pub fn advance(p: &Plan, at: FrameAt, pick: Option<u8>, tick: u32) -> FrameAt
     ensures { result ≡ place_at (ticks_of_majors p.now) at pick tick }
 {
     let majors = p.majors.items();
@@ -79,7 +79,7 @@ pub fn advance(p: &Plan, at: FramePlace, pick: Option<u8>, tick: u32) -> FramePl
         Some(ticks) => ticks,
     };
     if u64::from(tick) == u64::from(at.start) + u64::from(ticks) {
-        FramePlace {
+        FrameAt {
             major: next_major(majors.len(), at.major, pick),
             start: tick,
         }
@@ -90,7 +90,7 @@ pub fn advance(p: &Plan, at: FramePlace, pick: Option<u8>, tick: u32) -> FramePl
 
 /// The slot of a CPU at a tick, by the major frame that runs then. None where the plan has no such
 /// CPU, major frame or tick in it.
-pub fn slot(p: &Plan, at: FramePlace, cpu: u8, tick: u32) -> Option<FrameSlot>
+pub fn slot(p: &Plan, at: FrameAt, cpu: u8, tick: u32) -> Option<FrameSlot>
     ensures { option_map slot_of result ≡ slot_in (frames_in p.now cpu) at tick }
 {
     match major_at(p.majors.items(), at.major) {

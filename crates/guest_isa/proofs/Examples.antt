@@ -1,7 +1,7 @@
 -- The instruction table at work, against answers that were worked out by hand.
 use Rattle.std.proofs.Common.{◌≡◌, ℕ, true, false, List, [], ◌∷◌, Some, None, refl}
 use Rattle.std.specs.Prelude.{negsuc}
-use Rattle.muen_num.specs.declared.access.Size.TheVariants.{One, Two, Four, Eight}
+use Rattle.muen_num.specs.declared.access.AccessSize.TheVariants.{One, Two, Four, Eight}
 use Rattle.subject_state.specs.declared.SubjectState.{SubjectState}
 use Rattle.guest_isa.specs.GuestIsa.{decode_of, encoding_of, effect_of}
 use Rattle.guest_isa.specs.declared.instr.Instr.TheVariants.{Li, Lih, Sub, Shl, Shr, Load, Store, Jb, Jmp, In, Out, Rdmsr, Wrmsr, Rdtsc, Vmcall, Sti, Cli, Setv, Reti}

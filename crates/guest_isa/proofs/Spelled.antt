@@ -5,8 +5,8 @@ use Rattle.std.specs.Int.{w32, cast_signed, cast_unsigned, from_le_bytes, to_le_
 use Rattle.std.proofs.lemmas.Bool.{and_parts, eqb-true}
 use Rattle.std.proofs.lemmas.Int.{of_z-to_z}
 use Rattle.std.proofs.lemmas.Nat.{le_bytes_4}
-use Rattle.muen_num.specs.declared.access.Size.{Size}
-use Rattle.muen_num.specs.declared.access.Size.TheVariants.{One, Two, Four, Eight}
+use Rattle.muen_num.specs.declared.access.AccessSize.{AccessSize}
+use Rattle.muen_num.specs.declared.access.AccessSize.TheVariants.{One, Two, Four, Eight}
 use Rattle.guest_isa.specs.declared.spelling.Fields.{Fields}
 use Rattle.guest_isa.specs.declared.spelling.Named.{Named}
 use Rattle.guest_isa.specs.declared.instr.Instr.{Instr}
@@ -85,20 +85,20 @@ module _ (f : Fields) (low : f.imm < 2 ^ 32) where
   of_row n opcode i named same e =
       at_test (IsFor f) (are_unset f n) (λ unset. same ∙ all_named f n opcode 0 low (eqb-true f.opcode opcode e) (size_unset f n named unset) unset) tt
 
-  of_size : (n : Named) (opcode : ℕ) (i : Size → Instr) (size : Size) → fields_for (i size) ≡ named_of opcode (code_of size) f n → (f.opcode == opcode) ≡ true → (f.size == code_of size) ≡ true → IsFor f (row f n (i size))
+  of_size : (n : Named) (opcode : ℕ) (i : AccessSize → Instr) (size : AccessSize) → fields_for (i size) ≡ named_of opcode (code_of size) f n → (f.opcode == opcode) ≡ true → (f.size == code_of size) ≡ true → IsFor f (row f n (i size))
   of_size n opcode i size same e s =
       at_test (IsFor f) (are_unset f n) (λ unset. same ∙ all_named f n opcode (code_of size) low (eqb-true f.opcode opcode e) (eqb-true f.size (code_of size) s) unset) tt
 
-  of_sized_row : (n : Named) (opcode : ℕ) (i : Size → Instr) → ((size : Size) → fields_for (i size) ≡ named_of opcode (code_of size) f n) → (f.opcode == opcode) ≡ true → IsFor f (sized_row f n i)
+  of_sized_row : (n : Named) (opcode : ℕ) (i : AccessSize → Instr) → ((size : AccessSize) → fields_for (i size) ≡ named_of opcode (code_of size) f n) → (f.opcode == opcode) ≡ true → IsFor f (sized_row f n i)
   of_sized_row n opcode i same e =
-      let P = λ (o : Option Size). IsFor f (option_and_then (λ size. row f n (i size)) o) in
-      let of = λ (size : Size) (s : (f.size == code_of size) ≡ true). of_size n opcode i size (same size) e s in
+      let P = λ (o : Option AccessSize). IsFor f (option_and_then (λ size. row f n (i size)) o) in
+      let of = λ (size : AccessSize) (s : (f.size == code_of size) ≡ true). of_size n opcode i size (same size) e s in
       at_test P (f.size == 0) (of One) (at_test P (f.size == 1) (of Two) (at_test P (f.size == 2) (of Four) (at_test P (f.size == 3) (of Eight) tt)))
 
-  of_port_row : (n : Named) (opcode : ℕ) (i : Size → Instr) → ((size : Size) → fields_for (i size) ≡ named_of opcode (code_of size) f n) → (f.opcode == opcode) ≡ true → IsFor f (port_row f n i)
+  of_port_row : (n : Named) (opcode : ℕ) (i : AccessSize → Instr) → ((size : AccessSize) → fields_for (i size) ≡ named_of opcode (code_of size) f n) → (f.opcode == opcode) ≡ true → IsFor f (port_row f n i)
   of_port_row n opcode i same e =
-      let P = λ (o : Option Size). IsFor f (option_and_then (λ size. row f n (i size)) o) in
-      let of = λ (size : Size) (s : (f.size == code_of size) ≡ true). of_size n opcode i size (same size) e s in
+      let P = λ (o : Option AccessSize). IsFor f (option_and_then (λ size. row f n (i size)) o) in
+      let of = λ (size : AccessSize) (s : (f.size == code_of size) ≡ true). of_size n opcode i size (same size) e s in
       at_test P (f.size == 0) (of One) (at_test P (f.size == 1) (of Two) (at_test P (f.size == 2) (of Four) tt))
 
   of_system_instruction : IsFor f (system_instruction_of f)

@@ -2,8 +2,8 @@
 use Rattle.std.specs.Prelude.{◌≡◌, ℕ, ℤ, pos, ◌+◌, ◌-◌, ◌*◌, ◌/◌, ◌%◌, ◌^◌, ◌<◌, ◌==◌, ◌&&◌, ◌||◌, Bool, true, false, not, List, [], ◌∷◌, slice_index, slice_set, nat_lt, bit_and, bit_or, bit_xor, Option, Some, None, option_and_then, if◌then◌else◌}
 use Rattle.std.specs.Int.{w32, w64, from_le_bytes, to_le_bytes, cast_signed, cast_unsigned}
 use Rattle.muen_num.specs.Size.{bytes_of}
-use Rattle.muen_num.specs.declared.access.Size.{Size}
-use Rattle.muen_num.specs.declared.access.Size.TheVariants.{One, Two, Four, Eight}
+use Rattle.muen_num.specs.declared.access.AccessSize.{AccessSize}
+use Rattle.muen_num.specs.declared.access.AccessSize.TheVariants.{One, Two, Four, Eight}
 use Rattle.subject_state.specs.declared.SubjectState.{SubjectState}
 use Rattle.guest_isa.specs.declared.spelling.Fields.{Fields}
 use Rattle.guest_isa.specs.declared.spelling.Named.{Named}
@@ -40,7 +40,7 @@ abbrev pub row : Fields → Named → Instr → Option Instr
 row f n i = if are_unset f n then Some i else None
 
 -- the size of an access, by its code
-abbrev pub size_of : ℕ → Option Size
+abbrev pub size_of : ℕ → Option AccessSize
 size_of code =
     if code == 0 then Some One
     else (if code == 1 then Some Two
@@ -48,18 +48,18 @@ size_of code =
     else (if code == 3 then Some Eight else None)))
 
 -- a row of an instruction with a size
-abbrev pub sized_row : Fields → Named → (Size → Instr) → Option Instr
+abbrev pub sized_row : Fields → Named → (AccessSize → Instr) → Option Instr
 sized_row f n i = option_and_then (λ size. row f n (i size)) (size_of f.size)
 
 -- the size of an access to a port, by its code: at most four bytes
-abbrev pub port_size_of : ℕ → Option Size
+abbrev pub port_size_of : ℕ → Option AccessSize
 port_size_of code =
     if code == 0 then Some One
     else (if code == 1 then Some Two
     else (if code == 2 then Some Four else None))
 
 -- a row of an instruction that accesses a port
-abbrev pub port_row : Fields → Named → (Size → Instr) → Option Instr
+abbrev pub port_row : Fields → Named → (AccessSize → Instr) → Option Instr
 port_row f n i = option_and_then (λ size. row f n (i size)) (port_size_of f.size)
 
 abbrev pub imm_of : Fields → ℤ
@@ -139,7 +139,7 @@ abbrev pub spelled : Fields → List ℕ
 spelled f = f.opcode ∷ (f.rd * 16 + f.rs) ∷ f.size ∷ f.zero ∷ to_le_bytes w32 f.imm
 
 -- the code of a size
-abbrev pub code_of : Size → ℕ
+abbrev pub code_of : AccessSize → ℕ
 code_of One = 0
 code_of Two = 1
 code_of Four = 2
@@ -191,13 +191,13 @@ AreSpelled None b = Unit {0}
 AreSpelled (Some i) b = encoding_of i ≡ b
 
 -- at most four bytes
-abbrev pub IsSmall : Size → Type 0
+abbrev pub IsSmall : AccessSize → Type 0
 IsSmall One = Unit {0}
 IsSmall Two = Unit {0}
 IsSmall Four = Unit {0}
 IsSmall Eight = ⊥
 
-abbrev pub AreSmall : Option Size → Type 0
+abbrev pub AreSmall : Option AccessSize → Type 0
 AreSmall None = Unit {0}
 AreSmall (Some size) = IsSmall size
 
@@ -269,7 +269,7 @@ abbrev pub offset_by : ℕ → ℤ → ℕ
 offset_by n imm = (n + extended imm) % 2 ^ 64
 
 -- the lowest bytes of a value, so many as an access has
-abbrev pub low_bytes : Size → ℕ → ℕ
+abbrev pub low_bytes : AccessSize → ℕ → ℕ
 low_bytes size value = value % 256 ^ bytes_of size
 
 -- the port at the sum of a number and an immediate, modulo 65536

@@ -4,7 +4,7 @@ ghost use Rattle.std.specs.Int.{w32, cast_unsigned};
 ghost use Rattle.guest_isa.specs.GuestIsa.{register, advanced, with_register, extended, offset_by, low_bytes, port_of, passed, set_register, jumped, jumped_if, resumed, effect_of, IsValid, IsValidWish, IsSmall};
 
 use crate::instr::{Asked, Instr, Wish};
-use muen_num::Size;
+use muen_num::AccessSize;
 use subject_state::SubjectState;
 
 fn register(s: &SubjectState, r: u8) -> u64
@@ -47,27 +47,27 @@ fn offset_by(n: u64, imm: i32) -> u64
 }
 
 // The lowest bytes of a value.
-fn low_bytes(size: Size, value: u64) -> u64
+fn low_bytes(size: AccessSize, value: u64) -> u64
     ensures { result ≡ low_bytes size value }
 {
     match size {
-        Size::One => value % (1 << 8),
-        Size::Two => value % (1 << 16),
-        Size::Four => value % (1 << 32),
-        Size::Eight => value,
+        AccessSize::One => value % (1 << 8),
+        AccessSize::Two => value % (1 << 16),
+        AccessSize::Four => value % (1 << 32),
+        AccessSize::Eight => value,
     }
 }
 
 // The lowest bytes of a value, at most four.
-fn few_low_bytes(size: Size, value: u64) -> u32
+fn few_low_bytes(size: AccessSize, value: u64) -> u32
     requires { IsSmall size }
     ensures { result ≡ low_bytes size value }
 {
     match size {
-        Size::One => (value % (1 << 8)) as u32,
-        Size::Two => (value % (1 << 16)) as u32,
-        Size::Four => low_half(value),
-        Size::Eight => unreachable!(),
+        AccessSize::One => (value % (1 << 8)) as u32,
+        AccessSize::Two => (value % (1 << 16)) as u32,
+        AccessSize::Four => low_half(value),
+        AccessSize::Eight => unreachable!(),
     }
 }
 

@@ -1,5 +1,5 @@
 // Instructions, and what they ask for.
-use muen_num::Size;
+use muen_num::AccessSize;
 use subject_state::SubjectState;
 
 /// An instruction. Register numbers are below 16. Arithmetic and addresses wrap at 2^64;
@@ -63,14 +63,14 @@ pub enum Instr {
     Load {
         rd: u8,
         rs: u8,
-        size: Size,
+        size: AccessSize,
         imm: i32,
     },
     /// Stores the low bytes of register `rd` at `rs + imm`.
     Store {
         rd: u8,
         rs: u8,
-        size: Size,
+        size: AccessSize,
         imm: i32,
     },
     /// Jumps by the immediate from its own address.
@@ -98,7 +98,7 @@ pub enum Instr {
     In {
         rd: u8,
         rs: u8,
-        size: Size,
+        size: AccessSize,
         imm: i32,
     },
     /// Writes the low bytes of register `rd` to port `rs + imm`, taken modulo 65536. The size is at
@@ -106,7 +106,7 @@ pub enum Instr {
     Out {
         rd: u8,
         rs: u8,
-        size: Size,
+        size: AccessSize,
         imm: i32,
     },
     /// Reads the machine-specific register whose index is the low 32 bits of `rs` into `rd`.
@@ -149,13 +149,13 @@ pub enum Wish {
     /// The register was written, and holds this value.
     Set { reg: u8, value: u64 },
     /// The register is to be loaded, zero-extended, from this guest address.
-    Load { reg: u8, addr: u64, size: Size },
+    Load { reg: u8, addr: u64, size: AccessSize },
     /// This value, which has so many bytes, is to be stored at this guest address.
-    Store { addr: u64, size: Size, value: u64 },
+    Store { addr: u64, size: AccessSize, value: u64 },
     /// The register is to be loaded, zero-extended, with the input at this port.
-    PortIn { reg: u8, port: u16, size: Size },
+    PortIn { reg: u8, port: u16, size: AccessSize },
     /// This value, which has so many bytes, is to be written to this port.
-    PortOut { port: u16, size: Size, value: u32 },
+    PortOut { port: u16, size: AccessSize, value: u32 },
     /// The register is to be loaded from the machine-specific register of this index.
     ReadMsr { reg: u8, index: u32 },
     /// This value is to be written to the machine-specific register of this index.

@@ -4,7 +4,7 @@ ghost use Rattle.std.specs.Int.{w32, from_le_bytes, to_le_bytes};
 ghost use Rattle.guest_isa.specs.GuestIsa.{decode_of, encoding_of, size_of, code_of, port_size_of, AreValid, AreSmall, AreSpelled, IsValid};
 
 use crate::instr::Instr;
-use muen_num::Size;
+use muen_num::AccessSize;
 
 // The fields of the eight bytes of an instruction.
 #[derive(Clone, Copy, Debug, PartialEq, Eq)]
@@ -83,39 +83,39 @@ const RD_RS_IMM: Named = Named {
 };
 
 // The size of an access, by its code.
-fn size_of(code: u8) -> Option<Size>
+fn size_of(code: u8) -> Option<AccessSize>
     ensures { result ≡ size_of code }
 {
     match code {
-        0 => Some(Size::One),
-        1 => Some(Size::Two),
-        2 => Some(Size::Four),
-        3 => Some(Size::Eight),
+        0 => Some(AccessSize::One),
+        1 => Some(AccessSize::Two),
+        2 => Some(AccessSize::Four),
+        3 => Some(AccessSize::Eight),
         _ => None,
     }
 }
 
 // The code of a size.
-fn code_of(size: Size) -> u8
+fn code_of(size: AccessSize) -> u8
     ensures { result ≡ code_of size }
 {
     match size {
-        Size::One => 0,
-        Size::Two => 1,
-        Size::Four => 2,
-        Size::Eight => 3,
+        AccessSize::One => 0,
+        AccessSize::Two => 1,
+        AccessSize::Four => 2,
+        AccessSize::Eight => 3,
     }
 }
 
 // The size of an access to a port, by its code: at most four bytes.
-fn port_size_of(code: u8) -> Option<Size>
+fn port_size_of(code: u8) -> Option<AccessSize>
     ensures size { result ≡ port_size_of code }
     ensures small { AreSmall result }
 {
     match code {
-        0 => Some(Size::One),
-        1 => Some(Size::Two),
-        2 => Some(Size::Four),
+        0 => Some(AccessSize::One),
+        1 => Some(AccessSize::Two),
+        2 => Some(AccessSize::Four),
         _ => None,
     }
 }

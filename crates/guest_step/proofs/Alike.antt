@@ -5,10 +5,10 @@ use Rattle.std.specs.Int.{w64, to_le_bytes}
 use Rattle.std.proofs.lemmas.Bool.Decides.{nat_tests}
 use Rattle.muen_num.specs.Size.{bytes_of as count}
 use Rattle.muen_num.specs.Access.{kind_bit}
-use Rattle.muen_num.specs.declared.access.Kind.{Kind}
-use Rattle.muen_num.specs.declared.access.Kind.TheVariants.{Read, Write, Fetch}
-use Rattle.muen_num.specs.declared.access.Size.{Size}
-use Rattle.muen_num.specs.declared.access.Size.TheVariants.{Eight}
+use Rattle.muen_num.specs.declared.access.AccessKind.{AccessKind}
+use Rattle.muen_num.specs.declared.access.AccessKind.TheVariants.{Read, Write, Fetch}
+use Rattle.muen_num.specs.declared.access.AccessSize.{AccessSize}
+use Rattle.muen_num.specs.declared.access.AccessSize.TheVariants.{Eight}
 use Rattle.muen_num.specs.declared.limits.TheConstants.{EXIT_EPT_VIOLATION, EXIT_EXCEPTION, GUEST_END}
 use Rattle.subject_state.specs.declared.SubjectState.{SubjectState}
 use Rattle.guest_isa.specs.GuestIsa.{decode_of, effect_of}
@@ -27,16 +27,16 @@ module _ {X Y : Type 0} (f : X → ℕ → Y × ℕ) (a : World X) (b : World Y)
   Reads n (Refused reason qualification addr) = Unit {0}
 
   -- by whether the address is a multiple of the size, and whether it is below the end
-  abbrev by : {Z : Type 0} → Bool → Bool → Kind → ℕ → Reach Z → Reach Z
+  abbrev by : {Z : Type 0} → Bool → Bool → AccessKind → ℕ → Reach Z → Reach Z
   by fine high kind addr c =
       if fine then (if high then Refused EXIT_EPT_VIOLATION (kind_bit kind) addr else c) else Refused EXIT_EXCEPTION 0 0
 
-  by_alike : (fine high : Bool) (kind : Kind) (addr : ℕ) (c : Reach X) (d : Reach Y) → (fine ≡ true → high ≡ false → d ≡ renamed_reach f c) → by fine high kind addr d ≡ renamed_reach f (by fine high kind addr c)
+  by_alike : (fine high : Bool) (kind : AccessKind) (addr : ℕ) (c : Reach X) (d : Reach Y) → (fine ≡ true → high ≡ false → d ≡ renamed_reach f c) → by fine high kind addr d ≡ renamed_reach f (by fine high kind addr c)
   by_alike true true kind addr c d h = refl
   by_alike true false kind addr c d h = h refl refl
   by_alike false high kind addr c d h = refl
 
-  by_reads : (n : ℕ) (fine high : Bool) (kind : Kind) (addr : ℕ) (c : Reach X) → (fine ≡ true → high ≡ false → Reads n c) → Reads n (by fine high kind addr c)
+  by_reads : (n : ℕ) (fine high : Bool) (kind : AccessKind) (addr : ℕ) (c : Reach X) → (fine ≡ true → high ≡ false → Reads n c) → Reads n (by fine high kind addr c)
   by_reads n true true kind addr c h = tt
   by_reads n true false kind addr c h = h refl refl
   by_reads n false high kind addr c h = tt
@@ -44,18 +44,18 @@ module _ {X Y : Type 0} (f : X → ℕ → Y × ℕ) (a : World X) (b : World Y)
   low : (addr : ℕ) → nat_le GUEST_END addr ≡ false → addr < GUEST_END
   low addr h = grind (arith, nat_tests, h)
 
-  reach_alike : (kind : Kind) (n addr : ℕ) → reach_of b.look kind n addr ≡ renamed_reach f (reach_of a.look kind n addr)
+  reach_alike : (kind : AccessKind) (n addr : ℕ) → reach_of b.look kind n addr ≡ renamed_reach f (reach_of a.look kind n addr)
   reach_alike kind n addr =
       by_alike (addr % n == 0) (nat_le GUEST_END addr) kind addr (a.look kind addr) (b.look kind addr) (λ _ h. r.look kind addr (low addr h))
 
-  reads_of : (kind : Kind) (size : Size) (addr : ℕ) → addr < GUEST_END → addr % count size ≡ 0 → (c : Reach X) → a.look kind addr ≡ c → Reads (count size) c
+  reads_of : (kind : AccessKind) (size : AccessSize) (addr : ℕ) → addr < GUEST_END → addr % count size ≡ 0 → (c : Reach X) → a.look kind addr ≡ c → Reads (count size) c
   reads_of kind size addr l h (Reached place offset) e = r.word kind addr size place offset l h e
   reads_of kind size addr l h (Refused reason qualification guest) e = tt
 
   aligned : (addr n : ℕ) → (addr % n == 0) ≡ true → addr % n ≡ 0
   aligned addr n h = grind (arith, nat_tests, h)
 
-  reach_reads : (kind : Kind) (size : Size) (addr : ℕ) → Reads (count size) (reach_of a.look kind (count size) addr)
+  reach_reads : (kind : AccessKind) (size : AccessSize) (addr : ℕ) → Reads (count size) (reach_of a.look kind (count size) addr)
   reach_reads kind size addr =
       by_reads (count size) (addr % count size == 0) (nat_le GUEST_END addr) kind addr (a.look kind addr) (λ g h. reads_of kind size addr (low addr h) (aligned addr (count size) g) (a.look kind addr) refl)
 
@@ -63,15 +63,15 @@ module _ {X Y : Type 0} (f : X → ℕ → Y × ℕ) (a : World X) (b : World Y)
   loaded_alike s after reg n (Reached place offset) e = rw e refl
   loaded_alike s after reg n (Refused reason qualification addr) e = refl
 
-  stored_alike : (s after : SubjectState) (addr : ℕ) (size : Size) (value : ℕ) (c : Reach X) → stored_to s after addr size value (renamed_reach f c) ≡ renamed f (stored_to s after addr size value c)
+  stored_alike : (s after : SubjectState) (addr : ℕ) (size : AccessSize) (value : ℕ) (c : Reach X) → stored_to s after addr size value (renamed_reach f c) ≡ renamed f (stored_to s after addr size value c)
   stored_alike s after addr size value (Reached place offset) = refl
   stored_alike s after addr size value (Refused reason qualification guest) = refl
 
-  port_read_alike : (s after : SubjectState) (reg port : ℕ) (size : Size) (o : Option ℕ) → port_read s after reg port size o ≡ renamed f (port_read s after reg port size o)
+  port_read_alike : (s after : SubjectState) (reg port : ℕ) (size : AccessSize) (o : Option ℕ) → port_read s after reg port size o ≡ renamed f (port_read s after reg port size o)
   port_read_alike s after reg port size (Some value) = refl
   port_read_alike s after reg port size None = refl
 
-  port_written_alike : (t : Bool) (s after : SubjectState) (port : ℕ) (size : Size) (value : ℕ) → port_written t s after port size value ≡ renamed f (port_written t s after port size value)
+  port_written_alike : (t : Bool) (s after : SubjectState) (port : ℕ) (size : AccessSize) (value : ℕ) → port_written t s after port size value ≡ renamed f (port_written t s after port size value)
   port_written_alike true s after port size value = refl
   port_written_alike false s after port size value = refl
 

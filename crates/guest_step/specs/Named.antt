@@ -1,8 +1,8 @@
 -- Worlds in which the same places have other names.
 use Rattle.std.specs.Prelude.{◌≡◌, ℕ, ◌%◌, ◌<◌, option_map}
 use Rattle.muen_num.specs.Size.{bytes_of as count}
-use Rattle.muen_num.specs.declared.access.Kind.{Kind}
-use Rattle.muen_num.specs.declared.access.Size.{Size}
+use Rattle.muen_num.specs.declared.access.AccessKind.{AccessKind}
+use Rattle.muen_num.specs.declared.access.AccessSize.{AccessSize}
 use Rattle.muen_num.specs.declared.limits.TheConstants.{GUEST_END}
 use Rattle.guest_step.specs.Step.{World, Stored, Answer, word_at}
 use Rattle.guest_step.specs.declared.reach.Reach.{Reach}
@@ -22,9 +22,9 @@ renamed f a = record { state = a.state; end = a.end; stored = option_map (rename
 
 -- two worlds are the same but for these names
 pub record AreAlike {X Y : Type 0} (f : X → ℕ → Y × ℕ) (a : World X) (b : World Y) : Type 0 where
-  pub look : (kind : Kind) (addr : ℕ) → addr < GUEST_END → b.look kind addr ≡ renamed_reach f (a.look kind addr)
+  pub look : (kind : AccessKind) (addr : ℕ) → addr < GUEST_END → b.look kind addr ≡ renamed_reach f (a.look kind addr)
   -- an access reads the same
-  pub word : (kind : Kind) (addr : ℕ) (size : Size) (place : X) (offset : ℕ) → addr < GUEST_END → addr % count size ≡ 0
+  pub word : (kind : AccessKind) (addr : ℕ) (size : AccessSize) (place : X) (offset : ℕ) → addr < GUEST_END → addr % count size ≡ 0
       → a.look kind addr ≡ Reached place offset
       → word_at (count size) (b.bytes (f place offset).0) (f place offset).1 ≡ word_at (count size) (a.bytes place) offset
   pub input : (port size : ℕ) → b.input port size ≡ a.input port size

@@ -6,9 +6,9 @@ use Rattle.std.specs.Int.{w64, to_le_bytes}
 use Rattle.muen_num.specs.Access.{kind_bit}
 use Rattle.muen_num.specs.Size.{bytes_of as count}
 use Rattle.muen_num.specs.declared.limits.TheConstants.{EXIT_EPT_VIOLATION, EXIT_EXCEPTION, EXIT_HLT, EXIT_IO, EXIT_RDMSR, EXIT_VMCALL, EXIT_WRMSR, GUEST_END}
-use Rattle.muen_num.specs.declared.access.Kind.{Kind}
-use Rattle.muen_num.specs.declared.access.Kind.TheVariants.{Read, Write, Fetch}
-use Rattle.muen_num.specs.declared.access.Size.{Size}
+use Rattle.muen_num.specs.declared.access.AccessKind.{AccessKind}
+use Rattle.muen_num.specs.declared.access.AccessKind.TheVariants.{Read, Write, Fetch}
+use Rattle.muen_num.specs.declared.access.AccessSize.{AccessSize}
 use Rattle.machine_meaning.specs.Memory.{le_number, le_bytes}
 use Rattle.subject_state.specs.declared.SubjectState.{SubjectState}
 use Rattle.guest_isa.specs.GuestIsa.{decode_of, effect_of, with_register}
@@ -24,7 +24,7 @@ use Rattle.guest_step.specs.declared.end.StepEnd.TheVariants.{Plain, Set, Stored
 
 pub record World (X : Type 0) : Type 0 where
   -- where an access of this kind leads at a guest address below the end of guest addresses
-  pub look : Kind → ℕ → Reach X
+  pub look : AccessKind → ℕ → Reach X
   -- the bytes of a place
   pub bytes : X → List ℕ
   -- what is read of so many ports from this one on, unless that exits
@@ -77,7 +77,7 @@ sets after reg value = went_on (with_register after reg value) (Set reg value)
 
 -- the faults of an access in their order: an address that is no multiple of the size, one from the end of guest addresses up,
 -- and what the world says of it
-abbrev pub reach_of : {X : Type 0} → (Kind → ℕ → Reach X) → Kind → ℕ → ℕ → Reach X
+abbrev pub reach_of : {X : Type 0} → (AccessKind → ℕ → Reach X) → AccessKind → ℕ → ℕ → Reach X
 reach_of look kind size addr =
     if addr % size == 0
     then (if nat_le GUEST_END addr then Refused EXIT_EPT_VIOLATION (kind_bit kind) addr else look kind addr)
@@ -91,7 +91,7 @@ abbrev pub loaded : {X : Type 0} → (X → List ℕ) → SubjectState → Subje
 loaded bytes s after reg size (Reached place offset) = sets after reg (word_at size (bytes place) offset)
 loaded bytes s after reg size (Refused reason qualification addr) = faulted s reason qualification addr
 
-abbrev pub stored_to : {X : Type 0} → SubjectState → SubjectState → ℕ → Size → ℕ → Reach X → Answer X
+abbrev pub stored_to : {X : Type 0} → SubjectState → SubjectState → ℕ → AccessSize → ℕ → Reach X → Answer X
 stored_to s after addr size value (Reached place offset) = record {
   state = record after { exited = false };
   end = Wrote size addr value;
@@ -103,14 +103,14 @@ stored_to s after addr size value (Refused reason qualification guest) = faulted
 -- ---- ports
 
 -- the qualification of a port access: the size less one, bit 3 for input, the port from bit 16 on
-abbrev pub port_qualification : Size → Bool → ℕ → ℕ
+abbrev pub port_qualification : AccessSize → Bool → ℕ → ℕ
 port_qualification size input port = (count size - 1) + (if input then 8 else 0) + 65536 * port
 
-abbrev pub port_read : {X : Type 0} → SubjectState → SubjectState → ℕ → ℕ → Size → Option ℕ → Answer X
+abbrev pub port_read : {X : Type 0} → SubjectState → SubjectState → ℕ → ℕ → AccessSize → Option ℕ → Answer X
 port_read s after reg port size (Some value) = sets after reg value
 port_read s after reg port size None = faulted s EXIT_IO (port_qualification size true port) 0
 
-abbrev pub port_written : {X : Type 0} → Bool → SubjectState → SubjectState → ℕ → Size → ℕ → Answer X
+abbrev pub port_written : {X : Type 0} → Bool → SubjectState → SubjectState → ℕ → AccessSize → ℕ → Answer X
 port_written allowed s after port size value =
     if allowed then went_on after (Out size port value) else faulted s EXIT_IO (port_qualification size false port) 0
 

@@ -1,5 +1,5 @@
 //! How steps end.
-use muen_num::Size;
+use muen_num::AccessSize;
 
 /// How a step ended, before the kernel acts.
 #[derive(Clone, Copy, Debug, PartialEq, Eq)]
@@ -13,13 +13,13 @@ pub enum StepEnd {
     },
     /// This value was stored at a guest address.
     Stored {
-        size: Size,
+        size: AccessSize,
         addr: u64,
         value: u64,
     },
     /// This value was written to a port.
     Out {
-        size: Size,
+        size: AccessSize,
         port: u16,
         value: u32,
     },

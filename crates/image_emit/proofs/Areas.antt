@@ -27,7 +27,7 @@ use Rattle.muen_num.proofs.Lists.{map-map}
 use Rattle.muen_num.proofs.NumbersBelow.{length_numbers}
 use Rattle.muen_num.specs.Range.{numbers_below}
 use Rattle.muen_num.specs.declared.limits.TheConstants.{HIGH_MSR_FIRST, HIGH_MSR_LAST, LOW_MSR_LAST, PAGE}
-use Rattle.muen_num.specs.declared.tag.Part.TheVariants.{Msrs as MsrsPart}
+use Rattle.muen_num.specs.declared.tag.TagPart.TheVariants.{Msrs as MsrsPart}
 use Rattle.page_parts.specs.Fields.{padded}
 use Rattle.policy_lawful.specs.Resolution.{Resolution, source_of, subject_named}
 use Rattle.policy_lawful.specs.declared.resolved.Subject.{Subject}

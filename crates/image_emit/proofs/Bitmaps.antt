@@ -19,7 +19,7 @@ use Rattle.msrbm_emit.specs.Msrs.{allows, has_msr, is_granted as is_msr_granted}
 use Rattle.muen_num.proofs.Lists.{list_any-map}
 use Rattle.muen_num.specs.Range.{numbers_below}
 use Rattle.muen_num.specs.declared.limits.TheConstants.{LAST_PORT, PAGE}
-use Rattle.muen_num.specs.declared.tag.Part.TheVariants.{Iobm, Msrbm}
+use Rattle.muen_num.specs.declared.tag.TagPart.TheVariants.{Iobm, Msrbm}
 use Rattle.policy_lawful.specs.Resolution.{Resolution, source_of, subject_named}
 use Rattle.policy_lawful.specs.declared.resolved.Subject.{Subject as PlacedSubject}
 use Rattle.policy_types.specs.declared.resources.PortRange.{PortRange}

@@ -10,13 +10,13 @@ use Rattle.image_pack.specs.Codes.{is_vector, vector_code}
 use Rattle.image_pack.specs.ImageConditions.{AreEvents, IsEvent, IsVector}
 use Rattle.image_pack.specs.declared.parts.EventPart.{EventPart}
 use Rattle.muen_num.specs.declared.limits.TheConstants.{FIRST_VECTOR, LAST_VECTOR}
-use Rattle.muen_num.specs.declared.mode.Mode.{Mode}
+use Rattle.muen_num.specs.declared.mode.EventMode.{EventMode}
 use Rattle.policy_lawful.specs.MoreRules.{offence_15}
 use Rattle.policy_lawful.specs.Resolution.{Resolution, source_of, subject_named}
 use Rattle.policy_lawful.specs.declared.resolved.Subject.{Subject}
 use Rattle.policy_types.specs.declared.source.SourceWay.{SourceWay}
 
-vector_kept : (mode : Mode) (v : Option ℕ) → is_vector mode (vector_code v) ≡ true → is_free_if_any v ≡ true → IsVector mode v
+vector_kept : (mode : EventMode) (v : Option ℕ) → is_vector mode (vector_code v) ≡ true → is_free_if_any v ≡ true → IsVector mode v
 vector_kept mode None h free = h
 vector_kept mode (Some n) h free = leb-true FIRST_VECTOR n (and_parts (nat_le FIRST_VECTOR n) (nat_le n LAST_VECTOR) free).0
 

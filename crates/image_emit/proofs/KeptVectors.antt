@@ -10,7 +10,7 @@ use Rattle.event_emit.proofs.KeptEvents.{is_free}
 use Rattle.expand_grants.proofs.Elements.{all_filter, all_flat, all_some}
 use Rattle.muen_num.proofs.Lists.{each_from}
 use Rattle.muen_num.proofs.SearchLaws.{all_pass}
-use Rattle.muen_num.specs.declared.mode.Mode.{Mode}
+use Rattle.muen_num.specs.declared.mode.EventMode.{EventMode}
 use Rattle.policy_lawful.specs.MoreRules.{are_distinct, are_vectors, has_vector, offence_15, vectors_of}
 use Rattle.policy_lawful.specs.Offences.{alone}
 use Rattle.policy_meaning.specs.Events.{ChannelEnd, Raised, Target, channel_ends, channel_event, channel_targets, event_of, event_targets, named_event, reads_from, same_way, writes_by}
@@ -33,7 +33,7 @@ raised_free x = is_free_if_any x.target.vector
 
 -- ---- the first of a list
 
-first_free : (mode : Mode) (ts : List Target) → list_all under_free ts ≡ true → option_map_or raised_free (option_map (λ t. record { mode = mode; target = t }) (slice_get ts 0)) true ≡ true
+first_free : (mode : EventMode) (ts : List Target) → list_all under_free ts ≡ true → option_map_or raised_free (option_map (λ t. record { mode = mode; target = t }) (slice_get ts 0)) true ≡ true
 first_free mode [] h = refl
 first_free mode (t ∷ ts) h = (and_parts (under_free t) (list_all under_free ts) h).0
 

@@ -19,7 +19,7 @@ use Rattle.machine_meaning.specs.Memory.{page_of}
 use Rattle.muen_num.proofs.Lists.{map-map, there}
 use Rattle.muen_num.specs.declared.limits.TheConstants.{PAGE}
 use Rattle.phys_mem.specs.Spans.{AreSpans, IsSpan, pages_of_spans}
-use Rattle.phys_mem.specs.declared.spans.SpanPartBytes.{SpanPartBytes}
+use Rattle.phys_mem.specs.declared.spans.MemorySpan.{MemorySpan}
 use Rattle.span_emit.specs.Spans.{spans_of}
 
 -- a span has as many bytes at the start as its pages
@@ -31,7 +31,7 @@ pub bytes_long : (s : SpanPart) (bytes : List ℕ) → IsContent s bytes → len
 bytes_long s bytes h = bytes_if (is_device s.kind) s.pages bytes h
 
 module _ (m : Made) (h : IsMade m) where
-  abbrev with_bytes : SpanPart → SpanPartBytes
+  abbrev with_bytes : SpanPart → MemorySpan
   with_bytes s = placed_bytes (s, content_at m s)
 
   long_at : (k : ℕ) (d : SpanPart) → k < length m.spans → length (with_bytes (get_or m.spans k d)).bytes ≡ PAGE * (get_or m.spans k d).pages

@@ -24,7 +24,7 @@ use Rattle.image_pack.specs.SpanConditions.{IsSpan}
 use Rattle.image_pack.specs.declared.parts.SubjectPart.{SubjectPart}
 use Rattle.muen_num.proofs.Lists.{there}
 use Rattle.muen_num.specs.declared.limits.TheConstants.{PAGE}
-use Rattle.muen_num.specs.declared.tag.Part.TheVariants.{Ept}
+use Rattle.muen_num.specs.declared.tag.TagPart.TheVariants.{Ept}
 use Rattle.policy_lawful.specs.declared.resolved.Subject.{Subject}
 use Rattle.span_emit.specs.Spans.{spans_of}
 use Rattle.subject_emit.specs.Mapped.{kernel_first}

@@ -18,7 +18,7 @@ use Rattle.image_emit.proofs.SpansAt.{region_at}
 use Rattle.image_meaning.specs.Memory.{Span, bytes_at, bytes_of}
 use Rattle.image_pack.specs.declared.parts.SpanPart.{SpanPart}
 use Rattle.muen_num.proofs.Lists.{get_right}
-use Rattle.muen_num.specs.declared.tag.Part.{Part}
+use Rattle.muen_num.specs.declared.tag.TagPart.{TagPart}
 use Rattle.page_parts.specs.Fields.{padded}
 use Rattle.policy_lawful.specs.declared.resolved.Subject.{Subject}
 use Rattle.span_emit.specs.Spans.{region_span, spans_of}
@@ -63,22 +63,22 @@ kernel_held m h k c q bytes at e =
 -- ---- of a subject
 
 module _ (m : Made) (h : IsMade m) (k : ℕ) (s : Subject) (g : Grants) (t : EventTables) (q : SubjectPages) (at : IsPlaced m k s g t q) where
-  abbrev pub kernel_span : (c : ℕ) → ℕ → Part → SpanPart
+  abbrev pub kernel_span : (c : ℕ) → ℕ → TagPart → SpanPart
   kernel_span c size part = region_span (kernel_first (policy_of m) k + c, (anywhere Kernel s.name part size, get_or m.placed.places (kernel_first (policy_of m) k + c) 0))
 
   -- the span of this number among those of the kernel for the subject
-  pub kernel_numbered : (c size : ℕ) (part : Part) → slice_get (kernel_regions s.name (ept_pages (mapped_views g.views))) c ≡ Some (anywhere Kernel s.name part size)
+  pub kernel_numbered : (c size : ℕ) (part : TagPart) → slice_get (kernel_regions s.name (ept_pages (mapped_views g.views))) c ≡ Some (anywhere Kernel s.name part size)
       → slice_get (spans_of m.placed) (kernel_first (policy_of m) k + c) ≡ Some (kernel_span c size part)
   kernel_numbered c size part e =
       region_at m h (kernel_first (policy_of m) k + c) (anywhere Kernel s.name part size)
       (kernel_at_place m.placed (sound_of m h) k c s g (anywhere Kernel s.name part size) at.subject at.granted e)
 
   -- has these bytes in the image
-  pub kernel_content : (c size : ℕ) (part : Part) (bytes : List ℕ) → slice_get (kernel_bytes q) c ≡ Some bytes → bytes_of (kernel_span c size part, content_at m (kernel_span c size part)) ≡ bytes
+  pub kernel_content : (c size : ℕ) (part : TagPart) (bytes : List ℕ) → slice_get (kernel_bytes q) c ≡ Some bytes → bytes_of (kernel_span c size part, content_at m (kernel_span c size part)) ≡ bytes
   kernel_content c size part bytes e =
       get_or_from_slice_get (region_bytes m) (kernel_first (policy_of m) k + c) bytes [] (kernel_held m h k c q bytes at.kept e)
 
-  pub kernel_bytes_at : (c size : ℕ) (part : Part) (bytes : List ℕ) → slice_get (kernel_regions s.name (ept_pages (mapped_views g.views))) c ≡ Some (anywhere Kernel s.name part size) → slice_get (kernel_bytes q) c ≡ Some bytes
+  pub kernel_bytes_at : (c size : ℕ) (part : TagPart) (bytes : List ℕ) → slice_get (kernel_regions s.name (ept_pages (mapped_views g.views))) c ≡ Some (anywhere Kernel s.name part size) → slice_get (kernel_bytes q) c ≡ Some bytes
       → bytes_at (image_of m) (kernel_first (policy_of m) k + c) ≡ bytes
   kernel_bytes_at c size part bytes e b =
       ap (λ (o : Option Span). option_map_or bytes_of o []) (span_numbered m h (kernel_first (policy_of m) k + c) (kernel_span c size part) (kernel_numbered c size part e))

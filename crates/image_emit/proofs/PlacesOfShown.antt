@@ -24,7 +24,7 @@ use Rattle.image_pack.specs.declared.parts.SpanPart.{SpanPart}
 use Rattle.machine_meaning.specs.Memory.{is_there, page_of}
 use Rattle.muen_num.proofs.Lists.{get_right}
 use Rattle.muen_num.specs.declared.limits.TheConstants.{GUEST_END, PAGE}
-use Rattle.muen_num.specs.declared.tag.Part.TheVariants.{State as StatePart}
+use Rattle.muen_num.specs.declared.tag.TagPart.TheVariants.{State as StatePart}
 use Rattle.policy_lawful.specs.Rules.{is_guest, is_page_aligned, is_page_size}
 use Rattle.policy_lawful.specs.declared.resolved.Subject.{Subject}
 use Rattle.policy_types.specs.declared.source.Device.{Device as SomeDevice}

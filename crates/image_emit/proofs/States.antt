@@ -7,7 +7,7 @@ use Rattle.image_emit.proofs.PlacesOfKernel.{kernel_bytes_at, padded_length}
 use Rattle.image_meaning.specs.Memory.{bytes_at}
 use Rattle.image_meaning.specs.Sound.{ForEachSubject, IsFresh}
 use Rattle.muen_num.specs.declared.limits.TheConstants.{PAGE}
-use Rattle.muen_num.specs.declared.tag.Part.TheVariants.{State}
+use Rattle.muen_num.specs.declared.tag.TagPart.TheVariants.{State}
 use Rattle.policy_lawful.specs.Resolution.{source_of}
 use Rattle.state_page.specs.StatePage.{page_bytes}
 use Rattle.subject_emit.specs.Mapped.{kernel_first}

@@ -17,7 +17,7 @@ use Rattle.image_meaning.specs.Sound.{ForEachSubject, ReadsTables, is_in_tables,
 use Rattle.image_pack.specs.SpanConditions.{end_of}
 use Rattle.image_pack.specs.declared.parts.SpanPart.{SpanPart}
 use Rattle.muen_num.specs.declared.limits.TheConstants.{PAGE}
-use Rattle.muen_num.specs.declared.tag.Part.TheVariants.{Ept}
+use Rattle.muen_num.specs.declared.tag.TagPart.TheVariants.{Ept}
 use Rattle.policy_lawful.specs.Resolution.{source_of}
 use Rattle.policy_lawful.specs.declared.resolved.Subject.{Subject}
 use Rattle.subject_emit.specs.Pages.{tables_at}

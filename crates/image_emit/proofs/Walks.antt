@@ -22,7 +22,7 @@ use Rattle.image_meaning.specs.Memory.{memory_of}
 use Rattle.image_meaning.specs.Sound.{ForEachSubject, HasWalks, led, place_of}
 use Rattle.machine_meaning.specs.declared.walk.Walk.TheVariants.{At, Violation}
 use Rattle.muen_num.proofs.Lists.{find-map, passes_at}
-use Rattle.muen_num.specs.declared.access.Kind.{Kind}
+use Rattle.muen_num.specs.declared.access.AccessKind.{AccessKind}
 use Rattle.policy_lawful.specs.Resolution.{source_of, subject_named, subject_placed}
 use Rattle.policy_lawful.specs.declared.resolved.Subject.{Subject}
 use Rattle.policy_lawful.proofs.SourceElements.{parts_placed}
@@ -77,14 +77,14 @@ module _ (m : Made) (h : IsMade m) (k : ℕ) (s : Subject) (g : Grants) (at : sl
       ap (find (λ w. holds w addr)) (windows_by_place (policy_of m) s h.resolved placed)
       ∙ find-map (λ w. holds w addr) (view_window (policy_of m) s.name) views
 
-  led_by : (addr : ℕ) (kind : Kind) (o : Option View) → find (on_view addr) views ≡ o
+  led_by : (addr : ℕ) (kind : AccessKind) (o : Option View) → find (on_view addr) views ≡ o
       → translation_in (option_map (mapped m.placed k) o) addr kind ≡ led (place_of (source_of (policy_of m)) (image_of m)) (access_by (option_map (view_window (policy_of m) s.name) o) addr kind)
   led_by addr kind None e = refl
   led_by addr kind (Some v) e =
       by_rights (place_of (source_of (policy_of m)) (image_of m)) (allows v.rights kind) (thing_shown (policy_of m) s.name v v.shows) (shown_place m.placed k v.shows) (addr - v.guest) v.rights
       (place_shown m h k s v at (found_contained (on_view addr) views v e))
 
-  leads : (addr : ℕ) (kind : Kind) → translation (mapped_windows m.placed k g) addr kind ≡ led (place_of (source_of (policy_of m)) (image_of m)) (access_of (windows_of (source_of (policy_of m)) (subject_named (policy_of m) s)) addr kind)
+  leads : (addr : ℕ) (kind : AccessKind) → translation (mapped_windows m.placed k g) addr kind ≡ led (place_of (source_of (policy_of m)) (image_of m)) (access_of (windows_of (source_of (policy_of m)) (subject_named (policy_of m) s)) addr kind)
   leads addr kind =
       ap (λ o. translation_in o addr kind) (mapped_at addr)
       ∙ led_by addr kind (find (on_view addr) views) refl

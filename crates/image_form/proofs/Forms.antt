@@ -7,8 +7,8 @@ use Rattle.std.proofs.lemmas.Bool.{ltb-false, le-ltb, eqb-true}
 use Rattle.std.proofs.lemmas.List.{take_at, drop_at, take-append-drop, length-append, length-replicate, length-take, append-nil, nil_from_length}
 use Rattle.std.proofs.lemmas.Slice.Eq.{bytes_eq-Decides}
 use Rattle.image_form.specs.declared.fault.Field.{Field}
-use Rattle.image_form.specs.declared.fault.Stop.{Stop}
-use Rattle.image_form.specs.declared.fault.Stop.TheVariants.{Short, Bad, Trailing}
+use Rattle.image_form.specs.declared.fault.FormFault.{FormFault}
+use Rattle.image_form.specs.declared.fault.FormFault.TheVariants.{Short, Bad, Trailing}
 use Rattle.image_form.specs.Form.{IsBytes, ◌>>=◌, Form, left_of, IsSettled, extended, longer, only, field, tag, tag_at, gap, gap_at, absent, present, spelled_there, fits_there, either, done, items, items_at, spells, all_fit, each, each_at, each_spelled, each_fit, whole}
 use Rattle.image_form.proofs.Leaves.{IsBytes-drop, bind_ok, test_ok, tests_ok, else_ok, bind_err, test_err, tests_err, else_err, err_is, ok_not_err, Takes-shorter, ok_is, Takes, Takes-then, Laws, bind_stays, field_stays, number_laws, byte_laws, bytes_laws, coded_laws, wide16, wide32, wide64}
 
@@ -31,7 +31,7 @@ chosen_stays : {X : Type 0} (g : X → X) (n left left' : ℕ) (name : Field) (b
 chosen_stays g n left left' title true c x e same = rw same refl
 chosen_stays g n left left' title false c x e same = rw (same, e) refl
 
-tested_stays : {X : Type 0} (g : X → X) (n left left' : ℕ) (name : Field) (test : X → Bool) (r q : Result X Stop) → left' ≡ left + n → ((x : X) → test (g x) ≡ test x) → (IsSettled r → q ≡ extended g n r)
+tested_stays : {X : Type 0} (g : X → X) (n left left' : ℕ) (name : Field) (test : X → Bool) (r q : Result X FormFault) → left' ≡ left + n → ((x : X) → test (g x) ≡ test x) → (IsSettled r → q ≡ extended g n r)
     → IsSettled (r >>= λ x. cond (test x) (Ok x) (Err (Bad left name))) → (q >>= λ x. cond (test x) (Ok x) (Err (Bad left' name))) ≡ extended g n (r >>= λ x. cond (test x) (Ok x) (Err (Bad left name)))
 tested_stays g n left left' title test (Ok x) q e same h settled =
     ap (λ t. t >>= λ x. cond (test x) (Ok x) (Err (Bad left' title))) (h tt) ∙ chosen_stays g n left left' title (test x) (test (g x)) x e (same x)
@@ -39,7 +39,7 @@ tested_stays g n left left' title test (Err (Short l)) q e same h settled = absu
 tested_stays g n left left' title test (Err (Bad l m)) q e same h settled = ap (λ t. t >>= λ x. cond (test x) (Ok x) (Err (Bad left' title))) (h tt)
 tested_stays g n left left' title test (Err (Trailing l)) q e same h settled = ap (λ t. t >>= λ x. cond (test x) (Ok x) (Err (Bad left' title))) (h tt)
 
-only_within : {A : Type 0} (test : A → Bool) (name : Field) (f : Form A) → Laws f → (bytes : List ℕ) (s : Stop) → IsBytes bytes → (only test name f).read bytes ≡ Err s → left_of s ≤ length bytes
+only_within : {A : Type 0} (test : A → Bool) (name : Field) (f : Form A) → Laws f → (bytes : List ℕ) (s : FormFault) → IsBytes bytes → (only test name f).read bytes ≡ Err s → left_of s ≤ length bytes
 unfolding only
 only_within test name f laws bytes s fits e =
     elim (bind_err (f.read bytes) (λ y. cond (test y.0) (Ok y) (Err (Bad (length bytes) name))) s e) [
@@ -109,7 +109,7 @@ field_again get f more first others s rest fits =
     ∙ (others (get s)).again s rest fits.1
 
 field_within : {S A : Type 0} (get : S → A) (f : Form A) (more : A → Form S) → Laws f → ((x : A) → Laws (more x))
-    → (bytes : List ℕ) (s : Stop) → IsBytes bytes → (field get f more).read bytes ≡ Err s → left_of s ≤ length bytes
+    → (bytes : List ℕ) (s : FormFault) → IsBytes bytes → (field get f more).read bytes ≡ Err s → left_of s ≤ length bytes
 unfolding field
 field_within get f more first others bytes s fits e =
     elim (bind_err (f.read bytes) (λ x. (more x.0).read x.1) s e) [
@@ -151,7 +151,7 @@ tag_again wanted _ rest =
     let same : bytes_eq wanted wanted ≡ true = (bytes_eq-Decides wanted wanted).1 refl in
     rw (long, take_at wanted rest (length wanted) refl, drop_at wanted rest (length wanted) refl, same) refl
 
-tag_within : (wanted : List ℕ) (name : Field) (bytes : List ℕ) (s : Stop) → tag_at wanted name bytes ≡ Err s → left_of s ≤ length bytes
+tag_within : (wanted : List ℕ) (name : Field) (bytes : List ℕ) (s : FormFault) → tag_at wanted name bytes ≡ Err s → left_of s ≤ length bytes
 unfolding tag_at
 tag_within wanted name bytes s e =
     elim (tests_err (ltb (length bytes) (length wanted)) (bytes_eq (take (length wanted) bytes) wanted) (Short (length bytes)) (Bad (length bytes) name) (drop (length wanted) bytes) s e) [
@@ -221,7 +221,7 @@ gap_again n _ rest =
     let long : ltb (length (replicate n 0 ++ rest)) n ≡ false = le-ltb _ _ (omega (arith, length-append (replicate n 0) rest, length-replicate {A = ℕ} n 0)) in
     rw (long, take_at (replicate n 0) rest n (length-replicate {A = ℕ} n 0), drop_at (replicate n 0) rest n (length-replicate {A = ℕ} n 0), are_zeros n) refl
 
-gap_within : (n : ℕ) (name : Field) (bytes : List ℕ) (s : Stop) → gap_at n name bytes ≡ Err s → left_of s ≤ length bytes
+gap_within : (n : ℕ) (name : Field) (bytes : List ℕ) (s : FormFault) → gap_at n name bytes ≡ Err s → left_of s ≤ length bytes
 unfolding gap_at
 gap_within n name bytes s e =
     elim (tests_err (ltb (length bytes) n) (list_all (λ b. eqb b 0) (take n bytes)) (Short (length bytes)) (Bad (length bytes) name) (drop n bytes) s e) [
@@ -293,7 +293,7 @@ absent_laws {A} n name = record {
       bind_stays (λ r. r ++ more) (longer more) (length more) (gap_at n name bytes) (gap_at n name (bytes ++ more)) (λ r. Ok (none, r)) (gap_stays n name bytes more) (λ x h. refl) settled;
 }
 
-abbrev with_value : {A : Type 0} → A × List ℕ → Result (Option A × List ℕ) Stop
+abbrev with_value : {A : Type 0} → A × List ℕ → Result (Option A × List ℕ) FormFault
 with_value x = Ok (Some x.0, x.1)
 
 present_again : {A : Type 0} (f : Form A) → Laws f → (o : Option A) (rest : List ℕ) → fits_there f o → (f.read (spelled_there f o ++ rest) >>= with_value) ≡ Ok (o, rest)
@@ -351,9 +351,9 @@ items_again next form laws c [] rest fits = refl
 items_again {A} next form laws c (x ∷ xs) rest fits =
     ap (λ t. (form c).read t >>= λ x. items_at next (λ d. (form d).read) (next c x.0) (length xs) x.1 >>= λ ys. Ok (x.0 ∷ ys.0, ys.1)) (append_assoc ((form c).spell x) (spells next (λ d. (form d).spell) (next c x) xs) rest)
     ∙ ap (λ r. r >>= λ x. items_at next (λ d. (form d).read) (next c x.0) (length xs) x.1 >>= λ ys. Ok (x.0 ∷ ys.0, ys.1)) ((laws c).again x (spells next (λ d. (form d).spell) (next c x) xs ++ rest) fits.0)
-    ∙ ap (λ (r : Result (List A × List ℕ) Stop). r >>= λ ys. Ok (x ∷ ys.0, ys.1)) (items_again next form laws (next c x) xs rest fits.1)
+    ∙ ap (λ (r : Result (List A × List ℕ) FormFault). r >>= λ ys. Ok (x ∷ ys.0, ys.1)) (items_again next form laws (next c x) xs rest fits.1)
 
-items_within : {A C : Type 0} (next : C → A → C) (form : C → Form A) → ((c : C) → Laws (form c)) → (c : C) (n : ℕ) (bytes : List ℕ) (s : Stop) → IsBytes bytes
+items_within : {A C : Type 0} (next : C → A → C) (form : C → Form A) → ((c : C) → Laws (form c)) → (c : C) (n : ℕ) (bytes : List ℕ) (s : FormFault) → IsBytes bytes
     → items_at next (λ d. (form d).read) c n bytes ≡ Err s → left_of s ≤ length bytes
 unfolding items_at
 items_within {A} next form laws c zero bytes s fits e = let none : List A = [] in absurd (ok_not_err (none, bytes) s e)
@@ -420,9 +420,9 @@ each_again form laws (r ∷ rs) [] rest fits = absurd fits
 each_again {A = A} form laws (r ∷ rs) (x ∷ xs) rest fits =
     ap (λ t. (form r).read t >>= λ x. each_at (λ r. (form r).read) rs x.1 >>= λ ys. Ok (x.0 ∷ ys.0, ys.1)) (append_assoc ((form r).spell x) (each_spelled (λ r. (form r).spell) rs xs) rest)
     ∙ ap (λ q. q >>= λ x. each_at (λ r. (form r).read) rs x.1 >>= λ ys. Ok (x.0 ∷ ys.0, ys.1)) ((laws r).again x (each_spelled (λ r. (form r).spell) rs xs ++ rest) fits.0)
-    ∙ ap (λ (q : Result (List A × List ℕ) Stop). q >>= λ ys. Ok (x ∷ ys.0, ys.1)) (each_again form laws rs xs rest fits.1)
+    ∙ ap (λ (q : Result (List A × List ℕ) FormFault). q >>= λ ys. Ok (x ∷ ys.0, ys.1)) (each_again form laws rs xs rest fits.1)
 
-each_within : {R A : Type 0} (form : R → Form A) → ((r : R) → Laws (form r)) → (rs : List R) (bytes : List ℕ) (s : Stop) → IsBytes bytes
+each_within : {R A : Type 0} (form : R → Form A) → ((r : R) → Laws (form r)) → (rs : List R) (bytes : List ℕ) (s : FormFault) → IsBytes bytes
     → each_at (λ r. (form r).read) rs bytes ≡ Err s → left_of s ≤ length bytes
 unfolding each_at
 each_within {A = A} form laws [] bytes s fits e = let none : List A = [] in absurd (ok_not_err (none, bytes) s e)
@@ -470,7 +470,7 @@ whole_again f laws x fits =
 
 pub ruleset laws = (field_laws, tag_laws, gap_laws, done_laws, only_laws, absent_laws, present_laws, either_laws, number_laws, byte_laws, bytes_laws, coded_laws, wide16, wide32, wide64, knows_done, knows_field, knows_tag, knows_gap, knows_either, knows_items, knows_count)
 
-pub whole_within : {A : Type 0} (f : Form A) → Laws f → (bytes : List ℕ) (s : Stop) → IsBytes bytes → whole f bytes ≡ Err s → left_of s ≤ length bytes
+pub whole_within : {A : Type 0} (f : Form A) → Laws f → (bytes : List ℕ) (s : FormFault) → IsBytes bytes → whole f bytes ≡ Err s → left_of s ≤ length bytes
 unfolding whole
 whole_within f laws bytes s fits e =
     elim (bind_err (f.read bytes) (λ y. cond (eqb (length y.1) 0) (Ok y.0) (Err (Trailing (length y.1)))) s e) [
@@ -482,7 +482,7 @@ whole_within f laws bytes s fits e =
 
 -- ---- the first fault
 
-abbrev ending : {A : Type 0} → A × List ℕ → Result A Stop
+abbrev ending : {A : Type 0} → A × List ℕ → Result A FormFault
 ending x = cond (eqb (length x.1) 0) (Ok x.0) (Err (Trailing (length x.1)))
 
 ending_not_bad : {A : Type 0} (b : Bool) (x : A) (l left : ℕ) (name : Field) → cond b (Ok x) (Err (Trailing l)) ≡ Err (Bad left name) → ⊥
@@ -493,7 +493,7 @@ ending_not_short : {A : Type 0} (b : Bool) (x : A) (l left : ℕ) → cond b (Ok
 ending_not_short true x l left e = absurd cc
 ending_not_short false x l left e = absurd cc
 
-bad_stays : {A : Type 0} (n : ℕ) (g : A × List ℕ → A × List ℕ) (r q : Result (A × List ℕ) Stop) (left : ℕ) (name : Field) → (IsSettled r → q ≡ extended g n r) → (r >>= ending) ≡ Err (Bad left name) → (q >>= ending) ≡ Err (Bad (left + n) name)
+bad_stays : {A : Type 0} (n : ℕ) (g : A × List ℕ → A × List ℕ) (r q : Result (A × List ℕ) FormFault) (left : ℕ) (name : Field) → (IsSettled r → q ≡ extended g n r) → (r >>= ending) ≡ Err (Bad left name) → (q >>= ending) ≡ Err (Bad (left + n) name)
 bad_stays n g (Ok x) q left title h e = absurd (ending_not_bad (eqb (length x.1) 0) x.0 (length x.1) left title e)
 bad_stays n g (Err (Short l)) q left title h e = absurd cc
 bad_stays n g (Err (Bad l m)) q left title h e = ap (λ t. t >>= ending) (h tt) ∙ cc
@@ -505,10 +505,10 @@ unfolding whole
 whole_stays f laws bytes more left title e = bad_stays (length more) (longer more) (f.read bytes) (f.read (bytes ++ more)) left title (laws.stays bytes more) e
 
 -- what is only short with more behind is only short
-abbrev pub IsShort : {A : Type 0} → Result A Stop → Type 0
+abbrev pub IsShort : {A : Type 0} → Result A FormFault → Type 0
 IsShort r = (left : ℕ) × (r ≡ Err (Short left))
 
-front_short : {A : Type 0} (n : ℕ) (g : A × List ℕ → A × List ℕ) (r q : Result (A × List ℕ) Stop) (left : ℕ) → (IsSettled r → q ≡ extended g n r) → (q >>= ending) ≡ Err (Short left) → IsShort (r >>= ending)
+front_short : {A : Type 0} (n : ℕ) (g : A × List ℕ → A × List ℕ) (r q : Result (A × List ℕ) FormFault) (left : ℕ) → (IsSettled r → q ≡ extended g n r) → (q >>= ending) ≡ Err (Short left) → IsShort (r >>= ending)
 front_short n g (Ok x) q left h e = absurd (ending_not_short (eqb (length (g x).1) 0) (g x).0 (length (g x).1) left (sym (ap (λ t. t >>= ending) (h tt)) ∙ e))
 front_short n g (Err (Short l)) q left h e = (l, refl)
 front_short {A = A} n g (Err (Bad l m)) q left h e = let d : (q >>= ending) ≡ Err (Bad (l + n) m) = ap (λ t. t >>= ending) (h tt) in absurd cc
@@ -518,7 +518,7 @@ pub whole_short : {A : Type 0} (f : Form A) → Laws f → (bytes more : List �
 unfolding whole
 whole_short f laws bytes more left e = front_short (length more) (longer more) (f.read bytes) (f.read (bytes ++ more)) left (laws.stays bytes more) e
 
-front_bad : {A : Type 0} (n : ℕ) (g : A × List ℕ → A × List ℕ) (r q : Result (A × List ℕ) Stop) (left : ℕ) (name : Field) → left < n → (IsSettled r → q ≡ extended g n r) → (q >>= ending) ≡ Err (Bad left name) → IsShort (r >>= ending)
+front_bad : {A : Type 0} (n : ℕ) (g : A × List ℕ → A × List ℕ) (r q : Result (A × List ℕ) FormFault) (left : ℕ) (name : Field) → left < n → (IsSettled r → q ≡ extended g n r) → (q >>= ending) ≡ Err (Bad left name) → IsShort (r >>= ending)
 front_bad n g (Ok x) q left title lt h e = absurd (ending_not_bad (eqb (length (g x).1) 0) (g x).0 (length (g x).1) left title (sym (ap (λ t. t >>= ending) (h tt)) ∙ e))
 front_bad n g (Err (Short l)) q left title lt h e = (l, refl)
 front_bad {A = A} n g (Err (Bad l m)) q left title lt h e =

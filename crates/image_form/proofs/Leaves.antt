@@ -5,8 +5,8 @@ use Rattle.std.proofs.lemmas.Bool.{cases_lt, ltb-false, le-ltb, lt-ltb}
 use Rattle.std.proofs.lemmas.List.{take-append-le, drop-append-le, take_at, drop_at, take-append-drop, length-append, length-take, get_or-drop, get_or-take, get_or_past}
 use Rattle.std.proofs.lemmas.Nat.{le_bytes_2, le_bytes_4, le_bytes_8, from_le_bytes-to_le_bytes_2, from_le_bytes-to_le_bytes_4, from_le_bytes-to_le_bytes_8}
 use Rattle.image_form.specs.declared.fault.Field.{Field}
-use Rattle.image_form.specs.declared.fault.Stop.{Stop}
-use Rattle.image_form.specs.declared.fault.Stop.TheVariants.{Short, Bad, Trailing}
+use Rattle.image_form.specs.declared.fault.FormFault.{FormFault}
+use Rattle.image_form.specs.declared.fault.FormFault.TheVariants.{Short, Bad, Trailing}
 use Rattle.image_form.specs.Form.{IsBytes, ◌>>=◌, Form, left_of, IsSettled, extended, longer, number, number_at, byte, byte_at, bytes_of, bytes_at, coded, coded_at, coded_in}
 
 pub IsBytes-drop : (n : ℕ) (bytes : List ℕ) → IsBytes bytes → IsBytes (drop n bytes)
@@ -19,58 +19,58 @@ IsBytes-take n bytes h i =
       | inr le ↦ rw (get_or_past (take n bytes) i 0 (omega (arith, length-take n bytes))) (omega arith)
     ]
 
-abbrev stops : {A : Type 0} → A → Result A Stop
+abbrev stops : {A : Type 0} → A → Result A FormFault
 stops x = Ok x
 
-abbrev failed : {A : Type 0} → Stop → Result A Stop
+abbrev failed : {A : Type 0} → FormFault → Result A FormFault
 failed s = Err s
 
-pub err_is : {A : Type 0} (d s : Stop) → failed {A = A} d ≡ failed {A = A} s → d ≡ s
+pub err_is : {A : Type 0} (d s : FormFault) → failed {A = A} d ≡ failed {A = A} s → d ≡ s
 err_is d s e = cc
 
 -- the value of a step that did not fail
-pub bind_ok : {A B : Type 0} (r : Result A Stop) (f : A → Result B Stop) (y : B) → (r >>= f) ≡ Ok y → (x : A) × (r ≡ Ok x) × (f x ≡ Ok y)
+pub bind_ok : {A B : Type 0} (r : Result A FormFault) (f : A → Result B FormFault) (y : B) → (r >>= f) ≡ Ok y → (x : A) × (r ≡ Ok x) × (f x ≡ Ok y)
 bind_ok (Ok x) f y e = (x, refl, e)
 bind_ok (Err d) f y e = absurd cc
 
 -- a test that did not fail
-pub guard_ok : {A : Type 0} (b : Bool) (d : Stop) (x y : A) → cond b (Err d) (Ok x) ≡ Ok y → (b ≡ false) × (x ≡ y)
+pub guard_ok : {A : Type 0} (b : Bool) (d : FormFault) (x y : A) → cond b (Err d) (Ok x) ≡ Ok y → (b ≡ false) × (x ≡ y)
 guard_ok true d x y e = absurd cc
 guard_ok false d x y e = (refl, cc)
 
-pub test_ok : {A : Type 0} (b : Bool) (d : Stop) (x y : A) → cond b (Ok x) (Err d) ≡ Ok y → (b ≡ true) × (x ≡ y)
+pub test_ok : {A : Type 0} (b : Bool) (d : FormFault) (x y : A) → cond b (Ok x) (Err d) ≡ Ok y → (b ≡ true) × (x ≡ y)
 test_ok true d x y e = (refl, cc)
 test_ok false d x y e = absurd cc
 
-pub else_ok : {A : Type 0} (b : Bool) (d : Stop) (r : Result A Stop) (y : A) → cond b (Err d) r ≡ Ok y → (b ≡ false) × (r ≡ Ok y)
+pub else_ok : {A : Type 0} (b : Bool) (d : FormFault) (r : Result A FormFault) (y : A) → cond b (Err d) r ≡ Ok y → (b ≡ false) × (r ≡ Ok y)
 else_ok true d r y e = absurd cc
 else_ok false d r y e = (refl, e)
 
-pub bind_err : {A B : Type 0} (r : Result A Stop) (f : A → Result B Stop) (s : Stop) → (r >>= f) ≡ Err s → (r ≡ Err s) ⊎ ((x : A) × (r ≡ Ok x) × (f x ≡ Err s))
+pub bind_err : {A B : Type 0} (r : Result A FormFault) (f : A → Result B FormFault) (s : FormFault) → (r >>= f) ≡ Err s → (r ≡ Err s) ⊎ ((x : A) × (r ≡ Ok x) × (f x ≡ Err s))
 bind_err (Ok x) f s e = inr (x, refl, e)
 bind_err (Err d) f s e = inl (ap (λ x. Err x) (err_is d s e))
 
-pub guard_err : {A : Type 0} (b : Bool) (d : Stop) (x : A) (s : Stop) → cond b (Err d) (Ok x) ≡ Err s → d ≡ s
+pub guard_err : {A : Type 0} (b : Bool) (d : FormFault) (x : A) (s : FormFault) → cond b (Err d) (Ok x) ≡ Err s → d ≡ s
 guard_err true d x s e = err_is d s e
 guard_err false d x s e = absurd cc
 
-pub test_err : {A : Type 0} (b : Bool) (d : Stop) (x : A) (s : Stop) → cond b (Ok x) (Err d) ≡ Err s → d ≡ s
+pub test_err : {A : Type 0} (b : Bool) (d : FormFault) (x : A) (s : FormFault) → cond b (Ok x) (Err d) ≡ Err s → d ≡ s
 test_err true d x s e = absurd cc
 test_err false d x s e = err_is d s e
 
-pub tests_err : {A : Type 0} (b t : Bool) (d e : Stop) (x : A) (s : Stop) → cond b (Err d) (cond t (Ok x) (Err e)) ≡ Err s → (d ≡ s) ⊎ (e ≡ s)
+pub tests_err : {A : Type 0} (b t : Bool) (d e : FormFault) (x : A) (s : FormFault) → cond b (Err d) (cond t (Ok x) (Err e)) ≡ Err s → (d ≡ s) ⊎ (e ≡ s)
 tests_err true t d e x s h = inl (err_is d s h)
 tests_err false t d e x s h = inr (test_err t e x s h)
 
-pub else_err : {A : Type 0} (b : Bool) (d : Stop) (r : Result A Stop) (s : Stop) → cond b (Err d) r ≡ Err s → (d ≡ s) ⊎ (r ≡ Err s)
+pub else_err : {A : Type 0} (b : Bool) (d : FormFault) (r : Result A FormFault) (s : FormFault) → cond b (Err d) r ≡ Err s → (d ≡ s) ⊎ (r ≡ Err s)
 else_err {A} true d r s e = inl (err_is {A = A} d s e)
 else_err false d r s e = inr e
 
-pub ok_not_err : {A : Type 0} (x : A) (s : Stop) → stops x ≡ failed s → ⊥
+pub ok_not_err : {A : Type 0} (x : A) (s : FormFault) → stops x ≡ failed s → ⊥
 ok_not_err x s e = absurd cc
 
 -- two tests, one after the other
-pub tests_ok : {A : Type 0} (b t : Bool) (d e : Stop) (x y : A) → cond b (Err d) (cond t (Ok x) (Err e)) ≡ Ok y → (b ≡ false) × (t ≡ true) × (x ≡ y)
+pub tests_ok : {A : Type 0} (b t : Bool) (d e : FormFault) (x y : A) → cond b (Err d) (cond t (Ok x) (Err e)) ≡ Ok y → (b ≡ false) × (t ≡ true) × (x ≡ y)
 tests_ok true t d e x y h = absurd cc
 tests_ok false true d e x y h = (refl, refl, cc)
 tests_ok false false d e x y h = absurd cc
@@ -96,10 +96,10 @@ Takes-then a x b y c p q = record { parts = p.parts ∙ ap (λ (t : List ℕ). x
 pub record Laws {A : Type 0} (f : Form A) : Type 0 where
   pub takes : (bytes : List ℕ) (x : A) (rest : List ℕ) → IsBytes bytes → f.read bytes ≡ Ok (x, rest) → Takes bytes (f.spell x) rest × f.fits x
   pub again : (x : A) (rest : List ℕ) → f.fits x → f.read (f.spell x ++ rest) ≡ Ok (x, rest)
-  pub within : (bytes : List ℕ) (s : Stop) → IsBytes bytes → f.read bytes ≡ Err s → left_of s ≤ length bytes
+  pub within : (bytes : List ℕ) (s : FormFault) → IsBytes bytes → f.read bytes ≡ Err s → left_of s ≤ length bytes
   pub stays : (bytes more : List ℕ) → IsSettled (f.read bytes) → f.read (bytes ++ more) ≡ extended (longer more) (length more) (f.read bytes)
 
-pub bind_stays : {X Y : Type 0} (gx : X → X) (gy : Y → Y) (n : ℕ) (r q : Result X Stop) (k : X → Result Y Stop) → (IsSettled r → q ≡ extended gx n r) → ((x : X) → IsSettled (k x) → k (gx x) ≡ extended gy n (k x))
+pub bind_stays : {X Y : Type 0} (gx : X → X) (gy : Y → Y) (n : ℕ) (r q : Result X FormFault) (k : X → Result Y FormFault) → (IsSettled r → q ≡ extended gx n r) → ((x : X) → IsSettled (k x) → k (gx x) ≡ extended gy n (k x))
     → IsSettled (r >>= k) → (q >>= k) ≡ extended gy n (r >>= k)
 bind_stays gx gy n (Ok x) q k h then h' = ap (λ t. t >>= k) (h tt) ∙ then x h'
 bind_stays gx gy n (Err (Short left)) q k h then h' = absurd h'
@@ -107,7 +107,7 @@ bind_stays gx gy n (Err (Bad left title)) q k h then h' = ap (λ t. t >>= k) (h 
 bind_stays gx gy n (Err (Trailing left)) q k h then h' = ap (λ t. t >>= k) (h tt)
 
 -- a field of n bytes, and what it gives
-pub field_stays : {X : Type 0} (g : X → X) (n : ℕ) (k : ℕ → List ℕ → List ℕ → Result X Stop) (bytes more : List ℕ)
+pub field_stays : {X : Type 0} (g : X → X) (n : ℕ) (k : ℕ → List ℕ → List ℕ → Result X FormFault) (bytes more : List ℕ)
     → ((front rest : List ℕ) → k (length bytes + length more) front (rest ++ more) ≡ extended g (length more) (k (length bytes) front rest))
     → IsSettled (cond (ltb (length bytes) n) (Err (Short (length bytes))) (k (length bytes) (take n bytes) (drop n bytes)))
     → cond (ltb (length (bytes ++ more)) n) (Err (Short (length (bytes ++ more)))) (k (length (bytes ++ more)) (take n (bytes ++ more)) (drop n (bytes ++ more)))
@@ -170,7 +170,7 @@ number_again w wide n rest lt =
     let long : ltb (length (to_le_bytes w n ++ rest)) (byte_len w) ≡ false = le-ltb _ _ (omega (arith, length-append (to_le_bytes w n) rest)) in
     rw (long, take_at (to_le_bytes w n) rest (byte_len w) len, drop_at (to_le_bytes w n) rest (byte_len w) len, wide.again n lt) refl
 
-number_within : (w : Width) (bytes : List ℕ) (s : Stop) → IsBytes bytes → number_at w bytes ≡ Err s → left_of s ≤ length bytes
+number_within : (w : Width) (bytes : List ℕ) (s : FormFault) → IsBytes bytes → number_at w bytes ≡ Err s → left_of s ≤ length bytes
 unfolding number_at
 number_within w bytes s fits e =
     rw (← guard_err (ltb (length bytes) (byte_len w)) (Short (length bytes)) (from_le_bytes w (take (byte_len w) bytes), drop (byte_len w) bytes) s e) (omega arith)
@@ -193,7 +193,7 @@ byte_again : (b : ℕ) (rest : List ℕ) → b < 256 → byte_at ((b ∷ []) ++ 
 unfolding byte_at
 byte_again b rest lt = refl
 
-byte_within : (bytes : List ℕ) (s : Stop) → IsBytes bytes → byte_at bytes ≡ Err s → left_of s ≤ length bytes
+byte_within : (bytes : List ℕ) (s : FormFault) → IsBytes bytes → byte_at bytes ≡ Err s → left_of s ≤ length bytes
 unfolding byte_at
 byte_within [] s fits e = rw (← err_is (Short 0) s e) (omega arith)
 byte_within (x ∷ xs) s fits e = absurd cc
@@ -220,7 +220,7 @@ bytes_again n t rest len =
     let long : ltb (length (t ++ rest)) n ≡ false = le-ltb _ _ (omega (arith, length-append t rest)) in
     rw (long, take_at t rest n len, drop_at t rest n len) refl
 
-bytes_within : (n : ℕ) (bytes : List ℕ) (s : Stop) → IsBytes bytes → bytes_at n bytes ≡ Err s → left_of s ≤ length bytes
+bytes_within : (n : ℕ) (bytes : List ℕ) (s : FormFault) → IsBytes bytes → bytes_at n bytes ≡ Err s → left_of s ≤ length bytes
 unfolding bytes_at
 bytes_within n bytes s fits e = rw (← guard_err (ltb (length bytes) n) (Short (length bytes)) (take n bytes, drop n bytes) s e) (omega arith)
 
@@ -265,11 +265,11 @@ coded_again n decode encode _ code x rest fits =
     let long : ltb (length (encode x ++ rest)) n ≡ false = le-ltb _ _ (omega (arith, length-append (encode x) rest)) in
     rw (long, take_at (encode x) rest n size, drop_at (encode x) rest n size, fits) refl
 
-coded_err : {A : Type 0} (name : Field) (left : ℕ) (behind : List ℕ) (o : Option A) (s : Stop) → coded_in name left behind o ≡ Err s → left_of s ≡ left
+coded_err : {A : Type 0} (name : Field) (left : ℕ) (behind : List ℕ) (o : Option A) (s : FormFault) → coded_in name left behind o ≡ Err s → left_of s ≡ left
 coded_err {A} title left behind None s e = ap left_of (sym (err_is {A = A × List ℕ} (Bad left title) s e))
 coded_err title left behind (Some y) s e = absurd (ok_not_err (y, behind) s e)
 
-coded_within : {A : Type 0} (n : ℕ) (decode : List ℕ → Option A) (name : Field) (bytes : List ℕ) (s : Stop) → coded_at n decode name bytes ≡ Err s → left_of s ≤ length bytes
+coded_within : {A : Type 0} (n : ℕ) (decode : List ℕ → Option A) (name : Field) (bytes : List ℕ) (s : FormFault) → coded_at n decode name bytes ≡ Err s → left_of s ≤ length bytes
 unfolding coded_at
 coded_within n decode name bytes s e =
     elim (else_err (ltb (length bytes) n) (Short (length bytes)) (coded_in name (length bytes) (drop n bytes) (decode (take n bytes))) s e) [

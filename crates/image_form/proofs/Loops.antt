@@ -1,24 +1,24 @@
 -- Reading items one after the other, as a loop does.
 use Rattle.std.proofs.Common.{◌≡◌, ℕ, suc, ◌-◌, ◌+◌, ◌≤◌, ◌<◌, List, [], ◌∷◌, ◌++◌, Result, Ok, Err, refl, sym, ap, ◌∙◌, append_assoc, length, drop, get_or, drop-cons, add-one, arith}
 use Rattle.std.proofs.lemmas.List.{append-nil, drop_all}
-use Rattle.image_form.specs.declared.fault.Stop.{Stop}
-use Rattle.image_form.specs.declared.fault.Halt.{Halt}
-use Rattle.image_form.specs.declared.fault.Halt.TheVariants.{NoMemory, At}
+use Rattle.image_form.specs.declared.fault.FormFault.{FormFault}
+use Rattle.image_form.specs.declared.fault.FormError.{FormError}
+use Rattle.image_form.specs.declared.fault.FormError.TheVariants.{NoMemory, At}
 use Rattle.image_form.specs.Form.{◌>>=◌, Fails, items_at, each_at, each_spelled, each_fit}
 
 -- what was read before, and what is still read
-abbrev pub with_front : {A : Type 0} → List A → Result (List A × List ℕ) Stop → Result (List A × List ℕ) Stop
+abbrev pub with_front : {A : Type 0} → List A → Result (List A × List ℕ) FormFault → Result (List A × List ℕ) FormFault
 with_front front read = read >>= λ x. Ok (front ++ x.0, x.1)
 
-pub regroup : {A : Type 0} (front : List A) (x : A) (read : Result (List A × List ℕ) Stop) → with_front front (read >>= λ y. Ok (x ∷ y.0, y.1)) ≡ with_front (front ++ x ∷ []) read
+pub regroup : {A : Type 0} (front : List A) (x : A) (read : Result (List A × List ℕ) FormFault) → with_front front (read >>= λ y. Ok (x ∷ y.0, y.1)) ≡ with_front (front ++ x ∷ []) read
 regroup {A} front x (Ok y) = ap (λ (ys : List A). Ok (ys, y.1)) (simp append_assoc)
 regroup front x (Err f) = refl
 
-pub starts : {A : Type 0} (read : Result (List A × List ℕ) Stop) → with_front [] read ≡ read
+pub starts : {A : Type 0} (read : Result (List A × List ℕ) FormFault) → with_front [] read ≡ read
 starts (Ok y) = refl
 starts (Err f) = refl
 
-pub goes_on : {A C : Type 0} (next : C → A → C) (read : C → List ℕ → Result (A × List ℕ) Stop) (front : List A) (c d : C) (count i : ℕ) (bytes : List ℕ) (x : A) (after : List ℕ) (total : Result (List A × List ℕ) Stop)
+pub goes_on : {A C : Type 0} (next : C → A → C) (read : C → List ℕ → Result (A × List ℕ) FormFault) (front : List A) (c d : C) (count i : ℕ) (bytes : List ℕ) (x : A) (after : List ℕ) (total : Result (List A × List ℕ) FormFault)
     → i < count → read c bytes ≡ Ok (x, after) → d ≡ next c x
     → with_front front (items_at next read c (count - i) bytes) ≡ total → with_front (front ++ x ∷ []) (items_at next read d (count - (i + 1)) after) ≡ total
 unfolding items_at
@@ -27,7 +27,7 @@ goes_on next read front c d count i bytes x after total lt h e so_far =
     let one : with_front front (items_at next read c (count - i) bytes) ≡ with_front (front ++ x ∷ []) (items_at next read (next c x) (count - (i + 1)) after) = rw (k, h) (regroup front x (items_at next read (next c x) (count - (i + 1)) after)) in
     rw e (sym one ∙ so_far)
 
-pub ends : {A C : Type 0} (next : C → A → C) (read : C → List ℕ → Result (A × List ℕ) Stop) (e : Halt) (front : List A) (c : C) (count i : ℕ) (bytes : List ℕ) (total : Result (List A × List ℕ) Stop)
+pub ends : {A C : Type 0} (next : C → A → C) (read : C → List ℕ → Result (A × List ℕ) FormFault) (e : FormError) (front : List A) (c : C) (count i : ℕ) (bytes : List ℕ) (total : Result (List A × List ℕ) FormFault)
     → i < count → Fails e (read c bytes) → with_front front (items_at next read c (count - i) bytes) ≡ total → Fails e total
 unfolding items_at
 ends next read NoMemory front c count i bytes total lt h so_far = tt
@@ -36,7 +36,7 @@ ends next read (At f) front c count i bytes total lt h so_far =
     let one : with_front front (items_at next read c (count - i) bytes) ≡ Err f = rw (k, h) refl in
     sym so_far ∙ one
 
-pub is_done : {A C : Type 0} (next : C → A → C) (read : C → List ℕ → Result (A × List ℕ) Stop) (front : List A) (c : C) (count i : ℕ) (bytes : List ℕ) (total : Result (List A × List ℕ) Stop)
+pub is_done : {A C : Type 0} (next : C → A → C) (read : C → List ℕ → Result (A × List ℕ) FormFault) (front : List A) (c : C) (count i : ℕ) (bytes : List ℕ) (total : Result (List A × List ℕ) FormFault)
     → count ≤ i → with_front front (items_at next read c (count - i) bytes) ≡ total → total ≡ Ok (front, bytes)
 unfolding items_at
 is_done {A} next read front c count i bytes total le so_far =
@@ -49,7 +49,7 @@ is_done {A} next read front c count i bytes total le so_far =
 pub drop_more : {R : Type 0} (rs : List R) (i : ℕ) (r : R) → i < length rs → r ≡ get_or rs i r → drop i rs ≡ r ∷ drop (i + 1) rs
 drop_more rs i r lt e = drop-cons rs i r lt ∙ rw (← e, add-one) refl
 
-pub each_goes_on : {R A : Type 0} (read : R → List ℕ → Result (A × List ℕ) Stop) (front : List A) (rs : List R) (i : ℕ) (r : R) (bytes : List ℕ) (x : A) (after : List ℕ) (total : Result (List A × List ℕ) Stop)
+pub each_goes_on : {R A : Type 0} (read : R → List ℕ → Result (A × List ℕ) FormFault) (front : List A) (rs : List R) (i : ℕ) (r : R) (bytes : List ℕ) (x : A) (after : List ℕ) (total : Result (List A × List ℕ) FormFault)
     → i < length rs → r ≡ get_or rs i r → read r bytes ≡ Ok (x, after)
     → with_front front (each_at read (drop i rs) bytes) ≡ total → with_front (front ++ x ∷ []) (each_at read (drop (i + 1) rs) after) ≡ total
 unfolding each_at
@@ -57,7 +57,7 @@ each_goes_on read front rs i r bytes x after total lt is h so_far =
     let one : with_front front (each_at read (drop i rs) bytes) ≡ with_front (front ++ x ∷ []) (each_at read (drop (i + 1) rs) after) = rw (drop_more rs i r lt is, h) (regroup front x (each_at read (drop (i + 1) rs) after)) in
     sym one ∙ so_far
 
-pub each_ends : {R A : Type 0} (read : R → List ℕ → Result (A × List ℕ) Stop) (e : Halt) (front : List A) (rs : List R) (i : ℕ) (r : R) (bytes : List ℕ) (total : Result (List A × List ℕ) Stop)
+pub each_ends : {R A : Type 0} (read : R → List ℕ → Result (A × List ℕ) FormFault) (e : FormError) (front : List A) (rs : List R) (i : ℕ) (r : R) (bytes : List ℕ) (total : Result (List A × List ℕ) FormFault)
     → i < length rs → r ≡ get_or rs i r → Fails e (read r bytes) → with_front front (each_at read (drop i rs) bytes) ≡ total → Fails e total
 unfolding each_at
 each_ends read NoMemory front rs i r bytes total lt is h so_far = tt
@@ -65,7 +65,7 @@ each_ends read (At f) front rs i r bytes total lt is h so_far =
     let one : with_front front (each_at read (drop i rs) bytes) ≡ Err f = rw (drop_more rs i r lt is, h) refl in
     sym so_far ∙ one
 
-pub each_done : {R A : Type 0} (read : R → List ℕ → Result (A × List ℕ) Stop) (front : List A) (rs : List R) (i : ℕ) (bytes : List ℕ) (total : Result (List A × List ℕ) Stop)
+pub each_done : {R A : Type 0} (read : R → List ℕ → Result (A × List ℕ) FormFault) (front : List A) (rs : List R) (i : ℕ) (bytes : List ℕ) (total : Result (List A × List ℕ) FormFault)
     → length rs ≤ i → with_front front (each_at read (drop i rs) bytes) ≡ total → total ≡ Ok (front, bytes)
 unfolding each_at
 each_done {A = A} read front rs i bytes total le so_far =

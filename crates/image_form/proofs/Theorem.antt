@@ -4,10 +4,10 @@ use Rattle.std.proofs.lemmas.List.{length-append}
 use Rattle.image_form.specs.declared.fault.ImageFault.{ImageFault}
 use Rattle.image_form.specs.declared.fault.ImageFault.TheVariants as fault
 use Rattle.image_form.specs.declared.fault.Field.{Field}
-use Rattle.image_form.specs.declared.fault.Stop.{Stop}
-use Rattle.image_form.specs.declared.fault.Stop.TheVariants.{Short, Bad, Trailing}
-use Rattle.image_form.specs.declared.fault.Halt.{Halt}
-use Rattle.image_form.specs.declared.fault.Halt.TheVariants.{NoMemory, At}
+use Rattle.image_form.specs.declared.fault.FormFault.{FormFault}
+use Rattle.image_form.specs.declared.fault.FormFault.TheVariants.{Short, Bad, Trailing}
+use Rattle.image_form.specs.declared.fault.FormError.{FormError}
+use Rattle.image_form.specs.declared.fault.FormError.TheVariants.{NoMemory, At}
 use Rattle.image_form.specs.Form.{IsBytes, Form, Fails, whole}
 use Rattle.image_form.specs.Faults.{placed, placed_in, unpacked, IsWanted, Tells, IsHaltOf, IsFaultOf, IsShort}
 use Rattle.image_form.proofs.Leaves.{Laws}
@@ -16,7 +16,7 @@ use Rattle.image_form.proofs.Forms.{whole_takes, whole_again, whole_within, whol
 pub is_found : {A : Type 0} (f : Form A) → Laws f → (bytes : List ℕ) (x : A) → IsBytes bytes → whole f bytes ≡ Ok x → f.fits x × (bytes ≡ f.spell x)
 is_found f laws bytes x fits e = let h = whole_takes f laws bytes x fits e in (h.1, h.0)
 
-pub is_halt : {A : Type 0} (f : Form A) → Laws f → (bytes : List ℕ) (h : Halt) → IsBytes bytes → Fails h (whole f bytes) → IsHaltOf (length bytes) h
+pub is_halt : {A : Type 0} (f : Form A) → Laws f → (bytes : List ℕ) (h : FormError) → IsBytes bytes → Fails h (whole f bytes) → IsHaltOf (length bytes) h
 is_halt f laws bytes NoMemory fits e = tt
 is_halt f laws bytes (At s) fits e = whole_within f laws bytes s fits e
 
@@ -24,12 +24,12 @@ pub is_unpacked : {A : Type 0} (f : Form A) (bytes : List ℕ) (x : A) → whole
 unfolding unpacked
 is_unpacked f bytes x e = ap (placed_in (length bytes)) e
 
-wanted_placed : {A : Type 0} (total : ℕ) (s : Stop) (w : Result A ImageFault) → w ≡ Err (placed total s) → IsWanted w (placed total s)
+wanted_placed : {A : Type 0} (total : ℕ) (s : FormFault) (w : Result A ImageFault) → w ≡ Err (placed total s) → IsWanted w (placed total s)
 wanted_placed total (Short left) w e = e
 wanted_placed total (Bad left field) w e = e
 wanted_placed total (Trailing left) w e = e
 
-pub is_wanted : {A : Type 0} (f : Form A) (bytes : List ℕ) (h : Halt) (w : ImageFault) → Fails h (whole f bytes) → IsFaultOf (length bytes) h w → IsWanted (unpacked f bytes) w
+pub is_wanted : {A : Type 0} (f : Form A) (bytes : List ℕ) (h : FormError) (w : ImageFault) → Fails h (whole f bytes) → IsFaultOf (length bytes) h w → IsWanted (unpacked f bytes) w
 unfolding unpacked
 is_wanted f bytes NoMemory w e is = subst (IsWanted (placed_in (length bytes) (whole f bytes))) (sym is) tt
 is_wanted f bytes (At s) w e is = subst (IsWanted (placed_in (length bytes) (whole f bytes))) (sym is) (wanted_placed (length bytes) s _ (ap (placed_in (length bytes)) e))
@@ -41,7 +41,7 @@ back f laws x fits = is_unpacked f (f.spell x) x (whole_again f laws x fits)
 pub only_that : {A : Type 0} (f : Form A) → Laws f → (bytes : List ℕ) (r : Result A ImageFault) → Tells (unpacked f bytes) r → (x : A) → f.fits x → bytes ≡ f.spell x → Tells (Ok x) r
 only_that {A} f laws bytes r h x fits e = subst (λ (w : Result A ImageFault). Tells w r) (ap (unpacked f) e ∙ back f laws x fits) h
 
-placed_ok : {A : Type 0} (total : ℕ) (r : Result A Stop) (x : A) → placed_in total r ≡ Ok x → r ≡ Ok x
+placed_ok : {A : Type 0} (total : ℕ) (r : Result A FormFault) (x : A) → placed_in total r ≡ Ok x → r ≡ Ok x
 placed_ok total (Ok y) x e = cc
 placed_ok total (Err s) x e = absurd cc
 
@@ -62,13 +62,13 @@ apart f laws x y p q e = ok_same x y (sym (back f laws x p) ∙ ap (unpacked f) 
 
 -- ---- the first fault
 
-bad_is : {A : Type 0} (total : ℕ) (r : Result A Stop) (at : ℕ) (name : Field) → placed_in total r ≡ Err (fault.Bad at name) → (left : ℕ) × (r ≡ Err (Bad left name)) × (at ≡ total - left)
+bad_is : {A : Type 0} (total : ℕ) (r : Result A FormFault) (at : ℕ) (name : Field) → placed_in total r ≡ Err (fault.Bad at name) → (left : ℕ) × (r ≡ Err (Bad left name)) × (at ≡ total - left)
 bad_is total (Ok x) at title e = absurd cc
 bad_is total (Err (Short left)) at title e = absurd cc
 bad_is total (Err (Bad left other)) at title e = let same : other ≡ title = cc in (left, ap (λ t. Err (Bad left t)) same, cc)
 bad_is total (Err (Trailing left)) at title e = absurd cc
 
-short_is : {A : Type 0} (total : ℕ) (r : Result A Stop) (at : ℕ) → placed_in total r ≡ Err (fault.Short at) → (left : ℕ) × (r ≡ Err (Short left))
+short_is : {A : Type 0} (total : ℕ) (r : Result A FormFault) (at : ℕ) → placed_in total r ≡ Err (fault.Short at) → (left : ℕ) × (r ≡ Err (Short left))
 short_is total (Ok x) at e = absurd cc
 short_is total (Err (Short left)) at e = (left, refl)
 short_is total (Err (Bad left other)) at e = absurd cc

@@ -2,19 +2,19 @@
 use Rattle.std.specs.Prelude.{◌≡◌, ℕ, ◌-◌, ◌≤◌, List, length, Result, Ok, Err}
 use Rattle.image_form.specs.declared.fault.ImageFault.{ImageFault}
 use Rattle.image_form.specs.declared.fault.ImageFault.TheVariants as fault
-use Rattle.image_form.specs.declared.fault.Stop.{Stop}
-use Rattle.image_form.specs.declared.fault.Stop.TheVariants.{Short, Bad, Trailing}
-use Rattle.image_form.specs.declared.fault.Halt.{Halt}
-use Rattle.image_form.specs.declared.fault.Halt.TheVariants.{NoMemory, At}
+use Rattle.image_form.specs.declared.fault.FormFault.{FormFault}
+use Rattle.image_form.specs.declared.fault.FormFault.TheVariants.{Short, Bad, Trailing}
+use Rattle.image_form.specs.declared.fault.FormError.{FormError}
+use Rattle.image_form.specs.declared.fault.FormError.TheVariants.{NoMemory, At}
 use Rattle.image_form.specs.Form.{Form, left_of, whole}
 
 -- the fault, by its offset among so many bytes
-abbrev pub placed : ℕ → Stop → ImageFault
+abbrev pub placed : ℕ → FormFault → ImageFault
 placed total (Short left) = fault.Short (total - left)
 placed total (Bad left field) = fault.Bad (total - left) field
 placed total (Trailing left) = fault.Trailing (total - left)
 
-abbrev pub placed_in : {A : Type 0} → ℕ → Result A Stop → Result A ImageFault
+abbrev pub placed_in : {A : Type 0} → ℕ → Result A FormFault → Result A ImageFault
 placed_in total (Ok x) = Ok x
 placed_in total (Err s) = Err (placed total s)
 
@@ -35,12 +35,12 @@ Tells wanted (Ok x) = wanted ≡ Ok x
 Tells wanted (Err f) = IsWanted wanted f
 
 -- its field begins among so many bytes
-abbrev pub IsHaltOf : ℕ → Halt → Type 0
+abbrev pub IsHaltOf : ℕ → FormError → Type 0
 IsHaltOf total NoMemory = Unit {0}
 IsHaltOf total (At s) = left_of s ≤ total
 
 -- the fault tells why a reader of so many bytes stopped
-abbrev pub IsFaultOf : ℕ → Halt → ImageFault → Type 0
+abbrev pub IsFaultOf : ℕ → FormError → ImageFault → Type 0
 IsFaultOf total NoMemory f = f ≡ fault.NoMemory
 IsFaultOf total (At s) f = f ≡ placed total s
 

@@ -4,10 +4,10 @@ use Rattle.std.specs.Int.{Width, byte_len, from_le_bytes, to_le_bytes}
 use Rattle.std.specs.List.{list_all}
 use Rattle.std.specs.Str.{bytes_eq}
 use Rattle.image_form.specs.declared.fault.Field.{Field}
-use Rattle.image_form.specs.declared.fault.Stop.{Stop}
-use Rattle.image_form.specs.declared.fault.Stop.TheVariants.{Short, Bad, Trailing}
-use Rattle.image_form.specs.declared.fault.Halt.{Halt}
-use Rattle.image_form.specs.declared.fault.Halt.TheVariants.{NoMemory, At}
+use Rattle.image_form.specs.declared.fault.FormFault.{FormFault}
+use Rattle.image_form.specs.declared.fault.FormFault.TheVariants.{Short, Bad, Trailing}
+use Rattle.image_form.specs.declared.fault.FormError.{FormError}
+use Rattle.image_form.specs.declared.fault.FormError.TheVariants.{NoMemory, At}
 
 -- each is a byte
 abbrev pub IsBytes : List ℕ → Type 0
@@ -15,31 +15,31 @@ IsBytes bytes = (i : ℕ) → slice_index bytes i < 256
 
 infixl 10 ◌>>=◌
 -- a step, and then the next one where it did not fail
-abbrev pub ◌>>=◌ : {A B : Type 0} → Result A Stop → (A → Result B Stop) → Result B Stop
+abbrev pub ◌>>=◌ : {A B : Type 0} → Result A FormFault → (A → Result B FormFault) → Result B FormFault
 (Ok x) >>= f = f x
 (Err e) >>= f = Err e
 
 -- `read` answers the value and the bytes behind it, or the first fault
 pub record Form (A : Type 0) : Type 1 where
-  pub read : List ℕ → Result (A × List ℕ) Stop
+  pub read : List ℕ → Result (A × List ℕ) FormFault
   pub spell : A → List ℕ
   pub fits : A → Type 0
 
 -- how many bytes are left from where the field of a fault begins
-abbrev pub left_of : Stop → ℕ
+abbrev pub left_of : FormFault → ℕ
 left_of (Short left) = left
 left_of (Bad left field) = left
 left_of (Trailing left) = left
 
 -- more than the end of the bytes stopped it, or nothing did
-abbrev pub IsSettled : {X : Type 0} → Result X Stop → Type 0
+abbrev pub IsSettled : {X : Type 0} → Result X FormFault → Type 0
 IsSettled (Ok x) = Unit {0}
 IsSettled (Err (Short left)) = ⊥
 IsSettled (Err (Bad left field)) = Unit {0}
 IsSettled (Err (Trailing left)) = Unit {0}
 
 -- the same with n bytes more behind
-abbrev pub extended : {X : Type 0} → (X → X) → ℕ → Result X Stop → Result X Stop
+abbrev pub extended : {X : Type 0} → (X → X) → ℕ → Result X FormFault → Result X FormFault
 extended more n (Ok x) = Ok (more x)
 extended more n (Err (Short left)) = Err (Short left)
 extended more n (Err (Bad left field)) = Err (Bad (left + n) field)
@@ -49,18 +49,18 @@ abbrev pub longer : {A : Type 0} → List ℕ → A × List ℕ → A × List �
 longer more x = (x.0, x.1 ++ more)
 
 -- the fault is the one that is read, unless memory ran out
-abbrev pub Fails : {Y : Type 0} → Halt → Result Y Stop → Type 0
+abbrev pub Fails : {Y : Type 0} → FormError → Result Y FormFault → Type 0
 Fails NoMemory read = Unit {0}
 Fails (At s) read = read ≡ Err s
 
 -- the answer of a reader is what is read, unless memory ran out
-abbrev pub Gives : {X Y : Type 0} → (X → Y) → Result X Halt → Result Y Stop → Type 0
+abbrev pub Gives : {X Y : Type 0} → (X → Y) → Result X FormError → Result Y FormFault → Type 0
 Gives view (Ok x) read = read ≡ Ok (view x)
 Gives view (Err e) read = Fails e read
 
 -- ---- fields
 
-unfoldable pub number_at : Width → List ℕ → Result (ℕ × List ℕ) Stop
+unfoldable pub number_at : Width → List ℕ → Result (ℕ × List ℕ) FormFault
 number_at w bytes =
     if nat_lt (length bytes) (byte_len w) then Err (Short (length bytes))
     else Ok (from_le_bytes w (take (byte_len w) bytes), drop (byte_len w) bytes)
@@ -69,7 +69,7 @@ number_at w bytes =
 unfoldable pub number : Width → Form ℕ
 number w = record { read = number_at w; spell = to_le_bytes w; fits = λ n. n < 256 ^ byte_len w }
 
-unfoldable pub byte_at : List ℕ → Result (ℕ × List ℕ) Stop
+unfoldable pub byte_at : List ℕ → Result (ℕ × List ℕ) FormFault
 byte_at [] = Err (Short 0)
 byte_at (b ∷ rest) = Ok (b, rest)
 
@@ -77,18 +77,18 @@ byte_at (b ∷ rest) = Ok (b, rest)
 unfoldable pub byte : Form ℕ
 byte = record { read = byte_at; spell = λ b. b ∷ []; fits = λ b. b < 256 }
 
-unfoldable pub bytes_at : ℕ → List ℕ → Result (List ℕ × List ℕ) Stop
+unfoldable pub bytes_at : ℕ → List ℕ → Result (List ℕ × List ℕ) FormFault
 bytes_at n bytes = if nat_lt (length bytes) n then Err (Short (length bytes)) else Ok (take n bytes, drop n bytes)
 
 -- so many bytes, as they are
 unfoldable pub bytes_of : ℕ → Form (List ℕ)
 bytes_of n = record { read = bytes_at n; spell = λ t. t; fits = λ t. length t ≡ n }
 
-abbrev pub coded_in : {A : Type 0} → Field → ℕ → List ℕ → Option A → Result (A × List ℕ) Stop
+abbrev pub coded_in : {A : Type 0} → Field → ℕ → List ℕ → Option A → Result (A × List ℕ) FormFault
 coded_in field left rest (Some x) = Ok (x, rest)
 coded_in field left rest None = Err (Bad left field)
 
-unfoldable pub coded_at : {A : Type 0} → ℕ → (List ℕ → Option A) → Field → List ℕ → Result (A × List ℕ) Stop
+unfoldable pub coded_at : {A : Type 0} → ℕ → (List ℕ → Option A) → Field → List ℕ → Result (A × List ℕ) FormFault
 coded_at n decode field bytes =
     if nat_lt (length bytes) n then Err (Short (length bytes))
     else coded_in field (length bytes) (drop n bytes) (decode (take n bytes))
@@ -101,12 +101,12 @@ coded n decode encode field = record {
   fits = λ x. decode (encode x) ≡ Some x;
 }
 
-unfoldable pub tag_at : List ℕ → Field → List ℕ → Result (List ℕ) Stop
+unfoldable pub tag_at : List ℕ → Field → List ℕ → Result (List ℕ) FormFault
 tag_at wanted field bytes =
     if nat_lt (length bytes) (length wanted) then Err (Short (length bytes))
     else (if bytes_eq (take (length wanted) bytes) wanted then Ok (drop (length wanted) bytes) else Err (Bad (length bytes) field))
 
-unfoldable pub gap_at : ℕ → Field → List ℕ → Result (List ℕ) Stop
+unfoldable pub gap_at : ℕ → Field → List ℕ → Result (List ℕ) FormFault
 gap_at n field bytes =
     if nat_lt (length bytes) n then Err (Short (length bytes))
     else (if list_all (λ b. b == 0) (take n bytes) then Ok (drop n bytes) else Err (Bad (length bytes) field))
@@ -185,7 +185,7 @@ gap n name more = record {
 unfoldable pub done : {S : Type 0} → S → Form S
 done made = record { read = λ bytes. Ok (made, bytes); spell = λ s. []; fits = λ s. s ≡ made }
 
-unfoldable pub items_at : {A C : Type 0} → (C → A → C) → (C → List ℕ → Result (A × List ℕ) Stop) → C → ℕ → List ℕ → Result (List A × List ℕ) Stop
+unfoldable pub items_at : {A C : Type 0} → (C → A → C) → (C → List ℕ → Result (A × List ℕ) FormFault) → C → ℕ → List ℕ → Result (List A × List ℕ) FormFault
 items_at next read c zero bytes = Ok ([], bytes)
 items_at next read c (suc n) bytes = read c bytes >>= λ x. items_at next read (next c x.0) n x.1 >>= λ ys. Ok (x.0 ∷ ys.0, ys.1)
 
@@ -205,7 +205,7 @@ items next form c n = record {
   fits = λ xs. (length xs ≡ n) × all_fit next (λ d. (form d).fits) c xs;
 }
 
-unfoldable pub each_at : {R A : Type 0} → (R → List ℕ → Result (A × List ℕ) Stop) → List R → List ℕ → Result (List A × List ℕ) Stop
+unfoldable pub each_at : {R A : Type 0} → (R → List ℕ → Result (A × List ℕ) FormFault) → List R → List ℕ → Result (List A × List ℕ) FormFault
 each_at read [] bytes = Ok ([], bytes)
 each_at read (r ∷ rs) bytes = read r bytes >>= λ x. each_at read rs x.1 >>= λ ys. Ok (x.0 ∷ ys.0, ys.1)
 
@@ -229,5 +229,5 @@ each form rs = record {
 }
 
 -- the bytes are this, and no byte is behind it
-unfoldable pub whole : {A : Type 0} → Form A → List ℕ → Result A Stop
+unfoldable pub whole : {A : Type 0} → Form A → List ℕ → Result A FormFault
 whole f bytes = f.read bytes >>= λ x. if length x.1 == 0 then Ok x.0 else Err (Trailing (length x.1))

@@ -1,7 +1,7 @@
 //! Why bytes are no image.
 ghost use Rattle.std.specs.Prelude.{◌≡◌};
 ghost use Rattle.muen_num.specs.Pieces.{whole};
-ghost use Rattle.image_form.specs.declared.fault.Halt.TheVariants.{NoMemory as OutOfMemory};
+ghost use Rattle.image_form.specs.declared.fault.FormError.TheVariants.{NoMemory as OutOfMemory};
 ghost use Rattle.image_form.specs.Faults.{IsFaultOf, IsHaltOf};
 ghost use Rattle.image_form.specs.FaultText.{fault_place_text, field_text, image_fault_text, image_refused_at};
 
@@ -62,7 +62,7 @@ pub enum Field {
 
 /// The first fault of bytes, with how many bytes are left from where its field begins.
 #[derive(Clone, Copy, Debug, PartialEq, Eq)]
-pub enum Stop {
+pub enum FormFault {
     /// The bytes end before the field does.
     Short(usize),
     /// The field isn't as it has to be, by itself or by what stands before it.
@@ -73,11 +73,11 @@ pub enum Stop {
 
 /// Why a reader stops.
 #[derive(Clone, Copy, Debug, PartialEq, Eq)]
-pub enum Halt {
+pub enum FormError {
     /// Memory was refused.
     NoMemory,
     /// The bytes have a fault.
-    At(Stop),
+    At(FormFault),
 }
 
 /// Why bytes are no image: the first fault, and the offset at which its field begins.
@@ -93,27 +93,27 @@ pub enum ImageFault {
     NoMemory,
 }
 
-impl From<AllocError> for Halt {
+impl From<AllocError> for FormError {
     ghost from_gives = { λ _ halt. halt ≡ OutOfMemory };
 
-    fn from(_: AllocError) -> Halt {
-        Halt::NoMemory
+    fn from(_: AllocError) -> FormError {
+        FormError::NoMemory
     }
 }
 
-impl<T: Drop> From<AllocFailed<T>> for Halt {
+impl<T: Drop> From<AllocFailed<T>> for FormError {
     ghost from_gives = { λ _ halt. halt ≡ OutOfMemory };
 
-    fn from(_: AllocFailed<T>) -> Halt {
-        Halt::NoMemory
+    fn from(_: AllocFailed<T>) -> FormError {
+        FormError::NoMemory
     }
 }
 
-impl From<NoMemory> for Halt {
+impl From<NoMemory> for FormError {
     ghost from_gives = { λ _ halt. halt ≡ OutOfMemory };
 
-    fn from(_: NoMemory) -> Halt {
-        Halt::NoMemory
+    fn from(_: NoMemory) -> FormError {
+        FormError::NoMemory
     }
 }
 
@@ -195,20 +195,20 @@ impl fmt::Display for ImageFault {
 }
 
 /// Why the reading of so many bytes stopped, with the offset in place of what is left.
-pub fn fault_of(total: usize, halt: Halt) -> ImageFault
+pub fn fault_of(total: usize, halt: FormError) -> ImageFault
     requires { IsHaltOf total halt }
     ensures { IsFaultOf total halt result }
 {
     match halt {
-        Halt::NoMemory => ImageFault::NoMemory,
-        Halt::At(Stop::Short(left)) => ImageFault::Short {
+        FormError::NoMemory => ImageFault::NoMemory,
+        FormError::At(FormFault::Short(left)) => ImageFault::Short {
             at: (total - left) as u64,
         },
-        Halt::At(Stop::Bad(left, field)) => ImageFault::Bad {
+        FormError::At(FormFault::Bad(left, field)) => ImageFault::Bad {
             at: (total - left) as u64,
             field,
         },
-        Halt::At(Stop::Trailing(left)) => ImageFault::Trailing {
+        FormError::At(FormFault::Trailing(left)) => ImageFault::Trailing {
             at: (total - left) as u64,
         },
     }

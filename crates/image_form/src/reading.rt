@@ -8,27 +8,27 @@ ghost use Rattle.std.specs.List.{list_all};
 ghost use Rattle.image_form.specs.Form.{Form, Gives, byte, bytes_of, gap_at, number, tag_at};
 ghost use Rattle.image_form.specs.Name.{name, name_in};
 
-use crate::fault::{Field, Halt, Stop};
+use crate::fault::{Field, FormError, FormFault};
 use muen_num::limits::NAME_MOST;
 use muen_num::{Name, Seq};
 use std::alloc::Global;
 
 /// The field that begins here isn't as it has to be.
-pub fn bad(here: &[u8], field: Field) -> Halt
-    ensures { result ≡ Halt.At (Stop.Bad (length here.now) field) }
+pub fn bad(here: &[u8], field: Field) -> FormError
+    ensures { result ≡ FormError.At (FormFault.Bad (length here.now) field) }
 {
-    Halt::At(Stop::Bad(here.len(), field))
+    FormError::At(FormFault::Bad(here.len(), field))
 }
 
 /// The bytes end before the field that begins here.
-pub fn short(here: &[u8]) -> Halt
-    ensures { result ≡ Halt.At (Stop.Short (length here.now)) }
+pub fn short(here: &[u8]) -> FormError
+    ensures { result ≡ FormError.At (FormFault.Short (length here.now)) }
 {
-    Halt::At(Stop::Short(here.len()))
+    FormError::At(FormFault::Short(here.len()))
 }
 
 /// A byte. `Short` where there is none.
-pub fn byte_of(bytes: &[u8]) -> Result<(u8, &[u8]), Halt>
+pub fn byte_of(bytes: &[u8]) -> Result<(u8, &[u8]), FormError>
     ensures { Gives (λ x. (x.0, x.1.now)) result (byte.read bytes.now) }
 {
     match bytes {
@@ -38,7 +38,7 @@ pub fn byte_of(bytes: &[u8]) -> Result<(u8, &[u8]), Halt>
 }
 
 /// A number of 2 bytes, its low byte first. `Short` where there are fewer.
-pub fn u16_of(bytes: &[u8]) -> Result<(u16, &[u8]), Halt>
+pub fn u16_of(bytes: &[u8]) -> Result<(u16, &[u8]), FormError>
     ensures { Gives (λ x. (x.0, x.1.now)) result ((number w16).read bytes.now) }
 {
     if bytes.len() < 2 {
@@ -49,7 +49,7 @@ pub fn u16_of(bytes: &[u8]) -> Result<(u16, &[u8]), Halt>
 }
 
 /// A number of 4 bytes, its low byte first. `Short` where there are fewer.
-pub fn u32_of(bytes: &[u8]) -> Result<(u32, &[u8]), Halt>
+pub fn u32_of(bytes: &[u8]) -> Result<(u32, &[u8]), FormError>
     ensures { Gives (λ x. (x.0, x.1.now)) result ((number w32).read bytes.now) }
 {
     if bytes.len() < 4 {
@@ -61,7 +61,7 @@ pub fn u32_of(bytes: &[u8]) -> Result<(u32, &[u8]), Halt>
 }
 
 /// A number of 8 bytes, its low byte first. `Short` where there are fewer.
-pub fn u64_of(bytes: &[u8]) -> Result<(u64, &[u8]), Halt>
+pub fn u64_of(bytes: &[u8]) -> Result<(u64, &[u8]), FormError>
     ensures { Gives (λ x. (x.0, x.1.now)) result ((number w64).read bytes.now) }
 {
     if bytes.len() < 8 {
@@ -81,7 +81,7 @@ fn all_zero(bytes: &[u8]) -> bool
 }
 
 /// What stands behind these bytes. `Short` where there are fewer, and `Bad` where they are others.
-pub fn tag_of<'a>(bytes: &'a [u8], wanted: &[u8], field: Field) -> Result<&'a [u8], Halt>
+pub fn tag_of<'a>(bytes: &'a [u8], wanted: &[u8], field: Field) -> Result<&'a [u8], FormError>
     ensures { Gives (λ x. x.now) result (tag_at wanted.now field bytes.now) }
 {
     if bytes.len() < wanted.len() {
@@ -97,7 +97,7 @@ pub fn tag_of<'a>(bytes: &'a [u8], wanted: &[u8], field: Field) -> Result<&'a [u
 
 /// What stands behind so many zeros. `Short` where there are fewer bytes, and `Bad` where one of
 /// them isn't 0.
-pub fn gap_of(bytes: &[u8], n: usize, field: Field) -> Result<&[u8], Halt>
+pub fn gap_of(bytes: &[u8], n: usize, field: Field) -> Result<&[u8], FormError>
     ensures { Gives (λ x. x.now) result (gap_at n field bytes.now) }
 {
     if bytes.len() < n {
@@ -112,7 +112,7 @@ pub fn gap_of(bytes: &[u8], n: usize, field: Field) -> Result<&[u8], Halt>
 }
 
 /// So many bytes. `Short` where there are fewer, and `NoMemory` where memory for them was refused.
-pub fn bytes_upto(alloc: Global, bytes: &[u8], n: usize) -> Result<(Seq<u8>, &[u8]), Halt>
+pub fn bytes_upto(alloc: Global, bytes: &[u8], n: usize) -> Result<(Seq<u8>, &[u8]), FormError>
     ensures { Gives (λ x. (x.0, x.1.now)) result ((bytes_of n).read bytes.now) }
 {
     if bytes.len() < n {
@@ -146,7 +146,7 @@ fn name_in(bytes: &[u8]) -> Option<Name>
 /// A name: a byte that says its length, its bytes, and zeros, 64 bytes in all. `Short` where there
 /// are fewer, and `Bad` where they spell no name, or a byte behind it isn't 0.
 #[tactic(auto, unfolding(crate::specs::Form::coded, crate::specs::Form::coded_at, crate::specs::Name::name))]
-pub fn name_of(bytes: &[u8]) -> Result<(Name, &[u8]), Halt>
+pub fn name_of(bytes: &[u8]) -> Result<(Name, &[u8]), FormError>
     ensures { Gives (λ x. (x.0, x.1.now)) result (name.read bytes.now) }
 {
     if bytes.len() < NAME_MOST + 1 {

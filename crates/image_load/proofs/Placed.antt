@@ -18,11 +18,11 @@ use Rattle.record_text.specs.Law.{IsInputOf, IsRecordOf}
 use Rattle.record_text.specs.Placing.{bytes_in, irq_of, is_in_span, memory_of, order_at, placed, placed_at, placed_input, port_of, raised as raised_place}
 use Rattle.record_text.specs.Reading.{record_of}
 use Rattle.record_text.specs.Steps.{mapped}
-use Rattle.record_text.specs.declared.devices.DevicePlaces.{DevicePlaces}
+use Rattle.record_text.specs.declared.devices.RecordDevice.{RecordDevice}
 use Rattle.record_text.specs.declared.devices.Devices.{Devices}
-use Rattle.record_text.specs.declared.devices.IrqPlace.{IrqPlace}
-use Rattle.record_text.specs.declared.devices.MemoryPlace.{MemoryPlace}
-use Rattle.record_text.specs.declared.devices.PortSpan.{PortSpan as PortPlace}
+use Rattle.record_text.specs.declared.devices.RecordIrq.{RecordIrq}
+use Rattle.record_text.specs.declared.devices.RecordMemory.{RecordMemory}
+use Rattle.record_text.specs.declared.devices.PortSpan.{PortSpan as RecordPorts}
 use Rattle.record_text.specs.declared.fault.RecordFault.{RecordFault}
 use Rattle.record_text.specs.declared.record.Input.{Input}
 use Rattle.record_text.specs.declared.record.Input.TheVariants.{Port, Mem, Irq, Idle, Dma}
@@ -94,15 +94,15 @@ map_same f g same (x ∷ xs) = ap₂ (λ z zs. z ∷ zs) (same x) (map_same f g 
 
 -- ---- one device
 
-ports_same : (spans : List SpanPart) (port value : ℕ) (d : DevicePart) (p : DevicePlaces) → IsPlaced spans d p → port_of port value p ≡ port_input_of port value d
+ports_same : (spans : List SpanPart) (port value : ℕ) (d : DevicePart) (p : RecordDevice) → IsPlaced spans d p → port_of port value p ≡ port_input_of port value d
 ports_same spans port value d p h =
     ap (λ b. if b then Some (Port port value) else None) (ap (list_any (is_in_span port)) h.ports ∙ any-map port_place (is_in_span port) d.ports)
 
-bytes_same : (offset : ℕ) (bytes : List ℕ) (o : Option MemoryPlace) → option_and_then (bytes_in offset bytes) o ≡ option_and_then (bytes_into offset bytes) (option_map named_memory o)
+bytes_same : (offset : ℕ) (bytes : List ℕ) (o : Option RecordMemory) → option_and_then (bytes_in offset bytes) o ≡ option_and_then (bytes_into offset bytes) (option_map named_memory o)
 bytes_same offset bytes None = refl
 bytes_same offset bytes (Some m) = refl
 
-memories_same : (spans : List SpanPart) (memory : List ℕ) (offset : ℕ) (bytes : List ℕ) (d : DevicePart) (p : DevicePlaces) → IsPlaced spans d p → memory_of memory offset bytes p ≡ memory_input_of spans memory offset bytes d
+memories_same : (spans : List SpanPart) (memory : List ℕ) (offset : ℕ) (bytes : List ℕ) (d : DevicePart) (p : RecordDevice) → IsPlaced spans d p → memory_of memory offset bytes p ≡ memory_input_of spans memory offset bytes d
 memories_same spans memory offset bytes d p h =
     bytes_same offset bytes (find (λ m. bytes_eq m.name memory) p.memories)
     ∙ ap (option_and_then (bytes_into offset bytes)) (sym (find-map named_memory (λ m. bytes_eq m.name memory) p.memories) ∙ ap (find (λ m. bytes_eq m.name memory)) h.memories)
@@ -115,7 +115,7 @@ found_raised : (o : Option IrqPart) → option_map (λ q. raised_place q.target)
 found_raised None = refl
 found_raised (Some q) = ap (λ r. Some r) (raised_same q.target)
 
-irqs_same : (spans : List SpanPart) (irq : List ℕ) (d : DevicePart) (p : DevicePlaces) → IsPlaced spans d p → irq_of irq p ≡ irq_input_of irq d
+irqs_same : (spans : List SpanPart) (irq : List ℕ) (d : DevicePart) (p : RecordDevice) → IsPlaced spans d p → irq_of irq p ≡ irq_input_of irq d
 irqs_same spans irq d p h =
     ap (λ qs. option_map (λ q. raised_place q.target) (find (λ q. bytes_eq q.name irq) qs)) h.irqs
     ∙ ap (option_map (λ q. raised_place q.target)) (find-map irq_place (λ q. bytes_eq q.name irq) d.irqs)
@@ -128,17 +128,17 @@ made_same : {name name' : List ℕ} {ports ports' : List (ℕ × ℕ)} {memories
     → device_made name ports memories irqs ≡ device_made name' ports' memories' irqs'
 made_same n p m q = cc
 
-bench_same : (spans : List SpanPart) (d : DevicePart) (p : DevicePlaces) → IsPlaced spans d p → bench_device p ≡ bench_device_of spans d
+bench_same : (spans : List SpanPart) (d : DevicePart) (p : RecordDevice) → IsPlaced spans d p → bench_device p ≡ bench_device_of spans d
 bench_same spans d p h =
-    let ports : map (λ (r : PortPlace). (r.start, r.end)) p.ports ≡ map (λ r. (r.start, r.end)) d.ports = ap (map (λ r. (r.start, r.end))) h.ports ∙ map-map port_place (λ r. (r.start, r.end)) d.ports in
-    let memories : map (λ (m : MemoryPlace). (m.name, m.bytes)) p.memories ≡ map (λ m. (m.name, m.bytes)) (memories_of spans d) =
+    let ports : map (λ (r : RecordPorts). (r.start, r.end)) p.ports ≡ map (λ r. (r.start, r.end)) d.ports = ap (map (λ r. (r.start, r.end))) h.ports ∙ map-map port_place (λ r. (r.start, r.end)) d.ports in
+    let memories : map (λ (m : RecordMemory). (m.name, m.bytes)) p.memories ≡ map (λ m. (m.name, m.bytes)) (memories_of spans d) =
     sym (map-map named_memory (λ m. (m.name, m.bytes)) p.memories) ∙ ap (map (λ m. (m.name, m.bytes))) h.memories in
-    let irqs : map (λ (q : IrqPlace). q.name) p.irqs ≡ map (λ q. q.name) d.irqs = ap (map (λ q. q.name)) h.irqs ∙ map-map irq_place (λ q. q.name) d.irqs in
+    let irqs : map (λ (q : RecordIrq). q.name) p.irqs ≡ map (λ q. q.name) d.irqs = ap (map (λ q. q.name)) h.irqs ∙ map-map irq_place (λ q. q.name) d.irqs in
     made_same h.name ports memories irqs
 
 -- ---- the whole
 
-called_same : (spans : List SpanPart) (name : List ℕ) (d : DevicePart) (p : DevicePlaces) → IsPlaced spans d p → bytes_eq p.name name ≡ bytes_eq d.name name
+called_same : (spans : List SpanPart) (name : List ℕ) (d : DevicePart) (p : RecordDevice) → IsPlaced spans d p → bytes_eq p.name name ≡ bytes_eq d.name name
 called_same spans name d p h = ap (λ n. bytes_eq n name) h.name
 
 same_bench : (i : Image) (ds : Devices) → HasDevices i ds → bench_of ds ≡ image_bench i
@@ -181,7 +181,7 @@ from_any P p (x ∷ xs) gives h =
       | false ↦ λ e t. from_any P p xs gives t
     ] refl h
 
-memory_low : (at count : ℕ) (m : MemoryPlace) → (nat_le m.place at && nat_le (at + count) (m.place + m.bytes)) ≡ true → at + count < 2 ^ 64
+memory_low : (at count : ℕ) (m : RecordMemory) → (nat_le m.place at && nat_le (at + count) (m.place + m.bytes)) ≡ true → at + count < 2 ^ 64
 memory_low at count m h =
     let within = leb-true (at + count) (m.place + m.bytes) (both_true (nat_le m.place at) (nat_le (at + count) (m.place + m.bytes)) h).1 in
     let fits : m.place + m.bytes < 2 ^ 64 = m.fits in

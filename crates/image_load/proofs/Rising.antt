@@ -6,7 +6,7 @@ use Rattle.std.proofs.lemmas.List.{length-replicate}
 use Rattle.std.proofs.lemmas.List.Elements.{All-from_recursion}
 use Rattle.muen_num.specs.declared.limits.TheConstants.{MOST_DEVICES, PAGE, PHYSICAL_END}
 use Rattle.phys_mem.specs.Spans.{AreApart, AreSpans, IsSpan, end_of}
-use Rattle.phys_mem.specs.declared.spans.SpanPartBytes.{SpanPartBytes}
+use Rattle.phys_mem.specs.declared.spans.MemorySpan.{MemorySpan}
 use Rattle.image_form.specs.Form.{all_fit, byte, bytes_of, coded, done, each, each_fit, field, gap, items, number, only}
 use Rattle.image_form.proofs.Forms.{both_true}
 use Rattle.image_pack.specs.Codes.{is_device}
@@ -73,7 +73,7 @@ contents_length s bytes =
       | false ↦ λ h. h
     ]
 
-abbrev Follow : ℕ → List SpanPartBytes → Type 0
+abbrev Follow : ℕ → List MemorySpan → Type 0
 Follow end [] = Unit {0}
 Follow end (s ∷ ss) = (end ≤ s.place) × IsSpan s × Follow (end_of s) ss
 
@@ -90,11 +90,11 @@ follow_loaded end (s ∷ ss) (b ∷ bs) h fits =
       subst (λ n. Follow n (loaded_spans ss bs)) (sym at_end) (follow_loaded (s.place + PAGE * s.pages) ss bs h.1 fits.1),
     )
 
-spans_each : (end : ℕ) (ss : List SpanPartBytes) → Follow end ss → AllByRecursion IsSpan ss
+spans_each : (end : ℕ) (ss : List MemorySpan) → Follow end ss → AllByRecursion IsSpan ss
 spans_each end [] h = tt
 spans_each end (s ∷ ss) h = (h.1, spans_each (end_of s) ss h.2)
 
-all_behind : (end : ℕ) (ss : List SpanPartBytes) → Follow end ss → (j : ℕ) (d : SpanPartBytes) → j < length ss → end ≤ (get_or ss j d).place
+all_behind : (end : ℕ) (ss : List MemorySpan) → Follow end ss → (j : ℕ) (d : MemorySpan) → j < length ss → end ≤ (get_or ss j d).place
 all_behind end [] h j d low = absurd (omega arith)
 all_behind end (s ∷ ss) h zero d low = h.0
 all_behind end (s ∷ ss) h (suc j) d low =
@@ -102,7 +102,7 @@ all_behind end (s ∷ ss) h (suc j) d low =
     let first : end ≤ s.place = h.0 in
     omega (arith, more, first)
 
-spans_apart : (end : ℕ) (ss : List SpanPartBytes) → Follow end ss → AreApart ss
+spans_apart : (end : ℕ) (ss : List MemorySpan) → Follow end ss → AreApart ss
 spans_apart end [] h i j d lt low = absurd (omega arith)
 spans_apart end (s ∷ ss) h zero zero d lt low = absurd (omega arith)
 spans_apart end (s ∷ ss) h zero (suc j) d lt low = all_behind (end_of s) ss h.2 j d (omega (arith, low))

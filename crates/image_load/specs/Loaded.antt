@@ -5,7 +5,7 @@ use Rattle.std.specs.List.{find}
 use Rattle.muen_num.specs.declared.limits.TheConstants.{PAGE}
 use Rattle.machine_meaning.specs.Memory.{Page}
 use Rattle.phys_mem.specs.Spans.{pages_of_spans}
-use Rattle.phys_mem.specs.declared.spans.SpanPartBytes.{SpanPartBytes}
+use Rattle.phys_mem.specs.declared.spans.MemorySpan.{MemorySpan}
 use Rattle.image_pack.specs.Codes.{is_device}
 use Rattle.image_pack.specs.declared.parts.Image.{Image}
 use Rattle.image_pack.specs.declared.parts.SpanPart.{SpanPart}
@@ -19,10 +19,10 @@ use Rattle.kernel_core.specs.declared.setup.Setup.{Setup}
 unfoldable pub zero_bytes : ℕ → List ℕ
 zero_bytes n = replicate n 0
 
-abbrev pub loaded_span : SpanPart → List ℕ → SpanPartBytes
+abbrev pub loaded_span : SpanPart → List ℕ → MemorySpan
 loaded_span s bytes = record { place = s.place; bytes = if is_device s.kind then zero_bytes (PAGE * s.pages) else bytes }
 
-abbrev pub loaded_spans : List SpanPart → List (List ℕ) → List SpanPartBytes
+abbrev pub loaded_spans : List SpanPart → List (List ℕ) → List MemorySpan
 loaded_spans (s ∷ ss) (bytes ∷ more) = loaded_span s bytes ∷ loaded_spans ss more
 loaded_spans ss more = []
 

@@ -7,28 +7,28 @@ use Rattle.image_pack.specs.declared.parts.IrqPart.{IrqPart}
 use Rattle.image_pack.specs.declared.parts.IrqTarget.{IrqTarget}
 use Rattle.image_pack.specs.declared.parts.PortSpan.{PortSpan}
 use Rattle.image_pack.specs.declared.parts.SpanPart.{SpanPart}
-use Rattle.record_text.specs.declared.devices.DevicePlaces.{DevicePlaces}
+use Rattle.record_text.specs.declared.devices.RecordDevice.{RecordDevice}
 use Rattle.record_text.specs.declared.devices.Devices.{Devices}
-use Rattle.record_text.specs.declared.devices.IrqPlace.{IrqPlace}
-use Rattle.record_text.specs.declared.devices.IrqTarget.{IrqTarget as TargetPlace}
-use Rattle.record_text.specs.declared.devices.MemoryPlace.{MemoryPlace}
-use Rattle.record_text.specs.declared.devices.PortSpan.{PortSpan as PortPlace}
+use Rattle.record_text.specs.declared.devices.RecordIrq.{RecordIrq}
+use Rattle.record_text.specs.declared.devices.IrqTarget.{IrqTarget as RecordTarget}
+use Rattle.record_text.specs.declared.devices.RecordMemory.{RecordMemory}
+use Rattle.record_text.specs.declared.devices.PortSpan.{PortSpan as RecordPorts}
 use Rattle.image_load.specs.Placing.{NamedMemory, memories_of}
 
-abbrev pub port_place : PortSpan → PortPlace
+abbrev pub port_place : PortSpan → RecordPorts
 port_place r = record { start = r.start; end = r.end }
 
-abbrev pub target_place : IrqTarget → TargetPlace
+abbrev pub target_place : IrqTarget → RecordTarget
 target_place t = record { subject = t.subject; vector = t.vector }
 
-abbrev pub irq_place : IrqPart → IrqPlace
+abbrev pub irq_place : IrqPart → RecordIrq
 irq_place q = record { name = q.name; target = option_map target_place q.target }
 
-abbrev pub named_memory : MemoryPlace → NamedMemory
+abbrev pub named_memory : RecordMemory → NamedMemory
 named_memory m = record { name = m.name; place = m.place; bytes = m.bytes }
 
 -- a device's places are those of its parts
-pub record IsPlaced (spans : List SpanPart) (d : DevicePart) (p : DevicePlaces) : Type 0 where
+pub record IsPlaced (spans : List SpanPart) (d : DevicePart) (p : RecordDevice) : Type 0 where
   pub name : p.name ≡ d.name
   pub ports : p.ports ≡ map port_place d.ports
   pub memories : map named_memory p.memories ≡ memories_of spans d

@@ -7,7 +7,7 @@ ghost use Rattle.image_load.specs.Loaded.{loaded_span, loaded_spans, zero_bytes}
 use image_pack::SpanPart;
 use muen_num::limits::PAGE;
 use muen_num::{NoMemory, Seq};
-use phys_mem::{RegionMem, SpanPartBytes};
+use phys_mem::{RegionMem, MemorySpan};
 use std::alloc::Global;
 
 // So many zeros.
@@ -19,18 +19,18 @@ fn zeros(alloc: Global, count: usize) -> Result<Vec<u8>, NoMemory>
 }
 
 // A span with what it has at the start.
-fn load_span(alloc: Global, span: &SpanPart, bytes: Seq<u8>) -> Result<SpanPartBytes, NoMemory>
+fn load_span(alloc: Global, span: &SpanPart, bytes: Seq<u8>) -> Result<MemorySpan, NoMemory>
     ensures { IfOk result (λ s. s ≡ loaded_span span.now bytes) }
 {
     if !span.kind.is_device() {
-        return Ok(SpanPartBytes {
+        return Ok(MemorySpan {
             place: span.place,
             bytes,
         });
     }
     let count = PAGE * u64::from(span.pages);
     let bytes = Seq::of(zeros(alloc, count as usize)?);
-    Ok(SpanPartBytes {
+    Ok(MemorySpan {
         place: span.place,
         bytes,
     })
@@ -41,7 +41,7 @@ fn load_spans(
     alloc: Global,
     spans: &[SpanPart],
     contents: Seq<Seq<u8>>,
-) -> Result<Vec<SpanPartBytes>, NoMemory>
+) -> Result<Vec<MemorySpan>, NoMemory>
     ensures { IfOk result (λ v. v.items ≡ loaded_spans spans.now contents) }
 {
     let mut loaded = Vec::with_capacity(alloc, spans.len())?;

@@ -9,8 +9,8 @@ ghost use Rattle.image_load.specs.Placing.{memory_of_span, memory_of_window};
 use crate::spans::span_numbered;
 use image_pack::{DevicePart, Image, IrqPart, SpanPart, WindowPart};
 use muen_num::limits::PAGE;
-use muen_num::{NoMemory, Part, Seq};
-use record_text::{DevicePlaces, Devices, IrqPlace, IrqTarget, MemoryPlace, PortSpan};
+use muen_num::{NoMemory, TagPart, Seq};
+use record_text::{RecordDevice, Devices, RecordIrq, IrqTarget, RecordMemory, PortSpan};
 use std::alloc::{AllocError, Global};
 
 // A range of ports.
@@ -31,10 +31,10 @@ fn ports_of(alloc: Global, ranges: &[image_pack::PortSpan]) -> Result<Vec<PortSp
 }
 
 // An interrupt, and where it goes.
-fn irq_place(irq: &IrqPart) -> IrqPlace
+fn irq_place(irq: &IrqPart) -> RecordIrq
     ensures { result ≡ irq_place irq.now }
 {
-    IrqPlace {
+    RecordIrq {
         name: irq.name,
         target: irq.target.map(|target| IrqTarget {
             subject: target.subject,
@@ -44,14 +44,14 @@ fn irq_place(irq: &IrqPart) -> IrqPlace
 }
 
 // The interrupts.
-fn irqs_of(alloc: Global, irqs: &[IrqPart]) -> Result<Vec<IrqPlace>, AllocError>
+fn irqs_of(alloc: Global, irqs: &[IrqPart]) -> Result<Vec<RecordIrq>, AllocError>
     ensures { IfOk result (λ v. v.items ≡ map irq_place irqs.now) }
 {
     irqs.iter().map(irq_place).collect(alloc)
 }
 
 // The memory that a span is, if it is a device's.
-fn memory_of_span(span: &SpanPart) -> Option<MemoryPlace>
+fn memory_of_span(span: &SpanPart) -> Option<RecordMemory>
     requires { IsLow span.now }
     ensures { option_map named_memory result ≡ memory_of_span span.now }
 {
@@ -59,7 +59,7 @@ fn memory_of_span(span: &SpanPart) -> Option<MemoryPlace>
         return None;
     }
     match span.tag.part {
-        Part::Named(name) => Some(MemoryPlace {
+        TagPart::Named(name) => Some(RecordMemory {
             name,
             place: span.place,
             bytes: PAGE * u64::from(span.pages),
@@ -69,7 +69,7 @@ fn memory_of_span(span: &SpanPart) -> Option<MemoryPlace>
 }
 
 // The memory of a window.
-fn memory_of_window(spans: &[SpanPart], window: &WindowPart) -> Option<MemoryPlace>
+fn memory_of_window(spans: &[SpanPart], window: &WindowPart) -> Option<RecordMemory>
     requires { AreLow spans.now }
     ensures { option_map named_memory result ≡ memory_of_window spans.now window.now }
 {
@@ -78,7 +78,7 @@ fn memory_of_window(spans: &[SpanPart], window: &WindowPart) -> Option<MemoryPla
 
 // Appends the memory of a window.
 fn push_memory(
-    memories: &mut Vec<MemoryPlace>,
+    memories: &mut Vec<RecordMemory>,
     spans: &[SpanPart],
     window: &WindowPart,
 ) -> Result<(), AllocError>
@@ -97,7 +97,7 @@ fn memories_of(
     alloc: Global,
     spans: &[SpanPart],
     windows: &[WindowPart],
-) -> Result<Vec<MemoryPlace>, AllocError>
+) -> Result<Vec<RecordMemory>, AllocError>
     requires { AreLow spans.now }
     ensures { IfOk result (λ v. map named_memory v.items ≡ flat_map (λ w. option_to_list (memory_of_window spans.now w)) windows.now) }
 {
@@ -113,11 +113,11 @@ fn place_device(
     alloc: Global,
     spans: &[SpanPart],
     device: &DevicePart,
-) -> Result<DevicePlaces, AllocError>
+) -> Result<RecordDevice, AllocError>
     requires { AreLow spans.now }
     ensures { IfOk result (IsPlaced spans.now device.now) }
 {
-    Ok(DevicePlaces {
+    Ok(RecordDevice {
         name: device.name,
         ports: Seq::of(ports_of(alloc, device.ports.items())?),
         memories: Seq::of(memories_of(alloc, spans, device.windows.items())?),
@@ -130,7 +130,7 @@ fn place_devices(
     alloc: Global,
     spans: &[SpanPart],
     devices: &[DevicePart],
-) -> Result<Vec<DevicePlaces>, AllocError>
+) -> Result<Vec<RecordDevice>, AllocError>
     requires { AreLow spans.now }
     ensures { IfOk result (λ v. AllZip (IsPlaced spans.now) devices.now v.items) }
 {

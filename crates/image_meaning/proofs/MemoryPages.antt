@@ -6,7 +6,7 @@ use Rattle.std.proofs.lemmas.Option.{get_or_from_slice_get, slice_get_within}
 use Rattle.machine_meaning.specs.Memory.{Page, page_of}
 use Rattle.phys_mem.specs.Frames.{pages_in}
 use Rattle.phys_mem.specs.Spans.{AreSpans, IsSpan, end_of, pages_of_spans}
-use Rattle.phys_mem.specs.declared.spans.SpanPartBytes.{SpanPartBytes}
+use Rattle.phys_mem.specs.declared.spans.MemorySpan.{MemorySpan}
 
 not_in : (n k q : ℕ) (bytes : List ℕ) → (q < k) ⊎ (k + n ≤ q) → page_of (pages_in n k bytes) q ≡ None
 not_in zero k q bytes h = refl
@@ -44,7 +44,7 @@ right (p ∷ ps) ys q h = right_if (eqb p.number q) p.bytes (page_of ps q) (page
 
 -- ---- spans
 
-later : (s : SpanPartBytes) (ss : List SpanPartBytes) → AreSpans (s ∷ ss) → AreSpans ss
+later : (s : MemorySpan) (ss : List MemorySpan) → AreSpans (s ∷ ss) → AreSpans ss
 later s ss h = record {
   each = λ k d l. h.each (suc k) d (omega (arith, l));
   apart = λ i j d a b. h.apart (suc i) (suc j) d (omega (arith, a)) (omega (arith, b));
@@ -53,22 +53,22 @@ later s ss h = record {
 behind : (place bytes next j : ℕ) → place % 4096 ≡ 0 → bytes % 4096 ≡ 0 → place + bytes ≤ next → place / 4096 + bytes / 4096 ≤ next / 4096 + j
 behind place bytes next j a b h = omega (arith, a, b, h)
 
-same : (s t : SpanPartBytes) → Some s ≡ Some t → s ≡ t
+same : (s t : MemorySpan) → Some s ≡ Some t → s ≡ t
 same s t h = cc
 
 -- page j of a span stands in memory
-pub in_spans : (ss : List SpanPartBytes) → AreSpans ss → (i : ℕ) (s : SpanPartBytes) → slice_get ss i ≡ Some s → (j : ℕ) → j < length s.bytes / 4096
+pub in_spans : (ss : List MemorySpan) → AreSpans ss → (i : ℕ) (s : MemorySpan) → slice_get ss i ≡ Some s → (j : ℕ) → j < length s.bytes / 4096
     → page_of (pages_of_spans ss) (s.place / 4096 + j) ≡ Some (take 4096 (drop (4096 * j) s.bytes))
 in_spans [] h i s at j l = absurd cc
 in_spans (t ∷ ts) h zero s at j l =
     let is : s ≡ t = sym (same t s at) in
     left (pages_in (length t.bytes / 4096) (t.place / 4096) t.bytes) (pages_of_spans ts) (s.place / 4096 + j) (take 4096 (drop (4096 * j) s.bytes))
-    (subst (λ (x : SpanPartBytes). page_of (pages_in (length x.bytes / 4096) (x.place / 4096) x.bytes) (s.place / 4096 + j) ≡ Some (take 4096 (drop (4096 * j) s.bytes))) is (here (length s.bytes / 4096) (s.place / 4096) j s.bytes l))
+    (subst (λ (x : MemorySpan). page_of (pages_in (length x.bytes / 4096) (x.place / 4096) x.bytes) (s.place / 4096 + j) ≡ Some (take 4096 (drop (4096 * j) s.bytes))) is (here (length s.bytes / 4096) (s.place / 4096) j s.bytes l))
 in_spans (t ∷ ts) h (suc i) s at j l =
     let first : IsSpan t = h.each 0 t (omega arith) in
     let within = slice_get_within ts i s at in
     let apart : end_of t ≤ (get_or ts i s).place = h.apart 0 (suc i) s (omega arith) (omega (arith, within)) in
-    let place : (get_or ts i s).place ≡ s.place = ap (λ (x : SpanPartBytes). x.place) (get_or_from_slice_get ts i s s at) in
+    let place : (get_or ts i s).place ≡ s.place = ap (λ (x : MemorySpan). x.place) (get_or_from_slice_get ts i s s at) in
     right (pages_in (length t.bytes / 4096) (t.place / 4096) t.bytes) (pages_of_spans ts) (s.place / 4096 + j)
     (not_in (length t.bytes / 4096) (t.place / 4096) (s.place / 4096 + j) t.bytes (inr (behind t.place (length t.bytes) s.place j first.aligned first.whole (omega (arith, apart, place)))))
     ∙ in_spans ts (later t ts h) i s at j l

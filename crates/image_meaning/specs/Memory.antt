@@ -9,7 +9,7 @@ use Rattle.machine_meaning.specs.Memory.{Page}
 use Rattle.muen_num.specs.Range.{numbers_below}
 use Rattle.muen_num.specs.declared.limits.TheConstants.{PAGE}
 use Rattle.phys_mem.specs.Spans.{pages_of_spans}
-use Rattle.phys_mem.specs.declared.spans.SpanPartBytes.{SpanPartBytes}
+use Rattle.phys_mem.specs.declared.spans.MemorySpan.{MemorySpan}
 
 -- a span, with what it has in the image
 abbrev pub Span : Type 0
@@ -22,7 +22,7 @@ bytes_of (s, bytes) = if is_device s.kind then replicate (PAGE * s.pages) 0 else
 abbrev pub spans_in : Image → List Span
 spans_in i = zip i.spans i.contents
 
-abbrev pub placed_bytes : Span → SpanPartBytes
+abbrev pub placed_bytes : Span → MemorySpan
 placed_bytes e = record { place = e.0.place; bytes = bytes_of e }
 
 -- the pages of a machine's memory at the start: those of the spans, and no others

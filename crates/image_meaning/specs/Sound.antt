@@ -20,9 +20,9 @@ use Rattle.machine_meaning.specs.Walks.{places_read, walk_of}
 use Rattle.machine_meaning.specs.declared.walk.Walk.{Walk}
 use Rattle.machine_meaning.specs.declared.walk.Walk.TheVariants.{At, Violation}
 use Rattle.muen_num.specs.Range.{numbers_below}
-use Rattle.muen_num.specs.declared.access.Kind.{Kind}
+use Rattle.muen_num.specs.declared.access.AccessKind.{AccessKind}
 use Rattle.muen_num.specs.declared.limits.TheConstants.{GUEST_END, MOST_CALLS, PAGE}
-use Rattle.muen_num.specs.declared.tag.Part.TheVariants.{Ept}
+use Rattle.muen_num.specs.declared.tag.TagPart.TheVariants.{Ept}
 use Rattle.plan_emit.specs.PlanOf.{IsPlanOf}
 use Rattle.policy_lawful.specs.Lawful.{IsLawful}
 use Rattle.policy_meaning.specs.Contents.{Held, initial_bytes}
@@ -90,7 +90,7 @@ led place (violation found) = Violation found.0
 -- **the walks** for a subject's guest addresses go exactly where its windows lead
 abbrev pub HasWalks : Source → Image → Subject → SubjectPart → Type 0
 HasWalks p i s q =
-    (addr : ℕ) (kind : Kind) → addr < GUEST_END
+    (addr : ℕ) (kind : AccessKind) → addr < GUEST_END
     → walk_of (memory_of i) q.eptp addr kind ≡ led (place_of p i) (access_of (windows_of p s) addr kind)
 
 -- ---- tables: where entries lie

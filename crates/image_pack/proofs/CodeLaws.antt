@@ -4,9 +4,9 @@ use Rattle.std.specs.Prelude.{codes, is_some}
 use Rattle.std.specs.Str.{bytes_eq}
 use Rattle.std.proofs.lemmas.Bool.{cases_eq, eq-eqb, ne_eqb, eqb-true, leb-true}
 use Rattle.std.proofs.lemmas.Slice.Eq.{bytes_eq-Decides}
-use Rattle.muen_num.specs.declared.mode.Mode.{Mode}
-use Rattle.muen_num.specs.declared.mode.Mode.TheVariants.{Asap, Async, Own as OwnMode, Switch}
-use Rattle.muen_num.specs.declared.tag.Part.TheVariants.{Whole, State, Ept, Iobm, Msrbm, Msrs}
+use Rattle.muen_num.specs.declared.mode.EventMode.{EventMode}
+use Rattle.muen_num.specs.declared.mode.EventMode.TheVariants.{Asap, Async, Own as OwnMode, Switch}
+use Rattle.muen_num.specs.declared.tag.TagPart.TheVariants.{Whole, State, Ept, Iobm, Msrbm, Msrs}
 use Rattle.image_form.specs.declared.fault.Field.TheVariants as at
 use Rattle.image_form.specs.Form.{either, fits_either, present, fits_there, absent}
 use Rattle.image_form.specs.Name.{name}
@@ -156,13 +156,13 @@ vector_chosen false v p = refl
 vector_back : (v : ℕ) → vector_code (vector_of v) ≡ v
 vector_back v = vector_chosen (eqb v 0) v (eqb-true v 0)
 
-event_of_back : (subjects target vector : ℕ) (mode : Mode) (x : Option EventPart) → event_of subjects target vector mode ≡ Some x → event_bytes x ≡ mode_code mode ∷ target ∷ vector ∷ 0 ∷ []
+event_of_back : (subjects target vector : ℕ) (mode : EventMode) (x : Option EventPart) → event_of subjects target vector mode ≡ Some x → event_bytes x ≡ mode_code mode ∷ target ∷ vector ∷ 0 ∷ []
 unfolding event_of
 event_of_back subjects target vector mode x e =
     ap event_bytes (sym (chosen _ (Some (record { mode = mode; target = target; vector = vector_of vector })) x e))
     ∙ ap (λ (v : ℕ). mode_code mode ∷ target ∷ v ∷ 0 ∷ []) (vector_back vector)
 
-mode_chosen : (a b c d : Bool) (n : ℕ) (m : Mode) → (a ≡ true → n ≡ 1) → (b ≡ true → n ≡ 2) → (c ≡ true → n ≡ 3) → (d ≡ true → n ≡ 4)
+mode_chosen : (a b c d : Bool) (n : ℕ) (m : EventMode) → (a ≡ true → n ≡ 1) → (b ≡ true → n ≡ 2) → (c ≡ true → n ≡ 3) → (d ≡ true → n ≡ 4)
     → cond a (some Asap) (cond b (some Async) (cond c (some OwnMode) (cond d (some Switch) None))) ≡ some m → mode_code m ≡ n
 mode_chosen true b c d n m p q r s h = ap mode_code (sym (some_is Asap m h)) ∙ sym (p refl)
 mode_chosen false true c d n m p q r s h = ap mode_code (sym (some_is Async m h)) ∙ sym (q refl)
@@ -170,7 +170,7 @@ mode_chosen false false true d n m p q r s h = ap mode_code (sym (some_is OwnMod
 mode_chosen false false false true n m p q r s h = ap mode_code (sym (some_is Switch m h)) ∙ sym (s refl)
 mode_chosen false false false false n m p q r s h = absurd cc
 
-mode_back : (n : ℕ) (m : Mode) → mode_of n ≡ Some m → mode_code m ≡ n
+mode_back : (n : ℕ) (m : EventMode) → mode_of n ≡ Some m → mode_code m ≡ n
 unfolding mode_of
 mode_back n m e = mode_chosen (eqb n 1) (eqb n 2) (eqb n 3) (eqb n 4) n m (eqb-true n 1) (eqb-true n 2) (eqb-true n 3) (eqb-true n 4) e
 
@@ -186,7 +186,7 @@ passed : {A : Type 0} (b : Bool) (x y : A) → cond b (some x) None ≡ some y �
 passed true x y e = refl
 passed false x y e = absurd cc
 
-with_mode : (o : Option Mode) (f : Mode → Option (Option EventPart)) (x : Option EventPart) → if_mode o f ≡ some x → (mode : Mode) × (o ≡ Some mode) × (f mode ≡ some x)
+with_mode : (o : Option EventMode) (f : EventMode → Option (Option EventPart)) (x : Option EventPart) → if_mode o f ≡ some x → (mode : EventMode) × (o ≡ Some mode) × (f mode ≡ some x)
 with_mode None f x e = absurd cc
 with_mode (Some mode) f x e = (mode, refl, e)
 

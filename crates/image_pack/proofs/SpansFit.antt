@@ -8,8 +8,8 @@ use Rattle.image_form.specs.Form.{all_fit, field, only, gap, done, number, byte,
 use Rattle.image_form.proofs.NameLaws.{name_fits}
 use Rattle.muen_num.specs.declared.limits.TheConstants.{PAGE, MOST_BLOCK_BYTES, MOST_DEVICE_BYTES}
 use Rattle.muen_num.specs.Naming.{is_name}
-use Rattle.muen_num.specs.declared.tag.Part.{Part}
-use Rattle.muen_num.specs.declared.tag.Part.TheVariants.{Whole, Named, State, Ept, Iobm, Msrbm, Msrs}
+use Rattle.muen_num.specs.declared.tag.TagPart.{TagPart}
+use Rattle.muen_num.specs.declared.tag.TagPart.TheVariants.{Whole, Named, State, Ept, Iobm, Msrbm, Msrs}
 use Rattle.image_pack.specs.Codes.{is_device, kind_bytes, kind_in, kind_of, part_code, part_name, part_of, plain_part}
 use Rattle.image_pack.specs.Image.{after, device_pages_with, has_room, is_kind, is_new, pages_with, span, suits_tau0, sum32, title}
 use Rattle.image_pack.specs.SpanConditions.{Ascend, HaveDifferentNumbers, IsSpan, device_pages_of, pages_of}
@@ -51,7 +51,7 @@ kind_decodes Provided = refl
 kind_decodes Kernel = refl
 kind_decodes Device = refl
 
-part_small : (q : Part) → part_code q < 256
+part_small : (q : TagPart) → part_code q < 256
 part_small Whole = omega arith
 part_small (Named name) = omega arith
 part_small State = omega arith
@@ -60,7 +60,7 @@ part_small Iobm = omega arith
 part_small Msrbm = omega arith
 part_small Msrs = omega arith
 
-part_back : (q : Part) → part_of (part_code q) (part_name q) ≡ q
+part_back : (q : TagPart) → part_of (part_code q) (part_name q) ≡ q
 unfolding plain_part
 part_back Whole = refl
 part_back (Named name) = refl
@@ -70,7 +70,7 @@ part_back Iobm = refl
 part_back Msrbm = refl
 part_back Msrs = refl
 
-title_fits : (q : Part) → IfSome (part_name q) (λ text. is_name text ≡ true) → (title (part_code q)).fits (part_name q)
+title_fits : (q : TagPart) → IfSome (part_name q) (λ text. is_name text ≡ true) → (title (part_code q)).fits (part_name q)
 unfolding title either present absent
 title_fits Whole h = refl
 title_fits (Named name) h = name_fits name h

@@ -7,8 +7,8 @@ use Rattle.image_form.specs.Form.{all_fit, field, only, gap, done, number, byte,
 use Rattle.image_form.proofs.Forms.{both_true}
 use Rattle.image_form.proofs.NameLaws.{name_fits}
 use Rattle.muen_num.specs.declared.limits.TheConstants.{PAGE}
-use Rattle.muen_num.specs.declared.mode.Mode.{Mode}
-use Rattle.muen_num.specs.declared.mode.Mode.TheVariants.{Asap, Async, Own, Switch}
+use Rattle.muen_num.specs.declared.mode.EventMode.{EventMode}
+use Rattle.muen_num.specs.declared.mode.EventMode.TheVariants.{Asap, Async, Own, Switch}
 use Rattle.image_plan.specs.Plan.{is_group_on}
 use Rattle.image_plan.specs.declared.plan.GroupPart.{GroupPart}
 use Rattle.image_pack.specs.Codes.{event_bytes, event_in, event_of, is_vector, mode_code, mode_of, part_code, vector_code, vector_of}
@@ -53,20 +53,20 @@ groups_fit h gs cpus subjects all = each_fits (nothing_left h) (λ b. (group h b
 
 -- ---- events
 
-vector_passes : (mode : Mode) (v : Option ℕ) → IsVector mode v → is_vector mode (vector_code v) ≡ true
+vector_passes : (mode : EventMode) (v : Option ℕ) → IsVector mode v → is_vector mode (vector_code v) ≡ true
 vector_passes mode None h = h
 vector_passes mode (Some v) h = rw (le-leb 32 v h) refl
 
-vector_decodes : (mode : Mode) (v : Option ℕ) → IsVector mode v → vector_of (vector_code v) ≡ v
+vector_decodes : (mode : EventMode) (v : Option ℕ) → IsVector mode v → vector_of (vector_code v) ≡ v
 vector_decodes mode None h = refl
 vector_decodes mode (Some v) h = let some : 32 ≤ v = h in rw (ne_eqb v 0 (λ e. absurd (omega (arith, e, some)))) refl
 
-some_event : (n t : ℕ) (mode : Mode) (v : Option ℕ) → t < n → IsVector mode v → event_of n t (vector_code v) mode ≡ Some (Some (record { mode = mode; target = t; vector = v }))
+some_event : (n t : ℕ) (mode : EventMode) (v : Option ℕ) → t < n → IsVector mode v → event_of n t (vector_code v) mode ≡ Some (Some (record { mode = mode; target = t; vector = v }))
 unfolding event_of
 some_event n t mode v low h =
     rw (both _ _ (lt-ltb t n low) (vector_passes mode v h), vector_decodes mode v h) refl
 
-mode_event : (n t : ℕ) (mode : Mode) (v : Option ℕ) → t < n → IsVector mode v → event_in n (mode_code mode ∷ t ∷ vector_code v ∷ 0 ∷ []) ≡ Some (Some (record { mode = mode; target = t; vector = v }))
+mode_event : (n t : ℕ) (mode : EventMode) (v : Option ℕ) → t < n → IsVector mode v → event_in n (mode_code mode ∷ t ∷ vector_code v ∷ 0 ∷ []) ≡ Some (Some (record { mode = mode; target = t; vector = v }))
 unfolding event_in mode_of
 mode_event n t Asap v low h = some_event n t Asap v low h
 mode_event n t Async v low h = some_event n t Async v low h

@@ -2,10 +2,10 @@
 use Rattle.std.specs.Prelude.{ℕ, ◌==◌, ◌&&◌, ◌||◌, not, Bool, true, false, nat_lt, nat_le, List, [], ◌∷◌, codes, Option, Some, None, if◌then◌else◌}
 use Rattle.std.specs.Str.{bytes_eq}
 use Rattle.muen_num.specs.declared.limits.TheConstants.{FIRST_VECTOR}
-use Rattle.muen_num.specs.declared.mode.Mode.{Mode}
-use Rattle.muen_num.specs.declared.mode.Mode.TheVariants.{Asap, Async, Own as OwnMode, Switch}
-use Rattle.muen_num.specs.declared.tag.Part.{Part}
-use Rattle.muen_num.specs.declared.tag.Part.TheVariants.{Whole, Named, State, Ept, Iobm, Msrbm, Msrs}
+use Rattle.muen_num.specs.declared.mode.EventMode.{EventMode}
+use Rattle.muen_num.specs.declared.mode.EventMode.TheVariants.{Asap, Async, Own as OwnMode, Switch}
+use Rattle.muen_num.specs.declared.tag.TagPart.{TagPart}
+use Rattle.muen_num.specs.declared.tag.TagPart.TheVariants.{Whole, Named, State, Ept, Iobm, Msrbm, Msrs}
 use Rattle.image_pack.specs.declared.parts.SpanKind.{SpanKind}
 use Rattle.image_pack.specs.declared.parts.SpanKind.TheVariants.{Own, Channel, Provided, Kernel, Device}
 use Rattle.image_pack.specs.declared.parts.EventPart.{EventPart}
@@ -55,7 +55,7 @@ is_own kind = false
 
 -- ---- parts of an owner
 
-abbrev pub part_code : Part → ℕ
+abbrev pub part_code : TagPart → ℕ
 part_code Whole = 0
 part_code (Named name) = 1
 part_code State = 2
@@ -64,12 +64,12 @@ part_code Iobm = 4
 part_code Msrbm = 5
 part_code Msrs = 6
 
-abbrev pub part_name : Part → Option (List ℕ)
+abbrev pub part_name : TagPart → Option (List ℕ)
 part_name (Named name) = Some name
 part_name part = None
 
 -- by its code, where it has no name
-unfoldable pub plain_part : ℕ → Part
+unfoldable pub plain_part : ℕ → TagPart
 plain_part code =
     if code == 0 then Whole
     else (if code == 2 then State
@@ -77,7 +77,7 @@ plain_part code =
     else (if code == 4 then Iobm
     else (if code == 5 then Msrbm else Msrs))))
 
-abbrev pub part_of : ℕ → Option (List ℕ) → Part
+abbrev pub part_of : ℕ → Option (List ℕ) → TagPart
 part_of code (Some name) = Named name
 part_of code None = plain_part code
 
@@ -91,20 +91,20 @@ is_part Device code = code == 1
 
 -- ---- events
 
-unfoldable pub mode_of : ℕ → Option Mode
+unfoldable pub mode_of : ℕ → Option EventMode
 mode_of n =
     if n == 1 then Some Asap
     else (if n == 2 then Some Async
     else (if n == 3 then Some OwnMode
     else (if n == 4 then Some Switch else None)))
 
-abbrev pub mode_code : Mode → ℕ
+abbrev pub mode_code : EventMode → ℕ
 mode_code Asap = 1
 mode_code Async = 2
 mode_code OwnMode = 3
 mode_code Switch = 4
 
-abbrev pub is_switch : Mode → Bool
+abbrev pub is_switch : EventMode → Bool
 is_switch Switch = true
 is_switch mode = false
 
@@ -117,17 +117,17 @@ vector_code None = 0
 vector_code (Some v) = v
 
 -- a vector that isn't kept for exceptions, or none where the target becomes active
-abbrev pub is_vector : Mode → ℕ → Bool
+abbrev pub is_vector : EventMode → ℕ → Bool
 is_vector mode n = nat_le FIRST_VECTOR n || (n == 0 && is_switch mode)
 
 -- an event of this mode, with its target among so many subjects
-unfoldable pub event_of : ℕ → ℕ → ℕ → Mode → Option (Option EventPart)
+unfoldable pub event_of : ℕ → ℕ → ℕ → EventMode → Option (Option EventPart)
 event_of subjects target vector mode =
     if nat_lt target subjects && is_vector mode vector
     then Some (Some (record { mode = mode; target = target; vector = vector_of vector }))
     else None
 
-abbrev pub if_mode : Option Mode → (Mode → Option (Option EventPart)) → Option (Option EventPart)
+abbrev pub if_mode : Option EventMode → (EventMode → Option (Option EventPart)) → Option (Option EventPart)
 if_mode None event = None
 if_mode (Some mode) event = event mode
 

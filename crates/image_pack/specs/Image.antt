@@ -6,7 +6,7 @@ use Rattle.std.specs.List.{list_any, list_all, find, enumerate_from}
 use Rattle.std.specs.Option.{option_map_or}
 use Rattle.std.specs.Str.{bytes_eq}
 use Rattle.muen_num.specs.declared.limits.TheConstants.{PAGE, PHYSICAL_END, MOST_BLOCK_BYTES, MOST_DEVICE_BYTES, MOST_CPUS, MOST_SUBJECTS, MOST_MAJOR_FRAMES, MOST_MINOR_FRAMES, MOST_TICKS, MOST_DEVICES, MOST_PER_DEVICE, MOST_REGIONS, MOST_DEVICE_WINDOWS, MOST_MSRS, MOST_CALLS}
-use Rattle.muen_num.specs.declared.tag.Part.TheVariants.{State, Iobm, Msrbm, Msrs}
+use Rattle.muen_num.specs.declared.tag.TagPart.TheVariants.{State, Iobm, Msrbm, Msrs}
 use Rattle.image_form.specs.Form.{Form, number, byte, bytes_of, coded, present, absent, either, only, field, gap, done, items, each}
 use Rattle.image_form.specs.Name.{name}
 use Rattle.image_form.specs.declared.fault.Field.TheVariants as at

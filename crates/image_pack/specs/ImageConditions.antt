@@ -4,8 +4,8 @@ use Rattle.std.specs.List.{All, AllPairs, AllZip, enumerate_from, list_all}
 use Rattle.std.specs.Str.{bytes_eq}
 use Rattle.muen_num.specs.Naming.{is_name}
 use Rattle.muen_num.specs.declared.limits.TheConstants.{FIRST_VECTOR, MOST_CALLS, MOST_CPUS, MOST_DEVICES, MOST_MAJOR_FRAMES, MOST_MSRS, MOST_PER_DEVICE, MOST_SUBJECTS, PAGE}
-use Rattle.muen_num.specs.declared.mode.Mode.{Mode}
-use Rattle.muen_num.specs.declared.tag.Part.TheVariants.{State, Iobm, Msrbm, Msrs}
+use Rattle.muen_num.specs.declared.mode.EventMode.{EventMode}
+use Rattle.muen_num.specs.declared.tag.TagPart.TheVariants.{State, Iobm, Msrbm, Msrs}
 use Rattle.image_plan.specs.Plan.{is_group_on, is_major}
 use Rattle.image_plan.specs.declared.plan.GroupPart.{GroupPart}
 use Rattle.image_pack.specs.Codes.{is_device, is_own, is_switch, part_code}
@@ -51,7 +51,7 @@ pub record IsGroup (h : Header) (g : GroupPart) : Type 0 where
   pub first : g.first < h.subjects
 
 -- a vector that isn't kept for exceptions, or none where the mode needs none
-abbrev pub IsVector : Mode → Option ℕ → Type 0
+abbrev pub IsVector : EventMode → Option ℕ → Type 0
 IsVector mode None = is_switch mode ≡ true
 IsVector mode (Some v) = FIRST_VECTOR ≤ v
 

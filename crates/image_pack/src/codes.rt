@@ -7,9 +7,9 @@ ghost use Rattle.image_pack.specs.Image.{mark, kind_byte, event};
 use crate::outline::Header;
 use crate::parts::{EventPart, IrqTarget, SpanKind};
 use image_form::reading::{bad, short};
-use image_form::{Field, Halt};
+use image_form::{Field, FormError};
 use muen_num::limits::FIRST_VECTOR;
-use muen_num::{Mode, Name, Part};
+use muen_num::{EventMode, Name, TagPart};
 
 /// The number in place of a subject's that stands for nobody.
 const NOBODY: u8 = 255;
@@ -24,7 +24,7 @@ pub(crate) fn mark(has_tau0: bool) -> &'static [u8]
 
 /// Whether the span of tau0 is named, by the first eight bytes.
 #[tactic(auto, unfolding(image_form::specs::Form::coded, image_form::specs::Form::coded_at, crate::specs::Codes::mark_in))]
-pub(crate) fn mark_of(bytes: &[u8]) -> Result<(bool, &[u8]), Halt>
+pub(crate) fn mark_of(bytes: &[u8]) -> Result<(bool, &[u8]), FormError>
     ensures { Gives (λ x. (x.0, x.1.now)) result (mark.read bytes.now) }
 {
     if bytes.len() < 8 {
@@ -85,7 +85,7 @@ impl SpanKind {
 
 /// The kind of a span, by its byte.
 #[tactic(auto, unfolding(image_form::specs::Form::coded, image_form::specs::Form::coded_at, crate::specs::Codes::kind_in))]
-pub(crate) fn kind_byte_of(bytes: &[u8]) -> Result<(SpanKind, &[u8]), Halt>
+pub(crate) fn kind_byte_of(bytes: &[u8]) -> Result<(SpanKind, &[u8]), FormError>
     ensures { Gives (λ x. (x.0, x.1.now)) result (kind_byte.read bytes.now) }
 {
     match bytes {
@@ -98,50 +98,50 @@ pub(crate) fn kind_byte_of(bytes: &[u8]) -> Result<(SpanKind, &[u8]), Halt>
 }
 
 /// The byte of a part of an owner.
-pub(crate) fn part_code(part: &Part) -> u8
+pub(crate) fn part_code(part: &TagPart) -> u8
     ensures { result ≡ part_code part.now }
 {
     match part {
-        Part::Whole => 0,
-        Part::Named(_) => 1,
-        Part::State => 2,
-        Part::Ept => 3,
-        Part::Iobm => 4,
-        Part::Msrbm => 5,
-        Part::Msrs => 6,
+        TagPart::Whole => 0,
+        TagPart::Named(_) => 1,
+        TagPart::State => 2,
+        TagPart::Ept => 3,
+        TagPart::Iobm => 4,
+        TagPart::Msrbm => 5,
+        TagPart::Msrs => 6,
     }
 }
 
 /// The name of a part that has one.
-pub(crate) fn part_name(part: &Part) -> Option<Name>
+pub(crate) fn part_name(part: &TagPart) -> Option<Name>
     ensures { result ≡ part_name part.now }
 {
     match part {
-        Part::Named(name) => Some(*name),
+        TagPart::Named(name) => Some(*name),
         _ => None,
     }
 }
 
 #[tactic(auto, unfolding(crate::specs::Codes::plain_part))]
-fn plain_part(code: u8) -> Part
+fn plain_part(code: u8) -> TagPart
     ensures { result ≡ plain_part code }
 {
     match code {
-        0 => Part::Whole,
-        2 => Part::State,
-        3 => Part::Ept,
-        4 => Part::Iobm,
-        5 => Part::Msrbm,
-        _ => Part::Msrs,
+        0 => TagPart::Whole,
+        2 => TagPart::State,
+        3 => TagPart::Ept,
+        4 => TagPart::Iobm,
+        5 => TagPart::Msrbm,
+        _ => TagPart::Msrs,
     }
 }
 
 /// A part, by its byte and its name.
-pub(crate) fn part_of(code: u8, name: Option<Name>) -> Part
+pub(crate) fn part_of(code: u8, name: Option<Name>) -> TagPart
     ensures { result ≡ part_of code name }
 {
     match name {
-        Some(name) => Part::Named(name),
+        Some(name) => TagPart::Named(name),
         None => plain_part(code),
     }
 }
@@ -158,36 +158,36 @@ pub(crate) fn is_part(kind: SpanKind, code: u8) -> bool
 }
 
 #[tactic(auto, unfolding(crate::specs::Codes::mode_of))]
-fn mode_of(code: u8) -> Option<Mode>
+fn mode_of(code: u8) -> Option<EventMode>
     ensures { result ≡ mode_of code }
 {
     match code {
-        1 => Some(Mode::Asap),
-        2 => Some(Mode::Async),
-        3 => Some(Mode::Own),
-        4 => Some(Mode::Switch),
+        1 => Some(EventMode::Asap),
+        2 => Some(EventMode::Async),
+        3 => Some(EventMode::Own),
+        4 => Some(EventMode::Switch),
         _ => None,
     }
 }
 
-fn mode_code(mode: Mode) -> u8
+fn mode_code(mode: EventMode) -> u8
     ensures { result ≡ mode_code mode }
 {
     match mode {
-        Mode::Asap => 1,
-        Mode::Async => 2,
-        Mode::Own => 3,
-        Mode::Switch => 4,
+        EventMode::Asap => 1,
+        EventMode::Async => 2,
+        EventMode::Own => 3,
+        EventMode::Switch => 4,
     }
 }
 
-fn is_switch(mode: Mode) -> bool
+fn is_switch(mode: EventMode) -> bool
     ensures { result ≡ is_switch mode }
 {
-    matches!(mode, Mode::Switch)
+    matches!(mode, EventMode::Switch)
 }
 
-fn is_vector(mode: Mode, code: u8) -> bool
+fn is_vector(mode: EventMode, code: u8) -> bool
     ensures { result ≡ is_vector mode code }
 {
     u64::from(code) >= FIRST_VECTOR || (code == 0 && is_switch(mode))
@@ -209,7 +209,7 @@ fn vector_code(vector: Option<u8>) -> u8
 }
 
 #[tactic(auto, unfolding(crate::specs::Codes::event_of))]
-fn event_of(subjects: u8, target: u8, vector: u8, mode: Mode) -> Option<Option<EventPart>>
+fn event_of(subjects: u8, target: u8, vector: u8, mode: EventMode) -> Option<Option<EventPart>>
     ensures { result ≡ event_of subjects target vector mode }
 {
     if target < subjects && is_vector(mode, vector) {
@@ -249,7 +249,7 @@ fn event_in(subjects: u8, mode: u8, target: u8, vector: u8, zero: u8) -> Option<
 pub(crate) fn event_at<'a>(
     header: &Header,
     bytes: &'a [u8],
-) -> Result<(Option<EventPart>, &'a [u8]), Halt>
+) -> Result<(Option<EventPart>, &'a [u8]), FormError>
     ensures { Gives (λ x. (x.0, x.1.now)) result ((event header.now 0).read bytes.now) }
 {
     if bytes.len() < 4 {

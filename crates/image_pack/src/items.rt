@@ -2,7 +2,7 @@
 ghost use Rattle.std.specs.Prelude.{◌≡◌, ℕ, IfOk, OnOk, ◌++◌};
 ghost use Rattle.image_form.specs.Form.{Form, Gives, items};
 
-use image_form::Halt;
+use image_form::FormError;
 use muen_num::Seq;
 use std::alloc::{AllocError, Global};
 
@@ -29,7 +29,7 @@ pub trait Item: Drop {
         among: &Self::Among,
         before: &mut Self::Before,
         bytes: &'a [u8],
-    ) -> Result<(Self, &'a [u8]), Halt>
+    ) -> Result<(Self, &'a [u8]), FormError>
     where
         Self: Sized,
         ensures gives { Gives (λ x. (x.0, x.1.now)) result ((form among.now before.old).read bytes.now) }
@@ -56,7 +56,7 @@ pub fn items_of<'a, T: Item>(
     before: T::Before,
     count: usize,
     bytes: &'a [u8],
-) -> Result<(Seq<T>, &'a [u8]), Halt>
+) -> Result<(Seq<T>, &'a [u8]), FormError>
     ensures { Gives (λ x. (x.0, x.1.now)) result ((items (T.next among.now) (T.form among.now) before count).read bytes.now) }
 {
     let mut list = Seq::new(alloc);

@@ -1,7 +1,7 @@
 //! The parts of an image.
 use crate::outline::Header;
 use image_plan::Plan;
-use muen_num::{Mode, Name, Seq, Tag};
+use muen_num::{EventMode, Name, Seq, Tag};
 
 /// What a span of memory is.
 #[derive(Clone, Copy, Debug, PartialEq, Eq)]
@@ -35,7 +35,7 @@ pub struct SpanPart {
 /// What an event does that a call or a trap of a subject raises.
 #[derive(Clone, Copy, Debug, PartialEq, Eq)]
 pub struct EventPart {
-    pub mode: Mode,
+    pub mode: EventMode,
     /// The number of the subject that it reaches.
     pub target: u8,
     /// The interrupt vector that it has there, 32 to 255. It may lack where the mode is `Switch`.

@@ -8,8 +8,8 @@ use Rattle.std.proofs.lemmas.Slice.Eq.{bytes_eq-Decides}
 use Rattle.look_up.proofs.ChangeLaws.{element_changes}
 use Rattle.look_up.specs.ByNumber.{change_at}
 use Rattle.machine_meaning.specs.Pending.{with_vector}
-use Rattle.muen_num.specs.declared.mode.Mode.{Mode}
-use Rattle.muen_num.specs.declared.mode.Mode.TheVariants.{Asap, Async, Own as OwnMode, Switch}
+use Rattle.muen_num.specs.declared.mode.EventMode.{EventMode}
+use Rattle.muen_num.specs.declared.mode.EventMode.TheVariants.{Asap, Async, Own as OwnMode, Switch}
 use Rattle.policy_lawful.proofs.KeptMembers.{members_kept}
 use Rattle.policy_lawful.proofs.Places.{same_self}
 use Rattle.policy_lawful.specs.Lawful.{IsLawful}
@@ -55,7 +55,7 @@ change_named_alike n k f a b same =
 -- ---- who is active after a handover
 
 -- an event that isn't a handover changes no active member
-pub plain_active : (p : Source) (name : List ℕ) (mode : Mode) (t : Target) (y : System) → hands_over (Some (record { mode = mode; target = t })) ≡ false → is_active p (happens_as p mode t y) name ≡ is_active p y name
+pub plain_active : (p : Source) (name : List ℕ) (mode : EventMode) (t : Target) (y : System) → hands_over (Some (record { mode = mode; target = t })) ≡ false → is_active p (happens_as p mode t y) name ≡ is_active p y name
 plain_active p name Asap t y h = refl
 plain_active p name Async t y h = refl
 plain_active p name OwnMode t y h = refl
@@ -95,7 +95,7 @@ module _ (p : Source) (lawful : IsLawful p) (cpu tick : ℕ) (y : System) (slot 
 
 -- ---- an event that reaches a subject in both systems
 
-mode_now : (p q : Source) (name : List ℕ) (mode : Mode) (t : Target) (y z : System) → named y.now name ≡ named z.now name → named (happens_as p mode t y).now name ≡ named (happens_as q mode t z).now name
+mode_now : (p q : Source) (name : List ℕ) (mode : EventMode) (t : Target) (y z : System) → named y.now name ≡ named z.now name → named (happens_as p mode t y).now name ≡ named (happens_as q mode t z).now name
 mode_now p q name Asap t y z same = change_named_alike t.subject name (with_vector t.vector) y.now z.now same
 mode_now p q name Async t y z same = same
 mode_now p q name OwnMode t y z same = change_named_alike t.subject name (with_vector t.vector) y.now z.now same
@@ -107,7 +107,7 @@ mode_now p q name Switch t y z same = by_groups (group_of p t.subject) (group_of
     by_groups (Some g) None = change_named_alike t.subject name (with_vector t.vector) y.now z.now same
     by_groups (Some g) (Some k) = change_named_alike t.subject name (with_vector t.vector) y.now z.now same
 
-mode_later : (p q : Source) (name : List ℕ) (mode : Mode) (t : Target) (y z : System) → named y.later name ≡ named z.later name → named (happens_as p mode t y).later name ≡ named (happens_as q mode t z).later name
+mode_later : (p q : Source) (name : List ℕ) (mode : EventMode) (t : Target) (y z : System) → named y.later name ≡ named z.later name → named (happens_as p mode t y).later name ≡ named (happens_as q mode t z).later name
 mode_later p q name Asap t y z same = same
 mode_later p q name Async t y z same = change_named_alike t.subject name (with_vector t.vector) y.later z.later same
 mode_later p q name OwnMode t y z same = same
@@ -127,7 +127,7 @@ pub record SameEvents (p q : Source) (name : List ℕ) (y z : System) : Type 0 w
 
 module _ (p q : Source) (lawful : IsLawful p) (lawful_too : IsLawful q) (cpu tick : ℕ) (y z : System) (slot slot' : Slot) (u v : Subject) (at : Acts p cpu tick y slot u) (at' : Acts q cpu tick z slot' v) (way : SourceWay) where
   -- one that reaches it is the same in both
-  reached_active : (e : Raised) → event_of p u way ≡ Some e → event_of q v way ≡ Some e → (mode : Mode) → e.mode ≡ mode → (name : List ℕ) → e.target.subject ≡ name → (y' z' : System) → y'.active ≡ y.active → z'.active ≡ z.active
+  reached_active : (e : Raised) → event_of p u way ≡ Some e → event_of q v way ≡ Some e → (mode : EventMode) → e.mode ≡ mode → (name : List ℕ) → e.target.subject ≡ name → (y' z' : System) → y'.active ≡ y.active → z'.active ≡ z.active
       → is_active p y' name ≡ is_active q z' name → is_active p (happens_as p mode e.target y') name ≡ is_active q (happens_as q mode e.target z') name
   reached_active e is is' Asap mode name to y' z' same same' before = before
   reached_active e is is' Async mode name to y' z' same same' before = before

@@ -10,8 +10,8 @@ use Rattle.image_plan.specs.Slot.{Slot}
 use Rattle.machine_meaning.specs.Memory.{over}
 use Rattle.machine_meaning.specs.Pending.{without}
 use Rattle.muen_num.proofs.Members.{find_in}
-use Rattle.muen_num.specs.declared.mode.Mode.{Mode}
-use Rattle.muen_num.specs.declared.mode.Mode.TheVariants.{Asap, Async, Own as OwnMode, Switch}
+use Rattle.muen_num.specs.declared.mode.EventMode.{EventMode}
+use Rattle.muen_num.specs.declared.mode.EventMode.TheVariants.{Asap, Async, Own as OwnMode, Switch}
 use Rattle.policy_lawful.proofs.KeptMembers.{members_kept}
 use Rattle.policy_lawful.specs.Lawful.{IsLawful}
 use Rattle.policy_meaning.specs.Contents.{Held}
@@ -26,7 +26,7 @@ use Rattle.record_text.specs.DeviceRecord.{DeviceRecord}
 use Rattle.state_page.specs.StatePage.{page_bytes, state_in}
 use Rattle.subject_state.specs.declared.SubjectState.{SubjectState}
 use Rattle.tick_run.specs.Run.{Turned}
-use Rattle.view_text.specs.declared.Line.{Line}
+use Rattle.view_text.specs.declared.TurnLine.{TurnLine}
 use Rattle.flow_report.specs.Flows.{is_member, reaches}
 use Rattle.subject_model.specs.Alone.{MsrValues, OwnState, TurnAnswer, own_of, solo_turn, thing_in}
 use Rattle.subject_model.specs.System.{System, answered, happens, happens_as, inbox_of, is_shown, line_at, named, raised_by, state_of, subject_named, took, turn_from, with_own, with_store, with_write}
@@ -70,7 +70,7 @@ switches_some : (o : Option Raised) → hands_over o ≡ true → (e : Raised) �
 switches_some None h = absurd (cc (h))
 switches_some (Some e) h = by_mode e.mode refl h
   where
-    by_mode : (mode : Mode) → e.mode ≡ mode → hands_over (Some (record { mode = mode; target = e.target })) ≡ true → (x : Raised) × (Some e ≡ Some x) × (x.mode ≡ Switch)
+    by_mode : (mode : EventMode) → e.mode ≡ mode → hands_over (Some (record { mode = mode; target = e.target })) ≡ true → (x : Raised) × (Some e ≡ Some x) × (x.mode ≡ Switch)
     by_mode Asap is k = absurd (cc (k))
     by_mode Async is k = absurd (cc (k))
     by_mode OwnMode is k = absurd (cc (k))
@@ -231,7 +231,7 @@ module _ (p q : Source) (lawful : IsLawful p) (lawful_too : IsLawful q) (members
       refl refl
 
   -- it keeps them alike, and its lines are the same
-  pub record SameTurns (a b : Turned System Line) : Type 0 where
+  pub record SameTurns (a b : Turned System TurnLine) : Type 0 where
     pub alike : AreAlike p q members a.state b.state
     pub line : a.line ≡ b.line
 

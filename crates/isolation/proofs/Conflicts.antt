@@ -8,7 +8,7 @@ use Rattle.std.proofs.lemmas.Slice.Eq.{bytes_eq-Decides}
 use Rattle.muen_num.proofs.Members.{In, any_in, filter_in, map_in, passes_in}
 use Rattle.muen_num.proofs.SearchLaws.{all_pass, none_both, unless_none}
 use Rattle.muen_num.specs.Search.{first_in}
-use Rattle.muen_num.specs.declared.access.Kind.TheVariants.{Write}
+use Rattle.muen_num.specs.declared.access.AccessKind.TheVariants.{Write}
 use Rattle.policy_lawful.specs.Lawful.{IsLawful}
 use Rattle.policy_lawful.specs.MoreRules.{device_offence, ends_of, fits_event, granted_once, is_connected, is_writer as writes_it, offence_6, offence_9, readers_of, times_granted, writers_of}
 use Rattle.policy_lawful.specs.Offences.{alone, two}

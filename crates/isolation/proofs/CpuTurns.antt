@@ -11,7 +11,7 @@ use Rattle.policy_types.specs.declared.source.Source.{Source}
 use Rattle.policy_types.specs.declared.source.Subject.{Subject}
 use Rattle.record_text.specs.DeviceRecord.{DeviceRecord}
 use Rattle.tick_run.specs.Run.{Turned}
-use Rattle.view_text.specs.declared.Line.{Line}
+use Rattle.view_text.specs.declared.TurnLine.{TurnLine}
 use Rattle.flow_report.specs.Flows.{IsClosed, is_member}
 use Rattle.subject_model.specs.Alone.{own_of, solo_turn}
 use Rattle.subject_model.specs.System.{System, inbox_of, subject_named, system_turn}
@@ -57,7 +57,7 @@ SameSlots p q members tick y z =
 
 module _ (p q : Source) (lawful : IsLawful p) (lawful_too : IsLawful q) (members : List (List ℕ)) (closed : IsClosed p members) (closed_too : IsClosed q members) (f g : Held) (r t : DeviceRecord) (ends : ℕ) (agree : Agree members p q f g r t ends) (tick : ℕ) where
   -- members are alike after it, and it prints the same of each
-  pub record SameSteps (a b : Turned System Line) : Type 0 where
+  pub record SameSteps (a b : Turned System TurnLine) : Type 0 where
     pub alike : AreAlike p q members a.state b.state
     pub lines : (s : Subject) → is_member members s ≡ true → subject_named p s.name ≡ Some s → find (λ l. bytes_eq l.subject s.name) (cons_option a.line []) ≡ find (λ l. bytes_eq l.subject s.name) (cons_option b.line [])
 

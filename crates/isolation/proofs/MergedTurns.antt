@@ -13,7 +13,7 @@ use Rattle.policy_types.specs.declared.source.Source.{Source}
 use Rattle.policy_types.specs.declared.source.Subject.{Subject}
 use Rattle.record_text.specs.DeviceRecord.{DeviceRecord}
 use Rattle.tick_run.specs.Run.{turns}
-use Rattle.view_text.specs.declared.Line.{Line}
+use Rattle.view_text.specs.declared.TurnLine.{TurnLine}
 use Rattle.flow_report.specs.Flows.{IsClosed, is_member}
 use Rattle.subject_model.specs.Alone.{TurnAnswer, own_of, solo_turn}
 use Rattle.subject_model.specs.Clock.{system}
@@ -41,15 +41,15 @@ turn_place p cpu tick y =
 
 -- ---- lines
 
-find_front : (test : Line → Bool) (o : Option Line) (ls : List Line) → find test (cons_option o ls) ≡ option_or (find test (cons_option o [])) (find test ls)
+find_front : (test : TurnLine → Bool) (o : Option TurnLine) (ls : List TurnLine) → find test (cons_option o ls) ≡ option_or (find test (cons_option o [])) (find test ls)
 find_front test None ls = refl
 find_front test (Some l) ls = elim (test l) as (λ b. cond b (Some l) (find test ls) ≡ option_or (cond b (Some l) None) (find test ls)) [ true ↦ refl | false ↦ refl ]
 
 -- one that prints nothing that passes
-find_behind : (test : Line → Bool) (o : Option Line) (ls : List Line) → find test (cons_option o []) ≡ None → find test (cons_option o ls) ≡ find test ls
+find_behind : (test : TurnLine → Bool) (o : Option TurnLine) (ls : List TurnLine) → find test (cons_option o []) ≡ None → find test (cons_option o ls) ≡ find test ls
 find_behind test o ls none = find_front test o ls ∙ ap (λ k. option_or k (find test ls)) none
 
-find_both : (test : Line → Bool) (o k : Option Line) (ls ms : List Line) → find test (cons_option o []) ≡ find test (cons_option k []) → find test ls ≡ find test ms → find test (cons_option o ls) ≡ find test (cons_option k ms)
+find_both : (test : TurnLine → Bool) (o k : Option TurnLine) (ls ms : List TurnLine) → find test (cons_option o []) ≡ find test (cons_option k []) → find test ls ≡ find test ms → find test (cons_option o ls) ≡ find test (cons_option k ms)
 find_both test o k ls ms first rest =
     find_front test o ls ∙ ap (λ x. option_or x (find test ls)) first ∙ ap (option_or (find test (cons_option k []))) rest ∙ sym (find_front test k ms)
 

@@ -11,7 +11,7 @@ use Rattle.machine_meaning.specs.Memory.{over}
 use Rattle.muen_num.proofs.Members.{In, any_in, any_some, find_in}
 use Rattle.muen_num.proofs.SearchLaws.{none_both, unless_none}
 use Rattle.muen_num.specs.Search.{first_after, first_in, unless}
-use Rattle.muen_num.specs.declared.access.Kind.TheVariants.{Write}
+use Rattle.muen_num.specs.declared.access.AccessKind.TheVariants.{Write}
 use Rattle.policy_lawful.proofs.KeptMajors.{majors_kept}
 use Rattle.policy_lawful.proofs.KeptMembers.{members_kept}
 use Rattle.policy_lawful.specs.Domains.{is_monitor, monitor_offence, offence_24}

@@ -12,9 +12,9 @@ use Rattle.look_up.proofs.ChangeLaws.{element_changes, others_stay}
 use Rattle.look_up.specs.ByNumber.{change_at}
 use Rattle.machine_meaning.specs.Pending.{without}
 use Rattle.muen_num.proofs.Members.{In, all_in, any_some, find_in, passes_in}
-use Rattle.muen_num.specs.declared.access.Kind.TheVariants.{Write}
-use Rattle.muen_num.specs.declared.mode.Mode.{Mode}
-use Rattle.muen_num.specs.declared.mode.Mode.TheVariants.{Asap, Async, Own as OwnMode, Switch}
+use Rattle.muen_num.specs.declared.access.AccessKind.TheVariants.{Write}
+use Rattle.muen_num.specs.declared.mode.EventMode.{EventMode}
+use Rattle.muen_num.specs.declared.mode.EventMode.TheVariants.{Asap, Async, Own as OwnMode, Switch}
 use Rattle.policy_lawful.proofs.KeptMembers.{MembersKept}
 use Rattle.policy_lawful.specs.Lawful.{IsLawful}
 use Rattle.policy_lawful.specs.MoreRules.{fits_mode, some_group_lists}
@@ -154,7 +154,7 @@ module _ (p : Source) (lawful : IsLawful p) (kept : MembersKept p) (u s : Subjec
       ∙ ap (λ active. option_map_or (λ member. bytes_eq member s.name) (option_and_then (λ i. slice_get (change_at k (λ _. e.target.subject) active) i) (group_of p s.name)) false) same
       ∙ at_own p s.name y k u.name e.target.subject acts (unnamed u.name s.name other) (unnamed e.target.subject s.name ne) (group_of p s.name)
 
-  by_raised_mode : (e : Raised) (mode : Mode) → e.mode ≡ mode → fits_mode p e.mode u.name e.target.subject ≡ true → (e.target.subject ≡ s.name → ⊥) → (z : System) → z.active ≡ y.active → is_active p (happens_as p mode e.target z) s.name ≡ is_active p y s.name
+  by_raised_mode : (e : Raised) (mode : EventMode) → e.mode ≡ mode → fits_mode p e.mode u.name e.target.subject ≡ true → (e.target.subject ≡ s.name → ⊥) → (z : System) → z.active ≡ y.active → is_active p (happens_as p mode e.target z) s.name ≡ is_active p y s.name
   by_raised_mode e Asap is fit ne z same = ap (λ active. option_map_or (λ member. bytes_eq member s.name) (option_and_then (λ i. slice_get active i) (group_of p s.name)) false) same
   by_raised_mode e Async is fit ne z same = ap (λ active. option_map_or (λ member. bytes_eq member s.name) (option_and_then (λ i. slice_get active i) (group_of p s.name)) false) same
   by_raised_mode e OwnMode is fit ne z same = ap (λ active. option_map_or (λ member. bytes_eq member s.name) (option_and_then (λ i. slice_get active i) (group_of p s.name)) false) same

@@ -8,7 +8,7 @@ use Rattle.std.proofs.lemmas.Slice.Eq.{bytes_eq-Decides}
 use Rattle.muen_num.proofs.Members.{In, filter_in, filter_some, find_in, flat_some, map_in, map_some, passes_in}
 use Rattle.muen_num.proofs.SearchLaws.{all_pass, none_both}
 use Rattle.muen_num.specs.Search.{first_in}
-use Rattle.muen_num.specs.declared.mode.Mode.{Mode}
+use Rattle.muen_num.specs.declared.mode.EventMode.{EventMode}
 use Rattle.policy_lawful.specs.Lawful.{IsLawful}
 use Rattle.policy_lawful.specs.MoreRules.{channel_mode_offence, ends_of, fits_mode, is_writer as writes_it, mode_offence, offence_13, readers_of, sources_of, targets_of, writers_of}
 use Rattle.policy_lawful.specs.Offences.{two}
@@ -37,7 +37,7 @@ unfolding offence_13
 channel_modes p h = (none_both (first_in (λ c. channel_mode_offence p c c.has_event) p.channels) _ h).0
 
 -- a source and a target of it fit its mode
-fits : (p : Source) (mode : Mode) (name : List ℕ) (sources targets : List (List ℕ)) (a b : List ℕ) → mode_offence p mode name sources targets ≡ None → In a sources → In b targets → fits_mode p mode a b ≡ true
+fits : (p : Source) (mode : EventMode) (name : List ℕ) (sources targets : List (List ℕ)) (a b : List ℕ) → mode_offence p mode name sources targets ≡ None → In a sources → In b targets → fits_mode p mode a b ≡ true
 fits p mode name sources targets a b none in_a in_b =
     passes_in (fits_mode p mode a) targets (passes_in (λ s. list_all (fits_mode p mode s) targets) sources (all_pass (λ s. list_all (fits_mode p mode s) targets) (λ s. two name s) sources none) a in_a) b in_b
 
@@ -82,7 +82,7 @@ module _ (p : Source) (lawful : IsLawful p) (u : Subject) (in_u : In u p.subject
   by_channel : (end : ChannelEnd) → In end (channel_ends p u) → writes_it end.role ≡ true → (e : Raised) → channel_event p end.channel ≡ Some e → fits_mode p e.mode u.name e.target.subject ≡ true
   by_channel end its writes e h = by_found (find (λ c. bytes_eq c.name end.channel) p.channels) refl h
     where
-      by_target : (c : Channel) → In c p.channels → c.name ≡ end.channel → (m : Mode) → c.has_event ≡ Some m → (o : Option Target) → slice_get (channel_targets p end.channel) 0 ≡ o → option_map (λ t. record { mode = m; target = t }) o ≡ Some e → fits_mode p e.mode u.name e.target.subject ≡ true
+      by_target : (c : Channel) → In c p.channels → c.name ≡ end.channel → (m : EventMode) → c.has_event ≡ Some m → (o : Option Target) → slice_get (channel_targets p end.channel) 0 ≡ o → option_map (λ t. record { mode = m; target = t }) o ≡ Some e → fits_mode p e.mode u.name e.target.subject ≡ true
       by_target c declared called m has None at k = absurd (cc (k))
       by_target c declared called m has (Some t) at k =
           let same : record { mode = m; target = t } ≡ e = cc (k) in
@@ -106,7 +106,7 @@ module _ (p : Source) (lawful : IsLawful p) (u : Subject) (in_u : In u p.subject
           let fit = fits p m c.name (map (λ e. e.0) (writers_of p end.channel)) (map (λ e. e.0) (readers_of p end.channel)) u.name to.one.name none mine target in
           subst (λ r. fits_mode p r.mode u.name r.target.subject ≡ true) same (subst (λ n. fits_mode p m u.name n ≡ true) (ap (λ t. t.subject) entry.image) fit)
 
-      by_mode : (c : Channel) → In c p.channels → c.name ≡ end.channel → (o : Option Mode) → c.has_event ≡ o → option_and_then (λ m. option_map (λ t. record { mode = m; target = t }) (slice_get (channel_targets p end.channel) 0)) o ≡ Some e → fits_mode p e.mode u.name e.target.subject ≡ true
+      by_mode : (c : Channel) → In c p.channels → c.name ≡ end.channel → (o : Option EventMode) → c.has_event ≡ o → option_and_then (λ m. option_map (λ t. record { mode = m; target = t }) (slice_get (channel_targets p end.channel) 0)) o ≡ Some e → fits_mode p e.mode u.name e.target.subject ≡ true
       by_mode c declared called None has k = absurd (cc (k))
       by_mode c declared called (Some m) has k = by_target c declared called m has (slice_get (channel_targets p end.channel) 0) refl k
 

@@ -5,7 +5,7 @@ use Rattle.std.specs.Option.{option_map_or}
 use Rattle.std.specs.Str.{bytes_eq}
 use Rattle.std.proofs.lemmas.Bool.{eq-eqb, eqb-true}
 use Rattle.std.proofs.lemmas.Slice.Eq.{bytes_eq-Decides}
-use Rattle.frame_clock.specs.FramePlace.{slot_in}
+use Rattle.frame_clock.specs.FrameAt.{slot_in}
 use Rattle.image_plan.specs.Slot.{Slot}
 use Rattle.muen_num.proofs.Members.{In, find_in}
 use Rattle.policy_lawful.proofs.KeptMajors.{majors_kept}
@@ -17,7 +17,7 @@ use Rattle.policy_types.specs.declared.source.Group.{Group}
 use Rattle.policy_types.specs.declared.source.Source.{Source}
 use Rattle.policy_types.specs.declared.source.Subject.{Subject}
 use Rattle.tick_run.specs.Run.{Turned}
-use Rattle.view_text.specs.declared.Line.{Line}
+use Rattle.view_text.specs.declared.TurnLine.{TurnLine}
 use Rattle.subject_model.specs.System.{System, idle, named, state_of, subject_named, system_turn, turn_from, turn_in_slot, turn_of_member, turn_of_subject}
 use Rattle.system_laws.specs.Members.{AreListed, HasTurn, lists}
 use Rattle.system_laws.proofs.OwnLines.{found_so, named_so, turn_on}
@@ -40,7 +40,7 @@ turner_slot p (Some slot) y = turner_member p slot (slice_get y.active slot.grou
 abbrev pub turner : Source → ℕ → ℕ → System → Option (Slot × Subject)
 turner p cpu tick y = turner_slot p (slot_in (frames_of p cpu) y.place tick) y
 
-abbrev pub turn_of : Source → ℕ → ℕ → Option (Slot × Subject) → System → Turned System Line
+abbrev pub turn_of : Source → ℕ → ℕ → Option (Slot × Subject) → System → Turned System TurnLine
 turn_of p cpu tick None y = idle y
 turn_of p cpu tick (Some (slot, u)) y = turn_from p cpu tick slot.first u (state_of y u.name) (named y.msrs u.name) y
 

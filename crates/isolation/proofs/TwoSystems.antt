@@ -9,12 +9,12 @@ use Rattle.std.proofs.lemmas.List.{length-map}
 use Rattle.std.proofs.lemmas.Option.{slice_get-map, slice_get_within}
 use Rattle.std.proofs.lemmas.Slice.Eq.{bytes_eq-Decides}
 use Rattle.expand_grants.specs.Resources.{msrs_of}
-use Rattle.frame_clock.specs.FramePlace.{first_place, place_at}
-use Rattle.frame_clock.specs.declared.place.FramePlace.{FramePlace}
+use Rattle.frame_clock.specs.FrameAt.{first_place, place_at}
+use Rattle.frame_clock.specs.declared.place.FrameAt.{FrameAt}
 use Rattle.image_plan.proofs.ByNumber.{length_numbers, number_at}
 use Rattle.muen_num.proofs.Members.{In, all_in, any_in, any_some, find_in}
 use Rattle.muen_num.specs.Range.{numbers_below}
-use Rattle.muen_num.specs.declared.access.Kind.TheVariants.{Write}
+use Rattle.muen_num.specs.declared.access.AccessKind.TheVariants.{Write}
 use Rattle.policy_lawful.proofs.KeptMembers.{members_kept}
 use Rattle.policy_lawful.proofs.UniqueNames.{unique}
 use Rattle.policy_lawful.specs.Lawful.{IsLawful}
@@ -117,11 +117,11 @@ turns_place p tick [] y = refl
 turns_place p tick (c ∷ cs) y = turns_place p tick cs (system_turn p c tick y).state ∙ turn_place p c tick y
 
 -- before a tick, where nothing picks a frame
-placed : Source → ℕ → FramePlace
+placed : Source → ℕ → FrameAt
 placed p zero = first_place
 placed p (suc n) = plain_place p n
 
-begun_place : (p : Source) (n : ℕ) (at : FramePlace) → at ≡ placed p n → place_at (ticks_of_majors p) at None n ≡ plain_place p n
+begun_place : (p : Source) (n : ℕ) (at : FrameAt) → at ≡ placed p n → place_at (ticks_of_majors p) at None n ≡ plain_place p n
 unfolding placed
 begun_place p zero at is = ap (λ at. place_at (ticks_of_majors p) at None 0) is
 begun_place p (suc n) at is = ap (λ at. place_at (ticks_of_majors p) at None (suc n)) is

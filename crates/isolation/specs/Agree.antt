@@ -5,8 +5,8 @@ use Rattle.std.specs.Option.{option_map_or}
 use Rattle.std.specs.Str.{bytes_eq}
 use Rattle.expand_grants.specs.Resources.{ports_of}
 use Rattle.flow_report.specs.Flows.{is_member, reaches}
-use Rattle.frame_clock.specs.FramePlace.{slot_in}
-use Rattle.frame_clock.specs.declared.place.FramePlace.{FramePlace}
+use Rattle.frame_clock.specs.FrameAt.{slot_in}
+use Rattle.frame_clock.specs.declared.place.FrameAt.{FrameAt}
 use Rattle.policy_lawful.specs.MoreRules.{is_switch}
 use Rattle.policy_meaning.specs.Contents.{Held}
 use Rattle.policy_meaning.specs.Events.{Raised, Target, event_of, irq_of}
@@ -44,7 +44,7 @@ is_first p name =
     option_map_or (λ g. bytes_eq (first_member g.subjects) name) (option_and_then (λ k. slice_get p.scheduling.groups k) (group_of p name)) false
 
 -- whether its group has the subject's CPU at a tick of a place, and where it has, whether the tick is the first of its minor frame
-abbrev pub own_slot : Source → Subject → FramePlace → ℕ → Option Bool
+abbrev pub own_slot : Source → Subject → FrameAt → ℕ → Option Bool
 own_slot p s at tick =
     option_and_then (λ slot. if option_map_or (λ k. k == slot.group) (group_of p s.name) false then Some slot.first else None)
     (slot_in (frames_of p s.cpu) at tick)
@@ -80,7 +80,7 @@ holds_member p members cpu = list_any (λ s. is_member members s && (s.cpu == cp
 -- ---- what agrees of the plans
 
 -- the place at a tick, where nothing ever picks a major frame
-abbrev pub plain_place : Source → ℕ → FramePlace
+abbrev pub plain_place : Source → ℕ → FrameAt
 plain_place p tick = place_after (ticks_of_majors p) tick
 
 -- the CPUs go to the groups of members at the same ticks: where nobody chooses frames in either policy, of each tick; where the
@@ -91,7 +91,7 @@ pub data AgreeOnFrames (members : List (List ℕ)) (p q : Source) (ends : ℕ) :
       → own_slot p s (plain_place p tick) tick ≡ own_slot q z (plain_place q tick) tick)
       → AgreeOnFrames members p q ends
   chosen : (t u : Tau0) → p.scheduling.tau0 ≡ Some t → q.scheduling.tau0 ≡ Some u → t.subject ≡ u.subject → t.region ≡ u.region → ticks_of_majors p ≡ ticks_of_majors q
-      → ((s z : Subject) → is_member members s ≡ true → subject_named p s.name ≡ Some s → subject_named q s.name ≡ Some z → (at : FramePlace) (tick : ℕ) → own_slot p s at tick ≡ own_slot q z at tick)
+      → ((s z : Subject) → is_member members s ≡ true → subject_named p s.name ≡ Some s → subject_named q s.name ≡ Some z → (at : FrameAt) (tick : ℕ) → own_slot p s at tick ≡ own_slot q z at tick)
       → AgreeOnFrames members p q ends
 
 -- ---- all of it

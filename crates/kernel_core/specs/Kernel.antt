@@ -8,18 +8,18 @@ use Rattle.image_pack.specs.declared.parts.SubjectPart.{SubjectPart}
 use Rattle.image_plan.specs.Plan.{frames_in}
 use Rattle.image_plan.specs.Slot.{Slot}
 use Rattle.look_up.specs.ByNumber.{change_at}
-use Rattle.frame_clock.specs.FramePlace.{slot_in}
-use Rattle.frame_clock.specs.declared.place.FramePlace.{FramePlace}
+use Rattle.frame_clock.specs.FrameAt.{slot_in}
+use Rattle.frame_clock.specs.declared.place.FrameAt.{FrameAt}
 use Rattle.event_router.specs.Router.{RouterState, raised, deliverable, taken}
 use Rattle.guest_step.specs.Finish.{finish_of}
 use Rattle.guest_step.specs.declared.end.StepEnd.{StepEnd}
 use Rattle.guest_step.specs.declared.end.StepEnd.TheVariants as ends
 use Rattle.tick_run.specs.Run.{Turned}
-use Rattle.view_text.specs.declared.End.{End}
-use Rattle.view_text.specs.declared.End.TheVariants.{On, Halt, Trap, Stop}
-use Rattle.view_text.specs.declared.Line.{Line}
-use Rattle.view_text.specs.declared.What.{What}
-use Rattle.view_text.specs.declared.What.TheVariants.{Ran, Set, Stored, Out, WroteMsr, Inject, Exit}
+use Rattle.view_text.specs.declared.ExitEnd.{ExitEnd}
+use Rattle.view_text.specs.declared.ExitEnd.TheVariants.{On, Halt, Trap, Stop}
+use Rattle.view_text.specs.declared.TurnLine.{TurnLine}
+use Rattle.view_text.specs.declared.TurnAction.{TurnAction}
+use Rattle.view_text.specs.declared.TurnAction.TheVariants.{Ran, Set, Stored, Out, WroteMsr, Inject, Exit}
 use Rattle.vmx_machine.specs.Machine.{MachineState, Stepped, state_on, entered, left, vector_injected, exit_finished, machine_step}
 use Rattle.vmx_machine.specs.declared.control.Control.{Control}
 use Rattle.kernel_core.specs.declared.setup.Setup.{Setup}
@@ -36,7 +36,7 @@ pub record Live : Type 0 where
   -- the input byte of each port
   pub ports : List ℕ
   -- the major frame that runs, and its first tick
-  pub place : FramePlace
+  pub place : FrameAt
 
 -- ---- who is on a CPU
 
@@ -50,13 +50,13 @@ switched cpu s c (Some t) k = if t == s then k else goes_on cpu s c k
 
 -- ---- a turn
 
-abbrev pub idle : Live → Turned Live Line
+abbrev pub idle : Live → Turned Live TurnLine
 idle k = record { state = k; line = None }
 
-abbrev pub line_of : Turn → What → Line
+abbrev pub line_of : Turn → TurnAction → TurnLine
 line_of t what = record { tick = t.tick; cpu = t.cpu; subject = t.subject; pc = t.pc; what = what }
 
-abbrev pub told : Turn → What → Live → Turned Live Line
+abbrev pub told : Turn → TurnAction → Live → Turned Live TurnLine
 told t what k = record { state = k; line = Some (line_of t what) }
 
 -- ---- the kernel acts on an exit
@@ -71,7 +71,7 @@ event_of part reason call =
     else (if reason == EXIT_VMCALL then entry part.calls call else entry part.traps reason)
 
 -- how the kernel ended an exit, by whether it raised an event
-abbrev pub end_of : ℕ → Bool → End
+abbrev pub end_of : ℕ → Bool → ExitEnd
 end_of reason raises =
     if reason == EXIT_HLT then Halt
     else (if reason == EXIT_VMCALL then On
@@ -81,7 +81,7 @@ abbrev pub raised_by : Option EventPart → RouterState → RouterState
 raised_by None r = r
 raised_by (Some e) r = raised e r
 
-abbrev pub exit_handled : Turn → ℕ → ℕ → ℕ → Option EventPart → Live → Turned Live Line
+abbrev pub exit_handled : Turn → ℕ → ℕ → ℕ → Option EventPart → Live → Turned Live TurnLine
 exit_handled t reason qualification addr event k =
     told t (Exit reason qualification addr (end_of reason (is_some event))) (record k {
       machine = exit_finished t.cpu (finish_of reason (is_some event)) k.machine;
@@ -89,7 +89,7 @@ exit_handled t reason qualification addr event k =
     })
 
 -- after a step that ended so
-abbrev pub handled : Turn → SubjectPart → StepEnd → Live → Turned Live Line
+abbrev pub handled : Turn → SubjectPart → StepEnd → Live → Turned Live TurnLine
 handled t part ends.Plain k = told t Ran k
 handled t part (ends.Set reg value) k = told t (Set reg value) k
 handled t part (ends.Stored size addr value) k = told t (Stored size addr value) k
@@ -100,21 +100,21 @@ handled t part (ends.Exit reason qualification addr call) k =
 
 -- ---- the cases of a turn, of the subject with this number and these parts, which is on the CPU
 
-abbrev pub stepped : Turn → SubjectPart → Stepped → Live → Turned Live Line
+abbrev pub stepped : Turn → SubjectPart → Stepped → Live → Turned Live TurnLine
 stepped t part s k = handled t part s.end (record k { machine = s.machine })
 
-abbrev pub injects : Turn → ℕ → ℕ → Live → Turned Live Line
+abbrev pub injects : Turn → ℕ → ℕ → Live → Turned Live TurnLine
 injects t s vector k = told t (Inject vector) (record k {
   machine = vector_injected t.cpu vector k.machine;
   router = taken s (Some vector) k.router;
 })
 
 -- nothing is delivered
-abbrev pub goes_further : Turn → SubjectPart → SubjectState → Live → Turned Live Line
+abbrev pub goes_further : Turn → SubjectPart → SubjectState → Live → Turned Live TurnLine
 goes_further t part st k =
     if st.halted then idle k else stepped t part (machine_step t.cpu k.ports t.tick k.machine) k
 
-abbrev pub delivers : Turn → ℕ → SubjectPart → SubjectState → Option ℕ → Live → Turned Live Line
+abbrev pub delivers : Turn → ℕ → SubjectPart → SubjectState → Option ℕ → Live → Turned Live TurnLine
 delivers t s part st (Some vector) k = injects t s vector k
 delivers t s part st None k = goes_further t part st k
 
@@ -123,44 +123,44 @@ delivers t s part st None k = goes_further t part st k
 abbrev pub vector_for : ℕ → Bool → SubjectState → RouterState → Option ℕ
 vector_for s first st r = if st.interrupts then deliverable r s (first || st.exited) else None
 
-abbrev pub acts : Turn → ℕ → SubjectPart → Bool → SubjectState → Live → Turned Live Line
+abbrev pub acts : Turn → ℕ → SubjectPart → Bool → SubjectState → Live → Turned Live TurnLine
 acts t s part first st k =
     if st.stopped then idle k else delivers t s part st (vector_for s first st k.router) k
 
 -- by the state of who is on the CPU
-abbrev pub acts_in : ℕ → ℕ → ℕ → SubjectPart → Bool → Option SubjectState → Live → Turned Live Line
+abbrev pub acts_in : ℕ → ℕ → ℕ → SubjectPart → Bool → Option SubjectState → Live → Turned Live TurnLine
 acts_in cpu tick s part first None k = idle k
 acts_in cpu tick s part first (Some st) k =
     acts (record { tick = tick; cpu = cpu; subject = part.name; pc = st.pc }) s part first st k
 
-abbrev pub acts_on : ℕ → ℕ → ℕ → SubjectPart → Bool → Live → Turned Live Line
+abbrev pub acts_on : ℕ → ℕ → ℕ → SubjectPart → Bool → Live → Turned Live TurnLine
 acts_on cpu tick s part first k = acts_in cpu tick s part first (state_on k.machine cpu) k
 
 -- ---- whose turn it is
 
 -- of the subject with this number, by its parts and its control, and by who was on the CPU
-abbrev pub turn_of_subject : ℕ → ℕ → ℕ → Bool → Option ℕ → Option SubjectPart → Option Control → Live → Turned Live Line
+abbrev pub turn_of_subject : ℕ → ℕ → ℕ → Bool → Option ℕ → Option SubjectPart → Option Control → Live → Turned Live TurnLine
 turn_of_subject cpu tick s first on (Some part) (Some c) k = acts_on cpu tick s part first (switched cpu s c on k)
 turn_of_subject cpu tick s first on (Some part) None k = idle k
 turn_of_subject cpu tick s first on None c k = idle k
 
 -- by the active member of the slot's group
-abbrev pub turn_of_member : Setup → ℕ → ℕ → Bool → Option ℕ → Option ℕ → Live → Turned Live Line
+abbrev pub turn_of_member : Setup → ℕ → ℕ → Bool → Option ℕ → Option ℕ → Live → Turned Live TurnLine
 turn_of_member setup cpu tick first on (Some s) k =
     turn_of_subject cpu tick s first on (slice_get setup.subjects s) (slice_get setup.controls s) k
 turn_of_member setup cpu tick first on None k = idle k
 
 -- by the slot
-abbrev pub turn_in_slot : Setup → ℕ → ℕ → Option ℕ → Option Slot → Live → Turned Live Line
+abbrev pub turn_in_slot : Setup → ℕ → ℕ → Option ℕ → Option Slot → Live → Turned Live TurnLine
 turn_in_slot setup cpu tick on (Some slot) k =
     turn_of_member setup cpu tick slot.first on (slice_get k.router.active slot.group) k
 turn_in_slot setup cpu tick on None k = idle k
 
 -- by who is on the CPU; a CPU that isn't there takes no turn
-abbrev pub turn_on : Setup → ℕ → ℕ → Option (Option ℕ) → Live → Turned Live Line
+abbrev pub turn_on : Setup → ℕ → ℕ → Option (Option ℕ) → Live → Turned Live TurnLine
 turn_on setup cpu tick (Some on) k = turn_in_slot setup cpu tick on (slot_in (frames_in setup.plan cpu) k.place tick) k
 turn_on setup cpu tick None k = idle k
 
 -- **the turn** of a CPU in a tick
-abbrev pub turn_of : Setup → ℕ → ℕ → Live → Turned Live Line
+abbrev pub turn_of : Setup → ℕ → ℕ → Live → Turned Live TurnLine
 turn_of setup cpu tick k = turn_on setup cpu tick (slice_get k.on cpu) k

@@ -7,10 +7,10 @@ use Rattle.record_text.specs.declared.record.Input.{Input}
 use Rattle.record_text.specs.declared.record.Input.TheVariants.{Port, Mem, Irq, Idle, Dma}
 use Rattle.record_text.specs.declared.record.Record.{Record}
 use Rattle.device_bench.specs.Devices.{IsInOrder, inputs_at, order_at, no_inputs}
-use Rattle.frame_clock.specs.FramePlace.{place_at, ticks_of_majors, first_place}
+use Rattle.frame_clock.specs.FrameAt.{place_at, ticks_of_majors, first_place}
 use Rattle.event_router.specs.Router.{started as router_started, pends_now}
 use Rattle.tick_run.specs.Run.{Clocked, Ran, run_to}
-use Rattle.view_text.specs.declared.Line.{Line}
+use Rattle.view_text.specs.declared.TurnLine.{TurnLine}
 use Rattle.vmx_machine.specs.Machine.{MachineState, page_at, started as machine_started, left, device_wrote}
 use Rattle.kernel_core.specs.Kernel.{Live, turn_of}
 use Rattle.kernel_core.specs.declared.setup.Setup.{Setup}
@@ -51,7 +51,7 @@ takes_any None k = k
 takes_any (Some i) k = takes i k
 
 -- **the kernel on the clock**
-abbrev pub kernel : Setup → Clocked Live Input Line
+abbrev pub kernel : Setup → Clocked Live Input TurnLine
 kernel setup = record { begins = begins setup; takes = takes; turn = turn_of setup }
 
 -- ---- by a record
@@ -64,7 +64,7 @@ abbrev pub tick_order : Record → ℕ → ℕ → List ℕ
 tick_order run cpus tick = unwrap_or (order_at run tick) (numbers_below cpus)
 
 -- the run of a record's first n ticks
-abbrev pub kernel_run_to : Setup → Record → ℕ → List Page → ℕ → Ran Live Line
+abbrev pub kernel_run_to : Setup → Record → ℕ → List Page → ℕ → Ran Live TurnLine
 kernel_run_to setup run cpus pages n =
     run_to (kernel setup) (tick_inputs run) (tick_order run cpus) n (live_started setup cpus pages)
 

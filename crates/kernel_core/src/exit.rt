@@ -4,7 +4,7 @@ ghost use Rattle.kernel_core.specs.Kernel.{end_of, entry, event_of};
 
 use image_pack::{EventPart, SubjectPart};
 use muen_num::limits::{EXIT_HLT, EXIT_VMCALL};
-use view_text::End;
+use view_text::ExitEnd;
 
 // The event of a number.
 fn entry(events: &[Option<EventPart>], n: usize) -> Option<EventPart>
@@ -29,13 +29,13 @@ pub(crate) fn event_of(part: &SubjectPart, reason: u8, call: u64) -> Option<Even
 }
 
 /// How the kernel ends an exit, by whether it raises an event.
-pub(crate) fn end_of(reason: u8, raises: bool) -> End
+pub(crate) fn end_of(reason: u8, raises: bool) -> ExitEnd
     ensures { result ≡ end_of reason raises }
 {
     match reason {
-        EXIT_HLT => End::Halt,
-        EXIT_VMCALL => End::On,
-        _ if raises => End::Trap,
-        _ => End::Stop,
+        EXIT_HLT => ExitEnd::Halt,
+        EXIT_VMCALL => ExitEnd::On,
+        _ if raises => ExitEnd::Trap,
+        _ => ExitEnd::Stop,
     }
 }

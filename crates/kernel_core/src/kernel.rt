@@ -14,7 +14,7 @@ use crate::turn::Turn;
 use device_bench::Bench;
 use ept_walk::Translate;
 use event_router::Router;
-use frame_clock::{FramePlace, slot};
+use frame_clock::{FrameAt, slot};
 use guest_step::{Finish, StepEnd};
 use image_pack::{EventPart, SubjectPart};
 use muen_num::{Name, NoMemory};
@@ -23,7 +23,7 @@ use record_text::Record;
 use std::alloc::Global;
 use std::marker::Model;
 use subject_state::SubjectState;
-use view_text::{Line, What};
+use view_text::{TurnLine, TurnAction};
 use vmx_machine::{Control, Machine};
 
 /// The kernel of a system that runs on a record.
@@ -35,7 +35,7 @@ pub struct Kernel<M: PhysMem, T: Translate> {
     pub(crate) router: Router,
     pub(crate) on: Vec<Option<u8>>,
     pub(crate) bench: Bench,
-    pub(crate) place: FramePlace,
+    pub(crate) place: FrameAt,
     pub(crate) tick: u32,
 }
 
@@ -85,7 +85,7 @@ impl<M: PhysMem, T: Translate> Kernel<M, T> {
             router,
             on,
             bench,
-            place: FramePlace::first(),
+            place: FrameAt::first(),
             tick: 0,
         })
     }
@@ -124,7 +124,7 @@ impl<M: PhysMem, T: Translate> Kernel<M, T> {
         qualification: u64,
         addr: u64,
         event: Option<EventPart>,
-    ) -> Line
+    ) -> TurnLine
         requires { turn.cpu < length self.old.live.machine.cpus }
         ensures state { self.new ≡ record self.old { live = (exit_handled turn reason qualification addr event self.old.live).state } }
         ensures line { Some result ≡ (exit_handled turn reason qualification addr event self.old.live).line }
@@ -133,7 +133,7 @@ impl<M: PhysMem, T: Translate> Kernel<M, T> {
         self.machine
             .finish(turn.cpu as usize, Finish::after(reason, raises));
         raise(&mut self.router, &event);
-        turn.line(What::Exit {
+        turn.line(TurnAction::Exit {
             reason,
             qualification,
             addr,
@@ -142,17 +142,17 @@ impl<M: PhysMem, T: Translate> Kernel<M, T> {
     }
 
     // After a step of a subject that ended so.
-    fn handle(&mut self, turn: Turn, subject: u8, end: StepEnd) -> Line
+    fn handle(&mut self, turn: Turn, subject: u8, end: StepEnd) -> TurnLine
         requires { turn.cpu < length self.old.live.machine.cpus }
         ensures state { (part : SubjectPart) → slice_get self.old.setup.subjects subject ≡ Some part → self.new ≡ record self.old { live = (handled turn part end self.old.live).state } }
         ensures line { (part : SubjectPart) → slice_get self.old.setup.subjects subject ≡ Some part → Some result ≡ (handled turn part end self.old.live).line }
     {
         match end {
-            StepEnd::Plain => turn.line(What::Ran),
-            StepEnd::Set { reg, value } => turn.line(What::Set { reg, value }),
-            StepEnd::Stored { size, addr, value } => turn.line(What::Stored { size, addr, value }),
-            StepEnd::Out { size, port, value } => turn.line(What::Out { size, port, value }),
-            StepEnd::WroteMsr { index, value } => turn.line(What::WroteMsr { index, value }),
+            StepEnd::Plain => turn.line(TurnAction::Ran),
+            StepEnd::Set { reg, value } => turn.line(TurnAction::Set { reg, value }),
+            StepEnd::Stored { size, addr, value } => turn.line(TurnAction::Stored { size, addr, value }),
+            StepEnd::Out { size, port, value } => turn.line(TurnAction::Out { size, port, value }),
+            StepEnd::WroteMsr { index, value } => turn.line(TurnAction::WroteMsr { index, value }),
             StepEnd::Exit {
                 reason,
                 qualification,
@@ -168,7 +168,7 @@ impl<M: PhysMem, T: Translate> Kernel<M, T> {
     // ---- the cases of a turn, of the subject that is on the CPU
 
     // Where nothing is delivered.
-    fn go_further(&mut self, turn: Turn, subject: u8, state: &SubjectState) -> Option<Line>
+    fn go_further(&mut self, turn: Turn, subject: u8, state: &SubjectState) -> Option<TurnLine>
         requires { turn.cpu < length self.old.live.machine.cpus }
         ensures state { (part : SubjectPart) → slice_get self.old.setup.subjects subject ≡ Some part → self.new ≡ record self.old { live = (goes_further turn part state.now self.old.live).state } }
         ensures line { (part : SubjectPart) → slice_get self.old.setup.subjects subject ≡ Some part → result ≡ (goes_further turn part state.now self.old.live).line }
@@ -193,7 +193,7 @@ impl<M: PhysMem, T: Translate> Kernel<M, T> {
         }
     }
 
-    fn act(&mut self, turn: Turn, subject: u8, first: bool, state: &SubjectState) -> Option<Line>
+    fn act(&mut self, turn: Turn, subject: u8, first: bool, state: &SubjectState) -> Option<TurnLine>
         requires { turn.cpu < length self.old.live.machine.cpus }
         ensures state { (part : SubjectPart) → slice_get self.old.setup.subjects subject ≡ Some part → self.new ≡ record self.old { live = (acts turn subject part first state.now self.old.live).state } }
         ensures line { (part : SubjectPart) → slice_get self.old.setup.subjects subject ≡ Some part → result ≡ (acts turn subject part first state.now self.old.live).line }
@@ -204,13 +204,13 @@ impl<M: PhysMem, T: Translate> Kernel<M, T> {
         match self.take_vector(subject, first, state) {
             Some(vector) => {
                 self.machine.inject(turn.cpu as usize, vector);
-                Some(turn.line(What::Inject { vector }))
+                Some(turn.line(TurnAction::Inject { vector }))
             }
             None => self.go_further(turn, subject, state),
         }
     }
 
-    fn act_on(&mut self, cpu: u8, subject: u8, name: Name, first: bool) -> Option<Line>
+    fn act_on(&mut self, cpu: u8, subject: u8, name: Name, first: bool) -> Option<TurnLine>
         requires { cpu < length self.old.live.machine.cpus }
         ensures state { (part : SubjectPart) → slice_get self.old.setup.subjects subject ≡ Some part → name ≡ part.name → self.new ≡ record self.old { live = (acts_on cpu self.old.tick subject part first self.old.live).state } }
         ensures line { (part : SubjectPart) → slice_get self.old.setup.subjects subject ≡ Some part → name ≡ part.name → result ≡ (acts_on cpu self.old.tick subject part first self.old.live).line }
@@ -266,7 +266,7 @@ impl<M: PhysMem, T: Translate> Kernel<M, T> {
         name: Name,
         first: bool,
         on: Option<u8>,
-    ) -> Option<Line>
+    ) -> Option<TurnLine>
         requires { cpu < length self.old.live.machine.cpus }
         ensures state { (part : SubjectPart) → slice_get self.old.setup.subjects subject ≡ Some part → name ≡ part.name → self.new ≡ record self.old { live = (turn_of_subject cpu self.old.tick subject first on (Some part) (slice_get self.old.setup.controls subject) self.old.live).state } }
         ensures line { (part : SubjectPart) → slice_get self.old.setup.subjects subject ≡ Some part → name ≡ part.name → result ≡ (turn_of_subject cpu self.old.tick subject first on (Some part) (slice_get self.old.setup.controls subject) self.old.live).line }
@@ -277,7 +277,7 @@ impl<M: PhysMem, T: Translate> Kernel<M, T> {
     }
 
     // The turn of a subject, by its number.
-    fn turn_of_subject(&mut self, cpu: u8, subject: u8, first: bool, on: Option<u8>) -> Option<Line>
+    fn turn_of_subject(&mut self, cpu: u8, subject: u8, first: bool, on: Option<u8>) -> Option<TurnLine>
         requires { cpu < length self.old.live.machine.cpus }
         ensures state { self.new ≡ record self.old { live = (turn_of_subject cpu self.old.tick subject first on (slice_get self.old.setup.subjects subject) (slice_get self.old.setup.controls subject) self.old.live).state } }
         ensures line { result ≡ (turn_of_subject cpu self.old.tick subject first on (slice_get self.old.setup.subjects subject) (slice_get self.old.setup.controls subject) self.old.live).line }
@@ -293,7 +293,7 @@ impl<M: PhysMem, T: Translate> Kernel<M, T> {
 
     /// The turn of a CPU in the tick, and its line, if it has one: that of the active member of the
     /// group that has the CPU. A CPU that isn't there takes no turn.
-    pub fn turn(&mut self, cpu: u8) -> Option<Line>
+    pub fn turn(&mut self, cpu: u8) -> Option<TurnLine>
         ensures state { self.new ≡ record self.old { live = (turn_of self.old.setup cpu self.old.tick self.old.live).state } }
         ensures line { result ≡ (turn_of self.old.setup cpu self.old.tick self.old.live).line }
     {

@@ -3,7 +3,7 @@ ghost use Rattle.std.specs.Prelude.{◌≡◌};
 ghost use Rattle.kernel_core.specs.Kernel.{line_of};
 
 use muen_num::Name;
-use view_text::{Line, What};
+use view_text::{TurnLine, TurnAction};
 
 /// Who takes a turn, and when.
 #[derive(Clone, Copy, Debug, PartialEq, Eq)]
@@ -17,10 +17,10 @@ pub(crate) struct Turn {
 
 impl Turn {
     /// Its line, where this happened.
-    pub(crate) fn line(self, what: What) -> Line
+    pub(crate) fn line(self, what: TurnAction) -> TurnLine
         ensures { result ≡ line_of self what }
     {
-        Line {
+        TurnLine {
             tick: self.tick,
             cpu: self.cpu,
             subject: self.subject,

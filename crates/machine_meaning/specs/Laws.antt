@@ -2,7 +2,7 @@
 -- says so.
 use Rattle.std.specs.Prelude.{◌≡◌, ◌≢◌, ◌⊎◌, ℕ, ◌+◌, ◌*◌, ◌/◌, ◌%◌, ◌^◌, ◌≤◌, List, ◌++◌, length, Some, None, option_map}
 use Rattle.std.specs.List.{All}
-use Rattle.muen_num.specs.declared.access.Kind.{Kind}
+use Rattle.muen_num.specs.declared.access.AccessKind.{AccessKind}
 use Rattle.machine_meaning.specs.Exits.{AreaEntry, entry_bytes, area_bytes, area_index, area_value}
 use Rattle.machine_meaning.specs.Memory.{Page, page_of, is_there, change, load_of, store_of}
 use Rattle.machine_meaning.specs.Walks.{walk_of, places_read, leaf_size}
@@ -67,7 +67,7 @@ AreasAreReadBack = (before : List AreaEntry) (e : AreaEntry) (after : List ℕ) 
 -- with the same entries a walk ends at the same
 abbrev pub SameWalks : Type 0
 SameWalks =
-    (old new : List Page) (eptp addr : ℕ) (kind : Kind) → SameEntries eptp addr old new → walk_of new eptp addr kind ≡ walk_of old eptp addr kind
+    (old new : List Page) (eptp addr : ℕ) (kind : AccessKind) → SameEntries eptp addr old new → walk_of new eptp addr kind ≡ walk_of old eptp addr kind
 
 -- it reads entries at the same places
 abbrev pub SamePlaces : Type 0

@@ -4,7 +4,7 @@
 -- physical addresses, and memory that isn't everywhere.
 use Rattle.std.specs.Prelude.{ℕ, zero, suc, ◌+◌, ◌-◌, ◌*◌, ◌/◌, ◌%◌, ◌^◌, ◌==◌, ◌&&◌, ◌||◌, not, bit_and, nat_lt, Bool, if◌then◌else◌, List, [], ◌∷◌, Option, Some, None}
 use Rattle.muen_num.specs.Access.{kind_bit}
-use Rattle.muen_num.specs.declared.access.Kind.{Kind}
+use Rattle.muen_num.specs.declared.access.AccessKind.{AccessKind}
 use Rattle.machine_meaning.specs.Memory.{Page, is_there, load_of}
 use Rattle.machine_meaning.specs.declared.walk.Walk.{Walk}
 use Rattle.machine_meaning.specs.declared.walk.Walk.TheVariants.{At, Violation, Misconfigured}
@@ -103,7 +103,7 @@ abbrev pub root_of : ℕ → ℕ
 root_of eptp = eptp / 4096
 
 -- **the walk** for a guest address below 2 ^ 48 and a kind of access, by the entries that memory has now
-abbrev pub walk_of : List Page → ℕ → ℕ → Kind → Walk
+abbrev pub walk_of : List Page → ℕ → ℕ → AccessKind → Walk
 walk_of m eptp addr kind = walk_from (entry_of m) (is_there m) addr (kind_bit kind) 3 (root_of eptp) 7
 
 -- ---- what a walk reads, and the size of the page that it ends at

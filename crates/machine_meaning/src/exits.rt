@@ -5,7 +5,7 @@ ghost use Rattle.muen_num.specs.Range.{numbers_below};
 ghost use Rattle.muen_num.specs.Size.{bytes_of};
 ghost use Rattle.machine_meaning.specs.Exits.{is_set, port_is_set, port_exits, msr_bit, msr_exits};
 
-use muen_num::Size;
+use muen_num::AccessSize;
 use muen_num::limits::{HIGH_MSR_FIRST, HIGH_MSR_LAST, LAST_PORT, LOW_MSR_LAST};
 
 /// The first port of bitmap B (Intel SDM volume 3, I/O-bitmap addresses).
@@ -61,7 +61,7 @@ fn one_is_set(a: &[u8], b: &[u8], first: u16, count: u8) -> bool
 
 /// Whether an access of ports leaves the subject to which I/O bitmaps A and B belong: it goes past
 /// port FFFFH, or one of its ports has its bit set.
-pub fn port_exits(a: &[u8], b: &[u8], port: u16, size: Size) -> bool
+pub fn port_exits(a: &[u8], b: &[u8], port: u16, size: AccessSize) -> bool
     ensures { result ≡ port_exits a.now b.now port (bytes_of size) }
 {
     let wraps = u64::from(port) + u64::from(size.bytes()) > LAST_PORT + 1;

@@ -1,7 +1,7 @@
 //! A run that is made by hand.
 use device_bench::Bench;
-use muen_num::{Name, Seq, Size};
-use record_text::{DevicePlaces, Devices, Input, PortSpan, TickInput, read};
+use muen_num::{Name, Seq, AccessSize};
+use record_text::{RecordDevice, Devices, Input, PortSpan, TickInput, read};
 use std::alloc::Global;
 use std::test::Fail;
 
@@ -14,7 +14,7 @@ fn devices(alloc: Global) -> Result<Devices, Fail> {
     let Some(name) = Name::read(b"net") else {
         return Err(Fail::new("not read"));
     };
-    let net = DevicePlaces {
+    let net = RecordDevice {
         name,
         ports: Seq::of(vec![in alloc; PortSpan { start: 0, end: 15 }]?),
         memories: Seq::new(alloc),
@@ -70,10 +70,10 @@ fn inputs_and_orders(rt: HostRuntime) -> Result<(), Fail> {
 #[test]
 fn bytes_of_ports(rt: HostRuntime) -> Result<(), Fail> {
     let mut bench = bench(rt.alloc())?;
-    assert_eq!(rt; bench.port_in(0xfffe, Size::Two), 0);
+    assert_eq!(rt; bench.port_in(0xfffe, AccessSize::Two), 0);
     bench.set_port(0xffff, 0x12);
     bench.set_port(0xfffc, 0xff);
     bench.set_port(0xfffc, 0x34);
-    assert_eq!(rt; bench.port_in(0xfffc, Size::Four), 0x1200_0034);
+    assert_eq!(rt; bench.port_in(0xfffc, AccessSize::Four), 0x1200_0034);
     Ok(())
 }

@@ -1,6 +1,6 @@
 //! Fields of an entry, and bits of bitmaps.
 use machine_meaning::{bits, msr_exits, port_exits, with_bits};
-use muen_num::Size;
+use muen_num::AccessSize;
 use std::test::Fail;
 
 #[test]
@@ -16,16 +16,16 @@ fn ports_at_the_ends_of_bitmaps(rt: HostRuntime) -> Result<(), Fail> {
         *last = 0x3F;
     }
     let table = [
-        (0x7FFFu16, Size::One, false),
-        (0x7FFF, Size::Two, false),
-        (0x7FFF, Size::Four, true),
-        (0x7FFE, Size::Two, true),
-        (0x8000, Size::One, false),
-        (0x8000, Size::Two, true),
-        (0xFFFE, Size::Two, false),
-        (0xFFFF, Size::One, false),
-        (0xFFFF, Size::Two, true),
-        (0xFFFE, Size::Four, true),
+        (0x7FFFu16, AccessSize::One, false),
+        (0x7FFF, AccessSize::Two, false),
+        (0x7FFF, AccessSize::Four, true),
+        (0x7FFE, AccessSize::Two, true),
+        (0x8000, AccessSize::One, false),
+        (0x8000, AccessSize::Two, true),
+        (0xFFFE, AccessSize::Two, false),
+        (0xFFFF, AccessSize::One, false),
+        (0xFFFF, AccessSize::Two, true),
+        (0xFFFE, AccessSize::Four, true),
     ];
     for (port, size, exits) in table {
         assert_eq!(rt; port_exits(&a, &b, port, size), exits, "port {port}");

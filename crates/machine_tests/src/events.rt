@@ -2,7 +2,7 @@
 use event_router::Router;
 use image_pack::{EventPart, SubjectPart};
 use image_plan::GroupPart;
-use muen_num::{Mode, Name, Seq};
+use muen_num::{EventMode, Name, Seq};
 use std::alloc::Global;
 use std::test::Fail;
 
@@ -35,7 +35,7 @@ fn router(alloc: Global) -> Result<Router, Fail> {
     Ok(Router::start(alloc, &subjects, &groups)?)
 }
 
-fn event(mode: Mode, target: u8, vector: Option<u8>) -> EventPart {
+fn event(mode: EventMode, target: u8, vector: Option<u8>) -> EventPart {
     EventPart {
         mode,
         target,
@@ -47,8 +47,8 @@ fn event(mode: Mode, target: u8, vector: Option<u8>) -> EventPart {
 fn greatest_vector_first(rt: HostRuntime) -> Result<(), Fail> {
     let mut router = router(rt.alloc())?;
     router.raise_irq(1, 40);
-    router.raise(&event(Mode::Own, 1, Some(200)));
-    router.raise(&event(Mode::Async, 1, Some(255)));
+    router.raise(&event(EventMode::Own, 1, Some(200)));
+    router.raise(&event(EventMode::Async, 1, Some(255)));
     assert!(rt; router.pending(1, 255));
     assert_eq!(rt; router.deliver(1, false), Some(200));
     assert_eq!(rt; router.deliver(1, true), Some(255));
@@ -62,15 +62,15 @@ fn greatest_vector_first(rt: HostRuntime) -> Result<(), Fail> {
 #[test]
 fn handovers(rt: HostRuntime) -> Result<(), Fail> {
     let mut router = router(rt.alloc())?;
-    router.raise(&event(Mode::Switch, 2, None));
+    router.raise(&event(EventMode::Switch, 2, None));
     assert_eq!(rt;
         (router.active(0), router.active(1), router.active(2)),
         (Some(2), Some(1), None)
     );
-    router.raise(&event(Mode::Switch, 0, Some(33)));
+    router.raise(&event(EventMode::Switch, 0, Some(33)));
     assert_eq!(rt; router.active(0), Some(0));
     assert_eq!(rt; router.deliver(0, false), Some(33));
-    router.raise(&event(Mode::Asap, 2, Some(40)));
+    router.raise(&event(EventMode::Asap, 2, Some(40)));
     assert!(rt; router.pending(2, 40));
     assert_eq!(rt; router.active(0), Some(0));
     Ok(())

@@ -1,7 +1,7 @@
 use ept_walk::{PlainWalk, Translate};
 use machine_meaning::Walk;
-use muen_num::{Kind, Seq, Size};
-use phys_mem::{PhysMem, RegionMem, SpanPartBytes};
+use muen_num::{AccessKind, Seq, AccessSize};
+use phys_mem::{PhysMem, RegionMem, MemorySpan};
 use std::alloc::Global;
 use std::test::Fail;
 
@@ -14,11 +14,11 @@ const PAGE_TABLE: u64 = 0x10_3000;
 
 /// Seven pages from 1 MiB on, for tables, and one page at 2 GiB.
 fn memory(alloc: Global) -> Result<RegionMem, Fail> {
-    let low = SpanPartBytes {
+    let low = MemorySpan {
         place: 0x10_0000,
         bytes: Seq::of(vec![in alloc; 0; 0x7000]?),
     };
-    let high = SpanPartBytes {
+    let high = MemorySpan {
         place: 0x8000_0000,
         bytes: Seq::of(vec![in alloc; 0; 0x1000]?),
     };
@@ -29,7 +29,7 @@ fn memory(alloc: Global) -> Result<RegionMem, Fail> {
 /// Writes an entry into the table of a level, 3 for the PML4 table.
 fn write<M: PhysMem>(mem: &mut M, level: u64, index: u64, entry: u64) {
     let place = PAGE_TABLE - 0x1000 * (level % 4) + 8 * (index % 512);
-    mem.store(place, Size::Eight, entry);
+    mem.store(place, AccessSize::Eight, entry);
 }
 
 /// Where a walk for reading ends, with an entry in place of the first one of its level.
@@ -39,7 +39,7 @@ fn walk_with(mem: &mut RegionMem, level: u64, entry: u64) -> Walk {
     write(mem, 1, 0, 0x10_3007);
     write(mem, 0, 0, 0x10_6037);
     write(mem, level, 0, entry);
-    PlainWalk::new().walk(mem, EPTP, 0, Kind::Read)
+    PlainWalk::new().walk(mem, EPTP, 0, AccessKind::Read)
 }
 
 /// Entries by their level, and where the walk ends with one.
@@ -84,14 +84,14 @@ fn each_check(rt: HostRuntime) -> Result<(), Fail> {
 }
 
 /// Walks over the worked tables: the EPTP, the guest address, what is done there, and where it ends.
-const WALKS: [(u64, u32, Kind, Walk); 7] = [
-    (EPTP, 0x40_0000, Kind::Read, Walk::At(0x10_6000)),
-    (EPTP, 0x40_0fff, Kind::Fetch, Walk::At(0x10_6fff)),
-    (EPTP, 0x40_0000, Kind::Write, Walk::Violation(5)),
-    (EPTP, 0x40_1000, Kind::Read, Walk::Violation(0)),
-    (EPTP, 0x4000_0123, Kind::Write, Walk::At(0x8000_0123)),
-    (EPTP, 0x4000_1000, Kind::Read, Walk::Misconfigured),
-    (u64::MAX, 0, Kind::Read, Walk::Misconfigured),
+const WALKS: [(u64, u32, AccessKind, Walk); 7] = [
+    (EPTP, 0x40_0000, AccessKind::Read, Walk::At(0x10_6000)),
+    (EPTP, 0x40_0fff, AccessKind::Fetch, Walk::At(0x10_6fff)),
+    (EPTP, 0x40_0000, AccessKind::Write, Walk::Violation(5)),
+    (EPTP, 0x40_1000, AccessKind::Read, Walk::Violation(0)),
+    (EPTP, 0x4000_0123, AccessKind::Write, Walk::At(0x8000_0123)),
+    (EPTP, 0x4000_1000, AccessKind::Read, Walk::Misconfigured),
+    (u64::MAX, 0, AccessKind::Read, Walk::Misconfigured),
 ];
 
 #[test]

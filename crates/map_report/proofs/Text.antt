@@ -12,7 +12,7 @@ use Rattle.expand_grants.specs.declared.granted.Grants.{Grants}
 use Rattle.expand_grants.proofs.Ordered.{map_in_order}
 use Rattle.expand_kernel.specs.Regions.{regions_of}
 use Rattle.expand_kernel.specs.declared.region.Region.{Region}
-use Rattle.muen_num.specs.declared.tag.Part.TheVariants.{Named}
+use Rattle.muen_num.specs.declared.tag.TagPart.TheVariants.{Named}
 use Rattle.muen_num.proofs.Lists.{there}
 use Rattle.policy_types.specs.declared.source.Block.{Block}
 use Rattle.policy_lawful.specs.Resolution.{IsResolved, Resolution, source_of, subject_named, subject_placed}

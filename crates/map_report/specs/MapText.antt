@@ -6,8 +6,8 @@ use Rattle.expand_kernel.specs.Regions.{regions_of}
 use Rattle.expand_kernel.specs.declared.region.Region.{Region}
 use Rattle.muen_num.specs.Fixed.{hex16}
 use Rattle.muen_num.specs.Tag.{tag_text}
-use Rattle.muen_num.specs.declared.tag.Part.{Part}
-use Rattle.muen_num.specs.declared.tag.Part.TheVariants.{Named, State, Whole}
+use Rattle.muen_num.specs.declared.tag.TagPart.{TagPart}
+use Rattle.muen_num.specs.declared.tag.TagPart.TheVariants.{Named, State, Whole}
 use Rattle.muen_num.specs.declared.tag.Tag.{Tag}
 use Rattle.policy_meaning.specs.Thing.{Thing, region, channel, provided, device_memory, state}
 use Rattle.policy_meaning.specs.Windows.{windows_of}
@@ -22,7 +22,7 @@ use Rattle.region_alloc.specs.Placement.{placement_of}
 
 -- ---- names and rights
 
-abbrev pub tag : List ℕ → Part → Tag
+abbrev pub tag : List ℕ → TagPart → Tag
 tag owner part = record { owner = owner; part = part }
 
 -- the printed name of a thing

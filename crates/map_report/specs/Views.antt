@@ -5,7 +5,7 @@ use Rattle.std.specs.List.{enumerate_from, flat_map}
 use Rattle.expand_grants.specs.declared.granted.Grants.{Grants}
 use Rattle.expand_kernel.specs.declared.region.Region.{Region}
 use Rattle.map_report.specs.MapText.{device_lines, region_lines, tag, window_line}
-use Rattle.muen_num.specs.declared.tag.Part.TheVariants.{Named, State as States, Whole}
+use Rattle.muen_num.specs.declared.tag.TagPart.TheVariants.{Named, State as States, Whole}
 use Rattle.muen_num.specs.declared.tag.Tag.{Tag}
 use Rattle.policy_lawful.specs.Resolution.{Resolution}
 use Rattle.policy_lawful.specs.declared.resolved.Subject.{Subject}

@@ -11,7 +11,7 @@ use crate::lines::{Laid, PlaceLine, WindowLine};
 use crate::shown::tag;
 use expand_grants::Grants;
 use expand_kernel::Region;
-use muen_num::{Name, Part, Tag};
+use muen_num::{Name, TagPart, Tag};
 use muen_outside::{Buffer, PrintedLine, Sink, SinkFault};
 use policy_lawful::Resolved;
 use policy_lawful::resolved::Subject;
@@ -69,7 +69,7 @@ fn put_memory<S: Sink>(
         size: memory.size,
         tag: Tag {
             owner: device,
-            part: Part::Named(memory.name),
+            part: TagPart::Named(memory.name),
         },
     };
     put_line(&line, buffer, out)

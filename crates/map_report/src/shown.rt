@@ -3,11 +3,11 @@ ghost use Rattle.std.specs.Prelude.{◌≡◌};
 ghost use Rattle.map_report.specs.MapText.{tag};
 ghost use Rattle.map_report.specs.Views.{shown_tag};
 
-use muen_num::{Name, Part, Tag};
+use muen_num::{Name, TagPart, Tag};
 use policy_lawful::Resolved;
 use policy_views::{Shown, View};
 
-fn part_of(owner: Name, part: Part) -> Tag
+fn part_of(owner: Name, part: TagPart) -> Tag
     ensures { result ≡ tag owner part }
 {
     Tag { owner, part }
@@ -20,12 +20,12 @@ pub(crate) fn tag(policy: &Resolved, subject: Name, view: &View) -> Option<Tag>
 {
     let name = view.name;
     match view.shows {
-        Shown::Memory(_) | Shown::Channel(_) => Some(part_of(name, Part::Whole)),
-        Shown::Provided(_) => Some(part_of(subject, Part::Named(name))),
+        Shown::Memory(_) | Shown::Channel(_) => Some(part_of(name, TagPart::Whole)),
+        Shown::Provided(_) => Some(part_of(subject, TagPart::Named(name))),
         Shown::Device(device, _) => {
             let device = policy.devices().get(device)?;
-            Some(part_of(device.name, Part::Named(name)))
+            Some(part_of(device.name, TagPart::Named(name)))
         }
-        Shown::State(_) => Some(part_of(name, Part::State)),
+        Shown::State(_) => Some(part_of(name, TagPart::State)),
     }
 }

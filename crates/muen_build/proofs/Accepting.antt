@@ -10,8 +10,8 @@ use Rattle.policy_types.specs.declared.source.Source.{Source}
 use Rattle.muen_build.specs.Accepting.{Accepts, Ends, Files, Grows, Passes, Refuses, RefusesDocument, looks_of, of_all}
 use Rattle.muen_build.specs.Looks.{Follows, document_look}
 use Rattle.muen_build.specs.Refusals.{contents_refused, filled_of, is_for_a_file, lawful_policy_of}
-use Rattle.muen_build.specs.declared.accepted.BuildEnd.{BuildEnd}
-use Rattle.muen_build.specs.declared.accepted.BuildEnd.TheVariants.{Refused}
+use Rattle.muen_build.specs.declared.accepted.BuildError.{BuildError}
+use Rattle.muen_build.specs.declared.accepted.BuildError.TheVariants.{Refused}
 use Rattle.region_alloc.specs.Placement.{no_room, no_room_for, placement_of}
 use Rattle.muen_build.proofs.Refusing.{built_so, contents_first, for_no_file, not_lawful, room_last}
 use Rattle.muen_build.proofs.Steps.{ends_here, ends_so}
@@ -35,7 +35,7 @@ no_room_for_no_file p r h = room_for_no_file (placement_of p) r h
 
 module _ (name document : List ℕ) (p : Source) (is : lawful_policy_of document ≡ Ok p) where
   -- its contents are refused
-  pub contents_end : (old new : FilesState) (end : BuildEnd) → Ends (document_look name document ∷ []) (Refuses (of_all (filled_of p))) old new end → Ends (document_look name document ∷ []) (RefusesDocument document) old new end
+  pub contents_end : (old new : FilesState) (end : BuildError) → Ends (document_look name document ∷ []) (Refuses (of_all (filled_of p))) old new end → Ends (document_look name document ∷ []) (RefusesDocument document) old new end
   unfolding contents_refused
   contents_end old new end e =
       ends_so (document_look name document ∷ []) (Refuses (of_all (filled_of p))) (RefusesDocument document) old new end

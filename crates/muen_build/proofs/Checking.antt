@@ -14,8 +14,8 @@ use Rattle.expand_kernel.specs.ByPlace.{provided_at}
 use Rattle.muen_build.specs.Filling.{brought_at, filled_provided, filled_region}
 use Rattle.muen_build.specs.Looks.{Follows, Look, ShowAll}
 use Rattle.muen_build.specs.Refusals.{Filled, content_refused, filled_of, filled_refused, too_long_for}
-use Rattle.muen_build.specs.declared.accepted.BuildEnd.{BuildEnd}
-use Rattle.muen_build.specs.declared.accepted.BuildEnd.TheVariants.{Refused}
+use Rattle.muen_build.specs.declared.accepted.BuildError.{BuildError}
+use Rattle.muen_build.specs.declared.accepted.BuildError.TheVariants.{Refused}
 use Rattle.policy_lawful.specs.declared.resolved.Subject.{Subject}
 use Rattle.policy_types.specs.declared.source.Component.{Component}
 use Rattle.policy_lawful.specs.Resolution.{IsResolved, Resolution, source_of}
@@ -48,7 +48,7 @@ module _ (looks : List Look) (f : Filled) where
   inline_passes bytes is h files s = ap (content_refused files f) is ∙ none_is (too_long_for f (length bytes)) h
 
   module _ (file : List ℕ) (offset : ℕ) (most : Option ℕ) (is : f.content ≡ File file offset most) where
-    pub missing_ends : (old new : FilesState) (end : BuildEnd) → Ends looks (NotFound file) old new end → Ends looks (Refuses (of_filled f)) old new end
+    pub missing_ends : (old new : FilesState) (end : BuildError) → Ends looks (NotFound file) old new end → Ends looks (Refuses (of_filled f)) old new end
     missing_ends old new end e =
         ends_so looks (NotFound file) (Refuses (of_filled f)) old new end (λ files r s n. ap (content_refused files f) is ∙ file_ends f file offset most files r n) e
 
@@ -93,7 +93,7 @@ module _ {X : Type 0} (why : X → Why) (name document : List ℕ) (all : List X
       follows = follows_on new h;
     }
 
-    pub passing_ends : (new : FilesState) (end : BuildEnd) → Ends (looks_of name document found) (Refuses (why x)) now new end → Ends (looks_of name document before) (Refuses (λ files. first_in (λ x. why x files) all)) old new end
+    pub passing_ends : (new : FilesState) (end : BuildError) → Ends (looks_of name document found) (Refuses (why x)) now new end → Ends (looks_of name document before) (Refuses (λ files. first_in (λ x. why x files) all)) old new end
     passing_ends new end e =
         ends_from (looks_of name document before) (looks_of name document found) (Refuses (λ files. first_in (λ x. why x files) all)) old now new end p.grows p.follows
         (ends_so (looks_of name document found) (Refuses (why x)) (Refuses (λ files. first_in (λ x. why x files) all)) now new end
@@ -101,7 +101,7 @@ module _ {X : Type 0} (why : X → Why) (name document : List ℕ) (all : List X
 
 -- of elements that are filled each for itself
 module _ {X : Type 0} (f : X → Filled) (xs : List X) where
-  pub mapped_ends : (looks : List Look) (old new : FilesState) (end : BuildEnd) → Ends looks (Refuses (λ files. first_in (λ x. of_filled (f x) files) xs)) old new end → Ends looks (Refuses (of_all (map f xs))) old new end
+  pub mapped_ends : (looks : List Look) (old new : FilesState) (end : BuildError) → Ends looks (Refuses (λ files. first_in (λ x. of_filled (f x) files) xs)) old new end → Ends looks (Refuses (of_all (map f xs))) old new end
   mapped_ends looks old new end e =
       ends_so looks (Refuses (λ files. first_in (λ x. of_filled (f x) files) xs)) (Refuses (of_all (map f xs))) old new end
       (λ files r s h. first_over-map f (filled_refused files) xs ∙ h) e
@@ -111,7 +111,7 @@ module _ {X : Type 0} (f : X → Filled) (xs : List X) where
 
 -- of what a subject's component brings along
 module _ (components : List Component) (s : Subject) where
-  pub brought_by_ends : (looks : List Look) (old new : FilesState) (end : BuildEnd) → Ends looks (Refuses (of_all (map (filled_provided s.name) (provided_at components s.component)))) old new end → Ends looks (Refuses (of_all (brought_at components s))) old new end
+  pub brought_by_ends : (looks : List Look) (old new : FilesState) (end : BuildError) → Ends looks (Refuses (of_all (map (filled_provided s.name) (provided_at components s.component)))) old new end → Ends looks (Refuses (of_all (brought_at components s))) old new end
   unfolding brought_at
   brought_by_ends looks old new end e = e
 
@@ -138,13 +138,13 @@ all_is r h files =
     ∙ ap (option_or (of_all (map filled_region r.memory) files)) (first_in-flat_map (filled_refused files) (brought_at r.components) r.subjects)
 
 module _ (r : Resolution) (h : IsResolved r) (name document : List ℕ) (before between : Files) (old mid : FilesState) where
-  pub memory_ends : (new : FilesState) (end : BuildEnd) → Ends (looks_of name document before) (Refuses (of_all (map filled_region r.memory))) old new end → Ends (looks_of name document before) (Refuses (of_all (filled_of (source_of r)))) old new end
+  pub memory_ends : (new : FilesState) (end : BuildError) → Ends (looks_of name document before) (Refuses (of_all (map filled_region r.memory))) old new end → Ends (looks_of name document before) (Refuses (of_all (filled_of (source_of r)))) old new end
   memory_ends new end e =
       ends_so (looks_of name document before) (Refuses (of_all (map filled_region r.memory))) (Refuses (of_all (filled_of (source_of r)))) old new end
       (λ files x s is. all_is r h files ∙ ap (λ o. option_or o (of_brought r.components r.subjects files)) is) e
 
   module _ (grows : Grows old.held (looks_of name document before) (looks_of name document between)) (passes : Passes (looks_of name document between) (of_all (map filled_region r.memory))) (follows : Follows old mid) where
-    pub brought_ends : (new : FilesState) (end : BuildEnd) → Ends (looks_of name document between) (Refuses (of_brought r.components r.subjects)) mid new end → Ends (looks_of name document before) (Refuses (of_all (filled_of (source_of r)))) old new end
+    pub brought_ends : (new : FilesState) (end : BuildError) → Ends (looks_of name document between) (Refuses (of_brought r.components r.subjects)) mid new end → Ends (looks_of name document before) (Refuses (of_all (filled_of (source_of r)))) old new end
     brought_ends new end e =
         ends_from (looks_of name document before) (looks_of name document between) (Refuses (of_all (filled_of (source_of r)))) old mid new end grows follows
         (ends_so (looks_of name document between) (Refuses (of_brought r.components r.subjects)) (Refuses (of_all (filled_of (source_of r)))) mid new end

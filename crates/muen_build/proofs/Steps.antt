@@ -15,8 +15,8 @@ use Rattle.policy_types.specs.declared.refusal.Refusal.TheVariants.{FileFit, Mis
 use Rattle.muen_build.specs.Accepting.{Ends, Files, Grows, IsAdded, Known, NotFound, NotRead, looks_of, part_length}
 use Rattle.muen_build.specs.Looks.{AreOthers, Follows, Look, Saw, ShowAll, document_look, file_look, look}
 use Rattle.muen_build.specs.Refusals.{Filled, file_refused, is_for_a_file, too_long_for}
-use Rattle.muen_build.specs.declared.accepted.BuildEnd.{BuildEnd}
-use Rattle.muen_build.specs.declared.accepted.BuildEnd.TheVariants.{FileFault, Refused}
+use Rattle.muen_build.specs.declared.accepted.BuildError.{BuildError}
+use Rattle.muen_build.specs.declared.accepted.BuildError.TheVariants.{FileFault, Refused}
 use Rattle.muen_build.proofs.Looks.{seen_also, show_before, show_last, wider}
 
 -- ---- looks that grow
@@ -29,7 +29,7 @@ grows_on held a b c f g = record { seen = λ s. g.seen (f.seen s); shows = λ fi
 
 -- ---- how it ends, told from an earlier look on, and for more
 
-ends_later : (held : Option Store) (a b : List Look) (Refuses : Store → Refusal → Type 0) (old mid new : FilesState) (end : BuildEnd)
+ends_later : (held : Option Store) (a b : List Look) (Refuses : Store → Refusal → Type 0) (old mid new : FilesState) (end : BuildError)
     → Grows old.held a b → Follows old mid → Ends b Refuses mid new end → Ends a Refuses old new end
 ends_later held a b Refuses old mid new (Refused r) grows follows (inl is) = inl is
 ends_later held a b Refuses old mid new (Refused r) grows follows (inr e) = inr (record {
@@ -40,11 +40,11 @@ ends_later held a b Refuses old mid new (Refused r) grows follows (inr e) = inr 
 })
 ends_later held a b Refuses old mid new FileFault grows follows rose = omega (arith, rose, follows.faults)
 
-pub ends_from : (a b : List Look) (Refuses : Store → Refusal → Type 0) (old mid new : FilesState) (end : BuildEnd)
+pub ends_from : (a b : List Look) (Refuses : Store → Refusal → Type 0) (old mid new : FilesState) (end : BuildError)
     → Grows old.held a b → Follows old mid → Ends b Refuses mid new end → Ends a Refuses old new end
 ends_from a b Refuses old mid new end grows follows e = ends_later old.held a b Refuses old mid new end grows follows e
 
-pub ends_so : (a : List Look) (Refuses Refuses' : Store → Refusal → Type 0) (old new : FilesState) (end : BuildEnd)
+pub ends_so : (a : List Look) (Refuses Refuses' : Store → Refusal → Type 0) (old new : FilesState) (end : BuildError)
     → ((files : Store) (r : Refusal) → ShowAll files a → Refuses files r → Refuses' files r) → Ends a Refuses old new end → Ends a Refuses' old new end
 ends_so a Refuses Refuses' old new (Refused r) so (inl is) = inl is
 ends_so a Refuses Refuses' old new (Refused r) so (inr e) = inr (record {
@@ -135,7 +135,7 @@ module _ (name document : List ℕ) (found : Files) (file : List ℕ) (other : b
     many = a.many;
   }
 
-  pub new_ends : (end : BuildEnd) → NotRead file old new end → Ends (looks_of name document found) (NotFound file) old new end
+  pub new_ends : (end : BuildError) → NotRead file old new end → Ends (looks_of name document found) (NotFound file) old new end
   new_ends (Refused (Missing n)) h = inr (record {
     after = looks_of name document found ++ look file COMPONENT_FILE_MOST absent ∷ [];
     grows = grown absent h.1;

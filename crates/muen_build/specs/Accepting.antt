@@ -14,8 +14,8 @@ use Rattle.policy_types.specs.declared.source.Source.{Source}
 use Rattle.muen_build.specs.Filling.{brought_at}
 use Rattle.muen_build.specs.Looks.{Look, Saw, Seen, ShowAll, document_look, file_look}
 use Rattle.muen_build.specs.Refusals.{Filled, accepted_policy_of, filled_refused, is_for_a_file}
-use Rattle.muen_build.specs.declared.accepted.BuildEnd.{BuildEnd}
-use Rattle.muen_build.specs.declared.accepted.BuildEnd.TheVariants.{FileFault, Refused}
+use Rattle.muen_build.specs.declared.accepted.BuildError.{BuildError}
+use Rattle.muen_build.specs.declared.accepted.BuildError.TheVariants.{FileFault, Refused}
 
 -- the component files that were read, with what they hold
 abbrev pub Files : Type 0
@@ -39,7 +39,7 @@ pub record RefusedFor (looks : List Look) (Refuses : Store → Refusal → Type 
   pub refuses : (files : Store) → ShowAll files after → Refuses files r
   pub missed : is_for_a_file r ≡ true → Rose old.misses new.misses
 
-abbrev pub Ends : List Look → (Store → Refusal → Type 0) → FilesState → FilesState → BuildEnd → Type 0
+abbrev pub Ends : List Look → (Store → Refusal → Type 0) → FilesState → FilesState → BuildError → Type 0
 Ends looks Refuses old new (Refused r) = (r ≡ NoMemory) ⊎ RefusedFor looks Refuses old new r
 Ends looks Refuses old new FileFault = Rose old.faults new.faults
 
@@ -56,7 +56,7 @@ abbrev pub Known : List Look → List ℕ → ℕ → Type 0
 Known looks name count = (files : Store) → ShowAll files looks → Has files name count
 
 -- a read of this component file gives no bytes
-abbrev pub NotRead : List ℕ → FilesState → FilesState → BuildEnd → Type 0
+abbrev pub NotRead : List ℕ → FilesState → FilesState → BuildError → Type 0
 NotRead name old new (Refused (Missing n)) = (n ≡ name) × Saw name COMPONENT_FILE_MOST absent old new
 NotRead name old new (Refused (TooLong n k)) = (n ≡ name) × Saw name COMPONENT_FILE_MOST (long k) old new
 NotRead name old new (Refused NoMemory) = Unit {0}

@@ -5,7 +5,7 @@ use Rattle.std.specs.List.{flat_map}
 use Rattle.std.specs.FinMap.{get}
 use Rattle.muen_num.specs.Search.{first_in, first_of}
 use Rattle.muen_num.specs.declared.limits.TheConstants.{COMPONENT_FILE_MOST}
-use Rattle.muen_num.specs.declared.tag.Part.TheVariants.{Named, Whole}
+use Rattle.muen_num.specs.declared.tag.TagPart.TheVariants.{Named, Whole}
 use Rattle.muen_num.specs.declared.tag.Tag.{Tag}
 use Rattle.muen_outside.specs.Store.{Reading, whole, absent, long, reading_of}
 use Rattle.policy_json.specs.Document.{policy_of}

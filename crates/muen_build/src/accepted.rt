@@ -11,33 +11,33 @@ use std::marker::Model;
 
 /// Why a policy is not accepted.
 #[derive(Debug, Drop)]
-pub enum BuildEnd {
+pub enum BuildError {
     /// It is refused, or memory was.
     Refused(Refusal),
     /// A call on files failed.
     FileFault,
 }
 
-impl From<Refusal> for BuildEnd {
+impl From<Refusal> for BuildError {
     ghost use Rattle.std.specs.Prelude.{◌≡◌};
-    ghost use Rattle.muen_build.specs.declared.accepted.BuildEnd.TheVariants.{Refused};
+    ghost use Rattle.muen_build.specs.declared.accepted.BuildError.TheVariants.{Refused};
 
     ghost from_gives = { λ refusal end. end ≡ Refused refusal };
 
-    fn from(refusal: Refusal) -> BuildEnd {
-        BuildEnd::Refused(refusal)
+    fn from(refusal: Refusal) -> BuildError {
+        BuildError::Refused(refusal)
     }
 }
 
-impl From<NoMemory> for BuildEnd {
+impl From<NoMemory> for BuildError {
     ghost use Rattle.std.specs.Prelude.{◌≡◌};
     ghost use Rattle.policy_types.specs.declared.refusal.Refusal.TheVariants.{NoMemory};
-    ghost use Rattle.muen_build.specs.declared.accepted.BuildEnd.TheVariants.{Refused};
+    ghost use Rattle.muen_build.specs.declared.accepted.BuildError.TheVariants.{Refused};
 
     ghost from_gives = { λ _ end. end ≡ Refused NoMemory };
 
-    fn from(_: NoMemory) -> BuildEnd {
-        BuildEnd::Refused(Refusal::NoMemory)
+    fn from(_: NoMemory) -> BuildError {
+        BuildError::Refused(Refusal::NoMemory)
     }
 }
 

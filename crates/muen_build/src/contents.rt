@@ -9,10 +9,10 @@ ghost use Rattle.muen_build.specs.Filling.{brought_at, filled, filled_provided, 
 ghost use Rattle.muen_build.specs.Looks.{Follows, Saw};
 ghost use Rattle.muen_build.specs.Refusals.{filled_of, too_long_for};
 
-use crate::accepted::{BuildEnd, ComponentFiles};
+use crate::accepted::{BuildError, ComponentFiles};
 use muen_num::limits::COMPONENT_FILE_MOST;
-use muen_num::{Name, Part, Seq, Tag};
-use muen_outside::{FileEnd, Files, Found};
+use muen_num::{Name, TagPart, Seq, Tag};
+use muen_outside::{FileError, Files, Found};
 use policy_lawful::Resolved;
 use policy_lawful::resolved::{ComponentUse, Subject};
 use policy_types::Refusal;
@@ -45,17 +45,17 @@ fn part_length(count: u64, offset: u64, most: Option<u64>) -> u64
 }
 
 // The bytes of a component file.
-fn read<F: Files>(alloc: Global, file: Name, files: &mut F) -> Result<Seq<u8>, BuildEnd>
+fn read<F: Files>(alloc: Global, file: Name, files: &mut F) -> Result<Seq<u8>, BuildError>
     ensures ok { IfOk result (λ bytes. Saw file COMPONENT_FILE_MOST (whole bytes) (F.state files.old) (F.state files.new)) }
     ensures err { IfErr result (NotRead file (F.state files.old) (F.state files.new)) }
     ensures follows { Follows (F.state files.old) (F.state files.new) }
 {
     match files.read(alloc, file.as_str(), COMPONENT_FILE_MOST) {
         Ok(Found::Bytes(bytes)) => Ok(bytes),
-        Ok(Found::Missing) => Err(BuildEnd::Refused(Refusal::Missing { file })),
-        Ok(Found::TooLong(length)) => Err(BuildEnd::Refused(Refusal::TooLong { file, length })),
-        Err(FileEnd::Failed) => Err(BuildEnd::FileFault),
-        Err(FileEnd::NoMemory) => Err(BuildEnd::Refused(Refusal::NoMemory)),
+        Ok(Found::Missing) => Err(BuildError::Refused(Refusal::Missing { file })),
+        Ok(Found::TooLong(length)) => Err(BuildError::Refused(Refusal::TooLong { file, length })),
+        Err(FileError::Failed) => Err(BuildError::FileFault),
+        Err(FileError::NoMemory) => Err(BuildError::Refused(Refusal::NoMemory)),
     }
 }
 
@@ -65,7 +65,7 @@ fn read_new<F: Files>(
     file: Name,
     found: &mut ComponentFiles,
     files: &mut F,
-) -> Result<u64, BuildEnd>
+) -> Result<u64, BuildError>
     requires { find_bytes file found.old ≡ None }
     ensures ok { IfOk result (λ count. IsAdded file found.old found.new count (F.state files.old) (F.state files.new)) }
     ensures err { IfErr result (NotRead file (F.state files.old) (F.state files.new)) }
@@ -86,7 +86,7 @@ fn file_length<F: Files>(
     file: Name,
     found: &mut ComponentFiles,
     files: &mut F,
-) -> Result<u64, BuildEnd>
+) -> Result<u64, BuildError>
     ensures grows { IfOk result (λ _. Grows (F.state files.old).held (looks_of name.now document.now found.old) (looks_of name.now document.now found.new)) }
     ensures known { IfOk result (Known (looks_of name.now document.now found.new) file) }
     ensures err { IfErr result (Ends (looks_of name.now document.now found.old) (NotFound file) (F.state files.old) (F.state files.new)) }
@@ -111,7 +111,7 @@ fn check<F: Files>(
     content: &Content,
     found: &mut ComponentFiles,
     files: &mut F,
-) -> Result<(), BuildEnd>
+) -> Result<(), BuildError>
     ensures grows { IfOk result (λ _. Grows (F.state files.old).held (looks_of name.now document.now found.old) (looks_of name.now document.now found.new)) }
     ensures passes { IfOk result (λ _. Passes (looks_of name.now document.now found.new) (of_filled (filled region room content.now))) }
     ensures err { IfErr result (Ends (looks_of name.now document.now found.old) (Refuses (of_filled (filled region room content.now))) (F.state files.old) (F.state files.new)) }
@@ -139,7 +139,7 @@ fn check_memory<F: Files>(
     memory: &[Region],
     found: &mut ComponentFiles,
     files: &mut F,
-) -> Result<(), BuildEnd>
+) -> Result<(), BuildError>
     ensures grows { IfOk result (λ _. Grows (F.state files.old).held (looks_of name.now document.now found.old) (looks_of name.now document.now found.new)) }
     ensures passes { IfOk result (λ _. Passes (looks_of name.now document.now found.new) (of_all (map filled_region memory.now))) }
     ensures err { IfErr result (Ends (looks_of name.now document.now found.old) (Refuses (of_all (map filled_region memory.now))) (F.state files.old) (F.state files.new)) }
@@ -148,7 +148,7 @@ fn check_memory<F: Files>(
     for region in memory {
         let tag = Tag {
             owner: region.name,
-            part: Part::Whole,
+            part: TagPart::Whole,
         };
         check(
             alloc,
@@ -173,7 +173,7 @@ fn check_provided<F: Files>(
     provided: &[Provided],
     found: &mut ComponentFiles,
     files: &mut F,
-) -> Result<(), BuildEnd>
+) -> Result<(), BuildError>
     ensures grows { IfOk result (λ _. Grows (F.state files.old).held (looks_of name.now document.now found.old) (looks_of name.now document.now found.new)) }
     ensures passes { IfOk result (λ _. Passes (looks_of name.now document.now found.new) (of_all (map (filled_provided subject) provided.now))) }
     ensures err { IfErr result (Ends (looks_of name.now document.now found.old) (Refuses (of_all (map (filled_provided subject) provided.now))) (F.state files.old) (F.state files.new)) }
@@ -182,7 +182,7 @@ fn check_provided<F: Files>(
     for x in provided {
         let tag = Tag {
             owner: subject,
-            part: Part::Named(x.logical),
+            part: TagPart::Named(x.logical),
         };
         check(alloc, name, document, tag, x.size, &x.content, found, files)?;
     }
@@ -214,7 +214,7 @@ fn check_subjects<F: Files>(
     subjects: &[Subject],
     found: &mut ComponentFiles,
     files: &mut F,
-) -> Result<(), BuildEnd>
+) -> Result<(), BuildError>
     ensures grows { IfOk result (λ _. Grows (F.state files.old).held (looks_of name.now document.now found.old) (looks_of name.now document.now found.new)) }
     ensures passes { IfOk result (λ _. Passes (looks_of name.now document.now found.new) (of_brought components.now subjects.now)) }
     ensures err { IfErr result (Ends (looks_of name.now document.now found.old) (Refuses (of_brought components.now subjects.now)) (F.state files.old) (F.state files.new)) }
@@ -236,7 +236,7 @@ pub(crate) fn check_all<F: Files>(
     policy: &Resolved,
     found: &mut ComponentFiles,
     files: &mut F,
-) -> Result<(), BuildEnd>
+) -> Result<(), BuildError>
     ensures grows { IfOk result (λ _. Grows (F.state files.old).held (looks_of name.now document.now found.old) (looks_of name.now document.now found.new)) }
     ensures passes { IfOk result (λ _. Passes (looks_of name.now document.now found.new) (of_all (filled_of (source_of policy.now)))) }
     ensures err { IfErr result (Ends (looks_of name.now document.now found.old) (Refuses (of_all (filled_of (source_of policy.now)))) (F.state files.old) (F.state files.new)) }

@@ -10,7 +10,7 @@ ghost use Rattle.muen_outside.specs.Store.{Store};
 ghost use Rattle.policy_lawful.specs.Resolution.{source_of};
 
 use crate::accept;
-use crate::accepted::{Accepted, BuildEnd, ComponentFiles};
+use crate::accepted::{Accepted, BuildError, ComponentFiles};
 use crate::things::things;
 use image_emit::emit;
 use image_pack::{Parts, pack};
@@ -72,7 +72,7 @@ pub fn build<F: Files>(
     name: &str,
     document: &[u8],
     files: &mut F,
-) -> Result<Vec<u8>, BuildEnd>
+) -> Result<Vec<u8>, BuildError>
     ensures builds { IfOk result (λ image. Builds (F.state files.old).held (document_look name.now document.now ∷ []) document.now image.items) }
     ensures err { IfErr result (Ends (document_look name.now document.now ∷ []) (RefusesDocument document.now) (F.state files.old) (F.state files.new)) }
     ensures follows { Follows (F.state files.old) (F.state files.new) }

@@ -25,7 +25,7 @@ mod contents;
 mod image_bytes;
 mod things;
 
-pub use accepted::{Accepted, BuildEnd, ComponentFiles};
+pub use accepted::{Accepted, BuildError, ComponentFiles};
 use contents::check_all;
 pub use image_bytes::{build, image};
 use muen_outside::Files;
@@ -76,7 +76,7 @@ fn read_contents<F: Files>(
     document: &[u8],
     policy: &Lawful,
     files: &mut F,
-) -> Result<ComponentFiles, BuildEnd>
+) -> Result<ComponentFiles, BuildError>
     ensures grows { IfOk result (λ found. Grows (F.state files.old).held (document_look name.now document.now ∷ []) (looks_of name.now document.now found)) }
     ensures passes { IfOk result (λ found. Passes (looks_of name.now document.now found) (of_all (filled_of (source_of policy.now)))) }
     ensures err { IfErr result (Ends (document_look name.now document.now ∷ []) (Refuses (of_all (filled_of (source_of policy.now)))) (F.state files.old) (F.state files.new)) }
@@ -101,7 +101,7 @@ pub fn accept<F: Files>(
     name: &str,
     document: &[u8],
     files: &mut F,
-) -> Result<Accepted, BuildEnd>
+) -> Result<Accepted, BuildError>
     ensures grows { IfOk result (λ a. Grows (F.state files.old).held (document_look name.now document.now ∷ []) (looks_of name.now document.now a.files)) }
     ensures accepts { IfOk result (λ a. Accepts (looks_of name.now document.now a.files) document.now (source_of a.placed.plain.lawful)) }
     ensures lawful { IfOk result (λ a. lawful_policy_of document.now ≡ Ok (source_of a.placed.plain.lawful)) }

@@ -7,7 +7,7 @@ use Rattle.muen_num.specs.Naming.{is_name}
 use Rattle.muen_num.specs.Range.{numbers_below}
 use Rattle.muen_num.specs.Tag.{tag_text}
 use Rattle.muen_num.specs.declared.limits.TheConstants.{NAME_MOST, PAGE, LARGE_PAGE, GUEST_END, MOST_SUBJECTS, KERNEL_REGIONS, MOST_REGIONS}
-use Rattle.muen_num.specs.declared.tag.Part.TheVariants.{Whole, Named, Ept}
+use Rattle.muen_num.specs.declared.tag.TagPart.TheVariants.{Whole, Named, Ept}
 
 -- ---- names
 

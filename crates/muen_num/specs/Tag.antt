@@ -1,11 +1,11 @@
 -- The printed names of regions.
 use Rattle.std.specs.Prelude.{ℕ, List, [], ◌++◌, codes}
-use Rattle.muen_num.specs.declared.tag.Part.{Part}
-use Rattle.muen_num.specs.declared.tag.Part.TheVariants.{Whole, Named, State, Ept, Iobm, Msrbm, Msrs}
+use Rattle.muen_num.specs.declared.tag.TagPart.{TagPart}
+use Rattle.muen_num.specs.declared.tag.TagPart.TheVariants.{Whole, Named, State, Ept, Iobm, Msrbm, Msrs}
 use Rattle.muen_num.specs.declared.tag.Tag.{Tag}
 
 -- what follows the owner's name
-abbrev pub part_text : Part → List ℕ
+abbrev pub part_text : TagPart → List ℕ
 part_text Whole = []
 part_text (Named name) = codes "|" ++ name
 part_text State = codes ":state"

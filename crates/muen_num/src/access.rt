@@ -2,14 +2,14 @@ ghost use Rattle.std.specs.Prelude.{◌≡◌};
 
 /// How many bytes an access touches: 1, 2, 4 or 8 (this project's own instruction set).
 #[derive(Clone, Copy, Debug, PartialEq, Eq)]
-pub enum Size {
+pub enum AccessSize {
     One,
     Two,
     Four,
     Eight,
 }
 
-impl Size {
+impl AccessSize {
     ghost use Rattle.muen_num.specs.Size.{bytes_of};
 
     /// The number of bytes.
@@ -17,24 +17,24 @@ impl Size {
         ensures { result ≡ bytes_of self }
     {
         match self {
-            Size::One => 1,
-            Size::Two => 2,
-            Size::Four => 4,
-            Size::Eight => 8,
+            AccessSize::One => 1,
+            AccessSize::Two => 2,
+            AccessSize::Four => 4,
+            AccessSize::Eight => 8,
         }
     }
 }
 
 /// What an access of memory does (the rights of an EPT entry, Intel SDM volume 3).
 #[derive(Clone, Copy, Debug, PartialEq, Eq)]
-pub enum Kind {
+pub enum AccessKind {
     Read,
     Write,
     /// An instruction is fetched.
     Fetch,
 }
 
-impl Kind {
+impl AccessKind {
     ghost use Rattle.muen_num.specs.Access.{kind_bit};
 
     /// The bit of the right that it needs, which is also its bit in the qualification of an EPT
@@ -43,9 +43,9 @@ impl Kind {
         ensures { result ≡ kind_bit self }
     {
         match self {
-            Kind::Read => 1,
-            Kind::Write => 2,
-            Kind::Fetch => 4,
+            AccessKind::Read => 1,
+            AccessKind::Write => 2,
+            AccessKind::Fetch => 4,
         }
     }
 }

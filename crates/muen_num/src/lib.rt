@@ -12,10 +12,10 @@ pub mod seq;
 pub mod tag;
 pub mod text;
 
-pub use access::{Kind, Size};
-pub use mode::Mode;
+pub use access::{AccessKind, AccessSize};
+pub use mode::EventMode;
 pub use name::Name;
 pub use pieces::Pieces;
 pub use searches::{first, first_numbered, first_pair};
 pub use seq::{NoMemory, Seq};
-pub use tag::{Part, Tag};
+pub use tag::{TagPart, Tag};

@@ -1,6 +1,6 @@
 /// How an event reaches its target (Muen's event modes).
 #[derive(Clone, Copy, Debug, PartialEq, Eq)]
-pub enum Mode {
+pub enum EventMode {
     /// Deliverable at any turn of the target.
     Asap,
     /// Deliverable at the first tick of a minor frame, and after an exit.

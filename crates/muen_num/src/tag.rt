@@ -7,7 +7,7 @@ use std::fmt;
 
 /// Which part of its owner a region of memory is.
 #[derive(Clone, Copy, Debug, PartialEq, Eq)]
-pub enum Part {
+pub enum TagPart {
     /// The whole of a memory region or channel.
     Whole,
     /// What its owner knows under this name: a provided region, or a device's memory.
@@ -28,7 +28,7 @@ pub enum Part {
 #[derive(Clone, Copy, Debug, PartialEq, Eq)]
 pub struct Tag {
     pub owner: Name,
-    pub part: Part,
+    pub part: TagPart,
 }
 
 impl Tag {
@@ -48,13 +48,13 @@ impl Tag {
     {
         let owner = self.owner.as_str();
         match &self.part {
-            Part::Whole => (owner, "", ""),
-            Part::Named(name) => (owner, "|", name.as_str()),
-            Part::State => (owner, ":state", ""),
-            Part::Ept => (owner, ":ept", ""),
-            Part::Iobm => (owner, ":iobm", ""),
-            Part::Msrbm => (owner, ":msrbm", ""),
-            Part::Msrs => (owner, ":msrs", ""),
+            TagPart::Whole => (owner, "", ""),
+            TagPart::Named(name) => (owner, "|", name.as_str()),
+            TagPart::State => (owner, ":state", ""),
+            TagPart::Ept => (owner, ":ept", ""),
+            TagPart::Iobm => (owner, ":iobm", ""),
+            TagPart::Msrbm => (owner, ":msrbm", ""),
+            TagPart::Msrs => (owner, ":msrs", ""),
         }
     }
 }
@@ -72,21 +72,21 @@ impl fmt::Display for Tag {
     }
 }
 
-fn append_part(out: &mut [u8; 128], at: usize, part: &Part) -> usize
+fn append_part(out: &mut [u8; 128], at: usize, part: &TagPart) -> usize
     requires { at ≤ 63 }
     ensures within { result ≤ 127 }
     ensures text { take result out.new ≡ take at out.old ++ part_text part.now }
 {
     match part {
-        Part::Whole => at,
-        Part::Named(name) => {
+        TagPart::Whole => at,
+        TagPart::Named(name) => {
             let at = append(out, at, b"|");
             append(out, at, name.bytes())
         }
-        Part::State => append(out, at, b":state"),
-        Part::Ept => append(out, at, b":ept"),
-        Part::Iobm => append(out, at, b":iobm"),
-        Part::Msrbm => append(out, at, b":msrbm"),
-        Part::Msrs => append(out, at, b":msrs"),
+        TagPart::State => append(out, at, b":state"),
+        TagPart::Ept => append(out, at, b":ept"),
+        TagPart::Iobm => append(out, at, b":iobm"),
+        TagPart::Msrbm => append(out, at, b":msrbm"),
+        TagPart::Msrs => append(out, at, b":msrs"),
     }
 }

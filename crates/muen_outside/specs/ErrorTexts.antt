@@ -1,9 +1,9 @@
 -- The texts of the errors.
 use Rattle.std.specs.Prelude.{ℕ, List, codes}
-use Rattle.muen_outside.specs.declared.files.FileEnd.{FileEnd}
-use Rattle.muen_outside.specs.declared.files.FileEnd.TheVariants.{Failed, NoMemory}
+use Rattle.muen_outside.specs.declared.files.FileError.{FileError}
+use Rattle.muen_outside.specs.declared.files.FileError.TheVariants.{Failed, NoMemory}
 
-abbrev pub file_end_text : FileEnd → List ℕ
+abbrev pub file_end_text : FileError → List ℕ
 file_end_text Failed = codes "file fault"
 file_end_text NoMemory = codes "out of memory"
 

@@ -1,6 +1,6 @@
 ghost use Rattle.std.specs.Prelude.{◌≡◌, ◌≤◌, ℕ, Option, Some, Err, OnOk, IfOk, IfSome};
 ghost use Rattle.std.specs.FinMap as map;
-ghost use Rattle.muen_outside.specs.declared.files.FileEnd.TheVariants.{NoMemory};
+ghost use Rattle.muen_outside.specs.declared.files.FileError.TheVariants.{NoMemory};
 ghost use Rattle.muen_outside.specs.Counts.{Rose};
 ghost use Rattle.muen_outside.specs.Store.{reading_of, KeepsOthers, insert_known};
 ghost use Rattle.muen_outside.specs.States.{FilesState};
@@ -23,26 +23,26 @@ pub enum Found {
 
 /// Why a call on files came to no answer.
 #[derive(Clone, Copy, Debug, PartialEq, Eq, Error)]
-pub enum FileEnd {
+pub enum FileError {
     /// The read or the write failed.
     Failed,
     /// Memory was refused.
     NoMemory,
 }
 
-impl FileEnd {
+impl FileError {
     /// The text of the error.
     pub fn as_str(self) -> &'static str
         ensures { result.now ≡ file_end_text self }
     {
         match self {
-            FileEnd::Failed => "file fault",
-            FileEnd::NoMemory => "out of memory",
+            FileError::Failed => "file fault",
+            FileError::NoMemory => "out of memory",
         }
     }
 }
 
-impl fmt::Display for FileEnd {
+impl fmt::Display for FileError {
     ghost use Rattle.muen_outside.specs.ErrorTexts.{file_end_text};
 
     ghost output = { λ e. Some (file_end_text e) };
@@ -52,11 +52,11 @@ impl fmt::Display for FileEnd {
     }
 }
 
-impl From<AllocError> for FileEnd {
+impl From<AllocError> for FileError {
     ghost from_gives = { λ _ e. e ≡ NoMemory };
 
     fn from(_: AllocError) -> Self {
-        FileEnd::NoMemory
+        FileError::NoMemory
     }
 }
 
@@ -66,23 +66,23 @@ pub trait Files {
     /// What they hold, where it is told, and the counts.
     ghost state: { Self → FilesState };
 
-    /// The bytes under the name, if there are no more than `most`. `FileEnd::Failed` comes only
+    /// The bytes under the name, if there are no more than `most`. `FileError::Failed` comes only
     /// where the faults rose, `Missing` and `TooLong` only where the misses rose.
-    fn read(&mut self, alloc: Global, name: &str, most: usize) -> Result<Found, FileEnd>
+    fn read(&mut self, alloc: Global, name: &str, most: usize) -> Result<Found, FileError>
         ensures held { (state self.new).held ≡ (state self.old).held }
         ensures faults { (state self.old).faults ≤ (state self.new).faults }
         ensures misses { (state self.old).misses ≤ (state self.new).misses }
         ensures told { IfOk result (λ found. IfSome (state self.old).held (λ m. seen found ≡ reading_of (map.get m name.now) most)) }
         ensures within { IfOk result (IsWithin most) }
         ensures miss { IfOk result (λ found. IsMiss found → Rose (state self.old).misses (state self.new).misses) }
-        ensures failed { result ≡ Err FileEnd.Failed → Rose (state self.old).faults (state self.new).faults };
+        ensures failed { result ≡ Err FileError.Failed → Rose (state self.old).faults (state self.new).faults };
 
     /// Puts the bytes under the name, in place of what stood there. On an error only what stands
-    /// under this name may have changed. `FileEnd::Failed` comes only where the faults rose.
-    fn write(&mut self, alloc: Global, name: &str, bytes: &[u8]) -> Result<(), FileEnd>
+    /// under this name may have changed. `FileError::Failed` comes only where the faults rose.
+    fn write(&mut self, alloc: Global, name: &str, bytes: &[u8]) -> Result<(), FileError>
         ensures faults { (state self.old).faults ≤ (state self.new).faults }
         ensures misses { (state self.old).misses ≤ (state self.new).misses }
         ensures ok { OnOk result ((state self.new).held ≡ insert_known (state self.old).held name.now bytes.now) }
         ensures others { KeepsOthers name.now (state self.old).held (state self.new).held }
-        ensures failed { result ≡ Err FileEnd.Failed → Rose (state self.old).faults (state self.new).faults };
+        ensures failed { result ≡ Err FileError.Failed → Rose (state self.old).faults (state self.new).faults };
 }

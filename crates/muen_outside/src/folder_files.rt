@@ -7,7 +7,7 @@ ghost use Rattle.muen_outside.specs.Found.{seen, IsMiss, IsWithin};
 ghost use Rattle.muen_outside.specs.FileCounts.{misses_after, faults_after};
 ghost use Rattle.muen_outside.specs.FolderFiles.{files_of, capped, TakesAtMost, MadeAppends};
 
-use crate::files::{FileEnd, Files, Found};
+use crate::files::{FileError, Files, Found};
 use crate::sink::SinkFault;
 use crate::writer_sink::write_through;
 use muen_num::Seq;
@@ -50,7 +50,7 @@ impl<R: SystemFiles> FolderFiles<R> {
 
 // All the bytes, if there are no more than `most`. It takes one more at most from the reader.
 #[tactic(auto, using(crate::proofs::ReadSteps::reads))]
-fn read_all<I: Read>(alloc: Global, from: &mut I, most: usize) -> Result<Found, FileEnd>
+fn read_all<I: Read>(alloc: Global, from: &mut I, most: usize) -> Result<Found, FileError>
     ensures within { IfOk result (IsWithin most) }
     ensures told { IfOk result (λ found. IfSome (I.remaining from.old) (λ all. seen found ≡ capped all most)) }
     ensures opened { result ≢ Ok Found.Missing }
@@ -70,10 +70,10 @@ fn read_all<I: Read>(alloc: Global, from: &mut I, most: usize) -> Result<Found, 
                 }
                 bytes.extend_from_slice(&window[..n])?;
             }
-            Err(_) => return Err(FileEnd::Failed),
+            Err(_) => return Err(FileError::Failed),
         }
     }
-    Err(FileEnd::Failed)
+    Err(FileError::Failed)
 }
 
 // What is read of the file, if it was opened.
@@ -81,17 +81,17 @@ fn read_opened<I: Read + Drop>(
     alloc: Global,
     opened: io::Result<I>,
     most: usize,
-) -> Result<Found, FileEnd>
+) -> Result<Found, FileError>
     ensures within { IfOk result (IsWithin most) }
     ensures told { IfOk opened (λ file. IfOk result (λ found. IfSome (I.remaining file) (λ all. seen found ≡ capped all most))) }
     ensures missing { (result ≡ Ok Found.Missing) ↔ IsErrAnd opened (λ e. error_kind e ≡ ErrorKind.NotFound) }
-    ensures unopened { IfErr opened (λ e. error_kind e ≢ ErrorKind.NotFound → result ≡ Err FileEnd.Failed) }
+    ensures unopened { IfErr opened (λ e. error_kind e ≢ ErrorKind.NotFound → result ≡ Err FileError.Failed) }
 {
     match opened {
         Ok(mut file) => read_all(alloc, &mut file, most),
         Err(e) => match e.kind() {
             ErrorKind::NotFound => Ok(Found::Missing),
-            _ => Err(FileEnd::Failed),
+            _ => Err(FileError::Failed),
         },
     }
 }
@@ -109,14 +109,14 @@ fn write_made<W: Write>(made: &mut io::Result<W>, bytes: &[u8]) -> Result<(), Si
 impl<R: SystemFiles> Files for FolderFiles<R> {
     ghost state = { files_of };
 
-    fn read(&mut self, alloc: Global, name: &str, most: usize) -> Result<Found, FileEnd>
+    fn read(&mut self, alloc: Global, name: &str, most: usize) -> Result<Found, FileError>
         ensures held { (files_of self.new).held ≡ (files_of self.old).held }
         ensures faults { self.old.faults ≤ self.new.faults }
         ensures misses { self.old.misses ≤ self.new.misses }
         ensures told { IfOk result (λ found. IfSome (files_of self.old).held (λ m. seen found ≡ reading_of (map.get m name.now) most)) }
         ensures within { IfOk result (IsWithin most) }
         ensures miss { IfOk result (λ found. IsMiss found → Rose self.old.misses self.new.misses) }
-        ensures failed { result ≡ Err FileEnd.Failed → Rose self.old.faults self.new.faults }
+        ensures failed { result ≡ Err FileError.Failed → Rose self.old.faults self.new.faults }
 
         // What is counted.
         ensures missed { self.new.misses ≡ misses_after self.old.misses result }
@@ -124,31 +124,31 @@ impl<R: SystemFiles> Files for FolderFiles<R> {
     {
         let got = read_opened(alloc, File::open(&self.rt, name), most);
         match &got {
-            Ok(Found::Bytes(_)) | Err(FileEnd::NoMemory) => {}
+            Ok(Found::Bytes(_)) | Err(FileError::NoMemory) => {}
             Ok(_) => self.misses = self.misses.saturating_add(1),
-            Err(FileEnd::Failed) => self.faults = self.faults.saturating_add(1),
+            Err(FileError::Failed) => self.faults = self.faults.saturating_add(1),
         }
         got
     }
 
-    fn write(&mut self, _alloc: Global, name: &str, bytes: &[u8]) -> Result<(), FileEnd>
+    fn write(&mut self, _alloc: Global, name: &str, bytes: &[u8]) -> Result<(), FileError>
         ensures faults { self.old.faults ≤ self.new.faults }
         ensures misses { self.old.misses ≤ self.new.misses }
         ensures ok { OnOk result ((files_of self.new).held ≡ insert_known (files_of self.old).held name.now bytes.now) }
         ensures others { KeepsOthers name.now (files_of self.old).held (files_of self.new).held }
-        ensures failed { result ≡ Err FileEnd.Failed → Rose self.old.faults self.new.faults }
+        ensures failed { result ≡ Err FileError.Failed → Rose self.old.faults self.new.faults }
 
         // What is counted. It takes no memory.
         ensures missed { self.new.misses ≡ self.old.misses }
         ensures fault { self.new.faults ≡ faults_after self.old.faults result }
-        ensures err { result ≢ Err FileEnd.NoMemory }
+        ensures err { result ≢ Err FileError.NoMemory }
     {
         let mut made = File::create(&self.rt, name);
         match write_made(&mut made, bytes) {
             Ok(()) => Ok(()),
             Err(SinkFault) => {
                 self.faults = self.faults.saturating_add(1);
-                Err(FileEnd::Failed)
+                Err(FileError::Failed)
             }
         }
     }

@@ -13,7 +13,7 @@ mod sink;
 mod writer_sink;
 
 pub use buffer::Buffer;
-pub use files::{FileEnd, Files, Found};
+pub use files::{FileError, Files, Found};
 pub use folder_files::FolderFiles;
 pub use lines::{PrintedLine, put_lines};
 pub use mem_files::MemFiles;

@@ -9,7 +9,7 @@ ghost use Rattle.muen_outside.specs.Entries.{entry_list};
 ghost use Rattle.muen_outside.specs.MemFiles.{files_of, fails_next};
 ghost use Rattle.muen_outside.specs.FileCounts.{misses_after};
 
-use crate::files::{FileEnd, Files, Found};
+use crate::files::{FileError, Files, Found};
 use muen_num::Seq;
 use std::alloc::{AllocError, Global};
 use std::marker::Model;
@@ -124,17 +124,17 @@ impl Files for MemFiles {
     ghost state = { files_of };
 
     #[tactic(auto, using(crate::proofs::HeldMap::held_map))]
-    fn read(&mut self, alloc: Global, name: &str, most: usize) -> Result<Found, FileEnd>
+    fn read(&mut self, alloc: Global, name: &str, most: usize) -> Result<Found, FileError>
         ensures held { (files_of self.new).held ≡ (files_of self.old).held }
         ensures faults { self.old.faults ≤ self.new.faults }
         ensures misses { self.old.misses ≤ self.new.misses }
         ensures told { IfOk result (λ found. IfSome (files_of self.old).held (λ m. seen found ≡ reading_of (map.get m name.now) most)) }
         ensures within { IfOk result (IsWithin most) }
         ensures miss { IfOk result (λ found. IsMiss found → Rose self.old.misses self.new.misses) }
-        ensures failed { result ≡ Err FileEnd.Failed → Rose self.old.faults self.new.faults }
+        ensures failed { result ≡ Err FileError.Failed → Rose self.old.faults self.new.faults }
 
         // Which calls fail, what is counted, and what stays.
-        ensures fails { (result ≡ Err FileEnd.Failed) ↔ IsTrue (fails_next self.old) }
+        ensures fails { (result ≡ Err FileError.Failed) ↔ IsTrue (fails_next self.old) }
         ensures fault { IsTrue (fails_next self.old) → self.new.faults ≡ counted self.old.faults }
         ensures quiet { fails_next self.old ≡ false → self.new.faults ≡ self.old.faults }
         ensures missed { self.new.misses ≡ misses_after self.old.misses result }
@@ -142,7 +142,7 @@ impl Files for MemFiles {
         ensures same { (self.new.entries ≡ self.old.entries) × (self.new.fails ≡ self.old.fails) }
     {
         if self.begin() {
-            return Err(FileEnd::Failed);
+            return Err(FileError::Failed);
         }
         match find_file(&self.held, name) {
             None => {
@@ -161,15 +161,15 @@ impl Files for MemFiles {
     }
 
     #[tactic(auto, using(crate::proofs::HeldMap::held_map))]
-    fn write(&mut self, alloc: Global, name: &str, bytes: &[u8]) -> Result<(), FileEnd>
+    fn write(&mut self, alloc: Global, name: &str, bytes: &[u8]) -> Result<(), FileError>
         ensures faults { self.old.faults ≤ self.new.faults }
         ensures misses { self.old.misses ≤ self.new.misses }
         ensures ok { OnOk result ((files_of self.new).held ≡ insert_known (files_of self.old).held name.now bytes.now) }
         ensures others { KeepsOthers name.now (files_of self.old).held (files_of self.new).held }
-        ensures failed { result ≡ Err FileEnd.Failed → Rose self.old.faults self.new.faults }
+        ensures failed { result ≡ Err FileError.Failed → Rose self.old.faults self.new.faults }
 
         // Which calls fail, what is counted, and what stays.
-        ensures fails { (result ≡ Err FileEnd.Failed) ↔ IsTrue (fails_next self.old) }
+        ensures fails { (result ≡ Err FileError.Failed) ↔ IsTrue (fails_next self.old) }
         ensures fault { IsTrue (fails_next self.old) → self.new.faults ≡ counted self.old.faults }
         ensures quiet { fails_next self.old ≡ false → self.new.faults ≡ self.old.faults }
         ensures err { OnErr result (self.new.entries ≡ self.old.entries) }
@@ -177,7 +177,7 @@ impl Files for MemFiles {
         ensures same { (self.new.misses ≡ self.old.misses) × (self.new.fails ≡ self.old.fails) }
     {
         if self.begin() {
-            return Err(FileEnd::Failed);
+            return Err(FileError::Failed);
         }
         let key = String::from_str(alloc, name)?;
         let bytes = Vec::from_slice(alloc, bytes)?;

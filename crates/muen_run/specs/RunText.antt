@@ -14,7 +14,7 @@ use Rattle.image_pack.specs.declared.parts.SpanPart.{SpanPart}
 use Rattle.image_pack.specs.declared.parts.SubjectPart.{SubjectPart}
 use Rattle.record_text.specs.declared.record.Record.{Record}
 use Rattle.view_text.specs.ViewText.{rows_text, turn_text, region_text}
-use Rattle.view_text.specs.declared.Line.{Line}
+use Rattle.view_text.specs.declared.TurnLine.{TurnLine}
 use Rattle.vmx_machine.specs.Machine.{page_at}
 use Rattle.vmx_machine.specs.declared.control.Control.{Control}
 use Rattle.tick_run.specs.Run.{Ran}
@@ -72,7 +72,7 @@ abbrev pub final_text : Setup → List SpanPart → List Page → List ℕ
 final_text setup spans pages = states_text setup pages ++ (spans_text false spans pages ++ spans_text true spans pages)
 
 -- the lines of these turns, and then the final lines
-abbrev pub ran_text : Setup → List SpanPart → ℕ → Ran Live Line → List ℕ
+abbrev pub ran_text : Setup → List SpanPart → ℕ → Ran Live TurnLine → List ℕ
 ran_text setup spans cpus ran = flat_map turn_text ran.lines ++ final_text setup spans (ended cpus ran.state).machine.pages
 
 -- **the text** of an image's run on a record: all its ticks, and then the final lines

@@ -22,22 +22,22 @@ use whole::put_run;
 
 /// Why a run was not printed whole.
 #[derive(Clone, Copy, Debug, PartialEq, Eq)]
-pub enum RunEnd {
+pub enum RunError {
     /// The sink failed; a front of the text was put.
     OutFault,
     /// Memory was refused; nothing was put.
     NoMemory,
 }
 
-impl From<NoMemory> for RunEnd {
+impl From<NoMemory> for RunError {
     ghost use Rattle.std.specs.Prelude.{◌≡◌};
-    ghost use Rattle.muen_run.specs.declared.RunEnd.TheVariants as ends;
+    ghost use Rattle.muen_run.specs.declared.RunError.TheVariants as ends;
 
     ghost from_gives = { λ refused end. end ≡ ends.NoMemory };
 
-    fn from(refused: NoMemory) -> RunEnd {
+    fn from(refused: NoMemory) -> RunError {
         let NoMemory = refused;
-        RunEnd::NoMemory
+        RunError::NoMemory
     }
 }
 
@@ -47,7 +47,7 @@ impl From<NoMemory> for RunEnd {
 /// # Errors
 /// Memory is refused, before anything is put; the sink fails, and has a front of the text.
 #[tactic(auto, using(crate::proofs::LowSpans::loaded_low), unfolding(crate::specs::RunText::image_text))]
-pub fn run<S: Sink>(alloc: Global, parts: Parts, input: Record, out: &mut S) -> Result<(), RunEnd>
+pub fn run<S: Sink>(alloc: Global, parts: Parts, input: Record, out: &mut S) -> Result<(), RunError>
     requires { CanRun input }
     ensures { Runs (image_text parts input) (S.state out.old) (S.state out.new) result }
 {
@@ -63,6 +63,6 @@ pub fn run<S: Sink>(alloc: Global, parts: Parts, input: Record, out: &mut S) -> 
     let mut buffer = Buffer::make(alloc)?;
     match put_run(&mut kernel, spans.items(), end, &mut buffer, out) {
         Ok(()) => Ok(()),
-        Err(SinkFault) => Err(RunEnd::OutFault),
+        Err(SinkFault) => Err(RunError::OutFault),
     }
 }

@@ -9,11 +9,11 @@ use ept_walk::Translate;
 use kernel_core::Kernel;
 use muen_outside::{Buffer, Sink, SinkFault};
 use phys_mem::PhysMem;
-use view_text::{Line, turn_line};
+use view_text::{TurnLine, turn_line};
 
 // The line of a turn, if it has one.
 #[tactic(auto, using(muen_outside::proofs::Buffered::gives))]
-fn put_line<S: Sink>(line: Option<Line>, buffer: &mut Buffer, out: &mut S) -> Result<(), SinkFault>
+fn put_line<S: Sink>(line: Option<TurnLine>, buffer: &mut Buffer, out: &mut S) -> Result<(), SinkFault>
     ensures { Gives (flat_map turn_text (option_to_list line)) (behind (S.state out.old) buffer.old) (behind (S.state out.new) buffer.new) result }
 {
     match line {
@@ -27,7 +27,7 @@ fn put_line<S: Sink>(line: Option<Line>, buffer: &mut Buffer, out: &mut S) -> Re
 }
 
 // The turn of a place in the tick.
-fn turn_at<M: PhysMem, T: Translate>(kernel: &mut Kernel<M, T>, place: usize) -> Option<Line>
+fn turn_at<M: PhysMem, T: Translate>(kernel: &mut Kernel<M, T>, place: usize) -> Option<TurnLine>
     ensures state { kernel.new ≡ with_live kernel.old (turn_at kernel.old (slice_get (order_of kernel.old) place)).state }
     ensures line { result ≡ (turn_at kernel.old (slice_get (order_of kernel.old) place)).line }
 {

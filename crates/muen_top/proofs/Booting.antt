@@ -14,8 +14,8 @@ use Rattle.muen_build.specs.Accepting.{Accepts, Ends, Files, Grows, RefusedFor, 
 use Rattle.muen_build.specs.Building.{IsImageFor}
 use Rattle.muen_build.specs.Looks.{Explained, Follows, Look, Saw, Seen, ShowAll, document_look}
 use Rattle.muen_build.specs.Refusals.{accepted_policy_of}
-use Rattle.muen_build.specs.declared.accepted.BuildEnd.{BuildEnd}
-use Rattle.muen_build.specs.declared.accepted.BuildEnd.TheVariants.{Refused as RefusedPolicy, FileFault as FaultOfFiles}
+use Rattle.muen_build.specs.declared.accepted.BuildError.{BuildError}
+use Rattle.muen_build.specs.declared.accepted.BuildError.TheVariants.{Refused as RefusedPolicy, FileFault as FaultOfFiles}
 use Rattle.muen_build.proofs.Looks.{seen_first}
 use Rattle.muen_num.specs.Answers.{Answers}
 use Rattle.muen_num.specs.declared.limits.TheConstants.{POLICY_MOST, RECORD_MOST}
@@ -39,8 +39,8 @@ use Rattle.muen_top.specs.Loads.{IsReadBack, IsReadOf, NotMade, refused, unmade,
 use Rattle.muen_top.specs.PolicyCommands.{Gives, Stops}
 use Rattle.muen_top.specs.Runs.{OnlyMemory}
 use Rattle.muen_top.specs.Stops.{stop_of_end, stop_of_fault, stop_of_image_fault, stop_of_refusal}
-use Rattle.muen_top.specs.declared.outcome.Stop.{Stop}
-use Rattle.muen_top.specs.declared.outcome.Stop.TheVariants.{Usage, Missing, TooLong, Refused, ImageRefused, RecordRefused, FileFault, NoMemory}
+use Rattle.muen_top.specs.declared.outcome.CommandError.{CommandError}
+use Rattle.muen_top.specs.declared.outcome.CommandError.TheVariants.{Usage, Missing, TooLong, Refused, ImageRefused, RecordRefused, FileFault, NoMemory}
 use Rattle.muen_top.proofs.FilesSeen.{explained_after, shown_after}
 use Rattle.muen_top.proofs.PolicyCommands.{RestsOn, not_read, of_refusal, out_of_memory}
 use Rattle.muen_top.proofs.Told.{for_a_file, some_files}
@@ -50,14 +50,14 @@ use Rattle.muen_top.proofs.Told.{for_a_file, some_files}
 pub read_so : (i j : Image) → Tells (Ok i) (Ok j) → i ≡ j
 read_so i j h = cc (h)
 
-pub unread_so : (i : Image) (fault : ImageFault) (stop : Stop) → Tells (Ok i) (Err fault) → stop ≡ stop_of_image_fault fault → OnlyMemory stop
+pub unread_so : (i : Image) (fault : ImageFault) (stop : CommandError) → Tells (Ok i) (Err fault) → stop ≡ stop_of_image_fault fault → OnlyMemory stop
 unread_so i NoMemoryForImage stop h made = subst OnlyMemory (sym made) tt
 unread_so i (Short at) stop h made = absurd (cc (h))
 unread_so i (Bad at field) stop h made = absurd (cc (h))
 unread_so i (Trailing at) stop h made = absurd (cc (h))
 
 module _ (p : Source) (looks : List Look) (bytes : List ℕ) (all_bytes : IsBytes bytes) (built : (files : Store) → ShowAll files looks → IsImageFor p files bytes) where
-  pub back_so : (result : Result Image Stop) → ((i : Image) → IsImage bytes i → IsReadOf i result) → IfOk result (λ i. (files : Store) → ShowAll files looks → IsReadBack p files i)
+  pub back_so : (result : Result Image CommandError) → ((i : Image) → IsImage bytes i → IsReadOf i result) → IfOk result (λ i. (files : Store) → ShowAll files looks → IsReadBack p files i)
   back_so (Ok j) only =
       λ files s.
       let b = built files s in
@@ -65,7 +65,7 @@ module _ (p : Source) (looks : List Look) (bytes : List ℕ) (all_bytes : IsByte
       record { bytes = bytes; all_bytes = all_bytes; image = subst (IsImage bytes) same b.image; sound = subst (IsSound p files) same b.sound }
   back_so (Err stop) only = tt
 
-  pub not_back : (result : Result Image Stop) → ((i : Image) → IsImage bytes i → IsReadOf i result) → IfErr result (λ stop. (files : Store) → ShowAll files looks → OnlyMemory stop)
+  pub not_back : (result : Result Image CommandError) → ((i : Image) → IsImage bytes i → IsReadOf i result) → IfErr result (λ stop. (files : Store) → ShowAll files looks → OnlyMemory stop)
   not_back (Ok j) only = tt
   not_back (Err stop) only = λ files s. let b = built files s in only b.parts b.image
 
@@ -86,7 +86,7 @@ by_document files policy name bytes answer is eq =
 -- ---- the policy's file
 
 module _ (policy name : List ℕ) (old new : FilesState) where
-  pub policy_not_read : (stop : Stop) → NotRead policy POLICY_MOST old new stop → Stops (boot policy name) old new stop
+  pub policy_not_read : (stop : CommandError) → NotRead policy POLICY_MOST old new stop → Stops (boot policy name) old new stop
   policy_not_read stop h = not_read POLICY_MOST policy (boot_next name) (boot policy name) (rests policy name) old new stop h
 
   no_memory : Stops (boot policy name) old new NoMemory
@@ -113,7 +113,7 @@ module _ (policy name : List ℕ) (old between : FilesState) (bytes : List ℕ) 
         );
       }
 
-  policy_refused : (new : FilesState) (end : BuildEnd) (stop : Stop) → Ends (document_look policy bytes ∷ []) (RefusesDocument bytes) between new end → stop ≡ stop_of_end end → Stops (boot policy name) old new stop
+  policy_refused : (new : FilesState) (end : BuildError) (stop : CommandError) → Ends (document_look policy bytes ∷ []) (RefusesDocument bytes) between new end → stop ≡ stop_of_end end → Stops (boot policy name) old new stop
   policy_refused new (RefusedPolicy r) stop (inl is) made =
       let out : stop ≡ NoMemory = made ∙ ap stop_of_refusal is in
       subst (Stops (boot policy name) old new) (sym out) (no_memory policy name old new)
@@ -135,10 +135,10 @@ module _ (policy name : List ℕ) (old between : FilesState) (bytes : List ℕ) 
     follows_mid = record { held = on.held ∙ follows.held; faults = omega (arith, follows.faults, on.faults); misses = omega (arith, follows.misses, on.misses) }
 
     -- its image is written and read again, unless memory was refused
-    parts_refused : (stop : Stop) → ((files : Store) → ShowAll files (looks_of policy bytes found) → OnlyMemory stop) → Stops (boot policy name) old mid stop
+    parts_refused : (stop : CommandError) → ((files : Store) → ShowAll files (looks_of policy bytes found) → OnlyMemory stop) → Stops (boot policy name) old mid stop
     parts_refused stop h = only stop (h accepting.files accepting.shows)
       where
-        only : (stop : Stop) → OnlyMemory stop → Stops (boot policy name) old mid stop
+        only : (stop : CommandError) → OnlyMemory stop → Stops (boot policy name) old mid stop
         only NoMemory h = no_memory policy name old mid
         only Usage h = absurd h
         only (Missing n) h = absurd h
@@ -162,7 +162,7 @@ module _ (policy name : List ℕ) (old between : FilesState) (bytes : List ℕ) 
 
       -- the record's file isn't read
 
-      pub record_not_read : (stop : Stop) → NotReadAfter (looks_of policy bytes found) name RECORD_MOST mid new stop → Stops (boot policy name) old new stop
+      pub record_not_read : (stop : CommandError) → NotReadAfter (looks_of policy bytes found) name RECORD_MOST mid new stop → Stops (boot policy name) old new stop
       record_not_read (Missing n) h =
           let s = shown absent h.1 in
           record { files = s.files; told = s.told; stops = (after absent s ∙ ap (λ x. stops (missing x)) (sym h.0), omega (arith, follows_mid.misses, h.2)) }
@@ -181,12 +181,12 @@ module _ (policy name : List ℕ) (old between : FilesState) (bytes : List ℕ) 
       same_bench : (files : Store) → ShowAll files (looks_of policy bytes found) → image_bench i ≡ devices_of p
       same_bench files s = let b = back files s in image_bench_is p files b.bytes i b.image b.sound
 
-      of_fault : {reading : Reading} (s : Shown reading) (fault : RecordFault) → boot_answer s.files policy name ≡ stops (record_refused fault) → (stop : Stop) → stop ≡ stop_of_fault fault → Stops (boot policy name) old new stop
+      of_fault : {reading : Reading} (s : Shown reading) (fault : RecordFault) → boot_answer s.files policy name ≡ stops (record_refused fault) → (stop : CommandError) → stop ≡ stop_of_fault fault → Stops (boot policy name) old new stop
       of_fault s NoMemoryForRecord answer stop made = subst (Stops (boot policy name) old new) (sym made) (no_memory policy name old new)
       of_fault s fault answer stop made =
           subst (Stops (boot policy name) old new) (sym made) (record { files = s.files; told = s.told; stops = answer })
 
-      pub record_refused_so : (text : List ℕ) (fault : RecordFault) (stop : Stop) → SawAfter (looks_of policy bytes found) name RECORD_MOST (whole text) mid new → Answers NoMemoryForRecord (mapped (image_record i) (record_of text (image_bench i))) (Err fault) → stop ≡ stop_of_fault fault → Stops (boot policy name) old new stop
+      pub record_refused_so : (text : List ℕ) (fault : RecordFault) (stop : CommandError) → SawAfter (looks_of policy bytes found) name RECORD_MOST (whole text) mid new → Answers NoMemoryForRecord (mapped (image_record i) (record_of text (image_bench i))) (Err fault) → stop ≡ stop_of_fault fault → Stops (boot policy name) old new stop
       record_refused_so text fault stop too (inl is) made =
           subst (Stops (boot policy name) old new) (sym (made ∙ ap stop_of_fault is)) (no_memory policy name old new)
       record_refused_so text fault stop too (inr read) made =
@@ -216,6 +216,6 @@ module _ (policy name : List ℕ) (old between : FilesState) (bytes : List ℕ) 
 
   -- ---- the document gives no image
 
-  pub not_made : (mid : FilesState) (on : Follows between mid) (stop : Stop) → NotMade policy bytes between mid stop → Stops (boot policy name) old mid stop
+  pub not_made : (mid : FilesState) (on : Follows between mid) (stop : CommandError) → NotMade policy bytes between mid stop → Stops (boot policy name) old mid stop
   not_made mid on stop (refused end ends made) = policy_refused mid end stop ends made
   not_made mid on stop (unmade found grows only) = parts_refused mid found grows on stop only

@@ -26,8 +26,8 @@ use Rattle.muen_top.specs.Headline.{PrintsText}
 use Rattle.muen_top.specs.Reports.{refusal_status, reason_status, reason_text, status_of, stop_status, stop_text, Told, Reported, Ends}
 use Rattle.muen_top.specs.declared.outcome.Outcome.{Outcome}
 use Rattle.muen_top.specs.declared.outcome.Outcome.TheVariants.{Done, Stopped, OutputFault}
-use Rattle.muen_top.specs.declared.outcome.Stop.{Stop}
-use Rattle.muen_top.specs.declared.outcome.Stop.TheVariants.{Usage, Missing, TooLong, Refused, ImageRefused, RecordRefused, FileFault, NoMemory}
+use Rattle.muen_top.specs.declared.outcome.CommandError.{CommandError}
+use Rattle.muen_top.specs.declared.outcome.CommandError.TheVariants.{Usage, Missing, TooLong, Refused, ImageRefused, RecordRefused, FileFault, NoMemory}
 
 -- ---- what came of a command
 
@@ -43,7 +43,7 @@ module _ (old new : FilesState) (out out' err err' : SinkState) (status : ℕ) w
   abbrev Of : Answer → Type 0
   Of answer = Comes answer old new out out' err err' status
 
-  of_stop : (answer : Answer) (stop : Stop) → status ≡ stop_status stop → StopsFor answer old new stop → out' ≡ out → Told (stop_text stop) err err' → Of answer
+  of_stop : (answer : Answer) (stop : CommandError) → status ≡ stop_status stop → StopsFor answer old new stop → out' ≡ out → Told (stop_text stop) err err' → Of answer
   of_stop answer Usage is for quiet told = stopped usage is for quiet told (λ h. absurd (omega arith))
   of_stop answer (Missing name) is for quiet told = stopped (missing name.now) is for.0 quiet told (λ h. for.1)
   of_stop answer (TooLong name n) is for quiet told = stopped (too_long name.now n) is for.0 quiet told (λ h. for.1)

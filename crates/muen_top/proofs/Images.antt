@@ -7,8 +7,8 @@ use Rattle.muen_build.specs.Accepting.{Ends, RefusedFor, RefusesDocument}
 use Rattle.muen_build.specs.Building.{Builds}
 use Rattle.muen_build.specs.Looks.{Follows, Saw, document_look}
 use Rattle.muen_build.specs.Refusals.{accepted_policy_of}
-use Rattle.muen_build.specs.declared.accepted.BuildEnd.{BuildEnd}
-use Rattle.muen_build.specs.declared.accepted.BuildEnd.TheVariants.{Refused as RefusedPolicy, FileFault as FaultOfFiles}
+use Rattle.muen_build.specs.declared.accepted.BuildError.{BuildError}
+use Rattle.muen_build.specs.declared.accepted.BuildError.TheVariants.{Refused as RefusedPolicy, FileFault as FaultOfFiles}
 use Rattle.muen_outside.specs.Counts.{Rose}
 use Rattle.muen_outside.specs.States.{FilesState, SinkState}
 use Rattle.muen_outside.specs.Store.{Store, KeepsOthers, insert_known, whole, reading_of}
@@ -25,8 +25,8 @@ use Rattle.muen_top.specs.Reports.{status_of}
 use Rattle.muen_top.specs.Stops.{stop_of_end, stop_of_refusal}
 use Rattle.muen_top.specs.declared.outcome.Outcome.{Outcome}
 use Rattle.muen_top.specs.declared.outcome.Outcome.TheVariants.{Done, Stopped, OutputFault}
-use Rattle.muen_top.specs.declared.outcome.Stop.{Stop}
-use Rattle.muen_top.specs.declared.outcome.Stop.TheVariants.{Usage, Missing, TooLong, Refused, ImageRefused, RecordRefused, FileFault, NoMemory}
+use Rattle.muen_top.specs.declared.outcome.CommandError.{CommandError}
+use Rattle.muen_top.specs.declared.outcome.CommandError.TheVariants.{Usage, Missing, TooLong, Refused, ImageRefused, RecordRefused, FileFault, NoMemory}
 use Rattle.muen_top.proofs.Told.{for_a_file, some_files}
 use Rattle.muen_top.proofs.FilesSeen.{explained_after}
 use Rattle.muen_top.proofs.PolicyCommands.{RestsOn, not_read, of_refusal, out_of_memory}
@@ -48,7 +48,7 @@ by_document files policy image bytes answer is eq =
 -- ---- the policy's file
 
 module _ (policy image : List ℕ) (old new : FilesState) where
-  pub image_not_read : (stop : Stop) → NotRead policy POLICY_MOST old new stop → Stops (build policy image) old new stop
+  pub image_not_read : (stop : CommandError) → NotRead policy POLICY_MOST old new stop → Stops (build policy image) old new stop
   image_not_read stop h = not_read POLICY_MOST policy (image_next image) (build policy image) (rests policy image) old new stop h
 
   no_memory : Stops (build policy image) old new NoMemory
@@ -75,7 +75,7 @@ module _ (policy : List ℕ) (old between new : FilesState) (bytes : List ℕ) (
         );
       }
 
-  pub image_refused : (end : BuildEnd) (stop : Stop) → Ends (document_look policy bytes ∷ []) (RefusesDocument bytes) between new end → stop ≡ stop_of_end end → (image : List ℕ) → Stops (build policy image) old new stop
+  pub image_refused : (end : BuildError) (stop : CommandError) → Ends (document_look policy bytes ∷ []) (RefusesDocument bytes) between new end → stop ≡ stop_of_end end → (image : List ℕ) → Stops (build policy image) old new stop
   image_refused (RefusedPolicy r) stop (inl is) made image =
       let out : stop ≡ NoMemory = made ∙ ap stop_of_refusal is in
       subst (Stops (build policy image) old new) (sym out) (no_memory policy image old new)

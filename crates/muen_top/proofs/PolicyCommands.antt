@@ -25,8 +25,8 @@ use Rattle.muen_top.specs.Runs.{RunsTo}
 use Rattle.muen_top.specs.Stops.{stop_of_refusal}
 use Rattle.muen_top.specs.declared.outcome.Outcome.{Outcome}
 use Rattle.muen_top.specs.declared.outcome.Outcome.TheVariants.{Done, Stopped, OutputFault}
-use Rattle.muen_top.specs.declared.outcome.Stop.{Stop}
-use Rattle.muen_top.specs.declared.outcome.Stop.TheVariants.{Usage, Missing, TooLong, Refused, ImageRefused, RecordRefused, FileFault, NoMemory}
+use Rattle.muen_top.specs.declared.outcome.CommandError.{CommandError}
+use Rattle.muen_top.specs.declared.outcome.CommandError.TheVariants.{Usage, Missing, TooLong, Refused, ImageRefused, RecordRefused, FileFault, NoMemory}
 use Rattle.muen_top.proofs.Told.{for_a_file, some_files}
 
 -- ---- a command that begins with a file
@@ -45,7 +45,7 @@ module _ (most : ℕ) (name : List ℕ) (next : Store → List ℕ → Answer) (
   by_reading files reading is = rests files ∙ ap (of_file name (next files)) is
 
   -- the file isn't read
-  pub not_read : (stop : Stop) → NotRead name most old new stop → Stops command old new stop
+  pub not_read : (stop : CommandError) → NotRead name most old new stop → Stops command old new stop
   not_read (Missing n) h =
       let s = shown absent h.1 in
       record { files = s.files; told = s.told; stops = (by_reading s.files absent s.shows.0 ∙ ap (λ x. stops (missing x)) (sym h.0), h.1.missed tt) }
@@ -85,7 +85,7 @@ module _ (most : ℕ) (name : List ℕ) (next : Store → List ℕ → Answer) (
   of_refusal (FileFit region room length) h = h
   of_refusal (NoRoom region size) h = h
 
-  policy_refused : (bytes : List ℕ) (wanted : Result Source Refusal) (r : Refusal) (stop : Stop) → Saw name most (whole bytes) old new → Answers NoMemoryFor wanted (Err r)
+  policy_refused : (bytes : List ℕ) (wanted : Result Source Refusal) (r : Refusal) (stop : CommandError) → Saw name most (whole bytes) old new → Answers NoMemoryFor wanted (Err r)
       → (wanted ≡ Err r → (files : Store) → next files bytes ≡ stops (refused r)) → (wanted ≡ Err r → is_for_a_file r ≡ false) → stop ≡ stop_of_refusal r → Stops command old new stop
   policy_refused bytes wanted r stop saw (inl is) answer none made =
       let out : stop ≡ NoMemory = made ∙ ap stop_of_refusal is in
@@ -103,10 +103,10 @@ unfolding map_answer map_next
 rests_map policy files = refl
 
 module _ (policy : List ℕ) (old new : FilesState) where
-  pub map_not_read : (stop : Stop) → NotRead policy POLICY_MOST old new stop → Stops (map policy) old new stop
+  pub map_not_read : (stop : CommandError) → NotRead policy POLICY_MOST old new stop → Stops (map policy) old new stop
   map_not_read stop h = not_read POLICY_MOST policy map_next (map policy) (rests_map policy) old new stop h
 
-  pub map_refused : (bytes : List ℕ) (r : Refusal) (stop : Stop) → Saw policy POLICY_MOST (whole bytes) old new → Answers NoMemoryFor (laid_policy_of bytes) (Err r) → stop ≡ stop_of_refusal r → Stops (map policy) old new stop
+  pub map_refused : (bytes : List ℕ) (r : Refusal) (stop : CommandError) → Saw policy POLICY_MOST (whole bytes) old new → Answers NoMemoryFor (laid_policy_of bytes) (Err r) → stop ≡ stop_of_refusal r → Stops (map policy) old new stop
   unfolding map_next
   map_refused bytes r stop saw h made =
       policy_refused POLICY_MOST policy map_next (map policy) (rests_map policy) old new bytes (laid_policy_of bytes) r stop saw h (λ e files. ap map_policy_answer e) (laid_for_no_file bytes r) made
@@ -125,10 +125,10 @@ unfolding flows_answer flows_next
 rests_flows policy files = refl
 
 module _ (policy : List ℕ) (old new : FilesState) where
-  pub flows_not_read : (stop : Stop) → NotRead policy POLICY_MOST old new stop → Stops (flows policy) old new stop
+  pub flows_not_read : (stop : CommandError) → NotRead policy POLICY_MOST old new stop → Stops (flows policy) old new stop
   flows_not_read stop h = not_read POLICY_MOST policy flows_next (flows policy) (rests_flows policy) old new stop h
 
-  pub flows_refused : (bytes : List ℕ) (r : Refusal) (stop : Stop) → Saw policy POLICY_MOST (whole bytes) old new → Answers NoMemoryFor (lawful_policy_of bytes) (Err r) → stop ≡ stop_of_refusal r → Stops (flows policy) old new stop
+  pub flows_refused : (bytes : List ℕ) (r : Refusal) (stop : CommandError) → Saw policy POLICY_MOST (whole bytes) old new → Answers NoMemoryFor (lawful_policy_of bytes) (Err r) → stop ≡ stop_of_refusal r → Stops (flows policy) old new stop
   unfolding flows_next
   flows_refused bytes r stop saw h made =
       policy_refused POLICY_MOST policy flows_next (flows policy) (rests_flows policy) old new bytes (lawful_policy_of bytes) r stop saw h (λ e files. ap flows_policy_answer e) (for_no_file bytes r) made
@@ -155,5 +155,5 @@ module _ (command : Command) (old new : FilesState) (out out' : SinkState) where
   pub printed : (text : List ℕ) (outcome : Outcome) → Gives command old (prints text) → RunsTo text out out' outcome → Came (Some command) old new out out' outcome
   printed text outcome g h = record { files = g.files; told = g.told; comes = of_text text outcome (answer_of g.files (Some command)) g.is h }
 
-  pub ended : (stop : Stop) → Stops command old new stop → out' ≡ out → Came (Some command) old new out out' (Stopped stop)
+  pub ended : (stop : CommandError) → Stops command old new stop → out' ≡ out → Came (Some command) old new out out' (Stopped stop)
   ended stop s quiet = record { files = s.files; told = s.told; comes = (s.stops, quiet) }

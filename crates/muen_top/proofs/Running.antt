@@ -27,8 +27,8 @@ use Rattle.muen_top.specs.FilesSeen.{SawAfter, ShownAfter}
 use Rattle.muen_top.specs.Loads.{NotRead, NotReadAfter}
 use Rattle.muen_top.specs.PolicyCommands.{Gives, Stops}
 use Rattle.muen_top.specs.Stops.{stop_of_fault, stop_of_image_fault}
-use Rattle.muen_top.specs.declared.outcome.Stop.{Stop}
-use Rattle.muen_top.specs.declared.outcome.Stop.TheVariants.{Usage, Missing, TooLong, Refused, ImageRefused, RecordRefused, FileFault, NoMemory}
+use Rattle.muen_top.specs.declared.outcome.CommandError.{CommandError}
+use Rattle.muen_top.specs.declared.outcome.CommandError.TheVariants.{Usage, Missing, TooLong, Refused, ImageRefused, RecordRefused, FileFault, NoMemory}
 use Rattle.muen_top.proofs.Told.{some_files}
 use Rattle.muen_top.proofs.FilesSeen.{shown_after}
 use Rattle.muen_top.proofs.PolicyCommands.{RestsOn, not_read, out_of_memory}
@@ -50,7 +50,7 @@ by_image files image name bytes answer is eq =
 -- ---- the image's file
 
 module _ (image name : List ℕ) (old new : FilesState) where
-  pub image_not_read : (stop : Stop) → NotRead image IMAGE_MOST old new stop → Stops (run image name) old new stop
+  pub image_not_read : (stop : CommandError) → NotRead image IMAGE_MOST old new stop → Stops (run image name) old new stop
   image_not_read stop h = not_read IMAGE_MOST image (run_next name) (run image name) (rests image name) old new stop h
 
   no_memory : Stops (run image name) old new NoMemory
@@ -73,7 +73,7 @@ module _ (image name : List ℕ) (old mid : FilesState) (bytes : List ℕ) (saw 
   of_image_fault (Bad at field) h = refused_so (Bad at field) h
   of_image_fault (Trailing at) h = refused_so (Trailing at) h
 
-  pub image_refused_so : (fault : ImageFault) (stop : Stop) → Tells (unpacked image_form bytes) (Err fault) → stop ≡ stop_of_image_fault fault → Stops (run image name) old mid stop
+  pub image_refused_so : (fault : ImageFault) (stop : CommandError) → Tells (unpacked image_form bytes) (Err fault) → stop ≡ stop_of_image_fault fault → Stops (run image name) old mid stop
   image_refused_so fault stop h made = subst (Stops (run image name) old mid) (sym made) (of_image_fault fault h)
 
   -- ---- the record's file, where the image is one
@@ -93,7 +93,7 @@ module _ (image name : List ℕ) (old mid : FilesState) (bytes : List ℕ) (saw 
         by_image s.files image name bytes (Ok i) s.shows.0 is
         ∙ ap (of_file name (λ found. named_answer i (record_of found (image_bench i)))) s.shows'
 
-    pub input_not_read : (stop : Stop) → NotReadAfter seen name RECORD_MOST mid new stop → Stops (run image name) old new stop
+    pub input_not_read : (stop : CommandError) → NotReadAfter seen name RECORD_MOST mid new stop → Stops (run image name) old new stop
     input_not_read (Missing n) h =
         let s = both absent h.1 in
         record {
@@ -117,12 +117,12 @@ module _ (image name : List ℕ) (old mid : FilesState) (bytes : List ℕ) (saw 
 
     -- ---- the record
 
-    of_fault : {reading : Reading} (s : Both reading) (fault : RecordFault) → run_answer s.files image name ≡ stops (record_refused fault) → (stop : Stop) → stop ≡ stop_of_fault fault → Stops (run image name) old new stop
+    of_fault : {reading : Reading} (s : Both reading) (fault : RecordFault) → run_answer s.files image name ≡ stops (record_refused fault) → (stop : CommandError) → stop ≡ stop_of_fault fault → Stops (run image name) old new stop
     of_fault s NoMemoryForRecord answer stop made = subst (Stops (run image name) old new) (sym made) (no_memory image name old new)
     of_fault s fault answer stop made =
         subst (Stops (run image name) old new) (sym made) (record { files = s.files; told = s.told; stops = answer })
 
-    pub input_refused_so : (text : List ℕ) (fault : RecordFault) (stop : Stop) → SawAfter seen name RECORD_MOST (whole text) mid new → Answers NoMemoryForRecord (mapped (image_record i) (record_of text (image_bench i))) (Err fault) → stop ≡ stop_of_fault fault → Stops (run image name) old new stop
+    pub input_refused_so : (text : List ℕ) (fault : RecordFault) (stop : CommandError) → SawAfter seen name RECORD_MOST (whole text) mid new → Answers NoMemoryForRecord (mapped (image_record i) (record_of text (image_bench i))) (Err fault) → stop ≡ stop_of_fault fault → Stops (run image name) old new stop
     input_refused_so text fault stop after (inl is) made =
         subst (Stops (run image name) old new) (sym (made ∙ ap stop_of_fault is)) (no_memory image name old new)
     input_refused_so text fault stop after (inr read) made =

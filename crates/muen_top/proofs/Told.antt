@@ -11,7 +11,7 @@ use Rattle.muen_top.specs.Calls.{Came}
 use Rattle.muen_top.specs.Commands.{Command}
 use Rattle.muen_top.specs.Reports.{refusal_status}
 use Rattle.muen_top.specs.declared.outcome.Outcome.TheVariants.{Stopped}
-use Rattle.muen_top.specs.declared.outcome.Stop.TheVariants.{Usage}
+use Rattle.muen_top.specs.declared.outcome.CommandError.TheVariants.{Usage}
 
 -- ---- files that hold what is told
 

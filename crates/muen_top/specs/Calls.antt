@@ -10,8 +10,8 @@ use Rattle.muen_top.specs.Images.{Wrote}
 use Rattle.muen_top.specs.Reports.{reason_text, refusal_status, status_of, Told, Reported}
 use Rattle.muen_top.specs.declared.outcome.Outcome.{Outcome}
 use Rattle.muen_top.specs.declared.outcome.Outcome.TheVariants.{Done, Stopped, OutputFault}
-use Rattle.muen_top.specs.declared.outcome.Stop.{Stop}
-use Rattle.muen_top.specs.declared.outcome.Stop.TheVariants.{Usage, Missing, TooLong, Refused, ImageRefused, RecordRefused, FileFault, NoMemory}
+use Rattle.muen_top.specs.declared.outcome.CommandError.{CommandError}
+use Rattle.muen_top.specs.declared.outcome.CommandError.TheVariants.{Usage, Missing, TooLong, Refused, ImageRefused, RecordRefused, FileFault, NoMemory}
 
 -- ---- the outcome of a command whose answer is this
 
@@ -28,7 +28,7 @@ IsDone (stops reason) old new out out' = ⊥
 
 -- nothing is printed: so it is answered, or a call on files failed, or memory was refused. A file that is missing or too
 -- long is a miss
-abbrev pub StopsFor : Answer → FilesState → FilesState → Stop → Type 0
+abbrev pub StopsFor : Answer → FilesState → FilesState → CommandError → Type 0
 StopsFor answer old new Usage = answer ≡ stops usage
 StopsFor answer old new (Missing name) = (answer ≡ stops (missing name.now)) × Rose old.misses new.misses
 StopsFor answer old new (TooLong name n) = (answer ≡ stops (too_long name.now n)) × Rose old.misses new.misses

@@ -6,7 +6,7 @@ use Rattle.muen_outside.specs.Store.{Store, KeepsOthers, insert_known}
 use Rattle.muen_top.specs.Commands.{Command, build}
 use Rattle.muen_top.specs.declared.outcome.Outcome.{Outcome}
 use Rattle.muen_top.specs.declared.outcome.Outcome.TheVariants.{Done, Stopped}
-use Rattle.muen_top.specs.declared.outcome.Stop.TheVariants.{FileFault, NoMemory}
+use Rattle.muen_top.specs.declared.outcome.CommandError.TheVariants.{FileFault, NoMemory}
 
 -- the statuses on which `build` may have written: the image stands there, a write failed, or memory was refused
 abbrev pub MayWrite : ℕ → Type 0

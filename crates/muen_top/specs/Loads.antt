@@ -6,7 +6,7 @@ use Rattle.image_pack.specs.Parts.{IsImage}
 use Rattle.image_pack.specs.declared.parts.Image.{Image}
 use Rattle.muen_build.specs.Accepting.{Accepts, Ends, Files, Grows, RefusesDocument, looks_of}
 use Rattle.muen_build.specs.Looks.{Look, Saw, ShowAll, document_look}
-use Rattle.muen_build.specs.declared.accepted.BuildEnd.{BuildEnd}
+use Rattle.muen_build.specs.declared.accepted.BuildError.{BuildError}
 use Rattle.muen_outside.specs.Counts.{Rose}
 use Rattle.muen_outside.specs.States.{FilesState}
 use Rattle.muen_outside.specs.Store.{Store, absent, long, reading_of}
@@ -14,11 +14,11 @@ use Rattle.policy_types.specs.declared.source.Source.{Source}
 use Rattle.muen_top.specs.FilesSeen.{SawAfter}
 use Rattle.muen_top.specs.Runs.{OnlyMemory}
 use Rattle.muen_top.specs.Stops.{stop_of_end}
-use Rattle.muen_top.specs.declared.outcome.Stop.{Stop}
-use Rattle.muen_top.specs.declared.outcome.Stop.TheVariants.{Missing, TooLong, FileFault, NoMemory}
+use Rattle.muen_top.specs.declared.outcome.CommandError.{CommandError}
+use Rattle.muen_top.specs.declared.outcome.CommandError.TheVariants.{Missing, TooLong, FileFault, NoMemory}
 
 -- why one read of this name with this limit gives no bytes
-abbrev pub NotRead : List ℕ → ℕ → FilesState → FilesState → Stop → Type 0
+abbrev pub NotRead : List ℕ → ℕ → FilesState → FilesState → CommandError → Type 0
 NotRead name most old new (Missing n) = (n.now ≡ name) × Saw name most absent old new
 NotRead name most old new (TooLong n k) = (n.now ≡ name) × Saw name most (long k) old new
 NotRead name most old new FileFault = Rose old.faults new.faults
@@ -26,14 +26,14 @@ NotRead name most old new NoMemory = Unit {0}
 NotRead name most old new _ = ⊥
 
 -- why bytes that were read are none for another limit: they are too many
-abbrev pub NotWithin : List ℕ → List ℕ → ℕ → FilesState → FilesState → Stop → Type 0
+abbrev pub NotWithin : List ℕ → List ℕ → ℕ → FilesState → FilesState → CommandError → Type 0
 NotWithin name bytes most old new (TooLong n k) = (n.now ≡ name) × (long k ≡ reading_of (Some bytes) most) × Rose old.misses new.misses
 NotWithin name bytes most old new FileFault = Rose old.faults new.faults
 NotWithin name bytes most old new NoMemory = Unit {0}
 NotWithin name bytes most old new _ = ⊥
 
 -- why a read after these looks gives none
-abbrev pub NotReadAfter : List Look → List ℕ → ℕ → FilesState → FilesState → Stop → Type 0
+abbrev pub NotReadAfter : List Look → List ℕ → ℕ → FilesState → FilesState → CommandError → Type 0
 NotReadAfter looks name most old new (Missing n) = (n.now ≡ name) × SawAfter looks name most absent old new × Rose old.misses new.misses
 NotReadAfter looks name most old new (TooLong n k) = (n.now ≡ name) × SawAfter looks name most (long k) old new × Rose old.misses new.misses
 NotReadAfter looks name most old new FileFault = Rose old.faults new.faults
@@ -43,7 +43,7 @@ NotReadAfter looks name most old new _ = ⊥
 -- ---- the image of an accepted policy, read again
 
 -- what reading the bytes of an image of these parts comes to
-abbrev pub IsReadOf : Image → Result Image Stop → Type 0
+abbrev pub IsReadOf : Image → Result Image CommandError → Type 0
 IsReadOf i (Ok j) = i ≡ j
 IsReadOf i (Err stop) = OnlyMemory stop
 
@@ -64,6 +64,6 @@ pub record IsMade (policy document : List ℕ) (old : FilesState) (found : Files
   pub back : (files : Store) → ShowAll files (looks_of policy document found) → IsReadBack source files i
 
 -- why it gives none: the policy isn't accepted, or memory was refused for the image
-pub data NotMade (policy document : List ℕ) (old new : FilesState) (stop : Stop) : Type 0 where
-  refused : (end : BuildEnd) → Ends (document_look policy document ∷ []) (RefusesDocument document) old new end → stop ≡ stop_of_end end → NotMade policy document old new stop
+pub data NotMade (policy document : List ℕ) (old new : FilesState) (stop : CommandError) : Type 0 where
+  refused : (end : BuildError) → Ends (document_look policy document ∷ []) (RefusesDocument document) old new end → stop ≡ stop_of_end end → NotMade policy document old new stop
   unmade : (found : Files) → Grows old.held (document_look policy document ∷ []) (looks_of policy document found) → ((files : Store) → ShowAll files (looks_of policy document found) → OnlyMemory stop) → NotMade policy document old new stop

@@ -5,7 +5,7 @@ use Rattle.muen_outside.specs.Store.{Store}
 use Rattle.muen_top.specs.Answers.{Answer, answer_of}
 use Rattle.muen_top.specs.Calls.{StopsFor}
 use Rattle.muen_top.specs.Commands.{Command}
-use Rattle.muen_top.specs.declared.outcome.Stop.{Stop}
+use Rattle.muen_top.specs.declared.outcome.CommandError.{CommandError}
 
 -- over some files that hold what is told this is the command's answer
 pub record Gives (command : Command) (old : FilesState) (answer : Answer) : Type 0 where
@@ -14,7 +14,7 @@ pub record Gives (command : Command) (old : FilesState) (answer : Answer) : Type
   pub is : answer_of files (Some command) ≡ answer
 
 -- nothing is printed, as over some files that hold what is told the command's answer says
-pub record Stops (command : Command) (old new : FilesState) (stop : Stop) : Type 0 where
+pub record Stops (command : Command) (old new : FilesState) (stop : CommandError) : Type 0 where
   pub files : Store
   pub told : IfSome old.held (λ m. files ≡ m)
   pub stops : StopsFor (answer_of files (Some command)) old new stop

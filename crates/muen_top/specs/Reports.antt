@@ -10,8 +10,8 @@ use Rattle.muen_top.specs.Answers.{Reason, usage, missing, too_long, refused, im
 use Rattle.record_text.specs.FaultTexts.{record_fault_text}
 use Rattle.muen_top.specs.declared.outcome.Outcome.{Outcome}
 use Rattle.muen_top.specs.declared.outcome.Outcome.TheVariants.{Done, Stopped, OutputFault}
-use Rattle.muen_top.specs.declared.outcome.Stop.{Stop}
-use Rattle.muen_top.specs.declared.outcome.Stop.TheVariants.{Usage, Missing, TooLong, Refused, ImageRefused, RecordRefused, FileFault, NoMemory}
+use Rattle.muen_top.specs.declared.outcome.CommandError.{CommandError}
+use Rattle.muen_top.specs.declared.outcome.CommandError.TheVariants.{Usage, Missing, TooLong, Refused, ImageRefused, RecordRefused, FileFault, NoMemory}
 
 -- ---- texts
 
@@ -70,7 +70,7 @@ Ends (stops reason) err err' status = (status ≡ reason_status reason) × Told 
 
 -- ---- of the outcome of a command
 
-abbrev pub stop_text : Stop → List ℕ
+abbrev pub stop_text : CommandError → List ℕ
 stop_text Usage = usage_text
 stop_text (Missing name) = missing_text name.now
 stop_text (TooLong name n) = too_long_text name.now n
@@ -80,7 +80,7 @@ stop_text (RecordRefused fault) = record_fault_text fault
 stop_text FileFault = codes "file fault"
 stop_text NoMemory = codes "out of memory"
 
-abbrev pub stop_status : Stop → ℕ
+abbrev pub stop_status : CommandError → ℕ
 stop_status Usage = 1
 stop_status (Missing name) = 3
 stop_status (TooLong name n) = 3

@@ -4,11 +4,11 @@ use Rattle.muen_outside.specs.States.{SinkState}
 use Rattle.muen_outside.specs.Puts.{Appended, Failed}
 use Rattle.muen_top.specs.declared.outcome.Outcome.{Outcome}
 use Rattle.muen_top.specs.declared.outcome.Outcome.TheVariants.{Done, Stopped, OutputFault}
-use Rattle.muen_top.specs.declared.outcome.Stop.{Stop}
-use Rattle.muen_top.specs.declared.outcome.Stop.TheVariants.{NoMemory}
+use Rattle.muen_top.specs.declared.outcome.CommandError.{CommandError}
+use Rattle.muen_top.specs.declared.outcome.CommandError.TheVariants.{NoMemory}
 
 -- want of memory is the one reason to print nothing
-abbrev pub OnlyMemory : Stop → Type 0
+abbrev pub OnlyMemory : CommandError → Type 0
 OnlyMemory NoMemory = Unit {0}
 OnlyMemory _ = ⊥
 

@@ -21,7 +21,7 @@ ghost use Rattle.muen_top.specs.PolicyCommands.{Gives, Stops};
 ghost use Rattle.muen_top.specs.Runs.{OnlyMemory};
 
 use crate::loading::{load, load_too, within};
-use crate::outcome::{Outcome, Stop};
+use crate::outcome::{Outcome, CommandError};
 use crate::run::{Loaded, run_image};
 use image_load::read_record;
 use image_pack::{Parts, unpack};
@@ -33,7 +33,7 @@ use region_alloc::Placed;
 use std::alloc::Global;
 
 // The parts of the image of these bytes.
-fn read_back<'a>(alloc: Global, bytes: &[u8]) -> Result<Parts, Stop<'a>>
+fn read_back<'a>(alloc: Global, bytes: &[u8]) -> Result<Parts, CommandError<'a>>
     ensures all_bytes { IsBytes bytes.now }
     ensures only { (i : Image) → IsImage bytes.now i → IsReadOf i result }
 {
@@ -48,7 +48,7 @@ fn parts_of<'a>(
     document: &[u8],
     placed: &Placed,
     found: &ComponentFiles,
-) -> Result<Parts, Stop<'a>>
+) -> Result<Parts, CommandError<'a>>
     requires lawful { lawful_policy_of document.now ≡ Ok (source_of placed.now.plain.lawful) }
     requires accepts { Accepts (looks_of name.now document.now found.now) document.now (source_of placed.now.plain.lawful) }
     ensures ok { IfOk result (λ i. (files : Store) → ShowAll files (looks_of name.now document.now found.now) → IsReadBack (source_of placed.now.plain.lawful) files i) }
@@ -76,7 +76,7 @@ fn load_record<'a, F: Files>(
     found: &ComponentFiles,
     name: &'a str,
     files: &mut F,
-) -> Result<Seq<u8>, Stop<'a>>
+) -> Result<Seq<u8>, CommandError<'a>>
     ensures ok { IfOk result (λ bytes. SawAfter (looks_of policy.now document found.now) name.now RECORD_MOST (whole bytes) (F.state files.old) (F.state files.new)) }
     ensures err { IfErr result (NotReadAfter (looks_of policy.now document found.now) name.now RECORD_MOST (F.state files.old) (F.state files.new)) }
     ensures follows { Follows (F.state files.old) (F.state files.new) }
@@ -100,7 +100,7 @@ fn make<'a, F: Files>(
     policy: &str,
     document: &[u8],
     files: &mut F,
-) -> Result<Made, Stop<'a>>
+) -> Result<Made, CommandError<'a>>
     ensures ok { IfOk result (λ m. IsMade policy.now document.now (F.state files.old) m.files m.parts) }
     ensures err { IfErr result (NotMade policy.now document.now (F.state files.old) (F.state files.new)) }
     ensures follows { Follows (F.state files.old) (F.state files.new) }
@@ -123,7 +123,7 @@ fn read_both<'a, F: Files>(
     policy: &'a str,
     inputs: &'a str,
     files: &mut F,
-) -> Result<Loaded, Stop<'a>>
+) -> Result<Loaded, CommandError<'a>>
     ensures ok { IfOk result (λ x. Gives (boot_command policy.now inputs.now) (F.state files.old) (prints (image_text x.parts x.input))) }
     ensures can_run { IfOk result (λ x. CanRun x.input) }
     ensures err { IfErr result (Stops (boot_command policy.now inputs.now) (F.state files.old) (F.state files.new)) }

@@ -11,9 +11,9 @@ ghost use Rattle.muen_top.specs.PolicyCommands.{Stops};
 ghost use Rattle.muen_top.specs.Reports.{status_of};
 
 use crate::loading::load;
-use crate::outcome::{Outcome, Stop};
+use crate::outcome::{Outcome, CommandError};
 use muen_num::limits::POLICY_MOST;
-use muen_outside::{FileEnd, Files};
+use muen_outside::{FileError, Files};
 use std::alloc::Global;
 
 // An image for the policy of this file.
@@ -21,7 +21,7 @@ fn image_of<'a, F: Files>(
     alloc: Global,
     policy: &'a str,
     files: &mut F,
-) -> Result<Vec<u8>, Stop<'a>>
+) -> Result<Vec<u8>, CommandError<'a>>
     ensures ok { IfOk result (λ v. IsMade policy.now (F.state files.old) v.items) }
     ensures err { IfErr result (λ stop. (image : List ℕ) → Stops (build_command policy.now image) (F.state files.old) (F.state files.new) stop) }
     ensures follows { Follows (F.state files.old) (F.state files.new) }
@@ -38,8 +38,8 @@ fn write_image<'a, F: Files>(alloc: Global, image: &str, bytes: &[u8], files: &m
 {
     match files.write(alloc, image, bytes) {
         Ok(()) => Outcome::Done,
-        Err(FileEnd::Failed) => Outcome::Stopped(Stop::FileFault),
-        Err(FileEnd::NoMemory) => Outcome::Stopped(Stop::NoMemory),
+        Err(FileError::Failed) => Outcome::Stopped(CommandError::FileFault),
+        Err(FileError::NoMemory) => Outcome::Stopped(CommandError::NoMemory),
     }
 }
 

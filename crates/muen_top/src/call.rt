@@ -8,7 +8,7 @@ ghost use Rattle.muen_top.specs.Reports.{status_of};
 use crate::boot::boot;
 use crate::build::build;
 use crate::command::Command;
-use crate::outcome::{Outcome, Stop};
+use crate::outcome::{Outcome, CommandError};
 use crate::policy_commands;
 use crate::report::{report, status};
 use crate::run::run;
@@ -24,10 +24,10 @@ fn work<'a, F: Files, S: Sink>(
 ) -> Outcome<'a>
     ensures came { Came (command_of (map string_bytes words.now)) (F.state files.old) (F.state files.new) (S.state out.old) (S.state out.new) result }
     ensures keeps { KeepsFiles (command_of (map string_bytes words.now)) (status_of result) (F.state files.old) (F.state files.new) }
-    ensures no_command { command_of (map string_bytes words.now) ≡ None → (result ≡ Outcome.Stopped Stop.Usage) × (F.state files.new ≡ F.state files.old) }
+    ensures no_command { command_of (map string_bytes words.now) ≡ None → (result ≡ Outcome.Stopped CommandError.Usage) × (F.state files.new ≡ F.state files.old) }
 {
     match Command::parse(words) {
-        Command::Usage => Outcome::Stopped(Stop::Usage),
+        Command::Usage => Outcome::Stopped(CommandError::Usage),
         Command::Build { policy, image } => build(alloc, policy, image, files),
         Command::Boot { policy, inputs } => boot(alloc, policy, inputs, files, out),
         Command::Run { image, inputs } => run(alloc, image, inputs, files, out),

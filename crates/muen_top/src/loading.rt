@@ -5,9 +5,9 @@ ghost use Rattle.muen_build.specs.Looks.{Follows, Saw, look};
 ghost use Rattle.muen_top.specs.FilesSeen.{SawAfter};
 ghost use Rattle.muen_top.specs.Loads.{NotRead, NotReadAfter, NotWithin};
 
-use crate::outcome::Stop;
+use crate::outcome::CommandError;
 use muen_num::Seq;
-use muen_outside::{FileEnd, Files, Found};
+use muen_outside::{FileError, Files, Found};
 use std::alloc::Global;
 
 /// The bytes of a file.
@@ -16,17 +16,17 @@ pub(crate) fn load<'a, F: Files>(
     name: &'a str,
     most: usize,
     files: &mut F,
-) -> Result<Seq<u8>, Stop<'a>>
+) -> Result<Seq<u8>, CommandError<'a>>
     ensures ok { IfOk result (λ bytes. Saw name.now most (whole bytes) (F.state files.old) (F.state files.new)) }
     ensures err { IfErr result (NotRead name.now most (F.state files.old) (F.state files.new)) }
     ensures follows { Follows (F.state files.old) (F.state files.new) }
 {
     match files.read(alloc, name, most) {
         Ok(Found::Bytes(bytes)) => Ok(bytes),
-        Ok(Found::Missing) => Err(Stop::Missing(name)),
-        Ok(Found::TooLong(n)) => Err(Stop::TooLong(name, n)),
-        Err(FileEnd::Failed) => Err(Stop::FileFault),
-        Err(FileEnd::NoMemory) => Err(Stop::NoMemory),
+        Ok(Found::Missing) => Err(CommandError::Missing(name)),
+        Ok(Found::TooLong(n)) => Err(CommandError::TooLong(name, n)),
+        Err(FileError::Failed) => Err(CommandError::FileFault),
+        Err(FileError::NoMemory) => Err(CommandError::NoMemory),
     }
 }
 
@@ -38,7 +38,7 @@ pub(crate) fn within<'a, F: Files>(
     name: &'a str,
     most: usize,
     files: &mut F,
-) -> Result<Seq<u8>, Stop<'a>>
+) -> Result<Seq<u8>, CommandError<'a>>
     ensures ok { IfOk result (λ found. whole found ≡ reading_of (Some bytes) most) }
     ensures err { IfErr result (NotWithin name.now bytes most (F.state files.old) (F.state files.new)) }
     ensures follows { Follows (F.state files.old) (F.state files.new) }
@@ -48,11 +48,11 @@ pub(crate) fn within<'a, F: Files>(
         return Ok(bytes);
     }
     match files.read(alloc, name, 0) {
-        Ok(Found::Missing | Found::TooLong(_)) => Err(Stop::TooLong(name, length as u64)),
+        Ok(Found::Missing | Found::TooLong(_)) => Err(CommandError::TooLong(name, length as u64)),
         // The file has lost its bytes since.
-        Ok(Found::Bytes(_)) => Err(Stop::NoMemory),
-        Err(FileEnd::Failed) => Err(Stop::FileFault),
-        Err(FileEnd::NoMemory) => Err(Stop::NoMemory),
+        Ok(Found::Bytes(_)) => Err(CommandError::NoMemory),
+        Err(FileError::Failed) => Err(CommandError::FileFault),
+        Err(FileError::NoMemory) => Err(CommandError::NoMemory),
     }
 }
 
@@ -65,7 +65,7 @@ pub(crate) fn load_too<'a, F: Files>(
     name: &'a str,
     most: usize,
     files: &mut F,
-) -> Result<Seq<u8>, Stop<'a>>
+) -> Result<Seq<u8>, CommandError<'a>>
     ensures ok { (limit : ℕ) → IfOk result (λ found. SawAfter (look before.now limit (whole bytes) ∷ []) name.now most (whole found) (F.state files.old) (F.state files.new)) }
     ensures err { (limit : ℕ) → IfErr result (NotReadAfter (look before.now limit (whole bytes) ∷ []) name.now most (F.state files.old) (F.state files.new)) }
     ensures follows { Follows (F.state files.old) (F.state files.new) }

@@ -3,14 +3,14 @@ ghost use Rattle.std.specs.Prelude.{◌≡◌};
 ghost use Rattle.muen_top.specs.Stops.{stop_of_refusal, stop_of_fault};
 
 use image_pack::ImageFault;
-use muen_build::BuildEnd;
+use muen_build::BuildError;
 use muen_num::NoMemory;
 use policy_types::Refusal;
 use record_text::RecordFault;
 
 /// Why nothing was printed, and no image was written whole.
 #[derive(Debug, Drop)]
-pub(crate) enum Stop<'a> {
+pub(crate) enum CommandError<'a> {
     /// The words have no command's form.
     Usage,
     /// There is no file of this name.
@@ -29,71 +29,71 @@ pub(crate) enum Stop<'a> {
     NoMemory,
 }
 
-impl<'a> From<NoMemory> for Stop<'a> {
+impl<'a> From<NoMemory> for CommandError<'a> {
     ghost use Rattle.std.specs.Prelude.{◌≡◌};
-    ghost use Rattle.muen_top.specs.declared.outcome.Stop.TheVariants as stops;
+    ghost use Rattle.muen_top.specs.declared.outcome.CommandError.TheVariants as stops;
 
     ghost from_gives = { λ refused stop. stop ≡ stops.NoMemory };
 
-    fn from(refused: NoMemory) -> Stop<'a> {
+    fn from(refused: NoMemory) -> CommandError<'a> {
         let NoMemory = refused;
-        Stop::NoMemory
+        CommandError::NoMemory
     }
 }
 
-impl<'a> From<Refusal> for Stop<'a> {
+impl<'a> From<Refusal> for CommandError<'a> {
     ghost use Rattle.std.specs.Prelude.{◌≡◌};
     ghost use Rattle.muen_top.specs.Stops.{stop_of_refusal};
 
     ghost from_gives = { λ refusal stop. stop ≡ stop_of_refusal refusal };
 
-    fn from(refusal: Refusal) -> Stop<'a> {
+    fn from(refusal: Refusal) -> CommandError<'a> {
         if refusal.is_no_memory() {
-            Stop::NoMemory
+            CommandError::NoMemory
         } else {
-            Stop::Refused(refusal)
+            CommandError::Refused(refusal)
         }
     }
 }
 
-impl<'a> From<BuildEnd> for Stop<'a> {
+impl<'a> From<BuildError> for CommandError<'a> {
     ghost use Rattle.std.specs.Prelude.{◌≡◌};
     ghost use Rattle.muen_top.specs.Stops.{stop_of_end};
 
     ghost from_gives = { λ end stop. stop ≡ stop_of_end end };
 
-    fn from(end: BuildEnd) -> Stop<'a> {
+    fn from(end: BuildError) -> CommandError<'a> {
         match end {
-            BuildEnd::Refused(refusal) => Stop::from(refusal),
-            BuildEnd::FileFault => Stop::FileFault,
+            BuildError::Refused(refusal) => CommandError::from(refusal),
+            BuildError::FileFault => CommandError::FileFault,
         }
     }
 }
 
-impl<'a> From<ImageFault> for Stop<'a> {
+impl<'a> From<ImageFault> for CommandError<'a> {
     ghost use Rattle.std.specs.Prelude.{◌≡◌};
     ghost use Rattle.muen_top.specs.Stops.{stop_of_image_fault};
 
     ghost from_gives = { λ fault stop. stop ≡ stop_of_image_fault fault };
 
-    fn from(fault: ImageFault) -> Stop<'a> {
+    fn from(fault: ImageFault) -> CommandError<'a> {
         match fault {
-            ImageFault::NoMemory => Stop::NoMemory,
-            _ => Stop::ImageRefused(fault),
+            ImageFault::NoMemory => CommandError::NoMemory,
+            _ => CommandError::ImageRefused(fault),
         }
     }
 }
 
-impl<'a> From<RecordFault> for Stop<'a> {
+impl<'a> From<RecordFault> for CommandError<'a> {
     ghost use Rattle.std.specs.Prelude.{◌≡◌};
     ghost use Rattle.muen_top.specs.Stops.{stop_of_fault};
 
     ghost from_gives = { λ fault stop. stop ≡ stop_of_fault fault };
 
-    fn from(fault: RecordFault) -> Stop<'a> {
+    fn from(fault: RecordFault) -> CommandError<'a> {
         match fault {
-            RecordFault::NoMemory => Stop::NoMemory,
-            _ => Stop::RecordRefused(fault),
+            RecordFault::NoMemory => CommandError::NoMemory,
+            _ => CommandError::RecordRefused(fault),
         }
     }
 }
@@ -104,7 +104,7 @@ pub(crate) enum Outcome<'a> {
     /// All was printed, or the image was written.
     Done,
     /// Nothing was printed.
-    Stopped(Stop<'a>),
+    Stopped(CommandError<'a>),
     /// The sink of the output failed; a front of the text was printed.
     OutputFault,
 }

@@ -11,7 +11,7 @@ ghost use Rattle.muen_top.specs.PolicyCommands.{Gives, Stops};
 ghost use Rattle.muen_top.specs.Runs.{RunsTo};
 
 use crate::loading::load;
-use crate::outcome::{Outcome, Stop};
+use crate::outcome::{Outcome, CommandError};
 use flow_report::flow_text;
 use map_report::map_text;
 use muen_num::limits::POLICY_MOST;
@@ -25,7 +25,7 @@ fn read_placed<'a, F: Files>(
     alloc: Global,
     policy: &'a str,
     files: &mut F,
-) -> Result<Placed, Stop<'a>>
+) -> Result<Placed, CommandError<'a>>
     ensures ok { IfOk result (λ x. Gives (map_command policy.now) (F.state files.old) (prints (map_text_of (source_of x.plain.lawful)))) }
     ensures err { IfErr result (Stops (map_command policy.now) (F.state files.old) (F.state files.new)) }
     ensures follows { Follows (F.state files.old) (F.state files.new) }
@@ -40,7 +40,7 @@ fn print_map<'a, S: Sink>(alloc: Global, placed: &Placed, out: &mut S) -> Outcom
 {
     let mut buffer = match Buffer::make(alloc) {
         Ok(buffer) => buffer,
-        Err(_) => return Outcome::Stopped(Stop::NoMemory),
+        Err(_) => return Outcome::Stopped(CommandError::NoMemory),
     };
     match map_text(placed, &mut buffer, out) {
         Ok(()) => Outcome::Done,
@@ -69,7 +69,7 @@ fn read_lawful<'a, F: Files>(
     alloc: Global,
     policy: &'a str,
     files: &mut F,
-) -> Result<Lawful, Stop<'a>>
+) -> Result<Lawful, CommandError<'a>>
     ensures ok { IfOk result (λ x. Gives (flows_command policy.now) (F.state files.old) (prints (flow_text_of (source_of x)))) }
     ensures err { IfErr result (Stops (flows_command policy.now) (F.state files.old) (F.state files.new)) }
     ensures follows { Follows (F.state files.old) (F.state files.new) }
@@ -84,11 +84,11 @@ fn print_flows<'a, S: Sink>(alloc: Global, policy: &Lawful, out: &mut S) -> Outc
 {
     let flows = match flow_report::flows(alloc, policy) {
         Ok(flows) => flows,
-        Err(_) => return Outcome::Stopped(Stop::NoMemory),
+        Err(_) => return Outcome::Stopped(CommandError::NoMemory),
     };
     let mut buffer = match Buffer::make(alloc) {
         Ok(buffer) => buffer,
-        Err(_) => return Outcome::Stopped(Stop::NoMemory),
+        Err(_) => return Outcome::Stopped(CommandError::NoMemory),
     };
     match flow_text(policy, &flows, &mut buffer, out) {
         Ok(()) => Outcome::Done,

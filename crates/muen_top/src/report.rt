@@ -4,7 +4,7 @@ ghost use Rattle.muen_num.specs.Pieces.{whole};
 ghost use Rattle.muen_outside.specs.Puts.{Puts};
 ghost use Rattle.muen_top.specs.Reports.{line_of, refusal_status, status_of, stop_text, usage_text, Reported};
 
-use crate::outcome::{Outcome, Stop};
+use crate::outcome::{Outcome, CommandError};
 use itoa::Buffer;
 use muen_num::Pieces;
 use muen_outside::{Sink, SinkFault, put_pieces};
@@ -19,21 +19,21 @@ fn usage() -> &'static str
 }
 
 // The text of a stop in pieces.
-fn pieces<'a>(stop: &'a Stop<'_>, one: &'a mut Buffer, two: &'a mut Buffer) -> Pieces<'a>
+fn pieces<'a>(stop: &'a CommandError<'_>, one: &'a mut Buffer, two: &'a mut Buffer) -> Pieces<'a>
     ensures { whole result ≡ stop_text stop.now }
 {
     match stop {
-        Stop::Usage => usage().into(),
-        Stop::Missing(name) => ("missing file ", *name).into(),
-        Stop::TooLong(name, length) => {
+        CommandError::Usage => usage().into(),
+        CommandError::Missing(name) => ("missing file ", *name).into(),
+        CommandError::TooLong(name, length) => {
             let length = one.format(*length);
             ("file ", *name, " has ", length, " bytes").into()
         }
-        Stop::Refused(refusal) => refusal.pieces(one, two),
-        Stop::ImageRefused(fault) => fault.pieces(one),
-        Stop::RecordRefused(fault) => fault.pieces(one),
-        Stop::FileFault => "file fault".into(),
-        Stop::NoMemory => "out of memory".into(),
+        CommandError::Refused(refusal) => refusal.pieces(one, two),
+        CommandError::ImageRefused(fault) => fault.pieces(one),
+        CommandError::RecordRefused(fault) => fault.pieces(one),
+        CommandError::FileFault => "file fault".into(),
+        CommandError::NoMemory => "out of memory".into(),
     }
 }
 
@@ -88,13 +88,13 @@ pub(crate) fn status(outcome: &Outcome<'_>) -> u8
 {
     match outcome {
         Outcome::Done => 0,
-        Outcome::Stopped(Stop::Usage) => 1,
-        Outcome::Stopped(Stop::Refused(refusal)) => refusal_status(refusal),
-        Outcome::Stopped(Stop::Missing(_) | Stop::TooLong(_, _)) => 3,
-        Outcome::Stopped(Stop::FileFault) => 4,
-        Outcome::Stopped(Stop::ImageRefused(_)) => 5,
-        Outcome::Stopped(Stop::RecordRefused(_)) => 6,
+        Outcome::Stopped(CommandError::Usage) => 1,
+        Outcome::Stopped(CommandError::Refused(refusal)) => refusal_status(refusal),
+        Outcome::Stopped(CommandError::Missing(_) | CommandError::TooLong(_, _)) => 3,
+        Outcome::Stopped(CommandError::FileFault) => 4,
+        Outcome::Stopped(CommandError::ImageRefused(_)) => 5,
+        Outcome::Stopped(CommandError::RecordRefused(_)) => 6,
         Outcome::OutputFault => 7,
-        Outcome::Stopped(Stop::NoMemory) => 8,
+        Outcome::Stopped(CommandError::NoMemory) => 8,
     }
 }

@@ -10,12 +10,12 @@ ghost use Rattle.muen_top.specs.PolicyCommands.{Gives, Stops};
 ghost use Rattle.muen_top.specs.Runs.{RunsTo};
 
 use crate::loading::{load, load_too};
-use crate::outcome::{Outcome, Stop};
+use crate::outcome::{Outcome, CommandError};
 use image_load::read_record;
 use image_pack::{Parts, unpack};
 use muen_num::limits::{IMAGE_MOST, RECORD_MOST};
 use muen_outside::{Files, Sink};
-use muen_run::RunEnd;
+use muen_run::RunError;
 use record_text::Record;
 use std::alloc::Global;
 
@@ -32,7 +32,7 @@ fn read_both<'a, F: Files>(
     image: &'a str,
     inputs: &'a str,
     files: &mut F,
-) -> Result<Loaded, Stop<'a>>
+) -> Result<Loaded, CommandError<'a>>
     ensures ok { IfOk result (λ x. Gives (run_command image.now inputs.now) (F.state files.old) (prints (image_text x.parts x.input))) }
     ensures can_run { IfOk result (λ x. CanRun x.input) }
     ensures err { IfErr result (Stops (run_command image.now inputs.now) (F.state files.old) (F.state files.new)) }
@@ -57,8 +57,8 @@ pub(crate) fn run_image<'a, S: Sink>(
 {
     match muen_run::run(alloc, parts, input, out) {
         Ok(()) => Outcome::Done,
-        Err(RunEnd::OutFault) => Outcome::OutputFault,
-        Err(RunEnd::NoMemory) => Outcome::Stopped(Stop::NoMemory),
+        Err(RunError::OutFault) => Outcome::OutputFault,
+        Err(RunError::NoMemory) => Outcome::Stopped(CommandError::NoMemory),
     }
 }
 

@@ -6,7 +6,7 @@ use Rattle.std.proofs.lemmas.List.Elements.{All-cons, All-nil}
 use Rattle.machine_meaning.specs.Memory.{Page}
 use Rattle.phys_mem.specs.Frames.{pages_by, pages_in, IsRising, NoneBelow, IsFirst}
 use Rattle.phys_mem.specs.Spans.{AreApart, AreSpans, IsSpan, end_of, pages_of_spans}
-use Rattle.phys_mem.specs.declared.spans.SpanPartBytes.{SpanPartBytes}
+use Rattle.phys_mem.specs.declared.spans.MemorySpan.{MemorySpan}
 
 -- ---- a search
 
@@ -65,7 +65,7 @@ pages_rising (suc n) k low bytes rest a h =
     let next : k + suc n ≡ k + 1 + n = omega arith in
     (a, pages_rising n (k + 1) (k + 1) _ rest (omega arith) (subst (λ j. RisingFrom j (numbers_of rest)) next h))
 
-later_spans : (s : SpanPartBytes) (ss : List SpanPartBytes) → AreSpans (s ∷ ss) → AreSpans ss
+later_spans : (s : MemorySpan) (ss : List MemorySpan) → AreSpans (s ∷ ss) → AreSpans ss
 later_spans s ss h =
     record {
       each = λ k d l. h.each (suc k) d (omega arith);
@@ -78,7 +78,7 @@ end_page place bytes next a b h = omega arith
 first_page : (low place : ℕ) → 4096 * low ≤ place → low ≤ place / 4096
 first_page low place h = omega arith
 
-spans_rising : (ss : List SpanPartBytes) (low : ℕ) → AreSpans ss → ((i : ℕ) (d : SpanPartBytes) → i < length ss → 4096 * low ≤ (get_or ss i d).place) → RisingFrom low (numbers_of (pages_of_spans ss))
+spans_rising : (ss : List MemorySpan) (low : ℕ) → AreSpans ss → ((i : ℕ) (d : MemorySpan) → i < length ss → 4096 * low ≤ (get_or ss i d).place) → RisingFrom low (numbers_of (pages_of_spans ss))
 spans_rising [] low h above = tt
 spans_rising (s ∷ ss) low h above =
     let here : IsSpan s = h.each 0 s (omega arith) in
@@ -90,41 +90,41 @@ numbers_by (n ∷ ns) [] e = absurd (omega arith)
 numbers_by (n ∷ ns) (f ∷ fs) e = ap (λ ks. n ∷ ks) (numbers_by ns fs (omega arith))
 
 -- the numbers of memory that is made of spans rise
-pub numbers_rise : (ns : List ℕ) (fs : List (List ℕ)) (ss : List SpanPartBytes) → AreSpans ss → length ns ≡ length fs → pages_by ns fs ≡ pages_of_spans ss → IsRising ns
+pub numbers_rise : (ns : List ℕ) (fs : List (List ℕ)) (ss : List MemorySpan) → AreSpans ss → length ns ≡ length fs → pages_by ns fs ≡ pages_of_spans ss → IsRising ns
 numbers_rise ns fs ss h same e =
     let is : numbers_of (pages_of_spans ss) ≡ ns = ap numbers_of (sym e) ∙ numbers_by ns fs same in
     subst (λ ks. IsRising ks) is (rising_from 0 (numbers_of (pages_of_spans ss)) (spans_rising ss 0 h (λ i d l. omega arith)))
 
 -- ---- a loop that takes spans from the front
 
-pub span_small : (rest next : List SpanPartBytes) (s : SpanPartBytes) (bytes : List ℕ) → AreSpans rest → rest ≡ s ∷ next → bytes ≡ s.bytes → s.place / 4096 + length bytes < 2 ^ 64
+pub span_small : (rest next : List MemorySpan) (s : MemorySpan) (bytes : List ℕ) → AreSpans rest → rest ≡ s ∷ next → bytes ≡ s.bytes → s.place / 4096 + length bytes < 2 ^ 64
 span_small rest next s bytes h step is =
     let here : IsSpan s = (subst AreSpans step h).each 0 s (omega arith) in
     let low = here.low in
     rw is (omega (arith, low))
 
-pub spans_after : (rest next : List SpanPartBytes) (s : SpanPartBytes) → AreSpans rest → rest ≡ s ∷ next → AreSpans next
+pub spans_after : (rest next : List MemorySpan) (s : MemorySpan) → AreSpans rest → rest ≡ s ∷ next → AreSpans next
 spans_after rest next s h step = later_spans s next (subst AreSpans step h)
 
-pub spans_turn : (before after all : List Page) (rest next : List SpanPartBytes) (s : SpanPartBytes) (bytes : List ℕ) → before ++ pages_of_spans rest ≡ all → rest ≡ s ∷ next → after ≡ before ++ pages_in (length bytes / 4096) (s.place / 4096) bytes → bytes ≡ s.bytes → after ++ pages_of_spans next ≡ all
+pub spans_turn : (before after all : List Page) (rest next : List MemorySpan) (s : MemorySpan) (bytes : List ℕ) → before ++ pages_of_spans rest ≡ all → rest ≡ s ∷ next → after ≡ before ++ pages_in (length bytes / 4096) (s.place / 4096) bytes → bytes ≡ s.bytes → after ++ pages_of_spans next ≡ all
 spans_turn before after all rest next s bytes was step added is =
     let part : List ℕ → List Page = λ bs. pages_in (length bs / 4096) (s.place / 4096) bs in
     ap (λ ps. ps ++ pages_of_spans next) (added ∙ ap (λ bs. before ++ part bs) is)
     ∙ (append_assoc before (part s.bytes) (pages_of_spans next) ∙ (ap (λ ss. before ++ pages_of_spans ss) (sym step) ∙ was))
 
-pub spans_done : (ps all : List Page) (rest : List SpanPartBytes) → ps ++ pages_of_spans rest ≡ all → length rest ≡ 0 → ps ≡ all
+pub spans_done : (ps all : List Page) (rest : List MemorySpan) → ps ++ pages_of_spans rest ≡ all → length rest ≡ 0 → ps ≡ all
 spans_done ps all [] h e = sym (append-nil ps) ∙ h
 spans_done ps all (s ∷ rest) h e = absurd (omega arith)
 
 -- ---- two spans
 
-ends_apart : (a b : SpanPartBytes) → end_of a ≤ b.place → AreApart (a ∷ b ∷ [])
+ends_apart : (a b : MemorySpan) → end_of a ≤ b.place → AreApart (a ∷ b ∷ [])
 ends_apart a b h i zero d l m = absurd (omega arith)
 ends_apart a b h zero (suc zero) d l m = h
 ends_apart a b h (suc i) (suc zero) d l m = absurd (omega arith)
 ends_apart a b h i (suc (suc j)) d l m = absurd (omega arith)
 
-pub two_spans : (ss : List SpanPartBytes) (a b : SpanPartBytes) → ss ≡ a ∷ b ∷ [] → IsSpan a → IsSpan b → end_of a ≤ b.place → AreSpans ss
+pub two_spans : (ss : List MemorySpan) (a b : MemorySpan) → ss ≡ a ∷ b ∷ [] → IsSpan a → IsSpan b → end_of a ≤ b.place → AreSpans ss
 two_spans ss a b e first second apart =
     rw e (record {
       each = All-cons IsSpan a (b ∷ []) first (All-cons IsSpan b [] second (All-nil IsSpan));

@@ -11,4 +11,4 @@ mod spans;
 
 pub use memory::{PAGE_BYTES, PhysMem};
 pub use region_mem::RegionMem;
-pub use spans::SpanPartBytes;
+pub use spans::MemorySpan;

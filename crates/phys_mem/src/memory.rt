@@ -4,7 +4,7 @@ ghost use Rattle.std.specs.Borrow.{sem, LendsSo, Array, u8 as byte};
 ghost use Rattle.muen_num.specs.Size.{bytes_of};
 ghost use Rattle.machine_meaning.specs.Memory.{Page, page_of, is_there, change, load_of, store_of};
 
-use muen_num::Size;
+use muen_num::AccessSize;
 
 /// The bytes of a page of memory (Intel SDM volume 3, 4-level paging and EPT).
 pub const PAGE_BYTES: usize = 4096;
@@ -16,13 +16,13 @@ pub trait PhysMem: Drop {
 
     /// The number that is stored at an address, the lowest byte first. None where its page isn't
     /// there.
-    fn load(&self, at: u64, size: Size) -> Option<u64>
+    fn load(&self, at: u64, size: AccessSize) -> Option<u64>
         requires { at % bytes_of size ≡ 0 }
         ensures { result ≡ load_of (pages self.now) at (bytes_of size) };
 
     /// Stores the low bytes of a number at an address, and tells whether its page is there. Where it
     /// isn't, nothing changes.
-    fn store(&mut self, at: u64, size: Size, value: u64) -> bool
+    fn store(&mut self, at: u64, size: AccessSize, value: u64) -> bool
         requires { at % bytes_of size ≡ 0 }
         ensures done { result ≡ is_there (pages self.old) (at / 4096) }
         ensures after { pages self.new ≡ store_of (pages self.old) at (bytes_of size) value };

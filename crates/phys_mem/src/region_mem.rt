@@ -4,9 +4,9 @@ ghost use Rattle.phys_mem.specs.Frames.{pages_by, IsRising, NoneBelow, IsFirst};
 
 use crate::little_endian::{number_of, spell};
 use crate::memory::{PAGE_BYTES, PhysMem};
-use crate::spans::{SpanPartBytes, add_pages};
+use crate::spans::{MemorySpan, add_pages};
 use muen_num::limits::PAGE;
-use muen_num::{NoMemory, Size};
+use muen_num::{NoMemory, AccessSize};
 use std::alloc::Global;
 
 /// Memory that is made of spans of pages. A page is found by a binary search over the pages' numbers.
@@ -39,7 +39,7 @@ impl RegionMem {
     ///
     /// # Errors
     /// Memory is refused.
-    pub fn start(alloc: Global, spans: Vec<SpanPartBytes>) -> Result<RegionMem, NoMemory>
+    pub fn start(alloc: Global, spans: Vec<MemorySpan>) -> Result<RegionMem, NoMemory>
         requires { AreSpans spans.items }
         ensures { IfOk result (λ m. pages_kept m ≡ pages_of_spans spans.items) }
     {
@@ -69,7 +69,7 @@ impl PhysMem for RegionMem {
 
     ghost pages = { pages_kept };
 
-    fn load(&self, at: u64, size: Size) -> Option<u64> {
+    fn load(&self, at: u64, size: AccessSize) -> Option<u64> {
         match self.find_page(at / PAGE) {
             None => None,
             Some(i) => {
@@ -80,7 +80,7 @@ impl PhysMem for RegionMem {
         }
     }
 
-    fn store(&mut self, at: u64, size: Size, value: u64) -> bool {
+    fn store(&mut self, at: u64, size: AccessSize, value: u64) -> bool {
         match self.find_page(at / PAGE) {
             None => false,
             Some(i) => {

@@ -7,7 +7,7 @@ use muen_num::{NoMemory, Seq};
 
 /// A part of memory that is made of whole pages, and what it has at first.
 #[derive(Drop)]
-pub struct SpanPartBytes {
+pub struct MemorySpan {
     /// The physical address of its first byte.
     pub place: u64,
     pub bytes: Seq<u8>,

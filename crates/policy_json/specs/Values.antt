@@ -3,7 +3,7 @@
 use Rattle.std.specs.Prelude.{ℕ, ◌+◌, List, [], ◌∷◌, ◌++◌, Option, Some, None, Result, Ok, Err, decimal}
 use Rattle.serde_json.specs.Data.{Data, Items, no_items, item}
 use Rattle.serde_json.specs.Find.{as_array}
-use Rattle.muen_num.specs.declared.mode.Mode.{Mode}
+use Rattle.muen_num.specs.declared.mode.EventMode.{EventMode}
 use Rattle.policy_types.specs.declared.refusal.Fault.{Fault}
 use Rattle.policy_types.specs.declared.refusal.Want.{Want}
 use Rattle.policy_types.specs.declared.refusal.Want.TheVariants.{Number, Byte, Name, Rights as WantRights, Caching as WantCaching, Mode as WantMode, Role as WantRole, Hexadecimal, List as WantList}
@@ -52,7 +52,7 @@ read_msr_rights d = or_want WantRights (msr_rights_of d)
 unfoldable pub read_caching : Data → Result Caching Fault
 read_caching d = or_want WantCaching (caching_of d)
 
-unfoldable pub read_mode : Data → Result Mode Fault
+unfoldable pub read_mode : Data → Result EventMode Fault
 read_mode d = or_want WantMode (mode_of d)
 
 unfoldable pub read_role : Data → Result Role Fault

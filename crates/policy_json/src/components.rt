@@ -1,5 +1,5 @@
 //! Channels, and components with what they bring along and ask for.
-use crate::fault::ReadEnd;
+use crate::fault::ReadError;
 use crate::object::{Object, if_present, list, optional, required};
 use policy_types::source::{Channel, Component, ComponentChannel, Content, Provided, Required};
 use serde_json::Value;
@@ -15,7 +15,7 @@ impl Object for Channel {
         &["name", "size", "hasEvent"]
     }
 
-    fn read_fields(alloc: Global, value: &Value) -> Result<Channel, ReadEnd> {
+    fn read_fields(alloc: Global, value: &Value) -> Result<Channel, ReadError> {
         Ok(Channel {
             name: required(alloc, value, "name")?,
             size: required(alloc, value, "size")?,
@@ -34,7 +34,7 @@ impl Object for Component {
         &["name", "provides", "memory", "channels"]
     }
 
-    fn read_fields(alloc: Global, value: &Value) -> Result<Component, ReadEnd> {
+    fn read_fields(alloc: Global, value: &Value) -> Result<Component, ReadError> {
         Ok(Component {
             name: required(alloc, value, "name")?,
             provides: list(alloc, value, "provides")?,
@@ -54,7 +54,7 @@ impl Object for Provided {
         &["logical", "virtualAddress", "size", "rights", "content"]
     }
 
-    fn read_fields(alloc: Global, value: &Value) -> Result<Provided, ReadEnd> {
+    fn read_fields(alloc: Global, value: &Value) -> Result<Provided, ReadError> {
         Ok(Provided {
             logical: required(alloc, value, "logical")?,
             virtual_address: required(alloc, value, "virtualAddress")?,
@@ -75,7 +75,7 @@ impl Object for Required {
         &["logical", "virtualAddress", "size", "rights"]
     }
 
-    fn read_fields(alloc: Global, value: &Value) -> Result<Required, ReadEnd> {
+    fn read_fields(alloc: Global, value: &Value) -> Result<Required, ReadError> {
         Ok(Required {
             logical: required(alloc, value, "logical")?,
             virtual_address: required(alloc, value, "virtualAddress")?,
@@ -102,7 +102,7 @@ impl Object for ComponentChannel {
         ]
     }
 
-    fn read_fields(alloc: Global, value: &Value) -> Result<ComponentChannel, ReadEnd> {
+    fn read_fields(alloc: Global, value: &Value) -> Result<ComponentChannel, ReadError> {
         Ok(ComponentChannel {
             logical: required(alloc, value, "logical")?,
             role: required(alloc, value, "role")?,

@@ -1,5 +1,5 @@
 //! Devices with their resources, and the domains that confine them.
-use crate::fault::ReadEnd;
+use crate::fault::ReadError;
 use crate::object::{Object, if_present, list, required};
 use policy_types::source::{Bdf, Device, DeviceMemory, Domain, Irq, Ports};
 use serde_json::Value;
@@ -15,7 +15,7 @@ impl Object for Device {
         &["name", "memory", "ioPorts", "irqs", "bdf"]
     }
 
-    fn read_fields(alloc: Global, value: &Value) -> Result<Device, ReadEnd> {
+    fn read_fields(alloc: Global, value: &Value) -> Result<Device, ReadError> {
         Ok(Device {
             name: required(alloc, value, "name")?,
             memory: list(alloc, value, "memory")?,
@@ -36,7 +36,7 @@ impl Object for DeviceMemory {
         &["name", "physicalAddress", "size"]
     }
 
-    fn read_fields(alloc: Global, value: &Value) -> Result<DeviceMemory, ReadEnd> {
+    fn read_fields(alloc: Global, value: &Value) -> Result<DeviceMemory, ReadError> {
         Ok(DeviceMemory {
             name: required(alloc, value, "name")?,
             physical_address: required(alloc, value, "physicalAddress")?,
@@ -55,7 +55,7 @@ impl Object for Ports {
         &["name", "start", "end"]
     }
 
-    fn read_fields(alloc: Global, value: &Value) -> Result<Ports, ReadEnd> {
+    fn read_fields(alloc: Global, value: &Value) -> Result<Ports, ReadError> {
         Ok(Ports {
             name: required(alloc, value, "name")?,
             start: required(alloc, value, "start")?,
@@ -74,7 +74,7 @@ impl Object for Irq {
         &["name"]
     }
 
-    fn read_fields(alloc: Global, value: &Value) -> Result<Irq, ReadEnd> {
+    fn read_fields(alloc: Global, value: &Value) -> Result<Irq, ReadError> {
         Ok(Irq {
             name: required(alloc, value, "name")?,
         })
@@ -91,7 +91,7 @@ impl Object for Bdf {
         &["bus", "device", "function"]
     }
 
-    fn read_fields(alloc: Global, value: &Value) -> Result<Bdf, ReadEnd> {
+    fn read_fields(alloc: Global, value: &Value) -> Result<Bdf, ReadError> {
         Ok(Bdf {
             bus: required(alloc, value, "bus")?,
             device: required(alloc, value, "device")?,
@@ -110,7 +110,7 @@ impl Object for Domain {
         &["name", "devices", "memory"]
     }
 
-    fn read_fields(alloc: Global, value: &Value) -> Result<Domain, ReadEnd> {
+    fn read_fields(alloc: Global, value: &Value) -> Result<Domain, ReadError> {
         Ok(Domain {
             name: required(alloc, value, "name")?,
             devices: list(alloc, value, "devices")?,

@@ -3,7 +3,7 @@ ghost use Rattle.std.specs.Prelude.{◌≡◌};
 ghost use Rattle.serde_json.specs.View.{view};
 ghost use Rattle.policy_json.specs.Table.{is_call_or_trap, way_of};
 
-use crate::fault::ReadEnd;
+use crate::fault::ReadError;
 use crate::object::{Object, has, if_present, require, required};
 use policy_types::Want;
 use policy_types::source::{Event, EventSource, EventTarget, SourceWay};
@@ -20,7 +20,7 @@ impl Object for Event {
         &["name", "mode"]
     }
 
-    fn read_fields(alloc: Global, value: &Value) -> Result<Event, ReadEnd> {
+    fn read_fields(alloc: Global, value: &Value) -> Result<Event, ReadError> {
         Ok(Event {
             name: required(alloc, value, "name")?,
             mode: required(alloc, value, "mode")?,
@@ -54,7 +54,7 @@ impl Object for EventSource {
         &["event", "call", "trap"]
     }
 
-    fn read_fields(alloc: Global, value: &Value) -> Result<EventSource, ReadEnd> {
+    fn read_fields(alloc: Global, value: &Value) -> Result<EventSource, ReadError> {
         require(alloc, is_call_or_trap(value), Want::CallOrTrap)?;
         let event = required(alloc, value, "event")?;
         let call = if_present(alloc, value, "call")?;
@@ -76,7 +76,7 @@ impl Object for EventTarget {
         &["event", "vector"]
     }
 
-    fn read_fields(alloc: Global, value: &Value) -> Result<EventTarget, ReadEnd> {
+    fn read_fields(alloc: Global, value: &Value) -> Result<EventTarget, ReadError> {
         Ok(EventTarget {
             event: required(alloc, value, "event")?,
             vector: if_present(alloc, value, "vector")?,

@@ -8,19 +8,19 @@ use std::alloc::Global;
 
 /// Why a value was not read.
 #[derive(Drop)]
-pub enum ReadEnd {
+pub enum ReadError {
     /// It is not as wanted, first at this place, as seen from the value.
     Fault(Fault),
     /// Memory was refused.
     NoMemory,
 }
 
-impl ReadEnd {
+impl ReadError {
     /// The value itself is not as wanted. It takes no memory.
-    pub fn here(alloc: Global, want: Want) -> ReadEnd
-        ensures { result ≡ ReadEnd.Fault (record { place = []; want = want }) }
+    pub fn here(alloc: Global, want: Want) -> ReadError
+        ensures { result ≡ ReadError.Fault (record { place = []; want = want }) }
     {
-        ReadEnd::Fault(Fault {
+        ReadError::Fault(Fault {
             place: Place::of(String::new(alloc)),
             want,
         })
@@ -28,25 +28,25 @@ impl ReadEnd {
 
     /// The same end, seen from one step further up: the step is the key or item number that leads
     /// to the value.
-    pub fn under(self, step: &str) -> ReadEnd
-        ensures { Explains ReadEnd.NoMemory (Some (end_under step.now self)) result }
+    pub fn under(self, step: &str) -> ReadError
+        ensures { Explains ReadError.NoMemory (Some (end_under step.now self)) result }
     {
         match self {
-            ReadEnd::NoMemory => ReadEnd::NoMemory,
-            ReadEnd::Fault(Fault { place, want }) => match place.under(step) {
-                Ok(place) => ReadEnd::Fault(Fault { place, want }),
-                Err(_) => ReadEnd::NoMemory,
+            ReadError::NoMemory => ReadError::NoMemory,
+            ReadError::Fault(Fault { place, want }) => match place.under(step) {
+                Ok(place) => ReadError::Fault(Fault { place, want }),
+                Err(_) => ReadError::NoMemory,
             },
         }
     }
 }
 
 /// What was found in a value, or that the value is not as wanted.
-pub fn or_want<T>(alloc: Global, found: Option<T>, want: Want) -> Result<T, ReadEnd>
+pub fn or_want<T>(alloc: Global, found: Option<T>, want: Want) -> Result<T, ReadError>
     ensures { result ≡ ended (or_want want found) }
 {
     match found {
         Some(x) => Ok(x),
-        None => Err(ReadEnd::here(alloc, want)),
+        None => Err(ReadError::here(alloc, want)),
     }
 }

@@ -17,7 +17,7 @@ mod subjects;
 mod system;
 mod values;
 
-use crate::fault::ReadEnd;
+use crate::fault::ReadError;
 use crate::shape::Shape;
 use policy_types::{Fault, Refusal, Source};
 use serde_json::Value;
@@ -38,7 +38,7 @@ pub fn read(alloc: Global, bytes: &[u8]) -> Result<Source, Refusal>
     };
     match Source::read(alloc, &value) {
         Ok(source) => Ok(source),
-        Err(ReadEnd::Fault(Fault { place, want })) => Err(Refusal::Shape { place, want }),
-        Err(ReadEnd::NoMemory) => Err(Refusal::NoMemory),
+        Err(ReadError::Fault(Fault { place, want })) => Err(Refusal::Shape { place, want }),
+        Err(ReadError::NoMemory) => Err(Refusal::NoMemory),
     }
 }

@@ -3,7 +3,7 @@ ghost use Rattle.std.specs.Prelude.{◌≡◌};
 ghost use Rattle.serde_json.specs.View.{view};
 ghost use Rattle.policy_json.specs.Table.{content_of, is_one_content};
 
-use crate::fault::ReadEnd;
+use crate::fault::ReadError;
 use crate::object::{Object, has, if_present, list, optional, require, required};
 use crate::values::Hexadecimal;
 use muen_num::Name;
@@ -23,7 +23,7 @@ impl Object for Block {
         &["name", "physicalAddress", "size"]
     }
 
-    fn read_fields(alloc: Global, value: &Value) -> Result<Block, ReadEnd> {
+    fn read_fields(alloc: Global, value: &Value) -> Result<Block, ReadError> {
         Ok(Block {
             name: required(alloc, value, "name")?,
             physical_address: required(alloc, value, "physicalAddress")?,
@@ -82,7 +82,7 @@ impl Object for Content {
         &["fill", "hex", "file", "offset", "length"]
     }
 
-    fn read_fields(alloc: Global, value: &Value) -> Result<Content, ReadEnd> {
+    fn read_fields(alloc: Global, value: &Value) -> Result<Content, ReadError> {
         require(alloc, is_one_content(value), Want::OneContent)?;
         let fill = if_present(alloc, value, "fill")?;
         let hex = if_present(alloc, value, "hex")?;
@@ -111,7 +111,7 @@ impl Object for Region {
         ]
     }
 
-    fn read_fields(alloc: Global, value: &Value) -> Result<Region, ReadEnd> {
+    fn read_fields(alloc: Global, value: &Value) -> Result<Region, ReadError> {
         Ok(Region {
             name: required(alloc, value, "name")?,
             size: required(alloc, value, "size")?,

@@ -8,7 +8,7 @@ ghost use Rattle.policy_json.specs.Values.{fault, read_list};
 ghost use Rattle.policy_json.specs.Objects.{description, has_known, read_known, read_required, read_optional, read_if_present};
 ghost use Rattle.policy_json.specs.Reading.{ended, Gives};
 
-use crate::fault::ReadEnd;
+use crate::fault::ReadError;
 use crate::shape::Shape;
 use muen_num::Seq;
 use policy_types::Want;
@@ -29,7 +29,7 @@ pub trait Object: Drop {
         ensures { map (λ k. k.now) result.now ≡ object.keys };
 
     /// Reads the values under the keys, in their order.
-    fn read_fields(alloc: Global, value: &Value) -> Result<Self, ReadEnd>
+    fn read_fields(alloc: Global, value: &Value) -> Result<Self, ReadError>
     where
         Self: Sized,
         ensures { Gives (object.read (view value.now)) result };
@@ -41,7 +41,7 @@ impl<T: Object> Shape for T {
     ghost reads = { read_object T.object };
 
     #[tactic(auto, unfolding(crate::specs::Objects::read_object))]
-    fn read(alloc: Global, value: &Value) -> Result<T, ReadEnd> {
+    fn read(alloc: Global, value: &Value) -> Result<T, ReadError> {
         read_known(alloc, value, T::keys())?;
         T::read_fields(alloc, value)
     }
@@ -80,30 +80,30 @@ pub fn has(value: &Value, key: &str) -> bool
 }
 
 /// That the value itself is as wanted, where it is.
-pub fn require(alloc: Global, is_so: bool, want: Want) -> Result<(), ReadEnd>
+pub fn require(alloc: Global, is_so: bool, want: Want) -> Result<(), ReadError>
     ensures { result ≡ ended (if is_so then Ok tt else fault [] want) }
 {
     if is_so {
         Ok(())
     } else {
-        Err(ReadEnd::here(alloc, want))
+        Err(ReadError::here(alloc, want))
     }
 }
 
 // An object with no key but these and `description`.
 #[tactic(auto, unfolding(crate::specs::Objects::read_known))]
-fn read_known(alloc: Global, value: &Value, keys: &[&str]) -> Result<(), ReadEnd>
+fn read_known(alloc: Global, value: &Value, keys: &[&str]) -> Result<(), ReadError>
     ensures { result ≡ ended (read_known (map (λ k. k.now) keys.now) (view value.now)) }
 {
     match value.as_object() {
-        None => Err(ReadEnd::here(alloc, Want::Object)),
+        None => Err(ReadError::here(alloc, Want::Object)),
         Some(members) => require(alloc, has_known(members, keys), Want::KnownKeys),
     }
 }
 
 /// The value under a key, if the key is there.
 #[tactic(auto, unfolding(crate::specs::Objects::read_if_present))]
-pub fn if_present<T: Shape>(alloc: Global, value: &Value, key: &str) -> Result<Option<T>, ReadEnd>
+pub fn if_present<T: Shape>(alloc: Global, value: &Value, key: &str) -> Result<Option<T>, ReadError>
     ensures { Gives (read_if_present key.now T.reads (view value.now)) result }
 {
     match value.get(key) {
@@ -117,25 +117,25 @@ pub fn if_present<T: Shape>(alloc: Global, value: &Value, key: &str) -> Result<O
 
 /// The value under a key that has to be there.
 #[tactic(auto, unfolding(crate::specs::Objects::read_required))]
-pub fn required<T: Shape>(alloc: Global, value: &Value, key: &str) -> Result<T, ReadEnd>
+pub fn required<T: Shape>(alloc: Global, value: &Value, key: &str) -> Result<T, ReadError>
     ensures { Gives (read_required key.now T.reads (view value.now)) result }
 {
     match if_present(alloc, value, key)? {
         Some(x) => Ok(x),
-        None => Err(ReadEnd::here(alloc, Want::Present).under(key)),
+        None => Err(ReadError::here(alloc, Want::Present).under(key)),
     }
 }
 
 /// The value under a key, or the default where the key is absent.
 #[tactic(auto, unfolding(crate::specs::Objects::read_optional))]
-pub fn optional<T: Shape>(alloc: Global, value: &Value, key: &str, default: T) -> Result<T, ReadEnd>
+pub fn optional<T: Shape>(alloc: Global, value: &Value, key: &str, default: T) -> Result<T, ReadError>
     ensures { Gives (read_optional key.now default T.reads (view value.now)) result }
 {
     Ok(if_present(alloc, value, key)?.unwrap_or(default))
 }
 
 /// The list under a key, or the empty list where the key is absent.
-pub fn list<T: Shape>(alloc: Global, value: &Value, key: &str) -> Result<Seq<T>, ReadEnd>
+pub fn list<T: Shape>(alloc: Global, value: &Value, key: &str) -> Result<Seq<T>, ReadError>
     ensures { Gives (read_optional key.now [] (read_list T.reads) (view value.now)) result }
 {
     optional(alloc, value, key, Seq::new(alloc))

@@ -1,5 +1,5 @@
 //! The scheduling plan: groups, frames within frames, and who chooses them.
-use crate::fault::ReadEnd;
+use crate::fault::ReadError;
 use crate::object::{Object, if_present, list, required};
 use policy_types::source::{CpuFrames, Group, MajorFrame, MinorFrame, Scheduling, Tau0};
 use serde_json::Value;
@@ -15,7 +15,7 @@ impl Object for Scheduling {
         &["groups", "majorFrames", "tau0"]
     }
 
-    fn read_fields(alloc: Global, value: &Value) -> Result<Scheduling, ReadEnd> {
+    fn read_fields(alloc: Global, value: &Value) -> Result<Scheduling, ReadError> {
         Ok(Scheduling {
             groups: list(alloc, value, "groups")?,
             major_frames: list(alloc, value, "majorFrames")?,
@@ -34,7 +34,7 @@ impl Object for Tau0 {
         &["subject", "region"]
     }
 
-    fn read_fields(alloc: Global, value: &Value) -> Result<Tau0, ReadEnd> {
+    fn read_fields(alloc: Global, value: &Value) -> Result<Tau0, ReadError> {
         Ok(Tau0 {
             subject: required(alloc, value, "subject")?,
             region: required(alloc, value, "region")?,
@@ -52,7 +52,7 @@ impl Object for Group {
         &["name", "cpu", "subjects"]
     }
 
-    fn read_fields(alloc: Global, value: &Value) -> Result<Group, ReadEnd> {
+    fn read_fields(alloc: Global, value: &Value) -> Result<Group, ReadError> {
         Ok(Group {
             name: required(alloc, value, "name")?,
             cpu: required(alloc, value, "cpu")?,
@@ -71,7 +71,7 @@ impl Object for MajorFrame {
         &["cpus"]
     }
 
-    fn read_fields(alloc: Global, value: &Value) -> Result<MajorFrame, ReadEnd> {
+    fn read_fields(alloc: Global, value: &Value) -> Result<MajorFrame, ReadError> {
         Ok(MajorFrame {
             cpus: list(alloc, value, "cpus")?,
         })
@@ -88,7 +88,7 @@ impl Object for CpuFrames {
         &["cpu", "minorFrames"]
     }
 
-    fn read_fields(alloc: Global, value: &Value) -> Result<CpuFrames, ReadEnd> {
+    fn read_fields(alloc: Global, value: &Value) -> Result<CpuFrames, ReadError> {
         Ok(CpuFrames {
             cpu: required(alloc, value, "cpu")?,
             minor_frames: list(alloc, value, "minorFrames")?,
@@ -106,7 +106,7 @@ impl Object for MinorFrame {
         &["group", "ticks"]
     }
 
-    fn read_fields(alloc: Global, value: &Value) -> Result<MinorFrame, ReadEnd> {
+    fn read_fields(alloc: Global, value: &Value) -> Result<MinorFrame, ReadError> {
         Ok(MinorFrame {
             group: required(alloc, value, "group")?,
             ticks: required(alloc, value, "ticks")?,

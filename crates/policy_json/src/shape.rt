@@ -4,7 +4,7 @@ ghost use Rattle.serde_json.specs.View.{view, items_view};
 ghost use Rattle.policy_json.specs.Values.{read_list, read_items};
 ghost use Rattle.policy_json.specs.Reading.{Gives};
 
-use crate::fault::ReadEnd;
+use crate::fault::ReadError;
 use itoa::Buffer;
 use muen_num::Seq;
 use policy_types::Want;
@@ -19,14 +19,14 @@ pub trait Shape: Drop {
     ghost reads: { Data → Result Self Fault };
 
     /// Reads a value.
-    fn read(alloc: Global, value: &Value) -> Result<Self, ReadEnd>
+    fn read(alloc: Global, value: &Value) -> Result<Self, ReadError>
     where
         Self: Sized,
         ensures { Gives (reads (view value.now)) result };
 }
 
 #[tactic(auto, using(crate::proofs::ItemsRead::fronts))]
-fn read_items<T: Shape>(alloc: Global, items: &[Value]) -> Result<Seq<T>, ReadEnd>
+fn read_items<T: Shape>(alloc: Global, items: &[Value]) -> Result<Seq<T>, ReadError>
     ensures { Gives (read_items T.reads 0 (items_view items.now)) result }
 {
     let mut list = Seq::new(alloc);
@@ -35,7 +35,7 @@ fn read_items<T: Shape>(alloc: Global, items: &[Value]) -> Result<Seq<T>, ReadEn
         match T::read(alloc, &items[i]) {
             Ok(x) => {
                 if list.push(x).is_err() {
-                    return Err(ReadEnd::NoMemory);
+                    return Err(ReadError::NoMemory);
                 }
             }
             Err(end) => return Err(end.under(buffer.format(i))),
@@ -48,9 +48,9 @@ impl<T: Shape> Shape for Seq<T> {
     ghost reads = { read_list T.reads };
 
     #[tactic(auto, unfolding(crate::specs::Values::read_list))]
-    fn read(alloc: Global, value: &Value) -> Result<Seq<T>, ReadEnd> {
+    fn read(alloc: Global, value: &Value) -> Result<Seq<T>, ReadError> {
         match value.as_array() {
-            None => Err(ReadEnd::here(alloc, Want::List)),
+            None => Err(ReadError::here(alloc, Want::List)),
             Some(items) => read_items(alloc, items),
         }
     }

@@ -1,5 +1,5 @@
 //! Subjects, and what each is granted.
-use crate::fault::ReadEnd;
+use crate::fault::ReadError;
 use crate::object::{Object, if_present, list, required};
 use policy_types::source::{
     ChannelUse, ComponentUse, DeviceMapping, DeviceUse, IrqUse, MapEntry, Mapping, Monitor, Msrs,
@@ -30,7 +30,7 @@ impl Object for Subject {
         ]
     }
 
-    fn read_fields(alloc: Global, value: &Value) -> Result<Subject, ReadEnd> {
+    fn read_fields(alloc: Global, value: &Value) -> Result<Subject, ReadError> {
         Ok(Subject {
             name: required(alloc, value, "name")?,
             cpu: required(alloc, value, "cpu")?,
@@ -57,7 +57,7 @@ impl Object for ComponentUse {
         &["ref", "map"]
     }
 
-    fn read_fields(alloc: Global, value: &Value) -> Result<ComponentUse, ReadEnd> {
+    fn read_fields(alloc: Global, value: &Value) -> Result<ComponentUse, ReadError> {
         Ok(ComponentUse {
             used: required(alloc, value, "ref")?,
             map: list(alloc, value, "map")?,
@@ -75,7 +75,7 @@ impl Object for MapEntry {
         &["logical", "physical", "rights"]
     }
 
-    fn read_fields(alloc: Global, value: &Value) -> Result<MapEntry, ReadEnd> {
+    fn read_fields(alloc: Global, value: &Value) -> Result<MapEntry, ReadError> {
         Ok(MapEntry {
             logical: required(alloc, value, "logical")?,
             physical: required(alloc, value, "physical")?,
@@ -94,7 +94,7 @@ impl Object for Mapping {
         &["region", "virtualAddress", "rights"]
     }
 
-    fn read_fields(alloc: Global, value: &Value) -> Result<Mapping, ReadEnd> {
+    fn read_fields(alloc: Global, value: &Value) -> Result<Mapping, ReadError> {
         Ok(Mapping {
             region: required(alloc, value, "region")?,
             virtual_address: required(alloc, value, "virtualAddress")?,
@@ -113,7 +113,7 @@ impl Object for ChannelUse {
         &["channel", "role", "virtualAddress", "call", "vector"]
     }
 
-    fn read_fields(alloc: Global, value: &Value) -> Result<ChannelUse, ReadEnd> {
+    fn read_fields(alloc: Global, value: &Value) -> Result<ChannelUse, ReadError> {
         Ok(ChannelUse {
             channel: required(alloc, value, "channel")?,
             role: required(alloc, value, "role")?,
@@ -134,7 +134,7 @@ impl Object for DeviceUse {
         &["device", "memory", "ioPorts", "irqs"]
     }
 
-    fn read_fields(alloc: Global, value: &Value) -> Result<DeviceUse, ReadEnd> {
+    fn read_fields(alloc: Global, value: &Value) -> Result<DeviceUse, ReadError> {
         Ok(DeviceUse {
             device: required(alloc, value, "device")?,
             memory: list(alloc, value, "memory")?,
@@ -154,7 +154,7 @@ impl Object for DeviceMapping {
         &["memory", "virtualAddress", "rights"]
     }
 
-    fn read_fields(alloc: Global, value: &Value) -> Result<DeviceMapping, ReadEnd> {
+    fn read_fields(alloc: Global, value: &Value) -> Result<DeviceMapping, ReadError> {
         Ok(DeviceMapping {
             memory: required(alloc, value, "memory")?,
             virtual_address: required(alloc, value, "virtualAddress")?,
@@ -173,7 +173,7 @@ impl Object for IrqUse {
         &["irq", "vector"]
     }
 
-    fn read_fields(alloc: Global, value: &Value) -> Result<IrqUse, ReadEnd> {
+    fn read_fields(alloc: Global, value: &Value) -> Result<IrqUse, ReadError> {
         Ok(IrqUse {
             irq: required(alloc, value, "irq")?,
             vector: required(alloc, value, "vector")?,
@@ -191,7 +191,7 @@ impl Object for Msrs {
         &["start", "end", "rights"]
     }
 
-    fn read_fields(alloc: Global, value: &Value) -> Result<Msrs, ReadEnd> {
+    fn read_fields(alloc: Global, value: &Value) -> Result<Msrs, ReadError> {
         Ok(Msrs {
             start: required(alloc, value, "start")?,
             end: required(alloc, value, "end")?,
@@ -210,7 +210,7 @@ impl Object for Monitor {
         &["subject", "virtualAddress", "rights"]
     }
 
-    fn read_fields(alloc: Global, value: &Value) -> Result<Monitor, ReadEnd> {
+    fn read_fields(alloc: Global, value: &Value) -> Result<Monitor, ReadError> {
         Ok(Monitor {
             subject: required(alloc, value, "subject")?,
             virtual_address: required(alloc, value, "virtualAddress")?,

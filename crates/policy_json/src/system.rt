@@ -1,5 +1,5 @@
 //! A system and its processor.
-use crate::fault::ReadEnd;
+use crate::fault::ReadError;
 use crate::object::{Object, list, required};
 use policy_types::Source;
 use policy_types::source::Processor;
@@ -16,7 +16,7 @@ impl Object for Processor {
         &["logicalCpus"]
     }
 
-    fn read_fields(alloc: Global, value: &Value) -> Result<Processor, ReadEnd> {
+    fn read_fields(alloc: Global, value: &Value) -> Result<Processor, ReadError> {
         Ok(Processor {
             logical_cpus: required(alloc, value, "logicalCpus")?,
         })
@@ -44,7 +44,7 @@ impl Object for Source {
         ]
     }
 
-    fn read_fields(alloc: Global, value: &Value) -> Result<Source, ReadEnd> {
+    fn read_fields(alloc: Global, value: &Value) -> Result<Source, ReadError> {
         Ok(Source {
             processor: required(alloc, value, "processor")?,
             memory_blocks: list(alloc, value, "memoryBlocks")?,

@@ -4,9 +4,9 @@ ghost use Rattle.serde_json.specs.View.{view};
 ghost use Rattle.policy_json.specs.Reading.{ended};
 ghost use Rattle.policy_json.specs.Values.{read_byte, read_caching, read_hexadecimal, read_mode, read_msr_rights, read_name, read_number, read_rights, read_role};
 
-use crate::fault::{ReadEnd, or_want};
+use crate::fault::{ReadError, or_want};
 use crate::shape::Shape;
-use muen_num::{Mode, Name, Seq};
+use muen_num::{EventMode, Name, Seq};
 use policy_types::{Caching, MsrRights, Rights, Role, Want};
 use policy_values::{
     byte_of, caching_of, hexadecimal_of, mode_of, msr_rights_of, name_of, number_of, rights_of,
@@ -20,7 +20,7 @@ impl Shape for u64 {
     ghost reads = { read_number };
 
     #[tactic(auto, unfolding(crate::specs::Values::read_number))]
-    fn read(alloc: Global, value: &Value) -> Result<u64, ReadEnd>
+    fn read(alloc: Global, value: &Value) -> Result<u64, ReadError>
         ensures { result ≡ ended (read_number (view value.now)) }
     {
         or_want(alloc, number_of(value), Want::Number)
@@ -31,7 +31,7 @@ impl Shape for u8 {
     ghost reads = { read_byte };
 
     #[tactic(auto, unfolding(crate::specs::Values::read_byte))]
-    fn read(alloc: Global, value: &Value) -> Result<u8, ReadEnd>
+    fn read(alloc: Global, value: &Value) -> Result<u8, ReadError>
         ensures { result ≡ ended (read_byte (view value.now)) }
     {
         or_want(alloc, byte_of(value), Want::Byte)
@@ -42,7 +42,7 @@ impl Shape for Name {
     ghost reads = { read_name };
 
     #[tactic(auto, unfolding(crate::specs::Values::read_name))]
-    fn read(alloc: Global, value: &Value) -> Result<Name, ReadEnd>
+    fn read(alloc: Global, value: &Value) -> Result<Name, ReadError>
         ensures { result ≡ ended (read_name (view value.now)) }
     {
         or_want(alloc, name_of(value), Want::Name)
@@ -53,7 +53,7 @@ impl Shape for Rights {
     ghost reads = { read_rights };
 
     #[tactic(auto, unfolding(crate::specs::Values::read_rights))]
-    fn read(alloc: Global, value: &Value) -> Result<Rights, ReadEnd>
+    fn read(alloc: Global, value: &Value) -> Result<Rights, ReadError>
         ensures { result ≡ ended (read_rights (view value.now)) }
     {
         or_want(alloc, rights_of(value), Want::Rights)
@@ -64,7 +64,7 @@ impl Shape for MsrRights {
     ghost reads = { read_msr_rights };
 
     #[tactic(auto, unfolding(crate::specs::Values::read_msr_rights))]
-    fn read(alloc: Global, value: &Value) -> Result<MsrRights, ReadEnd>
+    fn read(alloc: Global, value: &Value) -> Result<MsrRights, ReadError>
         ensures { result ≡ ended (read_msr_rights (view value.now)) }
     {
         or_want(alloc, msr_rights_of(value), Want::Rights)
@@ -75,18 +75,18 @@ impl Shape for Caching {
     ghost reads = { read_caching };
 
     #[tactic(auto, unfolding(crate::specs::Values::read_caching))]
-    fn read(alloc: Global, value: &Value) -> Result<Caching, ReadEnd>
+    fn read(alloc: Global, value: &Value) -> Result<Caching, ReadError>
         ensures { result ≡ ended (read_caching (view value.now)) }
     {
         or_want(alloc, caching_of(value), Want::Caching)
     }
 }
 
-impl Shape for Mode {
+impl Shape for EventMode {
     ghost reads = { read_mode };
 
     #[tactic(auto, unfolding(crate::specs::Values::read_mode))]
-    fn read(alloc: Global, value: &Value) -> Result<Mode, ReadEnd>
+    fn read(alloc: Global, value: &Value) -> Result<EventMode, ReadError>
         ensures { result ≡ ended (read_mode (view value.now)) }
     {
         or_want(alloc, mode_of(value), Want::Mode)
@@ -97,7 +97,7 @@ impl Shape for Role {
     ghost reads = { read_role };
 
     #[tactic(auto, unfolding(crate::specs::Values::read_role))]
-    fn read(alloc: Global, value: &Value) -> Result<Role, ReadEnd>
+    fn read(alloc: Global, value: &Value) -> Result<Role, ReadError>
         ensures { result ≡ ended (read_role (view value.now)) }
     {
         or_want(alloc, role_of(value), Want::Role)
@@ -123,11 +123,11 @@ impl Shape for Hexadecimal {
     ghost reads = { read_hexadecimal };
 
     #[tactic(auto, unfolding(crate::specs::Values::read_hexadecimal))]
-    fn read(alloc: Global, value: &Value) -> Result<Hexadecimal, ReadEnd> {
+    fn read(alloc: Global, value: &Value) -> Result<Hexadecimal, ReadError> {
         match hexadecimal_of(alloc, value) {
             Ok(Some(bytes)) => Ok(Hexadecimal { bytes }),
-            Ok(None) => Err(ReadEnd::here(alloc, Want::Hexadecimal)),
-            Err(_) => Err(ReadEnd::NoMemory),
+            Ok(None) => Err(ReadError::here(alloc, Want::Hexadecimal)),
+            Err(_) => Err(ReadError::NoMemory),
         }
     }
 }

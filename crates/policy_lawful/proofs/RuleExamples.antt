@@ -2,8 +2,8 @@
 use Rattle.std.proofs.Common.{◌≡◌, ℕ, List, [], ◌∷◌, refl}
 use Rattle.std.specs.Fmt.{digits}
 use Rattle.std.specs.Prelude.{Option, Some, None, codes}
-use Rattle.muen_num.specs.declared.mode.Mode.{Mode}
-use Rattle.muen_num.specs.declared.mode.Mode.TheVariants.{Asap, Async, Own, Switch}
+use Rattle.muen_num.specs.declared.mode.EventMode.{EventMode}
+use Rattle.muen_num.specs.declared.mode.EventMode.TheVariants.{Asap, Async, Own, Switch}
 use Rattle.policy_lawful.specs.Offences.{alone, two}
 use Rattle.policy_lawful.specs.Rules.{offence_1, offence_5, offence_8, offence_16, offence_17, first_overlap, window_extents}
 use Rattle.policy_lawful.specs.MoreRules.{offence_6, offence_9, offence_10, offence_11, offence_12, offence_13, offence_14, offence_15, offence_19}
@@ -90,7 +90,7 @@ abbrev end_of : Role → Option ℕ → Option ℕ → ChannelUse
 end_of role call vector =
     record { channel = codes "c"; role = role; virtual_address = 0; call = call; vector = vector }
 
-abbrev channel_of : Option Mode → Channel
+abbrev channel_of : Option EventMode → Channel
 channel_of mode = record { name = codes "c"; size = 4096; has_event = mode }
 
 channel_of_two : offence_6 (record nothing { channels = channel_of None ∷ []; subjects = ends (codes "w") (end_of Writer None None ∷ []) ∷ ends (codes "r") (end_of Reader None None ∷ []) ∷ [] }) ≡ None
@@ -115,7 +115,7 @@ raises name call = record (subject name) { sources = record { event = codes "e";
 abbrev receives : List ℕ → Option ℕ → Subject
 receives name vector = record (subject name) { targets = record { event = codes "e"; vector = vector } ∷ [] }
 
-abbrev event_between : Mode → List Subject → Source
+abbrev event_between : EventMode → List Subject → Source
 event_between mode subjects = record nothing { events = record { name = codes "e"; mode = mode } ∷ []; subjects = subjects }
 
 no_target : offence_12 (event_between Asap (raises (codes "a") 1 ∷ [])) ≡ Some (alone (codes "e"))

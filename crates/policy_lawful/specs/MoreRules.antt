@@ -4,8 +4,8 @@ use Rattle.std.specs.Prelude.{ℕ, ◌+◌, ◌==◌, ◌&&◌, ◌||◌, not, B
 use Rattle.std.specs.Option.{option_or, option_map_or}
 use Rattle.std.specs.List.{find, list_any, list_all, filter_map, flat_map, sum_by, count_by}
 use Rattle.std.specs.Str.{bytes_eq}
-use Rattle.muen_num.specs.declared.mode.Mode.{Mode}
-use Rattle.muen_num.specs.declared.mode.Mode.TheVariants.{Own, Switch}
+use Rattle.muen_num.specs.declared.mode.EventMode.{EventMode}
+use Rattle.muen_num.specs.declared.mode.EventMode.TheVariants.{Own, Switch}
 use Rattle.muen_num.specs.declared.limits.TheConstants.{FIRST_VECTOR, HIGH_MSR_FIRST, HIGH_MSR_LAST, LAST_PORT, LAST_VECTOR, LOW_MSR_LAST, MOST_CALLS}
 use Rattle.muen_num.specs.Search.{first_of, first_in, first_after, unless}
 use Rattle.policy_lawful.specs.Offences.{alone, two}
@@ -57,12 +57,12 @@ writers_of p name = filter (λ e. is_writer e.1.role) (ends_of p name)
 abbrev pub readers_of : Source → List ℕ → List (List ℕ × ChannelEnd)
 readers_of p name = filter (λ e. not (is_writer e.1.role)) (ends_of p name)
 
-abbrev pub is_switch : Mode → Bool
+abbrev pub is_switch : EventMode → Bool
 is_switch Switch = true
 is_switch _ = false
 
 -- what the mode of a channel's event, or its absence, asks of the entries
-abbrev pub fits_event : List (List ℕ × ChannelEnd) → List (List ℕ × ChannelEnd) → Option Mode → Bool
+abbrev pub fits_event : List (List ℕ × ChannelEnd) → List (List ℕ × ChannelEnd) → Option EventMode → Bool
 fits_event writers readers None =
     list_all (λ e. not (is_some e.1.call) && not (is_some e.1.vector)) (writers ++ readers)
 fits_event writers readers (Some mode) =
@@ -180,16 +180,16 @@ some_group_lists p a b =
     list_any (λ g. list_any (λ n. bytes_eq n a) g.subjects && list_any (λ n. bytes_eq n b) g.subjects) p.scheduling.groups
 
 -- which source and target an event of this mode may have
-abbrev pub fits_mode : Source → Mode → List ℕ → List ℕ → Bool
+abbrev pub fits_mode : Source → EventMode → List ℕ → List ℕ → Bool
 fits_mode p Own source target = bytes_eq source target
 fits_mode p Switch source target = not (bytes_eq source target) && some_group_lists p source target
 fits_mode p _ source target = not (bytes_eq source target)
 
-abbrev pub mode_offence : Source → Mode → List ℕ → List (List ℕ) → List (List ℕ) → Option Offence
+abbrev pub mode_offence : Source → EventMode → List ℕ → List (List ℕ) → List (List ℕ) → Option Offence
 mode_offence p mode name sources targets =
     first_in (λ s. unless (list_all (fits_mode p mode s) targets) (two name s)) sources
 
-abbrev pub channel_mode_offence : Source → Channel → Option Mode → Option Offence
+abbrev pub channel_mode_offence : Source → Channel → Option EventMode → Option Offence
 channel_mode_offence p c None = None
 channel_mode_offence p c (Some mode) =
     mode_offence p mode c.name (map (λ e. e.0) (writers_of p c.name)) (map (λ e. e.0) (readers_of p c.name))

@@ -2,8 +2,8 @@
 use Rattle.std.proofs.Common.{◌≡◌, ℕ, List, [], ◌∷◌, refl}
 use Rattle.std.specs.Prelude.{Some, None, codes}
 use Rattle.std.specs.FinMap.{get}
-use Rattle.muen_num.specs.declared.access.Kind.TheVariants.{Read, Write, Fetch}
-use Rattle.muen_num.specs.declared.mode.Mode.TheVariants.{Asap, Async}
+use Rattle.muen_num.specs.declared.access.AccessKind.TheVariants.{Read, Write, Fetch}
+use Rattle.muen_num.specs.declared.mode.EventMode.TheVariants.{Asap, Async}
 use Rattle.policy_meaning.specs.Contents.{Held, initial_bytes}
 use Rattle.policy_meaning.specs.Events.{event_of, irq_of, traps_of}
 use Rattle.policy_meaning.specs.Frames.{frames_of}

@@ -4,7 +4,7 @@ use Rattle.std.specs.Prelude.{ℕ, ◌==◌, ◌&&◌, Bool, false, List, [], �
 use Rattle.std.specs.Option.{option_or}
 use Rattle.std.specs.List.{find, filter_map, flat_map}
 use Rattle.std.specs.Str.{bytes_eq}
-use Rattle.muen_num.specs.declared.mode.Mode.{Mode}
+use Rattle.muen_num.specs.declared.mode.EventMode.{EventMode}
 use Rattle.policy_meaning.specs.Thing.{component_by}
 use Rattle.policy_meaning.specs.Windows.{entry_of}
 use Rattle.policy_types.specs.declared.rights.Role.{Role}
@@ -22,7 +22,7 @@ pub record Target : Type 0 where
 
 -- an event that a subject raises
 pub record Raised : Type 0 where
-  pub mode : Mode
+  pub mode : EventMode
   pub target : Target
 
 abbrev pub same_way : SourceWay → SourceWay → Bool

@@ -3,7 +3,7 @@
 use Rattle.std.specs.Prelude.{ℕ, ◌&&◌, Bool, true, false, List, [], ◌++◌, map, Option, Some, None}
 use Rattle.std.specs.List.{find, flat_map}
 use Rattle.std.specs.Str.{bytes_eq}
-use Rattle.muen_num.specs.declared.tag.Part.TheVariants.{Whole, Named, State}
+use Rattle.muen_num.specs.declared.tag.TagPart.TheVariants.{Whole, Named, State}
 use Rattle.muen_num.specs.declared.tag.Tag.{Tag}
 use Rattle.policy_types.specs.declared.source.Source.{Source}
 use Rattle.policy_types.specs.declared.source.Component.{Component}

@@ -3,7 +3,7 @@
 use Rattle.std.specs.Prelude.{ℕ, ◌+◌, ◌-◌, ◌&&◌, Bool, List, [], ◌++◌, map, Option, Some, None, nat_le, nat_lt, option_map, option_and_then, unwrap_or, if◌then◌else◌}
 use Rattle.std.specs.List.{find, filter_map, flat_map}
 use Rattle.std.specs.Str.{bytes_eq}
-use Rattle.muen_num.specs.declared.access.Kind.{Kind}
+use Rattle.muen_num.specs.declared.access.AccessKind.{AccessKind}
 use Rattle.muen_num.specs.declared.limits.TheConstants.{PAGE}
 use Rattle.policy_meaning.specs.Thing.{Thing, region, channel, provided, device_memory, state, component_by}
 use Rattle.policy_types.specs.Rights.{allows, no_rights, union}
@@ -97,11 +97,11 @@ pub data Access (X : Type 0) : Type 0 where
 abbrev pub holds : {X : Type 0} → Window X → ℕ → Bool
 holds w address = nat_le w.guest address && nat_lt address (w.guest + w.size)
 
-abbrev pub access_by : {X : Type 0} → Option (Window X) → ℕ → Kind → Access X
+abbrev pub access_by : {X : Type 0} → Option (Window X) → ℕ → AccessKind → Access X
 access_by None address kind = violation no_rights
 access_by (Some w) address kind =
     if allows w.rights kind then byte w.thing (address - w.guest) else violation w.rights
 
 -- what an access at a guest address below 2^48 may touch
-abbrev pub access_of : {X : Type 0} → List (Window X) → ℕ → Kind → Access X
+abbrev pub access_of : {X : Type 0} → List (Window X) → ℕ → AccessKind → Access X
 access_of windows address kind = access_by (find (λ w. holds w address) windows) address kind

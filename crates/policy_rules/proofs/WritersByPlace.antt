@@ -14,7 +14,7 @@ use Rattle.std.proofs.lemmas.Option.{slice_get_within}
 use Rattle.muen_num.proofs.Lists.{find-map, list_any-map, option_map-option_map}
 use Rattle.muen_num.proofs.SameAnswers.{first_numbered_same}
 use Rattle.muen_num.specs.Search.{first_after, first_in, unless}
-use Rattle.muen_num.specs.declared.access.Kind.TheVariants.{Write}
+use Rattle.muen_num.specs.declared.access.AccessKind.TheVariants.{Write}
 use Rattle.policy_lawful.specs.Offences.{two}
 use Rattle.policy_lawful.specs.Resolution.{IsResolved, Resolution, source_of, subject_named, subject_placed}
 use Rattle.policy_lawful.specs.Rules.{is_declared, is_sharer, maps, offence_8, other_than, sharing_offence, stranger, writes, writing_offence}

@@ -3,7 +3,7 @@ use Rattle.std.specs.Prelude.{ℕ, ◌==◌, ◌&&◌, Bool, false, List, length
 use Rattle.std.specs.Option.{option_or}
 use Rattle.std.specs.List.{list_any}
 use Rattle.std.specs.Str.{bytes_eq}
-use Rattle.muen_num.specs.declared.access.Kind.TheVariants.{Write}
+use Rattle.muen_num.specs.declared.access.AccessKind.TheVariants.{Write}
 use Rattle.muen_num.specs.Search.{unless}
 use Rattle.policy_lawful.specs.Offences.{two}
 use Rattle.policy_lawful.specs.Resolution.{Resolution}

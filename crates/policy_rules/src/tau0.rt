@@ -8,7 +8,7 @@ ghost use Rattle.policy_rules.specs.Tau0.{chooser_offence, is_chooser, is_on_nam
 ghost use Rattle.policy_views.specs.Views.{views_of};
 
 use crate::keys::Key;
-use muen_num::{Kind, Name, NoMemory};
+use muen_num::{AccessKind, Name, NoMemory};
 use policy_lawful::resolved::Subject;
 use policy_lawful::{Offence, Resolved};
 use policy_types::source::{Region, Tau0};
@@ -28,7 +28,7 @@ fn is_on_named(name: Name, view: &View) -> bool
 fn may_write(name: Name, views: &[View]) -> bool
     ensures { result ≡ list_any (may_write name) views.now }
 {
-    views.iter().any(|view| is_on_named(name, view) && view.rights.allows(Kind::Write))
+    views.iter().any(|view| is_on_named(name, view) && view.rights.allows(AccessKind::Write))
 }
 
 // Whether this subject is the one that chooses, and may write the region.

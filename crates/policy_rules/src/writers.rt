@@ -9,7 +9,7 @@ ghost use Rattle.policy_lawful.specs.Rules.{offence_8};
 ghost use Rattle.policy_rules.specs.Writers.{HasUsers, added, fault_at, not_shared, other_among, sharing_fault, stranger_among, user_of, users_fault, with_user};
 
 use crate::names::Names;
-use muen_num::{Kind, Name, NoMemory, Seq};
+use muen_num::{AccessKind, Name, NoMemory, Seq};
 use policy_lawful::resolved::Subject;
 use policy_lawful::{Offence, Resolved};
 use policy_types::source::Region;
@@ -42,7 +42,7 @@ fn note_view(users: &mut [Seq<User>], name: Name, view: &View) -> Result<(), NoM
 {
     match view.shows {
         Shown::Memory(place) => {
-            let writes = view.rights.allows(Kind::Write);
+            let writes = view.rights.allows(AccessKind::Write);
             note(users, place, User { name, writes })
         }
         _ => Ok(()),

@@ -2,7 +2,7 @@ ghost use Rattle.std.specs.Prelude.{⊤, ◌≡◌, ◌==◌, [], ◌∷◌, cod
 ghost use Rattle.policy_types.specs.Rights.{has, union, right_for, allows};
 
 use bitflags::{Flag, Flags, bitflag_items};
-use muen_num::Kind;
+use muen_num::AccessKind;
 
 /// What may be done with a window of memory: a set of reading, writing and executing, the low three
 /// bits of an EPT entry (Intel SDM volume 3, EPT).
@@ -61,18 +61,18 @@ impl Rights {
     }
 
     /// The right that a kind of access needs.
-    pub fn for_access(kind: Kind) -> Rights
+    pub fn for_access(kind: AccessKind) -> Rights
         ensures { result ≡ right_for kind }
     {
         match kind {
-            Kind::Read => Rights::READ,
-            Kind::Write => Rights::WRITE,
-            Kind::Fetch => Rights::EXECUTE,
+            AccessKind::Read => Rights::READ,
+            AccessKind::Write => Rights::WRITE,
+            AccessKind::Fetch => Rights::EXECUTE,
         }
     }
 
     /// Whether the right that a kind of access needs is among these.
-    pub fn allows(self, kind: Kind) -> bool
+    pub fn allows(self, kind: AccessKind) -> bool
         ensures { result ≡ allows self kind }
     {
         self.has(Rights::for_access(kind))

@@ -1,7 +1,7 @@
 //! The elements of a policy document. A name is read by `muen_num`'s grammar of names, a number is
 //! below 2^64, an absent list is empty, and another absent key has its default or is `None`.
 use crate::rights::{Caching, MsrRights, Rights, Role};
-use muen_num::{Mode, Name, Seq};
+use muen_num::{EventMode, Name, Seq};
 
 /// What a policy document says of a system: the elements of a Muen system policy, in this project's profile. Numbers are as in the document, and nothing is resolved or checked.
 #[derive(Drop)]
@@ -115,7 +115,7 @@ pub struct Channel {
     pub name: Name,
     /// In bytes.
     pub size: u64,
-    pub has_event: Option<Mode>,
+    pub has_event: Option<EventMode>,
 }
 
 /// A component that subjects may use.
@@ -164,7 +164,7 @@ pub struct ComponentChannel {
 #[derive(Drop)]
 pub struct Event {
     pub name: Name,
-    pub mode: Mode,
+    pub mode: EventMode,
 }
 
 /// A subject.

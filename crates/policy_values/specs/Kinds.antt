@@ -7,8 +7,8 @@ use Rattle.serde_json.specs.Data.{Data, null, boolean, number, string, array, ob
 use Rattle.serde_json.specs.Find.{as_u64, as_str}
 use Rattle.hex.specs.Hex.{decode_of}
 use Rattle.muen_num.specs.Naming.{name_of}
-use Rattle.muen_num.specs.declared.mode.Mode.{Mode}
-use Rattle.muen_num.specs.declared.mode.Mode.TheVariants.{Asap, Async, Own, Switch}
+use Rattle.muen_num.specs.declared.mode.EventMode.{EventMode}
+use Rattle.muen_num.specs.declared.mode.EventMode.TheVariants.{Asap, Async, Own, Switch}
 use Rattle.policy_types.specs.Rights.{union}
 use Rattle.policy_types.specs.declared.rights.Rights.{Rights}
 use Rattle.policy_types.specs.declared.rights.TheConstants.Rights.{READ, WRITE, EXECUTE}
@@ -78,7 +78,7 @@ caching_from text =
 abbrev pub caching_of : Data → Option Caching
 caching_of d = option_and_then caching_from (as_str d)
 
-abbrev pub mode_from : List ℕ → Option Mode
+abbrev pub mode_from : List ℕ → Option EventMode
 mode_from text =
     if bytes_eq text (codes "asap") then Some Asap
     else if bytes_eq text (codes "async") then Some Async
@@ -87,7 +87,7 @@ mode_from text =
     else None
 
 -- one of the texts asap, async, self and switch
-abbrev pub mode_of : Data → Option Mode
+abbrev pub mode_of : Data → Option EventMode
 mode_of d = option_and_then mode_from (as_str d)
 
 abbrev pub role_from : List ℕ → Option Role

@@ -4,7 +4,7 @@ ghost use Rattle.serde_json.specs.View.{view};
 ghost use Rattle.policy_values.specs.Kinds.{caching_from, caching_of, hexadecimal_of, mode_from, mode_of, msr_rights, msr_rights_from, msr_rights_of, named, rights_from, rights_of, role_from, role_of};
 
 use hex::FromHexError;
-use muen_num::{Mode, Name, NoMemory, Seq};
+use muen_num::{EventMode, Name, NoMemory, Seq};
 use policy_types::{Caching, MsrRights, Rights, Role};
 use serde_json::Value;
 use std::alloc::Global;
@@ -79,20 +79,20 @@ pub fn caching_of(value: &Value) -> Option<Caching>
     caching_from(value.as_str()?)
 }
 
-fn mode_from(text: &str) -> Option<Mode>
+fn mode_from(text: &str) -> Option<EventMode>
     ensures { result ≡ mode_from text.now }
 {
     match text {
-        "asap" => Some(Mode::Asap),
-        "async" => Some(Mode::Async),
-        "self" => Some(Mode::Own),
-        "switch" => Some(Mode::Switch),
+        "asap" => Some(EventMode::Asap),
+        "async" => Some(EventMode::Async),
+        "self" => Some(EventMode::Own),
+        "switch" => Some(EventMode::Switch),
         _ => None,
     }
 }
 
 /// The mode of an event that a value is: `asap`, `async`, `self` or `switch`.
-pub fn mode_of(value: &Value) -> Option<Mode>
+pub fn mode_of(value: &Value) -> Option<EventMode>
     ensures { result ≡ mode_of (view value.now) }
 {
     mode_from(value.as_str()?)

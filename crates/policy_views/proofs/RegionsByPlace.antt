@@ -11,7 +11,7 @@ use Rattle.std.proofs.lemmas.Option.{slice_get_within}
 use Rattle.std.proofs.lemmas.Slice.Eq.{bytes_eq-Decides}
 use Rattle.muen_num.proofs.Lists.{list_any-map}
 use Rattle.muen_num.specs.declared.limits.TheConstants.{PAGE}
-use Rattle.muen_num.specs.declared.access.Kind.TheVariants.{Write}
+use Rattle.muen_num.specs.declared.access.AccessKind.TheVariants.{Write}
 use Rattle.policy_lawful.specs.Resolution.{IsResolved, Resolution, source_of, subject_named, subject_placed}
 use Rattle.policy_lawful.specs.Rules.{maps, writes}
 use Rattle.policy_lawful.specs.declared.resolved.ComponentUse.{ComponentUse}

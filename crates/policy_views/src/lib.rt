@@ -7,5 +7,5 @@ mod view;
 mod windows;
 
 pub use channel_ends::ends;
-pub use view::{End, Shown, View};
+pub use view::{ChannelEnd, Shown, View};
 pub use windows::views;

@@ -32,7 +32,7 @@ pub struct View {
 
 /// A subject's end of a channel, its own or one of its component.
 #[derive(Clone, Copy, Debug, PartialEq, Eq)]
-pub struct End {
+pub struct ChannelEnd {
     /// The channel's place.
     pub channel: usize,
     pub role: Role,

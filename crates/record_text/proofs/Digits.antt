@@ -10,7 +10,7 @@ use Rattle.record_text.specs.Saying.{ended, within_word}
 use Rattle.record_text.specs.Words.{below, digits_from, is_badly_begun, number_below, number_of}
 use Rattle.record_text.specs.declared.fault.LineWant.{LineWant}
 use Rattle.record_text.specs.declared.fault.LineWant.TheVariants.{Number, Range}
-use Rattle.record_text.specs.declared.number.LineEnd.TheVariants.{Want}
+use Rattle.record_text.specs.declared.number.LineError.TheVariants.{Want}
 
 too_large : (n : ℕ) → 2 ^ 64 ≤ n → within_word n ≡ None
 too_large n h = grind (arith, nat_tests)

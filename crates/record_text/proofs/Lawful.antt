@@ -18,11 +18,11 @@ use Rattle.record_text.specs.Reading.{Standing, all_ascii, at_start, entry_at, n
 use Rattle.record_text.specs.Steps.{◌>>=◌, mapped}
 use Rattle.record_text.specs.Table.{Entry, input_entry, order_entry, end_entry, entry_tick}
 use Rattle.record_text.specs.Words.{lines_of}
-use Rattle.record_text.specs.declared.devices.DevicePlaces.{DevicePlaces}
+use Rattle.record_text.specs.declared.devices.RecordDevice.{RecordDevice}
 use Rattle.record_text.specs.declared.devices.Devices.{Devices}
-use Rattle.record_text.specs.declared.devices.IrqPlace.{IrqPlace}
+use Rattle.record_text.specs.declared.devices.RecordIrq.{RecordIrq}
 use Rattle.record_text.specs.declared.devices.IrqTarget.{IrqTarget}
-use Rattle.record_text.specs.declared.devices.MemoryPlace.{MemoryPlace}
+use Rattle.record_text.specs.declared.devices.RecordMemory.{RecordMemory}
 use Rattle.record_text.specs.declared.fault.RecordFault.{RecordFault}
 use Rattle.record_text.specs.declared.fault.RecordFault.TheVariants.{NoEnd}
 use Rattle.record_text.specs.declared.record.Input.TheVariants.{Port, Mem, Idle, Dma}
@@ -169,7 +169,7 @@ found_any p q (y ∷ xs) x h t =
       | false ↦ λ e. or_right (q y) (list_any q xs) (found_any p q xs x e t)
     ] h
 
-port_fits : (devices : Devices) (name : List ℕ) (port value : ℕ) (o : Option DevicePlaces) → find (λ d. bytes_eq d.name name) devices.devices ≡ o → value < 256
+port_fits : (devices : Devices) (name : List ℕ) (port value : ℕ) (o : Option RecordDevice) → find (λ d. bytes_eq d.name name) devices.devices ≡ o → value < 256
     → is_some (option_and_then (port_of port value) o) ≡ true → IsInputOf devices (unwrap_or (option_and_then (port_of port value) o) Idle)
 port_fits devices name port value None e less h = cc
 port_fits devices name port value (Some d) e less h =
@@ -179,7 +179,7 @@ port_fits devices name port value (Some d) e less h =
       | false ↦ λ has t. cc
     ] refl h
 
-bytes_fit : (devices : Devices) (name memory : List ℕ) (offset : ℕ) (bytes : List ℕ) (d : DevicePlaces) (o : Option MemoryPlace)
+bytes_fit : (devices : Devices) (name memory : List ℕ) (offset : ℕ) (bytes : List ℕ) (d : RecordDevice) (o : Option RecordMemory)
     → find (λ d. bytes_eq d.name name) devices.devices ≡ Some d → find (λ m. bytes_eq m.name memory) d.memories ≡ o → IsFew bytes
     → is_some (option_and_then (bytes_in offset bytes) o) ≡ true → IsInputOf devices (unwrap_or (option_and_then (bytes_in offset bytes) o) Idle)
 bytes_fit devices name memory offset bytes d None e f few h = cc
@@ -189,31 +189,31 @@ bytes_fit devices name memory offset bytes d (Some m) e f few h =
       | true ↦ λ fits t.
           let le = leb-true (offset + length bytes) m.bytes fits in
           let here = and_from (nat_le m.place (m.place + offset)) (nat_le (m.place + offset + length bytes) (m.place + m.bytes)) (le-leb m.place (m.place + offset) (omega arith)) (le-leb (m.place + offset + length bytes) (m.place + m.bytes) (omega (arith, le))) in
-          let within = found_any (λ m. bytes_eq m.name memory) (λ (w : MemoryPlace). nat_le w.place (m.place + offset) && nat_le (m.place + offset + length bytes) (w.place + w.bytes)) d.memories m f here in
+          let within = found_any (λ m. bytes_eq m.name memory) (λ (w : RecordMemory). nat_le w.place (m.place + offset) && nat_le (m.place + offset + length bytes) (w.place + w.bytes)) d.memories m f here in
           (found_any (λ d. bytes_eq d.name name) (λ d. list_any (λ w. nat_le w.place (m.place + offset) && nat_le (m.place + offset + length bytes) (w.place + w.bytes)) d.memories) devices.devices d e within, few.some, few.few)
       | false ↦ λ fits t. cc
     ] refl h
 
-memory_fits : (devices : Devices) (name memory : List ℕ) (offset : ℕ) (bytes : List ℕ) (o : Option DevicePlaces) → find (λ d. bytes_eq d.name name) devices.devices ≡ o → IsFew bytes
+memory_fits : (devices : Devices) (name memory : List ℕ) (offset : ℕ) (bytes : List ℕ) (o : Option RecordDevice) → find (λ d. bytes_eq d.name name) devices.devices ≡ o → IsFew bytes
     → is_some (option_and_then (memory_of memory offset bytes) o) ≡ true → IsInputOf devices (unwrap_or (option_and_then (memory_of memory offset bytes) o) Idle)
 memory_fits devices name memory offset bytes None e few h = cc
 memory_fits devices name memory offset bytes (Some d) e few h = bytes_fit devices name memory offset bytes d (find (λ m. bytes_eq m.name memory) d.memories) e refl few h
 
-raised_fits : (devices : Devices) (name irq : List ℕ) (d : DevicePlaces) (i : IrqPlace) (target : Option IrqTarget)
+raised_fits : (devices : Devices) (name irq : List ℕ) (d : RecordDevice) (i : RecordIrq) (target : Option IrqTarget)
     → find (λ d. bytes_eq d.name name) devices.devices ≡ Some d → find (λ i. bytes_eq i.name irq) d.irqs ≡ Some i → i.target ≡ target → IsInputOf devices (raised target)
 raised_fits devices name irq d i None e f g = tt
 raised_fits devices name irq d i (Some t) e f g =
     let itself : is_target t.subject t.vector (Some t) ≡ true = and_from (t.subject == t.subject) (t.vector == t.vector) (eq-eqb t.subject t.subject refl) (eq-eqb t.vector t.vector refl) in
     let here : is_target t.subject t.vector i.target ≡ true = ap (is_target t.subject t.vector) g ∙ itself in
-    let within = found_any (λ i. bytes_eq i.name irq) (λ (i : IrqPlace). is_target t.subject t.vector i.target) d.irqs i f here in
+    let within = found_any (λ i. bytes_eq i.name irq) (λ (i : RecordIrq). is_target t.subject t.vector i.target) d.irqs i f here in
     found_any (λ d. bytes_eq d.name name) (λ d. list_any (λ i. is_target t.subject t.vector i.target) d.irqs) devices.devices d e within
 
-irq_found : (devices : Devices) (name irq : List ℕ) (d : DevicePlaces) (o : Option IrqPlace) → find (λ d. bytes_eq d.name name) devices.devices ≡ Some d → find (λ i. bytes_eq i.name irq) d.irqs ≡ o
+irq_found : (devices : Devices) (name irq : List ℕ) (d : RecordDevice) (o : Option RecordIrq) → find (λ d. bytes_eq d.name name) devices.devices ≡ Some d → find (λ i. bytes_eq i.name irq) d.irqs ≡ o
     → IsInputOf devices (unwrap_or (option_map (λ i. raised i.target) o) Idle)
 irq_found devices name irq d None e f = tt
 irq_found devices name irq d (Some i) e f = raised_fits devices name irq d i i.target e f refl
 
-irq_fits : (devices : Devices) (name irq : List ℕ) (o : Option DevicePlaces) → find (λ d. bytes_eq d.name name) devices.devices ≡ o → IsInputOf devices (unwrap_or (option_and_then (irq_of irq) o) Idle)
+irq_fits : (devices : Devices) (name irq : List ℕ) (o : Option RecordDevice) → find (λ d. bytes_eq d.name name) devices.devices ≡ o → IsInputOf devices (unwrap_or (option_and_then (irq_of irq) o) Idle)
 irq_fits devices name irq None e = tt
 irq_fits devices name irq (Some d) e = irq_found devices name irq d (find (λ i. bytes_eq i.name irq) d.irqs) e refl
 

@@ -15,16 +15,16 @@ use Rattle.record_text.specs.Saying.{line_of, said}
 use Rattle.record_text.specs.Steps.{◌>>=◌, ◌>>◌, mapped}
 use Rattle.record_text.specs.Table.{Entry, input_entry, order_entry, end_entry, entry_tick, read_words}
 use Rattle.record_text.specs.Words.{words_of}
-use Rattle.record_text.specs.declared.devices.DevicePlaces.{DevicePlaces}
+use Rattle.record_text.specs.declared.devices.RecordDevice.{RecordDevice}
 use Rattle.record_text.specs.declared.devices.Devices.{Devices}
-use Rattle.record_text.specs.declared.devices.IrqPlace.{IrqPlace}
-use Rattle.record_text.specs.declared.devices.MemoryPlace.{MemoryPlace}
+use Rattle.record_text.specs.declared.devices.RecordIrq.{RecordIrq}
+use Rattle.record_text.specs.declared.devices.RecordMemory.{RecordMemory}
 use Rattle.record_text.specs.declared.devices.PortSpan.{PortSpan}
 use Rattle.record_text.specs.declared.fault.LineWant.{LineWant}
 use Rattle.record_text.specs.declared.fault.LineWant.TheVariants.{Order as OrderWant}
 use Rattle.record_text.specs.declared.fault.RecordFault.{RecordFault}
 use Rattle.record_text.specs.declared.fault.RecordFault.TheVariants.{TooMany, Line as LineFault, Back, Unknown, NoEnd, NoMemory}
-use Rattle.record_text.specs.declared.line.Line.{Line}
+use Rattle.record_text.specs.declared.line.RecordLine.{RecordLine}
 use Rattle.record_text.specs.declared.line.Says.TheVariants.{Input as InputSaid}
 use Rattle.record_text.specs.declared.made.Made.{Made}
 use Rattle.record_text.specs.declared.record.Input.{Input}
@@ -49,34 +49,34 @@ some_if : {X : Type 0} (b : Bool) (x : X) → is_some (if b then Some x else Non
 some_if true x = refl
 some_if false x = refl
 
-port_known : (port value : ℕ) (o : Option DevicePlaces) → option_map_or (has_port port) (option_map bench_device o) false ≡ is_some (option_and_then (port_of port value) o)
+port_known : (port value : ℕ) (o : Option RecordDevice) → option_map_or (has_port port) (option_map bench_device o) false ≡ is_some (option_and_then (port_of port value) o)
 port_known port value None = refl
 port_known port value (Some d) =
     list_any-map (λ (span : PortSpan). (span.start, span.end)) (λ span. nat_le span.0 port && nat_le port span.1) d.ports
     ∙ sym (some_if (list_any (is_in_span port) d.ports) _)
 
-bytes_known : (offset : ℕ) (bytes : List ℕ) (o : Option MemoryPlace)
-    → option_map_or (λ (m : List ℕ × ℕ). nat_le (offset + length bytes) m.1) (option_map (λ (m : MemoryPlace). (m.name, m.bytes)) o) false ≡ is_some (option_and_then (bytes_in offset bytes) o)
+bytes_known : (offset : ℕ) (bytes : List ℕ) (o : Option RecordMemory)
+    → option_map_or (λ (m : List ℕ × ℕ). nat_le (offset + length bytes) m.1) (option_map (λ (m : RecordMemory). (m.name, m.bytes)) o) false ≡ is_some (option_and_then (bytes_in offset bytes) o)
 bytes_known offset bytes None = refl
 bytes_known offset bytes (Some m) = sym (some_if (nat_le (offset + length bytes) m.bytes) _)
 
-memory_known : (memory : List ℕ) (offset : ℕ) (bytes : List ℕ) (o : Option DevicePlaces)
+memory_known : (memory : List ℕ) (offset : ℕ) (bytes : List ℕ) (o : Option RecordDevice)
     → option_map_or (has_bytes memory offset (length bytes)) (option_map bench_device o) false ≡ is_some (option_and_then (memory_of memory offset bytes) o)
 memory_known memory offset bytes None = refl
 memory_known memory offset bytes (Some d) =
-    ap (λ o. option_map_or (λ (m : List ℕ × ℕ). nat_le (offset + length bytes) m.1) o false) (find-map (λ (m : MemoryPlace). (m.name, m.bytes)) (λ m. bytes_eq m.0 memory) d.memories)
+    ap (λ o. option_map_or (λ (m : List ℕ × ℕ). nat_le (offset + length bytes) m.1) o false) (find-map (λ (m : RecordMemory). (m.name, m.bytes)) (λ m. bytes_eq m.0 memory) d.memories)
     ∙ bytes_known offset bytes (find (λ m. bytes_eq m.name memory) d.memories)
 
 some-map : {X Y : Type 0} (f : X → Y) (o : Option X) → is_some (option_map f o) ≡ is_some o
 some-map f None = refl
 some-map f (Some x) = refl
 
-irq_known : (irq : List ℕ) (o : Option DevicePlaces) → option_map_or (has_irq irq) (option_map bench_device o) false ≡ is_some (option_and_then (irq_of irq) o)
+irq_known : (irq : List ℕ) (o : Option RecordDevice) → option_map_or (has_irq irq) (option_map bench_device o) false ≡ is_some (option_and_then (irq_of irq) o)
 irq_known irq None = refl
 irq_known irq (Some d) =
-    ap is_some (find-map (λ (i : IrqPlace). i.name) (λ name. bytes_eq name irq) d.irqs)
-    ∙ some-map (λ (i : IrqPlace). i.name) (find (λ i. bytes_eq i.name irq) d.irqs)
-    ∙ sym (some-map (λ (i : IrqPlace). raised i.target) (find (λ i. bytes_eq i.name irq) d.irqs))
+    ap is_some (find-map (λ (i : RecordIrq). i.name) (λ name. bytes_eq name irq) d.irqs)
+    ∙ some-map (λ (i : RecordIrq). i.name) (find (λ i. bytes_eq i.name irq) d.irqs)
+    ∙ sym (some-map (λ (i : RecordIrq). raised i.target) (find (λ i. bytes_eq i.name irq) d.irqs))
 
 found_place : {X : Type 0} (p : X → Bool) (xs : List X) → nat_lt (position_or_len p xs) (length xs) ≡ is_some (find p xs)
 found_place p [] = refl
@@ -102,7 +102,7 @@ known_is devices (irq_input device irq) =
 known_is devices (dma_input device addr bytes) =
     ap is_some (find-map bench_device (λ d. bytes_eq d.name device) devices.devices)
     ∙ some-map bench_device (find (λ d. bytes_eq d.name device) devices.devices)
-    ∙ sym (found_number (λ (d : DevicePlaces). bytes_eq d.name device) devices.devices)
+    ∙ sym (found_number (λ (d : RecordDevice). bytes_eq d.name device) devices.devices)
     ∙ sym (some-map _ (position (λ d. bytes_eq d.name device) devices.devices))
 
 -- ---- one line more
@@ -155,7 +155,7 @@ unfolding entry_at
 going_on devices m n text h =
     ap (λ b. (if b then Err (TooMany n) else Ok tt) >> (in_line n (read_words devices.cpus (words_of text)) >>= ruled devices m n)) h
 
-words_made : (devices : Devices) (m : Made) (n : ℕ) (line : Line) (r : Result Entry LineWant) → said devices r ≡ Ok line
+words_made : (devices : Devices) (m : Made) (n : ℕ) (line : RecordLine) (r : Result Entry LineWant) → said devices r ≡ Ok line
     → mapped (made_with devices m) (in_line n r >>= ruled devices m n) ≡ made_line m n line
 words_made devices m n line (Ok e) h = let same : line_of devices e ≡ line = cc in rw (← same) (sym (made_is devices m n e))
 words_made devices m n line (Err want) h = cc
@@ -165,7 +165,7 @@ words_refused : (devices : Devices) (m : Made) (n : ℕ) (want : LineWant) (r : 
 words_refused devices m n want (Ok e) h = cc
 words_refused devices m n want (Err other) h = let same : other ≡ want = cc in ap (λ w. Err (LineFault n w)) same
 
-pub line_made : (devices : Devices) (m : Made) (n : ℕ) (text : List ℕ) (line : Line) → m.ended ≡ false → said devices (read_words devices.cpus (words_of text)) ≡ Ok line
+pub line_made : (devices : Devices) (m : Made) (n : ℕ) (text : List ℕ) (line : RecordLine) → m.ended ≡ false → said devices (read_words devices.cpus (words_of text)) ≡ Ok line
     → mapped (made_with devices m) (entry_at (bench_of devices) (standing_of m) n text) ≡ made_line m n line
 line_made devices m n text line h e =
     ap (mapped (made_with devices m)) (going_on devices m n text h) ∙ words_made devices m n line (read_words devices.cpus (words_of text)) e

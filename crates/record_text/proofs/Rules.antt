@@ -19,8 +19,8 @@ use Rattle.record_text.specs.declared.devices.Devices.{Devices}
 use Rattle.record_text.specs.declared.fault.LineWant.{LineWant}
 use Rattle.record_text.specs.declared.fault.LineWant.TheVariants.{Range, Hex, Count}
 use Rattle.record_text.specs.declared.fault.RecordFault.{RecordFault}
-use Rattle.record_text.specs.declared.line.Kind.{Kind}
-use Rattle.record_text.specs.declared.line.Kind.TheVariants.{Order, Port, Mem, Irq, Dma, End}
+use Rattle.record_text.specs.declared.line.LineKind.{LineKind}
+use Rattle.record_text.specs.declared.line.LineKind.TheVariants.{Order, Port, Mem, Irq, Dma, End}
 use Rattle.record_text.specs.declared.made.Made.{Made}
 use Rattle.record_text.specs.declared.record.TheConstants.{INPUT_MOST}
 use Rattle.record_text.specs.declared.record.TickOrder.{TickOrder}
@@ -188,7 +188,7 @@ end_line-Ok cpus words e h =
     let limit = tick_of-Ok w.0 t.0 t.1 in
     rw (← made) limit
 
-of_kind : (cpus : ℕ) (kind : Option Kind) (words : List (List ℕ)) (e : Entry) → line_of_kind cpus kind words ≡ Ok e → IsEntry cpus e
+of_kind : (cpus : ℕ) (kind : Option LineKind) (words : List (List ℕ)) (e : Entry) → line_of_kind cpus kind words ≡ Ok e → IsEntry cpus e
 of_kind cpus None words e h = cc
 of_kind cpus (Some Order) words e h = order_line-Ok cpus words e h
 of_kind cpus (Some Port) words e h = port_line-Ok cpus words e h

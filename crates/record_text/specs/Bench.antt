@@ -4,7 +4,7 @@ use Rattle.std.specs.Option.{option_map_or}
 use Rattle.std.specs.List.{find, list_any}
 use Rattle.std.specs.Str.{bytes_eq}
 use Rattle.record_text.specs.DeviceRecord.{NamedInput, port_input, memory_input, irq_input, dma_input}
-use Rattle.record_text.specs.declared.devices.DevicePlaces.{DevicePlaces}
+use Rattle.record_text.specs.declared.devices.RecordDevice.{RecordDevice}
 use Rattle.record_text.specs.declared.devices.Devices.{Devices}
 
 pub record BenchDevice : Type 0 where
@@ -47,7 +47,7 @@ is_known bench (dma_input device addr bytes) = is_some (device_named bench devic
 
 -- ---- the bench of a system
 
-abbrev pub bench_device : DevicePlaces → BenchDevice
+abbrev pub bench_device : RecordDevice → BenchDevice
 bench_device d = record {
   name = d.name;
   ports = map (λ span. (span.start, span.end)) d.ports;

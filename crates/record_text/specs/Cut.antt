@@ -5,8 +5,8 @@ use Rattle.record_text.specs.Words.{parts_of}
 use Rattle.record_text.specs.declared.cut.Words.{Words}
 use Rattle.record_text.specs.declared.fault.LineWant.{LineWant}
 use Rattle.record_text.specs.declared.fault.LineWant.TheVariants.{Count}
-use Rattle.record_text.specs.declared.number.LineEnd.{LineEnd}
-use Rattle.record_text.specs.declared.number.LineEnd.TheVariants.{Want}
+use Rattle.record_text.specs.declared.number.LineError.{LineError}
+use Rattle.record_text.specs.declared.number.LineError.TheVariants.{Want}
 
 -- the parts that are left: none, or at least one
 abbrev pub parts_left : ℕ → Option (Bor (List ℕ)) → List (List ℕ)
@@ -23,5 +23,5 @@ TakesWord before None after = before ≡ []
 TakesWord before (Some word) after = before ≡ word.now ∷ after
 
 -- there is another number of words than what was wanted
-abbrev pub IsMiscounted : {X : Type 0} → Result X LineWant → LineEnd → Type 0
+abbrev pub IsMiscounted : {X : Type 0} → Result X LineWant → LineError → Type 0
 IsMiscounted r end = (end ≡ Want Count) × (r ≡ Err Count)

@@ -9,7 +9,7 @@ use Rattle.record_text.specs.declared.devices.Devices.{Devices}
 use Rattle.record_text.specs.declared.fault.LineWant.TheVariants.{Order as OrderWant}
 use Rattle.record_text.specs.declared.fault.RecordFault.{RecordFault}
 use Rattle.record_text.specs.declared.fault.RecordFault.TheVariants.{Line as LineFault, Back, Unknown}
-use Rattle.record_text.specs.declared.line.Line.{Line}
+use Rattle.record_text.specs.declared.line.RecordLine.{RecordLine}
 use Rattle.record_text.specs.declared.line.Says.{Says}
 use Rattle.record_text.specs.declared.line.Says.TheVariants.{Input as InputSaid, Order as OrderSaid, End as EndSaid}
 use Rattle.record_text.specs.declared.made.Made.{Made}
@@ -57,7 +57,7 @@ made_says m n tick (InputSaid (Some input)) = Ok (with_input m tick input)
 made_says m n tick (OrderSaid cpus) = made_order m n tick cpus
 made_says m n tick EndSaid = Ok (with_end m tick)
 
-abbrev pub made_line : Made → ℕ → Line → Result Made RecordFault
+abbrev pub made_line : Made → ℕ → RecordLine → Result Made RecordFault
 made_line m n line = if nat_lt line.tick m.tick then Err (Back n) else made_says m n line.tick line.says
 
 -- ---- one line more, in names

@@ -3,10 +3,10 @@ use Rattle.std.specs.Prelude.{ℕ, ◌+◌, ◌&&◌, Bool, nat_le, List, map, l
 use Rattle.std.specs.List.{find, list_any}
 use Rattle.std.specs.Str.{bytes_eq}
 use Rattle.record_text.specs.DeviceRecord.{NamedInput, port_input, memory_input, irq_input, dma_input, DeviceRecord}
-use Rattle.record_text.specs.declared.devices.DevicePlaces.{DevicePlaces}
+use Rattle.record_text.specs.declared.devices.RecordDevice.{RecordDevice}
 use Rattle.record_text.specs.declared.devices.Devices.{Devices}
 use Rattle.record_text.specs.declared.devices.IrqTarget.{IrqTarget}
-use Rattle.record_text.specs.declared.devices.MemoryPlace.{MemoryPlace}
+use Rattle.record_text.specs.declared.devices.RecordMemory.{RecordMemory}
 use Rattle.record_text.specs.declared.devices.PortSpan.{PortSpan}
 use Rattle.record_text.specs.declared.record.Input.{Input}
 use Rattle.record_text.specs.declared.record.Input.TheVariants.{Port, Mem, Irq, Idle, Dma}
@@ -18,21 +18,21 @@ abbrev pub is_in_span : ℕ → PortSpan → Bool
 is_in_span port span = nat_le span.start port && nat_le port span.end
 
 -- a port that the device has
-abbrev pub port_of : ℕ → ℕ → DevicePlaces → Option Input
+abbrev pub port_of : ℕ → ℕ → RecordDevice → Option Input
 port_of port value d = if list_any (is_in_span port) d.ports then Some (Port port value) else None
 
 -- bytes from an offset on that lie in the memory
-abbrev pub bytes_in : ℕ → List ℕ → MemoryPlace → Option Input
+abbrev pub bytes_in : ℕ → List ℕ → RecordMemory → Option Input
 bytes_in offset bytes m = if nat_le (offset + length bytes) m.bytes then Some (Mem (m.place + offset) bytes) else None
 
-abbrev pub memory_of : List ℕ → ℕ → List ℕ → DevicePlaces → Option Input
+abbrev pub memory_of : List ℕ → ℕ → List ℕ → RecordDevice → Option Input
 memory_of memory offset bytes d = option_and_then (bytes_in offset bytes) (find (λ m. bytes_eq m.name memory) d.memories)
 
 abbrev pub raised : Option IrqTarget → Input
 raised None = Idle
 raised (Some target) = Irq target.subject target.vector
 
-abbrev pub irq_of : List ℕ → DevicePlaces → Option Input
+abbrev pub irq_of : List ℕ → RecordDevice → Option Input
 irq_of irq d = option_map (λ i. raised i.target) (find (λ i. bytes_eq i.name irq) d.irqs)
 
 -- where an input goes, if what it names is there

@@ -5,31 +5,31 @@ use Rattle.record_text.specs.Steps.{mapped}
 use Rattle.record_text.specs.Table.{Entry, input_entry, order_entry, end_entry}
 use Rattle.record_text.specs.declared.devices.Devices.{Devices}
 use Rattle.record_text.specs.declared.fault.LineWant.{LineWant}
-use Rattle.record_text.specs.declared.line.Line.{Line}
+use Rattle.record_text.specs.declared.line.RecordLine.{RecordLine}
 use Rattle.record_text.specs.declared.line.Says.TheVariants.{Input, Order, End}
-use Rattle.record_text.specs.declared.number.LineEnd.{LineEnd}
-use Rattle.record_text.specs.declared.number.LineEnd.TheVariants.{Want, NoMemory}
+use Rattle.record_text.specs.declared.number.LineError.{LineError}
+use Rattle.record_text.specs.declared.number.LineError.TheVariants.{Want, NoMemory}
 
 abbrev pub within_word : ℕ → Option ℕ
 within_word n = if nat_lt n (2 ^ 64) then Some n else None
 
 -- what is read, or the end by its first fault
-abbrev pub ended : {X : Type 0} → Result X LineWant → Result X LineEnd
+abbrev pub ended : {X : Type 0} → Result X LineWant → Result X LineError
 ended (Ok x) = Ok x
 ended (Err want) = Err (Want want)
 
 -- it is what is wanted, unless memory was refused
-abbrev pub Gives : {X : Type 0} → Result X LineWant → Result X LineEnd → Type 0
+abbrev pub Gives : {X : Type 0} → Result X LineWant → Result X LineError → Type 0
 Gives wanted (Ok x) = wanted ≡ Ok x
 Gives wanted (Err (Want want)) = wanted ≡ Err want
 Gives wanted (Err NoMemory) = Unit {0}
 
 -- what a line says, with each name found or not
-abbrev pub line_of : Devices → Entry → Line
+abbrev pub line_of : Devices → Entry → RecordLine
 line_of devices (input_entry tick input) = record { tick = tick; says = Input (placed_input devices input) }
 line_of devices (order_entry tick cpus) = record { tick = tick; says = Order cpus }
 line_of devices (end_entry tick) = record { tick = tick; says = End }
 
 -- a line of these devices, as it is read
-abbrev pub said : Devices → Result Entry LineWant → Result Line LineWant
+abbrev pub said : Devices → Result Entry LineWant → Result RecordLine LineWant
 said devices r = mapped (line_of devices) r

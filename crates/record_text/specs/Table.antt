@@ -8,8 +8,8 @@ use Rattle.record_text.specs.Steps.{◌>>=◌, ◌>>◌}
 use Rattle.record_text.specs.Words.{tick_of, number_below, hex_bytes}
 use Rattle.record_text.specs.declared.fault.LineWant.{LineWant}
 use Rattle.record_text.specs.declared.fault.LineWant.TheVariants.{Word, Count}
-use Rattle.record_text.specs.declared.line.Kind.{Kind}
-use Rattle.record_text.specs.declared.line.Kind.TheVariants.{Order, Port, Mem, Irq, Dma, End}
+use Rattle.record_text.specs.declared.line.LineKind.{LineKind}
+use Rattle.record_text.specs.declared.line.LineKind.TheVariants.{Order, Port, Mem, Irq, Dma, End}
 
 -- what a line says, with its tick
 pub data Entry : Type 0 where
@@ -114,7 +114,7 @@ end_line words = do
 -- ---- lines
 
 -- the word that a line of this kind begins with
-unfoldable pub kind_of : List ℕ → Option Kind
+unfoldable pub kind_of : List ℕ → Option LineKind
 kind_of word =
     if bytes_eq word (codes "order") then Some Order
     else if bytes_eq word (codes "port") then Some Port
@@ -124,7 +124,7 @@ kind_of word =
     else if bytes_eq word (codes "end") then Some End
     else None
 
-abbrev pub line_of_kind : ℕ → Option Kind → List (List ℕ) → Result Entry LineWant
+abbrev pub line_of_kind : ℕ → Option LineKind → List (List ℕ) → Result Entry LineWant
 line_of_kind cpus None words = Err Word
 line_of_kind cpus (Some Order) words = order_line cpus words
 line_of_kind cpus (Some Port) words = port_line words

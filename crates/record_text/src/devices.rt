@@ -10,21 +10,21 @@ pub struct Devices {
     /// How many logical CPUs there are, numbered from 0.
     pub cpus: u8,
     /// The devices, by number.
-    pub devices: Seq<DevicePlaces>,
+    pub devices: Seq<RecordDevice>,
     pub ghost few: { length devices ≤ MOST_DEVICES },
 }
 
 /// A device, with what a record may name of it. Where two of its memories or of its interrupts have
 /// one name, the first counts.
 #[derive(Debug, Drop)]
-pub struct DevicePlaces {
+pub struct RecordDevice {
     pub name: Name,
     /// Its I/O ports.
     pub ports: Seq<PortSpan>,
     /// Its memories.
-    pub memories: Seq<MemoryPlace>,
+    pub memories: Seq<RecordMemory>,
     /// Its interrupts.
-    pub irqs: Seq<IrqPlace>,
+    pub irqs: Seq<RecordIrq>,
 }
 
 /// A range of I/O ports.
@@ -38,7 +38,7 @@ pub struct PortSpan {
 
 /// A memory of a device.
 #[derive(Debug, Drop)]
-pub struct MemoryPlace {
+pub struct RecordMemory {
     pub name: Name,
     /// The physical address of its first byte.
     pub place: u64,
@@ -49,7 +49,7 @@ pub struct MemoryPlace {
 
 /// An interrupt of a device.
 #[derive(Clone, Copy, Debug, PartialEq, Eq)]
-pub struct IrqPlace {
+pub struct RecordIrq {
     pub name: Name,
     /// Where it goes; `None` where nobody has it.
     pub target: Option<IrqTarget>,

@@ -13,7 +13,7 @@ mod place;
 mod reading;
 pub mod record;
 
-pub use devices::{DevicePlaces, Devices, IrqPlace, IrqTarget, MemoryPlace, PortSpan};
+pub use devices::{RecordDevice, Devices, RecordIrq, IrqTarget, RecordMemory, PortSpan};
 pub use fault::{LineWant, RecordFault};
 pub use reading::read;
 pub use record::{INPUT_MOST, Input, Record, TickInput, TickOrder};

@@ -8,7 +8,7 @@ ghost use Rattle.record_text.specs.Words.{words_of};
 use crate::cut::Words;
 use crate::devices::Devices;
 use crate::fault::LineWant;
-use crate::number::{LineEnd, byte_of, cpu_of, hex_bytes, number, number_below, port_of, tick_of};
+use crate::number::{LineError, byte_of, cpu_of, hex_bytes, number, number_below, port_of, tick_of};
 use crate::place::{place_dma, place_irq, place_memory, place_port};
 use crate::record::Input;
 use muen_num::Seq;
@@ -17,7 +17,7 @@ use std::alloc::Global;
 
 /// What a line is about.
 #[derive(Clone, Copy, Debug, PartialEq, Eq)]
-pub(crate) enum Kind {
+pub(crate) enum LineKind {
     Order,
     Port,
     Mem,
@@ -39,33 +39,33 @@ pub(crate) enum Says {
 
 /// A line of a record.
 #[derive(Debug, Drop)]
-pub(crate) struct Line {
+pub(crate) struct RecordLine {
     pub tick: u32,
     pub says: Says,
 }
 
 // The kind of line that begins with this word.
 #[tactic(auto, unfolding(crate::specs::Table::kind_of))]
-fn kind_of(word: &[u8]) -> Option<Kind>
+fn kind_of(word: &[u8]) -> Option<LineKind>
     ensures { result ≡ kind_of word.now }
 {
     if word == b"order".as_slice() {
-        return Some(Kind::Order);
+        return Some(LineKind::Order);
     }
     if word == b"port".as_slice() {
-        return Some(Kind::Port);
+        return Some(LineKind::Port);
     }
     if word == b"mem".as_slice() {
-        return Some(Kind::Mem);
+        return Some(LineKind::Mem);
     }
     if word == b"irq".as_slice() {
-        return Some(Kind::Irq);
+        return Some(LineKind::Irq);
     }
     if word == b"dma".as_slice() {
-        return Some(Kind::Dma);
+        return Some(LineKind::Dma);
     }
     if word == b"end".as_slice() {
-        return Some(Kind::End);
+        return Some(LineKind::End);
     }
     None
 }
@@ -73,27 +73,27 @@ fn kind_of(word: &[u8]) -> Option<Kind>
 // ---- words, exactly as many
 
 // The next word.
-fn word<'a>(words: &mut Words<'a>) -> Result<&'a [u8], LineEnd>
+fn word<'a>(words: &mut Words<'a>) -> Result<&'a [u8], LineError>
     ensures ok { IfOk result (λ w. first_word (words_left words.old) ≡ Ok (w.now, words_left words.new)) }
-    ensures err { IfErr result (λ e. (e ≡ LineEnd.Want LineWant.Count) × (first_word (words_left words.old) ≡ Err LineWant.Count)) }
+    ensures err { IfErr result (λ e. (e ≡ LineError.Want LineWant.Count) × (first_word (words_left words.old) ≡ Err LineWant.Count)) }
 {
     match words.next_word() {
         Some(word) => Ok(word),
-        None => Err(LineEnd::Want(LineWant::Count)),
+        None => Err(LineError::Want(LineWant::Count)),
     }
 }
 
 // No further word.
-fn no_word(mut words: Words<'_>) -> Result<(), LineEnd>
+fn no_word(mut words: Words<'_>) -> Result<(), LineError>
     ensures { result ≡ ended (no_word (words_left words.entry)) }
 {
     match words.next_word() {
-        Some(_) => Err(LineEnd::Want(LineWant::Count)),
+        Some(_) => Err(LineError::Want(LineWant::Count)),
         None => Ok(()),
     }
 }
 
-fn one<'a>(mut words: Words<'a>) -> Result<&'a [u8], LineEnd>
+fn one<'a>(mut words: Words<'a>) -> Result<&'a [u8], LineError>
     ensures { MatchResult result (λ w. one (words_left words.entry) ≡ Ok w.now) (IsMiscounted (one (words_left words.entry))) }
 {
     let first = word(&mut words)?;
@@ -103,7 +103,7 @@ fn one<'a>(mut words: Words<'a>) -> Result<&'a [u8], LineEnd>
 
 type Three<'a> = (&'a [u8], &'a [u8], &'a [u8]);
 
-fn three<'a>(mut words: Words<'a>) -> Result<Three<'a>, LineEnd>
+fn three<'a>(mut words: Words<'a>) -> Result<Three<'a>, LineError>
     ensures { MatchResult result (λ w. three (words_left words.entry) ≡ Ok (w.0.now, w.1.now, w.2.now)) (IsMiscounted (three (words_left words.entry))) }
 {
     let first = word(&mut words)?;
@@ -115,7 +115,7 @@ fn three<'a>(mut words: Words<'a>) -> Result<Three<'a>, LineEnd>
 
 type Four<'a> = (&'a [u8], &'a [u8], &'a [u8], &'a [u8]);
 
-fn four<'a>(mut words: Words<'a>) -> Result<Four<'a>, LineEnd>
+fn four<'a>(mut words: Words<'a>) -> Result<Four<'a>, LineError>
     ensures { MatchResult result (λ w. four (words_left words.entry) ≡ Ok (w.0.now, w.1.now, w.2.now, w.3.now)) (IsMiscounted (four (words_left words.entry))) }
 {
     let first = word(&mut words)?;
@@ -128,7 +128,7 @@ fn four<'a>(mut words: Words<'a>) -> Result<Four<'a>, LineEnd>
 
 type Five<'a> = (&'a [u8], &'a [u8], &'a [u8], &'a [u8], &'a [u8]);
 
-fn five<'a>(mut words: Words<'a>) -> Result<Five<'a>, LineEnd>
+fn five<'a>(mut words: Words<'a>) -> Result<Five<'a>, LineError>
     ensures { MatchResult result (λ w. five (words_left words.entry) ≡ Ok (w.0.now, w.1.now, w.2.now, w.3.now, w.4.now)) (IsMiscounted (five (words_left words.entry))) }
 {
     let first = word(&mut words)?;
@@ -144,7 +144,7 @@ fn five<'a>(mut words: Words<'a>) -> Result<Five<'a>, LineEnd>
 
 // The CPUs that the words name, each one that there is.
 #[tactic(auto, using(crate::proofs::Orders::fronts))]
-fn cpu_numbers(alloc: Global, cpus: u8, mut words: Words<'_>) -> Result<Seq<u8>, LineEnd>
+fn cpu_numbers(alloc: Global, cpus: u8, mut words: Words<'_>) -> Result<Seq<u8>, LineError>
     ensures { Gives (cpu_numbers cpus (words_left words.entry)) result }
 {
     let mut order = Seq::new(alloc);
@@ -156,16 +156,16 @@ fn cpu_numbers(alloc: Global, cpus: u8, mut words: Words<'_>) -> Result<Seq<u8>,
 
 // `order T C1 .. Cn`, where there are n CPUs.
 #[tactic(auto, unfolding(crate::specs::Table::order_line))]
-fn order_line(alloc: Global, devices: &Devices, mut words: Words<'_>) -> Result<Line, LineEnd>
+fn order_line(alloc: Global, devices: &Devices, mut words: Words<'_>) -> Result<RecordLine, LineError>
     ensures { Gives (said devices.now (order_line devices.now.cpus (words_left words.entry))) result }
 {
     let tick = word(&mut words)?;
     if words.count() != usize::from(devices.cpus) {
-        return Err(LineEnd::Want(LineWant::Count));
+        return Err(LineError::Want(LineWant::Count));
     }
     let tick = tick_of(tick)?;
     let cpus = cpu_numbers(alloc, devices.cpus, words)?;
-    Ok(Line {
+    Ok(RecordLine {
         tick,
         says: Says::Order(cpus),
     })
@@ -173,7 +173,7 @@ fn order_line(alloc: Global, devices: &Devices, mut words: Words<'_>) -> Result<
 
 // `port T DEVICE PORT V`.
 #[tactic(auto, unfolding(crate::specs::Table::port_line))]
-fn port_line(devices: &Devices, words: Words<'_>) -> Result<Line, LineEnd>
+fn port_line(devices: &Devices, words: Words<'_>) -> Result<RecordLine, LineError>
     ensures { result ≡ ended (said devices.now (port_line (words_left words.entry))) }
 {
     let (tick, device, port, value) = four(words)?;
@@ -181,7 +181,7 @@ fn port_line(devices: &Devices, words: Words<'_>) -> Result<Line, LineEnd>
     let port = port_of(port)?;
     let value = byte_of(value)?;
     let input = place_port(devices, device, port, value);
-    Ok(Line {
+    Ok(RecordLine {
         tick,
         says: Says::Input(input),
     })
@@ -189,7 +189,7 @@ fn port_line(devices: &Devices, words: Words<'_>) -> Result<Line, LineEnd>
 
 // `mem T DEVICE MEMORY OFFSET HEX`.
 #[tactic(auto, unfolding(crate::specs::Table::mem_line))]
-fn mem_line(alloc: Global, devices: &Devices, words: Words<'_>) -> Result<Line, LineEnd>
+fn mem_line(alloc: Global, devices: &Devices, words: Words<'_>) -> Result<RecordLine, LineError>
     ensures { Gives (said devices.now (mem_line (words_left words.entry))) result }
 {
     let (tick, device, memory, offset, hex) = five(words)?;
@@ -197,7 +197,7 @@ fn mem_line(alloc: Global, devices: &Devices, words: Words<'_>) -> Result<Line, 
     let offset = number(offset)?;
     let bytes = hex_bytes(alloc, hex)?;
     let input = place_memory(devices, device, memory, offset, bytes);
-    Ok(Line {
+    Ok(RecordLine {
         tick,
         says: Says::Input(input),
     })
@@ -205,13 +205,13 @@ fn mem_line(alloc: Global, devices: &Devices, words: Words<'_>) -> Result<Line, 
 
 // `irq T DEVICE IRQ`.
 #[tactic(auto, unfolding(crate::specs::Table::irq_line))]
-fn irq_line(devices: &Devices, words: Words<'_>) -> Result<Line, LineEnd>
+fn irq_line(devices: &Devices, words: Words<'_>) -> Result<RecordLine, LineError>
     ensures { result ≡ ended (said devices.now (irq_line (words_left words.entry))) }
 {
     let (tick, device, irq) = three(words)?;
     let tick = tick_of(tick)?;
     let input = place_irq(devices, device, irq);
-    Ok(Line {
+    Ok(RecordLine {
         tick,
         says: Says::Input(input),
     })
@@ -219,7 +219,7 @@ fn irq_line(devices: &Devices, words: Words<'_>) -> Result<Line, LineEnd>
 
 // `dma T DEVICE ADDR HEX`.
 #[tactic(auto, unfolding(crate::specs::Table::dma_line))]
-fn dma_line(alloc: Global, devices: &Devices, words: Words<'_>) -> Result<Line, LineEnd>
+fn dma_line(alloc: Global, devices: &Devices, words: Words<'_>) -> Result<RecordLine, LineError>
     ensures { Gives (said devices.now (dma_line (words_left words.entry))) result }
 {
     let (tick, device, addr, hex) = four(words)?;
@@ -227,7 +227,7 @@ fn dma_line(alloc: Global, devices: &Devices, words: Words<'_>) -> Result<Line, 
     let addr = number_below(addr, GUEST_END)?;
     let bytes = hex_bytes(alloc, hex)?;
     let input = place_dma(devices, device, addr, bytes);
-    Ok(Line {
+    Ok(RecordLine {
         tick,
         says: Says::Input(input),
     })
@@ -235,11 +235,11 @@ fn dma_line(alloc: Global, devices: &Devices, words: Words<'_>) -> Result<Line, 
 
 // `end T`.
 #[tactic(auto, unfolding(crate::specs::Table::end_line))]
-fn end_line(devices: &Devices, words: Words<'_>) -> Result<Line, LineEnd>
+fn end_line(devices: &Devices, words: Words<'_>) -> Result<RecordLine, LineError>
     ensures { result ≡ ended (said devices.now (end_line (words_left words.entry))) }
 {
     let tick = tick_of(one(words)?)?;
-    Ok(Line {
+    Ok(RecordLine {
         tick,
         says: Says::End,
     })
@@ -252,32 +252,32 @@ fn end_line(devices: &Devices, words: Words<'_>) -> Result<Line, LineEnd>
 fn line_of_kind(
     alloc: Global,
     devices: &Devices,
-    kind: Kind,
+    kind: LineKind,
     words: Words<'_>,
-) -> Result<Line, LineEnd>
+) -> Result<RecordLine, LineError>
     ensures { Gives (said devices.now (line_of_kind devices.now.cpus (Some kind) (words_left words.entry))) result }
 {
     match kind {
-        Kind::Order => order_line(alloc, devices, words),
-        Kind::Port => port_line(devices, words),
-        Kind::Mem => mem_line(alloc, devices, words),
-        Kind::Irq => irq_line(devices, words),
-        Kind::Dma => dma_line(alloc, devices, words),
-        Kind::End => end_line(devices, words),
+        LineKind::Order => order_line(alloc, devices, words),
+        LineKind::Port => port_line(devices, words),
+        LineKind::Mem => mem_line(alloc, devices, words),
+        LineKind::Irq => irq_line(devices, words),
+        LineKind::Dma => dma_line(alloc, devices, words),
+        LineKind::End => end_line(devices, words),
     }
 }
 
 /// What a line says.
 #[tactic(auto, unfolding(crate::specs::Table::read_words))]
-pub(crate) fn read_line(alloc: Global, devices: &Devices, text: &[u8]) -> Result<Line, LineEnd>
+pub(crate) fn read_line(alloc: Global, devices: &Devices, text: &[u8]) -> Result<RecordLine, LineError>
     ensures { Gives (said devices.now (read_words devices.now.cpus (words_of text.now))) result }
 {
     let mut words = Words::of(text);
     let Some(first) = words.next_word() else {
-        return Err(LineEnd::Want(LineWant::Word));
+        return Err(LineError::Want(LineWant::Word));
     };
     match kind_of(first) {
         Some(kind) => line_of_kind(alloc, devices, kind, words),
-        None => Err(LineEnd::Want(LineWant::Word)),
+        None => Err(LineError::Want(LineWant::Word)),
     }
 }

@@ -6,7 +6,7 @@ ghost use Rattle.record_text.specs.Made.{IsInOrder, RisesTo, made_line, made_ord
 ghost use Rattle.record_text.specs.Reading.{are_distinct};
 
 use crate::fault::{LineWant, RecordFault};
-use crate::line::{Line, Says};
+use crate::line::{RecordLine, Says};
 use crate::record::{Input, TickInput, TickOrder};
 use muen_num::Seq;
 use std::alloc::Global;
@@ -108,11 +108,11 @@ fn with_end(mut made: Made, tick: u32) -> Made
 
 /// What was read, with one line more, or the fault of that line, where its words have none.
 #[tactic(auto, using(crate::proofs::Ticks::weaker))]
-pub(crate) fn with_line(made: Made, number: u64, line: Line) -> Result<Made, RecordFault>
+pub(crate) fn with_line(made: Made, number: u64, line: RecordLine) -> Result<Made, RecordFault>
     requires { IsInOrder made }
     ensures { Answers RecordFault.NoMemory (made_line made number line) result }
 {
-    let Line { tick, says } = line;
+    let RecordLine { tick, says } = line;
     if tick < made.tick {
         return Err(RecordFault::Back { line: number });
     }

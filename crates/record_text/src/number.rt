@@ -14,21 +14,21 @@ use std::alloc::Global;
 
 /// Why a line says nothing.
 #[derive(Clone, Copy, Debug)]
-pub(crate) enum LineEnd {
+pub(crate) enum LineError {
     /// A word isn't what it should have been.
     Want(LineWant),
     /// Memory was refused.
     NoMemory,
 }
 
-impl From<NoMemory> for LineEnd {
+impl From<NoMemory> for LineError {
     ghost use Rattle.std.specs.Prelude.{◌≡◌};
-    ghost use Rattle.record_text.specs.declared.number.LineEnd.TheVariants.{NoMemory as RanOut};
+    ghost use Rattle.record_text.specs.declared.number.LineError.TheVariants.{NoMemory as RanOut};
 
     ghost from_gives = { λ _ end. end ≡ RanOut };
 
     fn from(_: NoMemory) -> Self {
-        LineEnd::NoMemory
+        LineError::NoMemory
     }
 }
 
@@ -62,21 +62,21 @@ fn value(word: &[u8]) -> Option<u64>
 
 /// The number below 2^64 that a word spells: decimal, without leading zeros.
 #[tactic(auto, unfolding(crate::specs::Words::number_below), using(crate::proofs::Digits::numbers))]
-pub(crate) fn number(word: &[u8]) -> Result<u64, LineEnd>
+pub(crate) fn number(word: &[u8]) -> Result<u64, LineError>
     ensures { result ≡ ended (number_below (2 ^ 64) word.now) }
 {
     if is_badly_begun(word) || !has_digits_alone(word) {
-        return Err(LineEnd::Want(LineWant::Number));
+        return Err(LineError::Want(LineWant::Number));
     }
     match value(word) {
         Some(n) => Ok(n),
-        None => Err(LineEnd::Want(LineWant::Range)),
+        None => Err(LineError::Want(LineWant::Range)),
     }
 }
 
 /// The number below `end` that a word spells.
 #[tactic(auto, using(crate::proofs::Digits::narrowed))]
-pub(crate) fn number_below(word: &[u8], end: u64) -> Result<u64, LineEnd>
+pub(crate) fn number_below(word: &[u8], end: u64) -> Result<u64, LineError>
     ensures value { result ≡ ended (number_below end word.now) }
     ensures within { IfOk result (λ n. n < end) }
 {
@@ -84,34 +84,34 @@ pub(crate) fn number_below(word: &[u8], end: u64) -> Result<u64, LineEnd>
     if n < end {
         Ok(n)
     } else {
-        Err(LineEnd::Want(LineWant::Range))
+        Err(LineError::Want(LineWant::Range))
     }
 }
 
 /// The number of a tick, 0 to 100,000.
 #[tactic(auto, unfolding(crate::specs::Words::tick_of))]
-pub(crate) fn tick_of(word: &[u8]) -> Result<u32, LineEnd>
+pub(crate) fn tick_of(word: &[u8]) -> Result<u32, LineError>
     ensures { result ≡ ended (tick_of word.now) }
 {
     Ok(number_below(word, MOST_TICKS + 1)? as u32)
 }
 
 /// A number below 256.
-pub(crate) fn byte_of(word: &[u8]) -> Result<u8, LineEnd>
+pub(crate) fn byte_of(word: &[u8]) -> Result<u8, LineError>
     ensures { result ≡ ended (number_below 256 word.now) }
 {
     Ok(number_below(word, 256)? as u8)
 }
 
 /// The number of an I/O port.
-pub(crate) fn port_of(word: &[u8]) -> Result<u16, LineEnd>
+pub(crate) fn port_of(word: &[u8]) -> Result<u16, LineError>
     ensures { result ≡ ended (number_below (LAST_PORT + 1) word.now) }
 {
     Ok(number_below(word, LAST_PORT + 1)? as u16)
 }
 
 /// The number of a CPU, where there are so many.
-pub(crate) fn cpu_of(word: &[u8], cpus: u8) -> Result<u8, LineEnd>
+pub(crate) fn cpu_of(word: &[u8], cpus: u8) -> Result<u8, LineError>
     ensures { result ≡ ended (number_below cpus word.now) }
 {
     Ok(number_below(word, u64::from(cpus))? as u8)
@@ -119,15 +119,15 @@ pub(crate) fn cpu_of(word: &[u8], cpus: u8) -> Result<u8, LineEnd>
 
 /// The 1 to 64 bytes that a word of hexadecimal digits spells.
 #[tactic(auto, unfolding(crate::specs::Words::hex_bytes))]
-pub(crate) fn hex_bytes(alloc: Global, word: &[u8]) -> Result<Seq<u8>, LineEnd>
+pub(crate) fn hex_bytes(alloc: Global, word: &[u8]) -> Result<Seq<u8>, LineError>
     ensures { Gives (hex_bytes word.now) result }
 {
     if word.len() < 2 || word.len() > 2 * INPUT_MOST {
-        return Err(LineEnd::Want(LineWant::Hex));
+        return Err(LineError::Want(LineWant::Hex));
     }
     match hex::decode(alloc, word) {
         Ok(bytes) => Ok(Seq::of(bytes)),
-        Err(FromHexError::OutOfMemory) => Err(LineEnd::NoMemory),
-        Err(_) => Err(LineEnd::Want(LineWant::Hex)),
+        Err(FromHexError::OutOfMemory) => Err(LineError::NoMemory),
+        Err(_) => Err(LineError::Want(LineWant::Hex)),
     }
 }

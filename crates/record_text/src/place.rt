@@ -5,11 +5,11 @@ ghost use Rattle.std.specs.Str.{bytes_eq};
 ghost use Rattle.record_text.specs.DeviceRecord.{dma_input, irq_input, memory_input, port_input};
 ghost use Rattle.record_text.specs.Placing.{bytes_in, irq_of, is_in_span, memory_of, placed_input, port_of, raised};
 
-use crate::devices::{DevicePlaces, Devices, IrqPlace, IrqTarget, MemoryPlace, PortSpan};
+use crate::devices::{RecordDevice, Devices, RecordIrq, IrqTarget, RecordMemory, PortSpan};
 use crate::record::Input;
 use muen_num::Seq;
 
-fn device_named<'a>(devices: &'a Devices, name: &[u8]) -> Option<&'a DevicePlaces>
+fn device_named<'a>(devices: &'a Devices, name: &[u8]) -> Option<&'a RecordDevice>
     ensures { option_map (λ d. d.now) result ≡ find (λ d. bytes_eq d.name name.now) devices.now.devices }
 {
     devices
@@ -27,13 +27,13 @@ fn has_port(ports: &[PortSpan], port: u16) -> bool
         .any(|span| span.start <= port && port <= span.end)
 }
 
-fn memory_named<'a>(memories: &'a [MemoryPlace], name: &[u8]) -> Option<&'a MemoryPlace>
+fn memory_named<'a>(memories: &'a [RecordMemory], name: &[u8]) -> Option<&'a RecordMemory>
     ensures { option_map (λ m. m.now) result ≡ find (λ m. bytes_eq m.name name.now) memories.now }
 {
     memories.iter().find(|memory| memory.name.bytes() == name)
 }
 
-fn irq_named<'a>(irqs: &'a [IrqPlace], name: &[u8]) -> Option<&'a IrqPlace>
+fn irq_named<'a>(irqs: &'a [RecordIrq], name: &[u8]) -> Option<&'a RecordIrq>
     ensures { option_map (λ i. i.now) result ≡ find (λ i. bytes_eq i.name name.now) irqs.now }
 {
     irqs.iter().find(|irq| irq.name.bytes() == name)
@@ -52,7 +52,7 @@ fn device_number(devices: &Devices, name: &[u8]) -> Option<usize>
 }
 
 // Bytes from an offset on, where they lie in the memory.
-fn bytes_in(memory: &MemoryPlace, offset: u64, bytes: Seq<u8>) -> Option<Input>
+fn bytes_in(memory: &RecordMemory, offset: u64, bytes: Seq<u8>) -> Option<Input>
     ensures { result ≡ bytes_in offset bytes memory.now }
 {
     let len = bytes.len() as u64;
@@ -66,7 +66,7 @@ fn bytes_in(memory: &MemoryPlace, offset: u64, bytes: Seq<u8>) -> Option<Input>
 }
 
 // Bytes for the memory of this name.
-fn memory_of(device: &DevicePlaces, memory: &[u8], offset: u64, bytes: Seq<u8>) -> Option<Input>
+fn memory_of(device: &RecordDevice, memory: &[u8], offset: u64, bytes: Seq<u8>) -> Option<Input>
     ensures { result ≡ memory_of memory.now offset bytes device.now }
 {
     bytes_in(
@@ -87,7 +87,7 @@ fn raised(target: Option<IrqTarget>) -> Input
 }
 
 // The interrupt of this name.
-fn irq_of(device: &DevicePlaces, irq: &[u8]) -> Option<Input>
+fn irq_of(device: &RecordDevice, irq: &[u8]) -> Option<Input>
     ensures { result ≡ irq_of irq.now device.now }
 {
     let irq = irq_named(device.irqs.items(), irq)?;

@@ -15,7 +15,7 @@ use crate::devices::Devices;
 use crate::fault::RecordFault;
 use crate::line::read_line;
 use crate::made::{Made, nothing, with_line};
-use crate::number::LineEnd;
+use crate::number::LineError;
 use crate::record::Record;
 use std::alloc::Global;
 
@@ -61,8 +61,8 @@ fn add_line(
     }
     match read_line(alloc, devices, text) {
         Ok(line) => with_line(made, number, line),
-        Err(LineEnd::Want(want)) => Err(RecordFault::Line { line: number, want }),
-        Err(LineEnd::NoMemory) => Err(RecordFault::NoMemory),
+        Err(LineError::Want(want)) => Err(RecordFault::Line { line: number, want }),
+        Err(LineError::NoMemory) => Err(RecordFault::NoMemory),
     }
 }
 

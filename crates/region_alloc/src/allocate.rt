@@ -12,7 +12,7 @@ use crate::gaps::{gaps_of, left_of, lowest};
 use crate::placed::Placed;
 use crate::spot::Spot;
 use crate::turns::in_turn;
-use expand_kernel::{Plain, Region};
+use expand_kernel::{Expanded, Region};
 use muen_num::{NoMemory, Seq};
 use policy_types::Refusal;
 use policy_types::source::Block;
@@ -97,7 +97,7 @@ fn places_in(alloc: Global, blocks: &[Block], regions: &[Region]) -> Result<Seq<
 }
 
 // The addresses of a policy's regions, by number.
-fn places_of(alloc: Global, plain: &Plain) -> Result<Seq<u64>, Refusal>
+fn places_of(alloc: Global, plain: &Expanded) -> Result<Seq<u64>, Refusal>
     ensures ok { IfOk result (λ places. placement_of (source_of plain.now.lawful) ≡ Ok places) }
     ensures err { IfErr result (Explains Refusal.NoMemory (no_room (source_of plain.now.lawful))) }
 {
@@ -111,7 +111,7 @@ fn places_of(alloc: Global, plain: &Plain) -> Result<Seq<u64>, Refusal>
 ///
 /// Answers `NoRoom` with the first region for which there is no such address, and `NoMemory` where
 /// memory was refused.
-pub fn place(alloc: Global, plain: Plain) -> Result<Placed, Refusal>
+pub fn place(alloc: Global, plain: Expanded) -> Result<Placed, Refusal>
     ensures ok { IfOk result (λ p. p.plain ≡ plain) }
     ensures room { IfOk result (λ _. no_room (source_of plain.lawful) ≡ None) }
     ensures err { IfErr result (Explains Refusal.NoMemory (no_room (source_of plain.lawful))) }

@@ -4,14 +4,14 @@ ghost use Rattle.policy_lawful.specs.Resolution.{source_of};
 ghost use Rattle.region_alloc.specs.Placed.{AreDisjoint, AreInside};
 ghost use Rattle.region_alloc.specs.Placement.{placement_of};
 
-use expand_kernel::Plain;
+use expand_kernel::Expanded;
 use muen_num::Seq;
 use std::marker::Model;
 
 /// A lawful policy with all that follows from it, and the place of each region.
 #[derive(Drop)]
 pub struct Placed {
-    plain: Plain,
+    plain: Expanded,
     places: Seq<u64>,
 }
 
@@ -27,7 +27,7 @@ impl Model for Placed {
 
 impl Placed {
     // The policy with all that follows from it but places, and the address of each region.
-    pub(crate) fn of(plain: Plain, places: Seq<u64>) -> Placed
+    pub(crate) fn of(plain: Expanded, places: Seq<u64>) -> Placed
         requires { placement_of (source_of plain.lawful) ≡ Ok places }
         ensures { result.plain ≡ plain }
     {
@@ -35,7 +35,7 @@ impl Placed {
     }
 
     /// The policy with all that follows from it but places.
-    pub fn plain(&self) -> &Plain
+    pub fn plain(&self) -> &Expanded
         ensures { result.now ≡ self.now.plain }
     {
         &self.plain

@@ -8,7 +8,7 @@ use Rattle.std.proofs.lemmas.List.{length-map, get_or-map}
 use Rattle.std.proofs.lemmas.List.Folds.{list_all-append, list_all-map}
 use Rattle.std.proofs.lemmas.Option.{slice_get_within, get_or_from_slice_get}
 use Rattle.muen_num.specs.Search.{first_in, unless}
-use Rattle.muen_num.specs.declared.mode.Mode.{Mode}
+use Rattle.muen_num.specs.declared.mode.EventMode.{EventMode}
 use Rattle.muen_num.proofs.Lists.{all_true}
 use Rattle.muen_num.proofs.SameAnswers.{first_numbered_same, list_all_same}
 use Rattle.policy_lawful.specs.MoreRules as rules
@@ -24,7 +24,7 @@ use Rattle.rules_events.specs.declared.ends.Met.{Met}
 use Rattle.rules_events.proofs.EndsByChannel.{channel_names, met_named, readers_same, writers_same}
 
 -- what rule 6 asks of these writers and readers
-abbrev connected_by : List (List ℕ × ChannelEnd) → List (List ℕ × ChannelEnd) → Option Mode → Bool
+abbrev connected_by : List (List ℕ × ChannelEnd) → List (List ℕ × ChannelEnd) → Option EventMode → Bool
 connected_by writers readers mode =
     (length writers == 1)
     && nat_le 1 (length readers)
@@ -34,7 +34,7 @@ connected_by writers readers mode =
 at_least_one : (n : ℕ) → nat_le 1 n ≡ not (n == 0)
 at_least_one n = grind (arith, nat_tests)
 
-fits_same : (r : Resolution) (writers readers : List Met) (mode : Option Mode) → rules.fits_event (map (met_named r) writers) (map (met_named r) readers) mode ≡ fits_event writers readers mode
+fits_same : (r : Resolution) (writers readers : List Met) (mode : Option EventMode) → rules.fits_event (map (met_named r) writers) (map (met_named r) readers) mode ≡ fits_event writers readers mode
 fits_same r writers readers None =
     list_all-append (λ e. not (is_some e.1.call) && not (is_some e.1.vector)) (map (met_named r) writers) (map (met_named r) readers)
     ∙ ap (λ b. b && list_all (λ e. not (is_some e.1.call) && not (is_some e.1.vector)) (map (met_named r) readers)) (list_all-map (λ e. not (is_some e.1.call) && not (is_some e.1.vector)) (met_named r) writers)
@@ -50,7 +50,7 @@ apart_same r writers readers =
     ∙ list_all_same (λ w. list_all (λ x. not (bytes_eq x.0 w.party.name)) (map (met_named r) readers)) (is_apart readers) (λ _. true)
     (λ w _. list_all-map (λ x. not (bytes_eq x.0 w.party.name)) (met_named r) readers) writers (all_true writers)
 
-connected_same : (r : Resolution) (writers readers : List Met) (mode : Option Mode) → connected_by (map (met_named r) writers) (map (met_named r) readers) mode ≡ is_connected writers readers mode
+connected_same : (r : Resolution) (writers readers : List Met) (mode : Option EventMode) → connected_by (map (met_named r) writers) (map (met_named r) readers) mode ≡ is_connected writers readers mode
 connected_same r writers readers mode =
     ap (λ n. (n == 1) && nat_le 1 (length (map (met_named r) readers)) && list_all (λ w. list_all (λ x. not (bytes_eq x.0 w.0)) (map (met_named r) readers)) (map (met_named r) writers) && rules.fits_event (map (met_named r) writers) (map (met_named r) readers) mode) (length-map writers (met_named r))
     ∙ ap (λ b. (length writers == 1) && b && list_all (λ w. list_all (λ x. not (bytes_eq x.0 w.0)) (map (met_named r) readers)) (map (met_named r) writers) && rules.fits_event (map (met_named r) writers) (map (met_named r) readers) mode) (ap (nat_le 1) (length-map readers (met_named r)) ∙ at_least_one (length readers))

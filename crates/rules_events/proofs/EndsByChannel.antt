@@ -14,7 +14,7 @@ use Rattle.policy_lawful.proofs.SourceElements.{parts_placed}
 use Rattle.policy_lawful.proofs.UniqueNames.{unique}
 use Rattle.policy_meaning.specs.Events.{ChannelEnd, channel_ends}
 use Rattle.policy_views.specs.Views.{end_named, ends_of}
-use Rattle.policy_views.specs.declared.view.End.{End}
+use Rattle.policy_views.specs.declared.view.ChannelEnd.{ChannelEnd}
 use Rattle.policy_views.proofs.EndsByPlace.{ends_by_place, ends_placed}
 use Rattle.rules_events.specs.ByPlace.{items_at}
 use Rattle.rules_events.specs.Ends.{met, met_ends, all_ends, all_readers, all_writers, reads, writes}
@@ -45,7 +45,7 @@ of_subject : (r : Resolution) (k n : ℕ) (s : PlacedSubject) → IsResolved r �
     → map (λ e. (s.name, e)) (filter (λ e. bytes_eq e.channel (name_at (channel_names r) k)) (channel_ends (source_of r) (subject_named r s))) ≡ map (met_named r) (items_at k (met_ends r (n, s)))
 of_subject r k n s h within ok =
     ap (λ es. map (λ e. (s.name, e)) (filter (λ e. bytes_eq e.channel (name_at (channel_names r) k)) es)) (ends_by_place r s h ok)
-    ∙ of_one (λ (e : ChannelEnd). bytes_eq e.channel (name_at (channel_names r) k)) (end_named r) (λ (e : End). e.channel) (λ e. nat_lt e.channel (length r.channels)) k (λ e ok. same_channel r e.channel k h ok within)
+    ∙ of_one (λ (e : ChannelEnd). bytes_eq e.channel (name_at (channel_names r) k)) (end_named r) (λ (e : ChannelEnd). e.channel) (λ e. nat_lt e.channel (length r.channels)) k (λ e ok. same_channel r e.channel k h ok within)
     (λ e. (s.name, e)) (met (party (n, s))) (met_named r) (λ e. refl) (ends_of r s) (ends_placed r s ok)
 
 -- of all

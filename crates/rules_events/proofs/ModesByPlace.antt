@@ -12,8 +12,8 @@ use Rattle.std.proofs.lemmas.List.Folds.{list_all-append, list_all-map, list_any
 use Rattle.std.proofs.lemmas.Slice.Eq.{bytes_eq-Decides}
 use Rattle.std.proofs.lemmas.Option.{slice_get_within, get_or_from_slice_get}
 use Rattle.muen_num.specs.Search.{first_in, unless}
-use Rattle.muen_num.specs.declared.mode.Mode.{Mode}
-use Rattle.muen_num.specs.declared.mode.Mode.TheVariants.{Asap, Async, Own, Switch}
+use Rattle.muen_num.specs.declared.mode.EventMode.{EventMode}
+use Rattle.muen_num.specs.declared.mode.EventMode.TheVariants.{Asap, Async, Own, Switch}
 use Rattle.muen_num.proofs.Lists.{list_any-map, map-map}
 use Rattle.muen_num.proofs.SameAnswers.{both_numbered, first_in-map, first_numbered_same, list_all_same}
 use Rattle.policy_lawful.specs.MoreRules as rules
@@ -202,7 +202,7 @@ party_there r i s is =
     let place : 0 + i ≡ i = omega arith in
     ap (λ j. is_there r (party (j, s))) place ∙ at
 
-fits_same : (r : Resolution) (groups : List (List ℕ)) → IsResolved r → AreItems groups (length r.subjects) (all_memberships r.scheduling.groups) → (mode : Mode) (a b : Party) → is_there r a ≡ true → is_there r b ≡ true
+fits_same : (r : Resolution) (groups : List (List ℕ)) → IsResolved r → AreItems groups (length r.subjects) (all_memberships r.scheduling.groups) → (mode : EventMode) (a b : Party) → is_there r a ≡ true → is_there r b ≡ true
     → rules.fits_mode (source_of r) mode a.name b.name ≡ fits_mode groups mode a b
 fits_same r groups h had Asap a b x y = refl
 fits_same r groups h had Async a b x y = refl
@@ -214,7 +214,7 @@ fits_same r groups h had Switch a b x y =
     (λ i. some_group_lists (source_of r) (name_is r a x i) (name_is r b y i)) ∙ groups_same r a.place b.place h la lb ∙ (λ i. share (sym (had.at a.place la) i) (sym (had.at b.place lb) i)) in
     ap (λ t. not (bytes_eq a.name b.name) && t) one
 
-mode_same : (r : Resolution) (groups : List (List ℕ)) → IsResolved r → AreItems groups (length r.subjects) (all_memberships r.scheduling.groups) → (mode : Mode) (name : List ℕ) (sources targets : List Party)
+mode_same : (r : Resolution) (groups : List (List ℕ)) → IsResolved r → AreItems groups (length r.subjects) (all_memberships r.scheduling.groups) → (mode : EventMode) (name : List ℕ) (sources targets : List Party)
     → list_all (is_there r) sources ≡ true → list_all (is_there r) targets ≡ true
     → mode_offence (source_of r) mode name (map (λ x. x.name) sources) (map (λ x. x.name) targets) ≡ mode_fault groups mode name sources targets
 mode_same r groups h had mode name sources targets a b =
@@ -251,7 +251,7 @@ parties_there r test k =
 names_same : (r : Resolution) (ms : List Met) → map (λ e. e.0) (map (met_named r) ms) ≡ map (λ x. x.name) (map (λ m. m.party) ms)
 names_same r ms = map-map (λ e. e.0) (met_named r) ms ∙ sym (map-map (λ x. x.name) (λ m. m.party) ms)
 
-channel_mode_same : (r : Resolution) (groups : List (List ℕ)) → IsResolved r → AreItems groups (length r.subjects) (all_memberships r.scheduling.groups) → (k : ℕ) (c : Channel) → k < length r.channels → c.name ≡ name_at (channel_names r) k → (mode : Option Mode)
+channel_mode_same : (r : Resolution) (groups : List (List ℕ)) → IsResolved r → AreItems groups (length r.subjects) (all_memberships r.scheduling.groups) → (k : ℕ) (c : Channel) → k < length r.channels → c.name ≡ name_at (channel_names r) k → (mode : Option EventMode)
     → channel_mode_offence (source_of r) c mode ≡ channel_mode groups c mode (map (λ m. m.party) (items_at k (all_writers r))) (map (λ m. m.party) (items_at k (all_readers r)))
 channel_mode_same r groups h had k c within name None = refl
 channel_mode_same r groups h had k c within name (Some mode) =

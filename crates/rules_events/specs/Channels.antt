@@ -3,7 +3,7 @@ use Rattle.std.specs.Prelude.{ℕ, ◌==◌, ◌&&◌, ◌||◌, not, Bool, List
 use Rattle.std.specs.List.{list_all}
 use Rattle.std.specs.Str.{bytes_eq}
 use Rattle.muen_num.specs.Search.{unless}
-use Rattle.muen_num.specs.declared.mode.Mode.{Mode}
+use Rattle.muen_num.specs.declared.mode.EventMode.{EventMode}
 use Rattle.policy_lawful.specs.MoreRules.{is_switch}
 use Rattle.policy_lawful.specs.Offences.{alone}
 use Rattle.policy_lawful.specs.declared.offence.Offence.{Offence}
@@ -23,16 +23,16 @@ has_neither m = not (is_some m.end.call) && not (is_some m.end.vector)
 abbrev pub has_call : Met → Bool
 has_call m = is_some m.end.call && not (is_some m.end.vector)
 
-abbrev pub is_reached : Mode → Met → Bool
+abbrev pub is_reached : EventMode → Met → Bool
 is_reached mode m = not (is_some m.end.call) && (is_some m.end.vector || is_switch mode)
 
 -- what the mode of a channel's event, or its absence, asks of the ends
-abbrev pub fits_event : List Met → List Met → Option Mode → Bool
+abbrev pub fits_event : List Met → List Met → Option EventMode → Bool
 fits_event writers readers None = list_all has_neither writers && list_all has_neither readers
 fits_event writers readers (Some mode) =
     (length readers == 1) && list_all has_call writers && list_all (is_reached mode) readers
 
-abbrev pub is_connected : List Met → List Met → Option Mode → Bool
+abbrev pub is_connected : List Met → List Met → Option EventMode → Bool
 is_connected writers readers mode =
     (length writers == 1) && not (length readers == 0) && are_apart writers readers && fits_event writers readers mode
 

@@ -3,8 +3,8 @@ use Rattle.std.specs.Prelude.{ℕ, ◌&&◌, not, Bool, List, [], map, slice_ind
 use Rattle.std.specs.List.{enumerate_from, list_all}
 use Rattle.std.specs.Str.{bytes_eq}
 use Rattle.muen_num.specs.Search.{first_in, unless}
-use Rattle.muen_num.specs.declared.mode.Mode.{Mode}
-use Rattle.muen_num.specs.declared.mode.Mode.TheVariants.{Own, Switch}
+use Rattle.muen_num.specs.declared.mode.EventMode.{EventMode}
+use Rattle.muen_num.specs.declared.mode.EventMode.TheVariants.{Own, Switch}
 use Rattle.policy_lawful.specs.Offences.{two}
 use Rattle.policy_lawful.specs.declared.offence.Offence.{Offence}
 use Rattle.policy_types.specs.declared.source.Channel.{Channel}
@@ -18,20 +18,20 @@ use Rattle.rules_events.specs.declared.ends.Met.{Met}
 use Rattle.rules_events.specs.declared.parties.Party.{Party}
 
 -- an event of this mode may join these subjects, of which the groups are noted
-abbrev pub fits_mode : List (List ℕ) → Mode → Party → Party → Bool
+abbrev pub fits_mode : List (List ℕ) → EventMode → Party → Party → Bool
 fits_mode groups Own source target = bytes_eq source.name target.name
 fits_mode groups Switch source target =
     not (bytes_eq source.name target.name) && share (slice_index_or groups source.place []) (slice_index_or groups target.place [])
 fits_mode groups _ source target = not (bytes_eq source.name target.name)
 
 -- a source that doesn't fit all targets, and the first one
-abbrev pub source_fault : List (List ℕ) → Mode → List ℕ → List Party → Party → Option Offence
+abbrev pub source_fault : List (List ℕ) → EventMode → List ℕ → List Party → Party → Option Offence
 source_fault groups mode name targets s = unless (list_all (fits_mode groups mode s) targets) (two name s.name)
 
-abbrev pub mode_fault : List (List ℕ) → Mode → List ℕ → List Party → List Party → Option Offence
+abbrev pub mode_fault : List (List ℕ) → EventMode → List ℕ → List Party → List Party → Option Offence
 mode_fault groups mode name sources targets = first_in (source_fault groups mode name targets) sources
 
-abbrev pub channel_mode : List (List ℕ) → Channel → Option Mode → List Party → List Party → Option Offence
+abbrev pub channel_mode : List (List ℕ) → Channel → Option EventMode → List Party → List Party → Option Offence
 channel_mode groups c None writers readers = None
 channel_mode groups c (Some mode) writers readers = mode_fault groups mode c.name writers readers
 

@@ -5,12 +5,12 @@ use Rattle.policy_lawful.specs.MoreRules.{is_writer}
 use Rattle.policy_lawful.specs.Resolution.{Resolution}
 use Rattle.policy_lawful.specs.declared.resolved.Subject.{Subject}
 use Rattle.policy_views.specs.Views.{ends_of}
-use Rattle.policy_views.specs.declared.view.End.{End}
+use Rattle.policy_views.specs.declared.view.ChannelEnd.{ChannelEnd}
 use Rattle.rules_events.specs.Parties.{party}
 use Rattle.rules_events.specs.declared.ends.Met.{Met}
 use Rattle.rules_events.specs.declared.parties.Party.{Party}
 
-abbrev pub met : Party → End → Met
+abbrev pub met : Party → ChannelEnd → Met
 met p e = record { party = p; end = e }
 
 -- the ends of a subject with its place, each at its channel

@@ -10,7 +10,7 @@ ghost use Rattle.rules_events.specs.Channels.{is_apart, are_apart, has_neither, 
 use crate::by_place::at;
 use crate::ends::{Met, readers_by_channel, writers_by_channel};
 use crate::interrupts::is_switch;
-use muen_num::{Mode, NoMemory, Seq, first_numbered};
+use muen_num::{EventMode, NoMemory, Seq, first_numbered};
 use policy_lawful::{Offence, Resolved};
 use policy_types::source::Channel;
 use std::alloc::Global;
@@ -57,20 +57,20 @@ fn have_calls(ends: &[Met]) -> bool
 }
 
 // A reader that an event of this mode reaches: no call, and a vector unless the event switches.
-fn is_reached(mode: Mode, met: &Met) -> bool
+fn is_reached(mode: EventMode, met: &Met) -> bool
     ensures { result ≡ is_reached mode met.now }
 {
     met.end.call.is_none() && (met.end.vector.is_some() || is_switch(mode))
 }
 
-fn are_reached(mode: Mode, ends: &[Met]) -> bool
+fn are_reached(mode: EventMode, ends: &[Met]) -> bool
     ensures { result ≡ list_all (is_reached mode) ends.now }
 {
     ends.iter().all(|end| is_reached(mode, end))
 }
 
 // What the mode of a channel's event, or its absence, asks of the ends.
-fn fits_event(writers: &[Met], readers: &[Met], mode: Option<Mode>) -> bool
+fn fits_event(writers: &[Met], readers: &[Met], mode: Option<EventMode>) -> bool
     ensures { result ≡ fits_event writers.now readers.now mode }
 {
     match mode {
@@ -79,7 +79,7 @@ fn fits_event(writers: &[Met], readers: &[Met], mode: Option<Mode>) -> bool
     }
 }
 
-fn is_connected(writers: &[Met], readers: &[Met], mode: Option<Mode>) -> bool
+fn is_connected(writers: &[Met], readers: &[Met], mode: Option<EventMode>) -> bool
     ensures { result ≡ is_connected writers.now readers.now mode }
 {
     writers.len() == 1

@@ -12,23 +12,23 @@ use crate::by_place::at;
 use crate::ends::{Met, readers_by_channel, writers_by_channel};
 use crate::listings::Listings;
 use crate::parties::{Party, sources_by_event, targets_by_event};
-use muen_num::{Mode, Name, NoMemory, Seq, first_numbered};
+use muen_num::{EventMode, Name, NoMemory, Seq, first_numbered};
 use policy_lawful::{Offence, Resolved};
 use policy_types::source::{Channel, Event};
 use std::alloc::{AllocError, Global};
 
 // Whether an event of this mode may join these subjects, of which the groups are noted.
-fn fits_mode(groups: &Listings, mode: Mode, source: &Party, target: &Party) -> bool
+fn fits_mode(groups: &Listings, mode: EventMode, source: &Party, target: &Party) -> bool
     ensures { result ≡ fits_mode groups.now mode source.now target.now }
 {
     match mode {
-        Mode::Own => source.name == target.name,
-        Mode::Switch => { source.name != target.name && groups.share(source.place, target.place) }
+        EventMode::Own => source.name == target.name,
+        EventMode::Switch => { source.name != target.name && groups.share(source.place, target.place) }
         _ => source.name != target.name,
     }
 }
 
-fn fits_all(groups: &Listings, mode: Mode, source: &Party, targets: &[Party]) -> bool
+fn fits_all(groups: &Listings, mode: EventMode, source: &Party, targets: &[Party]) -> bool
     ensures { result ≡ list_all (fits_mode groups.now mode source.now) targets.now }
 {
     targets
@@ -39,7 +39,7 @@ fn fits_all(groups: &Listings, mode: Mode, source: &Party, targets: &[Party]) ->
 // A source that the mode doesn't let raise the event at all its targets.
 fn source_fault(
     groups: &Listings,
-    mode: Mode,
+    mode: EventMode,
     name: &Name,
     source: &Party,
     targets: &[Party],
@@ -57,7 +57,7 @@ fn source_fault(
 // once.
 fn mode_fault(
     groups: &Listings,
-    mode: Mode,
+    mode: EventMode,
     name: &Name,
     sources: &[Party],
     targets: &[Party],

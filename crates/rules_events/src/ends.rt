@@ -13,14 +13,14 @@ use muen_num::{NoMemory, Seq};
 use policy_lawful::Resolved;
 use policy_lawful::resolved::Subject;
 use policy_types::Role;
-use policy_views::{End, ends};
+use policy_views::{ChannelEnd, ends};
 use std::alloc::{AllocError, Global};
 
 /// An end of a channel with its subject.
 #[derive(Clone, Copy, Debug, PartialEq, Eq)]
 pub(crate) struct Met {
     pub(crate) party: Party,
-    pub(crate) end: End,
+    pub(crate) end: ChannelEnd,
 }
 
 // Notes a subject's ends at their channels.
@@ -28,7 +28,7 @@ fn note_ends(
     noted: &mut Vec<(usize, Met)>,
     place: usize,
     subject: &Subject,
-    ends: &[End],
+    ends: &[ChannelEnd],
 ) -> Result<(), NoMemory>
     ensures { IfOk result (λ _. noted.new.items ≡ noted.old.items ++ map (λ e. (e.channel, met (party (place, subject.now)) e)) ends.now) }
 {

@@ -8,19 +8,19 @@ ghost use Rattle.rules_events.specs.Vectors.{switches, has_vector, irq_vectors, 
 
 use crate::numbers::are_distinct_in;
 use muen_num::limits::{FIRST_VECTOR, LAST_VECTOR};
-use muen_num::{Mode, NoMemory};
+use muen_num::{EventMode, NoMemory};
 use policy_lawful::resolved::{DeviceUse, EventTarget, IrqUse, Subject};
 use policy_lawful::{Offence, Resolved};
 use policy_types::source::Event;
-use policy_views::{End, ends};
+use policy_views::{ChannelEnd, ends};
 use std::alloc::{AllocError, Global};
 
 /// Whether the target also becomes active.
-pub(crate) fn is_switch(mode: Mode) -> bool
+pub(crate) fn is_switch(mode: EventMode) -> bool
     ensures { result ≡ is_switch mode }
 {
     match mode {
-        Mode::Switch => true,
+        EventMode::Switch => true,
         _ => false,
     }
 }
@@ -54,7 +54,7 @@ fn vectors_of_targets(alloc: Global, targets: &[EventTarget]) -> Result<Vec<u64>
     targets.iter().filter_map(|t| t.vector).collect(alloc)
 }
 
-fn vectors_of_ends(alloc: Global, ends: &[End]) -> Result<Vec<u64>, AllocError>
+fn vectors_of_ends(alloc: Global, ends: &[ChannelEnd]) -> Result<Vec<u64>, AllocError>
     ensures { IfOk result (λ v. v.items ≡ filter_map (λ e. e.vector) ends.now) }
 {
     ends.iter().filter_map(|e| e.vector).collect(alloc)

@@ -12,8 +12,8 @@ use Rattle.image_form.specs.Name.{name}
 use Rattle.image_form.proofs.Forms.{both_true}
 use Rattle.muen_num.specs.Naming.{is_name, name_of, name_room}
 use Rattle.muen_num.specs.declared.limits.TheConstants.{PAGE, PHYSICAL_END, MOST_BLOCK_BYTES, MOST_DEVICE_BYTES}
-use Rattle.muen_num.specs.declared.tag.Part.{Part}
-use Rattle.muen_num.specs.declared.tag.Part.TheVariants.{Whole, Named, State, Ept, Iobm, Msrbm, Msrs}
+use Rattle.muen_num.specs.declared.tag.TagPart.{TagPart}
+use Rattle.muen_num.specs.declared.tag.TagPart.TheVariants.{Whole, Named, State, Ept, Iobm, Msrbm, Msrs}
 use Rattle.image_pack.specs.Codes.{is_device, part_code, part_name}
 use Rattle.image_pack.specs.Image.{after, device_pages_with, has_room, is_kind, pages_with, span, suits_tau0, sum32, title}
 use Rattle.image_pack.specs.SpanConditions.{Ascend, HaveDifferentNumbers, IsSpan, device_pages_of, end_of, pages_of}
@@ -40,7 +40,7 @@ name_kept text h =
     let p = passed _ _ text found in
     subst (λ t. is_name t ≡ true) p.1 p.0
 
-title_kept : (q : Part) → (title (part_code q)).fits (part_name q) → IfSome (part_name q) (λ text. is_name text ≡ true)
+title_kept : (q : TagPart) → (title (part_code q)).fits (part_name q) → IfSome (part_name q) (λ text. is_name text ≡ true)
 unfolding title either present absent
 title_kept Whole h = tt
 title_kept (Named called) h = name_kept called h

@@ -6,8 +6,8 @@ use Rattle.std.proofs.lemmas.List.Elements.{All-cons, All-nil}
 use Rattle.image_form.specs.Form.{all_fit, field, only, gap, done, number, byte, coded, items}
 use Rattle.image_form.proofs.Forms.{both_true}
 use Rattle.muen_num.specs.declared.limits.TheConstants.{FIRST_VECTOR, MOST_MSRS}
-use Rattle.muen_num.specs.declared.mode.Mode.{Mode}
-use Rattle.muen_num.specs.declared.mode.Mode.TheVariants.{Asap, Async, Own, Switch}
+use Rattle.muen_num.specs.declared.mode.EventMode.{EventMode}
+use Rattle.muen_num.specs.declared.mode.EventMode.TheVariants.{Asap, Async, Own, Switch}
 use Rattle.image_plan.specs.Plan.{is_group_on}
 use Rattle.image_plan.specs.declared.plan.GroupPart.{GroupPart}
 use Rattle.image_pack.specs.Codes.{event_in, event_of, is_switch, is_vector, mode_code, mode_of, vector_code, vector_of}
@@ -49,7 +49,7 @@ high_vector true b c e h = refl
 high_vector false b c e h = absurd (true≢false (sym (both_true b c h).0 ∙ e))
 
 -- a vector that is read as it was written
-vector_kept : (mode : Mode) (v : Option ℕ) → is_vector mode (vector_code v) ≡ true → vector_of (vector_code v) ≡ v → IsVector mode v
+vector_kept : (mode : EventMode) (v : Option ℕ) → is_vector mode (vector_code v) ≡ true → vector_of (vector_code v) ≡ v → IsVector mode v
 vector_kept mode None h back = low_vector (nat_le FIRST_VECTOR 0) (0 == 0) (is_switch mode) refl h
 vector_kept mode (Some v) h back = leb-true FIRST_VECTOR v (high_vector (nat_le FIRST_VECTOR v) (v == 0) (is_switch mode) (some_vector v back) h)
 
@@ -72,7 +72,7 @@ some_event n e h =
     (ltb-true e.target n two.0, vector_kept e.mode e.vector two.1 same)
 
 -- an event that is read as it was written
-event_read : (n t v : ℕ) (mode : Mode) (o : Option (Option EventPart)) → event_in n (mode_code mode ∷ t ∷ v ∷ 0 ∷ []) ≡ o → event_of n t v mode ≡ o
+event_read : (n t v : ℕ) (mode : EventMode) (o : Option (Option EventPart)) → event_in n (mode_code mode ∷ t ∷ v ∷ 0 ∷ []) ≡ o → event_of n t v mode ≡ o
 unfolding event_in mode_of
 event_read n t v Asap o h = h
 event_read n t v Async o h = h

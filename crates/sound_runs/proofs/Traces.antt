@@ -30,7 +30,7 @@ use Rattle.state_page.specs.StatePage.{state_in}
 use Rattle.vmx_machine.specs.Machine.{page_at}
 use Rattle.vmx_machine.specs.declared.control.Control.{Control}
 use Rattle.view_text.specs.ViewText.{turn_text}
-use Rattle.view_text.specs.declared.Line.{Line}
+use Rattle.view_text.specs.declared.TurnLine.{TurnLine}
 use Rattle.subject_model.specs.Alone.{thing_in}
 use Rattle.subject_model.specs.Clock.{inputs_at, order_at, run_of, system}
 use Rattle.subject_model.specs.System.{System, first_page, start_of, state_of}
@@ -89,10 +89,10 @@ module _ (p : Source) (files : Held) (i : Image) (keeps : KeepsConditions i) (so
   memories : HasMemories g i
   memories = memories_of_image p files i keeps sound
 
-  abbrev machine_ran : Ran Live Line
+  abbrev machine_ran : Ran Live TurnLine
   machine_ran = kernel_run_to (setup_of i) record_at i.header.cpus (memory_of i) r.end
 
-  abbrev system_ran : Ran System Line
+  abbrev system_ran : Ran System TurnLine
   system_ran = run_to (system p) (inputs_at r) (order_at p r) r.end (start_of p files)
 
   numbered : (s : ℕ) → s < length i.subjects → IsSubject g s

@@ -19,7 +19,7 @@ use Rattle.image_pack.specs.declared.parts.SubjectPart.{SubjectPart}
 use Rattle.machine_meaning.specs.Exits.{msr_exits, port_exits}
 use Rattle.machine_meaning.specs.Walks.{walk_of}
 use Rattle.muen_num.specs.Range.{numbers_below}
-use Rattle.muen_num.specs.declared.access.Kind.{Kind}
+use Rattle.muen_num.specs.declared.access.AccessKind.{AccessKind}
 use Rattle.muen_num.specs.declared.limits.TheConstants.{GUEST_END, PAGE}
 use Rattle.policy_meaning.specs.Contents.{Held}
 use Rattle.policy_meaning.specs.Thing.{Thing, state, same_thing, things_of}
@@ -93,13 +93,13 @@ offset_by : (place offset : ℕ) → place % 4096 ≡ 0 → (place + offset) % 4
 offset_by place offset h = omega (arith, h)
 
 -- where a walk ends that is led to a byte of a thing, there is that byte by its page
-led_alike : (place : Thing → ℕ) → ((x : Thing) → place x % 4096 ≡ 0) → (kind : Kind) (addr : ℕ) (a : Access Thing) → reach_by_walk kind addr (led place a) ≡ renamed_reach (place_in (λ x. place x / PAGE)) (reach_by kind addr a)
+led_alike : (place : Thing → ℕ) → ((x : Thing) → place x % 4096 ≡ 0) → (kind : AccessKind) (addr : ℕ) (a : Access Thing) → reach_by_walk kind addr (led place a) ≡ renamed_reach (place_in (λ x. place x / PAGE)) (reach_by kind addr a)
 led_alike place aligned kind addr (byte x offset) =
     ap (λ n. Reached n ((place x + offset) % 4096)) (page_by (place x) offset (aligned x)) ∙ ap (Reached (place x / 4096 + offset / 4096)) (offset_by (place x) offset (aligned x))
 led_alike place aligned kind addr (violation found) = refl
 
 -- a walk for a subject leads where its windows do
-pub walks_alike : (p : Source) (files : Held) (i : Image) → KeepsConditions i → IsSound p files i → (n : Subject) (q : SubjectPart) (kind : Kind) (addr : ℕ) → addr < GUEST_END → (s : ℕ) → slice_get p.subjects s ≡ Some n → slice_get i.subjects s ≡ Some q
+pub walks_alike : (p : Source) (files : Held) (i : Image) → KeepsConditions i → IsSound p files i → (n : Subject) (q : SubjectPart) (kind : AccessKind) (addr : ℕ) → addr < GUEST_END → (s : ℕ) → slice_get p.subjects s ≡ Some n → slice_get i.subjects s ≡ Some q
     → look_in (memory_of i) q.eptp kind addr ≡ renamed_reach (place_in (λ x. place_of p i x / PAGE)) (reach_by kind addr (access_of (windows_of p n) addr kind))
 walks_alike p files i keeps sound n q kind addr low s named at =
     let walks = both_at (HasWalks p i) p.subjects i.subjects s n q sound.walks named at in

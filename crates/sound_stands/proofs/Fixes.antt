@@ -11,7 +11,7 @@ use Rattle.image_load.specs.Loaded.{control_of}
 use Rattle.image_meaning.specs.Named.{raised, subject_name}
 use Rattle.image_meaning.specs.Sound.{IsSound, IsSubjectOf}
 use Rattle.kernel_core.specs.Kernel.{entry}
-use Rattle.muen_num.specs.declared.access.Kind.{Kind}
+use Rattle.muen_num.specs.declared.access.AccessKind.{AccessKind}
 use Rattle.muen_num.specs.declared.limits.TheConstants.{MOST_CALLS}
 use Rattle.policy_meaning.specs.Contents.{Held, initial_bytes}
 use Rattle.policy_meaning.specs.Events.{Raised, event_of}
@@ -183,7 +183,7 @@ module _ (p : Source) (files : Held) (i : Image) (keeps : KeepsConditions i) (so
   sees_there s n x offset (inl b) = inl (sees_thing x offset b)
   sees_there s n x offset (inr w) = inr (w.within, sees_page s n x offset w)
 
-  all_seen : (s : ℕ) (n : Subject) (kind : Kind) (addr : ℕ) (x : Thing) (offset : ℕ) → slice_get p.subjects s ≡ Some n → access_of (windows_of p n) addr kind ≡ byte x offset → Sees g s n addr x offset
+  all_seen : (s : ℕ) (n : Subject) (kind : AccessKind) (addr : ℕ) (x : Thing) (offset : ℕ) → slice_get p.subjects s ≡ Some n → access_of (windows_of p n) addr kind ≡ byte x offset → Sees g s n addr x offset
   unfolding ground_of
   all_seen s n kind addr x offset at e =
       let seen : IsSeen p s n addr x offset = sees p sound.lawful s n kind addr x offset at e in

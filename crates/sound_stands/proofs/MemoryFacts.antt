@@ -20,7 +20,7 @@ use Rattle.machine_meaning.specs.Memory.{Page, page_of}
 use Rattle.muen_num.specs.declared.limits.TheConstants.{PAGE}
 use Rattle.phys_mem.specs.Frames.{pages_in}
 use Rattle.phys_mem.specs.Spans.{pages_of_spans}
-use Rattle.phys_mem.specs.declared.spans.SpanPartBytes.{SpanPartBytes}
+use Rattle.phys_mem.specs.declared.spans.MemorySpan.{MemorySpan}
 use Rattle.stands_for.specs.Ground.{part}
 use Rattle.stands_for.specs.Held.{IsByte}
 use Rattle.sound_stands.proofs.ListFacts.{both_at, found_at, found_only, other_at, zipped_at, zipped_both}
@@ -118,7 +118,7 @@ bytes_in : (n k : ℕ) (bytes : List ℕ) → All IsByte bytes → All AreBytes 
 bytes_in zero k bytes h = All-nil AreBytes
 bytes_in (suc n) k bytes h = All-cons AreBytes (record { number = k; bytes = take 4096 bytes }) (pages_in n (k + 1) (drop 4096 bytes)) (All-take IsByte 4096 bytes h) (bytes_in n (k + 1) (drop 4096 bytes) (All-drop IsByte 4096 bytes h))
 
-bytes_in_spans : (ss : List SpanPartBytes) → All (λ s. All IsByte s.bytes) ss → All AreBytes (pages_of_spans ss)
+bytes_in_spans : (ss : List MemorySpan) → All (λ s. All IsByte s.bytes) ss → All AreBytes (pages_of_spans ss)
 bytes_in_spans [] h = All-nil AreBytes
 bytes_in_spans (s ∷ ss) h =
     All-append AreBytes (pages_in (length s.bytes / 4096) (s.place / 4096) s.bytes) (pages_of_spans ss) (bytes_in (length s.bytes / 4096) (s.place / 4096) s.bytes (All-head (λ u. All IsByte u.bytes) s ss h)) (bytes_in_spans ss (All-tail (λ u. All IsByte u.bytes) s ss h))
@@ -131,10 +131,10 @@ loaded_bytes s bytes =
       | false ↦ λ h. h
     ]
 
-bytes_loaded : (ss : List SpanPart) (bs : List (List ℕ)) → All (All IsByte) bs → All (λ (s : SpanPartBytes). All IsByte s.bytes) (loaded_spans ss bs)
-bytes_loaded [] bs h = All-nil (λ (s : SpanPartBytes). All IsByte s.bytes)
-bytes_loaded (s ∷ ss) [] h = All-nil (λ (s : SpanPartBytes). All IsByte s.bytes)
-bytes_loaded (s ∷ ss) (b ∷ bs) h = All-cons (λ (s : SpanPartBytes). All IsByte s.bytes) (loaded_span s b) (loaded_spans ss bs) (loaded_bytes s b (All-head (All IsByte) b bs h)) (bytes_loaded ss bs (All-tail (All IsByte) b bs h))
+bytes_loaded : (ss : List SpanPart) (bs : List (List ℕ)) → All (All IsByte) bs → All (λ (s : MemorySpan). All IsByte s.bytes) (loaded_spans ss bs)
+bytes_loaded [] bs h = All-nil (λ (s : MemorySpan). All IsByte s.bytes)
+bytes_loaded (s ∷ ss) [] h = All-nil (λ (s : MemorySpan). All IsByte s.bytes)
+bytes_loaded (s ∷ ss) (b ∷ bs) h = All-cons (λ (s : MemorySpan). All IsByte s.bytes) (loaded_span s b) (loaded_spans ss bs) (loaded_bytes s b (All-head (All IsByte) b bs h)) (bytes_loaded ss bs (All-tail (All IsByte) b bs h))
 
 of_page : (ps : List Page) (k : ℕ) (page : List ℕ) → All AreBytes ps → page_of ps k ≡ Some page → All IsByte page
 of_page [] k page h at = absurd (cc)

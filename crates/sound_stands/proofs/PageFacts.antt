@@ -16,7 +16,7 @@ use Rattle.image_pack.specs.declared.parts.SubjectPart.{SubjectPart}
 use Rattle.machine_meaning.specs.Memory.{page_of}
 use Rattle.machine_meaning.specs.Walks.{places_read}
 use Rattle.muen_num.specs.declared.limits.TheConstants.{GUEST_END}
-use Rattle.muen_num.specs.declared.tag.Part.TheVariants.{State, Ept, Iobm, Msrbm, Msrs}
+use Rattle.muen_num.specs.declared.tag.TagPart.TheVariants.{State, Ept, Iobm, Msrbm, Msrs}
 use Rattle.policy_meaning.specs.Contents.{Held, initial_bytes}
 use Rattle.policy_meaning.specs.Thing.{Thing}
 use Rattle.policy_types.specs.declared.source.Source.{Source}

@@ -5,8 +5,8 @@ use Rattle.std.specs.List.{find, flat_map, list_all, list_any}
 use Rattle.std.specs.Str.{bytes_eq}
 use Rattle.std.proofs.lemmas.Bool.{and_parts, ltb-true, ne_eqb}
 use Rattle.std.proofs.lemmas.Option.{slice_get-map}
-use Rattle.frame_clock.specs.FramePlace.{slot_in}
-use Rattle.frame_clock.specs.declared.place.FramePlace.{FramePlace}
+use Rattle.frame_clock.specs.FrameAt.{slot_in}
+use Rattle.frame_clock.specs.declared.place.FrameAt.{FrameAt}
 use Rattle.image_plan.specs.Slot.{frame_slots}
 use Rattle.muen_num.proofs.Lists.{found}
 use Rattle.muen_num.proofs.SearchLaws.{none_both, unless_none}
@@ -51,7 +51,7 @@ no_frames p cpu (m ∷ ms) l h =
     rw (here, no_frames p cpu ms l both.1) refl
 
 -- nor a slot
-no_slot : (ms : List MajorFrame) (place : FramePlace) (tick : ℕ) → slot_in (map without ms) place tick ≡ None
+no_slot : (ms : List MajorFrame) (place : FrameAt) (tick : ℕ) → slot_in (map without ms) place tick ≡ None
 no_slot ms place tick =
     ap (option_and_then (λ (m : List Frame). slice_get (flat_map (frame_slots place.major) m) (tick - place.start))) (slice_get-map without ms place.major)
     ∙ by (slice_get ms place.major)
@@ -73,7 +73,7 @@ any_first a b (x ∷ xs) h =
 
 module _ (p : Source) (lawful : IsLawful p) where
   -- a CPU that isn't there has no slot at any tick
-  pub no_slots : (cpu : ℕ) (place : FramePlace) (tick : ℕ) → p.processor.logical_cpus ≤ cpu → slot_in (frames_of p cpu) place tick ≡ None
+  pub no_slots : (cpu : ℕ) (place : FrameAt) (tick : ℕ) → p.processor.logical_cpus ≤ cpu → slot_in (frames_of p cpu) place tick ≡ None
   unfolding frames_of
   no_slots cpu place tick l =
       ap (λ frames. slot_in frames place tick) (no_frames p cpu p.scheduling.major_frames l (cpus_kept p lawful.rule_3).majors) ∙ no_slot p.scheduling.major_frames place tick

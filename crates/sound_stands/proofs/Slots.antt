@@ -7,8 +7,8 @@ use Rattle.std.proofs.lemmas.Bool.{and_parts, cases_lt, eqb-true}
 use Rattle.std.proofs.lemmas.List.Folds.{list_all-map}
 use Rattle.std.proofs.lemmas.Option.{slice_get-map}
 use Rattle.subject_model.specs.Clock.{ticks_of_majors}
-use Rattle.frame_clock.specs.FramePlace.{slot_in, ticks_of_majors as ticks_in_plan}
-use Rattle.frame_clock.specs.declared.place.FramePlace.{FramePlace}
+use Rattle.frame_clock.specs.FrameAt.{slot_in, ticks_of_majors as ticks_in_plan}
+use Rattle.frame_clock.specs.declared.place.FrameAt.{FrameAt}
 use Rattle.image_meaning.specs.Named.{bench_of}
 use Rattle.image_meaning.specs.Sound.{IsSound}
 use Rattle.image_pack.specs.ImageConditions.{KeepsConditions}
@@ -38,7 +38,7 @@ unfolding bench_of
 same_cpus p files i sound = ap (λ b. b.cpus) sound.plan_and_events.bench
 
 -- a CPU that is there has the slots of the policy
-pub slots : (p : Source) (files : Held) (i : Image) → IsSound p files i → (cpu : ℕ) (place : FramePlace) (tick : ℕ) → cpu < p.processor.logical_cpus → slot_in (frames_in i.plan cpu) place tick ≡ slot_in (frames_of p cpu) place tick
+pub slots : (p : Source) (files : Held) (i : Image) → IsSound p files i → (cpu : ℕ) (place : FrameAt) (tick : ℕ) → cpu < p.processor.logical_cpus → slot_in (frames_in i.plan cpu) place tick ≡ slot_in (frames_of p cpu) place tick
 slots p files i sound cpu place tick low = ap (λ frames. slot_in frames place tick) (sound.plan_and_events.plan.frames cpu low)
 
 -- ---- the groups of slots
@@ -50,7 +50,7 @@ frames_on groups cpu fs all =
     ∙ each_from (is_minor groups cpu) (λ f. is_group_on groups cpu f.group) (λ f h. (and_parts (nat_lt 0 f.ticks) (is_group_on groups cpu f.group) h).1) fs all
 
 -- a slot of a major frame of the plan
-in_major : (plan : Plan) (cpu : ℕ) (at : FramePlace) (tick : ℕ) (slot : Slot) → is_plan plan ≡ true → cpu < cpus_of plan → (o : Option Major) → slice_get plan.majors at.major ≡ o
+in_major : (plan : Plan) (cpu : ℕ) (at : FrameAt) (tick : ℕ) (slot : Slot) → is_plan plan ≡ true → cpu < cpus_of plan → (o : Option Major) → slice_get plan.majors at.major ≡ o
     → option_and_then (λ (fs : List Frame). slice_get (flat_map (frame_slots at.major) fs) (tick - at.start)) (option_map (frames_at cpu) o) ≡ Some slot → is_group_on plan.groups cpu slot.group ≡ true
 in_major plan cpu at tick slot valid low None there is = absurd (cc (is))
 in_major plan cpu at tick slot valid low (Some m) there is =
@@ -59,7 +59,7 @@ in_major plan cpu at tick slot valid low (Some m) there is =
     at_slot (is_group_on plan.groups cpu) at.major (frames_at cpu m) (tick - at.start) slot (frames_on plan.groups cpu (slice_index_or m.cpus cpu []) each) is
 
 -- the group of a slot is on the CPU that has the slot
-pub group_of_slot : (plan : Plan) (cpu : ℕ) (at : FramePlace) (tick : ℕ) (slot : Slot) → is_plan plan ≡ true → cpu < cpus_of plan → slot_in (frames_in plan cpu) at tick ≡ Some slot → is_group_on plan.groups cpu slot.group ≡ true
+pub group_of_slot : (plan : Plan) (cpu : ℕ) (at : FrameAt) (tick : ℕ) (slot : Slot) → is_plan plan ≡ true → cpu < cpus_of plan → slot_in (frames_in plan cpu) at tick ≡ Some slot → is_group_on plan.groups cpu slot.group ≡ true
 unfolding frames_in
 group_of_slot plan cpu at tick slot valid low is =
     in_major plan cpu at tick slot valid low (slice_get plan.majors at.major) refl
@@ -71,7 +71,7 @@ one_cpu None a b h k = absurd (cc (h))
 one_cpu (Some g) a b h k = sym (eqb-true g.cpu a h) ∙ eqb-true g.cpu b k
 
 -- who is in the group of a slot is on the CPU that has the slot
-pub planned : (p : Source) (files : Held) (i : Image) → KeepsConditions i → IsSound p files i → (cpu : ℕ) (place : FramePlace) (tick : ℕ) (slot : Slot) (s : ℕ) (q : SubjectPart)
+pub planned : (p : Source) (files : Held) (i : Image) → KeepsConditions i → IsSound p files i → (cpu : ℕ) (place : FrameAt) (tick : ℕ) (slot : Slot) (s : ℕ) (q : SubjectPart)
     → slot_in (frames_of p cpu) place tick ≡ Some slot → slice_get i.subjects s ≡ Some q → q.group ≡ slot.group → q.cpu ≡ cpu
 planned p files i keeps sound cpu place tick slot s q is at same =
     elim (cases_lt cpu p.processor.logical_cpus) [

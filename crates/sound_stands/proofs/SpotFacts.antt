@@ -8,7 +8,7 @@ use Rattle.image_pack.specs.ImageConditions.{KeepsConditions}
 use Rattle.image_pack.specs.declared.parts.Image.{Image}
 use Rattle.image_pack.specs.declared.parts.SpanPart.{SpanPart}
 use Rattle.image_pack.specs.declared.parts.SubjectPart.{SubjectPart}
-use Rattle.muen_num.specs.declared.tag.Part.TheVariants.{State, Msrs}
+use Rattle.muen_num.specs.declared.tag.TagPart.TheVariants.{State, Msrs}
 use Rattle.policy_meaning.specs.Contents.{Held}
 use Rattle.policy_meaning.specs.Thing.{Thing}
 use Rattle.policy_types.specs.declared.source.Source.{Source}

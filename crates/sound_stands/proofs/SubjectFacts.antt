@@ -10,7 +10,7 @@ use Rattle.image_pack.specs.Codes.{part_code}
 use Rattle.image_pack.specs.ImageConditions.{IsSubject, KeepsConditions}
 use Rattle.image_pack.specs.declared.parts.Image.{Image}
 use Rattle.image_pack.specs.declared.parts.SubjectPart.{SubjectPart}
-use Rattle.muen_num.specs.declared.tag.Part.TheVariants.{State, Iobm, Msrbm, Msrs}
+use Rattle.muen_num.specs.declared.tag.TagPart.TheVariants.{State, Iobm, Msrbm, Msrs}
 use Rattle.policy_types.specs.declared.source.Source.{Source}
 use Rattle.vmx_machine.specs.declared.control.Control.{Control}
 use Rattle.sound_stands.specs.GroundOf.{ground_of}

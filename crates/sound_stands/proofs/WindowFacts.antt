@@ -11,7 +11,7 @@ use Rattle.subject_model.specs.System.{is_shown}
 use Rattle.muen_num.proofs.Lists.{each_from, found_among, passes_at}
 use Rattle.muen_num.proofs.SearchLaws.{none_both, unless_none}
 use Rattle.muen_num.specs.Search.{first_after, first_in, unless}
-use Rattle.muen_num.specs.declared.access.Kind.{Kind}
+use Rattle.muen_num.specs.declared.access.AccessKind.{AccessKind}
 use Rattle.muen_num.specs.declared.limits.TheConstants.{GUEST_END}
 use Rattle.policy_lawful.proofs.KeptAddresses.{addresses_kept}
 use Rattle.policy_lawful.proofs.Places.{same_self}
@@ -327,7 +327,7 @@ record IsReached (windows : List (Window Thing)) (addr : ℕ) (x : Thing) (offse
   thing : by.thing ≡ x
   start : addr - by.guest ≡ offset
 
-reached : (windows : List (Window Thing)) (kind : Kind) (addr : ℕ) (x : Thing) (offset : ℕ) → access_of windows addr kind ≡ byte x offset → IsReached windows addr x offset
+reached : (windows : List (Window Thing)) (kind : AccessKind) (addr : ℕ) (x : Thing) (offset : ℕ) → access_of windows addr kind ≡ byte x offset → IsReached windows addr x offset
 reached windows kind addr x offset h =
     elim (find (λ w. holds w addr) windows) as (λ o. find (λ w. holds w addr) windows ≡ o → access_by o addr kind ≡ byte x offset → IsReached windows addr x offset) [
       | None ↦ λ _ k. absurd (cc)
@@ -360,7 +360,7 @@ module _ (p : Source) (s : ℕ) (n : Subject) (addr offset : ℕ) (w : Window Th
       })
 
 -- **what a subject reaches**: a byte of a thing, or of the state page of another subject on its CPU, on which it has a window
-pub sees : (p : Source) → IsLawful p → (s : ℕ) (n : Subject) (kind : Kind) (addr : ℕ) (x : Thing) (offset : ℕ) → slice_get p.subjects s ≡ Some n → access_of (windows_of p n) addr kind ≡ byte x offset
+pub sees : (p : Source) → IsLawful p → (s : ℕ) (n : Subject) (kind : AccessKind) (addr : ℕ) (x : Thing) (offset : ℕ) → slice_get p.subjects s ≡ Some n → access_of (windows_of p n) addr kind ≡ byte x offset
     → IsSeen p s n addr x offset
 sees p lawful s n kind addr x offset at h =
     let r = reached (windows_of p n) kind addr x offset h in

@@ -5,7 +5,7 @@ use Rattle.image_pack.specs.Codes.{part_name}
 use Rattle.image_pack.specs.SpanConditions.{AreSpans}
 use Rattle.image_pack.specs.declared.parts.SpanPart.{SpanPart}
 use Rattle.muen_num.specs.Naming.{is_name}
-use Rattle.muen_num.specs.declared.tag.Part.TheVariants.{Named}
+use Rattle.muen_num.specs.declared.tag.TagPart.TheVariants.{Named}
 use Rattle.muen_num.specs.declared.tag.Tag.{Tag}
 use Rattle.policy_types.specs.declared.source.DeviceMemory.{DeviceMemory}
 

@@ -8,7 +8,7 @@ use Rattle.image_pack.specs.declared.parts.SpanKind.{SpanKind}
 use Rattle.image_pack.specs.declared.parts.SpanKind.TheVariants.{Own, Channel, Provided, Kernel, Device}
 use Rattle.image_pack.specs.declared.parts.SpanPart.{SpanPart}
 use Rattle.muen_num.specs.declared.limits.TheConstants.{PAGE}
-use Rattle.muen_num.specs.declared.tag.Part.TheVariants.{Named}
+use Rattle.muen_num.specs.declared.tag.TagPart.TheVariants.{Named}
 use Rattle.policy_types.specs.declared.source.Device.{Device as SourceDevice}
 use Rattle.policy_types.specs.declared.source.DeviceMemory.{DeviceMemory}
 use Rattle.region_alloc.specs.Placed.{Placement}

@@ -8,7 +8,7 @@ ghost use Rattle.span_emit.specs.Spans.{device_span, device_spans, memories_of, 
 use expand_kernel::{Region, RegionKind};
 use image_pack::{SpanKind, SpanPart};
 use muen_num::limits::PAGE;
-use muen_num::{Name, NoMemory, Part, Tag};
+use muen_num::{Name, NoMemory, TagPart, Tag};
 use policy_types::source::{Device, DeviceMemory};
 use region_alloc::Placed;
 use std::alloc::{AllocError, Global};
@@ -18,7 +18,7 @@ fn read_names(tag: &Tag)
     ensures { HasNames tag.now }
 {
     let _owner = tag.owner.bytes();
-    if let Part::Named(name) = &tag.part {
+    if let TagPart::Named(name) = &tag.part {
         let _name = name.bytes();
     }
 }
@@ -100,7 +100,7 @@ fn push_span(
     let number = spans.len() as u16;
     let tag = Tag {
         owner: device,
-        part: Part::Named(memory.name),
+        part: TagPart::Named(memory.name),
     };
     spans.push(device_span(number, tag, memory))?;
     Ok(())

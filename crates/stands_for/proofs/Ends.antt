@@ -8,8 +8,8 @@ use Rattle.std.proofs.lemmas.List.{append-nil, take_all}
 use Rattle.std.proofs.lemmas.Option.{slice_get_past}
 use Rattle.std.proofs.Math.Seq.{drop-length, take-add}
 use Rattle.muen_num.specs.Range.{numbers_below}
-use Rattle.muen_num.specs.declared.mode.Mode.{Mode}
-use Rattle.muen_num.specs.declared.mode.Mode.TheVariants.{Asap, Async, Own as OwnMode, Switch}
+use Rattle.muen_num.specs.declared.mode.EventMode.{EventMode}
+use Rattle.muen_num.specs.declared.mode.EventMode.TheVariants.{Asap, Async, Own as OwnMode, Switch}
 use Rattle.look_up.specs.ByNumber.{change_at}
 use Rattle.machine_meaning.specs.Memory.{Page, page_of, over}
 use Rattle.machine_meaning.proofs.StoreLaws.{length-over}
@@ -23,7 +23,7 @@ use Rattle.policy_types.specs.declared.source.Source.{Source}
 use Rattle.policy_types.specs.declared.source.SourceWay.{SourceWay}
 use Rattle.policy_types.specs.declared.source.Subject.{Subject}
 use Rattle.record_text.specs.DeviceRecord.{NamedInput, port_input, memory_input, irq_input, dma_input}
-use Rattle.frame_clock.specs.FramePlace.{slot_in}
+use Rattle.frame_clock.specs.FrameAt.{slot_in}
 use Rattle.state_page.specs.StatePage.{page_bytes, state_in}
 use Rattle.subject_state.specs.declared.SubjectState.{SubjectState}
 use Rattle.tick_run.specs.Run.{all_taken, begun, turns, tick_ran, run_to}
@@ -276,7 +276,7 @@ happens_things : (p : Source) (o : Option Raised) (y : System) → (happens p o 
 happens_things p None y = refl
 happens_things p (Some e) y = by_mode e.mode
   where
-    by_mode : (m : Mode) → (happens p (Some (record { mode = m; target = e.target })) y).things ≡ y.things
+    by_mode : (m : EventMode) → (happens p (Some (record { mode = m; target = e.target })) y).things ≡ y.things
     by_mode Asap = refl
     by_mode Async = refl
     by_mode OwnMode = refl

@@ -4,8 +4,8 @@ use Rattle.std.specs.Prelude.{option_map, slice_get, unwrap_or}
 use Rattle.std.specs.Str.{bytes_eq}
 use Rattle.std.proofs.lemmas.Bool.{cases_Bool, cases_eq}
 use Rattle.machine_meaning.specs.Pending.{without as without_in, with_vector as with_in}
-use Rattle.muen_num.specs.declared.mode.Mode.{Mode}
-use Rattle.muen_num.specs.declared.mode.Mode.TheVariants.{Asap, Async, Own, Switch}
+use Rattle.muen_num.specs.declared.mode.EventMode.{EventMode}
+use Rattle.muen_num.specs.declared.mode.EventMode.TheVariants.{Asap, Async, Own, Switch}
 use Rattle.policy_types.specs.declared.source.SourceWay.TheVariants.{Call, Trap}
 use Rattle.policy_types.specs.declared.source.Subject.{Subject}
 use Rattle.image_pack.specs.declared.parts.EventPart.{EventPart}
@@ -150,7 +150,7 @@ module _ (g : Ground) (fixed : IsFixed g) where
   handed_stands k y t m r d i stands = rw (group_at k y t m r d i stands, i.in_group) (active_stands k y t m r d i stands)
 
   -- ---- an event, by its mode
-  event_as : (mode : Mode) (k : Live) (y : System) (t : ℕ) (m : Subject) (r : SubjectPart) (d : Control) (vector : Option ℕ) → Joined g t m r d → StandsFor g k y → StandsFor g (with_router (raised_as mode t vector k.router) k) (happens_as g.policy mode (record { subject = m.name; vector = vector }) y)
+  event_as : (mode : EventMode) (k : Live) (y : System) (t : ℕ) (m : Subject) (r : SubjectPart) (d : Control) (vector : Option ℕ) → Joined g t m r d → StandsFor g k y → StandsFor g (with_router (raised_as mode t vector k.router) k) (happens_as g.policy mode (record { subject = m.name; vector = vector }) y)
   event_as Asap k y t m r d vector i stands = pended_now k y t m r d vector i stands
   event_as Async k y t m r d vector i stands = pended_later k y t m r d vector i stands
   event_as Own k y t m r d vector i stands = pended_now k y t m r d vector i stands

@@ -11,9 +11,9 @@ use Rattle.machine_meaning.proofs.PageLaws.{page_of-change_other, page_of-change
 use Rattle.machine_meaning.proofs.StoreLaws.{over_part, over_apart}
 use Rattle.machine_meaning.proofs.WalkLaws.{same_walks}
 use Rattle.muen_num.specs.Size.{bytes_of as count}
-use Rattle.muen_num.specs.declared.access.Kind.{Kind}
-use Rattle.muen_num.specs.declared.access.Size.{Size}
-use Rattle.muen_num.specs.declared.access.Size.TheVariants.{One, Two, Four, Eight}
+use Rattle.muen_num.specs.declared.access.AccessKind.{AccessKind}
+use Rattle.muen_num.specs.declared.access.AccessSize.{AccessSize}
+use Rattle.muen_num.specs.declared.access.AccessSize.TheVariants.{One, Two, Four, Eight}
 use Rattle.muen_num.specs.declared.limits.TheConstants.{GUEST_END}
 use Rattle.policy_meaning.specs.Thing.{Thing, same_thing}
 use Rattle.guest_step.specs.Step.{word_at}
@@ -57,20 +57,20 @@ word_within n bytes offset h =
     ap (λ ys. le_number ys % 2 ^ 64) (inner bytes (4096 * (offset / 4096)) (offset % 4096) 4096 n offset (omega arith) h)
 
 -- one that is aligned does
-pub aligned_within : (size : Size) (offset : ℕ) → offset % count size ≡ 0 → offset % 4096 + count size ≤ 4096
+pub aligned_within : (size : AccessSize) (offset : ℕ) → offset % count size ≡ 0 → offset % 4096 + count size ≤ 4096
 aligned_within One offset h = omega arith
 aligned_within Two offset h = omega (arith, h)
 aligned_within Four offset h = omega (arith, h)
 aligned_within Eight offset h = omega (arith, h)
 
 -- an offset is aligned where the address is that lies alike in its page
-pub aligned_alike : (size : Size) (offset addr : ℕ) → offset % 4096 ≡ addr % 4096 → addr % count size ≡ 0 → offset % count size ≡ 0
+pub aligned_alike : (size : AccessSize) (offset addr : ℕ) → offset % 4096 ≡ addr % 4096 → addr % count size ≡ 0 → offset % count size ≡ 0
 aligned_alike One offset addr e h = omega arith
 aligned_alike Two offset addr e h = omega (arith, e, h)
 aligned_alike Four offset addr e h = omega (arith, e, h)
 aligned_alike Eight offset addr e h = omega (arith, e, h)
 
-pub word_in_part : (size : Size) (bytes : List ℕ) (offset : ℕ) → offset % count size ≡ 0 → word_at (count size) (part (offset / 4096) bytes) (offset % 4096) ≡ word_at (count size) bytes offset
+pub word_in_part : (size : AccessSize) (bytes : List ℕ) (offset : ℕ) → offset % count size ≡ 0 → word_at (count size) (part (offset / 4096) bytes) (offset % 4096) ≡ word_at (count size) bytes offset
 word_in_part size bytes offset h = word_within (count size) bytes offset (aligned_within size offset h)
 
 no_word : (n offset : ℕ) → word_at n [] offset ≡ 0
@@ -80,7 +80,7 @@ no_word (suc n) zero = refl
 no_word (suc n) (suc offset) = refl
 
 -- a word of bytes that may not be there, read in the page that shows them
-pub word_of_part : (size : Size) (old page : Option (List ℕ)) (offset : ℕ) → offset % count size ≡ 0 → page ≡ option_map (part (offset / 4096)) old → word_at (count size) (unwrap_or page []) (offset % 4096) ≡ word_at (count size) (option_map_or (λ bytes. bytes) old []) offset
+pub word_of_part : (size : AccessSize) (old page : Option (List ℕ)) (offset : ℕ) → offset % count size ≡ 0 → page ≡ option_map (part (offset / 4096)) old → word_at (count size) (unwrap_or page []) (offset % 4096) ≡ word_at (count size) (option_map_or (λ bytes. bytes) old []) offset
 word_of_part size None page offset h e =
     rw e (no_word (count size) (offset % 4096) ∙ sym (no_word (count size) offset))
 word_of_part size (Some bytes) page offset h e = rw e (word_in_part size bytes offset h)
@@ -115,7 +115,7 @@ load_alike old new q n e =
 
 module _ (g : Ground) (fixed : IsFixed g) where
   -- walks end as at the start
-  pub look_stays : (pages : List Page) (things : Things) (s : ℕ) (c : Control) (kind : Kind) (addr : ℕ) → Shows g pages things → slice_get g.setup.controls s ≡ Some c → addr < GUEST_END → look_in pages c.eptp kind addr ≡ look_in g.memory c.eptp kind addr
+  pub look_stays : (pages : List Page) (things : Things) (s : ℕ) (c : Control) (kind : AccessKind) (addr : ℕ) → Shows g pages things → slice_get g.setup.controls s ≡ Some c → addr < GUEST_END → look_in pages c.eptp kind addr ≡ look_in g.memory c.eptp kind addr
   look_stays pages things s c kind addr shows at low =
       ap (reach_by kind addr) (same_walks g.memory pages c.eptp addr kind (record {
         entries = λ k d inside. load_alike g.memory pages _ 8 (shows.kept _ (fixed.tables s c addr at low k d inside));

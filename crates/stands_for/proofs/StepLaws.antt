@@ -10,8 +10,8 @@ use Rattle.std.proofs.Math.Nat.{div-le_self}
 use mir.Val.{sel}
 use Rattle.muen_num.specs.Access.{kind_bit}
 use Rattle.muen_num.specs.Size.{bytes_of as count}
-use Rattle.muen_num.specs.declared.access.Kind.TheVariants.{Read, Write, Fetch}
-use Rattle.muen_num.specs.declared.access.Size.{Size}
+use Rattle.muen_num.specs.declared.access.AccessKind.TheVariants.{Read, Write, Fetch}
+use Rattle.muen_num.specs.declared.access.AccessSize.{AccessSize}
 use Rattle.muen_num.specs.declared.limits.TheConstants.{EXIT_EPT_VIOLATION, EXIT_EXCEPTION, GUEST_END}
 use Rattle.machine_meaning.specs.Memory.{le_bytes}
 use Rattle.subject_state.specs.declared.SubjectState.{SubjectState}
@@ -32,12 +32,12 @@ use Rattle.stands_for.proofs.StateLaws.{word_below}
 pub record FitsWorld {X : Type 0} (w : World X) : Type 0 where
   pub tick : IsWord w.tick
   pub msr : (index v : ℕ) → w.msr index ≡ Some v → IsWord v
-  pub input : (port : ℕ) (size : Size) (v : ℕ) → w.input port (count size) ≡ Some v → IsWord v
+  pub input : (port : ℕ) (size : AccessSize) (v : ℕ) → w.input port (count size) ≡ Some v → IsWord v
 
 -- what is stored was looked up: an aligned access of this size, at an address of the guest
 pub record IsStored {X : Type 0} (w : World X) (st : Stored X) : Type 0 where
   pub addr : ℕ
-  pub size : Size
+  pub size : AccessSize
   pub value : ℕ
   pub below : addr < GUEST_END
   pub aligned : addr % count size ≡ 0
@@ -93,7 +93,7 @@ no_row = record { fits = tt }
 in_row : (c : Bool) (i : Instr) → FitsInstr i → Decoded (if c then Some i else None)
 in_row c i h = either c (Some i) None (record { fits = h }) no_row
 
-in_sized : (c : Bool) (i : Size → Instr) (o : Option Size) → ((size : Size) → FitsInstr (i size)) → Decoded (option_and_then (λ size. if c then Some (i size) else None) o)
+in_sized : (c : Bool) (i : AccessSize → Instr) (o : Option AccessSize) → ((size : AccessSize) → FitsInstr (i size)) → Decoded (option_and_then (λ size. if c then Some (i size) else None) o)
 in_sized c i None h = no_row
 in_sized c i (Some size) h = in_row c (i size) (h size)
 
@@ -257,7 +257,7 @@ module _ {X : Type 0} (w : World X) where
   is_loaded s after reg n (Refused reason qualification addr) h = is_exit s reason qualification addr 0
 
   -- what an access for a store reaches
-  abbrev Looked : Size → ℕ → Reach X → Type 0
+  abbrev Looked : AccessSize → ℕ → Reach X → Type 0
   Looked size addr (Reached place offset) =
       (addr < GUEST_END) × (addr % count size ≡ 0) × (w.look Write addr ≡ Reached place offset)
   Looked size addr (Refused reason qualification guest) = Unit {0}
@@ -267,7 +267,7 @@ module _ {X : Type 0} (w : World X) where
   by fine high addr c =
       if fine then (if high then Refused EXIT_EPT_VIOLATION (kind_bit Write) addr else c) else Refused EXIT_EXCEPTION 0 0
 
-  by_looked : (size : Size) (fine high : Bool) (addr : ℕ) (c : Reach X) → (fine ≡ true → high ≡ false → Looked size addr c) → Looked size addr (by fine high addr c)
+  by_looked : (size : AccessSize) (fine high : Bool) (addr : ℕ) (c : Reach X) → (fine ≡ true → high ≡ false → Looked size addr c) → Looked size addr (by fine high addr c)
   by_looked size true true addr c h = tt
   by_looked size true false addr c h = h refl refl
   by_looked size false high addr c h = tt
@@ -278,15 +278,15 @@ module _ {X : Type 0} (w : World X) where
   multiple : (addr n : ℕ) → (addr % n == 0) ≡ true → addr % n ≡ 0
   multiple addr n h = grind (arith, nat_tests, h)
 
-  looked_of : (size : Size) (addr : ℕ) (c : Reach X) → addr < GUEST_END → addr % count size ≡ 0 → w.look Write addr ≡ c → Looked size addr c
+  looked_of : (size : AccessSize) (addr : ℕ) (c : Reach X) → addr < GUEST_END → addr % count size ≡ 0 → w.look Write addr ≡ c → Looked size addr c
   looked_of size addr (Reached place offset) l a e = (l, a, e)
   looked_of size addr (Refused reason qualification guest) l a e = tt
 
-  looked : (size : Size) (addr : ℕ) → Looked size addr (reach_of w.look Write (count size) addr)
+  looked : (size : AccessSize) (addr : ℕ) → Looked size addr (reach_of w.look Write (count size) addr)
   looked size addr =
       by_looked size (addr % count size == 0) (nat_le GUEST_END addr) addr (w.look Write addr) (λ a l. looked_of size addr (w.look Write addr) (low addr l) (multiple addr (count size) a) refl)
 
-  is_stored : (s after : SubjectState) (addr : ℕ) (size : Size) (value : ℕ) (c : Reach X) → Looked size addr c → (FitsState s → FitsState after) → IsAnswer s (stored_to s after addr size value c)
+  is_stored : (s after : SubjectState) (addr : ℕ) (size : AccessSize) (value : ℕ) (c : Reach X) → Looked size addr c → (FitsState s → FitsState after) → IsAnswer s (stored_to s after addr size value c)
   is_stored s after addr size value (Reached place offset) l h = record {
     state = λ v f. exited_fits after false (h f);
     stored = record { addr = addr; size = size; value = value; below = l.0; aligned = l.1; looked = l.2; bytes = refl };
@@ -294,11 +294,11 @@ module _ {X : Type 0} (w : World X) where
   }
   is_stored s after addr size value (Refused reason qualification guest) l h = is_exit s reason qualification guest 0
 
-  is_port_read : (s after : SubjectState) (reg port : ℕ) (size : Size) (o : Option ℕ) → (FitsWorld w → (v : ℕ) → o ≡ Some v → IsWord v) → (FitsState s → FitsState after) → IsAnswer s (port_read s after reg port size o)
+  is_port_read : (s after : SubjectState) (reg port : ℕ) (size : AccessSize) (o : Option ℕ) → (FitsWorld w → (v : ℕ) → o ≡ Some v → IsWord v) → (FitsState s → FitsState after) → IsAnswer s (port_read s after reg port size o)
   is_port_read s after reg port size (Some value) g h = is_set s after reg value h (λ v. g v value refl)
   is_port_read s after reg port size None g h = is_exit s _ _ 0 0
 
-  is_port_written : (allowed : Bool) (s after : SubjectState) (port : ℕ) (size : Size) (value : ℕ) → (FitsState s → FitsState after) → IsAnswer s (port_written allowed s after port size value)
+  is_port_written : (allowed : Bool) (s after : SubjectState) (port : ℕ) (size : AccessSize) (value : ℕ) → (FitsState s → FitsState after) → IsAnswer s (port_written allowed s after port size value)
   is_port_written true s after port size value h = is_plain s after _ (λ v f. h f)
   is_port_written false s after port size value h = is_exit s _ _ 0 0
 

@@ -5,9 +5,9 @@ use Rattle.std.specs.List.{All}
 use Rattle.std.proofs.lemmas.List.Elements.{All-drop, All-take}
 use Rattle.std.proofs.lemmas.Bool.{cases_lt, cases_Bool, false≢true, ltb-true, lt-ltb}
 use Rattle.muen_num.specs.Size.{bytes_of as count}
-use Rattle.muen_num.specs.declared.access.Kind.TheVariants.{Write}
-use Rattle.muen_num.specs.declared.access.Size.{Size}
-use Rattle.muen_num.specs.declared.access.Size.TheVariants.{One, Two, Four, Eight}
+use Rattle.muen_num.specs.declared.access.AccessKind.TheVariants.{Write}
+use Rattle.muen_num.specs.declared.access.AccessSize.{AccessSize}
+use Rattle.muen_num.specs.declared.access.AccessSize.TheVariants.{One, Two, Four, Eight}
 use Rattle.guest_step.specs.declared.reach.Reach.TheVariants.{Reached}
 use Rattle.muen_num.specs.declared.limits.TheConstants.{EXIT_HLT, EXIT_VMCALL}
 use Rattle.machine_meaning.specs.Memory.{Page, le_number}
@@ -21,7 +21,7 @@ use Rattle.image_plan.specs.Plan.{frames_in}
 use Rattle.image_plan.specs.Slot.{Slot}
 use Rattle.look_up.specs.ByNumber.{change_at}
 use Rattle.look_up.proofs.ChangeLaws.{changes_join}
-use Rattle.frame_clock.specs.FramePlace.{slot_in}
+use Rattle.frame_clock.specs.FrameAt.{slot_in}
 use Rattle.event_router.specs.Router.{taken}
 use Rattle.guest_step.specs.Finish.{finished, finish_of, injected}
 use Rattle.guest_step.specs.declared.finish.Finish.{Finish}
@@ -34,9 +34,9 @@ use Rattle.guest_step.specs.declared.end.StepEnd.TheVariants as ends
 use Rattle.subject_state.specs.declared.SubjectState.{SubjectState}
 use Rattle.tick_run.specs.Run.{Turned}
 use Rattle.tick_run.specs.Alike.{AreAlikeTurns}
-use Rattle.view_text.specs.declared.Line.{Line}
-use Rattle.view_text.specs.declared.What.{What}
-use Rattle.view_text.specs.declared.What.TheVariants.{Ran, Set, Stored as Wrote, Out, WroteMsr, Inject, Exit}
+use Rattle.view_text.specs.declared.TurnLine.{TurnLine}
+use Rattle.view_text.specs.declared.TurnAction.{TurnAction}
+use Rattle.view_text.specs.declared.TurnAction.TheVariants.{Ran, Set, Stored as Wrote, Out, WroteMsr, Inject, Exit}
 use Rattle.vmx_machine.specs.Machine.{CpuStepped, Stepped, answered as cpu_answered, cpu_step, exit_finished, machine_step, machine_world, ports_exit, state_on, step_by, step_on, vector_injected, with_state, with_store as with_page, with_write as with_file}
 use Rattle.vmx_machine.specs.declared.control.Control.{Control}
 use Rattle.vmx_machine.specs.declared.cpu.Cpu.{Cpu}
@@ -118,7 +118,7 @@ abbrev if_lets : Bool → Option ℕ → Option ℕ
 if_lets lets v = if lets then v else None
 
 module _ (g : Ground) (fixed : IsFixed g) where
-  abbrev Alike : Turned Live Line → Turned System Line → Type 0
+  abbrev Alike : Turned Live TurnLine → Turned System TurnLine → Type 0
   Alike a b = AreAlikeTurns (StandsFor g) a b
 
   -- ---- what an exit raises
@@ -158,7 +158,7 @@ module _ (g : Ground) (fixed : IsFixed g) where
       same_byte z x o offset e = cc (e)
   reach_is x offset addr (violation found) e = absurd (cc (e))
 
-  in_page : (size : Size) (addr offset : ℕ) → addr % count size ≡ 0 → offset % 4096 ≡ addr % 4096 → offset % 4096 + count size ≤ 4096
+  in_page : (size : AccessSize) (addr offset : ℕ) → addr % count size ≡ 0 → offset % 4096 ≡ addr % 4096 → offset % 4096 + count size ≤ 4096
   in_page One addr offset h e = omega (arith, h, e)
   in_page Two addr offset h e = omega (arith, h, e)
   in_page Four addr offset h e = omega (arith, h, e)
@@ -195,7 +195,7 @@ module _ (g : Ground) (fixed : IsFixed g) where
     there : state_on k.machine cpu ≡ Some st
     there = ap (λ o. option_map (λ (e : Entered). e.state) (option_and_then (λ (u : Cpu). u.entered) o)) run.at ∙ ap (option_map (λ (e : Entered). e.state)) run.entered
 
-    line_same : (what : What) → ◌≡◌ {A = Option Line} (Some (line_at tick cpu n.name st.pc what)) (Some (record { tick = tick; cpu = cpu; subject = q.name; pc = st.pc; what = what }))
+    line_same : (what : TurnAction) → ◌≡◌ {A = Option TurnLine} (Some (line_at tick cpu n.name st.pc what)) (Some (record { tick = tick; cpu = cpu; subject = q.name; pc = st.pc; what = what }))
     line_same what = ap (λ name. Some (line_at tick cpu name st.pc what)) (sym j.name)
 
     -- nothing happens
@@ -267,7 +267,7 @@ module _ (g : Ground) (fixed : IsFixed g) where
           (own_stands g fixed k y cpu s n q c run j its z a.msr f word))
 
       -- without an exit
-      plain_alike : FitsState a.state → (what : What) → Alike (record { state = then_live a.state; line = Some (record { tick = tick; cpu = cpu; subject = q.name; pc = st.pc; what = what }) }) (turn_answered g.policy cpu tick n st.pc (record { state = a.state; what = Some what; stored = a.stored; msr = a.msr; taken = None; raised = None }) y)
+      plain_alike : FitsState a.state → (what : TurnAction) → Alike (record { state = then_live a.state; line = Some (record { tick = tick; cpu = cpu; subject = q.name; pc = st.pc; what = what }) }) (turn_answered g.policy cpu tick n st.pc (record { state = a.state; what = Some what; stored = a.stored; msr = a.msr; taken = None; raised = None }) y)
       plain_alike f what = record { state = left_stands a.state f; line = line_same what }
 
       -- with one: the kernel acts
@@ -300,23 +300,23 @@ module _ (g : Ground) (fixed : IsFixed g) where
       ended_alike f (ends.Exit reason qualification addr call) = exit_alike reason qualification addr call f
 
     -- ---- the world's numbers are words
-    ports_word : (size : Size) (port : ℕ) → IsWord (value_of_ports k.ports port (count size))
+    ports_word : (size : AccessSize) (port : ℕ) → IsWord (value_of_ports k.ports port (count size))
     ports_word size port = below size (le_number_small (take (count size) (drop port k.ports)) 8 (short size) (All-take IsByte (count size) (drop port k.ports) (All-drop IsByte port k.ports run.stands.small_ports)))
       where
-        short : (z : Size) → length (take (count z) (drop port k.ports)) ≤ 8
+        short : (z : AccessSize) → length (take (count z) (drop port k.ports)) ≤ 8
         short One = take_short 1 (drop port k.ports) 8 (omega arith)
         short Two = take_short 2 (drop port k.ports) 8 (omega arith)
         short Four = take_short 4 (drop port k.ports) 8 (omega arith)
         short Eight = take_short 8 (drop port k.ports) 8 (omega arith)
 
-        below : (z : Size) → le_number (take (count z) (drop port k.ports)) < 256 ^ 8 → IsWord (value_of_ports k.ports port (count z))
+        below : (z : AccessSize) → le_number (take (count z) (drop port k.ports)) < 256 ^ 8 → IsWord (value_of_ports k.ports port (count z))
         below z h = h
 
     msr_word : (index v : ℕ) → (b : Bool) → is_granted (msrs_of n) index false ≡ b → if_lets b (msr_value run.msrs.values index) ≡ Some v → IsWord v
     msr_word index v true h e = value_fits run.unit.file index v (run.stands.cpus.fits cpu run.unit run.at).file (run.msrs.same index (false, h) ∙ e)
     msr_word index v false h e = absurd (cc (e))
 
-    input_word : (port : ℕ) (size : Size) (v : ℕ) → (b : Bool) → (if b then None else Some (value_of_ports k.ports port (count size))) ≡ Some v → IsWord v
+    input_word : (port : ℕ) (size : AccessSize) (v : ℕ) → (b : Bool) → (if b then None else Some (value_of_ports k.ports port (count size))) ≡ Some v → IsWord v
     input_word port size v true e = absurd (cc (e))
     input_word port size v false e = let same : value_of_ports k.ports port (count size) ≡ v = cc (e) in subst IsWord same (ports_word size port)
 

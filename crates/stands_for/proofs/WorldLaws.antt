@@ -8,8 +8,8 @@ use Rattle.std.proofs.lemmas.List.{get_or-drop, map_push}
 use Rattle.machine_meaning.specs.Memory.{page_of, le_number}
 use Rattle.muen_num.specs.Range.{numbers_below}
 use Rattle.muen_num.specs.Size.{bytes_of as count}
-use Rattle.muen_num.specs.declared.access.Kind.{Kind}
-use Rattle.muen_num.specs.declared.access.Size.{Size}
+use Rattle.muen_num.specs.declared.access.AccessKind.{AccessKind}
+use Rattle.muen_num.specs.declared.access.AccessSize.{AccessSize}
 use Rattle.muen_num.specs.declared.limits.TheConstants.{LAST_PORT}
 use Rattle.device_bench.specs.Devices.{value_of_ports}
 use Rattle.expand_grants.specs.Resources.{are_granted, is_granted, msrs_of, ports_of}
@@ -94,7 +94,7 @@ allowed_alike exits false e = rw e refl
 -- ---- memory
 
 -- an access that ends at a byte was allowed
-reached : (kind : Kind) (addr : ℕ) (a : Access Thing) (x : Thing) (offset : ℕ) → reach_by kind addr a ≡ Reached x offset → a ≡ byte x offset
+reached : (kind : AccessKind) (addr : ℕ) (a : Access Thing) (x : Thing) (offset : ℕ) → reach_by kind addr a ≡ Reached x offset → a ≡ byte x offset
 reached kind addr (byte z o) x offset e = cc (e)
 reached kind addr (violation found) x offset e = absurd (cc (e))
 
@@ -115,7 +115,7 @@ module _ (g : Ground) (fixed : IsFixed g) where
       ∙ (sym own.page ∙ ap (thing_in y.things) w.page)))
 
   -- what is read of a thing that is reached
-  seen_word : (k : Live) (y : System) (cpu s : ℕ) (n : Subject) (q : SubjectPart) (c : Control) (r : Running g k y cpu s n c) → Joined g s n q c → q.cpu ≡ cpu → (size : Size) (x : Thing) (offset : ℕ) → offset % count size ≡ 0 → (offset / 4096 < g.pages x) ⊎ ((offset < 4096) × Watches g s n x) → word_at (count size) (page_at k.machine.pages (g.first x + offset / 4096)) (offset % 4096) ≡ word_at (count size) (bytes_in y.things x) offset
+  seen_word : (k : Live) (y : System) (cpu s : ℕ) (n : Subject) (q : SubjectPart) (c : Control) (r : Running g k y cpu s n c) → Joined g s n q c → q.cpu ≡ cpu → (size : AccessSize) (x : Thing) (offset : ℕ) → offset % count size ≡ 0 → (offset / 4096 < g.pages x) ⊎ ((offset < 4096) × Watches g s n x) → word_at (count size) (page_at k.machine.pages (g.first x + offset / 4096)) (offset % 4096) ≡ word_at (count size) (bytes_in y.things x) offset
   seen_word k y cpu s n q c r joined its size x offset h (inl l) =
       word_of_part size (thing_in y.things x) (page_of k.machine.pages (g.first x + offset / 4096)) offset h (r.stands.shows.bytes x (offset / 4096) l)
   seen_word k y cpu s n q c r joined its size x offset h (inr w) =
@@ -126,7 +126,7 @@ module _ (g : Ground) (fixed : IsFixed g) where
       ∙ (ap (λ b. word_at (count size) (unwrap_or b []) offset) (watched_page k y cpu s n q c r joined its x w.1)
       ∙ there size (thing_in y.things x) offset))
     where
-      there : (size : Size) (o : Option (List ℕ)) (offset : ℕ) → word_at (count size) (unwrap_or o []) offset ≡ word_at (count size) (option_map_or (λ b. b) o []) offset
+      there : (size : AccessSize) (o : Option (List ℕ)) (offset : ℕ) → word_at (count size) (unwrap_or o []) offset ≡ word_at (count size) (option_map_or (λ b. b) o []) offset
       there size None offset = refl
       there size (Some b) offset = refl
 

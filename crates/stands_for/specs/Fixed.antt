@@ -3,15 +3,15 @@ use Rattle.std.specs.Prelude.{◌≡◌, ◌⊎◌, ℕ, ◌+◌, ◌/◌, ◌%�
 use Rattle.std.specs.List.{All}
 use Rattle.subject_model.specs.Clock.{ticks_of_majors}
 use Rattle.expand_grants.specs.Resources.{is_granted, msrs_of}
-use Rattle.frame_clock.specs.FramePlace.{slot_in, ticks_of_majors as ticks_in_plan}
-use Rattle.frame_clock.specs.declared.place.FramePlace.{FramePlace}
+use Rattle.frame_clock.specs.FrameAt.{slot_in, ticks_of_majors as ticks_in_plan}
+use Rattle.frame_clock.specs.declared.place.FrameAt.{FrameAt}
 use Rattle.image_pack.specs.declared.parts.EventPart.{EventPart}
 use Rattle.image_pack.specs.declared.parts.SubjectPart.{SubjectPart}
 use Rattle.image_plan.specs.Plan.{frames_in}
 use Rattle.image_plan.specs.Slot.{Slot}
 use Rattle.kernel_core.specs.Kernel.{entry}
 use Rattle.machine_meaning.specs.Walks.{places_read}
-use Rattle.muen_num.specs.declared.access.Kind.{Kind}
+use Rattle.muen_num.specs.declared.access.AccessKind.{AccessKind}
 use Rattle.muen_num.specs.declared.limits.TheConstants.{GUEST_END}
 use Rattle.policy_meaning.specs.Frames.{frames_of}
 use Rattle.policy_meaning.specs.Thing.{Thing, region, state}
@@ -52,9 +52,9 @@ pub record IsFixed (g : Ground) : Type 0 where
   pub trap_targets : (s i : ℕ) (q : SubjectPart) (e : EventPart) → slice_get g.setup.subjects s ≡ Some q → entry q.traps i ≡ Some e → IsSubject g e.target
   -- both have the same frames, and a group's CPU is that of its members
   pub cpus : (s : ℕ) (q : SubjectPart) → slice_get g.setup.subjects s ≡ Some q → q.cpu < g.policy.processor.logical_cpus
-  pub slots : (cpu : ℕ) (place : FramePlace) (tick : ℕ) → cpu < g.policy.processor.logical_cpus → slot_in (frames_in g.setup.plan cpu) place tick ≡ slot_in (frames_of g.policy cpu) place tick
-  pub no_slots : (cpu : ℕ) (place : FramePlace) (tick : ℕ) → g.policy.processor.logical_cpus ≤ cpu → slot_in (frames_of g.policy cpu) place tick ≡ None
-  pub planned : (cpu : ℕ) (place : FramePlace) (tick : ℕ) (slot : Slot) (s : ℕ) (q : SubjectPart) → slot_in (frames_of g.policy cpu) place tick ≡ Some slot → slice_get g.setup.subjects s ≡ Some q → q.group ≡ slot.group → q.cpu ≡ cpu
+  pub slots : (cpu : ℕ) (place : FrameAt) (tick : ℕ) → cpu < g.policy.processor.logical_cpus → slot_in (frames_in g.setup.plan cpu) place tick ≡ slot_in (frames_of g.policy cpu) place tick
+  pub no_slots : (cpu : ℕ) (place : FrameAt) (tick : ℕ) → g.policy.processor.logical_cpus ≤ cpu → slot_in (frames_of g.policy cpu) place tick ≡ None
+  pub planned : (cpu : ℕ) (place : FrameAt) (tick : ℕ) (slot : Slot) (s : ℕ) (q : SubjectPart) → slot_in (frames_of g.policy cpu) place tick ≡ Some slot → slice_get g.setup.subjects s ≡ Some q → q.group ≡ slot.group → q.cpu ≡ cpu
   pub majors : ticks_in_plan g.setup.plan ≡ ticks_of_majors g.policy
   -- the page whose first byte chooses a major frame is that of the policy's region
   pub tau0 : g.setup.tau0 ≡ option_map (λ t. g.first (region t.region)) g.policy.scheduling.tau0
@@ -70,6 +70,6 @@ pub record IsFixed (g : Ground) : Type 0 where
   pub state_place : (s : ℕ) (n : Subject) (c : Control) → slice_get g.policy.subjects s ≡ Some n → slice_get g.setup.controls s ≡ Some c → g.first (state n.name) ≡ c.state
   pub no_thing : (name : List ℕ) → g.pages (state name) ≡ 0
   -- what a subject reaches
-  pub sees : (s : ℕ) (n : Subject) (kind : Kind) (addr : ℕ) (x : Thing) (offset : ℕ) → slice_get g.policy.subjects s ≡ Some n → access_of (windows_of g.policy n) addr kind ≡ byte x offset → Sees g s n addr x offset
+  pub sees : (s : ℕ) (n : Subject) (kind : AccessKind) (addr : ℕ) (x : Thing) (offset : ℕ) → slice_get g.policy.subjects s ≡ Some n → access_of (windows_of g.policy n) addr kind ≡ byte x offset → Sees g s n addr x offset
   -- the MSRs that are granted are those of the MSR file
   pub in_file : (s : ℕ) (n : Subject) (index : ℕ) (write : Bool) → slice_get g.policy.subjects s ≡ Some n → is_granted (msrs_of n) index write ≡ true → is_some (place_of index) ≡ true

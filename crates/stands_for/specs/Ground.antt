@@ -9,7 +9,7 @@ use Rattle.image_pack.specs.declared.parts.SubjectPart.{SubjectPart}
 use Rattle.kernel_core.specs.Kernel.{entry}
 use Rattle.kernel_core.specs.declared.setup.Setup.{Setup}
 use Rattle.machine_meaning.specs.Memory.{Page}
-use Rattle.muen_num.specs.declared.access.Kind.{Kind}
+use Rattle.muen_num.specs.declared.access.AccessKind.{AccessKind}
 use Rattle.muen_num.specs.declared.limits.TheConstants.{GUEST_END}
 use Rattle.policy_meaning.specs.Events.{Raised, event_of, traps_of}
 use Rattle.policy_meaning.specs.Thing.{Thing}
@@ -65,7 +65,7 @@ pub record Joined (g : Ground) (s : ℕ) (n : Subject) (q : SubjectPart) (c : Co
   pub trapped : (i : ℕ) → is_some (entry q.traps i) ≡ has_trap (traps_of n) i
   pub ports : (port size : ℕ) → ports_exit g.memory c port size ≡ not (are_granted (ports_of g.policy n) port size)
   pub msrs : (index : ℕ) (write : Bool) → msr_exits_in g.memory c index write ≡ not (is_granted (msrs_of n) index write)
-  pub walks : (kind : Kind) (addr : ℕ) → addr < GUEST_END
+  pub walks : (kind : AccessKind) (addr : ℕ) → addr < GUEST_END
       → look_in g.memory c.eptp kind addr ≡ renamed_reach (place_in g.first) (reach_by kind addr (access_of (windows_of g.policy n) addr kind))
 
 -- there are a subject, a part and a control of this number

@@ -13,7 +13,7 @@ use Rattle.expand_kernel.specs.Regions.{anywhere, channel_region, own_region, pr
 use Rattle.expand_kernel.specs.declared.region.Region.{Region}
 use Rattle.expand_kernel.specs.declared.region.RegionKind.TheVariants.{Kernel}
 use Rattle.muen_num.specs.declared.limits.TheConstants.{LARGE_PAGE, PAGE, PHYSICAL_END}
-use Rattle.muen_num.specs.declared.tag.Part.TheVariants.{State as StatePart, Ept}
+use Rattle.muen_num.specs.declared.tag.TagPart.TheVariants.{State as StatePart, Ept}
 use Rattle.policy_lawful.specs.Rules.{is_alignment, is_fixed, is_laid, is_page_aligned, is_page_size, is_physical}
 use Rattle.policy_lawful.specs.declared.resolved.Subject.{Subject}
 use Rattle.policy_types.specs.declared.source.Block.{Block}

@@ -12,7 +12,7 @@ use Rattle.machine_meaning.specs.Memory.{Page}
 use Rattle.machine_meaning.specs.Walks.{leaf_size, places_read, span, walk_of}
 use Rattle.msrbm_emit.specs.Area.{area_of, count_of}
 use Rattle.msrbm_emit.specs.Msrs.{is_granted}
-use Rattle.muen_num.specs.declared.access.Kind.{Kind}
+use Rattle.muen_num.specs.declared.access.AccessKind.{AccessKind}
 use Rattle.muen_num.specs.declared.limits.TheConstants.{PAGE, MOST_MSRS}
 use Rattle.page_parts.specs.Fields.{padded}
 use Rattle.policy_lawful.specs.declared.resolved.Subject.{Subject}
@@ -29,7 +29,7 @@ tables_at x subject = slice_index x.places (kernel_first x.plain.lawful subject 
 -- what tables at an address say of windows: as the call that emits them has it
 pub record AreTablesOf (windows : List Window) (at : ℕ) (tables : List ℕ) : Type 0 where
   pub len : length tables ≡ PAGE * ept_pages windows
-  pub walk : (m : List Page) (addr : ℕ) (kind : Kind) → HasTables m at tables → HasPlaces m windows → addr < 2 ^ 48 → walk_of m (eptp_of at) addr kind ≡ translation windows addr kind
+  pub walk : (m : List Page) (addr : ℕ) (kind : AccessKind) → HasTables m at tables → HasPlaces m windows → addr < 2 ^ 48 → walk_of m (eptp_of at) addr kind ≡ translation windows addr kind
   pub alone : (m : List Page) (addr : ℕ) → HasTables m at tables → addr < 2 ^ 48 → All (λ place. (at ≤ place) × (place + 8 ≤ at + length tables)) (places_read m (eptp_of at) addr)
   pub paths : (m : List Page) (a b level other page : ℕ) → HasTables m at tables → a < 2 ^ 48 → b < 2 ^ 48 → Reads m (eptp_of at) a level page → Reads m (eptp_of at) b other page → (level ≡ other) × (a / span (suc level) ≡ b / span (suc level))
   pub leaves : (m : List Page) (addr : ℕ) → HasTables m at tables → addr < 2 ^ 48 → IfSome (window_at windows addr) (λ w. IsGreatestSize w addr (leaf_size m (eptp_of at) addr))

@@ -8,8 +8,8 @@ use Rattle.std.proofs.lemmas.List.Sums.{sum_by-cons}
 use Rattle.std.proofs.lemmas.Nat.{mod-mul-add}
 use Rattle.std.proofs.lemmas.Option.{slice_get-map}
 use Rattle.std.proofs.Math.Nat.{suc-mul}
-use Rattle.frame_clock.specs.FramePlace.{first_place, next_major, place_at, place_by, slot_in}
-use Rattle.frame_clock.specs.declared.place.FramePlace.{FramePlace}
+use Rattle.frame_clock.specs.FrameAt.{first_place, next_major, place_at, place_by, slot_in}
+use Rattle.frame_clock.specs.declared.place.FrameAt.{FrameAt}
 use Rattle.image_plan.proofs.ByNumber.{there}
 use Rattle.image_plan.proofs.SlotLaws.{first_major, later_major, length_slots, ticks_of}
 use Rattle.image_plan.specs.Slot.{frame_slots, slot_at, slots_from}
@@ -59,7 +59,7 @@ whole_sums (m ∷ ms) = ap (λ n. ticks_of m + n) (whole_sums ms) ∙ sym (sum_b
 -- ---- the place at a tick
 
 -- the major frame at a place is there and has this tick, and it began after all major frames ran some times and those before it once
-record IsPlace (ticks : List ℕ) (tick : ℕ) (at : FramePlace) : Type 0 where
+record IsPlace (ticks : List ℕ) (tick : ℕ) (at : FrameAt) : Type 0 where
   size : ℕ
   rounds : ℕ
   found : slice_get ticks at.major ≡ Some size
@@ -80,7 +80,7 @@ place_begins ticks tick major rounds each l since =
       since = since;
     }
 
-place_stays : (ticks : List ℕ) (tick : ℕ) (at : FramePlace) (p : IsPlace ticks tick at) → (suc tick ≡ at.start + p.size → ⊥) → IsPlace ticks (suc tick) at
+place_stays : (ticks : List ℕ) (tick : ℕ) (at : FrameAt) (p : IsPlace ticks tick at) → (suc tick ≡ at.start + p.size → ⊥) → IsPlace ticks (suc tick) at
 place_stays ticks tick at p ne =
     let begun = p.begun in
     let left = p.left in
@@ -93,7 +93,7 @@ place_stays ticks tick at p ne =
       since = p.since;
     }
 
-place_turns : (ticks : List ℕ) (tick : ℕ) (at : FramePlace) (p : IsPlace ticks tick at) → All (λ n. 0 < n) ticks → 0 < length ticks → suc tick ≡ at.start + p.size → IsPlace ticks (suc tick) (record { major = next_major (length ticks) at.major None; start = suc tick })
+place_turns : (ticks : List ℕ) (tick : ℕ) (at : FrameAt) (p : IsPlace ticks tick at) → All (λ n. 0 < n) ticks → 0 < length ticks → suc tick ≡ at.start + p.size → IsPlace ticks (suc tick) (record { major = next_major (length ticks) at.major None; start = suc tick })
 place_turns ticks tick at p each some end =
     let since = p.since in
     elim (cases_lt (at.major + 1) (length ticks)) [
@@ -108,9 +108,9 @@ place_turns ticks tick at p each some end =
           (place_begins ticks (suc tick) 0 (suc p.rounds) each some (omega (arith, since, end, last, more)))
     ]
 
-place_goes : (ticks : List ℕ) (tick : ℕ) (at : FramePlace) → All (λ n. 0 < n) ticks → 0 < length ticks → IsPlace ticks tick at → IsPlace ticks (suc tick) (place_at ticks at None (suc tick))
+place_goes : (ticks : List ℕ) (tick : ℕ) (at : FrameAt) → All (λ n. 0 < n) ticks → 0 < length ticks → IsPlace ticks tick at → IsPlace ticks (suc tick) (place_at ticks at None (suc tick))
 place_goes ticks tick at each some p =
-    let next : FramePlace = record { major = next_major (length ticks) at.major None; start = suc tick } in
+    let next : FrameAt = record { major = next_major (length ticks) at.major None; start = suc tick } in
     subst (λ o. IsPlace ticks (suc tick) (place_by (length ticks) at None (suc tick) o)) (sym p.found)
     (elim (cases_eq (suc tick) (at.start + p.size)) [
       | inl h ↦ subst (λ b. IsPlace ticks (suc tick) (cond b next at)) (sym (eq-eqb (suc tick) (at.start + p.size) h)) (place_turns ticks tick at p each some h)
@@ -154,7 +154,7 @@ frames_behind : (o : Option (List Frame)) (size : ℕ) → option_map ticks_of o
 frames_behind None size e = absurd (cc (e))
 frames_behind (Some fs) size e = let same : ticks_of fs ≡ size = cc (e) in (fs, refl, same)
 
-slot_by_place : (frames : List (List Frame)) (tick : ℕ) (at : FramePlace) → IsPlace (map ticks_of frames) tick at → slot_in frames at tick ≡ slot_at frames tick
+slot_by_place : (frames : List (List Frame)) (tick : ℕ) (at : FrameAt) → IsPlace (map ticks_of frames) tick at → slot_in frames at tick ≡ slot_at frames tick
 unfolding slot_at
 slot_by_place frames tick at p =
     let ticks = map ticks_of frames in

@@ -9,9 +9,9 @@ use Rattle.machine_meaning.specs.Memory.{le_number}
 use Rattle.muen_num.specs.Range.{numbers_below}
 use Rattle.look_up.proofs.ChangeLaws.{element_changes}
 use Rattle.machine_meaning.specs.Pending.{with_vector}
-use Rattle.muen_num.specs.declared.access.Kind.{Kind}
-use Rattle.muen_num.specs.declared.mode.Mode.{Mode}
-use Rattle.muen_num.specs.declared.mode.Mode.TheVariants.{Asap, Async, Own as OwnMode, Switch}
+use Rattle.muen_num.specs.declared.access.AccessKind.{AccessKind}
+use Rattle.muen_num.specs.declared.mode.EventMode.{EventMode}
+use Rattle.muen_num.specs.declared.mode.EventMode.TheVariants.{Asap, Async, Own as OwnMode, Switch}
 use Rattle.policy_meaning.specs.Events.{Raised, Target, event_of}
 use Rattle.policy_meaning.specs.Thing.{Thing, state, same_thing}
 use Rattle.policy_meaning.specs.Windows.{Access, access_of, byte, violation}
@@ -59,7 +59,7 @@ unfolding solo_turn
 inbox_alone own mine a b bytes ports now later first tick =
     λ i. turn_by own mine a (λ x. bytes x i) (ports i) (now i) (later i) (first i) (tick i)
 
-pub window_alone : (own : Own) (values : MsrValues) (inbox : Inbox) (kind : Kind) (addr : ℕ) (x : Thing) (offset : ℕ) → (alone own values inbox).look kind addr ≡ Reached x offset → access_of own.windows addr kind ≡ byte x offset
+pub window_alone : (own : Own) (values : MsrValues) (inbox : Inbox) (kind : AccessKind) (addr : ℕ) (x : Thing) (offset : ℕ) → (alone own values inbox).look kind addr ≡ Reached x offset → access_of own.windows addr kind ≡ byte x offset
 window_alone own values inbox kind addr x offset h = by_access (access_of own.windows addr kind) h
   where
     by_access : (a : Access Thing) → reach_by kind addr a ≡ Reached x offset → a ≡ byte x offset
@@ -82,7 +82,7 @@ raised_things : (p : Source) (s : Subject) (way : Option SourceWay) (y : System)
 raised_things p s None y = refl
 raised_things p s (Some way) y = by_event (event_of p s way)
   where
-    by_mode : (mode : Mode) (t : Target) → (happens_as p mode t y).things ≡ y.things
+    by_mode : (mode : EventMode) (t : Target) → (happens_as p mode t y).things ≡ y.things
     by_mode Asap t = refl
     by_mode Async t = refl
     by_mode OwnMode t = refl
@@ -125,7 +125,7 @@ others_now t y = record {
   later = λ other ne. refl;
 }
 
-others_stay : (p : Source) (mode : Mode) (t : Target) (y : System) → KeepsOthers t.subject y (happens_as p mode t y)
+others_stay : (p : Source) (mode : EventMode) (t : Target) (y : System) → KeepsOthers t.subject y (happens_as p mode t y)
 others_stay p Asap t y = others_now t y
 others_stay p Async t y = record {
   now = λ other ne. refl;

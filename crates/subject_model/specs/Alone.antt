@@ -13,7 +13,7 @@ use Rattle.guest_step.specs.declared.reach.Reach.TheVariants.{Reached, Refused}
 use Rattle.machine_meaning.specs.Memory.{le_number}
 use Rattle.muen_num.specs.Access.{kind_bit}
 use Rattle.muen_num.specs.Range.{numbers_below}
-use Rattle.muen_num.specs.declared.access.Kind.{Kind}
+use Rattle.muen_num.specs.declared.access.AccessKind.{AccessKind}
 use Rattle.muen_num.specs.declared.limits.TheConstants.{EXIT_EPT_VIOLATION, EXIT_HLT, EXIT_VMCALL}
 use Rattle.policy_meaning.specs.Events.{traps_of}
 use Rattle.policy_meaning.specs.Thing.{Thing, same_thing}
@@ -23,10 +23,10 @@ use Rattle.policy_types.specs.declared.source.SourceWay.{SourceWay}
 use Rattle.policy_types.specs.declared.source.SourceWay.TheVariants.{Call, Trap}
 use Rattle.policy_types.specs.declared.source.Subject.{Subject}
 use Rattle.subject_state.specs.declared.SubjectState.{SubjectState}
-use Rattle.view_text.specs.declared.End.{End}
-use Rattle.view_text.specs.declared.End.TheVariants.{On, Halt, Trap as Trapped, Stop}
-use Rattle.view_text.specs.declared.What.{What}
-use Rattle.view_text.specs.declared.What.TheVariants.{Ran, Set, Stored as Wrote, Out, WroteMsr, Inject, Exit}
+use Rattle.view_text.specs.declared.ExitEnd.{ExitEnd}
+use Rattle.view_text.specs.declared.ExitEnd.TheVariants.{On, Halt, Trap as Trapped, Stop}
+use Rattle.view_text.specs.declared.TurnAction.{TurnAction}
+use Rattle.view_text.specs.declared.TurnAction.TheVariants.{Ran, Set, Stored as Wrote, Out, WroteMsr, Inject, Exit}
 use Rattle.subject_model.specs.ByKey.{value_of}
 
 -- ---- what a subject is given for itself
@@ -89,7 +89,7 @@ pub record Inbox : Type 0 where
 
 -- where a window leads; a missing right is an EPT violation, whose qualification has the bit of the access, and the rights that
 -- were found in bits 5:3
-abbrev pub reach_by : Kind → ℕ → Access Thing → Reach Thing
+abbrev pub reach_by : AccessKind → ℕ → Access Thing → Reach Thing
 reach_by kind addr (byte x offset) = Reached x offset
 reach_by kind addr (violation found) = Refused EXIT_EPT_VIOLATION (kind_bit kind + 8 * found.0) addr
 
@@ -122,7 +122,7 @@ alone own values inbox = record {
 
 pub record TurnAnswer : Type 0 where
   pub state : SubjectState
-  pub what : Option What
+  pub what : Option TurnAction
   pub stored : Option (Stored Thing)
   pub msr : Option MsrWrite
   pub taken : Option ℕ
@@ -142,7 +142,7 @@ abbrev pub has_trap : List ℕ → ℕ → Bool
 has_trap traps reason = list_any (λ t. t == reason) traps
 
 -- how it goes on, as a line tells it
-abbrev pub end_of : ℕ → Bool → End
+abbrev pub end_of : ℕ → Bool → ExitEnd
 end_of reason trap =
     if reason == EXIT_HLT then Halt
     else (if reason == EXIT_VMCALL then On
@@ -157,7 +157,7 @@ way_of traps reason call =
 
 -- ---- after a step, by how it ended
 
-abbrev pub what_of : List ℕ → StepEnd → What
+abbrev pub what_of : List ℕ → StepEnd → TurnAction
 what_of traps ends.Plain = Ran
 what_of traps (ends.Set reg value) = Set reg value
 what_of traps (ends.Stored size addr value) = Wrote size addr value

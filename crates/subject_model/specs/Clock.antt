@@ -2,7 +2,7 @@
 use Rattle.std.specs.Prelude.{ℕ, ◌==◌, List, map, filter, slice_get, slice_set, Option, Some, None, option_and_then}
 use Rattle.std.specs.List.{find, sum_by}
 use Rattle.std.specs.Option.{option_map_or}
-use Rattle.frame_clock.specs.FramePlace.{place_at}
+use Rattle.frame_clock.specs.FrameAt.{place_at}
 use Rattle.muen_num.specs.Range.{numbers_below}
 use Rattle.policy_meaning.specs.Contents.{Held}
 use Rattle.policy_meaning.specs.Events.{Target, irq_of}
@@ -12,7 +12,7 @@ use Rattle.policy_types.specs.declared.source.Source.{Source}
 use Rattle.policy_types.specs.declared.source.Tau0.{Tau0}
 use Rattle.record_text.specs.DeviceRecord.{DeviceRecord, NamedInput, port_input, memory_input, irq_input, dma_input}
 use Rattle.tick_run.specs.Run.{Clocked, Ran, run_to}
-use Rattle.view_text.specs.declared.Line.{Line}
+use Rattle.view_text.specs.declared.TurnLine.{TurnLine}
 use Rattle.subject_model.specs.Alone.{thing_in}
 use Rattle.subject_model.specs.System.{System, pends_now, start_of, system_turn, with_bytes}
 
@@ -43,7 +43,7 @@ takes p (irq_input device irq) y = irq_reaches (irq_of p device irq) y
 takes p (dma_input device addr bytes) y = y
 
 -- **the system on the clock**
-abbrev pub system : Source → Clocked System NamedInput Line
+abbrev pub system : Source → Clocked System NamedInput TurnLine
 system p = record { begins = begins p; takes = takes p; turn = system_turn p }
 
 -- ---- by a record
@@ -56,5 +56,5 @@ abbrev pub order_at : Source → DeviceRecord → ℕ → List ℕ
 order_at p r tick = option_map_or (λ e. e.1) (find (λ e. e.0 == tick) r.orders) (numbers_below p.processor.logical_cpus)
 
 -- **the run** on a record, from the start
-unfoldable pub run_of : Source → Held → DeviceRecord → Ran System Line
+unfoldable pub run_of : Source → Held → DeviceRecord → Ran System TurnLine
 run_of p files r = run_to (system p) (inputs_at r) (order_at p r) r.end (start_of p files)

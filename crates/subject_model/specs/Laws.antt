@@ -1,8 +1,8 @@
 -- What laws of the abstract system speak of.
 use Rattle.std.specs.Prelude.{◌≡◌, ℕ, zero, suc, ◌<◌, Bool, List, length, map, slice_get, Option, Some, None}
 use Rattle.std.specs.List.{All, sum_by}
-use Rattle.frame_clock.specs.FramePlace.{first_place, place_at, slot_in}
-use Rattle.frame_clock.specs.declared.place.FramePlace.{FramePlace}
+use Rattle.frame_clock.specs.FrameAt.{first_place, place_at, slot_in}
+use Rattle.frame_clock.specs.declared.place.FrameAt.{FrameAt}
 use Rattle.guest_step.specs.Step.{Stored}
 use Rattle.image_plan.specs.Slot.{Slot}
 use Rattle.muen_num.specs.Frame.{Frame}
@@ -53,6 +53,6 @@ pub record AreFrames (frames : List (List Frame)) (ticks : List ℕ) : Type 0 wh
   pub some : 0 < length ticks
 
 -- the place at a tick where nothing ever picks a major frame
-abbrev pub place_after : List ℕ → ℕ → FramePlace
+abbrev pub place_after : List ℕ → ℕ → FrameAt
 place_after ticks zero = place_at ticks first_place None 0
 place_after ticks (suc tick) = place_at ticks (place_after ticks tick) None (suc tick)

@@ -5,16 +5,16 @@ use Rattle.std.specs.Prelude.{ℕ, ◌+◌, ◌==◌, Bool, List, [], ◌++◌, 
 use Rattle.std.specs.List.{find, list_any}
 use Rattle.std.specs.Str.{bytes_eq}
 use Rattle.expand_grants.specs.Resources.{msrs_of, ports_of}
-use Rattle.frame_clock.specs.FramePlace.{first_place, slot_in}
-use Rattle.frame_clock.specs.declared.place.FramePlace.{FramePlace}
+use Rattle.frame_clock.specs.FrameAt.{first_place, slot_in}
+use Rattle.frame_clock.specs.declared.place.FrameAt.{FrameAt}
 use Rattle.guest_step.specs.Step.{Stored, MsrWrite}
 use Rattle.image_plan.specs.Slot.{Slot}
 use Rattle.look_up.specs.ByNumber.{change_at}
 use Rattle.machine_meaning.specs.Memory.{over}
 use Rattle.machine_meaning.specs.Pending.{without, with_vector}
 use Rattle.muen_num.specs.declared.limits.TheConstants.{LAST_PORT}
-use Rattle.muen_num.specs.declared.mode.Mode.{Mode}
-use Rattle.muen_num.specs.declared.mode.Mode.TheVariants.{Asap, Async, Own as OwnMode, Switch}
+use Rattle.muen_num.specs.declared.mode.EventMode.{EventMode}
+use Rattle.muen_num.specs.declared.mode.EventMode.TheVariants.{Asap, Async, Own as OwnMode, Switch}
 use Rattle.policy_meaning.specs.Contents.{Held, initial_bytes}
 use Rattle.policy_meaning.specs.Events.{Raised, Target, event_of}
 use Rattle.policy_meaning.specs.Frames.{first_member, frames_of, group_of}
@@ -27,8 +27,8 @@ use Rattle.state_page.specs.StatePage.{page_bytes, state_in}
 use Rattle.subject_state.specs.States.{started}
 use Rattle.subject_state.specs.declared.SubjectState.{SubjectState}
 use Rattle.tick_run.specs.Run.{Turned}
-use Rattle.view_text.specs.declared.Line.{Line}
-use Rattle.view_text.specs.declared.What.{What}
+use Rattle.view_text.specs.declared.TurnLine.{TurnLine}
+use Rattle.view_text.specs.declared.TurnAction.{TurnAction}
 use Rattle.subject_model.specs.ByKey.{value_of, change_of}
 use Rattle.subject_model.specs.Alone.{Inbox, MsrValues, Things, TurnAnswer, own_of, solo_turn, thing_in}
 
@@ -61,7 +61,7 @@ pub record System : Type 0 where
   -- each group's active member, by the group's number
   pub active : List (List ℕ)
   -- the major frame that runs, and its first tick
-  pub place : FramePlace
+  pub place : FrameAt
 
 unfoldable pub first_page : Subject → List ℕ
 first_page s = page_bytes (started s.entry)
@@ -138,7 +138,7 @@ with_active None name y = y
 with_active (Some g) name y = record y { active = change_at g (λ _. name) y.active }
 
 -- a handover makes the target the active member of its group
-abbrev pub happens_as : Source → Mode → Target → System → System
+abbrev pub happens_as : Source → EventMode → Target → System → System
 happens_as p Asap t y = pends_now t y
 happens_as p Async t y = pends_later t y
 happens_as p OwnMode t y = pends_now t y
@@ -158,18 +158,18 @@ answered p s a y = raised_by p s a.raised (took s.name a.taken (with_store a.sto
 
 -- ---- the turn
 
-abbrev pub line_at : ℕ → ℕ → List ℕ → ℕ → What → Line
+abbrev pub line_at : ℕ → ℕ → List ℕ → ℕ → TurnAction → TurnLine
 line_at tick cpu subject pc what = record { tick = tick; cpu = cpu; subject = subject; pc = pc; what = what }
 
-abbrev pub idle : System → Turned System Line
+abbrev pub idle : System → Turned System TurnLine
 idle y = record { state = y; line = None }
 
-abbrev pub turn_answered : Source → ℕ → ℕ → Subject → ℕ → TurnAnswer → System → Turned System Line
+abbrev pub turn_answered : Source → ℕ → ℕ → Subject → ℕ → TurnAnswer → System → Turned System TurnLine
 turn_answered p cpu tick s pc a y =
     record { state = answered p s a y; line = option_map (line_at tick cpu s.name pc) a.what }
 
 -- of this subject, by its own state
-abbrev pub turn_from : Source → ℕ → ℕ → Bool → Subject → Option SubjectState → Option MsrValues → System → Turned System Line
+abbrev pub turn_from : Source → ℕ → ℕ → Bool → Subject → Option SubjectState → Option MsrValues → System → Turned System TurnLine
 turn_from p cpu tick first s (Some st) (Some values) y =
     turn_answered p cpu tick s st.pc (solo_turn (own_of p s) (record { state = st; msrs = values }) (inbox_of p y s first tick)) y
 turn_from p cpu tick first s (Some st) None y = idle y
@@ -179,7 +179,7 @@ turn_from p cpu tick first s None values y = idle y
 abbrev pub state_of : System → List ℕ → Option SubjectState
 state_of y name = option_map state_in (thing_in y.things (state name))
 
-abbrev pub turn_of_subject : Source → ℕ → ℕ → Bool → Option Subject → System → Turned System Line
+abbrev pub turn_of_subject : Source → ℕ → ℕ → Bool → Option Subject → System → Turned System TurnLine
 turn_of_subject p cpu tick first None y = idle y
 turn_of_subject p cpu tick first (Some s) y = turn_from p cpu tick first s (state_of y s.name) (named y.msrs s.name) y
 
@@ -187,15 +187,15 @@ abbrev pub subject_named : Source → List ℕ → Option Subject
 subject_named p name = find (λ s. bytes_eq s.name name) p.subjects
 
 -- by the active member of the slot's group
-abbrev pub turn_of_member : Source → ℕ → ℕ → Bool → Option (List ℕ) → System → Turned System Line
+abbrev pub turn_of_member : Source → ℕ → ℕ → Bool → Option (List ℕ) → System → Turned System TurnLine
 turn_of_member p cpu tick first None y = idle y
 turn_of_member p cpu tick first (Some name) y = turn_of_subject p cpu tick first (subject_named p name) y
 
 -- by the slot
-abbrev pub turn_in_slot : Source → ℕ → ℕ → Option Slot → System → Turned System Line
+abbrev pub turn_in_slot : Source → ℕ → ℕ → Option Slot → System → Turned System TurnLine
 turn_in_slot p cpu tick None y = idle y
 turn_in_slot p cpu tick (Some slot) y = turn_of_member p cpu tick slot.first (slice_get y.active slot.group) y
 
 -- **the turn** of a CPU in a tick
-abbrev pub system_turn : Source → ℕ → ℕ → System → Turned System Line
+abbrev pub system_turn : Source → ℕ → ℕ → System → Turned System TurnLine
 system_turn p cpu tick y = turn_in_slot p cpu tick (slot_in (frames_of p cpu) y.place tick) y

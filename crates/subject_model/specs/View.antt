@@ -10,7 +10,7 @@ use Rattle.policy_types.specs.declared.source.Subject.{Subject}
 use Rattle.record_text.specs.DeviceRecord.{DeviceRecord}
 use Rattle.subject_state.specs.declared.SubjectState.{SubjectState}
 use Rattle.tick_run.specs.Run.{Ran, run_to, tick_ran}
-use Rattle.view_text.specs.declared.Line.{Line}
+use Rattle.view_text.specs.declared.TurnLine.{TurnLine}
 use Rattle.subject_model.specs.Alone.{MsrValues, Things}
 use Rattle.subject_model.specs.Clock.{inputs_at, order_at, system}
 use Rattle.subject_model.specs.System.{System, named, pending, shown_to, start_of, state_of}
@@ -18,7 +18,7 @@ use Rattle.subject_model.specs.System.{System, named, pending, shown_to, start_o
 -- what it sees in a tick
 pub record Seen : Type 0 where
   -- the line of its turn; none where it has none
-  pub line : Option Line
+  pub line : Option TurnLine
   pub state : Option SubjectState
   pub msrs : Option MsrValues
   -- its pending vectors that are deliverable at any turn
@@ -34,7 +34,7 @@ through cpu [] = []
 through cpu (c ∷ order) = if c == cpu then c ∷ [] else c ∷ through cpu order
 
 -- of these turns of a tick, and the system after them
-abbrev pub seen_in : Source → Subject → Ran System Line → Seen
+abbrev pub seen_in : Source → Subject → Ran System TurnLine → Seen
 seen_in p s r = record {
   line = find (λ l. bytes_eq l.subject s.name) r.lines;
   state = state_of r.state s.name;
@@ -45,7 +45,7 @@ seen_in p s r = record {
 }
 
 -- the turns of a tick of a run on a record, through that of this CPU
-abbrev pub ran_through : Source → Held → DeviceRecord → ℕ → ℕ → Ran System Line
+abbrev pub ran_through : Source → Held → DeviceRecord → ℕ → ℕ → Ran System TurnLine
 ran_through p files r cpu tick =
     tick_ran (system p) tick (inputs_at r tick) (through cpu (order_at p r tick))
     (run_to (system p) (inputs_at r) (order_at p r) tick (start_of p files)).state

@@ -7,13 +7,13 @@
 
 ghost use Rattle.std.specs.Prelude.{◌≡◌, ℕ, Bool, List, Some, None, true, slice_get};
 ghost use Rattle.expand_grants.specs.Resources.{are_granted};
-ghost use Rattle.frame_clock.specs.FramePlace.{slot_in};
+ghost use Rattle.frame_clock.specs.FrameAt.{slot_in};
 ghost use Rattle.guest_step.specs.Step.{MsrWrite};
 ghost use Rattle.guest_step.specs.declared.reach.Reach.TheVariants.{Reached};
 ghost use Rattle.image_plan.specs.Slot.{slot_at};
 ghost use Rattle.muen_num.specs.Frame.{Frame};
-ghost use Rattle.muen_num.specs.declared.access.Kind.{Kind};
-ghost use Rattle.muen_num.specs.declared.mode.Mode.TheVariants.{Switch};
+ghost use Rattle.muen_num.specs.declared.access.AccessKind.{AccessKind};
+ghost use Rattle.muen_num.specs.declared.mode.EventMode.TheVariants.{Switch};
 ghost use Rattle.policy_meaning.specs.Events.{Raised, Target, event_of};
 ghost use Rattle.policy_meaning.specs.Thing.{Thing, state};
 ghost use Rattle.policy_meaning.specs.Windows.{access_of, byte};
@@ -64,7 +64,7 @@ pub fn turn_sees_its_inbox_alone()
 
 /// What a subject reaches is what a window of its with the right for this access shows there.
 pub fn windows_alone_are_reached()
-    ensures { (own : Own) (values : MsrValues) (inbox : Inbox) (kind : Kind) (addr : ℕ) (x : Thing) (offset : ℕ)
+    ensures { (own : Own) (values : MsrValues) (inbox : Inbox) (kind : AccessKind) (addr : ℕ) (x : Thing) (offset : ℕ)
         → (alone own values inbox).look kind addr ≡ Reached x offset → access_of own.windows addr kind ≡ byte x offset }
 {}
 

@@ -10,8 +10,8 @@ use Rattle.guest_step.specs.Step.{Stored}
 use Rattle.look_up.proofs.ChangeLaws.{element_changes, others_stay}
 use Rattle.look_up.specs.ByNumber.{change_at}
 use Rattle.muen_num.proofs.Lists.{passes_at}
-use Rattle.muen_num.specs.declared.mode.Mode.{Mode}
-use Rattle.muen_num.specs.declared.mode.Mode.TheVariants.{Asap, Async, Own as OwnMode, Switch}
+use Rattle.muen_num.specs.declared.mode.EventMode.{EventMode}
+use Rattle.muen_num.specs.declared.mode.EventMode.TheVariants.{Asap, Async, Own as OwnMode, Switch}
 use Rattle.policy_lawful.proofs.Places.{same_self}
 use Rattle.policy_lawful.specs.Rules.{is_group, is_on, subject_cpu}
 use Rattle.policy_meaning.specs.Contents.{Held}
@@ -74,7 +74,7 @@ module _ (p : Source) where
         | inr ne ↦ h k name g (sym (others_stay i k (λ _. member) y.active ne) ∙ at) there
       ]
 
-  happens_listed : (mode : Mode) (t : Target) (y : System) → AreListed p y.active → AreListed p (happens_as p mode t y).active
+  happens_listed : (mode : EventMode) (t : Target) (y : System) → AreListed p y.active → AreListed p (happens_as p mode t y).active
   happens_listed Asap t y h = h
   happens_listed Async t y h = h
   happens_listed OwnMode t y h = h

@@ -7,7 +7,7 @@ use Rattle.std.specs.Str.{bytes_eq}
 use Rattle.std.proofs.lemmas.Bool.{and_parts, eqb-true, eq-eqb, ltb-true, not-true, or_parts, true≢false}
 use Rattle.std.proofs.lemmas.List.Elements.{recursion_from_All}
 use Rattle.std.proofs.lemmas.Slice.Eq.{bytes_eq-Decides}
-use Rattle.frame_clock.specs.FramePlace.{slot_in}
+use Rattle.frame_clock.specs.FrameAt.{slot_in}
 use Rattle.image_plan.specs.Slot.{Slot}
 use Rattle.muen_num.proofs.Lists.{found_among, map-map}
 use Rattle.policy_lawful.proofs.Places.{same_self}
@@ -25,7 +25,7 @@ use Rattle.record_text.specs.Law.{NamesEachOnce}
 use Rattle.record_text.specs.Reading.{are_distinct}
 use Rattle.subject_state.specs.declared.SubjectState.{SubjectState}
 use Rattle.tick_run.specs.Run.{Turned, begun, run_to, turns}
-use Rattle.view_text.specs.declared.Line.{Line}
+use Rattle.view_text.specs.declared.TurnLine.{TurnLine}
 use Rattle.subject_model.specs.Alone.{Inbox, MsrValues, OwnState, TurnAnswer, own_of, solo_turn}
 use Rattle.subject_model.specs.Clock.{inputs_at, order_at, system}
 use Rattle.subject_model.specs.System.{System, idle, inbox_of, line_at, named, start_of, state_of, subject_named, system_turn, turn_from, turn_in_slot, turn_of_member, turn_of_subject}
@@ -50,17 +50,17 @@ module _ (p : Source) (s : Subject) (is : subject_named p s.name ≡ Some s) (no
   -- ---- its own turn
 
   -- after a turn of its CPU it is as by itself, and the turn prints of it what it says by itself
-  record IsAlone (tick : ℕ) (inbox : Option Inbox) (mine : OwnState) (t : Turned System Line) : Type 0 where
+  record IsAlone (tick : ℕ) (inbox : Option Inbox) (mine : OwnState) (t : Turned System TurnLine) : Type 0 where
     pub own : IsOwn s t.state (after_tick (own_of p s) inbox mine)
     pub line : find (λ l. bytes_eq l.subject s.name) (cons_option t.line []) ≡ option_map (line_at tick s.cpu s.name mine.state.pc) (says_in (own_of p s) inbox mine)
 
   -- nothing of it
-  quiet : (tick : ℕ) (mine : OwnState) (y : System) → IsOwn s y mine → (t : Turned System Line) → IsOthers s y t → IsAlone tick None mine t
+  quiet : (tick : ℕ) (mine : OwnState) (y : System) → IsOwn s y mine → (t : Turned System TurnLine) → IsOthers s y t → IsAlone tick None mine t
   quiet tick mine y h t others =
       record { own = own_stays s y t.state mine others.stays h; line = find_other (λ l. bytes_eq l.subject s.name) t.line [] others.line }
 
   -- its own line
-  own_line : (tick : ℕ) (mine : OwnState) (o : Option Line) → IfSome o (λ l. bytes_eq l.subject s.name ≡ true) → find (λ l. bytes_eq l.subject s.name) (cons_option o []) ≡ o
+  own_line : (tick : ℕ) (mine : OwnState) (o : Option TurnLine) → IfSome o (λ l. bytes_eq l.subject s.name ≡ true) → find (λ l. bytes_eq l.subject s.name) (cons_option o []) ≡ o
   own_line tick mine None h = refl
   own_line tick mine (Some l) h = ap (λ b. cond b (Some l) None) h
 
@@ -71,7 +71,7 @@ module _ (p : Source) (s : Subject) (is : subject_named p s.name ≡ Some s) (no
         record {
           own = own_answer p s answer y mine h (solo_elsewhere p s none s s.name is mine (inbox_of p y s first tick));
           line = own_line tick mine (option_map (line_at tick s.cpu s.name mine.state.pc) answer.what)
-              (mapped (λ (l : Line). bytes_eq l.subject s.name ≡ true) (line_at tick s.cpu s.name mine.state.pc) (λ w. same_self s.name) answer.what);
+              (mapped (λ (l : TurnLine). bytes_eq l.subject s.name ≡ true) (line_at tick s.cpu s.name mine.state.pc) (λ w. same_self s.name) answer.what);
         }
 
     -- by its state, which is on its page

@@ -1,7 +1,7 @@
 -- What inputs and turns keep, each state of a run has.
 use Rattle.std.proofs.Common.{◌≡◌, ℕ, zero, suc, Bool, List, [], ◌∷◌, Option, Some, None, refl}
 use Rattle.std.specs.Prelude.{slice_get}
-use Rattle.frame_clock.specs.FramePlace.{slot_in}
+use Rattle.frame_clock.specs.FrameAt.{slot_in}
 use Rattle.image_plan.specs.Slot.{Slot}
 use Rattle.policy_meaning.specs.Frames.{frames_of}
 use Rattle.policy_types.specs.declared.source.Source.{Source}
@@ -9,7 +9,7 @@ use Rattle.policy_types.specs.declared.source.Subject.{Subject}
 use Rattle.record_text.specs.DeviceRecord.{NamedInput}
 use Rattle.subject_state.specs.declared.SubjectState.{SubjectState}
 use Rattle.tick_run.specs.Run.{Turned, all_taken, begun, run_to, tick_ran, turns}
-use Rattle.view_text.specs.declared.Line.{Line}
+use Rattle.view_text.specs.declared.TurnLine.{TurnLine}
 use Rattle.system_laws.specs.Members.{HasTurn}
 use Rattle.subject_model.specs.Alone.{MsrValues, own_of, solo_turn}
 use Rattle.subject_model.specs.Clock.{begins, system, takes}
@@ -18,12 +18,12 @@ use Rattle.subject_model.specs.System.{System, answered, idle, inbox_of, named, 
 -- ---- a turn
 
 -- the turn of this subject in a slot, by its own state
-abbrev pub acted : Source → ℕ → ℕ → Bool → Subject → SubjectState → MsrValues → System → Turned System Line
+abbrev pub acted : Source → ℕ → ℕ → Bool → Subject → SubjectState → MsrValues → System → Turned System TurnLine
 acted p cpu tick first q st values y =
     turn_answered p cpu tick q st.pc (solo_turn (own_of p q) (record { state = st; msrs = values }) (inbox_of p y q first tick)) y
 
 -- what holds where nothing happens, and where a subject has acted, holds after a turn
-module _ (p : Source) (cpu tick : ℕ) (y : System) (R : Turned System Line → Type 0) (nothing : R (idle y))
+module _ (p : Source) (cpu tick : ℕ) (y : System) (R : Turned System TurnLine → Type 0) (nothing : R (idle y))
     (acts : (slot : Slot) (member : List ℕ) (q : Subject) (st : SubjectState) (values : MsrValues) → HasTurn p cpu tick y slot member q → R (acted p cpu tick slot.first q st values y)) where
   by_own : (slot : Slot) (member : List ℕ) (q : Subject) → HasTurn p cpu tick y slot member q → (st : Option SubjectState) (values : Option MsrValues) → R (turn_from p cpu tick slot.first q st values y)
   by_own slot member q has (Some st) (Some values) = acts slot member q st values has

@@ -18,7 +18,7 @@ use Rattle.policy_types.specs.declared.source.Subject.{Subject}
 use Rattle.record_text.specs.DeviceRecord.{DeviceRecord}
 use Rattle.record_text.specs.Reading.{are_distinct}
 use Rattle.tick_run.specs.Run.{begun, run_to, tick_ran, turns}
-use Rattle.view_text.specs.declared.Line.{Line}
+use Rattle.view_text.specs.declared.TurnLine.{TurnLine}
 use Rattle.subject_model.specs.Clock.{inputs_at, order_at, run_of, system}
 use Rattle.subject_model.specs.System.{System, start_of, subject_named, system_turn}
 use Rattle.subject_model.specs.View.{Seen, ran_through, seen_in, through, view_of}
@@ -58,16 +58,16 @@ order_distinct (Some e) cpus h = h
 
 -- ---- lines that pass a test
 
-module _ (test : Line → Bool) where
-  filter_other : (o : Option Line) (ls : List Line) → IfSome o (λ l. test l ≡ false) → filter test (cons_option o ls) ≡ filter test ls
+module _ (test : TurnLine → Bool) where
+  filter_other : (o : Option TurnLine) (ls : List TurnLine) → IfSome o (λ l. test l ≡ false) → filter test (cons_option o ls) ≡ filter test ls
   filter_other None ls h = refl
   filter_other (Some l) ls h = ap (λ b. cond b (l ∷ filter test ls) (filter test ls)) h
 
-  pub find_other : (o : Option Line) (ls : List Line) → IfSome o (λ l. test l ≡ false) → find test (cons_option o ls) ≡ find test ls
+  pub find_other : (o : Option TurnLine) (ls : List TurnLine) → IfSome o (λ l. test l ≡ false) → find test (cons_option o ls) ≡ find test ls
   find_other None ls h = refl
   find_other (Some l) ls h = ap (λ b. cond b (Some l) (find test ls)) h
 
-  last_one : (o : Option Line) (ls : List Line) → filter test ls ≡ [] → filter test (cons_option o ls) ≡ cons_option (find test (cons_option o [])) []
+  last_one : (o : Option TurnLine) (ls : List TurnLine) → filter test ls ≡ [] → filter test (cons_option o ls) ≡ cons_option (find test (cons_option o [])) []
   last_one None ls none = none
   last_one (Some l) ls none =
       elim (test l) as (λ b. cond b (l ∷ filter test ls) (filter test ls) ≡ cons_option (cond b (Some l) None) []) [

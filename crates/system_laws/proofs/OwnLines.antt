@@ -14,8 +14,8 @@ use Rattle.policy_lawful.specs.Rules.{is_group, is_on, subject_cpu}
 use Rattle.policy_types.specs.declared.source.Group.{Group}
 use Rattle.policy_types.specs.declared.source.Source.{Source}
 use Rattle.policy_types.specs.declared.source.Subject.{Subject}
-use Rattle.view_text.specs.declared.Line.{Line}
-use Rattle.view_text.specs.declared.What.{What}
+use Rattle.view_text.specs.declared.TurnLine.{TurnLine}
+use Rattle.view_text.specs.declared.TurnAction.{TurnAction}
 use Rattle.sound_stands.proofs.PolicyFacts.{found_passes}
 use Rattle.subject_model.specs.Alone.{own_of, solo_turn}
 use Rattle.subject_model.specs.System.{System, inbox_of, line_at, subject_named, system_turn}
@@ -67,9 +67,9 @@ other_name p s q member is found apart same =
     eqb-false q.cpu s.cpu apart (ap (λ q. q.cpu) one)
 
 -- its line isn't of a subject of another name
-pub not_of : (tick cpu pc : ℕ) (name other : List ℕ) → (other ≡ name → ⊥) → (o : Option What) → IfSome (option_map (line_at tick cpu other pc) o) (λ l. bytes_eq l.subject name ≡ false)
+pub not_of : (tick cpu pc : ℕ) (name other : List ℕ) → (other ≡ name → ⊥) → (o : Option TurnAction) → IfSome (option_map (line_at tick cpu other pc) o) (λ l. bytes_eq l.subject name ≡ false)
 not_of tick cpu pc name other ne o =
-    mapped (λ (l : Line). bytes_eq l.subject name ≡ false) (line_at tick cpu other pc)
+    mapped (λ (l : TurnLine). bytes_eq l.subject name ≡ false) (line_at tick cpu other pc)
     (λ w. false_from_ne_true (bytes_eq other name) (λ e. ne ((bytes_eq-Decides other name).0 e))) o
 
 -- no line of a subject comes on another CPU

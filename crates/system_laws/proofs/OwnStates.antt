@@ -15,7 +15,7 @@ use Rattle.record_text.specs.DeviceRecord.{NamedInput, port_input, memory_input,
 use Rattle.state_page.specs.StatePage.{page_bytes, state_in}
 use Rattle.subject_state.specs.declared.SubjectState.{SubjectState}
 use Rattle.tick_run.specs.Run.{Turned, all_taken, begun}
-use Rattle.view_text.specs.declared.Line.{Line}
+use Rattle.view_text.specs.declared.TurnLine.{TurnLine}
 use Rattle.subject_model.specs.Alone.{MsrValues, OwnState, TurnAnswer, own_of, solo_turn, thing_in}
 use Rattle.subject_model.specs.Clock.{begins, system, takes}
 use Rattle.subject_model.specs.Laws.{StoresElsewhere}
@@ -108,7 +108,7 @@ begun_stays p s tick is y mine h = inputs_stay p s is (begins p tick y) mine (re
 -- ---- the turn of another subject
 
 -- it leaves this one's own state, and prints nothing of it
-pub record IsOthers (s : Subject) (y : System) (t : Turned System Line) : Type 0 where
+pub record IsOthers (s : Subject) (y : System) (t : Turned System TurnLine) : Type 0 where
   pub stays : StaysOwn s y t.state
   pub line : IfSome t.line (λ l. bytes_eq l.subject s.name ≡ false)
 

@@ -7,8 +7,8 @@ use Rattle.std.specs.Str.{bytes_eq}
 use Rattle.std.proofs.lemmas.Bool.{and_from, and_parts, eqb-true}
 use Rattle.std.proofs.lemmas.List.Folds.{find_at}
 use Rattle.std.proofs.lemmas.Option.{slice_get-map}
-use Rattle.frame_clock.specs.FramePlace.{slot_in}
-use Rattle.frame_clock.specs.declared.place.FramePlace.{FramePlace}
+use Rattle.frame_clock.specs.FrameAt.{slot_in}
+use Rattle.frame_clock.specs.declared.place.FrameAt.{FrameAt}
 use Rattle.image_plan.specs.Slot.{Slot, frame_slots}
 use Rattle.muen_num.proofs.Lists.{found_among, passes_at}
 use Rattle.muen_num.specs.Frame.{Frame}
@@ -76,13 +76,13 @@ module _ (p : Source) (cpu : ℕ) where
 
   -- ---- a slot
 
-  in_major : (at : FramePlace) (tick : ℕ) (slot : Slot) → list_all (is_major_kept p) p.scheduling.major_frames ≡ true → (o : Option MajorFrame) → slice_get p.scheduling.major_frames at.major ≡ o
+  in_major : (at : FrameAt) (tick : ℕ) (slot : Slot) → list_all (is_major_kept p) p.scheduling.major_frames ≡ true → (o : Option MajorFrame) → slice_get p.scheduling.major_frames at.major ≡ o
       → option_and_then (λ (fs : List Frame). slice_get (flat_map (frame_slots at.major) fs) (tick - at.start)) (option_map (major_frames_of p cpu) o) ≡ Some slot → is_here p cpu slot.group ≡ true
   in_major at tick slot majors None there is = absurd (cc (is))
   in_major at tick slot majors (Some m) there is =
       at_slot (is_here p cpu) at.major (major_frames_of p cpu m) (tick - at.start) slot (major_here m (passes_at (is_major_kept p) p.scheduling.major_frames at.major m majors there)) is
 
-  pub slot_here : MajorsKept p → (at : FramePlace) (tick : ℕ) (slot : Slot) → slot_in (frames_of p cpu) at tick ≡ Some slot → is_here p cpu slot.group ≡ true
+  pub slot_here : MajorsKept p → (at : FrameAt) (tick : ℕ) (slot : Slot) → slot_in (frames_of p cpu) at tick ≡ Some slot → is_here p cpu slot.group ≡ true
   unfolding frames_of
   slot_here kept at tick slot is =
       in_major at tick slot kept.majors (slice_get p.scheduling.major_frames at.major) refl

@@ -1,7 +1,7 @@
 -- What events leave: all things, all MSRs, the input bytes of ports, and the frame place.
 use Rattle.std.proofs.Common.{◌≡◌, ℕ, List, Option, Some, None, refl}
-use Rattle.muen_num.specs.declared.mode.Mode.{Mode}
-use Rattle.muen_num.specs.declared.mode.Mode.TheVariants.{Asap, Async, Own as OwnMode, Switch}
+use Rattle.muen_num.specs.declared.mode.EventMode.{EventMode}
+use Rattle.muen_num.specs.declared.mode.EventMode.TheVariants.{Asap, Async, Own as OwnMode, Switch}
 use Rattle.policy_meaning.specs.Events.{Raised, Target, event_of}
 use Rattle.policy_meaning.specs.Frames.{group_of}
 use Rattle.policy_types.specs.declared.source.Source.{Source}
@@ -23,7 +23,7 @@ by_group : (o : Option ℕ) (member : List ℕ) (y : System) → Unmoved y (with
 by_group None member y = unmoved y
 by_group (Some g) member y = record { things = refl; msrs = refl; ports = refl; place = refl }
 
-by_mode : (p : Source) (mode : Mode) (t : Target) (y : System) → Unmoved y (happens_as p mode t y)
+by_mode : (p : Source) (mode : EventMode) (t : Target) (y : System) → Unmoved y (happens_as p mode t y)
 by_mode p Asap t y = record { things = refl; msrs = refl; ports = refl; place = refl }
 by_mode p Async t y = record { things = refl; msrs = refl; ports = refl; place = refl }
 by_mode p OwnMode t y = record { things = refl; msrs = refl; ports = refl; place = refl }

@@ -9,7 +9,7 @@ use Rattle.std.proofs.lemmas.Bool.{and_from, cases_Bool, or_parts, true≢false}
 use Rattle.std.proofs.lemmas.Slice.Eq.{bytes_eq-Decides}
 use Rattle.guest_step.specs.Step.{Answer, Stored, step}
 use Rattle.guest_step.specs.declared.reach.Reach.TheVariants.{Reached}
-use Rattle.muen_num.specs.declared.access.Kind.TheVariants.{Write}
+use Rattle.muen_num.specs.declared.access.AccessKind.TheVariants.{Write}
 use Rattle.policy_meaning.specs.Thing.{Thing, channel, component_by, device_memory, provided, provided_by, region, same_thing, state, things_of}
 use Rattle.policy_meaning.specs.Windows.{Access, Window, access_by, access_of, byte, channel_window, component_channel_window, component_windows, device_window, entry_of, holds, monitor_window, region_window, required_window, role_rights, violation, window, windows_of}
 use Rattle.policy_types.specs.Rights.{allows}

@@ -3,10 +3,10 @@ use Rattle.std.specs.Prelude.{ℕ, zero, suc, ◌==◌, ◌&&◌, Bool, List, []
 use Rattle.std.specs.List.{list_any}
 use Rattle.std.specs.Str.{bytes_eq}
 use Rattle.expand_grants.specs.Resources.{msrs_of}
-use Rattle.frame_clock.specs.FramePlace.{slot_in}
+use Rattle.frame_clock.specs.FrameAt.{slot_in}
 use Rattle.image_plan.specs.Slot.{Slot}
 use Rattle.muen_num.specs.Range.{numbers_below}
-use Rattle.muen_num.specs.declared.access.Kind.TheVariants.{Write}
+use Rattle.muen_num.specs.declared.access.AccessKind.TheVariants.{Write}
 use Rattle.policy_meaning.specs.Contents.{Held}
 use Rattle.policy_meaning.specs.Frames.{frames_of}
 use Rattle.policy_types.specs.Rights.{allows}
@@ -18,8 +18,8 @@ use Rattle.state_page.specs.StatePage.{page_bytes, state_in}
 use Rattle.subject_state.specs.States.{started}
 use Rattle.subject_state.specs.declared.SubjectState.{SubjectState}
 use Rattle.tick_run.specs.Run.{run_to, tick_ran}
-use Rattle.view_text.specs.declared.Line.{Line}
-use Rattle.view_text.specs.declared.What.{What}
+use Rattle.view_text.specs.declared.TurnLine.{TurnLine}
+use Rattle.view_text.specs.declared.TurnAction.{TurnAction}
 use Rattle.subject_model.specs.Alone.{Inbox, MsrValues, Own, OwnState, solo_turn}
 use Rattle.subject_model.specs.Clock.{inputs_at, order_at, system}
 use Rattle.subject_model.specs.System.{System, inbox_of, line_at, start_of, with_write}
@@ -78,7 +78,7 @@ after_tick own (Some inbox) mine =
     record { state = on_page (solo_turn own mine inbox).state; msrs = with_write (solo_turn own mine inbox).msr mine.msrs }
 
 -- what its line says of that tick
-abbrev pub says_in : Own → Option Inbox → OwnState → Option What
+abbrev pub says_in : Own → Option Inbox → OwnState → Option TurnAction
 says_in own None mine = None
 says_in own (Some inbox) mine = (solo_turn own mine inbox).what
 
@@ -89,7 +89,7 @@ alone_to own inboxes (suc tick) mine = after_tick own (inboxes tick) (alone_to o
 
 -- of a view: its line, its own state and its MSRs
 pub record OwnSeen : Type 0 where
-  pub line : Option Line
+  pub line : Option TurnLine
   pub state : Option SubjectState
   pub msrs : Option MsrValues
 

@@ -7,19 +7,19 @@ use Rattle.muen_num.specs.Size.{bytes_of}
 use Rattle.muen_num.specs.Tag.{tag_text}
 use Rattle.muen_num.specs.declared.tag.Tag.{Tag}
 use Rattle.subject_state.specs.declared.SubjectState.{SubjectState}
-use Rattle.view_text.specs.declared.Line.{Line}
-use Rattle.view_text.specs.declared.What.{What}
-use Rattle.view_text.specs.declared.What.TheVariants.{Ran, Set, Stored, Out, WroteMsr, Inject, Exit}
-use Rattle.view_text.specs.declared.End.{End}
-use Rattle.view_text.specs.declared.End.TheVariants.{On, Halt, Trap, Stop}
+use Rattle.view_text.specs.declared.TurnLine.{TurnLine}
+use Rattle.view_text.specs.declared.TurnAction.{TurnAction}
+use Rattle.view_text.specs.declared.TurnAction.TheVariants.{Ran, Set, Stored, Out, WroteMsr, Inject, Exit}
+use Rattle.view_text.specs.declared.ExitEnd.{ExitEnd}
+use Rattle.view_text.specs.declared.ExitEnd.TheVariants.{On, Halt, Trap, Stop}
 
-abbrev pub end_text : End → List ℕ
+abbrev pub end_text : ExitEnd → List ℕ
 end_text On = codes "on"
 end_text Halt = codes "halt"
 end_text Trap = codes "trap"
 end_text Stop = codes "stop"
 
-abbrev pub what_text : What → List ℕ
+abbrev pub what_text : TurnAction → List ℕ
 what_text Ran = codes "-"
 what_text (Set reg value) = codes "r" ++ decimal reg ++ codes "=" ++ hex16 value
 what_text (Stored size addr value) = codes "store " ++ decimal (bytes_of size) ++ codes " " ++ hex16 addr ++ codes " " ++ hex16 value
@@ -30,7 +30,7 @@ what_text (Exit reason qualification addr end) =
     codes "exit " ++ decimal reason ++ codes " " ++ hex16 qualification ++ codes " " ++ hex16 addr ++ codes " " ++ end_text end
 
 -- the line of a turn
-unfoldable pub turn_text : Line → List ℕ
+unfoldable pub turn_text : TurnLine → List ℕ
 turn_text l =
     decimal l.tick ++ codes " " ++ decimal l.cpu ++ codes " " ++ l.subject ++ codes " " ++ hex16 l.pc ++ codes " " ++ what_text l.what ++ codes "\n"
 

@@ -7,23 +7,23 @@ ghost use Rattle.view_text.specs.ViewText.{turn_text, what_text, end_text, flags
 use muen_num::text::{
     append, append_decimal8, append_decimal32, append_hex4, append_hex8, append_hex16, append_hex32,
 };
-use muen_num::{Name, Size, Tag};
+use muen_num::{Name, AccessSize, Tag};
 use subject_state::SubjectState;
 
 /// The line of a turn.
 #[derive(Clone, Copy, Debug, PartialEq, Eq)]
-pub struct Line {
+pub struct TurnLine {
     pub tick: u32,
     pub cpu: u8,
     pub subject: Name,
     /// `pc` before the turn.
     pub pc: u64,
-    pub what: What,
+    pub what: TurnAction,
 }
 
 /// What happened in a turn.
 #[derive(Clone, Copy, Debug, PartialEq, Eq)]
-pub enum What {
+pub enum TurnAction {
     /// An instruction ran that is none of the next four.
     Ran,
     /// A register was written.
@@ -33,13 +33,13 @@ pub enum What {
     },
     /// Memory was written at a guest address.
     Stored {
-        size: Size,
+        size: AccessSize,
         addr: u64,
         value: u64,
     },
     /// A port was written.
     Out {
-        size: Size,
+        size: AccessSize,
         port: u16,
         value: u32,
     },
@@ -57,13 +57,13 @@ pub enum What {
         reason: u8,
         qualification: u64,
         addr: u64,
-        end: End,
+        end: ExitEnd,
     },
 }
 
 /// How the kernel ended an exit.
 #[derive(Clone, Copy, Debug, PartialEq, Eq)]
-pub enum End {
+pub enum ExitEnd {
     /// The subject goes on.
     On,
     /// The subject is halted.
@@ -74,16 +74,16 @@ pub enum End {
     Stop,
 }
 
-fn append_end(out: &mut [u8], at: usize, end: End) -> usize
+fn append_end(out: &mut [u8], at: usize, end: ExitEnd) -> usize
     requires { at + 4 ≤ length out.old }
     ensures end { result ≤ at + 4 }
     ensures text { take result out.new ≡ take at out.old ++ end_text end }
 {
     match end {
-        End::On => append(out, at, b"on"),
-        End::Halt => append(out, at, b"halt"),
-        End::Trap => append(out, at, b"trap"),
-        End::Stop => append(out, at, b"stop"),
+        ExitEnd::On => append(out, at, b"on"),
+        ExitEnd::Halt => append(out, at, b"halt"),
+        ExitEnd::Trap => append(out, at, b"trap"),
+        ExitEnd::Stop => append(out, at, b"stop"),
     }
 }
 
@@ -93,11 +93,11 @@ fn append_exit(
     reason: u8,
     qualification: u64,
     addr: u64,
-    end: End,
+    end: ExitEnd,
 ) -> usize
     requires { at + 47 ≤ length out.old }
     ensures end { result ≤ at + 47 }
-    ensures text { take result out.new ≡ take at out.old ++ what_text (What.Exit reason qualification addr end) }
+    ensures text { take result out.new ≡ take at out.old ++ what_text (TurnAction.Exit reason qualification addr end) }
 {
     let at = append(out, at, b"exit ");
     let at = append_decimal8(out, at, reason);
@@ -112,7 +112,7 @@ fn append_exit(
 fn append_set(out: &mut [u8], at: usize, reg: u8, value: u64) -> usize
     requires { at + 21 ≤ length out.old }
     ensures end { result ≤ at + 21 }
-    ensures text { take result out.new ≡ take at out.old ++ what_text (What.Set reg value) }
+    ensures text { take result out.new ≡ take at out.old ++ what_text (TurnAction.Set reg value) }
 {
     let at = append(out, at, b"r");
     let at = append_decimal8(out, at, reg);
@@ -120,10 +120,10 @@ fn append_set(out: &mut [u8], at: usize, reg: u8, value: u64) -> usize
     append_hex16(out, at, value)
 }
 
-fn append_stored(out: &mut [u8], at: usize, size: Size, addr: u64, value: u64) -> usize
+fn append_stored(out: &mut [u8], at: usize, size: AccessSize, addr: u64, value: u64) -> usize
     requires { at + 43 ≤ length out.old }
     ensures end { result ≤ at + 43 }
-    ensures text { take result out.new ≡ take at out.old ++ what_text (What.Stored size addr value) }
+    ensures text { take result out.new ≡ take at out.old ++ what_text (TurnAction.Stored size addr value) }
 {
     let at = append(out, at, b"store ");
     let at = append_decimal8(out, at, size.bytes());
@@ -133,10 +133,10 @@ fn append_stored(out: &mut [u8], at: usize, size: Size, addr: u64, value: u64) -
     append_hex16(out, at, value)
 }
 
-fn append_out(out: &mut [u8], at: usize, size: Size, port: u16, value: u32) -> usize
+fn append_out(out: &mut [u8], at: usize, size: AccessSize, port: u16, value: u32) -> usize
     requires { at + 21 ≤ length out.old }
     ensures end { result ≤ at + 21 }
-    ensures text { take result out.new ≡ take at out.old ++ what_text (What.Out size port value) }
+    ensures text { take result out.new ≡ take at out.old ++ what_text (TurnAction.Out size port value) }
 {
     let at = append(out, at, b"out ");
     let at = append_decimal8(out, at, size.bytes());
@@ -149,7 +149,7 @@ fn append_out(out: &mut [u8], at: usize, size: Size, port: u16, value: u32) -> u
 fn append_wrote_msr(out: &mut [u8], at: usize, index: u32, value: u64) -> usize
     requires { at + 31 ≤ length out.old }
     ensures end { result ≤ at + 31 }
-    ensures text { take result out.new ≡ take at out.old ++ what_text (What.WroteMsr index value) }
+    ensures text { take result out.new ≡ take at out.old ++ what_text (TurnAction.WroteMsr index value) }
 {
     let at = append(out, at, b"wrmsr ");
     let at = append_hex8(out, at, index);
@@ -160,25 +160,25 @@ fn append_wrote_msr(out: &mut [u8], at: usize, index: u32, value: u64) -> usize
 fn append_inject(out: &mut [u8], at: usize, vector: u8) -> usize
     requires { at + 10 ≤ length out.old }
     ensures end { result ≤ at + 10 }
-    ensures text { take result out.new ≡ take at out.old ++ what_text (What.Inject vector) }
+    ensures text { take result out.new ≡ take at out.old ++ what_text (TurnAction.Inject vector) }
 {
     let at = append(out, at, b"inject ");
     append_decimal8(out, at, vector)
 }
 
-fn append_what(out: &mut [u8], at: usize, what: What) -> usize
+fn append_what(out: &mut [u8], at: usize, what: TurnAction) -> usize
     requires { at + 47 ≤ length out.old }
     ensures end { result ≤ at + 47 }
     ensures text { take result out.new ≡ take at out.old ++ what_text what }
 {
     match what {
-        What::Ran => append(out, at, b"-"),
-        What::Set { reg, value } => append_set(out, at, reg, value),
-        What::Stored { size, addr, value } => append_stored(out, at, size, addr, value),
-        What::Out { size, port, value } => append_out(out, at, size, port, value),
-        What::WroteMsr { index, value } => append_wrote_msr(out, at, index, value),
-        What::Inject { vector } => append_inject(out, at, vector),
-        What::Exit {
+        TurnAction::Ran => append(out, at, b"-"),
+        TurnAction::Set { reg, value } => append_set(out, at, reg, value),
+        TurnAction::Stored { size, addr, value } => append_stored(out, at, size, addr, value),
+        TurnAction::Out { size, port, value } => append_out(out, at, size, port, value),
+        TurnAction::WroteMsr { index, value } => append_wrote_msr(out, at, index, value),
+        TurnAction::Inject { vector } => append_inject(out, at, vector),
+        TurnAction::Exit {
             reason,
             qualification,
             addr,
@@ -190,7 +190,7 @@ fn append_what(out: &mut [u8], at: usize, what: What) -> usize
 /// Writes the line of a turn: tick, CPU, subject, `pc` before the turn, and what happened. Answers
 /// its length.
 #[tactic(auto, unfolding(crate::specs::ViewText::turn_text))]
-pub fn turn_line(l: &Line, out: &mut [u8; 160]) -> usize
+pub fn turn_line(l: &TurnLine, out: &mut [u8; 160]) -> usize
     ensures within { result ≤ 160 }
     ensures text { take result out.new ≡ turn_text l.now }
 {

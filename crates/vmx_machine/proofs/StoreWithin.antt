@@ -4,10 +4,10 @@ use Rattle.std.specs.Prelude.{bit_and}
 use Rattle.std.proofs.lemmas.Nat.{and_le_l}
 use Rattle.muen_num.specs.Access.{kind_bit}
 use Rattle.muen_num.specs.Size.{bytes_of}
-use Rattle.muen_num.specs.declared.access.Kind.{Kind}
-use Rattle.muen_num.specs.declared.access.Kind.TheVariants.{Read, Write, Fetch}
-use Rattle.muen_num.specs.declared.access.Size.{Size}
-use Rattle.muen_num.specs.declared.access.Size.TheVariants.{One, Two, Four, Eight}
+use Rattle.muen_num.specs.declared.access.AccessKind.{AccessKind}
+use Rattle.muen_num.specs.declared.access.AccessKind.TheVariants.{Read, Write, Fetch}
+use Rattle.muen_num.specs.declared.access.AccessSize.{AccessSize}
+use Rattle.muen_num.specs.declared.access.AccessSize.TheVariants.{One, Two, Four, Eight}
 use Rattle.machine_meaning.specs.Memory.{Page, is_there, change, over, le_bytes, store_of}
 use Rattle.machine_meaning.specs.Walks.{bits_of, index_at, span, is_present, is_leaf, is_misconfigured, reads, walk_from, walk_of, entry_of, root_of}
 use Rattle.machine_meaning.specs.declared.walk.Walk.{Walk}
@@ -21,31 +21,31 @@ stored_within m page offset n v h =
     ap₂ (λ j i. change m j (λ old. over old i (le_bytes n v))) k o
 
 -- a place in a page of each size keeps the multiple of the access's size
-in_small : (size : Size) (b addr : ℕ) → addr % bytes_of size ≡ 0 → (4096 * b + addr % 4096) % bytes_of size ≡ 0
+in_small : (size : AccessSize) (b addr : ℕ) → addr % bytes_of size ≡ 0 → (4096 * b + addr % 4096) % bytes_of size ≡ 0
 in_small One b addr h = omega arith
 in_small Two b addr h = omega arith
 in_small Four b addr h = omega arith
 in_small Eight b addr h = omega arith
 
-in_middle : (size : Size) (b addr : ℕ) → addr % bytes_of size ≡ 0 → (4096 * b + addr % 2097152) % bytes_of size ≡ 0
+in_middle : (size : AccessSize) (b addr : ℕ) → addr % bytes_of size ≡ 0 → (4096 * b + addr % 2097152) % bytes_of size ≡ 0
 in_middle One b addr h = omega arith
 in_middle Two b addr h = omega arith
 in_middle Four b addr h = omega arith
 in_middle Eight b addr h = omega arith
 
-in_large : (size : Size) (b addr : ℕ) → addr % bytes_of size ≡ 0 → (4096 * b + addr % 1073741824) % bytes_of size ≡ 0
+in_large : (size : AccessSize) (b addr : ℕ) → addr % bytes_of size ≡ 0 → (4096 * b + addr % 1073741824) % bytes_of size ≡ 0
 in_large One b addr h = omega arith
 in_large Two b addr h = omega arith
 in_large Four b addr h = omega arith
 in_large Eight b addr h = omega arith
 
-in_top : (size : Size) (b addr : ℕ) → addr % bytes_of size ≡ 0 → (4096 * b + addr % 549755813888) % bytes_of size ≡ 0
+in_top : (size : AccessSize) (b addr : ℕ) → addr % bytes_of size ≡ 0 → (4096 * b + addr % 549755813888) % bytes_of size ≡ 0
 in_top One b addr h = omega arith
 in_top Two b addr h = omega arith
 in_top Four b addr h = omega arith
 in_top Eight b addr h = omega arith
 
-module _ (entry : ℕ → ℕ → Option ℕ) (there : ℕ → Bool) (addr want : ℕ) (size : Size) (fine : addr % bytes_of size ≡ 0) where
+module _ (entry : ℕ → ℕ → Option ℕ) (there : ℕ → Bool) (addr want : ℕ) (size : AccessSize) (fine : addr % bytes_of size ≡ 0) where
   by_rights : (enough found : Bool) (rights place : ℕ) → rights < 8 → place % bytes_of size ≡ 0 → EndsWithin (bytes_of size) (cond enough (cond found (At place) Misconfigured) (Violation rights))
   by_rights true true rights place r p = p
   by_rights true false rights place r p = tt
@@ -81,17 +81,17 @@ module _ (entry : ℕ → ℕ → Option ℕ) (there : ℕ → Bool) (addr want 
       three : (t r : ℕ) → r < 8 → EndsWithin (bytes_of size) (walk_from entry there addr want 3 t r)
       three t r h = reads_within 3 r (entry t (index_at 3 addr)) (λ t r. walk_from entry there addr want 2 t r) h (λ b. in_top size b addr fine) two
 
-pub walk_within : (m : List Page) (eptp addr : ℕ) (kind : Kind) (size : Size) (w : Walk) → addr % bytes_of size ≡ 0 → w ≡ walk_of m eptp addr kind → EndsWithin (bytes_of size) w
+pub walk_within : (m : List Page) (eptp addr : ℕ) (kind : AccessKind) (size : AccessSize) (w : Walk) → addr % bytes_of size ≡ 0 → w ≡ walk_of m eptp addr kind → EndsWithin (bytes_of size) w
 walk_within m eptp addr kind size w h e =
     rw e (from_within (entry_of m) (is_there m) addr (kind_bit kind) size h (root_of eptp) 7 (omega arith))
 
-pub bit_fits : (kind : Kind) → kind_bit kind < 8
+pub bit_fits : (kind : AccessKind) → kind_bit kind < 8
 bit_fits Read = omega arith
 bit_fits Write = omega arith
 bit_fits Fetch = omega arith
 
 -- a place is in a page, and its offset there is a multiple of what it is a multiple of
-pub page_within : (place : ℕ) (size : Size) → place % bytes_of size ≡ 0 → place < 2 ^ 64 → IsWithin (place / 4096) (place % 4096) (bytes_of size)
+pub page_within : (place : ℕ) (size : AccessSize) → place % bytes_of size ≡ 0 → place < 2 ^ 64 → IsWithin (place / 4096) (place % 4096) (bytes_of size)
 page_within place One h l = record { below = omega arith; inside = omega arith; aligned = omega arith }
 page_within place Two h l = record { below = omega arith; inside = omega arith; aligned = omega arith }
 page_within place Four h l = record { below = omega arith; inside = omega arith; aligned = omega arith }

@@ -3,7 +3,7 @@
 use Rattle.std.specs.Prelude.{ℕ, ◌+◌, ◌*◌, ◌/◌, ◌%◌, Bool, not, true, false, if◌then◌else◌, List, [], ◌∷◌, map, replicate, slice_get, Option, Some, None, option_map, option_and_then, unwrap_or}
 use Rattle.muen_num.specs.Access.{kind_bit}
 use Rattle.muen_num.specs.Range.{numbers_below}
-use Rattle.muen_num.specs.declared.access.Kind.{Kind}
+use Rattle.muen_num.specs.declared.access.AccessKind.{AccessKind}
 use Rattle.muen_num.specs.declared.limits.TheConstants.{EXIT_EPT_VIOLATION, EXIT_EPT_MISCONFIGURATION}
 use Rattle.machine_meaning.specs.Exits.{port_exits, msr_exits, AreaEntry, area_index, area_value}
 use Rattle.machine_meaning.specs.Memory.{Page, page_of, change, over, store_of}
@@ -38,12 +38,12 @@ page_at pages k = unwrap_or (page_of pages k) []
 -- ---- what a step asks of the machine: places are pages
 
 -- by where a walk ends: a violation has the bit of the access and, in bits 5:3, the rights found; a misconfiguration has 0
-abbrev pub reach_by : Kind → ℕ → Walk → Reach ℕ
+abbrev pub reach_by : AccessKind → ℕ → Walk → Reach ℕ
 reach_by kind addr (At place) = Reached (place / 4096) (place % 4096)
 reach_by kind addr (Violation rights) = Refused EXIT_EPT_VIOLATION (kind_bit kind + 8 * rights) addr
 reach_by kind addr Misconfigured = Refused EXIT_EPT_MISCONFIGURATION 0 addr
 
-abbrev pub look_in : List Page → ℕ → Kind → ℕ → Reach ℕ
+abbrev pub look_in : List Page → ℕ → AccessKind → ℕ → Reach ℕ
 look_in pages eptp kind addr = reach_by kind addr (walk_of pages eptp addr kind)
 
 abbrev pub ports_exit : List Page → Control → ℕ → ℕ → Bool

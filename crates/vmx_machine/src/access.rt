@@ -15,14 +15,14 @@ use machine_meaning::{Walk, msr_exits, port_exits};
 use muen_num::limits::{
     EXIT_EPT_MISCONFIGURATION, EXIT_EPT_VIOLATION, EXIT_EXCEPTION, GUEST_END, PAGE,
 };
-use muen_num::{Kind, Size};
+use muen_num::{AccessKind, AccessSize};
 use phys_mem::PhysMem;
 
 /// The bit of an EPT violation's qualification at which the rights found begin.
 const FOUND: u64 = 1 << 3;
 
 // A physical address, by its page.
-fn in_page(place: u64, size: Size) -> Reach<u64>
+fn in_page(place: u64, size: AccessSize) -> Reach<u64>
     requires { place % bytes_of size ≡ 0 }
     ensures place { result ≡ Reach.Reached (place / 4096) (place % 4096) }
     ensures within { LeadsWithin (bytes_of size) result }
@@ -38,9 +38,9 @@ fn look<M: PhysMem, T: Translate>(
     mem: &M,
     walk: &mut T,
     eptp: u64,
-    kind: Kind,
+    kind: AccessKind,
     addr: u64,
-    size: Size,
+    size: AccessSize,
 ) -> Reach<u64>
     requires fits { T.fits walk.old (M.pages mem.now) }
     requires addr { addr < GUEST_END }
@@ -69,9 +69,9 @@ pub(crate) fn reach<M: PhysMem, T: Translate>(
     mem: &M,
     walk: &mut T,
     eptp: u64,
-    kind: Kind,
+    kind: AccessKind,
     addr: u64,
-    size: Size,
+    size: AccessSize,
 ) -> Reach<u64>
     requires { T.fits walk.old (M.pages mem.now) }
     ensures place { result ≡ reach_of (look_in (M.pages mem.now) eptp) kind (bytes_of size) addr }
@@ -96,7 +96,7 @@ pub(crate) fn reach<M: PhysMem, T: Translate>(
 }
 
 /// Whether an access of ports exits, by the I/O bitmaps as they are in memory now.
-pub(crate) fn ports_exit<M: PhysMem>(mem: &M, control: &Control, port: u16, size: Size) -> bool
+pub(crate) fn ports_exit<M: PhysMem>(mem: &M, control: &Control, port: u16, size: AccessSize) -> bool
     ensures { result ≡ ports_exit (M.pages mem.now) control.now port (bytes_of size) }
 {
     let page = number_of(control.io_bitmaps);
@@ -111,7 +111,7 @@ pub(crate) fn ports_input<M: PhysMem>(
     control: &Control,
     bench: &Bench,
     port: u16,
-    size: Size,
+    size: AccessSize,
 ) -> Option<u64>
     requires { bytes_of size ≤ 4 }
     ensures { result ≡ ports_input (M.pages mem.now) control.now bench.now.ports port (bytes_of size) }

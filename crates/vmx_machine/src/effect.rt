@@ -9,7 +9,7 @@ use crate::pages::{number_in, put};
 use ept_walk::Translate;
 use guest_isa::{Asked, with_register};
 use guest_step::{Reach, StepEnd};
-use muen_num::Size;
+use muen_num::AccessSize;
 use muen_num::limits::{EXIT_IO, EXIT_RDMSR, PAGE};
 use phys_mem::PhysMem;
 use subject_state::SubjectState;
@@ -31,7 +31,7 @@ pub(crate) struct Done {
 #[derive(Clone, Copy, Debug)]
 pub(crate) struct Storing {
     pub addr: u64,
-    pub size: Size,
+    pub size: AccessSize,
     pub value: u64,
 }
 
@@ -89,7 +89,7 @@ pub(crate) fn loaded<M: PhysMem>(
     s: &SubjectState,
     after: &SubjectState,
     reg: u8,
-    size: Size,
+    size: AccessSize,
     reach: Reach<u64>,
 ) -> Done
     requires reg { reg < 16 }
@@ -145,7 +145,7 @@ pub(crate) fn stored<M: PhysMem, T: Translate>(
 }
 
 // The qualification of a port access.
-pub(crate) fn port_qualification(size: Size, input: bool, port: u16) -> u64
+pub(crate) fn port_qualification(size: AccessSize, input: bool, port: u16) -> u64
     ensures { result ≡ port_qualification size input port }
 {
     let direction = if input { INPUT } else { 0 };
@@ -158,7 +158,7 @@ pub(crate) fn port_read(
     after: &SubjectState,
     reg: u8,
     port: u16,
-    size: Size,
+    size: AccessSize,
     input: Option<u64>,
 ) -> Done
     requires { reg < 16 }

@@ -13,7 +13,7 @@ ghost use Rattle.vmx_machine.specs.Within.{IsWithin};
 use crate::cpu::Entered;
 use crate::msr_file::MsrFile;
 use ept_walk::Translate;
-use muen_num::Size;
+use muen_num::AccessSize;
 use muen_num::limits::PAGE;
 use phys_mem::{PAGE_BYTES, PhysMem};
 use subject_state::SubjectState;
@@ -69,7 +69,7 @@ pub(crate) fn bytes_of_page<M: PhysMem>(mem: &M, page: u64) -> &[u8]
 
 // The number at a place within a page. It is 0 where the page isn't there.
 #[tactic(auto, unfolding(page_parts::specs::Fields::number_at))]
-pub(crate) fn number_in<M: PhysMem>(mem: &M, page: u64, offset: u64, size: Size) -> u64
+pub(crate) fn number_in<M: PhysMem>(mem: &M, page: u64, offset: u64, size: AccessSize) -> u64
     requires { IsWithin page offset (bytes_of size) }
     ensures number { result ≡ number_at (page_at (M.pages mem.now) page) offset (bytes_of size) }
     ensures word { result ≡ word_at (bytes_of size) (page_at (M.pages mem.now) page) offset }
@@ -82,7 +82,7 @@ pub(crate) fn put<M: PhysMem, T: Translate>(
     mem: &mut M,
     walk: &mut T,
     at: u64,
-    size: Size,
+    size: AccessSize,
     value: u64,
 )
     requires fits { T.fits walk.old (M.pages mem.old) }
@@ -103,7 +103,7 @@ fn registers_in<M: PhysMem>(mem: &M, page: u64) -> [u64; REGISTERS]
 {
     let mut registers = [0; REGISTERS];
     for (i, register) in registers.iter_mut().enumerate() {
-        *register = number_in(mem, page, WORD * i as u64, Size::Eight);
+        *register = number_in(mem, page, WORD * i as u64, AccessSize::Eight);
     }
     registers
 }
@@ -128,9 +128,9 @@ pub(crate) fn state_in<M: PhysMem>(mem: &M, page: u64) -> SubjectState
     let bytes = bytes_of_page(mem, page);
     SubjectState {
         regs: registers_in(mem, page),
-        pc: number_in(mem, page, PC, Size::Eight),
-        epc: number_in(mem, page, EPC, Size::Eight),
-        vbase: number_in(mem, page, VBASE, Size::Eight),
+        pc: number_in(mem, page, PC, AccessSize::Eight),
+        epc: number_in(mem, page, EPC, AccessSize::Eight),
+        vbase: number_in(mem, page, VBASE, AccessSize::Eight),
         interrupts: has_flag(bytes, INTERRUPTS),
         halted: has_flag(bytes, HALTED),
         stopped: has_flag(bytes, STOPPED),
@@ -176,14 +176,14 @@ fn save_entry<M: PhysMem, T: Translate>(
     ensures pages { M.pages mem.new ≡ entry_saved file.now area i (M.pages mem.old) }
     ensures fits { T.fits walk.new (M.pages mem.new) }
 {
-    let index = number_in(mem, area, ENTRY * i, Size::Four);
+    let index = number_in(mem, area, ENTRY * i, AccessSize::Four);
     match file.get(index) {
         None => {}
         Some(value) => put(
             mem,
             walk,
             PAGE * area + (ENTRY * i + VALUE),
-            Size::Eight,
+            AccessSize::Eight,
             value,
         ),
     }
@@ -214,8 +214,8 @@ pub(crate) fn fill<M: PhysMem>(mem: &M, area: u64, count: u8, file: &mut MsrFile
 {
     for i in 0..count {
         let at = ENTRY * u64::from(i);
-        let index = number_in(mem, area, at, Size::Four);
-        let value = number_in(mem, area, at + VALUE, Size::Eight);
+        let index = number_in(mem, area, at, AccessSize::Four);
+        let value = number_in(mem, area, at + VALUE, AccessSize::Eight);
         file.put(index, value);
     }
 }
@@ -251,6 +251,6 @@ pub(crate) fn write_bytes<M: PhysMem, T: Translate>(
     ensures fits { T.fits walk.new (M.pages mem.new) }
 {
     for (i, byte) in bytes.iter().enumerate() {
-        put(mem, walk, at + i as u64, Size::One, u64::from(*byte));
+        put(mem, walk, at + i as u64, AccessSize::One, u64::from(*byte));
     }
 }

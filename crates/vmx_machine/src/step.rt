@@ -18,7 +18,7 @@ use ept_walk::Translate;
 use guest_isa::{Asked, Wish, ask, decode};
 use guest_step::{Reach, StepEnd};
 use muen_num::limits::{EXIT_EXCEPTION, EXIT_HLT, EXIT_IO, EXIT_VMCALL, EXIT_WRMSR};
-use muen_num::{Kind, Size};
+use muen_num::{AccessKind, AccessSize};
 use phys_mem::PhysMem;
 
 // An instruction's wish is met, or it exits.
@@ -46,11 +46,11 @@ fn performed<M: PhysMem, T: Translate>(
         Wish::Nothing => went_on(after, StepEnd::Plain),
         Wish::Set { reg, value } => went_on(after, StepEnd::Set { reg, value }),
         Wish::Load { reg, addr, size } => {
-            let place = reach(mem, walk, control.eptp, Kind::Read, addr, size);
+            let place = reach(mem, walk, control.eptp, AccessKind::Read, addr, size);
             loaded(mem, s, after, reg, size, place)
         }
         Wish::Store { addr, size, value } => {
-            let place = reach(mem, walk, control.eptp, Kind::Write, addr, size);
+            let place = reach(mem, walk, control.eptp, AccessKind::Write, addr, size);
             stored(mem, walk, s, asked, Storing { addr, size, value }, place)
         }
         Wish::PortIn { reg, port, size } => {
@@ -102,7 +102,7 @@ fn fetched<M: PhysMem, T: Translate>(
 {
     match place {
         Reach::Reached { place, offset } => {
-            let word = number_in(mem, place, offset, Size::Eight);
+            let word = number_in(mem, place, offset, AccessSize::Eight);
             match decode(word.to_le_bytes()) {
                 None => faulted(&on.state, EXIT_EXCEPTION, 0, 0),
                 Some(instruction) => {
@@ -139,9 +139,9 @@ fn step<M: PhysMem, T: Translate>(
         mem,
         walk,
         on.control.eptp,
-        Kind::Fetch,
+        AccessKind::Fetch,
         on.state.pc,
-        Size::Eight,
+        AccessSize::Eight,
     );
     fetched(mem, walk, file, bench, tick, on, place)
 }

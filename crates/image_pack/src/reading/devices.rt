@@ -14,7 +14,7 @@ use crate::outline::{Header, Outline};
 use crate::parts::{DevicePart, IrqPart, PortSpan, SpanPart, WindowPart};
 use crate::writing::{put_device, put_irq, put_range, put_window};
 use image_form::reading::{bad, byte_of, gap_of, name_of, u16_of};
-use image_form::{Field, Halt};
+use image_form::{Field, FormError};
 use muen_num::limits::MOST_PER_DEVICE;
 use muen_num::{Name, Seq};
 use std::alloc::{AllocError, Global};
@@ -26,7 +26,7 @@ fn is_listed(names: &[Name], name: &Name) -> bool
 }
 
 // A name that isn't one of these.
-fn new_name_of<'a>(names: &[Name], bytes: &'a [u8]) -> Result<(Name, &'a [u8]), Halt>
+fn new_name_of<'a>(names: &[Name], bytes: &'a [u8]) -> Result<(Name, &'a [u8]), FormError>
     ensures { Gives (λ x. (x.0, x.1.now)) result ((only (λ n. not (is_listed names.now n)) Field.Name name).read bytes.now) }
 {
     match name_of(bytes) {
@@ -41,7 +41,7 @@ fn new_name_of<'a>(names: &[Name], bytes: &'a [u8]) -> Result<(Name, &'a [u8]), 
 }
 
 // A count of what a device has of a kind.
-fn device_count_of(bytes: &[u8]) -> Result<(u8, &[u8]), Halt>
+fn device_count_of(bytes: &[u8]) -> Result<(u8, &[u8]), FormError>
     ensures { Gives (λ x. (x.0, x.1.now)) result ((only (λ n. nat_le n MOST_PER_DEVICE) Field.Count byte).read bytes.now) }
 {
     let (count, rest) = byte_of(bytes)?;
@@ -68,7 +68,7 @@ impl Item for PortSpan {
         among: &Header,
         before: &mut u8,
         bytes: &'a [u8],
-    ) -> Result<(PortSpan, &'a [u8]), Halt> {
+    ) -> Result<(PortSpan, &'a [u8]), FormError> {
         let (start, rest) = u16_of(bytes)?;
         let at = rest;
         let (end, rest) = u16_of(at)?;
@@ -128,7 +128,7 @@ impl Item for WindowPart {
         among: &Outline,
         before: &mut Seq<Name>,
         bytes: &'a [u8],
-    ) -> Result<(WindowPart, &'a [u8]), Halt> {
+    ) -> Result<(WindowPart, &'a [u8]), FormError> {
         let (span, rest) = u16_of(bytes)?;
         match window_name(among.spans.items(), span) {
             None => Err(bad(bytes, Field::Span)),
@@ -164,7 +164,7 @@ impl Item for IrqPart {
         among: &Header,
         before: &mut Seq<Name>,
         bytes: &'a [u8],
-    ) -> Result<(IrqPart, &'a [u8]), Halt> {
+    ) -> Result<(IrqPart, &'a [u8]), FormError> {
         let (name, rest) = match new_name_of(before.items(), bytes) {
             Ok(named) => named,
             Err(halt) => return Err(halt),
@@ -203,7 +203,7 @@ impl Item for DevicePart {
         among: &Outline,
         before: &mut Seq<Name>,
         bytes: &'a [u8],
-    ) -> Result<(DevicePart, &'a [u8]), Halt> {
+    ) -> Result<(DevicePart, &'a [u8]), FormError> {
         let (name, rest) = match new_name_of(before.items(), bytes) {
             Ok(named) => named,
             Err(halt) => return Err(halt),

@@ -11,7 +11,7 @@ use crate::items::Item;
 use crate::outline::Header;
 use crate::writing::put_group;
 use image_form::reading::{bad, byte_of, gap_of, u16_of};
-use image_form::{Field, Halt};
+use image_form::{Field, FormError};
 use image_plan::GroupPart;
 use muen_num::limits::{
     MOST_CPUS, MOST_DEVICE_WINDOWS, MOST_DEVICES, MOST_MAJOR_FRAMES, MOST_REGIONS, MOST_SUBJECTS,
@@ -26,7 +26,7 @@ pub(crate) fn is_between(low: u64, high: u64, n: u64) -> bool
 }
 
 // A count of one byte that lies between two numbers.
-fn count_of(bytes: &[u8], low: u64, high: u64) -> Result<(u8, &[u8]), Halt>
+fn count_of(bytes: &[u8], low: u64, high: u64) -> Result<(u8, &[u8]), FormError>
     ensures { Gives (λ x. (x.0, x.1.now)) result ((only (is_between low high) Field.Count byte).read bytes.now) }
 {
     let (count, rest) = byte_of(bytes)?;
@@ -37,7 +37,7 @@ fn count_of(bytes: &[u8], low: u64, high: u64) -> Result<(u8, &[u8]), Halt>
     }
 }
 
-fn tau0_span(spans: u16, bytes: &[u8]) -> Result<(u16, &[u8]), Halt>
+fn tau0_span(spans: u16, bytes: &[u8]) -> Result<(u16, &[u8]), FormError>
     ensures { Gives (λ x. (x.0, x.1.now)) result ((tau0_span spans).read bytes.now) }
 {
     let (number, rest) = u16_of(bytes)?;
@@ -49,7 +49,7 @@ fn tau0_span(spans: u16, bytes: &[u8]) -> Result<(u16, &[u8]), Halt>
 }
 
 #[tactic(auto, unfolding(image_form::specs::Form::either, image_form::specs::Form::present, image_form::specs::Form::absent, crate::specs::Image::tau0_at))]
-fn tau0_of(has_tau0: bool, spans: u16, bytes: &[u8]) -> Result<(Option<u16>, &[u8]), Halt>
+fn tau0_of(has_tau0: bool, spans: u16, bytes: &[u8]) -> Result<(Option<u16>, &[u8]), FormError>
     ensures { Gives (λ x. (x.0, x.1.now)) result ((tau0_at has_tau0 spans).read bytes.now) }
 {
     if has_tau0 {
@@ -62,7 +62,7 @@ fn tau0_of(has_tau0: bool, spans: u16, bytes: &[u8]) -> Result<(Option<u16>, &[u
 }
 
 #[tactic(auto, unfolding(image_form::specs::Form::only, image_form::specs::Form::field, image_form::specs::Form::gap, image_form::specs::Form::done, crate::specs::Image::counts))]
-fn counts_of(has_tau0: bool, bytes: &[u8]) -> Result<(Header, &[u8]), Halt>
+fn counts_of(has_tau0: bool, bytes: &[u8]) -> Result<(Header, &[u8]), FormError>
     ensures { Gives (λ x. (x.0, x.1.now)) result ((counts has_tau0).read bytes.now) }
 {
     let (cpus, rest) = count_of(bytes, 1, MOST_CPUS)?;
@@ -96,7 +96,7 @@ fn counts_of(has_tau0: bool, bytes: &[u8]) -> Result<(Header, &[u8]), Halt>
 
 /// The counts at the front of an image.
 #[tactic(auto, unfolding(image_form::specs::Form::field, crate::specs::Image::header))]
-pub(crate) fn header_of(bytes: &[u8]) -> Result<(Header, &[u8]), Halt>
+pub(crate) fn header_of(bytes: &[u8]) -> Result<(Header, &[u8]), FormError>
     ensures { Gives (λ x. (x.0, x.1.now)) result (header.read bytes.now) }
 {
     let (has_tau0, rest) = mark_of(bytes)?;
@@ -120,7 +120,7 @@ impl Item for GroupPart {
         among: &Header,
         before: &mut u8,
         bytes: &'a [u8],
-    ) -> Result<(GroupPart, &'a [u8]), Halt> {
+    ) -> Result<(GroupPart, &'a [u8]), FormError> {
         let (cpu, rest) = byte_of(bytes)?;
         if cpu >= among.cpus {
             return Err(bad(bytes, Field::Cpu));

@@ -11,7 +11,7 @@ use crate::reading::header::is_between;
 use crate::reading::subjects::is_group_on;
 use crate::writing::{put_frames, put_major, put_minor};
 use image_form::reading::{bad, byte_of, gap_of, u16_of, u32_of};
-use image_form::{Field, Halt};
+use image_form::{Field, FormError};
 use image_plan::{Major, Minor};
 use muen_num::Seq;
 use muen_num::limits::{MOST_MINOR_FRAMES, MOST_TICKS};
@@ -58,7 +58,7 @@ impl Item for Minor {
         among: &Outline,
         before: &mut FramesBefore,
         bytes: &'a [u8],
-    ) -> Result<(Minor, &'a [u8]), Halt> {
+    ) -> Result<(Minor, &'a [u8]), FormError> {
         let (group, rest) = byte_of(bytes)?;
         if !is_group_on(among.groups.items(), before.cpu, group) {
             return Err(bad(bytes, Field::Group));
@@ -95,7 +95,7 @@ impl Item for Seq<Minor> {
         among: &Outline,
         before: &mut CpuTicks,
         bytes: &'a [u8],
-    ) -> Result<(Seq<Minor>, &'a [u8]), Halt> {
+    ) -> Result<(Seq<Minor>, &'a [u8]), FormError> {
         let (count, rest) = u16_of(bytes)?;
         if !is_between(1, MOST_MINOR_FRAMES as u64, u64::from(count)) {
             return Err(bad(bytes, Field::Count));
@@ -134,7 +134,7 @@ impl Item for Major {
         among: &Outline,
         before: &mut u8,
         bytes: &'a [u8],
-    ) -> Result<(Major, &'a [u8]), Halt> {
+    ) -> Result<(Major, &'a [u8]), FormError> {
         let (ticks, rest) = u32_of(bytes)?;
         if !is_between(1, MOST_TICKS, u64::from(ticks)) {
             return Err(bad(bytes, Field::Ticks));

@@ -11,7 +11,7 @@ use crate::outline::Header;
 use crate::parts::{SpanKind, SpanPart};
 use crate::writing::put_span;
 use image_form::reading::{bad, byte_of, gap_of, name_of, u16_of, u32_of, u64_of};
-use image_form::{Field, Halt};
+use image_form::{Field, FormError};
 use muen_num::limits::{MOST_BLOCK_BYTES, MOST_DEVICE_BYTES, PAGE, PHYSICAL_END};
 use muen_num::{Name, Seq, Tag};
 use std::alloc::{AllocError, Global};
@@ -102,7 +102,7 @@ fn is_kind(header: &Header, before: &SpansBefore, pages: u32, number: u16, kind:
 }
 
 #[tactic(auto, unfolding(image_form::specs::Form::either, image_form::specs::Form::present, image_form::specs::Form::absent, crate::specs::Image::title))]
-fn title_of(code: u8, bytes: &[u8]) -> Result<(Option<Name>, &[u8]), Halt>
+fn title_of(code: u8, bytes: &[u8]) -> Result<(Option<Name>, &[u8]), FormError>
     ensures { Gives (λ x. (x.0, x.1.now)) result ((title code).read bytes.now) }
 {
     if code == 1 {
@@ -147,7 +147,7 @@ impl Item for SpanPart {
         among: &Header,
         before: &mut SpansBefore,
         bytes: &'a [u8],
-    ) -> Result<(SpanPart, &'a [u8]), Halt> {
+    ) -> Result<(SpanPart, &'a [u8]), FormError> {
         let (place, rest) = u64_of(bytes)?;
         if !is_place(before.end, place) {
             return Err(bad(bytes, Field::Place));
@@ -217,7 +217,7 @@ pub(crate) fn spans_of<'a>(
     alloc: Global,
     header: &Header,
     bytes: &'a [u8],
-) -> Result<(Seq<SpanPart>, &'a [u8]), Halt>
+) -> Result<(Seq<SpanPart>, &'a [u8]), FormError>
     ensures { Gives (λ x. (x.0, x.1.now)) result ((items (after header.now) (span header.now) (no_spans_before header.now) header.now.spans).read bytes.now) }
 {
     let before = no_spans_before(alloc, header)?;

@@ -16,10 +16,10 @@ use crate::parts::{EventPart, SpanPart, SubjectPart};
 use crate::writing::put_subject;
 use image_form::reading::{bad, byte_of, gap_of, name_of, u16_of, u64_of};
 use image_form::writing::put_tag;
-use image_form::{Field, Halt};
+use image_form::{Field, FormError};
 use image_plan::GroupPart;
 use muen_num::limits::{MOST_CALLS, MOST_MSRS, PAGE, PHYSICAL_END};
-use muen_num::{Part, Seq};
+use muen_num::{TagPart, Seq};
 use std::alloc::{AllocError, Global};
 
 /// The lowest 12 bits of an extended-page-table pointer: four levels of tables, write-back memory.
@@ -52,7 +52,7 @@ fn is_group_of(outline: &Outline, place: u8, cpu: u8, number: u8) -> bool
 
 // Whether a span with this number is this part of its owner, with so many pages.
 #[tactic(auto, unfolding(crate::specs::Image::is_kernel_span))]
-fn is_kernel_span(spans: &[SpanPart], part: &Part, pages: u32, number: u16) -> bool
+fn is_kernel_span(spans: &[SpanPart], part: &TagPart, pages: u32, number: u16) -> bool
     ensures { result ≡ is_kernel_span spans.now (part_code part.now) pages number }
 {
     let code = part_code(part);
@@ -64,10 +64,10 @@ fn is_kernel_span(spans: &[SpanPart], part: &Part, pages: u32, number: u16) -> b
 // The number of such a span.
 fn kernel_span_of<'a>(
     outline: &Outline,
-    part: &Part,
+    part: &TagPart,
     pages: u32,
     bytes: &'a [u8],
-) -> Result<(u16, &'a [u8]), Halt>
+) -> Result<(u16, &'a [u8]), FormError>
     ensures { Gives (λ x. (x.0, x.1.now)) result ((only (is_kernel_span outline.now.spans (part_code part.now) pages) Field.Span (number w16)).read bytes.now) }
 {
     let (number, rest) = u16_of(bytes)?;
@@ -101,7 +101,7 @@ impl Item for Option<EventPart> {
         among: &Header,
         before: &mut u8,
         bytes: &'a [u8],
-    ) -> Result<(Option<EventPart>, &'a [u8]), Halt> {
+    ) -> Result<(Option<EventPart>, &'a [u8]), FormError> {
         event_at(among, bytes)
     }
 
@@ -116,7 +116,7 @@ fn events_of<'a>(
     alloc: Global,
     header: &Header,
     bytes: &'a [u8],
-) -> Result<(Seq<Option<EventPart>>, &'a [u8]), Halt>
+) -> Result<(Seq<Option<EventPart>>, &'a [u8]), FormError>
     ensures { Gives (λ x. (x.0, x.1.now)) result ((events header.now).read bytes.now) }
 {
     items_of::<Option<EventPart>>(alloc, header, 0, MOST_CALLS as usize, bytes)
@@ -139,7 +139,7 @@ impl Item for SubjectPart {
         among: &Outline,
         before: &mut u8,
         bytes: &'a [u8],
-    ) -> Result<(SubjectPart, &'a [u8]), Halt> {
+    ) -> Result<(SubjectPart, &'a [u8]), FormError> {
         let (cpu, rest) = byte_of(bytes)?;
         if cpu >= among.header.cpus {
             return Err(bad(bytes, Field::Cpu));
@@ -155,10 +155,10 @@ impl Item for SubjectPart {
             return Err(bad(at, Field::Msrs));
         }
         let rest = gap_of(rest, 1, Field::Zero)?;
-        let (state, rest) = kernel_span_of(among, &Part::State, 1, rest)?;
-        let (iobm, rest) = kernel_span_of(among, &Part::Iobm, 2, rest)?;
-        let (msrbm, rest) = kernel_span_of(among, &Part::Msrbm, 1, rest)?;
-        let (area, rest) = kernel_span_of(among, &Part::Msrs, 1, rest)?;
+        let (state, rest) = kernel_span_of(among, &TagPart::State, 1, rest)?;
+        let (iobm, rest) = kernel_span_of(among, &TagPart::Iobm, 2, rest)?;
+        let (msrbm, rest) = kernel_span_of(among, &TagPart::Msrbm, 1, rest)?;
+        let (area, rest) = kernel_span_of(among, &TagPart::Msrs, 1, rest)?;
         let at = gap_of(rest, 4, Field::Zero)?;
         let (eptp, rest) = u64_of(at)?;
         if !is_eptp(eptp) {

@@ -11,7 +11,7 @@ use crate::parts::{DevicePart, Image, SpanPart, SubjectPart};
 use crate::reading::header::header_of;
 use crate::reading::spans::spans_of;
 use image_form::reading::bytes_upto;
-use image_form::{Halt, Stop};
+use image_form::{FormError, FormFault};
 use image_plan::{GroupPart, Major, Plan};
 use muen_num::Seq;
 use muen_num::limits::PAGE;
@@ -23,7 +23,7 @@ fn content_of<'a>(
     alloc: Global,
     span: &SpanPart,
     bytes: &'a [u8],
-) -> Result<(Seq<u8>, &'a [u8]), Halt>
+) -> Result<(Seq<u8>, &'a [u8]), FormError>
     ensures { Gives (λ x. (x.0, x.1.now)) result ((content span.now).read bytes.now) }
 {
     if span.kind.is_device() {
@@ -38,7 +38,7 @@ fn contents_of<'a>(
     alloc: Global,
     spans: &[SpanPart],
     bytes: &'a [u8],
-) -> Result<(Seq<Seq<u8>>, &'a [u8]), Halt>
+) -> Result<(Seq<Seq<u8>>, &'a [u8]), FormError>
     ensures { Gives (λ x. (x.0, x.1.now)) result ((each content spans.now).read bytes.now) }
 {
     let mut list = Seq::new(alloc);
@@ -52,7 +52,7 @@ fn contents_of<'a>(
 }
 
 #[tactic(auto, unfolding(image_form::specs::Form::field, image_form::specs::Form::done, crate::specs::Image::image))]
-fn image_of(alloc: Global, bytes: &[u8]) -> Result<(Image, &[u8]), Halt>
+fn image_of(alloc: Global, bytes: &[u8]) -> Result<(Image, &[u8]), FormError>
     ensures { Gives (λ x. (x.0, x.1.now)) result (image.read bytes.now) }
 {
     let (header, rest) = header_of(bytes)?;
@@ -95,13 +95,13 @@ fn image_of(alloc: Global, bytes: &[u8]) -> Result<(Image, &[u8]), Halt>
 
 /// The image that the bytes are, to the last one.
 #[tactic(auto, unfolding(image_form::specs::Form::whole))]
-pub(crate) fn all_of(alloc: Global, bytes: &[u8]) -> Result<Image, Halt>
+pub(crate) fn all_of(alloc: Global, bytes: &[u8]) -> Result<Image, FormError>
     ensures { Gives (λ i. i) result (whole image bytes.now) }
 {
     let (image, rest) = image_of(alloc, bytes)?;
     if rest.is_empty() {
         Ok(image)
     } else {
-        Err(Halt::At(Stop::Trailing(rest.len())))
+        Err(FormError::At(FormFault::Trailing(rest.len())))
     }
 }

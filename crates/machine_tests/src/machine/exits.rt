@@ -1,7 +1,7 @@
 //! How steps end: every fault, and what comes of steps without one.
 use super::world::{PC, bench, exit, machine, set_register, subject_at};
 use guest_step::StepEnd;
-use muen_num::Size;
+use muen_num::AccessSize;
 use std::test::Fail;
 
 /// The end of guest addresses.
@@ -73,7 +73,7 @@ fn ends_without_a_fault(rt: HostRuntime) -> Result<(), Fail> {
         call: 0x3fc,
     };
     let out = StepEnd::Out {
-        size: Size::Two,
+        size: AccessSize::Two,
         port: 0x3fc,
         value: 7,
     };

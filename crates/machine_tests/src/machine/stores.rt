@@ -7,7 +7,7 @@ use super::world::{
 };
 use ept_walk::PlainWalk;
 use guest_step::{Finish, StepEnd};
-use muen_num::Size;
+use muen_num::AccessSize;
 use phys_mem::{PhysMem, RegionMem};
 use std::alloc::Global;
 use std::test::Fail;
@@ -70,7 +70,7 @@ fn area_by_the_index_on_leaving(rt: HostRuntime) -> Result<(), Fail> {
         let mut machine = after_store(rt.alloc(), 0x40_5000 + offset, value, 0)?;
         machine.leave(0);
         assert_eq!(rt;
-            machine.mem().load(AREA + 8, Size::Eight),
+            machine.mem().load(AREA + 8, AccessSize::Eight),
             Some(saved),
             "{offset}"
         );
@@ -117,18 +117,18 @@ fn state_page_of_who_left(rt: HostRuntime) -> Result<(), Fail> {
     machine.finish(0, Finish::Halt);
     machine.leave(0);
     let mem = machine.mem();
-    assert_eq!(rt; mem.load(STATE + 8, Size::Eight), Some(3));
-    assert_eq!(rt; mem.load(STATE + 128, Size::Eight), Some(PC + 8));
-    assert_eq!(rt; mem.load(STATE + 152, Size::Eight), Some(0xa));
-    assert_eq!(rt; mem.load(STATE + 200, Size::Eight), Some(0));
+    assert_eq!(rt; mem.load(STATE + 8, AccessSize::Eight), Some(3));
+    assert_eq!(rt; mem.load(STATE + 128, AccessSize::Eight), Some(PC + 8));
+    assert_eq!(rt; mem.load(STATE + 152, AccessSize::Eight), Some(0xa));
+    assert_eq!(rt; mem.load(STATE + 200, AccessSize::Eight), Some(0));
     machine.enter(0, CONTROL);
     machine.inject(0, 40);
     machine.finish(0, Finish::Stop);
     machine.leave(0);
     let mem = machine.mem();
-    assert_eq!(rt; mem.load(STATE + 128, Size::Eight), Some(320));
-    assert_eq!(rt; mem.load(STATE + 136, Size::Eight), Some(PC + 8));
-    assert_eq!(rt; mem.load(STATE + 152, Size::Eight), Some(4));
+    assert_eq!(rt; mem.load(STATE + 128, AccessSize::Eight), Some(320));
+    assert_eq!(rt; mem.load(STATE + 136, AccessSize::Eight), Some(PC + 8));
+    assert_eq!(rt; mem.load(STATE + 152, AccessSize::Eight), Some(4));
     Ok(())
 }
 
@@ -139,8 +139,8 @@ fn bytes_of_a_device(rt: HostRuntime) -> Result<(), Fail> {
     machine.device_write(DEVICE - 1, &[5, 6]);
     machine.device_write(DEVICE + 9, &[]);
     let mem = machine.mem();
-    assert_eq!(rt; mem.load(DEVICE + 0xffc, Size::Four), Some(0x0201_0000));
-    assert_eq!(rt; mem.load(DEVICE, Size::Eight), Some(6));
-    assert_eq!(rt; mem.load(DEVICE + 0x1000, Size::Eight), None);
+    assert_eq!(rt; mem.load(DEVICE + 0xffc, AccessSize::Four), Some(0x0201_0000));
+    assert_eq!(rt; mem.load(DEVICE, AccessSize::Eight), Some(6));
+    assert_eq!(rt; mem.load(DEVICE + 0x1000, AccessSize::Eight), None);
     Ok(())
 }

@@ -6,8 +6,8 @@ ghost use Rattle.std.specs.Prelude.{◌≡◌, ◌<◌, ◌^◌, length, IfOk};
 use device_bench::Bench;
 use ept_walk::PlainWalk;
 use guest_step::StepEnd;
-use muen_num::{Seq, Size};
-use phys_mem::{PhysMem, RegionMem, SpanPartBytes};
+use muen_num::{Seq, AccessSize};
+use phys_mem::{PhysMem, RegionMem, MemorySpan};
 use record_text::Record;
 use std::alloc::Global;
 use std::test::Fail;
@@ -99,11 +99,11 @@ pub(super) fn subject_at(pc: u64, word: u64, r1: u64) -> Start {
 }
 
 fn memory(alloc: Global) -> Result<RegionMem, Fail> {
-    let low = SpanPartBytes {
+    let low = MemorySpan {
         place: 0x10_0000,
         bytes: Seq::of(vec![in alloc; 0; 0xd000]?),
     };
-    let device = SpanPartBytes {
+    let device = MemorySpan {
         place: DEVICE,
         bytes: Seq::of(vec![in alloc; 0; 0x1000]?),
     };
@@ -113,7 +113,7 @@ fn memory(alloc: Global) -> Result<RegionMem, Fail> {
 
 // The word at a place that is a multiple of eight.
 fn set<M: PhysMem>(mem: &mut M, at: u64, word: u64) {
-    mem.store(at - at % 8, Size::Eight, word);
+    mem.store(at - at % 8, AccessSize::Eight, word);
 }
 
 // All bits of the bitmaps.

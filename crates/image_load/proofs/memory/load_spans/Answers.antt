@@ -1,5 +1,5 @@
 use Rattle.std.proofs.Common.{◌≡◌, ℕ, List, [], ◌∷◌, ◌++◌, length, append-nil, inl, inr, refl, sym, ap, ◌∙◌, arith}
-use Rattle.phys_mem.specs.declared.spans.SpanPartBytes.{SpanPartBytes}
+use Rattle.phys_mem.specs.declared.spans.MemorySpan.{MemorySpan}
 use Rattle.image_pack.specs.declared.parts.SpanPart.{SpanPart}
 use Rattle.image_load.specs.Loaded.{loaded_spans}
 use Rattle.image_load.proofs.memory.load_spans.Goals as goal
@@ -14,7 +14,7 @@ no_bytes [] bs none = refl
 no_bytes (s ∷ ss) [] none = refl
 no_bytes (s ∷ ss) (b ∷ bs) none = absurd (omega arith)
 
-all_loaded : (loaded all : List SpanPartBytes) (ss : List SpanPart) (bs : List (List ℕ)) → loaded ++ loaded_spans ss bs ≡ all → loaded_spans ss bs ≡ [] → loaded ≡ all
+all_loaded : (loaded all : List MemorySpan) (ss : List SpanPart) (bs : List (List ℕ)) → loaded ++ loaded_spans ss bs ≡ all → loaded_spans ss bs ≡ [] → loaded ≡ all
 all_loaded loaded all ss bs was none = sym (append-nil loaded) ∙ (ap (λ x. loaded ++ x) (sym none) ∙ was)
 
 pub returns : goal.returns
