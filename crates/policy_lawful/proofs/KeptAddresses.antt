@@ -1,4 +1,4 @@
--- Rule 4: blocks are ranges of physical memory, regions have their sizes, alignments and places, and windows are ranges of
+-- Rule 4: blocks are ranges of physical memory, regions have their sizes, alignments and addresses, and windows are ranges of
 -- guest addresses.
 use Rattle.std.proofs.Common.{◌≡◌, true, None}
 use Rattle.std.specs.List.{list_all}

@@ -1,6 +1,6 @@
 pub mod Keeps
 pub mod KeptAddresses
-pub mod KeptByPlace
+pub mod KeptByIndex
 pub mod KeptCpus
 pub mod KeptLimits
 pub mod KeptMajors
@@ -9,7 +9,7 @@ pub mod KeptPlan
 pub mod KeptRules
 pub mod Naming
 pub mod Offences
-pub mod Places
+pub mod Indexes
 mod RuleExamples
 pub mod SourceElements
 pub mod UniqueNames

@@ -83,29 +83,29 @@ reader_before_writer = refl
 
 -- ---- channels and events
 
-abbrev ends : List ℕ → List ChannelUse → Subject
-ends name uses = record (subject name) { channels = uses }
+abbrev with_channel_ends : List ℕ → List ChannelUse → Subject
+with_channel_ends name uses = record (subject name) { channels = uses }
 
-abbrev end_of : Role → Option ℕ → Option ℕ → ChannelUse
-end_of role call vector =
+abbrev channel_end : Role → Option ℕ → Option ℕ → ChannelUse
+channel_end role call vector =
     record { channel = codes "c"; role = role; virtual_address = 0; call = call; vector = vector }
 
 abbrev channel_of : Option EventMode → Channel
 channel_of mode = record { name = codes "c"; size = 4096; has_event = mode }
 
-channel_of_two : offence_6 (record nothing { channels = channel_of None ∷ []; subjects = ends (codes "w") (end_of Writer None None ∷ []) ∷ ends (codes "r") (end_of Reader None None ∷ []) ∷ [] }) ≡ None
+channel_of_two : offence_6 (record nothing { channels = channel_of None ∷ []; subjects = with_channel_ends (codes "w") (channel_end Writer None None ∷ []) ∷ with_channel_ends (codes "r") (channel_end Reader None None ∷ []) ∷ [] }) ≡ None
 unfolding offence_6
 channel_of_two = refl
 
-reads_its_own : offence_6 (record nothing { channels = channel_of None ∷ []; subjects = ends (codes "w") (end_of Writer None None ∷ end_of Reader None None ∷ []) ∷ [] }) ≡ Some (alone (codes "c"))
+reads_its_own : offence_6 (record nothing { channels = channel_of None ∷ []; subjects = with_channel_ends (codes "w") (channel_end Writer None None ∷ channel_end Reader None None ∷ []) ∷ [] }) ≡ Some (alone (codes "c"))
 unfolding offence_6
 reads_its_own = refl
 
-event_without_vector : offence_6 (record nothing { channels = channel_of (Some Asap) ∷ []; subjects = ends (codes "w") (end_of Writer (Some 1) None ∷ []) ∷ ends (codes "r") (end_of Reader None None ∷ []) ∷ [] }) ≡ Some (alone (codes "c"))
+event_without_vector : offence_6 (record nothing { channels = channel_of (Some Asap) ∷ []; subjects = with_channel_ends (codes "w") (channel_end Writer (Some 1) None ∷ []) ∷ with_channel_ends (codes "r") (channel_end Reader None None ∷ []) ∷ [] }) ≡ Some (alone (codes "c"))
 unfolding offence_6
 event_without_vector = refl
 
-switch_without_vector : offence_6 (record nothing { channels = channel_of (Some Switch) ∷ []; subjects = ends (codes "w") (end_of Writer (Some 1) None ∷ []) ∷ ends (codes "r") (end_of Reader None None ∷ []) ∷ [] }) ≡ None
+switch_without_vector : offence_6 (record nothing { channels = channel_of (Some Switch) ∷ []; subjects = with_channel_ends (codes "w") (channel_end Writer (Some 1) None ∷ []) ∷ with_channel_ends (codes "r") (channel_end Reader None None ∷ []) ∷ [] }) ≡ None
 unfolding offence_6
 switch_without_vector = refl
 

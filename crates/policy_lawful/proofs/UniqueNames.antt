@@ -1,4 +1,4 @@
--- Rule 1: the names of each kind are unique, so each tells a place.
+-- Rule 1: the names of each kind are unique, so each tells an index.
 use Rattle.std.proofs.Common.{◌≡◌, ℕ, zero, suc, List, [], ◌∷◌, ◌++◌, map, Option, Some, None, refl, sym, ap, subst, ◌∙◌}
 use Rattle.std.specs.Prelude.{not, slice_get}
 use Rattle.std.specs.List.{flat_map}
@@ -98,7 +98,7 @@ parts_among (x ∷ xs) zero d h is =
     })
 parts_among (x ∷ xs) (suc k) d h is = parts_among xs k d (none_append repeated (device_kinds x) (flat_map device_kinds xs) h).1 is
 
--- of a device at a place they are unique
+-- of a device at an index they are unique
 pub parts_unique : (p : Source) (k : ℕ) (d : Device) → offence_1 p ≡ None → slice_get p.devices k ≡ Some d → UniqueParts d
 parts_unique p k d h is = parts_among p.devices k d (unique p h).parts_of_devices is
 
@@ -107,13 +107,13 @@ logical_among [] k c h is = absurd (cc)
 logical_among (x ∷ xs) zero c h is = let same : x ≡ c = cc in subst (λ c. repeated (logical_names c) ≡ None) same (none_both _ _ h).0
 logical_among (x ∷ xs) (suc k) c h is = logical_among xs k c (none_both _ _ h).1 is
 
--- the logical names of a component at a place are unique
+-- the logical names of a component at an index are unique
 pub logical_unique : (p : Source) (k : ℕ) (c : Component) → offence_1 p ≡ None → slice_get p.components k ≡ Some c → repeated (logical_names c) ≡ None
 logical_unique p k c h is = logical_among p.components k c (unique p h).logical_names is
 
 -- ---- of a resolved policy
 
--- the names of its subjects and groups, by their places
+-- the names of its subjects and groups, by their indexes
 abbrev pub subject_names : Resolution → List (List ℕ)
 subject_names r = map (λ s. s.name) r.subjects
 

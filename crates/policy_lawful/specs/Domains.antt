@@ -39,11 +39,11 @@ stands_before before x = list_any (λ b. bytes_eq b.name x.name) before
 
 -- ---- rule 21: the devices of domains
 
--- the device has a place on the bus
-abbrev pub is_placed_device : Source → List ℕ → Bool
-is_placed_device p name = option_map_or (λ d. is_some d.bdf) (find (λ d. bytes_eq d.name name) p.devices) false
+-- the device has a bus, device and function number
+abbrev pub device_has_bdf : Source → List ℕ → Bool
+device_has_bdf p name = option_map_or (λ d. is_some d.bdf) (find (λ d. bytes_eq d.name name) p.devices) false
 
--- a place that there is on a bus
+-- a device and function number that there is on a bus
 abbrev pub is_bdf : Option Bdf → Bool
 is_bdf None = true
 is_bdf (Some b) = nat_lt b.device BDF_DEVICES && nat_lt b.function BDF_FUNCTIONS
@@ -59,7 +59,7 @@ offence_21 p =
     ∷ repeated (map (λ d. d.name) p.device_domains)
     ∷ first_in (λ x. unless (is_declared (map (λ d. d.name) p.devices) x.name) (two x.domain x.name)) (listed_devices p)
     ∷ first_after (λ before x. unless (not (stands_before before x)) (two x.domain x.name)) [] (listed_devices p)
-    ∷ first_in (λ x. unless (is_placed_device p x.name) (two x.domain x.name)) (listed_devices p)
+    ∷ first_in (λ x. unless (device_has_bdf p x.name) (two x.domain x.name)) (listed_devices p)
     ∷ first_in (λ d. unless (is_bdf d.bdf) (alone d.name)) p.devices
     ∷ first_pair (λ a b. unless (not (same_bdf a.bdf b.bdf)) (two a.name b.name)) p.devices
     ∷ []

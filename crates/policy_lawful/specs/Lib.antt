@@ -1,4 +1,4 @@
-pub mod ByPlace
+pub mod ByIndex
 pub mod Domains
 pub mod Keeps
 pub mod Lawful

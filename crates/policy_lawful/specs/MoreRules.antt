@@ -43,8 +43,8 @@ are_distinct (n ∷ ns) = not (list_any (λ m. m == n) ns) && are_distinct ns
 -- ---- rule 6: the entries of a channel
 
 -- a subject's end of a channel, with the subject
-abbrev pub ends_of : Source → List ℕ → List (List ℕ × ChannelEnd)
-ends_of p name =
+abbrev pub ends_of_channel : Source → List ℕ → List (List ℕ × ChannelEnd)
+ends_of_channel p name =
     flat_map (λ s. map (λ e. (s.name, e)) (filter (λ e. bytes_eq e.channel name) (channel_ends p s))) p.subjects
 
 abbrev pub is_writer : Role → Bool
@@ -52,10 +52,10 @@ is_writer Writer = true
 is_writer Reader = false
 
 abbrev pub writers_of : Source → List ℕ → List (List ℕ × ChannelEnd)
-writers_of p name = filter (λ e. is_writer e.1.role) (ends_of p name)
+writers_of p name = filter (λ e. is_writer e.1.role) (ends_of_channel p name)
 
 abbrev pub readers_of : Source → List ℕ → List (List ℕ × ChannelEnd)
-readers_of p name = filter (λ e. not (is_writer e.1.role)) (ends_of p name)
+readers_of p name = filter (λ e. not (is_writer e.1.role)) (ends_of_channel p name)
 
 abbrev pub is_switch : EventMode → Bool
 is_switch Switch = true

@@ -23,11 +23,11 @@ fn numbered(front: &[u8], number: u64) -> Name
     }
 }
 
-/// The name of the major frame at a place.
-pub fn major_name(place: usize) -> Name
-    ensures { result ≡ major_name place }
+/// The name of the major frame at an index.
+pub fn major_name(index: usize) -> Name
+    ensures { result ≡ major_name index }
 {
-    numbered(b"major.", place as u64)
+    numbered(b"major.", index as u64)
 }
 
 /// The name of a CPU.

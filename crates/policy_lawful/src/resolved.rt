@@ -1,5 +1,5 @@
 //! The elements of a policy whose references are resolved: where the document names a declared
-//! thing, its place in the list that declares it stands. All else is as in the document.
+//! thing, its index in the list that declares it stands. All else is as in the document.
 ghost use Rattle.std.specs.Prelude.{◌≡◌};
 ghost use Rattle.policy_lawful.specs.Resolution.{IsResolved};
 
@@ -132,7 +132,7 @@ pub struct Subject {
 /// The component of a subject.
 #[derive(Clone, Debug, Drop, PartialEq, Eq)]
 pub struct ComponentUse {
-    /// The component's place.
+    /// The component's index.
     pub used: usize,
     pub map: Seq<MapEntry>,
 }
@@ -140,9 +140,9 @@ pub struct ComponentUse {
 /// A logical name of a component that wants something.
 #[derive(Clone, Copy, Debug, PartialEq, Eq)]
 pub enum Wanted {
-    /// The place among the regions that the component asks for.
+    /// The index among the regions that the component asks for.
     Memory(usize),
-    /// The place among its channels.
+    /// The index among its channels.
     Channel(usize),
 }
 
@@ -150,7 +150,7 @@ pub enum Wanted {
 #[derive(Clone, Debug, Drop, PartialEq, Eq)]
 pub struct MapEntry {
     pub logical: Wanted,
-    /// The place of a region or a channel, as the logical name wants.
+    /// The index of a region or a channel, as the logical name wants.
     pub physical: usize,
     pub rights: Option<Rights>,
 }
@@ -158,7 +158,7 @@ pub struct MapEntry {
 /// A window of a subject on a region of memory.
 #[derive(Clone, Debug, Drop, PartialEq, Eq)]
 pub struct Mapping {
-    /// The region's place.
+    /// The region's index.
     pub region: usize,
     /// The guest address of its first byte.
     pub virtual_address: u64,
@@ -168,7 +168,7 @@ pub struct Mapping {
 /// A subject's end of a channel.
 #[derive(Clone, Debug, Drop, PartialEq, Eq)]
 pub struct ChannelUse {
-    /// The channel's place.
+    /// The channel's index.
     pub channel: usize,
     pub role: Role,
     pub virtual_address: u64,
@@ -179,10 +179,10 @@ pub struct ChannelUse {
 /// What a subject is granted of a device.
 #[derive(Clone, Debug, Drop, PartialEq, Eq)]
 pub struct DeviceUse {
-    /// The device's place.
+    /// The device's index.
     pub device: usize,
     pub memory: Seq<DeviceMapping>,
-    /// Places among the device's ports.
+    /// Indexes among the device's ports.
     pub io_ports: Seq<usize>,
     pub irqs: Seq<IrqUse>,
 }
@@ -190,7 +190,7 @@ pub struct DeviceUse {
 /// A window of a subject on a device's memory.
 #[derive(Clone, Debug, Drop, PartialEq, Eq)]
 pub struct DeviceMapping {
-    /// The place among the device's memory.
+    /// The index among the device's memory.
     pub memory: usize,
     pub virtual_address: u64,
     pub rights: Rights,
@@ -199,7 +199,7 @@ pub struct DeviceMapping {
 /// An interrupt line that is granted to a subject.
 #[derive(Clone, Debug, Drop, PartialEq, Eq)]
 pub struct IrqUse {
-    /// The place among the device's interrupt lines.
+    /// The index among the device's interrupt lines.
     pub irq: usize,
     pub vector: u64,
 }
@@ -207,7 +207,7 @@ pub struct IrqUse {
 /// How a subject raises an event.
 #[derive(Clone, Debug, Drop, PartialEq, Eq)]
 pub struct EventSource {
-    /// The event's place.
+    /// The event's index.
     pub event: usize,
     pub way: SourceWay,
 }
@@ -215,7 +215,7 @@ pub struct EventSource {
 /// An event that reaches a subject.
 #[derive(Clone, Debug, Drop, PartialEq, Eq)]
 pub struct EventTarget {
-    /// The event's place.
+    /// The event's index.
     pub event: usize,
     pub vector: Option<u64>,
 }
@@ -223,7 +223,7 @@ pub struct EventTarget {
 /// A window of a subject on the state of another, which it monitors.
 #[derive(Clone, Debug, Drop, PartialEq, Eq)]
 pub struct Monitor {
-    /// The place of the monitored subject.
+    /// The index of the monitored subject.
     pub subject: usize,
     /// The guest address of the window's first byte.
     pub virtual_address: u64,
@@ -244,7 +244,7 @@ pub struct Scheduling {
 pub struct Group {
     pub name: Name,
     pub cpu: u64,
-    /// The places of its members; the first is active at the start.
+    /// The indexes of its members; the first is active at the start.
     pub subjects: Seq<usize>,
 }
 
@@ -262,7 +262,7 @@ pub struct CpuFrames {
 }
 
 impl CpuFrames {
-    ghost use Rattle.policy_lawful.specs.ByPlace.{ticks_in};
+    ghost use Rattle.policy_lawful.specs.ByIndex.{ticks_in};
 
     /// All ticks of its minor frames, below 2^64 for each.
     pub fn ticks(&self) -> u128
@@ -276,7 +276,7 @@ impl CpuFrames {
 /// A minor frame.
 #[derive(Clone, Debug, Drop, PartialEq, Eq)]
 pub struct MinorFrame {
-    /// The group's place.
+    /// The group's index.
     pub group: usize,
     pub ticks: u64,
 }

@@ -1,4 +1,4 @@
--- What the places of an element rest on.
+-- What the indexes of an element rest on.
 use Rattle.std.proofs.lemmas.List.{length-map}
 use Rattle.muen_num.proofs.Lists.{map-map}
 use Rattle.muen_num.proofs.SearchLaws.{first_over-map}

@@ -1,8 +1,8 @@
-pub mod ComponentAtPlace
-pub mod DeviceAtPlace
+pub mod ComponentAtIndex
+pub mod DeviceAtIndex
 pub mod Elements
 pub mod Names
 pub mod PartNames
 pub mod Refusals
 pub mod Resolved
-pub mod SubjectAtPlaces
+pub mod SubjectAtIndexes

@@ -1,4 +1,4 @@
--- Names in a list. An index compares the name that is sought with those of the list, the rules compare these with it.
+-- Names in a list. A set of names compares the name that is sought with its own, the rules compare these with it.
 use Rattle.std.proofs.Common.{◌≡◌, ℕ, Bool, true, false, List, [], ◌∷◌, ◌++◌, length, Option, Some, None, refl, sym, ap}
 use Rattle.std.specs.Prelude.{cond, if◌then◌else◌, not, ◌||◌, nat_lt}
 use Rattle.std.specs.List.{list_any, position}
@@ -15,7 +15,7 @@ use Rattle.policy_lawful.specs.Resolution.{name_at}
 use Rattle.policy_lawful.specs.Rules.{is_declared, refers, undeclared}
 use Rattle.policy_lawful.specs.declared.offence.Offence.{Offence}
 use Rattle.policy_names.specs.Parts.{repeats, repeats_behind}
-use Rattle.policy_names.specs.Places.{StandsFor}
+use Rattle.policy_names.specs.Indexes.{StandsFor}
 
 -- ---- a name that is sought
 
@@ -27,11 +27,11 @@ declared_is (n ∷ ns) name = rw (nat_list_eq_equiv.symm n name, declared_is ns 
 pub undeclared_is : (by name : List ℕ) (names : List (List ℕ)) → undeclared (refers by names name) ≡ unless (list_any (bytes_eq name) names) (two by name)
 undeclared_is by name names = ap (λ b. unless b (two by name)) (declared_is names name)
 
--- a place that was found
-pub found : (names : List (List ℕ)) (name : List ℕ) (place : ℕ) → position (bytes_eq name) names ≡ Some place → StandsFor (name_at names) (λ k. nat_lt k (length names)) name place
-found names name place h =
-    let at = position-Some (bytes_eq name) names place [] h in
-    record { same = sym ((bytes_eq-Decides name (name_at names place)).0 at.1); there = lt-ltb place (length names) at.0 }
+-- an index that was found
+pub found : (names : List (List ℕ)) (name : List ℕ) (index : ℕ) → position (bytes_eq name) names ≡ Some index → StandsFor (name_at names) (λ k. nat_lt k (length names)) name index
+found names name index h =
+    let at = position-Some (bytes_eq name) names index [] h in
+    record { same = sym ((bytes_eq-Decides name (name_at names index)).0 at.1); there = lt-ltb index (length names) at.0 }
 
 pub ruleset sought = (declared_is, undeclared_is, found)
 

@@ -43,11 +43,11 @@ pub explains_at : {X : Type 0} (number : ℕ) (at : X → Option Offence) (xs : 
 explains_at number at xs i x e within is rest h =
     rw (sym rest ∙ first_step at xs i x (at x) within is refl, broken-or number (at x)) (explains_first NoMemory _ _ e h)
 
--- the same of a list with its places
-pub explains_at_place : {X : Type 0} (number : ℕ) (at : ℕ × X → Option Offence) (xs : List X) (i : ℕ) (x : X) (e : Refusal) → i < length xs → x ≡ get_or xs i x
+-- the same of a list with its indexes
+pub explains_at_index : {X : Type 0} (number : ℕ) (at : ℕ × X → Option Offence) (xs : List X) (i : ℕ) (x : X) (e : Refusal) → i < length xs → x ≡ get_or xs i x
     → first_in at (enumerate_from i (drop i xs)) ≡ first_in at (enumerate_from 0 xs)
     → Explains NoMemory (broken number (at (i, x))) e → Explains NoMemory (broken number (first_in at (enumerate_from 0 xs))) e
-explains_at_place number at xs i x e within is rest h =
+explains_at_index number at xs i x e within is rest h =
     rw (sym rest ∙ first_numbered_step at xs i x (at (i, x)) within is refl, broken-or number (at (i, x))) (explains_first NoMemory _ _ e h)
 
 -- a list that is joined of many is searched one after another

@@ -1,4 +1,4 @@
--- The resolved policy, from its elements with places.
+-- The resolved policy, from its elements with indexes.
 use Rattle.std.proofs.Common.{◌≡◌, true, List, ◌++◌, length, None, Err, refl, sym, ap, subst, ◌∙◌}
 use Rattle.std.specs.Prelude.{map, nat_lt}
 use Rattle.std.specs.List.{flat_map, list_all}
@@ -12,7 +12,7 @@ use Rattle.policy_lawful.specs.Lawful.{kept_or, names_broken}
 use Rattle.policy_lawful.specs.Offences.{broken}
 use Rattle.policy_lawful.proofs.Keeps.{refused}
 use Rattle.policy_lawful.proofs.Offences.{none_broken}
-use Rattle.policy_lawful.specs.Resolution.{IsResolved, Resolution, are_placed, group_named, group_placed, major_named, major_placed, name_at, source_of, subject_named, subject_named_among, subject_placed, subject_placed_among}
+use Rattle.policy_lawful.specs.Resolution.{IsResolved, Resolution, are_in_range, group_named, group_in_range, major_named, major_in_range, name_at, source_of, subject_named, subject_named_among, subject_in_range, subject_in_range_among}
 use Rattle.policy_lawful.specs.Rules.{frame_references, group_references, majors_of, offence_1, offence_2, subject_references, undeclared}
 use Rattle.policy_lawful.specs.declared.resolved.Group.{Group}
 use Rattle.policy_lawful.specs.declared.resolved.MajorFrame.{MajorFrame}
@@ -20,8 +20,8 @@ use Rattle.policy_lawful.specs.declared.resolved.Subject.{Subject}
 use Rattle.policy_types.specs.declared.refusal.Refusal.{Refusal}
 use Rattle.policy_types.specs.declared.refusal.Refusal.TheVariants.{NoMemory}
 use Rattle.policy_types.specs.declared.source.Source.{Source}
-use Rattle.policy_names.specs.Outline.{bare_group, bare_subject, outline, with_places}
-use Rattle.policy_names.specs.Places.{StandsFor}
+use Rattle.policy_names.specs.Outline.{bare_group, bare_subject, outline, with_resolved}
+use Rattle.policy_names.specs.Indexes.{StandsFor}
 use Rattle.policy_names.proofs.Refusals.{first_in-flat_map, one_behind_another}
 
 -- ---- its elements
@@ -39,9 +39,9 @@ offence_2_in_turn p =
 pub ruleset in_turn = (offence_2_in_turn, one_behind_another)
 
 module _ (p : Source) (ss : List Subject) (gs : List Group) (ms : List MajorFrame)
-    (subjects : StandsFor (map (subject_named (outline p))) (list_all (subject_placed (outline p))) p.subjects ss)
-    (groups : StandsFor (map (group_named (outline p))) (list_all (group_placed (outline p))) p.scheduling.groups gs)
-    (majors : StandsFor (map (major_named (outline p))) (list_all (major_placed (outline p))) p.scheduling.major_frames ms) where
+    (subjects : StandsFor (map (subject_named (outline p))) (list_all (subject_in_range (outline p))) p.subjects ss)
+    (groups : StandsFor (map (group_named (outline p))) (list_all (group_in_range (outline p))) p.scheduling.groups gs)
+    (majors : StandsFor (map (major_named (outline p))) (list_all (major_in_range (outline p))) p.scheduling.major_frames ms) where
   -- the subjects have their names, and so have the groups
   of_subjects : map (λ s. s.name) (outline p).subjects ≡ map (λ s. s.name) ss
   of_subjects = map-map (λ s. s.name) bare_subject p.subjects ∙ ap (map (λ s. s.name)) (sym subjects.same) ∙ map-map (λ s. s.name) (subject_named (outline p)) ss
@@ -50,35 +50,35 @@ module _ (p : Source) (ss : List Subject) (gs : List Group) (ms : List MajorFram
   of_groups = map-map (λ g. g.name) bare_group p.scheduling.groups ∙ ap (map (λ g. g.name)) (sym groups.same) ∙ map-map (λ g. g.name) (group_named (outline p)) gs
 
   -- so that the subjects, the groups and the frames stand for the same beside them
-  subjects_same : map (subject_named (with_places p ss (record { groups = gs; major_frames = ms; tau0 = p.scheduling.tau0 }))) ss ≡ p.subjects
+  subjects_same : map (subject_named (with_resolved p ss (record { groups = gs; major_frames = ms; tau0 = p.scheduling.tau0 }))) ss ≡ p.subjects
   subjects_same = ap (λ names. map (subject_named_among (outline p) names) ss) (sym of_subjects) ∙ subjects.same
 
-  subjects_there : list_all (subject_placed (with_places p ss (record { groups = gs; major_frames = ms; tau0 = p.scheduling.tau0 }))) ss ≡ true
+  subjects_there : list_all (subject_in_range (with_resolved p ss (record { groups = gs; major_frames = ms; tau0 = p.scheduling.tau0 }))) ss ≡ true
   subjects_there =
-      subst (λ n. list_all (subject_placed_among (outline p) n) ss ≡ true)
+      subst (λ n. list_all (subject_in_range_among (outline p) n) ss ≡ true)
       (sym (length-map (outline p).subjects (λ s. s.name)) ∙ ap length of_subjects ∙ length-map ss (λ s. s.name)) subjects.there
 
-  groups_same : map (group_named (with_places p ss (record { groups = gs; major_frames = ms; tau0 = p.scheduling.tau0 }))) gs ≡ p.scheduling.groups
+  groups_same : map (group_named (with_resolved p ss (record { groups = gs; major_frames = ms; tau0 = p.scheduling.tau0 }))) gs ≡ p.scheduling.groups
   groups_same = ap (λ names. map (λ (g : Group). record { name = g.name; cpu = g.cpu; subjects = map (name_at names) g.subjects }) gs) (sym of_subjects) ∙ groups.same
 
-  groups_there : list_all (group_placed (with_places p ss (record { groups = gs; major_frames = ms; tau0 = p.scheduling.tau0 }))) gs ≡ true
+  groups_there : list_all (group_in_range (with_resolved p ss (record { groups = gs; major_frames = ms; tau0 = p.scheduling.tau0 }))) gs ≡ true
   groups_there =
       subst (λ n. list_all (λ (g : Group). list_all (λ i. nat_lt i n) g.subjects) gs ≡ true)
       (sym (length-map (outline p).subjects (λ s. s.name)) ∙ ap length of_subjects ∙ length-map ss (λ s. s.name)) groups.there
 
-  majors_same : map (major_named (with_places p ss (record { groups = gs; major_frames = ms; tau0 = p.scheduling.tau0 }))) ms ≡ p.scheduling.major_frames
+  majors_same : map (major_named (with_resolved p ss (record { groups = gs; major_frames = ms; tau0 = p.scheduling.tau0 }))) ms ≡ p.scheduling.major_frames
   majors_same =
       ap (λ names. map (λ (m : MajorFrame). record { cpus = map (λ c. record { cpu = c.cpu; minor_frames = map (λ f. record { group = name_at names f.group; ticks = f.ticks }) c.minor_frames }) m.cpus }) ms) (sym of_groups)
       ∙ majors.same
 
-  majors_there : list_all (major_placed (with_places p ss (record { groups = gs; major_frames = ms; tau0 = p.scheduling.tau0 }))) ms ≡ true
+  majors_there : list_all (major_in_range (with_resolved p ss (record { groups = gs; major_frames = ms; tau0 = p.scheduling.tau0 }))) ms ≡ true
   majors_there =
       subst (λ n. list_all (λ (m : MajorFrame). list_all (λ c. list_all (λ f. nat_lt f.group n) c.minor_frames) m.cpus) ms ≡ true)
       (sym (length-map (outline p).scheduling.groups (λ g. g.name)) ∙ ap length of_groups ∙ length-map gs (λ g. g.name)) majors.there
 
   -- the policy with them stands for the whole
-  pub whole : StandsFor source_of are_placed p (with_places p ss (record { groups = gs; major_frames = ms; tau0 = p.scheduling.tau0 }))
-  unfolding source_of are_placed
+  pub whole : StandsFor source_of are_in_range p (with_resolved p ss (record { groups = gs; major_frames = ms; tau0 = p.scheduling.tau0 }))
+  unfolding source_of are_in_range
   whole = record {
     same = λ i. record {
       processor = p.processor;
@@ -107,8 +107,8 @@ refused_by_2 p e one h =
     refused p (names_broken p) e (subst (λ o. Explains NoMemory o e) (sym (names_in_turn p ∙ ap (λ o. option_or o (broken 2 (offence_2 p))) one)) h)
 
 -- where neither is broken, it is resolved
-pub resolved : (p : Source) (r : Resolution) → broken 1 (offence_1 p) ≡ None → broken 2 (offence_2 p) ≡ None → StandsFor source_of are_placed p r → IsResolved r
-resolved p r one two places =
-    record { names = rw places.same (none_broken 1 (offence_1 p) one); references = rw places.same (none_broken 2 (offence_2 p) two); placed = places.there }
+pub resolved : (p : Source) (r : Resolution) → broken 1 (offence_1 p) ≡ None → broken 2 (offence_2 p) ≡ None → StandsFor source_of are_in_range p r → IsResolved r
+resolved p r one two stands =
+    record { names = rw stands.same (none_broken 1 (offence_1 p) one); references = rw stands.same (none_broken 2 (offence_2 p) two); placed = stands.there }
 
 pub ruleset resolution = (names_in_turn, one_behind_another, resolved)

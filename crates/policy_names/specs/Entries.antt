@@ -2,18 +2,18 @@
 use Rattle.std.specs.Prelude.{◌≡◌, ℕ, ◌&&◌, Bool, List, length, map, nat_lt, Option, if◌then◌else◌}
 use Rattle.std.specs.List.{list_all}
 use Rattle.std.specs.Option.{option_or}
-use Rattle.policy_lawful.specs.Resolution.{entry_named, entry_placed, name_at}
+use Rattle.policy_lawful.specs.Resolution.{entry_named, entry_in_range, name_at}
 use Rattle.policy_lawful.specs.Rules.{is_declared, refers, undeclared}
 use Rattle.policy_lawful.specs.declared.offence.Offence.{Offence}
-use Rattle.policy_lawful.specs.declared.resolved.ComponentUse.{ComponentUse as PlacedUse}
-use Rattle.policy_lawful.specs.declared.resolved.MapEntry.{MapEntry as PlacedEntry}
+use Rattle.policy_lawful.specs.declared.resolved.ComponentUse.{ComponentUse as ResolvedUse}
+use Rattle.policy_lawful.specs.declared.resolved.MapEntry.{MapEntry as ResolvedEntry}
 use Rattle.policy_lawful.specs.declared.resolved.Wanted.{Wanted}
 use Rattle.policy_lawful.specs.declared.resolved.Wanted.TheVariants.{Memory as WantedMemory, Channel as WantedChannel}
 use Rattle.policy_types.specs.declared.source.ComponentUse.{ComponentUse}
 use Rattle.policy_types.specs.declared.source.MapEntry.{MapEntry}
 use Rattle.policy_types.specs.declared.source.Source.{Source}
 use Rattle.policy_names.specs.Outline.{outline}
-use Rattle.policy_names.specs.Places.{StandsFor}
+use Rattle.policy_names.specs.Indexes.{StandsFor}
 use Rattle.policy_names.specs.declared.parts.WantedNames.{WantedNames}
 
 -- the first name that isn't there: the physical one among the channels where the logical one wants one, else among the
@@ -24,24 +24,24 @@ entry_offence p names by e =
     else option_or (undeclared (refers by names.regions e.logical)) (undeclared (refers by (map (λ r. r.name) p.memory) e.physical))
 
 -- the entry that has these names
-abbrev pub entry_among : Source → WantedNames → Wanted → PlacedEntry → MapEntry
-entry_among p names (WantedMemory place) e = record {
-  logical = name_at names.regions place;
+abbrev pub entry_among : Source → WantedNames → Wanted → ResolvedEntry → MapEntry
+entry_among p names (WantedMemory index) e = record {
+  logical = name_at names.regions index;
   physical = name_at (map (λ r. r.name) p.memory) e.physical;
   rights = e.rights;
 }
-entry_among p names (WantedChannel place) e = record {
-  logical = name_at names.channels place;
+entry_among p names (WantedChannel index) e = record {
+  logical = name_at names.channels index;
   physical = name_at (map (λ c. c.name) p.channels) e.physical;
   rights = e.rights;
 }
 
--- its places are there
+-- its indexes are in range
 abbrev pub entry_there : Source → WantedNames → Wanted → ℕ → Bool
-entry_there p names (WantedMemory place) physical = nat_lt place (length names.regions) && nat_lt physical (length p.memory)
-entry_there p names (WantedChannel place) physical = nat_lt place (length names.channels) && nat_lt physical (length p.channels)
+entry_there p names (WantedMemory index) physical = nat_lt index (length names.regions) && nat_lt physical (length p.memory)
+entry_there p names (WantedChannel index) physical = nat_lt index (length names.channels) && nat_lt physical (length p.channels)
 
--- the entries of a use stand for those of another, and its component stands at this place
-pub record EntriesStand (p : Source) (place : ℕ) (c : ComponentUse) (r : PlacedUse) : Type 0 where
-  pub used : r.used ≡ place
-  pub map : StandsFor {X = List PlacedEntry} {Y = List MapEntry} (map (λ e. entry_named (outline p) place e.logical e)) (list_all (λ e. entry_placed (outline p) place e.logical e.physical)) c.map r.map
+-- the entries of a use stand for those of another, and its component stands at this index
+pub record EntriesStand (p : Source) (index : ℕ) (c : ComponentUse) (r : ResolvedUse) : Type 0 where
+  pub used : r.used ≡ index
+  pub map : StandsFor {X = List ResolvedEntry} {Y = List MapEntry} (map (λ e. entry_named (outline p) index e.logical e)) (list_all (λ e. entry_in_range (outline p) index e.logical e.physical)) c.map r.map

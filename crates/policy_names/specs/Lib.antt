@@ -2,5 +2,5 @@ pub mod DeviceParts
 pub mod Entries
 pub mod Outline
 pub mod Parts
-pub mod Places
+pub mod Indexes
 pub mod SubjectParts

@@ -1,16 +1,16 @@
 -- A policy without its references: what is known of the resolved policy before they are looked up.
 use Rattle.std.specs.Prelude.{List, [], map, None}
 use Rattle.policy_lawful.specs.Resolution.{Resolution}
-use Rattle.policy_lawful.specs.declared.resolved.Group.{Group as PlacedGroup}
-use Rattle.policy_lawful.specs.declared.resolved.Scheduling.{Scheduling as PlacedScheduling}
-use Rattle.policy_lawful.specs.declared.resolved.Subject.{Subject as PlacedSubject}
+use Rattle.policy_lawful.specs.declared.resolved.Group.{Group as ResolvedGroup}
+use Rattle.policy_lawful.specs.declared.resolved.Scheduling.{Scheduling as ResolvedScheduling}
+use Rattle.policy_lawful.specs.declared.resolved.Subject.{Subject as ResolvedSubject}
 use Rattle.policy_types.specs.declared.source.Group.{Group}
 use Rattle.policy_types.specs.declared.source.Source.{Source}
 use Rattle.policy_types.specs.declared.source.Subject.{Subject}
 
 -- the policy with these in place of its subjects and its scheduling plan
-abbrev pub with_places : Source → List PlacedSubject → PlacedScheduling → Resolution
-with_places p subjects scheduling = record {
+abbrev pub with_resolved : Source → List ResolvedSubject → ResolvedScheduling → Resolution
+with_resolved p subjects scheduling = record {
   processor = p.processor;
   memory_blocks = p.memory_blocks;
   devices = p.devices;
@@ -24,7 +24,7 @@ with_places p subjects scheduling = record {
 }
 
 -- a subject that refers to nothing
-abbrev pub bare_subject : Subject → PlacedSubject
+abbrev pub bare_subject : Subject → ResolvedSubject
 bare_subject s = record {
   name = s.name;
   cpu = s.cpu;
@@ -40,9 +40,9 @@ bare_subject s = record {
 }
 
 -- a group without members
-abbrev pub bare_group : Group → PlacedGroup
+abbrev pub bare_group : Group → ResolvedGroup
 bare_group g = record { name = g.name; cpu = g.cpu; subjects = [] }
 
--- each name at its place, and no references
+-- each name at its index, and no references
 abbrev pub outline : Source → Resolution
-outline p = with_places p (map bare_subject p.subjects) (record { groups = map bare_group p.scheduling.groups; major_frames = []; tau0 = p.scheduling.tau0 })
+outline p = with_resolved p (map bare_subject p.subjects) (record { groups = map bare_group p.scheduling.groups; major_frames = []; tau0 = p.scheduling.tau0 })

@@ -3,15 +3,15 @@ use Rattle.std.specs.Prelude.{List, length, map, nat_lt, Option}
 use Rattle.std.specs.Option.{option_or}
 use Rattle.std.specs.List.{list_all}
 use Rattle.muen_num.specs.Search.{first_in}
-use Rattle.policy_lawful.specs.Resolution.{channel_named, device_named, device_placed, mapping_named, name_at}
+use Rattle.policy_lawful.specs.Resolution.{channel_named, device_named, device_in_range, mapping_named, name_at}
 use Rattle.policy_lawful.specs.Rules.{device_references, refers, undeclared}
 use Rattle.policy_lawful.specs.declared.offence.Offence.{Offence}
-use Rattle.policy_lawful.specs.declared.resolved.ChannelUse.{ChannelUse as PlacedChannel}
-use Rattle.policy_lawful.specs.declared.resolved.DeviceUse.{DeviceUse as PlacedDevice}
-use Rattle.policy_lawful.specs.declared.resolved.EventSource.{EventSource as PlacedSource}
-use Rattle.policy_lawful.specs.declared.resolved.EventTarget.{EventTarget as PlacedTarget}
-use Rattle.policy_lawful.specs.declared.resolved.Mapping.{Mapping as PlacedMapping}
-use Rattle.policy_lawful.specs.declared.resolved.Monitor.{Monitor as PlacedMonitor}
+use Rattle.policy_lawful.specs.declared.resolved.ChannelUse.{ChannelUse as ResolvedChannel}
+use Rattle.policy_lawful.specs.declared.resolved.DeviceUse.{DeviceUse as ResolvedDevice}
+use Rattle.policy_lawful.specs.declared.resolved.EventSource.{EventSource as ResolvedSource}
+use Rattle.policy_lawful.specs.declared.resolved.EventTarget.{EventTarget as ResolvedTarget}
+use Rattle.policy_lawful.specs.declared.resolved.Mapping.{Mapping as ResolvedMapping}
+use Rattle.policy_lawful.specs.declared.resolved.Monitor.{Monitor as ResolvedMonitor}
 use Rattle.policy_types.specs.declared.source.ChannelUse.{ChannelUse}
 use Rattle.policy_types.specs.declared.source.DeviceUse.{DeviceUse}
 use Rattle.policy_types.specs.declared.source.EventSource.{EventSource}
@@ -21,7 +21,7 @@ use Rattle.policy_types.specs.declared.source.Monitor.{Monitor}
 use Rattle.policy_types.specs.declared.source.Source.{Source}
 use Rattle.policy_types.specs.declared.source.Subject.{Subject}
 use Rattle.policy_names.specs.Outline.{outline}
-use Rattle.policy_names.specs.Places.{StandsFor}
+use Rattle.policy_names.specs.Indexes.{StandsFor}
 
 -- the first region, channel, device or part of a device that isn't there
 unfoldable pub windows_offence : Source → Subject → Option Offence
@@ -31,10 +31,10 @@ windows_offence p s =
     (first_in (λ d. first_in undeclared (device_references p s.name d)) s.devices))
 
 -- these stand for the subject's mappings, channels and devices
-pub record WindowsStand (p : Source) (s : Subject) (windows : List PlacedMapping) (ends : List PlacedChannel) (grants : List PlacedDevice) : Type 0 where
-  pub regions : StandsFor {X = List PlacedMapping} {Y = List Mapping} (map (mapping_named (outline p))) (list_all (λ m. nat_lt m.region (length p.memory))) s.memory windows
-  pub channels : StandsFor {X = List PlacedChannel} {Y = List ChannelUse} (map (channel_named (outline p))) (list_all (λ c. nat_lt c.channel (length p.channels))) s.channels ends
-  pub devices : StandsFor {X = List PlacedDevice} {Y = List DeviceUse} (map (device_named (outline p))) (list_all (device_placed (outline p))) s.devices grants
+pub record WindowsStand (p : Source) (s : Subject) (windows : List ResolvedMapping) (ends : List ResolvedChannel) (grants : List ResolvedDevice) : Type 0 where
+  pub regions : StandsFor {X = List ResolvedMapping} {Y = List Mapping} (map (mapping_named (outline p))) (list_all (λ m. nat_lt m.region (length p.memory))) s.memory windows
+  pub channels : StandsFor {X = List ResolvedChannel} {Y = List ChannelUse} (map (channel_named (outline p))) (list_all (λ c. nat_lt c.channel (length p.channels))) s.channels ends
+  pub devices : StandsFor {X = List ResolvedDevice} {Y = List DeviceUse} (map (device_named (outline p))) (list_all (device_in_range (outline p))) s.devices grants
 
 -- the first event or monitored subject that isn't there
 unfoldable pub signals_offence : Source → Subject → Option Offence
@@ -44,7 +44,7 @@ signals_offence p s =
     (first_in (λ m. undeclared (refers s.name (map (λ s. s.name) p.subjects) m.subject)) s.monitors))
 
 -- these stand for the subject's sources, targets and monitors
-pub record SignalsStand (p : Source) (s : Subject) (raised : List PlacedSource) (heard : List PlacedTarget) (watched : List PlacedMonitor) : Type 0 where
-  pub sources : StandsFor {X = List PlacedSource} {Y = List EventSource} (map (λ e. record { event = name_at (map (λ x. x.name) p.events) e.event; way = e.way })) (list_all (λ e. nat_lt e.event (length p.events))) s.sources raised
-  pub targets : StandsFor {X = List PlacedTarget} {Y = List EventTarget} (map (λ e. record { event = name_at (map (λ x. x.name) p.events) e.event; vector = e.vector })) (list_all (λ e. nat_lt e.event (length p.events))) s.targets heard
-  pub monitors : StandsFor {X = List PlacedMonitor} {Y = List Monitor} (map (λ m. record { subject = name_at (map (λ x. x.name) p.subjects) m.subject; virtual_address = m.virtual_address; rights = m.rights })) (list_all (λ m. nat_lt m.subject (length p.subjects))) s.monitors watched
+pub record SignalsStand (p : Source) (s : Subject) (raised : List ResolvedSource) (heard : List ResolvedTarget) (watched : List ResolvedMonitor) : Type 0 where
+  pub sources : StandsFor {X = List ResolvedSource} {Y = List EventSource} (map (λ e. record { event = name_at (map (λ x. x.name) p.events) e.event; way = e.way })) (list_all (λ e. nat_lt e.event (length p.events))) s.sources raised
+  pub targets : StandsFor {X = List ResolvedTarget} {Y = List EventTarget} (map (λ e. record { event = name_at (map (λ x. x.name) p.events) e.event; vector = e.vector })) (list_all (λ e. nat_lt e.event (length p.events))) s.targets heard
+  pub monitors : StandsFor {X = List ResolvedMonitor} {Y = List Monitor} (map (λ m. record { subject = name_at (map (λ x. x.name) p.subjects) m.subject; virtual_address = m.virtual_address; rights = m.rights })) (list_all (λ m. nat_lt m.subject (length p.subjects))) s.monitors watched

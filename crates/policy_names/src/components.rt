@@ -1,15 +1,15 @@
 //! Uses of components, which refer to components, to what these want, and to regions and channels.
 ghost use Rattle.muen_num.specs.Search.{first_in};
 ghost use Rattle.std.specs.Prelude.{slice_get};
-ghost use Rattle.policy_lawful.specs.Resolution.{component_named, component_placed, entry_named, entry_placed};
+ghost use Rattle.policy_lawful.specs.Resolution.{component_named, component_in_range, entry_named, entry_in_range};
 ghost use Rattle.policy_lawful.specs.Rules.{component_references, entry_references, undeclared};
 ghost use Rattle.policy_lawful.specs.Keeps.{Keeps};
 ghost use Rattle.policy_lawful.specs.Offences.{broken};
 ghost use Rattle.policy_names.specs.Entries.{EntriesStand, entry_among, entry_offence, entry_there};
-ghost use Rattle.policy_names.specs.Places.{StandsFor};
+ghost use Rattle.policy_names.specs.Indexes.{StandsFor};
 ghost use Rattle.policy_names.specs.Outline.{outline};
 
-use crate::index::not_declared;
+use crate::name_set::not_declared;
 use crate::parts::WantedNames;
 use crate::refers::{Refers, resolve_all};
 use crate::scope::Scope;
@@ -23,7 +23,7 @@ use std::alloc::Global;
 pub struct Use {
     /// The subject's name.
     pub subject: Name,
-    /// The component's place.
+    /// The component's index.
     pub component: usize,
 }
 
@@ -31,17 +31,17 @@ pub struct Use {
 impl Refers for source::MapEntry {
     type By = Use;
 
-    type Placed = resolved::MapEntry;
+    type Resolved = resolved::MapEntry;
 
     ghost offence = { λ p u e. first_in undeclared (entry_references p u.subject (slice_get p.components u.component) e) };
 
     ghost named = { λ p u e. entry_named (outline p) u.component e.logical e };
 
-    ghost is_placed = { λ p u e. entry_placed (outline p) u.component e.logical e.physical };
+    ghost in_range = { λ p u e. entry_in_range (outline p) u.component e.logical e.physical };
 
     fn resolve(&self, _: Global, scope: &Scope, by: Use) -> Result<resolved::MapEntry, Refusal> {
         match scope.wanted_at(by.component) {
-            Some(names) => place_entry(scope, names, by.subject, self),
+            Some(names) => resolve_entry(scope, names, by.subject, self),
             None => Err(not_declared(by.subject, self.logical)),
         }
     }
@@ -49,7 +49,7 @@ impl Refers for source::MapEntry {
 
 // The entry of a component, which wants these names, in the subject that has the name `by`.
 #[tactic(auto, using(crate::proofs::Elements::entry))]
-fn place_entry(
+fn resolve_entry(
     scope: &Scope,
     names: &WantedNames,
     by: Name,
@@ -57,16 +57,16 @@ fn place_entry(
 ) -> Result<resolved::MapEntry, Refusal>
     ensures { let p = scope.now.source.now in Keeps (broken 2 (entry_offence p names.now by entry.now)) (StandsFor (λ e. entry_among p names.now e.logical e) (λ e. entry_there p names.now e.logical e.physical) entry.now) result }
 {
-    if let Some(place) = names.channels.find(entry.logical) {
+    if let Some(index) = names.channels.find(entry.logical) {
         return Ok(resolved::MapEntry {
-            logical: Wanted::Channel(place),
-            physical: scope.channels.place(by, entry.physical)?,
+            logical: Wanted::Channel(index),
+            physical: scope.channels.index_of(by, entry.physical)?,
             rights: entry.rights,
         });
     }
     Ok(resolved::MapEntry {
-        logical: Wanted::Memory(names.regions.place(by, entry.logical)?),
-        physical: scope.regions.place(by, entry.physical)?,
+        logical: Wanted::Memory(names.regions.index_of(by, entry.logical)?),
+        physical: scope.regions.index_of(by, entry.physical)?,
         rights: entry.rights,
     })
 }
@@ -75,7 +75,7 @@ fn place_entry(
 impl Refers for source::ComponentUse {
     type By = Name;
 
-    type Placed = resolved::ComponentUse;
+    type Resolved = resolved::ComponentUse;
 
     ghost use Rattle.std.specs.Prelude.{Some};
 
@@ -83,7 +83,7 @@ impl Refers for source::ComponentUse {
 
     ghost named = { λ p _. component_named (outline p) };
 
-    ghost is_placed = { λ p _. component_placed (outline p) };
+    ghost in_range = { λ p _. component_in_range (outline p) };
 
     fn resolve(
         &self,
@@ -91,8 +91,8 @@ impl Refers for source::ComponentUse {
         scope: &Scope,
         by: Name,
     ) -> Result<resolved::ComponentUse, Refusal> {
-        let component = scope.components.place(by, self.used)?;
-        place_entries(
+        let component = scope.components.index_of(by, self.used)?;
+        resolve_entries(
             alloc,
             scope,
             Use {
@@ -104,8 +104,8 @@ impl Refers for source::ComponentUse {
     }
 }
 
-// The use of the component at a place.
-fn place_entries(
+// The use of the component at an index.
+fn resolve_entries(
     alloc: Global,
     scope: &Scope,
     by: Use,

@@ -1,6 +1,6 @@
 //! Uses of devices, which refer to devices and to their parts.
 ghost use Rattle.muen_num.specs.Search.{first_in};
-ghost use Rattle.policy_lawful.specs.Resolution.{device_named, device_placed};
+ghost use Rattle.policy_lawful.specs.Resolution.{device_named, device_in_range};
 ghost use Rattle.policy_lawful.specs.Rules.{device_references, undeclared};
 ghost use Rattle.policy_lawful.specs.Keeps.{Keeps};
 ghost use Rattle.policy_lawful.specs.Offences.{broken};
@@ -8,7 +8,7 @@ ghost use Rattle.policy_names.specs.DeviceParts.{PartsStand, parts_offence};
 ghost use Rattle.policy_names.specs.Outline.{outline};
 
 use crate::parts::DeviceNames;
-use crate::refers::{Refers, place_all};
+use crate::refers::{Refers, resolve_all_in};
 use crate::scope::Scope;
 use muen_num::Name;
 use policy_lawful::resolved;
@@ -19,13 +19,13 @@ use std::alloc::Global;
 impl Refers for source::DeviceUse {
     type By = Name;
 
-    type Placed = resolved::DeviceUse;
+    type Resolved = resolved::DeviceUse;
 
     ghost offence = { λ p by d. first_in undeclared (device_references p by d) };
 
     ghost named = { λ p _. device_named (outline p) };
 
-    ghost is_placed = { λ p _. device_placed (outline p) };
+    ghost in_range = { λ p _. device_in_range (outline p) };
 
     fn resolve(
         &self,
@@ -33,26 +33,26 @@ impl Refers for source::DeviceUse {
         scope: &Scope,
         by: Name,
     ) -> Result<resolved::DeviceUse, Refusal> {
-        let place = scope.devices.place(by, self.device)?;
-        place_parts(alloc, scope.parts_at(place), by, place, self)
+        let index = scope.devices.index_of(by, self.device)?;
+        resolve_parts(alloc, scope.parts_at(index), by, index, self)
     }
 }
 
-// The use of the device at this place, which has these names, by the subject that has the name `by`.
+// The use of the device at this index, which has these names, by the subject that has the name `by`.
 #[tactic(auto, using(crate::proofs::Refusals::one_behind_another))]
-fn place_parts(
+fn resolve_parts(
     alloc: Global,
     names: &DeviceNames,
     by: Name,
-    place: usize,
+    index: usize,
     used: &source::DeviceUse,
 ) -> Result<resolved::DeviceUse, Refusal>
-    ensures { Keeps (broken 2 (parts_offence names.now by used.now)) (PartsStand names.now place used.now) result }
+    ensures { Keeps (broken 2 (parts_offence names.now by used.now)) (PartsStand names.now index used.now) result }
 {
     Ok(resolved::DeviceUse {
-        device: place,
-        memory: place_all(alloc, &names.memory, by, used.memory.items())?,
-        io_ports: place_all(alloc, &names.io_ports, by, used.io_ports.items())?,
-        irqs: place_all(alloc, &names.irqs, by, used.irqs.items())?,
+        device: index,
+        memory: resolve_all_in(alloc, &names.memory, by, used.memory.items())?,
+        io_ports: resolve_all_in(alloc, &names.io_ports, by, used.io_ports.items())?,
+        irqs: resolve_all_in(alloc, &names.irqs, by, used.irqs.items())?,
     })
 }

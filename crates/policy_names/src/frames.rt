@@ -4,12 +4,12 @@ ghost use Rattle.std.specs.Prelude.{◌≡◌, length, map, nat_lt, true};
 ghost use Rattle.muen_num.specs.Search.{first_in};
 ghost use Rattle.policy_lawful.specs.Keeps.{Keeps};
 ghost use Rattle.policy_lawful.specs.Offences.{broken};
-ghost use Rattle.policy_lawful.specs.Resolution.{cpu_named, major_named, major_placed};
+ghost use Rattle.policy_lawful.specs.Resolution.{cpu_named, major_named, major_in_range};
 ghost use Rattle.policy_lawful.specs.Rules.{frame_references, refers, undeclared};
 ghost use Rattle.policy_names.specs.Outline.{outline};
-ghost use Rattle.policy_names.specs.Places.{StandsFor};
+ghost use Rattle.policy_names.specs.Indexes.{StandsFor};
 
-use crate::refers::{Refers, place_all, resolve_all};
+use crate::refers::{Refers, resolve_all_in, resolve_all};
 use crate::scope::Scope;
 use muen_num::{Name, Seq};
 use policy_lawful::frame_names::major_name;
@@ -21,13 +21,13 @@ use std::alloc::Global;
 impl Refers for source::CpuFrames {
     type By = Name;
 
-    type Placed = resolved::CpuFrames;
+    type Resolved = resolved::CpuFrames;
 
     ghost offence = { λ p by c. first_in undeclared (map (λ f. refers by (map (λ g. g.name) p.scheduling.groups) f.group) c.minor_frames) };
 
     ghost named = { λ p _. cpu_named (outline p) };
 
-    ghost is_placed = { λ p _ c. list_all (λ f. nat_lt f.group (length (outline p).scheduling.groups)) c.minor_frames };
+    ghost in_range = { λ p _ c. list_all (λ f. nat_lt f.group (length (outline p).scheduling.groups)) c.minor_frames };
 
     #[tactic(auto, using(crate::proofs::Elements::names))]
     fn resolve(
@@ -38,51 +38,51 @@ impl Refers for source::CpuFrames {
     ) -> Result<resolved::CpuFrames, Refusal> {
         Ok(resolved::CpuFrames {
             cpu: self.cpu,
-            minor_frames: place_all(alloc, &scope.groups, by, self.minor_frames.items())?,
+            minor_frames: resolve_all_in(alloc, &scope.groups, by, self.minor_frames.items())?,
         })
     }
 }
 
-/// The major frame at this place.
+/// The major frame at this index.
 impl Refers for source::MajorFrame {
     type By = usize;
 
-    type Placed = resolved::MajorFrame;
+    type Resolved = resolved::MajorFrame;
 
-    ghost offence = { λ p place m. first_in undeclared (frame_references p (place, m)) };
+    ghost offence = { λ p index m. first_in undeclared (frame_references p (index, m)) };
 
     ghost named = { λ p _. major_named (outline p) };
 
-    ghost is_placed = { λ p _. major_placed (outline p) };
+    ghost in_range = { λ p _. major_in_range (outline p) };
 
     #[tactic(auto, using(crate::proofs::Elements::lists))]
     fn resolve(
         &self,
         alloc: Global,
         scope: &Scope,
-        place: usize,
+        index: usize,
     ) -> Result<resolved::MajorFrame, Refusal> {
         Ok(resolved::MajorFrame {
-            cpus: resolve_all(alloc, scope, major_name(place), self.cpus.items())?,
+            cpus: resolve_all(alloc, scope, major_name(index), self.cpus.items())?,
         })
     }
 }
 
-/// Finds the places of all major frames.
+/// Finds the indexes of all major frames.
 ///
 /// Answers the refusal of the first group that isn't declared, and `NoMemory` where memory was
 /// refused.
-#[tactic(auto, using(crate::proofs::Refusals::explains_at_place))]
+#[tactic(auto, using(crate::proofs::Refusals::explains_at_index))]
 pub fn resolve_majors(
     alloc: Global,
     scope: &Scope,
     majors: &[source::MajorFrame],
 ) -> Result<Seq<resolved::MajorFrame>, Refusal>
-    ensures { let p = scope.now.source.now in Keeps (broken 2 (first_in (λ m. first_in undeclared (frame_references p m)) (enumerate_from 0 majors.now))) (StandsFor (map (major_named (outline p))) (list_all (major_placed (outline p))) majors.now) result }
+    ensures { let p = scope.now.source.now in Keeps (broken 2 (first_in (λ m. first_in undeclared (frame_references p m)) (enumerate_from 0 majors.now))) (StandsFor (map (major_named (outline p))) (list_all (major_in_range (outline p))) majors.now) result }
 {
-    let mut placed = Seq::new(alloc);
-    for (place, major) in majors.iter().enumerate() {
-        placed.push(major.resolve(alloc, scope, place)?)?;
+    let mut resolved_majors = Seq::new(alloc);
+    for (index, major) in majors.iter().enumerate() {
+        resolved_majors.push(major.resolve(alloc, scope, index)?)?;
     }
-    Ok(placed)
+    Ok(resolved_majors)
 }

@@ -1,4 +1,4 @@
-//! References of a policy, resolved: each name that an element refers to is declared, and its place
+//! References of a policy, resolved: each name that an element refers to is declared, and its index
 //! stands in its stead.
 #![tactic(auto)]
 
@@ -7,17 +7,17 @@ ghost use Rattle.muen_num.specs.Answers.{Answers};
 ghost use Rattle.policy_lawful.specs.Keeps.{Keeps};
 ghost use Rattle.policy_lawful.specs.Lawful.{names_broken, kept_or, kept_source};
 ghost use Rattle.policy_lawful.specs.Offences.{broken};
-ghost use Rattle.policy_lawful.specs.Resolution.{IsResolved, source_of, are_placed};
+ghost use Rattle.policy_lawful.specs.Resolution.{IsResolved, source_of, are_in_range};
 ghost use Rattle.policy_lawful.specs.Rules.{offence_2};
-ghost use Rattle.policy_names.specs.Outline.{with_places};
-ghost use Rattle.policy_names.specs.Places.{StandsFor};
+ghost use Rattle.policy_names.specs.Outline.{with_resolved};
+ghost use Rattle.policy_names.specs.Indexes.{StandsFor};
 ghost use Rattle.policy_types.specs.declared.refusal.Refusal.TheVariants.{NoMemory};
 
 mod components;
 mod devices;
 mod frames;
 mod groups;
-mod index;
+mod name_set;
 mod named;
 mod parts;
 mod references;
@@ -34,10 +34,10 @@ use policy_lawful::resolved::{Scheduling, Subject};
 use policy_types::{Refusal, Source};
 use std::alloc::Global;
 
-// The elements that refer to names, with places for these.
+// The elements that refer to names, with indexes in place of these.
 #[tactic(auto, using(crate::proofs::Resolved::in_turn))]
-fn find_places(alloc: Global, scope: &Scope) -> Result<(Seq<Subject>, Scheduling), Refusal>
-    ensures { let p = scope.now.source.now in Keeps (broken 2 (offence_2 p)) (λ x. StandsFor source_of are_placed p (with_places p x.0 x.1)) result }
+fn resolve_elements(alloc: Global, scope: &Scope) -> Result<(Seq<Subject>, Scheduling), Refusal>
+    ensures { let p = scope.now.source.now in Keeps (broken 2 (offence_2 p)) (λ x. StandsFor source_of are_in_range p (with_resolved p x.0 x.1)) result }
 {
     let source = scope.source;
     let subjects = resolve_all(alloc, scope, (), source.subjects.items())?;
@@ -53,15 +53,15 @@ fn find_places(alloc: Global, scope: &Scope) -> Result<(Seq<Subject>, Scheduling
     ))
 }
 
-// The same of any policy, whose names are indexed first.
+// The same of any policy, whose names are collected first.
 #[tactic(auto, using(crate::proofs::Resolved::resolution))]
-fn places_of(alloc: Global, source: &Source) -> Result<(Seq<Subject>, Scheduling), Refusal>
-    ensures { let p = source.now in Keeps (names_broken p) (λ x. IsResolved (with_places p x.0 x.1) × (source_of (with_places p x.0 x.1) ≡ p)) result }
+fn resolve_source(alloc: Global, source: &Source) -> Result<(Seq<Subject>, Scheduling), Refusal>
+    ensures { let p = source.now in Keeps (names_broken p) (λ x. IsResolved (with_resolved p x.0 x.1) × (source_of (with_resolved p x.0 x.1) ≡ p)) result }
 {
     let scope = Scope::of(alloc, source)?;
-    let places = find_places(alloc, &scope);
+    let elements = resolve_elements(alloc, &scope);
     drop(scope);
-    places
+    elements
 }
 
 /// Resolves the references of a policy.
@@ -73,7 +73,7 @@ fn places_of(alloc: Global, source: &Source) -> Result<(Seq<Subject>, Scheduling
 pub fn resolve(alloc: Global, source: Source) -> Result<Resolved, Refusal>
     ensures { Answers NoMemory (kept_or source (names_broken source)) (kept_source result) }
 {
-    let (subjects, scheduling) = places_of(alloc, &source)?;
+    let (subjects, scheduling) = resolve_source(alloc, &source)?;
     let Source {
         processor,
         memory_blocks,

@@ -6,7 +6,7 @@ ghost use Rattle.policy_lawful.specs.Offences.{broken};
 ghost use Rattle.policy_lawful.specs.Rules.{logical_names};
 ghost use Rattle.policy_names.specs.Parts.{component_repeats, device_repeats, names_of_device, names_of_wanted, repeats};
 
-use crate::index::Index;
+use crate::name_set::NameSet;
 use crate::named::Named;
 use muen_num::Seq;
 use policy_types::Refusal;
@@ -16,16 +16,16 @@ use std::alloc::Global;
 /// The names of a device's memory, ports and interrupt lines.
 #[derive(Drop)]
 pub struct DeviceNames {
-    pub memory: Index,
-    pub io_ports: Index,
-    pub irqs: Index,
+    pub memory: NameSet,
+    pub io_ports: NameSet,
+    pub irqs: NameSet,
 }
 
 /// The logical names of a component that want something.
 #[derive(Drop)]
 pub struct WantedNames {
-    pub regions: Index,
-    pub channels: Index,
+    pub regions: NameSet,
+    pub channels: NameSet,
 }
 
 /// An element that has parts with names of their own.
@@ -42,9 +42,9 @@ pub trait HasParts {
     /// Its names.
     ghost names: { Self → Self.Names };
 
-    /// The indexes of its names. Answers the refusal of the first name that stood before, and
+    /// Collects its names. Answers the refusal of the first name that stood before, and
     /// `NoMemory` where memory was refused.
-    fn index(&self, alloc: Global) -> Result<Self::Names, Refusal>
+    fn collect(&self, alloc: Global) -> Result<Self::Names, Refusal>
         ensures { Keeps (broken 1 (repeats self.now)) (λ x. x ≡ names self.now) result };
 }
 
@@ -56,11 +56,11 @@ impl HasParts for Device {
     ghost names = { names_of_device };
 
     #[tactic(auto, using(crate::proofs::PartNames::in_lists))]
-    fn index(&self, alloc: Global) -> Result<DeviceNames, Refusal> {
+    fn collect(&self, alloc: Global) -> Result<DeviceNames, Refusal> {
         Ok(DeviceNames {
-            memory: Index::of(alloc, self.memory.items())?,
-            io_ports: Index::of(alloc, self.io_ports.items())?,
-            irqs: Index::of(alloc, self.irqs.items())?,
+            memory: NameSet::of(alloc, self.memory.items())?,
+            io_ports: NameSet::of(alloc, self.io_ports.items())?,
+            irqs: NameSet::of(alloc, self.irqs.items())?,
         })
     }
 }
@@ -73,53 +73,53 @@ impl HasParts for Component {
     ghost names = { names_of_wanted };
 
     #[tactic(auto, using(crate::proofs::PartNames::logical))]
-    fn index(&self, alloc: Global) -> Result<WantedNames, Refusal> {
-        index_logical_names(alloc, self)?;
+    fn collect(&self, alloc: Global) -> Result<WantedNames, Refusal> {
+        collect_logical_names(alloc, self)?;
         Ok(WantedNames {
-            regions: Index::of(alloc, self.memory.items())?,
-            channels: Index::of(alloc, self.channels.items())?,
+            regions: NameSet::of(alloc, self.memory.items())?,
+            channels: NameSet::of(alloc, self.channels.items())?,
         })
     }
 }
 
-// The index of all logical names of a component.
+// All logical names of a component.
 #[tactic(auto, using(crate::proofs::PartNames::in_parts))]
-fn index_logical_names(alloc: Global, component: &Component) -> Result<Index, Refusal>
+fn collect_logical_names(alloc: Global, component: &Component) -> Result<NameSet, Refusal>
     ensures { Keeps (broken 1 (repeats (logical_names component.now))) (λ x. x ≡ logical_names component.now) result }
 {
-    let provides = Index::of(alloc, component.provides.items())?;
+    let provides = NameSet::of(alloc, component.provides.items())?;
     let with_regions = provides.with(component.memory.items())?;
     with_regions.with(component.channels.items())
 }
 
-/// The indexes of the parts of all elements of a list.
+/// The names of the parts of all elements of a list.
 ///
 /// Answers the refusal of the first name that stood before, and `NoMemory` where memory was
 /// refused.
 #[tactic(auto, using(crate::proofs::Refusals::explains_at))]
-pub fn index_all<T: HasParts>(alloc: Global, items: &[T]) -> Result<Seq<T::Names>, Refusal>
+pub fn collect_all<T: HasParts>(alloc: Global, items: &[T]) -> Result<Seq<T::Names>, Refusal>
     ensures { Keeps (broken 1 (first_in T.repeats items.now)) (λ xs. xs ≡ map T.names items.now) result }
 {
     let mut names = Seq::new(alloc);
     for item in items {
-        names.push(item.index(alloc)?)?;
+        names.push(item.collect(alloc)?)?;
     }
     Ok(names)
 }
 
-/// The indexes of two lists whose names are unique together.
+/// The names of two lists, which are unique together.
 ///
 /// Answers the refusal of the first name that stood before, in either, and `NoMemory` where memory
 /// was refused.
 #[tactic(auto, using(crate::proofs::PartNames::in_parts))]
-pub fn index_both<T: Named, U: Named>(
+pub fn collect_both<T: Named, U: Named>(
     alloc: Global,
     items: &[T],
     more: &[U],
-) -> Result<(Index, Index), Refusal>
+) -> Result<(NameSet, NameSet), Refusal>
     ensures { Keeps (broken 1 (repeats (map T.name items.now ++ map U.name more.now))) (λ both. (both.0 ≡ map T.name items.now) × (both.1 ≡ map U.name more.now)) result }
 {
-    let together = Index::of(alloc, items)?;
+    let together = NameSet::of(alloc, items)?;
     together.with(more)?;
-    Ok((Index::of(alloc, items)?, Index::of(alloc, more)?))
+    Ok((NameSet::of(alloc, items)?, NameSet::of(alloc, more)?))
 }

@@ -1,7 +1,7 @@
 //! Elements that refer to one name each.
 ghost use Rattle.policy_lawful.specs.Resolution.{name_at};
 
-use crate::index::Index;
+use crate::name_set::NameSet;
 use crate::refers::Reference;
 use muen_num::Name;
 use policy_lawful::resolved;
@@ -9,17 +9,17 @@ use policy_types::{Refusal, source};
 
 /// A mapping of a region.
 impl Reference for source::Mapping {
-    type Placed = resolved::Mapping;
+    type Resolved = resolved::Mapping;
 
     ghost name = { λ x. x.region };
 
     ghost named = { λ names x. record { region = name_at names x.region; virtual_address = x.virtual_address; rights = x.rights } };
 
-    ghost place = { λ x. x.region };
+    ghost index = { λ x. x.region };
 
-    fn place_in(&self, index: &Index, by: Name) -> Result<resolved::Mapping, Refusal> {
+    fn resolve_in(&self, names: &NameSet, by: Name) -> Result<resolved::Mapping, Refusal> {
         Ok(resolved::Mapping {
-            region: index.place(by, self.region)?,
+            region: names.index_of(by, self.region)?,
             virtual_address: self.virtual_address,
             rights: self.rights,
         })
@@ -28,17 +28,17 @@ impl Reference for source::Mapping {
 
 /// An end of a channel.
 impl Reference for source::ChannelUse {
-    type Placed = resolved::ChannelUse;
+    type Resolved = resolved::ChannelUse;
 
     ghost name = { λ x. x.channel };
 
     ghost named = { λ names x. record { channel = name_at names x.channel; role = x.role; virtual_address = x.virtual_address; call = x.call; vector = x.vector } };
 
-    ghost place = { λ x. x.channel };
+    ghost index = { λ x. x.channel };
 
-    fn place_in(&self, index: &Index, by: Name) -> Result<resolved::ChannelUse, Refusal> {
+    fn resolve_in(&self, names: &NameSet, by: Name) -> Result<resolved::ChannelUse, Refusal> {
         Ok(resolved::ChannelUse {
-            channel: index.place(by, self.channel)?,
+            channel: names.index_of(by, self.channel)?,
             role: self.role,
             virtual_address: self.virtual_address,
             call: self.call,
@@ -49,17 +49,17 @@ impl Reference for source::ChannelUse {
 
 /// A window on a device's memory.
 impl Reference for source::DeviceMapping {
-    type Placed = resolved::DeviceMapping;
+    type Resolved = resolved::DeviceMapping;
 
     ghost name = { λ x. x.memory };
 
     ghost named = { λ names x. record { memory = name_at names x.memory; virtual_address = x.virtual_address; rights = x.rights } };
 
-    ghost place = { λ x. x.memory };
+    ghost index = { λ x. x.memory };
 
-    fn place_in(&self, index: &Index, by: Name) -> Result<resolved::DeviceMapping, Refusal> {
+    fn resolve_in(&self, names: &NameSet, by: Name) -> Result<resolved::DeviceMapping, Refusal> {
         Ok(resolved::DeviceMapping {
-            memory: index.place(by, self.memory)?,
+            memory: names.index_of(by, self.memory)?,
             virtual_address: self.virtual_address,
             rights: self.rights,
         })
@@ -68,17 +68,17 @@ impl Reference for source::DeviceMapping {
 
 /// A device's interrupt line.
 impl Reference for source::IrqUse {
-    type Placed = resolved::IrqUse;
+    type Resolved = resolved::IrqUse;
 
     ghost name = { λ x. x.irq };
 
     ghost named = { λ names x. record { irq = name_at names x.irq; vector = x.vector } };
 
-    ghost place = { λ x. x.irq };
+    ghost index = { λ x. x.irq };
 
-    fn place_in(&self, index: &Index, by: Name) -> Result<resolved::IrqUse, Refusal> {
+    fn resolve_in(&self, names: &NameSet, by: Name) -> Result<resolved::IrqUse, Refusal> {
         Ok(resolved::IrqUse {
-            irq: index.place(by, self.irq)?,
+            irq: names.index_of(by, self.irq)?,
             vector: self.vector,
         })
     }
@@ -86,17 +86,17 @@ impl Reference for source::IrqUse {
 
 /// A source of an event.
 impl Reference for source::EventSource {
-    type Placed = resolved::EventSource;
+    type Resolved = resolved::EventSource;
 
     ghost name = { λ x. x.event };
 
     ghost named = { λ names x. record { event = name_at names x.event; way = x.way } };
 
-    ghost place = { λ x. x.event };
+    ghost index = { λ x. x.event };
 
-    fn place_in(&self, index: &Index, by: Name) -> Result<resolved::EventSource, Refusal> {
+    fn resolve_in(&self, names: &NameSet, by: Name) -> Result<resolved::EventSource, Refusal> {
         Ok(resolved::EventSource {
-            event: index.place(by, self.event)?,
+            event: names.index_of(by, self.event)?,
             way: self.way,
         })
     }
@@ -104,17 +104,17 @@ impl Reference for source::EventSource {
 
 /// A target of an event.
 impl Reference for source::EventTarget {
-    type Placed = resolved::EventTarget;
+    type Resolved = resolved::EventTarget;
 
     ghost name = { λ x. x.event };
 
     ghost named = { λ names x. record { event = name_at names x.event; vector = x.vector } };
 
-    ghost place = { λ x. x.event };
+    ghost index = { λ x. x.event };
 
-    fn place_in(&self, index: &Index, by: Name) -> Result<resolved::EventTarget, Refusal> {
+    fn resolve_in(&self, names: &NameSet, by: Name) -> Result<resolved::EventTarget, Refusal> {
         Ok(resolved::EventTarget {
-            event: index.place(by, self.event)?,
+            event: names.index_of(by, self.event)?,
             vector: self.vector,
         })
     }
@@ -122,17 +122,17 @@ impl Reference for source::EventTarget {
 
 /// A window on a monitored subject.
 impl Reference for source::Monitor {
-    type Placed = resolved::Monitor;
+    type Resolved = resolved::Monitor;
 
     ghost name = { λ x. x.subject };
 
     ghost named = { λ names x. record { subject = name_at names x.subject; virtual_address = x.virtual_address; rights = x.rights } };
 
-    ghost place = { λ x. x.subject };
+    ghost index = { λ x. x.subject };
 
-    fn place_in(&self, index: &Index, by: Name) -> Result<resolved::Monitor, Refusal> {
+    fn resolve_in(&self, names: &NameSet, by: Name) -> Result<resolved::Monitor, Refusal> {
         Ok(resolved::Monitor {
-            subject: index.place(by, self.subject)?,
+            subject: names.index_of(by, self.subject)?,
             virtual_address: self.virtual_address,
             rights: self.rights,
         })
@@ -141,17 +141,17 @@ impl Reference for source::Monitor {
 
 /// A minor frame of a group.
 impl Reference for source::MinorFrame {
-    type Placed = resolved::MinorFrame;
+    type Resolved = resolved::MinorFrame;
 
     ghost name = { λ x. x.group };
 
     ghost named = { λ names x. record { group = name_at names x.group; ticks = x.ticks } };
 
-    ghost place = { λ x. x.group };
+    ghost index = { λ x. x.group };
 
-    fn place_in(&self, index: &Index, by: Name) -> Result<resolved::MinorFrame, Refusal> {
+    fn resolve_in(&self, names: &NameSet, by: Name) -> Result<resolved::MinorFrame, Refusal> {
         Ok(resolved::MinorFrame {
-            group: index.place(by, self.group)?,
+            group: names.index_of(by, self.group)?,
             ticks: self.ticks,
         })
     }
@@ -159,15 +159,15 @@ impl Reference for source::MinorFrame {
 
 /// A name alone, as a group has of its members and a subject of ports.
 impl Reference for Name {
-    type Placed = usize;
+    type Resolved = usize;
 
     ghost name = { λ x. x };
 
     ghost named = { name_at };
 
-    ghost place = { λ x. x };
+    ghost index = { λ x. x };
 
-    fn place_in(&self, index: &Index, by: Name) -> Result<usize, Refusal> {
-        index.place(by, *self)
+    fn resolve_in(&self, names: &NameSet, by: Name) -> Result<usize, Refusal> {
+        names.index_of(by, *self)
     }
 }

@@ -6,8 +6,8 @@ ghost use Rattle.policy_lawful.specs.Offences.{broken};
 ghost use Rattle.policy_lawful.specs.Rules.{offence_1};
 ghost use Rattle.policy_names.specs.Parts.{components_repeat, hardware_repeats, members_repeat, names_of_device, names_of_wanted};
 
-use crate::index::Index;
-use crate::parts::{DeviceNames, WantedNames, index_all, index_both};
+use crate::name_set::NameSet;
+use crate::parts::{DeviceNames, WantedNames, collect_all, collect_both};
 use muen_num::Seq;
 use policy_types::{Refusal, Source};
 use std::alloc::Global;
@@ -16,15 +16,15 @@ use std::alloc::Global;
 #[derive(Drop)]
 pub struct Scope<'a> {
     pub source: &'a Source,
-    pub devices: Index,
+    pub devices: NameSet,
     pub parts: Seq<DeviceNames>,
-    pub regions: Index,
-    pub channels: Index,
-    pub components: Index,
+    pub regions: NameSet,
+    pub channels: NameSet,
+    pub components: NameSet,
     pub wanted: Seq<WantedNames>,
-    pub events: Index,
-    pub subjects: Index,
-    pub groups: Index,
+    pub events: NameSet,
+    pub subjects: NameSet,
+    pub groups: NameSet,
     ghost unique: { offence_1 source.now ≡ None },
     ghost devices_are: { devices ≡ map (λ d. d.name) source.now.devices },
     ghost parts_are: { parts ≡ map names_of_device source.now.devices },
@@ -37,54 +37,54 @@ pub struct Scope<'a> {
     ghost groups_are: { groups ≡ map (λ g. g.name) source.now.scheduling.groups },
 }
 
-// The indexes of the devices and of their parts; nothing refers to a block.
+// The names of the devices and of their parts; nothing refers to a block.
 #[tactic(auto, unfolding(crate::specs::Parts::hardware_repeats), using(crate::proofs::Refusals::one_behind_another))]
-fn index_hardware(alloc: Global, source: &Source) -> Result<(Index, Seq<DeviceNames>), Refusal>
+fn collect_hardware(alloc: Global, source: &Source) -> Result<(NameSet, Seq<DeviceNames>), Refusal>
     ensures { let p = source.now in Keeps (broken 1 (hardware_repeats p)) (λ x. (x.0 ≡ map (λ d. d.name) p.devices) × (x.1 ≡ map names_of_device p.devices)) result }
 {
-    Index::of(alloc, source.memory_blocks.items())?;
-    let devices = Index::of(alloc, source.devices.items())?;
-    let parts = index_all(alloc, source.devices.items())?;
+    NameSet::of(alloc, source.memory_blocks.items())?;
+    let devices = NameSet::of(alloc, source.devices.items())?;
+    let parts = collect_all(alloc, source.devices.items())?;
     Ok((devices, parts))
 }
 
 // Of the components and of what they want.
-type Components = (Index, Seq<WantedNames>);
+type Components = (NameSet, Seq<WantedNames>);
 
 // Of the events, of the subjects and of the groups.
-type Members = (Index, Index, Index);
+type Members = (NameSet, NameSet, NameSet);
 
-// The indexes of the components and of what they want.
+// The names of the components and of what they want.
 #[tactic(auto, unfolding(crate::specs::Parts::components_repeat), using(crate::proofs::Refusals::one_behind_another))]
-fn index_components(alloc: Global, source: &Source) -> Result<Components, Refusal>
+fn collect_components(alloc: Global, source: &Source) -> Result<Components, Refusal>
     ensures { let p = source.now in Keeps (broken 1 (components_repeat p)) (λ x. (x.0 ≡ map (λ c. c.name) p.components) × (x.1 ≡ map names_of_wanted p.components)) result }
 {
-    let components = Index::of(alloc, source.components.items())?;
-    let wanted = index_all(alloc, source.components.items())?;
+    let components = NameSet::of(alloc, source.components.items())?;
+    let wanted = collect_all(alloc, source.components.items())?;
     Ok((components, wanted))
 }
 
-// The indexes of the events, of the subjects and of the groups.
+// The names of the events, of the subjects and of the groups.
 #[tactic(auto, unfolding(crate::specs::Parts::members_repeat), using(crate::proofs::Refusals::one_behind_another))]
-fn index_members(alloc: Global, source: &Source) -> Result<Members, Refusal>
+fn collect_members(alloc: Global, source: &Source) -> Result<Members, Refusal>
     ensures { let p = source.now in Keeps (broken 1 (members_repeat p)) (λ x. (x.0 ≡ map (λ e. e.name) p.events) × (x.1 ≡ map (λ s. s.name) p.subjects) × (x.2 ≡ map (λ g. g.name) p.scheduling.groups)) result }
 {
-    let events = Index::of(alloc, source.events.items())?;
-    let subjects = Index::of(alloc, source.subjects.items())?;
-    let groups = Index::of(alloc, source.scheduling.groups.items())?;
+    let events = NameSet::of(alloc, source.events.items())?;
+    let subjects = NameSet::of(alloc, source.subjects.items())?;
+    let groups = NameSet::of(alloc, source.scheduling.groups.items())?;
     Ok((events, subjects, groups))
 }
 
-// The indexes of the components, and behind them those of the events, the subjects and the groups.
+// The names of the components, and behind them those of the events, the subjects and the groups.
 #[tactic(auto, using(crate::proofs::Refusals::one_behind_another))]
-fn index_components_and_members(
+fn collect_components_and_members(
     alloc: Global,
     source: &Source,
 ) -> Result<(Components, Members), Refusal>
     ensures { let p = source.now in Keeps (broken 1 (option_or (components_repeat p) (members_repeat p))) (λ x. (x.0.0 ≡ map (λ c. c.name) p.components) × (x.0.1 ≡ map names_of_wanted p.components) × (x.1.0 ≡ map (λ e. e.name) p.events) × (x.1.1 ≡ map (λ s. s.name) p.subjects) × (x.1.2 ≡ map (λ g. g.name) p.scheduling.groups)) result }
 {
-    let components = index_components(alloc, source)?;
-    Ok((components, index_members(alloc, source)?))
+    let components = collect_components(alloc, source)?;
+    Ok((components, collect_members(alloc, source)?))
 }
 
 impl<'a> Scope<'a> {
@@ -96,13 +96,13 @@ impl<'a> Scope<'a> {
     pub fn of(alloc: Global, source: &'a Source) -> Result<Scope<'a>, Refusal>
         ensures { Keeps (broken 1 (offence_1 source.now)) (λ scope. scope.source.now ≡ source.now) result }
     {
-        let (devices, parts) = index_hardware(alloc, source)?;
-        let (regions, channels) = index_both(
+        let (devices, parts) = collect_hardware(alloc, source)?;
+        let (regions, channels) = collect_both(
             alloc,
             source.memory.items(),
             source.channels.items(),
         )?;
-        let ((components, wanted), (events, subjects, groups)) = index_components_and_members(
+        let ((components, wanted), (events, subjects, groups)) = collect_components_and_members(
             alloc, source,
         )?;
         Ok(Scope {
@@ -119,21 +119,21 @@ impl<'a> Scope<'a> {
         })
     }
 
-    /// The names of the parts of the device at a place.
-    #[tactic(auto, using(crate::proofs::DeviceAtPlace::there))]
-    pub fn parts_at(&self, place: usize) -> &DeviceNames
-        requires { place < length self.now.devices }
-        ensures { slice_get (map names_of_device self.now.source.now.devices) place ≡ Some result.now }
+    /// The names of the parts of the device at an index.
+    #[tactic(auto, using(crate::proofs::DeviceAtIndex::there))]
+    pub fn parts_at(&self, index: usize) -> &DeviceNames
+        requires { index < length self.now.devices }
+        ensures { slice_get (map names_of_device self.now.source.now.devices) index ≡ Some result.now }
     {
-        &self.parts.items()[place]
+        &self.parts.items()[index]
     }
 
-    /// The logical names that the component at a place wants, if there is one.
-    #[tactic(auto, using(crate::proofs::DeviceAtPlace::there))]
-    pub fn wanted_at(&self, place: usize) -> Option<&WantedNames>
-        ensures there { IfSome result (λ names. slice_get (map names_of_wanted self.now.source.now.components) place ≡ Some names.now) }
-        ensures nowhere { IfNone result (slice_get (map names_of_wanted self.now.source.now.components) place ≡ None) }
+    /// The logical names that the component at an index wants, if there is one.
+    #[tactic(auto, using(crate::proofs::DeviceAtIndex::there))]
+    pub fn wanted_at(&self, index: usize) -> Option<&WantedNames>
+        ensures there { IfSome result (λ names. slice_get (map names_of_wanted self.now.source.now.components) index ≡ Some names.now) }
+        ensures nowhere { IfNone result (slice_get (map names_of_wanted self.now.source.now.components) index ≡ None) }
     {
-        self.wanted.items().get(place)
+        self.wanted.items().get(index)
     }
 }

@@ -4,13 +4,13 @@ ghost use Rattle.std.specs.Option.{option_map_or};
 ghost use Rattle.muen_num.specs.Search.{first_in};
 ghost use Rattle.policy_lawful.specs.Keeps.{Keeps};
 ghost use Rattle.policy_lawful.specs.Offences.{broken};
-ghost use Rattle.policy_lawful.specs.Resolution.{component_named, component_placed, subject_named, subject_placed};
+ghost use Rattle.policy_lawful.specs.Resolution.{component_named, component_in_range, subject_named, subject_in_range};
 ghost use Rattle.policy_lawful.specs.Rules.{component_references, subject_references, undeclared};
 ghost use Rattle.policy_names.specs.Outline.{outline};
-ghost use Rattle.policy_names.specs.Places.{StandsFor};
+ghost use Rattle.policy_names.specs.Indexes.{StandsFor};
 ghost use Rattle.policy_names.specs.SubjectParts.{SignalsStand, WindowsStand, signals_offence, windows_offence};
 
-use crate::refers::{Refers, place_all, resolve_all};
+use crate::refers::{Refers, resolve_all_in, resolve_all};
 use crate::scope::Scope;
 use muen_num::{Name, NoMemory, Seq};
 use policy_lawful::resolved;
@@ -21,15 +21,15 @@ use std::alloc::Global;
 impl Refers for source::Subject {
     type By = ();
 
-    type Placed = resolved::Subject;
+    type Resolved = resolved::Subject;
 
     ghost offence = { λ p _ s. first_in undeclared (subject_references p s) };
 
     ghost named = { λ p _. subject_named (outline p) };
 
-    ghost is_placed = { λ p _. subject_placed (outline p) };
+    ghost in_range = { λ p _. subject_in_range (outline p) };
 
-    #[tactic(auto, using(crate::proofs::SubjectAtPlaces::in_stages))]
+    #[tactic(auto, using(crate::proofs::SubjectAtIndexes::in_stages))]
     fn resolve(&self, alloc: Global, scope: &Scope, _: ()) -> Result<resolved::Subject, Refusal> {
         let component = resolve_component(alloc, scope, self.name, &self.component)?;
         let (memory, channels, devices) = resolve_windows(alloc, scope, self)?;
@@ -57,7 +57,7 @@ fn resolve_component(
     by: Name,
     component: &Option<source::ComponentUse>,
 ) -> Result<Option<resolved::ComponentUse>, Refusal>
-    ensures { let p = scope.now.source.now in Keeps (broken 2 (first_in undeclared (component_references p by component.now))) (StandsFor (option_map (component_named (outline p))) (λ c. option_map_or (component_placed (outline p)) c true) component.now) result }
+    ensures { let p = scope.now.source.now in Keeps (broken 2 (first_in undeclared (component_references p by component.now))) (StandsFor (option_map (component_named (outline p))) (λ c. option_map_or (component_in_range (outline p)) c true) component.now) result }
 {
     match component {
         Some(used) => Ok(Some(used.resolve(alloc, scope, by)?)),
@@ -72,7 +72,7 @@ type Windows = (
 );
 
 // What a subject's windows show.
-#[tactic(auto, unfolding(crate::specs::SubjectParts::windows_offence), using(crate::proofs::SubjectAtPlaces::as_many))]
+#[tactic(auto, unfolding(crate::specs::SubjectParts::windows_offence), using(crate::proofs::SubjectAtIndexes::as_many))]
 fn resolve_windows(
     alloc: Global,
     scope: &Scope,
@@ -81,8 +81,8 @@ fn resolve_windows(
     ensures { let p = scope.now.source.now in Keeps (broken 2 (windows_offence p subject.now)) (λ x. WindowsStand p subject.now x.0 x.1 x.2) result }
 {
     let by = subject.name;
-    let memory = place_all(alloc, &scope.regions, by, subject.memory.items())?;
-    let channels = place_all(alloc, &scope.channels, by, subject.channels.items())?;
+    let memory = resolve_all_in(alloc, &scope.regions, by, subject.memory.items())?;
+    let channels = resolve_all_in(alloc, &scope.channels, by, subject.channels.items())?;
     let devices = resolve_all(alloc, scope, by, subject.devices.items())?;
     Ok((memory, channels, devices))
 }
@@ -94,7 +94,7 @@ type Signals = (
 );
 
 // The events that a subject raises and gets, and the subjects that it monitors.
-#[tactic(auto, unfolding(crate::specs::SubjectParts::signals_offence), using(crate::proofs::SubjectAtPlaces::as_many))]
+#[tactic(auto, unfolding(crate::specs::SubjectParts::signals_offence), using(crate::proofs::SubjectAtIndexes::as_many))]
 fn resolve_signals(
     alloc: Global,
     scope: &Scope,
@@ -103,9 +103,9 @@ fn resolve_signals(
     ensures { let p = scope.now.source.now in Keeps (broken 2 (signals_offence p subject.now)) (λ x. SignalsStand p subject.now x.0 x.1 x.2) result }
 {
     let by = subject.name;
-    let sources = place_all(alloc, &scope.events, by, subject.sources.items())?;
-    let targets = place_all(alloc, &scope.events, by, subject.targets.items())?;
-    let monitors = place_all(alloc, &scope.subjects, by, subject.monitors.items())?;
+    let sources = resolve_all_in(alloc, &scope.events, by, subject.sources.items())?;
+    let targets = resolve_all_in(alloc, &scope.events, by, subject.targets.items())?;
+    let monitors = resolve_all_in(alloc, &scope.subjects, by, subject.monitors.items())?;
     Ok((sources, targets, monitors))
 }
 

@@ -7,12 +7,12 @@ use Rattle.std.specs.Str.{bytes_eq}
 use Rattle.std.proofs.lemmas.Bool.{and_parts, ltb-true}
 use Rattle.std.proofs.lemmas.Bool.Decides.{nat_tests}
 use Rattle.std.proofs.lemmas.List.{get_or-append-add, get_or_append_left}
-use Rattle.policy_lawful.specs.Resolution.{Resolution, component_part, entry_named, entry_placed, name_at}
+use Rattle.policy_lawful.specs.Resolution.{Resolution, component_part, entry_named, entry_in_range, name_at}
 use Rattle.policy_lawful.specs.Rules.{logical_names, repeated}
 use Rattle.policy_lawful.specs.declared.resolved.MapEntry.{MapEntry}
 use Rattle.policy_lawful.specs.declared.resolved.Wanted.{Wanted}
 use Rattle.policy_lawful.specs.declared.resolved.Wanted.TheVariants.{Memory as WantedMemory, Channel as WantedChannel}
-use Rattle.policy_lawful.proofs.Places.{same_name}
+use Rattle.policy_lawful.proofs.Indexes.{same_name}
 use Rattle.policy_types.specs.declared.source.Component.{Component}
 use Rattle.policy_types.specs.declared.source.MapEntry.{MapEntry as NamedEntry}
 use Rattle.policy_views.specs.Views.{same_wanted}
@@ -85,7 +85,7 @@ module _ (r : Resolution) (used : ℕ) (c : Component) (is : slice_get r.compone
   logical_named (WantedMemory k) e = ap (λ names. name_at names k) (part_is (λ c. map (λ x. x.logical) c.memory))
   logical_named (WantedChannel k) e = ap (λ names. name_at names k) (part_is (λ c. map (λ x. x.logical) c.channels))
 
-  entry_there : (w : Wanted) (physical : ℕ) → entry_placed r used w physical ≡ true → IsThere c w
+  entry_there : (w : Wanted) (physical : ℕ) → entry_in_range r used w physical ≡ true → IsThere c w
   entry_there (WantedMemory k) physical h =
       let l = ltb-true k (length (component_part r (λ c. map (λ x. x.logical) c.memory) used)) (and_parts _ _ h).0 in
       let e : length (component_part r (λ c. map (λ x. x.logical) c.memory) used) ≡ length (map (λ x. x.logical) c.memory) = ap length (part_is (λ c. map (λ x. x.logical) c.memory)) in
@@ -97,10 +97,10 @@ module _ (r : Resolution) (used : ℕ) (c : Component) (is : slice_get r.compone
 
   -- what is told of the entry that is found by a logical name
   pub entry_found : {Z : Type 0} (w : Wanted) (logical : List ℕ) (from : Option NamedEntry → Z) (to : Option MapEntry → Z) → IsThere c w → logical ≡ own_name c w → from None ≡ to None
-      → ((e : MapEntry) → entry_placed r used e.logical e.physical ≡ true → same_wanted e.logical w ≡ true → from (Some (entry_named r used e.logical e)) ≡ to (Some e))
-      → (entries : List MapEntry) → list_all (λ e. entry_placed r used e.logical e.physical) entries ≡ true
+      → ((e : MapEntry) → entry_in_range r used e.logical e.physical ≡ true → same_wanted e.logical w ≡ true → from (Some (entry_named r used e.logical e)) ≡ to (Some e))
+      → (entries : List MapEntry) → list_all (λ e. entry_in_range r used e.logical e.physical) entries ≡ true
       → from (find (λ e. bytes_eq e.logical logical) (map (λ e. entry_named r used e.logical e) entries)) ≡ to (find (λ e. same_wanted e.logical w) entries)
   entry_found w logical from to l name none tells entries placed =
-      found_same (λ e. bytes_eq e.logical logical) (λ e. entry_named r used e.logical e) (λ e. same_wanted e.logical w) (λ e. entry_placed r used e.logical e.physical) from to none
+      found_same (λ e. bytes_eq e.logical logical) (λ e. entry_named r used e.logical e) (λ e. same_wanted e.logical w) (λ e. entry_in_range r used e.logical e.physical) from to none
       (λ e h. (λ i. bytes_eq (logical_named e.logical e i) (name i)) ∙ wanted_same c e.logical w unique (entry_there e.logical e.physical h) l)
       tells entries placed

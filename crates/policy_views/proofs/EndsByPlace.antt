@@ -7,7 +7,7 @@ use Rattle.std.proofs.lemmas.Bool.{and_from, and_parts}
 use Rattle.std.proofs.lemmas.List.{map-append}
 use Rattle.std.proofs.lemmas.List.Folds.{list_all-append, list_all-map}
 use Rattle.muen_num.proofs.Lists.{map-map}
-use Rattle.policy_lawful.specs.Resolution.{IsResolved, Resolution, channel_named, component_named, component_placed, entry_named, entry_placed, name_at, source_of, subject_named, subject_placed}
+use Rattle.policy_lawful.specs.Resolution.{IsResolved, Resolution, channel_named, component_named, component_in_range, entry_named, entry_in_range, name_at, source_of, subject_named, subject_in_range}
 use Rattle.policy_lawful.specs.declared.resolved.ComponentUse.{ComponentUse}
 use Rattle.policy_lawful.specs.declared.resolved.MapEntry.{MapEntry}
 use Rattle.policy_lawful.specs.declared.resolved.Subject.{Subject}
@@ -29,7 +29,7 @@ use Rattle.policy_views.proofs.WindowsByPlace.{component_is, component_there, en
 
 -- ---- of a component
 
-module _ (r : Resolution) (q : IsResolved r) (t : NamedSubject) (used : ComponentUse) (c : Component) (uses : t.component ≡ Some (component_named r used)) (is : slice_get r.components used.used ≡ Some c) (placed : component_placed r used ≡ true) where
+module _ (r : Resolution) (q : IsResolved r) (t : NamedSubject) (used : ComponentUse) (c : Component) (uses : t.component ≡ Some (component_named r used)) (is : slice_get r.components used.used ≡ Some c) (placed : component_in_range r used ≡ true) where
   -- a channel of the component, by the entry for it
   end_of_entry : (x : ComponentChannel) (k : ℕ) (w : Wanted) (e : MapEntry) → same_wanted w (WantedChannel k) ≡ true → (entry_named r used.used w e).physical ≡ name_at (map (λ x. x.name) r.channels) e.physical
   end_of_entry x k (WantedMemory j) e same = absurd (cc)
@@ -52,7 +52,7 @@ module _ (r : Resolution) (q : IsResolved r) (t : NamedSubject) (used : Componen
       ∙ filter_numbered (λ x. option_map (λ e. record { channel = e.physical; role = x.role; call = x.call; vector = x.vector }) (entry_of t.component x.logical)) (component_end used.map) (end_named r) 0 c.channels
       (λ k x at. end_placed k x at ∙ ap (λ n. option_map (end_named r) (component_end used.map (n, x))) (omega arith))
 
-used_ends : (r : Resolution) (q : IsResolved r) (t : NamedSubject) (o : Option ComponentUse) → t.component ≡ option_map (component_named r) o → option_map_or (component_placed r) o true ≡ true
+used_ends : (r : Resolution) (q : IsResolved r) (t : NamedSubject) (o : Option ComponentUse) → t.component ≡ option_map (component_named r) o → option_map_or (component_in_range r) o true ≡ true
     → component_ends t (component_by (source_of r) t.component) ≡ map (end_named r) (use_ends r o)
 used_ends r q t None is h = ap (λ o. component_ends t (component_by (source_of r) o)) is
 used_ends r q t (Some used) is h =
@@ -63,7 +63,7 @@ used_ends r q t (Some used) is h =
 -- ---- of a subject
 
 -- its ends by names are those by places
-pub ends_by_place : (r : Resolution) (s : Subject) → IsResolved r → subject_placed r s ≡ true → channel_ends (source_of r) (subject_named r s) ≡ map (end_named r) (ends_of r s)
+pub ends_by_place : (r : Resolution) (s : Subject) → IsResolved r → subject_in_range r s ≡ true → channel_ends (source_of r) (subject_named r s) ≡ map (end_named r) (ends_of r s)
 unfolding ends_of
 ends_by_place r s q h =
     let named : NamedChannel → ChannelEnd = λ c. record { channel = c.channel; role = c.role; call = c.call; vector = c.vector } in
@@ -78,18 +78,18 @@ ends_by_place r s q h =
 abbrev within : Resolution → ChannelEnd → Bool
 within r e = nat_lt e.channel (length r.channels)
 
-entry_within : (r : Resolution) (used k : ℕ) (w : Wanted) (physical : ℕ) → entry_placed r used w physical ≡ true → same_wanted w (WantedChannel k) ≡ true → true ≡ nat_lt physical (length r.channels)
+entry_within : (r : Resolution) (used k : ℕ) (w : Wanted) (physical : ℕ) → entry_in_range r used w physical ≡ true → same_wanted w (WantedChannel k) ≡ true → true ≡ nat_lt physical (length r.channels)
 entry_within r used k (WantedMemory j) physical h same = absurd (cc)
 entry_within r used k (WantedChannel j) physical h same = sym (and_parts _ _ h).1
 
-end_within : (r : Resolution) (used : ℕ) (entries : List MapEntry) → list_all (λ e. entry_placed r used e.logical e.physical) entries ≡ true → (x : ℕ × ComponentChannel)
+end_within : (r : Resolution) (used : ℕ) (entries : List MapEntry) → list_all (λ e. entry_in_range r used e.logical e.physical) entries ≡ true → (x : ℕ × ComponentChannel)
     → option_map_or (within r) (component_end entries x) true ≡ true
 end_within r used entries placed (k, x) =
     let to : MapEntry → ChannelEnd = λ e. record { channel = e.physical; role = x.role; call = x.call; vector = x.vector } in
-    sym (found_same (λ e. same_wanted e.logical (WantedChannel k)) (λ e. e) (λ e. same_wanted e.logical (WantedChannel k)) (λ e. entry_placed r used e.logical e.physical)
+    sym (found_same (λ e. same_wanted e.logical (WantedChannel k)) (λ e. e) (λ e. same_wanted e.logical (WantedChannel k)) (λ e. entry_in_range r used e.logical e.physical)
     (λ _. true) (λ o. option_map_or (within r) (option_map to o) true) refl (λ e _. refl) (λ e h same. entry_within r used k e.logical e.physical h same) entries placed)
 
-use_within : (r : Resolution) (o : Option ComponentUse) → option_map_or (component_placed r) o true ≡ true → list_all (within r) (use_ends r o) ≡ true
+use_within : (r : Resolution) (o : Option ComponentUse) → option_map_or (component_in_range r) o true ≡ true → list_all (within r) (use_ends r o) ≡ true
 use_within r None h = refl
 use_within r (Some used) h =
     elim (slice_get r.components used.used) as (λ o. list_all (within r) (option_map_or (λ (c : Component). filter_map (component_end used.map) (enumerate_from 0 c.channels)) o []) ≡ true) [
@@ -98,7 +98,7 @@ use_within r (Some used) h =
     ]
 
 -- each end is of a channel that is there
-pub ends_placed : (r : Resolution) (s : Subject) → subject_placed r s ≡ true → list_all (λ e. nat_lt e.channel (length r.channels)) (ends_of r s) ≡ true
+pub ends_placed : (r : Resolution) (s : Subject) → subject_in_range r s ≡ true → list_all (λ e. nat_lt e.channel (length r.channels)) (ends_of r s) ≡ true
 unfolding ends_of
 ends_placed r s h =
     let is = subject_parts r s h in

@@ -1,7 +1,7 @@
 -- The windows of a subject as named ranges are those of its views.
 use Rattle.std.proofs.Common.{◌≡◌, ℕ, true, List, map, refl, ap, ◌∙◌}
 use Rattle.muen_num.proofs.Lists.{all_same, all_true, map-map}
-use Rattle.policy_lawful.specs.Resolution.{IsResolved, Resolution, source_of, subject_named, subject_placed}
+use Rattle.policy_lawful.specs.Resolution.{IsResolved, Resolution, source_of, subject_named, subject_in_range}
 use Rattle.policy_lawful.specs.Rules.{shown_name, window_extent, window_extents}
 use Rattle.policy_lawful.specs.declared.resolved.Subject.{Subject}
 use Rattle.policy_views.specs.Views.{thing_shown, view_extent, view_window, views_of}
@@ -21,7 +21,7 @@ name_shown r subject v (State k) = refl
 same_extent : (r : Resolution) (subject : List ℕ) (v : View) → window_extent (view_window r subject v) ≡ view_extent v
 same_extent r subject v = ap (λ name. record { name = name; address = v.guest; size = v.size }) (name_shown r subject v v.shows)
 
-pub extents_by_place : (r : Resolution) (s : Subject) → IsResolved r → subject_placed r s ≡ true → window_extents (source_of r) (subject_named r s) ≡ map view_extent (views_of r s)
+pub extents_by_place : (r : Resolution) (s : Subject) → IsResolved r → subject_in_range r s ≡ true → window_extents (source_of r) (subject_named r s) ≡ map view_extent (views_of r s)
 unfolding window_extents
 extents_by_place r s q h =
     let views = views_of r s in

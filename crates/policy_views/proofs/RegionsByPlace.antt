@@ -12,7 +12,7 @@ use Rattle.std.proofs.lemmas.Slice.Eq.{bytes_eq-Decides}
 use Rattle.muen_num.proofs.Lists.{list_any-map}
 use Rattle.muen_num.specs.declared.limits.TheConstants.{PAGE}
 use Rattle.muen_num.specs.declared.access.AccessKind.TheVariants.{Write}
-use Rattle.policy_lawful.specs.Resolution.{IsResolved, Resolution, source_of, subject_named, subject_placed}
+use Rattle.policy_lawful.specs.Resolution.{IsResolved, Resolution, source_of, subject_named, subject_in_range}
 use Rattle.policy_lawful.specs.Rules.{maps, writes}
 use Rattle.policy_lawful.specs.declared.resolved.ComponentUse.{ComponentUse}
 use Rattle.policy_lawful.specs.declared.resolved.DeviceMapping.{DeviceMapping}
@@ -20,7 +20,7 @@ use Rattle.policy_lawful.specs.declared.resolved.MapEntry.{MapEntry}
 use Rattle.policy_lawful.specs.declared.resolved.Monitor.{Monitor}
 use Rattle.policy_lawful.specs.declared.resolved.Subject.{Subject}
 use Rattle.policy_lawful.specs.declared.resolved.Wanted.TheVariants.{Memory as WantedMemory, Channel as WantedChannel}
-use Rattle.policy_lawful.proofs.Places.{same_name, same_self}
+use Rattle.policy_lawful.proofs.Indexes.{same_name, same_self}
 use Rattle.policy_lawful.proofs.UniqueNames.{unique}
 use Rattle.policy_meaning.specs.Thing.{region, same_thing}
 use Rattle.policy_meaning.specs.Windows.{role_rights}
@@ -169,7 +169,7 @@ any_same p q ok same (x ∷ xs) all =
     λ i. same x parts.0 i || any_same p q ok same xs parts.1 i
 
 -- a subject has a window on the region at a place where it has such a view
-pub maps_at : (r : Resolution) (s : Subject) (k : ℕ) (x : Region) → IsResolved r → subject_placed r s ≡ true → slice_get r.memory k ≡ Some x
+pub maps_at : (r : Resolution) (s : Subject) (k : ℕ) (x : Region) → IsResolved r → subject_in_range r s ≡ true → slice_get r.memory k ≡ Some x
     → maps (source_of r) x.name (subject_named r s) ≡ list_any (λ v. is_on_region k v.shows) (views_of r s)
 maps_at r s k x q h is =
     ap (list_any (λ w. same_thing w.thing (region x.name))) (windows_by_place r s q h)
@@ -177,7 +177,7 @@ maps_at r s k x q h is =
     ∙ any_same (λ v. same_thing (thing_shown r s.name v v.shows) (region x.name)) (λ v. is_on_region k v.shows) (is_named r) (λ v named. same_region r q k x s.name v v.shows is named) (views_of r s) (views_named r s)
 
 -- and may write it where it has one with the right to write
-pub writes_at : (r : Resolution) (s : Subject) (k : ℕ) (x : Region) → IsResolved r → subject_placed r s ≡ true → slice_get r.memory k ≡ Some x
+pub writes_at : (r : Resolution) (s : Subject) (k : ℕ) (x : Region) → IsResolved r → subject_in_range r s ≡ true → slice_get r.memory k ≡ Some x
     → writes (source_of r) x.name (subject_named r s) ≡ list_any (λ v. is_on_region k v.shows && allows v.rights Write) (views_of r s)
 writes_at r s k x q h is =
     ap (list_any (λ w. same_thing w.thing (region x.name) && allows w.rights Write)) (windows_by_place r s q h)

@@ -7,7 +7,7 @@ use Rattle.std.specs.List.{enumerate_from, filter_map, flat_map, list_all}
 use Rattle.std.proofs.lemmas.Bool.{and_parts, ltb-true}
 use Rattle.std.proofs.lemmas.Option.{get_or_from_slice_get, slice_get_within}
 use Rattle.muen_num.proofs.Lists.{option_map-option_map, there}
-use Rattle.policy_lawful.specs.Resolution.{IsResolved, Resolution, channel_named, component_named, component_placed, device_named, device_part, device_placed, entry_named, entry_placed, mapping_named, name_at, source_of, subject_named, subject_placed}
+use Rattle.policy_lawful.specs.Resolution.{IsResolved, Resolution, channel_named, component_named, component_in_range, device_named, device_part, device_in_range, entry_named, entry_in_range, mapping_named, name_at, source_of, subject_named, subject_in_range}
 use Rattle.policy_lawful.specs.Rules.{logical_names, repeated}
 use Rattle.policy_lawful.specs.declared.resolved.ComponentUse.{ComponentUse}
 use Rattle.policy_lawful.specs.declared.resolved.DeviceMapping.{DeviceMapping}
@@ -17,7 +17,7 @@ use Rattle.policy_lawful.specs.declared.resolved.Monitor.{Monitor}
 use Rattle.policy_lawful.specs.declared.resolved.Subject.{Subject}
 use Rattle.policy_lawful.specs.declared.resolved.Wanted.{Wanted}
 use Rattle.policy_lawful.specs.declared.resolved.Wanted.TheVariants.{Memory as WantedMemory, Channel as WantedChannel}
-use Rattle.policy_lawful.proofs.Places.{found_at_place}
+use Rattle.policy_lawful.proofs.Indexes.{found_at_index}
 use Rattle.policy_lawful.proofs.UniqueNames.{logical_unique, parts_unique, unique}
 use Rattle.policy_meaning.specs.Thing.{channel, component_by, provided, region}
 use Rattle.policy_meaning.specs.Windows.{channel_window, component_channel_window, component_windows, device_window, entry_of, monitor_window, region_window, required_window, role_rights, window, windows_of}
@@ -48,14 +48,14 @@ module _ (r : Resolution) (q : IsResolved r) (subject : List ℕ) where
       → region_window (source_of r) (name_at (map (λ x. x.name) r.memory) k) guest rights ≡ option_map (view_window r subject) (region_view r k guest rights)
   unfolding source_of
   region_placed k guest rights h =
-      ap (option_map (λ x. window guest x.size rights (region x.name))) (found_at_place (λ x. x.name) r.memory k (unique (source_of r) q.names).regions (ltb-true k (length r.memory) h))
+      ap (option_map (λ x. window guest x.size rights (region x.name))) (found_at_index (λ x. x.name) r.memory k (unique (source_of r) q.names).regions (ltb-true k (length r.memory) h))
       ∙ sym (option_map-option_map (view_window r subject) _ (slice_get r.memory k))
 
   channel_placed : (k guest : ℕ) (role : Role) → nat_lt k (length r.channels) ≡ true
       → channel_window (source_of r) (name_at (map (λ x. x.name) r.channels) k) guest role ≡ option_map (view_window r subject) (channel_view r k guest role)
   unfolding source_of
   channel_placed k guest role h =
-      ap (option_map (λ x. window guest x.size (role_rights role) (channel x.name))) (found_at_place (λ x. x.name) r.channels k (unique (source_of r) q.names).channels (ltb-true k (length r.channels) h))
+      ap (option_map (λ x. window guest x.size (role_rights role) (channel x.name))) (found_at_index (λ x. x.name) r.channels k (unique (source_of r) q.names).channels (ltb-true k (length r.channels) h))
       ∙ sym (option_map-option_map (view_window r subject) _ (slice_get r.channels k))
 
   monitor_placed : (m : Monitor) → nat_lt m.subject (length r.subjects) ≡ true
@@ -70,14 +70,14 @@ module _ (r : Resolution) (q : IsResolved r) (subject : List ℕ) where
       ≡ option_map (view_window r subject) (device_view r device m)
   unfolding source_of
   device_at device d m is h =
-      let found = found_at_place (λ x. x.name) r.devices device (unique (source_of r) q.names).devices (slice_get_within r.devices device d is) ∙ is in
-      let memory = found_at_place (λ x. x.name) d.memory m.memory (parts_unique (source_of r) device d q.names is).memory (ltb-true m.memory (length d.memory) h) in
+      let found = found_at_index (λ x. x.name) r.devices device (unique (source_of r) q.names).devices (slice_get_within r.devices device d is) ∙ is in
+      let memory = found_at_index (λ x. x.name) d.memory m.memory (parts_unique (source_of r) device d q.names is).memory (ltb-true m.memory (length d.memory) h) in
       let at = there d.memory m.memory (ltb-true m.memory (length d.memory) h) in
       let name = name_there (λ x. x.name) r.devices device d is in
       rw (found, memory, is, at.1, name) refl
 
   -- the device's name for what stands at a place, where the device is there
-  device_placed_at : (granted : DeviceUse) → device_placed r granted ≡ true → filter_map (device_window (source_of r) (device_named r granted).device) (device_named r granted).memory ≡ map (view_window r subject) (filter_map (device_view r granted.device) granted.memory)
+  device_placed_at : (granted : DeviceUse) → device_in_range r granted ≡ true → filter_map (device_window (source_of r) (device_named r granted).device) (device_named r granted).memory ≡ map (view_window r subject) (filter_map (device_view r granted.device) granted.memory)
   device_placed_at granted h =
       let b = and_parts _ _ h in
       let c = and_parts _ _ b.0 in
@@ -99,24 +99,24 @@ module _ (r : Resolution) (q : IsResolved r) (subject : List ℕ) where
 -- the component at the place of a use, by its name
 pub component_at : (r : Resolution) → IsResolved r → (used : ComponentUse) (c : Component) → slice_get r.components used.used ≡ Some c → component_by (source_of r) (Some (component_named r used)) ≡ Some c
 unfolding source_of
-component_at r q used c is = found_at_place (λ x. x.name) r.components used.used (unique (source_of r) q.names).components (slice_get_within r.components used.used c is) ∙ is
+component_at r q used c is = found_at_index (λ x. x.name) r.components used.used (unique (source_of r) q.names).components (slice_get_within r.components used.used c is) ∙ is
 
 -- each place of a list that is there is among the names
 pub within_names : {X : Type 0} (f : X → List ℕ) (xs : List X) (k : ℕ) (x : X) → slice_get xs k ≡ Some x → k < length (map f xs)
 within_names f xs k x is = let many : length (map f xs) ≡ length xs = length-map xs f in let l : k < length xs = slice_get_within xs k x is in omega (arith, many, l)
 
-module _ (r : Resolution) (q : IsResolved r) (t : NamedSubject) (used : ComponentUse) (c : Component) (uses : t.component ≡ Some (component_named r used)) (is : slice_get r.components used.used ≡ Some c) (placed : component_placed r used ≡ true) where
+module _ (r : Resolution) (q : IsResolved r) (t : NamedSubject) (used : ComponentUse) (c : Component) (uses : t.component ≡ Some (component_named r used)) (is : slice_get r.components used.used ≡ Some c) (placed : component_in_range r used ≡ true) where
   pub component_is : component_by (source_of r) t.component ≡ Some c
   component_is = ap (component_by (source_of r)) uses ∙ component_at r q used c is
 
-  pub entries_placed : list_all (λ e. entry_placed r used.used e.logical e.physical) used.map ≡ true
+  pub entries_placed : list_all (λ e. entry_in_range r used.used e.logical e.physical) used.map ≡ true
   entries_placed = (and_parts _ _ placed).1
 
   pub unique_logical : repeated (logical_names c) ≡ None
   unfolding source_of
   unique_logical = logical_unique (source_of r) used.used c q.names is
 
-  required_entry : (x : Required) (k : ℕ) (w : Wanted) (e : MapEntry) → entry_placed r used.used w e.physical ≡ true → same_wanted w (WantedMemory k) ≡ true
+  required_entry : (x : Required) (k : ℕ) (w : Wanted) (e : MapEntry) → entry_in_range r used.used w e.physical ≡ true → same_wanted w (WantedMemory k) ≡ true
       → region_window (source_of r) (entry_named r used.used w e).physical x.virtual_address (unwrap_or e.rights x.rights)
       ≡ option_map (view_window r t.name) (region_view r e.physical x.virtual_address (unwrap_or e.rights x.rights))
   required_entry x k (WantedMemory j) e h same = region_placed r q t.name e.physical x.virtual_address (unwrap_or e.rights x.rights) (and_parts _ _ h).1
@@ -126,7 +126,7 @@ module _ (r : Resolution) (q : IsResolved r) (t : NamedSubject) (used : Componen
   entry_rights (WantedMemory j) e = refl
   entry_rights (WantedChannel j) e = refl
 
-  channel_entry : (x : ComponentChannel) (k : ℕ) (w : Wanted) (e : MapEntry) → entry_placed r used.used w e.physical ≡ true → same_wanted w (WantedChannel k) ≡ true
+  channel_entry : (x : ComponentChannel) (k : ℕ) (w : Wanted) (e : MapEntry) → entry_in_range r used.used w e.physical ≡ true → same_wanted w (WantedChannel k) ≡ true
       → channel_window (source_of r) (entry_named r used.used w e).physical x.virtual_address x.role
       ≡ option_map (view_window r t.name) (channel_view r e.physical x.virtual_address x.role)
   channel_entry x k (WantedMemory j) e h same = absurd (cc)
@@ -163,10 +163,10 @@ module _ (r : Resolution) (q : IsResolved r) (t : NamedSubject) (used : Componen
       ∙ sym (map-append (view_window r t.name) (map provided_view (enumerate_from 0 c.provides) ++ filter_map (required_view r used.map) (enumerate_from 0 c.memory)) (filter_map (component_channel_view r used.map) (enumerate_from 0 c.channels)))
 
 -- the component is there, where its use is placed
-pub component_there : (r : Resolution) (used : ComponentUse) → component_placed r used ≡ true → (c : Component) × (slice_get r.components used.used ≡ Some c)
+pub component_there : (r : Resolution) (used : ComponentUse) → component_in_range r used ≡ true → (c : Component) × (slice_get r.components used.used ≡ Some c)
 component_there r used h = there r.components used.used (ltb-true used.used (length r.components) (and_parts _ _ h).0)
 
-use_windows : (r : Resolution) (q : IsResolved r) (t : NamedSubject) (o : Option ComponentUse) → t.component ≡ option_map (component_named r) o → option_map_or (component_placed r) o true ≡ true
+use_windows : (r : Resolution) (q : IsResolved r) (t : NamedSubject) (o : Option ComponentUse) → t.component ≡ option_map (component_named r) o → option_map_or (component_in_range r) o true ≡ true
     → component_windows (source_of r) t (component_by (source_of r) t.component) ≡ map (view_window r t.name) (use_views r o)
 use_windows r q t None is h = ap (λ o. component_windows (source_of r) t (component_by (source_of r) o)) is
 use_windows r q t (Some used) is h =
@@ -178,13 +178,13 @@ use_windows r q t (Some used) is h =
 
 -- each place that a subject has is there
 pub record SubjectPlaced (r : Resolution) (s : Subject) : Type 0 where
-  pub component : option_map_or (component_placed r) s.component true ≡ true
+  pub component : option_map_or (component_in_range r) s.component true ≡ true
   pub memory : list_all (λ m. nat_lt m.region (length r.memory)) s.memory ≡ true
   pub channels : list_all (λ c. nat_lt c.channel (length r.channels)) s.channels ≡ true
-  pub devices : list_all (device_placed r) s.devices ≡ true
+  pub devices : list_all (device_in_range r) s.devices ≡ true
   pub monitors : list_all (λ m. nat_lt m.subject (length r.subjects)) s.monitors ≡ true
 
-pub subject_parts : (r : Resolution) (s : Subject) → subject_placed r s ≡ true → SubjectPlaced r s
+pub subject_parts : (r : Resolution) (s : Subject) → subject_in_range r s ≡ true → SubjectPlaced r s
 subject_parts r s h =
     let g = and_parts _ _ h in
     let f = and_parts _ _ g.0 in
@@ -198,14 +198,14 @@ map_five : {X Y : Type 0} (f : X → Y) (a b c d e : List X) → map f a ++ map 
 map_five f a b c d e = sym (simp map-append)
 
 -- its windows are its views
-pub windows_by_place : (r : Resolution) (s : Subject) → IsResolved r → subject_placed r s ≡ true → windows_of (source_of r) (subject_named r s) ≡ map (view_window r s.name) (views_of r s)
+pub windows_by_place : (r : Resolution) (s : Subject) → IsResolved r → subject_in_range r s ≡ true → windows_of (source_of r) (subject_named r s) ≡ map (view_window r s.name) (views_of r s)
 unfolding windows_of views_of
 windows_by_place r s q h =
     let is = subject_parts r s h in
     let p = source_of r in
     let mappings = filter_maps (λ m. region_window p m.region m.virtual_address m.rights) (mapping_named r) (λ m. region_view r m.region m.virtual_address m.rights) (view_window r s.name) (λ m. nat_lt m.region (length r.memory)) (λ m l. region_placed r q s.name m.region m.virtual_address m.rights l) s.memory is.memory in
     let channels = filter_maps (λ c. channel_window p c.channel c.virtual_address c.role) (channel_named r) (λ c. channel_view r c.channel c.virtual_address c.role) (view_window r s.name) (λ c. nat_lt c.channel (length r.channels)) (λ c l. channel_placed r q s.name c.channel c.virtual_address c.role l) s.channels is.channels in
-    let devices = flat_maps (λ d. filter_map (device_window p d.device) d.memory) (device_named r) (λ d. filter_map (device_view r d.device) d.memory) (view_window r s.name) (device_placed r) (λ d l. device_placed_at r q s.name d l) s.devices is.devices in
+    let devices = flat_maps (λ d. filter_map (device_window p d.device) d.memory) (device_named r) (λ d. filter_map (device_view r d.device) d.memory) (view_window r s.name) (device_in_range r) (λ d l. device_placed_at r q s.name d l) s.devices is.devices in
     let component = use_windows r q (subject_named r s) s.component refl is.component in
     let monitors = map_filters monitor_window (monitor_named r) (monitor_view r) (view_window r s.name) (λ m. nat_lt m.subject (length r.subjects)) (λ m l. monitor_placed r q s.name m l) s.monitors is.monitors in
     (λ i. mappings i ++ channels i ++ devices i ++ component i ++ monitors i)

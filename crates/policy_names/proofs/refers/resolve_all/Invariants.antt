@@ -9,7 +9,7 @@ invariant-loop-item g l =
     let p = l.scope.source.now in
     let offence = g.T.Refers.offence p l.by in
     record {
-      same : map (g.T.Refers.named p l.by) l.placed ≡ take l.item-index l.items;
-      there : list_all (g.T.Refers.is_placed p l.by) l.placed ≡ true;
+      same : map (g.T.Refers.named p l.by) l.resolved ≡ take l.item-index l.items;
+      there : list_all (g.T.Refers.in_range p l.by) l.resolved ≡ true;
       rest : first_in offence (drop l.item-index l.items) ≡ first_in offence l.items;
     }

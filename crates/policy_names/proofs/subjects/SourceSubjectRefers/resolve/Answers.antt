@@ -1,5 +1,5 @@
 use Rattle.std.proofs.Common.{arith, refl, ◌∙◌}
-use Rattle.policy_names.proofs.SubjectAtPlaces.{in_stages, stands}
+use Rattle.policy_names.proofs.SubjectAtIndexes.{in_stages, stands}
 use Rattle.policy_names.proofs.subjects.SourceSubjectRefers.resolve.Goals as goal
 
 pub returns : goal.returns

@@ -1,7 +1,7 @@
 use Rattle.std.proofs.Common.{◌≡◌}
 use Rattle.std.specs.Prelude.{map, take, drop}
 use Rattle.muen_num.specs.Search.{first_in}
-use Rattle.policy_names.proofs.parts.index_all.Given as goal
+use Rattle.policy_names.proofs.parts.collect_all.Given as goal
 
 abbrev pub invariant-loop-item : goal.invariant-loop-item
 invariant-loop-item g l =

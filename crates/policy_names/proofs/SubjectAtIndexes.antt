@@ -1,4 +1,4 @@
--- A subject with places for its references.
+-- A subject with indexes for its references.
 use Rattle.std.proofs.Common.{◌≡◌, ℕ, true, List, ◌++◌, length, map, refl, ap, ◌∙◌}
 use Rattle.std.specs.Prelude.{option_map, nat_lt}
 use Rattle.std.specs.Option.{option_or, option_map_or}
@@ -8,14 +8,14 @@ use Rattle.std.proofs.lemmas.List.{length-map}
 use Rattle.muen_num.specs.Search.{first_in}
 use Rattle.muen_num.proofs.Lists.{map-map}
 use Rattle.muen_num.proofs.SearchLaws.{first_in-append, first_over-map, option_or_assoc}
-use Rattle.policy_lawful.specs.Resolution.{component_named, component_placed, subject_named, subject_placed, name_at}
+use Rattle.policy_lawful.specs.Resolution.{component_named, component_in_range, subject_named, subject_in_range, name_at}
 use Rattle.policy_lawful.specs.Rules.{component_references, device_references, refers, subject_references, undeclared}
-use Rattle.policy_lawful.specs.declared.resolved.Monitor.{Monitor as PlacedMonitor}
-use Rattle.policy_lawful.specs.declared.resolved.Subject.{Subject as PlacedSubject}
+use Rattle.policy_lawful.specs.declared.resolved.Monitor.{Monitor as ResolvedMonitor}
+use Rattle.policy_lawful.specs.declared.resolved.Subject.{Subject as ResolvedSubject}
 use Rattle.policy_types.specs.declared.source.Source.{Source}
 use Rattle.policy_types.specs.declared.source.Subject.{Subject}
 use Rattle.policy_names.specs.Outline.{bare_subject, outline}
-use Rattle.policy_names.specs.Places.{StandsFor}
+use Rattle.policy_names.specs.Indexes.{StandsFor}
 use Rattle.policy_names.specs.SubjectParts.{SignalsStand, WindowsStand, signals_offence, windows_offence}
 use Rattle.policy_names.proofs.Refusals.{first_in-flat_map, one_behind_another}
 
@@ -51,17 +51,17 @@ in_turn p s =
 
 pub ruleset in_stages = (in_turn, one_behind_another)
 
--- the subject with these places stands for it
-pub stands : (p : Source) (s : Subject) (r : PlacedSubject) → (r.name ≡ s.name) × ((r.cpu ≡ s.cpu) × ((r.entry ≡ s.entry) × (r.msrs ≡ s.msrs)))
-    → StandsFor (option_map (component_named (outline p))) (λ c. option_map_or (component_placed (outline p)) c true) s.component r.component
+-- the subject with these indexes stands for it
+pub stands : (p : Source) (s : Subject) (r : ResolvedSubject) → (r.name ≡ s.name) × ((r.cpu ≡ s.cpu) × ((r.entry ≡ s.entry) × (r.msrs ≡ s.msrs)))
+    → StandsFor (option_map (component_named (outline p))) (λ c. option_map_or (component_in_range (outline p)) c true) s.component r.component
     → WindowsStand p s r.memory r.channels r.devices → SignalsStand p s r.sources r.targets r.monitors
-    → StandsFor (subject_named (outline p)) (subject_placed (outline p)) s r
+    → StandsFor (subject_named (outline p)) (subject_in_range (outline p)) s r
 stands p s r plain component windows signals =
     let names : map (λ x. x.name) (outline p).subjects ≡ map (λ x. x.name) p.subjects = map-map (λ x. x.name) bare_subject p.subjects in
     let many : length (outline p).subjects ≡ length p.subjects = length-map p.subjects bare_subject in
     let monitors : map (λ m. record { subject = name_at (map (λ x. x.name) (outline p).subjects) m.subject; virtual_address = m.virtual_address; rights = m.rights }) r.monitors ≡ s.monitors =
-    ap (λ (n : List (List ℕ)). map (λ (m : PlacedMonitor). record { subject = name_at n m.subject; virtual_address = m.virtual_address; rights = m.rights }) r.monitors) names ∙ signals.monitors.same in
-    let monitored : list_all (λ m. nat_lt m.subject (length (outline p).subjects)) r.monitors ≡ true = ap (λ n. list_all (λ (m : PlacedMonitor). nat_lt m.subject n) r.monitors) many ∙ signals.monitors.there in
+    ap (λ (n : List (List ℕ)). map (λ (m : ResolvedMonitor). record { subject = name_at n m.subject; virtual_address = m.virtual_address; rights = m.rights }) r.monitors) names ∙ signals.monitors.same in
+    let monitored : list_all (λ m. nat_lt m.subject (length (outline p).subjects)) r.monitors ≡ true = ap (λ n. list_all (λ (m : ResolvedMonitor). nat_lt m.subject n) r.monitors) many ∙ signals.monitors.there in
     record {
       same = λ i. record {
         name = plain.0 i;

@@ -2,7 +2,7 @@ use Rattle.std.proofs.Common.{◌≡◌, ◌++◌, arith}
 use Rattle.std.specs.Prelude.{map, None}
 use Rattle.policy_names.specs.Parts.{repeats}
 use Rattle.policy_names.proofs.PartNames.{in_parts, others_alone}
-use Rattle.policy_names.proofs.parts.index_both.Goals as goal
+use Rattle.policy_names.proofs.parts.collect_both.Goals as goal
 
 pub returns-in_err-of-2 : goal.returns-in_err-of-2
 returns-in_err-of-2 g c =

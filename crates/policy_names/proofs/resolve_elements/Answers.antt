@@ -1,6 +1,6 @@
 use Rattle.std.proofs.Common.{arith}
 use Rattle.policy_names.proofs.Resolved.{in_turn, whole}
-use Rattle.policy_names.proofs.find_places.Goals as goal
+use Rattle.policy_names.proofs.resolve_elements.Goals as goal
 
 pub returns : goal.returns
 returns c = (

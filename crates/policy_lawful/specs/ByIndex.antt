@@ -1,4 +1,4 @@
--- What a resolved policy says, by places.
+-- What a resolved policy says, by indexes.
 use Rattle.std.specs.Prelude.{ℕ, ◌&&◌, Bool, length, nat_le}
 use Rattle.std.specs.List.{sum_by}
 use Rattle.muen_num.specs.declared.limits.TheConstants.{MOST_MINOR_FRAMES, MOST_TICKS}

@@ -5,7 +5,7 @@ ghost use Rattle.policy_lawful.specs.Offences.{broken};
 ghost use Rattle.policy_lawful.specs.Resolution.{name_at};
 ghost use Rattle.policy_lawful.specs.Rules.{is_declared, refers, undeclared};
 ghost use Rattle.policy_names.specs.Parts.{repeats, repeats_behind};
-ghost use Rattle.policy_names.specs.Places.{StandsFor};
+ghost use Rattle.policy_names.specs.Indexes.{StandsFor};
 ghost use Rattle.policy_types.specs.declared.refusal.Refusal.TheVariants.{Rule};
 
 use crate::named::Named;
@@ -17,11 +17,11 @@ use std::marker::Model;
 
 /// Names that can be looked up, no two of them the same. Contracts see the list of them.
 #[derive(Drop)]
-pub struct Index {
+pub struct NameSet {
     names: IndexSet<Name>,
 }
 
-impl Model for Index {
+impl Model for NameSet {
     ghost use Rattle.std.specs.Prelude.{List, ℕ};
 
     ghost Value = { List (List ℕ) };
@@ -40,25 +40,25 @@ pub fn not_declared(by: Name, name: Name) -> Refusal
     }
 }
 
-impl Index {
-    /// The index of no names.
-    pub fn new(alloc: Global) -> Index
+impl NameSet {
+    /// No names.
+    pub fn new(alloc: Global) -> NameSet
         ensures { result ≡ [] }
     {
-        Index {
+        NameSet {
             names: IndexSet::new(alloc),
         }
     }
 
-    /// The index with the names of these elements behind its own.
+    /// These names, and those of these elements behind them.
     ///
     /// Answers the refusal by rule 1 of the first name that stood before, and `NoMemory` where
     /// memory was refused.
     #[tactic(auto, using(crate::proofs::Names::behind))]
-    pub fn with<T: Named>(self, items: &[T]) -> Result<Index, Refusal>
+    pub fn with<T: Named>(self, items: &[T]) -> Result<NameSet, Refusal>
         ensures { Keeps (broken 1 (repeats_behind self (map T.name items.now))) (λ x. x ≡ self ++ map T.name items.now) result }
     {
-        let Index { mut names } = self;
+        let NameSet { mut names } = self;
         for item in items {
             let name = item.name();
             let (_, is_new) = names.insert_full(name)?;
@@ -70,37 +70,37 @@ impl Index {
                 });
             }
         }
-        Ok(Index { names })
+        Ok(NameSet { names })
     }
 
-    /// The index of the names of these elements.
+    /// The names of these elements.
     ///
     /// Answers the refusal by rule 1 of the first name that stood before, and `NoMemory` where
     /// memory was refused.
     #[tactic(auto, using(crate::proofs::Names::none_in_front))]
-    pub fn of<T: Named>(alloc: Global, items: &[T]) -> Result<Index, Refusal>
+    pub fn of<T: Named>(alloc: Global, items: &[T]) -> Result<NameSet, Refusal>
         ensures { Keeps (broken 1 (repeats (map T.name items.now))) (λ x. x ≡ map T.name items.now) result }
     {
-        Index::new(alloc).with(items)
+        NameSet::new(alloc).with(items)
     }
 
-    /// The place of a name; `None` exactly where it isn't there.
+    /// The index of a name; `None` exactly where it isn't there.
     #[tactic(auto, using(crate::proofs::Names::sought))]
     pub fn find(&self, name: Name) -> Option<usize>
         ensures declared { is_some result ≡ is_declared self.now name }
-        ensures place { IfSome result (StandsFor (name_at self.now) (λ place. nat_lt place (length self.now)) name) }
+        ensures index { IfSome result (StandsFor (name_at self.now) (λ index. nat_lt index (length self.now)) name) }
     {
         self.names.get_index_of(&name)
     }
 
-    /// The place of a name that an element refers to; where it isn't declared, the refusal by rule 2
+    /// The index of a name that an element refers to; where it isn't declared, the refusal by rule 2
     /// of the element, which has the name `by`.
     #[tactic(auto, using(crate::proofs::Names::sought))]
-    pub fn place(&self, by: Name, name: Name) -> Result<usize, Refusal>
-        ensures { Keeps (broken 2 (undeclared (refers by self.now name))) (StandsFor (name_at self.now) (λ place. nat_lt place (length self.now)) name) result }
+    pub fn index_of(&self, by: Name, name: Name) -> Result<usize, Refusal>
+        ensures { Keeps (broken 2 (undeclared (refers by self.now name))) (StandsFor (name_at self.now) (λ index. nat_lt index (length self.now)) name) result }
     {
         match self.names.get_index_of(&name) {
-            Some(place) => Ok(place),
+            Some(index) => Ok(index),
             None => Err(not_declared(by, name)),
         }
     }

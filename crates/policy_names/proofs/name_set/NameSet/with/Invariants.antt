@@ -2,7 +2,7 @@ use Rattle.std.proofs.Common.{◌≡◌, ◌++◌}
 use Rattle.std.specs.Prelude.{map, take, drop}
 use Rattle.policy_names.specs.Parts.{repeats_behind}
 use Rattle.policy_names.proofs.Names.{repeated_after}
-use Rattle.policy_names.proofs.index.Index.with.Given as goal
+use Rattle.policy_names.proofs.name_set.NameSet.with.Given as goal
 
 abbrev pub invariant-loop-item : goal.invariant-loop-item
 invariant-loop-item g l =

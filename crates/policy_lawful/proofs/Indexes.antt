@@ -1,4 +1,4 @@
--- What stands at a place is found by its name, where names are unique.
+-- What stands at an index is found by its name, where names are unique.
 use Rattle.std.proofs.Common.{◌≡◌, ℕ, zero, suc, ◌+◌, ◌<◌, true, cond, not, List, [], ◌∷◌, ◌++◌, length, map, None, sym, ap, ◌∙◌, arith, append_assoc, length-append}
 use Rattle.std.specs.Prelude.{◌==◌, slice_get}
 use Rattle.std.specs.List.{find, position_or_len}
@@ -19,7 +19,7 @@ use Rattle.muen_num.proofs.SearchLaws.{none_both, unless_none}
 pub same_self : (x : List ℕ) → bytes_eq x x ≡ true
 same_self x = nat_list_eq_equiv.refl x
 
--- ---- places
+-- ---- indexes
 
 -- none of these names is n
 abbrev OtherNames : List (List ℕ) → List ℕ → Type 0
@@ -55,7 +55,7 @@ position_is names k h l =
     let e : position_or_len (λ m. bytes_eq m (name_at names k)) names ≡ 0 + k = position_after [] names k h l in
     omega (arith, e)
 
--- two places have the same name just where they are the same place
+-- two indexes have the same name just where they are the same index
 pub same_name : (names : List (List ℕ)) (j k : ℕ) → repeated names ≡ None → j < length names → k < length names → bytes_eq (name_at names j) (name_at names k) ≡ (j == k)
 same_name names j k unique a b =
     let at_j : position_or_len (λ m. bytes_eq m (name_at names j)) names ≡ j = position_is names j unique a in
@@ -65,9 +65,9 @@ same_name names j k unique a b =
     (λ e. sym at_j ∙ (ap (λ n. position_or_len (λ m. bytes_eq m n) names) (d.0 e) ∙ at_k), λ e. d.1 (ap (name_at names) e))
     (Decides-eqb j k)
 
--- what stands at a place, by its name
-pub found_at_place : {X : Type 0} (f : X → List ℕ) (xs : List X) (k : ℕ) → repeated (map f xs) ≡ None → k < length xs → find (λ x. bytes_eq (f x) (name_at (map f xs) k)) xs ≡ slice_get xs k
-found_at_place f xs k h l =
+-- what stands at an index, by its name
+pub found_at_index : {X : Type 0} (f : X → List ℕ) (xs : List X) (k : ℕ) → repeated (map f xs) ≡ None → k < length xs → find (λ x. bytes_eq (f x) (name_at (map f xs) k)) xs ≡ slice_get xs k
+found_at_index f xs k h l =
     let many : length (map f xs) ≡ length xs = length-map xs f in
     find_at (λ x. bytes_eq (f x) (name_at (map f xs) k)) xs
     ∙ ap (slice_get xs) (sym (position-map (λ m. bytes_eq m (name_at (map f xs) k)) f xs) ∙ position_is (map f xs) k h (omega (arith, many, l)))
