@@ -7,26 +7,26 @@ use Rattle.muen_outside.specs.States.{FilesState}
 use Rattle.policy_types.specs.declared.refusal.Refusal.{Refusal}
 use Rattle.policy_types.specs.declared.refusal.Refusal.TheVariants.{NoMemory, NoRoom}
 use Rattle.policy_types.specs.declared.source.Source.{Source}
-use Rattle.muen_build.specs.Accepting.{Accepts, Ends, Files, Grows, Passes, Refuses, RefusesDocument, looks_of, of_all}
+use Rattle.muen_build.specs.Accepting.{Accepts, FailsWith, Files, Grows, Passes, Refuses, RefusesDocument, looks_of, of_all}
 use Rattle.muen_build.specs.Looks.{Follows, document_look}
 use Rattle.muen_build.specs.Refusals.{contents_refused, filled_of, is_for_a_file, lawful_policy_of}
 use Rattle.muen_build.specs.declared.accepted.BuildError.{BuildError}
 use Rattle.muen_build.specs.declared.accepted.BuildError.TheVariants.{Refused}
 use Rattle.region_alloc.specs.Placement.{no_room, no_room_for, placement_of}
 use Rattle.muen_build.proofs.Refusing.{built_so, contents_first, for_no_file, not_lawful, room_last}
-use Rattle.muen_build.proofs.Steps.{ends_here, ends_so}
+use Rattle.muen_build.proofs.Steps.{fails_here, fails_so}
 
 -- it isn't lawful
-pub unlawful_ends : (name document : List ℕ) (old new : FilesState) (r : Refusal) → Answers NoMemory (lawful_policy_of document) (Err r) → Ends (document_look name document ∷ []) (RefusesDocument document) old new (Refused r)
-unlawful_ends name document old new r h =
+pub unlawful_fails : (name document : List ℕ) (old new : FilesState) (r : Refusal) → Answers NoMemory (lawful_policy_of document) (Err r) → FailsWith (document_look name document ∷ []) (RefusesDocument document) old new (Refused r)
+unlawful_fails name document old new r h =
     elim h [
       | inl is ↦ inl is
-      | inr e ↦ ends_here (document_look name document ∷ []) (RefusesDocument document) old new r (for_no_file document r e) (λ files s. not_lawful files document r e)
+      | inr e ↦ fails_here (document_look name document ∷ []) (RefusesDocument document) old new r (for_no_file document r e) (λ files s. not_lawful files document r e)
     ]
 
 -- a refusal for want of room is for no file
 room_for_no_file : (answer : Result (List ℕ) Region) (r : Refusal) → no_room_for answer ≡ Some r → is_for_a_file r ≡ false
-room_for_no_file (Ok places) r h = absurd (cc)
+room_for_no_file (Ok addresses) r h = absurd (cc)
 room_for_no_file (Err x) r h = let same : NoRoom x.tag x.size ≡ r = cc in ap is_for_a_file (sym same)
 
 pub no_room_for_no_file : (p : Source) (r : Refusal) → no_room p ≡ Some r → is_for_a_file r ≡ false
@@ -35,17 +35,17 @@ no_room_for_no_file p r h = room_for_no_file (placement_of p) r h
 
 module _ (name document : List ℕ) (p : Source) (is : lawful_policy_of document ≡ Ok p) where
   -- its contents are refused
-  pub contents_end : (old new : FilesState) (end : BuildError) → Ends (document_look name document ∷ []) (Refuses (of_all (filled_of p))) old new end → Ends (document_look name document ∷ []) (RefusesDocument document) old new end
+  pub contents_fails : (old new : FilesState) (error : BuildError) → FailsWith (document_look name document ∷ []) (Refuses (of_all (filled_of p))) old new error → FailsWith (document_look name document ∷ []) (RefusesDocument document) old new error
   unfolding contents_refused
-  contents_end old new end e =
-      ends_so (document_look name document ∷ []) (Refuses (of_all (filled_of p))) (RefusesDocument document) old new end
+  contents_fails old new error e =
+      fails_so (document_look name document ∷ []) (Refuses (of_all (filled_of p))) (RefusesDocument document) old new error
       (λ files r s h. contents_first files document p r is h) e
 
   -- there is no room
   module _ (found : Files) (passes : Passes (looks_of name document found) (of_all (filled_of p))) where
-    pub room_end : (old new : FilesState) (r : Refusal) → Grows old.held (document_look name document ∷ []) (looks_of name document found) → Follows old new → Explains NoMemory (no_room p) r → Ends (document_look name document ∷ []) (RefusesDocument document) old new (Refused r)
+    pub room_fails : (old new : FilesState) (r : Refusal) → Grows old.held (document_look name document ∷ []) (looks_of name document found) → Follows old new → Explains NoMemory (no_room p) r → FailsWith (document_look name document ∷ []) (RefusesDocument document) old new (Refused r)
     unfolding contents_refused
-    room_end old new r grows follows h =
+    room_fails old new r grows follows h =
         elim h [
           | inl m ↦ inl m
           | inr e ↦ inr (record {

@@ -9,7 +9,7 @@ use Rattle.muen_outside.specs.States.{FilesState}
 use Rattle.muen_outside.specs.Store.{Store}
 use Rattle.policy_types.specs.declared.refusal.Refusal.{Refusal}
 use Rattle.policy_types.specs.declared.source.Content.TheVariants.{File, Fill, Inline, Zero}
-use Rattle.muen_build.specs.Accepting.{Ends, Files, Grows, Known, NotFound, Passes, Refuses, Why, looks_of, of_all, of_brought, of_filled, part_length}
+use Rattle.muen_build.specs.Accepting.{FailsWith, Files, Grows, Known, NotFound, Passes, Refuses, Why, looks_of, of_all, of_brought, of_filled, part_length}
 use Rattle.expand_kernel.specs.ByPlace.{provided_at}
 use Rattle.muen_build.specs.Filling.{brought_at, filled_provided, filled_region}
 use Rattle.muen_build.specs.Looks.{Follows, Look, ShowAll}
@@ -19,8 +19,8 @@ use Rattle.muen_build.specs.declared.accepted.BuildError.TheVariants.{Refused}
 use Rattle.policy_lawful.specs.declared.resolved.Subject.{Subject}
 use Rattle.policy_types.specs.declared.source.Component.{Component}
 use Rattle.policy_lawful.specs.Resolution.{IsResolved, Resolution, source_of}
-use Rattle.muen_build.proofs.FilledInPlace.{filled_by_place}
-use Rattle.muen_build.proofs.Steps.{ends_from, ends_here, ends_so, file_ends, fit_for_none, grows_not, grows_on, part_refused}
+use Rattle.muen_build.proofs.FilledByIndex.{filled_by_index}
+use Rattle.muen_build.proofs.Steps.{fails_from, fails_here, fails_so, file_fails, fit_for_none, grows_not, grows_on, part_refused}
 
 -- ---- one content
 
@@ -39,28 +39,28 @@ module _ (looks : List Look) (f : Filled) where
   pub fill_passes : (b : ℕ) → f.content ≡ Fill b → Passes looks (of_filled f)
   fill_passes b is files s = ap (content_refused files f) is
 
-  pub inline_ends : (bytes : List ℕ) (old new : FilesState) (r : Refusal) → f.content ≡ Inline bytes → Err r ≡ as_refusal (too_long_for f (length bytes)) → Ends looks (Refuses (of_filled f)) old new (Refused r)
-  inline_ends bytes old new r is h =
+  pub inline_fails : (bytes : List ℕ) (old new : FilesState) (r : Refusal) → f.content ≡ Inline bytes → Err r ≡ as_refusal (too_long_for f (length bytes)) → FailsWith looks (Refuses (of_filled f)) old new (Refused r)
+  inline_fails bytes old new r is h =
       let long = refused_is (too_long_for f (length bytes)) r h in
-      ends_here looks (Refuses (of_filled f)) old new r (fit_for_none f (length bytes) r long) (λ files s. ap (content_refused files f) is ∙ long)
+      fails_here looks (Refuses (of_filled f)) old new r (fit_for_none f (length bytes) r long) (λ files s. ap (content_refused files f) is ∙ long)
 
   pub inline_passes : (bytes : List ℕ) → f.content ≡ Inline bytes → Ok tt ≡ as_refusal (too_long_for f (length bytes)) → Passes looks (of_filled f)
   inline_passes bytes is h files s = ap (content_refused files f) is ∙ none_is (too_long_for f (length bytes)) h
 
   module _ (file : List ℕ) (offset : ℕ) (most : Option ℕ) (is : f.content ≡ File file offset most) where
-    pub missing_ends : (old new : FilesState) (end : BuildError) → Ends looks (NotFound file) old new end → Ends looks (Refuses (of_filled f)) old new end
-    missing_ends old new end e =
-        ends_so looks (NotFound file) (Refuses (of_filled f)) old new end (λ files r s n. ap (content_refused files f) is ∙ file_ends f file offset most files r n) e
+    pub missing_fails : (old new : FilesState) (error : BuildError) → FailsWith looks (NotFound file) old new error → FailsWith looks (Refuses (of_filled f)) old new error
+    missing_fails old new error e =
+        fails_so looks (NotFound file) (Refuses (of_filled f)) old new error (λ files r s n. ap (content_refused files f) is ∙ file_fails f file offset most files r n) e
 
     pub file_passes : (count : ℕ) → Known looks file count → Ok tt ≡ as_refusal (too_long_for f (part_length count offset most)) → Passes looks (of_filled f)
     file_passes count known h files s =
         ap (content_refused files f) is ∙ part_refused looks f file offset most count known files s ∙ none_is (too_long_for f (part_length count offset most)) h
 
-    pub long_ends : (before : List Look) (old mid : FilesState) (count : ℕ) (r : Refusal) → Grows old.held before looks → Follows old mid → Known looks file count → Err r ≡ as_refusal (too_long_for f (part_length count offset most)) → Ends before (Refuses (of_filled f)) old mid (Refused r)
-    long_ends before old mid count r grows follows known h =
+    pub long_fails : (before : List Look) (old mid : FilesState) (count : ℕ) (r : Refusal) → Grows old.held before looks → Follows old mid → Known looks file count → Err r ≡ as_refusal (too_long_for f (part_length count offset most)) → FailsWith before (Refuses (of_filled f)) old mid (Refused r)
+    long_fails before old mid count r grows follows known h =
         let long = refused_is (too_long_for f (part_length count offset most)) r h in
-        ends_from before looks (Refuses (of_filled f)) old mid mid (Refused r) grows follows
-        (ends_here looks (Refuses (of_filled f)) mid mid r (fit_for_none f (part_length count offset most) r long)
+        fails_from before looks (Refuses (of_filled f)) old mid mid (Refused r) grows follows
+        (fails_here looks (Refuses (of_filled f)) mid mid r (fit_for_none f (part_length count offset most) r long)
         (λ files s. ap (content_refused files f) is ∙ part_refused looks f file offset most count known files s ∙ long))
 
 -- ---- several
@@ -93,17 +93,17 @@ module _ {X : Type 0} (why : X → Why) (name document : List ℕ) (all : List X
       follows = follows_on new h;
     }
 
-    pub passing_ends : (new : FilesState) (end : BuildError) → Ends (looks_of name document found) (Refuses (why x)) now new end → Ends (looks_of name document before) (Refuses (λ files. first_in (λ x. why x files) all)) old new end
-    passing_ends new end e =
-        ends_from (looks_of name document before) (looks_of name document found) (Refuses (λ files. first_in (λ x. why x files) all)) old now new end p.grows p.follows
-        (ends_so (looks_of name document found) (Refuses (why x)) (Refuses (λ files. first_in (λ x. why x files) all)) now new end
+    pub passing_fails : (new : FilesState) (error : BuildError) → FailsWith (looks_of name document found) (Refuses (why x)) now new error → FailsWith (looks_of name document before) (Refuses (λ files. first_in (λ x. why x files) all)) old new error
+    passing_fails new error e =
+        fails_from (looks_of name document before) (looks_of name document found) (Refuses (λ files. first_in (λ x. why x files) all)) old now new error p.grows p.follows
+        (fails_so (looks_of name document found) (Refuses (why x)) (Refuses (λ files. first_in (λ x. why x files) all)) now new error
         (λ files r s h. sym (p.rest files s) ∙ first_step (λ x. why x files) all i x (Some r) within is (sym h)) e)
 
 -- of elements that are filled each for itself
 module _ {X : Type 0} (f : X → Filled) (xs : List X) where
-  pub mapped_ends : (looks : List Look) (old new : FilesState) (end : BuildError) → Ends looks (Refuses (λ files. first_in (λ x. of_filled (f x) files) xs)) old new end → Ends looks (Refuses (of_all (map f xs))) old new end
-  mapped_ends looks old new end e =
-      ends_so looks (Refuses (λ files. first_in (λ x. of_filled (f x) files) xs)) (Refuses (of_all (map f xs))) old new end
+  pub mapped_fails : (looks : List Look) (old new : FilesState) (error : BuildError) → FailsWith looks (Refuses (λ files. first_in (λ x. of_filled (f x) files) xs)) old new error → FailsWith looks (Refuses (of_all (map f xs))) old new error
+  mapped_fails looks old new error e =
+      fails_so looks (Refuses (λ files. first_in (λ x. of_filled (f x) files) xs)) (Refuses (of_all (map f xs))) old new error
       (λ files r s h. first_over-map f (filled_refused files) xs ∙ h) e
 
   pub mapped_passes : (looks : List Look) → Passes looks (λ files. first_in (λ x. of_filled (f x) files) xs) → Passes looks (of_all (map f xs))
@@ -111,9 +111,9 @@ module _ {X : Type 0} (f : X → Filled) (xs : List X) where
 
 -- of what a subject's component brings along
 module _ (components : List Component) (s : Subject) where
-  pub brought_by_ends : (looks : List Look) (old new : FilesState) (end : BuildError) → Ends looks (Refuses (of_all (map (filled_provided s.name) (provided_at components s.component)))) old new end → Ends looks (Refuses (of_all (brought_at components s))) old new end
+  pub brought_by_fails : (looks : List Look) (old new : FilesState) (error : BuildError) → FailsWith looks (Refuses (of_all (map (filled_provided s.name) (provided_at components s.component)))) old new error → FailsWith looks (Refuses (of_all (brought_at components s))) old new error
   unfolding brought_at
-  brought_by_ends looks old new end e = e
+  brought_by_fails looks old new error e = e
 
   pub brought_by_passes : (looks : List Look) → Passes looks (of_all (map (filled_provided s.name) (provided_at components s.component))) → Passes looks (of_all (brought_at components s))
   unfolding brought_at
@@ -133,21 +133,21 @@ first_in-flat_map at f (x ∷ xs) = first_in-append at (f x) (flat_map f xs) ∙
 
 all_is : (r : Resolution) → IsResolved r → (files : Store) → of_all (filled_of (source_of r)) files ≡ option_or (of_all (map filled_region r.memory) files) (of_brought r.components r.subjects files)
 all_is r h files =
-    ap (first_in (filled_refused files)) (sym (filled_by_place r h))
+    ap (first_in (filled_refused files)) (sym (filled_by_index r h))
     ∙ first_in-append (filled_refused files) (map filled_region r.memory) (flat_map (brought_at r.components) r.subjects)
     ∙ ap (option_or (of_all (map filled_region r.memory) files)) (first_in-flat_map (filled_refused files) (brought_at r.components) r.subjects)
 
 module _ (r : Resolution) (h : IsResolved r) (name document : List ℕ) (before between : Files) (old mid : FilesState) where
-  pub memory_ends : (new : FilesState) (end : BuildError) → Ends (looks_of name document before) (Refuses (of_all (map filled_region r.memory))) old new end → Ends (looks_of name document before) (Refuses (of_all (filled_of (source_of r)))) old new end
-  memory_ends new end e =
-      ends_so (looks_of name document before) (Refuses (of_all (map filled_region r.memory))) (Refuses (of_all (filled_of (source_of r)))) old new end
+  pub memory_fails : (new : FilesState) (error : BuildError) → FailsWith (looks_of name document before) (Refuses (of_all (map filled_region r.memory))) old new error → FailsWith (looks_of name document before) (Refuses (of_all (filled_of (source_of r)))) old new error
+  memory_fails new error e =
+      fails_so (looks_of name document before) (Refuses (of_all (map filled_region r.memory))) (Refuses (of_all (filled_of (source_of r)))) old new error
       (λ files x s is. all_is r h files ∙ ap (λ o. option_or o (of_brought r.components r.subjects files)) is) e
 
   module _ (grows : Grows old.held (looks_of name document before) (looks_of name document between)) (passes : Passes (looks_of name document between) (of_all (map filled_region r.memory))) (follows : Follows old mid) where
-    pub brought_ends : (new : FilesState) (end : BuildError) → Ends (looks_of name document between) (Refuses (of_brought r.components r.subjects)) mid new end → Ends (looks_of name document before) (Refuses (of_all (filled_of (source_of r)))) old new end
-    brought_ends new end e =
-        ends_from (looks_of name document before) (looks_of name document between) (Refuses (of_all (filled_of (source_of r)))) old mid new end grows follows
-        (ends_so (looks_of name document between) (Refuses (of_brought r.components r.subjects)) (Refuses (of_all (filled_of (source_of r)))) mid new end
+    pub brought_fails : (new : FilesState) (error : BuildError) → FailsWith (looks_of name document between) (Refuses (of_brought r.components r.subjects)) mid new error → FailsWith (looks_of name document before) (Refuses (of_all (filled_of (source_of r)))) old new error
+    brought_fails new error e =
+        fails_from (looks_of name document before) (looks_of name document between) (Refuses (of_all (filled_of (source_of r)))) old mid new error grows follows
+        (fails_so (looks_of name document between) (Refuses (of_brought r.components r.subjects)) (Refuses (of_all (filled_of (source_of r)))) mid new error
         (λ files x s is. all_is r h files ∙ ap (λ o. option_or o (of_brought r.components r.subjects files)) (passes files s) ∙ is) e)
 
     pub both_grow : (after : Files) → Grows mid.held (looks_of name document between) (looks_of name document after) → Grows old.held (looks_of name document before) (looks_of name document after)

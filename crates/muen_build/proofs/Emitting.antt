@@ -24,32 +24,32 @@ use Rattle.muen_build.proofs.Held.{things_held}
 use Rattle.muen_build.proofs.Rooms.{things_filled}
 
 -- what is known of a placed policy by parts
-module _ (x : Placement) (plain : Expansion) (of_placed : plain ≡ x.plain) where
-  granted_so : (grants : List Grants) → grants ≡ plain.grants → AreGrants plain.lawful grants → AreGrants x.plain.lawful x.plain.grants
-  granted_so grants are granted = subst (λ p. AreGrants p.lawful p.grants) of_placed (subst (AreGrants plain.lawful) are granted)
+module _ (x : Placement) (expanded : Expansion) (of_placed : expanded ≡ x.expanded) where
+  granted_so : (grants : List Grants) → grants ≡ expanded.grants → AreGrants expanded.lawful grants → AreGrants x.expanded.lawful x.expanded.grants
+  granted_so grants are granted = subst (λ p. AreGrants p.lawful p.grants) of_placed (subst (AreGrants expanded.lawful) are granted)
 
-  regions_so : (regions : List Region) → regions ≡ plain.regions → regions ≡ regions_of (source_of plain.lawful) → x.plain.regions ≡ regions_of (source_of x.plain.lawful)
+  regions_so : (regions : List Region) → regions ≡ expanded.regions → regions ≡ regions_of (source_of expanded.lawful) → x.expanded.regions ≡ regions_of (source_of x.expanded.lawful)
   regions_so regions are is = subst (λ p. p.regions ≡ regions_of (source_of p.lawful)) of_placed (sym are ∙ is)
 
-  pub readable_so : (document : List ℕ) (grants : List Grants) → lawful_policy_of document ≡ Ok (source_of x.plain.lawful) → grants ≡ plain.grants → AreGrants plain.lawful grants → AreReadable x
-  readable_so document grants lawful are granted = readable_views x.plain.lawful x.plain.grants (readable_lawful document (source_of x.plain.lawful) lawful) (granted_so grants are granted)
+  pub readable_so : (document : List ℕ) (grants : List Grants) → lawful_policy_of document ≡ Ok (source_of x.expanded.lawful) → grants ≡ expanded.grants → AreGrants expanded.lawful grants → AreReadable x
+  readable_so document grants lawful are granted = readable_views x.expanded.lawful x.expanded.grants (readable_lawful document (source_of x.expanded.lawful) lawful) (granted_so grants are granted)
 
-  module _ (lawful r : Resolution) (of_plain : lawful ≡ plain.lawful) (of_lawful : r ≡ lawful) (resolved : IsResolved r)
+  module _ (lawful r : Resolution) (of_expanded : lawful ≡ expanded.lawful) (of_lawful : r ≡ lawful) (resolved : IsResolved r)
       (name document : List ℕ) (found : Files) (things : List (List ℕ)) (are_things : things ≡ things_read name document found r) where
-    same : r ≡ x.plain.lawful
-    same = of_lawful ∙ of_plain ∙ ap (λ p. p.lawful) of_placed
+    same : r ≡ x.expanded.lawful
+    same = of_lawful ∙ of_expanded ∙ ap (λ p. p.lawful) of_placed
 
-    things_are : things ≡ things_read name document found x.plain.lawful
+    things_are : things ≡ things_read name document found x.expanded.lawful
     things_are = are_things ∙ ap (things_read name document found) same
 
-    pub filled_so : (regions : List Region) (grants : List Grants) → regions ≡ plain.regions → regions ≡ regions_of (source_of plain.lawful) → grants ≡ plain.grants → AreGrants plain.lawful grants → IsFilled x things
+    pub filled_so : (regions : List Region) (grants : List Grants) → regions ≡ expanded.regions → regions ≡ regions_of (source_of expanded.lawful) → grants ≡ expanded.grants → AreGrants expanded.lawful grants → IsFilled x things
     filled_so regions grants are_regions is are_grants granted =
         subst (IsFilled x) (sym things_are)
         (things_filled name document found x (subst IsResolved same resolved) (regions_so regions are_regions is) (granted_so grants are_grants granted))
 
-    pub sound_so : {E : Type 0} (result : Result Image E) → Accepts (looks_of name document found) document (source_of x.plain.lawful)
-        → IfOk result (λ i. (files : Store) → things ≡ thing_bytes files x.plain.lawful → IsSound (source_of x.plain.lawful) files i)
-        → IfOk result (λ i. (files : Store) → ShowAll files (looks_of name document found) → IsSound (source_of x.plain.lawful) files i)
+    pub sound_so : {E : Type 0} (result : Result Image E) → Accepts (looks_of name document found) document (source_of x.expanded.lawful)
+        → IfOk result (λ i. (files : Store) → things ≡ thing_bytes files x.expanded.lawful → IsSound (source_of x.expanded.lawful) files i)
+        → IfOk result (λ i. (files : Store) → ShowAll files (looks_of name document found) → IsSound (source_of x.expanded.lawful) files i)
     sound_so result accepts sound =
         IfOk-weaker result _ _
-        (λ i h files s. h files (things_are ∙ things_held name document found x.plain.lawful (subst IsResolved same resolved) accepts files s)) sound
+        (λ i h files s. h files (things_are ∙ things_held name document found x.expanded.lawful (subst IsResolved same resolved) accepts files s)) sound

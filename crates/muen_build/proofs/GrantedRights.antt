@@ -33,7 +33,7 @@ use Rattle.muen_build.specs.WindowRights.{ComponentRights, DeviceRights, RightsK
 
 -- ---- what has a property
 
--- one that a test or a place finds
+-- one that a test or an index finds
 module _ {X : Type 0} (P : X → Type 0) where
   if_found : (test : X → Bool) (xs : List X) → All P xs → IfSome (find test xs) P
   if_found test [] all = tt
@@ -42,14 +42,14 @@ module _ {X : Type 0} (P : X → Type 0) where
     | false ↦ if_found test xs (All-tail P x xs all)
   ]
 
-  if_there : (xs : List X) (place : ℕ) → All P xs → IfSome (slice_get xs place) P
-  if_there [] place all = tt
+  if_there : (xs : List X) (index : ℕ) → All P xs → IfSome (slice_get xs index) P
+  if_there [] index all = tt
   if_there (x ∷ xs) zero all = All-head P x xs all
-  if_there (x ∷ xs) (suc place) all = if_there xs place (All-tail P x xs all)
+  if_there (x ∷ xs) (suc index) all = if_there xs index (All-tail P x xs all)
 
-  with_places : (from : ℕ) (xs : List X) → All P xs → All (λ e. P e.1) (enumerate_from from xs)
-  with_places from [] all = All-nil (λ e. P e.1)
-  with_places from (x ∷ xs) all = All-cons (λ e. P e.1) (from, x) (enumerate_from (from + 1) xs) (All-head P x xs all) (with_places (from + 1) xs (All-tail P x xs all))
+  with_indexes : (from : ℕ) (xs : List X) → All P xs → All (λ e. P e.1) (enumerate_from from xs)
+  with_indexes from [] all = All-nil (λ e. P e.1)
+  with_indexes from (x ∷ xs) all = All-cons (λ e. P e.1) (from, x) (enumerate_from (from + 1) xs) (All-head P x xs all) (with_indexes (from + 1) xs (All-tail P x xs all))
 
   -- each that is mapped to one that has it
   before_map : {Y : Type 0} (f : Y → X) (ys : List Y) → All P (map f ys) → All (λ y. P (f y)) ys
@@ -101,11 +101,11 @@ or_readable None asked h other = other
 or_readable (Some rights) asked h other = h
 
 module _ (r : Resolution) where
-  region_readable : (place guest : ℕ) (rights : Rights) → IsReadable rights → IfSome (region_view r place guest rights) IsReadableView
-  region_readable place guest rights h = if_mapped Anything IsReadableView _ (slice_get r.memory place) (any_there (slice_get r.memory place)) (λ x any. h)
+  region_readable : (index guest : ℕ) (rights : Rights) → IsReadable rights → IfSome (region_view r index guest rights) IsReadableView
+  region_readable index guest rights h = if_mapped Anything IsReadableView _ (slice_get r.memory index) (any_there (slice_get r.memory index)) (λ x any. h)
 
-  channel_readable : (place guest : ℕ) (role : Role) → IfSome (channel_view r place guest role) IsReadableView
-  channel_readable place guest role = if_mapped Anything IsReadableView _ (slice_get r.channels place) (any_there (slice_get r.channels place)) (λ x any. role_readable role)
+  channel_readable : (index guest : ℕ) (role : Role) → IfSome (channel_view r index guest role) IsReadableView
+  channel_readable index guest role = if_mapped Anything IsReadableView _ (slice_get r.channels index) (any_there (slice_get r.channels index)) (λ x any. role_readable role)
 
   device_readable : (device : ℕ) (m : DeviceMapping) → IsReadable m.rights → IfSome (device_view r device m) IsReadableView
   device_readable device m h =
@@ -132,14 +132,14 @@ module _ (r : Resolution) where
     component_readable c h =
         All-append IsReadableView _ _
         (All-append IsReadableView _ _
-        (All-map IsReadableView provided_view (enumerate_from 0 c.provides) (with_places (λ x. IsReadable x.rights) 0 c.provides h.provides))
-        (each_filtered (λ e. IsReadable e.1.rights) IsReadableView (required_view r entries) required_readable (enumerate_from 0 c.memory) (with_places (λ x. IsReadable x.rights) 0 c.memory h.memory)))
+        (All-map IsReadableView provided_view (enumerate_from 0 c.provides) (with_indexes (λ x. IsReadable x.rights) 0 c.provides h.provides))
+        (each_filtered (λ e. IsReadable e.1.rights) IsReadableView (required_view r entries) required_readable (enumerate_from 0 c.memory) (with_indexes (λ x. IsReadable x.rights) 0 c.memory h.memory)))
         (each_filtered Anything IsReadableView (component_channel_view r entries) (λ e any. end_readable e) (enumerate_from 0 c.channels) (λ k d l. tt))
 
   -- an entry has the rights that it has by names
   entry_rights : (used : ℕ) (w : Wanted) (e : MapEntry) → IfSome (entry_named r used w e).rights IsReadable → IfSome e.rights IsReadable
-  entry_rights used (WantedMemory place) e h = h
-  entry_rights used (WantedChannel place) e h = h
+  entry_rights used (WantedMemory index) e h = h
+  entry_rights used (WantedChannel index) e h = h
 
   module _ (components : All ComponentRights r.components) where
     there_readable : (entries : List MapEntry) → All (λ e. IfSome e.rights IsReadable) entries → (c : Option Component) → IfSome c ComponentRights → All IsReadableView (option_map_or (component_views r entries) c [])

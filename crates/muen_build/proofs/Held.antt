@@ -27,7 +27,7 @@ use Rattle.policy_types.specs.declared.source.Channel.{Channel}
 use Rattle.policy_types.specs.declared.source.Component.{Component}
 use Rattle.policy_types.specs.declared.source.Content.{Content}
 use Rattle.policy_types.specs.declared.source.Content.TheVariants.{Zero, Fill, Inline, File}
-use Rattle.muen_build.proofs.FilledInPlace.{filled_by_place}
+use Rattle.muen_build.proofs.FilledByIndex.{filled_by_index}
 use Rattle.muen_build.proofs.Looks.{other_way, same_self}
 use Rattle.muen_build.proofs.Refusing.{accepted_so}
 use Rattle.muen_build.proofs.Steps.{document_reads, others_found, shown_among}
@@ -129,4 +129,4 @@ module _ (name document : List ℕ) (found : Files) where
       → (files : Store) → ShowAll files (looks_of name document found) → things_read name document found r ≡ thing_bytes files r
   unfolding contents_refused
   things_held r resolved accepts files s =
-      things_same r (λ files s. ap (first_in (filled_refused files)) (filled_by_place r resolved) ∙ (accepted_so files document (source_of r) (accepts files s)).contents) files s
+      things_same r (λ files s. ap (first_in (filled_refused files)) (filled_by_index r resolved) ∙ (accepted_so files document (source_of r) (accepts files s)).contents) files s

@@ -2,7 +2,7 @@ pub mod Accepting
 pub mod Checking
 pub mod DocumentRights
 pub mod Emitting
-pub mod FilledInPlace
+pub mod FilledByIndex
 pub mod GrantedRights
 pub mod Held
 pub mod Looks

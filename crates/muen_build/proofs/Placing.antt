@@ -14,7 +14,7 @@ use Rattle.muen_build.proofs.Accepting.{no_room_for_no_file}
 use Rattle.muen_build.proofs.Refusing.{for_no_file, room_decides, unlawful_unlaid}
 
 pub laid_so : (bytes : List ℕ) (r : Resolution) (result : Result Placement Refusal) → lawful_policy_of bytes ≡ Ok (source_of r)
-    → IfOk result (λ x. x.plain.lawful ≡ r) → IfOk result (λ x. no_room (source_of r) ≡ None) → IfErr result (Explains NoMemory (no_room (source_of r)))
+    → IfOk result (λ x. x.expanded.lawful ≡ r) → IfOk result (λ x. no_room (source_of r) ≡ None) → IfErr result (Explains NoMemory (no_room (source_of r)))
     → Answers NoMemory (laid_policy_of bytes) (placed_source result)
 laid_so bytes r (Ok x) lawful same room err =
     room_decides bytes (source_of r) lawful ∙ ap (kept_or (source_of r)) room ∙ ap (λ q. Ok (source_of q)) (sym same)

@@ -120,10 +120,10 @@ module _ (name document : List ℕ) (found : Files) where
       ∙ length-map (first_regions r) (λ r. r.size)
 
   -- they have the sizes of the regions
-  pub things_filled : (x : Placement) → IsResolved x.plain.lawful → x.plain.regions ≡ regions_of (source_of x.plain.lawful) → AreGrants x.plain.lawful x.plain.grants → IsFilled x (things_read name document found x.plain.lawful)
+  pub things_filled : (x : Placement) → IsResolved x.expanded.lawful → x.expanded.regions ≡ regions_of (source_of x.expanded.lawful) → AreGrants x.expanded.lawful x.expanded.grants → IsFilled x (things_read name document found x.expanded.lawful)
   things_filled x resolved are granted =
-      let r = x.plain.lawful in
-      let regions : x.plain.regions ≡ first_regions r ++ kernel_for_each r.subjects x.plain.grants = are ∙ sym (regions_by_place r x.plain.grants resolved granted) in
-      let front : take (length (things_read name document found r)) x.plain.regions ≡ first_regions r =
-      ap₂ (λ n rs. take n rs) (many r) regions ∙ take-append_seam (first_regions r) (kernel_for_each r.subjects x.plain.grants) in
+      let r = x.expanded.lawful in
+      let regions : x.expanded.regions ≡ first_regions r ++ kernel_for_each r.subjects x.expanded.grants = are ∙ sym (regions_by_place r x.expanded.grants resolved granted) in
+      let front : take (length (things_read name document found r)) x.expanded.regions ≡ first_regions r =
+      ap₂ (λ n rs. take n rs) (many r) regions ∙ take-append_seam (first_regions r) (kernel_for_each r.subjects x.expanded.grants) in
       record { many = many r ∙ first_many r; sizes = things_sized r ∙ ap (map (λ (r : Region). r.size)) (sym front) }

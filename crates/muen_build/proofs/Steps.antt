@@ -12,7 +12,7 @@ use Rattle.muen_outside.specs.Store.{Store, Reading, whole, absent, long, readin
 use Rattle.policy_meaning.specs.Contents.{file_part}
 use Rattle.policy_types.specs.declared.refusal.Refusal.{Refusal}
 use Rattle.policy_types.specs.declared.refusal.Refusal.TheVariants.{FileFit, Missing, NoMemory, NoRoom, NotJson, Rule, Shape, TooLong}
-use Rattle.muen_build.specs.Accepting.{Ends, Files, Grows, IsAdded, Known, NotFound, NotRead, looks_of, part_length}
+use Rattle.muen_build.specs.Accepting.{FailsWith, Files, Grows, IsAdded, Known, NotFound, NotRead, looks_of, part_length}
 use Rattle.muen_build.specs.Looks.{AreOthers, Follows, Look, Saw, ShowAll, document_look, file_look, look}
 use Rattle.muen_build.specs.Refusals.{Filled, file_refused, is_for_a_file, too_long_for}
 use Rattle.muen_build.specs.declared.accepted.BuildError.{BuildError}
@@ -27,37 +27,37 @@ grows_not held looks = record { seen = λ s. s; shows = λ files s. s }
 pub grows_on : (held : Option Store) (a b c : List Look) → Grows held a b → Grows held b c → Grows held a c
 grows_on held a b c f g = record { seen = λ s. g.seen (f.seen s); shows = λ files s. f.shows files (g.shows files s) }
 
--- ---- how it ends, told from an earlier look on, and for more
+-- ---- how it fails, told from an earlier look on, and for more
 
-ends_later : (held : Option Store) (a b : List Look) (Refuses : Store → Refusal → Type 0) (old mid new : FilesState) (end : BuildError)
-    → Grows old.held a b → Follows old mid → Ends b Refuses mid new end → Ends a Refuses old new end
-ends_later held a b Refuses old mid new (Refused r) grows follows (inl is) = inl is
-ends_later held a b Refuses old mid new (Refused r) grows follows (inr e) = inr (record {
+fails_later : (held : Option Store) (a b : List Look) (Refuses : Store → Refusal → Type 0) (old mid new : FilesState) (error : BuildError)
+    → Grows old.held a b → Follows old mid → FailsWith b Refuses mid new error → FailsWith a Refuses old new error
+fails_later held a b Refuses old mid new (Refused r) grows follows (inl is) = inl is
+fails_later held a b Refuses old mid new (Refused r) grows follows (inr e) = inr (record {
   after = e.after;
   grows = grows_on old.held a b e.after grows (subst (λ h. Grows h b e.after) follows.held e.grows);
   refuses = e.refuses;
   missed = λ m. let rose = e.missed m in omega (arith, rose, follows.misses);
 })
-ends_later held a b Refuses old mid new FileFault grows follows rose = omega (arith, rose, follows.faults)
+fails_later held a b Refuses old mid new FileFault grows follows rose = omega (arith, rose, follows.faults)
 
-pub ends_from : (a b : List Look) (Refuses : Store → Refusal → Type 0) (old mid new : FilesState) (end : BuildError)
-    → Grows old.held a b → Follows old mid → Ends b Refuses mid new end → Ends a Refuses old new end
-ends_from a b Refuses old mid new end grows follows e = ends_later old.held a b Refuses old mid new end grows follows e
+pub fails_from : (a b : List Look) (Refuses : Store → Refusal → Type 0) (old mid new : FilesState) (error : BuildError)
+    → Grows old.held a b → Follows old mid → FailsWith b Refuses mid new error → FailsWith a Refuses old new error
+fails_from a b Refuses old mid new error grows follows e = fails_later old.held a b Refuses old mid new error grows follows e
 
-pub ends_so : (a : List Look) (Refuses Refuses' : Store → Refusal → Type 0) (old new : FilesState) (end : BuildError)
-    → ((files : Store) (r : Refusal) → ShowAll files a → Refuses files r → Refuses' files r) → Ends a Refuses old new end → Ends a Refuses' old new end
-ends_so a Refuses Refuses' old new (Refused r) so (inl is) = inl is
-ends_so a Refuses Refuses' old new (Refused r) so (inr e) = inr (record {
+pub fails_so : (a : List Look) (Refuses Refuses' : Store → Refusal → Type 0) (old new : FilesState) (error : BuildError)
+    → ((files : Store) (r : Refusal) → ShowAll files a → Refuses files r → Refuses' files r) → FailsWith a Refuses old new error → FailsWith a Refuses' old new error
+fails_so a Refuses Refuses' old new (Refused r) so (inl is) = inl is
+fails_so a Refuses Refuses' old new (Refused r) so (inr e) = inr (record {
   after = e.after;
   grows = e.grows;
   refuses = λ files s. so files r (e.grows.shows files s) (e.refuses files s);
   missed = e.missed;
 })
-ends_so a Refuses Refuses' old new FileFault so rose = rose
+fails_so a Refuses Refuses' old new FileFault so rose = rose
 
 -- a refusal that no read has made
-pub ends_here : (a : List Look) (Refuses : Store → Refusal → Type 0) (old new : FilesState) (r : Refusal) → is_for_a_file r ≡ false → ((files : Store) → ShowAll files a → Refuses files r) → Ends a Refuses old new (Refused r)
-ends_here a Refuses old new r none so = inr (record {
+pub fails_here : (a : List Look) (Refuses : Store → Refusal → Type 0) (old new : FilesState) (r : Refusal) → is_for_a_file r ≡ false → ((files : Store) → ShowAll files a → Refuses files r) → FailsWith a Refuses old new (Refused r)
+fails_here a Refuses old new r none so = inr (record {
   after = a;
   grows = grows_not old.held a;
   refuses = so;
@@ -135,26 +135,26 @@ module _ (name document : List ℕ) (found : Files) (file : List ℕ) (other : b
     many = a.many;
   }
 
-  pub new_ends : (end : BuildError) → NotRead file old new end → Ends (looks_of name document found) (NotFound file) old new end
-  new_ends (Refused (Missing n)) h = inr (record {
+  pub new_fails : (error : BuildError) → NotRead file old new error → FailsWith (looks_of name document found) (NotFound file) old new error
+  new_fails (Refused (Missing n)) h = inr (record {
     after = looks_of name document found ++ look file COMPONENT_FILE_MOST absent ∷ [];
     grows = grown absent h.1;
     refuses = λ files s. (h.0, show_last files (looks_of name document found) (look file COMPONENT_FILE_MOST absent) s);
     missed = λ yes. h.1.missed tt;
   })
-  new_ends (Refused (TooLong n k)) h = inr (record {
+  new_fails (Refused (TooLong n k)) h = inr (record {
     after = looks_of name document found ++ look file COMPONENT_FILE_MOST (long k) ∷ [];
     grows = grown (long k) h.1;
     refuses = λ files s. (h.0, show_last files (looks_of name document found) (look file COMPONENT_FILE_MOST (long k)) s);
     missed = λ yes. h.1.missed tt;
   })
-  new_ends (Refused NoMemory) h = inl refl
-  new_ends FileFault h = h
-  new_ends (Refused NotJson) h = absurd h
-  new_ends (Refused (Shape a b)) h = absurd h
-  new_ends (Refused (Rule a b d)) h = absurd h
-  new_ends (Refused (FileFit a b d)) h = absurd h
-  new_ends (Refused (NoRoom a b)) h = absurd h
+  new_fails (Refused NoMemory) h = inl refl
+  new_fails FileFault h = h
+  new_fails (Refused NotJson) h = absurd h
+  new_fails (Refused (Shape a b)) h = absurd h
+  new_fails (Refused (Rule a b d)) h = absurd h
+  new_fails (Refused (FileFit a b d)) h = absurd h
+  new_fails (Refused (NoRoom a b)) h = absurd h
 
 -- ---- a content
 
@@ -168,15 +168,15 @@ part_refused looks f file offset most count known files s =
     let k = known files s in
     ap (file_refused f file offset most) k.reads ∙ ap (too_long_for f) (length_part k.bytes offset most ∙ ap (λ n. part_length n offset most) (sym k.many))
 
-pub file_ends : (f : Filled) (file : List ℕ) (offset : ℕ) (most : Option ℕ) (files : Store) (r : Refusal) → NotFound file files r → file_refused f file offset most (reading_of (get files file) COMPONENT_FILE_MOST) ≡ Some r
-file_ends f file offset most files (Missing n) h = ap (file_refused f file offset most) h.1 ∙ ap (λ n. Some (Missing n)) (sym h.0)
-file_ends f file offset most files (TooLong n k) h = ap (file_refused f file offset most) h.1 ∙ ap (λ n. Some (TooLong n k)) (sym h.0)
-file_ends f file offset most files NotJson h = absurd h
-file_ends f file offset most files (Shape a b) h = absurd h
-file_ends f file offset most files (Rule a b c) h = absurd h
-file_ends f file offset most files (FileFit a b c) h = absurd h
-file_ends f file offset most files (NoRoom a b) h = absurd h
-file_ends f file offset most files NoMemory h = absurd h
+pub file_fails : (f : Filled) (file : List ℕ) (offset : ℕ) (most : Option ℕ) (files : Store) (r : Refusal) → NotFound file files r → file_refused f file offset most (reading_of (get files file) COMPONENT_FILE_MOST) ≡ Some r
+file_fails f file offset most files (Missing n) h = ap (file_refused f file offset most) h.1 ∙ ap (λ n. Some (Missing n)) (sym h.0)
+file_fails f file offset most files (TooLong n k) h = ap (file_refused f file offset most) h.1 ∙ ap (λ n. Some (TooLong n k)) (sym h.0)
+file_fails f file offset most files NotJson h = absurd h
+file_fails f file offset most files (Shape a b) h = absurd h
+file_fails f file offset most files (Rule a b c) h = absurd h
+file_fails f file offset most files (FileFit a b c) h = absurd h
+file_fails f file offset most files (NoRoom a b) h = absurd h
+file_fails f file offset most files NoMemory h = absurd h
 
 -- more bytes than there is room for are for no file
 pub fit_for_none : (f : Filled) (count : ℕ) (r : Refusal) → too_long_for f count ≡ Some r → is_for_a_file r ≡ false

@@ -30,7 +30,7 @@ pub record Grows (held : Option Store) (before after : List Look) : Type 0 where
   pub seen : Seen held before → Seen held after
   pub shows : (files : Store) → ShowAll files after → ShowAll files before
 
--- ---- why it ends
+-- ---- why it fails
 
 -- looks were added, and in files that show them all this refusal comes of it
 pub record RefusedFor (looks : List Look) (Refuses : Store → Refusal → Type 0) (old new : FilesState) (r : Refusal) : Type 0 where
@@ -39,9 +39,9 @@ pub record RefusedFor (looks : List Look) (Refuses : Store → Refusal → Type 
   pub refuses : (files : Store) → ShowAll files after → Refuses files r
   pub missed : is_for_a_file r ≡ true → Rose old.misses new.misses
 
-abbrev pub Ends : List Look → (Store → Refusal → Type 0) → FilesState → FilesState → BuildError → Type 0
-Ends looks Refuses old new (Refused r) = (r ≡ NoMemory) ⊎ RefusedFor looks Refuses old new r
-Ends looks Refuses old new FileFault = Rose old.faults new.faults
+abbrev pub FailsWith : List Look → (Store → Refusal → Type 0) → FilesState → FilesState → BuildError → Type 0
+FailsWith looks Refuses old new (Refused r) = (r ≡ NoMemory) ⊎ RefusedFor looks Refuses old new r
+FailsWith looks Refuses old new FileFault = Rose old.faults new.faults
 
 -- ---- one file
 

@@ -1,4 +1,4 @@
--- The regions of a resolved policy that have a content, by places.
+-- The regions of a resolved policy that have a content, by indexes.
 use Rattle.std.specs.Prelude.{ℕ, List, ◌++◌, map}
 use Rattle.std.specs.List.{flat_map}
 use Rattle.expand_kernel.specs.ByPlace.{provided_at}

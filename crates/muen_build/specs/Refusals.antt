@@ -114,7 +114,7 @@ laid_policy_of bytes = laid (policy_of bytes)
 
 -- what a call that places has kept, as a source policy
 abbrev pub placed_source : Result Placement Refusal → Result Source Refusal
-placed_source (Ok x) = Ok (source_of x.plain.lawful)
+placed_source (Ok x) = Ok (source_of x.expanded.lawful)
 placed_source (Err refusal) = Err refusal
 
 -- ---- files

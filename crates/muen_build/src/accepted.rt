@@ -22,7 +22,7 @@ impl From<Refusal> for BuildError {
     ghost use Rattle.std.specs.Prelude.{◌≡◌};
     ghost use Rattle.muen_build.specs.declared.accepted.BuildError.TheVariants.{Refused};
 
-    ghost from_gives = { λ refusal end. end ≡ Refused refusal };
+    ghost from_gives = { λ refusal error. error ≡ Refused refusal };
 
     fn from(refusal: Refusal) -> BuildError {
         BuildError::Refused(refusal)
@@ -34,7 +34,7 @@ impl From<NoMemory> for BuildError {
     ghost use Rattle.policy_types.specs.declared.refusal.Refusal.TheVariants.{NoMemory};
     ghost use Rattle.muen_build.specs.declared.accepted.BuildError.TheVariants.{Refused};
 
-    ghost from_gives = { λ _ end. end ≡ Refused NoMemory };
+    ghost from_gives = { λ _ error. error ≡ Refused NoMemory };
 
     fn from(_: NoMemory) -> BuildError {
         BuildError::Refused(Refusal::NoMemory)
@@ -112,7 +112,7 @@ impl ComponentFiles {
 /// A policy that is accepted, with the files that its contents name.
 #[derive(Drop)]
 pub struct Accepted {
-    /// The policy, with the places of its regions.
+    /// The policy, with the addresses of its regions.
     pub placed: Placed,
     pub files: ComponentFiles,
 }

@@ -3,7 +3,7 @@ ghost use Rattle.std.specs.Prelude.{◌≡◌, IfOk, IfErr, None, map, option_ma
 ghost use Rattle.muen_num.specs.Search.{as_refusal};
 ghost use Rattle.muen_outside.specs.Store.{find_bytes, whole};
 ghost use Rattle.policy_lawful.specs.Resolution.{source_of};
-ghost use Rattle.muen_build.specs.Accepting.{Ends, Grows, IsAdded, Known, NotFound, NotRead, Passes, Refuses, looks_of, of_all, of_brought, of_filled, part_length};
+ghost use Rattle.muen_build.specs.Accepting.{FailsWith, Grows, IsAdded, Known, NotFound, NotRead, Passes, Refuses, looks_of, of_all, of_brought, of_filled, part_length};
 ghost use Rattle.expand_kernel.specs.ByPlace.{provided_at};
 ghost use Rattle.muen_build.specs.Filling.{brought_at, filled, filled_provided, filled_region};
 ghost use Rattle.muen_build.specs.Looks.{Follows, Saw};
@@ -11,7 +11,7 @@ ghost use Rattle.muen_build.specs.Refusals.{filled_of, too_long_for};
 
 use crate::accepted::{BuildError, ComponentFiles};
 use muen_num::limits::COMPONENT_FILE_MOST;
-use muen_num::{Name, TagPart, Seq, Tag};
+use muen_num::{Name, Seq, Tag, TagPart};
 use muen_outside::{FileError, Files, Found};
 use policy_lawful::Resolved;
 use policy_lawful::resolved::{ComponentUse, Subject};
@@ -89,7 +89,7 @@ fn file_length<F: Files>(
 ) -> Result<u64, BuildError>
     ensures grows { IfOk result (λ _. Grows (F.state files.old).held (looks_of name.now document.now found.old) (looks_of name.now document.now found.new)) }
     ensures known { IfOk result (Known (looks_of name.now document.now found.new) file) }
-    ensures err { IfErr result (Ends (looks_of name.now document.now found.old) (NotFound file) (F.state files.old) (F.state files.new)) }
+    ensures err { IfErr result (FailsWith (looks_of name.now document.now found.old) (NotFound file) (F.state files.old) (F.state files.new)) }
     ensures follows { Follows (F.state files.old) (F.state files.new) }
 {
     if file.as_str() == name {
@@ -114,7 +114,7 @@ fn check<F: Files>(
 ) -> Result<(), BuildError>
     ensures grows { IfOk result (λ _. Grows (F.state files.old).held (looks_of name.now document.now found.old) (looks_of name.now document.now found.new)) }
     ensures passes { IfOk result (λ _. Passes (looks_of name.now document.now found.new) (of_filled (filled region room content.now))) }
-    ensures err { IfErr result (Ends (looks_of name.now document.now found.old) (Refuses (of_filled (filled region room content.now))) (F.state files.old) (F.state files.new)) }
+    ensures err { IfErr result (FailsWith (looks_of name.now document.now found.old) (Refuses (of_filled (filled region room content.now))) (F.state files.old) (F.state files.new)) }
     ensures follows { Follows (F.state files.old) (F.state files.new) }
 {
     match content {
@@ -142,7 +142,7 @@ fn check_memory<F: Files>(
 ) -> Result<(), BuildError>
     ensures grows { IfOk result (λ _. Grows (F.state files.old).held (looks_of name.now document.now found.old) (looks_of name.now document.now found.new)) }
     ensures passes { IfOk result (λ _. Passes (looks_of name.now document.now found.new) (of_all (map filled_region memory.now))) }
-    ensures err { IfErr result (Ends (looks_of name.now document.now found.old) (Refuses (of_all (map filled_region memory.now))) (F.state files.old) (F.state files.new)) }
+    ensures err { IfErr result (FailsWith (looks_of name.now document.now found.old) (Refuses (of_all (map filled_region memory.now))) (F.state files.old) (F.state files.new)) }
     ensures follows { Follows (F.state files.old) (F.state files.new) }
 {
     for region in memory {
@@ -176,7 +176,7 @@ fn check_provided<F: Files>(
 ) -> Result<(), BuildError>
     ensures grows { IfOk result (λ _. Grows (F.state files.old).held (looks_of name.now document.now found.old) (looks_of name.now document.now found.new)) }
     ensures passes { IfOk result (λ _. Passes (looks_of name.now document.now found.new) (of_all (map (filled_provided subject) provided.now))) }
-    ensures err { IfErr result (Ends (looks_of name.now document.now found.old) (Refuses (of_all (map (filled_provided subject) provided.now))) (F.state files.old) (F.state files.new)) }
+    ensures err { IfErr result (FailsWith (looks_of name.now document.now found.old) (Refuses (of_all (map (filled_provided subject) provided.now))) (F.state files.old) (F.state files.new)) }
     ensures follows { Follows (F.state files.old) (F.state files.new) }
 {
     for x in provided {
@@ -217,7 +217,7 @@ fn check_subjects<F: Files>(
 ) -> Result<(), BuildError>
     ensures grows { IfOk result (λ _. Grows (F.state files.old).held (looks_of name.now document.now found.old) (looks_of name.now document.now found.new)) }
     ensures passes { IfOk result (λ _. Passes (looks_of name.now document.now found.new) (of_brought components.now subjects.now)) }
-    ensures err { IfErr result (Ends (looks_of name.now document.now found.old) (Refuses (of_brought components.now subjects.now)) (F.state files.old) (F.state files.new)) }
+    ensures err { IfErr result (FailsWith (looks_of name.now document.now found.old) (Refuses (of_brought components.now subjects.now)) (F.state files.old) (F.state files.new)) }
     ensures follows { Follows (F.state files.old) (F.state files.new) }
 {
     for subject in subjects {
@@ -239,7 +239,7 @@ pub(crate) fn check_all<F: Files>(
 ) -> Result<(), BuildError>
     ensures grows { IfOk result (λ _. Grows (F.state files.old).held (looks_of name.now document.now found.old) (looks_of name.now document.now found.new)) }
     ensures passes { IfOk result (λ _. Passes (looks_of name.now document.now found.new) (of_all (filled_of (source_of policy.now)))) }
-    ensures err { IfErr result (Ends (looks_of name.now document.now found.old) (Refuses (of_all (filled_of (source_of policy.now)))) (F.state files.old) (F.state files.new)) }
+    ensures err { IfErr result (FailsWith (looks_of name.now document.now found.old) (Refuses (of_all (filled_of (source_of policy.now)))) (F.state files.old) (F.state files.new)) }
     ensures follows { Follows (F.state files.old) (F.state files.new) }
 {
     check_memory(alloc, name, document, policy.memory(), found, files)?;

@@ -2,7 +2,7 @@
 ghost use Rattle.std.specs.Prelude.{◌≡◌, IfErr, IfOk, Ok, [], ◌∷◌};
 ghost use Rattle.image_emit.specs.Built.{HasGreatestPages, HasOnePathPerTable, HasPlacement};
 ghost use Rattle.image_meaning.specs.Sound.{ForEachSubject, IsSound};
-ghost use Rattle.muen_build.specs.Accepting.{Accepts, Ends, RefusesDocument, looks_of};
+ghost use Rattle.muen_build.specs.Accepting.{Accepts, FailsWith, RefusesDocument, looks_of};
 ghost use Rattle.muen_build.specs.Building.{Builds, IsImageFor};
 ghost use Rattle.muen_build.specs.Looks.{Follows, ShowAll, document_look};
 ghost use Rattle.muen_build.specs.Refusals.{lawful_policy_of};
@@ -27,18 +27,18 @@ fn parts(
     placed: &Placed,
     found: &ComponentFiles,
 ) -> Result<Parts, NoMemory>
-    requires lawful { lawful_policy_of document.now ≡ Ok (source_of placed.now.plain.lawful) }
-    requires accepts { Accepts (looks_of name.now document.now found.now) document.now (source_of placed.now.plain.lawful) }
-    ensures sound { IfOk result (λ i. (files : Store) → ShowAll files (looks_of name.now document.now found.now) → IsSound (source_of placed.now.plain.lawful) files i) }
-    ensures placed { IfOk result (HasPlacement (source_of placed.now.plain.lawful)) }
+    requires lawful { lawful_policy_of document.now ≡ Ok (source_of placed.now.expanded.lawful) }
+    requires accepts { Accepts (looks_of name.now document.now found.now) document.now (source_of placed.now.expanded.lawful) }
+    ensures sound { IfOk result (λ i. (files : Store) → ShowAll files (looks_of name.now document.now found.now) → IsSound (source_of placed.now.expanded.lawful) files i) }
+    ensures placed { IfOk result (HasPlacement (source_of placed.now.expanded.lawful)) }
     ensures paths { IfOk result HasOnePathPerTable }
-    ensures leaves { IfOk result (λ i. ForEachSubject (source_of placed.now.plain.lawful) i (HasGreatestPages (source_of placed.now.plain.lawful) i)) }
+    ensures leaves { IfOk result (λ i. ForEachSubject (source_of placed.now.expanded.lawful) i (HasGreatestPages (source_of placed.now.expanded.lawful) i)) }
 {
-    let plain = placed.plain();
-    let policy = plain.lawful().resolved();
+    let expanded = placed.expanded();
+    let policy = expanded.lawful().resolved();
     let _memory = policy.memory();
-    let _regions = plain.regions();
-    let _grants = plain.grants();
+    let _regions = expanded.regions();
+    let _grants = expanded.grants();
     let things = things(alloc, name, document, found, policy)?;
     emit(alloc, placed, things)
 }
@@ -53,9 +53,9 @@ pub fn image(
     placed: &Placed,
     found: &ComponentFiles,
 ) -> Result<Vec<u8>, NoMemory>
-    requires lawful { lawful_policy_of document.now ≡ Ok (source_of placed.now.plain.lawful) }
-    requires accepts { Accepts (looks_of name.now document.now found.now) document.now (source_of placed.now.plain.lawful) }
-    ensures { IfOk result (λ image. (files : Store) → ShowAll files (looks_of name.now document.now found.now) → IsImageFor (source_of placed.now.plain.lawful) files image.items) }
+    requires lawful { lawful_policy_of document.now ≡ Ok (source_of placed.now.expanded.lawful) }
+    requires accepts { Accepts (looks_of name.now document.now found.now) document.now (source_of placed.now.expanded.lawful) }
+    ensures { IfOk result (λ image. (files : Store) → ShowAll files (looks_of name.now document.now found.now) → IsImageFor (source_of placed.now.expanded.lawful) files image.items) }
 {
     let parts = parts(alloc, name, document, placed, found)?;
     let image = pack(alloc, &parts)?;
@@ -74,7 +74,7 @@ pub fn build<F: Files>(
     files: &mut F,
 ) -> Result<Vec<u8>, BuildError>
     ensures builds { IfOk result (λ image. Builds (F.state files.old).held (document_look name.now document.now ∷ []) document.now image.items) }
-    ensures err { IfErr result (Ends (document_look name.now document.now ∷ []) (RefusesDocument document.now) (F.state files.old) (F.state files.new)) }
+    ensures err { IfErr result (FailsWith (document_look name.now document.now ∷ []) (RefusesDocument document.now) (F.state files.old) (F.state files.new)) }
     ensures follows { Follows (F.state files.old) (F.state files.new) }
 {
     let Accepted {

@@ -12,7 +12,7 @@ ghost use Rattle.policy_json.specs.Document.{policy_of};
 ghost use Rattle.policy_lawful.specs.Lawful.{kept_source};
 ghost use Rattle.policy_lawful.specs.Resolution.{Resolution, source_of};
 ghost use Rattle.policy_meaning.specs.Contents.{Held};
-ghost use Rattle.muen_build.specs.Accepting.{Accepts, Ends, Grows, Passes, Refuses, RefusesDocument, looks_of, of_all};
+ghost use Rattle.muen_build.specs.Accepting.{Accepts, FailsWith, Grows, Passes, Refuses, RefusesDocument, looks_of, of_all};
 ghost use Rattle.muen_build.specs.Looks.{Follows, document_look};
 ghost use Rattle.muen_build.specs.Refusals.{accepted_policy_of, filled_of, laid_policy_of, lawful_policy_of, placed_source};
 ghost use Rattle.muen_build.specs.WindowRights.{RightsKept};
@@ -47,21 +47,21 @@ pub fn lawful(alloc: Global, policy: &[u8]) -> Result<Lawful, Refusal>
     policy_rules::check(alloc, resolved)
 }
 
-// The policy with all that follows from it and the places of its regions.
+// The policy with all that follows from it and the addresses of its regions.
 fn place(alloc: Global, policy: Lawful) -> Result<Placed, Refusal>
-    ensures ok { IfOk result (λ x. x.plain.lawful ≡ policy) }
+    ensures ok { IfOk result (λ x. x.expanded.lawful ≡ policy) }
     ensures room { IfOk result (λ _. no_room (source_of policy) ≡ None) }
     ensures err { IfErr result (Explains Refusal.NoMemory (no_room (source_of policy))) }
 {
-    let plain = expand_kernel::expand(alloc, policy)?;
-    region_alloc::place(alloc, plain)
+    let expanded = expand_kernel::expand(alloc, policy)?;
+    region_alloc::place(alloc, expanded)
 }
 
-/// The policy of a document with the places of its regions, where it keeps every rule and there is
+/// The policy of a document with the addresses of its regions, where it keeps every rule and there is
 /// room for them.
 ///
 /// Answers as `lawful` does where a rule is broken or less; else `NoRoom` with the first region that
-/// has no place, and `NoMemory` where memory was refused. What memory holds is not looked at.
+/// has no room, and `NoMemory` where memory was refused. What memory holds is not looked at.
 pub fn lay(alloc: Global, policy: &[u8]) -> Result<Placed, Refusal>
     ensures { Answers Refusal.NoMemory (laid_policy_of policy.now) (placed_source result) }
 {
@@ -79,7 +79,7 @@ fn read_contents<F: Files>(
 ) -> Result<ComponentFiles, BuildError>
     ensures grows { IfOk result (λ found. Grows (F.state files.old).held (document_look name.now document.now ∷ []) (looks_of name.now document.now found)) }
     ensures passes { IfOk result (λ found. Passes (looks_of name.now document.now found) (of_all (filled_of (source_of policy.now)))) }
-    ensures err { IfErr result (Ends (document_look name.now document.now ∷ []) (Refuses (of_all (filled_of (source_of policy.now)))) (F.state files.old) (F.state files.new)) }
+    ensures err { IfErr result (FailsWith (document_look name.now document.now ∷ []) (Refuses (of_all (filled_of (source_of policy.now)))) (F.state files.old) (F.state files.new)) }
     ensures follows { Follows (F.state files.old) (F.state files.new) }
 {
     let mut found = ComponentFiles::new(alloc);
@@ -87,14 +87,14 @@ fn read_contents<F: Files>(
     Ok(found)
 }
 
-/// The policy of a document with the places of its regions, where it keeps every rule, its contents
+/// The policy of a document with the addresses of its regions, where it keeps every rule, its contents
 /// fit and there is room for it, and the component files that the contents name. The document was read under this name: where a content names it, these
 /// bytes stand for it. Each other file is read once, where the first content names it.
 ///
 /// Answers as `lawful` does where it is refused for less; else for the first region by number:
 /// `Missing` where there is no file of a content's name, `TooLong` where it is longer than
 /// `COMPONENT_FILE_MOST`, `FileFit` where what a content takes is longer than its region; else
-/// `NoRoom` with the first region that has no place. A fault of files comes only where their count of faults rose, `Missing` and `TooLong` only where that of
+/// `NoRoom` with the first region that has no room. A fault of files comes only where their count of faults rose, `Missing` and `TooLong` only where that of
 /// misses did.
 pub fn accept<F: Files>(
     alloc: Global,
@@ -103,9 +103,9 @@ pub fn accept<F: Files>(
     files: &mut F,
 ) -> Result<Accepted, BuildError>
     ensures grows { IfOk result (λ a. Grows (F.state files.old).held (document_look name.now document.now ∷ []) (looks_of name.now document.now a.files)) }
-    ensures accepts { IfOk result (λ a. Accepts (looks_of name.now document.now a.files) document.now (source_of a.placed.plain.lawful)) }
-    ensures lawful { IfOk result (λ a. lawful_policy_of document.now ≡ Ok (source_of a.placed.plain.lawful)) }
-    ensures err { IfErr result (Ends (document_look name.now document.now ∷ []) (RefusesDocument document.now) (F.state files.old) (F.state files.new)) }
+    ensures accepts { IfOk result (λ a. Accepts (looks_of name.now document.now a.files) document.now (source_of a.placed.expanded.lawful)) }
+    ensures lawful { IfOk result (λ a. lawful_policy_of document.now ≡ Ok (source_of a.placed.expanded.lawful)) }
+    ensures err { IfErr result (FailsWith (document_look name.now document.now ∷ []) (RefusesDocument document.now) (F.state files.old) (F.state files.new)) }
     ensures follows { Follows (F.state files.old) (F.state files.new) }
 {
     let policy = lawful(alloc, document)?;

@@ -11,7 +11,7 @@ first_step at xs i x r within is says =
     ap (first_in at) (drop-cons xs i x within) ∙ ap (λ z. option_or (at z) (first_in at (drop (suc i) xs))) (sym is)
     ∙ ap (λ z. option_or z (first_in at (drop (suc i) xs))) (sym says) ∙ ap (λ n. option_or r (first_in at (drop n xs))) (sym (add-one i))
 
--- the same of a list with its places
+-- the same of a list with its indexes
 pub first_numbered_step : {X O : Type 0} (at : ℕ × X → Option O) (xs : List X) (i : ℕ) (x : X) (r : Option O) → i < length xs → x ≡ get_or xs i x → r ≡ at (i, x)
     → first_in at (enumerate_from i (drop i xs)) ≡ option_or r (first_in at (enumerate_from (i + 1) (drop (i + 1) xs)))
 first_numbered_step at xs i x r within is says =

@@ -1,4 +1,4 @@
--- Lists that are mapped, joined, tested and summed, and their elements by place.
+-- Lists that are mapped, joined, tested and summed, and their elements by index.
 use Rattle.std.proofs.Common.{◌≡◌, ℕ, zero, suc, ◌+◌, ◌<◌, ◌≤◌, Bool, true, false, cond, not, List, [], ◌∷◌, ◌++◌, length, map, Option, Some, None, refl, sym, ap, ◌∙◌, subst, arith}
 use Rattle.std.specs.Prelude.{◌&&◌, ◌||◌, nat_lt, option_map, slice_get, unwrap_or}
 use Rattle.std.specs.List.{find, list_all, list_any, position_or_len, sum_by, enumerate_from}
@@ -26,7 +26,7 @@ find-map test f (x ∷ xs) =
       | false ↦ find-map test f xs
     ]
 
--- and stands at its place
+-- and stands at its index
 pub position-map : {X Y : Type 0} (test : Y → Bool) (f : X → Y) (xs : List X) → position_or_len test (map f xs) ≡ position_or_len (λ x. test (f x)) xs
 position-map test f [] = refl
 position-map test f (x ∷ xs) =
@@ -135,7 +135,7 @@ some_sum f (x ∷ xs) l all =
     let here : 0 < f x = ltb-true 0 (f x) (and_parts (nat_lt 0 (f x)) (list_all (λ x. nat_lt 0 (f x)) xs) all).0 in
     omega (arith, sum, here)
 
--- ---- elements by place
+-- ---- elements by index
 
 -- of a list that is joined of two, an element of the first
 pub get_left : {X : Type 0} (xs ys : List X) (k : ℕ) → k < length xs → slice_get (xs ++ ys) k ≡ slice_get xs k
@@ -164,7 +164,7 @@ passes_at test (y ∷ ys) zero x all e =
     subst (λ z. test z ≡ true) same (and_parts (test y) (list_all test ys) all).0
 passes_at test (y ∷ ys) (suc k) x all e = passes_at test ys k x (and_parts (test y) (list_all test ys) all).1 e
 
--- a list with its places, and one element more
+-- a list with its indexes, and one element more
 pub enumerate_push : {X : Type 0} (k : ℕ) (xs : List X) (y : X) → enumerate_from k (xs ++ y ∷ []) ≡ enumerate_from k xs ++ (k + length xs, y) ∷ []
 enumerate_push k [] y = ap (λ n. (n, y) ∷ []) (omega arith)
 enumerate_push k (x ∷ xs) y =

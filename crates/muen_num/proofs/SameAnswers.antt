@@ -36,7 +36,7 @@ first_numbered-map f at by ok same n (x ∷ xs) all =
 pub both_named : {X Y O : Type 0} (at : ℕ × Y → Option O) (to : ℕ × X → Option O) (f : X → Y) → ((k : ℕ) (x : X) → at (k, f x) ≡ to (k, x)) → (xs : List X) → first_in at (enumerate_from 0 (map f xs)) ≡ first_in to (enumerate_from 0 xs)
 both_named at to f same xs = first_numbered-map f at to (λ _. true) (λ k x _. same k x) 0 xs (all_true xs)
 
--- the same at each element with its place
+-- the same at each element with its index
 pub first_numbered_same : {X O : Type 0} (at : X → Option O) (by : ℕ × X → Option O) (n : ℕ) (xs : List X) → ((k : ℕ) (x : X) → slice_get xs k ≡ Some x → at x ≡ by (n + k, x))
     → first_in at xs ≡ first_in by (enumerate_from n xs)
 first_numbered_same at by n [] same = refl

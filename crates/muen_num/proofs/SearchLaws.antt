@@ -57,7 +57,7 @@ all_none test at passes (x ∷ xs) h =
 pub all_pass : {X O : Type 0} (test : X → Bool) (o : X → O) (xs : List X) → first_in (λ x. unless (test x) (o x)) xs ≡ None → list_all test xs ≡ true
 all_pass test o xs h = all_none test (λ x. unless (test x) (o x)) (λ x. unless_none (test x) (o x)) xs h
 
--- where none offends with its place, each passes
+-- where none offends with its index, each passes
 pub all_numbered : {X O : Type 0} (test : X → Bool) (at : ℕ × X → Option O) → ((k : ℕ) (x : X) → at (k, x) ≡ None → test x ≡ true) → (k : ℕ) (xs : List X) → first_in at (enumerate_from k xs) ≡ None → list_all test xs ≡ true
 all_numbered test at passes k [] h = refl
 all_numbered test at passes k (x ∷ xs) h =

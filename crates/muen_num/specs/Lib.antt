@@ -8,5 +8,5 @@ pub mod NameStored
 pub mod Pieces
 pub mod Range
 pub mod Search
-pub mod Size
+pub mod AccessSize
 pub mod Tag

@@ -43,6 +43,6 @@ Computes {F} {X} {R} calls f at = (x : X) (r : R) → FnReturnsAt calls f x r �
 abbrev pub ComputesOfTwo : {F X R : Type 0} → Shared F (Bor X × (Bor X × Unit {0})) R → F → (X → X → R) → Type 0
 ComputesOfTwo {F} {X} {R} calls f at = (x y : X) (r : R) → FnReturnsAtPair calls f x y r → r ≡ at x y
 
--- the same of an element with its place
-abbrev pub ComputesOfPlaced : {F X R : Type 0} → Shared F (ℕ × (Bor X × Unit {0})) R → F → (ℕ × X → R) → Type 0
-ComputesOfPlaced {F} {X} {R} calls f at = (k : ℕ) (x : Bor X) (r : R) → k < 2 ^ 64 → FnReturns calls f (k, (x, tt)) r → r ≡ at (k, x.now)
+-- the same of an element with its index
+abbrev pub ComputesOfNumbered : {F X R : Type 0} → Shared F (ℕ × (Bor X × Unit {0})) R → F → (ℕ × X → R) → Type 0
+ComputesOfNumbered {F} {X} {R} calls f at = (k : ℕ) (x : Bor X) (r : R) → k < 2 ^ 64 → FnReturns calls f (k, (x, tt)) r → r ≡ at (k, x.now)

@@ -10,7 +10,7 @@ pub enum AccessSize {
 }
 
 impl AccessSize {
-    ghost use Rattle.muen_num.specs.Size.{bytes_of};
+    ghost use Rattle.muen_num.specs.AccessSize.{bytes_of};
 
     /// The number of bytes.
     pub fn bytes(self) -> u8

@@ -18,4 +18,4 @@ pub use name::Name;
 pub use pieces::Pieces;
 pub use searches::{first, first_numbered, first_pair};
 pub use seq::{NoMemory, Seq};
-pub use tag::{TagPart, Tag};
+pub use tag::{Tag, TagPart};

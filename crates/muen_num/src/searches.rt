@@ -1,7 +1,7 @@
 //! Searches of a list in order, each for the first answer that a closure gives.
 ghost use Rattle.std.specs.Prelude.{◌≡◌, ℕ, Option};
 ghost use Rattle.std.specs.List.{enumerate_from};
-ghost use Rattle.muen_num.specs.Search.{Computes, ComputesOfPlaced, ComputesOfTwo, first_in, first_pair};
+ghost use Rattle.muen_num.specs.Search.{Computes, ComputesOfNumbered, ComputesOfTwo, first_in, first_pair};
 
 /// The first answer to an item; `None` where no item has one.
 pub fn first<T, O, F: Fn(&T) -> Option<O>>(items: &[T], f: F) -> Option<O>
@@ -17,13 +17,13 @@ pub fn first<T, O, F: Fn(&T) -> Option<O>>(items: &[T], f: F) -> Option<O>
     None
 }
 
-/// The first answer to an item and its place; places count from 0.
+/// The first answer to an item and its index; indexes count from 0.
 pub fn first_numbered<T, O, F: Fn(usize, &T) -> Option<O>>(items: &[T], f: F) -> Option<O>
     requires { F.IsAlwaysCallable f }
-    ensures { (h : ℕ × T → Option O) → ComputesOfPlaced F.Fn f h → result ≡ first_in h (enumerate_from 0 items.now) }
+    ensures { (h : ℕ × T → Option O) → ComputesOfNumbered F.Fn f h → result ≡ first_in h (enumerate_from 0 items.now) }
 {
-    for (place, x) in items.iter().enumerate() {
-        match f(place, x) {
+    for (index, x) in items.iter().enumerate() {
+        match f(index, x) {
             Some(answer) => return Some(answer),
             None => {}
         }
@@ -51,8 +51,8 @@ pub fn first_pair<T, O, F: Fn(&T, &T) -> Option<O>>(items: &[T], f: F) -> Option
     requires { F.IsAlwaysCallable f }
     ensures { (h : T → T → Option O) → ComputesOfTwo F.Fn f h → result ≡ first_pair h items.now }
 {
-    for (place, later) in items.iter().enumerate() {
-        match first_with(&items[..place], later, &f) {
+    for (index, later) in items.iter().enumerate() {
+        match first_with(&items[..index], later, &f) {
             Some(answer) => return Some(answer),
             None => {}
         }

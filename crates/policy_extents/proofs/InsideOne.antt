@@ -14,10 +14,10 @@ use Rattle.muen_num.proofs.Lists.{list_any-map}
 use Rattle.policy_lawful.specs.Rules.{first_overlap}
 use Rattle.policy_lawful.specs.declared.offence.Extent.{Extent}
 use Rattle.policy_extents.specs.Inside.{holds, is_inside}
-use Rattle.policy_extents.specs.Span.{span_of, IsBelow}
-use Rattle.policy_extents.specs.declared.overlap.Span.{Span}
-use Rattle.policy_extents.proofs.Overlaps.{spans_apart}
-use Rattle.policy_extents.proofs.Spans.{EachTwo-permutation, IsApart, neighbours_from_apart}
+use Rattle.policy_extents.specs.AddressRange.{range_of, IsBelow}
+use Rattle.policy_extents.specs.declared.overlap.AddressRange.{AddressRange}
+use Rattle.policy_extents.proofs.Overlaps.{ranges_apart}
+use Rattle.policy_extents.proofs.Ranges.{EachTwo-permutation, IsApart, neighbours_from_apart}
 
 -- ---- a test that one element alone may pass
 
@@ -39,20 +39,20 @@ one_passes p (x ∷ xs) (suc n) d l h =
 
 -- ---- ranges in the order of their addresses
 
-begins_later : (e : Extent) (s : Span) → e.address < s.address → holds e s ≡ false
+begins_later : (e : Extent) (s : AddressRange) → e.address < s.address → holds e s ≡ false
 begins_later e s h = grind (arith, nat_tests)
 
-ends_before : (e : Extent) (s : Span) → s.address + s.size < e.address + e.size → holds e s ≡ false
+ends_before : (e : Extent) (s : AddressRange) → s.address + s.size < e.address + e.size → holds e s ≡ false
 ends_before e s h = grind (arith, nat_tests)
 
-module _ (spans : List Span) (e : Extent) (up : IsNonDecreasingBy (λ s. s.address) spans) (below : AllAdjacentBelow IsBelow spans (length spans)) (some : nat_lt 0 e.size ≡ true) (count : ℕ) (bound : count ≤ length spans) (before : AllWithin (λ s. s.address ≤ e.address) spans 0 count) (behind : AllWithin (λ s. e.address < s.address) spans count (length spans)) where
+module _ (ranges : List AddressRange) (e : Extent) (up : IsNonDecreasingBy (λ s. s.address) ranges) (below : AllAdjacentBelow IsBelow ranges (length ranges)) (some : nat_lt 0 e.size ≡ true) (count : ℕ) (bound : count ≤ length ranges) (before : AllWithin (λ s. s.address ≤ e.address) ranges 0 count) (behind : AllWithin (λ s. e.address < s.address) ranges count (length ranges)) where
   size : 0 < e.size
   size = ltb-true 0 e.size some
 
-  pub in_none : count ≡ 0 → false ≡ list_any (holds e) spans
-  in_none none = sym (none_pass (holds e) spans (λ k d l. begins_later e (get_or spans k d) (behind k d (omega (arith, none)) l)))
+  pub in_none : count ≡ 0 → false ≡ list_any (holds e) ranges
+  in_none none = sym (none_pass (holds e) ranges (λ k d l. begins_later e (get_or ranges k d) (behind k d (omega (arith, none)) l)))
 
-  not_last : (k : ℕ) (d : Span) → k < length spans → 0 < count → (k ≡ count - 1 → ⊥) → holds e (get_or spans k d) ≡ false
+  not_last : (k : ℕ) (d : AddressRange) → k < length ranges → 0 < count → (k ≡ count - 1 → ⊥) → holds e (get_or ranges k d) ≡ false
   not_last k d l there other =
       elim (cases_order k (count - 1)) [
         | inl same ↦ absurd (other same)
@@ -61,19 +61,19 @@ module _ (spans : List Span) (e : Extent) (up : IsNonDecreasingBy (λ s. s.addre
               let here = below k d (omega (arith, less, bound)) in
               let on = up (k + 1) (count - 1) d (omega (arith, less)) (omega (arith, bound, there)) in
               let at = before (count - 1) d (omega arith) (omega (arith, there)) in
-              ends_before e (get_or spans k d) (omega (arith, here, on, at, size))
-          | inr more ↦ begins_later e (get_or spans k d) (behind k d (omega (arith, more, there)) l)
+              ends_before e (get_or ranges k d) (omega (arith, here, on, at, size))
+          | inr more ↦ begins_later e (get_or ranges k d) (behind k d (omega (arith, more, there)) l)
         ]
       ]
 
-  pub in_last : (d : Span) → 0 < count → holds e (get_or spans (count - 1) d) ≡ list_any (holds e) spans
-  in_last d there = sym (one_passes (holds e) spans (count - 1) d (omega (arith, bound, there)) (λ k d l other. not_last k d l there other))
+  pub in_last : (d : AddressRange) → 0 < count → holds e (get_or ranges (count - 1) d) ≡ list_any (holds e) ranges
+  in_last d there = sym (one_passes (holds e) ranges (count - 1) d (omega (arith, bound, there)) (λ k d l other. not_last k d l there other))
 
 -- a test of addresses divides them
-pub divided : (spans : List Span) (address : ℕ) → IsNonDecreasingBy (λ s. s.address) spans → IsPartitionedBy (λ s. nat_le s.address address) spans
-divided spans address up i j d l m h =
+pub divided : (ranges : List AddressRange) (address : ℕ) → IsNonDecreasingBy (λ s. s.address) ranges → IsPartitionedBy (λ s. nat_le s.address address) ranges
+divided ranges address up i j d l m h =
     let on = up i j d l m in
-    let at : (get_or spans j d).address ≤ address = leb-true _ _ h in
+    let at : (get_or ranges j d).address ≤ address = leb-true _ _ h in
     le-leb _ _ (omega (arith, on, at))
 
 pub above : (a b : ℕ) → nat_le a b ≡ false → b < a
@@ -81,7 +81,7 @@ above a b h = grind (arith, nat_tests)
 
 -- ---- one range after another
 
--- the place of the first that fails, with so many passed
+-- the index of the first that fails, with so many passed
 pub record Counting {X : Type 0} (p : X → Bool) (xs : List X) (i : ℕ) : Type 0 where
   pub so : i + position_or_len (λ x. not (p x)) (drop i xs) ≡ position_or_len (λ x. not (p x)) xs
 
@@ -115,17 +115,17 @@ full : (xs : List Extent) → list_all (λ e. nat_lt 0 e.size) xs ≡ true → A
 full xs h = All-weaker (λ (e : Extent). nat_lt 0 e.size ≡ true) (λ e. 0 < e.size) (λ e t. ltb-true 0 e.size t) xs (AllPass-from_list_all (λ (e : Extent). nat_lt 0 e.size) xs h)
 
 -- in order each ends before the next begins
-pub blocks_below : (blocks : List Extent) (spans : List Span) → first_overlap blocks ≡ None → list_all (λ e. nat_lt 0 e.size) blocks ≡ true → IsPermutation (map span_of blocks) spans → IsNonDecreasingBy (λ s. s.address) spans → AllAdjacentBelow IsBelow spans (length spans)
-blocks_below blocks spans apart sized moved up =
-    neighbours_from_apart spans
-    (All-permutation (λ s. 0 < s.size) (map span_of blocks) spans moved (All-map (λ s. 0 < s.size) span_of blocks (full blocks sized)))
+pub blocks_below : (blocks : List Extent) (ranges : List AddressRange) → first_overlap blocks ≡ None → list_all (λ e. nat_lt 0 e.size) blocks ≡ true → IsPermutation (map range_of blocks) ranges → IsNonDecreasingBy (λ s. s.address) ranges → AllAdjacentBelow IsBelow ranges (length ranges)
+blocks_below blocks ranges apart sized moved up =
+    neighbours_from_apart ranges
+    (All-permutation (λ s. 0 < s.size) (map range_of blocks) ranges moved (All-map (λ s. 0 < s.size) range_of blocks (full blocks sized)))
     up
-    (EachTwo-permutation IsApart (map span_of blocks) spans moved (spans_apart blocks apart))
+    (EachTwo-permutation IsApart (map range_of blocks) ranges moved (ranges_apart blocks apart))
 
-same_inside : (blocks : List Extent) (spans : List Span) (e : Extent) → IsPermutation (map span_of blocks) spans → list_any (holds e) spans ≡ is_inside blocks e
-same_inside blocks spans e moved = sym (list_any-IsPermutation (holds e) (map span_of blocks) spans moved) ∙ list_any-map (holds e) span_of blocks
+same_inside : (blocks : List Extent) (ranges : List AddressRange) (e : Extent) → IsPermutation (map range_of blocks) ranges → list_any (holds e) ranges ≡ is_inside blocks e
+same_inside blocks ranges e moved = sym (list_any-IsPermutation (holds e) (map range_of blocks) ranges moved) ∙ list_any-map (holds e) range_of blocks
 
-pub counted : (blocks : List Extent) (spans : List Span) (extents : List Extent) → IsPermutation (map span_of blocks) spans → position_or_len (λ e. not (list_any (holds e) spans)) extents ≡ position_or_len (λ e. not (is_inside blocks e)) extents
-counted blocks spans [] moved = refl
-counted blocks spans (e ∷ es) moved =
-    λ i. cond (not (not (same_inside blocks spans e moved i))) (1 + counted blocks spans es moved i) 0
+pub counted : (blocks : List Extent) (ranges : List AddressRange) (extents : List Extent) → IsPermutation (map range_of blocks) ranges → position_or_len (λ e. not (list_any (holds e) ranges)) extents ≡ position_or_len (λ e. not (is_inside blocks e)) extents
+counted blocks ranges [] moved = refl
+counted blocks ranges (e ∷ es) moved =
+    λ i. cond (not (not (same_inside blocks ranges e moved i))) (1 + counted blocks ranges es moved i) 0

@@ -1,4 +1,4 @@
 pub mod InsideOne
 pub mod Overlaps
 pub mod OwnThenPairs
-pub mod Spans
+pub mod Ranges

@@ -1,2 +1,2 @@
+pub mod AddressRange
 pub mod Inside
-pub mod Span

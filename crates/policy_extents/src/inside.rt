@@ -4,56 +4,56 @@ ghost use Rattle.std.specs.List.{AllAdjacentBelow, AllWithin, list_all, list_any
 ghost use Rattle.std.specs.List.Sorted.{IsNonDecreasingBy};
 ghost use Rattle.policy_lawful.specs.Rules.{first_overlap};
 ghost use Rattle.policy_extents.specs.Inside.{holds, is_inside};
-ghost use Rattle.policy_extents.specs.Span.{IsBelow};
+ghost use Rattle.policy_extents.specs.AddressRange.{IsBelow};
 
-use crate::overlap::{Span, rising};
+use crate::overlap::{AddressRange, rising};
 use muen_num::NoMemory;
 use policy_lawful::Extent;
 use std::alloc::Global;
 
 // Whether a range lies wholly in this one.
-fn holds(span: Span, extent: &Extent) -> bool
-    ensures { result ≡ holds extent.now span }
+fn holds(range: AddressRange, extent: &Extent) -> bool
+    ensures { result ≡ holds extent.now range }
 {
     let end = u128::from(extent.address) + u128::from(extent.size);
-    span.address <= extent.address && end <= u128::from(span.address) + u128::from(span.size)
+    range.address <= extent.address && end <= u128::from(range.address) + u128::from(range.size)
 }
 
 // How many of these ranges begin at an address or before it.
-fn count_before(spans: &[Span], address: u64) -> usize
-    requires { IsNonDecreasingBy (λ s. s.address) spans.now }
-    ensures bound { result ≤ length spans.now }
-    ensures before { AllWithin (λ s. s.address ≤ address) spans.now 0 result }
-    ensures behind { AllWithin (λ s. address < s.address) spans.now result (length spans.now) }
+fn count_before(ranges: &[AddressRange], address: u64) -> usize
+    requires { IsNonDecreasingBy (λ s. s.address) ranges.now }
+    ensures bound { result ≤ length ranges.now }
+    ensures before { AllWithin (λ s. s.address ≤ address) ranges.now 0 result }
+    ensures behind { AllWithin (λ s. address < s.address) ranges.now result (length ranges.now) }
 {
-    spans.partition_point(|span| span.address <= address)
+    ranges.partition_point(|range| range.address <= address)
 }
 
 // Whether a range lies wholly in one of these, which share no address.
 #[tactic(auto, using(crate::proofs::InsideOne::in_none, crate::proofs::InsideOne::in_last))]
-fn is_inside(spans: &[Span], extent: &Extent) -> bool
-    requires rising { IsNonDecreasingBy (λ s. s.address) spans.now }
-    requires below { AllAdjacentBelow IsBelow spans.now (length spans.now) }
+fn is_inside(ranges: &[AddressRange], extent: &Extent) -> bool
+    requires rising { IsNonDecreasingBy (λ s. s.address) ranges.now }
+    requires below { AllAdjacentBelow IsBelow ranges.now (length ranges.now) }
     requires some { nat_lt 0 extent.now.size ≡ true }
-    ensures { result ≡ list_any (holds extent.now) spans.now }
+    ensures { result ≡ list_any (holds extent.now) ranges.now }
 {
-    let count = count_before(spans, extent.address);
+    let count = count_before(ranges, extent.address);
     if count == 0 {
         return false;
     }
-    holds(spans[count - 1], extent)
+    holds(ranges[count - 1], extent)
 }
 
 // How many of the first ranges lie each wholly in one of these, where the next one doesn't.
-fn count_in(spans: &[Span], extents: &[Extent]) -> usize
-    requires rising { IsNonDecreasingBy (λ s. s.address) spans.now }
-    requires below { AllAdjacentBelow IsBelow spans.now (length spans.now) }
+fn count_in(ranges: &[AddressRange], extents: &[Extent]) -> usize
+    requires rising { IsNonDecreasingBy (λ s. s.address) ranges.now }
+    requires below { AllAdjacentBelow IsBelow ranges.now (length ranges.now) }
     requires some { list_all (λ e. nat_lt 0 e.size) extents.now ≡ true }
-    ensures { result ≡ position_or_len (λ e. not (list_any (holds e) spans.now)) extents.now }
+    ensures { result ≡ position_or_len (λ e. not (list_any (holds e) ranges.now)) extents.now }
 {
-    for (place, extent) in extents.iter().enumerate() {
-        if !is_inside(spans, extent) {
-            return place;
+    for (index, extent) in extents.iter().enumerate() {
+        if !is_inside(ranges, extent) {
+            return index;
         }
     }
     extents.len()
@@ -70,6 +70,6 @@ pub fn count_inside(alloc: Global, blocks: &[Extent], extents: &[Extent]) -> Res
     requires some { list_all (λ e. nat_lt 0 e.size) extents.now ≡ true }
     ensures { IfOk result (λ n. n ≡ position_or_len (λ e. not (is_inside blocks.now e)) extents.now) }
 {
-    let spans = rising(alloc, blocks)?;
-    Ok(count_in(&spans, extents))
+    let ranges = rising(alloc, blocks)?;
+    Ok(count_in(&ranges, extents))
 }

@@ -6,7 +6,7 @@ ghost use Rattle.std.specs.List.Sorted.{IsPermutation, IsNonDecreasingBy};
 ghost use Rattle.muen_num.specs.Search.{first_in};
 ghost use Rattle.policy_lawful.specs.Offences.{alone};
 ghost use Rattle.policy_lawful.specs.Rules.{are_apart, overlapping, first_overlap};
-ghost use Rattle.policy_extents.specs.Span.{span_of, IsBelow};
+ghost use Rattle.policy_extents.specs.AddressRange.{range_of, IsBelow};
 
 use muen_num::{NoMemory, first};
 use policy_lawful::{Extent, Offence};
@@ -14,24 +14,24 @@ use std::alloc::{AllocError, Global};
 
 /// A range without its name.
 #[derive(Clone, Copy)]
-pub(crate) struct Span {
+pub(crate) struct AddressRange {
     pub address: u64,
     pub size: u64,
 }
 
-impl Span {
+impl AddressRange {
     // The range of an extent.
-    fn of(extent: &Extent) -> Span
-        ensures { result ≡ span_of extent.now }
+    fn of(extent: &Extent) -> AddressRange
+        ensures { result ≡ range_of extent.now }
     {
-        Span {
+        AddressRange {
             address: extent.address,
             size: extent.size,
         }
     }
 
     // Whether it ends at or before the address of the other.
-    fn is_below(self, other: Span) -> bool
+    fn is_below(self, other: AddressRange) -> bool
         ensures { result ≡ nat_le (self.address + self.size) other.address }
     {
         u128::from(self.address) + u128::from(self.size) <= u128::from(other.address)
@@ -42,32 +42,32 @@ impl Span {
 fn are_apart(a: &Extent, b: &Extent) -> bool
     ensures { result ≡ are_apart a.now b.now }
 {
-    let (a, b) = (Span::of(a), Span::of(b));
+    let (a, b) = (AddressRange::of(a), AddressRange::of(b));
     a.is_below(b) || b.is_below(a)
 }
 
 // The ranges in their order, without their names.
-fn spans(alloc: Global, extents: &[Extent]) -> Result<Vec<Span>, AllocError>
-    ensures { IfOk result (λ v. v.items ≡ map span_of extents.now) }
+fn ranges(alloc: Global, extents: &[Extent]) -> Result<Vec<AddressRange>, AllocError>
+    ensures { IfOk result (λ v. v.items ≡ map range_of extents.now) }
 {
-    extents.iter().map(Span::of).collect(alloc)
+    extents.iter().map(AddressRange::of).collect(alloc)
 }
 
 /// The ranges in the order of their addresses.
-pub(crate) fn rising(alloc: Global, extents: &[Extent]) -> Result<Vec<Span>, AllocError>
-    ensures moved { IfOk result (λ v. IsPermutation (map span_of extents.now) v.items) }
+pub(crate) fn rising(alloc: Global, extents: &[Extent]) -> Result<Vec<AddressRange>, AllocError>
+    ensures moved { IfOk result (λ v. IsPermutation (map range_of extents.now) v.items) }
     ensures rising { IfOk result (λ v. IsNonDecreasingBy (λ s. s.address) v.items) }
 {
-    let mut rising = spans(alloc, extents)?;
+    let mut rising = ranges(alloc, extents)?;
     rising.sort_unstable_by_key(|s| s.address);
     Ok(rising)
 }
 
 // Whether each ends at or before the address of the next.
-fn are_below(spans: &[Span]) -> bool
-    ensures { IsTrue result ↔ AllAdjacentBelow IsBelow spans.now (length spans.now) }
+fn are_below(ranges: &[AddressRange]) -> bool
+    ensures { IsTrue result ↔ AllAdjacentBelow IsBelow ranges.now (length ranges.now) }
 {
-    spans.is_sorted_by(|a, b| a.is_below(*b))
+    ranges.is_sorted_by(|a, b| a.is_below(*b))
 }
 
 // Whether any two share an address.
@@ -76,8 +76,8 @@ fn overlap(alloc: Global, extents: &[Extent]) -> Result<bool, NoMemory>
     requires { All (λ e. 0 < e.size) extents.now }
     ensures { IfOk result (λ b. b ≡ is_some (first_overlap extents.now)) }
 {
-    let spans = rising(alloc, extents)?;
-    let below = are_below(&spans);
+    let ranges = rising(alloc, extents)?;
+    let below = are_below(&ranges);
     Ok(!below)
 }
 

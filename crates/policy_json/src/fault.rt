@@ -1,7 +1,7 @@
 ghost use Rattle.std.specs.Prelude.{◌≡◌, [], Some};
 ghost use Rattle.muen_num.specs.Answers.{Explains};
 ghost use Rattle.policy_json.specs.Values.{or_want};
-ghost use Rattle.policy_json.specs.Reading.{ended, end_under};
+ghost use Rattle.policy_json.specs.Reading.{as_read_error, error_under};
 
 use policy_types::{Fault, Place, Want};
 use std::alloc::Global;
@@ -26,10 +26,10 @@ impl ReadError {
         })
     }
 
-    /// The same end, seen from one step further up: the step is the key or item number that leads
+    /// The same error, seen from one step further up: the step is the key or item number that leads
     /// to the value.
     pub fn under(self, step: &str) -> ReadError
-        ensures { Explains ReadError.NoMemory (Some (end_under step.now self)) result }
+        ensures { Explains ReadError.NoMemory (Some (error_under step.now self)) result }
     {
         match self {
             ReadError::NoMemory => ReadError::NoMemory,
@@ -43,7 +43,7 @@ impl ReadError {
 
 /// What was found in a value, or that the value is not as wanted.
 pub fn or_want<T>(alloc: Global, found: Option<T>, want: Want) -> Result<T, ReadError>
-    ensures { result ≡ ended (or_want want found) }
+    ensures { result ≡ as_read_error (or_want want found) }
 {
     match found {
         Some(x) => Ok(x),

@@ -6,7 +6,7 @@ ghost use Rattle.serde_json.specs.View.{view, members_view};
 ghost use Rattle.serde_json.specs.Find.{get};
 ghost use Rattle.policy_json.specs.Values.{fault, read_list};
 ghost use Rattle.policy_json.specs.Objects.{description, has_known, read_known, read_required, read_optional, read_if_present};
-ghost use Rattle.policy_json.specs.Reading.{ended, Gives};
+ghost use Rattle.policy_json.specs.Reading.{as_read_error, Gives};
 
 use crate::fault::ReadError;
 use crate::shape::Shape;
@@ -81,7 +81,7 @@ pub fn has(value: &Value, key: &str) -> bool
 
 /// That the value itself is as wanted, where it is.
 pub fn require(alloc: Global, is_so: bool, want: Want) -> Result<(), ReadError>
-    ensures { result ≡ ended (if is_so then Ok tt else fault [] want) }
+    ensures { result ≡ as_read_error (if is_so then Ok tt else fault [] want) }
 {
     if is_so {
         Ok(())
@@ -93,7 +93,7 @@ pub fn require(alloc: Global, is_so: bool, want: Want) -> Result<(), ReadError>
 // An object with no key but these and `description`.
 #[tactic(auto, unfolding(crate::specs::Objects::read_known))]
 fn read_known(alloc: Global, value: &Value, keys: &[&str]) -> Result<(), ReadError>
-    ensures { result ≡ ended (read_known (map (λ k. k.now) keys.now) (view value.now)) }
+    ensures { result ≡ as_read_error (read_known (map (λ k. k.now) keys.now) (view value.now)) }
 {
     match value.as_object() {
         None => Err(ReadError::here(alloc, Want::Object)),
@@ -110,7 +110,7 @@ pub fn if_present<T: Shape>(alloc: Global, value: &Value, key: &str) -> Result<O
         None => Ok(None),
         Some(found) => match T::read(alloc, found) {
             Ok(x) => Ok(Some(x)),
-            Err(end) => Err(end.under(key)),
+            Err(error) => Err(error.under(key)),
         },
     }
 }
@@ -128,7 +128,12 @@ pub fn required<T: Shape>(alloc: Global, value: &Value, key: &str) -> Result<T, 
 
 /// The value under a key, or the default where the key is absent.
 #[tactic(auto, unfolding(crate::specs::Objects::read_optional))]
-pub fn optional<T: Shape>(alloc: Global, value: &Value, key: &str, default: T) -> Result<T, ReadError>
+pub fn optional<T: Shape>(
+    alloc: Global,
+    value: &Value,
+    key: &str,
+    default: T,
+) -> Result<T, ReadError>
     ensures { Gives (read_optional key.now default T.reads (view value.now)) result }
 {
     Ok(if_present(alloc, value, key)?.unwrap_or(default))

@@ -38,7 +38,7 @@ fn read_items<T: Shape>(alloc: Global, items: &[Value]) -> Result<Seq<T>, ReadEr
                     return Err(ReadError::NoMemory);
                 }
             }
-            Err(end) => return Err(end.under(buffer.format(i))),
+            Err(error) => return Err(error.under(buffer.format(i))),
         }
     }
     Ok(list)

@@ -1,7 +1,7 @@
 //! The kinds of values, each with what is wanted where a value isn't one.
 ghost use Rattle.std.specs.Prelude.{◌≡◌};
 ghost use Rattle.serde_json.specs.View.{view};
-ghost use Rattle.policy_json.specs.Reading.{ended};
+ghost use Rattle.policy_json.specs.Reading.{as_read_error};
 ghost use Rattle.policy_json.specs.Values.{read_byte, read_caching, read_hexadecimal, read_mode, read_msr_rights, read_name, read_number, read_rights, read_role};
 
 use crate::fault::{ReadError, or_want};
@@ -21,7 +21,7 @@ impl Shape for u64 {
 
     #[tactic(auto, unfolding(crate::specs::Values::read_number))]
     fn read(alloc: Global, value: &Value) -> Result<u64, ReadError>
-        ensures { result ≡ ended (read_number (view value.now)) }
+        ensures { result ≡ as_read_error (read_number (view value.now)) }
     {
         or_want(alloc, number_of(value), Want::Number)
     }
@@ -32,7 +32,7 @@ impl Shape for u8 {
 
     #[tactic(auto, unfolding(crate::specs::Values::read_byte))]
     fn read(alloc: Global, value: &Value) -> Result<u8, ReadError>
-        ensures { result ≡ ended (read_byte (view value.now)) }
+        ensures { result ≡ as_read_error (read_byte (view value.now)) }
     {
         or_want(alloc, byte_of(value), Want::Byte)
     }
@@ -43,7 +43,7 @@ impl Shape for Name {
 
     #[tactic(auto, unfolding(crate::specs::Values::read_name))]
     fn read(alloc: Global, value: &Value) -> Result<Name, ReadError>
-        ensures { result ≡ ended (read_name (view value.now)) }
+        ensures { result ≡ as_read_error (read_name (view value.now)) }
     {
         or_want(alloc, name_of(value), Want::Name)
     }
@@ -54,7 +54,7 @@ impl Shape for Rights {
 
     #[tactic(auto, unfolding(crate::specs::Values::read_rights))]
     fn read(alloc: Global, value: &Value) -> Result<Rights, ReadError>
-        ensures { result ≡ ended (read_rights (view value.now)) }
+        ensures { result ≡ as_read_error (read_rights (view value.now)) }
     {
         or_want(alloc, rights_of(value), Want::Rights)
     }
@@ -65,7 +65,7 @@ impl Shape for MsrRights {
 
     #[tactic(auto, unfolding(crate::specs::Values::read_msr_rights))]
     fn read(alloc: Global, value: &Value) -> Result<MsrRights, ReadError>
-        ensures { result ≡ ended (read_msr_rights (view value.now)) }
+        ensures { result ≡ as_read_error (read_msr_rights (view value.now)) }
     {
         or_want(alloc, msr_rights_of(value), Want::Rights)
     }
@@ -76,7 +76,7 @@ impl Shape for Caching {
 
     #[tactic(auto, unfolding(crate::specs::Values::read_caching))]
     fn read(alloc: Global, value: &Value) -> Result<Caching, ReadError>
-        ensures { result ≡ ended (read_caching (view value.now)) }
+        ensures { result ≡ as_read_error (read_caching (view value.now)) }
     {
         or_want(alloc, caching_of(value), Want::Caching)
     }
@@ -87,7 +87,7 @@ impl Shape for EventMode {
 
     #[tactic(auto, unfolding(crate::specs::Values::read_mode))]
     fn read(alloc: Global, value: &Value) -> Result<EventMode, ReadError>
-        ensures { result ≡ ended (read_mode (view value.now)) }
+        ensures { result ≡ as_read_error (read_mode (view value.now)) }
     {
         or_want(alloc, mode_of(value), Want::Mode)
     }
@@ -98,7 +98,7 @@ impl Shape for Role {
 
     #[tactic(auto, unfolding(crate::specs::Values::read_role))]
     fn read(alloc: Global, value: &Value) -> Result<Role, ReadError>
-        ensures { result ≡ ended (read_role (view value.now)) }
+        ensures { result ≡ as_read_error (read_role (view value.now)) }
     {
         or_want(alloc, role_of(value), Want::Role)
     }

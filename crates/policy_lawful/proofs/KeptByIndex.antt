@@ -6,7 +6,7 @@ use Rattle.std.proofs.lemmas.Bool.{and_from, and_parts}
 use Rattle.std.proofs.lemmas.List.{length-map}
 use Rattle.std.proofs.lemmas.List.Folds.{list_all-map}
 use Rattle.muen_num.specs.declared.limits.TheConstants.{MOST_MINOR_FRAMES, MOST_TICKS}
-use Rattle.policy_lawful.specs.Resolution.{Resolution, cpu_named, group_named, group_in_range, major_named, name_at, source_of}
+use Rattle.policy_lawful.specs.Resolution.{Resolution, cpu_named, group_in_range, group_named, major_named, name_at, source_of}
 use Rattle.policy_lawful.specs.ByIndex.{is_short}
 use Rattle.policy_lawful.specs.Rules as rules
 use Rattle.policy_lawful.specs.Rules.{is_group, is_on, subject_cpu}

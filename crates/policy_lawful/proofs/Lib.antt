@@ -1,3 +1,4 @@
+pub mod Indexes
 pub mod Keeps
 pub mod KeptAddresses
 pub mod KeptByIndex
@@ -9,7 +10,6 @@ pub mod KeptPlan
 pub mod KeptRules
 pub mod Naming
 pub mod Offences
-pub mod Indexes
 mod RuleExamples
 pub mod SourceElements
 pub mod UniqueNames

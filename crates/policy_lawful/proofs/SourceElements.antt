@@ -7,7 +7,7 @@ use Rattle.std.specs.Str.{bytes_eq}
 use Rattle.std.proofs.lemmas.Bool.{and_parts, lt-ltb}
 use Rattle.std.proofs.lemmas.List.{length-map}
 use Rattle.policy_lawful.specs.Rules.{group_cpu, repeated, ticks_in}
-use Rattle.policy_lawful.specs.Resolution.{Resolution, are_in_range, cpu_named, group_named, group_in_range, major_named, major_in_range, name_at, source_of, subject_named, subject_in_range}
+use Rattle.policy_lawful.specs.Resolution.{Resolution, are_in_range, cpu_named, group_in_range, group_named, major_in_range, major_named, name_at, source_of, subject_in_range, subject_named}
 use Rattle.policy_lawful.specs.declared.resolved.CpuFrames.{CpuFrames}
 use Rattle.policy_lawful.specs.declared.resolved.MinorFrame.{MinorFrame}
 use Rattle.policy_types.specs.declared.source.MinorFrame.{MinorFrame as NamedMinor}

@@ -12,7 +12,7 @@ use Rattle.muen_num.specs.Search.{first_in, unless}
 use Rattle.muen_num.proofs.SearchLaws.{option_or-None}
 use Rattle.policy_lawful.specs.Keeps.{Keeps}
 use Rattle.policy_lawful.specs.Offences.{broken, two}
-use Rattle.policy_lawful.specs.Resolution.{component_named, component_in_range, entry_named, entry_in_range, name_at}
+use Rattle.policy_lawful.specs.Resolution.{component_in_range, component_named, entry_in_range, entry_named, name_at}
 use Rattle.policy_lawful.specs.Rules.{component_references, entry_references, is_declared, offence_1, refers, undeclared}
 use Rattle.policy_lawful.proofs.Offences.{none_broken}
 use Rattle.policy_lawful.proofs.Indexes.{found_at_index}

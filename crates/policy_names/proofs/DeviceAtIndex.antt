@@ -11,7 +11,7 @@ use Rattle.muen_num.specs.Search.{first_in}
 use Rattle.muen_num.proofs.SearchLaws.{first_in-append, first_over-map, option_or_assoc}
 use Rattle.policy_lawful.specs.Keeps.{Keeps}
 use Rattle.policy_lawful.specs.Offences.{broken}
-use Rattle.policy_lawful.specs.Resolution.{device_named, device_in_range, name_at}
+use Rattle.policy_lawful.specs.Resolution.{device_in_range, device_named, name_at}
 use Rattle.policy_lawful.specs.Rules.{Reference, device_references, offence_1, refers, undeclared}
 use Rattle.policy_lawful.proofs.Offences.{none_broken}
 use Rattle.policy_lawful.proofs.Indexes.{found_at_index}

@@ -12,7 +12,7 @@ use Rattle.policy_lawful.specs.Lawful.{kept_or, names_broken}
 use Rattle.policy_lawful.specs.Offences.{broken}
 use Rattle.policy_lawful.proofs.Keeps.{refused}
 use Rattle.policy_lawful.proofs.Offences.{none_broken}
-use Rattle.policy_lawful.specs.Resolution.{IsResolved, Resolution, are_in_range, group_named, group_in_range, major_named, major_in_range, name_at, source_of, subject_named, subject_named_among, subject_in_range, subject_in_range_among}
+use Rattle.policy_lawful.specs.Resolution.{IsResolved, Resolution, are_in_range, group_in_range, group_named, major_in_range, major_named, name_at, source_of, subject_in_range, subject_in_range_among, subject_named, subject_named_among}
 use Rattle.policy_lawful.specs.Rules.{frame_references, group_references, majors_of, offence_1, offence_2, subject_references, undeclared}
 use Rattle.policy_lawful.specs.declared.resolved.Group.{Group}
 use Rattle.policy_lawful.specs.declared.resolved.MajorFrame.{MajorFrame}

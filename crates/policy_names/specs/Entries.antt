@@ -2,7 +2,7 @@
 use Rattle.std.specs.Prelude.{◌≡◌, ℕ, ◌&&◌, Bool, List, length, map, nat_lt, Option, if◌then◌else◌}
 use Rattle.std.specs.List.{list_all}
 use Rattle.std.specs.Option.{option_or}
-use Rattle.policy_lawful.specs.Resolution.{entry_named, entry_in_range, name_at}
+use Rattle.policy_lawful.specs.Resolution.{entry_in_range, entry_named, name_at}
 use Rattle.policy_lawful.specs.Rules.{is_declared, refers, undeclared}
 use Rattle.policy_lawful.specs.declared.offence.Offence.{Offence}
 use Rattle.policy_lawful.specs.declared.resolved.ComponentUse.{ComponentUse as ResolvedUse}

@@ -1,6 +1,6 @@
 pub mod DeviceParts
 pub mod Entries
+pub mod Indexes
 pub mod Outline
 pub mod Parts
-pub mod Indexes
 pub mod SubjectParts

@@ -3,7 +3,7 @@ use Rattle.std.specs.Prelude.{List, length, map, nat_lt, Option}
 use Rattle.std.specs.Option.{option_or}
 use Rattle.std.specs.List.{list_all}
 use Rattle.muen_num.specs.Search.{first_in}
-use Rattle.policy_lawful.specs.Resolution.{channel_named, device_named, device_in_range, mapping_named, name_at}
+use Rattle.policy_lawful.specs.Resolution.{channel_named, device_in_range, device_named, mapping_named, name_at}
 use Rattle.policy_lawful.specs.Rules.{device_references, refers, undeclared}
 use Rattle.policy_lawful.specs.declared.offence.Offence.{Offence}
 use Rattle.policy_lawful.specs.declared.resolved.ChannelUse.{ChannelUse as ResolvedChannel}

@@ -1,7 +1,7 @@
 //! Uses of components, which refer to components, to what these want, and to regions and channels.
 ghost use Rattle.muen_num.specs.Search.{first_in};
 ghost use Rattle.std.specs.Prelude.{slice_get};
-ghost use Rattle.policy_lawful.specs.Resolution.{component_named, component_in_range, entry_named, entry_in_range};
+ghost use Rattle.policy_lawful.specs.Resolution.{component_in_range, component_named, entry_in_range, entry_named};
 ghost use Rattle.policy_lawful.specs.Rules.{component_references, entry_references, undeclared};
 ghost use Rattle.policy_lawful.specs.Keeps.{Keeps};
 ghost use Rattle.policy_lawful.specs.Offences.{broken};

@@ -1,6 +1,6 @@
 //! Uses of devices, which refer to devices and to their parts.
 ghost use Rattle.muen_num.specs.Search.{first_in};
-ghost use Rattle.policy_lawful.specs.Resolution.{device_named, device_in_range};
+ghost use Rattle.policy_lawful.specs.Resolution.{device_in_range, device_named};
 ghost use Rattle.policy_lawful.specs.Rules.{device_references, undeclared};
 ghost use Rattle.policy_lawful.specs.Keeps.{Keeps};
 ghost use Rattle.policy_lawful.specs.Offences.{broken};

@@ -4,12 +4,12 @@ ghost use Rattle.std.specs.Prelude.{◌≡◌, length, map, nat_lt, true};
 ghost use Rattle.muen_num.specs.Search.{first_in};
 ghost use Rattle.policy_lawful.specs.Keeps.{Keeps};
 ghost use Rattle.policy_lawful.specs.Offences.{broken};
-ghost use Rattle.policy_lawful.specs.Resolution.{cpu_named, major_named, major_in_range};
+ghost use Rattle.policy_lawful.specs.Resolution.{cpu_named, major_in_range, major_named};
 ghost use Rattle.policy_lawful.specs.Rules.{frame_references, refers, undeclared};
 ghost use Rattle.policy_names.specs.Outline.{outline};
 ghost use Rattle.policy_names.specs.Indexes.{StandsFor};
 
-use crate::refers::{Refers, resolve_all_in, resolve_all};
+use crate::refers::{Refers, resolve_all, resolve_all_in};
 use crate::scope::Scope;
 use muen_num::{Name, Seq};
 use policy_lawful::frame_names::major_name;

@@ -1,6 +1,6 @@
 //! Groups, which refer to subjects.
 ghost use Rattle.muen_num.specs.Search.{first_in};
-ghost use Rattle.policy_lawful.specs.Resolution.{group_named, group_in_range};
+ghost use Rattle.policy_lawful.specs.Resolution.{group_in_range, group_named};
 ghost use Rattle.policy_lawful.specs.Rules.{group_references, undeclared};
 ghost use Rattle.policy_names.specs.Outline.{outline};
 

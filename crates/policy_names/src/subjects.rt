@@ -4,13 +4,13 @@ ghost use Rattle.std.specs.Option.{option_map_or};
 ghost use Rattle.muen_num.specs.Search.{first_in};
 ghost use Rattle.policy_lawful.specs.Keeps.{Keeps};
 ghost use Rattle.policy_lawful.specs.Offences.{broken};
-ghost use Rattle.policy_lawful.specs.Resolution.{component_named, component_in_range, subject_named, subject_in_range};
+ghost use Rattle.policy_lawful.specs.Resolution.{component_in_range, component_named, subject_in_range, subject_named};
 ghost use Rattle.policy_lawful.specs.Rules.{component_references, subject_references, undeclared};
 ghost use Rattle.policy_names.specs.Outline.{outline};
 ghost use Rattle.policy_names.specs.Indexes.{StandsFor};
 ghost use Rattle.policy_names.specs.SubjectParts.{SignalsStand, WindowsStand, signals_offence, windows_offence};
 
-use crate::refers::{Refers, resolve_all_in, resolve_all};
+use crate::refers::{Refers, resolve_all, resolve_all_in};
 use crate::scope::Scope;
 use muen_num::{Name, NoMemory, Seq};
 use policy_lawful::resolved;

@@ -141,7 +141,7 @@ pub enum Refusal {
         room: u64,
         length: u64,
     },
-    /// No place is left for a region of this size in bytes.
+    /// No room is left for a region of this size in bytes.
     NoRoom {
         region: Tag,
         size: u64,

@@ -11,7 +11,7 @@ use Rattle.policy_lawful.specs.declared.resolved.Wanted.{Wanted}
 use Rattle.policy_lawful.specs.declared.resolved.Wanted.TheVariants.{Memory as WantedMemory, Channel as WantedChannel}
 use Rattle.policy_types.specs.declared.source.ComponentChannel.{ComponentChannel}
 use Rattle.policy_types.specs.declared.source.Required.{Required}
-use Rattle.policy_views.specs.Entries.{HasChoices, choice_of, chosen_channel, chosen_end, chosen_region, noted, place_among, wanted_at}
+use Rattle.policy_views.specs.Entries.{HasChoices, choice_of, chosen_channel, chosen_end, chosen_region, index_among, noted, wanted_at}
 use Rattle.policy_views.specs.Views.{channel_view, component_channel_view, component_end, entry_for, region_view, required_view, same_wanted}
 use Rattle.policy_views.specs.declared.entries.Choice.{Choice}
 use Rattle.policy_views.specs.declared.entries.Wants.{Wants}
@@ -20,12 +20,12 @@ use Rattle.policy_views.specs.declared.view.ChannelEnd.{ChannelEnd}
 
 -- ---- one entry more
 
--- an entry's logical name, by its place among those of the kind
+-- an entry's logical name, by its index among those of the kind
 abbrev noted_by : Option Choice → Option ℕ → ℕ → Choice → Option Choice
 noted_by old None k c = old
-noted_by old (Some place) k c = noted old (place == k) c
+noted_by old (Some index) k c = noted old (index == k) c
 
-pub noted_at : (kind : Wants) (wanted : Wanted) (k : ℕ) (old : Option Choice) (c : Choice) → noted old (same_wanted wanted (wanted_at kind k)) c ≡ noted_by old (place_among kind wanted) k c
+pub noted_at : (kind : Wants) (wanted : Wanted) (k : ℕ) (old : Option Choice) (c : Choice) → noted old (same_wanted wanted (wanted_at kind k)) c ≡ noted_by old (index_among kind wanted) k c
 noted_at WantsMemory (WantedMemory j) k old c = refl
 noted_at WantsMemory (WantedChannel j) k old c = refl
 noted_at WantsChannel (WantedMemory j) k old c = refl
@@ -61,13 +61,13 @@ choices_more kind before after many es i e had room notes within is = record {
 
 -- ---- seen by the table
 
-filter_places : {X V : Type 0} (f g : ℕ × X → Option V) (n : ℕ) (xs : List X) → ((k : ℕ) (x : X) → k < length xs → f (n + k, x) ≡ g (n + k, x)) → filter_map f (enumerate_from n xs) ≡ filter_map g (enumerate_from n xs)
-filter_places f g n [] same = refl
-filter_places {X} f g n (x ∷ xs) same =
+filter_indexes : {X V : Type 0} (f g : ℕ × X → Option V) (n : ℕ) (xs : List X) → ((k : ℕ) (x : X) → k < length xs → f (n + k, x) ≡ g (n + k, x)) → filter_map f (enumerate_from n xs) ≡ filter_map g (enumerate_from n xs)
+filter_indexes f g n [] same = refl
+filter_indexes {X} f g n (x ∷ xs) same =
     let here : f (n, x) ≡ g (n, x) = ap (λ m. f (m, x)) (omega arith) ∙ same 0 x (omega arith) ∙ ap (λ m. g (m, x)) (omega arith) in
     let later : (k : ℕ) (y : X) → k < length xs → f (n + 1 + k, y) ≡ g (n + 1 + k, y) =
     λ k y l. ap (λ m. f (m, y)) (omega arith) ∙ same (suc k) y (omega arith) ∙ ap (λ m. g (m, y)) (omega arith) in
-    ap (λ o. cons_option o (filter_map f (enumerate_from (n + 1) xs))) here ∙ ap (cons_option (g (n, x))) (filter_places f g (n + 1) xs later)
+    ap (λ o. cons_option o (filter_map f (enumerate_from (n + 1) xs))) here ∙ ap (cons_option (g (n, x))) (filter_indexes f g (n + 1) xs later)
 
 then_of_choice : {Z : Type 0} (f : Choice → Option Z) (o : Option MapEntry) → option_and_then f (option_map choice_of o) ≡ option_and_then (λ e. f (choice_of e)) o
 then_of_choice f None = refl
@@ -80,7 +80,7 @@ map_of_choice f (Some e) = refl
 pub regions_chosen : (r : Resolution) (choices : List (Option Choice)) (entries : List MapEntry) (xs : List Required) → HasChoices WantsMemory choices (length xs) entries
     → filter_map (chosen_region r choices) (enumerate_from 0 xs) ≡ filter_map (required_view r entries) (enumerate_from 0 xs)
 regions_chosen r choices entries xs has =
-    filter_places (chosen_region r choices) (required_view r entries) 0 xs
+    filter_indexes (chosen_region r choices) (required_view r entries) 0 xs
     (λ k x l.
     let same : chosen_region r choices (k, x) ≡ required_view r entries (k, x) =
     ap (option_and_then (λ c. region_view r c.physical x.virtual_address (unwrap_or c.rights x.rights))) (has.at k l)
@@ -90,7 +90,7 @@ regions_chosen r choices entries xs has =
 pub channels_chosen : (r : Resolution) (choices : List (Option Choice)) (entries : List MapEntry) (xs : List ComponentChannel) → HasChoices WantsChannel choices (length xs) entries
     → filter_map (chosen_channel r choices) (enumerate_from 0 xs) ≡ filter_map (component_channel_view r entries) (enumerate_from 0 xs)
 channels_chosen r choices entries xs has =
-    filter_places (chosen_channel r choices) (component_channel_view r entries) 0 xs
+    filter_indexes (chosen_channel r choices) (component_channel_view r entries) 0 xs
     (λ k x l.
     let same : chosen_channel r choices (k, x) ≡ component_channel_view r entries (k, x) =
     ap (option_and_then (λ c. channel_view r c.physical x.virtual_address x.role)) (has.at k l)
@@ -100,7 +100,7 @@ channels_chosen r choices entries xs has =
 pub ends_chosen : (choices : List (Option Choice)) (entries : List MapEntry) (xs : List ComponentChannel) → HasChoices WantsChannel choices (length xs) entries
     → filter_map (chosen_end choices) (enumerate_from 0 xs) ≡ filter_map (component_end entries) (enumerate_from 0 xs)
 ends_chosen choices entries xs has =
-    filter_places (chosen_end choices) (component_end entries) 0 xs
+    filter_indexes (chosen_end choices) (component_end entries) 0 xs
     (λ k x l.
     let to : Choice → ChannelEnd = λ c. record { channel = c.physical; role = x.role; call = x.call; vector = x.vector } in
     let same : chosen_end choices (k, x) ≡ component_end entries (k, x) = ap (option_map to) (has.at k l) ∙ map_of_choice to (entry_for entries (WantedChannel k)) in

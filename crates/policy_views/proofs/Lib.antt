@@ -1,7 +1,7 @@
 pub mod ChosenEntries
-pub mod EndsByPlace
+pub mod EndsByIndex
 pub mod EntriesNoted
-pub mod ExtentsByPlace
+pub mod ExtentsByIndex
 pub mod Mapped
-pub mod RegionsByPlace
-pub mod WindowsByPlace
+pub mod RegionsByIndex
+pub mod WindowsByIndex

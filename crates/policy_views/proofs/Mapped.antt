@@ -40,7 +40,7 @@ flat_maps f n g h ok same (x ∷ xs) all =
     ∙ ap (λ ys. map h (g x) ++ ys) (flat_maps f n g h ok same xs parts.1)
     ∙ sym (map-append h (g x) (flat_map g xs))
 
--- of elements with their places
+-- of elements with their indexes
 pub filter_numbered : {X V W : Type 0} (f : X → Option W) (g : ℕ × X → Option V) (h : V → W) (n : ℕ) (xs : List X)
     → ((k : ℕ) (x : X) → slice_get xs k ≡ Some x → f x ≡ option_map h (g (n + k, x))) → filter_map f xs ≡ map h (filter_map g (enumerate_from n xs))
 filter_numbered f g h n [] same = refl

@@ -1,4 +1,4 @@
--- For each logical name of a kind the first entry that a subject has for it, in a table by places.
+-- For each logical name of a kind the first entry that a subject has for it, in a table by indexes.
 use Rattle.std.specs.Prelude.{◌≡◌, ℕ, ◌<◌, Bool, true, false, List, length, slice_index_or, Option, Some, None, option_and_then, option_map, unwrap_or}
 use Rattle.std.specs.Option.{option_or}
 use Rattle.policy_lawful.specs.Resolution.{Resolution}
@@ -18,18 +18,18 @@ use Rattle.policy_views.specs.declared.view.View.{View}
 abbrev pub choice_of : MapEntry → Choice
 choice_of e = record { physical = e.physical; rights = e.rights }
 
--- the logical name at a place among those of a kind
+-- the logical name at an index among those of a kind
 abbrev pub wanted_at : Wants → ℕ → Wanted
 wanted_at WantsMemory k = WantedMemory k
 wanted_at WantsChannel k = WantedChannel k
 
--- its place, if it is of the kind
-abbrev pub place_among : Wants → Wanted → Option ℕ
-place_among WantsMemory (WantedMemory k) = Some k
-place_among WantsChannel (WantedChannel k) = Some k
-place_among _ _ = None
+-- its index, if it is of the kind
+abbrev pub index_among : Wants → Wanted → Option ℕ
+index_among WantsMemory (WantedMemory k) = Some k
+index_among WantsChannel (WantedChannel k) = Some k
+index_among _ _ = None
 
--- a place at which a choice was noted, or not: the first stays
+-- an index at which a choice was noted, or not: the first stays
 abbrev pub noted : Option Choice → Bool → Choice → Option Choice
 noted old false c = old
 noted old true c = option_or old (Some c)
@@ -42,13 +42,13 @@ pub record HasChoices (kind : Wants) (choices : List (Option Choice)) (many : �
 -- ---- views and ends by choices
 
 abbrev pub chosen_region : Resolution → List (Option Choice) → ℕ × Required → Option View
-chosen_region r choices (place, x) =
-    option_and_then (λ c. region_view r c.physical x.virtual_address (unwrap_or c.rights x.rights)) (slice_index_or choices place None)
+chosen_region r choices (index, x) =
+    option_and_then (λ c. region_view r c.physical x.virtual_address (unwrap_or c.rights x.rights)) (slice_index_or choices index None)
 
 abbrev pub chosen_channel : Resolution → List (Option Choice) → ℕ × ComponentChannel → Option View
-chosen_channel r choices (place, x) =
-    option_and_then (λ c. channel_view r c.physical x.virtual_address x.role) (slice_index_or choices place None)
+chosen_channel r choices (index, x) =
+    option_and_then (λ c. channel_view r c.physical x.virtual_address x.role) (slice_index_or choices index None)
 
 abbrev pub chosen_end : List (Option Choice) → ℕ × ComponentChannel → Option ChannelEnd
-chosen_end choices (place, x) =
-    option_map (λ c. record { channel = c.physical; role = x.role; call = x.call; vector = x.vector }) (slice_index_or choices place None)
+chosen_end choices (index, x) =
+    option_map (λ c. record { channel = c.physical; role = x.role; call = x.call; vector = x.vector }) (slice_index_or choices index None)

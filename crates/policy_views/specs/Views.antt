@@ -1,4 +1,4 @@
--- The windows of a subject and its ends of channels, by the places of what they show (Muen system policy: mappings,
+-- The windows of a subject and its ends of channels, by the indexes of what they show (Muen system policy: mappings,
 -- channels, components, devices; monitors are this project's own).
 use Rattle.std.specs.Prelude.{ℕ, ◌==◌, Bool, false, List, [], ◌++◌, map, slice_get, Option, Some, None, option_map, option_and_then, unwrap_or}
 use Rattle.std.specs.Option.{option_map_or}
@@ -32,15 +32,15 @@ use Rattle.policy_views.specs.declared.view.View.{View}
 abbrev pub view : List ℕ → ℕ → ℕ → Rights → Shown → View
 view name guest size rights shows = record { name = name; guest = guest; size = size; rights = rights; shows = shows }
 
--- on the region, or the channel, at a place
+-- on the region, or the channel, at an index
 abbrev pub region_view : Resolution → ℕ → ℕ → Rights → Option View
-region_view r place guest rights = option_map (λ x. view x.name guest x.size rights (Memory place)) (slice_get r.memory place)
+region_view r index guest rights = option_map (λ x. view x.name guest x.size rights (Memory index)) (slice_get r.memory index)
 
 abbrev pub channel_view : Resolution → ℕ → ℕ → Role → Option View
-channel_view r place guest role =
-    option_map (λ x. view x.name guest x.size (role_rights role) (Channel place)) (slice_get r.channels place)
+channel_view r index guest role =
+    option_map (λ x. view x.name guest x.size (role_rights role) (Channel index)) (slice_get r.channels index)
 
--- on memory of the device at a place
+-- on memory of the device at an index
 abbrev pub device_view : Resolution → ℕ → DeviceMapping → Option View
 device_view r device m =
     option_and_then (λ d. option_map (λ x. view x.name m.virtual_address x.size m.rights (Device device m.memory)) (slice_get d.memory m.memory))
@@ -62,17 +62,17 @@ same_wanted _ _ = false
 abbrev pub entry_for : List MapEntry → Wanted → Option MapEntry
 entry_for entries wanted = find (λ e. same_wanted e.logical wanted) entries
 
--- each with its place in the component
+-- each with its index in the component
 abbrev pub provided_view : ℕ × Provided → View
-provided_view (place, x) = view x.logical x.virtual_address x.size x.rights (Given place)
+provided_view (index, x) = view x.logical x.virtual_address x.size x.rights (Given index)
 
 abbrev pub required_view : Resolution → List MapEntry → ℕ × Required → Option View
-required_view r entries (place, x) =
-    option_and_then (λ e. region_view r e.physical x.virtual_address (unwrap_or e.rights x.rights)) (entry_for entries (WantedMemory place))
+required_view r entries (index, x) =
+    option_and_then (λ e. region_view r e.physical x.virtual_address (unwrap_or e.rights x.rights)) (entry_for entries (WantedMemory index))
 
 abbrev pub component_channel_view : Resolution → List MapEntry → ℕ × ComponentChannel → Option View
-component_channel_view r entries (place, x) =
-    option_and_then (λ e. channel_view r e.physical x.virtual_address x.role) (entry_for entries (WantedChannel place))
+component_channel_view r entries (index, x) =
+    option_and_then (λ e. channel_view r e.physical x.virtual_address x.role) (entry_for entries (WantedChannel index))
 
 -- the provided regions, the required regions, the channels
 abbrev pub component_views : Resolution → List MapEntry → Component → List View
@@ -101,18 +101,18 @@ views_of r s =
 abbrev pub view_extent : View → Extent
 view_extent v = record { name = v.name; address = v.guest; size = v.size }
 
--- it shows the region at a place
+-- it shows the region at an index
 abbrev pub is_on_region : ℕ → Shown → Bool
-is_on_region place (Memory k) = k == place
-is_on_region place _ = false
+is_on_region index (Memory k) = k == index
+is_on_region index _ = false
 
 -- the thing that a view shows to the subject of this name
 abbrev pub thing_shown : Resolution → List ℕ → View → Shown → Thing
-thing_shown r subject v (Memory place) = region v.name
-thing_shown r subject v (Channel place) = channel v.name
-thing_shown r subject v (Given place) = provided subject v.name
+thing_shown r subject v (Memory index) = region v.name
+thing_shown r subject v (Channel index) = channel v.name
+thing_shown r subject v (Given index) = provided subject v.name
 thing_shown r subject v (Device device memory) = device_memory (name_at (map (λ d. d.name) r.devices) device) v.name
-thing_shown r subject v (State place) = state v.name
+thing_shown r subject v (State index) = state v.name
 
 abbrev pub view_window : Resolution → List ℕ → View → Window Thing
 view_window r subject v = window v.guest v.size v.rights (thing_shown r subject v v.shows)
@@ -120,8 +120,8 @@ view_window r subject v = window v.guest v.size v.rights (thing_shown r subject 
 -- ---- ends of channels
 
 abbrev pub component_end : List MapEntry → ℕ × ComponentChannel → Option ChannelEnd
-component_end entries (place, x) =
-    option_map (λ e. record { channel = e.physical; role = x.role; call = x.call; vector = x.vector }) (entry_for entries (WantedChannel place))
+component_end entries (index, x) =
+    option_map (λ e. record { channel = e.physical; role = x.role; call = x.call; vector = x.vector }) (entry_for entries (WantedChannel index))
 
 abbrev pub use_ends : Resolution → Option ComponentUse → List ChannelEnd
 use_ends r None = []
@@ -129,13 +129,13 @@ use_ends r (Some used) =
     option_map_or (λ c. filter_map (component_end used.map) (enumerate_from 0 c.channels)) (slice_get r.components used.used) []
 
 -- a subject's ends of channels, its own and those of its component
-unfoldable pub ends_of : Resolution → Subject → List ChannelEnd
-ends_of r s =
+unfoldable pub channel_ends_of : Resolution → Subject → List ChannelEnd
+channel_ends_of r s =
     map (λ c. record { channel = c.channel; role = c.role; call = c.call; vector = c.vector }) s.channels ++ use_ends r s.component
 
 -- the end with its channel by name
-abbrev pub end_named : Resolution → ChannelEnd → ChannelEnd
-end_named r e = record {
+abbrev pub channel_end_named : Resolution → ChannelEnd → ChannelEnd
+channel_end_named r e = record {
   channel = name_at (map (λ c. c.name) r.channels) e.channel;
   role = e.role;
   call = e.call;

@@ -1,6 +1,6 @@
 //! What stands for a component's logical names at a subject.
 ghost use Rattle.std.specs.Prelude.{◌≡◌, ℕ, ◌<◌, ◌==◌, [], None, length, slice_index_or, IfOk};
-ghost use Rattle.policy_views.specs.Entries.{HasChoices, choice_of, noted, place_among, wanted_at};
+ghost use Rattle.policy_views.specs.Entries.{HasChoices, choice_of, index_among, noted, wanted_at};
 ghost use Rattle.policy_views.specs.Views.{same_wanted};
 
 use muen_num::NoMemory;
@@ -18,28 +18,28 @@ pub(crate) enum Wants {
 /// What an entry chooses for a logical name.
 #[derive(Clone, Copy, Debug, PartialEq, Eq)]
 pub(crate) struct Choice {
-    /// The place of a region or a channel, as the logical name wants.
+    /// The index of a region or a channel, as the logical name wants.
     pub physical: usize,
     pub rights: Option<Rights>,
 }
 
-// The place of a logical name among those of a kind, if it is of that kind.
-fn place_among(kind: Wants, wanted: Wanted) -> Option<usize>
-    ensures { result ≡ place_among kind wanted }
+// The index of a logical name among those of a kind, if it is of that kind.
+fn index_among(kind: Wants, wanted: Wanted) -> Option<usize>
+    ensures { result ≡ index_among kind wanted }
 {
     match (kind, wanted) {
-        (Wants::Memory, Wanted::Memory(place)) => Some(place),
-        (Wants::Channel, Wanted::Channel(place)) => Some(place),
+        (Wants::Memory, Wanted::Memory(index)) => Some(index),
+        (Wants::Channel, Wanted::Channel(index)) => Some(index),
         _ => None,
     }
 }
 
-// Notes a choice at a place, where that is there and has none.
-fn note(choices: &mut [Option<Choice>], place: usize, choice: Choice)
-    ensures { (k : ℕ) → k < length choices.old → slice_index_or choices.new k None ≡ noted (slice_index_or choices.old k None) (place == k) choice }
+// Notes a choice at an index, where that is there and has none.
+fn note(choices: &mut [Option<Choice>], index: usize, choice: Choice)
+    ensures { (k : ℕ) → k < length choices.old → slice_index_or choices.new k None ≡ noted (slice_index_or choices.old k None) (index == k) choice }
 {
-    if place < choices.len() && choices[place].is_none() {
-        choices[place] = Some(choice);
+    if index < choices.len() && choices[index].is_none() {
+        choices[index] = Some(choice);
     }
 }
 
@@ -48,11 +48,11 @@ fn note(choices: &mut [Option<Choice>], place: usize, choice: Choice)
 fn note_entry(choices: &mut [Option<Choice>], kind: Wants, entry: &MapEntry)
     ensures { (k : ℕ) → k < length choices.old → slice_index_or choices.new k None ≡ noted (slice_index_or choices.old k None) (same_wanted entry.now.logical (wanted_at kind k)) (choice_of entry.now) }
 {
-    match place_among(kind, entry.logical) {
+    match index_among(kind, entry.logical) {
         None => {}
-        Some(place) => note(
+        Some(index) => note(
             choices,
-            place,
+            index,
             Choice {
                 physical: entry.physical,
                 rights: entry.rights,

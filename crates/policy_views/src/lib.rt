@@ -1,11 +1,11 @@
-//! What the subjects of a resolved policy see, by places: their windows, and their ends of channels.
+//! What the subjects of a resolved policy see, by indexes: their windows, and their ends of channels.
 #![tactic(auto)]
 
-mod channel_ends;
+mod ends;
 mod entries;
 mod view;
 mod windows;
 
-pub use channel_ends::ends;
+pub use ends::channel_ends;
 pub use view::{ChannelEnd, Shown, View};
 pub use windows::views;

@@ -1,17 +1,17 @@
-//! Views, which are windows by the places of what they show, and ends of channels.
+//! Views, which are windows by the indexes of what they show, and ends of channels.
 use muen_num::Name;
 use policy_types::{Rights, Role};
 
-/// What a view shows, by its place in the policy.
+/// What a view shows, by its index in the policy.
 #[derive(Clone, Copy, Debug, PartialEq, Eq)]
 pub enum Shown {
     /// A region of memory.
     Memory(usize),
     /// A channel.
     Channel(usize),
-    /// A region that the subject's component provides, by its place among those.
+    /// A region that the subject's component provides, by its index among those.
     Provided(usize),
-    /// Memory of a device: the device's place, and the place among its memory.
+    /// Memory of a device: the device's index, and the index among its memory.
     Device(usize, usize),
     /// The state page of a subject.
     State(usize),
@@ -33,7 +33,7 @@ pub struct View {
 /// A subject's end of a channel, its own or one of its component.
 #[derive(Clone, Copy, Debug, PartialEq, Eq)]
 pub struct ChannelEnd {
-    /// The channel's place.
+    /// The channel's index.
     pub channel: usize,
     pub role: Role,
     pub call: Option<u64>,

@@ -27,33 +27,33 @@ fn role_rights(role: Role) -> Rights
     }
 }
 
-fn region_view(policy: &Resolved, place: usize, guest: u64, rights: Rights) -> Option<View>
-    ensures { result ≡ region_view policy.now place guest rights }
+fn region_view(policy: &Resolved, index: usize, guest: u64, rights: Rights) -> Option<View>
+    ensures { result ≡ region_view policy.now index guest rights }
 {
-    let region = policy.memory().get(place)?;
+    let region = policy.memory().get(index)?;
     Some(View {
         name: region.name,
         guest,
         size: region.size,
         rights,
-        shows: Shown::Memory(place),
+        shows: Shown::Memory(index),
     })
 }
 
-fn channel_view(policy: &Resolved, place: usize, guest: u64, role: Role) -> Option<View>
-    ensures { result ≡ channel_view policy.now place guest role }
+fn channel_view(policy: &Resolved, index: usize, guest: u64, role: Role) -> Option<View>
+    ensures { result ≡ channel_view policy.now index guest role }
 {
-    let channel = policy.channels().get(place)?;
+    let channel = policy.channels().get(index)?;
     Some(View {
         name: channel.name,
         guest,
         size: channel.size,
         rights: role_rights(role),
-        shows: Shown::Channel(place),
+        shows: Shown::Channel(index),
     })
 }
 
-// Of memory of the device at a place.
+// Of memory of the device at an index.
 fn device_view(policy: &Resolved, device: usize, mapping: &DeviceMapping) -> Option<View>
     ensures { result ≡ device_view policy.now device mapping.now }
 {
@@ -86,27 +86,27 @@ fn monitor_view(policy: &Resolved, monitor: &Monitor) -> Option<View>
     })
 }
 
-fn provided_view(place: usize, provided: &Provided) -> View
-    ensures { result ≡ provided_view (place, provided.now) }
+fn provided_view(index: usize, provided: &Provided) -> View
+    ensures { result ≡ provided_view (index, provided.now) }
 {
     View {
         name: provided.logical,
         guest: provided.virtual_address,
         size: provided.size,
         rights: provided.rights,
-        shows: Shown::Provided(place),
+        shows: Shown::Provided(index),
     }
 }
 
 fn required_view(
     policy: &Resolved,
     choices: &[Option<Choice>],
-    place: usize,
+    index: usize,
     required: &Required,
 ) -> Option<View>
-    ensures { result ≡ chosen_region policy.now choices.now (place, required.now) }
+    ensures { result ≡ chosen_region policy.now choices.now (index, required.now) }
 {
-    match choices.get(place) {
+    match choices.get(index) {
         Some(Some(choice)) => region_view(
             policy,
             choice.physical,
@@ -120,12 +120,12 @@ fn required_view(
 fn component_channel_view(
     policy: &Resolved,
     choices: &[Option<Choice>],
-    place: usize,
+    index: usize,
     channel: &ComponentChannel,
 ) -> Option<View>
-    ensures { result ≡ chosen_channel policy.now choices.now (place, channel.now) }
+    ensures { result ≡ chosen_channel policy.now choices.now (index, channel.now) }
 {
-    match choices.get(place) {
+    match choices.get(index) {
         Some(Some(choice)) => {
             channel_view(
                 policy,
@@ -195,7 +195,7 @@ fn of_provided(alloc: Global, provides: &[Provided]) -> Result<Vec<View>, AllocE
     provides
         .iter()
         .enumerate()
-        .map(|(place, provided)| provided_view(place, provided))
+        .map(|(index, provided)| provided_view(index, provided))
         .collect(alloc)
 }
 
@@ -210,7 +210,7 @@ fn chosen_regions(
     memory
         .iter()
         .enumerate()
-        .filter_map(|(place, required)| required_view(policy, choices, place, required))
+        .filter_map(|(index, required)| required_view(policy, choices, index, required))
         .collect(alloc)
 }
 
@@ -239,7 +239,7 @@ fn chosen_channels(
     channels
         .iter()
         .enumerate()
-        .filter_map(|(place, channel)| component_channel_view(policy, choices, place, channel))
+        .filter_map(|(index, channel)| component_channel_view(policy, choices, index, channel))
         .collect(alloc)
 }
 

@@ -1,23 +1,23 @@
 use Rattle.std.proofs.lemmas.Result.{err_from_is_err_and}
 use Rattle.policy_lawful.specs.Resolution.{source_of}
-use Rattle.muen_build.proofs.Accepting.{accepts, contents_end, room_end, unlawful_ends}
+use Rattle.muen_build.proofs.Accepting.{accepts, contents_fails, room_fails, unlawful_fails}
 use Rattle.muen_build.proofs.accept.Goals as goal
 
 pub returns-in_err-policy-clause-err : goal.returns-in_err-policy-clause-err
 returns-in_err-policy-clause-err g c =
     let left = err_from_is_err_and c.from_residual.result c.from_residual.ensures.1 in
-    rw (left.1, left.2) (unlawful_ends c.args.name.now c.args.document.now _ _ _ c.in_err-policy.ensures)
+    rw (left.1, left.2) (unlawful_fails c.args.name.now c.args.document.now _ _ _ c.in_err-policy.ensures)
 
 pub returns-in_err-files-clause-err : goal.returns-in_err-files-clause-err
 returns-in_err-files-clause-err g c =
     let left = err_from_is_err_and c.from_residual-in_err-files.result c.from_residual-in_err-files.ensures.1 in
-    rw (left.1, left.2) (contents_end c.args.name.now c.args.document.now (source_of c.in_ok-policy.policy) c.in_ok-policy.ensures _ _ _ c.in_err-files.ensures.err)
+    rw (left.1, left.2) (contents_fails c.args.name.now c.args.document.now (source_of c.in_ok-policy.policy) c.in_ok-policy.ensures _ _ _ c.in_err-files.ensures.err)
 
 pub returns-in_err-placed-clause-err : goal.returns-in_err-placed-clause-err
 returns-in_err-placed-clause-err g c =
     let left = err_from_is_err_and c.from_residual-in_err-placed.result c.from_residual-in_err-placed.ensures.1 in
     rw (left.1, left.2)
-    (room_end c.args.name.now c.args.document.now (source_of c.in_ok-policy.policy) c.in_ok-policy.ensures _ c.in_ok-files.ensures.passes _ _ _ c.in_ok-files.ensures.grows c.read_contents.ensures.follows c.in_err-placed.ensures.err)
+    (room_fails c.args.name.now c.args.document.now (source_of c.in_ok-policy.policy) c.in_ok-policy.ensures _ c.in_ok-files.ensures.passes _ _ _ c.in_ok-files.ensures.grows c.read_contents.ensures.follows c.in_err-placed.ensures.err)
 
 pub returns-clause-accepts : goal.returns-clause-accepts
 returns-clause-accepts g c =

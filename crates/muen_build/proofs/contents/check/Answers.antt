@@ -1,24 +1,24 @@
 use Rattle.std.proofs.lemmas.Result.{err_from_is_err_and}
 use Rattle.muen_build.specs.Accepting.{looks_of}
 use Rattle.muen_build.specs.Filling.{filled}
-use Rattle.muen_build.proofs.Checking.{file_passes, inline_ends, inline_passes, long_ends, missing_ends}
+use Rattle.muen_build.proofs.Checking.{file_passes, inline_fails, inline_passes, long_fails, missing_fails}
 use Rattle.muen_build.proofs.contents.check.Goals as goal
 
 pub returns-in_err-fits-in-Inline-clause-err : goal.returns-in_err-fits-in-Inline-clause-err
 returns-in_err-fits-in-Inline-clause-err g c =
     let left = err_from_is_err_and c.from_residual.result c.from_residual.ensures.1 in
-    rw (left.1, left.2) (inline_ends _ (filled c.args.region c.args.room c.args.content.now) _ _ _ _ c.in-Inline.is (rw c.len.ensures at (c.in_err-fits-in-Inline.ensures c.args.content.now)))
+    rw (left.1, left.2) (inline_fails _ (filled c.args.region c.args.room c.args.content.now) _ _ _ _ c.in-Inline.is (rw c.len.ensures at (c.in_err-fits-in-Inline.ensures c.args.content.now)))
 
 pub returns-in_err-count-in-File-clause-err : goal.returns-in_err-count-in-File-clause-err
 returns-in_err-count-in-File-clause-err g c =
     let left = err_from_is_err_and c.from_residual-in_err-count-in-File.result c.from_residual-in_err-count-in-File.ensures.1 in
-    rw (left.1, left.2) (missing_ends _ (filled c.args.region c.args.room c.args.content.now) _ _ _ c.in-File.is _ _ _ c.in_err-count-in-File.ensures.err)
+    rw (left.1, left.2) (missing_fails _ (filled c.args.region c.args.room c.args.content.now) _ _ _ c.in-File.is _ _ _ c.in_err-count-in-File.ensures.err)
 
 pub returns-in_err-fits-in-File-clause-err : goal.returns-in_err-fits-in-File-clause-err
 returns-in_err-fits-in-File-clause-err g c =
     let left = err_from_is_err_and c.from_residual-in_err-fits-in-File.result c.from_residual-in_err-fits-in-File.ensures.1 in
     rw (left.1, left.2)
-    (long_ends _ (filled c.args.region c.args.room c.args.content.now) _ _ _ c.in-File.is _ _ _ _ _ c.in_ok-count-in-File.ensures.grows c.file_length.ensures.follows c.in_ok-count-in-File.ensures.known (rw c.part_length.ensures at (c.in_err-fits-in-File.ensures c.args.content.now)))
+    (long_fails _ (filled c.args.region c.args.room c.args.content.now) _ _ _ c.in-File.is _ _ _ _ _ c.in_ok-count-in-File.ensures.grows c.file_length.ensures.follows c.in_ok-count-in-File.ensures.known (rw c.part_length.ensures at (c.in_err-fits-in-File.ensures c.args.content.now)))
 
 pub returns-in_ok-fits-in-Inline-clause-passes : goal.returns-in_ok-fits-in-Inline-clause-passes
 returns-in_ok-fits-in-Inline-clause-passes g c =

@@ -9,7 +9,7 @@ returns-clause-builds g c =
       after = looks_of c.args.name.now c.args.document.now c.in_ok-placed.field-0.files;
       grows = c.in_ok-placed.ensures.grows;
       built = λ files shows. record {
-        policy = source_of c.in_ok-placed.field-0.placed.plain.lawful;
+        policy = source_of c.in_ok-placed.field-0.placed.expanded.lawful;
         accepted = c.in_ok-placed.ensures.accepts files shows;
         is = c.in_ok-image.ensures files shows;
       };

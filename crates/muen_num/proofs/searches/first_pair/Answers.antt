@@ -5,10 +5,10 @@ use Rattle.muen_num.proofs.searches.first_pair.Goals as goal
 
 pub returns-in-Some : goal.returns-in-Some
 returns-in-Some g c = λ h says.
-    sym (first_after_step (λ before x. first_in (λ b. h b x) before) c.args.items.now c.loop-place.place c.index-items-place.result (Some c.in-Some.answer) (omega arith) c.index-items-place.is (c.in-Some.ensures h says))
-    ∙ c.loop-place.invariant h says
+    sym (first_after_step (λ before x. first_in (λ b. h b x) before) c.args.items.now c.loop-index.index c.index-items-index.result (Some c.in-Some.answer) (omega arith) c.index-items-index.is (c.in-Some.ensures h says))
+    ∙ c.loop-index.invariant h says
 
-pub loop-place-preserved : goal.loop-place-preserved
-loop-place-preserved g c = λ h says.
-    sym (first_after_step (λ before x. first_in (λ b. h b x) before) c.args.items.now c.loop-place.place c.index-items-place.result None (omega arith) c.index-items-place.is (c.in-None.ensures h says))
-    ∙ c.loop-place.invariant h says
+pub loop-index-preserved : goal.loop-index-preserved
+loop-index-preserved g c = λ h says.
+    sym (first_after_step (λ before x. first_in (λ b. h b x) before) c.args.items.now c.loop-index.index c.index-items-index.result None (omega arith) c.index-items-index.is (c.in-None.ensures h says))
+    ∙ c.loop-index.invariant h says

@@ -4,5 +4,5 @@ use Rattle.policy_extents.specs.Inside.{holds}
 use Rattle.policy_extents.proofs.InsideOne.{Counting}
 use Rattle.policy_extents.proofs.inside.count_in.Given as goal
 
-abbrev pub invariant-loop-place : goal.invariant-loop-place
-invariant-loop-place l = Counting (λ e. list_any (holds e) l.spans) l.extents l.place
+abbrev pub invariant-loop-index : goal.invariant-loop-index
+invariant-loop-index l = Counting (λ e. list_any (holds e) l.ranges) l.extents l.index

@@ -2,7 +2,7 @@ use Rattle.std.proofs.Common.{◌≡◌, ℕ, true}
 use Rattle.std.specs.Prelude.{map, take, drop}
 use Rattle.std.specs.List.{list_all, enumerate_from}
 use Rattle.muen_num.specs.Search.{first_in}
-use Rattle.policy_lawful.specs.Resolution.{major_named, major_in_range}
+use Rattle.policy_lawful.specs.Resolution.{major_in_range, major_named}
 use Rattle.policy_lawful.specs.Rules.{frame_references, undeclared}
 use Rattle.policy_types.specs.declared.source.MajorFrame.{MajorFrame}
 use Rattle.policy_names.specs.Outline.{outline}

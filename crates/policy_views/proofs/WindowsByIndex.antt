@@ -7,7 +7,7 @@ use Rattle.std.specs.List.{enumerate_from, filter_map, flat_map, list_all}
 use Rattle.std.proofs.lemmas.Bool.{and_parts, ltb-true}
 use Rattle.std.proofs.lemmas.Option.{get_or_from_slice_get, slice_get_within}
 use Rattle.muen_num.proofs.Lists.{option_map-option_map, there}
-use Rattle.policy_lawful.specs.Resolution.{IsResolved, Resolution, channel_named, component_named, component_in_range, device_named, device_part, device_in_range, entry_named, entry_in_range, mapping_named, name_at, source_of, subject_named, subject_in_range}
+use Rattle.policy_lawful.specs.Resolution.{IsResolved, Resolution, channel_named, component_in_range, component_named, device_in_range, device_named, device_part, entry_in_range, entry_named, mapping_named, name_at, source_of, subject_in_range, subject_named}
 use Rattle.policy_lawful.specs.Rules.{logical_names, repeated}
 use Rattle.policy_lawful.specs.declared.resolved.ComponentUse.{ComponentUse}
 use Rattle.policy_lawful.specs.declared.resolved.DeviceMapping.{DeviceMapping}
@@ -33,7 +33,7 @@ use Rattle.policy_views.specs.Views.{channel_view, component_channel_view, compo
 use Rattle.policy_views.proofs.ChosenEntries.{entry_found}
 use Rattle.policy_views.proofs.Mapped.{filter_maps, filter_numbered, flat_maps, map_filters, map_numbered}
 
--- what stands at a place has the name that stands there
+-- what stands at an index has the name that stands there
 pub name_there : {X : Type 0} (f : X → List ℕ) (xs : List X) (k : ℕ) (x : X) → slice_get xs k ≡ Some x → name_at (map f xs) k ≡ f x
 name_there f xs k x is = get_or-map f xs k x [] (slice_get_within xs k x is) ∙ ap f (get_or_from_slice_get xs k x x is)
 
@@ -44,23 +44,23 @@ monitor_named r m = record { subject = name_at (map (λ x. x.name) r.subjects) m
 -- ---- each window
 
 module _ (r : Resolution) (q : IsResolved r) (subject : List ℕ) where
-  region_placed : (k guest : ℕ) (rights : Rights) → nat_lt k (length r.memory) ≡ true
+  region_by_index : (k guest : ℕ) (rights : Rights) → nat_lt k (length r.memory) ≡ true
       → region_window (source_of r) (name_at (map (λ x. x.name) r.memory) k) guest rights ≡ option_map (view_window r subject) (region_view r k guest rights)
   unfolding source_of
-  region_placed k guest rights h =
+  region_by_index k guest rights h =
       ap (option_map (λ x. window guest x.size rights (region x.name))) (found_at_index (λ x. x.name) r.memory k (unique (source_of r) q.names).regions (ltb-true k (length r.memory) h))
       ∙ sym (option_map-option_map (view_window r subject) _ (slice_get r.memory k))
 
-  channel_placed : (k guest : ℕ) (role : Role) → nat_lt k (length r.channels) ≡ true
+  channel_by_index : (k guest : ℕ) (role : Role) → nat_lt k (length r.channels) ≡ true
       → channel_window (source_of r) (name_at (map (λ x. x.name) r.channels) k) guest role ≡ option_map (view_window r subject) (channel_view r k guest role)
   unfolding source_of
-  channel_placed k guest role h =
+  channel_by_index k guest role h =
       ap (option_map (λ x. window guest x.size (role_rights role) (channel x.name))) (found_at_index (λ x. x.name) r.channels k (unique (source_of r) q.names).channels (ltb-true k (length r.channels) h))
       ∙ sym (option_map-option_map (view_window r subject) _ (slice_get r.channels k))
 
-  monitor_placed : (m : Monitor) → nat_lt m.subject (length r.subjects) ≡ true
+  monitor_by_index : (m : Monitor) → nat_lt m.subject (length r.subjects) ≡ true
       → Some (monitor_window (monitor_named r m)) ≡ option_map (view_window r subject) (monitor_view r m)
-  monitor_placed m h =
+  monitor_by_index m h =
       let at = there r.subjects m.subject (ltb-true m.subject (length r.subjects) h) in
       let name = name_there (λ x. x.name) r.subjects m.subject at.0 at.1 in
       rw (at.1, name) refl
@@ -76,9 +76,9 @@ module _ (r : Resolution) (q : IsResolved r) (subject : List ℕ) where
       let name = name_there (λ x. x.name) r.devices device d is in
       rw (found, memory, is, at.1, name) refl
 
-  -- the device's name for what stands at a place, where the device is there
-  device_placed_at : (granted : DeviceUse) → device_in_range r granted ≡ true → filter_map (device_window (source_of r) (device_named r granted).device) (device_named r granted).memory ≡ map (view_window r subject) (filter_map (device_view r granted.device) granted.memory)
-  device_placed_at granted h =
+  -- the device's name for what stands at an index, where the device is there
+  device_by_index : (granted : DeviceUse) → device_in_range r granted ≡ true → filter_map (device_window (source_of r) (device_named r granted).device) (device_named r granted).memory ≡ map (view_window r subject) (filter_map (device_view r granted.device) granted.memory)
+  device_by_index granted h =
       let b = and_parts _ _ h in
       let c = and_parts _ _ b.0 in
       let d = and_parts _ _ c.0 in
@@ -96,21 +96,21 @@ module _ (r : Resolution) (q : IsResolved r) (subject : List ℕ) where
 
 -- ---- of a component
 
--- the component at the place of a use, by its name
+-- the component at the index of a use, by its name
 pub component_at : (r : Resolution) → IsResolved r → (used : ComponentUse) (c : Component) → slice_get r.components used.used ≡ Some c → component_by (source_of r) (Some (component_named r used)) ≡ Some c
 unfolding source_of
 component_at r q used c is = found_at_index (λ x. x.name) r.components used.used (unique (source_of r) q.names).components (slice_get_within r.components used.used c is) ∙ is
 
--- each place of a list that is there is among the names
+-- each index of a list that is there is among the names
 pub within_names : {X : Type 0} (f : X → List ℕ) (xs : List X) (k : ℕ) (x : X) → slice_get xs k ≡ Some x → k < length (map f xs)
 within_names f xs k x is = let many : length (map f xs) ≡ length xs = length-map xs f in let l : k < length xs = slice_get_within xs k x is in omega (arith, many, l)
 
-module _ (r : Resolution) (q : IsResolved r) (t : NamedSubject) (used : ComponentUse) (c : Component) (uses : t.component ≡ Some (component_named r used)) (is : slice_get r.components used.used ≡ Some c) (placed : component_in_range r used ≡ true) where
+module _ (r : Resolution) (q : IsResolved r) (t : NamedSubject) (used : ComponentUse) (c : Component) (uses : t.component ≡ Some (component_named r used)) (is : slice_get r.components used.used ≡ Some c) (in_range : component_in_range r used ≡ true) where
   pub component_is : component_by (source_of r) t.component ≡ Some c
   component_is = ap (component_by (source_of r)) uses ∙ component_at r q used c is
 
-  pub entries_placed : list_all (λ e. entry_in_range r used.used e.logical e.physical) used.map ≡ true
-  entries_placed = (and_parts _ _ placed).1
+  pub entries_in_range : list_all (λ e. entry_in_range r used.used e.logical e.physical) used.map ≡ true
+  entries_in_range = (and_parts _ _ in_range).1
 
   pub unique_logical : repeated (logical_names c) ≡ None
   unfolding source_of
@@ -119,7 +119,7 @@ module _ (r : Resolution) (q : IsResolved r) (t : NamedSubject) (used : Componen
   required_entry : (x : Required) (k : ℕ) (w : Wanted) (e : MapEntry) → entry_in_range r used.used w e.physical ≡ true → same_wanted w (WantedMemory k) ≡ true
       → region_window (source_of r) (entry_named r used.used w e).physical x.virtual_address (unwrap_or e.rights x.rights)
       ≡ option_map (view_window r t.name) (region_view r e.physical x.virtual_address (unwrap_or e.rights x.rights))
-  required_entry x k (WantedMemory j) e h same = region_placed r q t.name e.physical x.virtual_address (unwrap_or e.rights x.rights) (and_parts _ _ h).1
+  required_entry x k (WantedMemory j) e h same = region_by_index r q t.name e.physical x.virtual_address (unwrap_or e.rights x.rights) (and_parts _ _ h).1
   required_entry x k (WantedChannel j) e h same = absurd (cc)
 
   entry_rights : (w : Wanted) (e : MapEntry) → (entry_named r used.used w e).rights ≡ e.rights
@@ -130,39 +130,39 @@ module _ (r : Resolution) (q : IsResolved r) (t : NamedSubject) (used : Componen
       → channel_window (source_of r) (entry_named r used.used w e).physical x.virtual_address x.role
       ≡ option_map (view_window r t.name) (channel_view r e.physical x.virtual_address x.role)
   channel_entry x k (WantedMemory j) e h same = absurd (cc)
-  channel_entry x k (WantedChannel j) e h same = channel_placed r q t.name e.physical x.virtual_address x.role (and_parts _ _ h).1
+  channel_entry x k (WantedChannel j) e h same = channel_by_index r q t.name e.physical x.virtual_address x.role (and_parts _ _ h).1
 
-  required_placed : (k : ℕ) (x : Required) → slice_get c.memory k ≡ Some x → required_window (source_of r) t x ≡ option_map (view_window r t.name) (required_view r used.map (k, x))
-  required_placed k x at =
+  required_by_index : (k : ℕ) (x : Required) → slice_get c.memory k ≡ Some x → required_window (source_of r) t x ≡ option_map (view_window r t.name) (required_view r used.map (k, x))
+  required_by_index k x at =
       ap (λ o. option_and_then (λ e. region_window (source_of r) e.physical x.virtual_address (unwrap_or e.rights x.rights)) (entry_of o x.logical)) uses
       ∙ entry_found r used.used c is unique_logical (WantedMemory k) x.logical
       (option_and_then (λ e. region_window (source_of r) e.physical x.virtual_address (unwrap_or e.rights x.rights)))
       (λ o. option_map (view_window r t.name) (option_and_then (λ e. region_view r e.physical x.virtual_address (unwrap_or e.rights x.rights)) o))
       (within_names (λ x. x.logical) c.memory k x at) (sym (name_there (λ x. x.logical) c.memory k x at)) refl
       (λ e h same. ap (λ rights. region_window (source_of r) (entry_named r used.used e.logical e).physical x.virtual_address (unwrap_or rights x.rights)) (entry_rights e.logical e) ∙ required_entry x k e.logical e h same)
-      used.map entries_placed
+      used.map entries_in_range
 
-  component_channel_placed : (k : ℕ) (x : ComponentChannel) → slice_get c.channels k ≡ Some x → component_channel_window (source_of r) t x ≡ option_map (view_window r t.name) (component_channel_view r used.map (k, x))
-  component_channel_placed k x at =
+  component_channel_by_index : (k : ℕ) (x : ComponentChannel) → slice_get c.channels k ≡ Some x → component_channel_window (source_of r) t x ≡ option_map (view_window r t.name) (component_channel_view r used.map (k, x))
+  component_channel_by_index k x at =
       ap (λ o. option_and_then (λ e. channel_window (source_of r) e.physical x.virtual_address x.role) (entry_of o x.logical)) uses
       ∙ entry_found r used.used c is unique_logical (WantedChannel k) x.logical
       (option_and_then (λ e. channel_window (source_of r) e.physical x.virtual_address x.role))
       (λ o. option_map (view_window r t.name) (option_and_then (λ e. channel_view r e.physical x.virtual_address x.role) o))
       (within_names (λ x. x.logical) c.channels k x at) (sym (name_there (λ x. x.logical) c.channels k x at)) refl
       (λ e h same. channel_entry x k e.logical e h same)
-      used.map entries_placed
+      used.map entries_in_range
 
-  component_windows_placed : component_windows (source_of r) t (component_by (source_of r) t.component) ≡ map (view_window r t.name) (component_views r used.map c)
-  component_windows_placed =
+  component_windows_by_index : component_windows (source_of r) t (component_by (source_of r) t.component) ≡ map (view_window r t.name) (component_views r used.map c)
+  component_windows_by_index =
       let provided = map_numbered (λ x. window x.virtual_address x.size x.rights (provided t.name x.logical)) provided_view (view_window r t.name) (λ k x. refl) 0 c.provides in
-      let required = filter_numbered (required_window (source_of r) t) (required_view r used.map) (view_window r t.name) 0 c.memory (λ k x at. required_placed k x at ∙ ap (λ n. option_map (view_window r t.name) (required_view r used.map (n, x))) (omega arith)) in
-      let channels = filter_numbered (component_channel_window (source_of r) t) (component_channel_view r used.map) (view_window r t.name) 0 c.channels (λ k x at. component_channel_placed k x at ∙ ap (λ n. option_map (view_window r t.name) (component_channel_view r used.map (n, x))) (omega arith)) in
+      let required = filter_numbered (required_window (source_of r) t) (required_view r used.map) (view_window r t.name) 0 c.memory (λ k x at. required_by_index k x at ∙ ap (λ n. option_map (view_window r t.name) (required_view r used.map (n, x))) (omega arith)) in
+      let channels = filter_numbered (component_channel_window (source_of r) t) (component_channel_view r used.map) (view_window r t.name) 0 c.channels (λ k x at. component_channel_by_index k x at ∙ ap (λ n. option_map (view_window r t.name) (component_channel_view r used.map (n, x))) (omega arith)) in
       ap (component_windows (source_of r) t) component_is
       ∙ (λ i. provided i ++ required i ++ channels i)
       ∙ (λ i. sym (map-append (view_window r t.name) (map provided_view (enumerate_from 0 c.provides)) (filter_map (required_view r used.map) (enumerate_from 0 c.memory))) i ++ map (view_window r t.name) (filter_map (component_channel_view r used.map) (enumerate_from 0 c.channels)))
       ∙ sym (map-append (view_window r t.name) (map provided_view (enumerate_from 0 c.provides) ++ filter_map (required_view r used.map) (enumerate_from 0 c.memory)) (filter_map (component_channel_view r used.map) (enumerate_from 0 c.channels)))
 
--- the component is there, where its use is placed
+-- the component is there, where its use is in range
 pub component_there : (r : Resolution) (used : ComponentUse) → component_in_range r used ≡ true → (c : Component) × (slice_get r.components used.used ≡ Some c)
 component_there r used h = there r.components used.used (ltb-true used.used (length r.components) (and_parts _ _ h).0)
 
@@ -171,20 +171,20 @@ use_windows : (r : Resolution) (q : IsResolved r) (t : NamedSubject) (o : Option
 use_windows r q t None is h = ap (λ o. component_windows (source_of r) t (component_by (source_of r) o)) is
 use_windows r q t (Some used) is h =
     let c = component_there r used h in
-    component_windows_placed r q t used c.0 is c.1 h
+    component_windows_by_index r q t used c.0 is c.1 h
     ∙ ap (λ o. map (view_window r t.name) (option_map_or (component_views r used.map) o [])) (sym c.1)
 
 -- ---- of a subject
 
--- each place that a subject has is there
-pub record SubjectPlaced (r : Resolution) (s : Subject) : Type 0 where
+-- each index that a subject has is in range
+pub record SubjectInRange (r : Resolution) (s : Subject) : Type 0 where
   pub component : option_map_or (component_in_range r) s.component true ≡ true
   pub memory : list_all (λ m. nat_lt m.region (length r.memory)) s.memory ≡ true
   pub channels : list_all (λ c. nat_lt c.channel (length r.channels)) s.channels ≡ true
   pub devices : list_all (device_in_range r) s.devices ≡ true
   pub monitors : list_all (λ m. nat_lt m.subject (length r.subjects)) s.monitors ≡ true
 
-pub subject_parts : (r : Resolution) (s : Subject) → subject_in_range r s ≡ true → SubjectPlaced r s
+pub subject_parts : (r : Resolution) (s : Subject) → subject_in_range r s ≡ true → SubjectInRange r s
 subject_parts r s h =
     let g = and_parts _ _ h in
     let f = and_parts _ _ g.0 in
@@ -198,15 +198,15 @@ map_five : {X Y : Type 0} (f : X → Y) (a b c d e : List X) → map f a ++ map 
 map_five f a b c d e = sym (simp map-append)
 
 -- its windows are its views
-pub windows_by_place : (r : Resolution) (s : Subject) → IsResolved r → subject_in_range r s ≡ true → windows_of (source_of r) (subject_named r s) ≡ map (view_window r s.name) (views_of r s)
+pub windows_by_index : (r : Resolution) (s : Subject) → IsResolved r → subject_in_range r s ≡ true → windows_of (source_of r) (subject_named r s) ≡ map (view_window r s.name) (views_of r s)
 unfolding windows_of views_of
-windows_by_place r s q h =
+windows_by_index r s q h =
     let is = subject_parts r s h in
     let p = source_of r in
-    let mappings = filter_maps (λ m. region_window p m.region m.virtual_address m.rights) (mapping_named r) (λ m. region_view r m.region m.virtual_address m.rights) (view_window r s.name) (λ m. nat_lt m.region (length r.memory)) (λ m l. region_placed r q s.name m.region m.virtual_address m.rights l) s.memory is.memory in
-    let channels = filter_maps (λ c. channel_window p c.channel c.virtual_address c.role) (channel_named r) (λ c. channel_view r c.channel c.virtual_address c.role) (view_window r s.name) (λ c. nat_lt c.channel (length r.channels)) (λ c l. channel_placed r q s.name c.channel c.virtual_address c.role l) s.channels is.channels in
-    let devices = flat_maps (λ d. filter_map (device_window p d.device) d.memory) (device_named r) (λ d. filter_map (device_view r d.device) d.memory) (view_window r s.name) (device_in_range r) (λ d l. device_placed_at r q s.name d l) s.devices is.devices in
+    let mappings = filter_maps (λ m. region_window p m.region m.virtual_address m.rights) (mapping_named r) (λ m. region_view r m.region m.virtual_address m.rights) (view_window r s.name) (λ m. nat_lt m.region (length r.memory)) (λ m l. region_by_index r q s.name m.region m.virtual_address m.rights l) s.memory is.memory in
+    let channels = filter_maps (λ c. channel_window p c.channel c.virtual_address c.role) (channel_named r) (λ c. channel_view r c.channel c.virtual_address c.role) (view_window r s.name) (λ c. nat_lt c.channel (length r.channels)) (λ c l. channel_by_index r q s.name c.channel c.virtual_address c.role l) s.channels is.channels in
+    let devices = flat_maps (λ d. filter_map (device_window p d.device) d.memory) (device_named r) (λ d. filter_map (device_view r d.device) d.memory) (view_window r s.name) (device_in_range r) (λ d l. device_by_index r q s.name d l) s.devices is.devices in
     let component = use_windows r q (subject_named r s) s.component refl is.component in
-    let monitors = map_filters monitor_window (monitor_named r) (monitor_view r) (view_window r s.name) (λ m. nat_lt m.subject (length r.subjects)) (λ m l. monitor_placed r q s.name m l) s.monitors is.monitors in
+    let monitors = map_filters monitor_window (monitor_named r) (monitor_view r) (view_window r s.name) (λ m. nat_lt m.subject (length r.subjects)) (λ m l. monitor_by_index r q s.name m l) s.monitors is.monitors in
     (λ i. mappings i ++ channels i ++ devices i ++ component i ++ monitors i)
     ∙ map_five (view_window r s.name) (filter_map (λ m. region_view r m.region m.virtual_address m.rights) s.memory) (filter_map (λ c. channel_view r c.channel c.virtual_address c.role) s.channels) (flat_map (λ d. filter_map (device_view r d.device) d.memory) s.devices) (use_views r s.component) (filter_map (monitor_view r) s.monitors)

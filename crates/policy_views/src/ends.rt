@@ -2,7 +2,7 @@
 ghost use Rattle.std.specs.Prelude.{◌≡◌, map, IfOk};
 ghost use Rattle.std.specs.List.{filter_map, enumerate_from};
 ghost use Rattle.policy_views.specs.Entries.{chosen_end};
-ghost use Rattle.policy_views.specs.Views.{component_end, ends_of, use_ends};
+ghost use Rattle.policy_views.specs.Views.{component_end, channel_ends_of, use_ends};
 
 use crate::entries::{Choice, Wants, choices};
 use crate::view::ChannelEnd;
@@ -14,12 +14,12 @@ use std::alloc::{AllocError, Global};
 
 fn component_end(
     choices: &[Option<Choice>],
-    place: usize,
+    index: usize,
     channel: &ComponentChannel,
 ) -> Option<ChannelEnd>
-    ensures { result ≡ chosen_end choices.now (place, channel.now) }
+    ensures { result ≡ chosen_end choices.now (index, channel.now) }
 {
-    match choices.get(place) {
+    match choices.get(index) {
         Some(Some(choice)) => Some(ChannelEnd {
             channel: choice.physical,
             role: channel.role,
@@ -54,7 +54,7 @@ fn chosen_ends(
     channels
         .iter()
         .enumerate()
-        .filter_map(|(place, channel)| component_end(choices, place, channel))
+        .filter_map(|(index, channel)| component_end(choices, index, channel))
         .collect(alloc)
 }
 
@@ -90,9 +90,13 @@ fn of_use(
 /// The ends of channels of a subject, its own and then those of its component.
 ///
 /// Answers `NoMemory` where memory was refused.
-#[tactic(auto, unfolding(crate::specs::Views::ends_of))]
-pub fn ends(alloc: Global, policy: &Resolved, subject: &Subject) -> Result<Vec<ChannelEnd>, NoMemory>
-    ensures { IfOk result (λ v. v.items ≡ ends_of policy.now subject.now) }
+#[tactic(auto, unfolding(crate::specs::Views::channel_ends_of))]
+pub fn channel_ends(
+    alloc: Global,
+    policy: &Resolved,
+    subject: &Subject,
+) -> Result<Vec<ChannelEnd>, NoMemory>
+    ensures { IfOk result (λ v. v.items ≡ channel_ends_of policy.now subject.now) }
 {
     let mut ends = of_channels(alloc, subject.channels.items())?;
     let component = of_use(alloc, policy, &subject.component)?;

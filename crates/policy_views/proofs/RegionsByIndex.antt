@@ -1,4 +1,4 @@
--- Whether a subject has a window on a region, by the region's name or by its place.
+-- Whether a subject has a window on a region, by the region's name or by its index.
 use Rattle.std.proofs.Common.{◌≡◌, ℕ, ◌+◌, ◌<◌, Bool, true, false, List, [], ◌∷◌, ◌++◌, length, map, Option, Some, None, refl, sym, ap, ◌∙◌, arith}
 use Rattle.std.specs.Prelude.{◌&&◌, ◌||◌, option_map, option_and_then, slice_get, unwrap_or}
 use Rattle.std.specs.Option.{option_map_or}
@@ -12,7 +12,7 @@ use Rattle.std.proofs.lemmas.Slice.Eq.{bytes_eq-Decides}
 use Rattle.muen_num.proofs.Lists.{list_any-map}
 use Rattle.muen_num.specs.declared.limits.TheConstants.{PAGE}
 use Rattle.muen_num.specs.declared.access.AccessKind.TheVariants.{Write}
-use Rattle.policy_lawful.specs.Resolution.{IsResolved, Resolution, source_of, subject_named, subject_in_range}
+use Rattle.policy_lawful.specs.Resolution.{IsResolved, Resolution, source_of, subject_in_range, subject_named}
 use Rattle.policy_lawful.specs.Rules.{maps, writes}
 use Rattle.policy_lawful.specs.declared.resolved.ComponentUse.{ComponentUse}
 use Rattle.policy_lawful.specs.declared.resolved.DeviceMapping.{DeviceMapping}
@@ -38,7 +38,7 @@ use Rattle.policy_views.specs.declared.view.Shown.{Shown}
 use Rattle.policy_views.specs.declared.view.Shown.TheVariants.{Memory, Channel, Provided as Given, Device, State}
 use Rattle.policy_views.specs.declared.view.View.{View}
 use Rattle.policy_views.proofs.Mapped.{all_filtered}
-use Rattle.policy_views.proofs.WindowsByPlace.{name_there, windows_by_place}
+use Rattle.policy_views.proofs.WindowsByIndex.{name_there, windows_by_index}
 
 -- ---- views on regions
 
@@ -136,11 +136,11 @@ views_named r s =
     (use_is_named r s.component))
     (all_filtered t (monitor_view r) (monitor_is_named r) s.monitors)
 
--- ---- by name or by place
+-- ---- by name or by index
 
--- a place that is there
-pub place_there : (r : Resolution) (name : List ℕ) (k : ℕ) → has_name r name (Memory k) ≡ true → (x : Region) × (slice_get r.memory k ≡ Some x) × (x.name ≡ name)
-place_there r name k h =
+-- an index that is there
+pub index_there : (r : Resolution) (name : List ℕ) (k : ℕ) → has_name r name (Memory k) ≡ true → (x : Region) × (slice_get r.memory k ≡ Some x) × (x.name ≡ name)
+index_there r name k h =
     elim (slice_get r.memory k) as (λ o. slice_get r.memory k ≡ o → option_map_or (λ (x : Region). bytes_eq x.name name) o false ≡ true → (x : Region) × (slice_get r.memory k ≡ Some x) × (x.name ≡ name)) [
       | None ↦ λ e t. absurd (cc)
       | Some x ↦ λ e t. (x, e, (bytes_eq-Decides x.name name).0 t)
@@ -152,7 +152,7 @@ unfolding source_of
 same_region r q k x subject v (Memory j) is named =
     let names = map (λ x. x.name) r.memory in
     let many : length names ≡ length r.memory = length-map r.memory (λ x. x.name) in
-    let at = place_there r v.name j named in
+    let at = index_there r v.name j named in
     let here : j < length r.memory = slice_get_within r.memory j at.0 at.1 in
     let within : k < length r.memory = slice_get_within r.memory k x is in
     (λ i. bytes_eq (sym (name_there (λ x. x.name) r.memory j at.0 at.1 ∙ at.2) i) (sym (name_there (λ x. x.name) r.memory k x is) i))
@@ -168,11 +168,11 @@ any_same p q ok same (x ∷ xs) all =
     let parts = and_parts (ok x) (list_all ok xs) all in
     λ i. same x parts.0 i || any_same p q ok same xs parts.1 i
 
--- a subject has a window on the region at a place where it has such a view
+-- a subject has a window on the region at an index where it has such a view
 pub maps_at : (r : Resolution) (s : Subject) (k : ℕ) (x : Region) → IsResolved r → subject_in_range r s ≡ true → slice_get r.memory k ≡ Some x
     → maps (source_of r) x.name (subject_named r s) ≡ list_any (λ v. is_on_region k v.shows) (views_of r s)
 maps_at r s k x q h is =
-    ap (list_any (λ w. same_thing w.thing (region x.name))) (windows_by_place r s q h)
+    ap (list_any (λ w. same_thing w.thing (region x.name))) (windows_by_index r s q h)
     ∙ list_any-map (λ w. same_thing w.thing (region x.name)) (view_window r s.name) (views_of r s)
     ∙ any_same (λ v. same_thing (thing_shown r s.name v v.shows) (region x.name)) (λ v. is_on_region k v.shows) (is_named r) (λ v named. same_region r q k x s.name v v.shows is named) (views_of r s) (views_named r s)
 
@@ -180,6 +180,6 @@ maps_at r s k x q h is =
 pub writes_at : (r : Resolution) (s : Subject) (k : ℕ) (x : Region) → IsResolved r → subject_in_range r s ≡ true → slice_get r.memory k ≡ Some x
     → writes (source_of r) x.name (subject_named r s) ≡ list_any (λ v. is_on_region k v.shows && allows v.rights Write) (views_of r s)
 writes_at r s k x q h is =
-    ap (list_any (λ w. same_thing w.thing (region x.name) && allows w.rights Write)) (windows_by_place r s q h)
+    ap (list_any (λ w. same_thing w.thing (region x.name) && allows w.rights Write)) (windows_by_index r s q h)
     ∙ list_any-map (λ w. same_thing w.thing (region x.name) && allows w.rights Write) (view_window r s.name) (views_of r s)
     ∙ any_same (λ v. same_thing (thing_shown r s.name v v.shows) (region x.name) && allows v.rights Write) (λ v. is_on_region k v.shows && allows v.rights Write) (is_named r) (λ v named. ap (λ b. b && allows v.rights Write) (same_region r q k x s.name v v.shows is named)) (views_of r s) (views_named r s)

@@ -1,4 +1,4 @@
--- The ends of channels that the source policy gives a subject are those by places.
+-- The ends of channels that the source policy gives a subject are those by indexes.
 use Rattle.std.proofs.Common.{◌≡◌, ℕ, Bool, true, List, [], ◌++◌, length, map, Option, Some, None, refl, sym, ap, ◌∙◌, arith}
 use Rattle.std.specs.Prelude.{nat_lt, option_map, slice_get}
 use Rattle.std.specs.Option.{option_map_or}
@@ -7,7 +7,7 @@ use Rattle.std.proofs.lemmas.Bool.{and_from, and_parts}
 use Rattle.std.proofs.lemmas.List.{map-append}
 use Rattle.std.proofs.lemmas.List.Folds.{list_all-append, list_all-map}
 use Rattle.muen_num.proofs.Lists.{map-map}
-use Rattle.policy_lawful.specs.Resolution.{IsResolved, Resolution, channel_named, component_named, component_in_range, entry_named, entry_in_range, name_at, source_of, subject_named, subject_in_range}
+use Rattle.policy_lawful.specs.Resolution.{IsResolved, Resolution, channel_named, component_in_range, component_named, entry_in_range, entry_named, name_at, source_of, subject_in_range, subject_named}
 use Rattle.policy_lawful.specs.declared.resolved.ComponentUse.{ComponentUse}
 use Rattle.policy_lawful.specs.declared.resolved.MapEntry.{MapEntry}
 use Rattle.policy_lawful.specs.declared.resolved.Subject.{Subject}
@@ -21,58 +21,58 @@ use Rattle.policy_types.specs.declared.source.Component.{Component}
 use Rattle.policy_types.specs.declared.source.ComponentChannel.{ComponentChannel}
 use Rattle.policy_types.specs.declared.source.MapEntry.{MapEntry as NamedEntry}
 use Rattle.policy_types.specs.declared.source.Subject.{Subject as NamedSubject}
-use Rattle.policy_views.specs.Views.{component_end, end_named, ends_of, same_wanted, use_ends}
+use Rattle.policy_views.specs.Views.{channel_end_named, channel_ends_of, component_end, same_wanted, use_ends}
 use Rattle.policy_views.specs.declared.view.ChannelEnd.{ChannelEnd}
 use Rattle.policy_views.proofs.ChosenEntries.{entry_found}
 use Rattle.policy_views.proofs.Mapped.{all_filtered, filter_numbered, found_same}
-use Rattle.policy_views.proofs.WindowsByPlace.{component_is, component_there, entries_placed, name_there, subject_parts, unique_logical, within_names}
+use Rattle.policy_views.proofs.WindowsByIndex.{component_is, component_there, entries_in_range, name_there, subject_parts, unique_logical, within_names}
 
 -- ---- of a component
 
-module _ (r : Resolution) (q : IsResolved r) (t : NamedSubject) (used : ComponentUse) (c : Component) (uses : t.component ≡ Some (component_named r used)) (is : slice_get r.components used.used ≡ Some c) (placed : component_in_range r used ≡ true) where
+module _ (r : Resolution) (q : IsResolved r) (t : NamedSubject) (used : ComponentUse) (c : Component) (uses : t.component ≡ Some (component_named r used)) (is : slice_get r.components used.used ≡ Some c) (in_range : component_in_range r used ≡ true) where
   -- a channel of the component, by the entry for it
   end_of_entry : (x : ComponentChannel) (k : ℕ) (w : Wanted) (e : MapEntry) → same_wanted w (WantedChannel k) ≡ true → (entry_named r used.used w e).physical ≡ name_at (map (λ x. x.name) r.channels) e.physical
   end_of_entry x k (WantedMemory j) e same = absurd (cc)
   end_of_entry x k (WantedChannel j) e same = refl
 
-  end_placed : (k : ℕ) (x : ComponentChannel) → slice_get c.channels k ≡ Some x
-      → option_map (λ e. record { channel = e.physical; role = x.role; call = x.call; vector = x.vector }) (entry_of t.component x.logical) ≡ option_map (end_named r) (component_end used.map (k, x))
-  end_placed k x at =
+  end_by_index : (k : ℕ) (x : ComponentChannel) → slice_get c.channels k ≡ Some x
+      → option_map (λ e. record { channel = e.physical; role = x.role; call = x.call; vector = x.vector }) (entry_of t.component x.logical) ≡ option_map (channel_end_named r) (component_end used.map (k, x))
+  end_by_index k x at =
       let by : NamedEntry → ChannelEnd = λ e. record { channel = e.physical; role = x.role; call = x.call; vector = x.vector } in
       let to : MapEntry → ChannelEnd = λ e. record { channel = e.physical; role = x.role; call = x.call; vector = x.vector } in
       ap (λ o. option_map by (entry_of o x.logical)) uses
-      ∙ entry_found r used.used c is (unique_logical r q t used c uses is placed) (WantedChannel k) x.logical (option_map by) (λ o. option_map (end_named r) (option_map to o))
+      ∙ entry_found r used.used c is (unique_logical r q t used c uses is in_range) (WantedChannel k) x.logical (option_map by) (λ o. option_map (channel_end_named r) (option_map to o))
       (within_names (λ x. x.logical) c.channels k x at) (sym (name_there (λ x. x.logical) c.channels k x at)) refl
       (λ e h same. ap (λ name. Some (record { channel = name; role = x.role; call = x.call; vector = x.vector })) (end_of_entry x k e.logical e same))
-      used.map (entries_placed r q t used c uses is placed)
+      used.map (entries_in_range r q t used c uses is in_range)
 
-  component_ends_placed : component_ends t (component_by (source_of r) t.component) ≡ map (end_named r) (filter_map (component_end used.map) (enumerate_from 0 c.channels))
-  component_ends_placed =
-      ap (component_ends t) (component_is r q t used c uses is placed)
-      ∙ filter_numbered (λ x. option_map (λ e. record { channel = e.physical; role = x.role; call = x.call; vector = x.vector }) (entry_of t.component x.logical)) (component_end used.map) (end_named r) 0 c.channels
-      (λ k x at. end_placed k x at ∙ ap (λ n. option_map (end_named r) (component_end used.map (n, x))) (omega arith))
+  component_ends_by_index : component_ends t (component_by (source_of r) t.component) ≡ map (channel_end_named r) (filter_map (component_end used.map) (enumerate_from 0 c.channels))
+  component_ends_by_index =
+      ap (component_ends t) (component_is r q t used c uses is in_range)
+      ∙ filter_numbered (λ x. option_map (λ e. record { channel = e.physical; role = x.role; call = x.call; vector = x.vector }) (entry_of t.component x.logical)) (component_end used.map) (channel_end_named r) 0 c.channels
+      (λ k x at. end_by_index k x at ∙ ap (λ n. option_map (channel_end_named r) (component_end used.map (n, x))) (omega arith))
 
 used_ends : (r : Resolution) (q : IsResolved r) (t : NamedSubject) (o : Option ComponentUse) → t.component ≡ option_map (component_named r) o → option_map_or (component_in_range r) o true ≡ true
-    → component_ends t (component_by (source_of r) t.component) ≡ map (end_named r) (use_ends r o)
+    → component_ends t (component_by (source_of r) t.component) ≡ map (channel_end_named r) (use_ends r o)
 used_ends r q t None is h = ap (λ o. component_ends t (component_by (source_of r) o)) is
 used_ends r q t (Some used) is h =
     let c = component_there r used h in
-    component_ends_placed r q t used c.0 is c.1 h
-    ∙ ap (λ o. map (end_named r) (option_map_or (λ c. filter_map (component_end used.map) (enumerate_from 0 c.channels)) o [])) (sym c.1)
+    component_ends_by_index r q t used c.0 is c.1 h
+    ∙ ap (λ o. map (channel_end_named r) (option_map_or (λ c. filter_map (component_end used.map) (enumerate_from 0 c.channels)) o [])) (sym c.1)
 
 -- ---- of a subject
 
--- its ends by names are those by places
-pub ends_by_place : (r : Resolution) (s : Subject) → IsResolved r → subject_in_range r s ≡ true → channel_ends (source_of r) (subject_named r s) ≡ map (end_named r) (ends_of r s)
-unfolding ends_of
-ends_by_place r s q h =
+-- its ends by names are those by indexes
+pub ends_by_index : (r : Resolution) (s : Subject) → IsResolved r → subject_in_range r s ≡ true → channel_ends (source_of r) (subject_named r s) ≡ map (channel_end_named r) (channel_ends_of r s)
+unfolding channel_ends_of
+ends_by_index r s q h =
     let named : NamedChannel → ChannelEnd = λ c. record { channel = c.channel; role = c.role; call = c.call; vector = c.vector } in
     let own = map (λ c. record { channel = c.channel; role = c.role; call = c.call; vector = c.vector }) s.channels in
-    let front : map named (map (channel_named r) s.channels) ≡ map (end_named r) own = map-map named (channel_named r) s.channels ∙ sym (map-map (end_named r) _ s.channels) in
+    let front : map named (map (channel_named r) s.channels) ≡ map (channel_end_named r) own = map-map named (channel_named r) s.channels ∙ sym (map-map (channel_end_named r) _ s.channels) in
     let back = used_ends r q (subject_named r s) s.component refl (subject_parts r s h).component in
-    (λ i. front i ++ back i) ∙ sym (map-append (end_named r) own (use_ends r s.component))
+    (λ i. front i ++ back i) ∙ sym (map-append (channel_end_named r) own (use_ends r s.component))
 
--- ---- places that are there
+-- ---- indexes in range
 
 -- the end's channel is there
 abbrev within : Resolution → ChannelEnd → Bool
@@ -84,10 +84,10 @@ entry_within r used k (WantedChannel j) physical h same = sym (and_parts _ _ h).
 
 end_within : (r : Resolution) (used : ℕ) (entries : List MapEntry) → list_all (λ e. entry_in_range r used e.logical e.physical) entries ≡ true → (x : ℕ × ComponentChannel)
     → option_map_or (within r) (component_end entries x) true ≡ true
-end_within r used entries placed (k, x) =
+end_within r used entries in_range (k, x) =
     let to : MapEntry → ChannelEnd = λ e. record { channel = e.physical; role = x.role; call = x.call; vector = x.vector } in
     sym (found_same (λ e. same_wanted e.logical (WantedChannel k)) (λ e. e) (λ e. same_wanted e.logical (WantedChannel k)) (λ e. entry_in_range r used e.logical e.physical)
-    (λ _. true) (λ o. option_map_or (within r) (option_map to o) true) refl (λ e _. refl) (λ e h same. entry_within r used k e.logical e.physical h same) entries placed)
+    (λ _. true) (λ o. option_map_or (within r) (option_map to o) true) refl (λ e _. refl) (λ e h same. entry_within r used k e.logical e.physical h same) entries in_range)
 
 use_within : (r : Resolution) (o : Option ComponentUse) → option_map_or (component_in_range r) o true ≡ true → list_all (within r) (use_ends r o) ≡ true
 use_within r None h = refl
@@ -98,9 +98,9 @@ use_within r (Some used) h =
     ]
 
 -- each end is of a channel that is there
-pub ends_placed : (r : Resolution) (s : Subject) → subject_in_range r s ≡ true → list_all (λ e. nat_lt e.channel (length r.channels)) (ends_of r s) ≡ true
-unfolding ends_of
-ends_placed r s h =
+pub ends_in_range : (r : Resolution) (s : Subject) → subject_in_range r s ≡ true → list_all (λ e. nat_lt e.channel (length r.channels)) (channel_ends_of r s) ≡ true
+unfolding channel_ends_of
+ends_in_range r s h =
     let is = subject_parts r s h in
     let own = map (λ c. record { channel = c.channel; role = c.role; call = c.call; vector = c.vector }) s.channels in
     list_all-append (within r) own (use_ends r s.component)

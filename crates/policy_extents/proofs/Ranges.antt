@@ -6,11 +6,11 @@ use Rattle.std.specs.List.Sorted.{IsPermutation, IsNonDecreasingBy}
 use Rattle.std.proofs.lemmas.Bool.{cases_eq, cases_order, leb-true, le-leb, false≢true}
 use Rattle.std.proofs.lemmas.List.Edits.{Swapped, swapped_from_swap, length-swap}
 use Rattle.std.proofs.lemmas.List.Sorted.{IsPermutation-keeps}
-use Rattle.policy_extents.specs.declared.overlap.Span.{Span}
-use Rattle.policy_extents.specs.Span.{IsBelow}
+use Rattle.policy_extents.specs.declared.overlap.AddressRange.{AddressRange}
+use Rattle.policy_extents.specs.AddressRange.{IsBelow}
 
 -- two ranges share no address
-abbrev pub IsApart : Span → Span → Type 0
+abbrev pub IsApart : AddressRange → AddressRange → Type 0
 IsApart a b = IsBelow a b ⊎ IsBelow b a
 
 -- each two elements are related, in both orders
@@ -47,7 +47,7 @@ EachTwo-permutation R xs ys p h = IsPermutation-keeps xs (EachTwo R) h (λ l i j
 -- ---- in the order of their addresses
 
 -- where each ends before the next begins, each two are apart
-pub apart_from_neighbours : (xs : List Span) → IsNonDecreasingBy (λ s. s.address) xs → AllAdjacentBelow IsBelow xs (length xs) → EachTwo IsApart xs
+pub apart_from_neighbours : (xs : List AddressRange) → IsNonDecreasingBy (λ s. s.address) xs → AllAdjacentBelow IsBelow xs (length xs) → EachTwo IsApart xs
 apart_from_neighbours xs up near i j d li lj n =
     elim (cases_order i j) [
       | inl e ↦ absurd (n e)
@@ -64,18 +64,18 @@ apart_from_neighbours xs up near i j d li lj n =
     ]
 
 -- and back, where none is empty
-pub neighbours_from_apart : (xs : List Span) → All (λ s. 0 < s.size) xs → IsNonDecreasingBy (λ s. s.address) xs → EachTwo IsApart xs → AllAdjacentBelow IsBelow xs (length xs)
+pub neighbours_from_apart : (xs : List AddressRange) → All (λ s. 0 < s.size) xs → IsNonDecreasingBy (λ s. s.address) xs → EachTwo IsApart xs → AllAdjacentBelow IsBelow xs (length xs)
 neighbours_from_apart xs full up h k d l =
     let on = up k (k + 1) d (omega arith) l in
     let some = full (k + 1) d l in
     elim (h k (k + 1) d (omega arith) l (omega arith)) [ inl e ↦ e | inr e ↦ absurd (omega arith) ]
 
 -- what a test of neighbours answers
-pub below_is : (xs : List Span) (r : Bool) → IsAllAdjacentAnswer (λ a b t. t ≡ leb (a.address + a.size) b.address) xs r → (r ≡ true) ↔ AllAdjacentBelow IsBelow xs (length xs)
+pub below_is : (xs : List AddressRange) (r : Bool) → IsAllAdjacentAnswer (λ a b t. t ≡ leb (a.address + a.size) b.address) xs r → (r ≡ true) ↔ AllAdjacentBelow IsBelow xs (length xs)
 below_is xs true h = (λ e k d l. leb-true _ _ (sym (h k d l)), λ all. refl)
 below_is xs false h = (
   λ e. absurd (false≢true e),
   λ all.
-      let none : Span = record { address = 0; size = 0 } in
+      let none : AddressRange = record { address = 0; size = 0 } in
       absurd (false≢true (h.2 none ∙ le-leb _ _ (all h.0 none h.1))),
 )
