@@ -57,8 +57,8 @@ fn place(alloc: Global, policy: Lawful) -> Result<Placed, Refusal>
     region_alloc::place(alloc, expanded)
 }
 
-/// The policy of a document with the addresses of its regions, where it keeps every rule and there is
-/// room for them.
+/// The policy of a document with the addresses of its regions, where it keeps every rule and there
+/// is room for them.
 ///
 /// Answers as `lawful` does where a rule is broken or less; else `NoRoom` with the first region that
 /// has no room, and `NoMemory` where memory was refused. What memory holds is not looked at.
@@ -87,8 +87,8 @@ fn read_contents<F: Files>(
     Ok(found)
 }
 
-/// The policy of a document with the addresses of its regions, where it keeps every rule, its contents
-/// fit and there is room for it, and the component files that the contents name. The document was read under this name: where a content names it, these
+/// The policy of a document with the addresses of its regions, where it keeps every rule, its
+/// contents fit and there is room for it, and the component files that the contents name. The document was read under this name: where a content names it, these
 /// bytes stand for it. Each other file is read once, where the first content names it.
 ///
 /// Answers as `lawful` does where it is refused for less; else for the first region by number:

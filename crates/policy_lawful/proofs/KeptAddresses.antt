@@ -1,5 +1,5 @@
--- Rule 4: blocks are ranges of physical memory, regions have their sizes, alignments and addresses, and windows are ranges of
--- guest addresses.
+-- Rule 4: blocks are ranges of physical memory, regions have their sizes, alignments and addresses, and windows are ranges
+-- of guest addresses.
 use Rattle.std.proofs.Common.{◌≡◌, true, None}
 use Rattle.std.specs.List.{list_all}
 use Rattle.policy_lawful.specs.Rules.{is_page_size, is_physical, is_guest, is_laid, component_offence, window_extents, window_offence, offence_4}

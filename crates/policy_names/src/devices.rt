@@ -38,7 +38,8 @@ impl Refers for source::DeviceUse {
     }
 }
 
-// The use of the device at this index, which has these names, by the subject that has the name `by`.
+// The use of the device at this index, which has these names, by the subject that has the name
+// `by`.
 #[tactic(auto, using(crate::proofs::Refusals::one_behind_another))]
 fn resolve_parts(
     alloc: Global,

@@ -93,8 +93,8 @@ impl NameSet {
         self.names.get_index_of(&name)
     }
 
-    /// The index of a name that an element refers to; where it isn't declared, the refusal by rule 2
-    /// of the element, which has the name `by`.
+    /// The index of a name that an element refers to; where it isn't declared, the refusal by rule
+    /// 2 of the element, which has the name `by`.
     #[tactic(auto, using(crate::proofs::Names::sought))]
     pub fn index_of(&self, by: Name, name: Name) -> Result<usize, Refusal>
         ensures { Keeps (broken 2 (undeclared (refers by self.now name))) (StandsFor (name_at self.now) (λ index. nat_lt index (length self.now)) name) result }

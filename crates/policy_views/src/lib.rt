@@ -1,4 +1,5 @@
-//! What the subjects of a resolved policy see, by indexes: their windows, and their ends of channels.
+//! What the subjects of a resolved policy see, by indexes: their windows, and their ends of
+//! channels.
 #![tactic(auto)]
 
 mod ends;
