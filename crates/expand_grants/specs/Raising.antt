@@ -1,4 +1,4 @@
--- The events that a subject raises, by the places of a resolved policy, and numbers that fit.
+-- The events that a subject raises, by the indexes of a resolved policy, and numbers that fit.
 use Rattle.std.specs.Prelude.{ℕ, ◌^◌, ◌==◌, ◌&&◌, Bool, true, List, ◌++◌, map, nat_lt, slice_get, Option, Some, None, option_and_then, option_map}
 use Rattle.std.specs.Option.{option_map_or}
 use Rattle.std.specs.List.{enumerate_from, filter_map, find, flat_map, list_all}
@@ -23,30 +23,30 @@ use Rattle.policy_views.specs.declared.view.ChannelEnd.{ChannelEnd}
 -- ---- subjects that are reached
 
 abbrev pub target_reached : ℕ → EventTarget → Reached
-target_reached place t = record { by = t.event; subject = place; vector = t.vector }
+target_reached index t = record { by = t.event; subject = index; vector = t.vector }
 
--- by the targets of a subject with its place
+-- by the targets of a subject with its index
 abbrev pub subject_targets : ℕ × Subject → List Reached
-subject_targets (place, s) = map (target_reached place) s.targets
+subject_targets (index, s) = map (target_reached index) s.targets
 
 abbrev pub all_targets : List Subject → List Reached
 all_targets subjects = flat_map subject_targets (enumerate_from 0 subjects)
 
--- a subject at a place by an end of this role
+-- a subject at an index by an end of this role
 abbrev pub reader_reached : ℕ → ChannelEnd → Role → Option Reached
-reader_reached place e Reader = Some (record { by = e.channel; subject = place; vector = e.vector })
-reader_reached place e Writer = None
+reader_reached index e Reader = Some (record { by = e.channel; subject = index; vector = e.vector })
+reader_reached index e Writer = None
 
--- by the ends of a subject with its place
+-- by the ends of a subject with its index
 abbrev pub subject_readers : Resolution → ℕ × Subject → List Reached
-subject_readers r (place, s) = filter_map (λ e. reader_reached place e e.role) (ends_of r s)
+subject_readers r (index, s) = filter_map (λ e. reader_reached index e e.role) (ends_of r s)
 
 abbrev pub all_readers : Resolution → List Reached
 all_readers r = flat_map (subject_readers r) (enumerate_from 0 r.subjects)
 
--- the first by the event, or the channel, at a place
+-- the first by the event, or the channel, at an index
 abbrev pub first_reached : List Reached → ℕ → Option Reached
-first_reached list place = find (λ x. x.by == place) list
+first_reached list index = find (λ x. x.by == index) list
 
 -- ---- events that are raised
 

@@ -61,7 +61,7 @@ fn add_sources(
     Ok(())
 }
 
-// The event of the channel at a place, raised by a call.
+// The event of the channel at an index, raised by a call.
 fn call_entry(
     channels: &[Channel],
     readers: &[Reached],

@@ -3,7 +3,7 @@ use Rattle.std.proofs.Common.{◌≡◌, ◌⊎◌, inl, inr, ℕ, suc, List, []
 use Rattle.std.specs.List.{All}
 use Rattle.ept_count.specs.Pages.{ept_pages}
 use Rattle.expand_grants.specs.declared.granted.Grants.{Grants}
-use Rattle.expand_kernel.specs.ByPlace.{CanMap, kernel_for, kernel_for_each, mapped_views}
+use Rattle.expand_kernel.specs.ByIndex.{CanMap, kernel_for, kernel_for_each, mapped_views}
 use Rattle.expand_kernel.specs.Regions.{kernel_regions}
 use Rattle.expand_kernel.specs.declared.region.Region.{Region}
 use Rattle.policy_lawful.specs.declared.resolved.Subject.{Subject}

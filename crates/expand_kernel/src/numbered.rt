@@ -2,7 +2,7 @@
 //! the subjects' components bring along.
 ghost use Rattle.std.specs.Prelude.{◌≡◌, map, IfOk};
 ghost use Rattle.std.specs.List.{flat_map};
-ghost use Rattle.expand_kernel.specs.ByPlace.{brought_at, provided_at};
+ghost use Rattle.expand_kernel.specs.ByIndex.{brought_at, provided_at};
 ghost use Rattle.expand_kernel.specs.Regions.{anywhere, channel_region, own_region, provided_region};
 
 use crate::region::{Region, RegionKind};
@@ -101,7 +101,7 @@ fn provided_by<'a>(components: &'a [Component], used: &Option<ComponentUse>) -> 
 }
 
 // What a subject's component brings along.
-#[tactic(auto, unfolding(crate::specs::ByPlace::brought_at))]
+#[tactic(auto, unfolding(crate::specs::ByIndex::brought_at))]
 fn of_subject(
     alloc: Global,
     components: &[Component],

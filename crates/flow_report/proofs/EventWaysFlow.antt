@@ -17,7 +17,7 @@ use Rattle.flow_report.specs.Flows.{by_channel, by_event, is_writer, reaches, wa
 use Rattle.flow_report.proofs.EventWays.{by_either, by_source, end_of_way, from_source, source_of_way, way_counts}
 use Rattle.muen_num.proofs.Members.{In, any_in, any_some, filter_some, flat_some, map_some}
 use Rattle.flow_report.proofs.MarkedSets.{HasUniqueNames}
-use Rattle.flow_report.proofs.PlacesOfSubjects.{at_in}
+use Rattle.flow_report.proofs.IndexesOfSubjects.{at_in}
 
 -- u raises by one of its sources an event whose target is s
 abbrev pub by_sources : Source → Subject → Subject → Bool

@@ -4,12 +4,12 @@ pub mod DirectFlows
 pub mod EventFlows
 pub mod EventWays
 pub mod EventWaysFlow
-pub mod FacesByPlace
-pub mod FlowsByPlace
+pub mod ContactsByIndex
+pub mod FlowsByIndex
 pub mod MarkedSets
 pub mod MemoryFlows
 pub mod MonitorFlows
 pub mod NumberedTexts
-pub mod PlacesOfSubjects
+pub mod IndexesOfSubjects
 pub mod Rounds
 pub mod TextOfFlows

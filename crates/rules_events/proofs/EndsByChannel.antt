@@ -1,4 +1,4 @@
--- The ends of a channel by names and by places.
+-- The ends of a channel by names and by indexes.
 use Rattle.std.proofs.Common.{◌≡◌, ℕ, ◌<◌, Bool, true, false, cond, List, [], ◌∷◌, length, map, None, refl, sym, ap, ◌∙◌, arith}
 use Rattle.std.specs.Prelude.{◌==◌, filter, nat_lt, not}
 use Rattle.std.specs.Str.{bytes_eq}
@@ -8,7 +8,7 @@ use Rattle.policy_lawful.specs.MoreRules as rules
 use Rattle.policy_lawful.specs.MoreRules.{is_writer, readers_of, writers_of}
 use Rattle.policy_lawful.specs.Resolution.{Resolution, IsResolved, name_at, source_of, subject_named, subject_placed}
 use Rattle.policy_lawful.specs.Rules.{repeated}
-use Rattle.policy_lawful.specs.declared.resolved.Subject.{Subject as PlacedSubject}
+use Rattle.policy_lawful.specs.declared.resolved.Subject.{Subject as ResolvedSubject}
 use Rattle.policy_lawful.proofs.Places.{same_name}
 use Rattle.policy_lawful.proofs.SourceElements.{parts_placed}
 use Rattle.policy_lawful.proofs.UniqueNames.{unique}
@@ -16,7 +16,7 @@ use Rattle.policy_meaning.specs.Events.{ChannelEnd, channel_ends}
 use Rattle.policy_views.specs.Views.{end_named, ends_of}
 use Rattle.policy_views.specs.declared.view.ChannelEnd.{ChannelEnd}
 use Rattle.policy_views.proofs.EndsByPlace.{ends_by_place, ends_placed}
-use Rattle.rules_events.specs.ByPlace.{items_at}
+use Rattle.rules_events.specs.ByIndex.{items_at}
 use Rattle.rules_events.specs.Ends.{met, met_ends, all_ends, all_readers, all_writers, reads, writes}
 use Rattle.rules_events.specs.Parties.{party}
 use Rattle.rules_events.specs.declared.ends.Met.{Met}
@@ -41,7 +41,7 @@ same_channel r j k h ok within =
     same_name (channel_names r) j k (channels_unique r h) (omega (arith, many, here)) (omega (arith, many, within))
 
 -- of one subject
-of_subject : (r : Resolution) (k n : ℕ) (s : PlacedSubject) → IsResolved r → k < length r.channels → subject_placed r s ≡ true
+of_subject : (r : Resolution) (k n : ℕ) (s : ResolvedSubject) → IsResolved r → k < length r.channels → subject_placed r s ≡ true
     → map (λ e. (s.name, e)) (filter (λ e. bytes_eq e.channel (name_at (channel_names r) k)) (channel_ends (source_of r) (subject_named r s))) ≡ map (met_named r) (items_at k (met_ends r (n, s)))
 of_subject r k n s h within ok =
     ap (λ es. map (λ e. (s.name, e)) (filter (λ e. bytes_eq e.channel (name_at (channel_names r) k)) es)) (ends_by_place r s h ok)

@@ -1,4 +1,4 @@
--- Who writes each channel and who reads it, by places.
+-- Who writes each channel and who reads it, by indexes.
 use Rattle.std.specs.Prelude.{ℕ, Bool, List, map, filter, not}
 use Rattle.std.specs.List.{enumerate_from, flat_map}
 use Rattle.policy_lawful.specs.MoreRules.{is_writer}
@@ -13,9 +13,9 @@ use Rattle.rules_events.specs.declared.parties.Party.{Party}
 abbrev pub met : Party → ChannelEnd → Met
 met p e = record { party = p; end = e }
 
--- the ends of a subject with its place, each at its channel
+-- the ends of a subject with its index, each at its channel
 abbrev pub met_ends : Resolution → ℕ × Subject → List (ℕ × Met)
-met_ends r (place, s) = map (λ e. (e.channel, met (party (place, s)) e)) (ends_of r s)
+met_ends r (index, s) = map (λ e. (e.channel, met (party (index, s)) e)) (ends_of r s)
 
 abbrev pub all_ends : Resolution → List (ℕ × Met)
 all_ends r = flat_map (met_ends r) (enumerate_from 0 r.subjects)

@@ -1,4 +1,4 @@
-pub mod ByPlace
+pub mod ByIndex
 pub mod Calls
 pub mod Channels
 pub mod Components

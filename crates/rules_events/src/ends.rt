@@ -3,11 +3,11 @@ ghost use Rattle.std.specs.Prelude.{◌≡◌, ◌++◌, filter, length, map, no
 ghost use Rattle.std.specs.List.{enumerate_from, flat_map};
 ghost use Rattle.policy_lawful.specs.MoreRules.{is_writer};
 ghost use Rattle.policy_lawful.specs.Resolution.{IsResolved};
-ghost use Rattle.rules_events.specs.ByPlace.{AreItems};
+ghost use Rattle.rules_events.specs.ByIndex.{AreItems};
 ghost use Rattle.rules_events.specs.Ends.{met, met_ends, all_ends, all_writers, all_readers};
 ghost use Rattle.rules_events.specs.Parties.{party};
 
-use crate::by_place::by_place;
+use crate::by_index::by_index;
 use crate::parties::Party;
 use muen_num::{NoMemory, Seq};
 use policy_lawful::Resolved;
@@ -26,31 +26,31 @@ pub(crate) struct Met {
 // Notes a subject's ends at their channels.
 fn note_ends(
     noted: &mut Vec<(usize, Met)>,
-    place: usize,
+    index: usize,
     subject: &Subject,
     ends: &[ChannelEnd],
 ) -> Result<(), NoMemory>
-    ensures { IfOk result (λ _. noted.new.items ≡ noted.old.items ++ map (λ e. (e.channel, met (party (place, subject.now)) e)) ends.now) }
+    ensures { IfOk result (λ _. noted.new.items ≡ noted.old.items ++ map (λ e. (e.channel, met (party (index, subject.now)) e)) ends.now) }
 {
     for end in ends {
         let party = Party {
             name: subject.name,
-            place,
+            index,
         };
         noted.push((end.channel, Met { party, end: *end }))?;
     }
     Ok(())
 }
 
-// All ends of channels, each with the place of its channel, in the order of their subjects.
+// All ends of channels, each with the index of its channel, in the order of their subjects.
 fn all_ends(alloc: Global, policy: &Resolved) -> Result<Vec<(usize, Met)>, NoMemory>
     ensures ends { IfOk result (λ v. v.items ≡ all_ends policy.now) }
     ensures resolved { IsResolved policy.now }
 {
     let mut noted = Vec::new(alloc);
-    for (place, subject) in policy.subjects().iter().enumerate() {
+    for (index, subject) in policy.subjects().iter().enumerate() {
         let ends = ends(alloc, policy, subject)?;
-        note_ends(&mut noted, place, subject, &ends)?;
+        note_ends(&mut noted, index, subject, &ends)?;
     }
     Ok(noted)
 }
@@ -103,7 +103,7 @@ pub(crate) fn writers_by_channel(
 {
     let noted = all_ends(alloc, policy)?;
     let kept = of_writers(alloc, &noted)?;
-    by_place(alloc, &kept, policy.channels().len())
+    by_index(alloc, &kept, policy.channels().len())
 }
 
 /// For each channel the ends of its readers.
@@ -118,5 +118,5 @@ pub(crate) fn readers_by_channel(
 {
     let noted = all_ends(alloc, policy)?;
     let kept = of_readers(alloc, &noted)?;
-    by_place(alloc, &kept, policy.channels().len())
+    by_index(alloc, &kept, policy.channels().len())
 }

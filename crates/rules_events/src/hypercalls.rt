@@ -58,7 +58,7 @@ fn calls_of_ends(alloc: Global, ends: &[ChannelEnd]) -> Result<Vec<u64>, AllocEr
 }
 
 // Whether the numbers are below the end of calls and traps, no two equal.
-#[tactic(auto, using(crate::proofs::NumbersByPlace::numbers_in))]
+#[tactic(auto, using(crate::proofs::NumbersByIndex::numbers_in))]
 fn are_numbers(numbers: &[u64]) -> bool
     ensures { result ≡ are_numbers numbers.now }
 {
@@ -103,7 +103,7 @@ fn first_call(
 /// traps, or with a number that is too great.
 ///
 /// Answers `NoMemory` where memory was refused.
-#[tactic(auto, using(crate::proofs::NumbersByPlace::calls_by_place))]
+#[tactic(auto, using(crate::proofs::NumbersByIndex::calls_by_index))]
 pub fn calls(alloc: Global, policy: &Resolved) -> Result<Option<Offence>, NoMemory>
     ensures { IfOk result (λ o. o ≡ offence_14 (source_of policy.now)) }
 {

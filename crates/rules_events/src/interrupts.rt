@@ -25,11 +25,11 @@ pub(crate) fn is_switch(mode: EventMode) -> bool
     }
 }
 
-// Whether the event at a place switches.
-fn switches(events: &[Event], place: usize) -> bool
-    ensures { result ≡ switches events.now place }
+// Whether the event at an index switches.
+fn switches(events: &[Event], index: usize) -> bool
+    ensures { result ≡ switches events.now index }
 {
-    match events.get(place) {
+    match events.get(index) {
         None => false,
         Some(event) => is_switch(event.mode),
     }
@@ -126,7 +126,7 @@ fn first_vector(
 /// its event doesn't switch, or with a vector that is none for interrupts or stands twice.
 ///
 /// Answers `NoMemory` where memory was refused.
-#[tactic(auto, using(crate::proofs::NumbersByPlace::vectors_by_place))]
+#[tactic(auto, using(crate::proofs::NumbersByIndex::vectors_by_index))]
 pub fn vectors(alloc: Global, policy: &Resolved) -> Result<Option<Offence>, NoMemory>
     ensures { IfOk result (λ o. o ≡ offence_15 (source_of policy.now)) }
 {

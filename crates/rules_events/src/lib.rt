@@ -1,7 +1,7 @@
 //! The rules on channels, components, events, interrupts and monitors, over a resolved policy.
 #![tactic(auto)]
 
-mod by_place;
+mod by_index;
 mod channels;
 mod components;
 mod directions;

@@ -4,13 +4,13 @@ use Rattle.rules_events.specs.Parties.{party}
 use Rattle.rules_events.proofs.NotedItems.{flat_more}
 use Rattle.rules_events.proofs.ends.all_ends.Goals as goal
 
-pub loop-place-preserved : goal.loop-place-preserved
-loop-place-preserved c =
+pub loop-index-preserved : goal.loop-index-preserved
+loop-index-preserved c =
     let s = c.subject-item.result in
     let r = c.args.policy.now in
     c.in_ok-note_ends.ensures
-    ∙ ap (λ es. c.loop-place.noted.items ++ map (λ e. (e.channel, met (party (c.loop-place.place, s)) e)) es) (c.deref.ensures.value ∙ c.in_ok-ends.ensures)
-    ∙ ap (λ xs. xs ++ met_ends r (c.loop-place.place, s)) c.loop-place.invariant
-    ∙ sym (flat_more (met_ends r) r.subjects c.loop-place.place s
-    (subst (λ ss. c.loop-place.place < length ss) c.subjects-subject-items.ensures.value c.loop-place-test.true)
-    (subst (λ ss. s ≡ get_or ss c.loop-place.place s) c.subjects-subject-items.ensures.value c.subject-item.is))
+    ∙ ap (λ es. c.loop-index.noted.items ++ map (λ e. (e.channel, met (party (c.loop-index.index, s)) e)) es) (c.deref.ensures.value ∙ c.in_ok-ends.ensures)
+    ∙ ap (λ xs. xs ++ met_ends r (c.loop-index.index, s)) c.loop-index.invariant
+    ∙ sym (flat_more (met_ends r) r.subjects c.loop-index.index s
+    (subst (λ ss. c.loop-index.index < length ss) c.subjects-subject-items.ensures.value c.loop-index-test.true)
+    (subst (λ ss. s ≡ get_or ss c.loop-index.index s) c.subjects-subject-items.ensures.value c.subject-item.is))
