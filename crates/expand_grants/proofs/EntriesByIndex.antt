@@ -22,7 +22,7 @@ use Rattle.policy_views.specs.Views.{end_named, ends_of}
 use Rattle.policy_views.specs.declared.view.ChannelEnd.{ChannelEnd}
 use Rattle.policy_views.proofs.EndsByPlace.{ends_by_place, ends_placed}
 use Rattle.expand_grants.specs.Grants.{entry_raised, is_way, raised_named}
-use Rattle.expand_grants.specs.Raising.{all_readers, all_targets, call_entry, end_entry, entries_of, entry, first_reached, source_entry, way_of, writer_call}
+use Rattle.expand_grants.specs.Raising.{all_readers, all_targets, call_entry, channel_end_entry, entries_of, entry, first_reached, source_entry, way_of, writer_call}
 use Rattle.expand_grants.specs.declared.granted.EventEntry.{EventEntry}
 use Rattle.expand_grants.specs.declared.granted.Way.{Way}
 use Rattle.expand_grants.specs.declared.granted.Way.TheVariants.{Call}
@@ -104,56 +104,56 @@ module _ (way : SourceWay) where
         by_mode None h = absurd (cc)
         by_mode (Some m) h = by_reader m (first_reached (all_readers r) channel) h
 
-    end_way : (e : ChannelEnd) (role : Role) (call : Option ℕ) → (b : Bool) → b ≡ writes_by (record { channel = name_at (channel_names r) e.channel; role = role; call = call; vector = e.vector }) role way
+    channel_end_way : (e : ChannelEnd) (role : Role) (call : Option ℕ) → (b : Bool) → b ≡ writes_by (record { channel = name_at (channel_names r) e.channel; role = role; call = call; vector = e.vector }) role way
         → option_map_or of_way (option_and_then (call_entry r.channels (all_readers r) e.channel) (writer_call (record { channel = e.channel; role = role; call = call; vector = e.vector }) role)) b ≡ b
-    end_way e Reader call b is = refl
-    end_way e Writer None b is = refl
-    end_way e Writer (Some n) b is = called_way e n b (call_same way n ∙ sym is) (call_entry r.channels (all_readers r) e.channel n) (λ x h. entry_called e.channel n x h)
+    channel_end_way e Reader call b is = refl
+    channel_end_way e Writer None b is = refl
+    channel_end_way e Writer (Some n) b is = called_way e n b (call_same way n ∙ sym is) (call_entry r.channels (all_readers r) e.channel n) (λ x h. entry_called e.channel n x h)
 
-    end_some : (e : ChannelEnd) (role : Role) (call : Option ℕ)
+    channel_end_some : (e : ChannelEnd) (role : Role) (call : Option ℕ)
         → option_map_or (λ n. is_some (call_entry r.channels (all_readers r) e.channel n)) (writer_call (record { channel = e.channel; role = role; call = call; vector = e.vector }) role) true ≡ true
         → writes_by (record { channel = name_at (channel_names r) e.channel; role = role; call = call; vector = e.vector }) role way ≡ true
         → is_some (option_and_then (call_entry r.channels (all_readers r) e.channel) (writer_call (record { channel = e.channel; role = role; call = call; vector = e.vector }) role)) ≡ true
-    end_some e Reader call h hit = absurd (cc)
-    end_some e Writer None h hit = absurd (no way hit)
+    channel_end_some e Reader call h hit = absurd (cc)
+    channel_end_some e Writer None h hit = absurd (no way hit)
       where
         no : (way : SourceWay) → is_call None way ≡ true → ⊥
         no (SourceCall m) h = cc
         no (SourceTrap m) h = cc
-    end_some e Writer (Some n) h hit = h
+    channel_end_some e Writer (Some n) h hit = h
 
-    end_is : (e : ChannelEnd) (role : Role) (call : Option ℕ) → e.channel < length r.channels
+    channel_end_is : (e : ChannelEnd) (role : Role) (call : Option ℕ) → e.channel < length r.channels
         → writes_by (record { channel = name_at (channel_names r) e.channel; role = role; call = call; vector = e.vector }) role way ≡ true
         → channel_event (source_of r) (name_at (channel_names r) e.channel)
         ≡ option_map (raised_named r) (option_and_then (call_entry r.channels (all_readers r) e.channel) (writer_call (record { channel = e.channel; role = role; call = call; vector = e.vector }) role))
-    end_is e Reader call l hit = absurd (cc)
-    end_is e Writer None l hit = absurd (no way hit)
+    channel_end_is e Reader call l hit = absurd (cc)
+    channel_end_is e Writer None l hit = absurd (no way hit)
       where
         no : (way : SourceWay) → is_call None way ≡ true → ⊥
         no (SourceCall m) h = cc
         no (SourceTrap m) h = cc
-    end_is e Writer (Some n) l hit = channel_by_index r q e.channel l n
+    channel_end_is e Writer (Some n) l hit = channel_by_index r q e.channel l n
 
     abbrev is_met : ChannelEnd → Bool
     is_met e = nat_lt e.channel (length r.channels) && raises e
 
-    end_found : list_all is_met (ends_of r s) ≡ true
+    channel_end_found : list_all is_met (ends_of r s) ≡ true
         → option_and_then (λ e. channel_event (source_of r) e.channel) (find (λ e. writes_by e e.role way) (map (end_named r) (ends_of r s)))
-        ≡ option_map (raised_named r) (find of_way (filter_map (end_entry r.channels (all_readers r)) (ends_of r s)))
-    end_found met =
-        found_filtered (λ (e : ChannelEnd). writes_by e e.role way) (end_named r) (end_entry r.channels (all_readers r)) of_way (λ e. channel_event (source_of r) e.channel) (raised_named r)
+        ≡ option_map (raised_named r) (find of_way (filter_map (channel_end_entry r.channels (all_readers r)) (ends_of r s)))
+    channel_end_found met =
+        found_filtered (λ (e : ChannelEnd). writes_by e e.role way) (end_named r) (channel_end_entry r.channels (all_readers r)) of_way (λ e. channel_event (source_of r) e.channel) (raised_named r)
         is_met
-        (λ e ok. end_way e e.role e.call (writes_by (end_named r e) e.role way) refl)
-        (λ e ok hit. end_some e e.role e.call (and_parts (nat_lt e.channel (length r.channels)) (raises e) ok).1 hit)
-        (λ e ok hit. end_is e e.role e.call (ltb-true e.channel (length r.channels) (and_parts (nat_lt e.channel (length r.channels)) (raises e) ok).0) hit)
+        (λ e ok. channel_end_way e e.role e.call (writes_by (end_named r e) e.role way) refl)
+        (λ e ok hit. channel_end_some e e.role e.call (and_parts (nat_lt e.channel (length r.channels)) (raises e) ok).1 hit)
+        (λ e ok hit. channel_end_is e e.role e.call (ltb-true e.channel (length r.channels) (and_parts (nat_lt e.channel (length r.channels)) (raises e) ok).0) hit)
         (ends_of r s) met
 
 -- ---- of a subject
 
 -- each end is at a channel, and a writer's call raises an event
-ends_met : (r : Resolution) (k : ℕ) (s : Subject) → IsResolved r → offence_6 (source_of r) ≡ None → slice_get r.subjects k ≡ Some s → subject_placed r s ≡ true
+channel_ends_met : (r : Resolution) (k : ℕ) (s : Subject) → IsResolved r → offence_6 (source_of r) ≡ None → slice_get r.subjects k ≡ Some s → subject_placed r s ≡ true
     → list_all (λ e. nat_lt e.channel (length r.channels) && option_map_or (λ n. is_some (call_entry r.channels (all_readers r) e.channel n)) (writer_call e e.role) true) (ends_of r s) ≡ true
-ends_met r k s q lawful at in_range =
+channel_ends_met r k s q lawful at in_range =
     all_at (λ (e : ChannelEnd). nat_lt e.channel (length r.channels) && option_map_or (λ n. is_some (call_entry r.channels (all_readers r) e.channel n)) (writer_call e e.role) true) (ends_of r s)
     (λ i e in_it.
     let ok = passes_at (λ e. nat_lt e.channel (length r.channels)) (ends_of r s) i e (ends_placed r s in_range) in_it in
@@ -170,10 +170,10 @@ pub events_by_index : (r : Resolution) (k : ℕ) (s : Subject) → IsResolved r 
 unfolding event_of
 events_by_index r k s q lawful_6 lawful_12 at in_range way =
     let by_source = filter_map (source_entry r.events (all_targets r.subjects)) s.sources in
-    let by_end = filter_map (end_entry r.channels (all_readers r)) (ends_of r s) in
-    ap (option_map (raised_named r)) (find-append (λ e. is_way way e.way) by_source by_end)
-    ∙ both_raised (raised_named r) (find (λ e. is_way way e.way) by_source) (find (λ e. is_way way e.way) by_end)
-    ∙ ap (λ o. option_or o (option_map (raised_named r) (find (λ e. is_way way e.way) by_end))) (sym (source_found way r q s in_range lawful_12))
+    let by_channel_end = filter_map (channel_end_entry r.channels (all_readers r)) (ends_of r s) in
+    ap (option_map (raised_named r)) (find-append (λ e. is_way way e.way) by_source by_channel_end)
+    ∙ both_raised (raised_named r) (find (λ e. is_way way e.way) by_source) (find (λ e. is_way way e.way) by_channel_end)
+    ∙ ap (λ o. option_or o (option_map (raised_named r) (find (λ e. is_way way e.way) by_channel_end))) (sym (source_found way r q s in_range lawful_12))
     ∙ ap (option_or (option_and_then (λ e. named_event (source_of r) e.event) (find (λ e. same_way e.way way) (subject_named r s).sources)))
-    (sym (end_found way r q s in_range (ends_met r k s q lawful_6 at in_range))
+    (sym (channel_end_found way r q s in_range (channel_ends_met r k s q lawful_6 at in_range))
     ∙ ap (λ es. option_and_then (λ (e : ChannelEnd). channel_event (source_of r) e.channel) (find (λ e. writes_by e e.role way) es)) (sym (ends_by_place r s q in_range)))

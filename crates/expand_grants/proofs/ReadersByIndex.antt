@@ -144,12 +144,12 @@ module _ (r : Resolution) (q : IsResolved r) (k : ℕ) (within : k < length r.ch
       let each : list_all (λ s. list_all t' (of_one s)) p.subjects ≡ true = sym (all_filter t w (flat_map of_one p.subjects) ∙ all_flat t' of_one p.subjects) ∙ all in
       let one : list_all t' (of_one (subject_named r s)) ≡ true =
       passes_at (λ s. list_all t' (of_one (subject_named r s))) r.subjects j s (sym (list_all-map (λ s. list_all t' (of_one s)) (subject_named r) r.subjects) ∙ each) at in
-      let by_end : list_all (λ (x : ChannelEnd). not (bytes_eq x.channel name) || t' (s.name, x)) (channel_ends p (subject_named r s)) ≡ true =
+      let by_channel_end : list_all (λ (x : ChannelEnd). not (bytes_eq x.channel name) || t' (s.name, x)) (channel_ends p (subject_named r s)) ≡ true =
       sym (list_all-map t' (λ x. (s.name, x)) (filter (λ e. bytes_eq e.channel name) (channel_ends p (subject_named r s)))
       ∙ all_filter (λ x. t' (s.name, x)) (λ e. bytes_eq e.channel name) (channel_ends p (subject_named r s))) ∙ one in
       let by_index : list_all (λ x. not (bytes_eq (end_named r x).channel name) || t' (s.name, end_named r x)) (ends_of r s) ≡ true =
       sym (ap (list_all (λ (x : ChannelEnd). not (bytes_eq x.channel name) || t' (s.name, x))) (ends_by_place r s q h)
-      ∙ list_all-map (λ (x : ChannelEnd). not (bytes_eq x.channel name) || t' (s.name, x)) (end_named r) (ends_of r s)) ∙ by_end in
+      ∙ list_all-map (λ (x : ChannelEnd). not (bytes_eq x.channel name) || t' (s.name, x)) (end_named r) (ends_of r s)) ∙ by_channel_end in
       let mine = passes_at (λ x. not (bytes_eq (end_named r x).channel name) || t' (s.name, end_named r x)) (ends_of r s) i e by_index in_it in
       let same : bytes_eq (name_at (channel_names r) e.channel) name ≡ true = ap (λ n. bytes_eq (name_at (channel_names r) n) name) here ∙ same_self name in
       ap (λ b. not b || t' (s.name, end_named r e)) (sym same) ∙ mine

@@ -71,14 +71,14 @@ abbrev pub writer_call : ChannelEnd → Role → Option ℕ
 writer_call e Writer = e.call
 writer_call e Reader = None
 
-abbrev pub end_entry : List Channel → List Reached → ChannelEnd → Option EventEntry
-end_entry channels readers e = option_and_then (call_entry channels readers e.channel) (writer_call e e.role)
+abbrev pub channel_end_entry : List Channel → List Reached → ChannelEnd → Option EventEntry
+channel_end_entry channels readers e = option_and_then (call_entry channels readers e.channel) (writer_call e e.role)
 
 -- by the sources of a subject, then by its ends of channels
 abbrev pub entries_of : Resolution → Subject → List EventEntry
 entries_of r s =
     filter_map (source_entry r.events (all_targets r.subjects)) s.sources
-    ++ filter_map (end_entry r.channels (all_readers r)) (ends_of r s)
+    ++ filter_map (channel_end_entry r.channels (all_readers r)) (ends_of r s)
 
 -- ---- numbers that fit
 
@@ -91,11 +91,11 @@ fits_target t = fits_number t.vector
 abbrev pub fits_targets : Subject → Bool
 fits_targets s = list_all fits_target s.targets
 
-abbrev pub fits_end : ChannelEnd → Bool
-fits_end e = fits_number e.call && fits_number e.vector
+abbrev pub fits_channel_end : ChannelEnd → Bool
+fits_channel_end e = fits_number e.call && fits_number e.vector
 
-abbrev pub fits_ends : Resolution → Subject → Bool
-fits_ends r s = list_all fits_end (ends_of r s)
+abbrev pub fits_channel_ends : Resolution → Subject → Bool
+fits_channel_ends r s = list_all fits_channel_end (ends_of r s)
 
 abbrev pub fits_way : SourceWay → Bool
 fits_way (SourceCall n) = nat_lt n (2 ^ 8)

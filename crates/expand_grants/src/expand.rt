@@ -64,7 +64,7 @@ fn of_subjects(
 /// What is granted to each subject, in the order of the subjects.
 ///
 /// Answers `NoMemory` where memory was refused.
-#[tactic(auto, using(crate::proofs::LawfulSubjects::targets_fit, crate::proofs::LawfulSubjects::ends_fit, crate::proofs::LawfulSubjects::devices_fit))]
+#[tactic(auto, using(crate::proofs::LawfulSubjects::targets_fit, crate::proofs::LawfulSubjects::channel_ends_fit, crate::proofs::LawfulSubjects::devices_fit))]
 pub fn grants(alloc: Global, policy: &Lawful) -> Result<Seq<Grants>, NoMemory>
     ensures { IfOk result (AreGrants policy.now) }
 {

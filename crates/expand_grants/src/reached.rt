@@ -2,7 +2,7 @@
 ghost use Rattle.std.specs.Prelude.{◌≡◌, ◌++◌, ◌==◌, true, map, option_map, IfOk};
 ghost use Rattle.std.specs.List.{filter_map, find, list_all};
 ghost use Rattle.policy_lawful.specs.Resolution.{IsResolved};
-ghost use Rattle.expand_grants.specs.Raising.{all_readers, all_targets, first_reached, fits_end, fits_ends, fits_number, fits_target, fits_targets, reader_reached, target_reached};
+ghost use Rattle.expand_grants.specs.Raising.{all_readers, all_targets, first_reached, fits_channel_end, fits_channel_ends, fits_number, fits_target, fits_targets, reader_reached, target_reached};
 
 use crate::append::push_some;
 use muen_num::NoMemory;
@@ -75,7 +75,7 @@ pub(crate) fn all_targets(alloc: Global, subjects: &[Subject]) -> Result<Vec<Rea
 }
 
 fn reader_reached(index: usize, end: &ChannelEnd) -> Option<Reached>
-    requires { fits_end end.now ≡ true }
+    requires { fits_channel_end end.now ≡ true }
     ensures { result ≡ reader_reached index end.now end.now.role }
 {
     match end.role {
@@ -90,7 +90,7 @@ fn reader_reached(index: usize, end: &ChannelEnd) -> Option<Reached>
 
 // Notes that a subject is reached by those of its ends that read.
 fn note_readers(noted: &mut Vec<Reached>, index: usize, ends: &[ChannelEnd]) -> Result<(), NoMemory>
-    requires { list_all fits_end ends.now ≡ true }
+    requires { list_all fits_channel_end ends.now ≡ true }
     ensures { IfOk result (λ _. noted.new.items ≡ noted.old.items ++ filter_map (λ e. reader_reached index e e.role) ends.now) }
 {
     for end in ends {
@@ -103,7 +103,7 @@ fn note_readers(noted: &mut Vec<Reached>, index: usize, ends: &[ChannelEnd]) -> 
 ///
 /// Answers `NoMemory` where memory was refused.
 pub(crate) fn all_readers(alloc: Global, policy: &Resolved) -> Result<Vec<Reached>, NoMemory>
-    requires { list_all (fits_ends policy.now) policy.now.subjects ≡ true }
+    requires { list_all (fits_channel_ends policy.now) policy.now.subjects ≡ true }
     ensures { IfOk result (λ v. v.items ≡ all_readers policy.now) }
 {
     let mut noted = Vec::new(alloc);

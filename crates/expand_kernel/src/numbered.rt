@@ -7,7 +7,7 @@ ghost use Rattle.expand_kernel.specs.Regions.{anywhere, channel_region, own_regi
 
 use crate::region::{Region, RegionKind};
 use muen_num::limits::PAGE;
-use muen_num::{Name, NoMemory, TagPart, Tag};
+use muen_num::{Name, NoMemory, Tag, TagPart};
 use policy_lawful::resolved::{ComponentUse, Subject};
 use policy_types::source::{Channel, Component, Provided, Region as Memory};
 use std::alloc::{AllocError, Global};
@@ -43,7 +43,12 @@ fn own_region(region: &Memory) -> Region
 fn channel_region(channel: &Channel) -> Region
     ensures { result ≡ channel_region channel.now }
 {
-    anywhere(RegionKind::Channel, channel.name, TagPart::Whole, channel.size)
+    anywhere(
+        RegionKind::Channel,
+        channel.name,
+        TagPart::Whole,
+        channel.size,
+    )
 }
 
 fn provided_region(subject: Name, provided: &Provided) -> Region

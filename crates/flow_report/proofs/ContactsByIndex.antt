@@ -1,4 +1,4 @@
--- The all_contacts of a policy's subjects, one more at a time.
+-- The contacts of a policy's subjects, one more at a time.
 use Rattle.std.proofs.Common.{◌≡◌, ℕ, ◌+◌, ◌<◌, List, [], ◌∷◌, ◌++◌, length, map, get_or, take, sym, ap, ◌∙◌, arith}
 use Rattle.std.specs.List.{enumerate_from}
 use Rattle.std.proofs.lemmas.List.{length-take-le, map-append, take_more}

@@ -1,4 +1,4 @@
--- The sets that are computed from all_contacts are the closures.
+-- The sets that are computed from contacts are the closures.
 use Rattle.std.proofs.Common.{◌≡◌, ℕ, ◌+◌, Bool, List, [], ◌∷◌, length, map, refl, sym, ap, ◌∙◌}
 use Rattle.std.specs.Prelude.{◌==◌}
 use Rattle.std.specs.List.{enumerate_from}

@@ -1,15 +1,15 @@
 pub mod ChannelFlows
 pub mod Closures
+pub mod ContactsByIndex
 pub mod DirectFlows
 pub mod EventFlows
 pub mod EventWays
 pub mod EventWaysFlow
-pub mod ContactsByIndex
 pub mod FlowsByIndex
+pub mod IndexesOfSubjects
 pub mod MarkedSets
 pub mod MemoryFlows
 pub mod MonitorFlows
 pub mod NumberedTexts
-pub mod IndexesOfSubjects
 pub mod Rounds
 pub mod TextOfFlows

@@ -74,10 +74,17 @@ fn round(alloc: Global, rows: &[Seq<bool>], marks: &[bool]) -> Result<Vec<bool>,
 }
 
 // One index alone.
-fn alone_marked(alloc: Global, all_contacts: &[Contacts], index: usize) -> Result<Vec<bool>, AllocError>
+fn alone_marked(
+    alloc: Global,
+    all_contacts: &[Contacts],
+    index: usize,
+) -> Result<Vec<bool>, AllocError>
     ensures { IfOk result (λ v. v.items ≡ alone_marked all_contacts.now index) }
 {
-    all_contacts.iter().map(|contacts| contacts.index == index).collect(alloc)
+    all_contacts
+        .iter()
+        .map(|contacts| contacts.index == index)
+        .collect(alloc)
 }
 
 // The set of those that can reach the subject at an index: as many rounds as there are subjects.

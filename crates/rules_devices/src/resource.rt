@@ -62,7 +62,11 @@ impl Resource {
     /// The indexes of this kind that a use of a device grants.
     ///
     /// Answers `AllocError` where memory was refused.
-    pub(crate) fn indexes(self, alloc: Global, granted: &DeviceUse) -> Result<Vec<usize>, AllocError>
+    pub(crate) fn indexes(
+        self,
+        alloc: Global,
+        granted: &DeviceUse,
+    ) -> Result<Vec<usize>, AllocError>
         ensures { IfOk result (λ v. v.items ≡ indexes_granted self granted.now) }
     {
         match self {

@@ -19,8 +19,8 @@ use Rattle.policy_meaning.specs.Events.{ChannelEnd}
 use Rattle.policy_types.specs.declared.source.Channel.{Channel}
 use Rattle.rules_events.specs.ByIndex.{AreItems}
 use Rattle.rules_events.specs.Channels.{channel_fault, fits_event, has_call, has_neither, is_apart, is_connected}
-use Rattle.rules_events.specs.Ends.{all_readers, all_writers}
-use Rattle.rules_events.specs.declared.ends.Met.{Met}
+use Rattle.rules_events.specs.ChannelEnds.{all_readers, all_writers}
+use Rattle.rules_events.specs.declared.channel_ends.Met.{Met}
 use Rattle.rules_events.proofs.EndsByChannel.{channel_names, met_named, readers_same, writers_same}
 
 -- what rule 6 asks of these writers and readers

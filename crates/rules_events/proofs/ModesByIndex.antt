@@ -32,9 +32,9 @@ use Rattle.policy_views.specs.Views.{ends_of}
 use Rattle.rules_events.specs.ByIndex.{AreItems, items_at}
 use Rattle.rules_events.specs.Listings.{all_memberships, memberships, share, stands_in}
 use Rattle.rules_events.specs.Directions.{channel_fault, channel_mode, channels_fault, event_fault, events_fault, fits_mode, mode_fault, parties_of, source_fault}
-use Rattle.rules_events.specs.Ends.{all_ends, all_readers, all_writers, met, met_ends}
+use Rattle.rules_events.specs.ChannelEnds.{all_channel_ends, all_readers, all_writers, met, met_channel_ends}
 use Rattle.rules_events.specs.Parties.{party, source_parties, sources_at, target_parties, targets_at}
-use Rattle.rules_events.specs.declared.ends.Met.{Met}
+use Rattle.rules_events.specs.declared.channel_ends.Met.{Met}
 use Rattle.rules_events.specs.declared.parties.Party.{Party}
 use Rattle.rules_events.proofs.ChannelsByIndex.{name_of_channel}
 use Rattle.rules_events.proofs.EndsByChannel.{channel_names, met_named, readers_same, writers_same}
@@ -235,16 +235,16 @@ targets_there r k =
     (each_noted (is_there r) target_parties 0 r.subjects
     (λ i s is. list_all-map (λ x. is_there r x.1) (λ e. (e.event, party (0 + i, s))) s.targets ∙ always (is_there r (party (0 + i, s))) (party_there r i s is) s.targets))
 
-ends_there : (r : Resolution) → list_all (λ x. is_there r x.1.party) (all_ends r) ≡ true
-ends_there r =
-    each_noted (λ m. is_there r m.party) (met_ends r) 0 r.subjects
+channel_ends_there : (r : Resolution) → list_all (λ x. is_there r x.1.party) (all_channel_ends r) ≡ true
+channel_ends_there r =
+    each_noted (λ m. is_there r m.party) (met_channel_ends r) 0 r.subjects
     (λ i s is. list_all-map (λ x. is_there r x.1.party) (λ e. (e.channel, met (party (0 + i, s)) e)) (ends_of r s) ∙ always (is_there r (party (0 + i, s))) (party_there r i s is) (ends_of r s))
 
 -- the parties of a channel's ends that pass a test
-parties_there : (r : Resolution) (test : ℕ × Met → Bool) (k : ℕ) → list_all (is_there r) (map (λ m. m.party) (items_at k (filter test (all_ends r)))) ≡ true
+parties_there : (r : Resolution) (test : ℕ × Met → Bool) (k : ℕ) → list_all (is_there r) (map (λ m. m.party) (items_at k (filter test (all_channel_ends r)))) ≡ true
 parties_there r test k =
-    list_all-map (is_there r) (λ m. m.party) (items_at k (filter test (all_ends r)))
-    ∙ at_passes (λ m. is_there r m.party) k (filter test (all_ends r)) (all_kept (λ x. is_there r x.1.party) test (all_ends r) (ends_there r))
+    list_all-map (is_there r) (λ m. m.party) (items_at k (filter test (all_channel_ends r)))
+    ∙ at_passes (λ m. is_there r m.party) k (filter test (all_channel_ends r)) (all_kept (λ x. is_there r x.1.party) test (all_channel_ends r) (channel_ends_there r))
 
 -- ---- channels and events
 

@@ -8,7 +8,7 @@ use Rattle.policy_lawful.specs.MoreRules.{is_switch}
 use Rattle.policy_lawful.specs.Offences.{alone}
 use Rattle.policy_lawful.specs.declared.offence.Offence.{Offence}
 use Rattle.policy_types.specs.declared.source.Channel.{Channel}
-use Rattle.rules_events.specs.declared.ends.Met.{Met}
+use Rattle.rules_events.specs.declared.channel_ends.Met.{Met}
 
 -- none of the readers is the writer's subject
 abbrev pub is_apart : List Met → Met → Bool

@@ -11,10 +11,10 @@ use Rattle.policy_types.specs.declared.source.Channel.{Channel}
 use Rattle.policy_types.specs.declared.source.Event.{Event}
 use Rattle.policy_lawful.specs.Resolution.{Resolution}
 use Rattle.rules_events.specs.ByIndex.{items_at}
-use Rattle.rules_events.specs.Ends.{all_readers, all_writers}
+use Rattle.rules_events.specs.ChannelEnds.{all_readers, all_writers}
 use Rattle.rules_events.specs.Listings.{share}
 use Rattle.rules_events.specs.Parties.{sources_at, targets_at}
-use Rattle.rules_events.specs.declared.ends.Met.{Met}
+use Rattle.rules_events.specs.declared.channel_ends.Met.{Met}
 use Rattle.rules_events.specs.declared.parties.Party.{Party}
 
 -- an event of this mode may join these subjects, of which the groups are noted

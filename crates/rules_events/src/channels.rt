@@ -8,7 +8,7 @@ ghost use Rattle.policy_lawful.specs.Resolution.{source_of};
 ghost use Rattle.rules_events.specs.Channels.{is_apart, are_apart, has_neither, has_call, is_reached, fits_event, is_connected, channel_fault};
 
 use crate::by_index::at;
-use crate::ends::{Met, readers_by_channel, writers_by_channel};
+use crate::channel_ends::{Met, readers_by_channel, writers_by_channel};
 use crate::interrupts::is_switch;
 use muen_num::{EventMode, NoMemory, Seq, first_numbered};
 use policy_lawful::{Offence, Resolved};

@@ -9,7 +9,7 @@ ghost use Rattle.policy_lawful.specs.Resolution.{source_of};
 ghost use Rattle.rules_events.specs.Directions.{fits_mode, source_fault, mode_fault, channel_mode, channel_fault, event_fault, parties_of, channels_fault, events_fault};
 
 use crate::by_index::at;
-use crate::ends::{Met, readers_by_channel, writers_by_channel};
+use crate::channel_ends::{Met, readers_by_channel, writers_by_channel};
 use crate::listings::Listings;
 use crate::parties::{Party, sources_by_event, targets_by_event};
 use muen_num::{EventMode, Name, NoMemory, Seq, first_numbered};
@@ -23,7 +23,9 @@ fn fits_mode(groups: &Listings, mode: EventMode, source: &Party, target: &Party)
 {
     match mode {
         EventMode::Own => source.name == target.name,
-        EventMode::Switch => { source.name != target.name && groups.share(source.index, target.index) }
+        EventMode::Switch => {
+            source.name != target.name && groups.share(source.index, target.index)
+        }
         _ => source.name != target.name,
     }
 }
@@ -118,7 +120,7 @@ fn first_event(
     })
 }
 
-fn parties_of_ends(alloc: Global, ends: &[Met]) -> Result<Vec<Party>, AllocError>
+fn parties_of_channel_ends(alloc: Global, ends: &[Met]) -> Result<Vec<Party>, AllocError>
     ensures { IfOk result (λ v. v.items ≡ map (λ m. m.party) ends.now) }
 {
     ends.iter().map(|end| end.party).collect(alloc)
@@ -130,7 +132,7 @@ fn parties_of(alloc: Global, lists: &[Seq<Met>]) -> Result<Vec<Seq<Party>>, NoMe
 {
     let mut parties = Vec::new(alloc);
     for list in lists {
-        let of_list = parties_of_ends(alloc, list.items())?;
+        let of_list = parties_of_channel_ends(alloc, list.items())?;
         parties.push(Seq::of(of_list))?;
     }
     Ok(parties)

@@ -51,7 +51,7 @@ fn traps_of(alloc: Global, sources: &[EventSource]) -> Result<Vec<u64>, AllocErr
         .collect(alloc)
 }
 
-fn calls_of_ends(alloc: Global, ends: &[ChannelEnd]) -> Result<Vec<u64>, AllocError>
+fn calls_of_channel_ends(alloc: Global, ends: &[ChannelEnd]) -> Result<Vec<u64>, AllocError>
     ensures { IfOk result (λ v. v.items ≡ filter_map (λ e. e.call) ends.now) }
 {
     ends.iter().filter_map(|e| e.call).collect(alloc)
@@ -71,7 +71,7 @@ fn calls_at(alloc: Global, policy: &Resolved, subject: &Subject) -> Result<Vec<u
 {
     let mut calls = calls_of(alloc, subject.sources.items())?;
     let ends = ends(alloc, policy, subject)?;
-    let more = calls_of_ends(alloc, &ends)?;
+    let more = calls_of_channel_ends(alloc, &ends)?;
     calls.extend_from_slice(&more)?;
     Ok(calls)
 }

@@ -54,7 +54,7 @@ fn vectors_of_targets(alloc: Global, targets: &[EventTarget]) -> Result<Vec<u64>
     targets.iter().filter_map(|t| t.vector).collect(alloc)
 }
 
-fn vectors_of_ends(alloc: Global, ends: &[ChannelEnd]) -> Result<Vec<u64>, AllocError>
+fn vectors_of_channel_ends(alloc: Global, ends: &[ChannelEnd]) -> Result<Vec<u64>, AllocError>
     ensures { IfOk result (λ v. v.items ≡ filter_map (λ e. e.vector) ends.now) }
 {
     ends.iter().filter_map(|e| e.vector).collect(alloc)
@@ -87,7 +87,7 @@ fn vectors_at(alloc: Global, policy: &Resolved, subject: &Subject) -> Result<Vec
 {
     let mut vectors = vectors_of_targets(alloc, subject.targets.items())?;
     let ends = ends(alloc, policy, subject)?;
-    let more = vectors_of_ends(alloc, &ends)?;
+    let more = vectors_of_channel_ends(alloc, &ends)?;
     vectors.extend_from_slice(&more)?;
     add_devices(&mut vectors, subject.devices.items())?;
     Ok(vectors)

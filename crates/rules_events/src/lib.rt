@@ -2,10 +2,10 @@
 #![tactic(auto)]
 
 mod by_index;
+mod channel_ends;
 mod channels;
 mod components;
 mod directions;
-mod ends;
 mod events;
 mod hypercalls;
 mod interrupts;

@@ -4,7 +4,7 @@ ghost use Rattle.std.specs.List.{enumerate_from, flat_map};
 ghost use Rattle.policy_lawful.specs.MoreRules.{is_writer};
 ghost use Rattle.policy_lawful.specs.Resolution.{IsResolved};
 ghost use Rattle.rules_events.specs.ByIndex.{AreItems};
-ghost use Rattle.rules_events.specs.Ends.{met, met_ends, all_ends, all_writers, all_readers};
+ghost use Rattle.rules_events.specs.ChannelEnds.{met, met_channel_ends, all_channel_ends, all_writers, all_readers};
 ghost use Rattle.rules_events.specs.Parties.{party};
 
 use crate::by_index::by_index;
@@ -24,7 +24,7 @@ pub(crate) struct Met {
 }
 
 // Notes a subject's ends at their channels.
-fn note_ends(
+fn note_channel_ends(
     noted: &mut Vec<(usize, Met)>,
     index: usize,
     subject: &Subject,
@@ -43,14 +43,14 @@ fn note_ends(
 }
 
 // All ends of channels, each with the index of its channel, in the order of their subjects.
-fn all_ends(alloc: Global, policy: &Resolved) -> Result<Vec<(usize, Met)>, NoMemory>
-    ensures ends { IfOk result (λ v. v.items ≡ all_ends policy.now) }
+fn all_channel_ends(alloc: Global, policy: &Resolved) -> Result<Vec<(usize, Met)>, NoMemory>
+    ensures ends { IfOk result (λ v. v.items ≡ all_channel_ends policy.now) }
     ensures resolved { IsResolved policy.now }
 {
     let mut noted = Vec::new(alloc);
     for (index, subject) in policy.subjects().iter().enumerate() {
         let ends = ends(alloc, policy, subject)?;
-        note_ends(&mut noted, index, subject, &ends)?;
+        note_channel_ends(&mut noted, index, subject, &ends)?;
     }
     Ok(noted)
 }
@@ -101,7 +101,7 @@ pub(crate) fn writers_by_channel(
     ensures ends { IfOk result (λ v. AreItems v.items (length policy.now.channels) (all_writers policy.now)) }
     ensures resolved { IsResolved policy.now }
 {
-    let noted = all_ends(alloc, policy)?;
+    let noted = all_channel_ends(alloc, policy)?;
     let kept = of_writers(alloc, &noted)?;
     by_index(alloc, &kept, policy.channels().len())
 }
@@ -116,7 +116,7 @@ pub(crate) fn readers_by_channel(
     ensures ends { IfOk result (λ v. AreItems v.items (length policy.now.channels) (all_readers policy.now)) }
     ensures resolved { IsResolved policy.now }
 {
-    let noted = all_ends(alloc, policy)?;
+    let noted = all_channel_ends(alloc, policy)?;
     let kept = of_readers(alloc, &noted)?;
     by_index(alloc, &kept, policy.channels().len())
 }

@@ -1,6 +1,6 @@
 use Rattle.region_alloc.proofs.EachInTurn.{regions_in_turn}
 use Rattle.region_alloc.proofs.Placing.{IsSized}
-use Rattle.region_alloc.proofs.allocate.places_in.Goals as goal
+use Rattle.region_alloc.proofs.allocate.addresses_in.Goals as goal
 
 pub place_each-requires-clause-regions : goal.place_each-requires-clause-regions
 place_each-requires-clause-regions c =
