@@ -11,7 +11,7 @@ use Rattle.policy_lawful.specs.declared.resolved.Subject.{Subject}
 use Rattle.policy_types.specs.declared.source.Subject.{Subject as NamedSubject}
 use Rattle.flow_report.specs.Flows.{closure_of, flows_to}
 use Rattle.muen_num.proofs.Members.{In, map_agree}
-use Rattle.flow_report.specs.ByIndex.{contacts_of, all_contacts_of, flows_between, rows_of}
+use Rattle.flow_report.specs.ByIndex.{all_contacts_of, contacts_of, flows_between, rows_of}
 use Rattle.flow_report.specs.Marks.{after_rounds, alone_marked, sets_of}
 use Rattle.flow_report.specs.Sets.{AreFlows, members_of}
 use Rattle.flow_report.specs.declared.contacts.Contacts.{Contacts}

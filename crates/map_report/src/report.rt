@@ -188,9 +188,9 @@ fn put_map<S: Sink>(
     put_windows(policy, subjects, grants, buffer, out)
 }
 
-/// Puts the map of a policy: `region ADDRESS SIZE NAME` for each region by number, `device ADDRESS SIZE
-/// NAME` for each device's memory, then for each subject, by guest address, `window SUBJECT GUEST
-/// SIZE RIGHTS NAME`. Addresses and sizes have sixteen hexadecimal digits. The text goes
+/// Puts the map of a policy: `region ADDRESS SIZE NAME` for each region by number, `device ADDRESS
+/// SIZE NAME` for each device's memory, then for each subject, by guest address, `window SUBJECT
+/// GUEST SIZE RIGHTS NAME`. Addresses and sizes have sixteen hexadecimal digits. The text goes
 /// through the buffer, in which nothing may wait before, and takes no memory. Where the sink fails
 /// it has a front of the text.
 #[tactic(auto, using(muen_outside::proofs::Buffered::gives))]

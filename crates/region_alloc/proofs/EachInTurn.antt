@@ -6,7 +6,7 @@ use Rattle.std.proofs.lemmas.Bool.{cases_Bool}
 use Rattle.std.proofs.lemmas.List.Elements.{All-append, All-cons, All-filter, All-head, All-nil, All-tail}
 use Rattle.expand_grants.specs.Ordered.{in_order, inserted}
 use Rattle.expand_kernel.specs.declared.region.Region.{Region}
-use Rattle.region_alloc.specs.Placement.{is_fixed, in_turn}
+use Rattle.region_alloc.specs.Placement.{in_turn, is_fixed}
 
 pub All-inserted : {X : Type 0} (before : X → X → Bool) (P : X → Type 0) (x : X) (ys : List X) → P x → All P ys → All P (inserted before x ys)
 unfolding inserted

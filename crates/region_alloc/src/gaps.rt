@@ -1,7 +1,7 @@
 //! The memory that no region has.
 ghost use Rattle.std.specs.Prelude.{◌≡◌, ◌+◌, ◌<◌, ◌^◌, ◌++◌, map, IfOk, OnOk, All};
 ghost use Rattle.std.specs.List.{flat_map, list_any};
-ghost use Rattle.region_alloc.specs.Gaps.{IsLeast, fits, gap_of, has_room, holds, remaining_of, lower, some_gap};
+ghost use Rattle.region_alloc.specs.Gaps.{IsLeast, fits, gap_of, has_room, holds, lower, remaining_of, some_gap};
 
 use crate::spot::Spot;
 use expand_kernel::Region;

@@ -1,7 +1,7 @@
 //! The order in which regions are placed.
 ghost use Rattle.std.specs.Prelude.{◌≡◌, filter, IfOk, OnOk, not};
 ghost use Rattle.std.specs.List.{enumerate_from};
-ghost use Rattle.region_alloc.specs.Placement.{by_size, is_fixed, in_turn};
+ghost use Rattle.region_alloc.specs.Placement.{by_size, in_turn, is_fixed};
 
 use expand_kernel::Region;
 use std::alloc::{AllocError, Global};

@@ -26,7 +26,7 @@ use Rattle.policy_lawful.proofs.SourceElements.{parts_placed}
 use Rattle.policy_lawful.proofs.UniqueNames.{parts_unique, unique}
 use Rattle.policy_types.specs.declared.source.Device.{Device}
 use Rattle.policy_types.specs.declared.source.DeviceUse.{DeviceUse as NamedUse}
-use Rattle.rules_devices.specs.Grants.{AreTimes, IsOnDevices, counted, counts_at, device_counted, part_names, indexes_granted, times_among, times_by_index, times_by_subject, times_by_use}
+use Rattle.rules_devices.specs.Grants.{AreTimes, IsOnDevices, counted, counts_at, device_counted, indexes_granted, part_names, times_among, times_by_index, times_by_subject, times_by_use}
 use Rattle.rules_devices.specs.declared.resource.Resource.{Resource}
 use Rattle.rules_devices.specs.declared.resource.Resource.TheVariants.{Memory, IoPorts, Irqs}
 
@@ -57,11 +57,11 @@ named_parts Irqs r u =
     ∙ sym (map-map (name_at (device_part r (λ d. part_names Irqs d) u.device)) (λ i. i.irq) u.irqs)
 
 -- they are there
-parts_in_range : (p : Resource) (r : Resolution) (u : DeviceUse) → device_placed r u ≡ true → list_all (λ i. nat_lt i (length (device_part r (λ d. part_names p d) u.device))) (indexes_granted p u) ≡ true
-parts_in_range Memory r u h =
+part_indexes_in_range : (p : Resource) (r : Resolution) (u : DeviceUse) → device_placed r u ≡ true → list_all (λ i. nat_lt i (length (device_part r (λ d. part_names p d) u.device))) (indexes_granted p u) ≡ true
+part_indexes_in_range Memory r u h =
     list_all-map (λ i. nat_lt i (length (device_part r (λ d. part_names Memory d) u.device))) (λ m. m.memory) u.memory ∙ (and_parts _ _ (and_parts _ _ (and_parts _ _ h).0).0).1
-parts_in_range IoPorts r u h = (and_parts _ _ (and_parts _ _ h).0).1
-parts_in_range Irqs r u h =
+part_indexes_in_range IoPorts r u h = (and_parts _ _ (and_parts _ _ h).0).1
+part_indexes_in_range Irqs r u h =
     list_all-map (λ i. nat_lt i (length (device_part r (λ d. part_names Irqs d) u.device))) (λ i. i.irq) u.irqs ∙ (and_parts _ _ h).1
 
 -- ---- one use
@@ -81,7 +81,7 @@ use_count : (p : Resource) (r : Resolution) (k j : ℕ) (d : Device) (u : Device
 use_count p r k j d u h is within in_range on =
     let names : device_part r (λ d. part_names p d) u.device ≡ part_names p d = ap (device_part r (λ d. part_names p d)) on ∙ part_at p r k d is in
     let there : list_all (λ i. nat_lt i (length (part_names p d))) (indexes_granted p u) ≡ true =
-    sym (ap (λ ns. list_all (λ i. nat_lt i (length ns)) (indexes_granted p u)) names) ∙ parts_in_range p r u in_range in
+    sym (ap (λ ns. list_all (λ i. nat_lt i (length ns)) (indexes_granted p u)) names) ∙ part_indexes_in_range p r u in_range in
     ap (count_by (λ n. bytes_eq n (name_at (part_names p d) j))) (named_parts p r u ∙ ap (λ ns. map (name_at ns) (indexes_granted p u)) names)
     ∙ same_count (part_names p d) j (indexes_granted p u) (parts_of p r k d h is) within there
 

@@ -30,7 +30,8 @@ fn is_bdf(device: &Device) -> bool
     }
 }
 
-// The identifier of what comes from a bus, device and function number (Intel VT-d, source identifiers).
+// The identifier of what comes from a bus, device and function number (Intel VT-d, source
+// identifiers).
 fn source_id(bdf: &Bdf) -> u64
     requires { is_bdf (Some bdf.now) ≡ true }
     ensures { result ≡ bdf.now.bus * 256 + bdf.now.device * 8 + bdf.now.function }

@@ -75,7 +75,8 @@ fn nowhere(devices: &Devices, listed: &[Listed]) -> Option<Offence>
     first(listed, |x| x.offence().unless(devices.has_bdf(&x.name)))
 }
 
-// A name of no device, a device that stands twice, or one that has no bus, device and function number.
+// A name of no device, a device that stands twice, or one that has no bus, device and function
+// number.
 fn of_listed(
     alloc: Global,
     devices: &Devices,

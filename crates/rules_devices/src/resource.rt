@@ -1,6 +1,6 @@
 //! What a device has that is granted to subjects.
 ghost use Rattle.std.specs.Prelude.{◌≡◌, length, IfOk};
-ghost use Rattle.rules_devices.specs.Grants.{part_names, indexes_granted};
+ghost use Rattle.rules_devices.specs.Grants.{indexes_granted, part_names};
 ghost use Rattle.rules_devices.specs.declared.resource.Resource.TheVariants.{Memory, IoPorts, Irqs};
 
 use policy_lawful::resolved::DeviceUse;

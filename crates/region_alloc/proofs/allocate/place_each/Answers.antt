@@ -2,7 +2,7 @@ use Rattle.std.proofs.Common.{◌<◌, length, ℕ, inr, Some, None, ap, subst, 
 use Rattle.expand_kernel.specs.declared.region.Region.{Region}
 use Rattle.region_alloc.specs.Gaps.{IsLeast, has_room}
 use Rattle.region_alloc.specs.Placement.{no_room_for}
-use Rattle.region_alloc.proofs.Placing.{no_address, address_end, placed_all, placing_first, placing_next, sized_at}
+use Rattle.region_alloc.proofs.Placing.{address_end, no_address, placed_all, placing_first, placing_next, sized_at}
 use Rattle.region_alloc.proofs.allocate.place_each.Goals as goal
 
 pub loop-number-init : goal.loop-number-init
