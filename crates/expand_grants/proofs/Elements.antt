@@ -34,7 +34,7 @@ all_some t g (x ∷ xs) =
       | Some y ↦ ap (λ b. t y && b) (all_some t g xs)
     ]
 
--- each that stands at a place
+-- each that stands at an index
 pub all_at : {X : Type 0} (t : X → Bool) (xs : List X) → ((k : ℕ) (x : X) → slice_get xs k ≡ Some x → t x ≡ true) → list_all t xs ≡ true
 all_at t [] h = refl
 all_at t (x ∷ xs) h = and_from (t x) (list_all t xs) (h 0 x refl) (all_at t xs (λ k y e. h (suc k) y e))

@@ -1,4 +1,4 @@
--- What a lawful policy has of its subjects: numbers that fit, windows that differ, and what is granted by places.
+-- What a lawful policy has of its subjects: numbers that fit, windows that differ, and what is granted by indexes.
 use Rattle.std.proofs.Common.{◌≡◌, ℕ, ◌+◌, ◌<◌, true, List, [], ◌∷◌, ◌++◌, length, get_or, take, Some, refl, sym, ap, subst, ◌∙◌}
 use Rattle.std.specs.Prelude.{slice_get}
 use Rattle.std.specs.List.{AllZip, list_all}
@@ -9,21 +9,21 @@ use Rattle.policy_lawful.specs.Lawful.{IsLawful}
 use Rattle.policy_lawful.specs.Resolution.{IsResolved, Resolution, source_of, subject_placed}
 use Rattle.policy_lawful.specs.declared.resolved.Subject.{Subject}
 use Rattle.policy_lawful.proofs.SourceElements.{parts_placed}
-use Rattle.expand_grants.specs.ByPlace.{fits_device, fits_msrs, fits_uses}
+use Rattle.expand_grants.specs.ByIndex.{fits_device, fits_msrs, fits_uses}
 use Rattle.expand_grants.specs.Kept.{IsKept}
-use Rattle.expand_grants.specs.Raising.{fits_ends, fits_sources, fits_targets}
-use Rattle.expand_grants.proofs.EntriesByPlace.{events_by_place}
+use Rattle.expand_grants.specs.Raising.{fits_channel_ends, fits_sources, fits_targets}
+use Rattle.expand_grants.proofs.EntriesByIndex.{events_by_index}
 use Rattle.expand_grants.proofs.MsrsFit.{msrs_fit}
-use Rattle.expand_grants.proofs.NumbersFit.{all_ends_fit, all_sources_fit, all_targets_fit, all_uses_fit}
-use Rattle.expand_grants.proofs.PortsByPlace.{ports_by_place, ports_fit}
+use Rattle.expand_grants.proofs.NumbersFit.{all_channel_ends_fit, all_sources_fit, all_targets_fit, all_uses_fit}
+use Rattle.expand_grants.proofs.PortsByIndex.{ports_by_index, ports_fit}
 use Rattle.expand_grants.proofs.WindowsInOrder.{guests_differ}
 
 module _ (r : Resolution) (q : IsResolved r) (lawful : IsLawful (source_of r)) where
   pub targets_fit : list_all fits_targets r.subjects ≡ true
   targets_fit = all_targets_fit r q lawful.rule_14 lawful.rule_15
 
-  pub ends_fit : list_all (fits_ends r) r.subjects ≡ true
-  ends_fit = all_ends_fit r q lawful.rule_14 lawful.rule_15
+  pub channel_ends_fit : list_all (fits_channel_ends r) r.subjects ≡ true
+  channel_ends_fit = all_channel_ends_fit r q lawful.rule_14 lawful.rule_15
 
   pub uses_fit : list_all fits_uses r.subjects ≡ true
   uses_fit = all_uses_fit r q lawful.rule_14 lawful.rule_15
@@ -34,14 +34,14 @@ module _ (r : Resolution) (q : IsResolved r) (lawful : IsLawful (source_of r)) w
   -- of one of its subjects
   pub subject_kept : (k : ℕ) (s : Subject) → slice_get r.subjects k ≡ Some s → IsKept r s
   subject_kept k s at =
-      let placed = passes_at (subject_placed r) r.subjects k s (parts_placed r q.placed).subjects at in
+      let in_range = passes_at (subject_placed r) r.subjects k s (parts_placed r q.placed).subjects at in
       record {
-        guests = guests_differ r k s q lawful.rule_4 lawful.rule_5 at placed;
-        ports = ports_by_place r s q placed;
+        guests = guests_differ r k s q lawful.rule_4 lawful.rule_5 at in_range;
+        ports = ports_by_index r s q in_range;
         msrs = passes_at (λ s. list_all fits_msrs s.msrs) r.subjects k s (msrs_fit r lawful.rule_11) at;
         sources = passes_at fits_sources r.subjects k s (all_sources_fit r q lawful.rule_14 lawful.rule_15) at;
-        ends = passes_at (fits_ends r) r.subjects k s ends_fit at;
-        events = events_by_place r k s q lawful.rule_6 lawful.rule_12 at placed;
+        ends = passes_at (fits_channel_ends r) r.subjects k s channel_ends_fit at;
+        events = events_by_index r k s q lawful.rule_6 lawful.rule_12 at in_range;
       }
 
   -- of one that is read off the list of them

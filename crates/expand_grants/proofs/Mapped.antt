@@ -43,18 +43,18 @@ flat_maps_same f n g ok same (x ∷ xs) all =
     ∙ ap (λ ys. g x ++ ys) (flat_maps_same f n g ok same xs parts.1)
     ∙ sym (flat_map-cons g x xs)
 
--- ---- elements with their places
+-- ---- elements with their indexes
 
--- one element more, with its place
+-- one element more, with its index
 pub flat_more : {S X : Type 0} (f : ℕ × S → List X) (ss read : List S) (i : ℕ) (s d : S) → read ≡ ss → i < length read → s ≡ get_or read i d
     → flat_map f (enumerate_from 0 (take (i + 1) ss)) ≡ flat_map f (enumerate_from 0 (take i ss)) ++ f (i, s)
 flat_more f ss read i s d same within is =
     let here : i < length ss = subst (λ xs. i < length xs) same within in
     let there : s ≡ get_or ss i d = is ∙ ap (λ xs. get_or xs i d) same in
-    let place : 0 + length (take i ss) ≡ i = omega (arith, length-take-le i ss (omega arith)) in
+    let index : 0 + length (take i ss) ≡ i = omega (arith, length-take-le i ss (omega arith)) in
     ap (λ xs. flat_map f (enumerate_from 0 xs)) (take_more ss i d here)
     ∙ ap (flat_map f) (enumerate_push 0 (take i ss) (get_or ss i d))
     ∙ flat_map-append f (enumerate_from 0 (take i ss)) ((0 + length (take i ss), get_or ss i d) ∷ [])
     ∙ ap (λ ys. flat_map f (enumerate_from 0 (take i ss)) ++ ys) (flat_map-cons f (0 + length (take i ss), get_or ss i d) [] ∙ append-nil (f (0 + length (take i ss), get_or ss i d)))
-    ∙ ap (λ n. flat_map f (enumerate_from 0 (take i ss)) ++ f (n, get_or ss i d)) place
+    ∙ ap (λ n. flat_map f (enumerate_from 0 (take i ss)) ++ f (n, get_or ss i d)) index
     ∙ ap (λ x. flat_map f (enumerate_from 0 (take i ss)) ++ f (i, x)) (sym there)

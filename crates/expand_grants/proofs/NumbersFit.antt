@@ -27,8 +27,8 @@ use Rattle.policy_types.specs.declared.source.SourceWay.TheVariants.{Call, Trap}
 use Rattle.policy_types.specs.declared.source.Subject.{Subject as NamedSubject}
 use Rattle.policy_views.specs.Views.{end_named, ends_of}
 use Rattle.policy_views.proofs.EndsByPlace.{ends_by_place}
-use Rattle.expand_grants.specs.ByPlace.{fits_irq, fits_use, fits_uses}
-use Rattle.expand_grants.specs.Raising.{fits_end, fits_ends, fits_number, fits_source, fits_sources, fits_target, fits_targets, fits_way}
+use Rattle.expand_grants.specs.ByIndex.{fits_irq, fits_use, fits_uses}
+use Rattle.expand_grants.specs.Raising.{fits_channel_end, fits_channel_ends, fits_number, fits_source, fits_sources, fits_target, fits_targets, fits_way}
 use Rattle.expand_grants.proofs.Elements.{all_flat, all_some}
 
 abbrev is_call_number : ℕ → Bool
@@ -72,7 +72,7 @@ keeps_14 r s = are_numbers (calls_of (source_of r) s) && are_numbers (filter_map
 abbrev keeps_15 : Resolution → NamedSubject → Bool
 keeps_15 r s = list_all (has_vector (source_of r)) s.targets && are_vectors (vectors_of (source_of r) s)
 
-module _ (r : Resolution) (q : IsResolved r) (s : Subject) (placed : subject_placed r s ≡ true) where
+module _ (r : Resolution) (q : IsResolved r) (s : Subject) (in_range : subject_placed r s ≡ true) where
   sources_fit : keeps_14 r (subject_named r s) ≡ true → fits_sources s ≡ true
   sources_fit h =
       let both = and_parts (are_numbers (calls_of (source_of r) (subject_named r s))) (are_numbers (filter_map (λ e. trap_reason e.way) (subject_named r s).sources)) h in
@@ -86,14 +86,14 @@ module _ (r : Resolution) (q : IsResolved r) (s : Subject) (placed : subject_pla
       sym (all_some is_call_number (λ e. trap_reason e.way) (subject_named r s).sources ∙ list_all-map (λ e. option_map_or is_call_number (trap_reason e.way) true) (source_named r) s.sources) ∙ traps in
       each_of (λ e. option_map_or is_call_number (call_number e.way) true) (λ e. option_map_or is_call_number (trap_reason e.way) true) fits_source (λ e a b. way_in e.way a b) s.sources by_call by_trap
 
-  end_calls : keeps_14 r (subject_named r s) ≡ true → list_all (λ e. option_map_or is_call_number e.call true) (ends_of r s) ≡ true
-  end_calls h =
+  channel_end_calls : keeps_14 r (subject_named r s) ≡ true → list_all (λ e. option_map_or is_call_number e.call true) (ends_of r s) ≡ true
+  channel_end_calls h =
       let both = and_parts (are_numbers (calls_of (source_of r) (subject_named r s))) (are_numbers (filter_map (λ e. trap_reason e.way) (subject_named r s).sources)) h in
       let calls = (and_parts (list_all is_call_number (calls_of (source_of r) (subject_named r s))) (are_distinct (calls_of (source_of r) (subject_named r s))) both.0).0 in
       let of_ends = (and_parts (list_all is_call_number (filter_map (λ e. call_number e.way) (subject_named r s).sources)) (list_all is_call_number (filter_map (λ e. e.call) (channel_ends (source_of r) (subject_named r s))))
       (sym (list_all-append is_call_number (filter_map (λ e. call_number e.way) (subject_named r s).sources) (filter_map (λ e. e.call) (channel_ends (source_of r) (subject_named r s)))) ∙ calls)).1 in
       sym (all_some is_call_number (λ e. e.call) (channel_ends (source_of r) (subject_named r s))
-      ∙ ap (list_all (λ e. option_map_or is_call_number e.call true)) (ends_by_place r s q placed)
+      ∙ ap (list_all (λ e. option_map_or is_call_number e.call true)) (ends_by_place r s q in_range)
       ∙ list_all-map (λ e. option_map_or is_call_number e.call true) (end_named r) (ends_of r s)) ∙ of_ends
 
   -- the vectors of its targets, its ends and its devices' interrupts
@@ -118,12 +118,12 @@ module _ (r : Resolution) (q : IsResolved r) (s : Subject) (placed : subject_pla
       each_from (λ t. option_map_or is_vector t.vector true) fits_target (λ t a. vector_in t.vector a) s.targets
       (sym (all_some is_vector (λ t. t.vector) (subject_named r s).targets ∙ list_all-map (λ t. option_map_or is_vector t.vector true) (target_as r) s.targets) ∙ (vectors h).targets)
 
-  ends_fit : keeps_14 r (subject_named r s) ≡ true → keeps_15 r (subject_named r s) ≡ true → fits_ends r s ≡ true
-  ends_fit g h =
-      each_of (λ e. option_map_or is_call_number e.call true) (λ e. option_map_or is_vector e.vector true) fits_end
-      (λ e a b. and_from (fits_number e.call) (fits_number e.vector) (call_in e.call a) (vector_in e.vector b)) (ends_of r s) (end_calls g)
+  channel_ends_fit : keeps_14 r (subject_named r s) ≡ true → keeps_15 r (subject_named r s) ≡ true → fits_channel_ends r s ≡ true
+  channel_ends_fit g h =
+      each_of (λ e. option_map_or is_call_number e.call true) (λ e. option_map_or is_vector e.vector true) fits_channel_end
+      (λ e a b. and_from (fits_number e.call) (fits_number e.vector) (call_in e.call a) (vector_in e.vector b)) (ends_of r s) (channel_end_calls g)
       (sym (all_some is_vector (λ e. e.vector) (channel_ends (source_of r) (subject_named r s))
-      ∙ ap (list_all (λ e. option_map_or is_vector e.vector true)) (ends_by_place r s q placed)
+      ∙ ap (list_all (λ e. option_map_or is_vector e.vector true)) (ends_by_place r s q in_range)
       ∙ list_all-map (λ e. option_map_or is_vector e.vector true) (end_named r) (ends_of r s)) ∙ (vectors h).ends)
 
   use_fits : (d : DeviceUse) → list_all is_vector (map (λ i. i.vector) (device_named r d).irqs) ≡ true → fits_use d ≡ true
@@ -160,7 +160,7 @@ module _ (r : Resolution) (q : IsResolved r) (lawful_14 : offence_14 (source_of 
   both_kept : list_all (λ s. keeps_14 r (subject_named r s) && keeps_15 r (subject_named r s)) r.subjects ≡ true
   both_kept = each_of (λ s. keeps_14 r (subject_named r s)) (λ s. keeps_15 r (subject_named r s)) (λ s. keeps_14 r (subject_named r s) && keeps_15 r (subject_named r s)) (λ s a b. and_from (keeps_14 r (subject_named r s)) (keeps_15 r (subject_named r s)) a b) r.subjects all_14 all_15
 
-  pub all_ends_fit : list_all (fits_ends r) r.subjects ≡ true
-  all_ends_fit =
-      each_of (subject_placed r) (λ s. keeps_14 r (subject_named r s) && keeps_15 r (subject_named r s)) (fits_ends r)
-      (λ s p h. let b = and_parts (keeps_14 r (subject_named r s)) (keeps_15 r (subject_named r s)) h in ends_fit r q s p b.0 b.1) r.subjects (parts_placed r q.placed).subjects both_kept
+  pub all_channel_ends_fit : list_all (fits_channel_ends r) r.subjects ≡ true
+  all_channel_ends_fit =
+      each_of (subject_placed r) (λ s. keeps_14 r (subject_named r s) && keeps_15 r (subject_named r s)) (fits_channel_ends r)
+      (λ s p h. let b = and_parts (keeps_14 r (subject_named r s)) (keeps_15 r (subject_named r s)) h in channel_ends_fit r q s p b.0 b.1) r.subjects (parts_placed r q.placed).subjects both_kept

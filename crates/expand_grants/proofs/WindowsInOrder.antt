@@ -98,12 +98,12 @@ extents_differ views ranges none =
 pub guests_differ : (r : Resolution) (k : ℕ) (s : Subject) → IsResolved r → offence_4 (source_of r) ≡ None → offence_5 (source_of r) ≡ None → slice_get r.subjects k ≡ Some s → subject_placed r s ≡ true
     → IsDistinct same_guest (views_of r s)
 unfolding source_of offence_5
-guests_differ r k s q lawful_4 lawful_5 at placed =
+guests_differ r k s q lawful_4 lawful_5 at in_range =
     let p = source_of r in
-    let by_place = extents_by_place r s q placed in
+    let by_index = extents_by_place r s q in_range in
     let ranges = passes_at (λ s. list_all (λ e. is_guest e.address e.size) (window_extents p (subject_named r s))) r.subjects k s
     (sym (list_all-map (λ s. list_all (λ e. is_guest e.address e.size) (window_extents p s)) (subject_named r) r.subjects) ∙ (addresses_kept p lawful_4).windows) at in
     let none = none_there (λ s. first_overlap (window_extents p s)) (subject_named r) r.subjects k s lawful_5 at in
     extents_differ (views_of r s)
-    (ap (list_all (λ e. is_guest e.address e.size)) (sym by_place) ∙ ranges)
-    (ap first_overlap (sym by_place) ∙ none)
+    (ap (list_all (λ e. is_guest e.address e.size)) (sym by_index) ∙ ranges)
+    (ap first_overlap (sym by_index) ∙ none)

@@ -1,4 +1,4 @@
--- What is granted to a subject, by places, and where the interrupts of devices go.
+-- What is granted to a subject, by indexes, and where the interrupts of devices go.
 use Rattle.std.specs.Prelude.{◌≡◌, ℕ, ◌==◌, ◌&&◌, Bool, false, List, map, nat_le, slice_get, Option, Some, option_map}
 use Rattle.std.specs.List.{AllZip, find}
 use Rattle.expand_grants.specs.Ordered.{in_order}

@@ -1,9 +1,9 @@
--- What a lawful policy has of each subject, by places.
+-- What a lawful policy has of each subject, by indexes.
 use Rattle.std.specs.Prelude.{◌≡◌, ◌==◌, Bool, true}
 use Rattle.std.specs.List.{IsDistinct, flat_map, list_all}
-use Rattle.expand_grants.specs.ByPlace.{fits_msrs, ranges_at}
+use Rattle.expand_grants.specs.ByIndex.{fits_msrs, ranges_at}
 use Rattle.expand_grants.specs.Grants.{entry_raised}
-use Rattle.expand_grants.specs.Raising.{entries_of, fits_ends, fits_sources}
+use Rattle.expand_grants.specs.Raising.{entries_of, fits_channel_ends, fits_sources}
 use Rattle.expand_grants.specs.Resources.{port_ranges_of}
 use Rattle.policy_lawful.specs.Resolution.{Resolution, source_of, subject_named}
 use Rattle.policy_lawful.specs.declared.resolved.Subject.{Subject}
@@ -15,11 +15,11 @@ use Rattle.policy_views.specs.declared.view.View.{View}
 abbrev pub same_guest : View → View → Bool
 same_guest a b = a.guest == b.guest
 
--- its numbers fit, its windows differ, and what is granted by places is what the policy grants
+-- its numbers fit, its windows differ, and what is granted by indexes is what the policy grants
 pub record IsKept (r : Resolution) (s : Subject) : Type 0 where
   pub guests : IsDistinct same_guest (views_of r s)
   pub ports : port_ranges_of (source_of r) (subject_named r s) ≡ flat_map (ranges_at r.devices) s.devices
   pub msrs : list_all fits_msrs s.msrs ≡ true
   pub sources : fits_sources s ≡ true
-  pub ends : fits_ends r s ≡ true
+  pub ends : fits_channel_ends r s ≡ true
   pub events : (way : SourceWay) → entry_raised r (entries_of r s) way ≡ event_of (source_of r) (subject_named r s) way

@@ -1,4 +1,4 @@
-pub mod ByPlace
+pub mod ByIndex
 pub mod Grants
 pub mod Kept
 pub mod Ordered

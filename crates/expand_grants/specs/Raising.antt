@@ -1,4 +1,4 @@
--- The events that a subject raises, by the places of a resolved policy, and numbers that fit.
+-- The events that a subject raises, by the indexes of a resolved policy, and numbers that fit.
 use Rattle.std.specs.Prelude.{ℕ, ◌^◌, ◌==◌, ◌&&◌, Bool, true, List, ◌++◌, map, nat_lt, slice_get, Option, Some, None, option_and_then, option_map}
 use Rattle.std.specs.Option.{option_map_or}
 use Rattle.std.specs.List.{enumerate_from, filter_map, find, flat_map, list_all}
@@ -23,30 +23,30 @@ use Rattle.policy_views.specs.declared.view.ChannelEnd.{ChannelEnd}
 -- ---- subjects that are reached
 
 abbrev pub target_reached : ℕ → EventTarget → Reached
-target_reached place t = record { by = t.event; subject = place; vector = t.vector }
+target_reached index t = record { by = t.event; subject = index; vector = t.vector }
 
--- by the targets of a subject with its place
+-- by the targets of a subject with its index
 abbrev pub subject_targets : ℕ × Subject → List Reached
-subject_targets (place, s) = map (target_reached place) s.targets
+subject_targets (index, s) = map (target_reached index) s.targets
 
 abbrev pub all_targets : List Subject → List Reached
 all_targets subjects = flat_map subject_targets (enumerate_from 0 subjects)
 
--- a subject at a place by an end of this role
+-- a subject at an index by an end of this role
 abbrev pub reader_reached : ℕ → ChannelEnd → Role → Option Reached
-reader_reached place e Reader = Some (record { by = e.channel; subject = place; vector = e.vector })
-reader_reached place e Writer = None
+reader_reached index e Reader = Some (record { by = e.channel; subject = index; vector = e.vector })
+reader_reached index e Writer = None
 
--- by the ends of a subject with its place
+-- by the ends of a subject with its index
 abbrev pub subject_readers : Resolution → ℕ × Subject → List Reached
-subject_readers r (place, s) = filter_map (λ e. reader_reached place e e.role) (ends_of r s)
+subject_readers r (index, s) = filter_map (λ e. reader_reached index e e.role) (ends_of r s)
 
 abbrev pub all_readers : Resolution → List Reached
 all_readers r = flat_map (subject_readers r) (enumerate_from 0 r.subjects)
 
--- the first by the event, or the channel, at a place
+-- the first by the event, or the channel, at an index
 abbrev pub first_reached : List Reached → ℕ → Option Reached
-first_reached list place = find (λ x. x.by == place) list
+first_reached list index = find (λ x. x.by == index) list
 
 -- ---- events that are raised
 
@@ -71,14 +71,14 @@ abbrev pub writer_call : ChannelEnd → Role → Option ℕ
 writer_call e Writer = e.call
 writer_call e Reader = None
 
-abbrev pub end_entry : List Channel → List Reached → ChannelEnd → Option EventEntry
-end_entry channels readers e = option_and_then (call_entry channels readers e.channel) (writer_call e e.role)
+abbrev pub channel_end_entry : List Channel → List Reached → ChannelEnd → Option EventEntry
+channel_end_entry channels readers e = option_and_then (call_entry channels readers e.channel) (writer_call e e.role)
 
 -- by the sources of a subject, then by its ends of channels
 abbrev pub entries_of : Resolution → Subject → List EventEntry
 entries_of r s =
     filter_map (source_entry r.events (all_targets r.subjects)) s.sources
-    ++ filter_map (end_entry r.channels (all_readers r)) (ends_of r s)
+    ++ filter_map (channel_end_entry r.channels (all_readers r)) (ends_of r s)
 
 -- ---- numbers that fit
 
@@ -91,11 +91,11 @@ fits_target t = fits_number t.vector
 abbrev pub fits_targets : Subject → Bool
 fits_targets s = list_all fits_target s.targets
 
-abbrev pub fits_end : ChannelEnd → Bool
-fits_end e = fits_number e.call && fits_number e.vector
+abbrev pub fits_channel_end : ChannelEnd → Bool
+fits_channel_end e = fits_number e.call && fits_number e.vector
 
-abbrev pub fits_ends : Resolution → Subject → Bool
-fits_ends r s = list_all fits_end (ends_of r s)
+abbrev pub fits_channel_ends : Resolution → Subject → Bool
+fits_channel_ends r s = list_all fits_channel_end (ends_of r s)
 
 abbrev pub fits_way : SourceWay → Bool
 fits_way (SourceCall n) = nat_lt n (2 ^ 8)

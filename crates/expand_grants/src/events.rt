@@ -1,7 +1,7 @@
 //! The events that a subject raises.
 ghost use Rattle.std.specs.Prelude.{◌≡◌, ◌++◌, true, IfOk};
 ghost use Rattle.std.specs.List.{filter_map, list_all};
-ghost use Rattle.expand_grants.specs.Raising.{all_readers, all_targets, call_entry, end_entry, entries_of, entry, fits_end, fits_ends, fits_number, fits_source, fits_sources, fits_way, source_entry, way_of, writer_call};
+ghost use Rattle.expand_grants.specs.Raising.{all_readers, all_targets, call_entry, channel_end_entry, entries_of, entry, fits_channel_end, fits_channel_ends, fits_number, fits_source, fits_sources, fits_way, source_entry, way_of, writer_call};
 
 use crate::append::push_some;
 use crate::granted::{EventEntry, Way};
@@ -61,7 +61,7 @@ fn add_sources(
     Ok(())
 }
 
-// The event of the channel at a place, raised by a call.
+// The event of the channel at an index, raised by a call.
 fn call_entry(
     channels: &[Channel],
     readers: &[Reached],
@@ -77,7 +77,7 @@ fn call_entry(
 
 // The call of an end by which an event may be raised: a writer's.
 fn writer_call(end: &ChannelEnd) -> Option<u8>
-    requires { fits_end end.now ≡ true }
+    requires { fits_channel_end end.now ≡ true }
     ensures { result ≡ writer_call end.now end.now.role }
 {
     match end.role {
@@ -87,9 +87,13 @@ fn writer_call(end: &ChannelEnd) -> Option<u8>
 }
 
 // The event that an end of a channel raises.
-fn end_entry(channels: &[Channel], readers: &[Reached], end: &ChannelEnd) -> Option<EventEntry>
-    requires { fits_end end.now ≡ true }
-    ensures { result ≡ end_entry channels.now readers.now end.now }
+fn channel_end_entry(
+    channels: &[Channel],
+    readers: &[Reached],
+    end: &ChannelEnd,
+) -> Option<EventEntry>
+    requires { fits_channel_end end.now ≡ true }
+    ensures { result ≡ channel_end_entry channels.now readers.now end.now }
 {
     match writer_call(end) {
         None => None,
@@ -98,17 +102,17 @@ fn end_entry(channels: &[Channel], readers: &[Reached], end: &ChannelEnd) -> Opt
 }
 
 // Appends the events that ends of channels raise.
-fn add_ends(
+fn add_channel_ends(
     entries: &mut Vec<EventEntry>,
     channels: &[Channel],
     readers: &[Reached],
     ends: &[ChannelEnd],
 ) -> Result<(), NoMemory>
-    requires { list_all fits_end ends.now ≡ true }
-    ensures { IfOk result (λ _. entries.new.items ≡ entries.old.items ++ filter_map (end_entry channels.now readers.now) ends.now) }
+    requires { list_all fits_channel_end ends.now ≡ true }
+    ensures { IfOk result (λ _. entries.new.items ≡ entries.old.items ++ filter_map (channel_end_entry channels.now readers.now) ends.now) }
 {
     for end in ends {
-        push_some(entries, end_entry(channels, readers, end))?;
+        push_some(entries, channel_end_entry(channels, readers, end))?;
     }
     Ok(())
 }
@@ -125,7 +129,7 @@ pub(crate) fn entries_of(
     subject: &Subject,
 ) -> Result<Seq<EventEntry>, NoMemory>
     requires sources { fits_sources subject.now ≡ true }
-    requires ends { fits_ends policy.now subject.now ≡ true }
+    requires ends { fits_channel_ends policy.now subject.now ≡ true }
     requires targets { targets.now ≡ all_targets policy.now.subjects }
     requires readers { readers.now ≡ all_readers policy.now }
     ensures { IfOk result (λ entries. entries ≡ entries_of policy.now subject.now) }
@@ -138,6 +142,6 @@ pub(crate) fn entries_of(
         subject.sources.items(),
     )?;
     let ends = ends(alloc, policy, subject)?;
-    add_ends(&mut entries, policy.channels(), readers, &ends)?;
+    add_channel_ends(&mut entries, policy.channels(), readers, &ends)?;
     Ok(Seq::of(entries))
 }

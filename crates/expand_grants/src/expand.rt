@@ -1,7 +1,7 @@
 //! The grants and routes of a lawful policy.
 ghost use Rattle.std.specs.Prelude.{◌≡◌, true, IfOk};
 ghost use Rattle.std.specs.List.{list_all};
-ghost use Rattle.expand_grants.specs.ByPlace.{fits_device, all_routes};
+ghost use Rattle.expand_grants.specs.ByIndex.{fits_device, all_routes};
 ghost use Rattle.expand_grants.specs.Grants.{AreGrants, AreGrantsOf, AreRoutes};
 ghost use Rattle.expand_grants.specs.Kept.{IsKept};
 ghost use Rattle.expand_grants.specs.Raising.{all_readers, all_targets};
@@ -64,7 +64,7 @@ fn of_subjects(
 /// What is granted to each subject, in the order of the subjects.
 ///
 /// Answers `NoMemory` where memory was refused.
-#[tactic(auto, using(crate::proofs::LawfulSubjects::targets_fit, crate::proofs::LawfulSubjects::ends_fit, crate::proofs::LawfulSubjects::devices_fit))]
+#[tactic(auto, using(crate::proofs::LawfulSubjects::targets_fit, crate::proofs::LawfulSubjects::channel_ends_fit, crate::proofs::LawfulSubjects::devices_fit))]
 pub fn grants(alloc: Global, policy: &Lawful) -> Result<Seq<Grants>, NoMemory>
     ensures { IfOk result (AreGrants policy.now) }
 {
@@ -77,7 +77,7 @@ pub fn grants(alloc: Global, policy: &Lawful) -> Result<Seq<Grants>, NoMemory>
 /// Where the interrupts of devices go, each granted one once.
 ///
 /// Answers `NoMemory` where memory was refused.
-#[tactic(auto, using(crate::proofs::LawfulSubjects::uses_fit, crate::proofs::RoutesByPlace::routes_by_place))]
+#[tactic(auto, using(crate::proofs::LawfulSubjects::uses_fit, crate::proofs::RoutesByIndex::routes_by_index))]
 pub fn routes(alloc: Global, policy: &Lawful) -> Result<Seq<Route>, NoMemory>
     ensures { IfOk result (AreRoutes policy.now) }
 {

@@ -17,7 +17,7 @@ pub enum Way {
 pub struct EventEntry {
     pub way: Way,
     pub mode: EventMode,
-    /// The place of the subject that it reaches.
+    /// The index of the subject that it reaches.
     pub target: usize,
     /// The vector that becomes pending there, if any.
     pub vector: Option<u8>,
@@ -26,11 +26,11 @@ pub struct EventEntry {
 /// Where an interrupt of a device goes.
 #[derive(Clone, Copy, Debug, PartialEq, Eq)]
 pub struct Route {
-    /// The device's place.
+    /// The device's index.
     pub device: usize,
-    /// The place among the device's interrupt lines.
+    /// The index among the device's interrupt lines.
     pub irq: usize,
-    /// The place of the subject that it reaches.
+    /// The index of the subject that it reaches.
     pub subject: usize,
     pub vector: u8,
 }

@@ -1,7 +1,7 @@
 //! Where the interrupts of devices go.
 ghost use Rattle.std.specs.Prelude.{◌≡◌, ◌++◌, true, map, IfOk};
 ghost use Rattle.std.specs.List.{flat_map, list_all};
-ghost use Rattle.expand_grants.specs.ByPlace.{all_routes, device_routes, fits_irq, fits_use, fits_uses, route};
+ghost use Rattle.expand_grants.specs.ByIndex.{all_routes, device_routes, fits_irq, fits_use, fits_uses, route};
 
 use crate::granted::Route;
 use muen_num::{NoMemory, Seq};
@@ -20,7 +20,7 @@ fn route(subject: usize, device: usize, irq: &IrqUse) -> Route
     }
 }
 
-// Appends the routes of interrupts of the device at a place to the subject at a place.
+// Appends the routes of interrupts of the device at an index to the subject at an index.
 fn add_irqs(
     routes: &mut Vec<Route>,
     subject: usize,
@@ -36,7 +36,7 @@ fn add_irqs(
     Ok(())
 }
 
-// Appends the routes of devices' interrupts to the subject at a place.
+// Appends the routes of devices' interrupts to the subject at an index.
 fn add_devices(
     routes: &mut Vec<Route>,
     subject: usize,
@@ -59,8 +59,8 @@ pub(crate) fn all_routes(alloc: Global, subjects: &[Subject]) -> Result<Seq<Rout
     ensures { IfOk result (λ routes. routes ≡ all_routes subjects.now) }
 {
     let mut routes = Vec::new(alloc);
-    for (place, subject) in subjects.iter().enumerate() {
-        add_devices(&mut routes, place, subject.devices.items())?;
+    for (index, subject) in subjects.iter().enumerate() {
+        add_devices(&mut routes, index, subject.devices.items())?;
     }
     Ok(Seq::of(routes))
 }

@@ -1,4 +1,4 @@
-//! What a lawful policy grants to its subjects, by places: the windows of each subject, its ports and
+//! What a lawful policy grants to its subjects, by indexes: the windows of each subject, its ports and
 //! MSRs, the events that it raises; and where the interrupts of devices go.
 #![tactic(auto)]
 

@@ -1,7 +1,7 @@
 //! The MSRs that are granted to a subject.
 ghost use Rattle.std.specs.Prelude.{◌≡◌, true, map, IfOk};
 ghost use Rattle.std.specs.List.{list_all};
-ghost use Rattle.expand_grants.specs.ByPlace.{fits_msrs};
+ghost use Rattle.expand_grants.specs.ByIndex.{fits_msrs};
 ghost use Rattle.expand_grants.specs.Resources.{msr_grant};
 
 use muen_num::{NoMemory, Seq};

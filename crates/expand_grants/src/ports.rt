@@ -1,7 +1,7 @@
 //! The ports that are granted to a subject.
 ghost use Rattle.std.specs.Prelude.{◌≡◌, ◌++◌, true, IfOk};
 ghost use Rattle.std.specs.List.{flat_map, list_all};
-ghost use Rattle.expand_grants.specs.ByPlace.{fits_device, fits_ports, range_at, ranges_at};
+ghost use Rattle.expand_grants.specs.ByIndex.{fits_device, fits_ports, range_at, ranges_at};
 ghost use Rattle.expand_grants.specs.Resources.{range_of};
 
 use crate::append::push_some;
@@ -21,12 +21,12 @@ fn range(ports: &Ports) -> PortRange
     }
 }
 
-// The range at a place of the device at a place.
-fn range_at(devices: &[Device], device: usize, place: usize) -> Option<PortRange>
+// The range at an index of the device at an index.
+fn range_at(devices: &[Device], device: usize, index: usize) -> Option<PortRange>
     requires { list_all fits_device devices.now ≡ true }
-    ensures { result ≡ range_at devices.now device place }
+    ensures { result ≡ range_at devices.now device index }
 {
-    let ports = devices.get(device)?.io_ports.items().get(place)?;
+    let ports = devices.get(device)?.io_ports.items().get(index)?;
     Some(range(ports))
 }
 
@@ -39,8 +39,8 @@ fn add_device(
     requires { list_all fits_device devices.now ≡ true }
     ensures { IfOk result (λ _. ranges.new.items ≡ ranges.old.items ++ ranges_at devices.now used.now) }
 {
-    for place in used.io_ports.items() {
-        push_some(ranges, range_at(devices, used.device, *place))?;
+    for index in used.io_ports.items() {
+        push_some(ranges, range_at(devices, used.device, *index))?;
     }
     Ok(())
 }

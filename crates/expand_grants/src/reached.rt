@@ -2,7 +2,7 @@
 ghost use Rattle.std.specs.Prelude.{◌≡◌, ◌++◌, ◌==◌, true, map, option_map, IfOk};
 ghost use Rattle.std.specs.List.{filter_map, find, list_all};
 ghost use Rattle.policy_lawful.specs.Resolution.{IsResolved};
-ghost use Rattle.expand_grants.specs.Raising.{all_readers, all_targets, first_reached, fits_end, fits_ends, fits_number, fits_target, fits_targets, reader_reached, target_reached};
+ghost use Rattle.expand_grants.specs.Raising.{all_readers, all_targets, first_reached, fits_channel_end, fits_channel_ends, fits_number, fits_target, fits_targets, reader_reached, target_reached};
 
 use crate::append::push_some;
 use muen_num::NoMemory;
@@ -15,9 +15,9 @@ use std::alloc::Global;
 /// A subject that is reached.
 #[derive(Clone, Copy, Debug, PartialEq, Eq)]
 pub(crate) struct Reached {
-    /// The place of the event, or of the channel, by which it is reached.
+    /// The index of the event, or of the channel, by which it is reached.
     pub(crate) by: usize,
-    /// The subject's place.
+    /// The subject's index.
     pub(crate) subject: usize,
     /// The vector that becomes pending there, if any.
     pub(crate) vector: Option<u8>,
@@ -34,13 +34,13 @@ pub(crate) fn small(number: Option<u64>) -> Option<u8>
     }
 }
 
-fn target_reached(place: usize, target: &EventTarget) -> Reached
+fn target_reached(index: usize, target: &EventTarget) -> Reached
     requires { fits_target target.now ≡ true }
-    ensures { result ≡ target_reached place target.now }
+    ensures { result ≡ target_reached index target.now }
 {
     Reached {
         by: target.event,
-        subject: place,
+        subject: index,
         vector: small(target.vector),
     }
 }
@@ -48,14 +48,14 @@ fn target_reached(place: usize, target: &EventTarget) -> Reached
 // Notes that a subject is reached by its targets.
 fn note_targets(
     noted: &mut Vec<Reached>,
-    place: usize,
+    index: usize,
     targets: &[EventTarget],
 ) -> Result<(), NoMemory>
     requires { list_all fits_target targets.now ≡ true }
-    ensures { IfOk result (λ _. noted.new.items ≡ noted.old.items ++ map (target_reached place) targets.now) }
+    ensures { IfOk result (λ _. noted.new.items ≡ noted.old.items ++ map (target_reached index) targets.now) }
 {
     for target in targets {
-        noted.push(target_reached(place, target))?;
+        noted.push(target_reached(index, target))?;
     }
     Ok(())
 }
@@ -68,33 +68,33 @@ pub(crate) fn all_targets(alloc: Global, subjects: &[Subject]) -> Result<Vec<Rea
     ensures { IfOk result (λ v. v.items ≡ all_targets subjects.now) }
 {
     let mut noted = Vec::new(alloc);
-    for (place, subject) in subjects.iter().enumerate() {
-        note_targets(&mut noted, place, subject.targets.items())?;
+    for (index, subject) in subjects.iter().enumerate() {
+        note_targets(&mut noted, index, subject.targets.items())?;
     }
     Ok(noted)
 }
 
-fn reader_reached(place: usize, end: &ChannelEnd) -> Option<Reached>
-    requires { fits_end end.now ≡ true }
-    ensures { result ≡ reader_reached place end.now end.now.role }
+fn reader_reached(index: usize, end: &ChannelEnd) -> Option<Reached>
+    requires { fits_channel_end end.now ≡ true }
+    ensures { result ≡ reader_reached index end.now end.now.role }
 {
     match end.role {
         Role::Writer => None,
         Role::Reader => Some(Reached {
             by: end.channel,
-            subject: place,
+            subject: index,
             vector: small(end.vector),
         }),
     }
 }
 
 // Notes that a subject is reached by those of its ends that read.
-fn note_readers(noted: &mut Vec<Reached>, place: usize, ends: &[ChannelEnd]) -> Result<(), NoMemory>
-    requires { list_all fits_end ends.now ≡ true }
-    ensures { IfOk result (λ _. noted.new.items ≡ noted.old.items ++ filter_map (λ e. reader_reached place e e.role) ends.now) }
+fn note_readers(noted: &mut Vec<Reached>, index: usize, ends: &[ChannelEnd]) -> Result<(), NoMemory>
+    requires { list_all fits_channel_end ends.now ≡ true }
+    ensures { IfOk result (λ _. noted.new.items ≡ noted.old.items ++ filter_map (λ e. reader_reached index e e.role) ends.now) }
 {
     for end in ends {
-        push_some(noted, reader_reached(place, end))?;
+        push_some(noted, reader_reached(index, end))?;
     }
     Ok(())
 }
@@ -103,29 +103,29 @@ fn note_readers(noted: &mut Vec<Reached>, place: usize, ends: &[ChannelEnd]) -> 
 ///
 /// Answers `NoMemory` where memory was refused.
 pub(crate) fn all_readers(alloc: Global, policy: &Resolved) -> Result<Vec<Reached>, NoMemory>
-    requires { list_all (fits_ends policy.now) policy.now.subjects ≡ true }
+    requires { list_all (fits_channel_ends policy.now) policy.now.subjects ≡ true }
     ensures { IfOk result (λ v. v.items ≡ all_readers policy.now) }
 {
     let mut noted = Vec::new(alloc);
-    for (place, subject) in policy.subjects().iter().enumerate() {
+    for (index, subject) in policy.subjects().iter().enumerate() {
         let ends = ends(alloc, policy, subject)?;
-        note_readers(&mut noted, place, &ends)?;
+        note_readers(&mut noted, index, &ends)?;
     }
     Ok(noted)
 }
 
-// The first that is reached by the event, or by the channel, at a place.
-fn first_lent(list: &[Reached], place: usize) -> Option<&Reached>
-    ensures { option_map (λ x. x.now) result ≡ first_reached list.now place }
+// The first that is reached by the event, or by the channel, at an index.
+fn first_lent(list: &[Reached], index: usize) -> Option<&Reached>
+    ensures { option_map (λ x. x.now) result ≡ first_reached list.now index }
 {
-    list.iter().find(|reached| reached.by == place)
+    list.iter().find(|reached| reached.by == index)
 }
 
-/// The first that is reached by the event, or by the channel, at a place.
-pub(crate) fn first_reached(list: &[Reached], place: usize) -> Option<Reached>
-    ensures { result ≡ first_reached list.now place }
+/// The first that is reached by the event, or by the channel, at an index.
+pub(crate) fn first_reached(list: &[Reached], index: usize) -> Option<Reached>
+    ensures { result ≡ first_reached list.now index }
 {
-    match first_lent(list, place) {
+    match first_lent(list, index) {
         None => None,
         Some(reached) => Some(*reached),
     }

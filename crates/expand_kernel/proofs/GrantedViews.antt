@@ -9,7 +9,7 @@ use Rattle.ept_count.specs.Pages.{IsMapped, ept_pages}
 use Rattle.expand_grants.specs.Grants.{is_lower}
 use Rattle.expand_grants.specs.Ordered.{in_order}
 use Rattle.expand_grants.proofs.Ordered.{in_order_permutes}
-use Rattle.expand_kernel.specs.ByPlace.{CanMap, mapped_view, mapped_views}
+use Rattle.expand_kernel.specs.ByIndex.{CanMap, mapped_view, mapped_views}
 use Rattle.expand_kernel.specs.Regions.{mapped_window}
 use Rattle.expand_kernel.proofs.LowestFirst.{before_in_order, clash}
 use Rattle.expand_kernel.proofs.TablePages.{pages_permuted}
@@ -81,19 +81,19 @@ can_map_in_order vs guests none =
 
 -- ---- of a subject
 
-module _ (r : Resolution) (q : IsResolved r) (s : Subject) (placed : subject_placed r s ≡ true) where
+module _ (r : Resolution) (q : IsResolved r) (s : Subject) (in_range : subject_placed r s ≡ true) where
   -- its windows are as rules 4 and 5 say
   pub can_map_views : list_all (λ e. is_guest e.address e.size) (window_extents (source_of r) (subject_named r s)) ≡ true
       → first_overlap (window_extents (source_of r) (subject_named r s)) ≡ None → CanMap (in_order is_lower (views_of r s))
   can_map_views guests none =
-      let same = extents_by_place r s q placed in
+      let same = extents_by_place r s q in_range in
       can_map_in_order (views_of r s) (sym (ap (list_all (λ e. is_guest e.address e.size)) same) ∙ guests) (sym (ap first_overlap same) ∙ none)
 
-  -- in order or not, by name or by place
+  -- in order or not, by name or by index
   pub pages_of_views : ept_pages (mapped_views (in_order is_lower (views_of r s))) ≡ ept_pages (map mapped_window (windows_of (source_of r) (subject_named r s)))
   pages_of_views =
       let vs = views_of r s in
       let named : map mapped_window (windows_of (source_of r) (subject_named r s)) ≡ mapped_views vs =
-      ap (map mapped_window) (windows_by_place r s q placed) ∙ map-map mapped_window (view_window r s.name) vs in
+      ap (map mapped_window) (windows_by_place r s q in_range) ∙ map-map mapped_window (view_window r s.name) vs in
       sym (pages_permuted (mapped_views vs) (mapped_views (in_order is_lower vs)) (IsPermutation-map mapped_view vs (in_order is_lower vs) (in_order_permutes is_lower vs)))
       ∙ sym (λ i. ept_pages (named i))

@@ -3,35 +3,35 @@ use Rattle.std.proofs.Common.{◌≡◌, ◌⊎◌, inl, inr, ℕ, suc, List, []
 use Rattle.std.specs.List.{All}
 use Rattle.ept_count.specs.Pages.{ept_pages}
 use Rattle.expand_grants.specs.declared.granted.Grants.{Grants}
-use Rattle.expand_kernel.specs.ByPlace.{CanMap, kernel_for, kernel_for_each, mapped_views}
+use Rattle.expand_kernel.specs.ByIndex.{CanMap, kernel_for, kernel_for_each, mapped_views}
 use Rattle.expand_kernel.specs.Regions.{kernel_regions}
 use Rattle.expand_kernel.specs.declared.region.Region.{Region}
 use Rattle.policy_lawful.specs.declared.resolved.Subject.{Subject}
 use Rattle.policy_views.specs.declared.view.View.{View}
 
--- those made so far, and those of the subjects that are left, are all
-pub record InTurn (subjects : List Subject) (grants : List Grants) (left : List Subject) (granted : List Grants) (made : List Region) : Type 0 where
-  pub all : made ++ kernel_for_each left granted ≡ kernel_for_each subjects grants
+-- those made so far, and those of the remaining subjects, are all
+pub record InTurn (subjects : List Subject) (grants : List Grants) (remaining : List Subject) (granted : List Grants) (made : List Region) : Type 0 where
+  pub all : made ++ kernel_for_each remaining granted ≡ kernel_for_each subjects grants
   pub can : All (λ g. CanMap g.views) granted
 
-pub at_first : (subjects : List Subject) (grants : List Grants) (left : List Subject) (granted : List Grants) (made : List Region)
-    → left ≡ subjects → granted ≡ grants → made ≡ [] → All (λ g. CanMap g.views) grants → InTurn subjects grants left granted made
-at_first subjects grants left granted made s g none can = record {
+pub at_first : (subjects : List Subject) (grants : List Grants) (remaining : List Subject) (granted : List Grants) (made : List Region)
+    → remaining ≡ subjects → granted ≡ grants → made ≡ [] → All (λ g. CanMap g.views) grants → InTurn subjects grants remaining granted made
+at_first subjects grants remaining granted made s g none can = record {
   all = (λ i. none i ++ kernel_for_each (s i) (g i));
   can = subst (λ gs. All (λ g. CanMap g.views) gs) (sym g) can;
 }
 
 -- the next views can be mapped
-pub can_next : (subjects : List Subject) (grants : List Grants) (left : List Subject) (granted : List Grants) (made : List Region) (g : Grants) (gs : List Grants) (views : List View)
-    → InTurn subjects grants left granted made → granted ≡ g ∷ gs → views ≡ g.views → CanMap views
-can_next subjects grants left granted made g gs views h is of =
+pub can_next : (subjects : List Subject) (grants : List Grants) (remaining : List Subject) (granted : List Grants) (made : List Region) (g : Grants) (gs : List Grants) (views : List View)
+    → InTurn subjects grants remaining granted made → granted ≡ g ∷ gs → views ≡ g.views → CanMap views
+can_next subjects grants remaining granted made g gs views h is of =
     subst CanMap (sym of) (subst (λ xs. All (λ g. CanMap g.views) xs) is h.can 0 g (omega arith))
 
 -- those for the next subject are made
-pub next_made : (subjects : List Subject) (grants : List Grants) (left : List Subject) (granted : List Grants) (made : List Region) (s : Subject) (ss : List Subject) (g : Grants) (gs : List Grants) (pages : ℕ) (new more : List Region)
-    → InTurn subjects grants left granted made → left ≡ s ∷ ss → granted ≡ g ∷ gs → pages ≡ ept_pages (mapped_views g.views) → new ≡ kernel_regions s.name pages → more ≡ made ++ new → InTurn subjects grants ss gs more
+pub next_made : (subjects : List Subject) (grants : List Grants) (remaining : List Subject) (granted : List Grants) (made : List Region) (s : Subject) (ss : List Subject) (g : Grants) (gs : List Grants) (pages : ℕ) (new more : List Region)
+    → InTurn subjects grants remaining granted made → remaining ≡ s ∷ ss → granted ≡ g ∷ gs → pages ≡ ept_pages (mapped_views g.views) → new ≡ kernel_regions s.name pages → more ≡ made ++ new → InTurn subjects grants ss gs more
 unfolding kernel_for_each
-next_made subjects grants left granted made s ss g gs pages new more h is of count now then = record {
+next_made subjects grants remaining granted made s ss g gs pages new more h is of count now then = record {
   all =
       (λ i. (then ∙ ap (λ xs. made ++ xs) (now ∙ ap (kernel_regions s.name) count)) i ++ kernel_for_each ss gs)
       ∙ append_assoc made (kernel_for (s, g)) (kernel_for_each ss gs)
@@ -41,9 +41,9 @@ next_made subjects grants left granted made s ss g gs pages new more h is of cou
 }
 
 -- all are made
-pub at_last : (subjects : List Subject) (grants : List Grants) (left : List Subject) (granted : List Grants) (made : List Region)
-    → InTurn subjects grants left granted made → (left ≡ []) ⊎ (granted ≡ []) → made ≡ kernel_for_each subjects grants
+pub at_last : (subjects : List Subject) (grants : List Grants) (remaining : List Subject) (granted : List Grants) (made : List Region)
+    → InTurn subjects grants remaining granted made → (remaining ≡ []) ⊎ (granted ≡ []) → made ≡ kernel_for_each subjects grants
 unfolding kernel_for_each
-at_last subjects grants left granted made h (inl e) = sym (append-nil made) ∙ (λ i. made ++ kernel_for_each (sym e i) granted) ∙ h.all
+at_last subjects grants remaining granted made h (inl e) = sym (append-nil made) ∙ (λ i. made ++ kernel_for_each (sym e i) granted) ∙ h.all
 at_last subjects grants [] granted made h (inr e) = sym (append-nil made) ∙ h.all
 at_last subjects grants (s ∷ ss) granted made h (inr e) = sym (append-nil made) ∙ (λ i. made ++ kernel_for_each (s ∷ ss) (sym e i)) ∙ h.all

@@ -1,4 +1,4 @@
-pub mod BroughtByPlace
+pub mod BroughtByIndex
 pub mod GrantedViews
 pub mod InTurn
 pub mod LowestFirst

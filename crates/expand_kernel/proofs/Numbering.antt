@@ -1,14 +1,14 @@
--- All regions by number: those of a resolved policy by places, and the kernel's by what is granted, are those of the policy.
+-- All regions by number: those of a resolved policy by indexes, and the kernel's by what is granted, are those of the policy.
 use Rattle.std.proofs.Common.{◌≡◌, Bool, true, List, [], ◌∷◌, ◌++◌, map, None, refl, sym, ◌∙◌}
 use Rattle.std.specs.List.{All, AllByRecursion, AllZip, flat_map, list_all}
 use Rattle.std.proofs.lemmas.Bool.{and_parts}
 use Rattle.std.proofs.lemmas.List.Elements.{All-from_recursion}
 use Rattle.expand_grants.specs.Grants.{AreGrants, AreGrantsOf}
 use Rattle.expand_grants.specs.declared.granted.Grants.{Grants}
-use Rattle.expand_kernel.specs.ByPlace.{CanMap, brought_at, kernel_for_each, mapped_views}
+use Rattle.expand_kernel.specs.ByIndex.{CanMap, brought_at, kernel_for_each, mapped_views}
 use Rattle.expand_kernel.specs.Regions.{channel_region, kernel_regions, kernel_regions_of, own_region, regions_of}
 use Rattle.expand_kernel.specs.declared.region.Region.{Region}
-use Rattle.expand_kernel.proofs.BroughtByPlace.{brought_by_place}
+use Rattle.expand_kernel.proofs.BroughtByIndex.{brought_by_index}
 use Rattle.expand_kernel.proofs.GrantedViews.{can_map_views, pages_of_views}
 use Rattle.ept_count.specs.Pages.{ept_pages}
 use Rattle.muen_num.specs.Search.{first_in}
@@ -30,26 +30,26 @@ module _ (r : Resolution) (q : IsResolved r) where
   can_map_each : (ss : List Subject) (gs : List Grants) → AllZip (AreGrantsOf r) ss gs → list_all (subject_placed r) ss ≡ true
       → list_all (are_guests r) (map (subject_named r) ss) ≡ true → first_in (λ s. first_overlap (window_extents (source_of r) s)) (map (subject_named r) ss) ≡ None
       → AllByRecursion (λ g. CanMap g.views) gs
-  can_map_each [] [] granted placed guests none = tt
-  can_map_each [] (g ∷ gs) granted placed guests none = absurd granted
-  can_map_each (s ∷ ss) [] granted placed guests none = absurd granted
-  can_map_each (s ∷ ss) (g ∷ gs) granted placed guests none =
-      let p = and_parts _ _ placed in
+  can_map_each [] [] granted in_range guests none = tt
+  can_map_each [] (g ∷ gs) granted in_range guests none = absurd granted
+  can_map_each (s ∷ ss) [] granted in_range guests none = absurd granted
+  can_map_each (s ∷ ss) (g ∷ gs) granted in_range guests none =
+      let p = and_parts _ _ in_range in
       let a = and_parts _ _ guests in
       let n = none_both _ _ none in
       (rw granted.0.views (can_map_views r q s p.0 a.0 n.0), can_map_each ss gs granted.1 p.1 a.1 n.1)
 
   -- and the kernel's regions are by its windows
-  kernel_by_place : (ss : List Subject) (gs : List Grants) → AllZip (AreGrantsOf r) ss gs → list_all (subject_placed r) ss ≡ true
+  kernel_by_index : (ss : List Subject) (gs : List Grants) → AllZip (AreGrantsOf r) ss gs → list_all (subject_placed r) ss ≡ true
       → kernel_for_each ss gs ≡ flat_map (kernel_regions_of (source_of r)) (map (subject_named r) ss)
   unfolding kernel_for_each
-  kernel_by_place [] [] granted placed = refl
-  kernel_by_place [] (g ∷ gs) granted placed = absurd granted
-  kernel_by_place (s ∷ ss) [] granted placed = absurd granted
-  kernel_by_place (s ∷ ss) (g ∷ gs) granted placed =
-      let p = and_parts _ _ placed in
+  kernel_by_index [] [] granted in_range = refl
+  kernel_by_index [] (g ∷ gs) granted in_range = absurd granted
+  kernel_by_index (s ∷ ss) [] granted in_range = absurd granted
+  kernel_by_index (s ∷ ss) (g ∷ gs) granted in_range =
+      let p = and_parts _ _ in_range in
       let views : ept_pages (mapped_views g.views) ≡ _ = (λ i. ept_pages (mapped_views (granted.0.views i))) ∙ pages_of_views r q s p.0 in
-      λ i. kernel_regions s.name (views i) ++ kernel_by_place ss gs granted.1 p.1 i
+      λ i. kernel_regions s.name (views i) ++ kernel_by_index ss gs granted.1 p.1 i
 
 -- what is granted can be mapped
 pub can_map_granted : (r : Resolution) (gs : List Grants) → IsResolved r → IsLawful (source_of r) → AreGrants r gs → All (λ g. CanMap g.views) gs
@@ -59,18 +59,18 @@ can_map_granted r gs q lawful granted =
     (can_map_each r q r.subjects gs granted (parts_placed r q.placed).subjects (addresses_kept (source_of r) lawful.rule_4).windows lawful.rule_5)
 
 -- the regions of a policy by number
-pub regions_by_place : (r : Resolution) (gs : List Grants) → IsResolved r → AreGrants r gs
+pub regions_by_index : (r : Resolution) (gs : List Grants) → IsResolved r → AreGrants r gs
     → map own_region r.memory ++ map channel_region r.channels ++ flat_map (brought_at r.components) r.subjects ++ kernel_for_each r.subjects gs ≡ regions_of (source_of r)
 unfolding regions_of source_of
-regions_by_place r gs q granted =
-    let placed = (parts_placed r q.placed).subjects in
-    λ i. map own_region r.memory ++ map channel_region r.channels ++ sym (brought_by_place r q r.subjects placed) i ++ kernel_by_place r q r.subjects gs granted placed i
+regions_by_index r gs q granted =
+    let in_range = (parts_placed r q.placed).subjects in
+    λ i. map own_region r.memory ++ map channel_region r.channels ++ sym (brought_by_index r q r.subjects in_range) i ++ kernel_by_index r q r.subjects gs granted in_range i
 
 -- the same, where they were joined one list after the other
-pub joined_by_place : (r : Resolution) (gs : List Grants) (memory channels provided kernel all : List Region) → IsResolved r → AreGrants r gs
+pub joined_by_index : (r : Resolution) (gs : List Grants) (memory channels provided kernel all : List Region) → IsResolved r → AreGrants r gs
     → memory ≡ map own_region r.memory → channels ≡ map channel_region r.channels → provided ≡ flat_map (brought_at r.components) r.subjects → kernel ≡ kernel_for_each r.subjects gs
     → all ≡ memory ++ channels ++ provided ++ kernel → all ≡ regions_of (source_of r)
-joined_by_place r gs memory channels provided kernel all q granted m c p k is =
+joined_by_index r gs memory channels provided kernel all q granted m c p k is =
     is
     ∙ (λ i. m i ++ c i ++ p i ++ k i)
-    ∙ regions_by_place r gs q granted
+    ∙ regions_by_index r gs q granted

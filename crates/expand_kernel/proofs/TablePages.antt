@@ -7,8 +7,8 @@ use Rattle.ept_count.specs.declared.window.Window.{Window}
 
 -- ---- whatever the order
 
-taken_permuted : (ws vs : List Window) → IsPermutation ws vs → (span v : ℕ) → is_taken ws span v ≡ is_taken vs span v
-taken_permuted ws vs p span v = list_any-IsPermutation (λ w. touches w (span * v) span) ws vs p
+taken_permuted : (ws vs : List Window) → IsPermutation ws vs → (entry_size v : ℕ) → is_taken ws entry_size v ≡ is_taken vs entry_size v
+taken_permuted ws vs p entry_size v = list_any-IsPermutation (λ w. touches w (entry_size * v) entry_size) ws vs p
 
 -- windows take as many in one order as in another
 pub pages_permuted : (ws vs : List Window) → IsPermutation ws vs → ept_pages ws ≡ ept_pages vs

@@ -1,4 +1,4 @@
--- A lawful policy with all that follows from it but places.
+-- A lawful policy with all that follows from it but addresses.
 use Rattle.std.specs.Prelude.{◌≡◌, List}
 use Rattle.expand_grants.specs.Grants.{AreGrants, AreRoutes}
 use Rattle.expand_grants.specs.declared.granted.Grants.{Grants}

@@ -1,3 +1,3 @@
-pub mod ByPlace
+pub mod ByIndex
 pub mod Expansion
 pub mod Regions

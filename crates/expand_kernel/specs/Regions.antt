@@ -52,7 +52,7 @@ provided_regions subject (Some c) = map (provided_region subject) c.provides
 
 -- a window as tables map it: where what it shows lies, and by which leaf, is nothing to how many there are
 abbrev pub mapped_window : {X : Type 0} → Window X → Mapped
-mapped_window w = record { guest = w.guest; size = w.size; place = 0; rights = w.rights; caching = Wb; leaf = Small }
+mapped_window w = record { guest = w.guest; size = w.size; address = 0; rights = w.rights; caching = Wb; leaf = Small }
 
 -- a subject's state page, EPT tables, two pages of I/O bitmaps, MSR bitmap and MSR area, where its tables take so many pages
 abbrev pub kernel_regions : List ℕ → ℕ → List Region

@@ -1,4 +1,4 @@
-//! Lawful policies with all that follows from them but places.
+//! Lawful policies with all that follows from them but addresses.
 ghost use Rattle.std.specs.Prelude.{◌≡◌, IfOk};
 ghost use Rattle.expand_grants.specs.Grants.{AreGrants, AreRoutes};
 ghost use Rattle.expand_kernel.specs.Expansion.{IsExpansion};
@@ -99,7 +99,7 @@ fn regions_by_number(
     Ok(Seq::of(regions))
 }
 
-/// All that follows from a lawful policy but places.
+/// All that follows from a lawful policy but addresses.
 ///
 /// Answers `NoMemory` where memory was refused.
 pub fn expand(alloc: Global, lawful: Lawful) -> Result<Expanded, NoMemory>

@@ -2,7 +2,7 @@
 ghost use Rattle.std.specs.Prelude.{◌≡◌, ◌≤◌, ◌^◌, map, IfOk};
 ghost use Rattle.std.specs.List.{All};
 ghost use Rattle.ept_count.specs.Pages.{ept_pages};
-ghost use Rattle.expand_kernel.specs.ByPlace.{CanMap, kernel_for_each, mapped_view, mapped_views};
+ghost use Rattle.expand_kernel.specs.ByIndex.{CanMap, kernel_for_each, mapped_view, mapped_views};
 ghost use Rattle.expand_kernel.specs.Regions.{kernel_regions};
 
 use crate::numbered::anywhere;
@@ -23,7 +23,7 @@ fn mapped_view(view: &View) -> Window
     Window {
         guest: view.guest,
         size: view.size,
-        place: 0,
+        address: 0,
         rights: view.rights,
         caching: Caching::Wb,
         leaf: Leaf::Small,

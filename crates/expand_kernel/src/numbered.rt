@@ -2,12 +2,12 @@
 //! the subjects' components bring along.
 ghost use Rattle.std.specs.Prelude.{◌≡◌, map, IfOk};
 ghost use Rattle.std.specs.List.{flat_map};
-ghost use Rattle.expand_kernel.specs.ByPlace.{brought_at, provided_at};
+ghost use Rattle.expand_kernel.specs.ByIndex.{brought_at, provided_at};
 ghost use Rattle.expand_kernel.specs.Regions.{anywhere, channel_region, own_region, provided_region};
 
 use crate::region::{Region, RegionKind};
 use muen_num::limits::PAGE;
-use muen_num::{Name, NoMemory, TagPart, Tag};
+use muen_num::{Name, NoMemory, Tag, TagPart};
 use policy_lawful::resolved::{ComponentUse, Subject};
 use policy_types::source::{Channel, Component, Provided, Region as Memory};
 use std::alloc::{AllocError, Global};
@@ -43,7 +43,12 @@ fn own_region(region: &Memory) -> Region
 fn channel_region(channel: &Channel) -> Region
     ensures { result ≡ channel_region channel.now }
 {
-    anywhere(RegionKind::Channel, channel.name, TagPart::Whole, channel.size)
+    anywhere(
+        RegionKind::Channel,
+        channel.name,
+        TagPart::Whole,
+        channel.size,
+    )
 }
 
 fn provided_region(subject: Name, provided: &Provided) -> Region
@@ -101,7 +106,7 @@ fn provided_by<'a>(components: &'a [Component], used: &Option<ComponentUse>) -> 
 }
 
 // What a subject's component brings along.
-#[tactic(auto, unfolding(crate::specs::ByPlace::brought_at))]
+#[tactic(auto, unfolding(crate::specs::ByIndex::brought_at))]
 fn of_subject(
     alloc: Global,
     components: &[Component],

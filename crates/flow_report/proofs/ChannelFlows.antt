@@ -1,4 +1,4 @@
--- Flows by channels, by names and by places.
+-- Flows by channels, by names and by indexes.
 use Rattle.std.proofs.Common.{◌≡◌, ℕ, ◌<◌, true, false, List, length, map, None, refl, sym, ap, ◌∙◌, arith}
 use Rattle.std.specs.Prelude.{◌==◌, ◌&&◌, nat_lt}
 use Rattle.std.specs.Option.{option_map_or}
@@ -20,8 +20,8 @@ use Rattle.policy_views.specs.declared.view.ChannelEnd.{ChannelEnd}
 use Rattle.policy_views.proofs.EndsByPlace.{ends_by_place, ends_placed}
 use Rattle.flow_report.specs.Flows.{by_channel, is_writer}
 use Rattle.muen_num.proofs.Members.{any_agree, passes_in}
-use Rattle.flow_report.specs.ByPlace.{channel_read, channel_written, has, meet}
-use Rattle.flow_report.proofs.PlacesOfSubjects.{any_filter_map}
+use Rattle.flow_report.specs.ByIndex.{channel_read, channel_written, has, meet}
+use Rattle.flow_report.proofs.IndexesOfSubjects.{any_filter_map}
 
 abbrev channel_names : Resolution → List (List ℕ)
 channel_names r = map (λ c. c.name) r.channels
@@ -46,17 +46,17 @@ module _ (r : Resolution) (q : IsResolved r) where
   -- who reads a channel
   reads_at : (s : Subject) (k : ℕ) → subject_placed r s ≡ true → nat_lt k (length r.channels) ≡ true
       → list_any (λ f. reads_from f f.role (name_at (channel_names r) k)) (channel_ends (source_of r) (subject_named r s)) ≡ has (filter_map (λ f. channel_read f.role f.channel) (ends_of r s)) k
-  reads_at s k placed b =
-      ap (list_any (λ (f : ChannelEnd). reads_from f f.role (name_at (channel_names r) k))) (ends_by_place r s q placed)
+  reads_at s k in_range b =
+      ap (list_any (λ (f : ChannelEnd). reads_from f f.role (name_at (channel_names r) k))) (ends_by_place r s q in_range)
       ∙ list_any-map (λ (f : ChannelEnd). reads_from f f.role (name_at (channel_names r) k)) (end_named r) (ends_of r s)
       ∙ any_agree (λ f. reads_from (end_named r f) f.role (name_at (channel_names r) k)) (λ f. option_map_or (λ y. y == k) (channel_read f.role f.channel) false) (ends_of r s)
-      (λ f i. read_at f f.role k (passes_in (λ (e : ChannelEnd). nat_lt e.channel (length r.channels)) (ends_of r s) (ends_placed r s placed) f i) b)
+      (λ f i. read_at f f.role k (passes_in (λ (e : ChannelEnd). nat_lt e.channel (length r.channels)) (ends_of r s) (ends_placed r s in_range) f i) b)
       ∙ sym (any_filter_map (λ y. y == k) (λ (f : ChannelEnd). channel_read f.role f.channel) (ends_of r s))
 
   written_at : (s : Subject) (role : Role) (k : ℕ) → subject_placed r s ≡ true → nat_lt k (length r.channels) ≡ true
       → (is_writer role && list_any (λ f. reads_from f f.role (name_at (channel_names r) k)) (channel_ends (source_of r) (subject_named r s))) ≡ option_map_or (has (filter_map (λ f. channel_read f.role f.channel) (ends_of r s))) (channel_written role k) false
-  written_at s Writer k placed b = reads_at s k placed b
-  written_at s Reader k placed b = refl
+  written_at s Writer k in_range b = reads_at s k in_range b
+  written_at s Reader k in_range b = refl
 
   pub channel_same : (u s : Subject) → subject_placed r u ≡ true → subject_placed r s ≡ true
       → by_channel (source_of r) (subject_named r u) (subject_named r s)

@@ -1,4 +1,4 @@
--- Direct flows by names are those by faces.
+-- Direct flows by names are those by contacts.
 use Rattle.std.proofs.Common.{◌≡◌, ℕ, Bool, true, false, refl, ◌∙◌, ◌⊎◌, inl, inr}
 use Rattle.std.specs.Prelude.{◌||◌}
 use Rattle.policy_lawful.specs.Resolution.{IsResolved, Resolution, source_of, subject_named}
@@ -6,14 +6,14 @@ use Rattle.policy_lawful.specs.declared.resolved.Subject.{Subject}
 use Rattle.policy_lawful.proofs.UniqueNames.{unique}
 use Rattle.flow_report.specs.Flows.{by_channel, by_event, by_memory, flows_to}
 use Rattle.muen_num.proofs.Members.{In, map_in}
-use Rattle.flow_report.specs.ByPlace.{face_of, flows_between}
+use Rattle.flow_report.specs.ByIndex.{contacts_of, flows_between}
 use Rattle.flow_report.proofs.ChannelFlows.{channel_same}
 use Rattle.flow_report.proofs.EventFlows.{sources_same}
 use Rattle.flow_report.proofs.EventWaysFlow.{by_sources, event_parts, sources_count}
 use Rattle.flow_report.proofs.MarkedSets.{HasUniqueNames}
 use Rattle.flow_report.proofs.MemoryFlows.{memory_same}
 use Rattle.flow_report.proofs.MonitorFlows.{change_same, plan_same, sight_same}
-use Rattle.flow_report.proofs.PlacesOfSubjects.{At, at_in, is_placed, unique_names}
+use Rattle.flow_report.proofs.IndexesOfSubjects.{At, at_in, is_in_range, unique_names}
 
 -- of three tests the last in a narrower form
 joined : (c m e f : Bool) → (f ≡ true → e ≡ true) → (e ≡ true → (c ≡ true) ⊎ (f ≡ true)) → (c || m || e) ≡ (c || m || f)
@@ -33,14 +33,14 @@ unfolding source_of
 named_in r k s h = map_in (subject_named r) r.subjects s (at_in r.subjects k s h.at)
 
 pub flows_same : (r : Resolution) → IsResolved r → (i j : ℕ) (u s : Subject) → At r i u → At r j s
-    → flows_to (source_of r) (subject_named r u) (subject_named r s) ≡ flows_between (face_of r (i, u)) (face_of r (j, s))
+    → flows_to (source_of r) (subject_named r u) (subject_named r s) ≡ flows_between (contacts_of r (i, u)) (contacts_of r (j, s))
 unfolding flows_to flows_between
 flows_same r q i j u s left right =
     let p = source_of r in
     let a = subject_named r u in
     let b = subject_named r s in
-    let from = is_placed r q i u left in
-    let to = is_placed r q j s right in
+    let from = is_in_range r q i u left in
+    let to = is_in_range r q j s right in
     let events = joined (by_channel p a b) (by_memory p a b) (by_event p a b) (by_sources p a b) (sources_count p a b) (event_parts p (names_unique r q) a b (named_in r j s right)) in
     let channel = channel_same r q u s from to in
     let memory = memory_same r q s to u from in

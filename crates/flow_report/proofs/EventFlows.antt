@@ -1,4 +1,4 @@
--- Flows by the events of sources, by names and by places.
+-- Flows by the events of sources, by names and by indexes.
 use Rattle.std.proofs.Common.{◌≡◌, ℕ, ◌<◌, Bool, true, false, cond, List, [], ◌∷◌, ◌++◌, length, map, filter, Option, Some, None, refl, sym, ap, ◌∙◌, arith}
 use Rattle.std.specs.Prelude.{◌==◌, ◌||◌, nat_lt, option_and_then, option_map, slice_get}
 use Rattle.std.specs.Option.{option_map_or}
@@ -12,8 +12,8 @@ use Rattle.muen_num.specs.declared.mode.EventMode.{EventMode}
 use Rattle.muen_num.proofs.Lists.{find-map, found_among, list_any-map, there}
 use Rattle.policy_lawful.specs.Resolution.{IsResolved, Resolution, name_at, source_of, subject_named, subject_placed}
 use Rattle.policy_lawful.specs.Rules.{repeated}
-use Rattle.policy_lawful.specs.declared.resolved.EventSource.{EventSource as PlacedSource}
-use Rattle.policy_lawful.specs.declared.resolved.EventTarget.{EventTarget as PlacedTarget}
+use Rattle.policy_lawful.specs.declared.resolved.EventSource.{EventSource as ResolvedSource}
+use Rattle.policy_lawful.specs.declared.resolved.EventTarget.{EventTarget as ResolvedTarget}
 use Rattle.policy_lawful.specs.declared.resolved.Subject.{Subject}
 use Rattle.policy_lawful.proofs.Places.{found_at_place, same_name}
 use Rattle.policy_lawful.proofs.SourceElements.{parts_placed}
@@ -28,17 +28,17 @@ use Rattle.policy_views.proofs.WindowsByPlace.{name_there}
 use Rattle.flow_report.specs.Flows.{reaches}
 use Rattle.flow_report.proofs.EventWays.{by_source}
 use Rattle.muen_num.proofs.Members.{any_agree}
-use Rattle.flow_report.specs.ByPlace.{first_target, has, reached_by}
+use Rattle.flow_report.specs.ByIndex.{first_target, has, reached_by}
 use Rattle.flow_report.proofs.EventWaysFlow.{by_sources}
-use Rattle.flow_report.proofs.PlacesOfSubjects.{At, any_filter_map, same_subject}
+use Rattle.flow_report.proofs.IndexesOfSubjects.{At, any_filter_map, same_subject}
 
 abbrev event_names : Resolution → List (List ℕ)
 event_names r = map (λ x. x.name) r.events
 
-abbrev source_named : Resolution → PlacedSource → EventSource
+abbrev source_named : Resolution → ResolvedSource → EventSource
 source_named r e = record { event = name_at (event_names r) e.event; way = e.way }
 
-abbrev target_named : Resolution → PlacedTarget → EventTarget
+abbrev target_named : Resolution → ResolvedTarget → EventTarget
 target_named r e = record { event = name_at (event_names r) e.event; vector = e.vector }
 
 events_unique : (r : Resolution) → IsResolved r → repeated (event_names r) ≡ None
@@ -52,11 +52,11 @@ same_event r q j k a b =
     let right : k < length r.events = ltb-true k (length r.events) b in
     same_name (event_names r) j k (events_unique r q) (omega (arith, many, left)) (omega (arith, many, right))
 
-targets_placed : (r : Resolution) (t : Subject) → subject_placed r t ≡ true → list_all (λ e. nat_lt e.event (length r.events)) t.targets ≡ true
-targets_placed r t ok = (and_parts _ _ (and_parts _ _ ok).0).1
+targets_in_range : (r : Resolution) (t : Subject) → subject_placed r t ≡ true → list_all (λ e. nat_lt e.event (length r.events)) t.targets ≡ true
+targets_in_range r t ok = (and_parts _ _ (and_parts _ _ ok).0).1
 
-sources_placed : (r : Resolution) (t : Subject) → subject_placed r t ≡ true → list_all (λ e. nat_lt e.event (length r.events)) t.sources ≡ true
-sources_placed r t ok = (and_parts _ _ (and_parts _ _ (and_parts _ _ ok).0).0).1
+sources_in_range : (r : Resolution) (t : Subject) → subject_placed r t ≡ true → list_all (λ e. nat_lt e.event (length r.events)) t.sources ≡ true
+sources_in_range r t ok = (and_parts _ _ (and_parts _ _ (and_parts _ _ ok).0).0).1
 
 -- the target is the subject of this name
 abbrev hits : List ℕ → Option Target → Bool
@@ -67,21 +67,21 @@ reaches_mode m None name = refl
 reaches_mode m (Some t) name = refl
 
 module _ (r : Resolution) (q : IsResolved r) (j : ℕ) (s : Subject) (h : At r j s) where
-  -- the targets of the event at a place among a subject's, before others
-  abbrev targets_here : ℕ → List ℕ → List PlacedTarget → List Target
+  -- the targets of the event at an index among a subject's, before others
+  abbrev targets_here : ℕ → List ℕ → List ResolvedTarget → List Target
   targets_here k owner ts = map (λ e. record { subject = owner; vector = e.vector }) (filter (λ e. bytes_eq e.event (name_at (event_names r) k)) (map (target_named r) ts))
 
-  first_here : (k : ℕ) → nat_lt k (length r.events) ≡ true → (owner : List ℕ) (rest : List Target) (ts : List PlacedTarget) → list_all (λ e. nat_lt e.event (length r.events)) ts ≡ true
+  first_here : (k : ℕ) → nat_lt k (length r.events) ≡ true → (owner : List ℕ) (rest : List Target) (ts : List ResolvedTarget) → list_all (λ e. nat_lt e.event (length r.events)) ts ≡ true
       → hits s.name (slice_get (targets_here k owner ts ++ rest) 0) ≡ cond (list_any (λ e. e.event == k) ts) (bytes_eq owner s.name) (hits s.name (slice_get rest 0))
   first_here k l owner rest [] all = refl
   first_here k l owner rest (t ∷ ts) all =
-      let parts = and_parts (nat_lt t.event (length r.events)) (list_all (λ (e : PlacedTarget). nat_lt e.event (length r.events)) ts) all in
+      let parts = and_parts (nat_lt t.event (length r.events)) (list_all (λ (e : ResolvedTarget). nat_lt e.event (length r.events)) ts) all in
       let later = first_here k l owner rest ts parts.1 in
       let own : List Target = record { subject = owner; vector = t.vector } ∷ targets_here k owner ts in
       let others = filter (λ (e : EventTarget). bytes_eq e.event (name_at (event_names r) k)) (map (target_named r) ts) in
       let to : EventTarget → Target = λ e. record { subject = owner; vector = e.vector } in
       ap (λ b. hits s.name (slice_get (map to (cond b (target_named r t ∷ others) others) ++ rest) 0)) (same_event r q t.event k parts.0 l)
-      ∙ elim (t.event == k) as (λ b. hits s.name (slice_get (map to (cond b (target_named r t ∷ others) others) ++ rest) 0) ≡ cond (b || list_any (λ (e : PlacedTarget). e.event == k) ts) (bytes_eq owner s.name) (hits s.name (slice_get rest 0))) [
+      ∙ elim (t.event == k) as (λ b. hits s.name (slice_get (map to (cond b (target_named r t ∷ others) others) ++ rest) 0) ≡ cond (b || list_any (λ (e : ResolvedTarget). e.event == k) ts) (bytes_eq owner s.name) (hits s.name (slice_get rest 0))) [
         | true ↦ refl
         | false ↦ later
       ]
@@ -96,13 +96,13 @@ module _ (r : Resolution) (q : IsResolved r) (j : ℕ) (s : Subject) (h : At r j
       let to : NamedSubject → List Target = λ t. map (λ e. record { subject = t.name; vector = e.vector }) (filter (λ e. bytes_eq e.event (name_at (event_names r) k)) t.targets) in
       let rest : List Target = flat_map to (map (subject_named r) ts) in
       let later : hits s.name (slice_get rest 0) ≡ option_map_or (λ t. bytes_eq t.name s.name) (find (λ t. list_any (λ e. e.event == k) t.targets) ts) false = first_of_all k l ts parts.1 in
-      first_here k l t.name rest t.targets (targets_placed r t parts.0)
+      first_here k l t.name rest t.targets (targets_in_range r t parts.0)
       ∙ elim (list_any (λ e. e.event == k) t.targets) as (λ b. cond b (bytes_eq t.name s.name) (hits s.name (slice_get rest 0)) ≡ option_map_or (λ (t : Subject). bytes_eq t.name s.name) (cond b (Some t) (find (λ (t : Subject). list_any (λ e. e.event == k) t.targets) ts)) false) [
         | true ↦ refl
         | false ↦ later
       ]
 
-  -- which is found by its name or by its place
+  -- which is found by its name or by its index
   target_found : (test : Subject → Bool) → option_map_or (λ t. bytes_eq t.name s.name) (find test r.subjects) false ≡ option_map_or (λ y. y == j) (position test r.subjects) false
   target_found test =
       let n = position_or_len test r.subjects in
@@ -117,7 +117,7 @@ module _ (r : Resolution) (q : IsResolved r) (j : ℕ) (s : Subject) (h : At r j
         | false ↦ λ e. ap (λ o. option_map_or (λ (t : Subject). bytes_eq t.name s.name) o false) (slice_get_past r.subjects n (ltb-false n (length r.subjects) e))
       ] refl
 
-  -- the event at a place reaches the subject
+  -- the event at an index reaches the subject
   event_same : (k : ℕ) → nat_lt k (length r.events) ≡ true → reaches (named_event (source_of r) (name_at (event_names r) k)) s.name ≡ option_map_or (λ y. y == j) (first_target r.subjects k) false
   unfolding source_of
   event_same k l =
@@ -132,19 +132,19 @@ module _ (r : Resolution) (q : IsResolved r) (j : ℕ) (s : Subject) (h : At r j
 
   raised_same : (u : Subject) (way : SourceWay) → list_all (λ e. nat_lt e.event (length r.events)) u.sources ≡ true
       → reaches (by_source (source_of r) (subject_named r u) way) s.name ≡ option_map_or (λ y. y == j) (reached_by r.subjects u.sources way) false
-  raised_same u way placed =
-      let test : PlacedSource → Bool = λ e. same_way e.way way in
+  raised_same u way in_range =
+      let test : ResolvedSource → Bool = λ e. same_way e.way way in
       let by : Option EventSource → Bool = λ o. reaches (option_and_then (λ e. named_event (source_of r) e.event) o) s.name in
       ap by (find-map (λ (e : EventSource). same_way e.way way) (source_named r) u.sources)
-      ∙ elim (find test u.sources) as (λ o. find test u.sources ≡ o → by (option_map (source_named r) o) ≡ option_map_or (λ y. y == j) (option_and_then (first_target r.subjects) (option_map (λ (e : PlacedSource). e.event) o)) false) [
+      ∙ elim (find test u.sources) as (λ o. find test u.sources ≡ o → by (option_map (source_named r) o) ≡ option_map_or (λ y. y == j) (option_and_then (first_target r.subjects) (option_map (λ (e : ResolvedSource). e.event) o)) false) [
         | None ↦ λ e. refl
-        | Some x ↦ λ e. event_same x.event (found_among test (λ (e : PlacedSource). nat_lt e.event (length r.events)) u.sources x e placed)
+        | Some x ↦ λ e. event_same x.event (found_among test (λ (e : ResolvedSource). nat_lt e.event (length r.events)) u.sources x e in_range)
       ] refl
 
   pub sources_same : (u : Subject) → subject_placed r u ≡ true → by_sources (source_of r) (subject_named r u) (subject_named r s) ≡ has (filter_map (λ e. reached_by r.subjects u.sources e.way) u.sources) j
-  sources_same u placed =
-      let own = sources_placed r u placed in
+  sources_same u in_range =
+      let own = sources_in_range r u in_range in
       list_any-map (λ (e : EventSource). reaches (by_source (source_of r) (subject_named r u) e.way) s.name) (source_named r) u.sources
-      ∙ any_agree (λ (e : PlacedSource). reaches (by_source (source_of r) (subject_named r u) e.way) s.name) (λ e. option_map_or (λ y. y == j) (reached_by r.subjects u.sources e.way) false) u.sources
+      ∙ any_agree (λ (e : ResolvedSource). reaches (by_source (source_of r) (subject_named r u) e.way) s.name) (λ e. option_map_or (λ y. y == j) (reached_by r.subjects u.sources e.way) false) u.sources
       (λ e _. raised_same u e.way own)
-      ∙ sym (any_filter_map (λ y. y == j) (λ (e : PlacedSource). reached_by r.subjects u.sources e.way) u.sources)
+      ∙ sym (any_filter_map (λ y. y == j) (λ (e : ResolvedSource). reached_by r.subjects u.sources e.way) u.sources)

@@ -20,10 +20,10 @@ use Rattle.muen_num.proofs.Members.{In, any_in, filter_map_in, find_in, left_in,
 abbrev pub by_source : Source → Subject → SourceWay → Option Raised
 by_source p u way = option_and_then (λ e. named_event p e.event) (find (λ e. same_way e.way way) u.sources)
 
-abbrev pub by_end : Source → Subject → SourceWay → Option Raised
-by_end p u way = option_and_then (λ e. channel_event p e.channel) (find (λ e. writes_by e e.role way) (channel_ends p u))
+abbrev pub by_channel_end : Source → Subject → SourceWay → Option Raised
+by_channel_end p u way = option_and_then (λ e. channel_event p e.channel) (find (λ e. writes_by e e.role way) (channel_ends p u))
 
-pub event_is : (p : Source) (u : Subject) (way : SourceWay) → event_of p u way ≡ option_or (by_source p u way) (by_end p u way)
+pub event_is : (p : Source) (u : Subject) (way : SourceWay) → event_of p u way ≡ option_or (by_source p u way) (by_channel_end p u way)
 unfolding event_of
 event_is p u way = refl
 
@@ -32,8 +32,8 @@ either None b name h = inr h
 either (Some e) b name h = inl h
 
 -- one of them reaches what the event does
-pub by_either : (p : Source) (u : Subject) (way : SourceWay) (name : List ℕ) → reaches (event_of p u way) name ≡ true → (reaches (by_source p u way) name ≡ true) ⊎ (reaches (by_end p u way) name ≡ true)
-by_either p u way name h = either (by_source p u way) (by_end p u way) name (subst (λ o. reaches o name ≡ true) (event_is p u way) h)
+pub by_either : (p : Source) (u : Subject) (way : SourceWay) (name : List ℕ) → reaches (event_of p u way) name ≡ true → (reaches (by_source p u way) name ≡ true) ⊎ (reaches (by_channel_end p u way) name ≡ true)
+by_either p u way name h = either (by_source p u way) (by_channel_end p u way) name (subst (λ o. reaches o name ≡ true) (event_is p u way) h)
 
 first_reaches : (a b : Option Raised) (name : List ℕ) → reaches a name ≡ true → reaches (option_or a b) name ≡ true
 first_reaches None b name h = absurd (cc)
@@ -41,7 +41,7 @@ first_reaches (Some e) b name h = h
 
 -- what the first reaches the event does
 pub from_source : (p : Source) (u : Subject) (way : SourceWay) (name : List ℕ) → reaches (by_source p u way) name ≡ true → reaches (event_of p u way) name ≡ true
-from_source p u way name h = subst (λ o. reaches o name ≡ true) (sym (event_is p u way)) (first_reaches (by_source p u way) (by_end p u way) name h)
+from_source p u way name h = subst (λ o. reaches o name ≡ true) (sym (event_is p u way)) (first_reaches (by_source p u way) (by_channel_end p u way) name h)
 
 -- ---- the source, or the end
 
@@ -65,15 +65,15 @@ source_of_way p u way name h =
     ] refl h
 
 -- an end that writes its channel with this call, and whose channel's event reaches the subject of this name
-pub record EndOf (p : Source) (u : Subject) (way : SourceWay) (name : List ℕ) : Type 0 where
+pub record ChannelEndOf (p : Source) (u : Subject) (way : SourceWay) (name : List ℕ) : Type 0 where
   pub one : ChannelEnd
   pub within : In one (channel_ends p u)
   pub writes : writes_by one one.role way ≡ true
   pub raises : reaches (channel_event p one.channel) name ≡ true
 
-pub end_of_way : (p : Source) (u : Subject) (way : SourceWay) (name : List ℕ) → reaches (by_end p u way) name ≡ true → EndOf p u way name
-end_of_way p u way name h =
-    elim (find (λ e. writes_by e e.role way) (channel_ends p u)) as (λ o. find (λ e. writes_by e e.role way) (channel_ends p u) ≡ o → reaches (option_and_then (λ (e : ChannelEnd). channel_event p e.channel) o) name ≡ true → EndOf p u way name) [
+pub channel_end_of_way : (p : Source) (u : Subject) (way : SourceWay) (name : List ℕ) → reaches (by_channel_end p u way) name ≡ true → ChannelEndOf p u way name
+channel_end_of_way p u way name h =
+    elim (find (λ e. writes_by e e.role way) (channel_ends p u)) as (λ o. find (λ e. writes_by e e.role way) (channel_ends p u) ≡ o → reaches (option_and_then (λ (e : ChannelEnd). channel_event p e.channel) o) name ≡ true → ChannelEndOf p u way name) [
       | None ↦ λ e t. absurd (cc)
       | Some x ↦ λ e t. let found = find_in (λ e. writes_by e e.role way) (channel_ends p u) x e in record { one = x; within = found.0; writes = found.1; raises = t }
     ] refl h
@@ -85,9 +85,9 @@ called None way h = absurd (cc)
 called (Some m) (Call n) h = ap (λ k. Some (Call k)) (eqb-true m n h)
 called (Some m) (Trap n) h = absurd (cc)
 
-call_of_end : (e : ChannelEnd) (role : Role) (way : SourceWay) → writes_by e role way ≡ true → option_map Call e.call ≡ Some way
-call_of_end e Writer way h = called e.call way h
-call_of_end e Reader way h = absurd (cc)
+call_of_channel_end : (e : ChannelEnd) (role : Role) (way : SourceWay) → writes_by e role way ≡ true → option_map Call e.call ≡ Some way
+call_of_channel_end e Writer way h = called e.call way h
+call_of_channel_end e Reader way h = absurd (cc)
 
 pub way_counts : (p : Source) (u s : Subject) (way : SourceWay) → reaches (event_of p u way) s.name ≡ true → by_event p u s ≡ true
 way_counts p u s way h =
@@ -96,6 +96,6 @@ way_counts p u s way h =
     let among : In way (own ++ calls) =
     elim (by_either p u way s.name h) as (λ _. In way (own ++ calls)) [
       | inl a ↦ let e = source_of_way p u way s.name a in left_in own calls way (subst (λ w. In w own) e.way_is (map_in (λ (e : EventSource). e.way) u.sources e.one e.within))
-      | inr b ↦ let e = end_of_way p u way s.name b in right_in own calls way (filter_map_in (λ (e : ChannelEnd). option_map Call e.call) (channel_ends p u) e.one way e.within (call_of_end e.one e.one.role way e.writes))
+      | inr b ↦ let e = channel_end_of_way p u way s.name b in right_in own calls way (filter_map_in (λ (e : ChannelEnd). option_map Call e.call) (channel_ends p u) e.one way e.within (call_of_channel_end e.one e.one.role way e.writes))
     ] in
     any_in (λ way. reaches (event_of p u way) s.name) (ways_of p u) way among h

@@ -14,10 +14,10 @@ use Rattle.policy_types.specs.declared.source.Source.{Source}
 use Rattle.policy_types.specs.declared.source.SourceWay.{SourceWay}
 use Rattle.policy_types.specs.declared.source.Subject.{Subject}
 use Rattle.flow_report.specs.Flows.{by_channel, by_event, is_writer, reaches, ways_of}
-use Rattle.flow_report.proofs.EventWays.{by_either, by_source, end_of_way, from_source, source_of_way, way_counts}
+use Rattle.flow_report.proofs.EventWays.{by_either, by_source, channel_end_of_way, from_source, source_of_way, way_counts}
 use Rattle.muen_num.proofs.Members.{In, any_in, any_some, filter_some, flat_some, map_some}
 use Rattle.flow_report.proofs.MarkedSets.{HasUniqueNames}
-use Rattle.flow_report.proofs.PlacesOfSubjects.{at_in}
+use Rattle.flow_report.proofs.IndexesOfSubjects.{at_in}
 
 -- u raises by one of its sources an event whose target is s
 abbrev pub by_sources : Source → Subject → Subject → Bool
@@ -71,7 +71,7 @@ event_parts p unique u s i h =
           let e = source_of_way p u raised.one s.name a in
           inr (any_in (λ e. reaches (by_source p u e.way) s.name) u.sources e.one e.within (subst (λ w. reaches (by_source p u w) s.name ≡ true) (sym e.way_is) a))
       | inr b ↦
-          let e = end_of_way p u raised.one s.name b in
+          let e = channel_end_of_way p u raised.one s.name b in
           inl (any_in (λ (e : ChannelEnd). is_writer e.role && list_any (λ f. reads_from f f.role e.channel) (channel_ends p s)) (channel_ends p u) e.one e.within
           (and_from (is_writer e.one.role) (list_any (λ f. reads_from f f.role e.one.channel) (channel_ends p s)) (writes_is_writer e.one e.one.role raised.one e.writes) (reader_of p unique s i e.one.channel e.raises)))
     ]

@@ -1,4 +1,4 @@
--- Flows by shared memory, by names and by places.
+-- Flows by shared memory, by names and by indexes.
 use Rattle.std.proofs.Common.{◌≡◌, ℕ, Bool, true, false, List, None, refl, sym, ap, ◌∙◌}
 use Rattle.std.specs.Prelude.{◌==◌, ◌&&◌, if◌then◌else◌}
 use Rattle.std.specs.Option.{option_map_or}
@@ -22,8 +22,8 @@ use Rattle.policy_views.proofs.RegionsByPlace.{has_name, is_named, maps_at, plac
 use Rattle.policy_views.proofs.WindowsByPlace.{windows_by_place}
 use Rattle.flow_report.specs.Flows.{by_memory, is_region}
 use Rattle.muen_num.proofs.Members.{any_agree, passes_in}
-use Rattle.flow_report.specs.ByPlace.{has, meet, region_changed, region_shown}
-use Rattle.flow_report.proofs.PlacesOfSubjects.{any_filter_map}
+use Rattle.flow_report.specs.ByIndex.{has, meet, region_changed, region_shown}
+use Rattle.flow_report.proofs.IndexesOfSubjects.{any_filter_map}
 
 bytes_turned : (a b : List ℕ) → bytes_eq a b ≡ bytes_eq b a
 bytes_turned a b =
@@ -46,20 +46,20 @@ on_region k (Given j) = refl
 on_region k (Device i j) = refl
 on_region k (State j) = refl
 
-module _ (r : Resolution) (q : IsResolved r) (s : Subject) (placed : subject_placed r s ≡ true) where
+module _ (r : Resolution) (q : IsResolved r) (s : Subject) (in_range : subject_placed r s ≡ true) where
   abbrev numbers : List ℕ
   numbers = filter_map (λ v. region_shown v.shows) (views_of r s)
 
   abbrev windows : List (Window Thing)
   windows = windows_of (source_of r) (subject_named r s)
 
-  -- it maps the region at a place
+  -- it maps the region at an index
   mapped_at : (name : List ℕ) (k : ℕ) → has_name r name (Memory k) ≡ true → list_any (λ w. same_thing (region name) w.thing) windows ≡ has numbers k
   mapped_at name k named =
       let at = place_there r name k named in
       any_agree (λ (w : Window Thing). same_thing (region name) w.thing) (λ w. same_thing w.thing (region name)) windows (λ w _. region_turned name w.thing)
       ∙ ap (λ n. maps (source_of r) n (subject_named r s)) (sym at.2)
-      ∙ maps_at r s k at.0 q placed at.1
+      ∙ maps_at r s k at.0 q in_range at.1
       ∙ any_agree (λ (v : View). is_on_region k v.shows) (λ v. option_map_or (λ y. y == k) (region_shown v.shows) false) (views_of r s) (λ v _. on_region k v.shows)
       ∙ sym (any_filter_map (λ y. y == k) (λ (v : View). region_shown v.shows) (views_of r s))
 

@@ -1,4 +1,4 @@
--- Flows by monitors and by the choice of major frames, by names and by places.
+-- Flows by monitors and by the choice of major frames, by names and by indexes.
 use Rattle.std.proofs.Common.{◌≡◌, ℕ, Bool, true, false, length, map, Some, None, refl, sym, ◌∙◌}
 use Rattle.std.specs.Prelude.{◌==◌, ◌&&◌, nat_lt, if◌then◌else◌}
 use Rattle.std.specs.Option.{option_map_or}
@@ -16,8 +16,8 @@ use Rattle.policy_types.specs.declared.source.Monitor.{Monitor as NamedMonitor}
 use Rattle.policy_views.proofs.WindowsByPlace.{subject_parts}
 use Rattle.flow_report.specs.Flows.{by_change, by_plan, by_sight}
 use Rattle.muen_num.proofs.Members.{any_agree, passes_in}
-use Rattle.flow_report.specs.ByPlace.{has, is_chooser, subject_changed}
-use Rattle.flow_report.proofs.PlacesOfSubjects.{At, any_filter_map, is_placed, same_subject}
+use Rattle.flow_report.specs.ByIndex.{has, is_chooser, subject_changed}
+use Rattle.flow_report.proofs.IndexesOfSubjects.{At, any_filter_map, is_in_range, same_subject}
 
 abbrev monitor_named : Resolution → Monitor → NamedMonitor
 monitor_named r m = record { subject = name_at (subject_names r) m.subject; virtual_address = m.virtual_address; rights = m.rights }
@@ -44,7 +44,7 @@ module _ (r : Resolution) (q : IsResolved r) (i j : ℕ) (u s : Subject) (left :
   sight_same =
       list_any-map (λ m. bytes_eq m.subject u.name) (monitor_named r) s.monitors
       ∙ any_agree (λ (m : Monitor). bytes_eq (name_at (subject_names r) m.subject) u.name) (λ m. m.subject == i) s.monitors
-      (λ m h. monitored i u left m (passes_in (λ (m : Monitor). nat_lt m.subject (length r.subjects)) s.monitors (subject_parts r s (is_placed r q j s right)).monitors m h))
+      (λ m h. monitored i u left m (passes_in (λ (m : Monitor). nat_lt m.subject (length r.subjects)) s.monitors (subject_parts r s (is_in_range r q j s right)).monitors m h))
       ∙ sym (list_any-map (λ y. y == i) (λ (m : Monitor). m.subject) s.monitors)
 
   pub change_same : by_change (subject_named r u) (subject_named r s) ≡ has (filter_map subject_changed u.monitors) j
@@ -53,6 +53,6 @@ module _ (r : Resolution) (q : IsResolved r) (i j : ℕ) (u s : Subject) (left :
       ∙ any_agree (λ (m : Monitor). bytes_eq (name_at (subject_names r) m.subject) s.name && allows m.rights Write) (λ m. option_map_or (λ y. y == j) (subject_changed m) false) u.monitors
       (λ m h.
       turned_and (bytes_eq (name_at (subject_names r) m.subject) s.name) (allows m.rights Write) (m.subject == j)
-      (monitored j s right m (passes_in (λ (m : Monitor). nat_lt m.subject (length r.subjects)) u.monitors (subject_parts r u (is_placed r q i u left)).monitors m h))
+      (monitored j s right m (passes_in (λ (m : Monitor). nat_lt m.subject (length r.subjects)) u.monitors (subject_parts r u (is_in_range r q i u left)).monitors m h))
       ∙ sym (changed_if (allows m.rights Write) m.subject j))
       ∙ sym (any_filter_map (λ y. y == j) subject_changed u.monitors)

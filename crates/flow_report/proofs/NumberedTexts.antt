@@ -14,13 +14,13 @@ module _ {X : Type 0} (f : ℕ × X → List ℕ) (xs : List X) where
 
   one_more : (d : X) (n : ℕ) → n < length xs → text_to (suc n) ≡ text_to n ++ f (n, get_or xs n d)
   one_more d n h =
-      let place : 0 + length (take n xs) ≡ n = omega (arith, length-take-le n xs (omega arith)) in
+      let index : 0 + length (take n xs) ≡ n = omega (arith, length-take-le n xs (omega arith)) in
       ap (λ k. flat_map f (enumerate_from 0 (take k xs))) (sym (add-one n))
       ∙ ap (λ ys. flat_map f (enumerate_from 0 ys)) (take_more xs n d h)
       ∙ ap (flat_map f) (enumerate_push 0 (take n xs) (get_or xs n d))
       ∙ flat_map-append f (enumerate_from 0 (take n xs)) ((0 + length (take n xs), get_or xs n d) ∷ [])
       ∙ ap (λ ys. text_to n ++ ys) (append-nil (f (0 + length (take n xs), get_or xs n d)))
-      ∙ ap (λ k. text_to n ++ f (k, get_or xs n d)) place
+      ∙ ap (λ k. text_to n ++ f (k, get_or xs n d)) index
 
   -- one item of many
   pub given_numbered : (n : ℕ) (x : X) (b : List ℕ) (s t u : OutState) → Given (text_to n) s t → Given b t u → n < length xs → x ≡ get_or xs n x → b ≡ f (n, x) → Given (text_to (n + 1)) s u

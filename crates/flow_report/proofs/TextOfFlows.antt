@@ -12,8 +12,8 @@ use Rattle.flow_report.specs.Flows.{closure_of}
 use Rattle.muen_num.proofs.Members.{In}
 use Rattle.flow_report.specs.FlowText.{flow_line, flow_text_of}
 use Rattle.flow_report.specs.Sets.{AreFlows, marked, members_of}
-use Rattle.flow_report.specs.TextByPlace.{line_at, line_end, line_start, lines_text, member_at, member_text, members_text}
-use Rattle.flow_report.proofs.PlacesOfSubjects.{at_number}
+use Rattle.flow_report.specs.TextByIndex.{line_at, line_end, line_start, lines_text, member_at, member_text, members_text}
+use Rattle.flow_report.proofs.IndexesOfSubjects.{at_number}
 
 -- ---- the members of a set
 
@@ -25,7 +25,7 @@ unfolding marked
 marked_none [] = refl
 marked_none (b ∷ bs) = refl
 
--- the first of those from a place on, and the others
+-- the first of those from an index on, and the others
 member_first : (n : ℕ) (set : List Bool) (name : List ℕ) (names : List (List ℕ)) → spaced (marked (drop n set) (name ∷ names)) ≡ member_text (slice_index_or set n false) name ++ spaced (marked (drop (suc n) set) names)
 unfolding marked
 member_first zero [] name names = refl
@@ -53,7 +53,7 @@ flat_numbered : {X Y : Type 0} (f : X → List Y) (n : ℕ) (xs : List X) → fl
 flat_numbered f n [] = refl
 flat_numbered f n (x ∷ xs) = ap (λ ys. f x ++ ys) (flat_numbered f (n + 1) xs)
 
--- what stands at a place, where images are the same lists
+-- what stands at an index, where images are the same lists
 same_image : {X Y Z : Type 0} (f : X → Z) (g : Y → Z) (xs : List X) (ys : List Y) (k : ℕ) (y : Y) (d : X) → map f xs ≡ map g ys → slice_get ys k ≡ Some y → f (slice_index_or xs k d) ≡ g y
 same_image {X} {Y} {Z} f g xs ys k y d same at =
     let here : option_map f (slice_get xs k) ≡ Some (g y) = sym (slice_get-map f xs k) ∙ ap (λ zs. slice_get zs k) same ∙ slice_get-map g ys k ∙ ap (option_map g) at in

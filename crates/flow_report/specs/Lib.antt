@@ -1,6 +1,6 @@
-pub mod ByPlace
+pub mod ByIndex
 pub mod FlowText
 pub mod Flows
 pub mod Marks
 pub mod Sets
-pub mod TextByPlace
+pub mod TextByIndex

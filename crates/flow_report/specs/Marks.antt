@@ -1,11 +1,11 @@
--- Sets of places by marks, and the rounds that close them.
+-- Sets of indexes by marks, and the rounds that close them.
 use Rattle.std.specs.Prelude.{ℕ, ◌==◌, ◌&&◌, ◌||◌, Bool, List, length, map}
 use Rattle.std.specs.List.{list_any, zip}
 use Rattle.flow_report.specs.Flows.{rounds}
-use Rattle.flow_report.specs.ByPlace.{rows_of}
-use Rattle.flow_report.specs.declared.faces.Contacts.{Contacts}
+use Rattle.flow_report.specs.ByIndex.{rows_of}
+use Rattle.flow_report.specs.declared.contacts.Contacts.{Contacts}
 
--- a place is marked in both
+-- an index is marked in both
 abbrev pub touches : List Bool → List Bool → Bool
 touches marks row = list_any (λ x. x.0 && x.1) (zip marks row)
 
@@ -17,10 +17,10 @@ round rows marks = map (λ x. x.0 || touches marks x.1) (zip marks rows)
 unfoldable pub after_rounds : List (List Bool) → List Bool → ℕ → List Bool
 after_rounds rows marks n = rounds n (round rows) marks
 
--- one face alone
+-- one subject's contacts alone
 abbrev pub alone_marked : List Contacts → ℕ → List Bool
-alone_marked faces place = map (λ f. f.place == place) faces
+alone_marked all_contacts index = map (λ f. f.index == index) all_contacts
 
--- for each face the closed set
+-- for each subject's contacts the closed set
 abbrev pub sets_of : List Contacts → List (List Bool)
-sets_of faces = map (λ f. after_rounds (rows_of faces) (alone_marked faces f.place) (length faces)) faces
+sets_of all_contacts = map (λ f. after_rounds (rows_of all_contacts) (alone_marked all_contacts f.index) (length all_contacts)) all_contacts

@@ -1,17 +1,17 @@
--- For each subject of a policy the set of those that can reach it, by places.
+-- For each subject of a policy the set of those that can reach it, by indexes.
 use Rattle.std.specs.Prelude.{◌≡◌, ℕ, Bool, true, false, List, [], ◌∷◌, map}
 use Rattle.std.specs.List.{AllZip}
 use Rattle.policy_types.specs.declared.source.Source.{Source}
 use Rattle.flow_report.specs.Flows.{IsLeastClosed, closure_of}
 
--- those elements whose place is marked
+-- those elements whose index is marked
 unfoldable pub marked : {X : Type 0} → List Bool → List X → List X
 marked [] xs = []
 marked (b ∷ bs) [] = []
 marked (true ∷ bs) (x ∷ xs) = x ∷ marked bs xs
 marked (false ∷ bs) (x ∷ xs) = marked bs xs
 
--- the subjects, by name, of a set of places
+-- the subjects, by name, of a set of indexes
 abbrev pub members_of : Source → List Bool → List (List ℕ)
 members_of p set = marked set (map (λ s. s.name) p.subjects)
 

@@ -1,7 +1,7 @@
 //! On whom each subject of a policy can depend, and the text that tells it.
 #![tactic(auto)]
 
-mod faces;
+mod contacts;
 mod sets;
 mod text;
 mod ways;

@@ -1,17 +1,17 @@
 //! The closed sets of subjects.
 ghost use Rattle.std.specs.Prelude.{◌≡◌, map, length, IfOk};
 ghost use Rattle.policy_lawful.specs.Resolution.{source_of};
-ghost use Rattle.flow_report.specs.ByPlace.{flows_between, rows_of};
+ghost use Rattle.flow_report.specs.ByIndex.{flows_between, rows_of};
 ghost use Rattle.flow_report.specs.Marks.{after_rounds, alone_marked, round, sets_of, touches};
 ghost use Rattle.flow_report.specs.Sets.{AreFlows, AreLeastClosed};
 
-use crate::faces::{Contacts, faces, flows_between};
+use crate::contacts::{Contacts, all_contacts, flows_between};
 use muen_num::{NoMemory, Seq};
 use policy_lawful::Lawful;
 use std::alloc::{AllocError, Global};
 use std::marker::Model;
 
-/// For each subject, by place, the set of those that can reach it; a set marks the places of its
+/// For each subject, by index, the set of those that can reach it; a set marks the indexes of its
 /// members. Contracts see the list of these marks.
 #[derive(Debug, Drop)]
 pub struct FlowSets {
@@ -36,26 +36,26 @@ impl FlowSets {
 }
 
 // The subjects to which this one flows directly, among all.
-fn row(alloc: Global, from: &Contacts, faces: &[Contacts]) -> Result<Vec<bool>, AllocError>
-    ensures { IfOk result (λ v. v.items ≡ map (flows_between from.now) faces.now) }
+fn row(alloc: Global, from: &Contacts, all_contacts: &[Contacts]) -> Result<Vec<bool>, AllocError>
+    ensures { IfOk result (λ v. v.items ≡ map (flows_between from.now) all_contacts.now) }
 {
-    faces
+    all_contacts
         .iter()
         .map(|to| flows_between(from, to))
         .collect(alloc)
 }
 
-fn rows(alloc: Global, faces: &[Contacts]) -> Result<Vec<Seq<bool>>, NoMemory>
-    ensures { IfOk result (λ v. v.items ≡ rows_of faces.now) }
+fn rows(alloc: Global, all_contacts: &[Contacts]) -> Result<Vec<Seq<bool>>, NoMemory>
+    ensures { IfOk result (λ v. v.items ≡ rows_of all_contacts.now) }
 {
     let mut rows = Vec::new(alloc);
-    for face in faces {
-        rows.push(Seq::of(row(alloc, face, faces)?))?;
+    for contacts in all_contacts {
+        rows.push(Seq::of(row(alloc, contacts, all_contacts)?))?;
     }
     Ok(rows)
 }
 
-// Whether some place is marked in both.
+// Whether some index is marked in both.
 fn touches(marks: &[bool], row: &[bool]) -> bool
     ensures { result ≡ touches marks.now row.now }
 {
@@ -73,37 +73,44 @@ fn round(alloc: Global, rows: &[Seq<bool>], marks: &[bool]) -> Result<Vec<bool>,
         .collect(alloc)
 }
 
-// One place alone.
-fn alone_marked(alloc: Global, faces: &[Contacts], place: usize) -> Result<Vec<bool>, AllocError>
-    ensures { IfOk result (λ v. v.items ≡ alone_marked faces.now place) }
+// One index alone.
+fn alone_marked(
+    alloc: Global,
+    all_contacts: &[Contacts],
+    index: usize,
+) -> Result<Vec<bool>, AllocError>
+    ensures { IfOk result (λ v. v.items ≡ alone_marked all_contacts.now index) }
 {
-    faces.iter().map(|face| face.place == place).collect(alloc)
+    all_contacts
+        .iter()
+        .map(|contacts| contacts.index == index)
+        .collect(alloc)
 }
 
-// The set of those that can reach the subject at a place: as many rounds as there are subjects.
+// The set of those that can reach the subject at an index: as many rounds as there are subjects.
 #[tactic(auto, using(crate::proofs::Rounds::by_rounds))]
 fn closed_set(
     alloc: Global,
-    faces: &[Contacts],
+    all_contacts: &[Contacts],
     rows: &[Seq<bool>],
-    place: usize,
+    index: usize,
 ) -> Result<Vec<bool>, NoMemory>
-    ensures { IfOk result (λ v. v.items ≡ after_rounds rows.now (alone_marked faces.now place) (length faces.now)) }
+    ensures { IfOk result (λ v. v.items ≡ after_rounds rows.now (alone_marked all_contacts.now index) (length all_contacts.now)) }
 {
-    let mut marks = alone_marked(alloc, faces, place)?;
-    for _ in 0..faces.len() {
+    let mut marks = alone_marked(alloc, all_contacts, index)?;
+    for _ in 0..all_contacts.len() {
         marks = round(alloc, rows, &marks)?;
     }
     Ok(marks)
 }
 
-fn closed_sets(alloc: Global, faces: &[Contacts]) -> Result<Seq<Seq<bool>>, NoMemory>
-    ensures { IfOk result (λ s. s ≡ sets_of faces.now) }
+fn closed_sets(alloc: Global, all_contacts: &[Contacts]) -> Result<Seq<Seq<bool>>, NoMemory>
+    ensures { IfOk result (λ s. s ≡ sets_of all_contacts.now) }
 {
-    let rows = rows(alloc, faces)?;
+    let rows = rows(alloc, all_contacts)?;
     let mut sets = Seq::new(alloc);
-    for face in faces {
-        sets.push(Seq::of(closed_set(alloc, faces, &rows, face.place)?))?;
+    for contacts in all_contacts {
+        sets.push(Seq::of(closed_set(alloc, all_contacts, &rows, contacts.index)?))?;
     }
     Ok(sets)
 }
@@ -116,7 +123,7 @@ pub fn flows(alloc: Global, policy: &Lawful) -> Result<FlowSets, NoMemory>
     ensures sets { IfOk result (AreFlows (source_of policy.now)) }
     ensures least { IfOk result (AreLeastClosed (source_of policy.now)) }
 {
-    let faces = faces(alloc, policy.resolved())?;
-    let sets = closed_sets(alloc, &faces)?;
+    let all_contacts = all_contacts(alloc, policy.resolved())?;
+    let sets = closed_sets(alloc, &all_contacts)?;
     Ok(FlowSets { sets })
 }

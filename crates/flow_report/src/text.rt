@@ -6,7 +6,7 @@ ghost use Rattle.muen_outside.specs.Puts.{Puts};
 ghost use Rattle.policy_lawful.specs.Resolution.{source_of};
 ghost use Rattle.flow_report.specs.FlowText.{flow_text_of};
 ghost use Rattle.flow_report.specs.Sets.{AreFlows};
-ghost use Rattle.flow_report.specs.TextByPlace.{line_end, line_start, lines_text, member_at, member_text, members_text};
+ghost use Rattle.flow_report.specs.TextByIndex.{line_end, line_start, lines_text, member_at, member_text, members_text};
 
 use crate::sets::FlowSets;
 use muen_num::{Name, Seq};
@@ -14,21 +14,21 @@ use muen_outside::{Buffer, Sink, SinkFault};
 use policy_lawful::Lawful;
 use policy_lawful::resolved::Subject;
 
-// Whether a place is marked; one that isn't there is not.
-fn is_marked(set: &[bool], place: usize) -> bool
-    ensures { result ≡ slice_index_or set.now place false }
+// Whether an index is marked; one that isn't there is not.
+fn is_marked(set: &[bool], index: usize) -> bool
+    ensures { result ≡ slice_index_or set.now index false }
 {
-    match set.get(place) {
+    match set.get(index) {
         Some(mark) => *mark,
         None => false,
     }
 }
 
-// The marks at a place; none where there is no such place.
-fn marks_at(sets: &[Seq<bool>], place: usize) -> &[bool]
-    ensures { result.now ≡ slice_index_or sets.now place [] }
+// The marks at an index; none where there is no such index.
+fn marks_at(sets: &[Seq<bool>], index: usize) -> &[bool]
+    ensures { result.now ≡ slice_index_or sets.now index [] }
 {
-    match sets.get(place) {
+    match sets.get(index) {
         Some(set) => set.items(),
         None => &[],
     }
@@ -89,8 +89,8 @@ fn put_numbered<S: Sink>(
 ) -> Result<(), SinkFault>
     ensures { Gives (flat_map (member_at set.now) (enumerate_from 0 subjects.now)) (behind (S.state out.old) buffer.old) (behind (S.state out.new) buffer.new) result }
 {
-    for (place, subject) in subjects.iter().enumerate() {
-        put_member(is_marked(set, place), &subject.name, buffer, out)?;
+    for (index, subject) in subjects.iter().enumerate() {
+        put_member(is_marked(set, index), &subject.name, buffer, out)?;
     }
     Ok(())
 }
@@ -107,7 +107,7 @@ fn put_members<S: Sink>(
 }
 
 // What stands before the members of a line.
-#[tactic(auto, unfolding(crate::specs::TextByPlace::line_start))]
+#[tactic(auto, unfolding(crate::specs::TextByIndex::line_start))]
 fn put_start<S: Sink>(name: &Name, buffer: &mut Buffer, out: &mut S) -> Result<(), SinkFault>
     ensures { Gives (line_start name.now) (behind (S.state out.old) buffer.old) (behind (S.state out.new) buffer.new) result }
 {
@@ -115,7 +115,7 @@ fn put_start<S: Sink>(name: &Name, buffer: &mut Buffer, out: &mut S) -> Result<(
 }
 
 // What stands behind them.
-#[tactic(auto, unfolding(crate::specs::TextByPlace::line_end))]
+#[tactic(auto, unfolding(crate::specs::TextByIndex::line_end))]
 fn put_end<S: Sink>(buffer: &mut Buffer, out: &mut S) -> Result<(), SinkFault>
     ensures { Gives line_end (behind (S.state out.old) buffer.old) (behind (S.state out.new) buffer.new) result }
 {
@@ -147,8 +147,8 @@ fn put_lines<S: Sink>(
 ) -> Result<(), SinkFault>
     ensures { Gives (lines_text subjects.now sets.now) (behind (S.state out.old) buffer.old) (behind (S.state out.new) buffer.new) result }
 {
-    for (place, subject) in subjects.iter().enumerate() {
-        put_line(&subject.name, marks_at(sets, place), subjects, buffer, out)?;
+    for (index, subject) in subjects.iter().enumerate() {
+        put_line(&subject.name, marks_at(sets, index), subjects, buffer, out)?;
     }
     Ok(())
 }

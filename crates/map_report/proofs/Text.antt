@@ -1,4 +1,4 @@
--- The lines by places are the text by names.
+-- The lines by indexes are the text by names.
 use Rattle.std.proofs.Common.{◌≡◌, ℕ, suc, ◌+◌, Bool, true, false, List, [], ◌∷◌, ◌++◌, length, Some, Ok, refl, sym, ap, ◌∙◌, arith}
 use Rattle.std.specs.Prelude.{nat_le, slice_get, option_map, if◌then◌else◌}
 use Rattle.std.specs.Option.{option_map_or}
@@ -75,24 +75,24 @@ same_lines r subject (v ∷ vs) all =
 -- ---- one subject
 
 of_subject : (r : Resolution) → IsResolved r → (s : Subject) (g : Grants) → subject_placed r s ≡ true → AreGrantsOf r s g → view_lines r s.name g.views ≡ window_lines (source_of r) (subject_named r s)
-of_subject r q s g placed h =
+of_subject r q s g in_range h =
     let there = all_in_order (shows_what_is_there r) is_lower (views_of r s) (views_there r s) in
     let line = line_of_window s.name in
     ap (view_lines r s.name) h.views
     ∙ same_lines r s.name (in_order is_lower (views_of r s)) there
     ∙ sym (flat_map-map line (view_window r s.name) (in_order is_lower (views_of r s)))
     ∙ ap (flat_map line) (map_in_order (view_window r s.name) (λ v w. nat_le v.guest w.guest) (views_of r s))
-    ∙ ap (λ ws. flat_map line (in_order (λ v w. nat_le v.guest w.guest) ws)) (sym (windows_by_place r s q placed))
+    ∙ ap (λ ws. flat_map line (in_order (λ v w. nat_le v.guest w.guest) ws)) (sym (windows_by_place r s q in_range))
 
 -- ---- all subjects
 
 of_subjects : (r : Resolution) → IsResolved r → (at : ℕ → List View) (n : ℕ) (ss : List Subject) (gs : List Grants) → AllZip (AreGrantsOf r) ss gs → list_all (subject_placed r) ss ≡ true
     → ((k : ℕ) (g : Grants) → slice_get gs k ≡ Some g → at (n + k) ≡ g.views)
     → flat_map (λ x. view_lines r x.1.name (at x.0)) (enumerate_from n ss) ≡ flat_map (λ s. window_lines (source_of r) (subject_named r s)) ss
-of_subjects r q at n [] gs zip placed is = refl
-of_subjects r q at n (s ∷ ss) [] zip placed is = absurd zip
-of_subjects r q at n (s ∷ ss) (g ∷ gs) zip placed is =
-    let parts = and_parts (subject_placed r s) (list_all (subject_placed r) ss) placed in
+of_subjects r q at n [] gs zip in_range is = refl
+of_subjects r q at n (s ∷ ss) [] zip in_range is = absurd zip
+of_subjects r q at n (s ∷ ss) (g ∷ gs) zip in_range is =
+    let parts = and_parts (subject_placed r s) (list_all (subject_placed r) ss) in_range in
     let here : at n ≡ g.views = ap at (omega arith) ∙ is 0 g refl in
     let later : (k : ℕ) (h : Grants) → slice_get gs k ≡ Some h → at (n + 1 + k) ≡ h.views = λ k h e. ap at (omega arith) ∙ is (suc k) h e in
     ap (λ vs. view_lines r s.name vs ++ flat_map (λ x. view_lines r x.1.name (at x.0)) (enumerate_from (n + 1) ss)) here
@@ -111,15 +111,15 @@ devices_named : (r : Resolution) → device_lines r.devices ≡ device_lines (so
 unfolding source_of
 devices_named r = refl
 
-pub text_is : (r : Resolution) (places : List ℕ) (regions : List Region) (gs : List Grants) → IsResolved r → regions ≡ regions_of (source_of r) → placement_of (source_of r) ≡ Ok places → AreGrants r gs
-    → map_lines r places regions gs ≡ map_text_of (source_of r)
+pub text_is : (r : Resolution) (addresses : List ℕ) (regions : List Region) (gs : List Grants) → IsResolved r → regions ≡ regions_of (source_of r) → placement_of (source_of r) ≡ Ok addresses → AreGrants r gs
+    → map_lines r addresses regions gs ≡ map_text_of (source_of r)
 unfolding map_text_of map_text_at
-text_is r places regions gs q is at zip =
-    ap (λ rs. region_lines places rs ++ device_lines r.devices ++ all_view_lines r gs 0 r.subjects) is
-    ∙ ap (λ text. region_lines places (regions_of (source_of r)) ++ text ++ all_view_lines r gs 0 r.subjects) (devices_named r)
-    ∙ ap (λ text. region_lines places (regions_of (source_of r)) ++ device_lines (source_of r).devices ++ text) (windows_named r q gs zip)
+text_is r addresses regions gs q is at zip =
+    ap (λ rs. region_lines addresses rs ++ device_lines r.devices ++ all_view_lines r gs 0 r.subjects) is
+    ∙ ap (λ text. region_lines addresses (regions_of (source_of r)) ++ text ++ all_view_lines r gs 0 r.subjects) (devices_named r)
+    ∙ ap (λ text. region_lines addresses (regions_of (source_of r)) ++ device_lines (source_of r).devices ++ text) (windows_named r q gs zip)
     ∙ sym (ap (text_where (source_of r)) at)
 
--- there is a place for each region
-pub as_many_places : (blocks : List Block) (regions : List Region) (places : List ℕ) → AreInside blocks regions places → length places ≡ length regions
-as_many_places blocks regions places = AllZip-long (λ r place. in_a_block blocks place r.size ≡ true) regions places
+-- there is an address for each region
+pub as_many_addresses : (blocks : List Block) (regions : List Region) (addresses : List ℕ) → AreInside blocks regions addresses → length addresses ≡ length regions
+as_many_addresses blocks regions addresses = AllZip-long (λ r address. in_a_block blocks address r.size ≡ true) regions addresses

@@ -42,10 +42,10 @@ rights_text rights = letter rights READ (codes "r") ++ letter rights WRITE (code
 
 -- ---- lines
 
--- a place in physical memory, a size in bytes, a name
-unfoldable pub place_line : List ℕ → ℕ → ℕ → Tag → List ℕ
-place_line word place size name =
-    word ++ codes " " ++ hex16 place ++ codes " " ++ hex16 size ++ codes " " ++ tag_text name ++ codes "\n"
+-- an address in physical memory, a size in bytes, a name
+unfoldable pub region_line : List ℕ → ℕ → ℕ → Tag → List ℕ
+region_line word address size name =
+    word ++ codes " " ++ hex16 address ++ codes " " ++ hex16 size ++ codes " " ++ tag_text name ++ codes "\n"
 
 -- a subject, a guest address, a size in bytes, rights, the name of what is shown
 unfoldable pub window_line : List ℕ → ℕ → ℕ → Rights → Tag → List ℕ
@@ -54,13 +54,13 @@ window_line subject guest size rights name =
 
 -- ---- the text
 
--- the regions, by number, at these places
+-- the regions, by number, at these addresses
 abbrev pub region_lines : List ℕ → List Region → List ℕ
-region_lines places regions =
-    flat_map (λ x. place_line (codes "region") (slice_index places x.0) x.1.size x.1.tag) (enumerate_from 0 regions)
+region_lines addresses regions =
+    flat_map (λ x. region_line (codes "region") (slice_index addresses x.0) x.1.size x.1.tag) (enumerate_from 0 regions)
 
 abbrev pub memory_line : List ℕ → DeviceMemory → List ℕ
-memory_line device m = place_line (codes "device") m.physical_address m.size (tag device (Named m.name))
+memory_line device m = region_line (codes "device") m.physical_address m.size (tag device (Named m.name))
 
 -- the devices' memory
 abbrev pub device_lines : List Device → List ℕ
@@ -72,13 +72,13 @@ window_lines p s =
     flat_map (λ w. window_line s.name w.guest w.size w.rights (thing_tag w.thing))
     (in_order (λ v w. nat_le v.guest w.guest) (windows_of p s))
 
--- where the regions are at these places
+-- where the regions are at these addresses
 unfoldable pub map_text_at : Source → List ℕ → List ℕ
-map_text_at p places =
-    region_lines places (regions_of p) ++ device_lines p.devices ++ flat_map (window_lines p) p.subjects
+map_text_at p addresses =
+    region_lines addresses (regions_of p) ++ device_lines p.devices ++ flat_map (window_lines p) p.subjects
 
 abbrev pub text_where : Source → Result (List ℕ) Region → List ℕ
-text_where p (Ok places) = map_text_at p places
+text_where p (Ok addresses) = map_text_at p addresses
 text_where p (Err r) = []
 
 -- the text of a policy whose regions can be placed

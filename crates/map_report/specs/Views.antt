@@ -1,4 +1,4 @@
--- The lines of windows, by places.
+-- The lines of windows, by indexes.
 use Rattle.std.specs.Prelude.{ℕ, Bool, true, List, [], ◌++◌, length, nat_lt, slice_get, Option, Some, None, option_map}
 use Rattle.std.specs.Option.{option_map_or}
 use Rattle.std.specs.List.{enumerate_from, flat_map}
@@ -15,11 +15,11 @@ use Rattle.policy_views.specs.declared.view.View.{View}
 
 -- the printed name of what a view shows to the subject of this name, where that is there
 abbrev pub shown_tag : Resolution → List ℕ → List ℕ → Shown → Option Tag
-shown_tag r subject name (Memory place) = Some (tag name Whole)
-shown_tag r subject name (Channel place) = Some (tag name Whole)
-shown_tag r subject name (Provided place) = Some (tag subject (Named name))
+shown_tag r subject name (Memory index) = Some (tag name Whole)
+shown_tag r subject name (Channel index) = Some (tag name Whole)
+shown_tag r subject name (Provided index) = Some (tag subject (Named name))
 shown_tag r subject name (Device device memory) = option_map (λ d. tag d.name (Named name)) (slice_get r.devices device)
-shown_tag r subject name (State place) = Some (tag name States)
+shown_tag r subject name (State index) = Some (tag name States)
 
 abbrev pub tagged_line : List ℕ → View → Option Tag → List ℕ
 tagged_line subject v None = []
@@ -31,19 +31,19 @@ view_line r subject v = tagged_line subject v (shown_tag r subject v.name v.show
 abbrev pub view_lines : Resolution → List ℕ → List View → List ℕ
 view_lines r subject views = flat_map (view_line r subject) views
 
--- the views of the subject at a place
+-- the views of the subject at an index
 abbrev pub views_at : List Grants → ℕ → List View
-views_at grants place = option_map_or (λ g. g.views) (slice_get grants place) []
+views_at grants index = option_map_or (λ g. g.views) (slice_get grants index) []
 
--- of these subjects, the first of which has this place
+-- of these subjects, the first of which has this index
 abbrev pub all_view_lines : Resolution → List Grants → ℕ → List Subject → List ℕ
 all_view_lines r grants first subjects =
     flat_map (λ x. view_lines r x.1.name (views_at grants x.0)) (enumerate_from first subjects)
 
--- the whole text, by places
+-- the whole text, by indexes
 abbrev pub map_lines : Resolution → List ℕ → List Region → List Grants → List ℕ
-map_lines r places regions grants =
-    region_lines places regions ++ device_lines r.devices ++ all_view_lines r grants 0 r.subjects
+map_lines r addresses regions grants =
+    region_lines addresses regions ++ device_lines r.devices ++ all_view_lines r grants 0 r.subjects
 
 -- the device whose memory it shows is there
 abbrev pub is_there : Resolution → Shown → Bool

@@ -31,7 +31,7 @@ fn append_rights(out: &mut [u8], at: usize, rights: Rights) -> usize
     append_letter(out, at, rights, Rights::EXECUTE, b"x")
 }
 
-/// What lies at a place in physical memory.
+/// What lies at an address in physical memory.
 #[derive(Clone, Copy)]
 pub(crate) enum Laid {
     /// A region.
@@ -52,27 +52,27 @@ fn laid_word(laid: Laid) -> &'static [u8]
 
 /// The line of a region, or of a device's memory.
 #[derive(Clone, Copy)]
-pub(crate) struct PlaceLine {
+pub(crate) struct RegionLine {
     pub laid: Laid,
-    pub place: u64,
+    pub address: u64,
     /// In bytes.
     pub size: u64,
     pub tag: Tag,
 }
 
-impl PrintedLine for PlaceLine {
-    ghost use Rattle.map_report.specs.MapText.{place_line};
+impl PrintedLine for RegionLine {
+    ghost use Rattle.map_report.specs.MapText.{region_line};
     ghost use Rattle.map_report.specs.Lines.{laid_word};
 
-    ghost text = { λ l. place_line (laid_word l.laid) l.place l.size l.tag };
+    ghost text = { λ l. region_line (laid_word l.laid) l.address l.size l.tag };
 
-    #[tactic(auto, unfolding(crate::specs::MapText::place_line))]
+    #[tactic(auto, unfolding(crate::specs::MapText::region_line))]
     fn write(&self, space: &mut [u8; 256]) -> usize {
         let mut name = [0u8; 128];
         let len = self.tag.write(&mut name);
         let at = append(space, 0, laid_word(self.laid));
         let at = append(space, at, b" ");
-        let at = append_hex16(space, at, self.place);
+        let at = append_hex16(space, at, self.address);
         let at = append(space, at, b" ");
         let at = append_hex16(space, at, self.size);
         let at = append(space, at, b" ");

@@ -7,11 +7,11 @@ ghost use Rattle.policy_lawful.specs.Resolution.{IsResolved, source_of};
 ghost use Rattle.map_report.specs.MapText.{device_lines, map_text_of, memory_line, region_lines};
 ghost use Rattle.map_report.specs.Views.{all_view_lines, map_lines, view_line, view_lines, views_at};
 
-use crate::lines::{Laid, PlaceLine, WindowLine};
+use crate::lines::{Laid, RegionLine, WindowLine};
 use crate::shown::tag;
 use expand_grants::Grants;
 use expand_kernel::Region;
-use muen_num::{Name, TagPart, Tag};
+use muen_num::{Name, Tag, TagPart};
 use muen_outside::{Buffer, PrintedLine, Sink, SinkFault};
 use policy_lawful::Resolved;
 use policy_lawful::resolved::Subject;
@@ -31,21 +31,21 @@ fn put_line<L: PrintedLine, S: Sink>(
     buffer.put(&space[..n], out)
 }
 
-// The regions at these places.
+// The regions at these addresses.
 #[tactic(auto, using(muen_outside::proofs::Buffered::items))]
 fn put_regions<S: Sink>(
-    places: &[u64],
+    addresses: &[u64],
     regions: &[Region],
     buffer: &mut Buffer,
     out: &mut S,
 ) -> Result<(), SinkFault>
-    requires { length regions.now ≤ length places.now }
-    ensures { Gives (region_lines places.now regions.now) (behind (S.state out.old) buffer.old) (behind (S.state out.new) buffer.new) result }
+    requires { length regions.now ≤ length addresses.now }
+    ensures { Gives (region_lines addresses.now regions.now) (behind (S.state out.old) buffer.old) (behind (S.state out.new) buffer.new) result }
 {
     for (number, region) in regions.iter().enumerate() {
-        let line = PlaceLine {
+        let line = RegionLine {
             laid: Laid::Region,
-            place: places[number],
+            address: addresses[number],
             size: region.size,
             tag: region.tag,
         };
@@ -63,9 +63,9 @@ fn put_memory<S: Sink>(
 ) -> Result<(), SinkFault>
     ensures { Gives (memory_line device memory.now) (behind (S.state out.old) buffer.old) (behind (S.state out.new) buffer.new) result }
 {
-    let line = PlaceLine {
+    let line = RegionLine {
         laid: Laid::Device,
-        place: memory.physical_address,
+        address: memory.physical_address,
         size: memory.size,
         tag: Tag {
             owner: device,
@@ -141,11 +141,11 @@ fn put_views<S: Sink>(
     Ok(())
 }
 
-// The views of the subject at a place.
-fn views_at(grants: &[Grants], place: usize) -> &[View]
-    ensures { result.now ≡ views_at grants.now place }
+// The views of the subject at an index.
+fn views_at(grants: &[Grants], index: usize) -> &[View]
+    ensures { result.now ≡ views_at grants.now index }
 {
-    match grants.get(place) {
+    match grants.get(index) {
         Some(grants) => grants.views.items(),
         None => &[],
     }
@@ -162,49 +162,49 @@ fn put_windows<S: Sink>(
 ) -> Result<(), SinkFault>
     ensures { Gives (all_view_lines policy.now grants.now 0 subjects.now) (behind (S.state out.old) buffer.old) (behind (S.state out.new) buffer.new) result }
 {
-    for (place, subject) in subjects.iter().enumerate() {
-        put_views(policy, subject.name, views_at(grants, place), buffer, out)?;
+    for (index, subject) in subjects.iter().enumerate() {
+        put_views(policy, subject.name, views_at(grants, index), buffer, out)?;
     }
     Ok(())
 }
 
-// The regions at these places, then the devices' memory, then the windows of each subject.
+// The regions at these addresses, then the devices' memory, then the windows of each subject.
 #[tactic(auto, using(muen_outside::proofs::Buffered::gives))]
 fn put_map<S: Sink>(
     policy: &Resolved,
-    places: &[u64],
+    addresses: &[u64],
     regions: &[Region],
     grants: &[Grants],
     buffer: &mut Buffer,
     out: &mut S,
 ) -> Result<(), SinkFault>
-    requires { length regions.now ≤ length places.now }
-    ensures text { Gives (map_lines policy.now places.now regions.now grants.now) (behind (S.state out.old) buffer.old) (behind (S.state out.new) buffer.new) result }
+    requires { length regions.now ≤ length addresses.now }
+    ensures text { Gives (map_lines policy.now addresses.now regions.now grants.now) (behind (S.state out.old) buffer.old) (behind (S.state out.new) buffer.new) result }
     ensures resolved { IsResolved policy.now }
 {
     let subjects = policy.subjects();
-    put_regions(places, regions, buffer, out)?;
+    put_regions(addresses, regions, buffer, out)?;
     put_devices(policy.devices(), buffer, out)?;
     put_windows(policy, subjects, grants, buffer, out)
 }
 
-/// Puts the map of a policy: `region PLACE SIZE NAME` for each region by number, `device PLACE SIZE
-/// NAME` for each device's memory, then for each subject, by guest address, `window SUBJECT GUEST
-/// SIZE RIGHTS NAME`. Places, sizes and addresses have sixteen hexadecimal digits. The text goes
+/// Puts the map of a policy: `region ADDRESS SIZE NAME` for each region by number, `device ADDRESS
+/// SIZE NAME` for each device's memory, then for each subject, by guest address, `window SUBJECT
+/// GUEST SIZE RIGHTS NAME`. Addresses and sizes have sixteen hexadecimal digits. The text goes
 /// through the buffer, in which nothing may wait before, and takes no memory. Where the sink fails
 /// it has a front of the text.
 #[tactic(auto, using(muen_outside::proofs::Buffered::gives))]
 pub fn map_text<S: Sink>(placed: &Placed, buffer: &mut Buffer, out: &mut S) -> Result<(), SinkFault>
     requires { buffer.old ≡ [] }
-    ensures { Puts (map_text_of (source_of placed.now.plain.lawful)) (S.state out.old) (S.state out.new) result }
+    ensures { Puts (map_text_of (source_of placed.now.expanded.lawful)) (S.state out.old) (S.state out.new) result }
 {
-    let plain = placed.plain();
-    let policy = plain.lawful().resolved();
+    let expanded = placed.expanded();
+    let policy = expanded.lawful().resolved();
     put_map(
         policy,
-        placed.places(),
-        plain.regions(),
-        plain.grants(),
+        placed.addresses(),
+        expanded.regions(),
+        expanded.grants(),
         buffer,
         out,
     )?;

@@ -3,7 +3,7 @@ ghost use Rattle.std.specs.Prelude.{◌≡◌};
 ghost use Rattle.map_report.specs.MapText.{tag};
 ghost use Rattle.map_report.specs.Views.{shown_tag};
 
-use muen_num::{Name, TagPart, Tag};
+use muen_num::{Name, Tag, TagPart};
 use policy_lawful::Resolved;
 use policy_views::{Shown, View};
 

@@ -23,7 +23,7 @@ use Rattle.policy_lawful.specs.declared.offence.Extent.{Extent}
 use Rattle.policy_lawful.proofs.KeptAddresses.{addresses_kept}
 use Rattle.policy_types.specs.declared.source.Region.{Region}
 use Rattle.policy_rules.specs.Windows.{device_extents}
-use Rattle.policy_rules.proofs.RangesByPlace.{blocks_sized}
+use Rattle.policy_rules.proofs.RangesByIndex.{blocks_sized}
 use Rattle.policy_rules.specs.Fixed.{block_extents, fixed_extents}
 
 -- ---- what is known of the blocks and the regions
@@ -72,9 +72,9 @@ front_sized (x ∷ xs) (suc n) h =
 pub fixed_front_sized : (r : Resolution) (n : ℕ) → offence_4 (source_of r) ≡ None → list_all (λ e. nat_lt 0 e.size) (take n (fixed_extents r.memory)) ≡ true
 fixed_front_sized r n h = front_sized (fixed_extents r.memory) n (fixed_sized r h)
 
-same_place : (p q : Extent → Bool) → ((x : Extent) → p x ≡ q x) → (xs : List Extent) → position_or_len (λ e. not (p e)) xs ≡ position_or_len (λ e. not (q e)) xs
-same_place p q same [] = refl
-same_place p q same (x ∷ xs) = λ i. cond (not (not (same x i))) (1 + same_place p q same xs i) 0
+same_position : (p q : Extent → Bool) → ((x : Extent) → p x ≡ q x) → (xs : List Extent) → position_or_len (λ e. not (p e)) xs ≡ position_or_len (λ e. not (q e)) xs
+same_position p q same [] = refl
+same_position p q same (x ∷ xs) = λ i. cond (not (not (same x i))) (1 + same_position p q same xs i) 0
 
 pub fixed_by_extent : (r : Resolution) (n : ℕ) → n ≡ position_or_len (λ e. not (inside.is_inside (block_extents r.memory_blocks) e)) (fixed_extents r.memory)
     → option_or (first_overlap (take n (fixed_extents r.memory))) (option_map (λ e. alone e.name) (slice_get (fixed_extents r.memory) n)) ≡ offence_19 (source_of r)
@@ -82,6 +82,6 @@ unfolding offence_19 source_of
 fixed_by_extent r n is =
     let xs = fixed_extents r.memory in
     let same : (e : Extent) → inside.is_inside (block_extents r.memory_blocks) e ≡ is_inside (source_of r) e = λ e. list_any-map (λ b. holds e (span_of b)) block_extent r.memory_blocks in
-    let at : n ≡ position_or_len (λ e. not (is_inside (source_of r) e)) xs = is ∙ same_place (inside.is_inside (block_extents r.memory_blocks)) (is_inside (source_of r)) same xs in
+    let at : n ≡ position_or_len (λ e. not (is_inside (source_of r) e)) xs = is ∙ same_position (inside.is_inside (block_extents r.memory_blocks)) (is_inside (source_of r)) same xs in
     ap (λ m. option_or (first_overlap (take m xs)) (option_map (λ e. alone e.name) (slice_get xs m))) at
     ∙ sym (first_fault_is (is_inside (source_of r)) xs (position_or_len (λ e. not (is_inside (source_of r) e)) xs) (breaks_at_first (is_inside (source_of r)) xs))

@@ -1,10 +1,10 @@
-pub mod CpusByPlace
+pub mod CpusByIndex
 pub mod FixedByExtent
-pub mod GroupsByPlace
-pub mod LimitsByPlace
-pub mod MajorsByPlace
+pub mod GroupsByIndex
+pub mod LimitsByIndex
+pub mod MajorsByIndex
 pub mod NamesAdded
-pub mod RangesByPlace
+pub mod RangesByIndex
 pub mod RulesJoined
-pub mod Tau0ByPlace
-pub mod WritersByPlace
+pub mod Tau0ByIndex
+pub mod WritersByIndex

@@ -1,4 +1,4 @@
--- Rule 17 of a resolved policy: groups and their members, with the subjects by their places.
+-- Rule 17 of a resolved policy: groups and their members, with the subjects by their indexes.
 use Rattle.std.specs.Prelude.{◌≡◌, ◌+◌, ◌<◌, min, ℕ, ◌==◌, ◌&&◌, not, Bool, List, length, slice_get, slice_index, Option, option_map}
 use Rattle.std.specs.Option.{option_or}
 use Rattle.std.specs.List.{list_all, sum_by, count_by, enumerate_from}
@@ -9,12 +9,12 @@ use Rattle.policy_lawful.specs.declared.offence.Offence.{Offence}
 use Rattle.policy_lawful.specs.declared.resolved.Subject.{Subject}
 use Rattle.policy_lawful.specs.declared.resolved.Group.{Group}
 
--- the CPU of the subject at a place
+-- the CPU of the subject at an index
 abbrev pub cpu_of_subject : List Subject → ℕ → Option ℕ
-cpu_of_subject subjects place = option_map (λ s. s.cpu) (slice_get subjects place)
+cpu_of_subject subjects index = option_map (λ s. s.cpu) (slice_get subjects index)
 
 abbrev pub is_member : List Subject → ℕ → ℕ → Bool
-is_member subjects cpu place = is_on (cpu_of_subject subjects place) cpu
+is_member subjects cpu index = is_on (cpu_of_subject subjects index) cpu
 
 abbrev pub is_group : List Subject → Group → Bool
 is_group subjects g = not (length g.subjects == 0) && list_all (is_member subjects g.cpu) g.subjects
@@ -22,18 +22,18 @@ is_group subjects g = not (length g.subjects == 0) && list_all (is_member subjec
 abbrev pub group_offence : List Subject → Group → Option Offence
 group_offence subjects g = unless (is_group subjects g) (alone g.name)
 
--- how often a place stands among these, and among the members of these groups
+-- how often an index stands among these, and among the members of these groups
 abbrev pub times_among : List ℕ → ℕ → ℕ
-times_among places place = count_by (λ i. i == place) places
+times_among indexes index = count_by (λ i. i == index) indexes
 
 abbrev pub times_in : List Group → ℕ → ℕ
-times_in groups place = sum_by (λ g. times_among g.subjects place) groups
+times_in groups index = sum_by (λ g. times_among g.subjects index) groups
 
--- a subject with its place, that isn't listed once
+-- a subject with its index, that isn't listed once
 abbrev pub member_offence : List Group → ℕ × Subject → Option Offence
-member_offence groups (place, s) = unless (times_in groups place == 1) (alone s.name)
+member_offence groups (index, s) = unless (times_in groups index == 1) (alone s.name)
 
--- new counts are the old ones and so much more at each place; counts of 2 and more are alike
+-- new counts are the old ones and so much more at each index; counts of 2 and more are alike
 abbrev pub Adds : List ℕ → List ℕ → (ℕ → ℕ) → Type 0
 Adds old new more = (k : ℕ) → k < length old → min 2 (slice_index new k) ≡ min 2 (slice_index old k + more k)
 
@@ -46,6 +46,6 @@ abbrev pub groups_offence : List Subject → List Group → Option Offence
 groups_offence subjects groups =
     option_or (first_in (group_offence subjects) groups) (first_in (member_offence groups) (enumerate_from 0 subjects))
 
--- a subject with its place, that wasn't met once by these counts
+-- a subject with its index, that wasn't met once by these counts
 abbrev pub counted_offence : List ℕ → ℕ × Subject → Option Offence
-counted_offence times (place, s) = unless (slice_index times place == 1) (alone s.name)
+counted_offence times (index, s) = unless (slice_index times index == 1) (alone s.name)

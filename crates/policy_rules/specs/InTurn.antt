@@ -35,7 +35,7 @@ grants_broken p =
     ∷ []
     )
 
--- the plan, places and limits
+-- the plan, addresses and limits
 abbrev pub plan_broken : Source → Option Refusal
 plan_broken p =
     first_of (

@@ -1,4 +1,4 @@
--- Rule 20 of a resolved policy: the limits, with windows and provided regions by places.
+-- Rule 20 of a resolved policy: the limits, with windows and provided regions by indexes.
 use Rattle.std.specs.Prelude.{ℕ, ◌+◌, ◌-◌, ◌&&◌, List, length, nat_le, codes, slice_get, is_some, Option, Some, None}
 use Rattle.std.specs.Option.{option_map_or, option_or}
 use Rattle.std.specs.List.{count_by, enumerate_from, list_all, sum_by}

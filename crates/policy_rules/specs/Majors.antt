@@ -1,4 +1,4 @@
--- Rule 16 of a resolved policy: major frames, with the groups by their places.
+-- Rule 16 of a resolved policy: major frames, with the groups by their indexes.
 use Rattle.std.specs.Prelude.{ℕ, ◌==◌, ◌&&◌, not, Bool, true, List, [], length, slice_get, nat_lt, Option, option_map}
 use Rattle.std.specs.Option.{option_map_or, option_or}
 use Rattle.std.specs.List.{list_any, list_all}
@@ -13,9 +13,9 @@ use Rattle.policy_lawful.specs.declared.resolved.MajorFrame.{MajorFrame}
 use Rattle.policy_lawful.specs.declared.resolved.CpuFrames.{CpuFrames}
 use Rattle.policy_lawful.specs.declared.resolved.MinorFrame.{MinorFrame}
 
--- the CPU of the group at a place
+-- the CPU of the group at an index
 abbrev pub cpu_of_group : List Group → ℕ → Option ℕ
-cpu_of_group groups place = option_map (λ g. g.cpu) (slice_get groups place)
+cpu_of_group groups index = option_map (λ g. g.cpu) (slice_get groups index)
 
 abbrev pub is_frame : List Group → ℕ → MinorFrame → Bool
 is_frame groups cpu f = nat_lt 0 f.ticks && is_on (cpu_of_group groups f.group) cpu

@@ -19,7 +19,7 @@ use Rattle.policy_views.specs.declared.view.View.{View}
 
 -- it shows a region of this name
 abbrev pub is_on_named : List ℕ → View → Shown → Bool
-is_on_named name v (Memory place) = bytes_eq v.name name
+is_on_named name v (Memory index) = bytes_eq v.name name
 is_on_named name v _ = false
 
 -- it shows one with the right to write

@@ -1,4 +1,4 @@
--- Rule 8 of a resolved policy: who has windows on a region, told by its place.
+-- Rule 8 of a resolved policy: who has windows on a region, told by its index.
 use Rattle.std.specs.Prelude.{◌≡◌, ℕ, ◌<◌, ◌==◌, ◌&&◌, not, Bool, true, false, List, [], ◌∷◌, ◌++◌, length, map, slice_index_or, Option, Some, None, option_and_then, option_map, if◌then◌else◌}
 use Rattle.std.specs.Option.{option_or}
 use Rattle.std.specs.List.{filter_map, find, flat_map, list_any}
@@ -18,18 +18,18 @@ use Rattle.policy_rules.specs.declared.writers.User.{User}
 
 -- ---- users of a region
 
--- the subject of this name as a user of the region at a place, by one of its windows
+-- the subject of this name as a user of the region at an index, by one of its windows
 abbrev pub user_of : ℕ → List ℕ → View → Option User
-user_of place name v =
-    if is_on_region place v.shows then Some (record { name = name; writes = allows v.rights Write }) else None
+user_of index name v =
+    if is_on_region index v.shows then Some (record { name = name; writes = allows v.rights Write }) else None
 
 -- by all of its windows
 abbrev pub uses_of : Resolution → ℕ → Subject → List User
-uses_of r place s = filter_map (user_of place s.name) (views_of r s)
+uses_of r index s = filter_map (user_of index s.name) (views_of r s)
 
 -- these subjects as users, in order
 abbrev pub users_of : Resolution → ℕ → List Subject → List User
-users_of r place subjects = flat_map (uses_of r place) subjects
+users_of r index subjects = flat_map (uses_of r index) subjects
 
 -- a list that has one more, or not
 abbrev pub added : List User → Bool → User → List User
@@ -41,7 +41,7 @@ abbrev pub with_user : List User → Option User → List User
 with_user old None = old
 with_user old (Some u) = old ++ u ∷ []
 
--- at each region's place its users among these subjects
+-- at each region's index its users among these subjects
 pub record HasUsers (r : Resolution) (users : List (List User)) (subjects : List Subject) : Type 0 where
   pub room : length users ≡ length r.memory
   pub at : (k : ℕ) → k < length r.memory → slice_index_or users k [] ≡ users_of r k subjects
@@ -73,6 +73,6 @@ abbrev pub users_fault : List User → Region → Option Offence
 users_fault users x =
     if length x.shared_memory == 0 then other_among users x.name (find (λ u. u.writes) users) else sharing_fault users x
 
--- of a region with its place
+-- of a region with its index
 abbrev pub fault_at : List (List User) → ℕ × Region → Option Offence
-fault_at users (place, x) = users_fault (slice_index_or users place []) x
+fault_at users (index, x) = users_fault (slice_index_or users index []) x

@@ -193,7 +193,7 @@ fn of_all(alloc: Global, policy: &Resolved) -> Result<Option<Offence>, NoMemory>
 /// Rule 4: the first address or size that isn't one.
 ///
 /// Answers `NoMemory` where memory was refused.
-#[tactic(auto, using(crate::proofs::RangesByPlace::addresses_by_place))]
+#[tactic(auto, using(crate::proofs::RangesByIndex::addresses_by_index))]
 pub(crate) fn addresses(alloc: Global, policy: &Resolved) -> Result<Option<Offence>, NoMemory>
     ensures { IfOk result (λ o. o ≡ offence_4 (source_of policy.now)) }
 {

@@ -75,7 +75,7 @@ fn physical_extents(alloc: Global, policy: &Resolved) -> Result<Vec<Extent>, NoM
 /// Rule 18: the first two of the blocks and the devices' memory that share an address.
 ///
 /// Answers `NoMemory` where memory was refused.
-#[tactic(auto, using(crate::proofs::RangesByPlace::physical_sized, crate::proofs::RangesByPlace::blocks_apart))]
+#[tactic(auto, using(crate::proofs::RangesByIndex::physical_sized, crate::proofs::RangesByIndex::blocks_apart))]
 pub(crate) fn blocks_apart(alloc: Global, policy: &Resolved) -> Result<Option<Offence>, NoMemory>
     requires { offence_4 (source_of policy.now) ≡ None }
     ensures { IfOk result (λ o. o ≡ offence_18 (source_of policy.now)) }
@@ -85,7 +85,7 @@ pub(crate) fn blocks_apart(alloc: Global, policy: &Resolved) -> Result<Option<Of
 }
 
 // The first two windows of a subject that share an address.
-#[tactic(auto, using(crate::proofs::RangesByPlace::windows_sized))]
+#[tactic(auto, using(crate::proofs::RangesByIndex::windows_sized))]
 fn of_subject(
     alloc: Global,
     policy: &Resolved,
@@ -118,7 +118,7 @@ fn of_subjects(
 /// Rule 5: the first two windows of a subject that share an address.
 ///
 /// Answers `NoMemory` where memory was refused.
-#[tactic(auto, using(crate::proofs::RangesByPlace::none_outside, crate::proofs::RangesByPlace::windows_apart))]
+#[tactic(auto, using(crate::proofs::RangesByIndex::none_outside, crate::proofs::RangesByIndex::windows_apart))]
 pub(crate) fn windows_apart(alloc: Global, policy: &Resolved) -> Result<Option<Offence>, NoMemory>
     requires { offence_4 (source_of policy.now) ≡ None }
     ensures { IfOk result (λ o. o ≡ offence_5 (source_of policy.now)) }

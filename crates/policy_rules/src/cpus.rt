@@ -24,13 +24,13 @@ fn subjects(subjects: &[Subject], cpus: u64) -> Option<Offence>
     )
 }
 
-// The first entry of the major frame at a place whose CPU there isn't.
-fn entries(place: usize, entries: &[CpuFrames], cpus: u64) -> Option<Offence>
-    ensures { result ≡ first_in (λ c. unless (nat_lt c.cpu cpus) (two (major_name place) (cpu_name c.cpu))) entries.now }
+// The first entry of the major frame at an index whose CPU there isn't.
+fn entries(index: usize, entries: &[CpuFrames], cpus: u64) -> Option<Offence>
+    ensures { result ≡ first_in (λ c. unless (nat_lt c.cpu cpus) (two (major_name index) (cpu_name c.cpu))) entries.now }
 {
     first(entries, |entry| {
         Offence {
-            first: major_name(place),
+            first: major_name(index),
             second: cpu_name(entry.cpu),
         }
         .unless(entry.cpu < cpus)
@@ -43,7 +43,7 @@ fn majors(majors: &[MajorFrame], cpus: u64) -> Option<Offence>
 {
     first_numbered(
         majors,
-        |place, major| entries(place, major.cpus.items(), cpus),
+        |index, major| entries(index, major.cpus.items(), cpus),
     )
 }
 
@@ -74,7 +74,7 @@ fn of_elements(
 }
 
 /// Rule 3: the number of CPUs, and the CPUs of subjects, groups and frames.
-#[tactic(auto, using(crate::proofs::CpusByPlace::cpus_by_place))]
+#[tactic(auto, using(crate::proofs::CpusByIndex::cpus_by_index))]
 pub(crate) fn cpus(policy: &Resolved) -> Option<Offence>
     ensures { result ≡ offence_3 (source_of policy.now) }
 {

@@ -11,20 +11,20 @@ use policy_lawful::resolved::{Group, Subject};
 use policy_lawful::{Offence, Resolved};
 use std::alloc::{AllocError, Global};
 
-// Whether the subject at a place is on this CPU.
-fn is_member(subjects: &[Subject], cpu: u64, place: usize) -> bool
-    ensures { result ≡ is_member subjects.now cpu place }
+// Whether the subject at an index is on this CPU.
+fn is_member(subjects: &[Subject], cpu: u64, index: usize) -> bool
+    ensures { result ≡ is_member subjects.now cpu index }
 {
-    match subjects.get(place) {
+    match subjects.get(index) {
         None => false,
         Some(subject) => subject.cpu == cpu,
     }
 }
 
-fn are_members(subjects: &[Subject], cpu: u64, places: &[usize]) -> bool
-    ensures { result ≡ list_all (is_member subjects.now cpu) places.now }
+fn are_members(subjects: &[Subject], cpu: u64, indexes: &[usize]) -> bool
+    ensures { result ≡ list_all (is_member subjects.now cpu) indexes.now }
 {
-    places.iter().all(|place| is_member(subjects, cpu, *place))
+    indexes.iter().all(|index| is_member(subjects, cpu, *index))
 }
 
 // It has members, and all are on its CPU.
@@ -43,34 +43,34 @@ fn first_group(subjects: &[Subject], groups: &[Group]) -> Option<Offence>
     )
 }
 
-// Counts this place on. Counts of 2 and more are alike.
-fn count_place(place: usize, times: &mut [u8])
-    ensures { Adds times.old times.new (λ k. if place == k then 1 else 0) }
+// Counts this index on. Counts of 2 and more are alike.
+fn count_index(index: usize, times: &mut [u8])
+    ensures { Adds times.old times.new (λ k. if index == k then 1 else 0) }
 {
-    if place < times.len() {
-        times[place] = times[place].saturating_add(1);
+    if index < times.len() {
+        times[index] = times[index].saturating_add(1);
     }
 }
 
-// Counts each place on by how often it stands here.
-fn count_places(places: &[usize], times: &mut [u8])
-    ensures { Adds times.old times.new (times_among places.now) }
+// Counts each index on by how often it stands here.
+fn count_indexes(indexes: &[usize], times: &mut [u8])
+    ensures { Adds times.old times.new (times_among indexes.now) }
 {
-    for place in places {
-        count_place(*place, times);
+    for index in indexes {
+        count_index(*index, times);
     }
 }
 
-// Counts each place on by how often it stands among the members of the groups.
+// Counts each index on by how often it stands among the members of the groups.
 fn count_members(groups: &[Group], times: &mut [u8])
     ensures { Adds times.old times.new (times_in groups.now) }
 {
     for group in groups {
-        count_places(group.subjects.items(), times);
+        count_indexes(group.subjects.items(), times);
     }
 }
 
-// How often each of so many places stands among the members of the groups; counts of 2 and more are
+// How often each of so many indexes stands among the members of the groups; counts of 2 and more are
 // alike.
 fn times_of(alloc: Global, groups: &[Group], count: usize) -> Result<Vec<u8>, AllocError>
     ensures { IfOk result (λ times. AreTimes times.items count groups.now) }
@@ -84,13 +84,13 @@ fn times_of(alloc: Global, groups: &[Group], count: usize) -> Result<Vec<u8>, Al
 fn first_counted(subjects: &[Subject], times: &[u8]) -> Option<Offence>
     ensures { result ≡ first_in (counted_offence times.now) (enumerate_from 0 subjects.now) }
 {
-    first_numbered(subjects, |place, subject| {
-        Offence::alone(subject.name).unless(times.get(place).copied().unwrap_or(0) == 1)
+    first_numbered(subjects, |index, subject| {
+        Offence::alone(subject.name).unless(times.get(index).copied().unwrap_or(0) == 1)
     })
 }
 
 // The first group that offends, else the first subject that isn't listed once.
-#[tactic(auto, using(crate::proofs::GroupsByPlace::by_counts))]
+#[tactic(auto, using(crate::proofs::GroupsByIndex::by_counts))]
 fn of_groups(
     alloc: Global,
     subjects: &[Subject],
@@ -106,7 +106,7 @@ fn of_groups(
 }
 
 /// The first offence against rule 17, if any.
-#[tactic(auto, using(crate::proofs::GroupsByPlace::groups_by_place))]
+#[tactic(auto, using(crate::proofs::GroupsByIndex::groups_by_index))]
 pub(crate) fn groups(alloc: Global, policy: &Resolved) -> Result<Option<Offence>, NoMemory>
     ensures { IfOk result (λ o. o ≡ offence_17 (source_of policy.now)) }
 {

@@ -80,7 +80,7 @@ fn of_ranges(extents: &[Extent]) -> Option<Offence>
 }
 
 // The limits on the memory of all devices.
-#[tactic(auto, using(crate::proofs::LimitsByPlace::memory_counted))]
+#[tactic(auto, using(crate::proofs::LimitsByIndex::memory_counted))]
 fn of_device_memory(alloc: Global, devices: &[Device]) -> Result<Option<Offence>, NoMemory>
     ensures { IfOk result (λ o. o ≡ device_memory_limit (sum_by (λ d. length d.memory) devices.now) (sum_by (λ d. sum_by (λ m. m.size) d.memory) devices.now)) }
 {
@@ -101,7 +101,7 @@ fn each_component(components: &[Component]) -> Option<Offence>
 }
 
 // How many channels have an event.
-#[tactic(auto, using(crate::proofs::LimitsByPlace::kept_counted))]
+#[tactic(auto, using(crate::proofs::LimitsByIndex::kept_counted))]
 fn with_events(channels: &[Channel]) -> usize
     ensures { result ≡ count_by (λ c. is_some c.has_event) channels.now }
 {
@@ -253,8 +253,8 @@ fn are_short(entries: &[CpuFrames]) -> bool
 fn frames(majors: &[MajorFrame]) -> Option<Offence>
     ensures { result ≡ first_in major_limit (enumerate_from 0 majors.now) }
 {
-    first_numbered(majors, |place, major| {
-        Offence::alone(major_name(place)).unless(are_short(major.cpus.items()))
+    first_numbered(majors, |index, major| {
+        Offence::alone(major_name(index)).unless(are_short(major.cpus.items()))
     })
 }
 
@@ -270,7 +270,7 @@ fn of_frames(majors: &[MajorFrame]) -> Option<Offence>
 /// Rule 20: the limits, in their order.
 ///
 /// Answers `NoMemory` where memory was refused.
-#[tactic(auto, using(crate::proofs::LimitsByPlace::limits_by_place))]
+#[tactic(auto, using(crate::proofs::LimitsByIndex::limits_by_index))]
 pub(crate) fn limits(alloc: Global, policy: &Resolved) -> Result<Option<Offence>, NoMemory>
     ensures { IfOk result (λ o. o ≡ offence_20 (source_of policy.now)) }
 {

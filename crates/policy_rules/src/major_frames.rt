@@ -17,11 +17,11 @@ use policy_lawful::resolved::{CpuFrames, Group, MajorFrame, MinorFrame};
 use policy_lawful::{Offence, Resolved};
 use std::alloc::Global;
 
-// Whether the group at a place is on this CPU.
-fn is_on(groups: &[Group], place: usize, cpu: u64) -> bool
-    ensures { result ≡ is_on (cpu_of_group groups.now place) cpu }
+// Whether the group at an index is on this CPU.
+fn is_on(groups: &[Group], index: usize, cpu: u64) -> bool
+    ensures { result ≡ is_on (cpu_of_group groups.now index) cpu }
 {
-    match groups.get(place) {
+    match groups.get(index) {
         None => false,
         Some(group) => group.cpu == cpu,
     }
@@ -67,23 +67,23 @@ fn is_entry(groups: &[Group], before: &[CpuFrames], entry: &CpuFrames) -> bool
         && has_first_ticks(before, entry)
 }
 
-fn at_cpu(place: usize, cpu: u64) -> Offence
-    ensures { result ≡ two (major_name place) (cpu_name cpu) }
+fn at_cpu(index: usize, cpu: u64) -> Offence
+    ensures { result ≡ two (major_name index) (cpu_name cpu) }
 {
     Offence {
-        first: major_name(place),
+        first: major_name(index),
         second: cpu_name(cpu),
     }
 }
 
 // The first entry that offends. Each is held against those before it, which are of different CPUs,
 // so with CPUs below 8 at most nine are looked at.
-fn first_entry(groups: &[Group], place: usize, cpus: &[CpuFrames]) -> Option<Offence>
-    ensures { result ≡ first_after (entry_offence groups.now place) [] cpus.now }
+fn first_entry(groups: &[Group], index: usize, cpus: &[CpuFrames]) -> Option<Offence>
+    ensures { result ≡ first_after (entry_offence groups.now index) [] cpus.now }
 {
     for (i, entry) in cpus.iter().enumerate() {
         if !is_entry(groups, &cpus[..i], entry) {
-            return Some(at_cpu(place, entry.cpu));
+            return Some(at_cpu(index, entry.cpu));
         }
     }
     None
@@ -91,23 +91,23 @@ fn first_entry(groups: &[Group], place: usize, cpus: &[CpuFrames]) -> Option<Off
 
 // The first of so many CPUs that isn't listed.
 #[tactic(auto, using(muen_num::proofs::FirstNumber::number_found, muen_num::proofs::FirstNumber::numbers_none_more))]
-fn first_missing(cpus: &[CpuFrames], place: usize, count: u64) -> Option<Offence>
-    ensures { result ≡ first_in (missing_offence cpus.now place) (numbers_below count) }
+fn first_missing(cpus: &[CpuFrames], index: usize, count: u64) -> Option<Offence>
+    ensures { result ≡ first_in (missing_offence cpus.now index) (numbers_below count) }
 {
     for cpu in 0..count {
         if !is_listed(cpus, cpu) {
-            return Some(at_cpu(place, cpu));
+            return Some(at_cpu(index, cpu));
         }
     }
     None
 }
 
-// Of a major frame and its place: the first entry that offends, else the first CPU that isn't
+// Of a major frame and its index: the first entry that offends, else the first CPU that isn't
 // listed.
-fn of_entries(groups: &[Group], count: u64, place: usize, cpus: &[CpuFrames]) -> Option<Offence>
-    ensures { result ≡ option_or (first_after (entry_offence groups.now place) [] cpus.now) (first_in (missing_offence cpus.now place) (numbers_below count)) }
+fn of_entries(groups: &[Group], count: u64, index: usize, cpus: &[CpuFrames]) -> Option<Offence>
+    ensures { result ≡ option_or (first_after (entry_offence groups.now index) [] cpus.now) (first_in (missing_offence cpus.now index) (numbers_below count)) }
 {
-    first_entry(groups, place, cpus).or_else(|| first_missing(cpus, place, count))
+    first_entry(groups, index, cpus).or_else(|| first_missing(cpus, index, count))
 }
 
 // The first such offence of all major frames, for so many CPUs.
@@ -116,7 +116,7 @@ fn of_majors(groups: &[Group], count: u64, majors: &[MajorFrame]) -> Option<Offe
 {
     first_numbered(
         majors,
-        |place, major| of_entries(groups, count, place, major.cpus.items()),
+        |index, major| of_entries(groups, count, index, major.cpus.items()),
     )
 }
 

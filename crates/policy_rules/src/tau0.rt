@@ -92,7 +92,7 @@ fn of_chooser(alloc: Global, policy: &Resolved, chooser: &Tau0) -> Result<Option
 /// region isn't or is shared, or it may not write that.
 ///
 /// Answers `NoMemory` where memory was refused.
-#[tactic(auto, using(crate::proofs::Tau0ByPlace::chooser_by_place, crate::proofs::Tau0ByPlace::no_chooser))]
+#[tactic(auto, using(crate::proofs::Tau0ByIndex::chooser_by_index, crate::proofs::Tau0ByIndex::no_chooser))]
 pub(crate) fn tau0(alloc: Global, policy: &Resolved) -> Result<Option<Offence>, NoMemory>
     ensures { IfOk result (λ o. o ≡ tau0_offence (source_of policy.now) policy.now.scheduling.tau0) }
 {

@@ -25,32 +25,32 @@ struct User {
 
 // ---- users of each region
 
-// Notes a user at a region's place, where that is there.
-fn note(users: &mut [Seq<User>], place: usize, user: User) -> Result<(), NoMemory>
-    ensures { OnOk result ((k : ℕ) → k < length users.old → slice_index_or users.new k [] ≡ added (slice_index_or users.old k []) (place == k) user) }
+// Notes a user at a region's index, where that is there.
+fn note(users: &mut [Seq<User>], index: usize, user: User) -> Result<(), NoMemory>
+    ensures { OnOk result ((k : ℕ) → k < length users.old → slice_index_or users.new k [] ≡ added (slice_index_or users.old k []) (index == k) user) }
 {
-    if place < users.len() {
-        users[place].push(user)?;
+    if index < users.len() {
+        users[index].push(user)?;
     }
     Ok(())
 }
 
 // Notes the subject of this name at the region that it has this window on, if it is on one.
-#[tactic(auto, using(crate::proofs::WritersByPlace::added_is))]
+#[tactic(auto, using(crate::proofs::WritersByIndex::added_is))]
 fn note_view(users: &mut [Seq<User>], name: Name, view: &View) -> Result<(), NoMemory>
     ensures { OnOk result ((k : ℕ) → k < length users.old → slice_index_or users.new k [] ≡ with_user (slice_index_or users.old k []) (user_of k name view.now)) }
 {
     match view.shows {
-        Shown::Memory(place) => {
+        Shown::Memory(index) => {
             let writes = view.rights.allows(AccessKind::Write);
-            note(users, place, User { name, writes })
+            note(users, index, User { name, writes })
         }
         _ => Ok(()),
     }
 }
 
 // Notes the subject of this name at each region that it has one of these windows on.
-#[tactic(auto, using(crate::proofs::WritersByPlace::views_more))]
+#[tactic(auto, using(crate::proofs::WritersByIndex::views_more))]
 fn note_views(users: &mut [Seq<User>], name: Name, views: &[View]) -> Result<(), NoMemory>
     ensures { OnOk result ((k : ℕ) → k < length users.old → slice_index_or users.new k [] ≡ slice_index_or users.old k [] ++ filter_map (user_of k name) views.now) }
 {
@@ -72,7 +72,7 @@ fn no_users(alloc: Global, regions: usize) -> Result<Vec<Seq<User>>, NoMemory>
 }
 
 // The users of each region, among these subjects.
-#[tactic(auto, using(crate::proofs::WritersByPlace::none_yet, crate::proofs::WritersByPlace::users_more))]
+#[tactic(auto, using(crate::proofs::WritersByIndex::none_yet, crate::proofs::WritersByIndex::users_more))]
 fn users_of(
     alloc: Global,
     policy: &Resolved,
@@ -156,7 +156,7 @@ fn names_of(alloc: Global, users: &[User]) -> Result<Vec<Name>, AllocError>
 }
 
 // What is wrong with a region that has a list: a user that isn't in it, or a name in it.
-#[tactic(auto, using(crate::proofs::WritersByPlace::shared_first, crate::proofs::WritersByPlace::shared_last))]
+#[tactic(auto, using(crate::proofs::WritersByIndex::shared_first, crate::proofs::WritersByIndex::shared_last))]
 fn of_shared(alloc: Global, region: &Region, users: &[User]) -> Result<Option<Offence>, NoMemory>
     ensures { IfOk result (λ o. o ≡ sharing_fault users.now region.now) }
 {
@@ -182,7 +182,7 @@ fn of_region(alloc: Global, region: &Region, users: &[User]) -> Result<Option<Of
 
 // ---- all regions
 
-// The first region with which something is wrong, where its users stand at its place.
+// The first region with which something is wrong, where its users stand at its index.
 fn of_regions(
     alloc: Global,
     regions: &[Region],
@@ -191,8 +191,8 @@ fn of_regions(
     requires { length users.now ≡ length regions.now }
     ensures { IfOk result (λ o. o ≡ first_in (fault_at users.now) (enumerate_from 0 regions.now)) }
 {
-    for (place, region) in regions.iter().enumerate() {
-        if let Some(offence) = of_region(alloc, region, users[place].items())? {
+    for (index, region) in regions.iter().enumerate() {
+        if let Some(offence) = of_region(alloc, region, users[index].items())? {
             return Ok(Some(offence));
         }
     }
@@ -204,7 +204,7 @@ fn of_regions(
 /// or whose list has a name twice or one of no subject that maps it.
 ///
 /// Answers `NoMemory` where memory was refused.
-#[tactic(auto, using(crate::proofs::WritersByPlace::writers_by_place))]
+#[tactic(auto, using(crate::proofs::WritersByIndex::writers_by_index))]
 pub(crate) fn writers(alloc: Global, policy: &Resolved) -> Result<Option<Offence>, NoMemory>
     ensures { IfOk result (λ o. o ≡ offence_8 (source_of policy.now)) }
 {

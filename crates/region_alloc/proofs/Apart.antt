@@ -65,9 +65,9 @@ record IsAt (out : List Spot) (number bytes : ℕ) : Type 0 where
   address : address_in out number ≡ spot.address
   size : spot.size ≡ bytes
 
-made : (many : ℕ) (placed : Result (List Spot) Region) (places : List ℕ) → by_number many placed ≡ Ok places → (out : List Spot) × (placed ≡ Ok out) × (places ≡ map (address_in out) (numbers_below many))
-made many (Ok out) places e = (out, refl, cc)
-made many (Err r) places e = absurd (cc)
+made : (many : ℕ) (placed : Result (List Spot) Region) (addresses : List ℕ) → by_number many placed ≡ Ok addresses → (out : List Spot) × (placed ≡ Ok out) × (addresses ≡ map (address_in out) (numbers_below many))
+made many (Ok out) addresses e = (out, refl, cc)
+made many (Err r) addresses e = absurd (cc)
 
 module _ (blocks : List Block) (regions : List Region) (out : List Spot) (placed : placed_after blocks (in_turn regions) [] ≡ Ok out) where
   well : AreWell blocks (Holds regions) out
@@ -117,23 +117,23 @@ module _ (blocks : List Block) (regions : List Region) (out : List Spot) (placed
         | inr behind ↦ inr (omega arith)
       ]
 
-module _ (blocks : List Block) (regions : List Region) (places : List ℕ) (e : placement_in blocks regions ≡ Ok places) where
-  parts : (out : List Spot) × (placed_after blocks (in_turn regions) [] ≡ Ok out) × (places ≡ map (address_in out) (numbers_below (length regions)))
+module _ (blocks : List Block) (regions : List Region) (addresses : List ℕ) (e : placement_in blocks regions ≡ Ok addresses) where
+  parts : (out : List Spot) × (placed_after blocks (in_turn regions) [] ≡ Ok out) × (addresses ≡ map (address_in out) (numbers_below (length regions)))
   unfolding placement_in
-  parts = made (length regions) (placed_after blocks (in_turn regions) []) places e
+  parts = made (length regions) (placed_after blocks (in_turn regions) []) addresses e
 
-  value_at : (i d : ℕ) → i < length regions → get_or places i d ≡ address_in parts.0 i
+  value_at : (i d : ℕ) → i < length regions → get_or addresses i d ≡ address_in parts.0 i
   value_at i d l = ap (λ xs. get_or xs i d) parts.2 ∙ at_number (address_in parts.0) (length regions) i d l
 
-  many : length places ≡ length regions
+  many : length addresses ≡ length regions
   many = ap length parts.2 ∙ numbers_length (address_in parts.0) (length regions)
 
-  pub are_inside : AreInside blocks regions places
+  pub are_inside : AreInside blocks regions addresses
   are_inside =
-      all_zip (λ r place. in_a_block blocks place r.size ≡ true) regions places many
+      all_zip (λ r address. in_a_block blocks address r.size ≡ true) regions addresses many
       (λ i r d k. ap (λ a. in_a_block blocks a r.size) (value_at i d (is_there regions i r k)) ∙ inside_at blocks regions parts.0 parts.1 i r k)
 
-  pub are_disjoint : AreDisjoint regions places
+  pub are_disjoint : AreDisjoint regions addresses
   are_disjoint i j a b l within h k =
       let p = value_at i 0 (is_there regions i a h) in
       let q = value_at j 0 (is_there regions j b k) in
@@ -144,12 +144,12 @@ module _ (blocks : List Block) (regions : List Region) (places : List ℕ) (e : 
 
 -- ---- of a policy
 
-module _ (r : Resolution) (regions : List Region) (places : List ℕ) (all : regions ≡ regions_of (source_of r)) (e : placement_of (source_of r) ≡ Ok places) where
-  placement : placement_in r.memory_blocks regions ≡ Ok places
+module _ (r : Resolution) (regions : List Region) (addresses : List ℕ) (all : regions ≡ regions_of (source_of r)) (e : placement_of (source_of r) ≡ Ok addresses) where
+  placement : placement_in r.memory_blocks regions ≡ Ok addresses
   placement = ap (placement_in r.memory_blocks) all ∙ sym (placement_is r) ∙ e
 
-  pub policy_inside : AreInside r.memory_blocks regions places
-  policy_inside = are_inside r.memory_blocks regions places placement
+  pub policy_inside : AreInside r.memory_blocks regions addresses
+  policy_inside = are_inside r.memory_blocks regions addresses placement
 
-  pub policy_disjoint : AreDisjoint regions places
-  policy_disjoint = are_disjoint r.memory_blocks regions places placement
+  pub policy_disjoint : AreDisjoint regions addresses
+  policy_disjoint = are_disjoint r.memory_blocks regions addresses placement

@@ -8,7 +8,7 @@ use Rattle.std.proofs.lemmas.List.Folds.{list_all-append, list_any-append}
 use Rattle.muen_num.proofs.Lists.{list_any-map}
 use Rattle.policy_types.specs.declared.source.Block.{Block}
 use Rattle.expand_kernel.specs.declared.region.Region.{Region}
-use Rattle.region_alloc.specs.Gaps.{gap_of, has_room, holds, left_of, some_gap}
+use Rattle.region_alloc.specs.Gaps.{gap_of, has_room, holds, remaining_of, some_gap}
 use Rattle.region_alloc.specs.Placement.{in_a_block, is_apart, is_room, suits}
 use Rattle.region_alloc.specs.declared.gaps.Gap.{Gap}
 use Rattle.region_alloc.specs.declared.spot.Spot.{Spot}
@@ -70,7 +70,7 @@ holds_some start end address size some = elim (cases_lt start end) [
       ])
 ]
 
-free_beside : (q : Spot) (g : Gap) (address size : ℕ) → 0 < size → is_free (left_of q g) address size ≡ (holds g address size && is_clear q address size)
+free_beside : (q : Spot) (g : Gap) (address size : ℕ) → 0 < size → is_free (remaining_of q g) address size ≡ (holds g address size && is_clear q address size)
 free_beside q g address size some =
     let end = address + size in
     list_any-append (λ h. holds h address size) (some_gap g.start (min g.end q.address)) (some_gap (max g.start (q.address + q.size)) g.end)
@@ -80,36 +80,36 @@ free_beside q g address size some =
     ∙ ap (λ b. (nat_le g.start address && (nat_le end g.end && nat_le end q.address)) || (b && nat_le end g.end)) (max_le address g.start (q.address + q.size))
     ∙ either_side (nat_le g.start address) (nat_le end g.end) (nat_le end q.address) (nat_le (q.address + q.size) address)
 
-pub free_left : (q : Spot) (gaps : List Gap) (address size : ℕ) → 0 < size → is_free (flat_map (left_of q) gaps) address size ≡ (is_free gaps address size && is_clear q address size)
-free_left q [] address size some = refl
-free_left q (g ∷ gaps) address size some =
-    list_any-append (λ h. holds h address size) (left_of q g) (flat_map (left_of q) gaps)
-    ∙ ap (λ b. b || is_free (flat_map (left_of q) gaps) address size) (free_beside q g address size some)
-    ∙ ap (λ b. (holds g address size && is_clear q address size) || b) (free_left q gaps address size some)
+pub free_remaining : (q : Spot) (gaps : List Gap) (address size : ℕ) → 0 < size → is_free (flat_map (remaining_of q) gaps) address size ≡ (is_free gaps address size && is_clear q address size)
+free_remaining q [] address size some = refl
+free_remaining q (g ∷ gaps) address size some =
+    list_any-append (λ h. holds h address size) (remaining_of q g) (flat_map (remaining_of q) gaps)
+    ∙ ap (λ b. b || is_free (flat_map (remaining_of q) gaps) address size) (free_beside q g address size some)
+    ∙ ap (λ b. (holds g address size && is_clear q address size) || b) (free_remaining q gaps address size some)
     ∙ or_under (holds g address size) (is_free gaps address size) (is_clear q address size)
 
 -- ---- what lies in gaps, in a block, and beside what is placed
 
 -- the gaps are what the regions leave of the blocks
-pub record AreLeft (blocks : List Block) (spots : List Spot) (gaps : List Gap) : Type 0 where
+pub record AreRemaining (blocks : List Block) (spots : List Spot) (gaps : List Gap) : Type 0 where
   pub so : (address size : ℕ) → 0 < size → is_free gaps address size ≡ (in_a_block blocks address size && is_apart spots address size)
 
-pub left_at_first : (blocks : List Block) → AreLeft blocks [] (map gap_of blocks)
-left_at_first blocks = record {
+pub remaining_at_first : (blocks : List Block) → AreRemaining blocks [] (map gap_of blocks)
+remaining_at_first blocks = record {
   so = λ address size some. list_any-map (λ g. holds g address size) gap_of blocks ∙ sym (and_true (in_a_block blocks address size));
 }
 
-pub left_then : (blocks : List Block) (spots : List Spot) (gaps : List Gap) (q : Spot) → AreLeft blocks spots gaps → AreLeft blocks (spots ++ q ∷ []) (flat_map (left_of q) gaps)
-left_then blocks spots gaps q h = record {
+pub remaining_then : (blocks : List Block) (spots : List Spot) (gaps : List Gap) (q : Spot) → AreRemaining blocks spots gaps → AreRemaining blocks (spots ++ q ∷ []) (flat_map (remaining_of q) gaps)
+remaining_then blocks spots gaps q h = record {
   so = λ address size some.
-      free_left q gaps address size some
+      free_remaining q gaps address size some
       ∙ ap (λ b. b && is_clear q address size) (h.so address size some)
       ∙ and_assoc (in_a_block blocks address size) (is_apart spots address size) (is_clear q address size)
       ∙ ap (λ b. in_a_block blocks address size && (is_apart spots address size && b)) (sym (and_true (is_clear q address size)))
       ∙ ap (λ b. in_a_block blocks address size && b) (sym (list_all-append (λ q. is_clear q address size) spots (q ∷ [])));
 }
 
-pub room_is : (blocks : List Block) (spots : List Spot) (gaps : List Gap) (r : Region) → AreLeft blocks spots gaps → 0 < r.size → (address : ℕ) → has_room gaps r address ≡ is_room blocks spots r address
+pub room_is : (blocks : List Block) (spots : List Spot) (gaps : List Gap) (r : Region) → AreRemaining blocks spots gaps → 0 < r.size → (address : ℕ) → has_room gaps r address ≡ is_room blocks spots r address
 unfolding is_room
 room_is blocks spots gaps r h some address =
     ap (λ b. suits r r.fixed address && b) (h.so address r.size some)

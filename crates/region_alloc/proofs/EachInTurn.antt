@@ -6,7 +6,7 @@ use Rattle.std.proofs.lemmas.Bool.{cases_Bool}
 use Rattle.std.proofs.lemmas.List.Elements.{All-append, All-cons, All-filter, All-head, All-nil, All-tail}
 use Rattle.expand_grants.specs.Ordered.{in_order, inserted}
 use Rattle.expand_kernel.specs.declared.region.Region.{Region}
-use Rattle.region_alloc.specs.Placement.{has_place, in_turn}
+use Rattle.region_alloc.specs.Placement.{in_turn, is_fixed}
 
 pub All-inserted : {X : Type 0} (before : X → X → Bool) (P : X → Type 0) (x : X) (ys : List X) → P x → All P ys → All P (inserted before x ys)
 unfolding inserted
@@ -26,10 +26,10 @@ All-in_order before P (x ∷ xs) h =
 pub each_in_turn : (P : ℕ × Region → Type 0) (regions : List Region) → All P (enumerate_from 0 regions) → All P (in_turn regions)
 unfolding in_turn
 each_in_turn P regions h =
-    All-append P (filter (λ x. has_place x.1) (enumerate_from 0 regions)) _
-    (All-filter (λ x. has_place x.1) P (enumerate_from 0 regions) h)
-    (All-in_order (λ x y. nat_le y.1.size x.1.size) P (filter (λ x. not (has_place x.1)) (enumerate_from 0 regions))
-    (All-filter (λ x. not (has_place x.1)) P (enumerate_from 0 regions) h))
+    All-append P (filter (λ x. is_fixed x.1) (enumerate_from 0 regions)) _
+    (All-filter (λ x. is_fixed x.1) P (enumerate_from 0 regions) h)
+    (All-in_order (λ x y. nat_le y.1.size x.1.size) P (filter (λ x. not (is_fixed x.1)) (enumerate_from 0 regions))
+    (All-filter (λ x. not (is_fixed x.1)) P (enumerate_from 0 regions) h))
 
 numbered : (P : Region → Type 0) (k : ℕ) (regions : List Region) → All P regions → All (λ x. P x.1) (enumerate_from k regions)
 numbered P k [] h = All-nil (λ x. P x.1)
@@ -82,9 +82,9 @@ from_both p P (x ∷ xs) h k = elim (cases_Bool (p x)) [
 pub each_from_turns : (P : ℕ × Region → Type 0) (regions : List Region) → All P (in_turn regions) → All P (enumerate_from 0 regions)
 unfolding in_turn
 each_from_turns P regions h =
-    let parts = all_split P (filter (λ x. has_place x.1) (enumerate_from 0 regions)) _ h in
-    from_both (λ x. has_place x.1) P (enumerate_from 0 regions) parts.0
-    (from_in_order (λ x y. nat_le y.1.size x.1.size) P (filter (λ x. not (has_place x.1)) (enumerate_from 0 regions)) parts.1)
+    let parts = all_split P (filter (λ x. is_fixed x.1) (enumerate_from 0 regions)) _ h in
+    from_both (λ x. is_fixed x.1) P (enumerate_from 0 regions) parts.0
+    (from_in_order (λ x y. nat_le y.1.size x.1.size) P (filter (λ x. not (is_fixed x.1)) (enumerate_from 0 regions)) parts.1)
 
 -- ---- by number
 

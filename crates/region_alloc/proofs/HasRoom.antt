@@ -4,6 +4,6 @@ use Rattle.policy_types.specs.declared.source.Source.{Source}
 use Rattle.region_alloc.specs.Placement.{no_room, no_room_for, placement_of}
 
 -- a policy whose regions are placed has room for them
-pub has_room : (p : Source) (places : List ℕ) → placement_of p ≡ Ok places → no_room p ≡ None
+pub has_room : (p : Source) (addresses : List ℕ) → placement_of p ≡ Ok addresses → no_room p ≡ None
 unfolding no_room
-has_room p places is = ap no_room_for is
+has_room p addresses is = ap no_room_for is

@@ -10,7 +10,7 @@ use Rattle.region_alloc.specs.Gaps.{IsLeast, has_room}
 use Rattle.region_alloc.specs.Placement.{in_a_block, is_apart, is_room, lowest, suits}
 use Rattle.region_alloc.specs.declared.gaps.Gap.{Gap}
 use Rattle.region_alloc.specs.declared.spot.Spot.{Spot}
-use Rattle.region_alloc.proofs.Carving.{AreLeft, room_is}
+use Rattle.region_alloc.proofs.Carving.{AreRemaining, room_is}
 use Rattle.region_alloc.proofs.Least.{least_is, least_same}
 
 abbrev pub ends_well : Block → Type 0
@@ -34,9 +34,9 @@ room_end blocks spots r address h k =
     (and_parts (suits r r.fixed address) (in_a_block blocks address r.size)
     (and_parts (suits r r.fixed address && in_a_block blocks address r.size) (is_apart spots address r.size) k).0).1
 
-module _ (blocks : List Block) (spots : List Spot) (gaps : List Gap) (r : Region) (ends : All ends_well blocks) (left : AreLeft blocks spots gaps) (some : 0 < r.size) where
+module _ (blocks : List Block) (spots : List Spot) (gaps : List Gap) (r : Region) (ends : All ends_well blocks) (remaining : AreRemaining blocks spots gaps) (some : 0 < r.size) where
   least_room : (o : Option ℕ) → IsLeast (has_room gaps r) o → IsLeast (is_room blocks spots r) o
-  least_room o h = least_same (has_room gaps r) (is_room blocks spots r) (room_is blocks spots gaps r left some) o h
+  least_room o h = least_same (has_room gaps r) (is_room blocks spots r) (room_is blocks spots gaps r remaining some) o h
 
   pub lowest_is : (o : Option ℕ) → IsLeast (has_room gaps r) o → lowest blocks spots r ≡ o
   unfolding lowest

@@ -6,22 +6,22 @@ use Rattle.std.proofs.lemmas.List.{drop_all}
 use Rattle.expand_kernel.specs.declared.region.Region.{Region}
 use Rattle.muen_num.specs.declared.limits.TheConstants.{PHYSICAL_END}
 use Rattle.policy_types.specs.declared.source.Block.{Block}
-use Rattle.region_alloc.specs.Gaps.{IsLeast, gap_of, has_room, left_of}
+use Rattle.region_alloc.specs.Gaps.{IsLeast, gap_of, has_room, remaining_of}
 use Rattle.region_alloc.specs.Placement.{if_placed, lowest, placed_after, spot}
 use Rattle.region_alloc.specs.declared.gaps.Gap.{Gap}
 use Rattle.region_alloc.specs.declared.spot.Spot.{Spot}
-use Rattle.region_alloc.proofs.Carving.{AreLeft, left_at_first, left_then}
+use Rattle.region_alloc.proofs.Carving.{AreRemaining, remaining_at_first, remaining_then}
 use Rattle.region_alloc.proofs.Lowest.{ends_well, lowest_end, lowest_is}
 
--- the first i regions are at these places, and leave these gaps
+-- the first i regions are at these addresses, and leave these gaps
 pub record Placing (blocks : List Block) (turns : List (ℕ × Region)) (i : ℕ) (gaps : List Gap) (spots : List Spot) : Type 0 where
-  pub left : AreLeft blocks spots gaps
+  pub remaining : AreRemaining blocks spots gaps
   pub rest : placed_after blocks (drop i turns) spots ≡ placed_after blocks turns []
 
 pub placing_first : (blocks : List Block) (turns : List (ℕ × Region)) → Placing blocks turns 0 (map gap_of blocks) []
-placing_first blocks turns = record { left = left_at_first blocks; rest = refl }
+placing_first blocks turns = record { remaining = remaining_at_first blocks; rest = refl }
 
--- what follows from the place of the next
+-- what follows from the address of the next
 next : (blocks : List Block) (turns : List (ℕ × Region)) (i : ℕ) (x : ℕ × Region) (spots : List Spot) (o : Option ℕ) → i < length turns → x ≡ get_or turns i x → lowest blocks spots x.1 ≡ o
     → placed_after blocks (drop i turns) spots ≡ if_placed x.1 o (λ address. placed_after blocks (drop (i + 1) turns) (spots ++ spot x.0 x.1 address ∷ []))
 unfolding placed_after
@@ -32,17 +32,17 @@ next blocks turns i x spots o l is e =
     ∙ ap (λ n. if_placed x.1 o (λ address. placed_after blocks (drop n turns) (spots ++ spot x.0 x.1 address ∷ []))) (sym (add-one i))
 
 module _ (blocks : List Block) (turns : List (ℕ × Region)) (i : ℕ) (gaps : List Gap) (spots : List Spot) (ends : All ends_well blocks) (h : Placing blocks turns i gaps spots) (x : ℕ × Region) (l : i < length turns) (is : x ≡ get_or turns i x) (some : 0 < x.1.size) where
-  pub placing_next : (address : ℕ) → IsLeast (has_room gaps x.1) (Some address) → Placing blocks turns (i + 1) (flat_map (left_of (spot x.0 x.1 address)) gaps) (spots ++ spot x.0 x.1 address ∷ [])
+  pub placing_next : (address : ℕ) → IsLeast (has_room gaps x.1) (Some address) → Placing blocks turns (i + 1) (flat_map (remaining_of (spot x.0 x.1 address)) gaps) (spots ++ spot x.0 x.1 address ∷ [])
   placing_next address k = record {
-    left = left_then blocks spots gaps (spot x.0 x.1 address) h.left;
-    rest = sym (next blocks turns i x spots (Some address) l is (lowest_is blocks spots gaps x.1 ends h.left some (Some address) k)) ∙ h.rest;
+    remaining = remaining_then blocks spots gaps (spot x.0 x.1 address) h.remaining;
+    rest = sym (next blocks turns i x spots (Some address) l is (lowest_is blocks spots gaps x.1 ends h.remaining some (Some address) k)) ∙ h.rest;
   }
 
-  pub place_end : (address : ℕ) → IsLeast (has_room gaps x.1) (Some address) → address + x.1.size ≤ PHYSICAL_END
-  place_end address k = lowest_end blocks spots gaps x.1 ends h.left some address k
+  pub address_end : (address : ℕ) → IsLeast (has_room gaps x.1) (Some address) → address + x.1.size ≤ PHYSICAL_END
+  address_end address k = lowest_end blocks spots gaps x.1 ends h.remaining some address k
 
-  pub no_place : IsLeast (has_room gaps x.1) None → placed_after blocks turns [] ≡ Err x.1
-  no_place k = sym h.rest ∙ next blocks turns i x spots None l is (lowest_is blocks spots gaps x.1 ends h.left some None k)
+  pub no_address : IsLeast (has_room gaps x.1) None → placed_after blocks turns [] ≡ Err x.1
+  no_address k = sym h.rest ∙ next blocks turns i x spots None l is (lowest_is blocks spots gaps x.1 ends h.remaining some None k)
 
 -- each region has bytes and an alignment
 abbrev pub IsSized : Region → Type 0

@@ -1,4 +1,4 @@
--- Where a region may be in gaps: at its own place, or at a multiple of its alignment.
+-- Where a region may be in gaps: at its own address, or at a multiple of its alignment.
 use Rattle.std.proofs.Common.{◌≡◌, ℕ, inl, inr, Bool, true, false, List, [], ◌∷◌, Option, Some, None, refl, sym, ap, ◌∙◌, arith}
 use Rattle.std.specs.Prelude.{◌&&◌, ◌%◌, ◌==◌}
 use Rattle.std.specs.List.{list_any}

@@ -22,8 +22,8 @@ abbrev pub some_gap : ℕ → ℕ → List Gap
 some_gap start end = if nat_lt start end then record { start = start; end = end } ∷ [] else []
 
 -- what a region that is placed leaves of a gap, on its left and on its right
-abbrev pub left_of : Spot → Gap → List Gap
-left_of q g = some_gap g.start (min g.end q.address) ++ some_gap (max g.start (q.address + q.size)) g.end
+abbrev pub remaining_of : Spot → Gap → List Gap
+remaining_of q g = some_gap g.start (min g.end q.address) ++ some_gap (max g.start (q.address + q.size)) g.end
 
 -- ---- the least number
 

@@ -8,19 +8,19 @@ use Rattle.policy_types.specs.declared.source.Block.{Block}
 use Rattle.region_alloc.specs.Placement.{in_a_block, placement_of}
 
 pub record Placement : Type 0 where
-  pub plain : Expansion
+  pub expanded : Expansion
   -- by the regions' numbers
-  pub places : List ℕ
+  pub addresses : List ℕ
 
 abbrev pub IsPlacement : Placement → Type 0
-IsPlacement x = placement_of (source_of x.plain.lawful) ≡ Ok x.places
+IsPlacement x = placement_of (source_of x.expanded.lawful) ≡ Ok x.addresses
 
 -- each region lies inside one block
 abbrev pub AreInside : List Block → List Region → List ℕ → Type 0
-AreInside blocks regions places = AllZip (λ r place. in_a_block blocks place r.size ≡ true) regions places
+AreInside blocks regions addresses = AllZip (λ r address. in_a_block blocks address r.size ≡ true) regions addresses
 
 -- two of these regions share no address
 abbrev pub AreDisjoint : List Region → List ℕ → Type 0
-AreDisjoint regions places =
-    (i j : ℕ) (a b : Region) → i < j → j < length places → slice_get regions i ≡ Some a → slice_get regions j ≡ Some b
-    → (slice_index places i + a.size ≤ slice_index places j) ⊎ (slice_index places j + b.size ≤ slice_index places i)
+AreDisjoint regions addresses =
+    (i j : ℕ) (a b : Region) → i < j → j < length addresses → slice_get regions i ≡ Some a → slice_get regions j ≡ Some b
+    → (slice_index addresses i + a.size ≤ slice_index addresses j) ⊎ (slice_index addresses j + b.size ≤ slice_index addresses i)

@@ -16,18 +16,18 @@ use Rattle.region_alloc.specs.declared.spot.Spot.{Spot}
 
 -- ---- the order
 
-abbrev pub has_place : Region → Bool
-has_place r = option_map_or (λ address. true) r.fixed false
+abbrev pub is_fixed : Region → Bool
+is_fixed r = option_map_or (λ address. true) r.fixed false
 
 -- regions with their numbers, by size downwards; of the same size the earlier stays first
 abbrev pub by_size : List (ℕ × Region) → List (ℕ × Region)
 by_size regions = in_order (λ x y. nat_le y.1.size x.1.size) regions
 
--- those with a place of their own by number, then the others by size downwards and then by number; each with its number
+-- those with an address of their own by number, then the others by size downwards and then by number; each with its number
 unfoldable pub in_turn : List Region → List (ℕ × Region)
 in_turn regions =
-    filter (λ x. has_place x.1) (enumerate_from 0 regions)
-    ++ by_size (filter (λ x. not (has_place x.1)) (enumerate_from 0 regions))
+    filter (λ x. is_fixed x.1) (enumerate_from 0 regions)
+    ++ by_size (filter (λ x. not (is_fixed x.1)) (enumerate_from 0 regions))
 
 -- ---- one region
 
@@ -62,12 +62,12 @@ lowest blocks spots r = least_below (is_room blocks spots r) PHYSICAL_END
 abbrev pub spot : ℕ → Region → ℕ → Spot
 spot number r address = record { number = number; address = address; size = r.size }
 
--- what follows where the region is placed; it has no place else
+-- what follows where the region is placed; it has no address else
 abbrev pub if_placed : Region → Option ℕ → (ℕ → Result (List Spot) Region) → Result (List Spot) Region
 if_placed r None next = Err r
 if_placed r (Some address) next = next address
 
--- these regions, one after another beside what is placed: all that is placed then, or the first that has no place
+-- these regions, one after another beside what is placed: all that is placed then, or the first that has no address
 unfoldable pub placed_after : List Block → List (ℕ × Region) → List Spot → Result (List Spot) Region
 placed_after blocks [] spots = Ok spots
 placed_after blocks (x ∷ rest) spots =
@@ -92,7 +92,7 @@ placement_of p = placement_in p.memory_blocks (regions_of p)
 -- ---- the refusal
 
 abbrev pub no_room_for : {X : Type 0} → Result X Region → Option Refusal
-no_room_for (Ok places) = None
+no_room_for (Ok addresses) = None
 no_room_for (Err r) = Some (NoRoom r.tag r.size)
 
 -- the region for which there is no room, if there is one

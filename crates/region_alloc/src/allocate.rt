@@ -8,7 +8,7 @@ ghost use Rattle.muen_num.specs.declared.limits.TheConstants.{PHYSICAL_END};
 ghost use Rattle.policy_lawful.specs.Resolution.{source_of};
 ghost use Rattle.region_alloc.specs.Placement.{address_in, no_room, no_room_for, placed_after, placement_in, placement_of};
 
-use crate::gaps::{gaps_of, left_of, lowest};
+use crate::gaps::{gaps_of, lowest, remaining_of};
 use crate::placed::Placed;
 use crate::spot::Spot;
 use crate::turns::in_turn;
@@ -45,7 +45,7 @@ fn place_each(
                     address,
                     size: region.size,
                 };
-                gaps = left_of(alloc, &gaps, spot)?;
+                gaps = remaining_of(alloc, &gaps, spot)?;
                 spots.push(spot)?;
             }
         }
@@ -72,21 +72,21 @@ fn address_in(spots: &[Spot], number: usize) -> u64
 
 // The addresses of so many regions, by number.
 fn by_number(alloc: Global, spots: &[Spot], many: usize) -> Result<Seq<u64>, NoMemory>
-    ensures { IfOk result (λ places. places ≡ map (address_in spots.now) (numbers_below many)) }
+    ensures { IfOk result (λ addresses. addresses ≡ map (address_in spots.now) (numbers_below many)) }
 {
-    let mut places = Seq::new(alloc);
+    let mut addresses = Seq::new(alloc);
     for number in 0..many {
-        places.push(address_in(spots, number))?;
+        addresses.push(address_in(spots, number))?;
     }
-    Ok(places)
+    Ok(addresses)
 }
 
 // The addresses of these regions, by number.
 #[tactic(auto, unfolding(crate::specs::Placement::placement_in))]
-fn places_in(alloc: Global, blocks: &[Block], regions: &[Region]) -> Result<Seq<u64>, Refusal>
+fn addresses_in(alloc: Global, blocks: &[Block], regions: &[Region]) -> Result<Seq<u64>, Refusal>
     requires blocks { All (λ b. b.physical_address + b.size ≤ PHYSICAL_END) blocks.now }
     requires regions { All (λ r. (0 < r.size) × (0 < r.alignment)) regions.now }
-    ensures ok { IfOk result (λ places. placement_in blocks.now regions.now ≡ Ok places) }
+    ensures ok { IfOk result (λ addresses. placement_in blocks.now regions.now ≡ Ok addresses) }
     ensures err { IfErr result (Explains Refusal.NoMemory (no_room_for (placement_in blocks.now regions.now))) }
 {
     let turns = in_turn(alloc, regions)?;
@@ -97,25 +97,25 @@ fn places_in(alloc: Global, blocks: &[Block], regions: &[Region]) -> Result<Seq<
 }
 
 // The addresses of a policy's regions, by number.
-fn places_of(alloc: Global, plain: &Expanded) -> Result<Seq<u64>, Refusal>
-    ensures ok { IfOk result (λ places. placement_of (source_of plain.now.lawful) ≡ Ok places) }
-    ensures err { IfErr result (Explains Refusal.NoMemory (no_room (source_of plain.now.lawful))) }
+fn addresses_of(alloc: Global, expanded: &Expanded) -> Result<Seq<u64>, Refusal>
+    ensures ok { IfOk result (λ addresses. placement_of (source_of expanded.now.lawful) ≡ Ok addresses) }
+    ensures err { IfErr result (Explains Refusal.NoMemory (no_room (source_of expanded.now.lawful))) }
 {
-    let policy = plain.lawful().resolved();
-    places_in(alloc, policy.memory_blocks(), plain.regions())
+    let policy = expanded.lawful().resolved();
+    addresses_in(alloc, policy.memory_blocks(), expanded.regions())
 }
 
-/// Places the regions of a policy: those that have a place of their own, then the others by size
+/// Places the regions of a policy: those that have an address of their own, then the others by size
 /// downwards and then by number, each at the lowest address of its alignment where it lies inside
 /// one memory block and shares no address with a region that was placed before.
 ///
 /// Answers `NoRoom` with the first region for which there is no such address, and `NoMemory` where
 /// memory was refused.
-pub fn place(alloc: Global, plain: Expanded) -> Result<Placed, Refusal>
-    ensures ok { IfOk result (λ p. p.plain ≡ plain) }
-    ensures room { IfOk result (λ _. no_room (source_of plain.lawful) ≡ None) }
-    ensures err { IfErr result (Explains Refusal.NoMemory (no_room (source_of plain.lawful))) }
+pub fn place(alloc: Global, expanded: Expanded) -> Result<Placed, Refusal>
+    ensures ok { IfOk result (λ p. p.expanded ≡ expanded) }
+    ensures room { IfOk result (λ _. no_room (source_of expanded.lawful) ≡ None) }
+    ensures err { IfErr result (Explains Refusal.NoMemory (no_room (source_of expanded.lawful))) }
 {
-    let places = places_of(alloc, &plain)?;
-    Ok(Placed::of(plain, places))
+    let addresses = addresses_of(alloc, &expanded)?;
+    Ok(Placed::of(expanded, addresses))
 }

@@ -1,7 +1,7 @@
 //! The memory that no region has.
 ghost use Rattle.std.specs.Prelude.{◌≡◌, ◌+◌, ◌<◌, ◌^◌, ◌++◌, map, IfOk, OnOk, All};
 ghost use Rattle.std.specs.List.{flat_map, list_any};
-ghost use Rattle.region_alloc.specs.Gaps.{IsLeast, fits, gap_of, has_room, holds, left_of, lower, some_gap};
+ghost use Rattle.region_alloc.specs.Gaps.{IsLeast, fits, gap_of, has_room, holds, lower, remaining_of, some_gap};
 
 use crate::spot::Spot;
 use expand_kernel::Region;
@@ -123,14 +123,18 @@ fn push_gap(gaps: &mut Vec<Gap>, start: u64, end: u64) -> Result<(), AllocError>
 }
 
 /// What a region that is placed leaves of the gaps.
-pub(crate) fn left_of(alloc: Global, gaps: &[Gap], spot: Spot) -> Result<Vec<Gap>, AllocError>
+pub(crate) fn remaining_of(alloc: Global, gaps: &[Gap], spot: Spot) -> Result<Vec<Gap>, AllocError>
     requires { spot.address + spot.size < 2 ^ 64 }
-    ensures { IfOk result (λ v. v.items ≡ flat_map (left_of spot) gaps.now) }
+    ensures { IfOk result (λ v. v.items ≡ flat_map (remaining_of spot) gaps.now) }
 {
-    let mut left = Vec::new(alloc);
+    let mut remaining = Vec::new(alloc);
     for gap in gaps {
-        push_gap(&mut left, gap.start, gap.end.min(spot.address))?;
-        push_gap(&mut left, gap.start.max(spot.address + spot.size), gap.end)?;
+        push_gap(&mut remaining, gap.start, gap.end.min(spot.address))?;
+        push_gap(
+            &mut remaining,
+            gap.start.max(spot.address + spot.size),
+            gap.end,
+        )?;
     }
-    Ok(left)
+    Ok(remaining)
 }

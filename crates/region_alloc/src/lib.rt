@@ -1,4 +1,4 @@
-//! The places of a policy's regions in its memory blocks.
+//! The addresses of a policy's regions in its memory blocks.
 #![tactic(auto)]
 
 mod allocate;

@@ -8,11 +8,11 @@ use expand_kernel::Expanded;
 use muen_num::Seq;
 use std::marker::Model;
 
-/// A lawful policy with all that follows from it, and the place of each region.
+/// A lawful policy with all that follows from it, and the address of each region.
 #[derive(Drop)]
 pub struct Placed {
-    plain: Expanded,
-    places: Seq<u64>,
+    expanded: Expanded,
+    addresses: Seq<u64>,
 }
 
 impl Model for Placed {
@@ -20,36 +20,39 @@ impl Model for Placed {
 
     ghost Value = { Placement };
 
-    ghost view = { λ p. record { plain = p.plain; places = p.places } };
+    ghost view = { λ p. record { expanded = p.expanded; addresses = p.addresses } };
 
-    ghost invariant = { λ p. IsPlacement (record { plain = p.plain; places = p.places }) };
+    ghost invariant = { λ p. IsPlacement (record { expanded = p.expanded; addresses = p.addresses }) };
 }
 
 impl Placed {
-    // The policy with all that follows from it but places, and the address of each region.
-    pub(crate) fn of(plain: Expanded, places: Seq<u64>) -> Placed
-        requires { placement_of (source_of plain.lawful) ≡ Ok places }
-        ensures { result.plain ≡ plain }
+    // The policy with all that follows from it but addresses, and the address of each region.
+    pub(crate) fn of(expanded: Expanded, addresses: Seq<u64>) -> Placed
+        requires { placement_of (source_of expanded.lawful) ≡ Ok addresses }
+        ensures { result.expanded ≡ expanded }
     {
-        Placed { plain, places }
+        Placed {
+            expanded,
+            addresses,
+        }
     }
 
-    /// The policy with all that follows from it but places.
-    pub fn plain(&self) -> &Expanded
-        ensures { result.now ≡ self.now.plain }
+    /// The policy with all that follows from it but addresses.
+    pub fn expanded(&self) -> &Expanded
+        ensures { result.now ≡ self.now.expanded }
     {
-        &self.plain
+        &self.expanded
     }
 
     /// The address of each region, by number. Each region lies inside one memory block, and no two
     /// share an address.
-    pub fn places(&self) -> &[u64]
-        ensures value { result.now ≡ self.now.places }
-        ensures placement { placement_of (source_of self.now.plain.lawful) ≡ Ok result.now }
-        ensures inside { AreInside self.now.plain.lawful.memory_blocks self.now.plain.regions result.now }
-        ensures disjoint { AreDisjoint self.now.plain.regions result.now }
+    pub fn addresses(&self) -> &[u64]
+        ensures value { result.now ≡ self.now.addresses }
+        ensures placement { placement_of (source_of self.now.expanded.lawful) ≡ Ok result.now }
+        ensures inside { AreInside self.now.expanded.lawful.memory_blocks self.now.expanded.regions result.now }
+        ensures disjoint { AreDisjoint self.now.expanded.regions result.now }
     {
-        let _regions = self.plain.regions();
-        self.places.items()
+        let _regions = self.expanded.regions();
+        self.addresses.items()
     }
 }

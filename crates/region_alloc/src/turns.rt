@@ -1,15 +1,15 @@
 //! The order in which regions are placed.
 ghost use Rattle.std.specs.Prelude.{◌≡◌, filter, IfOk, OnOk, not};
 ghost use Rattle.std.specs.List.{enumerate_from};
-ghost use Rattle.region_alloc.specs.Placement.{by_size, has_place, in_turn};
+ghost use Rattle.region_alloc.specs.Placement.{by_size, in_turn, is_fixed};
 
 use expand_kernel::Region;
 use std::alloc::{AllocError, Global};
 use std::cmp::Reverse;
 
-// The regions that have a place of their own, each with its number.
+// The regions that have an address of their own, each with its number.
 fn fixed(alloc: Global, regions: &[Region]) -> Result<Vec<(usize, Region)>, AllocError>
-    ensures { IfOk result (λ v. v.items ≡ filter (λ x. has_place x.1) (enumerate_from 0 regions.now)) }
+    ensures { IfOk result (λ v. v.items ≡ filter (λ x. is_fixed x.1) (enumerate_from 0 regions.now)) }
 {
     regions
         .iter()
@@ -21,7 +21,7 @@ fn fixed(alloc: Global, regions: &[Region]) -> Result<Vec<(usize, Region)>, Allo
 
 // Those that have none, each with its number.
 fn others(alloc: Global, regions: &[Region]) -> Result<Vec<(usize, Region)>, AllocError>
-    ensures { IfOk result (λ v. v.items ≡ filter (λ x. not (has_place x.1)) (enumerate_from 0 regions.now)) }
+    ensures { IfOk result (λ v. v.items ≡ filter (λ x. not (is_fixed x.1)) (enumerate_from 0 regions.now)) }
 {
     regions
         .iter()
@@ -39,8 +39,8 @@ fn sort(regions: &mut Vec<(usize, Region)>) -> Result<(), AllocError>
     Ok(())
 }
 
-/// The regions in the order in which they are placed, each with its number: those that have a place
-/// of their own by number, then the others by size downwards and then by number.
+/// The regions in the order in which they are placed, each with its number: those that have an
+/// address of their own by number, then the others by size downwards and then by number.
 #[tactic(auto, unfolding(crate::specs::Placement::in_turn))]
 pub(crate) fn in_turn(alloc: Global, regions: &[Region]) -> Result<Vec<(usize, Region)>, AllocError>
     ensures { IfOk result (λ v. v.items ≡ in_turn regions.now) }

@@ -1,4 +1,4 @@
--- Places on the bus are the same just where their numbers are.
+-- Bus, device and function numbers are the same just where the numbers made of them are.
 use Rattle.std.proofs.Common.{◌≡◌, ℕ, ◌+◌, ◌*◌, true, false, cond, List, [], ◌∷◌, ◌++◌, Option, Some, None, refl, sym, ap, ◌∙◌, arith}
 use Rattle.std.specs.Prelude.{option_and_then, ◌==◌, ◌&&◌, ◌||◌, not, nat_le, nat_lt}
 use Rattle.std.specs.List.{cons_option, filter_map, list_all}
@@ -38,10 +38,10 @@ pub bus_sized : (ds : List Device) → list_all (λ e. nat_lt 0 e.size) (filter_
 bus_sized [] = refl
 bus_sized (d ∷ ds) = size_one d d.bdf (extents ds) (bus_sized ds)
 
--- ---- two places
+-- ---- two bus, device and function numbers
 
-abbrev place_number : Bdf → ℕ
-place_number b = b.bus * 256 + b.device * 8 + b.function
+abbrev bdf_number : Bdf → ℕ
+bdf_number b = b.bus * 256 + b.device * 8 + b.function
 
 -- numbers that are the same
 same_number : (a b c x y z : ℕ) → nat_lt b 32 && nat_lt c 8 ≡ true → nat_lt y 32 && nat_lt z 8 ≡ true
@@ -55,19 +55,19 @@ same_number a b c x y z h k =
     let z' = ltb-true z 8 q.1 in
     grind (arith, nat_tests)
 
--- a place as a range under a name
-abbrev place_extent : List ℕ → Bdf → Extent
-place_extent name b = record { name = name; address = b.bus * 256 + b.device * 8 + b.function; size = 1 }
+-- a bus, device and function number as a range under a name
+abbrev bdf_extent : List ℕ → Bdf → Extent
+bdf_extent name b = record { name = name; address = b.bus * 256 + b.device * 8 + b.function; size = 1 }
 
-is_there : (name : List ℕ) (b : Bdf) → is_bdf (Some b) ≡ true → bus_extent name (Some b) ≡ Some (place_extent name b)
-is_there name b ok = ap (λ t. cond t (Some (place_extent name b)) None) ok
+is_there : (name : List ℕ) (b : Bdf) → is_bdf (Some b) ≡ true → bus_extent name (Some b) ≡ Some (bdf_extent name b)
+is_there name b ok = ap (λ t. cond t (Some (bdf_extent name b)) None) ok
 
--- the earlier device against one that has a place
+-- the earlier device against one that has a bus, device and function number
 earlier : (name later : List ℕ) (o : Option Bdf) (x : Bdf) → is_bdf o ≡ true → is_bdf (Some x) ≡ true
-    → option_and_then (λ b. overlapping b (place_extent later x)) (bus_extent name o) ≡ unless (not (same_bdf o (Some x))) (two name later)
+    → option_and_then (λ b. overlapping b (bdf_extent later x)) (bus_extent name o) ≡ unless (not (same_bdf o (Some x))) (two name later)
 earlier name later None x here ok = refl
 earlier name later (Some b) x here ok =
-    ap (option_and_then (λ b. overlapping b (place_extent later x))) (is_there name b here)
+    ap (option_and_then (λ b. overlapping b (bdf_extent later x))) (is_there name b here)
     ∙ ap (λ t. unless t (two name later)) (same_number b.bus b.device b.function x.bus x.device x.function here ok)
 
 first_cons : (at : Extent → Option Offence) (o : Option Extent) (es : List Extent) → first_in at (cons_option o es) ≡ option_or (option_and_then at o) (first_in at es)
@@ -78,12 +78,12 @@ abbrev clash : Device → Device → Option Offence
 clash a b = unless (not (same_bdf a.bdf b.bdf)) (two a.name b.name)
 
 first_before : (later : List ℕ) (x : Bdf) → is_bdf (Some x) ≡ true → (before : List Device) → list_all (λ d. is_bdf d.bdf) before ≡ true
-    → first_in (λ b. overlapping b (place_extent later x)) (extents before) ≡ first_in (λ a. unless (not (same_bdf a.bdf (Some x))) (two a.name later)) before
+    → first_in (λ b. overlapping b (bdf_extent later x)) (extents before) ≡ first_in (λ a. unless (not (same_bdf a.bdf (Some x))) (two a.name later)) before
 first_before later x ok [] all = refl
 first_before later x ok (d ∷ ds) all =
     let parts = and_parts (is_bdf d.bdf) (list_all (λ d. is_bdf d.bdf) ds) all in
-    first_cons (λ b. overlapping b (place_extent later x)) (extent_of d) (extents ds)
-    ∙ ap (λ o. option_or o (first_in (λ b. overlapping b (place_extent later x)) (extents ds))) (earlier d.name later d.bdf x parts.0 ok)
+    first_cons (λ b. overlapping b (bdf_extent later x)) (extent_of d) (extents ds)
+    ∙ ap (λ o. option_or o (first_in (λ b. overlapping b (bdf_extent later x)) (extents ds))) (earlier d.name later d.bdf x parts.0 ok)
     ∙ ap (option_or (unless (not (same_bdf d.bdf (Some x))) (two d.name later))) (first_before later x ok ds parts.1)
 
 same_none : (o : Option Bdf) → same_bdf o None ≡ false
@@ -123,7 +123,7 @@ same_after before (d ∷ ds) sound all =
           ∙ sym (ap (λ o. option_or o (clash_after (before ++ d ∷ []) ds)) none)
       | Some b ↦ λ s.
           let ok : is_bdf (Some b) ≡ true = ap is_bdf (sym s) ∙ parts.0 in
-          let x = place_extent d.name b in
+          let x = bdf_extent d.name b in
           let is : extent_of d ≡ Some x = ap (bus_extent d.name) s ∙ is_there d.name b ok in
           let here : first_in (λ b. overlapping b x) (extents before) ≡ first_in (λ b. clash b d) before =
           first_before d.name b ok before sound ∙ sym (ap (λ o. first_in (λ a. unless {O = Offence} (not (same_bdf a.bdf o)) (two a.name d.name)) before) s) in
@@ -133,7 +133,7 @@ same_after before (d ∷ ds) sound all =
           ∙ ap (option_or (first_in (λ b. clash b d) before)) later
     ] refl
 
--- the first two that share a number are the first two at the same place
+-- the first two that share a number are the first two with the same bus, device and function number
 pub bus_by_extent : (ds : List Device) → first_in (λ d. unless {O = Offence} (is_bdf d.bdf) (alone d.name)) ds ≡ None
     → first_overlap (filter_map (λ d. bus_extent d.name d.bdf) ds) ≡ first_pair (λ a b. unless (not (same_bdf a.bdf b.bdf)) (two a.name b.name)) ds
 unfolding first_overlap

@@ -10,7 +10,7 @@ use Rattle.std.proofs.lemmas.Option.{slice_get_within, get_or_from_slice_get}
 use Rattle.policy_lawful.specs.declared.resolved.DeviceUse.{DeviceUse}
 use Rattle.policy_lawful.specs.declared.resolved.Subject.{Subject}
 use Rattle.policy_types.specs.declared.source.Device.{Device}
-use Rattle.rules_devices.specs.Grants.{Adds, AreTimes, TableAdds, counts_at, part_names, places_granted, times_among, times_by_place, times_by_subject, times_by_use}
+use Rattle.rules_devices.specs.Grants.{Adds, AreTimes, TableAdds, counts_at, indexes_granted, part_names, times_among, times_by_index, times_by_subject, times_by_use}
 use Rattle.rules_devices.specs.declared.resource.Resource.{Resource}
 
 -- ---- one after another
@@ -53,7 +53,7 @@ subjects_none resource table = record { rooms = λ k. refl; at = λ k j l. ap (m
 -- ---- the counts of one device
 
 changed : (resource : Resource) (old : List (List ℕ)) (y : List ℕ) (u : DeviceUse) → u.device < length old → length y ≡ length (counts_at old u.device)
-    → Adds (counts_at old u.device) y (times_among (places_granted resource u)) → (k : ℕ)
+    → Adds (counts_at old u.device) y (times_among (indexes_granted resource u)) → (k : ℕ)
     → (length (counts_at (set old u.device y) k) ≡ length (counts_at old k)) × Adds (counts_at old k) (counts_at (set old u.device y) k) (λ j. times_by_use resource k j u)
 changed resource old y u within room adds k =
     elim (cases_eq k u.device) as (λ _. (length (counts_at (set old u.device y) k) ≡ length (counts_at old k)) × Adds (counts_at old k) (counts_at (set old u.device y) k) (λ j. times_by_use resource k j u)) [
@@ -66,8 +66,8 @@ changed resource old y u within room adds k =
                 let l' : j < length (counts_at old u.device) = rw (was) at l in
                 ap (λ c. min 2 (slice_index c j)) at
                 ∙ adds j l'
-                ∙ ap (λ c. min 2 (slice_index c j + times_among (places_granted resource u) j)) (sym was)
-                ∙ ap (λ b. min 2 (slice_index (counts_at old k) j + cond b (times_among (places_granted resource u) j) 0)) (sym same),
+                ∙ ap (λ c. min 2 (slice_index c j + times_among (indexes_granted resource u) j)) (sym was)
+                ∙ ap (λ b. min 2 (slice_index (counts_at old k) j + cond b (times_among (indexes_granted resource u) j) 0)) (sym same),
           )
       | inr n ↦
           let at : counts_at (set old u.device y) k ≡ counts_at old k = get_or-set_other old u.device k y [] n in
@@ -76,12 +76,12 @@ changed resource old y u within room adds k =
             λ j l.
                 ap (λ c. min 2 (slice_index c j)) at
                 ∙ ap (min 2) (omega arith)
-                ∙ ap (λ b. min 2 (slice_index (counts_at old k) j + cond b (times_among (places_granted resource u) j) 0)) (sym other),
+                ∙ ap (λ b. min 2 (slice_index (counts_at old k) j + cond b (times_among (indexes_granted resource u) j) 0)) (sym other),
           )
     ]
 
 pub adds_at : (resource : Resource) (old : List (List ℕ)) (y : List ℕ) (u : DeviceUse) → u.device < length old → length y ≡ length (counts_at old u.device)
-    → Adds (counts_at old u.device) y (times_among (places_granted resource u)) → TableAdds old (set old u.device y) (λ k j. times_by_use resource k j u)
+    → Adds (counts_at old u.device) y (times_among (indexes_granted resource u)) → TableAdds old (set old u.device y) (λ k j. times_by_use resource k j u)
 adds_at resource old y u within room adds = record {
   rooms = λ k. (changed resource old y u within room adds k).0;
   at = λ k. (changed resource old y u within room adds k).1;
@@ -102,4 +102,4 @@ are_times resource ds ss old new is adds k d there j l =
     let room : length (zeros resource d) ≡ length (part_names resource d) = length-replicate (length (part_names resource d)) 0 in
     let zero : slice_index (counts_at old k) j ≡ 0 = ap (λ c. slice_index c j) at ∙ get_or-replicate (length (part_names resource d)) j 0 0 l in
     let many : length (counts_at old k) ≡ length (part_names resource d) = ap length at ∙ room in
-    adds.at k j (omega arith) ∙ ap (λ n. min 2 (n + times_by_place resource ss k j)) zero ∙ ap (min 2) (omega arith)
+    adds.at k j (omega arith) ∙ ap (λ n. min 2 (n + times_by_index resource ss k j)) zero ∙ ap (min 2) (omega arith)

@@ -1,7 +1,7 @@
 pub mod BusByExtent
-pub mod DomainsByPlace
+pub mod DomainsByIndex
 pub mod GrantTables
-pub mod GrantsByPlace
+pub mod GrantsByIndex
 pub mod MsrsByExtent
 pub mod Names
 pub mod PortsByExtent

@@ -113,7 +113,7 @@ some_overlap name xs o sound e =
     ]) refl
 
 -- the subjects of the source policy have the same ranges
-pub msrs_by_place : (r : Resolution) → first_in msrs_offence r.subjects ≡ offence_11 (source_of r)
+pub msrs_by_index : (r : Resolution) → first_in msrs_offence r.subjects ≡ offence_11 (source_of r)
 unfolding offence_11 source_of
-msrs_by_place r =
+msrs_by_index r =
     sym (first_over-map (subject_named r) (λ s. unless (list_all is_msr_range s.msrs && msrs_apart s.msrs) (alone s.name)) r.subjects)

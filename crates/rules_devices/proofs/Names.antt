@@ -1,4 +1,4 @@
--- Names in a list, and what stands under them. An index compares the name that is sought with those of the list, the
+-- Names in a list, and what stands under them. A set of names compares the name that is sought with those of the list, the
 -- rules compare these with it.
 use Rattle.std.proofs.Common.{◌≡◌, ℕ, ◌+◌, ◌<◌, Bool, true, false, cond, List, [], ◌∷◌, ◌++◌, length, map, get_or, take, Option, Some, None, refl, sym, ap, ◌∙◌}
 use Rattle.std.specs.Prelude.{if◌then◌else◌, not, ◌||◌, nat_lt, position, slice_get}
@@ -32,19 +32,19 @@ pub position_is : (names : List (List ℕ)) (name : List ℕ) → position (byte
 position_is names name =
     ap (λ k. cond (nat_lt k (length names)) (Some k) None) (position_same (bytes_eq name) (λ n. bytes_eq n name) (λ n. nat_list_eq_equiv.symm name n) names)
 
--- the element of a name that stands at a place
-place_at : {X : Type 0} (f : X → List ℕ) (xs : List X) (name : List ℕ) → find (λ x. bytes_eq (f x) name) xs ≡ slice_get xs (position_or_len (λ n. bytes_eq n name) (map f xs))
-place_at f xs name =
+-- the element of a name that stands at an index
+stands_at : {X : Type 0} (f : X → List ℕ) (xs : List X) (name : List ℕ) → find (λ x. bytes_eq (f x) name) xs ≡ slice_get xs (position_or_len (λ n. bytes_eq n name) (map f xs))
+stands_at f xs name =
     find_at (λ x. bytes_eq (f x) name) xs ∙ ap (slice_get xs) (sym (position-map (λ n. bytes_eq n name) f xs))
 
-pub found_by_place : {X : Type 0} (f : X → List ℕ) (xs : List X) (name : List ℕ) (k : ℕ) → position (λ n. bytes_eq n name) (map f xs) ≡ Some k → slice_get xs k ≡ find (λ x. bytes_eq (f x) name) xs
-found_by_place f xs name k e =
-    ap (slice_get xs) (sym (position_found (λ n. bytes_eq n name) (map f xs) k e)) ∙ sym (place_at f xs name)
+pub found_by_index : {X : Type 0} (f : X → List ℕ) (xs : List X) (name : List ℕ) (k : ℕ) → position (λ n. bytes_eq n name) (map f xs) ≡ Some k → slice_get xs k ≡ find (λ x. bytes_eq (f x) name) xs
+found_by_index f xs name k e =
+    ap (slice_get xs) (sym (position_found (λ n. bytes_eq n name) (map f xs) k e)) ∙ sym (stands_at f xs name)
 
 pub not_found : {X : Type 0} (f : X → List ℕ) (xs : List X) (name : List ℕ) → position (λ n. bytes_eq n name) (map f xs) ≡ None → None ≡ find (λ x. bytes_eq (f x) name) xs
 not_found f xs name e =
     sym (
-    place_at f xs name
+    stands_at f xs name
     ∙ ap (slice_get xs) (position_none (λ n. bytes_eq n name) (map f xs) e ∙ length-map xs f)
     ∙ none_there xs
     )
@@ -54,13 +54,13 @@ not_found f xs name e =
     none_there (x ∷ xs) = none_there xs
 
 pub device_found : (ds : List Device) (name : List ℕ) (k : ℕ) → position (λ n. bytes_eq n name) (map (λ d. d.name) ds) ≡ Some k → slice_get ds k ≡ find (λ d. bytes_eq d.name name) ds
-device_found ds name k e = found_by_place (λ (d : Device). d.name) ds name k e
+device_found ds name k e = found_by_index (λ (d : Device). d.name) ds name k e
 
 pub device_missing : (ds : List Device) (name : List ℕ) → position (λ n. bytes_eq n name) (map (λ d. d.name) ds) ≡ None → None ≡ find (λ d. bytes_eq d.name name) ds
 device_missing ds name e = not_found (λ (d : Device). d.name) ds name e
 
 pub region_found : (rs : List Region) (name : List ℕ) (k : ℕ) → position (λ n. bytes_eq n name) (map (λ r. r.name) rs) ≡ Some k → slice_get rs k ≡ find (λ r. bytes_eq r.name name) rs
-region_found rs name k e = found_by_place (λ (r : Region). r.name) rs name k e
+region_found rs name k e = found_by_index (λ (r : Region). r.name) rs name k e
 
 pub region_missing : (rs : List Region) (name : List ℕ) → position (λ n. bytes_eq n name) (map (λ r. r.name) rs) ≡ None → None ≡ find (λ r. bytes_eq r.name name) rs
 region_missing rs name e = not_found (λ (r : Region). r.name) rs name e

@@ -78,6 +78,6 @@ pub regions_laid : (r : Resolution) → offence_4 (source_of r) ≡ None → lis
 unfolding source_of
 regions_laid r h = (addresses_kept (source_of r) h).regions
 
-pub windows_by_place : (r : Resolution) → windows_offence r.memory r.device_domains ≡ offence_22 (source_of r)
+pub windows_by_index : (r : Resolution) → windows_offence r.memory r.device_domains ≡ offence_22 (source_of r)
 unfolding offence_22 source_of
-windows_by_place r = simp (option_or-None)
+windows_by_index r = simp (option_or-None)

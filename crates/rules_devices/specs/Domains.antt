@@ -1,4 +1,4 @@
--- Rule 21: the domains of devices, the devices that they list, and places on the bus.
+-- Rule 21: the domains of devices, the devices that they list, and bus, device and function numbers.
 use Rattle.std.specs.Prelude.{ℕ, ◌+◌, ◌*◌, not, Bool, false, List, [], map, codes, length, Option, Some, None, is_some, option_map, if◌then◌else◌}
 use Rattle.std.specs.Option.{option_or, option_map_or}
 use Rattle.std.specs.List.{find, list_any, flat_map}
@@ -29,11 +29,11 @@ domain_regions d = map (λ m. record { domain = d.name; name = m.region }) d.mem
 abbrev pub first_repeat : List Listed → Option Listed
 first_repeat listed = first_after (λ before x. unless (not (list_any (λ b. bytes_eq b.name x.name) before)) x) [] listed
 
--- the device of this name has a place on the bus
-abbrev pub has_place : List Device → List ℕ → Bool
-has_place devices name = option_map_or (λ d. is_some d.bdf) (find (λ d. bytes_eq d.name name) devices) false
+-- the device of this name has a bus, device and function number
+abbrev pub has_bdf : List Device → List ℕ → Bool
+has_bdf devices name = option_map_or (λ d. is_some d.bdf) (find (λ d. bytes_eq d.name name) devices) false
 
--- a place on the bus as one number, the identifier of what comes from there, under the device's name
+-- a bus, device and function number as one number, the identifier of what comes from there, under the device's name
 abbrev pub bus_extent : List ℕ → Option Bdf → Option Extent
 bus_extent name None = None
 bus_extent name (Some b) =
@@ -49,9 +49,9 @@ abbrev pub listed_offence : List Device → List Listed → Option Offence
 listed_offence devices listed =
     option_or (option_or (first_in (λ x. unless (is_declared (map (λ d. d.name) devices) x.name) (two x.domain x.name)) listed)
     (option_map (λ x. two x.domain x.name) (first_repeat listed)))
-    (first_in (λ x. unless (has_place devices x.name) (two x.domain x.name)) listed)
+    (first_in (λ x. unless (has_bdf devices x.name) (two x.domain x.name)) listed)
 
--- places on the bus
+-- bus, device and function numbers
 abbrev pub bus_offence : List Device → Option Offence
 bus_offence devices =
     option_or (first_in (λ d. unless (is_bdf d.bdf) (alone d.name)) devices)

@@ -1,4 +1,4 @@
--- Rule 9 of a resolved policy: how often the parts of devices are granted, with devices and parts by their places.
+-- Rule 9 of a resolved policy: how often the parts of devices are granted, with devices and parts by their indexes.
 use Rattle.std.specs.Prelude.{◌≡◌, ℕ, ◌+◌, ◌<◌, min, ◌==◌, List, [], length, map, nat_le, slice_get, slice_index, slice_index_or, Option, Some, if◌then◌else◌}
 use Rattle.std.specs.Option.{option_or}
 use Rattle.std.specs.List.{All, count_by, enumerate_from, sum_by}
@@ -17,25 +17,25 @@ part_names Memory d = map (λ m. m.name) d.memory
 part_names IoPorts d = map (λ x. x.name) d.io_ports
 part_names Irqs d = map (λ i. i.name) d.irqs
 
--- the places of those that a use grants
-abbrev pub places_granted : Resource → DeviceUse → List ℕ
-places_granted Memory u = map (λ m. m.memory) u.memory
-places_granted IoPorts u = u.io_ports
-places_granted Irqs u = map (λ i. i.irq) u.irqs
+-- the indexes of those that a use grants
+abbrev pub indexes_granted : Resource → DeviceUse → List ℕ
+indexes_granted Memory u = map (λ m. m.memory) u.memory
+indexes_granted IoPorts u = u.io_ports
+indexes_granted Irqs u = map (λ i. i.irq) u.irqs
 
--- how often a place stands among these
+-- how often an index stands among these
 abbrev pub times_among : List ℕ → ℕ → ℕ
-times_among places place = count_by (λ i. i == place) places
+times_among indexes index = count_by (λ i. i == index) indexes
 
 -- how often a use, a subject, or all subjects are granted the part j of the device k
 abbrev pub times_by_use : Resource → ℕ → ℕ → DeviceUse → ℕ
-times_by_use resource k j u = if u.device == k then times_among (places_granted resource u) j else 0
+times_by_use resource k j u = if u.device == k then times_among (indexes_granted resource u) j else 0
 
 abbrev pub times_by_subject : Resource → ℕ → ℕ → Subject → ℕ
 times_by_subject resource k j s = sum_by (times_by_use resource k j) s.devices
 
-abbrev pub times_by_place : Resource → List Subject → ℕ → ℕ → ℕ
-times_by_place resource subjects k j = sum_by (times_by_subject resource k j) subjects
+abbrev pub times_by_index : Resource → List Subject → ℕ → ℕ → ℕ
+times_by_index resource subjects k j = sum_by (times_by_subject resource k j) subjects
 
 -- each use of the subject is of one of so many devices
 abbrev pub IsOnDevices : ℕ → Subject → Type 0
@@ -43,11 +43,11 @@ IsOnDevices devices s = All (λ u. u.device < devices) s.devices
 
 -- ---- counts: those of 2 and more are alike
 
--- new counts are the old ones and so much more at each place
+-- new counts are the old ones and so much more at each index
 abbrev pub Adds : List ℕ → List ℕ → (ℕ → ℕ) → Type 0
 Adds old new more = (k : ℕ) → k < length old → min 2 (slice_index new k) ≡ min 2 (slice_index old k + more k)
 
--- the counts at a place
+-- the counts at an index
 abbrev pub counts_at : List (List ℕ) → ℕ → List ℕ
 counts_at table k = slice_index_or table k []
 
@@ -58,11 +58,11 @@ pub record TableAdds (old new : List (List ℕ)) (more : ℕ → ℕ → ℕ) : 
 
 -- the table counts how often the parts of these devices are granted
 abbrev pub AreTimes : Resource → List Device → List Subject → List (List ℕ) → Type 0
-AreTimes resource devices subjects table = (k : ℕ) (d : Device) → slice_get devices k ≡ Some d → (j : ℕ) → j < length (part_names resource d) → min 2 (slice_index (counts_at table k) j) ≡ min 2 (times_by_place resource subjects k j)
+AreTimes resource devices subjects table = (k : ℕ) (d : Device) → slice_get devices k ≡ Some d → (j : ℕ) → j < length (part_names resource d) → min 2 (slice_index (counts_at table k) j) ≡ min 2 (times_by_index resource subjects k j)
 
 -- ---- what was met twice
 
--- a part with its place, of a device
+-- a part with its index, of a device
 abbrev pub counted : List (List ℕ) → ℕ → List ℕ → ℕ × List ℕ → Option Offence
 counted table k by (j, name) = unless (nat_le (slice_index (counts_at table k) j) 1) (two by name)
 
@@ -75,7 +75,7 @@ ports_counted table k d = first_in (λ x. counted table k d.name (x.0, x.1.name)
 abbrev pub irqs_counted : List (List ℕ) → ℕ → Device → Option Offence
 irqs_counted table k d = first_in (λ x. counted table k d.name (x.0, x.1.name)) (enumerate_from 0 d.irqs)
 
--- a device with its place
+-- a device with its index
 abbrev pub device_counted : List (List ℕ) → List (List ℕ) → List (List ℕ) → ℕ × Device → Option Offence
 device_counted memory io_ports irqs (k, d) =
     option_or (memory_counted memory k d) (option_or (ports_counted io_ports k d) (irqs_counted irqs k d))

@@ -1,4 +1,4 @@
-//! Places of devices on the PCI bus.
+//! Bus, device and function numbers of devices on the PCI bus.
 ghost use Rattle.std.specs.Prelude.{◌≡◌, ◌+◌, ◌*◌, Some, None, true, not, IfOk};
 ghost use Rattle.std.specs.List.{filter_map};
 ghost use Rattle.muen_num.specs.Search.{first_in, first_pair, unless};
@@ -13,44 +13,45 @@ use policy_lawful::{Extent, Offence};
 use policy_types::source::{Bdf, Device};
 use std::alloc::{AllocError, Global};
 
-// Whether there is such a place on a bus.
-fn is_place(place: &Bdf) -> bool
-    ensures { result ≡ is_bdf (Some place.now) }
+// Whether there are such a device and function number on a bus.
+fn is_possible(bdf: &Bdf) -> bool
+    ensures { result ≡ is_bdf (Some bdf.now) }
 {
-    place.device < BDF_DEVICES && place.function < BDF_FUNCTIONS
+    bdf.device < BDF_DEVICES && bdf.function < BDF_FUNCTIONS
 }
 
-// A device that is nowhere, or at a place that there is.
+// A device that is nowhere, or has numbers that there are.
 fn is_bdf(device: &Device) -> bool
     ensures { result ≡ is_bdf device.now.bdf }
 {
     match &device.bdf {
         None => true,
-        Some(place) => is_place(place),
+        Some(bdf) => is_possible(bdf),
     }
 }
 
-// The identifier of what comes from a place on the bus (Intel VT-d, source identifiers).
-fn source_id(place: &Bdf) -> u64
-    requires { is_bdf (Some place.now) ≡ true }
-    ensures { result ≡ place.now.bus * 256 + place.now.device * 8 + place.now.function }
+// The identifier of what comes from a bus, device and function number (Intel VT-d, source
+// identifiers).
+fn source_id(bdf: &Bdf) -> u64
+    requires { is_bdf (Some bdf.now) ≡ true }
+    ensures { result ≡ bdf.now.bus * 256 + bdf.now.device * 8 + bdf.now.function }
 {
-    u64::from(place.bus) * 256 + place.device * 8 + place.function
+    u64::from(bdf.bus) * 256 + bdf.device * 8 + bdf.function
 }
 
-// A device's place on the bus as a range of one identifier, where there is one.
+// A device's bus, device and function number as a range of one identifier, where there is one.
 fn bus_extent(device: &Device) -> Option<Extent>
     ensures { result ≡ bus_extent device.now.name device.now.bdf }
 {
     match &device.bdf {
         None => None,
-        Some(place) => {
-            if !is_place(place) {
+        Some(bdf) => {
+            if !is_possible(bdf) {
                 return None;
             }
             Some(Extent {
                 name: device.name,
-                address: source_id(place),
+                address: source_id(bdf),
                 size: 1,
             })
         }
@@ -63,8 +64,8 @@ fn bus_extents(alloc: Global, devices: &[Device]) -> Result<Vec<Extent>, AllocEr
     devices.iter().filter_map(bus_extent).collect(alloc)
 }
 
-// The first device at a place that there isn't.
-fn no_place(devices: &[Device]) -> Option<Offence>
+// The first device with a device or function number that there isn't.
+fn impossible(devices: &[Device]) -> Option<Offence>
     ensures { result ≡ first_in (λ d. unless (is_bdf d.bdf) (alone d.name)) devices.now }
 {
     first(
@@ -73,9 +74,9 @@ fn no_place(devices: &[Device]) -> Option<Offence>
     )
 }
 
-// The first two devices at the same place.
+// The first two devices with the same bus, device and function number.
 #[tactic(auto, using(crate::proofs::BusByExtent::bus_sized, crate::proofs::BusByExtent::bus_by_extent))]
-fn same_place(alloc: Global, devices: &[Device]) -> Result<Option<Offence>, NoMemory>
+fn shared(alloc: Global, devices: &[Device]) -> Result<Option<Offence>, NoMemory>
     requires { first_in (λ d. unless (is_bdf d.bdf) (alone d.name)) devices.now ≡ None }
     ensures { IfOk result (λ o. o ≡ first_pair (λ a b. unless (not (same_bdf a.bdf b.bdf)) (two a.name b.name)) devices.now) }
 {
@@ -83,12 +84,13 @@ fn same_place(alloc: Global, devices: &[Device]) -> Result<Option<Offence>, NoMe
     first_overlap(alloc, &extents)
 }
 
-/// The first device at a place on the bus that there isn't, else the first two at the same place.
-pub(crate) fn places(alloc: Global, devices: &[Device]) -> Result<Option<Offence>, NoMemory>
+/// The first device with a device or function number that there isn't, else the first two with the
+/// same bus, device and function number.
+pub(crate) fn bus_offence(alloc: Global, devices: &[Device]) -> Result<Option<Offence>, NoMemory>
     ensures { IfOk result (λ o. o ≡ bus_offence devices.now) }
 {
-    if let Some(offence) = no_place(devices) {
+    if let Some(offence) = impossible(devices) {
         return Ok(Some(offence));
     }
-    same_place(alloc, devices)
+    shared(alloc, devices)
 }

@@ -1,11 +1,11 @@
-//! How often places were met.
+//! How often indexes were met.
 ghost use Rattle.std.specs.Prelude.{◌≡◌, ◌==◌, length, slice_index, if◌then◌else◌, replicate, IfOk};
 ghost use Rattle.rules_devices.specs.Grants.{Adds, times_among};
 
 use std::alloc::{AllocError, Global};
 use std::marker::Model;
 
-/// How often each of so many places was met; counts of 2 and more are alike. Contracts see the list
+/// How often each of so many indexes was met; counts of 2 and more are alike. Contracts see the list
 /// of them.
 #[derive(Drop)]
 pub(crate) struct Counts {
@@ -20,26 +20,26 @@ impl Model for Counts {
     ghost view = { λ c. c.times.items };
 }
 
-// Counts this place on, if it is one of these.
-fn count_place(place: usize, times: &mut [u8])
-    ensures { Adds times.old times.new (λ k. if place == k then 1 else 0) }
+// Counts this index on, if it is one of these.
+fn count_index(index: usize, times: &mut [u8])
+    ensures { Adds times.old times.new (λ k. if index == k then 1 else 0) }
 {
-    if place < times.len() {
-        times[place] = times[place].saturating_add(1);
+    if index < times.len() {
+        times[index] = times[index].saturating_add(1);
     }
 }
 
-// Counts each place on by how often it stands here.
-fn count_places(places: &[usize], times: &mut [u8])
-    ensures { Adds times.old times.new (times_among places.now) }
+// Counts each index on by how often it stands here.
+fn count_indexes(indexes: &[usize], times: &mut [u8])
+    ensures { Adds times.old times.new (times_among indexes.now) }
 {
-    for place in places {
-        count_place(*place, times);
+    for index in indexes {
+        count_index(*index, times);
     }
 }
 
 impl Counts {
-    /// So many places, none of which was met.
+    /// So many indexes, none of which was met.
     pub(crate) fn zeros(alloc: Global, count: usize) -> Result<Counts, AllocError>
         ensures { IfOk result (λ c. c ≡ replicate count 0) }
     {
@@ -47,18 +47,18 @@ impl Counts {
         Ok(Counts { times })
     }
 
-    /// Counts each place on by how often it stands here.
-    pub(crate) fn count(&mut self, places: &[usize])
+    /// Counts each index on by how often it stands here.
+    pub(crate) fn count(&mut self, indexes: &[usize])
         ensures room { length self.new ≡ length self.old }
-        ensures adds { Adds self.old self.new (times_among places.now) }
+        ensures adds { Adds self.old self.new (times_among indexes.now) }
     {
-        count_places(places, &mut self.times);
+        count_indexes(indexes, &mut self.times);
     }
 
-    /// How often a place was met; 0 where it is none of these.
-    pub(crate) fn times(&self, place: usize) -> u8
-        ensures { result ≡ slice_index self.now place }
+    /// How often an index was met; 0 where it is none of these.
+    pub(crate) fn times(&self, index: usize) -> u8
+        ensures { result ≡ slice_index self.now index }
     {
-        self.times.get(place).copied().unwrap_or(0)
+        self.times.get(index).copied().unwrap_or(0)
     }
 }

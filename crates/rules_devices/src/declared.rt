@@ -4,9 +4,9 @@ ghost use Rattle.std.specs.List.{find};
 ghost use Rattle.std.specs.Str.{bytes_eq};
 ghost use Rattle.policy_lawful.specs.Rules.{is_declared, repeated};
 ghost use Rattle.rules_devices.specs.Windows.{size_among};
-ghost use Rattle.rules_devices.specs.Domains.{has_place};
+ghost use Rattle.rules_devices.specs.Domains.{has_bdf};
 
-use crate::index::Index;
+use crate::name_set::NameSet;
 use muen_num::{Name, NoMemory};
 use policy_types::source::{Device, Region};
 use std::alloc::{AllocError, Global};
@@ -15,8 +15,8 @@ use std::alloc::{AllocError, Global};
 #[derive(Drop)]
 pub(crate) struct Devices<'a> {
     items: &'a [Device],
-    index: Index,
-    ghost names: { index ≡ map (λ d. d.name) items.now },
+    name_set: NameSet,
+    ghost names: { name_set ≡ map (λ d. d.name) items.now },
 }
 
 fn device_names(alloc: Global, devices: &[Device]) -> Result<Vec<Name>, AllocError>
@@ -25,11 +25,11 @@ fn device_names(alloc: Global, devices: &[Device]) -> Result<Vec<Name>, AllocErr
     devices.iter().map(|device| device.name).collect(alloc)
 }
 
-// The device at a place.
-fn device_at(devices: &[Device], place: usize) -> Option<&Device>
-    ensures { option_copied result ≡ slice_get devices.now place }
+// The device at an index.
+fn device_at(devices: &[Device], index: usize) -> Option<&Device>
+    ensures { option_copied result ≡ slice_get devices.now index }
 {
-    devices.get(place)
+    devices.get(index)
 }
 
 impl<'a> Devices<'a> {
@@ -41,37 +41,37 @@ impl<'a> Devices<'a> {
         ensures { IfOk result (λ d. d.items.now ≡ items.now) }
     {
         let names = device_names(alloc, items)?;
-        let index = Index::of(alloc, &names)?;
-        Ok(Devices { items, index })
+        let name_set = NameSet::of(alloc, &names)?;
+        Ok(Devices { items, name_set })
     }
 
     /// Whether a device has this name.
     pub(crate) fn contains(&self, name: &Name) -> bool
         ensures { result ≡ is_declared (map (λ d. d.name) self.now.items.now) name.now }
     {
-        self.index.contains(name)
+        self.name_set.contains(name)
     }
 
-    // Its place.
-    fn place(&self, name: &Name) -> Option<usize>
+    // Its index.
+    fn index_of(&self, name: &Name) -> Option<usize>
         ensures { result ≡ position (λ n. bytes_eq n name.now) (map (λ d. d.name) self.now.items.now) }
     {
-        self.index.place(name)
+        self.name_set.index_of(name)
     }
 
     // The device of this name.
     fn find(&self, name: &Name) -> Option<&Device>
         ensures { option_copied result ≡ find (λ d. bytes_eq d.name name.now) self.now.items.now }
     {
-        match self.place(name) {
-            Some(place) => device_at(self.items, place),
+        match self.index_of(name) {
+            Some(index) => device_at(self.items, index),
             None => None,
         }
     }
 
-    /// Whether the device of this name has a place on the bus.
-    pub(crate) fn has_place(&self, name: &Name) -> bool
-        ensures { result ≡ has_place self.now.items.now name.now }
+    /// Whether the device of this name has a bus, device and function number.
+    pub(crate) fn has_bdf(&self, name: &Name) -> bool
+        ensures { result ≡ has_bdf self.now.items.now name.now }
     {
         match self.find(name) {
             Some(device) => device.bdf.is_some(),
@@ -84,8 +84,8 @@ impl<'a> Devices<'a> {
 #[derive(Drop)]
 pub(crate) struct Regions<'a> {
     items: &'a [Region],
-    index: Index,
-    ghost names: { index ≡ map (λ r. r.name) items.now },
+    name_set: NameSet,
+    ghost names: { name_set ≡ map (λ r. r.name) items.now },
 }
 
 fn region_names(alloc: Global, regions: &[Region]) -> Result<Vec<Name>, AllocError>
@@ -94,11 +94,11 @@ fn region_names(alloc: Global, regions: &[Region]) -> Result<Vec<Name>, AllocErr
     regions.iter().map(|region| region.name).collect(alloc)
 }
 
-// The region at a place.
-fn region_at(regions: &[Region], place: usize) -> Option<&Region>
-    ensures { option_copied result ≡ slice_get regions.now place }
+// The region at an index.
+fn region_at(regions: &[Region], index: usize) -> Option<&Region>
+    ensures { option_copied result ≡ slice_get regions.now index }
 {
-    regions.get(place)
+    regions.get(index)
 }
 
 impl<'a> Regions<'a> {
@@ -110,30 +110,30 @@ impl<'a> Regions<'a> {
         ensures { IfOk result (λ r. r.items.now ≡ items.now) }
     {
         let names = region_names(alloc, items)?;
-        let index = Index::of(alloc, &names)?;
-        Ok(Regions { items, index })
+        let name_set = NameSet::of(alloc, &names)?;
+        Ok(Regions { items, name_set })
     }
 
     /// Whether a region has this name.
     pub(crate) fn contains(&self, name: &Name) -> bool
         ensures { result ≡ is_declared (map (λ r. r.name) self.now.items.now) name.now }
     {
-        self.index.contains(name)
+        self.name_set.contains(name)
     }
 
-    // Its place.
-    fn place(&self, name: &Name) -> Option<usize>
+    // Its index.
+    fn index_of(&self, name: &Name) -> Option<usize>
         ensures { result ≡ position (λ n. bytes_eq n name.now) (map (λ r. r.name) self.now.items.now) }
     {
-        self.index.place(name)
+        self.name_set.index_of(name)
     }
 
     // The region of this name.
     fn find(&self, name: &Name) -> Option<&Region>
         ensures { option_copied result ≡ find (λ r. bytes_eq r.name name.now) self.now.items.now }
     {
-        match self.place(name) {
-            Some(place) => region_at(self.items, place),
+        match self.index_of(name) {
+            Some(index) => region_at(self.items, index),
             None => None,
         }
     }

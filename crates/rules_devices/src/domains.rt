@@ -7,9 +7,9 @@ ghost use Rattle.policy_lawful.specs.Domains.{offence_21};
 ghost use Rattle.policy_lawful.specs.Offences.{two};
 ghost use Rattle.policy_lawful.specs.Resolution.{source_of};
 ghost use Rattle.policy_lawful.specs.Rules.{at_most, is_declared, repeated};
-ghost use Rattle.rules_devices.specs.Domains.{domain_devices, first_repeat, has_place, names_offence, listed_offence, domains_offence};
+ghost use Rattle.rules_devices.specs.Domains.{domain_devices, first_repeat, has_bdf, names_offence, listed_offence, domains_offence};
 
-use crate::bus::places;
+use crate::bus::bus_offence;
 use crate::declared::Devices;
 use crate::listed::{Listed, devices_of, first_repeat, names_of};
 use muen_num::limits::MOST_DOMAINS;
@@ -43,7 +43,7 @@ fn repeat_of(alloc: Global, listed: &[Listed]) -> Result<Option<Offence>, NoMemo
 }
 
 // The first domain whose name stands before.
-#[tactic(auto, using(crate::proofs::DomainsByPlace::names_repeated))]
+#[tactic(auto, using(crate::proofs::DomainsByIndex::names_repeated))]
 fn name_twice(alloc: Global, domains: &[Domain]) -> Result<Option<Offence>, NoMemory>
     ensures { IfOk result (λ o. o ≡ repeated (map (λ d. d.name) domains.now)) }
 {
@@ -68,14 +68,15 @@ fn undeclared(devices: &Devices, listed: &[Listed]) -> Option<Offence>
     first(listed, |x| x.offence().unless(devices.contains(&x.name)))
 }
 
-// The first name of a device that has no place on the bus.
+// The first name of a device that has no bus, device and function number.
 fn nowhere(devices: &Devices, listed: &[Listed]) -> Option<Offence>
-    ensures { result ≡ first_in (λ x. unless (has_place devices.now.items.now x.name) (two x.domain x.name)) listed.now }
+    ensures { result ≡ first_in (λ x. unless (has_bdf devices.now.items.now x.name) (two x.domain x.name)) listed.now }
 {
-    first(listed, |x| x.offence().unless(devices.has_place(&x.name)))
+    first(listed, |x| x.offence().unless(devices.has_bdf(&x.name)))
 }
 
-// A name of no device, a device that stands twice, or one that has no place on the bus.
+// A name of no device, a device that stands twice, or one that has no bus, device and function
+// number.
 fn of_listed(
     alloc: Global,
     devices: &Devices,
@@ -121,11 +122,11 @@ fn of_domains(
     if let Some(offence) = of_devices(alloc, devices, domains)? {
         return Ok(Some(offence));
     }
-    places(alloc, devices)
+    bus_offence(alloc, devices)
 }
 
 // The devices of a resolved policy, no two of which have the same name.
-#[tactic(auto, using(crate::proofs::DomainsByPlace::devices_unique))]
+#[tactic(auto, using(crate::proofs::DomainsByIndex::devices_unique))]
 fn unique_devices(policy: &Resolved) -> &[Device]
     ensures value { result.now ≡ policy.now.devices }
     ensures unique { repeated (map (λ d. d.name) result.now) ≡ None }
@@ -137,11 +138,11 @@ fn unique_devices(policy: &Resolved) -> &[Device]
 
 /// The first offence against rule 21, if any: too many domains; a domain of a name that stands
 /// before; in a domain, a device that isn't declared, else one that stands in a domain before, else
-/// one that has no place on the bus; a device at a place that there isn't; two devices at the same
-/// place.
+/// one that has no bus, device and function number; a device with a device or function number that
+/// there isn't; two devices with the same three numbers.
 ///
 /// Answers `NoMemory` where memory was refused.
-#[tactic(auto, using(crate::proofs::DomainsByPlace::domains_by_place))]
+#[tactic(auto, using(crate::proofs::DomainsByIndex::domains_by_index))]
 pub fn domain_devices(alloc: Global, policy: &Resolved) -> Result<Option<Offence>, NoMemory>
     ensures { IfOk result (λ o. o ≡ offence_21 (source_of policy.now)) }
 {

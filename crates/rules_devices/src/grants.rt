@@ -39,8 +39,8 @@ fn count_use(
     requires { granted.now.device < length table.old }
     ensures { OnOk result (TableAdds table.old table.new (λ k j. times_by_use resource k j granted.now)) }
 {
-    let places = resource.places(alloc, granted)?;
-    table[granted.device].count(&places);
+    let indexes = resource.indexes(alloc, granted)?;
+    table[granted.device].count(&indexes);
     Ok(())
 }
 
@@ -95,10 +95,10 @@ fn table_of(
 }
 
 // Whether a part of a device was met once at most.
-fn is_once(table: &[Counts], place: usize, part: usize) -> bool
-    ensures { result ≡ nat_le (slice_index (slice_index_or table.now place []) part) 1 }
+fn is_once(table: &[Counts], index: usize, part: usize) -> bool
+    ensures { result ≡ nat_le (slice_index (slice_index_or table.now index []) part) 1 }
 {
-    match table.get(place) {
+    match table.get(index) {
         None => true,
         Some(counts) => counts.times(part) <= 1,
     }
@@ -114,32 +114,32 @@ fn of_part(device: Name, part: Name) -> Offence
 }
 
 // The first range of a device's memory that was met twice.
-fn memory_twice(table: &[Counts], place: usize, device: &Device) -> Option<Offence>
-    ensures { result ≡ memory_counted table.now place device.now }
+fn memory_twice(table: &[Counts], index: usize, device: &Device) -> Option<Offence>
+    ensures { result ≡ memory_counted table.now index device.now }
 {
     first_numbered(
         device.memory.items(),
-        |part, memory| of_part(device.name, memory.name).unless(is_once(table, place, part)),
+        |part, memory| of_part(device.name, memory.name).unless(is_once(table, index, part)),
     )
 }
 
 // The first range of its ports.
-fn ports_twice(table: &[Counts], place: usize, device: &Device) -> Option<Offence>
-    ensures { result ≡ ports_counted table.now place device.now }
+fn ports_twice(table: &[Counts], index: usize, device: &Device) -> Option<Offence>
+    ensures { result ≡ ports_counted table.now index device.now }
 {
     first_numbered(
         device.io_ports.items(),
-        |part, ports| of_part(device.name, ports.name).unless(is_once(table, place, part)),
+        |part, ports| of_part(device.name, ports.name).unless(is_once(table, index, part)),
     )
 }
 
 // The first of its interrupt lines.
-fn irq_twice(table: &[Counts], place: usize, device: &Device) -> Option<Offence>
-    ensures { result ≡ irqs_counted table.now place device.now }
+fn irq_twice(table: &[Counts], index: usize, device: &Device) -> Option<Offence>
+    ensures { result ≡ irqs_counted table.now index device.now }
 {
     first_numbered(
         device.irqs.items(),
-        |part, irq| of_part(device.name, irq.name).unless(is_once(table, place, part)),
+        |part, irq| of_part(device.name, irq.name).unless(is_once(table, index, part)),
     )
 }
 
@@ -166,30 +166,30 @@ impl Grants {
     }
 
     // The first part of a device that was met twice.
-    fn of_device(&self, place: usize, device: &Device) -> Option<Offence>
-        ensures { result ≡ device_counted self.now.memory.items self.now.io_ports.items self.now.irqs.items (place, device.now) }
+    fn of_device(&self, index: usize, device: &Device) -> Option<Offence>
+        ensures { result ≡ device_counted self.now.memory.items self.now.io_ports.items self.now.irqs.items (index, device.now) }
     {
-        if let Some(offence) = memory_twice(&self.memory, place, device) {
+        if let Some(offence) = memory_twice(&self.memory, index, device) {
             return Some(offence);
         }
-        if let Some(offence) = ports_twice(&self.io_ports, place, device) {
+        if let Some(offence) = ports_twice(&self.io_ports, index, device) {
             return Some(offence);
         }
-        irq_twice(&self.irqs, place, device)
+        irq_twice(&self.irqs, index, device)
     }
 
     // The first of all devices.
     fn of_devices(&self, devices: &[Device]) -> Option<Offence>
         ensures { result ≡ first_in (device_counted self.now.memory.items self.now.io_ports.items self.now.irqs.items) (enumerate_from 0 devices.now) }
     {
-        first_numbered(devices, |place, device| self.of_device(place, device))
+        first_numbered(devices, |index, device| self.of_device(index, device))
     }
 }
 
 /// The first offence against rule 9, if any: a device, and what of it is granted more than once.
 ///
 /// Answers `NoMemory` where memory was refused.
-#[tactic(auto, using(crate::proofs::GrantsByPlace::uses_on_devices, crate::proofs::GrantsByPlace::grants_by_place))]
+#[tactic(auto, using(crate::proofs::GrantsByIndex::uses_on_devices, crate::proofs::GrantsByIndex::grants_by_index))]
 pub fn granted_once(alloc: Global, policy: &Resolved) -> Result<Option<Offence>, NoMemory>
     ensures { IfOk result (λ o. o ≡ offence_9 (source_of policy.now)) }
 {

@@ -99,7 +99,7 @@ fn of_subjects(alloc: Global, subjects: &[Subject]) -> Result<Option<Offence>, N
 /// The first offence against rule 11, if any: a subject, alone.
 ///
 /// Answers `NoMemory` where memory was refused.
-#[tactic(auto, using(crate::proofs::MsrsByExtent::msrs_by_place))]
+#[tactic(auto, using(crate::proofs::MsrsByExtent::msrs_by_index))]
 pub fn msr_ranges(alloc: Global, policy: &Resolved) -> Result<Option<Offence>, NoMemory>
     ensures { IfOk result (λ o. o ≡ offence_11 (source_of policy.now)) }
 {

@@ -57,7 +57,7 @@ fn port_extents(alloc: Global, devices: &[Device]) -> Result<Vec<Extent>, NoMemo
     Ok(extents)
 }
 
-// The place of the first empty range.
+// The index of the first empty range.
 fn first_empty(extents: &[Extent]) -> Option<usize>
     ensures { result ≡ position (λ e. e.size == 0) extents.now }
 {
@@ -70,7 +70,7 @@ fn count_sound(extents: &[Extent]) -> usize
     ensures { result ≡ position_or_len (λ e. e.size == 0) extents.now }
 {
     match first_empty(extents) {
-        Some(place) => place,
+        Some(index) => index,
         None => extents.len(),
     }
 }

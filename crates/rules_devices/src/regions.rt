@@ -27,7 +27,7 @@ fn twice(alloc: Global, listed: &[Listed]) -> Result<Option<Offence>, NoMemory>
 /// domain where it stands again.
 ///
 /// Answers `NoMemory` where memory was refused.
-#[tactic(auto, using(crate::proofs::DomainsByPlace::regions_once))]
+#[tactic(auto, using(crate::proofs::DomainsByIndex::regions_once))]
 pub fn regions_in_one_domain(alloc: Global, policy: &Resolved) -> Result<Option<Offence>, NoMemory>
     ensures { IfOk result (λ o. o ≡ offence_23 (source_of policy.now)) }
 {

@@ -1,6 +1,6 @@
 //! What a device has that is granted to subjects.
 ghost use Rattle.std.specs.Prelude.{◌≡◌, length, IfOk};
-ghost use Rattle.rules_devices.specs.Grants.{part_names, places_granted};
+ghost use Rattle.rules_devices.specs.Grants.{indexes_granted, part_names};
 ghost use Rattle.rules_devices.specs.declared.resource.Resource.TheVariants.{Memory, IoPorts, Irqs};
 
 use policy_lawful::resolved::DeviceUse;
@@ -15,9 +15,9 @@ pub(crate) enum Resource {
     Irqs,
 }
 
-// The places of a device's memory that a use grants.
-fn memory_places(alloc: Global, granted: &DeviceUse) -> Result<Vec<usize>, AllocError>
-    ensures { IfOk result (λ v. v.items ≡ places_granted Memory granted.now) }
+// The indexes of a device's memory that a use grants.
+fn memory_indexes(alloc: Global, granted: &DeviceUse) -> Result<Vec<usize>, AllocError>
+    ensures { IfOk result (λ v. v.items ≡ indexes_granted Memory granted.now) }
 {
     granted
         .memory
@@ -27,16 +27,16 @@ fn memory_places(alloc: Global, granted: &DeviceUse) -> Result<Vec<usize>, Alloc
         .collect(alloc)
 }
 
-// The places of its ports.
-fn port_places(alloc: Global, granted: &DeviceUse) -> Result<Vec<usize>, AllocError>
-    ensures { IfOk result (λ v. v.items ≡ places_granted IoPorts granted.now) }
+// The indexes of its ports.
+fn port_indexes(alloc: Global, granted: &DeviceUse) -> Result<Vec<usize>, AllocError>
+    ensures { IfOk result (λ v. v.items ≡ indexes_granted IoPorts granted.now) }
 {
     granted.io_ports.items().iter().copied().collect(alloc)
 }
 
-// The places of its interrupt lines.
-fn irq_places(alloc: Global, granted: &DeviceUse) -> Result<Vec<usize>, AllocError>
-    ensures { IfOk result (λ v. v.items ≡ places_granted Irqs granted.now) }
+// The indexes of its interrupt lines.
+fn irq_indexes(alloc: Global, granted: &DeviceUse) -> Result<Vec<usize>, AllocError>
+    ensures { IfOk result (λ v. v.items ≡ indexes_granted Irqs granted.now) }
 {
     granted
         .irqs
@@ -48,7 +48,7 @@ fn irq_places(alloc: Global, granted: &DeviceUse) -> Result<Vec<usize>, AllocErr
 
 impl Resource {
     /// How many of this kind a device has.
-    #[tactic(auto, using(crate::proofs::GrantsByPlace::many_parts))]
+    #[tactic(auto, using(crate::proofs::GrantsByIndex::many_parts))]
     pub(crate) fn count(self, device: &Device) -> usize
         ensures { result ≡ length (part_names self device.now) }
     {
@@ -59,16 +59,20 @@ impl Resource {
         }
     }
 
-    /// The places of this kind that a use of a device grants.
+    /// The indexes of this kind that a use of a device grants.
     ///
     /// Answers `AllocError` where memory was refused.
-    pub(crate) fn places(self, alloc: Global, granted: &DeviceUse) -> Result<Vec<usize>, AllocError>
-        ensures { IfOk result (λ v. v.items ≡ places_granted self granted.now) }
+    pub(crate) fn indexes(
+        self,
+        alloc: Global,
+        granted: &DeviceUse,
+    ) -> Result<Vec<usize>, AllocError>
+        ensures { IfOk result (λ v. v.items ≡ indexes_granted self granted.now) }
     {
         match self {
-            Resource::Memory => memory_places(alloc, granted),
-            Resource::IoPorts => port_places(alloc, granted),
-            Resource::Irqs => irq_places(alloc, granted),
+            Resource::Memory => memory_indexes(alloc, granted),
+            Resource::IoPorts => port_indexes(alloc, granted),
+            Resource::Irqs => irq_indexes(alloc, granted),
         }
     }
 }

@@ -1,4 +1,4 @@
--- The ends of a channel by names and by places.
+-- The ends of a channel by names and by indexes.
 use Rattle.std.proofs.Common.{◌≡◌, ℕ, ◌<◌, Bool, true, false, cond, List, [], ◌∷◌, length, map, None, refl, sym, ap, ◌∙◌, arith}
 use Rattle.std.specs.Prelude.{◌==◌, filter, nat_lt, not}
 use Rattle.std.specs.Str.{bytes_eq}
@@ -8,7 +8,7 @@ use Rattle.policy_lawful.specs.MoreRules as rules
 use Rattle.policy_lawful.specs.MoreRules.{is_writer, readers_of, writers_of}
 use Rattle.policy_lawful.specs.Resolution.{Resolution, IsResolved, name_at, source_of, subject_named, subject_placed}
 use Rattle.policy_lawful.specs.Rules.{repeated}
-use Rattle.policy_lawful.specs.declared.resolved.Subject.{Subject as PlacedSubject}
+use Rattle.policy_lawful.specs.declared.resolved.Subject.{Subject as ResolvedSubject}
 use Rattle.policy_lawful.proofs.Places.{same_name}
 use Rattle.policy_lawful.proofs.SourceElements.{parts_placed}
 use Rattle.policy_lawful.proofs.UniqueNames.{unique}
@@ -16,10 +16,10 @@ use Rattle.policy_meaning.specs.Events.{ChannelEnd, channel_ends}
 use Rattle.policy_views.specs.Views.{end_named, ends_of}
 use Rattle.policy_views.specs.declared.view.ChannelEnd.{ChannelEnd}
 use Rattle.policy_views.proofs.EndsByPlace.{ends_by_place, ends_placed}
-use Rattle.rules_events.specs.ByPlace.{items_at}
-use Rattle.rules_events.specs.Ends.{met, met_ends, all_ends, all_readers, all_writers, reads, writes}
+use Rattle.rules_events.specs.ByIndex.{items_at}
+use Rattle.rules_events.specs.ChannelEnds.{met, met_channel_ends, all_channel_ends, all_readers, all_writers, reads, writes}
 use Rattle.rules_events.specs.Parties.{party}
-use Rattle.rules_events.specs.declared.ends.Met.{Met}
+use Rattle.rules_events.specs.declared.channel_ends.Met.{Met}
 use Rattle.rules_events.proofs.Items.{of_all, of_one}
 use Rattle.rules_events.proofs.NotedItems.{items-filter}
 
@@ -41,18 +41,18 @@ same_channel r j k h ok within =
     same_name (channel_names r) j k (channels_unique r h) (omega (arith, many, here)) (omega (arith, many, within))
 
 -- of one subject
-of_subject : (r : Resolution) (k n : ℕ) (s : PlacedSubject) → IsResolved r → k < length r.channels → subject_placed r s ≡ true
-    → map (λ e. (s.name, e)) (filter (λ e. bytes_eq e.channel (name_at (channel_names r) k)) (channel_ends (source_of r) (subject_named r s))) ≡ map (met_named r) (items_at k (met_ends r (n, s)))
+of_subject : (r : Resolution) (k n : ℕ) (s : ResolvedSubject) → IsResolved r → k < length r.channels → subject_placed r s ≡ true
+    → map (λ e. (s.name, e)) (filter (λ e. bytes_eq e.channel (name_at (channel_names r) k)) (channel_ends (source_of r) (subject_named r s))) ≡ map (met_named r) (items_at k (met_channel_ends r (n, s)))
 of_subject r k n s h within ok =
     ap (λ es. map (λ e. (s.name, e)) (filter (λ e. bytes_eq e.channel (name_at (channel_names r) k)) es)) (ends_by_place r s h ok)
     ∙ of_one (λ (e : ChannelEnd). bytes_eq e.channel (name_at (channel_names r) k)) (end_named r) (λ (e : ChannelEnd). e.channel) (λ e. nat_lt e.channel (length r.channels)) k (λ e ok. same_channel r e.channel k h ok within)
     (λ e. (s.name, e)) (met (party (n, s))) (met_named r) (λ e. refl) (ends_of r s) (ends_placed r s ok)
 
 -- of all
-pub ends_same : (r : Resolution) (k : ℕ) → IsResolved r → k < length r.channels → rules.ends_of (source_of r) (name_at (channel_names r) k) ≡ map (met_named r) (items_at k (all_ends r))
+pub channel_ends_same : (r : Resolution) (k : ℕ) → IsResolved r → k < length r.channels → rules.ends_of (source_of r) (name_at (channel_names r) k) ≡ map (met_named r) (items_at k (all_channel_ends r))
 unfolding source_of
-ends_same r k h within =
-    of_all (subject_named r) (subject_placed r) k (λ s. map (λ e. (s.name, e)) (filter (λ e. bytes_eq e.channel (name_at (channel_names r) k)) (channel_ends (source_of r) s))) (met_ends r) (met_named r)
+channel_ends_same r k h within =
+    of_all (subject_named r) (subject_placed r) k (λ s. map (λ e. (s.name, e)) (filter (λ e. bytes_eq e.channel (name_at (channel_names r) k)) (channel_ends (source_of r) s))) (met_channel_ends r) (met_named r)
     (λ n s ok. of_subject r k n s h within ok) 0 r.subjects (parts_placed r h.placed).subjects
 
 filter-map : {X Y : Type 0} (test : Y → Bool) (f : X → Y) (xs : List X) → filter test (map f xs) ≡ map f (filter (λ x. test (f x)) xs)
@@ -66,13 +66,13 @@ filter-map {X} {Y} test f (x ∷ xs) =
 -- its writers
 pub writers_same : (r : Resolution) (k : ℕ) → IsResolved r → k < length r.channels → writers_of (source_of r) (name_at (channel_names r) k) ≡ map (met_named r) (items_at k (all_writers r))
 writers_same r k h within =
-    ap (filter (λ e. is_writer e.1.role)) (ends_same r k h within)
-    ∙ filter-map (λ e. is_writer e.1.role) (met_named r) (items_at k (all_ends r))
-    ∙ ap (map (met_named r)) (sym (items-filter writes k (all_ends r)))
+    ap (filter (λ e. is_writer e.1.role)) (channel_ends_same r k h within)
+    ∙ filter-map (λ e. is_writer e.1.role) (met_named r) (items_at k (all_channel_ends r))
+    ∙ ap (map (met_named r)) (sym (items-filter writes k (all_channel_ends r)))
 
 -- and its readers
 pub readers_same : (r : Resolution) (k : ℕ) → IsResolved r → k < length r.channels → readers_of (source_of r) (name_at (channel_names r) k) ≡ map (met_named r) (items_at k (all_readers r))
 readers_same r k h within =
-    ap (filter (λ e. not (is_writer e.1.role))) (ends_same r k h within)
-    ∙ filter-map (λ e. not (is_writer e.1.role)) (met_named r) (items_at k (all_ends r))
-    ∙ ap (map (met_named r)) (sym (items-filter reads k (all_ends r)))
+    ap (filter (λ e. not (is_writer e.1.role))) (channel_ends_same r k h within)
+    ∙ filter-map (λ e. not (is_writer e.1.role)) (met_named r) (items_at k (all_channel_ends r))
+    ∙ ap (map (met_named r)) (sym (items-filter reads k (all_channel_ends r)))

@@ -1,4 +1,4 @@
--- Lists of what is noted at each place, one item more at a time.
+-- Lists of what is noted at each index, one item more at a time.
 use Rattle.std.proofs.Common.{◌≡◌, ℕ, ◌+◌, ◌<◌, Bool, true, false, cond, List, [], ◌∷◌, ◌++◌, length, map, get_or, take, refl, sym, ap, ◌∙◌, arith}
 use Rattle.std.specs.Prelude.{◌==◌, filter}
 use Rattle.std.specs.List.{enumerate_from, flat_map}
@@ -7,7 +7,7 @@ use Rattle.std.proofs.lemmas.List.{append-nil, length-take-le, map-append, take_
 use Rattle.std.proofs.lemmas.List.Concat.{flat_map-cons}
 use Rattle.std.proofs.lemmas.List.Elements.{filter-append}
 use Rattle.muen_num.proofs.Lists.{enumerate_push}
-use Rattle.rules_events.specs.ByPlace.{items_at}
+use Rattle.rules_events.specs.ByIndex.{items_at}
 
 module _ {X : Type 0} where
   -- of two lists the items of one and then of the other
@@ -34,14 +34,14 @@ module _ {X : Type 0} where
       failed x xs rest e true = rest ∙ ap (λ t. cond t (x.1 ∷ filter test (items_at k xs)) (filter test (items_at k xs))) (sym e)
       failed x xs rest e false = rest
 
--- one element more, with its place
+-- one element more, with its index
 pub flat_more : {S X : Type 0} (f : ℕ × S → List X) (ss : List S) (i : ℕ) (s : S) → i < length ss → s ≡ get_or ss i s
     → flat_map f (enumerate_from 0 (take (i + 1) ss)) ≡ flat_map f (enumerate_from 0 (take i ss)) ++ f (i, s)
 flat_more f ss i s within is =
-    let place : 0 + length (take i ss) ≡ i = omega (arith, length-take-le i ss (omega arith)) in
+    let index : 0 + length (take i ss) ≡ i = omega (arith, length-take-le i ss (omega arith)) in
     ap (λ xs. flat_map f (enumerate_from 0 xs)) (take_more ss i s within)
     ∙ ap (flat_map f) (enumerate_push 0 (take i ss) (get_or ss i s))
     ∙ flat_map-append f (enumerate_from 0 (take i ss)) ((0 + length (take i ss), get_or ss i s) ∷ [])
     ∙ ap (λ ys. flat_map f (enumerate_from 0 (take i ss)) ++ ys) (flat_map-cons f (0 + length (take i ss), get_or ss i s) [] ∙ append-nil (f (0 + length (take i ss), get_or ss i s)))
-    ∙ ap (λ n. flat_map f (enumerate_from 0 (take i ss)) ++ f (n, get_or ss i s)) place
+    ∙ ap (λ n. flat_map f (enumerate_from 0 (take i ss)) ++ f (n, get_or ss i s)) index
     ∙ ap (λ x. flat_map f (enumerate_from 0 (take i ss)) ++ f (i, x)) (sym is)

@@ -1,4 +1,4 @@
--- The places of the groups that list a subject rise.
+-- The indexes of the groups that list a subject rise.
 use Rattle.std.proofs.Common.{◌≡◌, ℕ, zero, suc, ◌+◌, ◌-◌, ◌<◌, ◌≤◌, true, false, cond, List, [], ◌∷◌, ◌++◌, length, map, get_or, Result, Ok, Err, ◌⊎◌, refl, sym, ap, ◌∙◌, subst, inl, inr, arith, length-append}
 use Rattle.std.specs.Prelude.{◌==◌, ◌||◌, filter}
 use Rattle.std.specs.Result.{is_ok}
@@ -10,7 +10,7 @@ use Rattle.std.proofs.lemmas.List.{get_or-append-add, get_or_append_left, get_or
 use Rattle.std.proofs.lemmas.List.Concat.{flat_map-cons}
 use Rattle.std.proofs.lemmas.List.Sorted.{searched}
 use Rattle.policy_lawful.specs.declared.resolved.Group.{Group}
-use Rattle.rules_events.specs.ByPlace.{AreItems, items_at}
+use Rattle.rules_events.specs.ByIndex.{AreItems, items_at}
 use Rattle.rules_events.specs.Listings.{HaveRising, Rises, all_memberships, memberships, stands_in}
 use Rattle.rules_events.proofs.NotedItems.{items-append}
 

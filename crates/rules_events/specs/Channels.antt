@@ -8,7 +8,7 @@ use Rattle.policy_lawful.specs.MoreRules.{is_switch}
 use Rattle.policy_lawful.specs.Offences.{alone}
 use Rattle.policy_lawful.specs.declared.offence.Offence.{Offence}
 use Rattle.policy_types.specs.declared.source.Channel.{Channel}
-use Rattle.rules_events.specs.declared.ends.Met.{Met}
+use Rattle.rules_events.specs.declared.channel_ends.Met.{Met}
 
 -- none of the readers is the writer's subject
 abbrev pub is_apart : List Met → Met → Bool
@@ -36,7 +36,7 @@ abbrev pub is_connected : List Met → List Met → Option EventMode → Bool
 is_connected writers readers mode =
     (length writers == 1) && not (length readers == 0) && are_apart writers readers && fits_event writers readers mode
 
--- a channel with its place, where so many writers and readers are noted
+-- a channel with its index, where so many writers and readers are noted
 abbrev pub channel_fault : List (List Met) → List (List Met) → ℕ × Channel → Option Offence
-channel_fault writers readers (place, c) =
-    unless (is_connected (slice_index_or writers place []) (slice_index_or readers place []) c.has_event) (alone c.name)
+channel_fault writers readers (index, c) =
+    unless (is_connected (slice_index_or writers index []) (slice_index_or readers index []) c.has_event) (alone c.name)

@@ -17,13 +17,13 @@ use Rattle.policy_types.specs.declared.source.Component.{Component}
 use Rattle.policy_types.specs.declared.source.ComponentChannel.{ComponentChannel}
 use Rattle.policy_types.specs.declared.source.Region.{Region}
 use Rattle.policy_types.specs.declared.source.Required.{Required}
-use Rattle.rules_events.specs.ByPlace.{items_at}
+use Rattle.rules_events.specs.ByIndex.{items_at}
 use Rattle.rules_events.specs.declared.components.Grant.{Grant}
 
 abbrev pub grant : MapEntry → Grant
 grant e = record { physical = e.physical; rights = e.rights }
 
--- what an entry gives to a logical name that wants a region, or a channel, with that name's place
+-- what an entry gives to a logical name that wants a region, or a channel, with that name's index
 abbrev pub memory_grant : MapEntry → Wanted → Option (ℕ × Grant)
 memory_grant e (WantedMemory k) = Some (k, grant e)
 memory_grant e (WantedChannel k) = None
@@ -45,19 +45,19 @@ is_memory_mapped regions x grants = (length grants == 1) && list_all (gives_regi
 abbrev pub is_channel_mapped : List Channel → ComponentChannel → List Grant → Bool
 is_channel_mapped channels x grants = (length grants == 1) && list_all (gives_channel channels x) grants
 
--- what is asked for with its place, where so much is noted for each logical name
+-- what is asked for with its index, where so much is noted for each logical name
 abbrev pub memory_fault : List Region → List ℕ → List (List Grant) → ℕ × Required → Option Offence
-memory_fault regions by grants (place, x) = unless (is_memory_mapped regions x (slice_index_or grants place [])) (two by x.logical)
+memory_fault regions by grants (index, x) = unless (is_memory_mapped regions x (slice_index_or grants index [])) (two by x.logical)
 
 abbrev pub channel_fault : List Channel → List ℕ → List (List Grant) → ℕ × ComponentChannel → Option Offence
-channel_fault channels by grants (place, x) = unless (is_channel_mapped channels x (slice_index_or grants place [])) (two by x.logical)
+channel_fault channels by grants (index, x) = unless (is_channel_mapped channels x (slice_index_or grants index [])) (two by x.logical)
 
--- what the entries give to the logical name at a place
+-- what the entries give to the logical name at an index
 abbrev pub memory_given : List MapEntry → ℕ → List Grant
-memory_given entries place = items_at place (filter_map (λ e. memory_grant e e.logical) entries)
+memory_given entries index = items_at index (filter_map (λ e. memory_grant e e.logical) entries)
 
 abbrev pub channel_given : List MapEntry → ℕ → List Grant
-channel_given entries place = items_at place (filter_map (λ e. channel_grant e e.logical) entries)
+channel_given entries index = items_at index (filter_map (λ e. channel_grant e e.logical) entries)
 
 -- the first region, and the first channel, that the entries don't give
 abbrev pub memory_offence : List Region → List ℕ → List MapEntry → List Required → Option Offence

@@ -10,18 +10,18 @@ use Rattle.policy_lawful.specs.declared.offence.Offence.{Offence}
 use Rattle.policy_types.specs.declared.source.Channel.{Channel}
 use Rattle.policy_types.specs.declared.source.Event.{Event}
 use Rattle.policy_lawful.specs.Resolution.{Resolution}
-use Rattle.rules_events.specs.ByPlace.{items_at}
-use Rattle.rules_events.specs.Ends.{all_readers, all_writers}
+use Rattle.rules_events.specs.ByIndex.{items_at}
+use Rattle.rules_events.specs.ChannelEnds.{all_readers, all_writers}
 use Rattle.rules_events.specs.Listings.{share}
 use Rattle.rules_events.specs.Parties.{sources_at, targets_at}
-use Rattle.rules_events.specs.declared.ends.Met.{Met}
+use Rattle.rules_events.specs.declared.channel_ends.Met.{Met}
 use Rattle.rules_events.specs.declared.parties.Party.{Party}
 
 -- an event of this mode may join these subjects, of which the groups are noted
 abbrev pub fits_mode : List (List ℕ) → EventMode → Party → Party → Bool
 fits_mode groups Own source target = bytes_eq source.name target.name
 fits_mode groups Switch source target =
-    not (bytes_eq source.name target.name) && share (slice_index_or groups source.place []) (slice_index_or groups target.place [])
+    not (bytes_eq source.name target.name) && share (slice_index_or groups source.index []) (slice_index_or groups target.index [])
 fits_mode groups _ source target = not (bytes_eq source.name target.name)
 
 -- a source that doesn't fit all targets, and the first one
@@ -35,14 +35,14 @@ abbrev pub channel_mode : List (List ℕ) → Channel → Option EventMode → L
 channel_mode groups c None writers readers = None
 channel_mode groups c (Some mode) writers readers = mode_fault groups mode c.name writers readers
 
--- a channel and an event with its place, where so many parties are noted
+-- a channel and an event with its index, where so many parties are noted
 abbrev pub channel_fault : List (List ℕ) → List (List Party) → List (List Party) → ℕ × Channel → Option Offence
-channel_fault groups writers readers (place, c) =
-    channel_mode groups c c.has_event (slice_index_or writers place []) (slice_index_or readers place [])
+channel_fault groups writers readers (index, c) =
+    channel_mode groups c c.has_event (slice_index_or writers index []) (slice_index_or readers index [])
 
 abbrev pub event_fault : List (List ℕ) → List (List Party) → List (List Party) → ℕ × Event → Option Offence
-event_fault groups sources targets (place, e) =
-    mode_fault groups e.mode e.name (slice_index_or sources place []) (slice_index_or targets place [])
+event_fault groups sources targets (index, e) =
+    mode_fault groups e.mode e.name (slice_index_or sources index []) (slice_index_or targets index [])
 
 -- the parties of ends
 abbrev pub parties_of : List (List Met) → List (List Party)

@@ -6,7 +6,7 @@ use Rattle.policy_lawful.specs.declared.offence.Offence.{Offence}
 use Rattle.policy_types.specs.declared.source.Event.{Event}
 use Rattle.rules_events.specs.declared.parties.Party.{Party}
 
--- an event with its place, where so many sources and targets are noted
+-- an event with its index, where so many sources and targets are noted
 abbrev pub event_fault : List (List Party) → List (List Party) → ℕ × Event → Option Offence
-event_fault sources targets (place, e) =
-    unless (not (length (slice_index_or sources place []) == 0) && (length (slice_index_or targets place []) == 1)) (alone e.name)
+event_fault sources targets (index, e) =
+    unless (not (length (slice_index_or sources index []) == 0) && (length (slice_index_or targets index []) == 1)) (alone e.name)

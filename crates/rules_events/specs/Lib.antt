@@ -1,9 +1,9 @@
-pub mod ByPlace
+pub mod ByIndex
 pub mod Calls
+pub mod ChannelEnds
 pub mod Channels
 pub mod Components
 pub mod Directions
-pub mod Ends
 pub mod Events
 pub mod Listings
 pub mod Marks

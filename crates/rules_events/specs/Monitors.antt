@@ -20,9 +20,9 @@ abbrev pub monitor_fault : List Subject → Subject → Bool → Monitor → Opt
 monitor_fault subjects s is_new m =
     option_and_then (λ o. unless (is_monitor_of o s m is_new) (two s.name o.name)) (slice_get subjects m.subject)
 
--- the subject at a place is monitored by one of these
+-- the subject at an index is monitored by one of these
 abbrev pub is_monitored : List Monitor → ℕ → Bool
-is_monitored before place = list_any (λ b. b.subject == place) before
+is_monitored before index = list_any (λ b. b.subject == index) before
 
 abbrev pub monitor_offence : List Subject → Subject → List Monitor → Monitor → Option Offence
 monitor_offence subjects s before m = monitor_fault subjects s (not (is_monitored before m.subject)) m

@@ -12,9 +12,9 @@ use Rattle.policy_lawful.specs.declared.resolved.Subject.{Subject}
 use Rattle.policy_types.specs.declared.source.Event.{Event}
 use Rattle.policy_views.specs.Views.{ends_of}
 
--- the event at a place switches
+-- the event at an index switches
 abbrev pub switches : List Event → ℕ → Bool
-switches events place = option_map_or (λ e. is_switch e.mode) (slice_get events place) false
+switches events index = option_map_or (λ e. is_switch e.mode) (slice_get events index) false
 
 abbrev pub has_vector : List Event → EventTarget → Bool
 has_vector events t = is_some t.vector || switches events t.event

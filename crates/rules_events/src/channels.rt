@@ -7,8 +7,8 @@ ghost use Rattle.policy_lawful.specs.MoreRules.{is_switch, offence_6};
 ghost use Rattle.policy_lawful.specs.Resolution.{source_of};
 ghost use Rattle.rules_events.specs.Channels.{is_apart, are_apart, has_neither, has_call, is_reached, fits_event, is_connected, channel_fault};
 
-use crate::by_place::at;
-use crate::ends::{Met, readers_by_channel, writers_by_channel};
+use crate::by_index::at;
+use crate::channel_ends::{Met, readers_by_channel, writers_by_channel};
 use crate::interrupts::is_switch;
 use muen_num::{EventMode, NoMemory, Seq, first_numbered};
 use policy_lawful::{Offence, Resolved};
@@ -92,10 +92,10 @@ fn is_connected(writers: &[Met], readers: &[Met], mode: Option<EventMode>) -> bo
 fn first_fault(writers: &[Seq<Met>], readers: &[Seq<Met>], channels: &[Channel]) -> Option<Offence>
     ensures { result ≡ first_in (channel_fault writers.now readers.now) (enumerate_from 0 channels.now) }
 {
-    first_numbered(channels, |place, channel| {
+    first_numbered(channels, |index, channel| {
         Offence::alone(channel.name).unless(is_connected(
-            at(writers, place),
-            at(readers, place),
+            at(writers, index),
+            at(readers, index),
             channel.has_event,
         ))
     })
@@ -105,7 +105,7 @@ fn first_fault(writers: &[Seq<Met>], readers: &[Seq<Met>], channels: &[Channel])
 /// writer reads, or with calls and vectors that don't fit the mode of its event.
 ///
 /// Answers `NoMemory` where memory was refused.
-#[tactic(auto, using(crate::proofs::ChannelsByPlace::connected_by_place))]
+#[tactic(auto, using(crate::proofs::ChannelsByIndex::connected_by_index))]
 pub fn connected(alloc: Global, policy: &Resolved) -> Result<Option<Offence>, NoMemory>
     ensures { IfOk result (λ o. o ≡ offence_6 (source_of policy.now)) }
 {

@@ -8,7 +8,7 @@ ghost use Rattle.policy_lawful.specs.Offences.{two};
 ghost use Rattle.policy_lawful.specs.Resolution.{source_of};
 ghost use Rattle.rules_events.specs.Components.{memory_grant, channel_grant, gives_region, gives_channel, is_memory_mapped, is_channel_mapped, memory_fault, channel_fault, memory_offence, channel_offence, component_offence, use_offence, subject_offence};
 
-use crate::by_place::{at, by_place};
+use crate::by_index::{at, by_index};
 use muen_num::{Name, NoMemory, Seq, first_numbered};
 use policy_lawful::resolved::{ComponentUse, MapEntry, Subject, Wanted};
 use policy_lawful::{Offence, Resolved};
@@ -19,18 +19,18 @@ use std::alloc::{AllocError, Global};
 /// What an entry gives to a logical name.
 #[derive(Clone, Copy, Debug, PartialEq, Eq)]
 struct Grant {
-    /// The place of a region or a channel.
+    /// The index of a region or a channel.
     physical: usize,
     rights: Option<Rights>,
 }
 
-// What an entry gives, where its logical name wants a region: with that name's place.
+// What an entry gives, where its logical name wants a region: with that name's index.
 fn memory_grant(entry: &MapEntry) -> Option<(usize, Grant)>
     ensures { result ≡ memory_grant entry.now entry.now.logical }
 {
     match entry.logical {
-        Wanted::Memory(place) => Some((
-            place,
+        Wanted::Memory(index) => Some((
+            index,
             Grant {
                 physical: entry.physical,
                 rights: entry.rights,
@@ -46,8 +46,8 @@ fn channel_grant(entry: &MapEntry) -> Option<(usize, Grant)>
 {
     match entry.logical {
         Wanted::Memory(_) => None,
-        Wanted::Channel(place) => Some((
-            place,
+        Wanted::Channel(index) => Some((
+            index,
             Grant {
                 physical: entry.physical,
                 rights: entry.rights,
@@ -133,16 +133,16 @@ fn memory_fault(
     regions: &[Region],
     by: &Name,
     grants: &[Seq<Grant>],
-    place: usize,
+    index: usize,
     wanted: &Required,
 ) -> Option<Offence>
-    ensures { result ≡ memory_fault regions.now by.now grants.now (place, wanted.now) }
+    ensures { result ≡ memory_fault regions.now by.now grants.now (index, wanted.now) }
 {
     let offence = Offence {
         first: *by,
         second: wanted.logical,
     };
-    offence.unless(is_memory_mapped(regions, wanted, at(grants, place)))
+    offence.unless(is_memory_mapped(regions, wanted, at(grants, index)))
 }
 
 // A channel that isn't given.
@@ -150,16 +150,16 @@ fn channel_fault(
     channels: &[Channel],
     by: &Name,
     grants: &[Seq<Grant>],
-    place: usize,
+    index: usize,
     wanted: &ComponentChannel,
 ) -> Option<Offence>
-    ensures { result ≡ channel_fault channels.now by.now grants.now (place, wanted.now) }
+    ensures { result ≡ channel_fault channels.now by.now grants.now (index, wanted.now) }
 {
     let offence = Offence {
         first: *by,
         second: wanted.logical,
     };
-    offence.unless(is_channel_mapped(channels, wanted, at(grants, place)))
+    offence.unless(is_channel_mapped(channels, wanted, at(grants, index)))
 }
 
 fn first_memory(
@@ -172,7 +172,7 @@ fn first_memory(
 {
     first_numbered(
         wanted,
-        |place, x| memory_fault(regions, by, grants, place, x),
+        |index, x| memory_fault(regions, by, grants, index, x),
     )
 }
 
@@ -186,12 +186,12 @@ fn first_channel(
 {
     first_numbered(
         wanted,
-        |place, x| channel_fault(channels, by, grants, place, x),
+        |index, x| channel_fault(channels, by, grants, index, x),
     )
 }
 
 // The first required region that the entries don't give.
-#[tactic(auto, using(crate::proofs::ComponentsByPlace::memory_noted))]
+#[tactic(auto, using(crate::proofs::ComponentsByIndex::memory_noted))]
 fn memory_offence(
     alloc: Global,
     regions: &[Region],
@@ -202,12 +202,12 @@ fn memory_offence(
     ensures { IfOk result (λ o. o ≡ memory_offence regions.now by.now entries.now wanted.now) }
 {
     let grants = memory_grants(alloc, entries)?;
-    let grants = by_place(alloc, &grants, wanted.len())?;
+    let grants = by_index(alloc, &grants, wanted.len())?;
     Ok(first_memory(regions, by, &grants, wanted))
 }
 
 // The first channel that the entries don't give.
-#[tactic(auto, using(crate::proofs::ComponentsByPlace::channels_noted))]
+#[tactic(auto, using(crate::proofs::ComponentsByIndex::channels_noted))]
 fn channel_offence(
     alloc: Global,
     channels: &[Channel],
@@ -218,7 +218,7 @@ fn channel_offence(
     ensures { IfOk result (λ o. o ≡ channel_offence channels.now by.now entries.now wanted.now) }
 {
     let grants = channel_grants(alloc, entries)?;
-    let grants = by_place(alloc, &grants, wanted.len())?;
+    let grants = by_index(alloc, &grants, wanted.len())?;
     Ok(first_channel(channels, by, &grants, wanted))
 }
 
@@ -290,7 +290,7 @@ fn first_use(
 /// may have, or rights to a channel.
 ///
 /// Answers `NoMemory` where memory was refused.
-#[tactic(auto, using(crate::proofs::ComponentsByPlace::mapped_by_place))]
+#[tactic(auto, using(crate::proofs::ComponentsByIndex::mapped_by_index))]
 pub fn mapped(alloc: Global, policy: &Resolved) -> Result<Option<Offence>, NoMemory>
     ensures { IfOk result (λ o. o ≡ offence_7 (source_of policy.now)) }
 {

@@ -8,8 +8,8 @@ ghost use Rattle.policy_lawful.specs.Offences.{two};
 ghost use Rattle.policy_lawful.specs.Resolution.{source_of};
 ghost use Rattle.rules_events.specs.Directions.{fits_mode, source_fault, mode_fault, channel_mode, channel_fault, event_fault, parties_of, channels_fault, events_fault};
 
-use crate::by_place::at;
-use crate::ends::{Met, readers_by_channel, writers_by_channel};
+use crate::by_index::at;
+use crate::channel_ends::{Met, readers_by_channel, writers_by_channel};
 use crate::listings::Listings;
 use crate::parties::{Party, sources_by_event, targets_by_event};
 use muen_num::{EventMode, Name, NoMemory, Seq, first_numbered};
@@ -23,7 +23,9 @@ fn fits_mode(groups: &Listings, mode: EventMode, source: &Party, target: &Party)
 {
     match mode {
         EventMode::Own => source.name == target.name,
-        EventMode::Switch => { source.name != target.name && groups.share(source.place, target.place) }
+        EventMode::Switch => {
+            source.name != target.name && groups.share(source.index, target.index)
+        }
         _ => source.name != target.name,
     }
 }
@@ -94,8 +96,8 @@ fn first_channel(
 ) -> Option<Offence>
     ensures { result ≡ first_in (channel_fault groups.now writers.now readers.now) (enumerate_from 0 channels.now) }
 {
-    first_numbered(channels, |place, channel| {
-        channel_mode(groups, channel, at(writers, place), at(readers, place))
+    first_numbered(channels, |index, channel| {
+        channel_mode(groups, channel, at(writers, index), at(readers, index))
     })
 }
 
@@ -107,18 +109,18 @@ fn first_event(
 ) -> Option<Offence>
     ensures { result ≡ first_in (event_fault groups.now sources.now targets.now) (enumerate_from 0 events.now) }
 {
-    first_numbered(events, |place, event| {
+    first_numbered(events, |index, event| {
         mode_fault(
             groups,
             event.mode,
             &event.name,
-            at(sources, place),
-            at(targets, place),
+            at(sources, index),
+            at(targets, index),
         )
     })
 }
 
-fn parties_of_ends(alloc: Global, ends: &[Met]) -> Result<Vec<Party>, AllocError>
+fn parties_of_channel_ends(alloc: Global, ends: &[Met]) -> Result<Vec<Party>, AllocError>
     ensures { IfOk result (λ v. v.items ≡ map (λ m. m.party) ends.now) }
 {
     ends.iter().map(|end| end.party).collect(alloc)
@@ -130,14 +132,14 @@ fn parties_of(alloc: Global, lists: &[Seq<Met>]) -> Result<Vec<Seq<Party>>, NoMe
 {
     let mut parties = Vec::new(alloc);
     for list in lists {
-        let of_list = parties_of_ends(alloc, list.items())?;
+        let of_list = parties_of_channel_ends(alloc, list.items())?;
         parties.push(Seq::of(of_list))?;
     }
     Ok(parties)
 }
 
 // The first channel whose mode doesn't fit its ends.
-#[tactic(auto, using(crate::proofs::ModesByPlace::channels_noted))]
+#[tactic(auto, using(crate::proofs::ModesByIndex::channels_noted))]
 fn channel_modes(
     alloc: Global,
     groups: &Listings,
@@ -151,7 +153,7 @@ fn channel_modes(
 }
 
 // The first event whose mode doesn't fit its sources and targets.
-#[tactic(auto, using(crate::proofs::ModesByPlace::events_noted))]
+#[tactic(auto, using(crate::proofs::ModesByIndex::events_noted))]
 fn event_modes(
     alloc: Global,
     groups: &Listings,
@@ -185,7 +187,7 @@ fn of_modes(
 /// target to which the mode switches.
 ///
 /// Answers `NoMemory` where memory was refused.
-#[tactic(auto, using(crate::proofs::ModesByPlace::modes_by_place))]
+#[tactic(auto, using(crate::proofs::ModesByIndex::modes_by_index))]
 pub fn modes(alloc: Global, policy: &Resolved) -> Result<Option<Offence>, NoMemory>
     ensures { IfOk result (λ o. o ≡ offence_13 (source_of policy.now)) }
 {

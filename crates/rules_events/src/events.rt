@@ -6,7 +6,7 @@ ghost use Rattle.policy_lawful.specs.MoreRules.{offence_12};
 ghost use Rattle.policy_lawful.specs.Resolution.{source_of};
 ghost use Rattle.rules_events.specs.Events.{event_fault};
 
-use crate::by_place::at;
+use crate::by_index::at;
 use crate::parties::{Party, sources_by_event, targets_by_event};
 use muen_num::{NoMemory, Seq, first_numbered};
 use policy_lawful::{Offence, Resolved};
@@ -17,9 +17,9 @@ use std::alloc::Global;
 fn first_fault(sources: &[Seq<Party>], targets: &[Seq<Party>], events: &[Event]) -> Option<Offence>
     ensures { result ≡ first_in (event_fault sources.now targets.now) (enumerate_from 0 events.now) }
 {
-    first_numbered(events, |place, event| {
+    first_numbered(events, |index, event| {
         Offence::alone(event.name).unless(
-            !at(sources, place).is_empty() && at(targets, place).len() == 1,
+            !at(sources, index).is_empty() && at(targets, index).len() == 1,
         )
     })
 }
@@ -28,7 +28,7 @@ fn first_fault(sources: &[Seq<Party>], targets: &[Seq<Party>], events: &[Event])
 /// exactly one target.
 ///
 /// Answers `NoMemory` where memory was refused.
-#[tactic(auto, using(crate::proofs::EventsByPlace::sourced_by_place))]
+#[tactic(auto, using(crate::proofs::EventsByIndex::sourced_by_index))]
 pub fn sourced(alloc: Global, policy: &Resolved) -> Result<Option<Offence>, NoMemory>
     ensures { IfOk result (λ o. o ≡ offence_12 (source_of policy.now)) }
 {

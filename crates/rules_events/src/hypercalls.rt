@@ -51,14 +51,14 @@ fn traps_of(alloc: Global, sources: &[EventSource]) -> Result<Vec<u64>, AllocErr
         .collect(alloc)
 }
 
-fn calls_of_ends(alloc: Global, ends: &[ChannelEnd]) -> Result<Vec<u64>, AllocError>
+fn calls_of_channel_ends(alloc: Global, ends: &[ChannelEnd]) -> Result<Vec<u64>, AllocError>
     ensures { IfOk result (λ v. v.items ≡ filter_map (λ e. e.call) ends.now) }
 {
     ends.iter().filter_map(|e| e.call).collect(alloc)
 }
 
 // Whether the numbers are below the end of calls and traps, no two equal.
-#[tactic(auto, using(crate::proofs::NumbersByPlace::numbers_in))]
+#[tactic(auto, using(crate::proofs::NumbersByIndex::numbers_in))]
 fn are_numbers(numbers: &[u64]) -> bool
     ensures { result ≡ are_numbers numbers.now }
 {
@@ -71,7 +71,7 @@ fn calls_at(alloc: Global, policy: &Resolved, subject: &Subject) -> Result<Vec<u
 {
     let mut calls = calls_of(alloc, subject.sources.items())?;
     let ends = ends(alloc, policy, subject)?;
-    let more = calls_of_ends(alloc, &ends)?;
+    let more = calls_of_channel_ends(alloc, &ends)?;
     calls.extend_from_slice(&more)?;
     Ok(calls)
 }
@@ -103,7 +103,7 @@ fn first_call(
 /// traps, or with a number that is too great.
 ///
 /// Answers `NoMemory` where memory was refused.
-#[tactic(auto, using(crate::proofs::NumbersByPlace::calls_by_place))]
+#[tactic(auto, using(crate::proofs::NumbersByIndex::calls_by_index))]
 pub fn calls(alloc: Global, policy: &Resolved) -> Result<Option<Offence>, NoMemory>
     ensures { IfOk result (λ o. o ≡ offence_14 (source_of policy.now)) }
 {

@@ -25,11 +25,11 @@ pub(crate) fn is_switch(mode: EventMode) -> bool
     }
 }
 
-// Whether the event at a place switches.
-fn switches(events: &[Event], place: usize) -> bool
-    ensures { result ≡ switches events.now place }
+// Whether the event at an index switches.
+fn switches(events: &[Event], index: usize) -> bool
+    ensures { result ≡ switches events.now index }
 {
-    match events.get(place) {
+    match events.get(index) {
         None => false,
         Some(event) => is_switch(event.mode),
     }
@@ -54,7 +54,7 @@ fn vectors_of_targets(alloc: Global, targets: &[EventTarget]) -> Result<Vec<u64>
     targets.iter().filter_map(|t| t.vector).collect(alloc)
 }
 
-fn vectors_of_ends(alloc: Global, ends: &[ChannelEnd]) -> Result<Vec<u64>, AllocError>
+fn vectors_of_channel_ends(alloc: Global, ends: &[ChannelEnd]) -> Result<Vec<u64>, AllocError>
     ensures { IfOk result (λ v. v.items ≡ filter_map (λ e. e.vector) ends.now) }
 {
     ends.iter().filter_map(|e| e.vector).collect(alloc)
@@ -87,7 +87,7 @@ fn vectors_at(alloc: Global, policy: &Resolved, subject: &Subject) -> Result<Vec
 {
     let mut vectors = vectors_of_targets(alloc, subject.targets.items())?;
     let ends = ends(alloc, policy, subject)?;
-    let more = vectors_of_ends(alloc, &ends)?;
+    let more = vectors_of_channel_ends(alloc, &ends)?;
     vectors.extend_from_slice(&more)?;
     add_devices(&mut vectors, subject.devices.items())?;
     Ok(vectors)
@@ -126,7 +126,7 @@ fn first_vector(
 /// its event doesn't switch, or with a vector that is none for interrupts or stands twice.
 ///
 /// Answers `NoMemory` where memory was refused.
-#[tactic(auto, using(crate::proofs::NumbersByPlace::vectors_by_place))]
+#[tactic(auto, using(crate::proofs::NumbersByIndex::vectors_by_index))]
 pub fn vectors(alloc: Global, policy: &Resolved) -> Result<Option<Offence>, NoMemory>
     ensures { IfOk result (λ o. o ≡ offence_15 (source_of policy.now)) }
 {

@@ -1,11 +1,11 @@
 //! The rules on channels, components, events, interrupts and monitors, over a resolved policy.
 #![tactic(auto)]
 
-mod by_place;
+mod by_index;
+mod channel_ends;
 mod channels;
 mod components;
 mod directions;
-mod ends;
 mod events;
 mod hypercalls;
 mod interrupts;

@@ -1,15 +1,15 @@
 //! The scheduling groups that list each subject.
 ghost use Rattle.std.specs.Prelude.{◌≡◌, ◌++◌, [], slice_index_or, IfOk};
-ghost use Rattle.rules_events.specs.ByPlace.{AreItems};
+ghost use Rattle.rules_events.specs.ByIndex.{AreItems};
 ghost use Rattle.rules_events.specs.Listings.{Rises, stands_in, share, memberships, all_memberships};
 
-use crate::by_place::{at, by_place};
+use crate::by_index::{at, by_index};
 use muen_num::{NoMemory, Seq};
 use policy_lawful::resolved::Group;
 use std::alloc::Global;
 use std::marker::Model;
 
-/// For each subject the places of the groups that list it, which rise.
+/// For each subject the indexes of the groups that list it, which rise.
 #[derive(Drop)]
 pub(crate) struct Listings {
     lists: Vec<Seq<usize>>,
@@ -29,13 +29,13 @@ impl Model for Listings {
 // Notes a group at each of its members.
 fn note_members(
     noted: &mut Vec<(usize, usize)>,
-    place: usize,
+    index: usize,
     group: &Group,
 ) -> Result<(), NoMemory>
-    ensures { IfOk result (λ _. noted.new.items ≡ noted.old.items ++ memberships (place, group.now)) }
+    ensures { IfOk result (λ _. noted.new.items ≡ noted.old.items ++ memberships (index, group.now)) }
 {
     for member in group.subjects.items() {
-        noted.push((*member, place))?;
+        noted.push((*member, index))?;
     }
     Ok(())
 }
@@ -44,28 +44,28 @@ fn all_memberships(alloc: Global, groups: &[Group]) -> Result<Vec<(usize, usize)
     ensures { IfOk result (λ v. v.items ≡ all_memberships groups.now) }
 {
     let mut noted = Vec::new(alloc);
-    for (place, group) in groups.iter().enumerate() {
-        note_members(&mut noted, place, group)?;
+    for (index, group) in groups.iter().enumerate() {
+        note_members(&mut noted, index, group)?;
     }
     Ok(noted)
 }
 
-// Whether a place stands in a list that rises.
+// Whether an index stands in a list that rises.
 #[tactic(auto, using(crate::proofs::Rising::stands))]
-fn stands_in(places: &[usize], place: usize) -> bool
-    requires { Rises places.now }
-    ensures { result ≡ stands_in places.now place }
+fn stands_in(indexes: &[usize], index: usize) -> bool
+    requires { Rises indexes.now }
+    ensures { result ≡ stands_in indexes.now index }
 {
-    places.binary_search(&place).is_ok()
+    indexes.binary_search(&index).is_ok()
 }
 
-// Whether some place stands in both lists, of which the second rises.
+// Whether some index stands in both lists, of which the second rises.
 fn share(one: &[usize], other: &[usize]) -> bool
     requires { Rises other.now }
     ensures { result ≡ share one.now other.now }
 {
-    for place in one {
-        if stands_in(other, *place) {
+    for index in one {
+        if stands_in(other, *index) {
             return true;
         }
     }
@@ -80,7 +80,7 @@ impl Listings {
         ensures { IfOk result (λ v. AreItems v subjects (all_memberships groups.now)) }
     {
         let noted = all_memberships(alloc, groups)?;
-        let lists = by_place(alloc, &noted, subjects)?;
+        let lists = by_index(alloc, &noted, subjects)?;
         Ok(Listings { lists })
     }
 

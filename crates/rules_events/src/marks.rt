@@ -1,32 +1,32 @@
-//! Places that are marked.
+//! Indexes that are marked.
 ghost use Rattle.std.specs.Prelude.{◌≡◌, false, slice_index_or, IfOk};
 ghost use Rattle.rules_events.specs.Marks.{Marks, AreClear};
 
 use std::alloc::{AllocError, Global};
 
-/// Whether a place is marked.
-pub(crate) fn is_marked(marks: &[bool], place: usize) -> bool
-    ensures { result ≡ slice_index_or marks.now place false }
+/// Whether an index is marked.
+pub(crate) fn is_marked(marks: &[bool], index: usize) -> bool
+    ensures { result ≡ slice_index_or marks.now index false }
 {
-    match marks.get(place) {
+    match marks.get(index) {
         None => false,
         Some(mark) => *mark,
     }
 }
 
-/// Marks a place, or takes the mark away.
-pub(crate) fn mark(marks: &mut [bool], place: usize, with: bool)
-    ensures { Marks marks.old marks.new place with }
+/// Marks an index, or takes the mark away.
+pub(crate) fn mark(marks: &mut [bool], index: usize, with: bool)
+    ensures { Marks marks.old marks.new index with }
 {
-    if place < marks.len() {
-        marks[place] = with;
+    if index < marks.len() {
+        marks[index] = with;
     }
 }
 
-/// So many places with no mark.
-pub(crate) fn no_marks(alloc: Global, places: usize) -> Result<Vec<bool>, AllocError>
-    ensures { IfOk result (λ v. AreClear v.items places) }
+/// So many indexes with no mark.
+pub(crate) fn no_marks(alloc: Global, indexes: usize) -> Result<Vec<bool>, AllocError>
+    ensures { IfOk result (λ v. AreClear v.items indexes) }
 {
-    let marks = vec![in alloc; false; places]?;
+    let marks = vec![in alloc; false; indexes]?;
     Ok(marks)
 }

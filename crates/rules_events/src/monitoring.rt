@@ -103,7 +103,7 @@ fn of_subjects(marks: &mut [bool], subjects: &[Subject]) -> Option<Offence>
 /// CPU, of one that it monitors already, or with the right to execute.
 ///
 /// Answers `NoMemory` where memory was refused.
-#[tactic(auto, using(crate::proofs::MonitorsByPlace::monitors_by_place))]
+#[tactic(auto, using(crate::proofs::MonitorsByIndex::monitors_by_index))]
 pub fn monitors(alloc: Global, policy: &Resolved) -> Result<Option<Offence>, NoMemory>
     ensures { IfOk result (λ o. o ≡ offence_24 (source_of policy.now)) }
 {

@@ -1,33 +1,33 @@
 //! The subjects that raise each event, and those that it reaches.
 ghost use Rattle.std.specs.Prelude.{◌≡◌, ◌++◌, map, IfOk};
 ghost use Rattle.std.specs.List.{enumerate_from, flat_map};
-ghost use Rattle.rules_events.specs.ByPlace.{AreItems};
+ghost use Rattle.rules_events.specs.ByIndex.{AreItems};
 ghost use Rattle.rules_events.specs.Parties.{source_parties, target_parties};
 
-use crate::by_place::by_place;
+use crate::by_index::by_index;
 use muen_num::{Name, NoMemory, Seq};
 use policy_lawful::resolved::Subject;
 use std::alloc::Global;
 
-/// A subject by its name and its place.
+/// A subject by its name and its index.
 #[derive(Clone, Copy, Debug, PartialEq, Eq)]
 pub(crate) struct Party {
     pub(crate) name: Name,
-    pub(crate) place: usize,
+    pub(crate) index: usize,
 }
 
 // Notes a subject at the event of each of its sources.
 fn note_sources(
     noted: &mut Vec<(usize, Party)>,
-    place: usize,
+    index: usize,
     subject: &Subject,
 ) -> Result<(), NoMemory>
-    ensures { IfOk result (λ _. noted.new.items ≡ noted.old.items ++ source_parties (place, subject.now)) }
+    ensures { IfOk result (λ _. noted.new.items ≡ noted.old.items ++ source_parties (index, subject.now)) }
 {
     for source in subject.sources.items() {
         let party = Party {
             name: subject.name,
-            place,
+            index,
         };
         noted.push((source.event, party))?;
     }
@@ -37,15 +37,15 @@ fn note_sources(
 // Notes a subject at the event of each of its targets.
 fn note_targets(
     noted: &mut Vec<(usize, Party)>,
-    place: usize,
+    index: usize,
     subject: &Subject,
 ) -> Result<(), NoMemory>
-    ensures { IfOk result (λ _. noted.new.items ≡ noted.old.items ++ target_parties (place, subject.now)) }
+    ensures { IfOk result (λ _. noted.new.items ≡ noted.old.items ++ target_parties (index, subject.now)) }
 {
     for target in subject.targets.items() {
         let party = Party {
             name: subject.name,
-            place,
+            index,
         };
         noted.push((target.event, party))?;
     }
@@ -56,8 +56,8 @@ fn all_sources(alloc: Global, subjects: &[Subject]) -> Result<Vec<(usize, Party)
     ensures { IfOk result (λ v. v.items ≡ flat_map source_parties (enumerate_from 0 subjects.now)) }
 {
     let mut noted = Vec::new(alloc);
-    for (place, subject) in subjects.iter().enumerate() {
-        note_sources(&mut noted, place, subject)?;
+    for (index, subject) in subjects.iter().enumerate() {
+        note_sources(&mut noted, index, subject)?;
     }
     Ok(noted)
 }
@@ -66,8 +66,8 @@ fn all_targets(alloc: Global, subjects: &[Subject]) -> Result<Vec<(usize, Party)
     ensures { IfOk result (λ v. v.items ≡ flat_map target_parties (enumerate_from 0 subjects.now)) }
 {
     let mut noted = Vec::new(alloc);
-    for (place, subject) in subjects.iter().enumerate() {
-        note_targets(&mut noted, place, subject)?;
+    for (index, subject) in subjects.iter().enumerate() {
+        note_targets(&mut noted, index, subject)?;
     }
     Ok(noted)
 }
@@ -81,7 +81,7 @@ pub(crate) fn sources_by_event(
     ensures { IfOk result (λ v. AreItems v.items events (flat_map source_parties (enumerate_from 0 subjects.now))) }
 {
     let noted = all_sources(alloc, subjects)?;
-    by_place(alloc, &noted, events)
+    by_index(alloc, &noted, events)
 }
 
 /// For each of so many events the subjects of its targets.
@@ -93,5 +93,5 @@ pub(crate) fn targets_by_event(
     ensures { IfOk result (λ v. AreItems v.items events (flat_map target_parties (enumerate_from 0 subjects.now))) }
 {
     let noted = all_targets(alloc, subjects)?;
-    by_place(alloc, &noted, events)
+    by_index(alloc, &noted, events)
 }

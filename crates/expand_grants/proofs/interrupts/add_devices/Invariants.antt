@@ -1,6 +1,6 @@
 use Rattle.std.proofs.Common.{◌≡◌, ◌++◌, take}
 use Rattle.std.specs.List.{flat_map}
-use Rattle.expand_grants.specs.ByPlace.{device_routes}
+use Rattle.expand_grants.specs.ByIndex.{device_routes}
 use Rattle.expand_grants.proofs.interrupts.add_devices.Given as goal
 
 abbrev pub invariant-loop-device : goal.invariant-loop-device

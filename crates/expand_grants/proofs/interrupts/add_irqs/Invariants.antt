@@ -1,5 +1,5 @@
 use Rattle.std.proofs.Common.{◌≡◌, ◌++◌, map, take}
-use Rattle.expand_grants.specs.ByPlace.{route}
+use Rattle.expand_grants.specs.ByIndex.{route}
 use Rattle.expand_grants.proofs.interrupts.add_irqs.Given as goal
 
 abbrev pub invariant-loop-irq : goal.invariant-loop-irq

@@ -1,6 +1,6 @@
 use Rattle.std.proofs.Common.{◌≡◌, take}
 use Rattle.std.specs.List.{flat_map}
-use Rattle.expand_grants.specs.ByPlace.{ranges_at}
+use Rattle.expand_grants.specs.ByIndex.{ranges_at}
 use Rattle.expand_grants.proofs.ports.port_ranges.Given as goal
 
 abbrev pub invariant-loop-used : goal.invariant-loop-used

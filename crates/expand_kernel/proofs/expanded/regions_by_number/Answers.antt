@@ -1,8 +1,8 @@
 use Rattle.std.proofs.Common.{◌++◌, map, ap, ◌∙◌, subst}
 use Rattle.std.specs.List.{flat_map}
-use Rattle.expand_kernel.specs.ByPlace.{brought_at, kernel_for_each}
+use Rattle.expand_kernel.specs.ByIndex.{brought_at, kernel_for_each}
 use Rattle.expand_kernel.specs.Regions.{channel_region, own_region}
-use Rattle.expand_kernel.proofs.Numbering.{can_map_granted, joined_by_place}
+use Rattle.expand_kernel.proofs.Numbering.{can_map_granted, joined_by_index}
 use Rattle.expand_kernel.proofs.expanded.regions_by_number.Goals as goal
 use Rattle.policy_lawful.specs.Resolution.{IsResolved, Resolution}
 
@@ -17,7 +17,7 @@ pub returns : goal.returns
 returns c =
     let same = c.resolved-policy.ensures.value in
     let subjects = c.subjects-subjects.ensures.value ∙ ap (λ (r : Resolution). r.subjects) same in
-    joined_by_place c.args.lawful.now c.args.grants.now c.in_ok-regions.regions.items c.in_ok-channels.channels.items c.in_ok-provided.provided.items c.in_ok-kernel.kernel.items c.of.result
+    joined_by_index c.args.lawful.now c.args.grants.now c.in_ok-regions.regions.items c.in_ok-channels.channels.items c.in_ok-provided.provided.items c.in_ok-kernel.kernel.items c.of.result
     (subst IsResolved same c.subjects-subjects.ensures.resolved) c.requires
     (c.in_ok-regions.ensures ∙ ap (map own_region) (c.memory.ensures.value ∙ ap (λ (r : Resolution). r.memory) same))
     (c.in_ok-channels.ensures ∙ ap (map channel_region) (c.channels.ensures ∙ ap (λ (r : Resolution). r.channels) same))

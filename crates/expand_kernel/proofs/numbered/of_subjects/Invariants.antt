@@ -1,7 +1,7 @@
 -- What is known while the subjects are gone through.
 use Rattle.std.proofs.Common.{◌≡◌, take}
 use Rattle.std.specs.List.{flat_map}
-use Rattle.expand_kernel.specs.ByPlace.{brought_at}
+use Rattle.expand_kernel.specs.ByIndex.{brought_at}
 use Rattle.expand_kernel.proofs.numbered.of_subjects.Given as goal
 
 abbrev pub invariant-loop-subject : goal.invariant-loop-subject

@@ -3,4 +3,4 @@ use Rattle.flow_report.specs.Marks.{after_rounds, alone_marked}
 use Rattle.flow_report.proofs.sets.closed_set.Given as goal
 
 abbrev pub invariant-loop : goal.invariant-loop
-invariant-loop l = l.marks.items ≡ after_rounds l.rows (alone_marked l.faces l.place) l.counter
+invariant-loop l = l.marks.items ≡ after_rounds l.rows (alone_marked l.all_contacts l.index) l.counter

@@ -1,7 +1,7 @@
 use Rattle.std.proofs.Common.{◌++◌}
 use Rattle.muen_outside.specs.Buffered.{OutState, behind}
 use Rattle.muen_outside.proofs.Buffered.{given_then, gives_exit, gives_then, lost_after, lost_first}
-use Rattle.flow_report.specs.TextByPlace.{line_end, line_start, members_text}
+use Rattle.flow_report.specs.TextByIndex.{line_end, line_start, members_text}
 use Rattle.flow_report.proofs.text.put_line.Goals as goal
 
 pub returns-in_err-put_members : goal.returns-in_err-put_members

@@ -2,7 +2,7 @@ use Rattle.std.proofs.Common.{◌≡◌, ap, ◌∙◌, subst}
 use Rattle.muen_outside.specs.Buffered.{Gives, behind}
 use Rattle.policy_lawful.specs.Resolution.{source_of}
 use Rattle.flow_report.specs.FlowText.{flow_text_of}
-use Rattle.flow_report.specs.TextByPlace.{lines_text}
+use Rattle.flow_report.specs.TextByIndex.{lines_text}
 use Rattle.flow_report.proofs.TextOfFlows.{text_same}
 use Rattle.flow_report.proofs.text.put_text.Goals as goal
 

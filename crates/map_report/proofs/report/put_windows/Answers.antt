@@ -5,13 +5,13 @@ use Rattle.map_report.proofs.report.put_windows.Goals as goal
 
 pub returns-in_err-put_views : goal.returns-in_err-put_views
 returns-in_err-put_views g c =
-    one_lost (λ x. view_lines c.args.policy.now x.1.name (views_at c.args.grants.now x.0)) c.args.subjects.now c.loop-place.place c.index-subjects-place.result c.loop-place-test.true c.index-subjects-place.is
-    _ _ _ _ _ c.from_residual.ensures.0 c.loop-place.invariant c.in_err-put_views.ensures (ap (view_lines c.args.policy.now c.index-subjects-place.result.name) c.views_at.ensures)
+    one_lost (λ x. view_lines c.args.policy.now x.1.name (views_at c.args.grants.now x.0)) c.args.subjects.now c.loop-index.index c.index-subjects-index.result c.loop-index-test.true c.index-subjects-index.is
+    _ _ _ _ _ c.from_residual.ensures.0 c.loop-index.invariant c.in_err-put_views.ensures (ap (view_lines c.args.policy.now c.index-subjects-index.result.name) c.views_at.ensures)
 
-pub loop-place-preserved : goal.loop-place-preserved
-loop-place-preserved g c =
-    one_more (λ x. view_lines c.args.policy.now x.1.name (views_at c.args.grants.now x.0)) c.args.subjects.now c.loop-place.place c.index-subjects-place.result c.loop-place-test.true c.index-subjects-place.is
-    _ _ _ _ c.loop-place.invariant c.in_ok-put_views.ensures (ap (view_lines c.args.policy.now c.index-subjects-place.result.name) c.views_at.ensures)
+pub loop-index-preserved : goal.loop-index-preserved
+loop-index-preserved g c =
+    one_more (λ x. view_lines c.args.policy.now x.1.name (views_at c.args.grants.now x.0)) c.args.subjects.now c.loop-index.index c.index-subjects-index.result c.loop-index-test.true c.index-subjects-index.is
+    _ _ _ _ c.loop-index.invariant c.in_ok-put_views.ensures (ap (view_lines c.args.policy.now c.index-subjects-index.result.name) c.views_at.ensures)
 
 pub returns : goal.returns
-returns g c = all_given _ c.args.subjects.now c.loop-place.place _ _ c.loop-place-test.false c.loop-place.invariant
+returns g c = all_given _ c.args.subjects.now c.loop-index.index _ _ c.loop-index-test.false c.loop-index.invariant

@@ -5,4 +5,4 @@ use Rattle.policy_rules.proofs.major_frames.first_entry.Given as goal
 
 abbrev pub invariant-loop-i : goal.invariant-loop-i
 invariant-loop-i l =
-    first_after (entry_offence l.groups l.place) (take l.i l.cpus) (drop l.i l.cpus) ≡ first_after (entry_offence l.groups l.place) [] l.cpus
+    first_after (entry_offence l.groups l.index) (take l.i l.cpus) (drop l.i l.cpus) ≡ first_after (entry_offence l.groups l.index) [] l.cpus

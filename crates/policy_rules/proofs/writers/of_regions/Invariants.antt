@@ -5,5 +5,5 @@ use Rattle.muen_num.specs.Search.{first_in}
 use Rattle.policy_rules.specs.Writers.{fault_at}
 use Rattle.policy_rules.proofs.writers.of_regions.Given as goal
 
-abbrev pub invariant-loop-place : goal.invariant-loop-place
-invariant-loop-place l = first_in (fault_at l.users) (enumerate_from l.place (drop l.place l.regions)) ≡ first_in (fault_at l.users) (enumerate_from 0 l.regions)
+abbrev pub invariant-loop-index : goal.invariant-loop-index
+invariant-loop-index l = first_in (fault_at l.users) (enumerate_from l.index (drop l.index l.regions)) ≡ first_in (fault_at l.users) (enumerate_from 0 l.regions)

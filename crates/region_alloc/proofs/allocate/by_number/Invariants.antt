@@ -4,4 +4,4 @@ use Rattle.region_alloc.specs.Placement.{address_in}
 use Rattle.region_alloc.proofs.allocate.by_number.Given as goal
 
 abbrev pub invariant-loop-number : goal.invariant-loop-number
-invariant-loop-number l = l.places ≡ map (address_in l.spots) (numbers_below l.number)
+invariant-loop-number l = l.addresses ≡ map (address_in l.spots) (numbers_below l.number)

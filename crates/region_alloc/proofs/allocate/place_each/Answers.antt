@@ -2,7 +2,7 @@ use Rattle.std.proofs.Common.{◌<◌, length, ℕ, inr, Some, None, ap, subst, 
 use Rattle.expand_kernel.specs.declared.region.Region.{Region}
 use Rattle.region_alloc.specs.Gaps.{IsLeast, has_room}
 use Rattle.region_alloc.specs.Placement.{no_room_for}
-use Rattle.region_alloc.proofs.Placing.{no_place, place_end, placed_all, placing_first, placing_next, sized_at}
+use Rattle.region_alloc.proofs.Placing.{address_end, no_address, placed_all, placing_first, placing_next, sized_at}
 use Rattle.region_alloc.proofs.allocate.place_each.Goals as goal
 
 pub loop-number-init : goal.loop-number-init
@@ -14,15 +14,15 @@ returns-in-None-clause-err c =
     let x : ℕ × Region = c.loop-number-item.result in
     let l : c.loop-number.number-index < length c.args.turns.now = omega arith in
     let s = sized_at c.args.turns.now c.loop-number.number-index x c.requires.regions l c.loop-number-item.is in
-    inr (ap no_room_for (no_place c.args.blocks.now c.args.turns.now c.loop-number.number-index c.loop-number.gaps.items c.loop-number.spots.items c.requires.blocks c.loop-number.invariant x l c.loop-number-item.is s.0
+    inr (ap no_room_for (no_address c.args.blocks.now c.args.turns.now c.loop-number.number-index c.loop-number.gaps.items c.loop-number.spots.items c.requires.blocks c.loop-number.invariant x l c.loop-number-item.is s.0
     (subst (λ gs. IsLeast (has_room gs x.1) None) c.deref.ensures.value c.in-None.ensures)))
 
-pub left_of-requires : goal.left_of-requires
-left_of-requires c =
+pub remaining_of-requires : goal.remaining_of-requires
+remaining_of-requires c =
     let x : ℕ × Region = c.loop-number-item.result in
     let l : c.loop-number.number-index < length c.args.turns.now = omega arith in
     let s = sized_at c.args.turns.now c.loop-number.number-index x c.requires.regions l c.loop-number-item.is in
-    let e = place_end c.args.blocks.now c.args.turns.now c.loop-number.number-index c.loop-number.gaps.items c.loop-number.spots.items c.requires.blocks c.loop-number.invariant x l c.loop-number-item.is s.0 c.in-Some.address
+    let e = address_end c.args.blocks.now c.args.turns.now c.loop-number.number-index c.loop-number.gaps.items c.loop-number.spots.items c.requires.blocks c.loop-number.invariant x l c.loop-number-item.is s.0 c.in-Some.address
     (subst (λ gs. IsLeast (has_room gs x.1) (Some c.in-Some.address)) c.deref.ensures.value c.in-Some.ensures) in
     omega (arith, e)
 

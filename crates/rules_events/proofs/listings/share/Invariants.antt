@@ -2,5 +2,5 @@ use Rattle.std.proofs.Common.{◌≡◌, false, take}
 use Rattle.rules_events.specs.Listings.{share}
 use Rattle.rules_events.proofs.listings.share.Given as goal
 
-abbrev pub invariant-loop-place : goal.invariant-loop-place
-invariant-loop-place l = share (take l.place-index l.one) l.other ≡ false
+abbrev pub invariant-loop-index : goal.invariant-loop-index
+invariant-loop-index l = share (take l.index-index l.one) l.other ≡ false

@@ -3,9 +3,9 @@ use Rattle.rules_events.specs.Parties.{target_parties}
 use Rattle.rules_events.proofs.NotedItems.{flat_more}
 use Rattle.rules_events.proofs.parties.all_targets.Goals as goal
 
-pub loop-place-preserved : goal.loop-place-preserved
-loop-place-preserved c =
-    let s = c.index-subjects-place.result in
+pub loop-index-preserved : goal.loop-index-preserved
+loop-index-preserved c =
+    let s = c.index-subjects-index.result in
     c.in_ok-note_targets.ensures
-    ∙ ap (λ xs. xs ++ target_parties (c.loop-place.place, s)) c.loop-place.invariant
-    ∙ sym (flat_more target_parties c.args.subjects.now c.loop-place.place s c.loop-place-test.true c.index-subjects-place.is)
+    ∙ ap (λ xs. xs ++ target_parties (c.loop-index.index, s)) c.loop-index.invariant
+    ∙ sym (flat_more target_parties c.args.subjects.now c.loop-index.index s c.loop-index-test.true c.index-subjects-index.is)

@@ -1,0 +1,270 @@
+//! What a subject gives to others and what it takes from them.
+ghost use Rattle.std.specs.Prelude.{◌≡◌, ◌==◌, map, IfOk};
+ghost use Rattle.std.specs.List.{filter_map, list_any, enumerate_from};
+ghost use Rattle.policy_lawful.specs.Resolution.{IsResolved};
+ghost use Rattle.policy_meaning.specs.Events.{same_way};
+ghost use Rattle.flow_report.specs.ByIndex.{all_contacts_of, channel_read, channel_written, contacts_of, event_by, first_target, flows_between, has, is_chooser, meet, reached_by, region_changed, region_shown, subject_changed};
+
+use muen_num::{AccessKind, Name, NoMemory, Seq};
+use policy_lawful::Resolved;
+use policy_lawful::resolved::{EventSource, Monitor, Subject};
+use policy_types::Role;
+use policy_types::source::{SourceWay, Tau0};
+use policy_views::{ChannelEnd, Shown, View, ends, views};
+use std::alloc::{AllocError, Global};
+
+/// A subject's index, and by indexes what it gives to others and takes from them.
+#[derive(Debug, Drop)]
+pub(crate) struct Contacts {
+    pub index: usize,
+    /// The channels that it writes.
+    pub writes: Seq<usize>,
+    /// The channels that it reads.
+    pub reads: Seq<usize>,
+    /// The regions that it may change.
+    pub changes: Seq<usize>,
+    /// The regions that it maps.
+    pub maps: Seq<usize>,
+    /// The subjects that events of its sources reach.
+    pub reaches: Seq<usize>,
+    /// Whether it chooses the major frames.
+    pub chooses: bool,
+    /// The subjects that it monitors.
+    pub watches: Seq<usize>,
+    /// The subjects whose state it may change.
+    pub alters: Seq<usize>,
+}
+
+fn channel_written(end: &ChannelEnd) -> Option<usize>
+    ensures { result ≡ channel_written end.now.role end.now.channel }
+{
+    match end.role {
+        Role::Writer => Some(end.channel),
+        Role::Reader => None,
+    }
+}
+
+fn channel_read(end: &ChannelEnd) -> Option<usize>
+    ensures { result ≡ channel_read end.now.role end.now.channel }
+{
+    match end.role {
+        Role::Writer => None,
+        Role::Reader => Some(end.channel),
+    }
+}
+
+fn region_shown(shows: Shown) -> Option<usize>
+    ensures { result ≡ region_shown shows }
+{
+    match shows {
+        Shown::Memory(index) => Some(index),
+        _ => None,
+    }
+}
+
+fn region_changed(view: &View) -> Option<usize>
+    ensures { result ≡ region_changed view.now }
+{
+    if view.rights.allows(AccessKind::Write) {
+        region_shown(view.shows)
+    } else {
+        None
+    }
+}
+
+fn same_way(first: SourceWay, second: SourceWay) -> bool
+    ensures { result ≡ same_way first second }
+{
+    match (first, second) {
+        (SourceWay::Call(m), SourceWay::Call(n)) => m == n,
+        (SourceWay::Trap(m), SourceWay::Trap(n)) => m == n,
+        _ => false,
+    }
+}
+
+// The event of the first source with this way.
+fn event_by(sources: &[EventSource], way: SourceWay) -> Option<usize>
+    ensures { result ≡ event_by sources.now way }
+{
+    sources
+        .iter()
+        .find(|source| same_way(source.way, way))
+        .map(|source| source.event)
+}
+
+fn has_target(subject: &Subject, event: usize) -> bool
+    ensures { result ≡ list_any (λ e. e.event == event) subject.now.targets }
+{
+    let targets = subject.targets.items();
+    targets.iter().any(|target| target.event == event)
+}
+
+// The first subject that has the event as a target.
+fn first_target(subjects: &[Subject], event: usize) -> Option<usize>
+    ensures { result ≡ first_target subjects.now event }
+{
+    subjects
+        .iter()
+        .position(|subject| has_target(subject, event))
+}
+
+// The subject that is reached by what a subject with these sources raises in this way.
+fn reached_by(subjects: &[Subject], sources: &[EventSource], way: SourceWay) -> Option<usize>
+    ensures { result ≡ reached_by subjects.now sources.now way }
+{
+    first_target(subjects, event_by(sources, way)?)
+}
+
+fn subject_changed(monitor: &Monitor) -> Option<usize>
+    ensures { result ≡ subject_changed monitor.now }
+{
+    if monitor.rights.allows(AccessKind::Write) {
+        Some(monitor.subject)
+    } else {
+        None
+    }
+}
+
+fn is_chooser(tau0: &Option<Tau0>, name: &Name) -> bool
+    ensures { result ≡ is_chooser tau0.now name.now }
+{
+    match tau0 {
+        None => false,
+        Some(tau0) => tau0.subject == *name,
+    }
+}
+
+fn written(alloc: Global, ends: &[ChannelEnd]) -> Result<Vec<usize>, AllocError>
+    ensures { IfOk result (λ v. v.items ≡ filter_map (λ e. channel_written e.role e.channel) ends.now) }
+{
+    ends.iter()
+        .filter_map(|e| channel_written(e))
+        .collect(alloc)
+}
+
+fn read(alloc: Global, ends: &[ChannelEnd]) -> Result<Vec<usize>, AllocError>
+    ensures { IfOk result (λ v. v.items ≡ filter_map (λ e. channel_read e.role e.channel) ends.now) }
+{
+    ends.iter().filter_map(|e| channel_read(e)).collect(alloc)
+}
+
+fn changed(alloc: Global, views: &[View]) -> Result<Vec<usize>, AllocError>
+    ensures { IfOk result (λ v. v.items ≡ filter_map region_changed views.now) }
+{
+    views
+        .iter()
+        .filter_map(|v| region_changed(v))
+        .collect(alloc)
+}
+
+fn mapped(alloc: Global, views: &[View]) -> Result<Vec<usize>, AllocError>
+    ensures { IfOk result (λ v. v.items ≡ filter_map (λ w. region_shown w.shows) views.now) }
+{
+    views
+        .iter()
+        .filter_map(|v| region_shown(v.shows))
+        .collect(alloc)
+}
+
+fn reached(
+    alloc: Global,
+    subjects: &[Subject],
+    sources: &[EventSource],
+) -> Result<Vec<usize>, AllocError>
+    ensures { IfOk result (λ v. v.items ≡ filter_map (λ e. reached_by subjects.now sources.now e.way) sources.now) }
+{
+    sources
+        .iter()
+        .filter_map(|source| reached_by(subjects, sources, source.way))
+        .collect(alloc)
+}
+
+fn watched(alloc: Global, monitors: &[Monitor]) -> Result<Vec<usize>, AllocError>
+    ensures { IfOk result (λ v. v.items ≡ map (λ m. m.subject) monitors.now) }
+{
+    monitors.iter().map(|m| m.subject).collect(alloc)
+}
+
+fn altered(alloc: Global, monitors: &[Monitor]) -> Result<Vec<usize>, AllocError>
+    ensures { IfOk result (λ v. v.items ≡ filter_map subject_changed monitors.now) }
+{
+    monitors
+        .iter()
+        .filter_map(|m| subject_changed(m))
+        .collect(alloc)
+}
+
+// What the subject at an index gives and takes.
+fn make_contacts(
+    alloc: Global,
+    policy: &Resolved,
+    index: usize,
+    subject: &Subject,
+) -> Result<Contacts, NoMemory>
+    ensures { IfOk result (λ f. f ≡ contacts_of policy.now (index, subject.now)) }
+{
+    let ends = ends(alloc, policy, subject)?;
+    let views = views(alloc, policy, subject)?;
+    let (sources, monitors) = (subject.sources.items(), subject.monitors.items());
+    Ok(Contacts {
+        index,
+        writes: Seq::of(written(alloc, &ends)?),
+        reads: Seq::of(read(alloc, &ends)?),
+        changes: Seq::of(changed(alloc, &views)?),
+        maps: Seq::of(mapped(alloc, &views)?),
+        reaches: Seq::of(reached(alloc, policy.subjects(), sources)?),
+        chooses: is_chooser(&policy.scheduling().tau0, &subject.name),
+        watches: Seq::of(watched(alloc, monitors)?),
+        alters: Seq::of(altered(alloc, monitors)?),
+    })
+}
+
+fn numbered_contacts(
+    alloc: Global,
+    policy: &Resolved,
+    subjects: &[Subject],
+) -> Result<Vec<Contacts>, NoMemory>
+    ensures { IfOk result (λ v. v.items ≡ map (contacts_of policy.now) (enumerate_from 0 subjects.now)) }
+{
+    let mut all_contacts = Vec::new(alloc);
+    for (index, subject) in subjects.iter().enumerate() {
+        all_contacts.push(make_contacts(alloc, policy, index, subject)?)?;
+    }
+    Ok(all_contacts)
+}
+
+/// The contacts of all subjects, in the policy's order.
+///
+/// Answers `NoMemory` where memory was refused.
+pub(crate) fn all_contacts(alloc: Global, policy: &Resolved) -> Result<Vec<Contacts>, NoMemory>
+    ensures all_contacts { IfOk result (λ v. v.items ≡ all_contacts_of policy.now) }
+    ensures resolved { IsResolved policy.now }
+{
+    numbered_contacts(alloc, policy, policy.subjects())
+}
+
+fn has(indexes: &[usize], index: usize) -> bool
+    ensures { result ≡ has indexes.now index }
+{
+    indexes.iter().any(|other| *other == index)
+}
+
+// Whether some index is in both lists.
+fn meet(first: &[usize], second: &[usize]) -> bool
+    ensures { result ≡ meet first.now second.now }
+{
+    first.iter().any(|index| has(second, *index))
+}
+
+/// Whether what the first does can reach the second directly.
+#[tactic(auto, unfolding(crate::specs::ByIndex::flows_between))]
+pub(crate) fn flows_between(from: &Contacts, to: &Contacts) -> bool
+    ensures { result ≡ flows_between from.now to.now }
+{
+    meet(from.writes.items(), to.reads.items())
+        || meet(from.changes.items(), to.maps.items())
+        || has(from.reaches.items(), to.index)
+        || from.chooses
+        || has(to.watches.items(), from.index)
+        || has(from.alters.items(), to.index)
+}

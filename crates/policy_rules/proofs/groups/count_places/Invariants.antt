@@ -1,6 +1,0 @@
-use Rattle.std.proofs.Common.{take}
-use Rattle.policy_rules.specs.Groups.{times_among, Adds}
-use Rattle.policy_rules.proofs.groups.count_places.Given as goal
-
-abbrev pub invariant-loop-place : goal.invariant-loop-place
-invariant-loop-place l = Adds l.initial.times l.times (times_among (take l.place-index l.places))
