@@ -21,7 +21,7 @@ use image_form::writing::{
     as_u8, as_u16, put_bytes, put_name, put_tag, put_u8, put_u16, put_u32, put_u64, put_zeros,
 };
 use image_plan::{GroupPart, Major, Minor};
-use muen_num::{TagPart, Seq};
+use muen_num::{Seq, TagPart};
 use std::alloc::AllocError;
 
 #[tactic(auto, using(image_form::proofs::Puts::appended), unfolding(image_form::specs::Form::field, image_form::specs::Form::only, image_form::specs::Form::gap, image_form::specs::Form::done, image_form::specs::Form::either, image_form::specs::Form::present, image_form::specs::Form::absent, crate::specs::Image::tau0_at))]

@@ -8,7 +8,7 @@ ghost use Rattle.span_emit.specs.Spans.{device_span, device_spans, memories_of, 
 use expand_kernel::{Region, RegionKind};
 use image_pack::{SpanKind, SpanPart};
 use muen_num::limits::PAGE;
-use muen_num::{Name, NoMemory, TagPart, Tag};
+use muen_num::{Name, NoMemory, Tag, TagPart};
 use policy_types::source::{Device, DeviceMemory};
 use region_alloc::Placed;
 use std::alloc::{AllocError, Global};

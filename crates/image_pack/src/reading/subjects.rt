@@ -19,7 +19,7 @@ use image_form::writing::put_tag;
 use image_form::{Field, FormError};
 use image_plan::GroupPart;
 use muen_num::limits::{MOST_CALLS, MOST_MSRS, PAGE, PHYSICAL_END};
-use muen_num::{TagPart, Seq};
+use muen_num::{Seq, TagPart};
 use std::alloc::{AllocError, Global};
 
 /// The lowest 12 bits of an extended-page-table pointer: four levels of tables, write-back memory.
