@@ -8,9 +8,9 @@ use Rattle.ept_count.specs.declared.window.Window.{Window}
 abbrev pub touches : Window → ℕ → ℕ → Bool
 touches w lo n = nat_lt w.guest (lo + n) && nat_lt lo (w.guest + w.size)
 
--- some byte of a window has an address whose quotient by the span is v
+-- some byte of a window has an address whose quotient by the size of an entry is v
 abbrev pub is_taken : List Window → ℕ → ℕ → Bool
-is_taken ws span v = list_any (λ w. touches w (span * v) span) ws
+is_taken ws entry_size v = list_any (λ w. touches w (entry_size * v) entry_size) ws
 
 abbrev pub one : Bool → ℕ
 one b = if b then 1 else 0

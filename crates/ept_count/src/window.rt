@@ -7,19 +7,19 @@ pub enum Leaf {
     /// 4 KiB.
     Small,
     /// 2 MiB.
-    Middle,
-    /// 1 GiB.
     Large,
+    /// 1 GiB.
+    Huge,
 }
 
 /// A window: `size` bytes from the guest address `guest` on are those from the physical address
-/// `place` on.
+/// `address` on.
 #[derive(Clone, Copy, Debug, PartialEq, Eq)]
 pub struct Window {
     pub guest: u64,
     /// In bytes.
     pub size: u64,
-    pub place: u64,
+    pub address: u64,
     pub rights: Rights,
     pub caching: Caching,
     pub leaf: Leaf,

@@ -13,10 +13,10 @@ use Rattle.muen_num.specs.declared.access.AccessKind.{AccessKind}
 use Rattle.muen_num.specs.declared.access.AccessKind.TheVariants.{Read, Write, Fetch}
 use Rattle.policy_types.specs.Rights.{allows, has}
 use Rattle.ept_emit.specs.Entries.{IsEmittable, word_at}
-use Rattle.ept_emit.specs.Emitted.{HasPlaces, HasTables, IsGreatestSize, IsReadBy, Reads, eptp_of, translation, translation_in, window_at}
+use Rattle.ept_emit.specs.Emitted.{HasAddresses, HasTables, IsGreatestSize, IsReadBy, Reads, eptp_of, translation, translation_in, window_at}
 use Rattle.ept_emit.specs.Tables.{AreNumbered, Below}
 use Rattle.ept_emit.proofs.Numbered.{InTable}
-use Rattle.ept_emit.proofs.Places.{IsRead, met, read}
+use Rattle.ept_emit.proofs.Addresses.{IsRead, met, read}
 use Rattle.ept_emit.proofs.Walked.{Has, leads, level_low, walk_written, size_written}
 use Rattle.ept_emit.proofs.Written.{Meets, below_within}
 
@@ -49,7 +49,7 @@ allowed_is w Fetch = refl
 
 leads_is : (o : Option Window) (addr : ℕ) (kind : AccessKind) → leads o addr (kind_bit kind) ≡ translation_in o addr kind
 leads_is None addr kind = refl
-leads_is (Some w) addr kind = ap (λ b. if b then At (w.place + (addr - w.guest)) else Violation w.rights.0) (sym (allowed_is w kind))
+leads_is (Some w) addr kind = ap (λ b. if b then At (w.address + (addr - w.guest)) else Violation w.rights.0) (sym (allowed_is w kind))
 
 root_is : (at : ℕ) → at % 4096 ≡ 0 → root_of (eptp_of at) ≡ at / 4096 + 0
 root_is at h = omega arith
@@ -71,10 +71,10 @@ module _ (m : List Page) (at n total : ℕ) (out : List ℕ) (ws : List Window) 
   bounded : at / 4096 + n ≤ 2 ^ 28
   bounded = omega arith
 
-  pub walk_held : (addr : ℕ) (kind : AccessKind) → addr < 2 ^ 48 → HasPlaces m ws → walk_of m (eptp_of at) addr kind ≡ translation ws addr kind
-  walk_held addr kind lt places =
+  pub walk_held : (addr : ℕ) (kind : AccessKind) → addr < 2 ^ 48 → HasAddresses m ws → walk_of m (eptp_of at) addr kind ≡ translation ws addr kind
+  walk_held addr kind lt addresses =
       ap (λ t. walk_from (entry_of m) (is_there m) addr (kind_bit kind) 3 t 7) (root_is at page)
-      ∙ (walk_written (entry_of m) (is_there m) (word_at out) (at / 4096) 1 n ws addr (kind_bit kind) bounded entries ok places 3 0 some (numbered.written addr (in_all addr lt))
+      ∙ (walk_written (entry_of m) (is_there m) (word_at out) (at / 4096) 1 n ws addr (kind_bit kind) bounded entries ok addresses 3 0 some (numbered.written addr (in_all addr lt))
       ∙ leads_is (window_at ws addr) addr kind)
 
   pub size_held : (addr : ℕ) (o : Option Window) → window_at ws addr ≡ o → addr < 2 ^ 48 → AreApart ws → IfSome o (λ w. IsGreatestSize w addr (leaf_size m (eptp_of at) addr))
@@ -103,8 +103,8 @@ module _ (m : List Page) (at n total : ℕ) (out : List ℕ) (ws : List Window) 
   tells addr level pg lt r =
       subst (λ (t : ℕ). 3 - level < length (places_from (entry_of m) addr 3 t) → get_or (places_from (entry_of m) addr 3 t) (3 - level) 0 / 4096 ≡ pg → Tells addr level pg) (sym (root_is at page)) (tells_at addr level pg lt r.depth) r.within r.here
 
-  reads_of : (addr l2 k2 : ℕ) (places : List ℕ) → IsRead places (at / 4096) 3 l2 k2 → (l2 ≤ 3) × (3 - l2 < length places) × (get_or places (3 - l2) 0 / 4096 ≡ at / 4096 + k2)
-  reads_of addr l2 k2 places r = (r.level, r.within, r.here)
+  reads_of : (addr l2 k2 : ℕ) (addresses : List ℕ) → IsRead addresses (at / 4096) 3 l2 k2 → (l2 ≤ 3) × (3 - l2 < length addresses) × (get_or addresses (3 - l2) 0 / 4096 ≡ at / 4096 + k2)
+  reads_of addr l2 k2 addresses r = (r.level, r.within, r.here)
 
   told : (addr l2 k2 : ℕ) → addr < 2 ^ 48 → Meets (word_at out) (at / 4096) ws 3 0 addr l2 k2 → Reads m (eptp_of at) addr l2 (at / 4096 + k2)
   told addr l2 k2 lt meets =
@@ -123,9 +123,9 @@ module _ (m : List Page) (at n total : ℕ) (out : List ℕ) (ws : List Window) 
   table_low addr l2 k2 lt (inl e) = omega (arith, e.1)
   table_low addr l2 k2 lt (inr b) = let p = table_in addr l2 k2 lt b in p.1
 
-  pub alone_held : (addr : ℕ) → addr < 2 ^ 48 → All (λ place. (at ≤ place) × (place + 8 ≤ at + length out)) (places_read m (eptp_of at) addr)
+  pub alone_held : (addr : ℕ) → addr < 2 ^ 48 → All (λ address. (at ≤ address) × (address + 8 ≤ at + length out)) (places_read m (eptp_of at) addr)
   alone_held addr lt =
-      subst (λ (t : ℕ). All (λ place. (at ≤ place) × (place + 8 ≤ at + length out)) (places_from (entry_of m) addr 3 t)) (sym (root_is at page)) (λ i d within.
+      subst (λ (t : ℕ). All (λ address. (at ≤ address) × (address + 8 ≤ at + length out)) (places_from (entry_of m) addr 3 t)) (sym (root_is at page)) (λ i d within.
       let r = met (entry_of m) (word_at out) (at / 4096) 1 n ws addr bounded entries ok 3 0 i d some (numbered.written addr (in_all addr lt)) within in
       let low = table_low addr (3 - i) r.table lt r.meets in
       (omega (arith, r.low), omega (arith, r.high)))

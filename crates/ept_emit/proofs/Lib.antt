@@ -5,5 +5,5 @@ pub mod Written
 pub mod Numbered
 pub mod EntryBits
 pub mod Walked
-pub mod Places
+pub mod Addresses
 pub mod Held

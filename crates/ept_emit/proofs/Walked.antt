@@ -4,7 +4,7 @@ use Rattle.std.specs.Prelude.{bit_and, if◌then◌else◌}
 use Rattle.std.proofs.lemmas.Bool.{and_from, or_right, le-leb, cases_eq, true≢false}
 use Rattle.std.proofs.Math.Nat.{mod-eq-sub-mul-div}
 use Rattle.ept_count.specs.declared.window.Leaf.{Leaf}
-use Rattle.ept_count.specs.declared.window.Leaf.TheVariants.{Small, Middle, Large}
+use Rattle.ept_count.specs.declared.window.Leaf.TheVariants.{Small, Large, Huge}
 use Rattle.ept_count.specs.declared.window.Window.{Window}
 use Rattle.ept_count.specs.Pages.{AreApart}
 use Rattle.machine_meaning.specs.declared.walk.Walk.{Walk}
@@ -21,16 +21,16 @@ use Rattle.ept_emit.proofs.Written.{Under, Free, Whole, Part, kind_of, word_of, 
 abbrev pub Has : (ℕ → ℕ → Option ℕ) → (ℕ → ℕ) → ℕ → ℕ → Type 0
 Has entry out base n = (k i : ℕ) → k < n → i < 512 → entry (base + k) i ≡ Some (out (512 * k + i))
 
--- the pages of each window's place are there
+-- the pages that each window leads to are there
 abbrev pub AreThere : (ℕ → Bool) → List Window → Type 0
-AreThere there ws = All (λ w. (k : ℕ) → w.place ≤ 4096 * k → 4096 * k < w.place + w.size → there k ≡ true) ws
+AreThere there ws = All (λ w. (k : ℕ) → w.address ≤ 4096 * k → 4096 * k < w.address + w.size → there k ≡ true) ws
 
 -- ---- a page that lies in a window
 
 pub level_low : (leaf : Leaf) → level_of leaf ≤ 2
 level_low Small = omega arith
-level_low Middle = omega arith
 level_low Large = omega arith
+level_low Huge = omega arith
 
 pub record Fits (w : Window) (l e : ℕ) : Type 0 where
   pub allowed : l ≤ level_of w.leaf
@@ -70,11 +70,11 @@ by_level (suc (suc zero)) (suc (suc zero)) to from a b h = h
 by_level (suc (suc zero)) (suc (suc (suc l))) to from a b h = absurd (omega arith)
 by_level (suc (suc (suc d))) l to from a b h = absurd (omega arith)
 
-place_aligned : (l e to from : ℕ) → l ≤ 2 → from ≤ span l * e → to % span l ≡ from % span l → (to + (span l * e - from)) % span l ≡ 0
-place_aligned zero e to from a b h = omega arith
-place_aligned (suc zero) e to from a b h = omega arith
-place_aligned (suc (suc zero)) e to from a b h = omega arith
-place_aligned (suc (suc (suc l))) e to from a b h = absurd (omega arith)
+address_aligned : (l e to from : ℕ) → l ≤ 2 → from ≤ span l * e → to % span l ≡ from % span l → (to + (span l * e - from)) % span l ≡ 0
+address_aligned zero e to from a b h = omega arith
+address_aligned (suc zero) e to from a b h = omega arith
+address_aligned (suc (suc zero)) e to from a b h = omega arith
+address_aligned (suc (suc (suc l))) e to from a b h = absurd (omega arith)
 
 in_pages : (l x : ℕ) → l ≤ 2 → x % span l ≡ 0 → x % 4096 ≡ 0
 in_pages zero x a h = h
@@ -83,14 +83,14 @@ in_pages (suc (suc zero)) x a h = omega arith
 in_pages (suc (suc (suc l))) x a h = absurd (omega arith)
 
 -- where the page of an entry lies
-abbrev pub place_at : Window → ℕ → ℕ → ℕ
-place_at w l e = w.place + (span l * e - w.guest)
+abbrev pub address_at : Window → ℕ → ℕ → ℕ
+address_at w l e = w.address + (span l * e - w.guest)
 
 pub record Mapped (w : Window) (l e : ℕ) : Type 0 where
   pub low : l ≤ 2
-  pub aligned : place_at w l e % span l ≡ 0
-  pub pages : place_at w l e % 4096 ≡ 0
-  pub small : place_at w l e < 2 ^ 40
+  pub aligned : address_at w l e % span l ≡ 0
+  pub pages : address_at w l e % 4096 ≡ 0
+  pub small : address_at w l e < 2 ^ 40
   pub present : is_present (leaf_entry w l e) ≡ true
   pub fine : is_misconfigured l (leaf_entry w l e) ≡ false
   pub leaf : is_leaf l (leaf_entry w l e) ≡ true
@@ -98,11 +98,11 @@ pub record Mapped (w : Window) (l e : ℕ) : Type 0 where
 mapped : (w : Window) (l e : ℕ) → IsEmittable w → Fits w l e → 0 < span l → Mapped w l e
 mapped w l e ok f some =
     let low : l ≤ 2 = omega (arith, level_low w.leaf, f.allowed) in
-    let x = place_at w l e in
-    let same = by_level (level_of w.leaf) l w.place w.guest (level_low w.leaf) f.allowed ok.aligned in
-    let aligned : x % span l ≡ 0 = place_aligned l e w.place w.guest low f.begins same in
+    let x = address_at w l e in
+    let same = by_level (level_of w.leaf) l w.address w.guest (level_low w.leaf) f.allowed ok.aligned in
+    let aligned : x % span l ≡ 0 = address_aligned l e w.address w.guest low f.begins same in
     let pages : x % 4096 ≡ 0 = in_pages l x low aligned in
-    let small : x < 2 ^ 40 = omega (arith, f.begins, f.ends, ok.place_end) in
+    let small : x < 2 ^ 40 = omega (arith, f.begins, f.ends, ok.address_end) in
     let below : l < 3 = omega arith in
     let t = type_small w.caching in
     record {
@@ -125,27 +125,27 @@ mapped_on ws l g w all some whole =
 abbrev pub leads : Option Window → ℕ → ℕ → Walk
 leads None addr want = Violation 0
 leads (Some w) addr want =
-    if bit_and w.rights.0 want == want then At (w.place + (addr - w.guest)) else Violation w.rights.0
+    if bit_and w.rights.0 want == want then At (w.address + (addr - w.guest)) else Violation w.rights.0
 
-ends_there : (there : ℕ → Bool) (addr want r place : ℕ) → there (place / 4096) ≡ true → ends there addr want r place ≡ (if bit_and r want == want then At place else Violation r)
-ends_there there addr want r place h = rw h refl
+ends_there : (there : ℕ → Bool) (addr want r address : ℕ) → there (address / 4096) ≡ true → ends there addr want r address ≡ (if bit_and r want == want then At address else Violation r)
+ends_there there addr want r address h = rw h refl
 
 -- at a page of the window
-page_walk : (there : ℕ → Bool) (l addr want word : ℕ) (w : Window) (new : ℕ → ℕ → Walk) → IsEmittable w → Fits w l (addr / span l) → Mapped w l (addr / span l) → ((k : ℕ) → w.place ≤ 4096 * k → 4096 * k < w.place + w.size → there k ≡ true) → word ≡ leaf_entry w l (addr / span l) → reads there l addr want 7 (Some word) new ≡ leads (Some w) addr want
-page_walk there l addr want word w new ok f m places is =
+page_walk : (there : ℕ → Bool) (l addr want word : ℕ) (w : Window) (new : ℕ → ℕ → Walk) → IsEmittable w → Fits w l (addr / span l) → Mapped w l (addr / span l) → ((k : ℕ) → w.address ≤ 4096 * k → 4096 * k < w.address + w.size → there k ≡ true) → word ≡ leaf_entry w l (addr / span l) → reads there l addr want 7 (Some word) new ≡ leads (Some w) addr want
+page_walk there l addr want word w new ok f m addresses is =
     let e = addr / span l in
-    let x = place_at w l e in
+    let x = address_at w l e in
     let t = type_of w.caching in
     let a = around l addr in
     let rest = mod-eq-sub-mul-div addr (span l) in
-    let place : x + addr % span l ≡ w.place + (addr - w.guest) = omega (arith, f.begins, a.0, rest) in
-    let inside : w.place + (addr - w.guest) < w.place + w.size = omega (arith, f.begins, f.ends, a.0, a.1) in
-    let low : w.place ≤ 4096 * ((w.place + (addr - w.guest)) / 4096) = omega (arith, ok.place) in
-    let there_it : there ((w.place + (addr - w.guest)) / 4096) ≡ true = places ((w.place + (addr - w.guest)) / 4096) low (omega arith) in
+    let address : x + addr % span l ≡ w.address + (addr - w.guest) = omega (arith, f.begins, a.0, rest) in
+    let inside : w.address + (addr - w.guest) < w.address + w.size = omega (arith, f.begins, f.ends, a.0, a.1) in
+    let low : w.address ≤ 4096 * ((w.address + (addr - w.guest)) / 4096) = omega (arith, ok.address) in
+    let there_it : there ((w.address + (addr - w.guest)) / 4096) ≡ true = addresses ((w.address + (addr - w.guest)) / 4096) low (omega arith) in
     ap (λ q. reads there l addr want 7 (Some q) new) is
     ∙ (reads_page there l addr want (leaf_entry w l e) w.rights.0 x new m.present m.fine m.leaf (maps_rights l x t w.rights.0 m.pages ok.known) ok.known (maps_address l x t w.rights.0 m.pages m.small (type_small w.caching) ok.known)
-    ∙ (ap (ends there addr want w.rights.0) place
-    ∙ ends_there there addr want w.rights.0 (w.place + (addr - w.guest)) there_it))
+    ∙ (ap (ends there addr want w.rights.0) address
+    ∙ ends_there there addr want w.rights.0 (w.address + (addr - w.guest)) there_it))
 
 abbrev pub deeper_walk : (ℕ → ℕ → Option ℕ) → (ℕ → Bool) → ℕ → ℕ → ℕ → ℕ → ℕ → Walk
 deeper_walk entry there addr want zero t r = Misconfigured
@@ -156,7 +156,7 @@ unfolding walk_from
 walk_is entry there addr want zero table rights = refl
 walk_is entry there addr want (suc l) table rights = refl
 
-module _ (entry : ℕ → ℕ → Option ℕ) (there : ℕ → Bool) (out : ℕ → ℕ) (base lo hi : ℕ) (ws : List Window) (addr want : ℕ) (small : base + hi ≤ 2 ^ 28) (has : Has entry out base hi) (ok : All IsEmittable ws) (places : AreThere there ws) where
+module _ (entry : ℕ → ℕ → Option ℕ) (there : ℕ → Bool) (out : ℕ → ℕ) (base lo hi : ℕ) (ws : List Window) (addr want : ℕ) (small : base + hi ≤ 2 ^ 28) (has : Has entry out base hi) (ok : All IsEmittable ws) (addresses : AreThere there ws) where
   at_entry : (l k : ℕ) → k < hi → walk_from entry there addr want l (base + k) 7 ≡ reads there l addr want 7 (Some (word_of out l k addr)) (deeper_walk entry there addr want l)
   at_entry l k lt =
       walk_is entry there addr want l (base + k) 7
@@ -179,7 +179,7 @@ module _ (entry : ℕ → ℕ → Option ℕ) (there : ℕ → Bool) (out : ℕ 
       let word = leaf_of (Under out base lo hi ws l addr) base lo hi l e (word_of out l k addr) (window_of ws l addr) w some whole (written_parts out base lo hi ws l k addr h) in
       let here = whole_within ws (span l * e) (span l) addr w some a.0 a.1 f.begins f.ends in
       at_entry l k lt
-      ∙ (page_walk there l addr want (word_of out l k addr) w (deeper_walk entry there addr want l) (All_on IsEmittable ws (span l * e) (span l) w ok some) f m (All_on (λ w. (k : ℕ) → w.place ≤ 4096 * k → 4096 * k < w.place + w.size → there k ≡ true) ws (span l * e) (span l) w places some) word
+      ∙ (page_walk there l addr want (word_of out l k addr) w (deeper_walk entry there addr want l) (All_on IsEmittable ws (span l * e) (span l) w ok some) f m (All_on (λ w. (k : ℕ) → w.address ≤ 4096 * k → 4096 * k < w.address + w.size → there k ≡ true) ws (span l * e) (span l) w addresses some) word
       ∙ sym (ap (λ o. leads o addr want) here))
 
   -- from any table on

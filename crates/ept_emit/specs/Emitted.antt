@@ -28,18 +28,18 @@ window_at ws addr = find (holds addr) ws
 abbrev pub translation_in : Option Window → ℕ → AccessKind → Walk
 translation_in None addr kind = Violation 0
 translation_in (Some w) addr kind =
-    if allows w.rights kind then At (w.place + (addr - w.guest)) else Violation w.rights.0
+    if allows w.rights kind then At (w.address + (addr - w.guest)) else Violation w.rights.0
 
--- where a window leads an access: to its place, where the window has the right for it
+-- where a window leads an access: to its physical address, where the window has the right for it
 abbrev pub translation : List Window → ℕ → AccessKind → Walk
 translation ws addr kind = translation_in (window_at ws addr) addr kind
 
--- the aligned span around an address that a page of this level maps lies wholly in the window
+-- the aligned range around an address that a page of this level maps lies wholly in the window
 pub record IsInside (w : Window) (level addr : ℕ) : Type 0 where
   pub begins : w.guest ≤ span level * (addr / span level)
   pub ends : span level * (addr / span level) + span level ≤ w.guest + w.size
 
--- the size is the greatest of those up to the window's whose aligned span around the address lies wholly in the window
+-- the size is the greatest of those up to the window's whose aligned range around the address lies wholly in the window
 pub record IsGreatestSize (w : Window) (addr size : ℕ) : Type 0 where
   pub level : ℕ
   pub is : size ≡ span level
@@ -53,11 +53,11 @@ pub record IsGreatestSize (w : Window) (addr size : ℕ) : Type 0 where
 abbrev pub HasTables : List Page → ℕ → List ℕ → Type 0
 HasTables m at bytes = (k : ℕ) → 4096 * k < length bytes → page_of m (at / 4096 + k) ≡ Some (take 4096 (drop (4096 * k) bytes))
 
--- each page of the place of each window is there
-abbrev pub HasPlaces : List Page → List Window → Type 0
-HasPlaces m ws = All (λ w. (k : ℕ) → w.place ≤ 4096 * k → 4096 * k < w.place + w.size → is_there m k ≡ true) ws
+-- each page that a window leads to is there
+abbrev pub HasAddresses : List Page → List Window → Type 0
+HasAddresses m ws = All (λ w. (k : ℕ) → w.address ≤ 4096 * k → 4096 * k < w.address + w.size → is_there m k ≡ true) ws
 
--- the walk for an address reads an entry of the table of this level in this page: places are read from the PML4 table, of
+-- the walk for an address reads an entry of the table of this level in this page: entries are read from the PML4 table, of
 -- level 3, on down
 pub record Reads (m : List Page) (eptp addr level page : ℕ) : Type 0 where
   pub depth : level ≤ 3

@@ -3,7 +3,7 @@
 use Rattle.std.specs.Prelude.{◌≡◌, ℕ, zero, suc, ◌+◌, ◌-◌, ◌*◌, ◌%◌, ◌^◌, ◌<◌, ◌≤◌, ◌==◌, ◌&&◌, ◌||◌, nat_le, Bool, List, take, drop, Option}
 use Rattle.std.specs.List.{find}
 use Rattle.ept_count.specs.declared.window.Leaf.{Leaf}
-use Rattle.ept_count.specs.declared.window.Leaf.TheVariants.{Small, Middle, Large}
+use Rattle.ept_count.specs.declared.window.Leaf.TheVariants.{Small, Large, Huge}
 use Rattle.ept_count.specs.declared.window.Window.{Window}
 use Rattle.ept_count.specs.Pages.{touches}
 use Rattle.machine_meaning.specs.Memory.{le_number}
@@ -14,8 +14,8 @@ use Rattle.policy_types.specs.declared.rights.Caching.TheVariants.{Uc, Wc, Wt, W
 -- the level of the tables whose entries map pages of this size
 abbrev pub level_of : Leaf → ℕ
 level_of Small = 0
-level_of Middle = 1
-level_of Large = 2
+level_of Large = 1
+level_of Huge = 2
 
 -- the memory type as bits 5:3 have it
 abbrev pub type_of : Caching → ℕ
@@ -40,7 +40,7 @@ is_whole w level e =
 
 -- an entry that maps a page of the window
 abbrev pub leaf_entry : Window → ℕ → ℕ → ℕ
-leaf_entry w level e = w.place + (span level * e - w.guest) + size_bit level + 8 * type_of w.caching + w.rights.0
+leaf_entry w level e = w.address + (span level * e - w.guest) + size_bit level + 8 * type_of w.caching + w.rights.0
 
 -- an entry that references the table in a page: it takes no right away
 abbrev pub table_entry : ℕ → ℕ
@@ -60,9 +60,9 @@ pub record IsEmittable (w : Window) : Type 0 where
   pub some : 0 < w.size
   pub guest : w.guest % 4096 ≡ 0
   pub size : w.size % 4096 ≡ 0
-  pub place : w.place % 4096 ≡ 0
+  pub address : w.address % 4096 ≡ 0
   pub end : w.guest + w.size ≤ 2 ^ 48
-  pub place_end : w.place + w.size ≤ 2 ^ 40
+  pub address_end : w.address + w.size ≤ 2 ^ 40
   pub known : w.rights.0 < 8
   pub read : w.rights.0 % 2 ≡ 1
-  pub aligned : w.place % span (level_of w.leaf) ≡ w.guest % span (level_of w.leaf)
+  pub aligned : w.address % span (level_of w.leaf) ≡ w.guest % span (level_of w.leaf)

@@ -12,10 +12,10 @@ use policy_types::Caching;
 pub(crate) const TABLE_ENTRIES: u64 = 512;
 
 /// The bytes that an entry of a page directory pointer table stands for.
-const DIRECTORY_SPAN: u64 = TABLE_ENTRIES * LARGE_PAGE;
+const HUGE_PAGE: u64 = TABLE_ENTRIES * LARGE_PAGE;
 
 /// The bytes that an entry of a PML4 table stands for.
-const POINTER_TABLE_SPAN: u64 = TABLE_ENTRIES * DIRECTORY_SPAN;
+const POINTER_TABLE_SIZE: u64 = TABLE_ENTRIES * HUGE_PAGE;
 
 /// The bytes of an entry.
 const ENTRY_BYTES: usize = 8;
@@ -31,7 +31,7 @@ const MAPS_PAGE: u64 = 1 << 7;
 
 /// How many bytes an entry of a table of this level stands for: level 3 is that of the PML4 table,
 /// level 0 that of page tables.
-pub(crate) fn span(level: u32) -> u64
+pub(crate) fn entry_size(level: u32) -> u64
     requires { level < 4 }
     ensures value { result ≡ span level }
     ensures small { result ≤ 2 ^ 39 }
@@ -40,8 +40,8 @@ pub(crate) fn span(level: u32) -> u64
     match level {
         0 => PAGE,
         1 => LARGE_PAGE,
-        2 => DIRECTORY_SPAN,
-        _ => POINTER_TABLE_SPAN,
+        2 => HUGE_PAGE,
+        _ => POINTER_TABLE_SIZE,
     }
 }
 
@@ -51,8 +51,8 @@ fn level_of(leaf: Leaf) -> u32
 {
     match leaf {
         Leaf::Small => 0,
-        Leaf::Middle => 1,
-        Leaf::Large => 2,
+        Leaf::Large => 1,
+        Leaf::Huge => 2,
     }
 }
 
@@ -80,7 +80,7 @@ pub(crate) fn is_whole(window: Window, level: u32, entry: u64) -> bool
     if level == 0 {
         return true;
     }
-    let bytes = span(level);
+    let bytes = entry_size(level);
     let start = bytes * entry;
     level <= level_of(window.leaf)
         && window.guest <= start
@@ -94,9 +94,9 @@ pub(crate) fn leaf_entry(window: Window, level: u32, entry: u64) -> u64
     requires touched { span level * entry < window.guest + window.size }
     ensures { result ≡ leaf_entry window level entry }
 {
-    let start = span(level) * entry;
+    let start = entry_size(level) * entry;
     let size_bit = if level == 0 { 0 } else { MAPS_PAGE };
-    window.place
+    window.address
         + start.saturating_sub(window.guest)
         + size_bit
         + TYPE_UNIT * type_of(window.caching)

@@ -5,7 +5,7 @@ ghost use Rattle.ept_emit.specs.Entries.{IsEmittable, window_on};
 ghost use Rattle.ept_emit.specs.Searches.{IsPast};
 ghost use Rattle.machine_meaning.specs.Walks.{span};
 
-use crate::entries::span;
+use crate::entries::entry_size;
 use ept_count::Window;
 
 // How many windows end by this address.
@@ -38,13 +38,13 @@ pub(crate) fn window_on(windows: &[Window], level: u32, entry: u64) -> Option<Wi
     ensures emittable { IfSome result IsEmittable }
     ensures touched { IfSome result (λ w. span level * entry < w.guest + w.size) }
 {
-    let bytes = span(level);
+    let bytes = entry_size(level);
     let start = bytes * entry;
-    let place = windows_before(windows, start);
-    if place == windows.len() {
+    let index = windows_before(windows, start);
+    if index == windows.len() {
         return None;
     }
-    let window = windows[place];
+    let window = windows[index];
     if window.guest < start + bytes {
         Some(window)
     } else {

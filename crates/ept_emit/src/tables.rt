@@ -1,7 +1,7 @@
 //! Tables, entry by entry.
 ghost use Rattle.std.specs.Prelude.{◌≡◌, ◌≢◌, ◌⊎◌, ℕ, suc, ◌+◌, ◌-◌, ◌*◌, ◌/◌, ◌%◌, ◌^◌, ◌<◌, ◌≤◌, length, All, List, IfSome};
 ghost use Rattle.ept_count.specs.Pages.{AreApart, ept_pages};
-ghost use Rattle.ept_emit.specs.Emitted.{HasPlaces, HasTables, IsGreatestSize, IsReadBy, Reads, eptp_of, translation, window_at};
+ghost use Rattle.ept_emit.specs.Emitted.{HasAddresses, HasTables, IsGreatestSize, IsReadBy, Reads, eptp_of, translation, window_at};
 ghost use Rattle.ept_emit.specs.Entries.{IsEmittable, word_at};
 ghost use Rattle.ept_emit.specs.Needs.{needs};
 ghost use Rattle.ept_emit.specs.Tables.{AreNumbered, IsWritten};
@@ -98,7 +98,7 @@ fn write_table(
 /// Writes the EPT tables for these windows into `out`, which is to lie at the physical address `at`:
 /// the PML4 table first, and each further table in the next page, in the order in which ascending
 /// guest addresses need them. An address of a window is mapped by the greatest page, up to the
-/// window's, whose aligned span around it lies wholly in the window; an entry that maps a page has
+/// window's, whose aligned range around it lies wholly in the window; an entry that maps a page has
 /// the window's rights and memory type, one that references a table has all rights, and all else is 0
 /// (Intel SDM volume 3, "VMX Support for Address Translation").
 ///
@@ -110,8 +110,8 @@ pub fn emit(windows: &[Window], at: u64, out: &mut [u8])
     requires at { at % 4096 ≡ 0 }
     requires end { at + 4096 * ept_pages windows.now ≤ 2 ^ 40 }
     requires room { length out.old ≡ 4096 * ept_pages windows.now }
-    ensures walk { (m : List Page) (addr : ℕ) (kind : AccessKind) → HasTables m at out.new → HasPlaces m windows.now → addr < 2 ^ 48 → walk_of m (eptp_of at) addr kind ≡ translation windows.now addr kind }
-    ensures alone { (m : List Page) (addr : ℕ) → HasTables m at out.new → addr < 2 ^ 48 → All (λ place. (at ≤ place) × (place + 8 ≤ at + length out.new)) (places_read m (eptp_of at) addr) }
+    ensures walk { (m : List Page) (addr : ℕ) (kind : AccessKind) → HasTables m at out.new → HasAddresses m windows.now → addr < 2 ^ 48 → walk_of m (eptp_of at) addr kind ≡ translation windows.now addr kind }
+    ensures alone { (m : List Page) (addr : ℕ) → HasTables m at out.new → addr < 2 ^ 48 → All (λ address. (at ≤ address) × (address + 8 ≤ at + length out.new)) (places_read m (eptp_of at) addr) }
     ensures paths { (m : List Page) (a b level other page : ℕ) → HasTables m at out.new → a < 2 ^ 48 → b < 2 ^ 48 → Reads m (eptp_of at) a level page → Reads m (eptp_of at) b other page → (level ≡ other) × (a / span (suc level) ≡ b / span (suc level)) }
     ensures leaves { (m : List Page) (addr : ℕ) → HasTables m at out.new → addr < 2 ^ 48 → IfSome (window_at windows.now addr) (λ w. IsGreatestSize w addr (leaf_size m (eptp_of at) addr)) }
     ensures order { (m : List Page) (addr level page k : ℕ) → HasTables m at out.new → addr < 2 ^ 48 → Reads m (eptp_of at) addr level page → at / 4096 ≤ k → k ≤ page → IsReadBy m (eptp_of at) addr k }

@@ -6,7 +6,7 @@ use Rattle.std.specs.List.{find, list_all}
 use Rattle.std.proofs.lemmas.Bool.{and_parts, leb-true, ltb-true}
 use Rattle.std.proofs.lemmas.List.{length-map}
 use Rattle.std.proofs.lemmas.List.Folds.{list_all-map}
-use Rattle.event_emit.specs.ByPlace.{event_part, has_letters, has_name, irq_target}
+use Rattle.event_emit.specs.ByIndex.{event_part, has_letters, has_name, irq_target}
 use Rattle.event_emit.specs.Tables.{IsEntry, IsIrqTarget}
 use Rattle.event_emit.proofs.KeptEvents.{irq_reaches, is_free, is_raised, is_routed, raised_reaches}
 use Rattle.expand_grants.specs.Grants.{AreRoutes, entry_raised, is_way, raised_named, route_for, target_named}
@@ -24,7 +24,7 @@ use Rattle.policy_types.specs.declared.source.Device.{Device}
 use Rattle.policy_types.specs.declared.source.Irq.{Irq}
 use Rattle.policy_types.specs.declared.source.SourceWay.{SourceWay}
 
--- where a name isn't empty, it stands at a place that is there
+-- where a name isn't empty, it stands at an index that is there
 named_within : (names : List (List ℕ)) (k : ℕ) → has_letters (name_at names k) ≡ true → k < length names
 named_within [] k h = let l : 0 < 0 = ltb-true 0 0 h in absurd (omega arith)
 named_within (n ∷ ns) zero h = omega arith

@@ -8,7 +8,7 @@ use Rattle.std.specs.Str.{bytes_eq}
 use Rattle.std.proofs.lemmas.Bool.{and_from, and_parts}
 use Rattle.std.proofs.lemmas.List.Folds.{list_all-append, list_all-map}
 use Rattle.std.proofs.lemmas.Slice.Eq.{bytes_eq-Decides}
-use Rattle.event_emit.specs.ByPlace.{has_letters}
+use Rattle.event_emit.specs.ByIndex.{has_letters}
 use Rattle.expand_grants.proofs.Elements.{all_filter, all_flat, all_some}
 use Rattle.image_pack.specs.Codes.{is_switch as switches, is_vector, vector_code}
 use Rattle.muen_num.proofs.Lists.{each_of, found_among}

@@ -1,4 +1,4 @@
-pub mod DevicesByPlace
+pub mod DevicesByIndex
 pub mod EntriesReach
 pub mod KeptEvents
-pub mod TablesByPlace
+pub mod TablesByIndex

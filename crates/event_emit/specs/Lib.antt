@@ -1,2 +1,2 @@
-pub mod ByPlace
+pub mod ByIndex
 pub mod Tables

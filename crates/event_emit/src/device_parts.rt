@@ -1,7 +1,7 @@
 //! The devices of a policy, as an image has them.
 ghost use Rattle.std.specs.Prelude.{◌≡◌, ◌+◌, ◌<◌, ◌^◌, true, length, map, option_map, IfOk, IfSome};
 ghost use Rattle.std.specs.List.{list_all, sum_by};
-ghost use Rattle.event_emit.specs.ByPlace.{AreFew, RouteFew, device_part, device_parts, irq_parts, irq_target, port_span, window_parts};
+ghost use Rattle.event_emit.specs.ByIndex.{AreFew, RouteFew, device_part, device_parts, irq_parts, irq_target, port_span, window_parts};
 ghost use Rattle.event_emit.specs.Tables.{AreDevices};
 ghost use Rattle.expand_grants.specs.ByPlace.{fits_device, fits_ports};
 ghost use Rattle.expand_grants.specs.Grants.{route_for};
@@ -36,7 +36,7 @@ fn port_spans(alloc: Global, ports: &[Ports]) -> Result<Seq<PortSpan>, NoMemory>
 }
 
 // So many spans of memory, numbered from `first` on.
-#[tactic(auto, unfolding(crate::specs::ByPlace::window_parts))]
+#[tactic(auto, unfolding(crate::specs::ByIndex::window_parts))]
 fn window_parts(alloc: Global, first: u16, count: usize) -> Result<Seq<WindowPart>, NoMemory>
     requires { first + count < 2 ^ 16 }
     ensures { IfOk result (λ parts. parts ≡ window_parts first count) }
@@ -60,7 +60,7 @@ fn irq_target(route: &Route) -> IrqTarget
     }
 }
 
-// The first of these routes for the interrupt at a place of the device at a place.
+// The first of these routes for the interrupt at an index of the device at an index.
 fn route_for(routes: &[Route], device: usize, irq: usize) -> Option<&Route>
     ensures { option_map (λ t. t.now) result ≡ route_for routes.now device irq }
 {
@@ -69,7 +69,7 @@ fn route_for(routes: &[Route], device: usize, irq: usize) -> Option<&Route>
         .find(|route| route.device == device && route.irq == irq)
 }
 
-// Whom the interrupt at a place of the device at a place reaches.
+// Whom the interrupt at an index of the device at an index reaches.
 fn target_of(routes: &[Route], device: usize, irq: usize) -> Option<IrqTarget>
     requires { IfSome (route_for routes.now device irq) (λ t. t.subject < 2 ^ 8) }
     ensures { result ≡ option_map irq_target (route_for routes.now device irq) }
@@ -80,7 +80,7 @@ fn target_of(routes: &[Route], device: usize, irq: usize) -> Option<IrqTarget>
     }
 }
 
-// The interrupts of the device at a place.
+// The interrupts of the device at an index.
 fn irq_parts(
     alloc: Global,
     routes: &[Route],
@@ -91,38 +91,38 @@ fn irq_parts(
     ensures { IfOk result (λ parts. parts ≡ irq_parts routes.now device irqs.now) }
 {
     let mut parts = Seq::new(alloc);
-    for (place, irq) in irqs.iter().enumerate() {
+    for (index, irq) in irqs.iter().enumerate() {
         parts.push(IrqPart {
             name: irq.name,
-            target: target_of(routes, device, place),
+            target: target_of(routes, device, index),
         })?;
     }
     Ok(parts)
 }
 
-// The device at a place, whose memory is numbered from `first` on.
+// The device at an index, whose memory is numbered from `first` on.
 fn device_part(
     alloc: Global,
     routes: &[Route],
-    place: usize,
+    index: usize,
     first: u16,
     device: &Device,
 ) -> Result<DevicePart, NoMemory>
     requires ports { fits_device device.now ≡ true }
-    requires routes { RouteFew routes.now place (length device.now.irqs) }
+    requires routes { RouteFew routes.now index (length device.now.irqs) }
     requires spans { first + length device.now.memory < 2 ^ 16 }
-    ensures { IfOk result (λ part. part ≡ device_part routes.now place first device.now) }
+    ensures { IfOk result (λ part. part ≡ device_part routes.now index first device.now) }
 {
     Ok(DevicePart {
         name: device.name,
         ports: port_spans(alloc, device.io_ports.items())?,
         windows: window_parts(alloc, first, device.memory.len())?,
-        irqs: irq_parts(alloc, routes, place, device.irqs.items())?,
+        irqs: irq_parts(alloc, routes, index, device.irqs.items())?,
     })
 }
 
 // These devices, whose memory is numbered on from one to the next, from `first` on.
-#[tactic(auto, unfolding(crate::specs::ByPlace::device_parts))]
+#[tactic(auto, unfolding(crate::specs::ByIndex::device_parts))]
 fn device_parts(
     alloc: Global,
     routes: &[Route],
@@ -136,8 +136,8 @@ fn device_parts(
 {
     let mut parts = Seq::new(alloc);
     let mut next = first;
-    for (place, device) in devices.iter().enumerate() {
-        parts.push(device_part(alloc, routes, place, next, device)?)?;
+    for (index, device) in devices.iter().enumerate() {
+        parts.push(device_part(alloc, routes, index, next, device)?)?;
         next += device.memory.len() as u16;
     }
     Ok(parts)
@@ -146,12 +146,12 @@ fn device_parts(
 /// The devices of the policy, where the spans of their memory are numbered from `first` on.
 ///
 /// Answers `NoMemory` where memory was refused.
-pub fn devices(alloc: Global, plain: &Expanded, first: u16) -> Result<Seq<DevicePart>, NoMemory>
-    requires { first + sum_by (λ d. length d.memory) plain.now.lawful.devices < 2 ^ 16 }
-    ensures { IfOk result (AreDevices plain.now.lawful first plain.now.lawful.devices) }
+pub fn devices(alloc: Global, expanded: &Expanded, first: u16) -> Result<Seq<DevicePart>, NoMemory>
+    requires { first + sum_by (λ d. length d.memory) expanded.now.lawful.devices < 2 ^ 16 }
+    ensures { IfOk result (AreDevices expanded.now.lawful first expanded.now.lawful.devices) }
 {
-    let policy = plain.lawful().resolved();
+    let policy = expanded.lawful().resolved();
     // A target that is named is one of the subjects, since no name is empty.
     prove!(are_named(policy.subjects()));
-    device_parts(alloc, plain.routes(), first, policy.devices())
+    device_parts(alloc, expanded.routes(), first, policy.devices())
 }

@@ -1,7 +1,7 @@
 //! The tables of events of subjects.
 ghost use Rattle.std.specs.Prelude.{◌≡◌, ◌<◌, ◌^◌, true, map, option_map, IfOk, IfSome};
 ghost use Rattle.std.specs.List.{All, AllZip, find, list_all};
-ghost use Rattle.event_emit.specs.ByPlace.{ReachFew, entry_at, event_part, has_name, has_way, table_of, tables_of};
+ghost use Rattle.event_emit.specs.ByIndex.{ReachFew, entry_at, event_part, has_name, has_way, table_of, tables_of};
 ghost use Rattle.event_emit.specs.Tables.{AreTables};
 ghost use Rattle.expand_grants.specs.declared.granted.Way.TheVariants.{Call, Trap};
 
@@ -75,7 +75,7 @@ fn entry_at(entries: &[EventEntry], way: Way) -> Option<EventPart>
 }
 
 // What these entries raise by calls, by their numbers.
-#[tactic(auto, unfolding(crate::specs::ByPlace::table_of))]
+#[tactic(auto, unfolding(crate::specs::ByIndex::table_of))]
 fn calls(alloc: Global, entries: &[EventEntry]) -> Result<Seq<Option<EventPart>>, NoMemory>
     requires { ReachFew entries.now }
     ensures { IfOk result (λ table. table ≡ table_of entries.now Call) }
@@ -88,7 +88,7 @@ fn calls(alloc: Global, entries: &[EventEntry]) -> Result<Seq<Option<EventPart>>
 }
 
 // What they raise by traps, by their exit reasons.
-#[tactic(auto, unfolding(crate::specs::ByPlace::table_of))]
+#[tactic(auto, unfolding(crate::specs::ByIndex::table_of))]
 fn traps(alloc: Global, entries: &[EventEntry]) -> Result<Seq<Option<EventPart>>, NoMemory>
     requires { ReachFew entries.now }
     ensures { IfOk result (λ table. table ≡ table_of entries.now Trap) }
@@ -125,11 +125,11 @@ fn all_tables(alloc: Global, grants: &[Grants]) -> Result<Seq<EventTables>, NoMe
 /// For each subject, in their order, what its calls and its traps raise, each by its number.
 ///
 /// Answers `NoMemory` where memory was refused.
-pub fn tables(alloc: Global, plain: &Expanded) -> Result<Seq<EventTables>, NoMemory>
-    ensures { IfOk result (AllZip (AreTables plain.now.lawful) plain.now.lawful.subjects) }
+pub fn tables(alloc: Global, expanded: &Expanded) -> Result<Seq<EventTables>, NoMemory>
+    ensures { IfOk result (AllZip (AreTables expanded.now.lawful) expanded.now.lawful.subjects) }
 {
-    let policy = plain.lawful().resolved();
+    let policy = expanded.lawful().resolved();
     // A target that is named is one of the subjects, since no name is empty.
     prove!(are_named(policy.subjects()));
-    all_tables(alloc, plain.grants())
+    all_tables(alloc, expanded.grants())
 }

@@ -14,9 +14,9 @@ use Rattle.std.proofs.lemmas.List.Sums.{sum_by-cons}
 use Rattle.std.proofs.lemmas.Option.{get_or_from_slice_get, slice_get_within}
 use Rattle.expand_grants.specs.Resources.{Msr, msr_grant, msrs_in, msrs_of}
 use Rattle.image_emit.specs.Made.{IsMade, Made, image_of, policy_of}
-use Rattle.image_emit.proofs.AtPlaces.{looked_up}
-use Rattle.image_emit.proofs.PlacesBySubject.{each_subject}
-use Rattle.image_emit.proofs.PlacesOfKernel.{kernel_bytes_at}
+use Rattle.image_emit.proofs.AtIndexes.{looked_up}
+use Rattle.image_emit.proofs.BySubject.{each_subject}
+use Rattle.image_emit.proofs.SpansOfKernel.{kernel_bytes_at}
 use Rattle.image_meaning.specs.Memory.{bytes_at}
 use Rattle.image_meaning.specs.Sound.{ForEachSubject, HasArea}
 use Rattle.machine_meaning.proofs.AreaLaws.{areas_are_read_back}

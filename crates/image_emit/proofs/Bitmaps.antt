@@ -8,8 +8,8 @@ use Rattle.std.proofs.lemmas.List.{take_all}
 use Rattle.std.proofs.lemmas.List.Folds.{list_all-append, list_any-append}
 use Rattle.expand_grants.specs.Resources.{Msr, are_granted, is_granted, msr_grant, msrs_in, msrs_of, port_ranges_of, ports_of}
 use Rattle.image_emit.specs.Made.{IsMade, Made, image_of, policy_of}
-use Rattle.image_emit.proofs.PlacesBySubject.{each_subject}
-use Rattle.image_emit.proofs.PlacesOfKernel.{kernel_bytes_at}
+use Rattle.image_emit.proofs.BySubject.{each_subject}
+use Rattle.image_emit.proofs.SpansOfKernel.{kernel_bytes_at}
 use Rattle.image_emit.proofs.BitmapsOfPorts.{any_port}
 use Rattle.image_meaning.specs.Memory.{bytes_at, page_at}
 use Rattle.image_meaning.specs.Sound.{ForEachSubject, HasBitmaps}
@@ -21,7 +21,7 @@ use Rattle.muen_num.specs.Range.{numbers_below}
 use Rattle.muen_num.specs.declared.limits.TheConstants.{LAST_PORT, PAGE}
 use Rattle.muen_num.specs.declared.tag.TagPart.TheVariants.{Iobm, Msrbm}
 use Rattle.policy_lawful.specs.Resolution.{Resolution, source_of, subject_named}
-use Rattle.policy_lawful.specs.declared.resolved.Subject.{Subject as PlacedSubject}
+use Rattle.policy_lawful.specs.declared.resolved.Subject.{Subject as ResolvedSubject}
 use Rattle.policy_types.specs.declared.resources.PortRange.{PortRange}
 use Rattle.policy_types.specs.declared.source.Msrs.{Msrs}
 use Rattle.policy_types.specs.declared.source.Source.{Source}
@@ -101,7 +101,7 @@ msr_granted (x ∷ xs) index write =
     list_any-append (λ (m : Msr). (m.index == index) && (if write then m.write else m.read)) (msrs_in x) (flat_map msrs_in xs)
     ∙ ap₂ (λ a b. a || b) (one_range x index write) (msr_granted xs index write)
 
-granted_of : (r : Resolution) (s : PlacedSubject) (index : ℕ) (write : Bool) → is_granted (msrs_of (subject_named r s)) index write ≡ is_msr_granted (map msr_grant s.msrs) index write
+granted_of : (r : Resolution) (s : ResolvedSubject) (index : ℕ) (write : Bool) → is_granted (msrs_of (subject_named r s)) index write ≡ is_msr_granted (map msr_grant s.msrs) index write
 unfolding msrs_of
 granted_of r s index write = msr_granted s.msrs index write
 

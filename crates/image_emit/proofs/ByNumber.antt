@@ -8,7 +8,7 @@ use Rattle.std.proofs.lemmas.Bool.{cases_lt}
 use Rattle.std.proofs.lemmas.Slice.Zip.{AllZip-long}
 use Rattle.std.proofs.lemmas.List.{length-map}
 use Rattle.std.proofs.lemmas.List.FromFn.{length-enumerate_from}
-use Rattle.image_emit.proofs.AtPlaces.{looked_up, mapped_there, none_missing}
+use Rattle.image_emit.proofs.AtIndexes.{looked_up, mapped_there, none_missing}
 use Rattle.region_alloc.specs.Placement.{in_a_block}
 use Rattle.image_emit.specs.Made.{IsMade, Made, content_at, image_of, policy_of}
 use Rattle.image_meaning.specs.Memory.{Span, by_number, span_at}
@@ -37,28 +37,28 @@ zip_length [] ys h = refl
 zip_length (x ∷ xs) [] h = absurd (omega (arith, h))
 zip_length (x ∷ xs) (y ∷ ys) h = ap suc (zip_length xs ys (omega (arith, h)))
 
--- as many places as regions
-pub as_many_places : (m : Made) → IsMade m → length m.placed.places ≡ length m.placed.plain.regions
-as_many_places m h = AllZip-long (λ r place. in_a_block (policy_of m).memory_blocks place r.size ≡ true) m.placed.plain.regions m.placed.places h.inside
+-- as many addresses as regions
+pub as_many_addresses : (m : Made) → IsMade m → length m.placed.addresses ≡ length m.placed.expanded.regions
+as_many_addresses m h = AllZip-long (λ r address. in_a_block (policy_of m).memory_blocks address r.size ≡ true) m.placed.expanded.regions m.placed.addresses h.inside
 
-pub region_spans_length : (m : Made) → IsMade m → length (region_spans m.placed.plain.regions m.placed.places) ≡ length m.placed.plain.regions
+pub region_spans_length : (m : Made) → IsMade m → length (region_spans m.placed.expanded.regions m.placed.addresses) ≡ length m.placed.expanded.regions
 region_spans_length m h =
-    let regions = m.placed.plain.regions in
-    let places = m.placed.places in
-    length-map (enumerate_from 0 (zip regions places)) region_span ∙ length-enumerate_from 0 (zip regions places) ∙ zip_length regions places (as_many_places m h)
+    let regions = m.placed.expanded.regions in
+    let addresses = m.placed.addresses in
+    length-map (enumerate_from 0 (zip regions addresses)) region_span ∙ length-enumerate_from 0 (zip regions addresses) ∙ zip_length regions addresses (as_many_addresses m h)
 
 -- the spans are in the order of their numbers
 number_is : (m : Made) → IsMade m → (n : ℕ) (s : SpanPart) → slice_get (spans_of m.placed) n ≡ Some s → s.number ≡ n
 unfolding spans_of
 number_is m h n s at =
-    let regions = m.placed.plain.regions in
-    let places = m.placed.places in
-    let front = region_spans regions places in
+    let regions = m.placed.expanded.regions in
+    let addresses = m.placed.addresses in
+    let front = region_spans regions addresses in
     let back = device_spans (length regions) (policy_of m).devices in
     let many = region_spans_length m h in
     elim (cases_lt n (length front)) [
       | inl low ↦
-          let found = mapped_there region_span 0 (zip regions places) n s (sym (get_left front back n low) ∙ at) in
+          let found = mapped_there region_span 0 (zip regions addresses) n s (sym (get_left front back n low) ∙ at) in
           ap (λ (p : SpanPart). p.number) (sym found.2) ∙ omega arith
       | inr high ↦
           let split : length front + (n - length front) ≡ n = omega (arith, high) in

@@ -36,7 +36,7 @@ use Rattle.subject_emit.proofs.Pieces.{from_some}
 
 -- ---- lists
 
--- what holds of what stands at each place of two lists holds of the lists
+-- what holds of what stands at each index of two lists holds of the lists
 zip_from : {X Y : Type 0} (R : X → Y → Type 0) (xs : List X) (ys : List Y) → length xs ≡ length ys → ((k : ℕ) (x : X) (y : Y) → slice_get xs k ≡ Some x → slice_get ys k ≡ Some y → R x y) → AllZip R xs ys
 zip_from R [] [] l h = tt
 zip_from R [] (y ∷ ys) l h = absurd (omega (arith, l))
@@ -44,9 +44,9 @@ zip_from R (x ∷ xs) [] l h = absurd (omega (arith, l))
 zip_from R (x ∷ xs) (y ∷ ys) l h = (h 0 x y refl refl, zip_from R xs ys (omega (arith, l)) (λ k a b p q. h (suc k) a b p q))
 
 -- and of one
-all_from_places : {X : Type 0} (P : X → Type 0) (xs : List X) → ((k : ℕ) (x : X) → slice_get xs k ≡ Some x → P x) → All P xs
-all_from_places P [] h = All-nil P
-all_from_places P (x ∷ xs) h = All-cons P x xs (h 0 x refl) (all_from_places P xs (λ k y e. h (suc k) y e))
+all_from_indexes : {X : Type 0} (P : X → Type 0) (xs : List X) → ((k : ℕ) (x : X) → slice_get xs k ≡ Some x → P x) → All P xs
+all_from_indexes P [] h = All-nil P
+all_from_indexes P (x ∷ xs) h = All-cons P x xs (h 0 x refl) (all_from_indexes P xs (λ k y e. h (suc k) y e))
 
 -- ---- ports
 
@@ -80,7 +80,7 @@ irqs_kept r n d (i ∷ is) (q ∷ qs) many are named =
     (subst (λ k. IsIrq k q) many (record { called = ap is_name are.0.name ∙ parts.0; reached = are.0.granted }))
     (irqs_kept r n d is qs many are.1 parts.1)
 
--- ---- devices by their places
+-- ---- devices by their indexes
 
 -- the spans have the memory of these in turn, from a number on
 abbrev HaveMemory : List SpanPart → ℕ → List (List ℕ × DeviceMemory) → Type 0
@@ -89,7 +89,7 @@ HaveMemory spans first xs = (k : ℕ) (x : List ℕ × DeviceMemory) → slice_g
 abbrev named_memory : Device → List (List ℕ × DeviceMemory)
 named_memory d = map (λ m. (d.name, m)) d.memory
 
--- a device of the policy at a place, and what is known of that of the image
+-- a device of the policy at an index, and what is known of that of the image
 record HasDevice (r : Resolution) (spans : List SpanPart) (ds : List Device) (j : ℕ) (q : DevicePart) : Type 0 where
   device : Device
   there : slice_get ds j ≡ Some device
@@ -158,7 +158,7 @@ module _ (m : Made) (h : IsMade m) where
         ∙ length-map (numbers_below (length d.memory)) (λ k. first + k)
         ∙ length_numbers (length d.memory)
 
-    -- the number of the span of the window at a place
+    -- the number of the span of the window at an index
     number_of : (k : ℕ) (w : WindowPart) → slice_get q.windows k ≡ Some w → w.span ≡ first + k
     number_of k w there =
         let l = slice_get_within q.windows k w there in
@@ -206,14 +206,14 @@ module _ (m : Made) (h : IsMade m) where
   pub devices_kept : All (IsDevice (image_of m)) (image_of m).devices
   unfolding image_of
   devices_kept =
-      all_from_places (IsDevice (image_of m)) m.devices
+      all_from_indexes (IsDevice (image_of m)) m.devices
       (λ j q at.
-      let of = device_at (policy_of m) (spans_of m.placed) (length m.placed.plain.regions) (policy_of m).devices m.devices h.devices (memory_there m h) j q at in
+      let of = device_at (policy_of m) (spans_of m.placed) (length m.placed.expanded.regions) (policy_of m).devices m.devices h.devices (memory_there m h) j q at in
       is_device j q of.device of.first of.there of.is of.memory)
 
   -- their names differ
   pub names_kept : AreDistinct (map (λ d. d.name) (image_of m).devices)
   unfolding image_of source_of
   names_kept =
-      subst AreDistinct (sym (names_of_devices (policy_of m) (length m.placed.plain.regions) (policy_of m).devices m.devices h.devices))
+      subst AreDistinct (sym (names_of_devices (policy_of m) (length m.placed.expanded.regions) (policy_of m).devices m.devices h.devices))
       (names_differ (map (λ d. d.name) (policy_of m).devices) (unique (source_of (policy_of m)) h.resolved.names).devices)

@@ -10,7 +10,7 @@ use Rattle.std.proofs.lemmas.List.Sums.{AllPass-from_list_all}
 use Rattle.std.proofs.lemmas.Option.{get_or_from_slice_get, slice_get_within}
 use Rattle.expand_kernel.specs.Regions.{own_region}
 use Rattle.image_emit.proofs.KeptPorts.{few_devices}
-use Rattle.image_emit.proofs.PlanChoice.{first_place, is_memory, own_at}
+use Rattle.image_emit.proofs.PlanChoice.{first_index, is_memory, own_at}
 use Rattle.image_emit.proofs.PlanSubjects.{names_in_image, position_there}
 use Rattle.image_emit.proofs.SpansAt.{region_at}
 use Rattle.image_emit.specs.Made.{IsMade, Made, image_of, policy_of}
@@ -64,7 +64,7 @@ devices_long r first (d ∷ ds) (q ∷ qs) h = ap suc (devices_long r (first + l
 
 -- and as many devices
 pub devices_many : (m : Made) → IsMade m → length m.devices ≡ length (policy_of m).devices
-devices_many m h = devices_long (policy_of m) (length m.placed.plain.regions) (policy_of m).devices m.devices h.devices
+devices_many m h = devices_long (policy_of m) (length m.placed.expanded.regions) (policy_of m).devices m.devices h.devices
 
 -- a subject is listed in some group, so there is one
 some_group : (p : Source) (ss : List Subject) → 1 ≤ length ss → list_all (λ s. times_listed p s.name == 1) ss ≡ true → (gs : List Group) → p.scheduling.groups ≡ gs → 1 ≤ length gs
@@ -194,7 +194,7 @@ same_span spans s a differ l is k d within same =
 own_span : (m : Made) → IsMade m → (n : ℕ) (r : SourceRegion) → slice_get (policy_of m).memory n ≡ Some r → IsChoice m.spans (Some n)
 unfolding source_of
 own_span m h n r at =
-    let s = region_span (n, (own_region r, slice_index m.placed.places n)) in
+    let s = region_span (n, (own_region r, slice_index m.placed.addresses n)) in
     let region = ap (λ rs. slice_get rs n) h.expansion.regions ∙ own_at (source_of (policy_of m)) n r at in
     let there : slice_get (spans_of m.placed) n ≡ Some s = region_at m h n (own_region r) region in
     let within = slice_get_within (spans_of m.placed) n s there in
@@ -211,7 +211,7 @@ chosen_kept m h t is =
     let memory = (policy_of m).memory in
     let test : SourceRegion → Bool = λ r. bytes_eq r.name t.region in
     let n = position_or_len test memory in
-    let low = first_place test memory (is_memory (source_of (policy_of m)) t is h.lawful.rule_16) in
+    let low = first_index test memory (is_memory (source_of (policy_of m)) t is h.lawful.rule_16) in
     let found = there memory n low in
     subst (IsChoice m.spans) (sym (position_there test memory low)) (own_span m h n found.0 found.1)
 

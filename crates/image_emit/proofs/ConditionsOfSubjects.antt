@@ -14,11 +14,11 @@ use Rattle.expand_kernel.specs.ByPlace.{mapped_views}
 use Rattle.expand_kernel.specs.Regions.{anywhere, kernel_regions}
 use Rattle.expand_kernel.specs.declared.region.Region.{Region}
 use Rattle.expand_kernel.specs.declared.region.RegionKind.TheVariants.{Kernel}
-use Rattle.image_emit.proofs.AtPlaces.{mapped_there, zipped_there}
+use Rattle.image_emit.proofs.AtIndexes.{mapped_there, zipped_there}
 use Rattle.image_emit.proofs.ConditionsOfPlan.{subjects_many}
 use Rattle.image_emit.proofs.EventsKept.{table_kept}
 use Rattle.image_emit.proofs.GroupsKept.{first_here, group_there}
-use Rattle.image_emit.proofs.PlacesOfKernel.{sound_of}
+use Rattle.image_emit.proofs.SpansOfKernel.{sound_of}
 use Rattle.image_emit.proofs.SpansAt.{at_number, region_at, some_span, zip_at}
 use Rattle.image_emit.specs.Made.{IsMade, Made, image_of, policy_of, subject_part, subject_parts}
 use Rattle.image_pack.specs.Codes.{part_code}
@@ -37,16 +37,16 @@ use Rattle.policy_lawful.specs.declared.resolved.Subject.{Subject}
 use Rattle.policy_types.specs.declared.source.SourceWay.TheVariants.{Call, Trap}
 use Rattle.span_emit.specs.Spans.{region_span}
 use Rattle.std.proofs.lemmas.List.Folds.{list_all-map}
-use Rattle.subject_emit.proofs.Numbered.{kernel_at_place}
+use Rattle.subject_emit.proofs.Numbered.{kernel_at_index}
 use Rattle.subject_emit.proofs.Pieces.{both_at, other_at}
-use Rattle.subject_emit.proofs.PlacesFit.{tables_there}
+use Rattle.subject_emit.proofs.AddressesFit.{tables_there}
 use Rattle.subject_emit.specs.Mapped.{kernel_first}
 use Rattle.subject_emit.specs.Pages.{ArePages, tables_at}
 use Rattle.subject_emit.specs.declared.subject_pages.SubjectPages.{SubjectPages}
 
 -- ---- lists
 
--- what holds at each place holds of each with its number
+-- what holds at each index holds of each with its number
 pub all_with_numbers : {X : Type 0} (P : ℕ × X → Type 0) (from : ℕ) (xs : List X) → ((j : ℕ) (x : X) → slice_get xs j ≡ Some x → P (from + j, x)) → All P (enumerate_from from xs)
 all_with_numbers P from [] h = All-nil P
 all_with_numbers P from (x ∷ xs) h =
@@ -69,16 +69,16 @@ eptp_kept at size whole some end =
 module _ (m : Made) (h : IsMade m) where
   -- ---- a subject
 
-  module _ (k : ℕ) (s : Subject) (g : Grants) (t : EventTables) (at : slice_get (policy_of m).subjects k ≡ Some s) (granted : slice_get m.placed.plain.grants k ≡ Some g) (raised : slice_get m.events k ≡ Some t) where
+  module _ (k : ℕ) (s : Subject) (g : Grants) (t : EventTables) (at : slice_get (policy_of m).subjects k ≡ Some s) (granted : slice_get m.placed.expanded.grants k ≡ Some g) (raised : slice_get m.events k ≡ Some t) where
     -- one of the kernel's regions for the subject
     kernel_span : (j : ℕ) (y : Region) (code pages : ℕ) → slice_get (kernel_regions s.name (ept_pages (mapped_views g.views))) j ≡ Some y → part_code y.tag.part ≡ code → nat_le pages (y.size / PAGE) ≡ true
         → is_kernel_span m.spans code pages (kernel_first (policy_of m) k + j) ≡ true
     unfolding is_kernel_span
     kernel_span j y code pages is part size =
         let n = kernel_first (policy_of m) k + j in
-        let span = region_span (n, (y, slice_index m.placed.places n)) in
+        let span = region_span (n, (y, slice_index m.placed.addresses n)) in
         some_span m h (λ s. (s.number == n) && (part_code s.tag.part == code) && nat_le pages s.pages) n span
-        (region_at m h n y (kernel_at_place m.placed (sound_of m h) k j s g y at granted is))
+        (region_at m h n y (kernel_at_index m.placed (sound_of m h) k j s g y at granted is))
         (and_from ((n == n) && (part_code y.tag.part == code)) (nat_le pages (y.size / PAGE))
         (and_from (n == n) (part_code y.tag.part == code) (eq-eqb n n refl) (eq-eqb (part_code y.tag.part) code part)) size)
 
@@ -101,11 +101,11 @@ module _ (m : Made) (h : IsMade m) where
 
     few : count_of g.msrs ≤ MOST_MSRS
     few =
-        let both = zip (policy_of m).subjects m.placed.plain.grants in
+        let both = zip (policy_of m).subjects m.placed.expanded.grants in
         let e : ℕ × (Subject × Grants) = (k, (s, g)) in
         let n : 0 + k ≡ k = omega arith in
         let here : slice_get (enumerate_from 0 both) k ≡ Some e =
-        at_number 0 both k (s, g) (zip_at (policy_of m).subjects m.placed.plain.grants k s g at granted) ∙ ap (λ i. Some (i, (s, g))) n in
+        at_number 0 both k (s, g) (zip_at (policy_of m).subjects m.placed.expanded.grants k s g at granted) ∙ ap (λ i. Some (i, (s, g))) n in
         let pages = other_at (λ (e : ℕ × (Subject × Grants)) (q : SubjectPages). ArePages m.placed e.0 e.1.0 e.1.1 q) (enumerate_from 0 both) m.pages k e h.pages here in
         pages.2.few
 
@@ -144,12 +144,12 @@ module _ (m : Made) (h : IsMade m) where
   unfolding image_of
   subjects_kept =
       let r = policy_of m in
-      let parts = zip r.subjects (zip m.placed.plain.grants m.events) in
+      let parts = zip r.subjects (zip m.placed.expanded.grants m.events) in
       all_with_numbers (IsSubject (image_of m)) 0 (subject_parts m)
       (λ j q at.
       let there = mapped_there (subject_part m.placed) 0 parts j q at in
-      let both = zipped_there r.subjects (zip m.placed.plain.grants m.events) j there.0 there.1 in
-      let last = zipped_there m.placed.plain.grants m.events j there.0.1 both.1 in
+      let both = zipped_there r.subjects (zip m.placed.expanded.grants m.events) j there.0 there.1 in
+      let last = zipped_there m.placed.expanded.grants m.events j there.0.1 both.1 in
       let n : j ≡ 0 + j = omega arith in
       subst (λ (q : SubjectPart). IsSubject (image_of m) (0 + j, q)) there.2
       (subst (λ i. IsSubject (image_of m) (i, subject_part m.placed (i, there.0))) n (is_subject j there.0.0 there.0.1.0 there.0.1.1 both.0 last.0 last.1)))

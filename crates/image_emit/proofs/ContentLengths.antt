@@ -20,7 +20,7 @@ use Rattle.span_emit.proofs.KeptRegions.{IsWhole, regions_whole}
 
 -- ---- regions are whole pages
 
-pub whole_regions : (m : Made) → IsMade m → All IsWhole m.placed.plain.regions
+pub whole_regions : (m : Made) → IsMade m → All IsWhole m.placed.expanded.regions
 whole_regions m h = subst (All IsWhole) (sym h.expansion.regions) (regions_whole (source_of (policy_of m)) h.lawful.rule_4)
 
 pub all_at : {X : Type 0} (P : X → Type 0) (xs : List X) (n : ℕ) (x : X) → All P xs → slice_get xs n ≡ Some x → P x
@@ -46,7 +46,7 @@ beside R f (x ∷ xs) h = (All-head (λ x. R x (f x)) x xs h, beside R f xs (All
 module _ (m : Made) (h : IsMade m) where
   of_region : (n : ℕ) (s : SpanPart) → IsRegionAt m n s → IsContent s (content_at m s)
   of_region n s a =
-      let size : PAGE * (a.region.size / PAGE) ≡ a.region.size = whole_size a.region.size (all_at IsWhole m.placed.plain.regions n a.region (whole_regions m h) a.there).pages in
+      let size : PAGE * (a.region.size / PAGE) ≡ a.region.size = whole_size a.region.size (all_at IsWhole m.placed.expanded.regions n a.region (whole_regions m h) a.there).pages in
       subst (λ s. IsContent s (content_at m s)) (sym a.is)
       (bytes_sized m h n a.region a.there
       ∙ sym size

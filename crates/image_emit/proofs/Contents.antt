@@ -9,7 +9,7 @@ use Rattle.expand_kernel.specs.ByPlace.{brought_at, kernel_for, kernel_for_each,
 use Rattle.expand_kernel.specs.Regions.{channel_region, own_region, provided_region}
 use Rattle.expand_kernel.specs.declared.region.Region.{Region}
 use Rattle.image_emit.specs.Made.{IsMade, Made, content_at, image_of, kernel_bytes, policy_of, region_bytes, thing_bytes}
-use Rattle.image_emit.proofs.ByNumber.{as_many_places, by_number_is}
+use Rattle.image_emit.proofs.ByNumber.{as_many_addresses, by_number_is}
 use Rattle.image_emit.proofs.ContentLengths.{region_kind, whole_regions, whole_size}
 use Rattle.image_emit.proofs.PiecesOfLists.{all_pieces, filter_map_same, zip_append, zip_map_both, zip_pieces}
 use Rattle.image_emit.proofs.RegionSizes.{first_regions, last_regions, regions_are, things_sized}
@@ -71,7 +71,7 @@ last_kept : (m : Made) → All (IsKept false) (last_regions m)
 unfolding kernel_for_each
 last_kept m =
     all_pieces (IsKept false) kernel_for (λ e. All-from_recursion (IsKept false) (kernel_for e) (refl, (refl, (refl, (refl, (refl, tt))))))
-    (zip (policy_of m).subjects m.placed.plain.grants)
+    (zip (policy_of m).subjects m.placed.expanded.grants)
 
 -- of each region that isn't the kernel's
 first_kept : (m : Made) → All (IsKept true) (first_regions m)
@@ -88,22 +88,22 @@ with_content m s = (s, content_at m s)
 
 -- the spans of regions that aren't the kernel's, then those of devices' memory
 abbrev pub spans_of_regions : Made → List SpanPart
-spans_of_regions m = map region_span (enumerate_from 0 (zip (first_regions m) m.placed.places))
+spans_of_regions m = map region_span (enumerate_from 0 (zip (first_regions m) m.placed.addresses))
 
 abbrev pub spans_of_memory : Made → List SpanPart
-spans_of_memory m = map device_span (enumerate_from (length m.placed.plain.regions) (memories_of (policy_of m).devices))
+spans_of_memory m = map device_span (enumerate_from (length m.placed.expanded.regions) (memories_of (policy_of m).devices))
 
 pub thing_spans_are : (m : Made) → IsMade m → thing_spans (image_of m) ≡ map (with_content m) (spans_of_regions m ++ spans_of_memory m)
 unfolding spans_of
 thing_spans_are m h =
     let memory = spans_of_memory m in
-    let kept = front_kept 0 (first_regions m) (last_regions m) m.placed.places (first_kept m) (last_kept m) in
+    let kept = front_kept 0 (first_regions m) (last_regions m) m.placed.addresses (first_kept m) (last_kept m) in
     ap (filter (λ (e : Span). not (is_kernel e.0.kind))) (by_number_is m h)
     ∙ filter_map_same (λ (e : Span). not (is_kernel e.0.kind)) (with_content m) (spans_of m.placed)
     ∙ ap (map (with_content m)) (
-    filter-append keeps (region_spans m.placed.plain.regions m.placed.places) memory
-    ∙ ap (λ ys. filter keeps (region_spans ys m.placed.places) ++ filter keeps memory) (regions_are m h)
-    ∙ (λ i. kept i ++ devices_kept (length m.placed.plain.regions) (memories_of (policy_of m).devices) i))
+    filter-append keeps (region_spans m.placed.expanded.regions m.placed.addresses) memory
+    ∙ ap (λ ys. filter keeps (region_spans ys m.placed.addresses) ++ filter keeps memory) (regions_are m h)
+    ∙ (λ i. kept i ++ devices_kept (length m.placed.expanded.regions) (memories_of (policy_of m).devices) i))
 
 -- ---- what each has
 
@@ -134,9 +134,9 @@ module _ (files : Held) (p : Source) where
   abbrev bytes : Thing → List ℕ
   bytes = initial_bytes p files
 
-  region_has : (n place : ℕ) (t : Thing) (y : Region) (b held : List ℕ) → IsRegionOf t y → b ≡ bytes t → length b ≡ y.size → IsWhole y → held ≡ b
-      → IsSpanOf p files t (region_span (n, (y, place)), held)
-  region_has n place t y b held of is size whole has = record {
+  region_has : (n address : ℕ) (t : Thing) (y : Region) (b held : List ℕ) → IsRegionOf t y → b ≡ bytes t → length b ≡ y.size → IsWhole y → held ≡ b
+      → IsSpanOf p files t (region_span (n, (y, address)), held)
+  region_has n address t y b held of is size whole has = record {
     tag = of.tag;
     kind = of.kind;
     size = whole_size y.size whole.pages ∙ sym size ∙ ap length is;
@@ -178,13 +178,13 @@ module _ (files : Held) (p : Source) where
 
 -- ---- all
 
--- there is a place for each of them
-pub places_enough : (m : Made) → IsMade m → length (first_regions m) ≤ length m.placed.places
-places_enough m h =
-    let places = as_many_places m h in
+-- there is an address for each of them
+pub addresses_enough : (m : Made) → IsMade m → length (first_regions m) ≤ length m.placed.addresses
+addresses_enough m h =
+    let addresses = as_many_addresses m h in
     let all = ap length (regions_are m h) in
     let both = length-append (first_regions m) (last_regions m) in
-    omega (arith, places, all, both)
+    omega (arith, addresses, all, both)
 
 first_whole : (m : Made) → IsMade m → All IsWhole (first_regions m)
 first_whole m h = all_front IsWhole (first_regions m) (last_regions m) (subst (All IsWhole) (regions_are m h) (whole_regions m h))
@@ -204,10 +204,10 @@ contents files m h held =
     let p = source_of r in
     let look : ℕ → List ℕ = λ n. slice_index_or (region_bytes m) n [] in
     let regions : AllZip (IsSpanOf p files) (region_things r) (map (with_content m) (spans_of_regions m)) =
-    region_spans_have files p look 0 (region_things r) (first_regions m) m.placed.places m.things (regions_of_things m) (places_enough m h) (held ∙ region_bytes_are files r h.resolved) (things_sized m h) (first_whole m h)
+    region_spans_have files p look 0 (region_things r) (first_regions m) m.placed.addresses m.things (regions_of_things m) (addresses_enough m h) (held ∙ region_bytes_are files r h.resolved) (things_sized m h) (first_whole m h)
     (λ k b at. let number : 0 + k ≡ k = omega arith in ap look number ∙ looked m k b at) in
     let memory : AllZip (IsSpanOf p files) (memory_things r) (map (with_content m) (spans_of_memory m)) =
-    memory_spans_have files p look (length m.placed.plain.regions) (memories_of r.devices) (memory_bytes_are files r h.resolved) (physical m h) in
+    memory_spans_have files p look (length m.placed.expanded.regions) (memories_of r.devices) (memory_bytes_are files r h.resolved) (physical m h) in
     subst (λ ts. AllZip (IsSpanOf p files) ts (thing_spans (image_of m))) (sym (things_are r h.resolved))
     (subst (AllZip (IsSpanOf p files) (region_things r ++ memory_things r)) (sym (thing_spans_are m h ∙ map-append (with_content m) (spans_of_regions m) (spans_of_memory m)))
     (zip_append (IsSpanOf p files) (region_things r) (map (with_content m) (spans_of_regions m)) (memory_things r) (map (with_content m) (spans_of_memory m)) regions memory))

@@ -20,9 +20,9 @@ use Rattle.region_alloc.specs.Placed.{Placement}
 use Rattle.span_emit.proofs.KeptSums.{sums_kept, windows_length}
 use Rattle.span_emit.specs.Spans.{memories_of}
 use Rattle.subject_emit.proofs.KeptMsrs.{msrs_few}
-use Rattle.subject_emit.proofs.Numbered.{has_places}
+use Rattle.subject_emit.proofs.Numbered.{has_addresses}
 use Rattle.subject_emit.proofs.Pieces.{other_at}
-use Rattle.subject_emit.proofs.PlacesFit.{tables_there}
+use Rattle.subject_emit.proofs.AddressesFit.{tables_there}
 use Rattle.subject_emit.specs.Sound.{IsSound}
 
 pub sound_known : (x : Placement) → IsKnown x → IsSound x
@@ -31,10 +31,10 @@ sound_known x k = record {
   lawful = k.lawful;
   grants = k.expansion.grants;
   regions = k.expansion.regions;
-  places = k.placement;
+  addresses = k.placement;
 }
 
--- each subject's MSRs, from any place on
+-- each subject's MSRs, from any index on
 msrs_from : (r : Resolution) → offence_20 (source_of r) ≡ None → (ss : List Subject) (gs : List Grants) → ((j : ℕ) (s : Subject) → slice_get ss j ≡ Some s → (k : ℕ) × (slice_get r.subjects k ≡ Some s)) → AllZip (AreGrantsOf r) ss gs → list_all (λ g. nat_le (count_of g.msrs) 64) gs ≡ true
 msrs_from r h [] [] at z = refl
 msrs_from r h [] (g ∷ gs) at z = absurd z
@@ -60,39 +60,39 @@ subjects_many r = length-map r.subjects (subject_named r)
 
 pub are_few : (x : Placement) → IsKnown x → AreFew x
 are_few x k =
-    let r = x.plain.lawful in
+    let r = x.expanded.lawful in
     let sound = sound_known x k in
     let plan = plan_kept r k.resolved k.lawful in
-    let places = has_places x sound in
+    let addresses = has_addresses x sound in
     let sums = sums_kept (source_of r) k.lawful.rule_20 in
     let few_regions = sums.regions in
     let regions = ap length k.expansion.regions in
-    let grants : length x.plain.grants ≡ length r.subjects = AllZip-long (AreGrantsOf r) r.subjects x.plain.grants k.expansion.grants in
-    let as_many : length x.places ≡ length x.plain.regions = AllZip-long _ x.plain.regions x.places k.inside in
+    let grants : length x.expanded.grants ≡ length r.subjects = AllZip-long (AreGrantsOf r) r.subjects x.expanded.grants k.expansion.grants in
+    let as_many : length x.addresses ≡ length x.expanded.regions = AllZip-long _ x.expanded.regions x.addresses k.inside in
     let groups = groups_many r in
     let subjects = subjects_many r in
     let few_groups = plan.members.few in
     let most = plan.limits.most_subjects in
     record {
-      places = places;
-      regions = omega (arith, places, as_many, regions, few_regions);
+      addresses = addresses;
+      regions = omega (arith, addresses, as_many, regions, few_regions);
       groups = omega (arith, groups, subjects, few_groups, most);
       subjects = omega (arith, subjects, most);
       tables = λ n low.
           let s = there r.subjects n low in
-          let g = other_at (AreGrantsOf r) r.subjects x.plain.grants n s.0 k.expansion.grants s.1 in
+          let g = other_at (AreGrantsOf r) r.subjects x.expanded.grants n s.0 k.expansion.grants s.1 in
           let at = tables_there x sound n s.0 g.0 s.1 g.1 in
           let end = at.end in
           omega (arith, end);
       cpus = cpus_small r plan;
-      msrs = msrs_from r k.lawful.rule_20 r.subjects x.plain.grants (λ j s e. (j, e)) k.expansion.grants;
+      msrs = msrs_from r k.lawful.rule_20 r.subjects x.expanded.grants (λ j s e. (j, e)) k.expansion.grants;
       grants = grants;
     }
 
 -- there are few regions, and few spans with those of devices' memory
-pub regions_few : (x : Placement) → IsKnown x → length x.plain.regions ≤ 1024
+pub regions_few : (x : Placement) → IsKnown x → length x.expanded.regions ≤ 1024
 regions_few x k =
-    let few = (sums_kept (source_of x.plain.lawful) k.lawful.rule_20).regions in
+    let few = (sums_kept (source_of x.expanded.lawful) k.lawful.rule_20).regions in
     let regions = ap length k.expansion.regions in
     omega (arith, few, regions)
 
@@ -100,14 +100,14 @@ same_devices : (r : Resolution) → (source_of r).devices ≡ r.devices
 unfolding source_of
 same_devices r = refl
 
-pub spans_few : (x : Placement) → IsKnown x → length x.plain.regions + sum_by (λ d. length d.memory) x.plain.lawful.devices < 65536
+pub spans_few : (x : Placement) → IsKnown x → length x.expanded.regions + sum_by (λ d. length d.memory) x.expanded.lawful.devices < 65536
 spans_few x k =
     let few = regions_few x k in
-    let windows = (sums_kept (source_of x.plain.lawful) k.lawful.rule_20).windows in
-    let same = ap (λ ds. length (memories_of ds)) (same_devices x.plain.lawful) in
-    let many = windows_length x.plain.lawful.devices in
+    let windows = (sums_kept (source_of x.expanded.lawful) k.lawful.rule_20).windows in
+    let same = ap (λ ds. length (memories_of ds)) (same_devices x.expanded.lawful) in
+    let many = windows_length x.expanded.lawful.devices in
     omega (arith, few, windows, same, many)
 
-pub cpus_few : (x : Placement) → IsKnown x → x.plain.lawful.processor.logical_cpus ≤ 8
+pub cpus_few : (x : Placement) → IsKnown x → x.expanded.lawful.processor.logical_cpus ≤ 8
 unfolding source_of
-cpus_few x k = (plan_kept x.plain.lawful k.resolved k.lawful).cpus.most
+cpus_few x k = (plan_kept x.expanded.lawful k.resolved k.lawful).cpus.most

@@ -8,7 +8,7 @@ use Rattle.std.proofs.lemmas.Bool.{and_parts, cases_Bool, eqb-true}
 use Rattle.std.proofs.lemmas.List.Elements.{All-contains}
 use Rattle.std.proofs.lemmas.List.Sorted.{Contains-permutation}
 use Rattle.ept_count.specs.declared.window.Leaf.{Leaf}
-use Rattle.ept_count.specs.declared.window.Leaf.TheVariants.{Small, Middle, Large}
+use Rattle.ept_count.specs.declared.window.Leaf.TheVariants.{Small, Large, Huge}
 use Rattle.ept_emit.specs.Emitted.{IsGreatestSize, eptp_of}
 use Rattle.ept_emit.specs.Entries.{level_of}
 use Rattle.event_emit.specs.declared.event_tables.EventTables.{EventTables}
@@ -17,14 +17,14 @@ use Rattle.expand_grants.specs.declared.granted.Grants.{Grants}
 use Rattle.expand_grants.proofs.Ordered.{in_order_permutes}
 use Rattle.image_emit.specs.Built.{HasGreatestPages, IsGreatestPage}
 use Rattle.image_emit.specs.Made.{IsMade, Made, image_of, policy_of, subject_part}
-use Rattle.image_emit.proofs.PlacesBySubject.{IsPlaced, each_subject}
-use Rattle.image_emit.proofs.PlacesOfKernel.{sound_of}
-use Rattle.image_emit.proofs.PlacesShown.{place_shown}
+use Rattle.image_emit.proofs.BySubject.{IsAtIndex, each_subject}
+use Rattle.image_emit.proofs.SpansOfKernel.{sound_of}
+use Rattle.image_emit.proofs.AddressesShown.{address_shown}
 use Rattle.image_emit.proofs.Tables.{has_tables}
 use Rattle.image_emit.proofs.Walks.{granted_at, mapped_at, on_view}
 use Rattle.image_emit.proofs.WalksByWindow.{found_contained}
 use Rattle.image_meaning.specs.Memory.{memory_of}
-use Rattle.image_meaning.specs.Sound.{ForEachSubject, place_of}
+use Rattle.image_meaning.specs.Sound.{ForEachSubject, address_of}
 use Rattle.machine_meaning.specs.Walks.{leaf_size, span}
 use Rattle.muen_num.specs.declared.limits.TheConstants.{GUEST_END}
 use Rattle.policy_lawful.specs.Resolution.{source_of, subject_named}
@@ -32,49 +32,49 @@ use Rattle.policy_lawful.specs.Rules.{is_guest, is_page_aligned, is_page_size}
 use Rattle.policy_lawful.specs.declared.resolved.Subject.{Subject}
 use Rattle.policy_views.specs.Views.{view_window, views_of}
 use Rattle.policy_views.specs.declared.view.View.{View}
-use Rattle.subject_emit.specs.Mapped.{leaf_for, mapped, shown_place}
+use Rattle.subject_emit.specs.Mapped.{leaf_for, mapped, shown_address}
 use Rattle.subject_emit.specs.Pages.{tables_at}
 use Rattle.subject_emit.specs.Shows.{IsShown}
 use Rattle.subject_emit.specs.declared.subject_pages.SubjectPages.{SubjectPages}
 use Rattle.subject_emit.proofs.Emittable.{fits_leaf}
 use Rattle.subject_emit.proofs.KeptSizes.{guests_granted}
-use Rattle.subject_emit.proofs.PlacesFit.{shown_at}
+use Rattle.subject_emit.proofs.AddressesFit.{shown_at}
 use Rattle.subject_emit.proofs.ShownViews.{granted_shown}
 
--- ---- where guest address and place agree
+-- ---- where guest and physical address agree
 
 -- modulo the size of a page, they agree modulo that of smaller ones
-agree_below : (guest place : ℕ) (leaf : Leaf) (level : ℕ) → place % span (level_of leaf) ≡ guest % span (level_of leaf) → level ≤ level_of leaf → guest % span level ≡ place % span level
-agree_below guest place Small zero e l = sym e
-agree_below guest place Small (suc n) e l = absurd (omega (arith, l))
-agree_below guest place Middle zero e l = omega (arith, e)
-agree_below guest place Middle (suc zero) e l = sym e
-agree_below guest place Middle (suc (suc n)) e l = absurd (omega (arith, l))
-agree_below guest place Large zero e l = omega (arith, e)
-agree_below guest place Large (suc zero) e l = omega (arith, e)
-agree_below guest place Large (suc (suc zero)) e l = sym e
-agree_below guest place Large (suc (suc (suc n))) e l = absurd (omega (arith, l))
+agree_below : (guest address : ℕ) (leaf : Leaf) (level : ℕ) → address % span (level_of leaf) ≡ guest % span (level_of leaf) → level ≤ level_of leaf → guest % span level ≡ address % span level
+agree_below guest address Small zero e l = sym e
+agree_below guest address Small (suc n) e l = absurd (omega (arith, l))
+agree_below guest address Large zero e l = omega (arith, e)
+agree_below guest address Large (suc zero) e l = sym e
+agree_below guest address Large (suc (suc n)) e l = absurd (omega (arith, l))
+agree_below guest address Huge zero e l = omega (arith, e)
+agree_below guest address Huge (suc zero) e l = omega (arith, e)
+agree_below guest address Huge (suc (suc zero)) e l = sym e
+agree_below guest address Huge (suc (suc (suc n))) e l = absurd (omega (arith, l))
 
 low_leaf : (leaf : Leaf) → level_of leaf ≤ 2
 low_leaf Small = omega arith
-low_leaf Middle = omega arith
 low_leaf Large = omega arith
+low_leaf Huge = omega arith
 
 -- the level is that of the greatest page at which they agree
-allowed : (guest place level : ℕ) → level ≤ 2 → guest % span level ≡ place % span level → level ≤ level_of (leaf_for guest place)
-allowed guest place zero l e = omega arith
-allowed guest place (suc zero) l e = elim (cases_Bool (guest % 2 ^ 30 == place % 2 ^ 30)) [
+allowed : (guest address level : ℕ) → level ≤ 2 → guest % span level ≡ address % span level → level ≤ level_of (leaf_for guest address)
+allowed guest address zero l e = omega arith
+allowed guest address (suc zero) l e = elim (cases_Bool (guest % 2 ^ 30 == address % 2 ^ 30)) [
   | inl large ↦ rw (large) (omega arith)
-  | inr small ↦ rw (small, eq-eqb (guest % 2 ^ 21) (place % 2 ^ 21) e) (omega arith)
+  | inr small ↦ rw (small, eq-eqb (guest % 2 ^ 21) (address % 2 ^ 21) e) (omega arith)
 ]
-allowed guest place (suc (suc zero)) l e = rw (eq-eqb (guest % 2 ^ 30) (place % 2 ^ 30) e) (omega arith)
-allowed guest place (suc (suc (suc n))) l e = absurd (omega (arith, l))
+allowed guest address (suc (suc zero)) l e = rw (eq-eqb (guest % 2 ^ 30) (address % 2 ^ 30) e) (omega arith)
+allowed guest address (suc (suc (suc n))) l e = absurd (omega (arith, l))
 
 -- ---- windows
 
-module _ (m : Made) (h : IsMade m) (k : ℕ) (s : Subject) (g : Grants) (t : EventTables) (q : SubjectPages) (at : IsPlaced m k s g t q) where
+module _ (m : Made) (h : IsMade m) (k : ℕ) (s : Subject) (g : Grants) (t : EventTables) (q : SubjectPages) (at : IsAtIndex m k s g t q) where
   -- a window and what it shows are whole pages
-  whole : (v : View) → Contains (views_of (policy_of m) s) v → (v.guest % 4096 ≡ 0) × (shown_place m.placed k v.shows % 4096 ≡ 0)
+  whole : (v : View) → Contains (views_of (policy_of m) s) v → (v.guest % 4096 ≡ 0) × (shown_address m.placed k v.shows % 4096 ≡ 0)
   whole v among =
       let views = views_of (policy_of m) s in
       let moved : IsPermutation views g.views = subst (IsPermutation views) (sym at.grants.views) (in_order_permutes is_lower views) in
@@ -88,10 +88,10 @@ module _ (m : Made) (h : IsMade m) (k : ℕ) (s : Subject) (g : Grants) (t : Eve
       )
 
   -- of the window that tables map, and so of the window that the policy grants
-  of_view : (addr size : ℕ) (v : View) (place : ℕ) → Contains (views_of (policy_of m) s) v → place ≡ shown_place m.placed k v.shows → IsGreatestSize (mapped m.placed k v) addr size
-      → IsGreatestPage (view_window (policy_of m) s.name v) place addr size
-  of_view addr size v place among e w =
-      let to = shown_place m.placed k v.shows in
+  of_view : (addr size : ℕ) (v : View) (address : ℕ) → Contains (views_of (policy_of m) s) v → address ≡ shown_address m.placed k v.shows → IsGreatestSize (mapped m.placed k v) addr size
+      → IsGreatestPage (view_window (policy_of m) s.name v) address addr size
+  of_view addr size v address among e w =
+      let to = shown_address m.placed k v.shows in
       let leaf = leaf_for v.guest to in
       let aligned = whole v among in
       subst (λ n. IsGreatestPage (view_window (policy_of m) s.name v) n addr size) (sym e)
@@ -108,17 +108,17 @@ module _ (m : Made) (h : IsMade m) (k : ℕ) (s : Subject) (g : Grants) (t : Eve
       })
 
   of_found : (addr size : ℕ) (o : Option View) → find (on_view addr) (views_of (policy_of m) s) ≡ o → IfSome (option_map (mapped m.placed k) o) (λ w. IsGreatestSize w addr size)
-      → IfSome (option_map (view_window (policy_of m) s.name) o) (λ w. IsGreatestPage w (place_of (source_of (policy_of m)) (image_of m) w.thing) addr size)
+      → IfSome (option_map (view_window (policy_of m) s.name) o) (λ w. IsGreatestPage w (address_of (source_of (policy_of m)) (image_of m) w.thing) addr size)
   of_found addr size None e w = tt
   of_found addr size (Some v) e w =
-      let among = found_contained (on_view addr) (views_of (policy_of m) s) v e in of_view addr size v _ among (place_shown m h k s v at.subject among) w
+      let among = found_contained (on_view addr) (views_of (policy_of m) s) v e in of_view addr size v _ among (address_shown m h k s v at.subject among) w
 
   each : HasGreatestPages (source_of (policy_of m)) (image_of m) (subject_named (policy_of m) s) (subject_part m.placed (k, (s, (g, t))))
   each addr l =
       let size = leaf_size (memory_of (image_of m)) (eptp_of (tables_at m.placed k)) addr in
       let w = subst (λ o. IfSome o (λ w. IsGreatestSize w addr size)) (mapped_at m h k s g at.subject at.granted at.grants addr)
       (at.pages.tables.leaves (memory_of (image_of m)) addr (has_tables m h k s g t q at) l) in
-      subst (λ o. IfSome o (λ w. IsGreatestPage w (place_of (source_of (policy_of m)) (image_of m) w.thing) addr size)) (sym (granted_at m h k s g at.subject at.granted at.grants addr))
+      subst (λ o. IfSome o (λ w. IsGreatestPage w (address_of (source_of (policy_of m)) (image_of m) w.thing) addr size)) (sym (granted_at m h k s g at.subject at.granted at.grants addr))
       (of_found addr size (find (on_view addr) (views_of (policy_of m) s)) refl w)
 
 pub leaves : (m : Made) → IsMade m → ForEachSubject (source_of (policy_of m)) (image_of m) (HasGreatestPages (source_of (policy_of m)) (image_of m))

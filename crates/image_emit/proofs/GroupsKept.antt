@@ -28,15 +28,15 @@ use Rattle.policy_types.specs.declared.source.Subject.{Subject as SourceSubject}
 -- ---- lists
 
 -- where what is summed is at least 1 wherever the test passes, and at most 1 in all, only one element passes
-only_place : {X : Type 0} (test : X → Bool) (f : X → ℕ) → ((x : X) → test x ≡ true → 1 ≤ f x) → (xs : List X) (j : ℕ) (x : X) → sum_by f xs ≤ 1 → slice_get xs j ≡ Some x → test x ≡ true → position_or_len test xs ≡ j
-only_place test f counts [] j x few at passes = absurd (cc)
-only_place test f counts (y ∷ ys) zero x few at passes =
+only_index : {X : Type 0} (test : X → Bool) (f : X → ℕ) → ((x : X) → test x ≡ true → 1 ≤ f x) → (xs : List X) (j : ℕ) (x : X) → sum_by f xs ≤ 1 → slice_get xs j ≡ Some x → test x ≡ true → position_or_len test xs ≡ j
+only_index test f counts [] j x few at passes = absurd (cc)
+only_index test f counts (y ∷ ys) zero x few at passes =
     let same : y ≡ x = cc in
     ap (λ b. cond (not b) (1 + position_or_len test ys) 0) (ap test same ∙ passes)
-only_place {X} test f counts (y ∷ ys) (suc j) x few at passes =
+only_index {X} test f counts (y ∷ ys) (suc j) x few at passes =
     let sum : sum_by f (y ∷ ys) ≡ f y + sum_by f ys = sum_by-cons f y ys in
     let fewer : sum_by f ys ≤ 1 = omega (arith, sum, few) in
-    let later : position_or_len test ys ≡ j = only_place test f counts ys j x fewer at passes in
+    let later : position_or_len test ys ≡ j = only_index test f counts ys j x fewer at passes in
     let some : 1 ≤ sum_by f ys = at_least test f counts ys j x at passes in
     elim (test y) as (λ b. test y ≡ b → cond (not b) (1 + position_or_len test ys) 0 ≡ suc j) [
       | true ↦ λ e. let here : 1 ≤ f y = counts y e in absurd (omega (arith, here, some, sum, few))
@@ -65,7 +65,7 @@ counted test (x ∷ xs) h =
       | false ↦ λ k e. let later : 1 ≤ count_by test xs = counted test xs k in omega (arith, e, later)
     ] h sum
 
--- what passes at each place passes with its number
+-- what passes at each index passes with its number
 pub all_enumerated : {X : Type 0} (test : ℕ × X → Bool) (from : ℕ) (xs : List X) → ((j : ℕ) (x : X) → slice_get xs j ≡ Some x → test (from + j, x) ≡ true) → list_all test (enumerate_from from xs) ≡ true
 all_enumerated test from [] h = refl
 all_enumerated test from (x ∷ xs) h =
@@ -157,7 +157,7 @@ module _ (m : Made) (h : IsMade m) (k : ℕ) (s : Subject) (at : slice_get (poli
   on_cpu None cpu is same = absurd (cc)
   on_cpu (Some q) cpu is same = eq-eqb q.cpu s.cpu (same_Some q.cpu cpu is ∙ same)
 
-  -- **the group** of the subject at a place is there, and on its CPU
+  -- **the group** of the subject at an index is there, and on its CPU
   pub group_there : is_group_on m.plan.groups s.cpu (group_at (policy_of m) k) ≡ true
   unfolding number
   group_there =
@@ -178,7 +178,7 @@ module _ (m : Made) (h : IsMade m) (k : ℕ) (s : Subject) (at : slice_get (poli
   this_one : (j : ℕ) (g : Group) → slice_get groups j ≡ Some g → lists g ≡ true → j ≡ number
   this_one j g there it =
       let once = listed_once in
-      sym (only_place lists times (λ x e. counted (λ n. bytes_eq n s.name) x.subjects e) groups j g (omega (arith, once)) there it) ∙ has_group.position
+      sym (only_index lists times (λ x e. counted (λ n. bytes_eq n s.name) x.subjects e) groups j g (omega (arith, once)) there it) ∙ has_group.position
 
   first_is : (j : ℕ) (q : GroupPart) → slice_get m.plan.groups j ≡ Some q → q.first ≡ k → j ≡ number
   first_is j q there first =
@@ -198,7 +198,7 @@ module _ (m : Made) (h : IsMade m) (k : ℕ) (s : Subject) (at : slice_get (poli
           let some = ltb-true 0 (length g.subjects) (and_parts (nat_lt 0 (length g.subjects)) (list_all (λ n. is_on (subject_cpu (source_of (policy_of m)) n) g.cpu) g.subjects) kept).0 in
           this_one j g is (first_listed g.subjects s.name some (same_Some _ _ e))
 
-  -- **the group** whose first member is the subject at a place is the subject's
+  -- **the group** whose first member is the subject at an index is the subject's
   pub first_here : is_first_here m.plan.groups k (group_at (policy_of m) k) ≡ true
   unfolding number
   first_here =

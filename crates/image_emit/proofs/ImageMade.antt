@@ -10,7 +10,7 @@ use Rattle.image_emit.proofs.Contents.{contents}
 use Rattle.image_emit.proofs.GreatestPages.{leaves}
 use Rattle.image_emit.proofs.OwnPages.{own_pages}
 use Rattle.image_emit.proofs.Paths.{paths}
-use Rattle.image_emit.proofs.PlacesKept.{placed}
+use Rattle.image_emit.proofs.AddressesKept.{placed}
 use Rattle.image_emit.proofs.PlanEvents.{plan_and_events}
 use Rattle.image_emit.proofs.States.{states}
 use Rattle.image_emit.proofs.Tables.{tables}
@@ -37,7 +37,7 @@ use Rattle.span_emit.specs.Spans.{spans_of}
 
 module _ (x : Placement) (things : List (List ℕ)) (spans : List SpanPart) (held : List (List ℕ)) (parts : List SubjectPart) (plan : Plan) (devices : List DevicePart)
     (known : IsKnown x) (filled : IsFilled x things) (numbered : IsPermutation (spans_of x) spans) (are : AreSpans spans) (h : IsHeld x things spans held) (p : AreParts x parts)
-    (plans : IsPlanOf (source_of x.plain.lawful) plan) (are_devices : AreDevices x.plain.lawful (length x.plain.regions) x.plain.lawful.devices devices) where
+    (plans : IsPlanOf (source_of x.expanded.lawful) plan) (are_devices : AreDevices x.expanded.lawful (length x.expanded.regions) x.expanded.lawful.devices devices) where
   all : Made
   all = record { placed = x; things = things; pages = h.pages; events = p.events; devices = devices; plan = plan; spans = spans }
 
@@ -62,24 +62,24 @@ module _ (x : Placement) (things : List (List ℕ)) (spans : List SpanPart) (hel
   }
 
   -- these parts are an image that is made
-  pub image_made : IsImageOf x things (counted x.plain.lawful.processor.logical_cpus (choice_of x.plain.lawful) spans parts plan devices held)
+  pub image_made : IsImageOf x things (counted x.expanded.lawful.processor.logical_cpus (choice_of x.expanded.lawful) spans parts plan devices held)
   unfolding all image_of
   image_made = record {
     made = all;
     is = is_made;
     placed = refl;
     held = refl;
-    image = ap₂ (λ a b. counted x.plain.lawful.processor.logical_cpus (choice_of x.plain.lawful) spans a plan devices b) p.made h.held_by;
+    image = ap₂ (λ a b. counted x.expanded.lawful.processor.logical_cpus (choice_of x.expanded.lawful) spans a plan devices b) p.made h.held_by;
   }
 
 -- the same, of counts that are the policy's
 pub image_of_parts : (x : Placement) (things : List (List ℕ)) (spans : List SpanPart) (held : List (List ℕ)) (parts : List SubjectPart) (plan : Plan) (devices : List DevicePart) (cpus : ℕ) (tau0 : Option ℕ)
-    → IsKnown x → IsFilled x things → IsPermutation (spans_of x) spans → AreSpans spans → IsHeld x things spans held → AreParts x parts → IsPlanOf (source_of x.plain.lawful) plan
-    → AreDevices x.plain.lawful (length x.plain.regions) x.plain.lawful.devices devices → cpus ≡ x.plain.lawful.processor.logical_cpus → tau0 ≡ choice_of x.plain.lawful
+    → IsKnown x → IsFilled x things → IsPermutation (spans_of x) spans → AreSpans spans → IsHeld x things spans held → AreParts x parts → IsPlanOf (source_of x.expanded.lawful) plan
+    → AreDevices x.expanded.lawful (length x.expanded.regions) x.expanded.lawful.devices devices → cpus ≡ x.expanded.lawful.processor.logical_cpus → tau0 ≡ choice_of x.expanded.lawful
     → IsImageOf x things (counted cpus tau0 spans parts plan devices held)
 image_of_parts x things spans held parts plan devices cpus tau0 known filled numbered are h p plans are_devices same chosen =
     subst (λ n. IsImageOf x things (counted n tau0 spans parts plan devices held)) (sym same)
-    (subst (λ t. IsImageOf x things (counted x.plain.lawful.processor.logical_cpus t spans parts plan devices held)) (sym chosen)
+    (subst (λ t. IsImageOf x things (counted x.expanded.lawful.processor.logical_cpus t spans parts plan devices held)) (sym chosen)
     (image_made x things spans held parts plan devices known filled numbered are h p plans are_devices))
 
 -- it keeps the conditions of an image
@@ -100,24 +100,24 @@ of_made files m h e = record {
 }
 
 -- it is sound, where things hold what the policy says
-pub is_sound : (x : Placement) (things : List (List ℕ)) (i : Image) → IsImageOf x things i → (files : Held) → things ≡ thing_bytes files x.plain.lawful → IsSound (source_of x.plain.lawful) files i
+pub is_sound : (x : Placement) (things : List (List ℕ)) (i : Image) → IsImageOf x things i → (files : Held) → things ≡ thing_bytes files x.expanded.lawful → IsSound (source_of x.expanded.lawful) files i
 is_sound x things i m files e =
-    let held : m.made.things ≡ thing_bytes files (policy_of m.made) = m.held ∙ e ∙ ap (λ (y : Placement). thing_bytes files y.plain.lawful) (sym m.placed) in
-    subst (λ j. IsSound (source_of x.plain.lawful) files j) (sym m.image)
-    (subst (λ (y : Placement). IsSound (source_of y.plain.lawful) files (image_of m.made)) m.placed (of_made files m.made m.is held))
+    let held : m.made.things ≡ thing_bytes files (policy_of m.made) = m.held ∙ e ∙ ap (λ (y : Placement). thing_bytes files y.expanded.lawful) (sym m.placed) in
+    subst (λ j. IsSound (source_of x.expanded.lawful) files j) (sym m.image)
+    (subst (λ (y : Placement). IsSound (source_of y.expanded.lawful) files (image_of m.made)) m.placed (of_made files m.made m.is held))
 
 -- ---- and what it has beside
 
 module _ (x : Placement) (things : List (List ℕ)) (i : Image) (m : IsImageOf x things i) where
   -- what holds of the image that the parts make holds of it
-  so : (P : Source → Image → Type 0) → P (source_of (policy_of m.made)) (image_of m.made) → P (source_of x.plain.lawful) i
-  so P h = subst (λ j. P (source_of x.plain.lawful) j) (sym m.image) (subst (λ (y : Placement). P (source_of y.plain.lawful) (image_of m.made)) m.placed h)
+  so : (P : Source → Image → Type 0) → P (source_of (policy_of m.made)) (image_of m.made) → P (source_of x.expanded.lawful) i
+  so P h = subst (λ j. P (source_of x.expanded.lawful) j) (sym m.image) (subst (λ (y : Placement). P (source_of y.expanded.lawful) (image_of m.made)) m.placed h)
 
-  pub is_placed : HasPlacement (source_of x.plain.lawful) i
+  pub is_placed : HasPlacement (source_of x.expanded.lawful) i
   is_placed = so (λ p j. HasPlacement p j) (placed m.made m.is)
 
   pub has_paths : HasOnePathPerTable i
   has_paths = so (λ p j. HasOnePathPerTable j) (paths m.made m.is)
 
-  pub has_leaves : ForEachSubject (source_of x.plain.lawful) i (HasGreatestPages (source_of x.plain.lawful) i)
+  pub has_leaves : ForEachSubject (source_of x.expanded.lawful) i (HasGreatestPages (source_of x.expanded.lawful) i)
   has_leaves = so (λ p j. ForEachSubject p j (HasGreatestPages p j)) (leaves m.made m.is)

@@ -1,5 +1,5 @@
 pub mod Areas
-pub mod AtPlaces
+pub mod AtIndexes
 pub mod Bitmaps
 pub mod BitmapsOfPorts
 pub mod ByNumber
@@ -12,7 +12,7 @@ pub mod Contents
 pub mod Counting
 pub mod EventsKept
 pub mod FewKnown
-pub mod FirstPlaces
+pub mod FirstIndexes
 pub mod GreatestPages
 pub mod GroupsKept
 pub mod ImageMade
@@ -26,11 +26,11 @@ pub mod PagesThere
 pub mod PartsMade
 pub mod Paths
 pub mod PiecesOfLists
-pub mod PlacesBySubject
-pub mod PlacesKept
-pub mod PlacesOfKernel
-pub mod PlacesOfShown
-pub mod PlacesShown
+pub mod BySubject
+pub mod AddressesKept
+pub mod SpansOfKernel
+pub mod AddressesOfShown
+pub mod AddressesShown
 pub mod PlanChoice
 pub mod PlanDevices
 pub mod PlanEvents

@@ -29,7 +29,7 @@ use Rattle.policy_views.specs.declared.view.View.{View}
 use Rattle.region_alloc.proofs.EachInTurn.{each_numbered}
 use Rattle.subject_emit.specs.Shows.{brought_to}
 
--- the name of what the subject at a place is shown, if it is there
+-- the name of what the subject at an index is shown, if it is there
 abbrev pub shown_name : Resolution → ℕ → Shown → Option (List ℕ)
 shown_name r subject (Memory n) = option_map (λ m. m.name) (slice_get r.memory n)
 shown_name r subject (Channel n) = option_map (λ c. c.name) (slice_get r.channels n)

@@ -6,7 +6,7 @@ use Rattle.std.proofs.lemmas.Bool.{cases_lt}
 use Rattle.std.proofs.lemmas.Option.{get_or_from_slice_get}
 use Rattle.expand_kernel.specs.declared.region.Region.{Region}
 use Rattle.image_emit.specs.Made.{IsMade, Made, policy_of}
-use Rattle.image_emit.proofs.AtPlaces.{mapped_there, zipped_there}
+use Rattle.image_emit.proofs.AtIndexes.{mapped_there, zipped_there}
 use Rattle.image_emit.proofs.ByNumber.{region_spans_length}
 use Rattle.image_pack.specs.declared.parts.SpanPart.{SpanPart}
 use Rattle.muen_num.proofs.Lists.{get_left, get_right}
@@ -15,37 +15,37 @@ use Rattle.span_emit.specs.Spans.{device_span, device_spans, memories_of, region
 
 -- the span of the region of this number
 pub record IsRegionAt (m : Made) (n : ℕ) (s : SpanPart) : Type 0 where
-  pub within : n < length m.placed.plain.regions
+  pub within : n < length m.placed.expanded.regions
   pub region : Region
-  pub there : slice_get m.placed.plain.regions n ≡ Some region
-  pub is : s ≡ region_span (n, (region, slice_index m.placed.places n))
+  pub there : slice_get m.placed.expanded.regions n ≡ Some region
+  pub is : s ≡ region_span (n, (region, slice_index m.placed.addresses n))
 
 -- the span of a device's memory, whose numbers come behind those of the regions
 pub record IsMemoryAt (m : Made) (n : ℕ) (s : SpanPart) : Type 0 where
-  pub behind : length m.placed.plain.regions ≤ n
+  pub behind : length m.placed.expanded.regions ≤ n
   pub memory : List ℕ × DeviceMemory
-  pub there : slice_get (memories_of (policy_of m).devices) (n - length m.placed.plain.regions) ≡ Some memory
+  pub there : slice_get (memories_of (policy_of m).devices) (n - length m.placed.expanded.regions) ≡ Some memory
   pub is : s ≡ device_span (n, memory)
 
 pub span_is : (m : Made) → IsMade m → (n : ℕ) (s : SpanPart) → slice_get (spans_of m.placed) n ≡ Some s → IsRegionAt m n s ⊎ IsMemoryAt m n s
 unfolding spans_of
 span_is m h n s at =
-    let regions = m.placed.plain.regions in
-    let places = m.placed.places in
-    let front = region_spans regions places in
+    let regions = m.placed.expanded.regions in
+    let addresses = m.placed.addresses in
+    let front = region_spans regions addresses in
     let back = device_spans (length regions) (policy_of m).devices in
     let many = region_spans_length m h in
     elim (cases_lt n (length front)) [
       | inl low ↦
-          let found = mapped_there region_span 0 (zip regions places) n s (sym (get_left front back n low) ∙ at) in
-          let both = zipped_there regions places n found.0 found.1 in
+          let found = mapped_there region_span 0 (zip regions addresses) n s (sym (get_left front back n low) ∙ at) in
+          let both = zipped_there regions addresses n found.0 found.1 in
           let number : 0 + n ≡ n = omega arith in
-          let place : slice_index places n ≡ found.0.1 = get_or_from_slice_get places n found.0.1 0 both.1 in
+          let address : slice_index addresses n ≡ found.0.1 = get_or_from_slice_get addresses n found.0.1 0 both.1 in
           inl (record {
             within = omega (arith, low, many);
             region = found.0.0;
             there = both.0;
-            is = sym found.2 ∙ (λ i. region_span (number i, (found.0.0, sym place i)));
+            is = sym found.2 ∙ (λ i. region_span (number i, (found.0.0, sym address i)));
           })
       | inr high ↦
           let split : length front + (n - length front) ≡ n = omega (arith, high) in

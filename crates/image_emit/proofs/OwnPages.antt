@@ -5,7 +5,7 @@ use Rattle.std.specs.List.{enumerate_from, list_any, zip}
 use Rattle.std.proofs.lemmas.Option.{slice_get-get_or}
 use Rattle.event_emit.specs.declared.event_tables.EventTables.{EventTables}
 use Rattle.expand_grants.specs.declared.granted.Grants.{Grants}
-use Rattle.image_emit.proofs.AtPlaces.{mapped_there}
+use Rattle.image_emit.proofs.AtIndexes.{mapped_there}
 use Rattle.image_emit.specs.Made.{IsMade, Made, image_of, policy_of, subject_part}
 use Rattle.image_meaning.specs.Sound.{HaveOwnPages, share_a_span}
 use Rattle.image_pack.specs.declared.parts.SubjectPart.{SubjectPart}
@@ -39,7 +39,7 @@ other_numbers c i j l =
       ne_eqb (c + 5 * j + 4) (c + 5 * i + 4) (λ e. absurd (omega (arith, e, l))),
     ) refl
 
--- the part of the subject at place n + k is that of this place
+-- the part of the subject at index n + k is that of this index
 part_at : (x : Placement) (n : ℕ) (es : List (Subject × (Grants × EventTables))) (k : ℕ) (d : SubjectPart) → k < length (map (subject_part x) (enumerate_from n es))
     → (e : Subject × (Grants × EventTables)) × (get_or (map (subject_part x) (enumerate_from n es)) k d ≡ subject_part x (n + k, e))
 part_at x n es k d l =
@@ -51,7 +51,7 @@ part_at x n es k d l =
 pub own_pages : (m : Made) → IsMade m → HaveOwnPages (image_of m)
 unfolding image_of own_numbers
 own_pages m h i j d l within =
-    let es = zip (policy_of m).subjects (zip m.placed.plain.grants m.events) in
+    let es = zip (policy_of m).subjects (zip m.placed.expanded.grants m.events) in
     let a = part_at m.placed 0 es i d (omega (arith, l, within)) in
     let b = part_at m.placed 0 es j d within in
     (λ t. share_a_span (a.1 t) (b.1 t))

@@ -15,9 +15,9 @@ use Rattle.expand_kernel.specs.Regions.{anywhere}
 use Rattle.expand_kernel.specs.declared.region.RegionKind.TheVariants.{Kernel}
 use Rattle.image_emit.specs.Built.{HasOnePathPerTable}
 use Rattle.image_emit.specs.Made.{IsMade, Made, image_of, policy_of}
-use Rattle.image_emit.proofs.ByNumber.{as_many_places}
-use Rattle.image_emit.proofs.PlacesBySubject.{IsPlaced, SubjectAt, subject_at}
-use Rattle.image_emit.proofs.PlacesOfKernel.{kernel_numbered, kernel_span, sound_of}
+use Rattle.image_emit.proofs.ByNumber.{as_many_addresses}
+use Rattle.image_emit.proofs.BySubject.{IsAtIndex, SubjectAt, subject_at}
+use Rattle.image_emit.proofs.SpansOfKernel.{kernel_numbered, kernel_span, sound_of}
 use Rattle.image_emit.proofs.Tables.{has_tables, tables_long}
 use Rattle.image_meaning.specs.Memory.{memory_of}
 use Rattle.image_pack.specs.SpanConditions.{IsSpan}
@@ -30,21 +30,21 @@ use Rattle.span_emit.specs.Spans.{spans_of}
 use Rattle.subject_emit.specs.Mapped.{kernel_first}
 use Rattle.subject_emit.specs.Pages.{tables_at}
 use Rattle.subject_emit.specs.declared.subject_pages.SubjectPages.{SubjectPages}
-use Rattle.subject_emit.proofs.Numbered.{kernel_at_place}
+use Rattle.subject_emit.proofs.Numbered.{kernel_at_index}
 
 -- ---- tables are whole pages apart
 
 not_one_page : (a long b x y : ℕ) → b % 4096 ≡ 0 → a + long ≤ b → x + 8 ≤ a + long → b ≤ y → x / 4096 ≡ y / 4096 → ⊥
 not_one_page a long b x y whole apart low high same = omega (arith, whole, apart, low, high, same)
 
--- the place at which a walk for the subject reads is one of its tables
+-- the address at which a walk for the subject reads is one of its tables
 record IsReadAt (m : Made) (k long page : ℕ) : Type 0 where
-  place : ℕ
-  low : tables_at m.placed k ≤ place
-  high : place + 8 ≤ tables_at m.placed k + long
-  here : place / 4096 ≡ page
+  address : ℕ
+  low : tables_at m.placed k ≤ address
+  high : address + 8 ≤ tables_at m.placed k + long
+  here : address / 4096 ≡ page
 
-module _ (m : Made) (h : IsMade m) (k : ℕ) (s : Subject) (g : Grants) (t : EventTables) (q : SubjectPages) (at : IsPlaced m k s g t q) where
+module _ (m : Made) (h : IsMade m) (k : ℕ) (s : Subject) (g : Grants) (t : EventTables) (q : SubjectPages) (at : IsAtIndex m k s g t q) where
   abbrev many : ℕ
   many = ept_pages (mapped_views g.views)
 
@@ -60,7 +60,7 @@ module _ (m : Made) (h : IsMade m) (k : ℕ) (s : Subject) (g : Grants) (t : Eve
   read_at addr level page l r =
       let lies = at.pages.tables.alone (memory_of (image_of m)) addr (has_tables m h k s g t q at) l (3 - level) 0 r.within in
       let long = tables_long m h k s g t q at in
-      record { place = _; low = lies.0; high = omega (arith, lies.1, long); here = r.here }
+      record { address = _; low = lies.0; high = omega (arith, lies.1, long); here = r.here }
 
 -- tables of two subjects share no page
 module _ (m : Made) (h : IsMade m) (j k page : ℕ) (p : SubjectPart) (o : SubjectPart) (a : SubjectAt m j p) (b : SubjectAt m k o) where
@@ -71,21 +71,21 @@ module _ (m : Made) (h : IsMade m) (j k page : ℕ) (p : SubjectPart) (o : Subje
   apart l x y =
       let first = kernel_first (policy_of m) j + 1 in
       let second = kernel_first (policy_of m) k + 1 in
-      let one = kernel_at_place m.placed (sound_of m h) j 1 a.subject a.granted (anywhere Kernel a.subject.name Ept (long_of a.granted)) a.is.subject a.is.granted refl in
-      let other = kernel_at_place m.placed (sound_of m h) k 1 b.subject b.granted (anywhere Kernel b.subject.name Ept (long_of b.granted)) b.is.subject b.is.granted refl in
-      let as_many = as_many_places m h in
-      let there = slice_get_within m.placed.plain.regions second _ other in
+      let one = kernel_at_index m.placed (sound_of m h) j 1 a.subject a.granted (anywhere Kernel a.subject.name Ept (long_of a.granted)) a.is.subject a.is.granted refl in
+      let other = kernel_at_index m.placed (sound_of m h) k 1 b.subject b.granted (anywhere Kernel b.subject.name Ept (long_of b.granted)) b.is.subject b.is.granted refl in
+      let as_many = as_many_addresses m h in
+      let there = slice_get_within m.placed.expanded.regions second _ other in
       let before = whole m h j a.subject a.granted a.raising a.kept a.is in
       let behind = whole m h k b.subject b.granted b.raising b.kept b.is in
       elim (h.disjoint first second _ _ (omega (arith, l)) (omega (arith, there, as_many)) one other) [
-        | inl up ↦ not_one_page (tables_at m.placed j) (long_of a.granted) (tables_at m.placed k) x.place y.place behind up x.high y.low (x.here ∙ sym y.here)
-        | inr down ↦ not_one_page (tables_at m.placed k) (long_of b.granted) (tables_at m.placed j) y.place x.place before down y.high x.low (y.here ∙ sym x.here)
+        | inl up ↦ not_one_page (tables_at m.placed j) (long_of a.granted) (tables_at m.placed k) x.address y.address behind up x.high y.low (x.here ∙ sym y.here)
+        | inr down ↦ not_one_page (tables_at m.placed k) (long_of b.granted) (tables_at m.placed j) y.address x.address before down y.high x.low (y.here ∙ sym x.here)
       ]
 
 -- ---- paths
 
 module _ (m : Made) (h : IsMade m) where
-  -- what a walk for the subject at a place reads
+  -- what a walk for the subject at an index reads
   read_by : (k : ℕ) (part : SubjectPart) (s : SubjectAt m k part) (addr level page : ℕ) → addr < 2 ^ 48 → Reads (memory_of (image_of m)) part.eptp addr level page → Reads (memory_of (image_of m)) (eptp_of (tables_at m.placed k)) addr level page
   read_by k part s addr level page l r = subst (λ (p : SubjectPart). Reads (memory_of (image_of m)) p.eptp addr level page) s.made r
 

@@ -67,7 +67,7 @@ all_pieces P f h (x ∷ xs) = All-append P (f x) (flat_map f xs) (h x) (all_piec
 
 -- ---- found by name
 
--- where names are unique, what stands at a place is found by its own
+-- where names are unique, what stands at an index is found by its own
 pub found_by_name : {X : Type 0} (f : X → List ℕ) (xs : List X) → repeated (map f xs) ≡ None → (k : ℕ) (x : X) → slice_get xs k ≡ Some x → find (λ y. bytes_eq (f y) (f x)) xs ≡ Some x
 found_by_name f xs unique k x at =
     ap (λ n. find (λ y. bytes_eq (f y) n) xs) (sym (name_there f xs k x at))

@@ -24,13 +24,13 @@ use Rattle.policy_types.specs.declared.source.Source.{Source}
 use Rattle.policy_types.specs.declared.source.Tau0.{Tau0}
 use Rattle.span_emit.specs.Spans.{region_span}
 
--- where some element passes a test, the first that does has a place
-pub first_place : {X : Type 0} (test : X → Bool) (xs : List X) → list_any test xs ≡ true → position_or_len test xs < length xs
-first_place test [] h = absurd (cc)
-first_place test (x ∷ xs) h =
+-- where some element passes a test, the first that does has an index
+pub first_index : {X : Type 0} (test : X → Bool) (xs : List X) → list_any test xs ≡ true → position_or_len test xs < length xs
+first_index test [] h = absurd (cc)
+first_index test (x ∷ xs) h =
     elim (test x) as (λ b. (b || list_any test xs) ≡ true → cond (not b) (1 + position_or_len test xs) 0 < suc (length xs)) [
       | true ↦ λ _. omega arith
-      | false ↦ λ k. let later : position_or_len test xs < length xs = first_place test xs k in omega (arith, later)
+      | false ↦ λ k. let later : position_or_len test xs < length xs = first_index test xs k in omega (arith, later)
     ] h
 
 -- some element passes the first of two tests, where some passes both
@@ -75,9 +75,9 @@ tag_of_memory : (m : Made) → IsMade m → (n : ℕ) (r : SourceRegion) → sli
 unfolding source_of
 tag_of_memory m h n r at =
     let y = own_region r in
-    let place = slice_index m.placed.places n in
-    let there : slice_get m.placed.plain.regions n ≡ Some y = ap (λ rs. slice_get rs n) h.expansion.regions ∙ own_at (source_of (policy_of m)) n r at in
-    ap (option_map (λ e. e.0.tag)) (span_numbered m h n (region_span (n, (y, place))) (region_at m h n y there))
+    let address = slice_index m.placed.addresses n in
+    let there : slice_get m.placed.expanded.regions n ≡ Some y = ap (λ rs. slice_get rs n) h.expansion.regions ∙ own_at (source_of (policy_of m)) n r at in
+    ap (option_map (λ e. e.0.tag)) (span_numbered m h n (region_span (n, (y, address))) (region_at m h n y there))
 
 chosen : (m : Made) → IsMade m → (t : Tau0) → (policy_of m).scheduling.tau0 ≡ Some t
     → option_map (tag_at (image_of m)) (position (λ r. bytes_eq r.name t.region) (policy_of m).memory) ≡ Some (Some (thing_tag (region t.region)))
@@ -86,7 +86,7 @@ chosen m h t is =
     let memory = (policy_of m).memory in
     let test : SourceRegion → Bool = λ r. bytes_eq r.name t.region in
     let n = position_or_len test memory in
-    let low = first_place test memory (is_memory (source_of (policy_of m)) t is h.lawful.rule_16) in
+    let low = first_index test memory (is_memory (source_of (policy_of m)) t is h.lawful.rule_16) in
     let found = there memory n low in
     let passes : test found.0 ≡ true =
     ap test (sym (get_or_from_slice_get memory n found.0 found.0 found.1)) ∙ passes_at_first test memory found.0 low in

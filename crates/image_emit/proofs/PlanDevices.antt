@@ -5,7 +5,7 @@ use Rattle.std.specs.List.{All, AllZip, enumerate_from, filter_map}
 use Rattle.std.proofs.lemmas.List.{length-map}
 use Rattle.std.proofs.lemmas.Option.{get_or_from_slice_get, slice_get-map, slice_get_within}
 use Rattle.event_emit.specs.Tables.{AreDevices, IsDevice, IsIrq}
-use Rattle.image_emit.proofs.AtPlaces.{looked_up, none_missing}
+use Rattle.image_emit.proofs.AtIndexes.{looked_up, none_missing}
 use Rattle.image_emit.proofs.ByNumber.{region_spans_length, span_numbered}
 use Rattle.image_emit.proofs.PlanSubjects.{same_reached}
 use Rattle.image_emit.proofs.SpansAt.{at_number}
@@ -53,12 +53,12 @@ kept_memories m h = devices_physical (source_of (policy_of m)) h.lawful.rule_4
 
 -- by number, the memory of all devices stands behind the regions
 pub memory_there : (m : Made) → IsMade m → (k : ℕ) (x : List ℕ × DeviceMemory) → slice_get (memories_of (policy_of m).devices) k ≡ Some x
-    → slice_get (spans_of m.placed) (length m.placed.plain.regions + k) ≡ Some (device_span (length m.placed.plain.regions + k, x))
+    → slice_get (spans_of m.placed) (length m.placed.expanded.regions + k) ≡ Some (device_span (length m.placed.expanded.regions + k, x))
 unfolding spans_of
 memory_there m h k x at =
-    let first = length m.placed.plain.regions in
+    let first = length m.placed.expanded.regions in
     let devices = (policy_of m).devices in
-    let front = region_spans m.placed.plain.regions m.placed.places in
+    let front = region_spans m.placed.expanded.regions m.placed.addresses in
     let back = device_spans first devices in
     let many : length front ≡ first = region_spans_length m h in
     ap (λ n. slice_get (front ++ back) (n + k)) (sym many)
@@ -67,9 +67,9 @@ memory_there m h k x at =
     ∙ ap (option_map device_span) (at_number first (memories_of devices) k x at)
 
 -- the image has it
-has_memories : (m : Made) → IsMade m → HasMemories (image_of m) (length m.placed.plain.regions) (memories_of (policy_of m).devices)
+has_memories : (m : Made) → IsMade m → HasMemories (image_of m) (length m.placed.expanded.regions) (memories_of (policy_of m).devices)
 has_memories m h k x at =
-    let n = length m.placed.plain.regions + k in
+    let n = length m.placed.expanded.regions + k in
     let within = slice_get_within (memories_of (policy_of m).devices) k x at in
     let physical : IsPhysical x.1 =
     subst (λ (y : List ℕ × DeviceMemory). IsPhysical y.1) (get_or_from_slice_get (memories_of (policy_of m).devices) k x x at) (kept_memories m h k x within) in
@@ -174,9 +174,9 @@ unfolding bench_of image_of source_of
 bench_of_policy m h =
     let r = policy_of m in
     let whole : List BenchDevice → Bench = λ devices. record { cpus = r.processor.logical_cpus; devices = devices } in
-    ap whole (bench_devices_are (image_of m) r (length m.placed.plain.regions) r.devices m.devices h.devices (has_memories m h))
+    ap whole (bench_devices_are (image_of m) r (length m.placed.expanded.regions) r.devices m.devices h.devices (has_memories m h))
 
 -- **the devices** of the image are the policy's
 pub devices_of_policy : (m : Made) → IsMade m → AllZip (IsDeviceOf (source_of (policy_of m)) (image_of m)) (source_of (policy_of m)).devices (image_of m).devices
 unfolding image_of source_of
-devices_of_policy m h = devices_are m h (length m.placed.plain.regions) (policy_of m).devices m.devices h.devices (has_memories m h)
+devices_of_policy m h = devices_are m h (length m.placed.expanded.regions) (policy_of m).devices m.devices h.devices (has_memories m h)

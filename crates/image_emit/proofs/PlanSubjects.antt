@@ -25,7 +25,7 @@ use Rattle.policy_lawful.proofs.SourceElements.{parts_placed}
 use Rattle.policy_lawful.proofs.UniqueNames.{subject_names, subjects_unique}
 use Rattle.policy_lawful.specs.Resolution.{Resolution, group_named, group_placed, name_at, source_of, subject_named}
 use Rattle.policy_lawful.specs.Rules.{repeated, times_listed}
-use Rattle.policy_lawful.specs.declared.resolved.Group.{Group as PlacedGroup}
+use Rattle.policy_lawful.specs.declared.resolved.Group.{Group as ResolvedGroup}
 use Rattle.policy_lawful.specs.declared.resolved.Subject.{Subject}
 use Rattle.policy_meaning.specs.Events.{Raised, Target}
 use Rattle.policy_types.specs.declared.source.Group.{Group}
@@ -41,12 +41,12 @@ any_same p q ok same (x ∷ xs) all =
     let parts = and_parts (ok x) (list_all ok xs) all in
     ap (λ b. b || list_any p xs) (same x parts.0) ∙ ap (λ b. q x || b) (any_same p q ok same xs parts.1)
 
-place_same : {X : Type 0} (p q ok : X → Bool) → ((x : X) → ok x ≡ true → p x ≡ q x) → (xs : List X) → list_all ok xs ≡ true → position_or_len p xs ≡ position_or_len q xs
-place_same p q ok same [] all = refl
-place_same p q ok same (x ∷ xs) all =
+index_same : {X : Type 0} (p q ok : X → Bool) → ((x : X) → ok x ≡ true → p x ≡ q x) → (xs : List X) → list_all ok xs ≡ true → position_or_len p xs ≡ position_or_len q xs
+index_same p q ok same [] all = refl
+index_same p q ok same (x ∷ xs) all =
     let parts = and_parts (ok x) (list_all ok xs) all in
     ap (λ b. cond (not b) (1 + position_or_len p xs) 0) (same x parts.0)
-    ∙ ap (λ n. cond (not (q x)) (1 + n) 0) (place_same p q ok same xs parts.1)
+    ∙ ap (λ n. cond (not (q x)) (1 + n) 0) (index_same p q ok same xs parts.1)
 
 pub position_there : {X : Type 0} (test : X → Bool) (xs : List X) → position_or_len test xs < length xs → position test xs ≡ Some (position_or_len test xs)
 position_there test xs l = ap (λ b. cond b (Some (position_or_len test xs)) None) (lt-ltb (position_or_len test xs) (length xs) l)
@@ -75,8 +75,8 @@ uncounted test (x ∷ xs) h =
 
 -- ---- groups
 
--- a group lists the name of a subject just where it has the subject's place
-lists_alike : (r : Resolution) (k : ℕ) → repeated (subject_names r) ≡ None → k < length r.subjects → (g : PlacedGroup) → group_placed r g ≡ true
+-- a group lists the name of a subject just where it has the subject's index
+lists_alike : (r : Resolution) (k : ℕ) → repeated (subject_names r) ≡ None → k < length r.subjects → (g : ResolvedGroup) → group_placed r g ≡ true
     → list_any (λ n. bytes_eq n (name_at (subject_names r) k)) (map (name_at (subject_names r)) g.subjects) ≡ list_any (λ n. n == k) g.subjects
 lists_alike r k unique within g placed =
     let names = subject_names r in
@@ -90,14 +90,14 @@ pub name_of : (r : Resolution) (k : ℕ) (s : Subject) → slice_get r.subjects 
 name_of r k s at =
     get_or-map (λ x. x.name) r.subjects k s [] (slice_get_within r.subjects k s at) ∙ ap (λ x. x.name) (get_or_from_slice_get r.subjects k s s at)
 
--- the group of a subject, by name and by place
+-- the group of a subject, by name and by index
 pub in_group : (m : Made) → IsMade m → (k : ℕ) (s : Subject) → slice_get (policy_of m).subjects k ≡ Some s → group_of (source_of (policy_of m)) s.name ≡ Some (group_at (policy_of m) k)
 unfolding source_of
 in_group m h k s at =
     let r = policy_of m in
     let groups = map (group_named r) r.scheduling.groups in
     let test : Group → Bool = λ g. list_any (λ n. bytes_eq n s.name) g.subjects in
-    let has : PlacedGroup → Bool = λ g. list_any (λ n. n == k) g.subjects in
+    let has : ResolvedGroup → Bool = λ g. list_any (λ n. n == k) g.subjects in
     let unique = subjects_unique r h.resolved.names in
     let within = slice_get_within r.subjects k s at in
     let kept = members_kept (source_of r) h.lawful.rule_17 in
@@ -107,11 +107,11 @@ in_group m h k s at =
     let some : position_or_len test groups < length groups =
     some_passes test (λ g. count_by (λ n. bytes_eq n s.name) g.subjects) (λ g. uncounted (λ n. bytes_eq n s.name) g.subjects) groups (omega (arith, once)) in
     let many : length groups ≡ length r.scheduling.groups = length-map r.scheduling.groups (group_named r) in
-    let alike : (g : PlacedGroup) → group_placed r g ≡ true → test (group_named r g) ≡ has g = λ g ok.
+    let alike : (g : ResolvedGroup) → group_placed r g ≡ true → test (group_named r g) ≡ has g = λ g ok.
     ap (λ name. list_any (λ n. bytes_eq n name) (group_named r g).subjects) (sym (name_of r k s at)) ∙ lists_alike r k unique within g ok in
     let same : position_or_len test groups ≡ position_or_len has r.scheduling.groups =
     position-map test (group_named r) r.scheduling.groups
-    ∙ place_same (λ g. test (group_named r g)) has (group_placed r) alike r.scheduling.groups (parts_placed r h.resolved.placed).groups in
+    ∙ index_same (λ g. test (group_named r g)) has (group_placed r) alike r.scheduling.groups (parts_placed r h.resolved.placed).groups in
     let number : group_at r k ≡ position_or_len has r.scheduling.groups =
     ap (λ o. unwrap_or o 0) (position_there has r.scheduling.groups (omega (arith, some, many, same))) in
     position_there test groups some ∙ ap Some (same ∙ sym number)
@@ -130,7 +130,7 @@ pub names_in_image : (m : Made) → IsMade m → map (λ s. s.name) (image_of m)
 unfolding image_of
 names_in_image m h =
     let r = policy_of m in
-    names_are m.placed 0 r.subjects m.placed.plain.grants m.events (AllZip-long (AreGrantsOf r) r.subjects m.placed.plain.grants h.expansion.grants)
+    names_are m.placed 0 r.subjects m.placed.expanded.grants m.events (AllZip-long (AreGrantsOf r) r.subjects m.placed.expanded.grants h.expansion.grants)
     (AllZip-long (AreTables r) r.subjects m.events h.events)
 
 same_target : (m : Made) → IsMade m → (subject : ℕ) (vector : Option ℕ) → target (image_of m) subject vector ≡ target_named (policy_of m) subject vector
@@ -178,5 +178,5 @@ module _ (m : Made) (h : IsMade m) where
   unfolding source_of image_of
   subjects_of_policy =
       let r = policy_of m in
-      each_subject 0 r.subjects m.placed.plain.grants m.events (AllZip-long (AreGrantsOf r) r.subjects m.placed.plain.grants h.expansion.grants) h.events
+      each_subject 0 r.subjects m.placed.expanded.grants m.events (AllZip-long (AreGrantsOf r) r.subjects m.placed.expanded.grants h.expansion.grants) h.events
       (λ k s e. let n : 0 + k ≡ k = omega arith in ap (slice_get r.subjects) n ∙ e)

@@ -92,10 +92,10 @@ first_regions m =
     ++ flat_map (brought_at (policy_of m).components) (policy_of m).subjects
 
 abbrev pub last_regions : Made → List Region
-last_regions m = kernel_for_each (policy_of m).subjects m.placed.plain.grants
+last_regions m = kernel_for_each (policy_of m).subjects m.placed.expanded.grants
 
-pub regions_are : (m : Made) → IsMade m → m.placed.plain.regions ≡ first_regions m ++ last_regions m
-regions_are m h = h.expansion.regions ∙ sym (regions_by_place (policy_of m) m.placed.plain.grants h.resolved h.expansion.grants)
+pub regions_are : (m : Made) → IsMade m → m.placed.expanded.regions ≡ first_regions m ++ last_regions m
+regions_are m h = h.expansion.regions ∙ sym (regions_by_place (policy_of m) m.placed.expanded.grants h.resolved h.expansion.grants)
 
 pub first_many : (m : Made) → length (first_regions m) ≡ kernel_first (policy_of m) 0
 first_many m =
@@ -115,26 +115,26 @@ first_many m =
 pub things_sized : (m : Made) → IsMade m → map (λ b. length b) m.things ≡ map (λ r. r.size) (first_regions m)
 things_sized m h =
     let many : length m.things ≡ length (first_regions m) = h.filled.many ∙ sym (first_many m) in
-    let taken : take (length m.things) m.placed.plain.regions ≡ first_regions m = (λ i. take (many i) (regions_are m h i)) ∙ take-append_seam (first_regions m) (last_regions m) in
+    let taken : take (length m.things) m.placed.expanded.regions ≡ first_regions m = (λ i. take (many i) (regions_are m h i)) ∙ take-append_seam (first_regions m) (last_regions m) in
     h.filled.sizes ∙ ap (map (λ (r : Region). r.size)) taken
 
 -- ---- all
 
-pub sizes : (m : Made) → IsMade m → map (λ b. length b) (region_bytes m) ≡ map (λ r. r.size) m.placed.plain.regions
+pub sizes : (m : Made) → IsMade m → map (λ b. length b) (region_bytes m) ≡ map (λ r. r.size) m.placed.expanded.regions
 unfolding kernel_for_each
 sizes m h =
-    let kernel = kernel_sizes m.placed 0 (zip (policy_of m).subjects m.placed.plain.grants) m.pages h.pages in
+    let kernel = kernel_sizes m.placed 0 (zip (policy_of m).subjects m.placed.expanded.grants) m.pages h.pages in
     map-append (λ b. length b) m.things (flat_map kernel_bytes m.pages)
     ∙ (λ i. things_sized m h i ++ kernel i)
     ∙ sym (map-append (λ (r : Region). r.size) (first_regions m) (last_regions m))
     ∙ ap (map (λ (r : Region). r.size)) (sym (regions_are m h))
 
 -- as many as there are regions
-pub bytes_many : (m : Made) → IsMade m → length (region_bytes m) ≡ length m.placed.plain.regions
+pub bytes_many : (m : Made) → IsMade m → length (region_bytes m) ≡ length m.placed.expanded.regions
 bytes_many m h =
     sym (length-map (region_bytes m) (λ b. length b))
     ∙ ap length (sizes m h)
-    ∙ length-map m.placed.plain.regions (λ r. r.size)
+    ∙ length-map m.placed.expanded.regions (λ r. r.size)
 
 length_at : (bs : List (List ℕ)) (n : ℕ) → length (get_or bs n []) ≡ get_or (map (λ b. length b) bs) n 0
 length_at [] n = refl
@@ -142,8 +142,8 @@ length_at (b ∷ bs) zero = refl
 length_at (b ∷ bs) (suc n) = length_at bs n
 
 -- the region of a number has as many bytes as its size says
-pub bytes_sized : (m : Made) → IsMade m → (n : ℕ) (r : Region) → slice_get m.placed.plain.regions n ≡ Some r → length (get_or (region_bytes m) n []) ≡ r.size
+pub bytes_sized : (m : Made) → IsMade m → (n : ℕ) (r : Region) → slice_get m.placed.expanded.regions n ≡ Some r → length (get_or (region_bytes m) n []) ≡ r.size
 bytes_sized m h n r at =
     length_at (region_bytes m) n
     ∙ ap (λ ns. get_or ns n 0) (sizes m h)
-    ∙ get_or_from_slice_get (map (λ r. r.size) m.placed.plain.regions) n r.size 0 (slice_get-map (λ r. r.size) m.placed.plain.regions n ∙ ap (option_map (λ (r : Region). r.size)) at)
+    ∙ get_or_from_slice_get (map (λ r. r.size) m.placed.expanded.regions) n r.size 0 (slice_get-map (λ r. r.size) m.placed.expanded.regions n ∙ ap (option_map (λ (r : Region). r.size)) at)

@@ -6,7 +6,7 @@ use Rattle.std.proofs.lemmas.Bool.{or_right}
 use Rattle.std.proofs.lemmas.Option.{slice_get-get_or, slice_get-map, slice_get_within}
 use Rattle.std.proofs.lemmas.List.Sorted.{list_any-IsPermutation}
 use Rattle.expand_kernel.specs.declared.region.Region.{Region}
-use Rattle.image_emit.proofs.ByNumber.{as_many_places, region_spans_length}
+use Rattle.image_emit.proofs.ByNumber.{as_many_addresses, region_spans_length}
 use Rattle.image_emit.specs.Made.{IsMade, Made, policy_of}
 use Rattle.image_pack.specs.declared.parts.SpanPart.{SpanPart}
 use Rattle.muen_num.proofs.Lists.{get_left}
@@ -32,19 +32,19 @@ zip_at (z ∷ zs) (w ∷ ws) zero x y a b =
 zip_at (z ∷ zs) (w ∷ ws) (suc n) x y a b = zip_at zs ws n x y a b
 
 -- the span of the region of a number
-pub region_at : (m : Made) → IsMade m → (n : ℕ) (y : Region) → slice_get m.placed.plain.regions n ≡ Some y → slice_get (spans_of m.placed) n ≡ Some (region_span (n, (y, slice_index m.placed.places n)))
+pub region_at : (m : Made) → IsMade m → (n : ℕ) (y : Region) → slice_get m.placed.expanded.regions n ≡ Some y → slice_get (spans_of m.placed) n ≡ Some (region_span (n, (y, slice_index m.placed.addresses n)))
 unfolding spans_of
 region_at m h n y at =
-    let regions = m.placed.plain.regions in
-    let places = m.placed.places in
+    let regions = m.placed.expanded.regions in
+    let addresses = m.placed.addresses in
     let within = slice_get_within regions n y at in
-    let many = as_many_places m h in
-    let place : slice_get places n ≡ Some (get_or places n 0) = slice_get-get_or places n 0 (omega (arith, within, many)) in
+    let many = as_many_addresses m h in
+    let address : slice_get addresses n ≡ Some (get_or addresses n 0) = slice_get-get_or addresses n 0 (omega (arith, within, many)) in
     let front = region_spans_length m h in
-    get_left (region_spans regions places) (device_spans (length regions) (policy_of m).devices) n (omega (arith, within, front))
-    ∙ slice_get-map region_span (enumerate_from 0 (zip regions places)) n
-    ∙ ap (option_map region_span) (at_number 0 (zip regions places) n (y, get_or places n 0) (zip_at regions places n y (get_or places n 0) at place))
-    ∙ ap (λ k. Some (region_span (k, (y, get_or places n 0)))) (omega arith)
+    get_left (region_spans regions addresses) (device_spans (length regions) (policy_of m).devices) n (omega (arith, within, front))
+    ∙ slice_get-map region_span (enumerate_from 0 (zip regions addresses)) n
+    ∙ ap (option_map region_span) (at_number 0 (zip regions addresses) n (y, get_or addresses n 0) (zip_at regions addresses n y (get_or addresses n 0) at address))
+    ∙ ap (λ k. Some (region_span (k, (y, get_or addresses n 0)))) (omega arith)
 
 pub any_at : {A : Type 0} (test : A → Bool) (xs : List A) (n : ℕ) (x : A) → slice_get xs n ≡ Some x → test x ≡ true → list_any test xs ≡ true
 any_at test [] n x at h = absurd cc

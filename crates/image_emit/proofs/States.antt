@@ -2,8 +2,8 @@
 use Rattle.std.proofs.Common.{◌≡◌, ℕ, ◌+◌, ◌*◌, List, length, take, drop, refl, ap, ◌∙◌, subst, arith}
 use Rattle.std.proofs.lemmas.List.{take_all}
 use Rattle.image_emit.specs.Made.{IsMade, Made, image_of, policy_of}
-use Rattle.image_emit.proofs.PlacesBySubject.{each_subject}
-use Rattle.image_emit.proofs.PlacesOfKernel.{kernel_bytes_at, padded_length}
+use Rattle.image_emit.proofs.BySubject.{each_subject}
+use Rattle.image_emit.proofs.SpansOfKernel.{kernel_bytes_at, padded_length}
 use Rattle.image_meaning.specs.Memory.{bytes_at}
 use Rattle.image_meaning.specs.Sound.{ForEachSubject, IsFresh}
 use Rattle.muen_num.specs.declared.limits.TheConstants.{PAGE}

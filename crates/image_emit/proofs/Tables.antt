@@ -9,8 +9,8 @@ use Rattle.expand_grants.specs.declared.granted.Grants.{Grants}
 use Rattle.expand_kernel.specs.ByPlace.{mapped_views}
 use Rattle.image_emit.specs.Made.{IsMade, Made, image_of, policy_of}
 use Rattle.image_emit.proofs.PagesThere.{page_there}
-use Rattle.image_emit.proofs.PlacesBySubject.{IsPlaced, each_subject}
-use Rattle.image_emit.proofs.PlacesOfKernel.{kernel_content, kernel_numbered, kernel_span}
+use Rattle.image_emit.proofs.BySubject.{IsAtIndex, each_subject}
+use Rattle.image_emit.proofs.SpansOfKernel.{kernel_content, kernel_numbered, kernel_span}
 use Rattle.image_emit.proofs.SpansAt.{some_span}
 use Rattle.image_meaning.specs.Memory.{memory_of}
 use Rattle.image_meaning.specs.Sound.{ForEachSubject, ReadsTables, is_in_tables, is_tables}
@@ -24,7 +24,7 @@ use Rattle.subject_emit.specs.Pages.{tables_at}
 use Rattle.subject_emit.specs.declared.subject_pages.SubjectPages.{SubjectPages}
 use Rattle.subject_emit.proofs.SamePages.{pages_same}
 
-module _ (m : Made) (h : IsMade m) (k : ℕ) (s : Subject) (g : Grants) (t : EventTables) (q : SubjectPages) (at : IsPlaced m k s g t q) where
+module _ (m : Made) (h : IsMade m) (k : ℕ) (s : Subject) (g : Grants) (t : EventTables) (q : SubjectPages) (at : IsAtIndex m k s g t q) where
   abbrev many : ℕ
   many = ept_pages (mapped_views g.views)
 
@@ -46,14 +46,14 @@ module _ (m : Made) (h : IsMade m) (k : ℕ) (s : Subject) (g : Grants) (t : Eve
       page_there m h _ tables_span (kernel_numbered m h k s g t q at 1 (many * PAGE) Ept refl) j within
       ∙ ap (λ b. Some (take 4096 (drop (4096 * j) b))) (kernel_content m h k s g t q at 1 (many * PAGE) Ept q.tables refl)
 
-  in_span : (place : ℕ) → tables_at m.placed k ≤ place → place + 8 ≤ tables_at m.placed k + length q.tables → is_in_tables (image_of m) place ≡ true
+  in_span : (address : ℕ) → tables_at m.placed k ≤ address → address + 8 ≤ tables_at m.placed k + length q.tables → is_in_tables (image_of m) address ≡ true
   unfolding image_of
-  in_span place low high =
-      let test : SpanPart → Bool = λ s. is_tables s && nat_le s.place place && nat_le (place + 8) (end_of s) in
+  in_span address low high =
+      let test : SpanPart → Bool = λ s. is_tables s && nat_le s.address address && nat_le (address + 8) (end_of s) in
       let numbered = kernel_numbered m h k s g t q at 1 (many * PAGE) Ept refl in
-      let a : nat_le tables_span.place place ≡ true = le-leb _ _ low in
-      let b : nat_le (place + 8) (end_of tables_span) ≡ true = le-leb _ _ (omega (arith, span_pages, tables_long, high)) in
-      let passes : test tables_span ≡ true = and_from (nat_le tables_span.place place) _ a b in
+      let a : nat_le tables_span.address address ≡ true = le-leb _ _ low in
+      let b : nat_le (address + 8) (end_of tables_span) ≡ true = le-leb _ _ (omega (arith, span_pages, tables_long, high)) in
+      let passes : test tables_span ≡ true = and_from (nat_le tables_span.address address) _ a b in
       some_span m h test _ tables_span numbered passes
 
 pub tables : (m : Made) → IsMade m → ForEachSubject (source_of (policy_of m)) (image_of m) (λ s q. ReadsTables (image_of m) q)

@@ -1,4 +1,4 @@
--- What things hold at the start, by number: what each name stands for is found at its place.
+-- What things hold at the start, by number: what each name stands for is found at its index.
 use Rattle.std.proofs.Common.{◌≡◌, ℕ, List, [], ◌++◌, map, Option, Some, None, refl, sym, ap, ◌∙◌}
 use Rattle.std.specs.Prelude.{option_and_then, option_map, replicate, slice_get}
 use Rattle.std.specs.Option.{option_map_or}
@@ -34,7 +34,7 @@ provided_unique c h =
     let channels = map (λ x. x.logical) c.channels in
     (unique_parts provides memory (unique_parts (provides ++ memory) channels h).0).0
 
--- which place has a component that brings something along
+-- which index has a component that brings something along
 provided_found : (r : Resolution) (o : Option ComponentUse) → ((k : ℕ) (c : Component) → slice_get r.components k ≡ Some c → repeated (logical_names c) ≡ None)
     → (j : ℕ) (x : Provided) → slice_get (provided_at r.components o) j ≡ Some x
     → option_and_then (λ c. find (λ y. bytes_eq y.logical x.logical) c.provides) (used_component r o) ≡ Some x

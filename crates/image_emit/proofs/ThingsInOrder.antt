@@ -43,7 +43,7 @@ memory_things r = map memory_thing (memories_of r.devices)
 
 -- ---- they are the source policy's
 
--- the component at a use's place
+-- the component at a use's index
 abbrev pub used_component : Resolution → Option ComponentUse → Option Component
 used_component r None = None
 used_component r (Some used) = slice_get r.components used.used
@@ -60,16 +60,16 @@ provided_of name (Some c) = refl
 module _ (r : Resolution) (q : IsResolved r) where
   use_by_name : (o : Option ComponentUse) → option_map_or (component_placed r) o true ≡ true → component_by (source_of r) (option_map (component_named r) o) ≡ used_component r o
   unfolding source_of
-  use_by_name None placed = refl
-  use_by_name (Some used) placed =
+  use_by_name None in_range = refl
+  use_by_name (Some used) in_range =
       found_at_place (λ (c : Component). c.name) r.components used.used (unique (source_of r) q.names).components
-      (ltb-true used.used (length r.components) (and_parts (nat_lt used.used (length r.components)) _ placed).0)
+      (ltb-true used.used (length r.components) (and_parts (nat_lt used.used (length r.components)) _ in_range).0)
 
   -- the component of a subject, by its name
   pub component_is : (k : ℕ) (s : Subject) → slice_get r.subjects k ≡ Some s → component_by (source_of r) (subject_named r s).component ≡ used_component r s.component
   component_is k s at =
-      let placed : subject_placed r s ≡ true = passes_at (subject_placed r) r.subjects k s (parts_placed r q.placed).subjects at in
-      use_by_name s.component (subject_parts r s placed).component
+      let in_range : subject_placed r s ≡ true = passes_at (subject_placed r) r.subjects k s (parts_placed r q.placed).subjects at in
+      use_by_name s.component (subject_parts r s in_range).component
 
   provided_are : (k : ℕ) (s : Subject) → slice_get r.subjects k ≡ Some s → provided_by s.name (component_by (source_of r) (subject_named r s).component) ≡ provided_things r.components s
   provided_are k s at =

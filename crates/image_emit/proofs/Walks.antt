@@ -13,13 +13,13 @@ use Rattle.expand_grants.proofs.Ordered.{in_order_permutes}
 use Rattle.expand_kernel.specs.ByPlace.{CanMap}
 use Rattle.expand_kernel.proofs.Numbering.{can_map_granted}
 use Rattle.image_emit.specs.Made.{IsMade, Made, image_of, policy_of}
-use Rattle.image_emit.proofs.PlacesShown.{place_shown}
-use Rattle.image_emit.proofs.PlacesBySubject.{each_subject}
-use Rattle.image_emit.proofs.PlacesOfShown.{has_places}
+use Rattle.image_emit.proofs.AddressesShown.{address_shown}
+use Rattle.image_emit.proofs.BySubject.{each_subject}
+use Rattle.image_emit.proofs.AddressesOfShown.{has_addresses}
 use Rattle.image_emit.proofs.Tables.{has_tables}
 use Rattle.image_emit.proofs.WalksByWindow.{ArePassedOnce, found_contained, found_permuted}
 use Rattle.image_meaning.specs.Memory.{memory_of}
-use Rattle.image_meaning.specs.Sound.{ForEachSubject, HasWalks, led, place_of}
+use Rattle.image_meaning.specs.Sound.{ForEachSubject, HasWalks, led, address_of}
 use Rattle.machine_meaning.specs.declared.walk.Walk.TheVariants.{At, Violation}
 use Rattle.muen_num.proofs.Lists.{find-map, passes_at}
 use Rattle.muen_num.specs.declared.access.AccessKind.{AccessKind}
@@ -33,7 +33,7 @@ use Rattle.policy_types.specs.declared.rights.Rights.{Rights}
 use Rattle.policy_views.specs.Views.{thing_shown, view_window, views_of}
 use Rattle.policy_views.specs.declared.view.View.{View}
 use Rattle.policy_views.proofs.WindowsByPlace.{windows_by_place}
-use Rattle.subject_emit.specs.Mapped.{mapped, mapped_windows, shown_place}
+use Rattle.subject_emit.specs.Mapped.{mapped, mapped_windows, shown_address}
 use Rattle.subject_emit.proofs.SamePages.{apart_mapped}
 
 -- the view holds the address
@@ -47,11 +47,11 @@ not_both addr a m b n apart p q =
     omega (arith, apart, high, low)
 
 -- a byte where there is the right, and the rights that were found where there isn't
-by_rights : (place : Thing → ℕ) (b : Bool) (x : Thing) (to offset : ℕ) (rights : Rights) → place x ≡ to → (if b then At (to + offset) else Violation rights.0) ≡ led place (if b then byte x offset else violation rights)
-by_rights place true x to offset rights e = ap (λ n. At (n + offset)) (sym e)
-by_rights place false x to offset rights e = refl
+by_rights : (address : Thing → ℕ) (b : Bool) (x : Thing) (to offset : ℕ) (rights : Rights) → address x ≡ to → (if b then At (to + offset) else Violation rights.0) ≡ led address (if b then byte x offset else violation rights)
+by_rights address true x to offset rights e = ap (λ n. At (n + offset)) (sym e)
+by_rights address false x to offset rights e = refl
 
-module _ (m : Made) (h : IsMade m) (k : ℕ) (s : Subject) (g : Grants) (at : slice_get (policy_of m).subjects k ≡ Some s) (there : slice_get m.placed.plain.grants k ≡ Some g) (granted : AreGrantsOf (policy_of m) s g) where
+module _ (m : Made) (h : IsMade m) (k : ℕ) (s : Subject) (g : Grants) (at : slice_get (policy_of m).subjects k ≡ Some s) (there : slice_get m.placed.expanded.grants k ≡ Some g) (granted : AreGrantsOf (policy_of m) s g) where
   abbrev pub views : List View
   views = views_of (policy_of m) s
 
@@ -59,8 +59,8 @@ module _ (m : Made) (h : IsMade m) (k : ℕ) (s : Subject) (g : Grants) (at : sl
   once : (addr : ℕ) → ArePassedOnce (is_in addr) (mapped_windows m.placed k g)
   once addr =
       let can : CanMap g.views =
-      subst (λ g. CanMap g.views) (get_or_from_slice_get m.placed.plain.grants k g g there)
-      (can_map_granted (policy_of m) m.placed.plain.grants h.resolved h.lawful h.expansion.grants k g (slice_get_within m.placed.plain.grants k g there)) in
+      subst (λ g. CanMap g.views) (get_or_from_slice_get m.placed.expanded.grants k g g there)
+      (can_map_granted (policy_of m) m.placed.expanded.grants h.resolved h.lawful h.expansion.grants k g (slice_get_within m.placed.expanded.grants k g there)) in
       let apart = apart_mapped m.placed k g can.apart in
       λ i j d l n p q. not_both addr _ _ _ _ (apart i j d l n) p q
 
@@ -73,26 +73,26 @@ module _ (m : Made) (h : IsMade m) (k : ℕ) (s : Subject) (g : Grants) (at : sl
 
   pub granted_at : (addr : ℕ) → find (λ w. holds w addr) (windows_of (source_of (policy_of m)) (subject_named (policy_of m) s)) ≡ option_map (view_window (policy_of m) s.name) (find (on_view addr) views)
   granted_at addr =
-      let placed : subject_placed (policy_of m) s ≡ true = passes_at (subject_placed (policy_of m)) (policy_of m).subjects k s (parts_placed (policy_of m) h.resolved.placed).subjects at in
-      ap (find (λ w. holds w addr)) (windows_by_place (policy_of m) s h.resolved placed)
+      let in_range : subject_placed (policy_of m) s ≡ true = passes_at (subject_placed (policy_of m)) (policy_of m).subjects k s (parts_placed (policy_of m) h.resolved.placed).subjects at in
+      ap (find (λ w. holds w addr)) (windows_by_place (policy_of m) s h.resolved in_range)
       ∙ find-map (λ w. holds w addr) (view_window (policy_of m) s.name) views
 
   led_by : (addr : ℕ) (kind : AccessKind) (o : Option View) → find (on_view addr) views ≡ o
-      → translation_in (option_map (mapped m.placed k) o) addr kind ≡ led (place_of (source_of (policy_of m)) (image_of m)) (access_by (option_map (view_window (policy_of m) s.name) o) addr kind)
+      → translation_in (option_map (mapped m.placed k) o) addr kind ≡ led (address_of (source_of (policy_of m)) (image_of m)) (access_by (option_map (view_window (policy_of m) s.name) o) addr kind)
   led_by addr kind None e = refl
   led_by addr kind (Some v) e =
-      by_rights (place_of (source_of (policy_of m)) (image_of m)) (allows v.rights kind) (thing_shown (policy_of m) s.name v v.shows) (shown_place m.placed k v.shows) (addr - v.guest) v.rights
-      (place_shown m h k s v at (found_contained (on_view addr) views v e))
+      by_rights (address_of (source_of (policy_of m)) (image_of m)) (allows v.rights kind) (thing_shown (policy_of m) s.name v v.shows) (shown_address m.placed k v.shows) (addr - v.guest) v.rights
+      (address_shown m h k s v at (found_contained (on_view addr) views v e))
 
-  leads : (addr : ℕ) (kind : AccessKind) → translation (mapped_windows m.placed k g) addr kind ≡ led (place_of (source_of (policy_of m)) (image_of m)) (access_of (windows_of (source_of (policy_of m)) (subject_named (policy_of m) s)) addr kind)
+  leads : (addr : ℕ) (kind : AccessKind) → translation (mapped_windows m.placed k g) addr kind ≡ led (address_of (source_of (policy_of m)) (image_of m)) (access_of (windows_of (source_of (policy_of m)) (subject_named (policy_of m) s)) addr kind)
   leads addr kind =
       ap (λ o. translation_in o addr kind) (mapped_at addr)
       ∙ led_by addr kind (find (on_view addr) views) refl
-      ∙ ap (λ o. led (place_of (source_of (policy_of m)) (image_of m)) (access_by o addr kind)) (sym (granted_at addr))
+      ∙ ap (λ o. led (address_of (source_of (policy_of m)) (image_of m)) (access_by o addr kind)) (sym (granted_at addr))
 
 pub walks : (m : Made) → IsMade m → ForEachSubject (source_of (policy_of m)) (image_of m) (HasWalks (source_of (policy_of m)) (image_of m))
 walks m h =
     each_subject m h (HasWalks (source_of (policy_of m)) (image_of m))
     (λ k s g t q at addr kind l.
-    at.pages.tables.walk (memory_of (image_of m)) addr kind (has_tables m h k s g t q at) (has_places m h k s g at.subject at.grants) l
+    at.pages.tables.walk (memory_of (image_of m)) addr kind (has_tables m h k s g t q at) (has_addresses m h k s g at.subject at.grants) l
     ∙ leads m h k s g at.subject at.granted at.grants addr kind)

@@ -4,8 +4,8 @@ use Rattle.std.specs.Prelude.{◌≡◌, ℕ, suc, ◌+◌, ◌*◌, ◌/◌, �
 use Rattle.std.specs.List.{find}
 use Rattle.std.specs.Option.{IfSome}
 use Rattle.ept_emit.specs.Emitted.{Reads}
-use Rattle.image_meaning.specs.Memory.{memory_of, place_at}
-use Rattle.image_meaning.specs.Sound.{place_of}
+use Rattle.image_meaning.specs.Memory.{memory_of, address_at}
+use Rattle.image_meaning.specs.Sound.{address_of}
 use Rattle.image_pack.specs.declared.parts.Image.{Image}
 use Rattle.image_pack.specs.declared.parts.SubjectPart.{SubjectPart}
 use Rattle.machine_meaning.specs.Walks.{leaf_size, span}
@@ -16,13 +16,13 @@ use Rattle.policy_types.specs.declared.source.Source.{Source}
 use Rattle.policy_types.specs.declared.source.Subject.{Subject}
 use Rattle.region_alloc.specs.Placement.{placement_of}
 
--- ---- places
+-- ---- addresses
 
 -- the span of each region, by number, lies where the policy's placement has the region
 pub record HasPlacement (p : Source) (i : Image) : Type 0 where
-  pub places : List ℕ
-  pub are : placement_of p ≡ Ok places
-  pub each : (n : ℕ) → n < length places → place_at i n ≡ slice_index places n
+  pub addresses : List ℕ
+  pub are : placement_of p ≡ Ok addresses
+  pub each : (n : ℕ) → n < length addresses → address_at i n ≡ slice_index addresses n
 
 -- ---- paths
 
@@ -41,23 +41,23 @@ HasOnePathPerTable i =
 
 -- ---- the greatest pages
 
--- a page of this level around an address fits a window on what lies at this place: a page of 4 KiB, 2 MiB or 1 GiB, modulo
--- whose size guest address and place agree, and whose aligned span of addresses lies wholly in the window
-pub record FitsWindow (w : Window Thing) (place level addr : ℕ) : Type 0 where
+-- a page of this level around an address fits a window on what lies at this address: a page of 4 KiB, 2 MiB or 1 GiB, modulo
+-- whose size guest and physical address agree, and whose aligned range of addresses lies wholly in the window
+pub record FitsWindow (w : Window Thing) (address level addr : ℕ) : Type 0 where
   pub small : level ≤ 2
-  pub agrees : w.guest % span level ≡ place % span level
+  pub agrees : w.guest % span level ≡ address % span level
   pub begins : w.guest ≤ span level * (addr / span level)
   pub ends : span level * (addr / span level) + span level ≤ w.guest + w.size
 
 -- a size is the greatest of a page that fits the window
-pub record IsGreatestPage (w : Window Thing) (place addr size : ℕ) : Type 0 where
+pub record IsGreatestPage (w : Window Thing) (address addr size : ℕ) : Type 0 where
   pub level : ℕ
   pub is : size ≡ span level
-  pub fits : FitsWindow w place level addr
-  pub greatest : (higher : ℕ) → FitsWindow w place higher addr → higher ≤ level
+  pub fits : FitsWindow w address level addr
+  pub greatest : (higher : ℕ) → FitsWindow w address higher addr → higher ≤ level
 
 -- each address of a window of the subject is mapped by the greatest page
 abbrev pub HasGreatestPages : Source → Image → Subject → SubjectPart → Type 0
 HasGreatestPages p i s q =
     (addr : ℕ) → addr < GUEST_END
-    → IfSome (find (λ w. holds w addr) (windows_of p s)) (λ w. IsGreatestPage w (place_of p i w.thing) addr (leaf_size (memory_of i) q.eptp addr))
+    → IfSome (find (λ w. holds w addr) (windows_of p s)) (λ w. IsGreatestPage w (address_of p i w.thing) addr (leaf_size (memory_of i) q.eptp addr))

@@ -6,17 +6,17 @@ use Rattle.msrbm_emit.specs.Area.{count_of}
 use Rattle.region_alloc.specs.Placed.{Placement}
 use Rattle.subject_emit.specs.Mapped.{kernel_first}
 use Rattle.subject_emit.specs.Pages.{tables_at}
-use Rattle.subject_emit.specs.Shows.{HasPlaces}
+use Rattle.subject_emit.specs.Shows.{HasAddresses}
 
 -- of a placed policy: its regions, groups, subjects and CPUs
 pub record AreFew (x : Placement) : Type 0 where
-  pub places : HasPlaces x
-  pub regions : kernel_first x.plain.lawful (length x.plain.lawful.subjects) ≤ MOST_REGIONS
-  pub groups : length x.plain.lawful.scheduling.groups ≤ MOST_SUBJECTS
-  pub subjects : length x.plain.lawful.subjects ≤ MOST_SUBJECTS
+  pub addresses : HasAddresses x
+  pub regions : kernel_first x.expanded.lawful (length x.expanded.lawful.subjects) ≤ MOST_REGIONS
+  pub groups : length x.expanded.lawful.scheduling.groups ≤ MOST_SUBJECTS
+  pub subjects : length x.expanded.lawful.subjects ≤ MOST_SUBJECTS
   -- their tables lie at physical addresses that there are
-  pub tables : (k : ℕ) → k < length x.plain.lawful.subjects → tables_at x k ≤ PHYSICAL_END
-  pub cpus : list_all (λ s. nat_lt s.cpu MOST_CPUS) x.plain.lawful.subjects ≡ true
+  pub tables : (k : ℕ) → k < length x.expanded.lawful.subjects → tables_at x k ≤ PHYSICAL_END
+  pub cpus : list_all (λ s. nat_lt s.cpu MOST_CPUS) x.expanded.lawful.subjects ≡ true
   -- of each subject as many MSRs as an area has room for
-  pub msrs : list_all (λ g. nat_le (count_of g.msrs) MOST_MSRS) x.plain.grants ≡ true
-  pub grants : length x.plain.grants ≡ length x.plain.lawful.subjects
+  pub msrs : list_all (λ g. nat_le (count_of g.msrs) MOST_MSRS) x.expanded.grants ≡ true
+  pub grants : length x.expanded.grants ≡ length x.expanded.lawful.subjects

@@ -13,11 +13,11 @@ use Rattle.subject_emit.specs.declared.subject_pages.SubjectPages.{SubjectPages}
 
 -- all windows may be read
 abbrev pub AreReadable : Placement → Type 0
-AreReadable x = All (λ g. All (λ v. IsReadable v.rights) g.views) x.plain.grants
+AreReadable x = All (λ g. All (λ v. IsReadable v.rights) g.views) x.expanded.grants
 
 -- the pages of each subject
 abbrev pub AreAllPages : Placement → List SubjectPages → Type 0
-AreAllPages x pages = AllZip (λ e q. ArePages x e.0 e.1.0 e.1.1 q) (enumerate_from 0 (zip x.plain.lawful.subjects x.plain.grants)) pages
+AreAllPages x pages = AllZip (λ e q. ArePages x e.0 e.1.0 e.1.1 q) (enumerate_from 0 (zip x.expanded.lawful.subjects x.expanded.grants)) pages
 
 -- what spans hold, of things and of some pages of the subjects
 pub record IsHeld (x : Placement) (things : List (List ℕ)) (spans : List SpanPart) (held : List (List ℕ)) : Type 0 where
@@ -28,5 +28,5 @@ pub record IsHeld (x : Placement) (things : List (List ℕ)) (spans : List SpanP
 -- the subjects of an image, with some tables of events
 pub record AreParts (x : Placement) (parts : List SubjectPart) : Type 0 where
   pub events : List EventTables
-  pub are : AllZip (AreTables x.plain.lawful) x.plain.lawful.subjects events
-  pub made : parts ≡ map (subject_part x) (enumerate_from 0 (zip x.plain.lawful.subjects (zip x.plain.grants events)))
+  pub are : AllZip (AreTables x.expanded.lawful) x.expanded.lawful.subjects events
+  pub made : parts ≡ map (subject_part x) (enumerate_from 0 (zip x.expanded.lawful.subjects (zip x.expanded.grants events)))

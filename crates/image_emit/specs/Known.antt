@@ -9,11 +9,11 @@ use Rattle.region_alloc.specs.Placed.{AreDisjoint, AreInside, IsPlacement, Place
 
 -- what its type promises, and that names are names
 pub record IsKnown (x : Placement) : Type 0 where
-  pub resolved : IsResolved x.plain.lawful
-  pub lawful : IsLawful (source_of x.plain.lawful)
-  pub expansion : IsExpansion x.plain
+  pub resolved : IsResolved x.expanded.lawful
+  pub lawful : IsLawful (source_of x.expanded.lawful)
+  pub expansion : IsExpansion x.expanded
   pub placement : IsPlacement x
-  pub inside : AreInside x.plain.lawful.memory_blocks x.plain.regions x.places
-  pub disjoint : AreDisjoint x.plain.regions x.places
-  pub subjects_named : list_all (λ s. is_name s.name) x.plain.lawful.subjects ≡ true
-  pub devices_named : list_all (λ d. is_name d.name && list_all (λ i. is_name i.name) d.irqs) x.plain.lawful.devices ≡ true
+  pub inside : AreInside x.expanded.lawful.memory_blocks x.expanded.regions x.addresses
+  pub disjoint : AreDisjoint x.expanded.regions x.addresses
+  pub subjects_named : list_all (λ s. is_name s.name) x.expanded.lawful.subjects ≡ true
+  pub devices_named : list_all (λ d. is_name d.name && list_all (λ i. is_name i.name) d.irqs) x.expanded.lawful.devices ≡ true

@@ -39,11 +39,11 @@ pub record Made : Type 0 where
   pub events : List EventTables
   pub devices : List DevicePart
   pub plan : Plan
-  -- by their places
+  -- by their addresses
   pub spans : List SpanPart
 
 abbrev pub policy_of : Made → Resolution
-policy_of m = m.placed.plain.lawful
+policy_of m = m.placed.expanded.lawful
 
 -- ---- the image
 
@@ -59,21 +59,21 @@ region_bytes m = m.things ++ flat_map kernel_bytes m.pages
 abbrev pub content_at : Made → SpanPart → List ℕ
 content_at m s = slice_index_or (region_bytes m) s.number []
 
--- the number of the group in which the subject at a place stands
+-- the number of the group in which the subject at an index stands
 abbrev pub group_at : Resolution → ℕ → ℕ
-group_at r place = unwrap_or (position (λ g. list_any (λ n. n == place) g.subjects) r.scheduling.groups) 0
+group_at r index = unwrap_or (position (λ g. list_any (λ n. n == index) g.subjects) r.scheduling.groups) 0
 
--- the subject at a place, with what it is granted and the events that it raises
+-- the subject at an index, with what it is granted and the events that it raises
 abbrev pub subject_part : Placement → ℕ × (Subject × (Grants × EventTables)) → SubjectPart
-subject_part x (place, (s, (g, t))) = record {
+subject_part x (index, (s, (g, t))) = record {
   cpu = s.cpu;
-  group = group_at x.plain.lawful place;
+  group = group_at x.expanded.lawful index;
   msrs = count_of g.msrs;
-  state = kernel_first x.plain.lawful place;
-  iobm = kernel_first x.plain.lawful place + 2;
-  msrbm = kernel_first x.plain.lawful place + 3;
-  area = kernel_first x.plain.lawful place + 4;
-  eptp = eptp_of (tables_at x place);
+  state = kernel_first x.expanded.lawful index;
+  iobm = kernel_first x.expanded.lawful index + 2;
+  msrbm = kernel_first x.expanded.lawful index + 3;
+  area = kernel_first x.expanded.lawful index + 4;
+  eptp = eptp_of (tables_at x index);
   name = s.name;
   calls = t.calls;
   traps = t.traps;
@@ -81,7 +81,7 @@ subject_part x (place, (s, (g, t))) = record {
 
 abbrev pub subject_parts : Made → List SubjectPart
 subject_parts m =
-    map (subject_part m.placed) (enumerate_from 0 (zip (policy_of m).subjects (zip m.placed.plain.grants m.events)))
+    map (subject_part m.placed) (enumerate_from 0 (zip (policy_of m).subjects (zip m.placed.expanded.grants m.events)))
 
 -- the number of the region whose first byte chooses the next major frame
 abbrev pub choice_of : Resolution → Option ℕ
@@ -102,23 +102,23 @@ thing_bytes files r =
 
 -- the regions that aren't the kernel's have as many bytes as their sizes say
 pub record IsFilled (x : Placement) (things : List (List ℕ)) : Type 0 where
-  pub many : length things ≡ kernel_first x.plain.lawful 0
-  pub sizes : map (λ bytes. length bytes) things ≡ map (λ r. r.size) (take (length things) x.plain.regions)
+  pub many : length things ≡ kernel_first x.expanded.lawful 0
+  pub sizes : map (λ bytes. length bytes) things ≡ map (λ r. r.size) (take (length things) x.expanded.regions)
 
 pub record IsMade (m : Made) : Type 0 where
   pub resolved : IsResolved (policy_of m)
   pub lawful : IsLawful (source_of (policy_of m))
-  pub expansion : IsExpansion m.placed.plain
+  pub expansion : IsExpansion m.placed.expanded
   pub placement : IsPlacement m.placed
-  pub inside : AreInside (policy_of m).memory_blocks m.placed.plain.regions m.placed.places
-  pub disjoint : AreDisjoint m.placed.plain.regions m.placed.places
+  pub inside : AreInside (policy_of m).memory_blocks m.placed.expanded.regions m.placed.addresses
+  pub disjoint : AreDisjoint m.placed.expanded.regions m.placed.addresses
   -- names are names
   pub subjects_named : list_all (λ s. is_name s.name) (policy_of m).subjects ≡ true
   pub devices_named : list_all (λ d. is_name d.name && list_all (λ i. is_name i.name) d.irqs) (policy_of m).devices ≡ true
   pub filled : IsFilled m.placed m.things
-  pub pages : AllZip (λ e q. ArePages m.placed e.0 e.1.0 e.1.1 q) (enumerate_from 0 (zip (policy_of m).subjects m.placed.plain.grants)) m.pages
+  pub pages : AllZip (λ e q. ArePages m.placed e.0 e.1.0 e.1.1 q) (enumerate_from 0 (zip (policy_of m).subjects m.placed.expanded.grants)) m.pages
   pub events : AllZip (AreTables (policy_of m)) (policy_of m).subjects m.events
-  pub devices : AreDevices (policy_of m) (length m.placed.plain.regions) (policy_of m).devices m.devices
+  pub devices : AreDevices (policy_of m) (length m.placed.expanded.regions) (policy_of m).devices m.devices
   pub plan : IsPlanOf (source_of (policy_of m)) m.plan
   pub spans : AreSpans m.spans
   pub numbered : IsPermutation (spans_of m.placed) m.spans

@@ -6,10 +6,10 @@ use Rattle.image_emit.specs.Made.{subject_part}
 use Rattle.image_pack.specs.declared.parts.SubjectPart.{SubjectPart}
 use Rattle.region_alloc.specs.Placed.{Placement}
 
--- the subjects from a place on, with what these raise
+-- the subjects from an index on, with what these raise
 abbrev pub parts_from : Placement → ℕ → List EventTables → List SubjectPart
-parts_from x place events =
-    map (subject_part x) (enumerate_from place (zip (drop place x.plain.lawful.subjects) (zip (drop place x.plain.grants) events)))
+parts_from x index events =
+    map (subject_part x) (enumerate_from index (zip (drop index x.expanded.lawful.subjects) (zip (drop index x.expanded.grants) events)))
 
 -- the first subjects are made, and what the others raise is left
 pub record IsParting (x : Placement) (events left : List EventTables) (parts : List SubjectPart) : Type 0 where

@@ -25,14 +25,14 @@ use subject_emit::{SubjectPages, pages};
 // The pages of each subject.
 fn all_pages(alloc: Global, placed: &Placed) -> Result<Seq<SubjectPages>, NoMemory>
     requires readable { AreReadable placed.now }
-    requires as_many { length placed.now.plain.grants ≡ length placed.now.plain.lawful.subjects }
+    requires as_many { length placed.now.expanded.grants ≡ length placed.now.expanded.lawful.subjects }
     ensures { IfOk result (AreAllPages placed.now) }
 {
     let subjects = subjects_of(placed);
     let grants = grants_of(placed);
     let mut all = Seq::new(alloc);
-    for place in 0..subjects.len() {
-        let of_subject = pages(alloc, placed, place, &subjects[place], &grants[place])?;
+    for index in 0..subjects.len() {
+        let of_subject = pages(alloc, placed, index, &subjects[index], &grants[index])?;
         all.push(of_subject)?;
     }
     Ok(all)
@@ -46,7 +46,7 @@ fn held(
     spans: &[SpanPart],
 ) -> Result<Seq<Seq<u8>>, NoMemory>
     requires readable { AreReadable placed.now }
-    requires as_many { length placed.now.plain.grants ≡ length placed.now.plain.lawful.subjects }
+    requires as_many { length placed.now.expanded.grants ≡ length placed.now.expanded.lawful.subjects }
     requires numbers { HaveDifferentNumbers spans.now }
     ensures { IfOk result (IsHeld placed.now things spans.now) }
 {
@@ -60,29 +60,29 @@ fn subjects(alloc: Global, placed: &Placed) -> Result<Seq<SubjectPart>, NoMemory
     requires { AreFew placed.now }
     ensures { IfOk result (AreParts placed.now) }
 {
-    let events = tables(alloc, placed.plain())?;
+    let events = tables(alloc, placed.expanded())?;
     subject_parts(alloc, placed, events)
 }
 
 fn policy_of(placed: &Placed) -> &Resolved
-    ensures { result.now ≡ placed.now.plain.lawful }
+    ensures { result.now ≡ placed.now.expanded.lawful }
 {
-    placed.plain().lawful().resolved()
+    placed.expanded().lawful().resolved()
 }
 
 fn cpus(placed: &Placed) -> u8
-    requires { placed.now.plain.lawful.processor.logical_cpus < 2 ^ 8 }
-    ensures { result ≡ placed.now.plain.lawful.processor.logical_cpus }
+    requires { placed.now.expanded.lawful.processor.logical_cpus < 2 ^ 8 }
+    ensures { result ≡ placed.now.expanded.lawful.processor.logical_cpus }
 {
     policy_of(placed).processor().logical_cpus as u8
 }
 
 // The number of the first span of a device's memory, behind those of the regions.
 fn first_device(placed: &Placed) -> u16
-    requires { length placed.now.plain.regions < 2 ^ 16 }
-    ensures { result ≡ length placed.now.plain.regions }
+    requires { length placed.now.expanded.regions < 2 ^ 16 }
+    ensures { result ≡ length placed.now.expanded.regions }
 {
-    placed.plain().regions().len() as u16
+    placed.expanded().regions().len() as u16
 }
 
 /// The image of a placed policy, whose regions that aren't the kernel's hold these bytes, by number.
@@ -96,18 +96,18 @@ pub fn emit(alloc: Global, placed: &Placed, things: Seq<Seq<u8>>) -> Result<Part
     requires filled { IsFilled placed.now things }
     requires readable { AreReadable placed.now }
     ensures made { IfOk result (IsImageOf placed.now things) }
-    ensures sound { IfOk result (λ i. (files : Held) → things ≡ thing_bytes files placed.now.plain.lawful → IsSound (source_of placed.now.plain.lawful) files i) }
-    ensures placed { IfOk result (HasPlacement (source_of placed.now.plain.lawful)) }
+    ensures sound { IfOk result (λ i. (files : Held) → things ≡ thing_bytes files placed.now.expanded.lawful → IsSound (source_of placed.now.expanded.lawful) files i) }
+    ensures placed { IfOk result (HasPlacement (source_of placed.now.expanded.lawful)) }
     ensures paths { IfOk result HasOnePathPerTable }
-    ensures leaves { IfOk result (λ i. ForEachSubject (source_of placed.now.plain.lawful) i (HasGreatestPages (source_of placed.now.plain.lawful) i)) }
+    ensures leaves { IfOk result (λ i. ForEachSubject (source_of placed.now.expanded.lawful) i (HasGreatestPages (source_of placed.now.expanded.lawful) i)) }
 {
     known(placed);
-    let plain = placed.plain();
+    let expanded = placed.expanded();
     let spans = spans(alloc, placed)?;
     let held = held(alloc, placed, things, spans.items())?;
     let subjects = subjects(alloc, placed)?;
-    let plan = plan(alloc, plain.lawful())?;
-    let devices = devices(alloc, plain, first_device(placed))?;
+    let plan = plan(alloc, expanded.lawful())?;
+    let devices = devices(alloc, expanded, first_device(placed))?;
     let tau0 = choice_of(policy_of(placed));
     Ok(Parts::make(cpus(placed), tau0, spans, subjects, plan, devices, held))
 }

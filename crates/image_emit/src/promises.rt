@@ -40,13 +40,13 @@ fn devices_named(devices: &[Device])
 pub(crate) fn known(placed: &Placed)
     ensures { IsKnown placed.now }
 {
-    let plain = placed.plain();
-    let policy = plain.lawful().resolved();
+    let expanded = placed.expanded();
+    let policy = expanded.lawful().resolved();
     let _memory = policy.memory();
-    let _regions = plain.regions();
-    let _grants = plain.grants();
-    let _routes = plain.routes();
-    let _places = placed.places();
+    let _regions = expanded.regions();
+    let _grants = expanded.grants();
+    let _routes = expanded.routes();
+    let _addresses = placed.addresses();
     subjects_named(policy.subjects());
     devices_named(policy.devices());
 }

@@ -20,25 +20,25 @@ use region_alloc::Placed;
 use std::alloc::Global;
 use subject_emit::{kernel_first, tables_at};
 
-fn has_member(group: &Group, place: usize) -> bool
-    ensures { result ≡ list_any (λ n. n == place) group.now.subjects }
+fn has_member(group: &Group, index: usize) -> bool
+    ensures { result ≡ list_any (λ n. n == index) group.now.subjects }
 {
-    group.subjects.items().iter().any(|n| *n == place)
+    group.subjects.items().iter().any(|n| *n == index)
 }
 
-// The first group that has the subject at a place, by its number.
-fn group_with(groups: &[Group], place: usize) -> Option<usize>
-    ensures { result ≡ position (λ g. list_any (λ n. n == place) g.subjects) groups.now }
+// The first group that has the subject at an index, by its number.
+fn group_with(groups: &[Group], index: usize) -> Option<usize>
+    ensures { result ≡ position (λ g. list_any (λ n. n == index) g.subjects) groups.now }
 {
-    groups.iter().position(|group| has_member(group, place))
+    groups.iter().position(|group| has_member(group, index))
 }
 
-// The number of the group in which the subject at a place stands.
-fn group_at(groups: &[Group], place: usize) -> u8
+// The number of the group in which the subject at an index stands.
+fn group_at(groups: &[Group], index: usize) -> u8
     requires { length groups.now ≤ 32 }
-    ensures { result ≡ unwrap_or (position (λ g. list_any (λ n. n == place) g.subjects) groups.now) 0 }
+    ensures { result ≡ unwrap_or (position (λ g. list_any (λ n. n == index) g.subjects) groups.now) 0 }
 {
-    match group_with(groups, place) {
+    match group_with(groups, index) {
         None => 0,
         Some(number) => number as u8,
     }
@@ -64,32 +64,32 @@ fn count_of(msrs: &[MsrGrant]) -> u64
     count
 }
 
-// The subject at a place, which is granted this and raises these events.
+// The subject at an index, which is granted this and raises these events.
 fn subject_part(
     placed: &Placed,
-    place: usize,
+    index: usize,
     subject: &Subject,
     granted: &Grants,
     events: EventTables,
 ) -> SubjectPart
     requires few { AreFew placed.now }
-    requires there { place < length placed.now.plain.lawful.subjects }
+    requires there { index < length placed.now.expanded.lawful.subjects }
     requires cpu { subject.now.cpu < 2 ^ 8 }
     requires msrs { count_of granted.now.msrs ≤ MOST_MSRS }
-    ensures { result ≡ subject_part placed.now (place, (subject.now, (granted.now, events))) }
+    ensures { result ≡ subject_part placed.now (index, (subject.now, (granted.now, events))) }
 {
-    let policy = placed.plain().lawful().resolved();
-    let first = kernel_first(policy, place) as u16;
+    let policy = placed.expanded().lawful().resolved();
+    let first = kernel_first(policy, index) as u16;
     let EventTables { calls, traps } = events;
     SubjectPart {
         cpu: subject.cpu as u8,
-        group: group_at(policy.scheduling().groups.items(), place),
+        group: group_at(policy.scheduling().groups.items(), index),
         msrs: count_of(granted.msrs.items()) as u8,
         state: first,
         iobm: first + 2,
         msrbm: first + 3,
         area: first + 4,
-        eptp: eptp(tables_at(placed, place)),
+        eptp: eptp(tables_at(placed, index)),
         name: subject.name,
         calls,
         traps,
@@ -98,16 +98,16 @@ fn subject_part(
 
 /// The subjects of a placed policy.
 pub(crate) fn subjects_of(placed: &Placed) -> &[Subject]
-    ensures { result.now ≡ placed.now.plain.lawful.subjects }
+    ensures { result.now ≡ placed.now.expanded.lawful.subjects }
 {
-    placed.plain().lawful().resolved().subjects()
+    placed.expanded().lawful().resolved().subjects()
 }
 
 /// What is granted to each subject of a placed policy.
 pub(crate) fn grants_of(placed: &Placed) -> &[Grants]
-    ensures { result.now ≡ placed.now.plain.grants }
+    ensures { result.now ≡ placed.now.expanded.grants }
 {
-    placed.plain().grants()
+    placed.expanded().grants()
 }
 
 /// The subjects of the image, in order; what each raises is handed in.
@@ -117,15 +117,15 @@ pub(crate) fn subject_parts(
     events: Seq<EventTables>,
 ) -> Result<Seq<SubjectPart>, NoMemory>
     requires few { AreFew placed.now }
-    requires as_many { length events ≡ length placed.now.plain.lawful.subjects }
-    ensures { IfOk result (λ parts. parts ≡ map (subject_part placed.now) (enumerate_from 0 (zip placed.now.plain.lawful.subjects (zip placed.now.plain.grants events)))) }
+    requires as_many { length events ≡ length placed.now.expanded.lawful.subjects }
+    ensures { IfOk result (λ parts. parts ≡ map (subject_part placed.now) (enumerate_from 0 (zip placed.now.expanded.lawful.subjects (zip placed.now.expanded.grants events)))) }
 {
     let subjects = subjects_of(placed);
     let grants = grants_of(placed);
     let mut parts = Seq::new(alloc);
     for tables in events.into_vec() {
-        let place = parts.len();
-        let part = subject_part(placed, place, &subjects[place], &grants[place], tables);
+        let index = parts.len();
+        let part = subject_part(placed, index, &subjects[index], &grants[index], tables);
         parts.push(part)?;
     }
     Ok(parts)

@@ -19,8 +19,8 @@ IsBytes-take n bytes h i =
       | inr le ↦ rw (get_or_past (take n bytes) i 0 (omega (arith, length-take n bytes))) (omega arith)
     ]
 
-abbrev stops : {A : Type 0} → A → Result A FormFault
-stops x = Ok x
+abbrev passed : {A : Type 0} → A → Result A FormFault
+passed x = Ok x
 
 abbrev failed : {A : Type 0} → FormFault → Result A FormFault
 failed s = Err s
@@ -66,7 +66,7 @@ pub else_err : {A : Type 0} (b : Bool) (d : FormFault) (r : Result A FormFault) 
 else_err {A} true d r s e = inl (err_is {A = A} d s e)
 else_err false d r s e = inr e
 
-pub ok_not_err : {A : Type 0} (x : A) (s : FormFault) → stops x ≡ failed s → ⊥
+pub ok_not_err : {A : Type 0} (x : A) (s : FormFault) → passed x ≡ failed s → ⊥
 ok_not_err x s e = absurd cc
 
 -- two tests, one after the other
@@ -75,7 +75,7 @@ tests_ok true t d e x y h = absurd cc
 tests_ok false true d e x y h = (refl, refl, cc)
 tests_ok false false d e x y h = absurd cc
 
-pub ok_is : {A : Type 0} (x y : A) → stops x ≡ stops y → x ≡ y
+pub ok_is : {A : Type 0} (x y : A) → passed x ≡ passed y → x ≡ y
 ok_is x y e = cc
 
 -- what a reader took from the front

@@ -9,18 +9,18 @@ use Rattle.image_form.specs.declared.fault.FormError.TheVariants.{NoMemory, At}
 use Rattle.image_form.specs.Form.{Form, left_of, whole}
 
 -- the fault, by its offset among so many bytes
-abbrev pub placed : ℕ → FormFault → ImageFault
-placed total (Short left) = fault.Short (total - left)
-placed total (Bad left field) = fault.Bad (total - left) field
-placed total (Trailing left) = fault.Trailing (total - left)
+abbrev pub located : ℕ → FormFault → ImageFault
+located total (Short left) = fault.Short (total - left)
+located total (Bad left field) = fault.Bad (total - left) field
+located total (Trailing left) = fault.Trailing (total - left)
 
-abbrev pub placed_in : {A : Type 0} → ℕ → Result A FormFault → Result A ImageFault
-placed_in total (Ok x) = Ok x
-placed_in total (Err s) = Err (placed total s)
+abbrev pub located_in : {A : Type 0} → ℕ → Result A FormFault → Result A ImageFault
+located_in total (Ok x) = Ok x
+located_in total (Err s) = Err (located total s)
 
 -- what the bytes of a file spell, or the first fault
 unfoldable pub unpacked : {A : Type 0} → Form A → List ℕ → Result A ImageFault
-unpacked f bytes = placed_in (length bytes) (whole f bytes)
+unpacked f bytes = located_in (length bytes) (whole f bytes)
 
 -- the fault is what is wanted, unless memory ran out
 abbrev pub IsWanted : {A : Type 0} → Result A ImageFault → ImageFault → Type 0
@@ -35,14 +35,14 @@ Tells wanted (Ok x) = wanted ≡ Ok x
 Tells wanted (Err f) = IsWanted wanted f
 
 -- its field begins among so many bytes
-abbrev pub IsHaltOf : ℕ → FormError → Type 0
-IsHaltOf total NoMemory = Unit {0}
-IsHaltOf total (At s) = left_of s ≤ total
+abbrev pub IsErrorOf : ℕ → FormError → Type 0
+IsErrorOf total NoMemory = Unit {0}
+IsErrorOf total (At s) = left_of s ≤ total
 
 -- the fault tells why a reader of so many bytes stopped
 abbrev pub IsFaultOf : ℕ → FormError → ImageFault → Type 0
 IsFaultOf total NoMemory f = f ≡ fault.NoMemory
-IsFaultOf total (At s) f = f ≡ placed total s
+IsFaultOf total (At s) f = f ≡ located total s
 
 -- no fault but that the bytes end
 abbrev pub IsShort : {A : Type 0} → Result A ImageFault → Type 0

@@ -2,7 +2,7 @@
 ghost use Rattle.std.specs.Prelude.{◌≡◌};
 ghost use Rattle.muen_num.specs.Pieces.{whole};
 ghost use Rattle.image_form.specs.declared.fault.FormError.TheVariants.{NoMemory as OutOfMemory};
-ghost use Rattle.image_form.specs.Faults.{IsFaultOf, IsHaltOf};
+ghost use Rattle.image_form.specs.Faults.{IsFaultOf, IsErrorOf};
 ghost use Rattle.image_form.specs.FaultText.{fault_place_text, field_text, image_fault_text, image_refused_at};
 
 use itoa::Buffer;
@@ -94,7 +94,7 @@ pub enum ImageFault {
 }
 
 impl From<AllocError> for FormError {
-    ghost from_gives = { λ _ halt. halt ≡ OutOfMemory };
+    ghost from_gives = { λ _ error. error ≡ OutOfMemory };
 
     fn from(_: AllocError) -> FormError {
         FormError::NoMemory
@@ -102,7 +102,7 @@ impl From<AllocError> for FormError {
 }
 
 impl<T: Drop> From<AllocFailed<T>> for FormError {
-    ghost from_gives = { λ _ halt. halt ≡ OutOfMemory };
+    ghost from_gives = { λ _ error. error ≡ OutOfMemory };
 
     fn from(_: AllocFailed<T>) -> FormError {
         FormError::NoMemory
@@ -110,7 +110,7 @@ impl<T: Drop> From<AllocFailed<T>> for FormError {
 }
 
 impl From<NoMemory> for FormError {
-    ghost from_gives = { λ _ halt. halt ≡ OutOfMemory };
+    ghost from_gives = { λ _ error. error ≡ OutOfMemory };
 
     fn from(_: NoMemory) -> FormError {
         FormError::NoMemory
@@ -195,11 +195,11 @@ impl fmt::Display for ImageFault {
 }
 
 /// Why the reading of so many bytes stopped, with the offset in place of what is left.
-pub fn fault_of(total: usize, halt: FormError) -> ImageFault
-    requires { IsHaltOf total halt }
-    ensures { IsFaultOf total halt result }
+pub fn fault_of(total: usize, error: FormError) -> ImageFault
+    requires { IsErrorOf total error }
+    ensures { IsFaultOf total error result }
 {
-    match halt {
+    match error {
         FormError::NoMemory => ImageFault::NoMemory,
         FormError::At(FormFault::Short(left)) => ImageFault::Short {
             at: (total - left) as u64,

@@ -7,4 +7,4 @@ pub mod fault;
 pub mod reading;
 pub mod writing;
 
-pub use fault::{Field, FormError, ImageFault, FormFault, fault_of};
+pub use fault::{Field, FormError, FormFault, ImageFault, fault_of};

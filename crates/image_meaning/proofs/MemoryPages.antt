@@ -50,25 +50,25 @@ later s ss h = record {
   apart = λ i j d a b. h.apart (suc i) (suc j) d (omega (arith, a)) (omega (arith, b));
 }
 
-behind : (place bytes next j : ℕ) → place % 4096 ≡ 0 → bytes % 4096 ≡ 0 → place + bytes ≤ next → place / 4096 + bytes / 4096 ≤ next / 4096 + j
-behind place bytes next j a b h = omega (arith, a, b, h)
+behind : (address bytes next j : ℕ) → address % 4096 ≡ 0 → bytes % 4096 ≡ 0 → address + bytes ≤ next → address / 4096 + bytes / 4096 ≤ next / 4096 + j
+behind address bytes next j a b h = omega (arith, a, b, h)
 
 same : (s t : MemorySpan) → Some s ≡ Some t → s ≡ t
 same s t h = cc
 
 -- page j of a span stands in memory
 pub in_spans : (ss : List MemorySpan) → AreSpans ss → (i : ℕ) (s : MemorySpan) → slice_get ss i ≡ Some s → (j : ℕ) → j < length s.bytes / 4096
-    → page_of (pages_of_spans ss) (s.place / 4096 + j) ≡ Some (take 4096 (drop (4096 * j) s.bytes))
+    → page_of (pages_of_spans ss) (s.address / 4096 + j) ≡ Some (take 4096 (drop (4096 * j) s.bytes))
 in_spans [] h i s at j l = absurd cc
 in_spans (t ∷ ts) h zero s at j l =
     let is : s ≡ t = sym (same t s at) in
-    left (pages_in (length t.bytes / 4096) (t.place / 4096) t.bytes) (pages_of_spans ts) (s.place / 4096 + j) (take 4096 (drop (4096 * j) s.bytes))
-    (subst (λ (x : MemorySpan). page_of (pages_in (length x.bytes / 4096) (x.place / 4096) x.bytes) (s.place / 4096 + j) ≡ Some (take 4096 (drop (4096 * j) s.bytes))) is (here (length s.bytes / 4096) (s.place / 4096) j s.bytes l))
+    left (pages_in (length t.bytes / 4096) (t.address / 4096) t.bytes) (pages_of_spans ts) (s.address / 4096 + j) (take 4096 (drop (4096 * j) s.bytes))
+    (subst (λ (x : MemorySpan). page_of (pages_in (length x.bytes / 4096) (x.address / 4096) x.bytes) (s.address / 4096 + j) ≡ Some (take 4096 (drop (4096 * j) s.bytes))) is (here (length s.bytes / 4096) (s.address / 4096) j s.bytes l))
 in_spans (t ∷ ts) h (suc i) s at j l =
     let first : IsSpan t = h.each 0 t (omega arith) in
     let within = slice_get_within ts i s at in
-    let apart : end_of t ≤ (get_or ts i s).place = h.apart 0 (suc i) s (omega arith) (omega (arith, within)) in
-    let place : (get_or ts i s).place ≡ s.place = ap (λ (x : MemorySpan). x.place) (get_or_from_slice_get ts i s s at) in
-    right (pages_in (length t.bytes / 4096) (t.place / 4096) t.bytes) (pages_of_spans ts) (s.place / 4096 + j)
-    (not_in (length t.bytes / 4096) (t.place / 4096) (s.place / 4096 + j) t.bytes (inr (behind t.place (length t.bytes) s.place j first.aligned first.whole (omega (arith, apart, place)))))
+    let apart : end_of t ≤ (get_or ts i s).address = h.apart 0 (suc i) s (omega arith) (omega (arith, within)) in
+    let address : (get_or ts i s).address ≡ s.address = ap (λ (x : MemorySpan). x.address) (get_or_from_slice_get ts i s s at) in
+    right (pages_in (length t.bytes / 4096) (t.address / 4096) t.bytes) (pages_of_spans ts) (s.address / 4096 + j)
+    (not_in (length t.bytes / 4096) (t.address / 4096) (s.address / 4096 + j) t.bytes (inr (behind t.address (length t.bytes) s.address j first.aligned first.whole (omega (arith, apart, address)))))
     ∙ in_spans ts (later t ts h) i s at j l

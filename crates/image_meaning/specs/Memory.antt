@@ -22,12 +22,12 @@ bytes_of (s, bytes) = if is_device s.kind then replicate (PAGE * s.pages) 0 else
 abbrev pub spans_in : Image → List Span
 spans_in i = zip i.spans i.contents
 
-abbrev pub placed_bytes : Span → MemorySpan
-placed_bytes e = record { place = e.0.place; bytes = bytes_of e }
+abbrev pub memory_span : Span → MemorySpan
+memory_span e = record { address = e.0.address; bytes = bytes_of e }
 
 -- the pages of a machine's memory at the start: those of the spans, and no others
 unfoldable pub memory_of : Image → List Page
-memory_of i = pages_of_spans (map placed_bytes (spans_in i))
+memory_of i = pages_of_spans (map memory_span (spans_in i))
 
 -- ---- spans by number
 
@@ -38,8 +38,8 @@ span_at i number = find (λ e. e.0.number == number) (spans_in i)
 unfoldable pub by_number : Image → List Span
 by_number i = filter_map (span_at i) (numbers_below (length i.spans))
 
-abbrev pub place_at : Image → ℕ → ℕ
-place_at i number = option_map_or (λ e. e.0.place) (span_at i number) 0
+abbrev pub address_at : Image → ℕ → ℕ
+address_at i number = option_map_or (λ e. e.0.address) (span_at i number) 0
 
 abbrev pub bytes_at : Image → ℕ → List ℕ
 bytes_at i number = option_map_or bytes_of (span_at i number) []

@@ -4,7 +4,7 @@ use Rattle.std.specs.Option.{option_map_or}
 use Rattle.std.specs.List.{All, AllPairs, AllZip, find, list_any}
 use Rattle.std.specs.List.Sorted.{IsPermutation}
 use Rattle.expand_grants.specs.Resources.{are_granted, is_granted, msrs_of, ports_of}
-use Rattle.image_meaning.specs.Memory.{Span, bytes_at, bytes_of, by_number, memory_of, page_at, place_at}
+use Rattle.image_meaning.specs.Memory.{Span, bytes_at, bytes_of, by_number, memory_of, page_at, address_at}
 use Rattle.image_meaning.specs.Named.{bench_of, raised, reached, tag_at}
 use Rattle.image_pack.specs.Codes.{part_code}
 use Rattle.image_pack.specs.SpanConditions.{end_of}
@@ -74,24 +74,24 @@ AreContents p files i = AllZip (IsSpanOf p files) (things_of p) (thing_spans i)
 -- ---- walks: where tables lead
 
 -- each thing with the address of its span; the state page of a subject lies where the subject's part of the image says
-abbrev pub places_of_things : Source → Image → List (Thing × ℕ)
-places_of_things p i =
-    zip (things_of p) (map (λ e. e.0.place) (thing_spans i))
-    ++ zip (map (λ s. state s.name) p.subjects) (map (λ q. place_at i q.state) i.subjects)
+abbrev pub addresses_of_things : Source → Image → List (Thing × ℕ)
+addresses_of_things p i =
+    zip (things_of p) (map (λ e. e.0.address) (thing_spans i))
+    ++ zip (map (λ s. state s.name) p.subjects) (map (λ q. address_at i q.state) i.subjects)
 
-unfoldable pub place_of : Source → Image → Thing → ℕ
-place_of p i x = option_map_or (λ e. e.1) (find (λ e. same_thing e.0 x) (places_of_things p i)) 0
+unfoldable pub address_of : Source → Image → Thing → ℕ
+address_of p i x = option_map_or (λ e. e.1) (find (λ e. same_thing e.0 x) (addresses_of_things p i)) 0
 
 -- where an access is led: to the byte's address, or to a violation with the rights that were found
 abbrev pub led : (Thing → ℕ) → Access Thing → Walk
-led place (byte x offset) = At (place x + offset)
-led place (violation found) = Violation found.0
+led address (byte x offset) = At (address x + offset)
+led address (violation found) = Violation found.0
 
 -- **the walks** for a subject's guest addresses go exactly where its windows lead
 abbrev pub HasWalks : Source → Image → Subject → SubjectPart → Type 0
 HasWalks p i s q =
     (addr : ℕ) (kind : AccessKind) → addr < GUEST_END
-    → walk_of (memory_of i) q.eptp addr kind ≡ led (place_of p i) (access_of (windows_of p s) addr kind)
+    → walk_of (memory_of i) q.eptp addr kind ≡ led (address_of p i) (access_of (windows_of p s) addr kind)
 
 -- ---- tables: where entries lie
 
@@ -100,7 +100,7 @@ is_tables s = is_kernel s.kind && (part_code s.tag.part == part_code Ept)
 
 -- the eight bytes from this address on lie in a span of tables
 abbrev pub is_in_tables : Image → ℕ → Bool
-is_in_tables i at = list_any (λ s. is_tables s && nat_le s.place at && nat_le (at + 8) (end_of s)) i.spans
+is_in_tables i at = list_any (λ s. is_tables s && nat_le s.address at && nat_le (at + 8) (end_of s)) i.spans
 
 -- **the tables**: each entry that a walk for a subject reads lies in a span of tables
 abbrev pub ReadsTables : Image → SubjectPart → Type 0

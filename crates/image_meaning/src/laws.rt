@@ -6,5 +6,5 @@ ghost use Rattle.phys_mem.specs.declared.spans.MemorySpan.{MemorySpan};
 
 /// Each page of each span stands in the memory that spans give.
 pub fn spans_are_in_memory()
-    ensures { (ss : List MemorySpan) → AreSpans ss → (i : ℕ) (s : MemorySpan) → slice_get ss i ≡ Some s → (j : ℕ) → j < length s.bytes / 4096 → page_of (pages_of_spans ss) (s.place / 4096 + j) ≡ Some (take 4096 (drop (4096 * j) s.bytes)) }
+    ensures { (ss : List MemorySpan) → AreSpans ss → (i : ℕ) (s : MemorySpan) → slice_get ss i ≡ Some s → (j : ℕ) → j < length s.bytes / 4096 → page_of (pages_of_spans ss) (s.address / 4096 + j) ≡ Some (take 4096 (drop (4096 * j) s.bytes)) }
 {}

@@ -45,7 +45,7 @@ title_laws code = search (laws, name_laws) depth 40
 pub span_laws : (h : Header) (b : SpansBefore) → Laws (span h b)
 unfolding span only
 span_laws h b =
-    field_laws _ _ _ (only_laws _ _ _ (number_laws w64 wide64)) (λ place. search laws depth 60) (λ place.
+    field_laws _ _ _ (only_laws _ _ _ (number_laws w64 wide64)) (λ address. search laws depth 60) (λ address.
     field_laws _ _ _ (only_laws _ _ _ (number_laws w32 wide32)) (λ pages. search laws depth 60) (λ pages.
     field_laws _ _ _ (only_laws _ _ _ (number_laws w16 wide16)) (λ n. search laws depth 60) (λ n.
     field_laws _ _ _ (only_laws _ _ _ kind_laws) (λ kind. search laws depth 60) (λ kind.
@@ -62,9 +62,9 @@ pub group_laws : (h : Header) (b : ℕ) → Laws (group h b)
 unfolding group
 group_laws h b = search laws depth 40
 
-pub subject_laws : (o : Outline) (place : ℕ) → Laws (subject o place)
+pub subject_laws : (o : Outline) (index : ℕ) → Laws (subject o index)
 unfolding subject
-subject_laws o place =
+subject_laws o index =
     field_laws _ _ _ (only_laws _ _ _ byte_laws) (λ cpu. search laws depth 60) (λ cpu.
     field_laws _ _ _ (only_laws _ _ _ byte_laws) (λ in_group. search laws depth 60) (λ in_group.
     field_laws _ _ _ (only_laws _ _ _ byte_laws) (λ msrs. search laws depth 60) (λ msrs.

@@ -25,7 +25,7 @@ pub record GoOn (h : Header) (b : SpansBefore) (xs : List SpanPart) : Type 0 whe
   pub all : length b.seen ≡ h.spans
   pub each : All IsSpan xs
   pub ascend : Ascend xs
-  pub behind : All (λ s. b.end ≤ s.place) xs
+  pub behind : All (λ s. b.end ≤ s.address) xs
   pub numbered : All (λ s. s.number < h.spans) xs
   pub differ : HaveDifferentNumbers xs
   pub unseen : All (λ s. slice_index_or b.seen s.number true ≡ false) xs
@@ -123,8 +123,8 @@ one_fits : (h : Header) (b : SpansBefore) (x : SpanPart) (xs : List SpanPart) �
 unfolding span field only gap done number byte coded is_kind
 one_fits h b x xs few g =
     let s = All-head IsSpan x xs g.each in
-    let behind : b.end ≤ x.place = g.behind 0 x (omega arith) in
-    let low : x.place + PAGE * x.pages ≤ 2 ^ 40 = s.low in
+    let behind : b.end ≤ x.address = g.behind 0 x (omega arith) in
+    let low : x.address + PAGE * x.pages ≤ 2 ^ 40 = s.low in
     let number : x.number < h.spans = g.numbered 0 x (omega arith) in
     let unseen : slice_index_or b.seen x.number true ≡ false = g.unseen 0 x (omega arith) in
     let choice : suits_tau0 h.tau0 x.number x.kind ≡ true = g.choice 0 x (omega arith) in (
@@ -141,7 +141,7 @@ one_fits h b x xs few g =
                 name_fits x.tag.owner s.owner,
                 (
                   title_fits x.tag.part s.called,
-                  ap (λ q. record { place = x.place; pages = x.pages; number = x.number; kind = x.kind; tag = record { owner = x.tag.owner; part = q } }) (sym (part_back x.tag.part)),
+                  ap (λ q. record { address = x.address; pages = x.pages; number = x.number; kind = x.kind; tag = record { owner = x.tag.owner; part = q } }) (sym (part_back x.tag.part)),
                 ),
               ),
             ),

@@ -12,7 +12,7 @@ use Rattle.muen_num.specs.declared.mode.EventMode.TheVariants.{Asap, Async, Own,
 use Rattle.image_plan.specs.Plan.{is_group_on}
 use Rattle.image_plan.specs.declared.plan.GroupPart.{GroupPart}
 use Rattle.image_pack.specs.Codes.{event_bytes, event_in, event_of, is_vector, mode_code, mode_of, part_code, vector_code, vector_of}
-use Rattle.image_pack.specs.Image.{event, group, is_eptp, is_group_of, is_kernel_span, next_place, nothing_left, outline, subject}
+use Rattle.image_pack.specs.Image.{event, group, is_eptp, is_group_of, is_kernel_span, next_index, nothing_left, outline, subject}
 use Rattle.image_pack.specs.ImageConditions.{AreEvents, IsEvent, IsGroup, IsSubject, IsVector}
 use Rattle.image_pack.specs.declared.outline.Header.{Header}
 use Rattle.image_pack.specs.declared.parts.EventPart.{EventPart}
@@ -120,9 +120,9 @@ pub record FewBefore (i : Image) : Type 0 where
 eptp_low : (n : ℕ) → is_eptp n ≡ true → n < 2 ^ 40
 eptp_low n h = ltb-true n (2 ^ 40) (both_true (eqb (n % PAGE) 0x1E) _ h).1
 
-one_subject : (i : Image) (place : ℕ) (q : SubjectPart) → FewBefore i → IsSubject i (place, q) → (subject (outline i.header i.spans i.plan.groups) place).fits q
+one_subject : (i : Image) (index : ℕ) (q : SubjectPart) → FewBefore i → IsSubject i (index, q) → (subject (outline i.header i.spans i.plan.groups) index).fits q
 unfolding subject field only gap done byte number items is_group_of
-one_subject i place q few k =
+one_subject i index q few k =
     let cpu : q.cpu < i.header.cpus = k.cpu in
     let cpus = few.cpus in
     let there = group_there i.plan.groups q.cpu q.group k.in_group in
@@ -163,18 +163,18 @@ one_subject i place q few k =
       ),
     )
 
-next_number : (place : ℕ) → place < 255 → min (place + 1) 255 ≡ place + 1
-next_number place low = omega (arith, low)
+next_number : (index : ℕ) → index < 255 → min (index + 1) 255 ≡ index + 1
+next_number index low = omega (arith, low)
 
-subjects_from : (i : Image) (place : ℕ) (qs : List SubjectPart) → FewBefore i → place + length qs ≤ 32 → All (IsSubject i) (enumerate_from place qs)
-    → all_fit (next_place (outline i.header i.spans i.plan.groups)) (λ b. (subject (outline i.header i.spans i.plan.groups) b).fits) place qs
+subjects_from : (i : Image) (index : ℕ) (qs : List SubjectPart) → FewBefore i → index + length qs ≤ 32 → All (IsSubject i) (enumerate_from index qs)
+    → all_fit (next_index (outline i.header i.spans i.plan.groups)) (λ b. (subject (outline i.header i.spans i.plan.groups) b).fits) index qs
 unfolding all_fit
-subjects_from i place [] few room all = tt
-subjects_from i place (q ∷ qs) few room all =
-    let next = next_number place (omega (arith, room)) in
-    let rest = subjects_from i (place + 1) qs few (omega (arith, room)) (All-tail (IsSubject i) (place, q) (enumerate_from (place + 1) qs) all) in
-    (one_subject i place q few (All-head (IsSubject i) (place, q) (enumerate_from (place + 1) qs) all), rw next rest)
+subjects_from i index [] few room all = tt
+subjects_from i index (q ∷ qs) few room all =
+    let next = next_number index (omega (arith, room)) in
+    let rest = subjects_from i (index + 1) qs few (omega (arith, room)) (All-tail (IsSubject i) (index, q) (enumerate_from (index + 1) qs) all) in
+    (one_subject i index q few (All-head (IsSubject i) (index, q) (enumerate_from (index + 1) qs) all), rw next rest)
 
 pub subjects_fit : (i : Image) → FewBefore i → length i.subjects ≤ 32 → All (IsSubject i) (enumerate_from 0 i.subjects)
-    → all_fit (next_place (outline i.header i.spans i.plan.groups)) (λ b. (subject (outline i.header i.spans i.plan.groups) b).fits) 0 i.subjects
+    → all_fit (next_index (outline i.header i.spans i.plan.groups)) (λ b. (subject (outline i.header i.spans i.plan.groups) b).fits) 0 i.subjects
 subjects_fit i few room all = subjects_from i 0 i.subjects few (omega (arith, room)) all

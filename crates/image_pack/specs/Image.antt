@@ -83,7 +83,7 @@ device_pages_with b kind pages = if is_device kind then sum32 b.device_pages pag
 -- what a span leaves for the next one
 unfoldable pub after : Header → SpansBefore → SpanPart → SpansBefore
 after h b s = record {
-  end = s.place + PAGE * s.pages;
+  end = s.address + PAGE * s.pages;
   seen = slice_set b.seen s.number true;
   left = b.left - 1;
   pages = pages_with b s.kind s.pages;
@@ -91,11 +91,11 @@ after h b s = record {
 }
 
 -- whole pages, behind the span before
-abbrev pub is_place : ℕ → ℕ → Bool
-is_place end place = (place % PAGE == 0) && nat_le end place
+abbrev pub is_address : ℕ → ℕ → Bool
+is_address end address = (address % PAGE == 0) && nat_le end address
 
 abbrev pub is_size : ℕ → ℕ → Bool
-is_size place pages = nat_lt 0 pages && nat_le (place + PAGE * pages) PHYSICAL_END
+is_size address pages = nat_lt 0 pages && nat_le (address + PAGE * pages) PHYSICAL_END
 
 abbrev pub is_new : Header → SpansBefore → ℕ → Bool
 is_new h b n = nat_lt n h.spans && not (slice_index_or b.seen n true)
@@ -123,15 +123,15 @@ title code = either (code == 1) (present name) (absent 64 at.Name)
 
 unfoldable pub span : Header → SpansBefore → Form SpanPart
 span h b =
-    field (λ s. s.place) (only (is_place b.end) at.Place (number w64)) (λ place.
-    field (λ s. s.pages) (only (is_size place) at.Pages (number w32)) (λ pages.
+    field (λ s. s.address) (only (is_address b.end) at.Place (number w64)) (λ address.
+    field (λ s. s.pages) (only (is_size address) at.Pages (number w32)) (λ pages.
     field (λ s. s.number) (only (is_new h b) at.Number (number w16)) (λ n.
     field (λ s. s.kind) (only (is_kind h b pages n) at.Kind kind_byte) (λ kind.
     field (λ s. part_code s.tag.part) (only (is_part kind) at.Part byte) (λ code.
     field (λ s. s.tag.owner) name (λ owner.
     field (λ s. part_name s.tag.part) (title code) (λ called.
     gap 16 at.Zero (
-    done (record { place = place; pages = pages; number = n; kind = kind; tag = record { owner = owner; part = part_of code called } })))))))))
+    done (record { address = address; pages = pages; number = n; kind = kind; tag = record { owner = owner; part = part_of code called } })))))))))
 
 -- ---- scheduling groups
 
@@ -149,11 +149,11 @@ group h b =
 
 -- where a subject is the first member of a group, the group is this one
 abbrev pub is_first_here : List GroupPart → ℕ → ℕ → Bool
-is_first_here groups place n = list_all (λ g. not (g.1.first == place) || g.0 == n) (enumerate_from 0 groups)
+is_first_here groups index n = list_all (λ g. not (g.1.first == index) || g.0 == n) (enumerate_from 0 groups)
 
 -- a group on its CPU, and the one whose first member it is
 unfoldable pub is_group_of : Outline → ℕ → ℕ → ℕ → Bool
-is_group_of o place cpu n = is_group_on o.groups cpu n && is_first_here o.groups place n
+is_group_of o index cpu n = is_group_on o.groups cpu n && is_first_here o.groups index n
 
 -- the number of a span that is this part of its owner, with so many pages
 unfoldable pub is_kernel_span : List SpanPart → ℕ → ℕ → ℕ → Bool
@@ -169,13 +169,13 @@ event h b = coded 4 (event_in h.subjects) event_bytes at.Event
 abbrev pub events : Header → Form (List (Option EventPart))
 events h = items (nothing_left h) (event h) 0 MOST_CALLS
 
-abbrev pub next_place : {A O : Type 0} → O → ℕ → A → ℕ
-next_place o place x = next_byte place
+abbrev pub next_index : {A O : Type 0} → O → ℕ → A → ℕ
+next_index o index x = next_byte index
 
 unfoldable pub subject : Outline → ℕ → Form SubjectPart
-subject o place =
+subject o index =
     field (λ s. s.cpu) (only (λ c. nat_lt c o.header.cpus) at.Cpu byte) (λ cpu.
-    field (λ s. s.group) (only (is_group_of o place cpu) at.Group byte) (λ in_group.
+    field (λ s. s.group) (only (is_group_of o index cpu) at.Group byte) (λ in_group.
     field (λ s. s.msrs) (only (λ n. nat_le n MOST_MSRS) at.Msrs byte) (λ msrs.
     gap 1 at.Zero (
     field (λ s. s.state) (only (is_kernel_span o.spans (part_code State) 1) at.Span (number w16)) (λ state.
@@ -294,7 +294,7 @@ image =
     field (λ i. i.header) header (λ h.
     field (λ i. i.spans) (items (after h) (span h) (no_spans_before h) h.spans) (λ spans.
     field (λ i. i.plan.groups) (items (nothing_left h) (group h) 0 h.groups) (λ groups.
-    field (λ i. i.subjects) (items (next_place (outline h spans groups)) (subject (outline h spans groups)) 0 h.subjects) (λ subjects.
+    field (λ i. i.subjects) (items (next_index (outline h spans groups)) (subject (outline h spans groups)) 0 h.subjects) (λ subjects.
     field (λ i. i.plan.majors) (items (nothing_left (outline h spans groups)) (major (outline h spans groups)) 0 h.majors) (λ majors.
     field (λ i. i.devices) (items (after_device (outline h spans groups)) (device (outline h spans groups)) [] h.devices) (λ devices.
     field (λ i. i.contents) (each content spans) (λ contents.

@@ -8,11 +8,11 @@ use Rattle.image_pack.specs.declared.parts.SpanPart.{SpanPart}
 
 -- the address behind its last byte
 abbrev pub end_of : SpanPart → ℕ
-end_of s = s.place + PAGE * s.pages
+end_of s = s.address + PAGE * s.pages
 
 -- whole pages, of addresses that there are; a part that a span of its kind may be; names that are names
 pub record IsSpan (s : SpanPart) : Type 0 where
-  pub aligned : s.place % PAGE ≡ 0
+  pub aligned : s.address % PAGE ≡ 0
   pub some : 0 < s.pages
   pub low : end_of s ≤ PHYSICAL_END
   pub part : is_part s.kind (part_code s.tag.part) ≡ true
@@ -21,7 +21,7 @@ pub record IsSpan (s : SpanPart) : Type 0 where
 
 -- each ends where the next one begins, or before it
 abbrev pub Ascend : List SpanPart → Type 0
-Ascend spans = AllPairs (λ a b. end_of a ≤ b.place) spans
+Ascend spans = AllPairs (λ a b. end_of a ≤ b.address) spans
 
 -- no two have one number
 abbrev pub HaveDifferentNumbers : List SpanPart → Type 0

@@ -105,7 +105,7 @@ pub fn unpack(alloc: Global, bytes: &[u8]) -> Result<Parts, ImageFault>
 {
     match all_of(alloc, bytes) {
         Ok(image) => Ok(Parts { image }),
-        Err(halt) => Err(fault_of(bytes.len(), halt)),
+        Err(error) => Err(fault_of(bytes.len(), error)),
     }
 }
 

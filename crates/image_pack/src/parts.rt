@@ -22,7 +22,7 @@ pub enum SpanKind {
 #[derive(Clone, Copy, Debug, PartialEq, Eq)]
 pub struct SpanPart {
     /// The physical address of its first byte, a multiple of 4,096.
-    pub place: u64,
+    pub address: u64,
     /// How many pages of 4,096 bytes it has.
     pub pages: u32,
     /// Its number among the spans, by which other parts name it.
@@ -112,7 +112,7 @@ pub struct DevicePart {
 #[derive(Clone, Debug, PartialEq, Eq, Drop)]
 pub struct Image {
     pub header: Header,
-    /// The spans, by their places.
+    /// The spans, by their addresses.
     pub spans: Seq<SpanPart>,
     /// The subjects, by their numbers.
     pub subjects: Seq<SubjectPart>,

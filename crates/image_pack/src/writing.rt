@@ -21,7 +21,7 @@ use image_form::writing::{
     as_u8, as_u16, put_bytes, put_name, put_tag, put_u8, put_u16, put_u32, put_u64, put_zeros,
 };
 use image_plan::{GroupPart, Major, Minor};
-use muen_num::{TagPart, Seq};
+use muen_num::{Seq, TagPart};
 use std::alloc::AllocError;
 
 #[tactic(auto, using(image_form::proofs::Puts::appended), unfolding(image_form::specs::Form::field, image_form::specs::Form::only, image_form::specs::Form::gap, image_form::specs::Form::done, image_form::specs::Form::either, image_form::specs::Form::present, image_form::specs::Form::absent, crate::specs::Image::tau0_at))]
@@ -69,7 +69,7 @@ fn put_title(out: &mut Vec<u8>, part: &TagPart) -> Result<(), AllocError>
 pub(crate) fn put_span(out: &mut Vec<u8>, s: &SpanPart) -> Result<(), AllocError>
     ensures { (h : Header) (b : SpansBefore) → OnOk result (out.new.items ≡ out.old.items ++ (span h b).spell s.now) }
 {
-    put_u64(out, s.place)?;
+    put_u64(out, s.address)?;
     put_u32(out, s.pages)?;
     put_u16(out, s.number)?;
     put_tag(out, &[s.kind.code()])?;
@@ -100,8 +100,8 @@ fn put_events(out: &mut Vec<u8>, list: &[Option<EventPart>]) -> Result<(), Alloc
 
 #[tactic(auto, using(image_form::proofs::Puts::appended), unfolding(image_form::specs::Form::field, image_form::specs::Form::only, image_form::specs::Form::gap, image_form::specs::Form::done, crate::specs::Image::subject))]
 pub(crate) fn put_subject(out: &mut Vec<u8>, s: &SubjectPart) -> Result<(), AllocError>
-    requires { (o : Outline) × (place : ℕ) × (subject o place).fits s.now }
-    ensures { (o : Outline) (place : ℕ) → OnOk result (out.new.items ≡ out.old.items ++ (subject o place).spell s.now) }
+    requires { (o : Outline) × (index : ℕ) × (subject o index).fits s.now }
+    ensures { (o : Outline) (index : ℕ) → OnOk result (out.new.items ≡ out.old.items ++ (subject o index).spell s.now) }
 {
     put_u8(out, s.cpu)?;
     put_u8(out, s.group)?;

@@ -56,9 +56,9 @@ front_more start i h =
 
 -- one more entry of a grant
 pub range_step : (size long at start i end : ℕ) (area new front : List ℕ) → long ≡ size → start ≤ i → end ≡ at + entry_size * (i - start) → length front ≡ at → area ≡ padded size (front ++ area_bytes (front_of start (i - start))) → ((f : List ℕ) → length f ≡ end → area ≡ padded long f → new ≡ padded long (f ++ entry_bytes (entry_of i))) → new ≡ padded size (front ++ area_bytes (front_of start (i + 1 - start)))
-range_step size long at start i end area new front same h place fits p put =
+range_step size long at start i end area new front same h offset fits p put =
     let so_far : List ℕ = front ++ area_bytes (front_of start (i - start)) in
-    let ends : length so_far ≡ end = omega (arith, length-append front (area_bytes (front_of start (i - start))), length-area (front_of start (i - start)), length-front_of start (i - start), fits, place) in
+    let ends : length so_far ≡ end = omega (arith, length-append front (area_bytes (front_of start (i - start))), length-area (front_of start (i - start)), length-front_of start (i - start), fits, offset) in
     let after : new ≡ padded long (so_far ++ entry_bytes (entry_of i)) = put so_far ends (rw same p) in
     after ∙ (ap (λ n. padded n (so_far ++ entry_bytes (entry_of i))) same ∙ ap (padded size) (append_assoc front _ _ ∙ ap (λ x. front ++ x) (sym (area_push (front_of start (i - start)) (entry_of i)) ∙ ap area_bytes (sym (front_more start i h)))))
 
@@ -103,9 +103,9 @@ room_for msrs i end room d h p few e = omega (arith, p, count_within msrs i d h)
 
 -- the entries of one more grant
 pub area_step : (size long : ℕ) (msrs : List MsrGrant) (i end : ℕ) (d : MsrGrant) (area new : List ℕ) → i < length msrs → long ≡ size → end ≡ entry_size * count_of (take i msrs) → area ≡ padded size (area_bytes (area_of (take i msrs))) → ((front : List ℕ) → length front ≡ end → area ≡ padded long front → new ≡ padded long (front ++ area_bytes (entries_of (get_or msrs i d)))) → new ≡ padded size (area_bytes (area_of (take (i + 1) msrs)))
-area_step size long msrs i end d area new h same place p put =
+area_step size long msrs i end d area new h same offset p put =
     let so_far : List ℕ = area_bytes (area_of (take i msrs)) in
-    let ends : length so_far ≡ end = omega (arith, length-area (area_of (take i msrs)), length-area_of (take i msrs), place) in
+    let ends : length so_far ≡ end = omega (arith, length-area (area_of (take i msrs)), length-area_of (take i msrs), offset) in
     let after : new ≡ padded long (so_far ++ area_bytes (entries_of (get_or msrs i d))) = put so_far ends (rw same p) in
     let joined : area_bytes (area_of (take (i + 1) msrs)) ≡ so_far ++ area_bytes (entries_of (get_or msrs i d)) = ap area_bytes (area_more msrs i d h) ∙ flat_map-append entry_bytes _ _ in
     after ∙ (ap (λ n. padded n (so_far ++ area_bytes (entries_of (get_or msrs i d)))) same ∙ ap (padded size) (sym joined))

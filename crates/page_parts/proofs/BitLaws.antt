@@ -17,8 +17,8 @@ pub all_set : (size n : ℕ) → n < 8 * size → is_set (replicate size 255) n 
 unfolding is_set
 all_set size n h =
     let within : n / 8 < size = omega arith in
-    let place : n % 8 < 8 = omega arith in
-    rw (get_or-replicate {A = ℕ} size (n / 8) 255 0 within, ones (n % 8) place) refl
+    let offset : n % 8 < 8 = omega arith in
+    rw (get_or-replicate {A = ℕ} size (n / 8) 255 0 within, ones (n % 8) offset) refl
 
 and_true : (b : Bool) → b ≡ (b && true)
 and_true true = refl

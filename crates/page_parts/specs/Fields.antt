@@ -2,7 +2,7 @@
 use Rattle.std.specs.Prelude.{ℕ, ◌-◌, List, ◌++◌, length, take, drop, replicate}
 use Rattle.machine_meaning.specs.Memory.{le_number}
 
--- the number that the `size` bytes at a place spell, the lowest first
+-- the number that the `size` bytes at an offset spell, the lowest first
 unfoldable pub number_at : List ℕ → ℕ → ℕ → ℕ
 number_at page at size = le_number (take size (drop at page))
 

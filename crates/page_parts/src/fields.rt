@@ -1,4 +1,4 @@
-//! Fields of a page at their places, numbers with the lowest byte first.
+//! Fields of a page at their offsets, numbers with the lowest byte first.
 ghost use Rattle.std.specs.Prelude.{◌≡◌, ◌+◌, ◌≤◌, [], length};
 ghost use Rattle.machine_meaning.specs.Memory.{le_bytes, over};
 ghost use Rattle.page_parts.specs.Fields.{number_at, padded};
@@ -21,7 +21,7 @@ pub fn put_bytes(page: &mut [u8], at: usize, bytes: &[u8])
     page[at..at + bytes.len()].copy_from_slice(bytes);
 }
 
-/// Writes a word at this place.
+/// Writes a word at this offset.
 pub fn put_word(page: &mut [u8], at: usize, word: u64)
     requires { at + 8 ≤ length page.old }
     ensures { page.new ≡ over page.old at (le_bytes 8 word) }
@@ -29,7 +29,7 @@ pub fn put_word(page: &mut [u8], at: usize, word: u64)
     put_bytes(page, at, &word.to_le_bytes());
 }
 
-/// The word at this place.
+/// The word at this offset.
 pub fn word_at(page: &[u8], at: usize) -> u64
     requires { at + 8 ≤ length page.now }
     ensures { result ≡ number_at page.now at 8 }

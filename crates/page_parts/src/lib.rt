@@ -1,4 +1,4 @@
-//! What the pages of a kernel are written by: bits of bitmaps, and fields of bytes at their places.
+//! What the pages of a kernel are written by: bits of bitmaps, and fields of bytes at their offsets.
 #![tactic(auto)]
 
 mod bits;

@@ -1,4 +1,4 @@
--- The plan of a resolved policy, by the places of its groups and subjects, and when its numbers fit.
+-- The plan of a resolved policy, by the indexes of its groups and subjects, and when its numbers fit.
 use Rattle.std.specs.Prelude.{ℕ, ◌^◌, ◌==◌, ◌&&◌, Bool, List, [], length, map, slice_get, slice_index, nat_lt}
 use Rattle.std.specs.Option.{option_map_or}
 use Rattle.std.specs.List.{find, list_all}

@@ -20,7 +20,7 @@ use Rattle.span_emit.proofs.RegionSpans.{AreApart, IsRegionSpan, less_pages}
 
 pub record IsDeviceSpan (s : SpanPart) : Type 0 where
   pub bytes : is_device s.kind ≡ true
-  pub aligned : s.place % PAGE ≡ 0
+  pub aligned : s.address % PAGE ≡ 0
   pub some : 0 < s.pages
   pub part : is_part s.kind (part_code s.tag.part) ≡ true
   pub low : end_of s ≤ PHYSICAL_END
@@ -94,7 +94,7 @@ IsOutside blocks x = All (λ b. AreTwo b.physical_address b.size x.1.physical_ad
 
 beside : (blocks : List Block) (s : SpanPart) → IsRegionSpan blocks s → (k : ℕ) (x : Memory) → IsOutside blocks x → AreApart s (device_span (k, x))
 beside blocks s h k x out =
-    let b = some_block (λ b. AreTwo b.physical_address b.size x.1.physical_address x.1.size) blocks s.place (PAGE * s.pages) out h.inside in
+    let b = some_block (λ b. AreTwo b.physical_address b.size x.1.physical_address x.1.size) blocks s.address (PAGE * s.pages) out h.inside in
     let low = b.low in
     let high = b.high in
     let l = less_pages x.1.size in

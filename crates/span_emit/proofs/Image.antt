@@ -1,4 +1,4 @@
--- The spans of a placed policy, by their places, are those of an image.
+-- The spans of a placed policy, by their addresses, are those of an image.
 use Rattle.std.proofs.Common.{◌≡◌, ℕ, ◌+◌, ◌*◌, ◌%◌, ◌<◌, ◌≤◌, inl, inr, Bool, true, false, All, List, ◌++◌, length, refl, ap, ◌∙◌, subst, arith, length-append}
 use Rattle.std.specs.Prelude.{◌||◌, ◌==◌, ◌≢◌, nat_le, not}
 use Rattle.std.specs.List.{AllPairs, enumerate_from, sum_by, zip}
@@ -19,7 +19,7 @@ use Rattle.policy_types.specs.declared.source.Block.{Block}
 use Rattle.policy_types.specs.declared.source.Device.{Device}
 use Rattle.region_alloc.proofs.Lowest.{ends_well}
 use Rattle.region_alloc.specs.Placement.{in_a_block}
-use Rattle.span_emit.specs.ByPlace.{AreSpansByPlace, HasNames}
+use Rattle.span_emit.specs.ByAddress.{AreSpansByAddress, HasNames}
 use Rattle.span_emit.specs.Spans.{device_span, device_spans, memories_of, region_spans}
 use Rattle.span_emit.proofs.DeviceSpans.{IsDeviceSpan, beside_regions, device_pages_are, device_spans_apart, device_spans_are, some_block}
 use Rattle.span_emit.proofs.Numbers.{Numbered, devices_numbered, numbered_append, numbered_between, numbered_differ, regions_numbered}
@@ -31,7 +31,7 @@ use Rattle.span_emit.proofs.RegionSpans.{AreApart, IsRegionSpan, as_many, many_s
 -- ---- tests that tell two spans apart
 
 abbrev clash : SpanPart → SpanPart → Bool
-clash a b = not (nat_le (end_of a) b.place || nat_le (end_of b) a.place)
+clash a b = not (nat_le (end_of a) b.address || nat_le (end_of b) a.address)
 
 either_way : (p q : Bool) → not (p || q) ≡ not (q || p)
 either_way true true = refl
@@ -44,13 +44,13 @@ passes true h = refl
 passes false h = absurd (cc)
 
 no_clash : (a b : SpanPart) → AreApart a b → clash a b ≡ false
-no_clash a b (inl before) = ap (λ t. not (t || nat_le (end_of b) a.place)) (le-leb (end_of a) b.place before)
+no_clash a b (inl before) = ap (λ t. not (t || nat_le (end_of b) a.address)) (le-leb (end_of a) b.address before)
 no_clash a b (inr behind) =
-    ap (λ t. not (nat_le (end_of a) b.place || t)) (le-leb (end_of b) a.place behind)
-    ∙ either_way (nat_le (end_of a) b.place) true
+    ap (λ t. not (nat_le (end_of a) b.address || t)) (le-leb (end_of b) a.address behind)
+    ∙ either_way (nat_le (end_of a) b.address) true
 
 apart_from : (a b : SpanPart) → clash a b ≡ false → AreApart a b
-apart_from a b h = elim (or_cases (nat_le (end_of a) b.place) (nat_le (end_of b) a.place) (passes _ h)) [
+apart_from a b h = elim (or_cases (nat_le (end_of a) b.address) (nat_le (end_of b) a.address) (passes _ h)) [
   | inl before ↦ inl (leb-true _ _ before)
   | inr behind ↦ inr (leb-true _ _ behind)
 ]
@@ -62,14 +62,14 @@ number_flips a b = grind (arith, nat_tests)
 
 -- what an image asks of a span but for its names
 record IsBody (s : SpanPart) : Type 0 where
-  aligned : s.place % PAGE ≡ 0
+  aligned : s.address % PAGE ≡ 0
   some : 0 < s.pages
   low : end_of s ≤ PHYSICAL_END
   part : is_part s.kind (part_code s.tag.part) ≡ true
 
 region_body : (blocks : List Block) → All ends_well blocks → (s : SpanPart) → IsRegionSpan blocks s → IsBody s
 region_body blocks ends s h =
-    let b = some_block ends_well blocks s.place (PAGE * s.pages) ends h.inside in
+    let b = some_block ends_well blocks s.address (PAGE * s.pages) ends h.inside in
     let high = b.high in
     let end = b.holds in
     record { aligned = h.aligned; some = h.some; low = omega arith; part = h.part }
@@ -79,15 +79,15 @@ device_body s h = record { aligned = h.aligned; some = h.some; low = h.low; part
 
 -- ---- all
 
-module _ (blocks : List Block) (devices : List Device) (regions : List Region) (places : List ℕ) (h : IsPlaced blocks devices regions places) where
+module _ (blocks : List Block) (devices : List Device) (regions : List Region) (addresses : List ℕ) (h : IsPlaced blocks devices regions addresses) where
   abbrev rs : List SpanPart
-  rs = region_spans regions places
+  rs = region_spans regions addresses
 
   abbrev ds : List SpanPart
   ds = device_spans (length regions) devices
 
   are_regions : All (IsRegionSpan blocks) rs
-  are_regions = region_spans_are blocks regions places h.whole h.sized h.aligned h.inside
+  are_regions = region_spans_are blocks regions addresses h.whole h.sized h.aligned h.inside
 
   are_devices : All IsDeviceSpan ds
   are_devices = device_spans_are (length regions) (memories_of devices) h.physical
@@ -97,11 +97,11 @@ module _ (blocks : List Block) (devices : List Device) (regions : List Region) (
 
   apart : AllPairs AreApart (rs ++ ds)
   apart =
-      pairs_append AreApart rs ds (region_spans_apart regions places h.disjoint) (device_spans_apart (length regions) (memories_of devices) h.apart.pairs)
+      pairs_append AreApart rs ds (region_spans_apart regions addresses h.disjoint) (device_spans_apart (length regions) (memories_of devices) h.apart.pairs)
       (beside_regions blocks rs (length regions) (memories_of devices) are_regions h.apart.outside)
 
   many_regions : length rs ≡ length regions
-  many_regions = many_spans regions places (as_many blocks regions places h.inside)
+  many_regions = many_spans regions addresses (as_many blocks regions addresses h.inside)
 
   many_devices : length ds ≡ length (memories_of devices)
   many_devices = length-map (enumerate_from (length regions) (memories_of devices)) device_span ∙ length-enumerate_from (length regions) (memories_of devices)
@@ -109,12 +109,12 @@ module _ (blocks : List Block) (devices : List Device) (regions : List Region) (
   numbered : Numbered 0 (rs ++ ds)
   numbered =
       let first : length regions ≡ 0 + length rs = omega (arith, many_regions) in
-      numbered_append 0 rs ds (regions_numbered 0 (zip regions places))
+      numbered_append 0 rs ds (regions_numbered 0 (zip regions addresses))
       (subst (λ n. Numbered n ds) first (devices_numbered (length regions) (memories_of devices)))
 
-  inside : All (λ s. is_device s.kind ≡ false → in_a_block blocks s.place (PAGE * s.pages) ≡ true) (rs ++ ds)
+  inside : All (λ s. is_device s.kind ≡ false → in_a_block blocks s.address (PAGE * s.pages) ≡ true) (rs ++ ds)
   inside =
-      All-append (λ s. is_device s.kind ≡ false → in_a_block blocks s.place (PAGE * s.pages) ≡ true) rs ds
+      All-append (λ s. is_device s.kind ≡ false → in_a_block blocks s.address (PAGE * s.pages) ≡ true) rs ds
       (λ k d l e. (are_regions k d l).inside)
       (λ k d l e. let device = (are_devices k d l).bytes in absurd (cc))
 
@@ -141,7 +141,7 @@ module _ (blocks : List Block) (devices : List Device) (regions : List Region) (
     all_apart : AllPairs AreApart ys
     all_apart =
         pairs_weaker (λ a b. clash a b ≡ false) AreApart apart_from ys
-        (pairs_permuted clash (λ a b. either_way (nat_le (end_of a) b.place) (nat_le (end_of b) a.place)) (rs ++ ds) ys p
+        (pairs_permuted clash (λ a b. either_way (nat_le (end_of a) b.address) (nat_le (end_of b) a.address)) (rs ++ ds) ys p
         (pairs_weaker AreApart (λ a b. clash a b ≡ false) no_clash (rs ++ ds) apart))
 
     below : All (λ s. s.number < length ys) ys
@@ -157,17 +157,17 @@ module _ (blocks : List Block) (devices : List Device) (regions : List Region) (
         (λ a b no e. let yes = eq-eqb a.number b.number e in absurd (cc)) ys
         (pairs_permuted (λ a b. a.number == b.number) (λ a b. number_flips a.number b.number) (rs ++ ds) ys p (numbered_differ 0 (rs ++ ds) numbered))
 
-    -- by place
-    module _ (up : IsNonDecreasingBy (λ s. s.place) ys) where
+    -- by address
+    module _ (up : IsNonDecreasingBy (λ s. s.address) ys) where
       ascending : Ascend ys
       ascending =
-          ascend (λ s. s.place) (λ s. PAGE * s.pages) ys up
+          ascend (λ s. s.address) (λ s. PAGE * s.pages) ys up
           (All-weaker IsBody (λ s. 0 < PAGE * s.pages) (λ s body. let some = body.some in omega arith) ys all_bodies)
           all_apart
 
       have_room : HaveRoom ys
       have_room =
-          let with_bytes = pages_within blocks ys ascending (All-permutation (λ s. is_device s.kind ≡ false → in_a_block blocks s.place (PAGE * s.pages) ≡ true) (rs ++ ds) ys p inside) in
+          let with_bytes = pages_within blocks ys ascending (All-permutation (λ s. is_device s.kind ≡ false → in_a_block blocks s.address (PAGE * s.pages) ≡ true) (rs ++ ds) ys p inside) in
           let block_bytes = h.block_bytes in
           let same = sum_by-IsPermutation device_pages_of (rs ++ ds) ys p in
           let of_devices = device_room in
@@ -190,11 +190,11 @@ module _ (blocks : List Block) (devices : List Device) (regions : List Region) (
           }
 
 -- from spans by number
-pub by_place : (blocks : List Block) (devices : List Device) (regions : List Region) (places : List ℕ) → IsPlaced blocks devices regions places → (first all : List SpanPart) → first ≡ region_spans regions places
-    → all ≡ first ++ device_spans (length first) devices → All (λ s. HasNames s.tag) all → AreSpansByPlace all
-by_place blocks devices regions places h first all first_is all_is named ordered p up =
-    let many : length first ≡ length regions = ap length first_is ∙ many_spans regions places (as_many blocks regions places h.inside) in
-    let whole : all ≡ region_spans regions places ++ device_spans (length regions) devices =
+pub by_address : (blocks : List Block) (devices : List Device) (regions : List Region) (addresses : List ℕ) → IsPlaced blocks devices regions addresses → (first all : List SpanPart) → first ≡ region_spans regions addresses
+    → all ≡ first ++ device_spans (length first) devices → All (λ s. HasNames s.tag) all → AreSpansByAddress all
+by_address blocks devices regions addresses h first all first_is all_is named ordered p up =
+    let many : length first ≡ length regions = ap length first_is ∙ many_spans regions addresses (as_many blocks regions addresses h.inside) in
+    let whole : all ≡ region_spans regions addresses ++ device_spans (length regions) devices =
     all_is ∙ ap (λ n. first ++ device_spans n devices) many ∙ ap (λ xs. xs ++ device_spans (length regions) devices) first_is in
-    are_spans blocks devices regions places h ordered (subst (λ (xs : List SpanPart). IsPermutation xs ordered) whole p) up
+    are_spans blocks devices regions addresses h ordered (subst (λ (xs : List SpanPart). IsPermutation xs ordered) whole p) up
     (All-permutation (λ s. HasNames s.tag) all ordered p named)

@@ -9,7 +9,7 @@ use Rattle.image_pack.specs.declared.parts.SpanPart.{SpanPart}
 use Rattle.muen_num.specs.declared.limits.TheConstants.{PAGE}
 use Rattle.policy_types.specs.declared.source.Device.{Device}
 use Rattle.policy_types.specs.declared.source.DeviceMemory.{DeviceMemory}
-use Rattle.span_emit.specs.ByPlace.{HasNames}
+use Rattle.span_emit.specs.ByAddress.{HasNames}
 use Rattle.span_emit.specs.Spans.{device_span, memories_of, region_span, region_spans}
 use Rattle.span_emit.proofs.PairLaws.{all_second, all_unmapped}
 
@@ -22,22 +22,22 @@ abbrev IsSmall : Region → Type 0
 IsSmall r = r.size / PAGE < 2 ^ 32
 
 -- those made so far, and those of the regions that are left, are all
-pub record Regions (all : List SpanPart) (left : List Region) (places : List ℕ) (made : List SpanPart) : Type 0 where
-  pub whole : made ++ map region_span (enumerate_from (length made) (zip left places)) ≡ all
+pub record Regions (all : List SpanPart) (left : List Region) (addresses : List ℕ) (made : List SpanPart) : Type 0 where
+  pub whole : made ++ map region_span (enumerate_from (length made) (zip left addresses)) ≡ all
   pub named : All (λ s. HasNames s.tag) made
   pub few : length made + length left ≤ 2 ^ 16
   pub small : All (λ r. r.size / PAGE < 2 ^ 32) left
 
-pub regions_first : (regions : List Region) (ps : List ℕ) (left : List Region) (places : List ℕ) (made : List SpanPart) → left ≡ regions → places ≡ ps → made ≡ [] → length regions ≤ 2 ^ 16 → All (λ r. r.size / PAGE < 2 ^ 32) regions
-    → Regions (region_spans regions ps) left places made
-regions_first regions ps left places made s p none few small = record {
+pub regions_first : (regions : List Region) (ps : List ℕ) (left : List Region) (addresses : List ℕ) (made : List SpanPart) → left ≡ regions → addresses ≡ ps → made ≡ [] → length regions ≤ 2 ^ 16 → All (λ r. r.size / PAGE < 2 ^ 32) regions
+    → Regions (region_spans regions ps) left addresses made
+regions_first regions ps left addresses made s p none few small = record {
   whole = (λ i. none i ++ map region_span (enumerate_from (length (none i)) (zip (s i) (p i))));
   named = subst (All Named) (sym none) (All-nil Named);
   few = let a = ap length s in let b = ap length none in omega arith;
   small = subst (All IsSmall) (sym s) small;
 }
 
-module _ (all : List SpanPart) (left : List Region) (places : List ℕ) (made : List SpanPart) (h : Regions all left places made) where
+module _ (all : List SpanPart) (left : List Region) (addresses : List ℕ) (made : List SpanPart) (h : Regions all left addresses made) where
   module _ (r : Region) (rs : List Region) (is : left ≡ r ∷ rs) where
     -- the next can be made
     pub region_fits : (length made < 2 ^ 16) × (r.size / PAGE < 2 ^ 32)
@@ -46,7 +46,7 @@ module _ (all : List SpanPart) (left : List Region) (places : List ℕ) (made : 
         let e = ap length is in
         (omega arith, All-head IsSmall r rs (subst (All IsSmall) is h.small))
 
-    pub region_made : (p : ℕ) (ps : List ℕ) (number : ℕ) (s : SpanPart) (more : List SpanPart) → places ≡ p ∷ ps → number ≡ length made → s ≡ region_span (number, (r, p)) → HasNames s.tag → more ≡ made ++ s ∷ [] → Regions all rs ps more
+    pub region_made : (p : ℕ) (ps : List ℕ) (number : ℕ) (s : SpanPart) (more : List SpanPart) → addresses ≡ p ∷ ps → number ≡ length made → s ≡ region_span (number, (r, p)) → HasNames s.tag → more ≡ made ++ s ∷ [] → Regions all rs ps more
     region_made p ps number s more of count new names then =
         let e : length (made ++ s ∷ []) ≡ length made + 1 = length-append made (s ∷ []) in
         let few = h.few in
@@ -65,8 +65,8 @@ module _ (all : List SpanPart) (left : List Region) (places : List ℕ) (made : 
           small = All-tail IsSmall r rs (subst (All IsSmall) is h.small);
         }
 
-  pub regions_last : (left ≡ []) ⊎ (places ≡ []) → made ≡ all
-  regions_last e = sym (append-nil made) ∙ ap (λ xs. made ++ map region_span (enumerate_from (length made) xs)) (sym (none left places e)) ∙ h.whole
+  pub regions_last : (left ≡ []) ⊎ (addresses ≡ []) → made ≡ all
+  regions_last e = sym (append-nil made) ∙ ap (λ xs. made ++ map region_span (enumerate_from (length made) xs)) (sym (none left addresses e)) ∙ h.whole
     where
       none : (xs : List Region) (ys : List ℕ) → (xs ≡ []) ⊎ (ys ≡ []) → zip xs ys ≡ []
       none [] ys e = refl

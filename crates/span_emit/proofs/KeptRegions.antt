@@ -49,9 +49,9 @@ on_pages alignment a h e = elim (or_cases (alignment == PAGE) (alignment == LARG
   | inr large ↦ let whole : a % LARGE_PAGE ≡ 0 = ap (λ m. a % m) (sym (eqb-true alignment LARGE_PAGE large)) ∙ e in omega arith
 ]
 
-fixed_places : (r : SourceRegion) (fixed : Option ℕ) → is_alignment r.alignment ≡ true → is_fixed r fixed ≡ true → (a : ℕ) → suits (own_region r) fixed a ≡ true → a % PAGE ≡ 0
-fixed_places r None alignment h a s = on_pages r.alignment a alignment (eqb-true (a % r.alignment) 0 s)
-fixed_places r (Some own) alignment h a s =
+fixed_addresses : (r : SourceRegion) (fixed : Option ℕ) → is_alignment r.alignment ≡ true → is_fixed r fixed ≡ true → (a : ℕ) → suits (own_region r) fixed a ≡ true → a % PAGE ≡ 0
+fixed_addresses r None alignment h a s = on_pages r.alignment a alignment (eqb-true (a % r.alignment) 0 s)
+fixed_addresses r (Some own) alignment h a s =
     let both = and_parts (is_physical own r.size) (own % r.alignment == 0) h in
     on_pages r.alignment a alignment (ap (λ n. n % r.alignment) (eqb-true a own s) ∙ eqb-true (own % r.alignment) 0 both.1)
 
@@ -59,7 +59,7 @@ whole_laid : (r : SourceRegion) → is_laid r ≡ true → IsWhole (own_region r
 whole_laid r h =
     let both = and_parts (is_page_size r.size && is_alignment r.alignment) (is_fixed r r.physical_address) h in
     let parts = and_parts (is_page_size r.size) (is_alignment r.alignment) both.0 in
-    record { pages = whole_size r.size parts.0; part = refl; placed = fixed_places r r.physical_address parts.1 both.1 }
+    record { pages = whole_size r.size parts.0; part = refl; placed = fixed_addresses r r.physical_address parts.1 both.1 }
 
 whole_channel : (c : Channel) → is_page_size c.size ≡ true → IsWhole (channel_region c)
 whole_channel c h = record { pages = whole_size c.size h; part = refl; placed = λ a s. eqb-true (a % PAGE) 0 s }

@@ -8,6 +8,6 @@ pub mod Numbers
 pub mod Pages
 pub mod PairLaws
 pub mod Placed
-pub mod PlacesAligned
+pub mod AddressesAligned
 pub mod RegionSpans
 pub mod Room

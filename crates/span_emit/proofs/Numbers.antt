@@ -18,7 +18,7 @@ Numbered k (s ∷ ss) = (s.number ≡ k) × Numbered (k + 1) ss
 
 pub regions_numbered : (k : ℕ) (xs : List (Region × ℕ)) → Numbered k (map region_span (enumerate_from k xs))
 regions_numbered k [] = tt
-regions_numbered k ((r, place) ∷ xs) = (refl, regions_numbered (k + 1) xs)
+regions_numbered k ((r, address) ∷ xs) = (refl, regions_numbered (k + 1) xs)
 
 pub devices_numbered : (k : ℕ) (ms : List (List ℕ × DeviceMemory)) → Numbered k (map device_span (enumerate_from k ms))
 devices_numbered k [] = tt

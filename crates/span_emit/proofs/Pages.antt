@@ -44,11 +44,11 @@ not_device true h = absurd (cc)
 not_device false h = refl
 
 -- spans that ascend, and lie inside blocks where they have bytes
-pub pages_within : (blocks : List Block) (xs : List SpanPart) → Ascend xs → All (λ s. is_device s.kind ≡ false → in_a_block blocks s.place (PAGE * s.pages) ≡ true) xs → PAGE * sum_by pages_of xs ≤ sum_by (λ b. b.size) blocks
+pub pages_within : (blocks : List Block) (xs : List SpanPart) → Ascend xs → All (λ s. is_device s.kind ≡ false → in_a_block blocks s.address (PAGE * s.pages) ≡ true) xs → PAGE * sum_by pages_of xs ≤ sum_by (λ b. b.size) blocks
 pages_within blocks xs up inside =
-    let those : All (λ s. in_a_block blocks s.place (PAGE * s.pages) ≡ true) (filter has_bytes xs) = λ k d l.
-    All-filter has_bytes (λ s. is_device s.kind ≡ false → in_a_block blocks s.place (PAGE * s.pages) ≡ true) xs inside k d l (not_device _ (filter_passes has_bytes xs k d l)) in
-    let room = in_blocks (λ s. s.place) bytes_in blocks (filter has_bytes xs) (AllPairs-filter (λ a b. end_of a ≤ b.place) has_bytes xs up) those in
+    let those : All (λ s. in_a_block blocks s.address (PAGE * s.pages) ≡ true) (filter has_bytes xs) = λ k d l.
+    All-filter has_bytes (λ s. is_device s.kind ≡ false → in_a_block blocks s.address (PAGE * s.pages) ≡ true) xs inside k d l (not_device _ (filter_passes has_bytes xs k d l)) in
+    let room = in_blocks (λ s. s.address) bytes_in blocks (filter has_bytes xs) (AllPairs-filter (λ a b. end_of a ≤ b.address) has_bytes xs up) those in
     let e = pages_are xs in
     omega arith
 

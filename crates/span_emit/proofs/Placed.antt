@@ -1,4 +1,4 @@
--- What is known of a placed policy's blocks, devices, regions and places.
+-- What is known of a placed policy's blocks, devices, regions and addresses.
 use Rattle.std.proofs.Common.{◌≡◌, ℕ, ◌+◌, ◌/◌, ◌%◌, ◌<◌, ◌≤◌, ◌^◌, All, List, [], ◌∷◌, ◌++◌, length, sym, ap, ◌∙◌, subst, arith}
 use Rattle.std.specs.Prelude.{Ok}
 use Rattle.std.specs.List.{sum_by}
@@ -23,15 +23,15 @@ use Rattle.span_emit.proofs.DeviceSpans.{some_block}
 use Rattle.span_emit.proofs.KeptDevices.{AreApart, IsPhysical, devices_apart, devices_physical}
 use Rattle.span_emit.proofs.KeptRegions.{IsWhole, regions_whole}
 use Rattle.span_emit.proofs.KeptSums.{sums_kept}
-use Rattle.span_emit.proofs.PlacesAligned.{places_aligned}
+use Rattle.span_emit.proofs.AddressesAligned.{addresses_aligned}
 use Rattle.span_emit.proofs.RegionSpans.{as_many, many_spans}
 
-pub record IsPlaced (blocks : List Block) (devices : List Device) (regions : List Region) (places : List ℕ) : Type 0 where
+pub record IsPlaced (blocks : List Block) (devices : List Device) (regions : List Region) (addresses : List ℕ) : Type 0 where
   pub whole : All IsWhole regions
   pub sized : All IsSized regions
-  pub aligned : All (λ a. a % PAGE ≡ 0) places
-  pub inside : AreInside blocks regions places
-  pub disjoint : AreDisjoint regions places
+  pub aligned : All (λ a. a % PAGE ≡ 0) addresses
+  pub inside : AreInside blocks regions addresses
+  pub disjoint : AreDisjoint regions addresses
   pub ends : All ends_well blocks
   pub physical : All (λ x. IsPhysical x.1) (memories_of devices)
   pub apart : AreApart blocks (memories_of devices)
@@ -40,16 +40,16 @@ pub record IsPlaced (blocks : List Block) (devices : List Device) (regions : Lis
   pub windows : length (memories_of devices) ≤ MOST_DEVICE_WINDOWS
   pub device_bytes : sum_by (λ x. x.1.size) (memories_of devices) ≤ MOST_DEVICE_BYTES
 
-pub is_placed : (r : Resolution) (regions : List Region) (places : List ℕ) → IsLawful (source_of r) → regions ≡ regions_of (source_of r) → placement_of (source_of r) ≡ Ok places
-    → AreInside r.memory_blocks regions places → AreDisjoint regions places → IsPlaced r.memory_blocks r.devices regions places
+pub is_placed : (r : Resolution) (regions : List Region) (addresses : List ℕ) → IsLawful (source_of r) → regions ≡ regions_of (source_of r) → placement_of (source_of r) ≡ Ok addresses
+    → AreInside r.memory_blocks regions addresses → AreDisjoint regions addresses → IsPlaced r.memory_blocks r.devices regions addresses
 unfolding source_of
-is_placed r regions places lawful all e inside disjoint =
+is_placed r regions addresses lawful all e inside disjoint =
     let whole = regions_whole (source_of r) lawful.rule_4 in
     let sums = sums_kept (source_of r) lawful.rule_20 in
     record {
       whole = subst (All IsWhole) (sym all) whole;
       sized = subst (All IsSized) (sym all) (regions_sized (source_of r) lawful.rule_4);
-      aligned = places_aligned (source_of r) places e whole;
+      aligned = addresses_aligned (source_of r) addresses e whole;
       inside = inside;
       disjoint = disjoint;
       ends = blocks_end r lawful;
@@ -62,19 +62,19 @@ is_placed r regions places lawful all e inside disjoint =
     }
 
 -- from what the calls that lend the parts of a placed policy tell
-pub from_calls : (x : Placement) (plain : Expansion) (lawful resolved : Resolution) (devices : List Device) (regions : List Region) (places : List ℕ)
-    → plain ≡ x.plain → lawful ≡ plain.lawful → resolved ≡ lawful → IsLawful (source_of lawful) → devices ≡ resolved.devices → regions ≡ plain.regions → regions ≡ regions_of (source_of plain.lawful)
-    → placement_of (source_of x.plain.lawful) ≡ Ok places → AreInside x.plain.lawful.memory_blocks x.plain.regions places → AreDisjoint x.plain.regions places
-    → IsPlaced x.plain.lawful.memory_blocks devices regions places
-from_calls x plain lawful resolved devices regions places is is_lawful is_resolved keeps are_devices are_regions all place inside disjoint =
-    let blocks = x.plain.lawful.memory_blocks in
-    let here : lawful ≡ x.plain.lawful = is_lawful ∙ ap (λ p. p.lawful) is in
-    let those : regions ≡ x.plain.regions = are_regions ∙ ap (λ p. p.regions) is in
-    let these : devices ≡ x.plain.lawful.devices = are_devices ∙ ap (λ r. r.devices) (is_resolved ∙ here) in
-    let whole : x.plain.regions ≡ regions_of (source_of x.plain.lawful) = sym those ∙ all ∙ ap (λ p. regions_of (source_of p.lawful)) is in
-    subst (λ (ds : List Device). IsPlaced blocks ds regions places) (sym these)
-    (subst (λ (rs : List Region). IsPlaced blocks x.plain.lawful.devices rs places) (sym those)
-    (is_placed x.plain.lawful x.plain.regions places (subst (λ (r : Resolution). IsLawful (source_of r)) here keeps) whole place inside disjoint))
+pub from_calls : (x : Placement) (expanded : Expansion) (lawful resolved : Resolution) (devices : List Device) (regions : List Region) (addresses : List ℕ)
+    → expanded ≡ x.expanded → lawful ≡ expanded.lawful → resolved ≡ lawful → IsLawful (source_of lawful) → devices ≡ resolved.devices → regions ≡ expanded.regions → regions ≡ regions_of (source_of expanded.lawful)
+    → placement_of (source_of x.expanded.lawful) ≡ Ok addresses → AreInside x.expanded.lawful.memory_blocks x.expanded.regions addresses → AreDisjoint x.expanded.regions addresses
+    → IsPlaced x.expanded.lawful.memory_blocks devices regions addresses
+from_calls x expanded lawful resolved devices regions addresses is is_lawful is_resolved keeps are_devices are_regions all address inside disjoint =
+    let blocks = x.expanded.lawful.memory_blocks in
+    let here : lawful ≡ x.expanded.lawful = is_lawful ∙ ap (λ p. p.lawful) is in
+    let those : regions ≡ x.expanded.regions = are_regions ∙ ap (λ p. p.regions) is in
+    let these : devices ≡ x.expanded.lawful.devices = are_devices ∙ ap (λ r. r.devices) (is_resolved ∙ here) in
+    let whole : x.expanded.regions ≡ regions_of (source_of x.expanded.lawful) = sym those ∙ all ∙ ap (λ p. regions_of (source_of p.lawful)) is in
+    subst (λ (ds : List Device). IsPlaced blocks ds regions addresses) (sym these)
+    (subst (λ (rs : List Region). IsPlaced blocks x.expanded.lawful.devices rs addresses) (sym those)
+    (is_placed x.expanded.lawful x.expanded.regions addresses (subst (λ (r : Resolution). IsLawful (source_of r)) here keeps) whole address inside disjoint))
 
 -- ---- that the numbers fit
 
@@ -87,32 +87,32 @@ small_regions blocks (r ∷ rs) (p ∷ ps) ends h =
     let end = b.holds in
     All-cons (λ (r : Region). r.size / PAGE < 2 ^ 32) r rs (omega arith) (small_regions blocks rs ps ends h.1)
 
-module _ (blocks : List Block) (devices : List Device) (regions : List Region) (places : List ℕ) (h : IsPlaced blocks devices regions places) where
+module _ (blocks : List Block) (devices : List Device) (regions : List Region) (addresses : List ℕ) (h : IsPlaced blocks devices regions addresses) where
   pub few_regions : length regions ≤ 2 ^ 16
   few_regions = let few = h.few in omega arith
 
   pub regions_small : All (λ r. r.size / PAGE < 2 ^ 32) regions
-  regions_small = small_regions blocks regions places h.ends h.inside
+  regions_small = small_regions blocks regions addresses h.ends h.inside
 
   pub memories_small : All (λ x. x.1.size / PAGE < 2 ^ 32) (memories_of devices)
   memories_small =
       All-weaker (λ (x : List ℕ × DeviceMemory). IsPhysical x.1) (λ (x : List ℕ × DeviceMemory). x.1.size / PAGE < 2 ^ 32)
       (λ x is. let low = is.low in omega arith) (memories_of devices) h.physical
 
-  pub few_spans : (rs : List SpanPart) → rs ≡ region_spans regions places → length rs + length (memories_of devices) ≤ 2 ^ 16
+  pub few_spans : (rs : List SpanPart) → rs ≡ region_spans regions addresses → length rs + length (memories_of devices) ≤ 2 ^ 16
   few_spans rs is =
       let e = ap length is in
-      let many = many_spans regions places (as_many blocks regions places h.inside) in
+      let many = many_spans regions addresses (as_many blocks regions addresses h.inside) in
       let few = h.few in
       let windows = h.windows in
       omega arith
 
   -- all of them
-  pub all_spans : (x : Placement) (rs ss : List SpanPart) → regions ≡ x.plain.regions → places ≡ x.places → devices ≡ x.plain.lawful.devices → rs ≡ region_spans regions places → ss ≡ rs ++ device_spans (length rs) devices → ss ≡ spans_of x
+  pub all_spans : (x : Placement) (rs ss : List SpanPart) → regions ≡ x.expanded.regions → addresses ≡ x.addresses → devices ≡ x.expanded.lawful.devices → rs ≡ region_spans regions addresses → ss ≡ rs ++ device_spans (length rs) devices → ss ≡ spans_of x
   unfolding spans_of
-  all_spans x rs ss are_regions are_places are_devices first all =
-      let e : length rs ≡ length regions = ap length first ∙ many_spans regions places (as_many blocks regions places h.inside) in
+  all_spans x rs ss are_regions are_addresses are_devices first all =
+      let e : length rs ≡ length regions = ap length first ∙ many_spans regions addresses (as_many blocks regions addresses h.inside) in
       all
       ∙ ap (λ n. rs ++ device_spans n devices) e
       ∙ ap (λ xs. xs ++ device_spans (length regions) devices) first
-      ∙ (λ i. region_spans (are_regions i) (are_places i) ++ device_spans (length (are_regions i)) (are_devices i))
+      ∙ (λ i. region_spans (are_regions i) (are_addresses i) ++ device_spans (length (are_regions i)) (are_devices i))

@@ -1,4 +1,4 @@
--- The spans of regions at their places.
+-- The spans of regions at their addresses.
 use Rattle.std.proofs.Common.{◌≡◌, ℕ, suc, ◌+◌, ◌*◌, ◌/◌, ◌%◌, ◌<◌, ◌≤◌, ◌⊎◌, inl, inr, true, false, All, List, [], ◌∷◌, length, map, Some, refl, ap, ◌∙◌, arith}
 use Rattle.std.specs.Prelude.{slice_get, slice_index}
 use Rattle.std.specs.List.{AllPairs, enumerate_from, zip}
@@ -24,14 +24,14 @@ use Rattle.span_emit.proofs.PairLaws.{pairs_nil}
 
 -- they share no address
 abbrev pub AreApart : SpanPart → SpanPart → Type 0
-AreApart a b = (end_of a ≤ b.place) ⊎ (end_of b ≤ a.place)
+AreApart a b = (end_of a ≤ b.address) ⊎ (end_of b ≤ a.address)
 
 pub record IsRegionSpan (blocks : List Block) (s : SpanPart) : Type 0 where
   pub bytes : is_device s.kind ≡ false
-  pub aligned : s.place % PAGE ≡ 0
+  pub aligned : s.address % PAGE ≡ 0
   pub some : 0 < s.pages
   pub part : is_part s.kind (part_code s.tag.part) ≡ true
-  pub inside : in_a_block blocks s.place (PAGE * s.pages) ≡ true
+  pub inside : in_a_block blocks s.address (PAGE * s.pages) ≡ true
 
 -- ---- each
 
@@ -42,8 +42,8 @@ no_device Provided = refl
 no_device Kernel = refl
 
 module _ (blocks : List Block) where
-  region_span_is : (k place : ℕ) (r : Region) → IsWhole r → IsSized r → place % PAGE ≡ 0 → in_a_block blocks place r.size ≡ true → IsRegionSpan blocks (region_span (k, (r, place)))
-  region_span_is k place r h sized aligned inside =
+  region_span_is : (k address : ℕ) (r : Region) → IsWhole r → IsSized r → address % PAGE ≡ 0 → in_a_block blocks address r.size ≡ true → IsRegionSpan blocks (region_span (k, (r, address)))
+  region_span_is k address r h sized aligned inside =
       let pages = h.pages in
       let some = sized.0 in
       let size : PAGE * (r.size / PAGE) ≡ r.size = omega arith in
@@ -52,7 +52,7 @@ module _ (blocks : List Block) where
         aligned = aligned;
         some = omega arith;
         part = h.part;
-        inside = ap (in_a_block blocks place) size ∙ inside;
+        inside = ap (in_a_block blocks address) size ∙ inside;
       }
 
   numbered_are : (k : ℕ) (rs : List Region) (ps : List ℕ) → All IsWhole rs → All IsSized rs → All (λ a. a % PAGE ≡ 0) ps → AreInside blocks rs ps
@@ -69,7 +69,7 @@ region_spans_are blocks rs ps h sized aligned inside = numbered_are blocks 0 rs 
 
 -- ---- pairs
 
--- what holds of each at its place
+-- what holds of each at its address
 each_at : (P : SpanPart → Type 0) (k : ℕ) (rs : List Region) (ps : List ℕ) → ((n i : ℕ) (r : Region) → i < length ps → slice_get rs i ≡ Some r → P (region_span (n, (r, slice_index ps i))))
     → All P (map region_span (enumerate_from k (zip rs ps)))
 each_at P k [] ps h = All-nil P

@@ -1,2 +1,2 @@
-pub mod ByPlace
+pub mod ByAddress
 pub mod Spans

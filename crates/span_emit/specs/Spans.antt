@@ -1,4 +1,4 @@
--- The spans of a placed policy's image (this project's own format): its regions at their places, and its devices' memory.
+-- The spans of a placed policy's image (this project's own format): its regions at their addresses, and its devices' memory.
 use Rattle.std.specs.Prelude.{ℕ, ◌/◌, List, ◌++◌, length, map, zip}
 use Rattle.std.specs.List.{enumerate_from, flat_map}
 use Rattle.expand_kernel.specs.declared.region.Region.{Region}
@@ -19,13 +19,13 @@ span_kind ChannelRegion = Channel
 span_kind ProvidedRegion = Provided
 span_kind KernelRegion = Kernel
 
--- the region of this number at its place
+-- the region of this number at its address
 abbrev pub region_span : ℕ × (Region × ℕ) → SpanPart
-region_span (number, (r, place)) =
-    record { place = place; pages = r.size / PAGE; number = number; kind = span_kind r.kind; tag = r.tag }
+region_span (number, (r, address)) =
+    record { address = address; pages = r.size / PAGE; number = number; kind = span_kind r.kind; tag = r.tag }
 
 abbrev pub region_spans : List Region → List ℕ → List SpanPart
-region_spans regions places = map region_span (enumerate_from 0 (zip regions places))
+region_spans regions addresses = map region_span (enumerate_from 0 (zip regions addresses))
 
 -- each device's memory with the device's name, in order
 abbrev pub memories_of : List SourceDevice → List (List ℕ × DeviceMemory)
@@ -33,7 +33,7 @@ memories_of devices = flat_map (λ d. map (λ m. (d.name, m)) d.memory) devices
 
 abbrev pub device_span : ℕ × (List ℕ × DeviceMemory) → SpanPart
 device_span (number, (device, m)) = record {
-  place = m.physical_address;
+  address = m.physical_address;
   pages = m.size / PAGE;
   number = number;
   kind = Device;
@@ -46,4 +46,4 @@ device_spans first devices = map device_span (enumerate_from first (memories_of 
 
 -- by number: the regions, then the devices' memory
 unfoldable pub spans_of : Placement → List SpanPart
-spans_of x = region_spans x.plain.regions x.places ++ device_spans (length x.plain.regions) x.plain.lawful.devices
+spans_of x = region_spans x.expanded.regions x.addresses ++ device_spans (length x.expanded.regions) x.expanded.lawful.devices

@@ -2,13 +2,13 @@
 ghost use Rattle.std.specs.Prelude.{◌≡◌, ℕ, List, [], ◌∷◌, ◌+◌, ◌/◌, ◌<◌, ◌≤◌, ◌^◌, ◌++◌, length, map, All, IfOk, OnOk};
 ghost use Rattle.std.specs.List.{enumerate_from};
 ghost use Rattle.muen_num.specs.declared.limits.TheConstants.{PAGE};
-ghost use Rattle.span_emit.specs.ByPlace.{AreSpansByPlace, HasNames, memory_tag};
+ghost use Rattle.span_emit.specs.ByAddress.{AreSpansByAddress, HasNames, memory_tag};
 ghost use Rattle.span_emit.specs.Spans.{device_span, device_spans, memories_of, region_span, region_spans, span_kind, spans_of};
 
 use expand_kernel::{Region, RegionKind};
 use image_pack::{SpanKind, SpanPart};
 use muen_num::limits::PAGE;
-use muen_num::{Name, NoMemory, TagPart, Tag};
+use muen_num::{Name, NoMemory, Tag, TagPart};
 use policy_types::source::{Device, DeviceMemory};
 use region_alloc::Placed;
 use std::alloc::{AllocError, Global};
@@ -34,15 +34,15 @@ fn span_kind(kind: RegionKind) -> SpanKind
     }
 }
 
-// A region at its place.
-fn region_span(number: u16, region: &Region, place: u64) -> SpanPart
+// A region at its address.
+fn region_span(number: u16, region: &Region, address: u64) -> SpanPart
     requires { region.now.size / PAGE < 2 ^ 32 }
-    ensures span { result ≡ region_span (number, (region.now, place)) }
+    ensures span { result ≡ region_span (number, (region.now, address)) }
     ensures named { HasNames result.tag }
 {
     read_names(&region.tag);
     SpanPart {
-        place,
+        address,
         pages: (region.size / PAGE) as u32,
         number,
         kind: span_kind(region.kind),
@@ -58,7 +58,7 @@ fn device_span(number: u16, tag: Tag, memory: &DeviceMemory) -> SpanPart
 {
     read_names(&tag);
     SpanPart {
-        place: memory.physical_address,
+        address: memory.physical_address,
         pages: (memory.size / PAGE) as u32,
         number,
         kind: SpanKind::Device,
@@ -66,21 +66,21 @@ fn device_span(number: u16, tag: Tag, memory: &DeviceMemory) -> SpanPart
     }
 }
 
-// Each region at its place, numbered from 0 on.
+// Each region at its address, numbered from 0 on.
 fn of_regions(
     alloc: Global,
     regions: &[Region],
-    places: &[u64],
+    addresses: &[u64],
 ) -> Result<Vec<SpanPart>, AllocError>
     requires few { length regions.now ≤ 2 ^ 16 }
     requires small { All (λ r. r.size / PAGE < 2 ^ 32) regions.now }
-    ensures spans { IfOk result (λ v. v.items ≡ region_spans regions.now places.now) }
+    ensures spans { IfOk result (λ v. v.items ≡ region_spans regions.now addresses.now) }
     ensures named { IfOk result (λ v. All (λ s. HasNames s.tag) v.items) }
 {
     let mut spans = Vec::new(alloc);
-    for (region, place) in regions.iter().zip(places) {
+    for (region, address) in regions.iter().zip(addresses) {
         let number = spans.len() as u16;
-        spans.push(region_span(number, region, *place))?;
+        spans.push(region_span(number, region, *address))?;
     }
     Ok(spans)
 }
@@ -134,15 +134,15 @@ fn push_devices(spans: &mut Vec<SpanPart>, devices: &[Device]) -> Result<(), All
     Ok(())
 }
 
-/// The spans by their numbers: each region at its place, then each device's memory. By their places
+/// The spans by their numbers: each region at its address, then each device's memory. By their addresses
 /// they are the spans of an image.
 pub(crate) fn by_number(alloc: Global, placed: &Placed) -> Result<Vec<SpanPart>, NoMemory>
     ensures spans { IfOk result (λ v. v.items ≡ spans_of placed.now) }
-    ensures placed { IfOk result (λ v. AreSpansByPlace v.items) }
+    ensures placed { IfOk result (λ v. AreSpansByAddress v.items) }
 {
-    let plain = placed.plain();
-    let devices = plain.lawful().resolved().devices();
-    let mut spans = of_regions(alloc, plain.regions(), placed.places())?;
+    let expanded = placed.expanded();
+    let devices = expanded.lawful().resolved().devices();
+    let mut spans = of_regions(alloc, expanded.regions(), placed.addresses())?;
     push_devices(&mut spans, devices)?;
     Ok(spans)
 }

@@ -1,7 +1,7 @@
-//! The spans of an image: the regions of a placed policy at their places, and its devices' memory.
+//! The spans of an image: the regions of a placed policy at their addresses, and its devices' memory.
 #![tactic(auto)]
 
+mod by_address;
 mod by_number;
-mod by_place;
 
-pub use by_place::spans;
+pub use by_address::spans;

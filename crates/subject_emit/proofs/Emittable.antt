@@ -4,39 +4,39 @@ use Rattle.std.specs.Prelude.{◌==◌, ◌&&◌, nat_le, if◌then◌else◌}
 use Rattle.std.proofs.lemmas.Bool.{and_parts, cases_Bool, eqb-true, leb-true, ltb-true}
 use Rattle.std.proofs.lemmas.List.Elements.{All-map}
 use Rattle.ept_count.specs.declared.window.Leaf.{Leaf}
-use Rattle.ept_count.specs.declared.window.Leaf.TheVariants.{Small, Middle, Large}
+use Rattle.ept_count.specs.declared.window.Leaf.TheVariants.{Small, Large, Huge}
 use Rattle.ept_emit.specs.Entries.{IsEmittable, level_of}
 use Rattle.expand_grants.specs.declared.granted.Grants.{Grants}
 use Rattle.machine_meaning.specs.Walks.{span}
 use Rattle.policy_lawful.specs.Rules.{is_guest, is_page_aligned, is_page_size}
 use Rattle.policy_views.specs.declared.view.View.{View}
 use Rattle.region_alloc.specs.Placed.{Placement}
-use Rattle.subject_emit.specs.Mapped.{leaf_for, mapped, mapped_windows, shown_place}
+use Rattle.subject_emit.specs.Mapped.{leaf_for, mapped, mapped_windows, shown_address}
 use Rattle.subject_emit.specs.Shows.{IsReadable, IsShown}
-use Rattle.subject_emit.proofs.PlacesFit.{AreAt}
+use Rattle.subject_emit.proofs.AddressesFit.{AreAt}
 
 -- ---- the greatest page
 
 abbrev FitsLeaf : ℕ → ℕ → Leaf → Type 0
-FitsLeaf guest place leaf = place % span (level_of leaf) ≡ guest % span (level_of leaf)
+FitsLeaf guest address leaf = address % span (level_of leaf) ≡ guest % span (level_of leaf)
 
-fits_middle : (guest place : ℕ) → place % 4096 ≡ 0 → guest % 4096 ≡ 0 → FitsLeaf guest place (if guest % 2 ^ 21 == place % 2 ^ 21 then Middle else Small)
-fits_middle guest place p g = elim (cases_Bool (guest % 2 ^ 21 == place % 2 ^ 21)) [
-  | inl same ↦ subst (FitsLeaf guest place) (sym (ap (λ b. if b then Middle else Small) same)) (sym (eqb-true (guest % 2 ^ 21) (place % 2 ^ 21) same))
-  | inr other ↦ subst (FitsLeaf guest place) (sym (ap (λ b. if b then Middle else Small) other)) (p ∙ sym g)
+fits_large : (guest address : ℕ) → address % 4096 ≡ 0 → guest % 4096 ≡ 0 → FitsLeaf guest address (if guest % 2 ^ 21 == address % 2 ^ 21 then Large else Small)
+fits_large guest address p g = elim (cases_Bool (guest % 2 ^ 21 == address % 2 ^ 21)) [
+  | inl same ↦ subst (FitsLeaf guest address) (sym (ap (λ b. if b then Large else Small) same)) (sym (eqb-true (guest % 2 ^ 21) (address % 2 ^ 21) same))
+  | inr other ↦ subst (FitsLeaf guest address) (sym (ap (λ b. if b then Large else Small) other)) (p ∙ sym g)
 ]
 
-pub fits_leaf : (guest place : ℕ) → place % 4096 ≡ 0 → guest % 4096 ≡ 0 → FitsLeaf guest place (leaf_for guest place)
-fits_leaf guest place p g =
-    let less : Leaf = if guest % 2 ^ 21 == place % 2 ^ 21 then Middle else Small in
-    elim (cases_Bool (guest % 2 ^ 30 == place % 2 ^ 30)) [
-      | inl same ↦ subst (FitsLeaf guest place) (sym (ap (λ b. if b then Large else less) same)) (sym (eqb-true (guest % 2 ^ 30) (place % 2 ^ 30) same))
-      | inr other ↦ subst (FitsLeaf guest place) (sym (ap (λ b. if b then Large else less) other)) (fits_middle guest place p g)
+pub fits_leaf : (guest address : ℕ) → address % 4096 ≡ 0 → guest % 4096 ≡ 0 → FitsLeaf guest address (leaf_for guest address)
+fits_leaf guest address p g =
+    let less : Leaf = if guest % 2 ^ 21 == address % 2 ^ 21 then Large else Small in
+    elim (cases_Bool (guest % 2 ^ 30 == address % 2 ^ 30)) [
+      | inl same ↦ subst (FitsLeaf guest address) (sym (ap (λ b. if b then Huge else less) same)) (sym (eqb-true (guest % 2 ^ 30) (address % 2 ^ 30) same))
+      | inr other ↦ subst (FitsLeaf guest address) (sym (ap (λ b. if b then Huge else less) other)) (fits_large guest address p g)
     ]
 
 -- ---- one window
 
-emittable : (x : Placement) (k : ℕ) (v : View) → is_guest v.guest v.size ≡ true → AreAt (shown_place x k v.shows) v.size → IsReadable v.rights → IsEmittable (mapped x k v)
+emittable : (x : Placement) (k : ℕ) (v : View) → is_guest v.guest v.size ≡ true → AreAt (shown_address x k v.shows) v.size → IsReadable v.rights → IsEmittable (mapped x k v)
 emittable x k v guest at readable =
     let both = and_parts (is_page_aligned v.guest && is_page_size v.size) (nat_le (v.guest + v.size) (2 ^ 48)) guest in
     let range = and_parts (is_page_aligned v.guest) (is_page_size v.size) both.0 in
@@ -46,18 +46,18 @@ emittable x k v guest at readable =
       some = ltb-true 0 v.size size.1;
       guest = aligned;
       size = eqb-true (v.size % 4096) 0 size.0;
-      place = at.whole;
+      address = at.whole;
       end = leb-true (v.guest + v.size) (2 ^ 48) both.1;
-      place_end = at.end;
+      address_end = at.end;
       known = readable.known;
       read = readable.read;
-      aligned = fits_leaf v.guest (shown_place x k v.shows) at.whole aligned;
+      aligned = fits_leaf v.guest (shown_address x k v.shows) at.whole aligned;
     }
 
 -- ---- all
 
-pub all_emittable : (x : Placement) (k : ℕ) (g : Grants) → All (λ v. is_guest v.guest v.size ≡ true) g.views → All (IsShown x.plain.lawful k) g.views → All (λ v. IsReadable v.rights) g.views
-    → ((v : View) → IsShown x.plain.lawful k v → AreAt (shown_place x k v.shows) v.size)
+pub all_emittable : (x : Placement) (k : ℕ) (g : Grants) → All (λ v. is_guest v.guest v.size ≡ true) g.views → All (IsShown x.expanded.lawful k) g.views → All (λ v. IsReadable v.rights) g.views
+    → ((v : View) → IsShown x.expanded.lawful k v → AreAt (shown_address x k v.shows) v.size)
     → All IsEmittable (mapped_windows x k g)
 all_emittable x k g guests shown readable at =
     All-map IsEmittable (mapped x k) g.views

@@ -56,12 +56,12 @@ module _ (r : Resolution) (lawful : IsLawful (source_of r)) where
   pub guests_granted : IsResolved r → (k : ℕ) (s : Subject) (g : Grants) → slice_get r.subjects k ≡ Some s → AreGrantsOf r s g → All (λ v. is_guest v.guest v.size ≡ true) g.views
   unfolding source_of
   guests_granted resolved k s g at granted =
-      let placed = passes_at (subject_placed r) r.subjects k s (parts_placed r resolved.placed).subjects at in
+      let in_range = passes_at (subject_placed r) r.subjects k s (parts_placed r resolved.placed).subjects at in
       let windows = addresses_kept (source_of r) lawful.rule_4 in
       let each : list_all (λ e. is_guest e.address e.size) (window_extents (source_of r) (subject_named r s)) ≡ true =
       passes_at (λ s. list_all (λ e. is_guest e.address e.size) (window_extents (source_of r) (subject_named r s))) r.subjects k s
       (sym (list_all-map (λ s. list_all (λ e. is_guest e.address e.size) (window_extents (source_of r) s)) (subject_named r) r.subjects) ∙ windows.windows) at in
       let views : list_all (λ v. is_guest v.guest v.size) (views_of r s) ≡ true =
       sym (list_all-map (λ e. is_guest e.address e.size) view_extent (views_of r s))
-      ∙ sym (ap (list_all (λ e. is_guest e.address e.size)) (extents_by_place r s resolved placed)) ∙ each in
+      ∙ sym (ap (list_all (λ e. is_guest e.address e.size)) (extents_by_place r s resolved in_range)) ∙ each in
       rw granted.views (All-in_order _ (λ v. is_guest v.guest v.size ≡ true) (views_of r s) (all_from (λ v. is_guest v.guest v.size) (views_of r s) views))

@@ -4,7 +4,7 @@ pub mod KeptMsrs
 pub mod KeptSizes
 pub mod Numbered
 pub mod Pieces
-pub mod PlacesFit
+pub mod AddressesFit
 pub mod Rooms
 pub mod SamePages
 pub mod ShownViews

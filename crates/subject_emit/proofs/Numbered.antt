@@ -21,7 +21,7 @@ use Rattle.policy_types.specs.declared.source.Region.{Region as SourceRegion}
 use Rattle.region_alloc.specs.Placed.{Placement}
 use Rattle.region_alloc.proofs.Apart.{policy_inside}
 use Rattle.subject_emit.specs.Mapped.{brought_before, kernel_first}
-use Rattle.subject_emit.specs.Shows.{HasPlaces}
+use Rattle.subject_emit.specs.Shows.{HasAddresses}
 use Rattle.subject_emit.specs.Sound.{IsSound}
 use Rattle.subject_emit.proofs.Pieces.{at_piece}
 
@@ -77,54 +77,54 @@ kernel_many R (s ∷ ss) (g ∷ gs) h =
 
 module _ (x : Placement) (sound : IsSound x) where
   memory : List Region
-  memory = map own_region x.plain.lawful.memory
+  memory = map own_region x.expanded.lawful.memory
 
   channels : List Region
-  channels = map channel_region x.plain.lawful.channels
+  channels = map channel_region x.expanded.lawful.channels
 
   provided : List Region
-  provided = flat_map (brought_at x.plain.lawful.components) x.plain.lawful.subjects
+  provided = flat_map (brought_at x.expanded.lawful.components) x.expanded.lawful.subjects
 
   kernel : List Region
-  kernel = kernel_for_each x.plain.lawful.subjects x.plain.grants
+  kernel = kernel_for_each x.expanded.lawful.subjects x.expanded.grants
 
-  all : x.plain.regions ≡ memory ++ channels ++ provided ++ kernel
+  all : x.expanded.regions ≡ memory ++ channels ++ provided ++ kernel
   unfolding memory channels provided kernel
-  all = sound.regions ∙ sym (regions_by_place x.plain.lawful x.plain.grants sound.resolved sound.grants)
+  all = sound.regions ∙ sym (regions_by_place x.expanded.lawful x.expanded.grants sound.resolved sound.grants)
 
-  memory_many : length memory ≡ length x.plain.lawful.memory
+  memory_many : length memory ≡ length x.expanded.lawful.memory
   unfolding memory
-  memory_many = length-map x.plain.lawful.memory own_region
+  memory_many = length-map x.expanded.lawful.memory own_region
 
-  channels_many : length channels ≡ length x.plain.lawful.channels
+  channels_many : length channels ≡ length x.expanded.lawful.channels
   unfolding channels
-  channels_many = length-map x.plain.lawful.channels channel_region
+  channels_many = length-map x.expanded.lawful.channels channel_region
 
-  provided_many : length provided ≡ brought_before x.plain.lawful (length x.plain.lawful.subjects)
+  provided_many : length provided ≡ brought_before x.expanded.lawful (length x.expanded.lawful.subjects)
   unfolding provided
   provided_many =
-      as_many x.plain.lawful.components x.plain.lawful.subjects
-      ∙ ap (λ ss. length (flat_map (λ s. provided_at x.plain.lawful.components s.component) ss)) (sym (take_all (length x.plain.lawful.subjects) x.plain.lawful.subjects (omega arith)))
+      as_many x.expanded.lawful.components x.expanded.lawful.subjects
+      ∙ ap (λ ss. length (flat_map (λ s. provided_at x.expanded.lawful.components s.component) ss)) (sym (take_all (length x.expanded.lawful.subjects) x.expanded.lawful.subjects (omega arith)))
 
-  -- there are as many places as regions
-  pub has_places : HasPlaces x
+  -- there are as many addresses as regions
+  pub has_addresses : HasAddresses x
   unfolding kernel
-  has_places =
-      let places = AllZip-long _ x.plain.regions x.places (policy_inside x.plain.lawful x.plain.regions x.places sound.regions sound.places) in
+  has_addresses =
+      let addresses = AllZip-long _ x.expanded.regions x.addresses (policy_inside x.expanded.lawful x.expanded.regions x.addresses sound.regions sound.addresses) in
       let a = length-append (memory ++ channels ++ provided) kernel in
       let b = length-append (memory ++ channels) provided in
       let c = length-append memory channels in
-      let d = kernel_many (AreGrantsOf x.plain.lawful) x.plain.lawful.subjects x.plain.grants sound.grants in
+      let d = kernel_many (AreGrantsOf x.expanded.lawful) x.expanded.lawful.subjects x.expanded.grants sound.grants in
       let l = ap length all in
       let m = memory_many in
       let n = channels_many in
       let p = provided_many in
-      omega (arith, places, a, b, c, d, l, m, n, p)
+      omega (arith, addresses, a, b, c, d, l, m, n, p)
 
-  pub memory_at : (n : ℕ) (m : SourceRegion) → slice_get x.plain.lawful.memory n ≡ Some m → slice_get x.plain.regions n ≡ Some (own_region m)
+  pub memory_at : (n : ℕ) (m : SourceRegion) → slice_get x.expanded.lawful.memory n ≡ Some m → slice_get x.expanded.regions n ≡ Some (own_region m)
   unfolding memory
   memory_at n m e =
-      let here : slice_get memory n ≡ Some (own_region m) = slice_get-map own_region x.plain.lawful.memory n ∙ ap (option_map own_region) e in
+      let here : slice_get memory n ≡ Some (own_region m) = slice_get-map own_region x.expanded.lawful.memory n ∙ ap (option_map own_region) e in
       let l = slice_get_within memory n (own_region m) here in
       let a = length-append (memory ++ channels) provided in
       let b = length-append memory channels in
@@ -134,46 +134,46 @@ module _ (x : Placement) (sound : IsSound x) where
       ∙ get_left memory channels n l
       ∙ here
 
-  pub channel_at : (n : ℕ) (c : Channel) → slice_get x.plain.lawful.channels n ≡ Some c → slice_get x.plain.regions (length x.plain.lawful.memory + n) ≡ Some (channel_region c)
+  pub channel_at : (n : ℕ) (c : Channel) → slice_get x.expanded.lawful.channels n ≡ Some c → slice_get x.expanded.regions (length x.expanded.lawful.memory + n) ≡ Some (channel_region c)
   unfolding channels
   channel_at n c e =
-      let here : slice_get channels n ≡ Some (channel_region c) = slice_get-map channel_region x.plain.lawful.channels n ∙ ap (option_map channel_region) e in
+      let here : slice_get channels n ≡ Some (channel_region c) = slice_get-map channel_region x.expanded.lawful.channels n ∙ ap (option_map channel_region) e in
       let l = slice_get_within channels n (channel_region c) here in
       let a = length-append (memory ++ channels) provided in
       let b = length-append memory channels in
-      let number : length x.plain.lawful.memory + n ≡ length memory + n = omega (arith, memory_many) in
-      ap (λ xs. slice_get xs (length x.plain.lawful.memory + n)) all
+      let number : length x.expanded.lawful.memory + n ≡ length memory + n = omega (arith, memory_many) in
+      ap (λ xs. slice_get xs (length x.expanded.lawful.memory + n)) all
       ∙ ap (slice_get (memory ++ channels ++ provided ++ kernel)) number
       ∙ get_left (memory ++ channels ++ provided) kernel (length memory + n) (omega (arith, a, b, l))
       ∙ get_left (memory ++ channels) provided (length memory + n) (omega (arith, b, l))
       ∙ get_right memory channels n
       ∙ here
 
-  pub provided_at_place : (k n : ℕ) (s : Subject) (p : Provided) → slice_get x.plain.lawful.subjects k ≡ Some s → slice_get (provided_at x.plain.lawful.components s.component) n ≡ Some p
-      → slice_get x.plain.regions (length x.plain.lawful.memory + length x.plain.lawful.channels + brought_before x.plain.lawful k + n) ≡ Some (provided_region s.name p)
+  pub provided_at_index : (k n : ℕ) (s : Subject) (p : Provided) → slice_get x.expanded.lawful.subjects k ≡ Some s → slice_get (provided_at x.expanded.lawful.components s.component) n ≡ Some p
+      → slice_get x.expanded.regions (length x.expanded.lawful.memory + length x.expanded.lawful.channels + brought_before x.expanded.lawful k + n) ≡ Some (provided_region s.name p)
   unfolding provided
-  provided_at_place k n s p at e =
-      let cs = x.plain.lawful.components in
-      let ss = x.plain.lawful.subjects in
+  provided_at_index k n s p at e =
+      let cs = x.expanded.lawful.components in
+      let ss = x.expanded.lawful.subjects in
       let before = length (flat_map (brought_at cs) (take k ss)) in
-      let same : before ≡ brought_before x.plain.lawful k = as_many cs (take k ss) in
+      let same : before ≡ brought_before x.expanded.lawful k = as_many cs (take k ss) in
       let here : slice_get provided (before + n) ≡ Some (provided_region s.name p) = at_piece (brought_at cs) ss k n s (provided_region s.name p) at (brought_is cs s n p e) in
       let l = slice_get_within provided (before + n) (provided_region s.name p) here in
       let a = length-append (memory ++ channels) provided in
       let b = length-append memory channels in
-      let number : length x.plain.lawful.memory + length x.plain.lawful.channels + brought_before x.plain.lawful k + n ≡ length (memory ++ channels) + (before + n) = omega (arith, memory_many, channels_many, b, same) in
+      let number : length x.expanded.lawful.memory + length x.expanded.lawful.channels + brought_before x.expanded.lawful k + n ≡ length (memory ++ channels) + (before + n) = omega (arith, memory_many, channels_many, b, same) in
       (λ i. slice_get (all i) (number i))
       ∙ get_left (memory ++ channels ++ provided) kernel (length (memory ++ channels) + (before + n)) (omega (arith, a, l))
       ∙ get_right (memory ++ channels) provided (before + n)
       ∙ here
 
-  pub kernel_at_place : (k j : ℕ) (s : Subject) (g : Grants) (y : Region) → slice_get x.plain.lawful.subjects k ≡ Some s → slice_get x.plain.grants k ≡ Some g
-      → slice_get (kernel_regions s.name (ept_pages (mapped_views g.views))) j ≡ Some y → slice_get x.plain.regions (kernel_first x.plain.lawful k + j) ≡ Some y
+  pub kernel_at_index : (k j : ℕ) (s : Subject) (g : Grants) (y : Region) → slice_get x.expanded.lawful.subjects k ≡ Some s → slice_get x.expanded.grants k ≡ Some g
+      → slice_get (kernel_regions s.name (ept_pages (mapped_views g.views))) j ≡ Some y → slice_get x.expanded.regions (kernel_first x.expanded.lawful k + j) ≡ Some y
   unfolding kernel
-  kernel_at_place k j s g y at granted e =
+  kernel_at_index k j s g y at granted e =
       let a = length-append (memory ++ channels) provided in
       let b = length-append memory channels in
-      let number : kernel_first x.plain.lawful k + j ≡ length (memory ++ channels ++ provided) + (5 * k + j) = omega (arith, memory_many, channels_many, provided_many, a, b) in
+      let number : kernel_first x.expanded.lawful k + j ≡ length (memory ++ channels ++ provided) + (5 * k + j) = omega (arith, memory_many, channels_many, provided_many, a, b) in
       (λ i. slice_get (all i) (number i))
       ∙ get_right (memory ++ channels ++ provided) kernel (5 * k + j)
-      ∙ kernel_at x.plain.lawful.subjects x.plain.grants k j s g y at granted e
+      ∙ kernel_at x.expanded.lawful.subjects x.expanded.grants k j s g y at granted e

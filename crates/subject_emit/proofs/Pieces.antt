@@ -1,4 +1,4 @@
--- Elements of lists by place.
+-- Elements of lists by index.
 use Rattle.std.proofs.Common.{◌≡◌, ℕ, zero, suc, ◌+◌, List, [], ◌∷◌, ◌++◌, length, take, Option, Some, None, refl, ap, ◌∙◌, subst, arith, length-append}
 use Rattle.std.specs.Prelude.{option_map, slice_get}
 use Rattle.std.specs.List.{AllZip, flat_map}
@@ -20,7 +20,7 @@ at_piece f (z ∷ zs) (suc i) j x y e h =
     let n : length (f z ++ before) + j ≡ length (f z) + (length before + j) = omega (arith, many) in
     ap (slice_get (f z ++ flat_map f zs)) n ∙ get_right (f z) (flat_map f zs) (length before + j) ∙ at_piece f zs i j x y e h
 
--- elements at a place of two lists of which a relation holds, place by place
+-- elements at an index of two lists of which a relation holds, index by index
 pub both_at : {X Y : Type 0} (R : X → Y → Type 0) (xs : List X) (ys : List Y) (k : ℕ) (x : X) (y : Y) → AllZip R xs ys → slice_get xs k ≡ Some x → slice_get ys k ≡ Some y → R x y
 both_at R [] ys k x y h a b = absurd (cc)
 both_at R (z ∷ zs) [] k x y h a b = absurd h
@@ -30,7 +30,7 @@ both_at R (z ∷ zs) (w ∷ ws) zero x y h a b =
     subst (λ u. R u y) p (subst (R z) q h.0)
 both_at R (z ∷ zs) (w ∷ ws) (suc k) x y h a b = both_at R zs ws k x y h.1 a b
 
--- what stands at a place of the first has something at that place of the second
+-- what stands at an index of the first has something at that index of the second
 pub other_at : {X Y : Type 0} (R : X → Y → Type 0) (xs : List X) (ys : List Y) (k : ℕ) (x : X) → AllZip R xs ys → slice_get xs k ≡ Some x → (y : Y) × (slice_get ys k ≡ Some y) × R x y
 other_at R [] ys k x h a = absurd (cc)
 other_at R (z ∷ zs) [] k x h a = absurd h

@@ -1,4 +1,4 @@
--- Numbers of regions are small, and each region that is shown has one with a place.
+-- Numbers of regions are small, and each region that is shown has one with an address.
 use Rattle.std.proofs.Common.{◌≡◌, ℕ, zero, suc, ◌+◌, ◌<◌, ◌≤◌, ◌^◌, List, [], ◌∷◌, length, take, get_or, Option, Some, None, refl, sym, ap, subst, ◌∙◌, arith, length-append, length-take, get_or-take}
 use Rattle.std.specs.Prelude.{option_map, slice_get}
 use Rattle.std.specs.Option.{option_map_or}
@@ -15,7 +15,7 @@ use Rattle.policy_views.specs.declared.view.Shown.{Shown}
 use Rattle.policy_views.specs.declared.view.Shown.TheVariants.{Memory, Channel, Provided, Device, State}
 use Rattle.region_alloc.specs.Placed.{Placement}
 use Rattle.subject_emit.specs.Mapped.{brought_before}
-use Rattle.subject_emit.specs.Shows.{HasPlaces, IsNumbered, shown_size}
+use Rattle.subject_emit.specs.Shows.{HasAddresses, IsNumbered, shown_size}
 use Rattle.subject_emit.proofs.Pieces.{from_some}
 
 -- ---- what components bring along
@@ -62,28 +62,28 @@ brought_most r k =
 -- ---- what is shown
 
 -- of a component of a subject that is there
-provided_numbered : (x : Placement) (k n size : ℕ) (o : Option Subject) → HasPlaces x → slice_get x.plain.lawful.subjects k ≡ o
-    → option_map (λ p. p.size) (slice_get (option_map_or (λ (s : Subject). provided_at x.plain.lawful.components s.component) o []) n) ≡ Some size
+provided_numbered : (x : Placement) (k n size : ℕ) (o : Option Subject) → HasAddresses x → slice_get x.expanded.lawful.subjects k ≡ o
+    → option_map (λ p. p.size) (slice_get (option_map_or (λ (s : Subject). provided_at x.expanded.lawful.components s.component) o []) n) ≡ Some size
     → IsNumbered x k (Provided n)
-provided_numbered x k n size None places at e = absurd (cc)
-provided_numbered x k n size (Some s) places at e =
-    let p = from_some (λ p. p.size) (slice_get (provided_at x.plain.lawful.components s.component) n) size e in
-    let within = slice_get_within (provided_at x.plain.lawful.components s.component) n p.0 p.1 in
-    let there = slice_get_within x.plain.lawful.subjects k s at in
-    let next = brought_next x.plain.lawful k s there (sym (get_or_from_slice_get x.plain.lawful.subjects k s s at)) in
-    (omega arith, omega (arith, places, within, next))
+provided_numbered x k n size None addresses at e = absurd (cc)
+provided_numbered x k n size (Some s) addresses at e =
+    let p = from_some (λ p. p.size) (slice_get (provided_at x.expanded.lawful.components s.component) n) size e in
+    let within = slice_get_within (provided_at x.expanded.lawful.components s.component) n p.0 p.1 in
+    let there = slice_get_within x.expanded.lawful.subjects k s at in
+    let next = brought_next x.expanded.lawful k s there (sym (get_or_from_slice_get x.expanded.lawful.subjects k s s at)) in
+    (omega arith, omega (arith, addresses, within, next))
 
-pub numbered : (x : Placement) (k size : ℕ) (shows : Shown) → HasPlaces x → shown_size x.plain.lawful k shows ≡ Some size → IsNumbered x k shows
-numbered x k size (Memory n) places e =
-    let m = from_some (λ m. m.size) (slice_get x.plain.lawful.memory n) size e in
-    let l = slice_get_within x.plain.lawful.memory n m.0 m.1 in
-    omega (arith, places, l)
-numbered x k size (Channel n) places e =
-    let c = from_some (λ c. c.size) (slice_get x.plain.lawful.channels n) size e in
-    let l = slice_get_within x.plain.lawful.channels n c.0 c.1 in
-    omega (arith, places, l)
-numbered x k size (Provided n) places e = provided_numbered x k n size (slice_get x.plain.lawful.subjects k) places refl e
-numbered x k size (Device device memory) places e = tt
-numbered x k size (State other) places e =
-    let s = from_some (λ _. 4096) (slice_get x.plain.lawful.subjects other) size e in
-    slice_get_within x.plain.lawful.subjects other s.0 s.1
+pub numbered : (x : Placement) (k size : ℕ) (shows : Shown) → HasAddresses x → shown_size x.expanded.lawful k shows ≡ Some size → IsNumbered x k shows
+numbered x k size (Memory n) addresses e =
+    let m = from_some (λ m. m.size) (slice_get x.expanded.lawful.memory n) size e in
+    let l = slice_get_within x.expanded.lawful.memory n m.0 m.1 in
+    omega (arith, addresses, l)
+numbered x k size (Channel n) addresses e =
+    let c = from_some (λ c. c.size) (slice_get x.expanded.lawful.channels n) size e in
+    let l = slice_get_within x.expanded.lawful.channels n c.0 c.1 in
+    omega (arith, addresses, l)
+numbered x k size (Provided n) addresses e = provided_numbered x k n size (slice_get x.expanded.lawful.subjects k) addresses refl e
+numbered x k size (Device device memory) addresses e = tt
+numbered x k size (State other) addresses e =
+    let s = from_some (λ _. 4096) (slice_get x.expanded.lawful.subjects other) size e in
+    slice_get_within x.expanded.lawful.subjects other s.0 s.1

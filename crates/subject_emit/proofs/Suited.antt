@@ -102,12 +102,12 @@ module _ {S : Type 0} (spot_of : ℕ → Region → ℕ → S) (number address :
       let is : h.0 ≡ r = cc in
       ap (λ o. suits r r.fixed (option_map_or address o 0)) f.is ∙ (λ j. suits (sym is j) (sym is j).fixed (address f.item)) ∙ h.2
 
-  -- so is each at the place of its number
+  -- so is each at the address of its number
   suited_at : (after : List (ℕ × Region) → List S → Result (List S) Region) → InTurn after → (out : List S) → after (in_turn regions) [] ≡ Ok out
-      → All (λ x. list_any (λ q. number q == x.0) out ≡ true) (in_turn regions) → (places : List ℕ)
-      → places ≡ map (λ i. option_map_or address (find (λ q. number q == i) out) 0) (numbers_below (length regions))
-      → (i : ℕ) (r : Region) → slice_get regions i ≡ Some r → suits r r.fixed (get_or places i 0) ≡ true
-  suited_at after h out e each places are i r at =
+      → All (λ x. list_any (λ q. number q == x.0) out ≡ true) (in_turn regions) → (addresses : List ℕ)
+      → addresses ≡ map (λ i. option_map_or address (find (λ q. number q == i) out) 0) (numbers_below (length regions))
+      → (i : ℕ) (r : Region) → slice_get regions i ≡ Some r → suits r r.fixed (get_or addresses i 0) ≡ true
+  suited_at after h out e each addresses are i r at =
       let all =
       suited_after after h (in_turn regions) [] out e
       (each_in_turn (λ x. slice_get regions x.0 ≡ Some x.1) regions
@@ -117,19 +117,19 @@ module _ {S : Type 0} (spot_of : ℕ → Region → ℕ → S) (number address :
       ap (suits r r.fixed) (ap (λ xs. get_or xs i 0) are ∙ at_number address_of (length regions) i (slice_get_within regions i r at))
       ∙ suited_in out all each i r at
 
--- the spots from which places were read, where there is one for each
+-- the spots from which addresses were read, where there is one for each
 made : {S : Type 0} (address_in : List S → ℕ → ℕ) (by : ℕ → Result (List S) Region → Result (List ℕ) Region)
     → ((n : ℕ) (out : List S) → by n (Ok out) ≡ Ok (map (address_in out) (numbers_below n))) → ((n : ℕ) (r : Region) → by n (Err r) ≡ Err r)
-    → (many : ℕ) (placed : Result (List S) Region) (places : List ℕ) → by many placed ≡ Ok places → (out : List S) × (placed ≡ Ok out) × (places ≡ map (address_in out) (numbers_below many))
-made address_in by ok err many (Ok out) places e = let both = sym (ok many out) ∙ e in (out, refl, cc)
-made address_in by ok err many (Err r) places e = let both = sym (err many r) ∙ e in absurd (cc)
+    → (many : ℕ) (placed : Result (List S) Region) (addresses : List ℕ) → by many placed ≡ Ok addresses → (out : List S) × (placed ≡ Ok out) × (addresses ≡ map (address_in out) (numbers_below many))
+made address_in by ok err many (Ok out) addresses e = let both = sym (ok many out) ∙ e in (out, refl, cc)
+made address_in by ok err many (Err r) addresses e = let both = sym (err many r) ∙ e in absurd (cc)
 
 -- ---- of a placed policy
 
-suits_in : (blocks : List Block) (regions : List Region) (places : List ℕ) → placement_in blocks regions ≡ Ok places → (i : ℕ) (r : Region) → slice_get regions i ≡ Some r → suits r r.fixed (get_or places i 0) ≡ true
+suits_in : (blocks : List Block) (regions : List Region) (addresses : List ℕ) → placement_in blocks regions ≡ Ok addresses → (i : ℕ) (r : Region) → slice_get regions i ≡ Some r → suits r r.fixed (get_or addresses i 0) ≡ true
 unfolding placement_in placed_after lowest is_room
-suits_in blocks regions places e i r at =
-    let parts = made address_in by_number (λ n out. refl) (λ n r. refl) (length regions) (placed_after blocks (in_turn regions) []) places e in
+suits_in blocks regions addresses e i r at =
+    let parts = made address_in by_number (λ n out. refl) (λ n r. refl) (length regions) (placed_after blocks (in_turn regions) []) addresses e in
     suited_at spot (λ q. q.number) (λ q. q.address) regions (placed_after blocks)
     (record {
       last = λ spots out e. cc;
@@ -142,9 +142,9 @@ suits_in blocks regions places e i r at =
       same_number = λ n a r. refl;
       same_address = λ n a r. refl;
     })
-    parts.0 parts.1 (each_after blocks (λ n size. Unit {0}) (in_turn regions) [] parts.0 parts.1) places parts.2 i r at
+    parts.0 parts.1 (each_after blocks (λ n size. Unit {0}) (in_turn regions) [] parts.0 parts.1) addresses parts.2 i r at
 
-pub suits_there : (x : Placement) → IsSound x → (i : ℕ) (r : Region) → slice_get x.plain.regions i ≡ Some r → suits r r.fixed (get_or x.places i 0) ≡ true
+pub suits_there : (x : Placement) → IsSound x → (i : ℕ) (r : Region) → slice_get x.expanded.regions i ≡ Some r → suits r r.fixed (get_or x.addresses i 0) ≡ true
 suits_there x sound i r at =
-    suits_in x.plain.lawful.memory_blocks x.plain.regions x.places
-    (ap (placement_in x.plain.lawful.memory_blocks) sound.regions ∙ sym (placement_is x.plain.lawful) ∙ sound.places) i r at
+    suits_in x.expanded.lawful.memory_blocks x.expanded.regions x.addresses
+    (ap (placement_in x.expanded.lawful.memory_blocks) sound.regions ∙ sym (placement_is x.expanded.lawful) ∙ sound.addresses) i r at

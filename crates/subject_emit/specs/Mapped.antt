@@ -3,7 +3,7 @@ use Rattle.std.specs.Prelude.{ℕ, ◌+◌, ◌*◌, ◌%◌, ◌^◌, ◌==◌,
 use Rattle.std.specs.List.{flat_map}
 use Rattle.std.specs.Option.{option_map_or}
 use Rattle.ept_count.specs.declared.window.Leaf.{Leaf}
-use Rattle.ept_count.specs.declared.window.Leaf.TheVariants.{Small, Middle, Large}
+use Rattle.ept_count.specs.declared.window.Leaf.TheVariants.{Small, Large, Huge}
 use Rattle.ept_count.specs.declared.window.Window.{Window}
 use Rattle.expand_grants.specs.declared.granted.Grants.{Grants}
 use Rattle.expand_kernel.specs.ByPlace.{provided_at}
@@ -23,43 +23,43 @@ use Rattle.region_alloc.specs.Placed.{Placement}
 abbrev pub brought_before : Resolution → ℕ → ℕ
 brought_before r subject = length (flat_map (λ s. provided_at r.components s.component) (take subject r.subjects))
 
--- the number of the first region of the kernel for the subject at a place
+-- the number of the first region of the kernel for the subject at an index
 abbrev pub kernel_first : Resolution → ℕ → ℕ
 kernel_first r subject =
     length r.memory + length r.channels + brought_before r (length r.subjects) + KERNEL_REGIONS * subject
 
--- the address of what the subject at a place is shown
-abbrev pub shown_place : Placement → ℕ → Shown → ℕ
-shown_place x subject (Memory n) = slice_index x.places n
-shown_place x subject (Channel n) = slice_index x.places (length x.plain.lawful.memory + n)
-shown_place x subject (Provided n) =
-    slice_index x.places (length x.plain.lawful.memory + length x.plain.lawful.channels + brought_before x.plain.lawful subject + n)
-shown_place x subject (Device device memory) =
-    option_map_or (λ m. m.physical_address) (option_and_then (λ d. slice_get d.memory memory) (slice_get x.plain.lawful.devices device)) 0
-shown_place x subject (State other) = slice_index x.places (kernel_first x.plain.lawful other)
+-- the address of what the subject at an index is shown
+abbrev pub shown_address : Placement → ℕ → Shown → ℕ
+shown_address x subject (Memory n) = slice_index x.addresses n
+shown_address x subject (Channel n) = slice_index x.addresses (length x.expanded.lawful.memory + n)
+shown_address x subject (Provided n) =
+    slice_index x.addresses (length x.expanded.lawful.memory + length x.expanded.lawful.channels + brought_before x.expanded.lawful subject + n)
+shown_address x subject (Device device memory) =
+    option_map_or (λ m. m.physical_address) (option_and_then (λ d. slice_get d.memory memory) (slice_get x.expanded.lawful.devices device)) 0
+shown_address x subject (State other) = slice_index x.addresses (kernel_first x.expanded.lawful other)
 
 -- its memory type: that of the region, write-back where none is said, uncached of a device
 abbrev pub shown_caching : Placement → Shown → Caching
-shown_caching x (Memory n) = option_map_or (λ m. m.caching) (slice_get x.plain.lawful.memory n) Wb
+shown_caching x (Memory n) = option_map_or (λ m. m.caching) (slice_get x.expanded.lawful.memory n) Wb
 shown_caching x (Channel n) = Wb
 shown_caching x (Provided n) = Wb
 shown_caching x (Device device memory) = Uc
 shown_caching x (State other) = Wb
 
--- ---- the greatest page: guest address and place agree modulo its size
+-- ---- the greatest page: guest and physical address agree modulo its size
 abbrev pub leaf_for : ℕ → ℕ → Leaf
-leaf_for guest place =
-    if guest % 2 ^ 30 == place % 2 ^ 30 then Large
-    else (if guest % 2 ^ 21 == place % 2 ^ 21 then Middle else Small)
+leaf_for guest address =
+    if guest % 2 ^ 30 == address % 2 ^ 30 then Huge
+    else (if guest % 2 ^ 21 == address % 2 ^ 21 then Large else Small)
 
--- a window at a place
+-- a window at an address
 abbrev pub mapped_at : View → ℕ → Caching → Window
-mapped_at v place caching =
-    record { guest = v.guest; size = v.size; place = place; rights = v.rights; caching = caching; leaf = leaf_for v.guest place }
+mapped_at v address caching =
+    record { guest = v.guest; size = v.size; address = address; rights = v.rights; caching = caching; leaf = leaf_for v.guest address }
 
 abbrev pub mapped : Placement → ℕ → View → Window
-mapped x subject v = mapped_at v (shown_place x subject v.shows) (shown_caching x v.shows)
+mapped x subject v = mapped_at v (shown_address x subject v.shows) (shown_caching x v.shows)
 
--- the windows of the subject at a place, which is granted this
+-- the windows of the subject at an index, which is granted this
 abbrev pub mapped_windows : Placement → ℕ → Grants → List Window
 mapped_windows x subject g = map (mapped x subject) g.views

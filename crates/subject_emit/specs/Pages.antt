@@ -4,7 +4,7 @@ use Rattle.std.specs.List.{All}
 use Rattle.std.specs.Option.{IfSome}
 use Rattle.ept_count.specs.Pages.{ept_pages}
 use Rattle.ept_count.specs.declared.window.Window.{Window}
-use Rattle.ept_emit.specs.Emitted.{HasPlaces, HasTables, IsGreatestSize, Reads, eptp_of, translation, window_at}
+use Rattle.ept_emit.specs.Emitted.{HasAddresses, HasTables, IsGreatestSize, Reads, eptp_of, translation, window_at}
 use Rattle.expand_grants.specs.declared.granted.Grants.{Grants}
 use Rattle.iobm_emit.specs.Ports.{is_granted_access}
 use Rattle.machine_meaning.specs.Exits.{area_bytes, msr_exits, port_exits}
@@ -22,19 +22,19 @@ use Rattle.subject_emit.specs.Mapped.{kernel_first, mapped_windows}
 use Rattle.subject_emit.specs.declared.subject_pages.SubjectPages.{SubjectPages}
 use Rattle.subject_state.specs.States.{started}
 
--- where the tables of the subject at a place lie: at its second region of the kernel
+-- where the tables of the subject at an index lie: at its second region of the kernel
 abbrev pub tables_at : Placement → ℕ → ℕ
-tables_at x subject = slice_index x.places (kernel_first x.plain.lawful subject + 1)
+tables_at x subject = slice_index x.addresses (kernel_first x.expanded.lawful subject + 1)
 
 -- what tables at an address say of windows: as the call that emits them has it
 pub record AreTablesOf (windows : List Window) (at : ℕ) (tables : List ℕ) : Type 0 where
   pub len : length tables ≡ PAGE * ept_pages windows
-  pub walk : (m : List Page) (addr : ℕ) (kind : AccessKind) → HasTables m at tables → HasPlaces m windows → addr < 2 ^ 48 → walk_of m (eptp_of at) addr kind ≡ translation windows addr kind
-  pub alone : (m : List Page) (addr : ℕ) → HasTables m at tables → addr < 2 ^ 48 → All (λ place. (at ≤ place) × (place + 8 ≤ at + length tables)) (places_read m (eptp_of at) addr)
+  pub walk : (m : List Page) (addr : ℕ) (kind : AccessKind) → HasTables m at tables → HasAddresses m windows → addr < 2 ^ 48 → walk_of m (eptp_of at) addr kind ≡ translation windows addr kind
+  pub alone : (m : List Page) (addr : ℕ) → HasTables m at tables → addr < 2 ^ 48 → All (λ address. (at ≤ address) × (address + 8 ≤ at + length tables)) (places_read m (eptp_of at) addr)
   pub paths : (m : List Page) (a b level other page : ℕ) → HasTables m at tables → a < 2 ^ 48 → b < 2 ^ 48 → Reads m (eptp_of at) a level page → Reads m (eptp_of at) b other page → (level ≡ other) × (a / span (suc level) ≡ b / span (suc level))
   pub leaves : (m : List Page) (addr : ℕ) → HasTables m at tables → addr < 2 ^ 48 → IfSome (window_at windows addr) (λ w. IsGreatestSize w addr (leaf_size m (eptp_of at) addr))
 
--- the pages of the subject at a place, which is granted this
+-- the pages of the subject at an index, which is granted this
 pub record ArePages (x : Placement) (subject : ℕ) (s : Subject) (g : Grants) (q : SubjectPages) : Type 0 where
   pub state : q.state ≡ page_bytes (started s.entry)
   pub tables : AreTablesOf (mapped_windows x subject g) (tables_at x subject) q.tables

@@ -8,14 +8,14 @@ use Rattle.muen_num.specs.declared.limits.TheConstants.{PAGE, PHYSICAL_END}
 use Rattle.region_alloc.specs.Placed.{Placement}
 use Rattle.subject_emit.specs.Mapped.{mapped_windows}
 use Rattle.subject_emit.specs.Pages.{tables_at}
-use Rattle.subject_emit.specs.Shows.{HasPlaces, IsShown}
+use Rattle.subject_emit.specs.Shows.{HasAddresses, IsShown}
 
--- tables can be emitted for the subject at a place, which is granted this: what its windows show is there, each of them can
+-- tables can be emitted for the subject at an index, which is granted this: what its windows show is there, each of them can
 -- be mapped, and the tables lie at whole pages of physical addresses that there are
 pub record IsReady (x : Placement) (subject : ℕ) (g : Grants) : Type 0 where
-  pub there : subject < length x.plain.lawful.subjects
-  pub places : HasPlaces x
-  pub shown : All (IsShown x.plain.lawful subject) g.views
+  pub there : subject < length x.expanded.lawful.subjects
+  pub addresses : HasAddresses x
+  pub shown : All (IsShown x.expanded.lawful subject) g.views
   pub mapped : All IsMapped (mapped_windows x subject g)
   pub emittable : All IsEmittable (mapped_windows x subject g)
   pub apart : AreApart (mapped_windows x subject g)

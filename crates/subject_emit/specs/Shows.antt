@@ -17,11 +17,11 @@ pub record IsReadable (rights : Rights) : Type 0 where
   pub known : rights.0 < 8
   pub read : rights.0 % 2 ≡ 1
 
--- what the component of the subject at a place brings along
+-- what the component of the subject at an index brings along
 abbrev pub brought_to : Resolution → ℕ → List Brought
 brought_to r subject = option_map_or (λ s. provided_at r.components s.component) (slice_get r.subjects subject) []
 
--- the bytes of what the subject at a place is shown, if it is there
+-- the bytes of what the subject at an index is shown, if it is there
 abbrev pub shown_size : Resolution → ℕ → Shown → Option ℕ
 shown_size r subject (Memory n) = option_map (λ m. m.size) (slice_get r.memory n)
 shown_size r subject (Channel n) = option_map (λ c. c.size) (slice_get r.channels n)
@@ -34,16 +34,16 @@ shown_size r subject (State other) = option_map (λ _. PAGE) (slice_get r.subjec
 abbrev pub IsShown : Resolution → ℕ → View → Type 0
 IsShown r subject v = shown_size r subject v.shows ≡ Some v.size
 
--- as many places as regions, by the numbers of these
-abbrev pub HasPlaces : Placement → Type 0
-HasPlaces x = length x.places ≡ kernel_first x.plain.lawful (length x.plain.lawful.subjects)
+-- as many addresses as regions, by the numbers of these
+abbrev pub HasAddresses : Placement → Type 0
+HasAddresses x = length x.addresses ≡ kernel_first x.expanded.lawful (length x.expanded.lawful.subjects)
 
--- the region that the subject at a place is shown has a number with a place
+-- the region that the subject at an index is shown has a number with an address
 abbrev pub IsNumbered : Placement → ℕ → Shown → Type 0
-IsNumbered x subject (Memory n) = n < length x.places
-IsNumbered x subject (Channel n) = length x.plain.lawful.memory + n < length x.places
+IsNumbered x subject (Memory n) = n < length x.addresses
+IsNumbered x subject (Channel n) = length x.expanded.lawful.memory + n < length x.addresses
 IsNumbered x subject (Provided n) =
-    (subject ≤ length x.plain.lawful.subjects)
-    × (length x.plain.lawful.memory + length x.plain.lawful.channels + brought_before x.plain.lawful subject + n < length x.places)
+    (subject ≤ length x.expanded.lawful.subjects)
+    × (length x.expanded.lawful.memory + length x.expanded.lawful.channels + brought_before x.expanded.lawful subject + n < length x.addresses)
 IsNumbered x subject (Device device memory) = Unit {0}
-IsNumbered x subject (State other) = other < length x.plain.lawful.subjects
+IsNumbered x subject (State other) = other < length x.expanded.lawful.subjects

@@ -7,10 +7,10 @@ use region_alloc::Placed;
 pub fn sound(placed: &Placed)
     ensures { IsSound placed.now }
 {
-    let plain = placed.plain();
-    let policy = plain.lawful().resolved();
+    let expanded = placed.expanded();
+    let policy = expanded.lawful().resolved();
     let _memory = policy.memory();
-    let _grants = plain.grants();
-    let _regions = plain.regions();
-    let _places = placed.places();
+    let _grants = expanded.grants();
+    let _regions = expanded.regions();
+    let _addresses = placed.addresses();
 }

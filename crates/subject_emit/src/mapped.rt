@@ -1,8 +1,8 @@
 //! The windows of a subject as its tables map them.
 ghost use Rattle.std.specs.Prelude.{◌≡◌, map, IfOk, All, option_and_then, slice_get};
 ghost use Rattle.std.specs.Option.{option_map_or};
-ghost use Rattle.subject_emit.specs.Mapped.{leaf_for, mapped, shown_caching, shown_place};
-ghost use Rattle.subject_emit.specs.Shows.{HasPlaces, IsNumbered, IsShown};
+ghost use Rattle.subject_emit.specs.Mapped.{leaf_for, mapped, shown_caching, shown_address};
+ghost use Rattle.subject_emit.specs.Shows.{HasAddresses, IsNumbered, IsShown};
 
 use crate::numbers::{channel_first, kernel_first, provided_first};
 use ept_count::{Leaf, Window};
@@ -15,23 +15,23 @@ use region_alloc::Placed;
 use std::alloc::Global;
 
 /// The bytes of a page that an entry of a page directory pointer table maps (Intel SDM volume 3, EPT).
-const LARGEST_PAGE: u64 = 512 * LARGE_PAGE;
+const HUGE_PAGE: u64 = 512 * LARGE_PAGE;
 
-// The greatest page that can map a guest address to a place.
-fn leaf_for(guest: u64, place: u64) -> Leaf
-    ensures { result ≡ leaf_for guest place }
+// The greatest page that can map a guest address to a physical address.
+fn leaf_for(guest: u64, address: u64) -> Leaf
+    ensures { result ≡ leaf_for guest address }
 {
-    if guest % LARGEST_PAGE == place % LARGEST_PAGE {
-        return Leaf::Large;
+    if guest % HUGE_PAGE == address % HUGE_PAGE {
+        return Leaf::Huge;
     }
-    if guest % LARGE_PAGE == place % LARGE_PAGE {
-        return Leaf::Middle;
+    if guest % LARGE_PAGE == address % LARGE_PAGE {
+        return Leaf::Large;
     }
     Leaf::Small
 }
 
-// Where memory of the device at a place lies.
-fn device_place(devices: &[Device], device: usize, memory: usize) -> u64
+// Where memory of the device at an index lies.
+fn device_address(devices: &[Device], device: usize, memory: usize) -> u64
     ensures { result ≡ option_map_or (λ m. m.physical_address) (option_and_then (λ d. slice_get d.memory memory) (slice_get devices.now device)) 0 }
 {
     match devices.get(device) {
@@ -43,24 +43,24 @@ fn device_place(devices: &[Device], device: usize, memory: usize) -> u64
     }
 }
 
-// Where what the subject at a place is shown lies.
-fn shown_place(placed: &Placed, subject: usize, shows: Shown) -> u64
-    requires places { HasPlaces placed.now }
+// Where what the subject at an index is shown lies.
+fn shown_address(placed: &Placed, subject: usize, shows: Shown) -> u64
+    requires addresses { HasAddresses placed.now }
     requires numbered { IsNumbered placed.now subject shows }
-    ensures { result ≡ shown_place placed.now subject shows }
+    ensures { result ≡ shown_address placed.now subject shows }
 {
-    let policy = placed.plain().lawful().resolved();
-    let places = placed.places();
+    let policy = placed.expanded().lawful().resolved();
+    let addresses = placed.addresses();
     match shows {
-        Shown::Memory(region) => places[region],
-        Shown::Channel(channel) => places[channel_first(policy) + channel],
-        Shown::Provided(region) => places[provided_first(policy, subject) + region],
-        Shown::Device(device, memory) => device_place(policy.devices(), device, memory),
-        Shown::State(other) => places[kernel_first(policy, other)],
+        Shown::Memory(region) => addresses[region],
+        Shown::Channel(channel) => addresses[channel_first(policy) + channel],
+        Shown::Provided(region) => addresses[provided_first(policy, subject) + region],
+        Shown::Device(device, memory) => device_address(policy.devices(), device, memory),
+        Shown::State(other) => addresses[kernel_first(policy, other)],
     }
 }
 
-// The memory type of the region at a place.
+// The memory type of the region at an index.
 fn region_caching(memory: &[Region], region: usize) -> Caching
     ensures { result ≡ option_map_or (λ m. m.caching) (slice_get memory.now region) Caching.Wb }
 {
@@ -74,7 +74,7 @@ fn region_caching(memory: &[Region], region: usize) -> Caching
 fn shown_caching(placed: &Placed, shows: Shown) -> Caching
     ensures { result ≡ shown_caching placed.now shows }
 {
-    let policy = placed.plain().lawful().resolved();
+    let policy = placed.expanded().lawful().resolved();
     match shows {
         Shown::Memory(region) => region_caching(policy.memory(), region),
         Shown::Device(_, _) => Caching::Uc,
@@ -82,32 +82,32 @@ fn shown_caching(placed: &Placed, shows: Shown) -> Caching
     }
 }
 
-// A window of the subject at a place.
+// A window of the subject at an index.
 fn mapped(placed: &Placed, subject: usize, view: &View) -> Window
-    requires places { HasPlaces placed.now }
-    requires shown { IsShown placed.now.plain.lawful subject view.now }
+    requires addresses { HasAddresses placed.now }
+    requires shown { IsShown placed.now.expanded.lawful subject view.now }
     ensures { result ≡ mapped placed.now subject view.now }
 {
-    let place = shown_place(placed, subject, view.shows);
+    let address = shown_address(placed, subject, view.shows);
     Window {
         guest: view.guest,
         size: view.size,
-        place,
+        address,
         rights: view.rights,
         caching: shown_caching(placed, view.shows),
-        leaf: leaf_for(view.guest, place),
+        leaf: leaf_for(view.guest, address),
     }
 }
 
-/// The windows of the subject at a place, which is granted these views.
+/// The windows of the subject at an index, which is granted these views.
 pub(crate) fn mapped_windows(
     alloc: Global,
     placed: &Placed,
     subject: usize,
     views: &[View],
 ) -> Result<Vec<Window>, NoMemory>
-    requires places { HasPlaces placed.now }
-    requires shown { All (IsShown placed.now.plain.lawful subject) views.now }
+    requires addresses { HasAddresses placed.now }
+    requires shown { All (IsShown placed.now.expanded.lawful subject) views.now }
     ensures { IfOk result (λ v. v.items ≡ map (mapped placed.now subject) views.now) }
 {
     let mut windows = Vec::new(alloc);

@@ -43,7 +43,7 @@ pub(crate) fn channel_first(policy: &Resolved) -> usize
     policy.memory().len()
 }
 
-/// The number of the first region that the component of the subject at a place brings along.
+/// The number of the first region that the component of the subject at an index brings along.
 pub(crate) fn provided_first(policy: &Resolved, subject: usize) -> usize
     requires there { subject ≤ length policy.now.subjects }
     requires room { kernel_first policy.now (length policy.now.subjects) < 2 ^ 64 }
@@ -53,7 +53,7 @@ pub(crate) fn provided_first(policy: &Resolved, subject: usize) -> usize
     policy.memory().len() + policy.channels().len() + brought
 }
 
-/// The number of the first region that the kernel has for the subject at a place, of five: its state
+/// The number of the first region that the kernel has for the subject at an index, of five: its state
 /// page, EPT tables, I/O bitmaps, MSR bitmap and MSR area.
 pub fn kernel_first(policy: &Resolved, subject: usize) -> usize
     requires there { subject ≤ length policy.now.subjects }

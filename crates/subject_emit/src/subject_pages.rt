@@ -27,27 +27,27 @@ pub struct SubjectPages {
     pub area: Seq<u8>,
 }
 
-/// The pages that the kernel keeps for the subject at a place, which is granted this: the state with
-/// which it begins, tables of its windows at the places of what they show, bitmaps of the ports and
+/// The pages that the kernel keeps for the subject at an index, which is granted this: the state with
+/// which it begins, tables of its windows at the addresses of what they show, bitmaps of the ports and
 /// MSRs that are granted to it, and the area of these MSRs.
 ///
 /// Its windows may all be read. Answers `NoMemory` where memory was refused.
 pub fn pages(
     alloc: Global,
     placed: &Placed,
-    place: usize,
+    index: usize,
     subject: &Subject,
     granted: &Grants,
 ) -> Result<SubjectPages, NoMemory>
-    requires subject { slice_get placed.now.plain.lawful.subjects place ≡ Some subject.now }
-    requires granted { slice_get placed.now.plain.grants place ≡ Some granted.now }
+    requires subject { slice_get placed.now.expanded.lawful.subjects index ≡ Some subject.now }
+    requires granted { slice_get placed.now.expanded.grants index ≡ Some granted.now }
     requires readable { All (λ v. IsReadable v.rights) granted.now.views }
-    ensures { IfOk result (ArePages placed.now place subject.now granted.now) }
+    ensures { IfOk result (ArePages placed.now index subject.now granted.now) }
 {
     sound(placed);
     Ok(SubjectPages {
         state: first_state(alloc, subject.entry)?,
-        tables: tables(alloc, placed, place, granted)?,
+        tables: tables(alloc, placed, index, granted)?,
         ports: port_bitmaps(alloc, granted.ports.items())?,
         msrs: msr_bitmap(alloc, granted.msrs.items())?,
         area: msr_area(alloc, granted.msrs.items())?,

@@ -3,7 +3,7 @@ ghost use Rattle.std.specs.Prelude.{◌≡◌, ◌<◌, length, IfOk};
 ghost use Rattle.subject_emit.specs.Mapped.{mapped_windows};
 ghost use Rattle.subject_emit.specs.Pages.{AreTablesOf, tables_at};
 ghost use Rattle.subject_emit.specs.Ready.{IsReady};
-ghost use Rattle.subject_emit.specs.Shows.{HasPlaces};
+ghost use Rattle.subject_emit.specs.Shows.{HasAddresses};
 
 use crate::mapped::mapped_windows;
 use crate::numbers::kernel_first;
@@ -15,17 +15,17 @@ use muen_num::{NoMemory, Seq};
 use region_alloc::Placed;
 use std::alloc::Global;
 
-/// The physical address at which the tables of the subject at a place lie.
+/// The physical address at which the tables of the subject at an index lie.
 pub fn tables_at(placed: &Placed, subject: usize) -> u64
-    requires places { HasPlaces placed.now }
-    requires there { subject < length placed.now.plain.lawful.subjects }
+    requires addresses { HasAddresses placed.now }
+    requires there { subject < length placed.now.expanded.lawful.subjects }
     ensures { result ≡ tables_at placed.now subject }
 {
-    let policy = placed.plain().lawful().resolved();
-    placed.places()[kernel_first(policy, subject) + 1]
+    let policy = placed.expanded().lawful().resolved();
+    placed.addresses()[kernel_first(policy, subject) + 1]
 }
 
-/// The EPT tables of the subject at a place, which is granted this.
+/// The EPT tables of the subject at an index, which is granted this.
 ///
 /// Answers `NoMemory` where memory was refused.
 pub(crate) fn tables(

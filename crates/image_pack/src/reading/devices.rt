@@ -36,7 +36,7 @@ fn new_name_of<'a>(names: &[Name], bytes: &'a [u8]) -> Result<(Name, &'a [u8]), 
             }
             Ok((name, rest))
         }
-        Err(halt) => Err(halt),
+        Err(error) => Err(error),
     }
 }
 
@@ -167,7 +167,7 @@ impl Item for IrqPart {
     ) -> Result<(IrqPart, &'a [u8]), FormError> {
         let (name, rest) = match new_name_of(before.items(), bytes) {
             Ok(named) => named,
-            Err(halt) => return Err(halt),
+            Err(error) => return Err(error),
         };
         let (subject, rest) = byte_of(rest)?;
         let at = rest;
@@ -206,7 +206,7 @@ impl Item for DevicePart {
     ) -> Result<(DevicePart, &'a [u8]), FormError> {
         let (name, rest) = match new_name_of(before.items(), bytes) {
             Ok(named) => named,
-            Err(halt) => return Err(halt),
+            Err(error) => return Err(error),
         };
         let (ports, rest) = device_count_of(rest)?;
         let (windows, rest) = device_count_of(rest)?;

@@ -3,7 +3,7 @@
 
 ghost use Rattle.std.specs.Prelude.{◌≡◌, ◌+◌, ◌*◌, ◌<◌, ◌≤◌, IfOk, IsTrue, length};
 ghost use Rattle.image_form.specs.Form.{Form, Gives, items};
-ghost use Rattle.image_pack.specs.Image.{after, sum32, pages_with, device_pages_with, is_place, is_size, is_new, suits_tau0, has_room, is_kind, title, span, no_spans_before};
+ghost use Rattle.image_pack.specs.Image.{after, sum32, pages_with, device_pages_with, is_address, is_size, is_new, suits_tau0, has_room, is_kind, title, span, no_spans_before};
 
 use crate::codes::{is_part, kind_byte_of, part_of};
 use crate::items::{Item, items_of};
@@ -31,18 +31,18 @@ pub struct SpansBefore {
     pub device_pages: u32,
 }
 
-fn is_place(end: u64, place: u64) -> bool
-    ensures { result ≡ is_place end place }
+fn is_address(end: u64, address: u64) -> bool
+    ensures { result ≡ is_address end address }
 {
-    place % PAGE == 0 && end <= place
+    address % PAGE == 0 && end <= address
 }
 
 // Whether pages from there on are some, and end where memory does or before it.
-fn is_size(place: u64, pages: u32) -> bool
-    ensures value { result ≡ is_size place pages }
-    ensures small { IsTrue result → place + PAGE * pages ≤ PHYSICAL_END }
+fn is_size(address: u64, pages: u32) -> bool
+    ensures value { result ≡ is_size address pages }
+    ensures small { IsTrue result → address + PAGE * pages ≤ PHYSICAL_END }
 {
-    0 < pages && place <= PHYSICAL_END && place + PAGE * u64::from(pages) <= PHYSICAL_END
+    0 < pages && address <= PHYSICAL_END && address + PAGE * u64::from(pages) <= PHYSICAL_END
 }
 
 fn is_new(header: &Header, before: &SpansBefore, number: u16) -> bool
@@ -108,7 +108,7 @@ fn title_of(code: u8, bytes: &[u8]) -> Result<(Option<Name>, &[u8]), FormError>
     if code == 1 {
         match name_of(bytes) {
             Ok((name, rest)) => Ok((Some(name), rest)),
-            Err(halt) => Err(halt),
+            Err(error) => Err(error),
         }
     } else {
         let rest = gap_of(bytes, 64, Field::Name)?;
@@ -119,13 +119,13 @@ fn title_of(code: u8, bytes: &[u8]) -> Result<(Option<Name>, &[u8]), FormError>
 // Notes a span for those behind it.
 #[tactic(auto, unfolding(crate::specs::Image::after))]
 fn note(before: &mut SpansBefore, span: &SpanPart)
-    requires end { span.now.place + PAGE * span.now.pages ≤ PHYSICAL_END }
+    requires end { span.now.address + PAGE * span.now.pages ≤ PHYSICAL_END }
     requires number { span.now.number < length before.old.seen }
     ensures { (h : Header) → before.new ≡ after h before.old span.now }
 {
     before.pages = pages_with(before, span.kind, span.pages);
     before.device_pages = device_pages_with(before, span.kind, span.pages);
-    before.end = span.place + PAGE * u64::from(span.pages);
+    before.end = span.address + PAGE * u64::from(span.pages);
     before.seen.overwrite(span.number as usize, &[true]);
     before.left = before.left.saturating_sub(1);
 }
@@ -148,13 +148,13 @@ impl Item for SpanPart {
         before: &mut SpansBefore,
         bytes: &'a [u8],
     ) -> Result<(SpanPart, &'a [u8]), FormError> {
-        let (place, rest) = u64_of(bytes)?;
-        if !is_place(before.end, place) {
+        let (address, rest) = u64_of(bytes)?;
+        if !is_address(before.end, address) {
             return Err(bad(bytes, Field::Place));
         }
         let at = rest;
         let (pages, rest) = u32_of(at)?;
-        if !is_size(place, pages) {
+        if !is_size(address, pages) {
             return Err(bad(at, Field::Pages));
         }
         let at = rest;
@@ -174,16 +174,16 @@ impl Item for SpanPart {
         }
         let (owner, rest) = match name_of(rest) {
             Ok(named) => named,
-            Err(halt) => return Err(halt),
+            Err(error) => return Err(error),
         };
         let (called, rest) = match title_of(code, rest) {
             Ok(titled) => titled,
-            Err(halt) => return Err(halt),
+            Err(error) => return Err(error),
         };
         let rest = gap_of(rest, 16, Field::Zero)?;
         let part = part_of(code, called);
         let span = SpanPart {
-            place,
+            address,
             pages,
             number,
             kind,

@@ -7,7 +7,7 @@ ghost use Rattle.image_form.specs.declared.fault.Field.{Field};
 ghost use Rattle.std.specs.Int.{w16};
 ghost use Rattle.image_plan.specs.Plan.{is_group_on};
 ghost use Rattle.image_pack.specs.Codes.{part_code};
-ghost use Rattle.image_pack.specs.Image.{is_first_here, is_group_of, is_kernel_span, is_eptp, event, events, subject, next_place, nothing_left};
+ghost use Rattle.image_pack.specs.Image.{is_first_here, is_group_of, is_kernel_span, is_eptp, event, events, subject, next_index, nothing_left};
 
 use crate::codes::{event_at, event_bytes, part_code};
 use crate::items::{Item, items_of};
@@ -19,7 +19,7 @@ use image_form::writing::put_tag;
 use image_form::{Field, FormError};
 use image_plan::GroupPart;
 use muen_num::limits::{MOST_CALLS, MOST_MSRS, PAGE, PHYSICAL_END};
-use muen_num::{TagPart, Seq};
+use muen_num::{Seq, TagPart};
 use std::alloc::{AllocError, Global};
 
 /// The lowest 12 bits of an extended-page-table pointer: four levels of tables, write-back memory.
@@ -36,18 +36,18 @@ pub(crate) fn is_group_on(groups: &[GroupPart], cpu: u8, group: u8) -> bool
 }
 
 // Whether each group whose first member is this subject is this group.
-fn is_first_here(groups: &[GroupPart], place: u8, number: u8) -> bool
-    ensures { result ≡ is_first_here groups.now place number }
+fn is_first_here(groups: &[GroupPart], index: u8, number: u8) -> bool
+    ensures { result ≡ is_first_here groups.now index number }
 {
-    groups.iter().enumerate().all(|(group, part)| part.first != place || group == number as usize)
+    groups.iter().enumerate().all(|(group, part)| part.first != index || group == number as usize)
 }
 
 #[tactic(auto, unfolding(crate::specs::Image::is_group_of))]
-fn is_group_of(outline: &Outline, place: u8, cpu: u8, number: u8) -> bool
-    ensures { result ≡ is_group_of outline.now place cpu number }
+fn is_group_of(outline: &Outline, index: u8, cpu: u8, number: u8) -> bool
+    ensures { result ≡ is_group_of outline.now index cpu number }
 {
     is_group_on(outline.groups.items(), cpu, number)
-        && is_first_here(outline.groups.items(), place, number)
+        && is_first_here(outline.groups.items(), index, number)
 }
 
 // Whether a span with this number is this part of its owner, with so many pages.
@@ -123,13 +123,13 @@ fn events_of<'a>(
 }
 
 impl Item for SubjectPart {
-    ghost use Rattle.image_pack.specs.Image.{subject, next_place};
+    ghost use Rattle.image_pack.specs.Image.{subject, next_index};
 
     type Among = Outline;
 
     type Before = u8;
 
-    ghost next = { next_place };
+    ghost next = { next_index };
 
     ghost form = { subject };
 
@@ -166,7 +166,7 @@ impl Item for SubjectPart {
         }
         let (name, rest) = match name_of(rest) {
             Ok(named) => named,
-            Err(halt) => return Err(halt),
+            Err(error) => return Err(error),
         };
         let rest = gap_of(rest, 8, Field::Zero)?;
         let (calls, rest) = events_of(alloc, &among.header, rest)?;

@@ -3,4 +3,4 @@ use Rattle.ept_count.proofs.Tallies.{Tallied}
 use Rattle.ept_count.proofs.count.values_taken.Given as goal
 
 abbrev pub invariant-loop-window : goal.invariant-loop-window
-invariant-loop-window l = Tallied l.windows l.span l.all l.next l.window-index
+invariant-loop-window l = Tallied l.windows l.entry_size l.all l.next l.window-index

@@ -12,7 +12,7 @@ pub write_table-requires-clause-room : goal.write_table-requires-clause-room
 write_table-requires-clause-room c = omega (arith, pages_are c.args.windows.now, c.fill.ensures.len)
 
 pub returns-clause-walk : goal.returns-clause-walk
-returns-clause-walk c = λ m addr kind held places lt. walk_held m c.args.at c.write_table.result (ept_pages c.args.windows.now) c.write_table.new.out c.args.windows.now c.requires.at c.write_table.ensures.more (omega (arith, c.write_table.ensures.few, pages_are c.args.windows.now)) c.requires.end (omega (arith, c.write_table.auto.out, c.fill.ensures.len, c.requires.room)) c.requires.emittable c.write_table.ensures.numbered held addr kind lt places
+returns-clause-walk c = λ m addr kind held addresses lt. walk_held m c.args.at c.write_table.result (ept_pages c.args.windows.now) c.write_table.new.out c.args.windows.now c.requires.at c.write_table.ensures.more (omega (arith, c.write_table.ensures.few, pages_are c.args.windows.now)) c.requires.end (omega (arith, c.write_table.auto.out, c.fill.ensures.len, c.requires.room)) c.requires.emittable c.write_table.ensures.numbered held addr kind lt addresses
 
 pub returns-clause-alone : goal.returns-clause-alone
 returns-clause-alone c = λ m addr held lt. alone_held m c.args.at c.write_table.result (ept_pages c.args.windows.now) c.write_table.new.out c.args.windows.now c.requires.at c.write_table.ensures.more (omega (arith, c.write_table.ensures.few, pages_are c.args.windows.now)) c.requires.end (omega (arith, c.write_table.auto.out, c.fill.ensures.len, c.requires.room)) c.requires.emittable c.write_table.ensures.numbered held addr lt

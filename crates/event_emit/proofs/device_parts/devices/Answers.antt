@@ -1,9 +1,9 @@
 use Rattle.std.proofs.Common.{sym, ap, subst, ◌∙◌, ◌≡◌}
 use Rattle.std.specs.List.{list_all}
 use Rattle.std.proofs.lemmas.Result.{IfOk-weaker}
-use Rattle.event_emit.specs.ByPlace.{AreFew, device_parts, has_name}
+use Rattle.event_emit.specs.ByIndex.{AreFew, device_parts, has_name}
 use Rattle.event_emit.specs.Tables.{AreDevices}
-use Rattle.event_emit.proofs.DevicesByPlace.{are_devices, are_few}
+use Rattle.event_emit.proofs.DevicesByIndex.{are_devices, are_few}
 use Rattle.event_emit.proofs.device_parts.devices.Goals as goal
 use Rattle.expand_grants.specs.ByPlace.{fits_device}
 use Rattle.expand_grants.proofs.PortsByPlace.{ports_fit}
@@ -14,13 +14,13 @@ pub device_parts-requires-clause-ports : goal.device_parts-requires-clause-ports
 device_parts-requires-clause-ports c =
     let same = c.resolved-policy.ensures.value ∙ c.lawful.ensures in
     let lawful = subst (λ (r : Resolution). IsLawful (source_of r)) c.lawful.ensures c.resolved-policy.ensures.lawful in
-    ap (list_all fits_device) (c.devices.ensures ∙ ap (λ (r : Resolution). r.devices) same) ∙ ports_fit c.args.plain.now.lawful lawful.rule_10
+    ap (list_all fits_device) (c.devices.ensures ∙ ap (λ (r : Resolution). r.devices) same) ∙ ports_fit c.args.expanded.now.lawful lawful.rule_10
 
 pub device_parts-requires-clause-routes : goal.device_parts-requires-clause-routes
 device_parts-requires-clause-routes c =
     let same = c.resolved-policy.ensures.value ∙ c.lawful.ensures in
     subst (AreFew c.routes.result.now) (sym (c.devices.ensures ∙ ap (λ (r : Resolution). r.devices) same))
-    (are_few c.args.plain.now.lawful
+    (are_few c.args.expanded.now.lawful
     (sym (ap (list_all has_name) (c.subjects.ensures.value ∙ ap (λ (r : Resolution). r.subjects) same)) ∙ c.are_named.ensures.named)
     (subst (λ (r : Resolution). IsLawful (source_of r)) c.lawful.ensures c.resolved-policy.ensures.lawful)
     c.routes.result.now c.routes.ensures.routes)
@@ -28,8 +28,8 @@ device_parts-requires-clause-routes c =
 pub returns : goal.returns
 returns c =
     let same = c.resolved-policy.ensures.value ∙ c.lawful.ensures in
-    IfOk-weaker c.device_parts.result (λ ps. ps ≡ device_parts c.routes.result.now 0 c.args.first c.devices.result.now) (AreDevices c.args.plain.now.lawful c.args.first c.args.plain.now.lawful.devices)
-    (λ ps is. are_devices c.args.plain.now.lawful
+    IfOk-weaker c.device_parts.result (λ ps. ps ≡ device_parts c.routes.result.now 0 c.args.first c.devices.result.now) (AreDevices c.args.expanded.now.lawful c.args.first c.args.expanded.now.lawful.devices)
+    (λ ps is. are_devices c.args.expanded.now.lawful
     (sym (ap (list_all has_name) (c.subjects.ensures.value ∙ ap (λ (r : Resolution). r.subjects) same)) ∙ c.are_named.ensures.named)
     (subst (λ (r : Resolution). IsLawful (source_of r)) c.lawful.ensures c.resolved-policy.ensures.lawful)
     c.routes.result.now c.routes.ensures.routes c.args.first ps

@@ -1,5 +1,5 @@
 use Rattle.std.proofs.Common.{◌≡◌, map, take}
-use Rattle.event_emit.specs.ByPlace.{port_span}
+use Rattle.event_emit.specs.ByIndex.{port_span}
 use Rattle.event_emit.proofs.device_parts.port_spans.Given as goal
 
 abbrev pub invariant-loop-range : goal.invariant-loop-range

@@ -1,5 +1,5 @@
 use Rattle.std.proofs.Common.{◌≡◌, map, take}
-use Rattle.event_emit.specs.ByPlace.{tables_of}
+use Rattle.event_emit.specs.ByIndex.{tables_of}
 use Rattle.event_emit.proofs.event_tables.all_tables.Given as goal
 
 abbrev pub invariant-loop-granted : goal.invariant-loop-granted

@@ -1,6 +1,6 @@
 use Rattle.std.proofs.Common.{◌≡◌, true, take}
 use Rattle.std.specs.List.{list_all}
-use Rattle.event_emit.specs.ByPlace.{has_name}
+use Rattle.event_emit.specs.ByIndex.{has_name}
 use Rattle.event_emit.proofs.event_tables.are_named.Given as goal
 
 abbrev pub invariant-loop-subject : goal.invariant-loop-subject

@@ -4,5 +4,5 @@ use Rattle.std.specs.List.{AllZip, enumerate_from}
 use Rattle.subject_emit.specs.Pages.{ArePages}
 use Rattle.image_emit.proofs.image.all_pages.Given as goal
 
-abbrev pub invariant-loop-place : goal.invariant-loop-place
-invariant-loop-place l = AllZip (λ e q. ArePages l.placed e.0 e.1.0 e.1.1 q) (take l.place (enumerate_from 0 (zip l.placed.plain.lawful.subjects l.placed.plain.grants))) l.all
+abbrev pub invariant-loop-index : goal.invariant-loop-index
+invariant-loop-index l = AllZip (λ e q. ArePages l.placed e.0 e.1.0 e.1.1 q) (take l.index (enumerate_from 0 (zip l.placed.expanded.lawful.subjects l.placed.expanded.grants))) l.all

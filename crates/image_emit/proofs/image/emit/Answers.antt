@@ -24,7 +24,7 @@ pub devices-requires : goal.devices-requires
 devices-requires c =
     let few = spans_few c.args.placed.now c.known.ensures in
     let first = c.first_device.ensures in
-    let same = ap (λ p. sum_by (λ d. length d.memory) p.lawful.devices) c.plain-plain.ensures in
+    let same = ap (λ p. sum_by (λ d. length d.memory) p.lawful.devices) c.expanded-expanded.ensures in
     omega (arith, few, first, same)
 
 pub choice_of-tau0-requires : goal.choice_of-tau0-requires
@@ -43,9 +43,9 @@ made c =
     c.known.ensures c.requires.filled c.in_ok-spans.ensures.numbered c.in_ok-spans.ensures.spans
     (subst (λ ss. IsHeld c.args.placed.now c.args.things ss c.in_ok-held.held) c.items.ensures c.in_ok-held.ensures)
     c.in_ok-subjects.ensures
-    (subst (λ r. IsPlanOf (source_of r) c.in_ok-plan.plan) (c.lawful.ensures ∙ ap (λ p. p.lawful) c.plain-plain.ensures) c.in_ok-plan.ensures)
-    (subst (λ n. AreDevices c.args.placed.now.plain.lawful n c.args.placed.now.plain.lawful.devices c.in_ok-devices.devices) c.first_device.ensures
-    (subst (λ p. AreDevices p.lawful c.first_device.result p.lawful.devices c.in_ok-devices.devices) c.plain-plain.ensures c.in_ok-devices.ensures))
+    (subst (λ r. IsPlanOf (source_of r) c.in_ok-plan.plan) (c.lawful.ensures ∙ ap (λ p. p.lawful) c.expanded-expanded.ensures) c.in_ok-plan.ensures)
+    (subst (λ n. AreDevices c.args.placed.now.expanded.lawful n c.args.placed.now.expanded.lawful.devices c.in_ok-devices.devices) c.first_device.ensures
+    (subst (λ p. AreDevices p.lawful c.first_device.result p.lawful.devices c.in_ok-devices.devices) c.expanded-expanded.ensures c.in_ok-devices.ensures))
     c.cpus.ensures
     (c.choice_of-tau0.ensures ∙ ap choice_of c.policy_of.ensures)
 

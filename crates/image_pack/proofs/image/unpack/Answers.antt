@@ -1,5 +1,5 @@
 use Rattle.std.proofs.Common.{Ok, Err, arith}
-use Rattle.image_form.proofs.Theorem.{is_found, is_halt, is_unpacked, is_wanted, only_that}
+use Rattle.image_form.proofs.Theorem.{is_found, is_error, is_unpacked, is_wanted, only_that}
 use Rattle.image_pack.specs.Image.{image}
 use Rattle.image_pack.proofs.ImageLaws.{image_laws}
 use Rattle.image_pack.proofs.image.unpack.Goals as goal
@@ -8,7 +8,7 @@ pub invariant_of-result : goal.invariant_of-result
 invariant_of-result c = (is_found image image_laws c.args.bytes.now c.in-Ok.image (λ i. omega (arith, c.type_inv.bytes i)) c.in-Ok.ensures).0
 
 pub fault_of-requires : goal.fault_of-requires
-fault_of-requires c = is_halt image image_laws c.args.bytes.now c.in-Err.halt (λ i. omega (arith, c.type_inv.bytes i)) c.in-Err.ensures
+fault_of-requires c = is_error image image_laws c.args.bytes.now c.in-Err.error (λ i. omega (arith, c.type_inv.bytes i)) c.in-Err.ensures
 
 pub returns-in-Ok-clause-found : goal.returns-in-Ok-clause-found
 returns-in-Ok-clause-found c =
@@ -22,7 +22,7 @@ pub returns-in-Ok-clause-exact : goal.returns-in-Ok-clause-exact
 returns-in-Ok-clause-exact c = is_unpacked image c.args.bytes.now c.in-Ok.image c.in-Ok.ensures
 
 pub returns-in-Err-clause-only : goal.returns-in-Err-clause-only
-returns-in-Err-clause-only c = λ i h. only_that image image_laws c.args.bytes.now (Err c.fault_of.result) (is_wanted image c.args.bytes.now c.in-Err.halt c.fault_of.result c.in-Err.ensures c.fault_of.ensures) i h.parts h.bytes_are
+returns-in-Err-clause-only c = λ i h. only_that image image_laws c.args.bytes.now (Err c.fault_of.result) (is_wanted image c.args.bytes.now c.in-Err.error c.fault_of.result c.in-Err.ensures c.fault_of.ensures) i h.parts h.bytes_are
 
 pub returns-in-Err-clause-exact : goal.returns-in-Err-clause-exact
-returns-in-Err-clause-exact c = is_wanted image c.args.bytes.now c.in-Err.halt c.fault_of.result c.in-Err.ensures c.fault_of.ensures
+returns-in-Err-clause-exact c = is_wanted image c.args.bytes.now c.in-Err.error c.fault_of.result c.in-Err.ensures c.fault_of.ensures

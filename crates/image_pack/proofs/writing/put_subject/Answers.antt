@@ -5,7 +5,7 @@ use Rattle.image_pack.proofs.writing.put_subject.Goals as goal
 
 pub returns : goal.returns
 unfolding only subject
-returns c = λ o place.
+returns c = λ o index.
     put_field _ _ _ _ _ _ _ c.in_ok-put_u8.ensures (
     put_field _ _ _ _ _ _ _ c.in_ok-put_u8-2.ensures (
     put_field _ _ _ _ _ _ _ c.in_ok-put_u8-3.ensures (

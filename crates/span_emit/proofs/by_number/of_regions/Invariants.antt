@@ -4,4 +4,4 @@ use Rattle.span_emit.proofs.InTurn.{Regions}
 use Rattle.span_emit.proofs.by_number.of_regions.Given as goal
 
 abbrev pub invariant-loop-region : goal.invariant-loop-region
-invariant-loop-region l = Regions (region_spans l.regions l.places) l.region-iterator.a.rest.now l.region-iterator.b.rest.now l.spans.items
+invariant-loop-region l = Regions (region_spans l.regions l.addresses) l.region-iterator.a.rest.now l.region-iterator.b.rest.now l.spans.items

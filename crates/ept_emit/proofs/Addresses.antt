@@ -8,19 +8,19 @@ use Rattle.ept_emit.proofs.EntryBits.{goes_free, goes_page, goes_table}
 use Rattle.ept_emit.proofs.Walked.{Has, mapped_on}
 use Rattle.ept_emit.proofs.Written.{Under, Meets, Free, Whole, Part, kind_of, word_of, window_of, written_parts, none_of, leaf_of, child_of, leads_none, leads_leaf, leads_to, leads_from, below_parts, below_from, below_lowest}
 
--- place i of those read is in a table that is met
-pub record IsMet (out : ℕ → ℕ) (base hi : ℕ) (ws : List Window) (l k addr i place : ℕ) : Type 0 where
+-- address i of those read is in a table that is met
+pub record IsMet (out : ℕ → ℕ) (base hi : ℕ) (ws : List Window) (l k addr i address : ℕ) : Type 0 where
   pub table : ℕ
   pub meets : Meets out base ws l k addr (l - i) table
   pub depth : i ≤ l
-  pub low : 4096 * (base + table) ≤ place
-  pub high : place + 8 ≤ 4096 * (base + table) + 4096
+  pub low : 4096 * (base + table) ≤ address
+  pub high : address + 8 ≤ 4096 * (base + table) + 4096
 
 -- a table that is met is among those read
-pub record IsRead (places : List ℕ) (base l l2 k2 : ℕ) : Type 0 where
+pub record IsRead (addresses : List ℕ) (base l l2 k2 : ℕ) : Type 0 where
   pub level : l2 ≤ l
-  pub within : l - l2 < length places
-  pub here : get_or places (l - l2) 0 / 4096 ≡ base + k2
+  pub within : l - l2 < length addresses
+  pub here : get_or addresses (l - l2) 0 / 4096 ≡ base + k2
 
 met_first : (out : ℕ → ℕ) (base hi : ℕ) (ws : List Window) (l k addr : ℕ) → IsMet out base hi ws l k addr 0 (place_of (base + k) (index_at l addr))
 met_first out base hi ws l k addr =

@@ -1,4 +1,4 @@
--- What is known of spans before they are in the order of their places.
+-- What is known of spans before they are in the order of their addresses.
 use Rattle.std.specs.Prelude.{◌≡◌, ℕ, true, List, IfSome}
 use Rattle.std.specs.List.Sorted.{IsNonDecreasingBy, IsPermutation}
 use Rattle.image_pack.specs.Codes.{part_name}
@@ -18,7 +18,7 @@ pub record HasNames (tag : Tag) : Type 0 where
   pub owner : is_name tag.owner ≡ true
   pub called : IfSome (part_name tag.part) (λ text. is_name text ≡ true)
 
--- in the order of their places they are the spans of an image
-abbrev pub AreSpansByPlace : List SpanPart → Type 0
-AreSpansByPlace spans =
-    (ordered : List SpanPart) → IsPermutation spans ordered → IsNonDecreasingBy (λ s. s.place) ordered → AreSpans ordered
+-- in the order of their addresses they are the spans of an image
+abbrev pub AreSpansByAddress : List SpanPart → Type 0
+AreSpansByAddress spans =
+    (ordered : List SpanPart) → IsPermutation spans ordered → IsNonDecreasingBy (λ s. s.address) ordered → AreSpans ordered

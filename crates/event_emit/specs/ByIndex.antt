@@ -60,7 +60,7 @@ table_of entries way = map (λ n. entry_at entries (way n)) (numbers_below MOST_
 abbrev pub tables_of : Grants → EventTables
 tables_of g = record { calls = table_of g.events Call; traps = table_of g.events Trap }
 
--- the place of the subject that each way reaches fits
+-- the index of the subject that each way reaches fits
 abbrev pub ReachFew : List EventEntry → Type 0
 ReachFew entries = (way : Way) → IfSome (find (has_way way) entries) (λ e. e.target < 2 ^ 8)
 
@@ -78,32 +78,32 @@ window_parts first count = map (λ k. record { span = first + k }) (numbers_belo
 abbrev pub irq_target : Route → IrqTarget
 irq_target t = record { subject = t.subject; vector = t.vector }
 
--- an interrupt with its place, of the device at a place
+-- an interrupt with its index, of the device at an index
 abbrev pub irq_part : List Route → ℕ → ℕ × Irq → IrqPart
-irq_part routes device (place, i) = record { name = i.name; target = option_map irq_target (route_for routes device place) }
+irq_part routes device (index, i) = record { name = i.name; target = option_map irq_target (route_for routes device index) }
 
--- the interrupts of the device at a place
+-- the interrupts of the device at an index
 abbrev pub irq_parts : List Route → ℕ → List Irq → List IrqPart
 irq_parts routes device irqs = map (irq_part routes device) (enumerate_from 0 irqs)
 
--- the device at a place, whose memory has the numbers from this one on
+-- the device at an index, whose memory has the numbers from this one on
 abbrev pub device_part : List Route → ℕ → ℕ → Device → DevicePart
-device_part routes place first d = record {
+device_part routes index first d = record {
   name = d.name;
   ports = map port_span d.io_ports;
   windows = window_parts first (length d.memory);
-  irqs = irq_parts routes place d.irqs;
+  irqs = irq_parts routes index d.irqs;
 }
 
--- devices from a place on
+-- devices from an index on
 unfoldable pub device_parts : List Route → ℕ → ℕ → List Device → List DevicePart
-device_parts routes place first [] = []
-device_parts routes place first (d ∷ ds) = device_part routes place first d ∷ device_parts routes (place + 1) (first + length d.memory) ds
+device_parts routes index first [] = []
+device_parts routes index first (d ∷ ds) = device_part routes index first d ∷ device_parts routes (index + 1) (first + length d.memory) ds
 
--- the place of the subject that each of so many interrupts of a device reaches fits
+-- the index of the subject that each of so many interrupts of a device reaches fits
 abbrev pub RouteFew : List Route → ℕ → ℕ → Type 0
 RouteFew routes device irqs = (irq : ℕ) → irq < irqs → IfSome (route_for routes device irq) (λ t. t.subject < 2 ^ 8)
 
 -- the same of the interrupts of each device
 abbrev pub AreFew : List Route → List Device → Type 0
-AreFew routes devices = (place : ℕ) (d : Device) → slice_get devices place ≡ Some d → RouteFew routes place (length d.irqs)
+AreFew routes devices = (index : ℕ) (d : Device) → slice_get devices index ≡ Some d → RouteFew routes index (length d.irqs)

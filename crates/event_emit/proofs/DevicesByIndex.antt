@@ -2,7 +2,7 @@
 use Rattle.std.proofs.Common.{◌≡◌, ℕ, suc, ◌+◌, ◌<◌, true, List, [], ◌∷◌, length, map, Some, None, refl, sym, ap, subst, ◌∙◌, arith}
 use Rattle.std.specs.Prelude.{option_map, slice_get, IfSome}
 use Rattle.std.specs.List.{AllZip, enumerate_from, list_all}
-use Rattle.event_emit.specs.ByPlace.{AreFew, RouteFew, device_part, device_parts, has_name, irq_part, irq_target, port_span, window_parts}
+use Rattle.event_emit.specs.ByIndex.{AreFew, RouteFew, device_part, device_parts, has_name, irq_part, irq_target, port_span, window_parts}
 use Rattle.event_emit.specs.Tables.{AreDevices, IsDevice, IsIrq, IsIrqTarget, irq_named, span_ends}
 use Rattle.event_emit.proofs.EntriesReach.{few_subjects, route_found}
 use Rattle.expand_grants.specs.Grants.{AreRoutes, route_for}
@@ -19,11 +19,11 @@ module _ (r : Resolution) (names : list_all has_name r.subjects ≡ true) (lawfu
   -- ---- interrupts of a device
 
   module _ (device : ℕ) (d : Device) (is : slice_get r.devices device ≡ Some d) where
-    irq_is : (place : ℕ) (i : Irq) → slice_get d.irqs place ≡ Some i → IsIrq r d i (irq_part routes device (place, i))
-    irq_is place i at = record {
+    irq_is : (index : ℕ) (i : Irq) → slice_get d.irqs index ≡ Some i → IsIrq r d i (irq_part routes device (index, i))
+    irq_is index i at = record {
       name = refl;
-      granted = route_found r names lawful routes device place d i are is at;
-      target = option_map-option_map (irq_named r) irq_target (route_for routes device place) ∙ are device place d i is at;
+      granted = route_found r names lawful routes device index d i are is at;
+      target = option_map-option_map (irq_named r) irq_target (route_for routes device index) ∙ are device index d i is at;
     }
 
     irqs_are : (from : ℕ) (irqs : List Irq) → ((k : ℕ) (i : Irq) → slice_get irqs k ≡ Some i → slice_get d.irqs (from + k) ≡ Some i)
@@ -57,13 +57,13 @@ module _ (r : Resolution) (names : list_all has_name r.subjects ≡ true) (lawfu
 
   -- ---- all devices
 
-  each_is : (place first : ℕ) (ds : List Device) → ((k : ℕ) (d : Device) → slice_get ds k ≡ Some d → slice_get r.devices (place + k) ≡ Some d) → AreDevices r first ds (device_parts routes place first ds)
+  each_is : (index first : ℕ) (ds : List Device) → ((k : ℕ) (d : Device) → slice_get ds k ≡ Some d → slice_get r.devices (index + k) ≡ Some d) → AreDevices r first ds (device_parts routes index first ds)
   unfolding AreDevices device_parts
-  each_is place first [] at = tt
-  each_is place first (d ∷ ds) at =
-      let here : place + 0 ≡ place = omega arith in (
-        device_is place d (ap (slice_get r.devices) (sym here) ∙ at 0 d refl) first,
-        each_is (place + 1) (first + length d.memory) ds (λ k x h. let e : place + 1 + k ≡ place + suc k = omega arith in ap (slice_get r.devices) e ∙ at (suc k) x h),
+  each_is index first [] at = tt
+  each_is index first (d ∷ ds) at =
+      let here : index + 0 ≡ index = omega arith in (
+        device_is index d (ap (slice_get r.devices) (sym here) ∙ at 0 d refl) first,
+        each_is (index + 1) (first + length d.memory) ds (λ k x h. let e : index + 1 + k ≡ index + suc k = omega arith in ap (slice_get r.devices) e ∙ at (suc k) x h),
       )
 
   pub are_devices : (first : ℕ) (parts : List DevicePart) → parts ≡ device_parts routes 0 first r.devices → AreDevices r first r.devices parts

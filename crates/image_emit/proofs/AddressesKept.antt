@@ -5,22 +5,22 @@ use Rattle.std.specs.Option.{option_map_or}
 use Rattle.expand_kernel.specs.declared.region.Region.{Region}
 use Rattle.image_emit.specs.Built.{HasPlacement}
 use Rattle.image_emit.specs.Made.{IsMade, Made, image_of, policy_of}
-use Rattle.image_emit.proofs.ByNumber.{as_many_places, span_numbered}
+use Rattle.image_emit.proofs.ByNumber.{as_many_addresses, span_numbered}
 use Rattle.image_emit.proofs.SpansAt.{region_at}
-use Rattle.image_meaning.specs.Memory.{Span, place_at}
+use Rattle.image_meaning.specs.Memory.{Span, address_at}
 use Rattle.muen_num.proofs.Lists.{there}
 use Rattle.policy_lawful.specs.Resolution.{source_of}
 
--- the region of a number lies at the place of this number
-pub lies_at : (m : Made) → IsMade m → (n : ℕ) (y : Region) → slice_get m.placed.plain.regions n ≡ Some y → place_at (image_of m) n ≡ slice_index m.placed.places n
-lies_at m h n y at = ap (λ o. option_map_or (λ (e : Span). e.0.place) o 0) (span_numbered m h n _ (region_at m h n y at))
+-- the region of a number lies at the address of this number
+pub lies_at : (m : Made) → IsMade m → (n : ℕ) (y : Region) → slice_get m.placed.expanded.regions n ≡ Some y → address_at (image_of m) n ≡ slice_index m.placed.addresses n
+lies_at m h n y at = ap (λ o. option_map_or (λ (e : Span). e.0.address) o 0) (span_numbered m h n _ (region_at m h n y at))
 
 pub placed : (m : Made) → IsMade m → HasPlacement (source_of (policy_of m)) (image_of m)
 placed m h = record {
-  places = m.placed.places;
+  addresses = m.placed.addresses;
   are = h.placement;
   each = λ n l.
-      let many = as_many_places m h in
-      let y = there m.placed.plain.regions n (omega (arith, l, many)) in
+      let many = as_many_addresses m h in
+      let y = there m.placed.expanded.regions n (omega (arith, l, many)) in
       lies_at m h n y.0 y.1;
 }

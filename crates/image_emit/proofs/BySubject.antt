@@ -1,4 +1,4 @@
--- What stands at the place of each subject: its grants, its tables of events and its pages.
+-- What stands at the index of each subject: its grants, its tables of events and its pages.
 use Rattle.std.proofs.Common.{◌≡◌, ℕ, suc, ◌+◌, List, [], ◌∷◌, length, map, Some, refl, sym, subst, arith, ap, ◌∙◌}
 use Rattle.std.specs.Prelude.{slice_get}
 use Rattle.std.specs.List.{AllZip, enumerate_from, zip}
@@ -8,7 +8,7 @@ use Rattle.event_emit.specs.declared.event_tables.EventTables.{EventTables}
 use Rattle.expand_grants.specs.Grants.{AreGrantsOf}
 use Rattle.expand_grants.specs.declared.granted.Grants.{Grants}
 use Rattle.image_emit.specs.Made.{IsMade, Made, image_of, policy_of, subject_part, subject_parts}
-use Rattle.image_emit.proofs.AtPlaces.{mapped_there, zipped_there}
+use Rattle.image_emit.proofs.AtIndexes.{mapped_there, zipped_there}
 use Rattle.image_emit.proofs.SpansAt.{at_number, zip_at}
 use Rattle.image_meaning.specs.Sound.{ForEachSubject}
 use Rattle.image_pack.specs.declared.parts.SubjectPart.{SubjectPart}
@@ -19,7 +19,7 @@ use Rattle.subject_emit.specs.Pages.{ArePages}
 use Rattle.subject_emit.specs.declared.subject_pages.SubjectPages.{SubjectPages}
 use Rattle.subject_emit.proofs.Pieces.{both_at, other_at}
 
--- ---- lists by place
+-- ---- lists by index
 
 each_zipped : {S N G T P : Type 0} (name : S → N) (make : ℕ × (S × (G × T)) → P) (Holds : N → P → Type 0) (n : ℕ) (ss : List S) (gs : List G) (ts : List T) → length gs ≡ length ss → length ts ≡ length ss
     → ((k : ℕ) (s : S) (g : G) (t : T) → slice_get ss k ≡ Some s → slice_get gs k ≡ Some g → slice_get ts k ≡ Some t → Holds (name s) (make (n + k, (s, (g, t)))))
@@ -38,21 +38,21 @@ each_zipped name make Holds n (s ∷ ss) (g ∷ gs) (t ∷ ts) a b h =
 
 -- ---- of an image
 
--- the subject at a place, with what it is granted, the events that it raises and its pages
-pub record IsPlaced (m : Made) (k : ℕ) (s : Subject) (g : Grants) (t : EventTables) (q : SubjectPages) : Type 0 where
+-- the subject at an index, with what it is granted, the events that it raises and its pages
+pub record IsAtIndex (m : Made) (k : ℕ) (s : Subject) (g : Grants) (t : EventTables) (q : SubjectPages) : Type 0 where
   pub subject : slice_get (policy_of m).subjects k ≡ Some s
-  pub granted : slice_get m.placed.plain.grants k ≡ Some g
+  pub granted : slice_get m.placed.expanded.grants k ≡ Some g
   pub raising : slice_get m.events k ≡ Some t
   pub kept : slice_get m.pages k ≡ Some q
   pub pages : ArePages m.placed k s g q
   pub grants : AreGrantsOf (policy_of m) s g
 
 -- what stands there is this, with some pages
-pub placed_there : (m : Made) → IsMade m → (k : ℕ) (s : Subject) (g : Grants) (t : EventTables) → slice_get (policy_of m).subjects k ≡ Some s → slice_get m.placed.plain.grants k ≡ Some g → slice_get m.events k ≡ Some t
-    → (q : SubjectPages) × IsPlaced m k s g t q
-placed_there m h k s g t a b c =
+pub at_index_there : (m : Made) → IsMade m → (k : ℕ) (s : Subject) (g : Grants) (t : EventTables) → slice_get (policy_of m).subjects k ≡ Some s → slice_get m.placed.expanded.grants k ≡ Some g → slice_get m.events k ≡ Some t
+    → (q : SubjectPages) × IsAtIndex m k s g t q
+at_index_there m h k s g t a b c =
     let ss = (policy_of m).subjects in
-    let gs = m.placed.plain.grants in
+    let gs = m.placed.expanded.grants in
     let first : 0 + k ≡ k = omega arith in
     let q = other_at (λ (e : ℕ × (Subject × Grants)) q. ArePages m.placed e.0 e.1.0 e.1.1 q) (enumerate_from 0 (zip ss gs)) m.pages k (0 + k, (s, g)) h.pages (at_number 0 (zip ss gs) k (s, g) (zip_at ss gs k s g a b)) in (
       q.0,
@@ -66,47 +66,47 @@ placed_there m h k s g t a b c =
       },
     )
 
--- what holds at each place holds of each subject and its part of the image
+-- what holds at each index holds of each subject and its part of the image
 pub each_subject : (m : Made) → IsMade m → (Holds : NamedSubject → SubjectPart → Type 0)
-    → ((k : ℕ) (s : Subject) (g : Grants) (t : EventTables) (q : SubjectPages) → IsPlaced m k s g t q → Holds (subject_named (policy_of m) s) (subject_part m.placed (k, (s, (g, t)))))
+    → ((k : ℕ) (s : Subject) (g : Grants) (t : EventTables) (q : SubjectPages) → IsAtIndex m k s g t q → Holds (subject_named (policy_of m) s) (subject_part m.placed (k, (s, (g, t)))))
     → ForEachSubject (source_of (policy_of m)) (image_of m) Holds
 unfolding source_of image_of
 each_subject m h Holds each =
     let ss = (policy_of m).subjects in
-    let gs = m.placed.plain.grants in
+    let gs = m.placed.expanded.grants in
     each_zipped (subject_named (policy_of m)) (subject_part m.placed) Holds 0 ss gs m.events
     (AllZip-long (AreGrantsOf (policy_of m)) ss gs h.expansion.grants)
     (AllZip-long (AreTables (policy_of m)) ss m.events h.events)
     (λ k s g t a b c.
     let first : 0 + k ≡ k = omega arith in
-    let placed = placed_there m h k s g t a b c in
-    subst (λ j. Holds (subject_named (policy_of m) s) (subject_part m.placed (j, (s, (g, t))))) (sym first) (each k s g t placed.0 placed.1))
+    let found = at_index_there m h k s g t a b c in
+    subst (λ j. Holds (subject_named (policy_of m) s) (subject_part m.placed (j, (s, (g, t))))) (sym first) (each k s g t found.0 found.1))
 
 -- ---- by its part of the image
 
--- the subject at a place whose part of the image is this
+-- the subject at an index whose part of the image is this
 pub record SubjectAt (m : Made) (k : ℕ) (part : SubjectPart) : Type 0 where
   pub subject : Subject
   pub granted : Grants
   pub raising : EventTables
   pub kept : SubjectPages
-  pub is : IsPlaced m k subject granted raising kept
+  pub is : IsAtIndex m k subject granted raising kept
   pub made : part ≡ subject_part m.placed (k, (subject, (granted, raising)))
 
 pub subject_at : (m : Made) → IsMade m → (k : ℕ) (part : SubjectPart) → slice_get (subject_parts m) k ≡ Some part → SubjectAt m k part
 subject_at m h k part at =
     let ss = (policy_of m).subjects in
-    let gs = m.placed.plain.grants in
+    let gs = m.placed.expanded.grants in
     let all = mapped_there (subject_part m.placed) 0 (zip ss (zip gs m.events)) k part at in
     let both = zipped_there ss (zip gs m.events) k all.0 all.1 in
     let last = zipped_there gs m.events k all.0.1 both.1 in
-    let placed = placed_there m h k all.0.0 all.0.1.0 all.0.1.1 both.0 last.0 last.1 in
+    let found = at_index_there m h k all.0.0 all.0.1.0 all.0.1.1 both.0 last.0 last.1 in
     let first : 0 + k ≡ k = omega arith in
     record {
       subject = all.0.0;
       granted = all.0.1.0;
       raising = all.0.1.1;
-      kept = placed.0;
-      is = placed.1;
+      kept = found.0;
+      is = found.1;
       made = sym all.2 ∙ ap (λ n. subject_part m.placed (n, all.0)) first;
     }

@@ -1,4 +1,4 @@
--- Where what a view shows lies: at the place of its region, or of the device's memory.
+-- Where what a view shows lies: at the address of its region, or of the device's memory.
 use Rattle.std.proofs.Common.{◌≡◌, ℕ, ◌+◌, ◌<◌, ◌≤◌, Bool, false, List, [], ◌∷◌, ◌++◌, length, map, take, Option, Some, None, refl, sym, ap, ap₂, ◌∙◌, subst, arith, length-append}
 use Rattle.std.specs.Prelude.{◌&&◌, option_and_then, option_map, slice_get, slice_index}
 use Rattle.std.specs.Option.{option_map_or}
@@ -12,18 +12,18 @@ use Rattle.expand_grants.specs.Grants.{AreGrantsOf}
 use Rattle.expand_kernel.specs.ByPlace.{provided_at}
 use Rattle.expand_kernel.specs.declared.region.Region.{Region}
 use Rattle.image_emit.specs.Made.{IsMade, Made, image_of, policy_of, subject_part, subject_parts}
-use Rattle.image_emit.proofs.Contents.{IsRegionOf, places_enough, regions_of_things, spans_of_memory, spans_of_regions, thing_spans_are, with_content}
-use Rattle.image_emit.proofs.FirstPlaces.{IsFirstAt, at_left, beside_first, first_left, first_mapped, first_named, first_piece, first_right, none_joined, none_mapped, none_pieces, other_before}
+use Rattle.image_emit.proofs.Contents.{IsRegionOf, addresses_enough, regions_of_things, spans_of_memory, spans_of_regions, thing_spans_are, with_content}
+use Rattle.image_emit.proofs.FirstIndexes.{IsFirstAt, at_left, beside_first, first_left, first_mapped, first_named, first_piece, first_right, none_joined, none_mapped, none_pieces, other_before}
 use Rattle.image_emit.proofs.NamedViews.{shown_name, view_called}
 use Rattle.image_emit.proofs.PiecesOfLists.{zip_joined}
-use Rattle.image_emit.proofs.PlacesKept.{lies_at}
-use Rattle.image_emit.proofs.PlacesOfKernel.{sound_of}
+use Rattle.image_emit.proofs.AddressesKept.{lies_at}
+use Rattle.image_emit.proofs.SpansOfKernel.{sound_of}
 use Rattle.image_emit.proofs.RegionSizes.{first_regions}
 use Rattle.image_emit.proofs.SpansAt.{at_number, zip_at}
 use Rattle.image_emit.proofs.ThingBytes.{provided_unique}
 use Rattle.image_emit.proofs.ThingsInOrder.{memory_thing, memory_things, provided_things, region_things, things_are}
-use Rattle.image_meaning.specs.Memory.{Span, place_at}
-use Rattle.image_meaning.specs.Sound.{place_of, places_of_things, thing_spans}
+use Rattle.image_meaning.specs.Memory.{Span, address_at}
+use Rattle.image_meaning.specs.Sound.{address_of, addresses_of_things, thing_spans}
 use Rattle.image_pack.specs.declared.parts.SpanPart.{SpanPart}
 use Rattle.image_pack.specs.declared.parts.SubjectPart.{SubjectPart}
 use Rattle.muen_num.proofs.Lists.{get_right, map-map}
@@ -45,31 +45,31 @@ use Rattle.policy_views.specs.declared.view.Shown.TheVariants.{Memory, Channel, 
 use Rattle.policy_views.specs.declared.view.View.{View}
 use Rattle.policy_views.proofs.WindowsByPlace.{name_there}
 use Rattle.span_emit.specs.Spans.{device_span, memories_of, region_span}
-use Rattle.subject_emit.specs.Mapped.{brought_before, kernel_first, shown_place}
+use Rattle.subject_emit.specs.Mapped.{brought_before, kernel_first, shown_address}
 use Rattle.subject_emit.specs.Shows.{brought_to}
-use Rattle.subject_emit.proofs.Numbered.{kernel_at_place}
+use Rattle.subject_emit.proofs.Numbered.{kernel_at_index}
 use Rattle.subject_emit.proofs.Pieces.{at_piece, from_some, other_at}
 
--- ---- the places of all things
+-- ---- the addresses of all things
 
 -- of regions, then of devices' memory
-abbrev thing_places : Made → List ℕ
-thing_places m = take (length (first_regions m)) m.placed.places ++ map (λ x. x.1.physical_address) (memories_of (policy_of m).devices)
+abbrev thing_addresses : Made → List ℕ
+thing_addresses m = take (length (first_regions m)) m.placed.addresses ++ map (λ x. x.1.physical_address) (memories_of (policy_of m).devices)
 
 abbrev state_things : Resolution → List Thing
 state_things r = map (λ s. state s.name) r.subjects
 
-abbrev state_places : Made → List ℕ
-state_places m = map (λ q. place_at (image_of m) q.state) (subject_parts m)
+abbrev state_addresses : Made → List ℕ
+state_addresses m = map (λ q. address_at (image_of m) q.state) (subject_parts m)
 
-region_places : (n : ℕ) (ys : List Region) (ps : List ℕ) → length ys ≤ length ps → map (λ s. s.place) (map region_span (enumerate_from n (zip ys ps))) ≡ take (length ys) ps
-region_places n [] ps l = refl
-region_places n (y ∷ ys) [] l = absurd (omega (arith, l))
-region_places n (y ∷ ys) (p ∷ ps) l = ap (λ qs. p ∷ qs) (region_places (n + 1) ys ps (omega (arith, l)))
+region_addresses : (n : ℕ) (ys : List Region) (ps : List ℕ) → length ys ≤ length ps → map (λ s. s.address) (map region_span (enumerate_from n (zip ys ps))) ≡ take (length ys) ps
+region_addresses n [] ps l = refl
+region_addresses n (y ∷ ys) [] l = absurd (omega (arith, l))
+region_addresses n (y ∷ ys) (p ∷ ps) l = ap (λ qs. p ∷ qs) (region_addresses (n + 1) ys ps (omega (arith, l)))
 
-memory_places : (n : ℕ) (xs : List (List ℕ × DeviceMemory)) → map (λ s. s.place) (map device_span (enumerate_from n xs)) ≡ map (λ x. x.1.physical_address) xs
-memory_places n [] = refl
-memory_places n (x ∷ xs) = ap (λ qs. x.1.physical_address ∷ qs) (memory_places (n + 1) xs)
+memory_addresses : (n : ℕ) (xs : List (List ℕ × DeviceMemory)) → map (λ s. s.address) (map device_span (enumerate_from n xs)) ≡ map (λ x. x.1.physical_address) xs
+memory_addresses n [] = refl
+memory_addresses n (x ∷ xs) = ap (λ qs. x.1.physical_address ∷ qs) (memory_addresses (n + 1) xs)
 
 -- what is found in what is there
 chained : {X Y : Type 0} (f : X → Option Y) (o : Option X) (y : Y) → option_and_then f o ≡ Some y → (x : X) × (o ≡ Some x) × (f x ≡ Some y)
@@ -102,76 +102,76 @@ module _ (m : Made) (h : IsMade m) where
   abbrev all_things : List Thing
   all_things = (region_things r ++ memory_things r) ++ state_things r
 
-  abbrev all_places : List ℕ
-  all_places = thing_places m ++ state_places m
+  abbrev all_addresses : List ℕ
+  all_addresses = thing_addresses m ++ state_addresses m
 
-  places_of_spans : map (λ e. e.0.place) (thing_spans (image_of m)) ≡ thing_places m
-  places_of_spans =
-      ap (map (λ (e : Span). e.0.place)) (thing_spans_are m h)
-      ∙ map-map (λ (e : Span). e.0.place) (with_content m) (spans_of_regions m ++ spans_of_memory m)
-      ∙ map-append (λ (s : SpanPart). s.place) (spans_of_regions m) (spans_of_memory m)
-      ∙ ap₂ (λ a b. a ++ b) (region_places 0 (first_regions m) m.placed.places (places_enough m h)) (memory_places (length m.placed.plain.regions) (memories_of r.devices))
+  addresses_of_spans : map (λ e. e.0.address) (thing_spans (image_of m)) ≡ thing_addresses m
+  addresses_of_spans =
+      ap (map (λ (e : Span). e.0.address)) (thing_spans_are m h)
+      ∙ map-map (λ (e : Span). e.0.address) (with_content m) (spans_of_regions m ++ spans_of_memory m)
+      ∙ map-append (λ (s : SpanPart). s.address) (spans_of_regions m) (spans_of_memory m)
+      ∙ ap₂ (λ a b. a ++ b) (region_addresses 0 (first_regions m) m.placed.addresses (addresses_enough m h)) (memory_addresses (length m.placed.expanded.regions) (memories_of r.devices))
 
   as_many_things : length (region_things r) ≡ length (first_regions m)
   as_many_things = sym (AllZip-long IsRegionOf (region_things r) (first_regions m) (regions_of_things m))
 
-  taken_many : length (take (length (first_regions m)) m.placed.places) ≡ length (first_regions m)
-  taken_many = length-take (length (first_regions m)) m.placed.places ∙ omega (arith, places_enough m h)
+  taken_many : length (take (length (first_regions m)) m.placed.addresses) ≡ length (first_regions m)
+  taken_many = length-take (length (first_regions m)) m.placed.addresses ∙ omega (arith, addresses_enough m h)
 
-  as_long : length (region_things r ++ memory_things r) ≡ length (thing_places m)
+  as_long : length (region_things r ++ memory_things r) ≡ length (thing_addresses m)
   as_long =
       let a = length-append (region_things r) (memory_things r) in
-      let b = length-append (take (length (first_regions m)) m.placed.places) (map (λ (x : List ℕ × DeviceMemory). x.1.physical_address) (memories_of r.devices)) in
+      let b = length-append (take (length (first_regions m)) m.placed.addresses) (map (λ (x : List ℕ × DeviceMemory). x.1.physical_address) (memories_of r.devices)) in
       let c = length-map (memories_of r.devices) memory_thing in
       let d = length-map (memories_of r.devices) (λ x. x.1.physical_address) in
       omega (arith, a, b, c, d, as_many_things, taken_many)
 
-  places_are : places_of_things (source_of r) (image_of m) ≡ zip all_things all_places
+  addresses_are : addresses_of_things (source_of r) (image_of m) ≡ zip all_things all_addresses
   unfolding source_of image_of
-  places_are =
-      ap₂ (λ ts ps. zip ts ps ++ zip (map (λ s. state s.name) (source_of r).subjects) (state_places m)) (things_are r h.resolved) places_of_spans
-      ∙ ap (λ ss. zip (region_things r ++ memory_things r) (thing_places m) ++ zip ss (state_places m)) (map-map (λ (s : NamedSubject). state s.name) (subject_named r) r.subjects)
-      ∙ sym (zip_joined (region_things r ++ memory_things r) (thing_places m) (state_things r) (state_places m) as_long)
+  addresses_are =
+      ap₂ (λ ts ps. zip ts ps ++ zip (map (λ s. state s.name) (source_of r).subjects) (state_addresses m)) (things_are r h.resolved) addresses_of_spans
+      ∙ ap (λ ss. zip (region_things r ++ memory_things r) (thing_addresses m) ++ zip ss (state_addresses m)) (map-map (λ (s : NamedSubject). state s.name) (subject_named r) r.subjects)
+      ∙ sym (zip_joined (region_things r ++ memory_things r) (thing_addresses m) (state_things r) (state_addresses m) as_long)
 
-  found_place : (x : Thing) (k a : ℕ) → IsFirstAt (λ t. same_thing t x) all_things k → slice_get all_places k ≡ Some a → place_of (source_of r) (image_of m) x ≡ a
-  unfolding place_of
-  found_place x k a first at =
-      ap (λ es. option_map_or (λ (e : Thing × ℕ). e.1) (find (λ e. same_thing e.0 x) es) 0) places_are
-      ∙ beside_first (λ t. same_thing t x) all_things all_places k a first at
+  found_address : (x : Thing) (k a : ℕ) → IsFirstAt (λ t. same_thing t x) all_things k → slice_get all_addresses k ≡ Some a → address_of (source_of r) (image_of m) x ≡ a
+  unfolding address_of
+  found_address x k a first at =
+      ap (λ es. option_map_or (λ (e : Thing × ℕ). e.1) (find (λ e. same_thing e.0 x) es) 0) addresses_are
+      ∙ beside_first (λ t. same_thing t x) all_things all_addresses k a first at
 
   -- ---- by kinds
 
-  of_region : (x : Thing) (k : ℕ) → IsFirstAt (λ t. same_thing t x) (region_things r) k → place_of (source_of r) (image_of m) x ≡ slice_index m.placed.places k
+  of_region : (x : Thing) (k : ℕ) → IsFirstAt (λ t. same_thing t x) (region_things r) k → address_of (source_of r) (image_of m) x ≡ slice_index m.placed.addresses k
   of_region x k first =
       let test : Thing → Bool = λ t. same_thing t x in
-      let front = take (length (first_regions m)) m.placed.places in
+      let front = take (length (first_regions m)) m.placed.addresses in
       let within : k < length (first_regions m) = omega (arith, first.within, as_many_things) in
-      let at : slice_get front k ≡ Some (slice_index m.placed.places k) =
+      let at : slice_get front k ≡ Some (slice_index m.placed.addresses k) =
       slice_get-get_or front k 0 (omega (arith, within, taken_many))
-      ∙ ap Some (get_or-take (length (first_regions m)) m.placed.places k 0 within) in
-      found_place x k (slice_index m.placed.places k)
+      ∙ ap Some (get_or-take (length (first_regions m)) m.placed.addresses k 0 within) in
+      found_address x k (slice_index m.placed.addresses k)
       (first_left test (region_things r ++ memory_things r) (state_things r) k (first_left test (region_things r) (memory_things r) k first))
-      (at_left (thing_places m) (state_places m) k (slice_index m.placed.places k) (at_left front _ k (slice_index m.placed.places k) at))
+      (at_left (thing_addresses m) (state_addresses m) k (slice_index m.placed.addresses k) (at_left front _ k (slice_index m.placed.addresses k) at))
 
   of_memory : (x : Thing) (k a : ℕ) → list_any (λ t. same_thing t x) (region_things r) ≡ false → IsFirstAt (λ t. same_thing t x) (memory_things r) k
-      → slice_get (map (λ x. x.1.physical_address) (memories_of r.devices)) k ≡ Some a → place_of (source_of r) (image_of m) x ≡ a
+      → slice_get (map (λ x. x.1.physical_address) (memories_of r.devices)) k ≡ Some a → address_of (source_of r) (image_of m) x ≡ a
   of_memory x k a none first at =
       let test : Thing → Bool = λ t. same_thing t x in
-      let front = take (length (first_regions m)) m.placed.places in
+      let front = take (length (first_regions m)) m.placed.addresses in
       let number : length (region_things r) + k ≡ length front + k = omega (arith, as_many_things, taken_many) in
       let back = map (λ (x : List ℕ × DeviceMemory). x.1.physical_address) (memories_of r.devices) in
-      found_place x (length (region_things r) + k) a
+      found_address x (length (region_things r) + k) a
       (first_left test (region_things r ++ memory_things r) (state_things r) (length (region_things r) + k) (first_right test (region_things r) (memory_things r) k none first))
-      (at_left (thing_places m) (state_places m) (length (region_things r) + k) a (ap (slice_get (thing_places m)) number ∙ get_right front back k ∙ at))
+      (at_left (thing_addresses m) (state_addresses m) (length (region_things r) + k) a (ap (slice_get (thing_addresses m)) number ∙ get_right front back k ∙ at))
 
   of_state : (x : Thing) (k a : ℕ) → list_any (λ t. same_thing t x) (region_things r) ≡ false → list_any (λ t. same_thing t x) (memory_things r) ≡ false
-      → IsFirstAt (λ t. same_thing t x) (state_things r) k → slice_get (state_places m) k ≡ Some a → place_of (source_of r) (image_of m) x ≡ a
+      → IsFirstAt (λ t. same_thing t x) (state_things r) k → slice_get (state_addresses m) k ≡ Some a → address_of (source_of r) (image_of m) x ≡ a
   of_state x k a none nor first at =
       let test : Thing → Bool = λ t. same_thing t x in
-      let number : length (region_things r ++ memory_things r) + k ≡ length (thing_places m) + k = omega (arith, as_long) in
-      found_place x (length (region_things r ++ memory_things r) + k) a
+      let number : length (region_things r ++ memory_things r) + k ≡ length (thing_addresses m) + k = omega (arith, as_long) in
+      found_address x (length (region_things r ++ memory_things r) + k) a
       (first_right test (region_things r ++ memory_things r) (state_things r) k (none_joined test (region_things r) (memory_things r) none nor) first)
-      (ap (slice_get (thing_places m ++ state_places m)) number ∙ get_right (thing_places m) (state_places m) k ∙ at)
+      (ap (slice_get (thing_addresses m ++ state_addresses m)) number ∙ get_right (thing_addresses m) (state_addresses m) k ∙ at)
 
   -- ---- regions
 
@@ -184,16 +184,16 @@ module _ (m : Made) (h : IsMade m) where
   abbrev brought_part : List Thing
   brought_part = flat_map (provided_things r.components) r.subjects
 
-  memory_shown : (n : ℕ) (name : List ℕ) → shown_name r 0 (Memory n) ≡ Some name → place_of (source_of r) (image_of m) (region name) ≡ slice_index m.placed.places n
+  memory_shown : (n : ℕ) (name : List ℕ) → shown_name r 0 (Memory n) ≡ Some name → address_of (source_of r) (image_of m) (region name) ≡ slice_index m.placed.addresses n
   unfolding source_of
   memory_shown n name e =
       let x = from_some (λ x. x.name) (slice_get r.memory n) name e in
       let test : Thing → Bool = λ t. same_thing t (region x.0.name) in
       let here : IsFirstAt test memory_part n = first_mapped test (λ y. region y.name) r.memory n (first_named (λ y. y.name) r.memory n x.0 (unique (source_of r) h.resolved.names).regions x.1) in
-      subst (λ name. place_of (source_of r) (image_of m) (region name) ≡ slice_index m.placed.places n) x.2
+      subst (λ name. address_of (source_of r) (image_of m) (region name) ≡ slice_index m.placed.addresses n) x.2
       (of_region (region x.0.name) n (first_left test (memory_part ++ channel_part) brought_part n (first_left test memory_part channel_part n here)))
 
-  channel_shown : (n : ℕ) (name : List ℕ) → shown_name r 0 (Channel n) ≡ Some name → place_of (source_of r) (image_of m) (channel name) ≡ slice_index m.placed.places (length r.memory + n)
+  channel_shown : (n : ℕ) (name : List ℕ) → shown_name r 0 (Channel n) ≡ Some name → address_of (source_of r) (image_of m) (channel name) ≡ slice_index m.placed.addresses (length r.memory + n)
   unfolding source_of
   channel_shown n name e =
       let x = from_some (λ x. x.name) (slice_get r.channels n) name e in
@@ -201,16 +201,16 @@ module _ (m : Made) (h : IsMade m) where
       let here : IsFirstAt test channel_part n = first_mapped test (λ y. channel y.name) r.channels n (first_named (λ y. y.name) r.channels n x.0 (unique (source_of r) h.resolved.names).channels x.1) in
       let none : list_any test memory_part ≡ false = none_mapped test (λ y. region y.name) r.memory (λ y. refl) in
       let number : length memory_part + n ≡ length r.memory + n = ap (λ k. k + n) (length-map r.memory (λ x. region x.name)) in
-      subst (λ name. place_of (source_of r) (image_of m) (channel name) ≡ slice_index m.placed.places (length r.memory + n)) x.2
+      subst (λ name. address_of (source_of r) (image_of m) (channel name) ≡ slice_index m.placed.addresses (length r.memory + n)) x.2
       (of_region (channel x.0.name) (length memory_part + n) (first_left test (memory_part ++ channel_part) brought_part (length memory_part + n) (first_right test memory_part channel_part n none here))
-      ∙ ap (slice_index m.placed.places) number)
+      ∙ ap (slice_index m.placed.addresses) number)
 
   component_names : (k : ℕ) (c : Component) → slice_get r.components k ≡ Some c → repeated (logical_names c) ≡ None
   unfolding source_of
   component_names k c at = logical_unique (source_of r) k c h.resolved.names at
 
   brought_shown : (k n : ℕ) (s : Subject) (name : List ℕ) → slice_get r.subjects k ≡ Some s → shown_name r k (Provided n) ≡ Some name
-      → place_of (source_of r) (image_of m) (provided s.name name) ≡ slice_index m.placed.places (length r.memory + length r.channels + brought_before r k + n)
+      → address_of (source_of r) (image_of m) (provided s.name name) ≡ slice_index m.placed.addresses (length r.memory + length r.channels + brought_before r k + n)
   brought_shown k n s name at e =
       let own = provided_at r.components s.component in
       let x = from_some (λ (x : Brought). x.logical) (slice_get (brought_to r k) n) name e in
@@ -231,14 +231,14 @@ module _ (m : Made) (h : IsMade m) where
       none_joined test memory_part channel_part (none_mapped test (λ y. region y.name) r.memory (λ y. refl)) (none_mapped test (λ y. channel y.name) r.channels (λ y. refl)) in
       let number : length (memory_part ++ channel_part) + (before + n) ≡ length r.memory + length r.channels + brought_before r k + n =
       omega (arith, length-append memory_part channel_part, length-map r.memory (λ x. region x.name), length-map r.channels (λ c. channel c.name), brought_many r.components (take k r.subjects)) in
-      subst (λ name. place_of (source_of r) (image_of m) (provided s.name name) ≡ slice_index m.placed.places (length r.memory + length r.channels + brought_before r k + n)) x.2
+      subst (λ name. address_of (source_of r) (image_of m) (provided s.name name) ≡ slice_index m.placed.addresses (length r.memory + length r.channels + brought_before r k + n)) x.2
       (of_region (provided s.name x.0.logical) (length (memory_part ++ channel_part) + (before + n)) (first_right test (memory_part ++ channel_part) brought_part (before + n) none brought)
-      ∙ ap (slice_index m.placed.places) number)
+      ∙ ap (slice_index m.placed.addresses) number)
 
   -- ---- devices
 
   device_shown : (device n : ℕ) (name : List ℕ) → shown_name r 0 (Device device n) ≡ Some name
-      → place_of (source_of r) (image_of m) (device_memory (name_at (map (λ d. d.name) r.devices) device) name) ≡ option_map_or (λ m. m.physical_address) (option_and_then (λ d. slice_get d.memory n) (slice_get r.devices device)) 0
+      → address_of (source_of r) (image_of m) (device_memory (name_at (map (λ d. d.name) r.devices) device) name) ≡ option_map_or (λ m. m.physical_address) (option_and_then (λ d. slice_get d.memory n) (slice_get r.devices device)) 0
   unfolding source_of
   device_shown device n name e =
       let d = chained (λ (d : SourceDevice). option_map (λ m. m.name) (slice_get d.memory n)) (slice_get r.devices device) name e in
@@ -268,32 +268,32 @@ module _ (m : Made) (h : IsMade m) where
       let lies : option_map_or (λ m. m.physical_address) (option_and_then (λ d. slice_get d.memory n) (slice_get r.devices device)) 0 ≡ x.0.physical_address =
       ap (λ o. option_map_or (λ (m : DeviceMemory). m.physical_address) (option_and_then (λ (d : SourceDevice). slice_get d.memory n) o) 0) d.1
       ∙ ap (λ o. option_map_or (λ (m : DeviceMemory). m.physical_address) o 0) x.1 in
-      (λ i. place_of (source_of r) (image_of m) (device_memory (name_there (λ (d : SourceDevice). d.name) r.devices device d.0 d.1 i) (sym x.2 i)))
+      (λ i. address_of (source_of r) (image_of m) (device_memory (name_there (λ (d : SourceDevice). d.name) r.devices device d.0 d.1 i) (sym x.2 i)))
       ∙ of_memory (device_memory d.0.name x.0.name) number x.0.physical_address none first there
       ∙ sym lies
 
   -- ---- state pages
 
-  state_place : (other : ℕ) (s : Subject) → slice_get r.subjects other ≡ Some s → place_at (image_of m) (kernel_first r other) ≡ slice_index m.placed.places (kernel_first r other)
-  state_place other s at =
-      let g = other_at (AreGrantsOf r) r.subjects m.placed.plain.grants other s h.expansion.grants at in
+  state_address : (other : ℕ) (s : Subject) → slice_get r.subjects other ≡ Some s → address_at (image_of m) (kernel_first r other) ≡ slice_index m.placed.addresses (kernel_first r other)
+  state_address other s at =
+      let g = other_at (AreGrantsOf r) r.subjects m.placed.expanded.grants other s h.expansion.grants at in
       let behind : kernel_first r other + 0 ≡ kernel_first r other = omega arith in
-      lies_at m h (kernel_first r other) _ (ap (slice_get m.placed.plain.regions) (sym behind) ∙ kernel_at_place m.placed (sound_of m h) other 0 s g.0 _ at g.1 refl)
+      lies_at m h (kernel_first r other) _ (ap (slice_get m.placed.expanded.regions) (sym behind) ∙ kernel_at_index m.placed (sound_of m h) other 0 s g.0 _ at g.1 refl)
 
-  state_at : (other : ℕ) (s : Subject) → slice_get r.subjects other ≡ Some s → slice_get (state_places m) other ≡ Some (slice_index m.placed.places (kernel_first r other))
+  state_at : (other : ℕ) (s : Subject) → slice_get r.subjects other ≡ Some s → slice_get (state_addresses m) other ≡ Some (slice_index m.placed.addresses (kernel_first r other))
   state_at other s at =
-      let g = other_at (AreGrantsOf r) r.subjects m.placed.plain.grants other s h.expansion.grants at in
+      let g = other_at (AreGrantsOf r) r.subjects m.placed.expanded.grants other s h.expansion.grants at in
       let t = other_at (AreTables r) r.subjects m.events other s h.events at in
-      let both : slice_get (zip m.placed.plain.grants m.events) other ≡ Some (g.0, t.0) = zip_at m.placed.plain.grants m.events other g.0 t.0 g.1 t.1 in
-      let all = zip r.subjects (zip m.placed.plain.grants m.events) in
-      let one : slice_get all other ≡ Some (s, (g.0, t.0)) = zip_at r.subjects (zip m.placed.plain.grants m.events) other s (g.0, t.0) at both in
+      let both : slice_get (zip m.placed.expanded.grants m.events) other ≡ Some (g.0, t.0) = zip_at m.placed.expanded.grants m.events other g.0 t.0 g.1 t.1 in
+      let all = zip r.subjects (zip m.placed.expanded.grants m.events) in
+      let one : slice_get all other ≡ Some (s, (g.0, t.0)) = zip_at r.subjects (zip m.placed.expanded.grants m.events) other s (g.0, t.0) at both in
       let first : 0 + other ≡ other = omega arith in
       let numbered : slice_get (enumerate_from 0 all) other ≡ Some (other, (s, (g.0, t.0))) = at_number 0 all other (s, (g.0, t.0)) one ∙ ap (λ k. Some (k, (s, (g.0, t.0)))) first in
-      slice_get-map (λ (q : SubjectPart). place_at (image_of m) q.state) (subject_parts m) other
-      ∙ ap (option_map (λ (q : SubjectPart). place_at (image_of m) q.state)) (slice_get-map (subject_part m.placed) (enumerate_from 0 all) other ∙ ap (option_map (subject_part m.placed)) numbered)
-      ∙ ap Some (state_place other s at)
+      slice_get-map (λ (q : SubjectPart). address_at (image_of m) q.state) (subject_parts m) other
+      ∙ ap (option_map (λ (q : SubjectPart). address_at (image_of m) q.state)) (slice_get-map (subject_part m.placed) (enumerate_from 0 all) other ∙ ap (option_map (subject_part m.placed)) numbered)
+      ∙ ap Some (state_address other s at)
 
-  state_shown : (other : ℕ) (name : List ℕ) → shown_name r 0 (State other) ≡ Some name → place_of (source_of r) (image_of m) (state name) ≡ slice_index m.placed.places (kernel_first r other)
+  state_shown : (other : ℕ) (name : List ℕ) → shown_name r 0 (State other) ≡ Some name → address_of (source_of r) (image_of m) (state name) ≡ slice_index m.placed.addresses (kernel_first r other)
   state_shown other name e =
       let s = from_some (λ (s : Subject). s.name) (slice_get r.subjects other) name e in
       let test : Thing → Bool = λ t. same_thing t (state s.0.name) in
@@ -303,19 +303,19 @@ module _ (m : Made) (h : IsMade m) where
       (none_joined test memory_part channel_part (none_mapped test (λ y. region y.name) r.memory (λ y. refl)) (none_mapped test (λ y. channel y.name) r.channels (λ y. refl)))
       (none_pieces test (provided_things r.components) r.subjects (λ s. none_mapped test (λ z. provided s.name z.logical) (provided_at r.components s.component) (λ z. refl))) in
       let nor : list_any test (memory_things r) ≡ false = none_mapped test memory_thing (memories_of r.devices) (λ x. refl) in
-      subst (λ name. place_of (source_of r) (image_of m) (state name) ≡ slice_index m.placed.places (kernel_first r other)) s.2
-      (of_state (state s.0.name) other (slice_index m.placed.places (kernel_first r other)) none nor first (state_at other s.0 s.1))
+      subst (λ name. address_of (source_of r) (image_of m) (state name) ≡ slice_index m.placed.addresses (kernel_first r other)) s.2
+      (of_state (state s.0.name) other (slice_index m.placed.addresses (kernel_first r other)) none nor first (state_at other s.0 s.1))
 
   -- ---- all
 
-  shown_lies : (k : ℕ) (s : Subject) (v : View) (shows : Shown) → slice_get r.subjects k ≡ Some s → shown_name r k shows ≡ Some v.name → place_of (source_of r) (image_of m) (thing_shown r s.name v shows) ≡ shown_place m.placed k shows
+  shown_lies : (k : ℕ) (s : Subject) (v : View) (shows : Shown) → slice_get r.subjects k ≡ Some s → shown_name r k shows ≡ Some v.name → address_of (source_of r) (image_of m) (thing_shown r s.name v shows) ≡ shown_address m.placed k shows
   shown_lies k s v (Memory n) at e = memory_shown n v.name e
   shown_lies k s v (Channel n) at e = channel_shown n v.name e
   shown_lies k s v (Provided n) at e = brought_shown k n s v.name at e
   shown_lies k s v (Device device n) at e = device_shown device n v.name e
   shown_lies k s v (State other) at e = state_shown other v.name e
 
-  -- **where a thing lies** that a view of the subject at a place shows
-  pub place_shown : (k : ℕ) (s : Subject) (v : View) → slice_get r.subjects k ≡ Some s → Contains (views_of r s) v
-      → place_of (source_of r) (image_of m) (thing_shown r s.name v v.shows) ≡ shown_place m.placed k v.shows
-  place_shown k s v at among = shown_lies k s v v.shows at (view_called r k s v at among)
+  -- **where a thing lies** that a view of the subject at an index shows
+  pub address_shown : (k : ℕ) (s : Subject) (v : View) → slice_get r.subjects k ≡ Some s → Contains (views_of r s) v
+      → address_of (source_of r) (image_of m) (thing_shown r s.name v v.shows) ≡ shown_address m.placed k v.shows
+  address_shown k s v at among = shown_lies k s v v.shows at (view_called r k s v at among)

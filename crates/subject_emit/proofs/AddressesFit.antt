@@ -27,19 +27,19 @@ use Rattle.region_alloc.specs.Placement.{in_a_block, suits}
 use Rattle.region_alloc.proofs.Apart.{policy_inside}
 use Rattle.region_alloc.proofs.Lowest.{ends_well}
 use Rattle.region_alloc.proofs.Sized.{blocks_end}
-use Rattle.subject_emit.specs.Mapped.{brought_before, kernel_first, shown_place}
+use Rattle.subject_emit.specs.Mapped.{brought_before, kernel_first, shown_address}
 use Rattle.subject_emit.specs.Pages.{tables_at}
 use Rattle.subject_emit.specs.Shows.{shown_size}
 use Rattle.subject_emit.specs.Sound.{IsSound}
 use Rattle.subject_emit.proofs.KeptSizes.{laid_at, physical_at}
-use Rattle.subject_emit.proofs.Numbered.{channel_at, kernel_at_place, memory_at, provided_at_place}
+use Rattle.subject_emit.proofs.Numbered.{channel_at, kernel_at_index, memory_at, provided_at_index}
 use Rattle.subject_emit.proofs.Pieces.{from_some, other_at}
 use Rattle.subject_emit.proofs.Suited.{suits_there}
 
 -- so many bytes from a whole page on that end where physical addresses do, or before
-pub record AreAt (place size : ℕ) : Type 0 where
-  pub whole : place % 4096 ≡ 0
-  pub end : place + size ≤ 2 ^ 40
+pub record AreAt (address size : ℕ) : Type 0 where
+  pub whole : address % 4096 ≡ 0
+  pub end : address + size ≤ 2 ^ 40
 
 -- ---- one region
 
@@ -79,80 +79,80 @@ whole_own m a (Some own) h k e =
     ap (λ n. n % 4096) (eqb-true a own e) ∙ (whole_physical own m.size physical).whole
 
 module _ (x : Placement) (sound : IsSound x) where
-  ends : (i : ℕ) (r : Region) → slice_get x.plain.regions i ≡ Some r → get_or x.places i 0 + r.size ≤ 2 ^ 40
+  ends : (i : ℕ) (r : Region) → slice_get x.expanded.regions i ≡ Some r → get_or x.addresses i 0 + r.size ≤ 2 ^ 40
   ends i r at =
-      let blocks = x.plain.lawful.memory_blocks in
-      let place = other_at (λ (r : Region) place. in_a_block blocks place r.size ≡ true) x.plain.regions x.places i r (policy_inside x.plain.lawful x.plain.regions x.places sound.regions sound.places) at in
-      let end = block_end blocks place.0 r.size (blocks_end x.plain.lawful sound.lawful) place.2 in
-      let is = get_or_from_slice_get x.places i place.0 0 place.1 in
+      let blocks = x.expanded.lawful.memory_blocks in
+      let address = other_at (λ (r : Region) address. in_a_block blocks address r.size ≡ true) x.expanded.regions x.addresses i r (policy_inside x.expanded.lawful x.expanded.regions x.addresses sound.regions sound.addresses) at in
+      let end = block_end blocks address.0 r.size (blocks_end x.expanded.lawful sound.lawful) address.2 in
+      let is = get_or_from_slice_get x.addresses i address.0 0 address.1 in
       omega (arith, end, is)
 
   -- a region that may be at any page
-  pub any_page : (i : ℕ) (r : Region) → slice_get x.plain.regions i ≡ Some r → r.fixed ≡ None → r.alignment ≡ 4096 → AreAt (get_or x.places i 0) r.size
+  pub any_page : (i : ℕ) (r : Region) → slice_get x.expanded.regions i ≡ Some r → r.fixed ≡ None → r.alignment ≡ 4096 → AreAt (get_or x.addresses i 0) r.size
   any_page i r at free aligned =
-      let place = get_or x.places i 0 in
-      let h : suits r None place ≡ true = sym (ap (λ o. suits r o place) free) ∙ suits_there x sound i r at in
+      let address = get_or x.addresses i 0 in
+      let h : suits r None address ≡ true = sym (ap (λ o. suits r o address) free) ∙ suits_there x sound i r at in
       record {
-        whole = subst (λ n. place % n ≡ 0) aligned (eqb-true (place % r.alignment) 0 h);
+        whole = subst (λ n. address % n ≡ 0) aligned (eqb-true (address % r.alignment) 0 h);
         end = ends i r at;
       }
 
-  own_page : (i : ℕ) (m : SourceRegion) → slice_get x.plain.regions i ≡ Some (own_region m) → is_laid m ≡ true → AreAt (get_or x.places i 0) m.size
+  own_page : (i : ℕ) (m : SourceRegion) → slice_get x.expanded.regions i ≡ Some (own_region m) → is_laid m ≡ true → AreAt (get_or x.addresses i 0) m.size
   own_page i m at laid =
       let both = and_parts (is_page_size m.size && is_alignment m.alignment) (is_fixed m m.physical_address) laid in
       record {
-        whole = whole_own m (get_or x.places i 0) m.physical_address (and_parts (is_page_size m.size) (is_alignment m.alignment) both.0).1 both.1 (suits_there x sound i (own_region m) at);
+        whole = whole_own m (get_or x.addresses i 0) m.physical_address (and_parts (is_page_size m.size) (is_alignment m.alignment) both.0).1 both.1 (suits_there x sound i (own_region m) at);
         end = ends i (own_region m) at;
       }
 
-  -- ---- what the subject at a place is shown
+  -- ---- what the subject at an index is shown
 
-  provided_page : (k n size : ℕ) (o : Option Subject) → slice_get x.plain.lawful.subjects k ≡ o
-      → option_map (λ p. p.size) (slice_get (option_map_or (λ (s : Subject). provided_at x.plain.lawful.components s.component) o []) n) ≡ Some size
-      → AreAt (shown_place x k (Provided n)) size
+  provided_page : (k n size : ℕ) (o : Option Subject) → slice_get x.expanded.lawful.subjects k ≡ o
+      → option_map (λ p. p.size) (slice_get (option_map_or (λ (s : Subject). provided_at x.expanded.lawful.components s.component) o []) n) ≡ Some size
+      → AreAt (shown_address x k (Provided n)) size
   provided_page k n size None at e = absurd (cc)
   provided_page k n size (Some s) at e =
-      let p = from_some (λ p. p.size) (slice_get (provided_at x.plain.lawful.components s.component) n) size e in
-      let number : ℕ = length x.plain.lawful.memory + length x.plain.lawful.channels + brought_before x.plain.lawful k + n in
-      subst (AreAt (shown_place x k (Provided n))) p.2 (any_page number (provided_region s.name p.0) (provided_at_place x sound k n s p.0 at p.1) refl refl)
+      let p = from_some (λ p. p.size) (slice_get (provided_at x.expanded.lawful.components s.component) n) size e in
+      let number : ℕ = length x.expanded.lawful.memory + length x.expanded.lawful.channels + brought_before x.expanded.lawful k + n in
+      subst (AreAt (shown_address x k (Provided n))) p.2 (any_page number (provided_region s.name p.0) (provided_at_index x sound k n s p.0 at p.1) refl refl)
 
-  device_page : (device memory k size : ℕ) (o : Option SomeDevice) → slice_get x.plain.lawful.devices device ≡ o
+  device_page : (device memory k size : ℕ) (o : Option SomeDevice) → slice_get x.expanded.lawful.devices device ≡ o
       → option_and_then (λ (d : SomeDevice). option_map (λ m. m.size) (slice_get d.memory memory)) o ≡ Some size
-      → AreAt (shown_place x k (Device device memory)) size
+      → AreAt (shown_address x k (Device device memory)) size
   device_page device memory k size None at e = absurd (cc)
   device_page device memory k size (Some d) at e =
       let m = from_some (λ m. m.size) (slice_get d.memory memory) size e in
-      let fits = whole_physical m.0.physical_address m.0.size (physical_at x.plain.lawful sound.lawful device memory d m.0 at m.1) in
-      let place : shown_place x k (Device device memory) ≡ m.0.physical_address =
+      let fits = whole_physical m.0.physical_address m.0.size (physical_at x.expanded.lawful sound.lawful device memory d m.0 at m.1) in
+      let address : shown_address x k (Device device memory) ≡ m.0.physical_address =
       ap (λ o. option_map_or (λ (m : DeviceMemory). m.physical_address) (option_and_then (λ (d : SomeDevice). slice_get d.memory memory) o) 0) at
       ∙ ap (λ o. option_map_or (λ (m : DeviceMemory). m.physical_address) o 0) m.1 in
-      subst (λ a. AreAt a size) (sym place) (subst (AreAt m.0.physical_address) m.2 fits)
+      subst (λ a. AreAt a size) (sym address) (subst (AreAt m.0.physical_address) m.2 fits)
 
-  state_page : (other size k : ℕ) (s : Subject) → slice_get x.plain.lawful.subjects other ≡ Some s → 4096 ≡ size → AreAt (shown_place x k (State other)) size
+  state_page : (other size k : ℕ) (s : Subject) → slice_get x.expanded.lawful.subjects other ≡ Some s → 4096 ≡ size → AreAt (shown_address x k (State other)) size
   state_page other size k s at e =
-      let g = other_at (AreGrantsOf x.plain.lawful) x.plain.lawful.subjects x.plain.grants other s sound.grants at in
-      let n : kernel_first x.plain.lawful other + 0 ≡ kernel_first x.plain.lawful other = omega arith in
+      let g = other_at (AreGrantsOf x.expanded.lawful) x.expanded.lawful.subjects x.expanded.grants other s sound.grants at in
+      let n : kernel_first x.expanded.lawful other + 0 ≡ kernel_first x.expanded.lawful other = omega arith in
       let page = anywhere Kernel s.name StatePart PAGE in
-      subst (AreAt (shown_place x k (State other))) e
-      (subst (λ n. AreAt (get_or x.places n 0) 4096) n
-      (any_page (kernel_first x.plain.lawful other + 0) page (kernel_at_place x sound other 0 s g.0 page at g.1 refl) refl refl))
+      subst (AreAt (shown_address x k (State other))) e
+      (subst (λ n. AreAt (get_or x.addresses n 0) 4096) n
+      (any_page (kernel_first x.expanded.lawful other + 0) page (kernel_at_index x sound other 0 s g.0 page at g.1 refl) refl refl))
 
-  pub shown_at : (k size : ℕ) (shows : Shown) → shown_size x.plain.lawful k shows ≡ Some size → AreAt (shown_place x k shows) size
+  pub shown_at : (k size : ℕ) (shows : Shown) → shown_size x.expanded.lawful k shows ≡ Some size → AreAt (shown_address x k shows) size
   shown_at k size (Memory n) e =
-      let m = from_some (λ m. m.size) (slice_get x.plain.lawful.memory n) size e in
-      subst (AreAt (get_or x.places n 0)) m.2 (own_page n m.0 (memory_at x sound n m.0 m.1) (laid_at x.plain.lawful sound.lawful n m.0 m.1))
+      let m = from_some (λ m. m.size) (slice_get x.expanded.lawful.memory n) size e in
+      subst (AreAt (get_or x.addresses n 0)) m.2 (own_page n m.0 (memory_at x sound n m.0 m.1) (laid_at x.expanded.lawful sound.lawful n m.0 m.1))
   shown_at k size (Channel n) e =
-      let c = from_some (λ c. c.size) (slice_get x.plain.lawful.channels n) size e in
-      subst (AreAt (shown_place x k (Channel n))) c.2 (any_page (length x.plain.lawful.memory + n) (channel_region c.0) (channel_at x sound n c.0 c.1) refl refl)
-  shown_at k size (Provided n) e = provided_page k n size (slice_get x.plain.lawful.subjects k) refl e
-  shown_at k size (Device device memory) e = device_page device memory k size (slice_get x.plain.lawful.devices device) refl e
+      let c = from_some (λ c. c.size) (slice_get x.expanded.lawful.channels n) size e in
+      subst (AreAt (shown_address x k (Channel n))) c.2 (any_page (length x.expanded.lawful.memory + n) (channel_region c.0) (channel_at x sound n c.0 c.1) refl refl)
+  shown_at k size (Provided n) e = provided_page k n size (slice_get x.expanded.lawful.subjects k) refl e
+  shown_at k size (Device device memory) e = device_page device memory k size (slice_get x.expanded.lawful.devices device) refl e
   shown_at k size (State other) e =
-      let s = from_some (λ _. PAGE) (slice_get x.plain.lawful.subjects other) size e in
+      let s = from_some (λ _. PAGE) (slice_get x.expanded.lawful.subjects other) size e in
       state_page other size k s.0 s.1 s.2
 
-  -- the tables of the subject at a place
-  pub tables_there : (k : ℕ) (s : Subject) (g : Grants) → slice_get x.plain.lawful.subjects k ≡ Some s → slice_get x.plain.grants k ≡ Some g
+  -- the tables of the subject at an index
+  pub tables_there : (k : ℕ) (s : Subject) (g : Grants) → slice_get x.expanded.lawful.subjects k ≡ Some s → slice_get x.expanded.grants k ≡ Some g
       → AreAt (tables_at x k) (ept_pages (mapped_views g.views) * 4096)
   tables_there k s g at granted =
-      any_page (kernel_first x.plain.lawful k + 1) (anywhere Kernel s.name Ept (ept_pages (mapped_views g.views) * PAGE))
-      (kernel_at_place x sound k 1 s g (anywhere Kernel s.name Ept (ept_pages (mapped_views g.views) * PAGE)) at granted refl) refl refl
+      any_page (kernel_first x.expanded.lawful k + 1) (anywhere Kernel s.name Ept (ept_pages (mapped_views g.views) * PAGE))
+      (kernel_at_index x sound k 1 s g (anywhere Kernel s.name Ept (ept_pages (mapped_views g.views) * PAGE)) at granted refl) refl refl

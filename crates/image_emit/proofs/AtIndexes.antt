@@ -1,4 +1,4 @@
--- What stands at a place of lists that are numbered and paired, and look-ups of numbers in turn.
+-- What stands at an index of lists that are numbered and paired, and look-ups of numbers in turn.
 use Rattle.std.proofs.Common.{◌≡◌, ◌∙◌, refl, sym, ap, arith, ℕ, zero, suc, ◌+◌, ◌≤◌, List, [], ◌∷◌, ◌++◌, length, map, take, Option, Some}
 use Rattle.std.specs.Prelude.{slice_get}
 use Rattle.std.specs.List.{cons_option, enumerate_from, filter_map, zip}
@@ -8,7 +8,7 @@ use Rattle.std.proofs.lemmas.Option.{get_or_from_slice_get, same_Some}
 use Rattle.muen_num.proofs.Lists.{there}
 use Rattle.muen_num.specs.Range.{numbers_below}
 
--- what stands at a place of a list that is mapped with its numbers
+-- what stands at an index of a list that is mapped with its numbers
 pub mapped_there : {X Y : Type 0} (f : ℕ × X → Y) (from : ℕ) (xs : List X) (j : ℕ) (y : Y) → slice_get (map f (enumerate_from from xs)) j ≡ Some y → (x : X) × (slice_get xs j ≡ Some x) × (f (from + j, x) ≡ y)
 mapped_there f from [] j y at = absurd (cc)
 mapped_there f from (x ∷ xs) zero y at =

@@ -77,18 +77,18 @@ aligned_after blocks (x ∷ rest) spots out e k h n =
     ])
     n
 
-made : (many : ℕ) (placed : _) (places : List ℕ) → by_number many placed ≡ Ok places → (out : _) × (placed ≡ Ok out) × (places ≡ map (address_in out) (numbers_below many))
-made many (Ok out) places e = (out, refl, cc)
-made many (Err r) places e = absurd (cc)
+made : (many : ℕ) (placed : _) (addresses : List ℕ) → by_number many placed ≡ Ok addresses → (out : _) × (placed ≡ Ok out) × (addresses ≡ map (address_in out) (numbers_below many))
+made many (Ok out) addresses e = (out, refl, cc)
+made many (Err r) addresses e = absurd (cc)
 
-placement_aligned : (blocks : List Block) (regions : List Region) (places : List ℕ) → placement_in blocks regions ≡ Ok places → All IsWhole regions → All (λ a. a % PAGE ≡ 0) places
+placement_aligned : (blocks : List Block) (regions : List Region) (addresses : List ℕ) → placement_in blocks regions ≡ Ok addresses → All IsWhole regions → All (λ a. a % PAGE ≡ 0) addresses
 unfolding placement_in
-placement_aligned blocks regions places e h =
-    let parts = made (length regions) (placed_after blocks (in_turn regions) []) places e in
+placement_aligned blocks regions addresses e h =
+    let parts = made (length regions) (placed_after blocks (in_turn regions) []) addresses e in
     let each = aligned_after blocks (in_turn regions) [] parts.0 parts.1 (regions_in_turn IsWhole regions h) (λ n. refl) in
-    All-same (λ a. a % PAGE ≡ 0) places (map (address_in parts.0) (numbers_below (length regions))) parts.2
+    All-same (λ a. a % PAGE ≡ 0) addresses (map (address_in parts.0) (numbers_below (length regions))) parts.2
     (All-map (λ a. a % PAGE ≡ 0) (address_in parts.0) (numbers_below (length regions)) (λ k d l. each _))
 
-pub places_aligned : (p : Source) (places : List ℕ) → placement_of p ≡ Ok places → All IsWhole (regions_of p) → All (λ a. a % PAGE ≡ 0) places
+pub addresses_aligned : (p : Source) (addresses : List ℕ) → placement_of p ≡ Ok addresses → All IsWhole (regions_of p) → All (λ a. a % PAGE ≡ 0) addresses
 unfolding placement_of
-places_aligned p places e h = placement_aligned p.memory_blocks (regions_of p) places e h
+addresses_aligned p addresses e h = placement_aligned p.memory_blocks (regions_of p) addresses e h

@@ -1,4 +1,4 @@
--- The first place of a list at which a test passes, where the list is joined of pieces.
+-- The first index of a list at which a test passes, where the list is joined of pieces.
 use Rattle.std.proofs.Common.{◌≡◌, ℕ, zero, suc, ◌+◌, ◌<◌, Bool, true, false, cond, not, List, [], ◌∷◌, ◌++◌, length, map, take, Some, None, refl, sym, ap, ◌∙◌, subst, arith, length-append, ne_eqb}
 use Rattle.std.specs.Prelude.{◌||◌, slice_get}
 use Rattle.std.specs.Option.{option_map_or}
@@ -13,7 +13,7 @@ use Rattle.policy_lawful.specs.Rules.{repeated}
 use Rattle.policy_lawful.proofs.Places.{position_is, same_name}
 use Rattle.policy_views.proofs.WindowsByPlace.{name_there, within_names}
 
--- the first element that passes stands at this place
+-- the first element that passes stands at this index
 pub record IsFirstAt {X : Type 0} (test : X → Bool) (xs : List X) (k : ℕ) : Type 0 where
   pub at : position_or_len test xs ≡ k
   pub within : k < length xs

@@ -1,4 +1,4 @@
-//! The spans of a placed policy by their places.
+//! The spans of a placed policy by their addresses.
 ghost use Rattle.std.specs.Prelude.{IfOk};
 ghost use Rattle.std.specs.List.Sorted.{IsNonDecreasingBy, IsPermutation};
 ghost use Rattle.image_pack.specs.SpanConditions.{AreSpans};
@@ -10,15 +10,15 @@ use muen_num::{NoMemory, Seq};
 use region_alloc::Placed;
 use std::alloc::Global;
 
-// By place.
+// By address.
 fn sort(spans: &mut Vec<SpanPart>)
     ensures same { IsPermutation spans.old.items spans.new.items }
-    ensures rise { IsNonDecreasingBy (λ s. s.place) spans.new.items }
+    ensures rise { IsNonDecreasingBy (λ s. s.address) spans.new.items }
 {
-    spans.sort_unstable_by_key(|span| span.place);
+    spans.sort_unstable_by_key(|span| span.address);
 }
 
-/// The spans of the image of a placed policy, by their places: each region at its place, and each
+/// The spans of the image of a placed policy, by their addresses: each region at its address, and each
 /// device's memory.
 ///
 /// Answers `NoMemory` where memory was refused.

@@ -13,7 +13,7 @@ use Rattle.expand_kernel.specs.Regions.{anywhere, kernel_regions}
 use Rattle.expand_kernel.specs.declared.region.RegionKind.TheVariants.{Kernel}
 use Rattle.image_emit.specs.Made.{IsMade, Made, content_at, image_of, kernel_bytes, policy_of, region_bytes}
 use Rattle.image_emit.proofs.ByNumber.{span_numbered}
-use Rattle.image_emit.proofs.PlacesBySubject.{IsPlaced}
+use Rattle.image_emit.proofs.BySubject.{IsAtIndex}
 use Rattle.image_emit.proofs.SpansAt.{region_at}
 use Rattle.image_meaning.specs.Memory.{Span, bytes_at, bytes_of}
 use Rattle.image_pack.specs.declared.parts.SpanPart.{SpanPart}
@@ -25,7 +25,7 @@ use Rattle.span_emit.specs.Spans.{region_span, spans_of}
 use Rattle.subject_emit.specs.Mapped.{kernel_first}
 use Rattle.subject_emit.specs.Sound.{IsSound}
 use Rattle.subject_emit.specs.declared.subject_pages.SubjectPages.{SubjectPages}
-use Rattle.subject_emit.proofs.Numbered.{kernel_at_place}
+use Rattle.subject_emit.proofs.Numbered.{kernel_at_index}
 use Rattle.subject_emit.proofs.Pieces.{at_piece}
 
 -- what is padded is as long
@@ -39,7 +39,7 @@ sound_of m h = record {
   lawful = h.lawful;
   grants = h.expansion.grants;
   regions = h.expansion.regions;
-  places = h.placement;
+  addresses = h.placement;
 }
 
 -- ---- what they hold
@@ -62,16 +62,16 @@ kernel_held m h k c q bytes at e =
 
 -- ---- of a subject
 
-module _ (m : Made) (h : IsMade m) (k : ℕ) (s : Subject) (g : Grants) (t : EventTables) (q : SubjectPages) (at : IsPlaced m k s g t q) where
+module _ (m : Made) (h : IsMade m) (k : ℕ) (s : Subject) (g : Grants) (t : EventTables) (q : SubjectPages) (at : IsAtIndex m k s g t q) where
   abbrev pub kernel_span : (c : ℕ) → ℕ → TagPart → SpanPart
-  kernel_span c size part = region_span (kernel_first (policy_of m) k + c, (anywhere Kernel s.name part size, get_or m.placed.places (kernel_first (policy_of m) k + c) 0))
+  kernel_span c size part = region_span (kernel_first (policy_of m) k + c, (anywhere Kernel s.name part size, get_or m.placed.addresses (kernel_first (policy_of m) k + c) 0))
 
   -- the span of this number among those of the kernel for the subject
   pub kernel_numbered : (c size : ℕ) (part : TagPart) → slice_get (kernel_regions s.name (ept_pages (mapped_views g.views))) c ≡ Some (anywhere Kernel s.name part size)
       → slice_get (spans_of m.placed) (kernel_first (policy_of m) k + c) ≡ Some (kernel_span c size part)
   kernel_numbered c size part e =
       region_at m h (kernel_first (policy_of m) k + c) (anywhere Kernel s.name part size)
-      (kernel_at_place m.placed (sound_of m h) k c s g (anywhere Kernel s.name part size) at.subject at.granted e)
+      (kernel_at_index m.placed (sound_of m h) k c s g (anywhere Kernel s.name part size) at.subject at.granted e)
 
   -- has these bytes in the image
   pub kernel_content : (c size : ℕ) (part : TagPart) (bytes : List ℕ) → slice_get (kernel_bytes q) c ≡ Some bytes → bytes_of (kernel_span c size part, content_at m (kernel_span c size part)) ≡ bytes

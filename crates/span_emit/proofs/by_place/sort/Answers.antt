@@ -1,8 +1,0 @@
--- The sort's key is the place.
-use Rattle.std.proofs.Common.{rules}
-use Rattle.std.proofs.lemmas.List.Sorted.{IsNonDecreasingBy-from_sort_by_key}
-use Rattle.span_emit.proofs.by_place.sort.Goals as goal
-
-pub returns-clause-rise : goal.returns-clause-rise
-returns-clause-rise c =
-    IsNonDecreasingBy-from_sort_by_key (λ s. s.place) _ c.sort_unstable_by_key.ensures.sorted (λ a r q k. search rules)
