@@ -83,11 +83,11 @@ fn inputs_of(inputs: &[TickInput], tick: u64) -> &[TickInput]
     &inputs[first..past]
 }
 
-// The order at a place.
-fn order_at(orders: &[TickOrder], place: usize) -> Option<&TickOrder>
-    ensures { option_map (λ o. o.now) result ≡ slice_get orders.now place }
+// The order at an index.
+fn order_at(orders: &[TickOrder], index: usize) -> Option<&TickOrder>
+    ensures { option_map (λ o. o.now) result ≡ slice_get orders.now index }
 {
-    orders.get(place)
+    orders.get(index)
 }
 
 // The order of a tick.

@@ -9,9 +9,9 @@ pub mod fault;
 mod line;
 mod made;
 mod number;
-mod place;
 mod reading;
 pub mod record;
+mod resolving;
 
 pub use devices::{RecordDevice, Devices, RecordIrq, IrqTarget, RecordMemory, PortSpan};
 pub use fault::{LineWant, RecordFault};
