@@ -7,7 +7,7 @@ ghost use Rattle.muen_num.specs.Size.{bytes_of};
 ghost use Rattle.device_bench.specs.Devices.{IsInOrder, inputs_at, order_at, zeros, no_inputs, value_of_ports};
 
 use muen_num::limits::LAST_PORT;
-use muen_num::{NoMemory, AccessSize};
+use muen_num::{AccessSize, NoMemory};
 use record_text::{Record, TickInput, TickOrder};
 use std::alloc::Global;
 use std::marker::Model;

@@ -5,7 +5,7 @@ ghost use Rattle.machine_meaning.specs.Walks.{index_at, leaf_end, entry_of, walk
 
 use crate::Translate;
 use crate::entry::{
-    PML4, entry_address, is_leaf, is_misconfigured, is_present, page_number, rights_of, entry_size,
+    PML4, entry_address, entry_size, is_leaf, is_misconfigured, is_present, page_number, rights_of,
 };
 use machine_meaning::Walk;
 use muen_num::limits::PAGE;
@@ -39,7 +39,7 @@ fn read_entry<M: PhysMem>(mem: &M, level: u32, table: u64, addr: u64) -> Option<
     mem.load(entry_address(level, table, addr), AccessSize::Eight)
 }
 
-// Where a walk leaf_end that has come to this physical address: first the rights are checked, and then
+// Where a walk ends that has come to this physical address: first the rights are checked, and then
 // whether the address is in memory.
 fn leaf_end<M: PhysMem>(mem: &M, want: u64, rights: u64, address: u64) -> Walk
     ensures { (addr : ℕ) → result ≡ leaf_end (is_there (M.pages mem.now)) addr want rights address }

@@ -1,8 +1,8 @@
 //! Which frame a CPU has at a tick.
 //!
-//! The definitions lay a plan's frames out tick by tick; the code counts ticks instead. Which major
-//! frame runs, and since when (`FrameAt`), goes on from tick to tick (`advance`), and tells each
-//! CPU's slot (`slot`).
+//! The definitions lay a plan's frames out tick by tick; the code counts ticks instead. The major
+//! frame that runs, with its first tick (`FrameAt`), goes on from tick to tick (`advance`), and tells
+//! each CPU's slot (`slot`).
 #![tactic(auto)]
 
 mod frame_at;
@@ -13,8 +13,8 @@ ghost use Rattle.image_plan.specs.Plan.{frame_of};
 ghost use Rattle.image_plan.specs.Slot.{frame_slots};
 ghost use Rattle.frame_clock.specs.FrameSlot.{slot_of};
 
-use image_plan::Minor;
 pub use frame_at::{FrameAt, advance, slot};
+use image_plan::Minor;
 
 /// The frame of a CPU at a tick.
 #[derive(Clone, Copy, Debug, PartialEq, Eq)]

@@ -72,7 +72,8 @@ SameWalks =
 -- it reads entries at the same addresses
 abbrev pub SameAddresses : Type 0
 SameAddresses =
-    (old new : List Page) (eptp addr : ℕ) → SameEntries eptp addr old new → addresses_read new eptp addr ≡ addresses_read old eptp addr
+    (old new : List Page) (eptp addr : ℕ) → SameEntries eptp addr old new
+    → addresses_read new eptp addr ≡ addresses_read old eptp addr
 
 -- the page that it ends at has the same size
 abbrev pub SameSizes : Type 0

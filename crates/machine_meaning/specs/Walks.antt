@@ -106,7 +106,7 @@ root_of eptp = eptp / 4096
 abbrev pub walk_of : List Page → ℕ → ℕ → AccessKind → Walk
 walk_of m eptp addr kind = walk_from (entry_of m) (is_there m) addr (kind_bit kind) 3 (root_of eptp) 7
 
--- ---- what a walk reads, and the size of the page that it leaf_end at
+-- ---- what a walk reads, and the size of the page that it ends at
 
 -- what comes after an entry was read, where it references a table; else this
 abbrev pub goes_on : {A : Type 0} → ℕ → Option ℕ → A → (ℕ → A) → A
@@ -124,12 +124,13 @@ addresses_from entry addr (suc level) table =
 abbrev pub addresses_read : List Page → ℕ → ℕ → List ℕ
 addresses_read m eptp addr = addresses_from (entry_of m) addr 3 (root_of eptp)
 
--- how many bytes the entry stands for that leaf_end a walk
+-- how many bytes the entry stands for that ends a walk
 abbrev pub end_entry_size : (ℕ → ℕ → Option ℕ) → ℕ → ℕ → ℕ → ℕ
 end_entry_size entry addr zero table = entry_size 0
 end_entry_size entry addr (suc level) table =
-    goes_on (suc level) (entry table (index_at (suc level) addr)) (entry_size (suc level)) (λ t. end_entry_size entry addr level t)
+    goes_on (suc level) (entry table (index_at (suc level) addr)) (entry_size (suc level))
+    (λ t. end_entry_size entry addr level t)
 
--- the size of the page by which this address is mapped, where a walk for reading it leaf_end at an address
+-- the size of the page by which this address is mapped, where a walk for reading it ends at an address
 abbrev pub leaf_size : List Page → ℕ → ℕ → ℕ
 leaf_size m eptp addr = end_entry_size (entry_of m) addr 3 (root_of eptp)

@@ -6,7 +6,7 @@ use crate::little_endian::{number_of, spell};
 use crate::memory::{PAGE_BYTES, PhysMem};
 use crate::spans::{MemorySpan, add_pages};
 use muen_num::limits::PAGE;
-use muen_num::{NoMemory, AccessSize};
+use muen_num::{AccessSize, NoMemory};
 use std::alloc::Global;
 
 /// Memory that is made of spans of pages. A page is found by a binary search over the pages' numbers.

@@ -8,9 +8,11 @@ ghost use Rattle.record_text.specs.Words.{words_of};
 use crate::cut::Words;
 use crate::devices::Devices;
 use crate::fault::LineWant;
-use crate::number::{LineError, byte_of, cpu_of, hex_bytes, number, number_below, port_of, tick_of};
-use crate::resolving::{resolve_dma, resolve_irq, resolve_memory, resolve_port};
+use crate::number::{
+    LineError, byte_of, cpu_of, hex_bytes, number, number_below, port_of, tick_of,
+};
 use crate::record::Input;
+use crate::resolving::{resolve_dma, resolve_irq, resolve_memory, resolve_port};
 use muen_num::Seq;
 use muen_num::limits::GUEST_END;
 use std::alloc::Global;
@@ -156,7 +158,11 @@ fn cpu_numbers(alloc: Global, cpus: u8, mut words: Words<'_>) -> Result<Seq<u8>,
 
 // `order T C1 .. Cn`, where there are n CPUs.
 #[tactic(auto, unfolding(crate::specs::Table::order_line))]
-fn order_line(alloc: Global, devices: &Devices, mut words: Words<'_>) -> Result<RecordLine, LineError>
+fn order_line(
+    alloc: Global,
+    devices: &Devices,
+    mut words: Words<'_>,
+) -> Result<RecordLine, LineError>
     ensures { Gives (said devices.now (order_line devices.now.cpus (words_remaining words.entry))) result }
 {
     let tick = word(&mut words)?;
@@ -269,7 +275,11 @@ fn line_of_kind(
 
 /// What a line says.
 #[tactic(auto, unfolding(crate::specs::Table::read_words))]
-pub(crate) fn read_line(alloc: Global, devices: &Devices, text: &[u8]) -> Result<RecordLine, LineError>
+pub(crate) fn read_line(
+    alloc: Global,
+    devices: &Devices,
+    text: &[u8],
+) -> Result<RecordLine, LineError>
     ensures { Gives (said devices.now (read_words devices.now.cpus (words_of text.now))) result }
 {
     let mut words = Words::of(text);

@@ -5,7 +5,7 @@ ghost use Rattle.std.specs.Str.{bytes_eq};
 ghost use Rattle.record_text.specs.DeviceRecord.{dma_input, irq_input, memory_input, port_input};
 ghost use Rattle.record_text.specs.Resolving.{bytes_in, irq_of, is_in_span, memory_of, resolved_input, port_of, raised};
 
-use crate::devices::{RecordDevice, Devices, RecordIrq, IrqTarget, RecordMemory, PortSpan};
+use crate::devices::{Devices, IrqTarget, PortSpan, RecordDevice, RecordIrq, RecordMemory};
 use crate::record::Input;
 use muen_num::Seq;
 

@@ -96,7 +96,12 @@ pub(crate) fn reach<M: PhysMem, T: Translate>(
 }
 
 /// Whether an access of ports exits, by the I/O bitmaps as they are in memory now.
-pub(crate) fn ports_exit<M: PhysMem>(mem: &M, control: &Control, port: u16, size: AccessSize) -> bool
+pub(crate) fn ports_exit<M: PhysMem>(
+    mem: &M,
+    control: &Control,
+    port: u16,
+    size: AccessSize,
+) -> bool
     ensures { result ≡ ports_exit (M.pages mem.now) control.now port (bytes_of size) }
 {
     let page = number_of(control.io_bitmaps);
