@@ -7,7 +7,7 @@ ghost use Rattle.muen_num.specs.Size.{bytes_of};
 ghost use Rattle.device_bench.specs.Devices.{IsInOrder, inputs_at, order_at, zeros, no_inputs, value_of_ports};
 
 use muen_num::limits::LAST_PORT;
-use muen_num::{NoMemory, AccessSize};
+use muen_num::{AccessSize, NoMemory};
 use record_text::{Record, TickInput, TickOrder};
 use std::alloc::Global;
 use std::marker::Model;
@@ -83,11 +83,11 @@ fn inputs_of(inputs: &[TickInput], tick: u64) -> &[TickInput]
     &inputs[first..past]
 }
 
-// The order at a place.
-fn order_at(orders: &[TickOrder], place: usize) -> Option<&TickOrder>
-    ensures { option_map (λ o. o.now) result ≡ slice_get orders.now place }
+// The order at an index.
+fn order_at(orders: &[TickOrder], index: usize) -> Option<&TickOrder>
+    ensures { option_map (λ o. o.now) result ≡ slice_get orders.now index }
 {
-    orders.get(place)
+    orders.get(index)
 }
 
 // The order of a tick.

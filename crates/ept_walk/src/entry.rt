@@ -4,7 +4,7 @@
 //! The level of a table is 3 for the PML4 table, 2 for a page directory pointer table, 1 for a page
 //! directory, and 0 for a page table.
 ghost use Rattle.std.specs.Prelude.{◌≡◌, ◌+◌, ◌*◌, ◌%◌, ◌^◌, ◌<◌, ◌≤◌};
-ghost use Rattle.machine_meaning.specs.Walks.{bits_of, span, index_at, place_of, is_present, is_leaf, has_lone_rights, has_no_type, is_misaligned, has_reserved, is_beyond, is_misconfigured};
+ghost use Rattle.machine_meaning.specs.Walks.{bits_of, entry_size, index_at, entry_address, is_present, is_leaf, has_lone_rights, has_no_type, is_misaligned, has_reserved, is_beyond, is_misconfigured};
 
 use machine_meaning::bits;
 use muen_num::limits::{LARGE_PAGE, PAGE};
@@ -19,7 +19,7 @@ const PAGE_TABLE: u32 = 0;
 const HUGE_PAGE: u64 = 1 << 30;
 
 /// The bytes that an entry of the PML4 table stands for.
-const POINTER_TABLE_SPAN: u64 = 1 << 39;
+const POINTER_TABLE_SIZE: u64 = 1 << 39;
 
 /// How many entries a table has.
 const ENTRIES: u64 = 512;
@@ -40,9 +40,9 @@ const WRITE_AND_EXECUTE: u64 = 6;
 const NO_TYPES: (u64, u64, u64) = (2, 3, 7);
 
 // How many bytes of addresses an entry of this level stands for.
-pub(crate) fn span(level: u32) -> u64
+pub(crate) fn entry_size(level: u32) -> u64
     requires { level < 4 }
-    ensures value { result ≡ span level }
+    ensures value { result ≡ entry_size level }
     ensures some { 0 < result }
     ensures small { result ≤ 2 ^ 39 }
 {
@@ -50,18 +50,18 @@ pub(crate) fn span(level: u32) -> u64
         0 => PAGE,
         1 => LARGE_PAGE,
         2 => HUGE_PAGE,
-        _ => POINTER_TABLE_SPAN,
+        _ => POINTER_TABLE_SIZE,
     }
 }
 
-// Where the entry of an address lies, in the table of this page.
-pub(crate) fn entry_place(level: u32, table: u64, addr: u64) -> u64
+// The address of the entry for an address, in the table of this page.
+pub(crate) fn entry_address(level: u32, table: u64, addr: u64) -> u64
     requires level { level < 4 }
     requires table { table < 2 ^ 52 }
-    ensures place { result ≡ place_of table (index_at level addr) }
+    ensures address { result ≡ entry_address table (index_at level addr) }
     ensures aligned { result % 8 ≡ 0 }
 {
-    PAGE * table + ENTRY_BYTES * (addr / span(level) % ENTRIES)
+    PAGE * table + ENTRY_BYTES * (addr / entry_size(level) % ENTRIES)
 }
 
 // Bits 2:0, the rights: read, write and execute.
@@ -113,7 +113,7 @@ fn is_misaligned(level: u32, entry: u64) -> bool
     requires { level < 4 }
     ensures { result ≡ is_misaligned level entry }
 {
-    PAGE * page_number(entry) % span(level) != 0
+    PAGE * page_number(entry) % entry_size(level) != 0
 }
 
 // A bit is set that must be zero where an entry references a table: one of 7:3 in a PML4 table, and

@@ -1,11 +1,11 @@
 //! The walk that keeps nothing.
 ghost use Rattle.std.specs.Prelude.{◌≡◌, ℕ, ◌^◌, ◌<◌, List};
 ghost use Rattle.machine_meaning.specs.Memory.{Page, is_there};
-ghost use Rattle.machine_meaning.specs.Walks.{index_at, ends, entry_of, walk_from};
+ghost use Rattle.machine_meaning.specs.Walks.{index_at, leaf_end, entry_of, walk_from};
 
 use crate::Translate;
 use crate::entry::{
-    PML4, entry_place, is_leaf, is_misconfigured, is_present, page_number, rights_of, span,
+    PML4, entry_address, entry_size, is_leaf, is_misconfigured, is_present, page_number, rights_of,
 };
 use machine_meaning::Walk;
 use muen_num::limits::PAGE;
@@ -36,19 +36,19 @@ fn read_entry<M: PhysMem>(mem: &M, level: u32, table: u64, addr: u64) -> Option<
     requires table { table < 2 ^ 52 }
     ensures { result ≡ entry_of (M.pages mem.now) table (index_at level addr) }
 {
-    mem.load(entry_place(level, table, addr), AccessSize::Eight)
+    mem.load(entry_address(level, table, addr), AccessSize::Eight)
 }
 
 // Where a walk ends that has come to this physical address: first the rights are checked, and then
 // whether the address is in memory.
-fn end<M: PhysMem>(mem: &M, want: u64, rights: u64, place: u64) -> Walk
-    ensures { (addr : ℕ) → result ≡ ends (is_there (M.pages mem.now)) addr want rights place }
+fn leaf_end<M: PhysMem>(mem: &M, want: u64, rights: u64, address: u64) -> Walk
+    ensures { (addr : ℕ) → result ≡ leaf_end (is_there (M.pages mem.now)) addr want rights address }
 {
     if rights & want != want {
         return Walk::Violation(rights);
     }
-    match mem.page(place / PAGE * PAGE) {
-        Some(_) => Walk::At(place),
+    match mem.page(address / PAGE * PAGE) {
+        Some(_) => Walk::At(address),
         None => Walk::Misconfigured,
     }
 }
@@ -71,7 +71,7 @@ fn walk_from<M: PhysMem>(mem: &M, addr: u64, want: u64, level: u32, table: u64, 
     let found = rights & rights_of(entry);
     let number = page_number(entry);
     if is_leaf(level, entry) {
-        return end(mem, want, found, PAGE * number + addr % span(level));
+        return leaf_end(mem, want, found, PAGE * number + addr % entry_size(level));
     }
     walk_from(mem, addr, want, level - 1, number, found)
 }

@@ -148,14 +148,14 @@ impl Router {
         ensures vector { result ≡ deliverable self.old subject entry }
         ensures after { self.new ≡ taken subject (deliverable self.old subject entry) self.old }
     {
-        let place = subject as usize;
+        let index = subject as usize;
         let vector = delivered_by(
-            set_of(&self.pending_now, place),
-            set_of(&self.pending_later, place),
+            set_of(&self.pending_now, index),
+            set_of(&self.pending_later, index),
             entry,
         )?;
-        take(&mut self.pending_now, place, vector);
-        take(&mut self.pending_later, place, vector);
+        take(&mut self.pending_now, index, vector);
+        take(&mut self.pending_later, index, vector);
         Some(vector)
     }
 
@@ -163,8 +163,8 @@ impl Router {
     pub fn pending(&self, subject: u8, vector: u8) -> bool
         ensures { result ≡ is_pending self.now subject vector }
     {
-        let place = subject as usize;
-        has_in(&self.pending_now, place, vector) || has_in(&self.pending_later, place, vector)
+        let index = subject as usize;
+        has_in(&self.pending_now, index, vector) || has_in(&self.pending_later, index, vector)
     }
 
     /// The active member of a group. None where there is no such group.

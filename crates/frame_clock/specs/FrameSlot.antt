@@ -3,4 +3,4 @@ use Rattle.image_plan.specs.Slot.{Slot}
 use Rattle.frame_clock.specs.declared.FrameSlot.{FrameSlot}
 
 abbrev pub slot_of : FrameSlot → Slot
-slot_of s = record { major = s.major; group = s.group; first = s.first; left = s.left }
+slot_of s = record { major = s.major; group = s.group; first = s.first; remaining = s.remaining }

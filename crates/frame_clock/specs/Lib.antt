@@ -1,2 +1,2 @@
 pub mod FrameSlot
-pub mod FrameAt
+pub mod Frames

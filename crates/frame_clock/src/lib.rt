@@ -1,11 +1,11 @@
 //! Which frame a CPU has at a tick.
 //!
-//! The definitions lay a plan's frames out tick by tick; the code counts ticks instead. Which major
-//! frame runs is a place (`FrameAt`) that goes on from tick to tick (`advance`), and tells each
-//! CPU's slot (`slot`).
+//! The definitions lay a plan's frames out tick by tick; the code counts ticks instead. The major
+//! frame that runs, with its first tick (`FrameAt`), goes on from tick to tick (`advance`), and tells
+//! each CPU's slot (`slot`).
 #![tactic(auto)]
 
-mod place;
+mod frame_at;
 
 ghost use Rattle.std.specs.Prelude.{◌≡◌, map, option_map, slice_get};
 ghost use Rattle.std.specs.List.{flat_map};
@@ -13,8 +13,8 @@ ghost use Rattle.image_plan.specs.Plan.{frame_of};
 ghost use Rattle.image_plan.specs.Slot.{frame_slots};
 ghost use Rattle.frame_clock.specs.FrameSlot.{slot_of};
 
+pub use frame_at::{FrameAt, advance, slot};
 use image_plan::Minor;
-pub use place::{FrameAt, advance, slot};
 
 /// The frame of a CPU at a tick.
 #[derive(Clone, Copy, Debug, PartialEq, Eq)]
@@ -25,8 +25,8 @@ pub struct FrameSlot {
     pub group: u8,
     /// Whether it is the first tick of its minor frame.
     pub first: bool,
-    /// How many ticks of the minor frame are left, with this one counted.
-    pub left: u32,
+    /// How many ticks of the minor frame remain, with this one counted.
+    pub remaining: u32,
 }
 
 // The slot at a tick of a major frame, of a CPU with these minor frames in it. None behind them.
@@ -40,7 +40,7 @@ fn in_frames(frames: &[Minor], major: usize, tick: u32) -> Option<FrameSlot>
                 major,
                 group: frame.group,
                 first: rest == 0,
-                left: frame.ticks - rest,
+                remaining: frame.ticks - rest,
             });
         }
         rest -= frame.ticks;

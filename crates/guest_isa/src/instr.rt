@@ -147,23 +147,52 @@ pub enum Instr {
 pub enum Wish {
     Nothing,
     /// The register was written, and holds this value.
-    Set { reg: u8, value: u64 },
+    Set {
+        reg: u8,
+        value: u64,
+    },
     /// The register is to be loaded, zero-extended, from this guest address.
-    Load { reg: u8, addr: u64, size: AccessSize },
+    Load {
+        reg: u8,
+        addr: u64,
+        size: AccessSize,
+    },
     /// This value, which has so many bytes, is to be stored at this guest address.
-    Store { addr: u64, size: AccessSize, value: u64 },
+    Store {
+        addr: u64,
+        size: AccessSize,
+        value: u64,
+    },
     /// The register is to be loaded, zero-extended, with the input at this port.
-    PortIn { reg: u8, port: u16, size: AccessSize },
+    PortIn {
+        reg: u8,
+        port: u16,
+        size: AccessSize,
+    },
     /// This value, which has so many bytes, is to be written to this port.
-    PortOut { port: u16, size: AccessSize, value: u32 },
+    PortOut {
+        port: u16,
+        size: AccessSize,
+        value: u32,
+    },
     /// The register is to be loaded from the machine-specific register of this index.
-    ReadMsr { reg: u8, index: u32 },
+    ReadMsr {
+        reg: u8,
+        index: u32,
+    },
     /// This value is to be written to the machine-specific register of this index.
-    WriteMsr { index: u32, value: u64 },
+    WriteMsr {
+        index: u32,
+        value: u64,
+    },
     /// The register is to be loaded with the tick.
-    Tick { reg: u8 },
+    Tick {
+        reg: u8,
+    },
     /// The kernel is called with this number.
-    Call { number: u64 },
+    Call {
+        number: u64,
+    },
     /// The subject halts.
     Halt,
 }

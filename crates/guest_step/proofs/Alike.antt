@@ -23,7 +23,7 @@ use Rattle.guest_step.specs.declared.reach.Reach.TheVariants.{Reached, Refused}
 module _ {X Y : Type 0} (f : X → ℕ → Y × ℕ) (a : World X) (b : World Y) (r : AreAlike f a b) where
   -- what an access reaches reads the same
   abbrev Reads : ℕ → Reach X → Type 0
-  Reads n (Reached place offset) = word_at n (b.bytes (f place offset).0) (f place offset).1 ≡ word_at n (a.bytes place) offset
+  Reads n (Reached target offset) = word_at n (b.bytes (f target offset).0) (f target offset).1 ≡ word_at n (a.bytes target) offset
   Reads n (Refused reason qualification addr) = Unit {0}
 
   -- by whether the address is a multiple of the size, and whether it is below the end
@@ -49,7 +49,7 @@ module _ {X Y : Type 0} (f : X → ℕ → Y × ℕ) (a : World X) (b : World Y)
       by_alike (addr % n == 0) (nat_le GUEST_END addr) kind addr (a.look kind addr) (b.look kind addr) (λ _ h. r.look kind addr (low addr h))
 
   reads_of : (kind : AccessKind) (size : AccessSize) (addr : ℕ) → addr < GUEST_END → addr % count size ≡ 0 → (c : Reach X) → a.look kind addr ≡ c → Reads (count size) c
-  reads_of kind size addr l h (Reached place offset) e = r.word kind addr size place offset l h e
+  reads_of kind size addr l h (Reached target offset) e = r.word kind addr size target offset l h e
   reads_of kind size addr l h (Refused reason qualification guest) e = tt
 
   aligned : (addr n : ℕ) → (addr % n == 0) ≡ true → addr % n ≡ 0
@@ -60,11 +60,11 @@ module _ {X Y : Type 0} (f : X → ℕ → Y × ℕ) (a : World X) (b : World Y)
       by_reads (count size) (addr % count size == 0) (nat_le GUEST_END addr) kind addr (a.look kind addr) (λ g h. reads_of kind size addr (low addr h) (aligned addr (count size) g) (a.look kind addr) refl)
 
   loaded_alike : (s after : SubjectState) (reg n : ℕ) (c : Reach X) → Reads n c → loaded b.bytes s after reg n (renamed_reach f c) ≡ renamed f (loaded a.bytes s after reg n c)
-  loaded_alike s after reg n (Reached place offset) e = rw e refl
+  loaded_alike s after reg n (Reached target offset) e = rw e refl
   loaded_alike s after reg n (Refused reason qualification addr) e = refl
 
   stored_alike : (s after : SubjectState) (addr : ℕ) (size : AccessSize) (value : ℕ) (c : Reach X) → stored_to s after addr size value (renamed_reach f c) ≡ renamed f (stored_to s after addr size value c)
-  stored_alike s after addr size value (Reached place offset) = refl
+  stored_alike s after addr size value (Reached target offset) = refl
   stored_alike s after addr size value (Refused reason qualification guest) = refl
 
   port_read_alike : (s after : SubjectState) (reg port : ℕ) (size : AccessSize) (o : Option ℕ) → port_read s after reg port size o ≡ renamed f (port_read s after reg port size o)
@@ -106,8 +106,8 @@ module _ {X Y : Type 0} (f : X → ℕ → Y × ℕ) (a : World X) (b : World Y)
   executed_alike s (Some i) = performed_alike s (effect_of s i).after (effect_of s i).wish
 
   fetched_alike : (s : SubjectState) (c : Reach X) → Reads 8 c → fetched b s (renamed_reach f c) ≡ renamed f (fetched a s c)
-  fetched_alike s (Reached place offset) e =
-      ap (λ n. executed b s (decode_of (to_le_bytes w64 n))) e ∙ executed_alike s (decode_of (to_le_bytes w64 (word_at 8 (a.bytes place) offset)))
+  fetched_alike s (Reached target offset) e =
+      ap (λ n. executed b s (decode_of (to_le_bytes w64 n))) e ∙ executed_alike s (decode_of (to_le_bytes w64 (word_at 8 (a.bytes target) offset)))
   fetched_alike s (Refused reason qualification addr) e = refl
 
   pub step_alike : (s : SubjectState) → step b s ≡ renamed f (step a s)

@@ -20,12 +20,12 @@ use Rattle.guest_step.specs.declared.reach.Reach.TheVariants.{Reached, Refused}
 use Rattle.guest_step.specs.declared.end.StepEnd.{StepEnd}
 use Rattle.guest_step.specs.declared.end.StepEnd.TheVariants.{Plain, Set, Stored as Wrote, Out, WroteMsr, Exit}
 
--- ---- what a step asks of the world, whatever places are called there
+-- ---- what a step asks of the world, whatever targets are called there
 
 pub record World (X : Type 0) : Type 0 where
   -- where an access of this kind leads at a guest address below the end of guest addresses
   pub look : AccessKind → ℕ → Reach X
-  -- the bytes of a place
+  -- the bytes of a target
   pub bytes : X → List ℕ
   -- what is read of so many ports from this one on, unless that exits
   pub input : ℕ → ℕ → Option ℕ
@@ -39,9 +39,9 @@ pub record World (X : Type 0) : Type 0 where
 
 -- ---- what a step answers
 
--- bytes that are written over those of a place from an offset on
+-- bytes that are written over those of a target from an offset on
 pub record Stored (X : Type 0) : Type 0 where
-  pub place : X
+  pub target : X
   pub offset : ℕ
   pub bytes : List ℕ
 
@@ -88,14 +88,14 @@ abbrev pub word_at : ℕ → List ℕ → ℕ → ℕ
 word_at n bytes offset = le_number (take n (drop offset bytes)) % 2 ^ 64
 
 abbrev pub loaded : {X : Type 0} → (X → List ℕ) → SubjectState → SubjectState → ℕ → ℕ → Reach X → Answer X
-loaded bytes s after reg size (Reached place offset) = sets after reg (word_at size (bytes place) offset)
+loaded bytes s after reg size (Reached target offset) = sets after reg (word_at size (bytes target) offset)
 loaded bytes s after reg size (Refused reason qualification addr) = faulted s reason qualification addr
 
 abbrev pub stored_to : {X : Type 0} → SubjectState → SubjectState → ℕ → AccessSize → ℕ → Reach X → Answer X
-stored_to s after addr size value (Reached place offset) = record {
+stored_to s after addr size value (Reached target offset) = record {
   state = record after { exited = false };
   end = Wrote size addr value;
-  stored = Some (record { place = place; offset = offset; bytes = le_bytes (count size) value });
+  stored = Some (record { target = target; offset = offset; bytes = le_bytes (count size) value });
   msr = None;
 }
 stored_to s after addr size value (Refused reason qualification guest) = faulted s reason qualification guest
@@ -153,7 +153,7 @@ executed w s None = faulted s EXIT_EXCEPTION 0 0
 executed w s (Some i) = performed w s (effect_of s i).after (effect_of s i).wish
 
 abbrev pub fetched : {X : Type 0} → World X → SubjectState → Reach X → Answer X
-fetched w s (Reached place offset) = executed w s (decode_of (to_le_bytes w64 (word_at 8 (w.bytes place) offset)))
+fetched w s (Reached target offset) = executed w s (decode_of (to_le_bytes w64 (word_at 8 (w.bytes target) offset)))
 fetched w s (Refused reason qualification addr) = faulted s reason qualification addr
 
 -- **a step**: the eight bytes at `pc` are fetched and done

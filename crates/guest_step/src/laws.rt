@@ -4,7 +4,7 @@ ghost use Rattle.subject_state.specs.declared.SubjectState.{SubjectState};
 ghost use Rattle.guest_step.specs.Named.{AreAlike, renamed};
 ghost use Rattle.guest_step.specs.Step.{World, step};
 
-/// A step doesn't depend on what places are called: in worlds that are the same but for names, it
+/// A step doesn't depend on what targets are called: in worlds that are the same but for names, it
 /// answers the same but for names.
 pub fn alike_worlds_step_alike<X, Y>()
     ensures { (f : X → ℕ → Y × ℕ) (a : World X) (b : World Y) → AreAlike f a b → (s : SubjectState) → step b s ≡ renamed f (step a s) }

@@ -1,7 +1,7 @@
 //! One step of a subject in any world, and what the kernel makes of its end.
 //!
 //! The definition of a step stands in specs/ (`Step`). It is one for all worlds: for a subject alone,
-//! whose places are things by name, and for the machine, whose places are pages of memory.
+//! whose accesses reach things by name, and for the machine, where they reach pages of memory.
 #![tactic(auto)]
 
 mod end;

@@ -1,11 +1,11 @@
 //! Where accesses of memory lead.
 
-/// Where an access of memory leads, in a world whose places are called `X`.
+/// Where an access of memory leads, in a world whose targets are called `X`.
 #[derive(Clone, Copy, Debug, PartialEq, Eq)]
 pub enum Reach<X> {
-    /// To the bytes of a place from an offset on.
+    /// To the bytes of a target from an offset on.
     Reached {
-        place: X,
+        target: X,
         offset: u64,
     },
     /// To an exit.

@@ -40,7 +40,7 @@ length_numbers (suc n) =
     let more : length (numbers_below n ++ n ∷ []) ≡ length (numbers_below n) + 1 = length-append (numbers_below n) (n ∷ []) in
     omega (arith, before, more)
 
--- and each stands at its own place
+-- and each stands at its own index
 pub number_at : (n k : ℕ) → k < n → slice_get (numbers_below n) k ≡ Some k
 number_at zero k l = absurd (omega arith)
 number_at (suc n) k l =

@@ -18,15 +18,15 @@ frames =
     ∷ (record { group = 1; ticks = 2 } ∷ [])
     ∷ []
 
-slot_in_second_frame : slot_at frames 2 ≡ Some (record { major = 0; group = 1; first = false; left = 1 })
+slot_in_second_frame : slot_at frames 2 ≡ Some (record { major = 0; group = 1; first = false; remaining = 1 })
 unfolding slot_at frames
 slot_in_second_frame = refl
 
-slot_in_second_major : slot_at frames 3 ≡ Some (record { major = 1; group = 1; first = true; left = 2 })
+slot_in_second_major : slot_at frames 3 ≡ Some (record { major = 1; group = 1; first = true; remaining = 2 })
 unfolding slot_at frames
 slot_in_second_major = refl
 
-slot_begins_anew : slot_at frames 10 ≡ Some (record { major = 0; group = 0; first = true; left = 1 })
+slot_begins_anew : slot_at frames 10 ≡ Some (record { major = 0; group = 0; first = true; remaining = 1 })
 unfolding slot_at frames
 slot_begins_anew = refl
 

@@ -23,7 +23,7 @@ use Rattle.image_plan.proofs.ByNumber.{get_left, get_right, length_numbers, numb
 
 -- a tick of a minor frame, by its number in the frame
 abbrev pub frame_slot : ℕ → Frame → ℕ → Slot
-frame_slot major f k = record { major = major; group = f.group; first = k == 0; left = f.ticks - k }
+frame_slot major f k = record { major = major; group = f.group; first = k == 0; remaining = f.ticks - k }
 
 length_frame : (major : ℕ) (f : Frame) → length (frame_slots major f) ≡ f.ticks
 length_frame major f = length-map (numbers_below f.ticks) (frame_slot major f) ∙ length_numbers f.ticks

@@ -6,17 +6,17 @@ use Rattle.muen_num.specs.Frame.{Frame}
 use Rattle.muen_num.specs.Range.{numbers_below}
 
 -- a tick of a CPU: the major frame, the scheduling group, whether it is the first tick of its minor frame, and how many
--- of the frame's ticks are left with this one counted
+-- of the frame's ticks remain with this one counted
 pub record Slot : Type 0 where
   pub major : ℕ
   pub group : ℕ
   pub first : Bool
-  pub left : ℕ
+  pub remaining : ℕ
 
 -- the ticks of a minor frame
 abbrev pub frame_slots : ℕ → Frame → List Slot
 frame_slots major f =
-    map (λ k. record { major = major; group = f.group; first = k == 0; left = f.ticks - k }) (numbers_below f.ticks)
+    map (λ k. record { major = major; group = f.group; first = k == 0; remaining = f.ticks - k }) (numbers_below f.ticks)
 
 -- the ticks of a CPU in all major frames, numbered from here on
 abbrev pub slots_from : ℕ → List (List Frame) → List Slot

@@ -2,7 +2,7 @@
 use Rattle.std.proofs.Common.{◌≡◌, ℕ, zero, suc, ◌+◌, ◌-◌, ◌*◌, ◌%◌, Bool, true, false, Option, None, Some, refl, sym, ap, ◌∙◌, arith}
 use Rattle.std.specs.Prelude.{bit_and}
 use Rattle.std.proofs.lemmas.Bool.{true≢false}
-use Rattle.machine_meaning.specs.Walks.{bits_of, span, index_at, is_present, is_leaf, is_misconfigured, ends, reads, walk_from}
+use Rattle.machine_meaning.specs.Walks.{bits_of, entry_size, index_at, is_present, is_leaf, is_misconfigured, leaf_end, reads, walk_from}
 use Rattle.machine_meaning.specs.declared.walk.Walk.{Walk}
 use Rattle.machine_meaning.specs.declared.walk.Walk.TheVariants.{Violation, Misconfigured}
 
@@ -36,7 +36,7 @@ module _ (entry : ℕ → ℕ → Option ℕ) (there : ℕ → Bool) (addr want 
     pub walk_bad : true ≡ is_present e → true ≡ is_misconfigured level e → Misconfigured ≡ walk_from entry there addr want level table rights
     walk_bad p b = let present = sym p in let bad = sym b in sym (walk_some ∙ rw (present, bad) refl)
 
-    pub walk_leaf : (w : Walk) (found number size : ℕ) → w ≡ ends there addr want (bit_and rights found) (4096 * number + addr % size) → found ≡ bits_of e 0 2 → number ≡ bits_of e 12 51 → size ≡ span level → true ≡ is_present e → false ≡ is_misconfigured level e → true ≡ is_leaf level e → w ≡ walk_from entry there addr want level table rights
+    pub walk_leaf : (w : Walk) (found number size : ℕ) → w ≡ leaf_end there addr want (bit_and rights found) (4096 * number + addr % size) → found ≡ bits_of e 0 2 → number ≡ bits_of e 12 51 → size ≡ entry_size level → true ≡ is_present e → false ≡ is_misconfigured level e → true ≡ is_leaf level e → w ≡ walk_from entry there addr want level table rights
     walk_leaf w found number size h f n z p b l =
         let present = sym p in
         let good = sym b in

@@ -5,7 +5,7 @@ use Rattle.std.specs.List.{All}
 use Rattle.muen_num.specs.declared.access.AccessKind.{AccessKind}
 use Rattle.machine_meaning.specs.Exits.{AreaEntry, entry_bytes, area_bytes, area_index, area_value}
 use Rattle.machine_meaning.specs.Memory.{Page, page_of, is_there, change, load_of, store_of}
-use Rattle.machine_meaning.specs.Walks.{walk_of, places_read, leaf_size}
+use Rattle.machine_meaning.specs.Walks.{walk_of, addresses_read, leaf_size}
 use Rattle.machine_meaning.specs.Same.{SameOutside, SameEntries}
 
 -- ---- a change of one page
@@ -69,10 +69,11 @@ abbrev pub SameWalks : Type 0
 SameWalks =
     (old new : List Page) (eptp addr : ℕ) (kind : AccessKind) → SameEntries eptp addr old new → walk_of new eptp addr kind ≡ walk_of old eptp addr kind
 
--- it reads entries at the same places
-abbrev pub SamePlaces : Type 0
-SamePlaces =
-    (old new : List Page) (eptp addr : ℕ) → SameEntries eptp addr old new → places_read new eptp addr ≡ places_read old eptp addr
+-- it reads entries at the same addresses
+abbrev pub SameAddresses : Type 0
+SameAddresses =
+    (old new : List Page) (eptp addr : ℕ) → SameEntries eptp addr old new
+    → addresses_read new eptp addr ≡ addresses_read old eptp addr
 
 -- the page that it ends at has the same size
 abbrev pub SameSizes : Type 0
@@ -94,4 +95,4 @@ ChangesDifferInTheirPage =
 abbrev pub WalksElsewhereStay : Type 0
 WalksElsewhereStay =
     (at n : ℕ) (old new : List Page) (eptp addr : ℕ) → SameOutside at n old new
-    → All (λ q. (q + 8 ≤ at) ⊎ (at + n ≤ q)) (places_read old eptp addr) → SameEntries eptp addr old new
+    → All (λ q. (q + 8 ≤ at) ⊎ (at + n ≤ q)) (addresses_read old eptp addr) → SameEntries eptp addr old new

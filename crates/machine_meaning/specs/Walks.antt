@@ -21,17 +21,17 @@ with_bits_of word lo hi v = word / 2 ^ (hi + 1) * 2 ^ (hi + 1) + (v * 2 ^ lo + w
 -- 0 of a page table
 
 -- how many bytes of addresses an entry stands for
-abbrev pub span : ℕ → ℕ
-span zero = 4096
-span (suc level) = 512 * span level
+abbrev pub entry_size : ℕ → ℕ
+entry_size zero = 4096
+entry_size (suc level) = 512 * entry_size level
 
 -- which entry of its table an address takes: its bits 47:39, 38:30, 29:21 and 20:12
 abbrev pub index_at : ℕ → ℕ → ℕ
-index_at level addr = addr / span level % 512
+index_at level addr = addr / entry_size level % 512
 
--- where entry i of a table lies
-abbrev pub place_of : ℕ → ℕ → ℕ
-place_of table i = 4096 * table + 8 * i
+-- the address of entry i of a table
+abbrev pub entry_address : ℕ → ℕ → ℕ
+entry_address table i = 4096 * table + 8 * i
 
 abbrev pub is_present : ℕ → Bool
 is_present e = not (bits_of e 0 2 == 0)
@@ -50,7 +50,7 @@ has_no_type e = (bits_of e 3 5 == 2) || ((bits_of e 3 5 == 3) || (bits_of e 3 5 
 
 -- an address bit below the size of the page
 abbrev pub is_misaligned : ℕ → ℕ → Bool
-is_misaligned level e = not (4096 * bits_of e 12 51 % span level == 0)
+is_misaligned level e = not (4096 * bits_of e 12 51 % entry_size level == 0)
 
 -- a bit that must be zero where an entry references a table: 7:3 in the PML4 table, 6:3 below
 abbrev pub has_reserved : ℕ → ℕ → Bool
@@ -69,9 +69,9 @@ is_misconfigured level e =
 -- ---- the walk, over any way to read entries and to know pages. Rights are those that all entries so far have
 
 -- the end at a leaf: the rights first, and then whether the target is there
-abbrev pub ends : (ℕ → Bool) → ℕ → ℕ → ℕ → ℕ → Walk
-ends there addr want rights place =
-    if bit_and rights want == want then (if there (place / 4096) then At place else Misconfigured) else Violation rights
+abbrev pub leaf_end : (ℕ → Bool) → ℕ → ℕ → ℕ → ℕ → Walk
+leaf_end there addr want rights address =
+    if bit_and rights want == want then (if there (address / 4096) then At address else Misconfigured) else Violation rights
 
 -- by what is read of an entry
 abbrev pub reads : (ℕ → Bool) → ℕ → ℕ → ℕ → ℕ → Option ℕ → (ℕ → ℕ → Walk) → Walk
@@ -81,7 +81,7 @@ reads there level addr want rights (Some e) deeper =
     then (if is_misconfigured level e
     then Misconfigured
     else (if is_leaf level e
-    then ends there addr want (bit_and rights (bits_of e 0 2)) (4096 * bits_of e 12 51 + addr % span level)
+    then leaf_end there addr want (bit_and rights (bits_of e 0 2)) (4096 * bits_of e 12 51 + addr % entry_size level)
     else deeper (bits_of e 12 51) (bit_and rights (bits_of e 0 2))))
     else Violation 0
 
@@ -96,7 +96,7 @@ walk_from entry there addr want (suc level) table rights =
 
 -- entry i of the table in this page
 abbrev pub entry_of : List Page → ℕ → ℕ → Option ℕ
-entry_of m table i = load_of m (place_of table i) 8
+entry_of m table i = load_of m (entry_address table i) 8
 
 -- the page of the PML4 table of an EPTP
 abbrev pub root_of : ℕ → ℕ
@@ -115,21 +115,22 @@ goes_on level (Some e) end deeper =
     if is_present e && not (is_misconfigured level e || is_leaf level e) then deeper (bits_of e 12 51) else end
 
 -- the addresses of the entries that a walk for this address reads, in order
-abbrev pub places_from : (ℕ → ℕ → Option ℕ) → ℕ → ℕ → ℕ → List ℕ
-places_from entry addr zero table = place_of table (index_at 0 addr) ∷ []
-places_from entry addr (suc level) table =
-    place_of table (index_at (suc level) addr)
-    ∷ goes_on (suc level) (entry table (index_at (suc level) addr)) [] (λ t. places_from entry addr level t)
+abbrev pub addresses_from : (ℕ → ℕ → Option ℕ) → ℕ → ℕ → ℕ → List ℕ
+addresses_from entry addr zero table = entry_address table (index_at 0 addr) ∷ []
+addresses_from entry addr (suc level) table =
+    entry_address table (index_at (suc level) addr)
+    ∷ goes_on (suc level) (entry table (index_at (suc level) addr)) [] (λ t. addresses_from entry addr level t)
 
-abbrev pub places_read : List Page → ℕ → ℕ → List ℕ
-places_read m eptp addr = places_from (entry_of m) addr 3 (root_of eptp)
+abbrev pub addresses_read : List Page → ℕ → ℕ → List ℕ
+addresses_read m eptp addr = addresses_from (entry_of m) addr 3 (root_of eptp)
 
 -- how many bytes the entry stands for that ends a walk
-abbrev pub end_span : (ℕ → ℕ → Option ℕ) → ℕ → ℕ → ℕ → ℕ
-end_span entry addr zero table = span 0
-end_span entry addr (suc level) table =
-    goes_on (suc level) (entry table (index_at (suc level) addr)) (span (suc level)) (λ t. end_span entry addr level t)
+abbrev pub end_entry_size : (ℕ → ℕ → Option ℕ) → ℕ → ℕ → ℕ → ℕ
+end_entry_size entry addr zero table = entry_size 0
+end_entry_size entry addr (suc level) table =
+    goes_on (suc level) (entry table (index_at (suc level) addr)) (entry_size (suc level))
+    (λ t. end_entry_size entry addr level t)
 
--- the size of the page by which this address is mapped, where a walk for reading it ends at a place
+-- the size of the page by which this address is mapped, where a walk for reading it ends at an address
 abbrev pub leaf_size : List Page → ℕ → ℕ → ℕ
-leaf_size m eptp addr = end_span (entry_of m) addr 3 (root_of eptp)
+leaf_size m eptp addr = end_entry_size (entry_of m) addr 3 (root_of eptp)

@@ -15,7 +15,7 @@ pub fn bits(word: u64, low: u32, high: u32) -> u64
     (word >> low) & (u64::MAX >> (HIGHEST_BIT - (high - low)))
 }
 
-// The bits above this one, in their places.
+// The bits above this one, where they stand in the word.
 fn bits_above(word: u64, high: u32) -> u64
     requires { high < 64 }
     ensures { result ≡ word / 2 ^ (high + 1) * 2 ^ (high + 1) }

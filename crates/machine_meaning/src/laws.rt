@@ -1,5 +1,5 @@
 //! Laws of memory and of walks: functions that do nothing, whose contracts say them.
-ghost use Rattle.machine_meaning.specs.Laws.{OtherPagesStay, ThePageChanges, PagesStayThere, NoPageIsMade, OtherPagesLoadTheSame, OtherBytesStay, TheStoredIsLoaded, LengthsStay, AreasAreReadBack, SameWalks, SamePlaces, SameSizes, StoresDifferInTheirBytes, ChangesDifferInTheirPage, WalksElsewhereStay};
+ghost use Rattle.machine_meaning.specs.Laws.{OtherPagesStay, ThePageChanges, PagesStayThere, NoPageIsMade, OtherPagesLoadTheSame, OtherBytesStay, TheStoredIsLoaded, LengthsStay, AreasAreReadBack, SameWalks, SameAddresses, SameSizes, StoresDifferInTheirBytes, ChangesDifferInTheirPage, WalksElsewhereStay};
 
 /// A change of a page changes that page as it says and no other, and makes or removes none.
 pub fn pages_change_alone()
@@ -26,7 +26,7 @@ pub fn areas_are_read_back()
 /// the memory.
 pub fn walks_depend_on_their_entries()
     ensures walks { SameWalks }
-    ensures places { SamePlaces }
+    ensures addresses { SameAddresses }
     ensures sizes { SameSizes }
 {}
 

@@ -1,4 +1,4 @@
--- Numbers that rise: how a search finds its first place, and why the pages of spans rise.
+-- Numbers that rise: how a search finds its first index, and why the pages of spans rise.
 use Rattle.std.proofs.Common.{◌≡◌, inl, inr, ℕ, zero, suc, ◌+◌, ◌*◌, ◌/◌, ◌%◌, ◌^◌, ◌<◌, ◌≤◌, List, [], ◌∷◌, ◌++◌, length, get_or, map, refl, sym, ap, subst, ◌∙◌, append_assoc, arith}
 use Rattle.std.proofs.lemmas.List.{append-nil}
 use Rattle.std.proofs.lemmas.Bool.{cases_lt}
@@ -72,17 +72,17 @@ later_spans s ss h =
       apart = λ i j d a b. h.apart (suc i) (suc j) d (omega arith) (omega arith);
     }
 
-end_page : (place bytes next : ℕ) → place % 4096 ≡ 0 → bytes % 4096 ≡ 0 → place + bytes ≤ next → 4096 * (place / 4096 + bytes / 4096) ≤ next
-end_page place bytes next a b h = omega arith
+end_page : (address bytes next : ℕ) → address % 4096 ≡ 0 → bytes % 4096 ≡ 0 → address + bytes ≤ next → 4096 * (address / 4096 + bytes / 4096) ≤ next
+end_page address bytes next a b h = omega arith
 
-first_page : (low place : ℕ) → 4096 * low ≤ place → low ≤ place / 4096
-first_page low place h = omega arith
+first_page : (low address : ℕ) → 4096 * low ≤ address → low ≤ address / 4096
+first_page low address h = omega arith
 
-spans_rising : (ss : List MemorySpan) (low : ℕ) → AreSpans ss → ((i : ℕ) (d : MemorySpan) → i < length ss → 4096 * low ≤ (get_or ss i d).place) → RisingFrom low (numbers_of (pages_of_spans ss))
+spans_rising : (ss : List MemorySpan) (low : ℕ) → AreSpans ss → ((i : ℕ) (d : MemorySpan) → i < length ss → 4096 * low ≤ (get_or ss i d).address) → RisingFrom low (numbers_of (pages_of_spans ss))
 spans_rising [] low h above = tt
 spans_rising (s ∷ ss) low h above =
     let here : IsSpan s = h.each 0 s (omega arith) in
-    pages_rising (length s.bytes / 4096) (s.place / 4096) low s.bytes (pages_of_spans ss) (first_page low s.place (above 0 s (omega arith))) (spans_rising ss (s.place / 4096 + length s.bytes / 4096) (later_spans s ss h) (λ i d l. end_page s.place (length s.bytes) (get_or ss i d).place here.aligned here.whole (h.apart 0 (suc i) d (omega arith) (omega arith))))
+    pages_rising (length s.bytes / 4096) (s.address / 4096) low s.bytes (pages_of_spans ss) (first_page low s.address (above 0 s (omega arith))) (spans_rising ss (s.address / 4096 + length s.bytes / 4096) (later_spans s ss h) (λ i d l. end_page s.address (length s.bytes) (get_or ss i d).address here.aligned here.whole (h.apart 0 (suc i) d (omega arith) (omega arith))))
 
 numbers_by : (ns : List ℕ) (fs : List (List ℕ)) → length ns ≡ length fs → numbers_of (pages_by ns fs) ≡ ns
 numbers_by [] fs e = refl
@@ -97,7 +97,7 @@ numbers_rise ns fs ss h same e =
 
 -- ---- a loop that takes spans from the front
 
-pub span_small : (rest next : List MemorySpan) (s : MemorySpan) (bytes : List ℕ) → AreSpans rest → rest ≡ s ∷ next → bytes ≡ s.bytes → s.place / 4096 + length bytes < 2 ^ 64
+pub span_small : (rest next : List MemorySpan) (s : MemorySpan) (bytes : List ℕ) → AreSpans rest → rest ≡ s ∷ next → bytes ≡ s.bytes → s.address / 4096 + length bytes < 2 ^ 64
 span_small rest next s bytes h step is =
     let here : IsSpan s = (subst AreSpans step h).each 0 s (omega arith) in
     let low = here.low in
@@ -106,9 +106,9 @@ span_small rest next s bytes h step is =
 pub spans_after : (rest next : List MemorySpan) (s : MemorySpan) → AreSpans rest → rest ≡ s ∷ next → AreSpans next
 spans_after rest next s h step = later_spans s next (subst AreSpans step h)
 
-pub spans_turn : (before after all : List Page) (rest next : List MemorySpan) (s : MemorySpan) (bytes : List ℕ) → before ++ pages_of_spans rest ≡ all → rest ≡ s ∷ next → after ≡ before ++ pages_in (length bytes / 4096) (s.place / 4096) bytes → bytes ≡ s.bytes → after ++ pages_of_spans next ≡ all
+pub spans_turn : (before after all : List Page) (rest next : List MemorySpan) (s : MemorySpan) (bytes : List ℕ) → before ++ pages_of_spans rest ≡ all → rest ≡ s ∷ next → after ≡ before ++ pages_in (length bytes / 4096) (s.address / 4096) bytes → bytes ≡ s.bytes → after ++ pages_of_spans next ≡ all
 spans_turn before after all rest next s bytes was step added is =
-    let part : List ℕ → List Page = λ bs. pages_in (length bs / 4096) (s.place / 4096) bs in
+    let part : List ℕ → List Page = λ bs. pages_in (length bs / 4096) (s.address / 4096) bs in
     ap (λ ps. ps ++ pages_of_spans next) (added ∙ ap (λ bs. before ++ part bs) is)
     ∙ (append_assoc before (part s.bytes) (pages_of_spans next) ∙ (ap (λ ss. before ++ pages_of_spans ss) (sym step) ∙ was))
 
@@ -118,13 +118,13 @@ spans_done ps all (s ∷ rest) h e = absurd (omega arith)
 
 -- ---- two spans
 
-ends_apart : (a b : MemorySpan) → end_of a ≤ b.place → AreApart (a ∷ b ∷ [])
+ends_apart : (a b : MemorySpan) → end_of a ≤ b.address → AreApart (a ∷ b ∷ [])
 ends_apart a b h i zero d l m = absurd (omega arith)
 ends_apart a b h zero (suc zero) d l m = h
 ends_apart a b h (suc i) (suc zero) d l m = absurd (omega arith)
 ends_apart a b h i (suc (suc j)) d l m = absurd (omega arith)
 
-pub two_spans : (ss : List MemorySpan) (a b : MemorySpan) → ss ≡ a ∷ b ∷ [] → IsSpan a → IsSpan b → end_of a ≤ b.place → AreSpans ss
+pub two_spans : (ss : List MemorySpan) (a b : MemorySpan) → ss ≡ a ∷ b ∷ [] → IsSpan a → IsSpan b → end_of a ≤ b.address → AreSpans ss
 two_spans ss a b e first second apart =
     rw e (record {
       each = All-cons IsSpan a (b ∷ []) first (All-cons IsSpan b [] second (All-nil IsSpan));

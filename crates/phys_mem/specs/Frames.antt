@@ -19,7 +19,7 @@ IsRising ns = (i j : ℕ) → i < j → j < length ns → slice_index ns i < sli
 abbrev pub NoneBelow : List ℕ → ℕ → ℕ → Type 0
 NoneBelow ns k i = (j : ℕ) → j < i → slice_index ns j ≢ k
 
--- i is the first place of k
+-- i is the first index of k
 pub record IsFirst (ns : List ℕ) (k i : ℕ) : Type 0 where
   pub within : i < length ns
   pub here : slice_index ns i ≡ k

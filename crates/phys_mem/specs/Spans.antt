@@ -6,24 +6,24 @@ use Rattle.phys_mem.specs.Frames.{pages_in}
 use Rattle.phys_mem.specs.declared.spans.MemorySpan.{MemorySpan}
 
 abbrev pub end_of : MemorySpan → ℕ
-end_of s = s.place + length s.bytes
+end_of s = s.address + length s.bytes
 
 -- whole pages, below 2 ^ 40
 pub record IsSpan (s : MemorySpan) : Type 0 where
-  pub aligned : s.place % 4096 ≡ 0
+  pub aligned : s.address % 4096 ≡ 0
   pub whole : length s.bytes % 4096 ≡ 0
   pub low : end_of s ≤ 2 ^ 40
 
 -- each ends where the next one begins, or before it
 abbrev pub AreApart : List MemorySpan → Type 0
 AreApart ss =
-    (i j : ℕ) (d : MemorySpan) → i < j → j < length ss → end_of (slice_index_or ss i d) ≤ (slice_index_or ss j d).place
+    (i j : ℕ) (d : MemorySpan) → i < j → j < length ss → end_of (slice_index_or ss i d) ≤ (slice_index_or ss j d).address
 
 pub record AreSpans (ss : List MemorySpan) : Type 0 where
   pub each : All IsSpan ss
   pub apart : AreApart ss
 
--- the pages of spans: of each its bytes, cut into pages that are numbered from that of its place on
+-- the pages of spans: of each its bytes, cut into pages that are numbered from that of its address on
 abbrev pub pages_of_spans : List MemorySpan → List Page
 pages_of_spans [] = []
-pages_of_spans (s ∷ ss) = pages_in (length s.bytes / 4096) (s.place / 4096) s.bytes ++ pages_of_spans ss
+pages_of_spans (s ∷ ss) = pages_in (length s.bytes / 4096) (s.address / 4096) s.bytes ++ pages_of_spans ss

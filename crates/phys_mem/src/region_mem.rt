@@ -6,7 +6,7 @@ use crate::little_endian::{number_of, spell};
 use crate::memory::{PAGE_BYTES, PhysMem};
 use crate::spans::{MemorySpan, add_pages};
 use muen_num::limits::PAGE;
-use muen_num::{NoMemory, AccessSize};
+use muen_num::{AccessSize, NoMemory};
 use std::alloc::Global;
 
 /// Memory that is made of spans of pages. A page is found by a binary search over the pages' numbers.
@@ -18,7 +18,7 @@ pub struct RegionMem {
     ghost rising: { IsRising numbers.items },
 }
 
-// The place of a number among numbers that rise.
+// The index of a number among numbers that rise.
 fn find(numbers: &[u64], number: u64) -> Option<usize>
     requires { IsRising numbers.now }
     ensures { MatchOption result (NoneBelow numbers.now number (length numbers.now)) (IsFirst numbers.now number) }
@@ -49,7 +49,7 @@ impl RegionMem {
             add_pages(
                 &mut numbers,
                 &mut frames,
-                span.place / PAGE,
+                span.address / PAGE,
                 span.bytes.items(),
             )?;
         }

@@ -9,7 +9,7 @@ use muen_num::{NoMemory, Seq};
 #[derive(Drop)]
 pub struct MemorySpan {
     /// The physical address of its first byte.
-    pub place: u64,
+    pub address: u64,
     pub bytes: Seq<u8>,
 }
 

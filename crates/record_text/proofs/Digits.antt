@@ -6,7 +6,7 @@ use Rattle.std.specs.List.{list_all}
 use Rattle.std.proofs.lemmas.List.{drop_more}
 use Rattle.std.proofs.lemmas.Bool.{lt-ltb, le-ltb}
 use Rattle.std.proofs.lemmas.Bool.Decides.{nat_tests}
-use Rattle.record_text.specs.Saying.{ended, within_word}
+use Rattle.record_text.specs.Saying.{with_line_error, within_word}
 use Rattle.record_text.specs.Words.{below, digits_from, is_badly_begun, number_below, number_of}
 use Rattle.record_text.specs.declared.fault.LineWant.{LineWant}
 use Rattle.record_text.specs.declared.fault.LineWant.TheVariants.{Number, Range}
@@ -89,21 +89,21 @@ unfolding number_below
 narrower end word n h = narrow end (number_of word) n h
 
 -- what the call for a number below 2^64 answered, at a smaller end
-ended-Ok : (r : Result ℕ LineWant) (n : ℕ) → Ok n ≡ ended r → r ≡ Ok n
-ended-Ok (Ok m) n h = cc
-ended-Ok (Err want) n h = cc
+with_line_error-Ok : (r : Result ℕ LineWant) (n : ℕ) → Ok n ≡ with_line_error r → r ≡ Ok n
+with_line_error-Ok (Ok m) n h = cc
+with_line_error-Ok (Err want) n h = cc
 
-pub number_is : (end : ℕ) (word : List ℕ) (n : ℕ) → Ok n ≡ ended (number_below (2 ^ 64) word) → n < end → Ok n ≡ ended (number_below end word)
+pub number_is : (end : ℕ) (word : List ℕ) (n : ℕ) → Ok n ≡ with_line_error (number_below (2 ^ 64) word) → n < end → Ok n ≡ with_line_error (number_below end word)
 number_is end word n h less =
-    let e = narrower end word n (ended-Ok (number_below (2 ^ 64) word) n h) in
+    let e = narrower end word n (with_line_error-Ok (number_below (2 ^ 64) word) n h) in
     let t = lt-ltb n end less in
-    sym (ap ended (e ∙ ap (λ b. if b then Ok n else Err Range) t))
+    sym (ap with_line_error (e ∙ ap (λ b. if b then Ok n else Err Range) t))
 
-pub range_is : (end : ℕ) (word : List ℕ) (n : ℕ) → Ok n ≡ ended (number_below (2 ^ 64) word) → end ≤ n → Err (Want Range) ≡ ended (number_below end word)
+pub range_is : (end : ℕ) (word : List ℕ) (n : ℕ) → Ok n ≡ with_line_error (number_below (2 ^ 64) word) → end ≤ n → Err (Want Range) ≡ with_line_error (number_below end word)
 range_is end word n h above =
-    let e = narrower end word n (ended-Ok (number_below (2 ^ 64) word) n h) in
+    let e = narrower end word n (with_line_error-Ok (number_below (2 ^ 64) word) n h) in
     let t = le-ltb n end above in
-    sym (ap ended (e ∙ ap (λ b. if b then Ok n else Err Range) t))
+    sym (ap with_line_error (e ∙ ap (λ b. if b then Ok n else Err Range) t))
 
 above_all : (end m : ℕ) → end ≤ 2 ^ 64 → nat_lt m (2 ^ 64) ≡ false → nat_lt m end ≡ false
 above_all end m h e = grind (arith, nat_tests)

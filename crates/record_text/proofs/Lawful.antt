@@ -13,7 +13,7 @@ use Rattle.record_text.specs.Bench.{Bench, bench_of, is_known}
 use Rattle.record_text.specs.DeviceRecord.{DeviceRecord, NamedInput, port_input, memory_input, irq_input, dma_input}
 use Rattle.record_text.specs.Law.{IsInputOf, IsRecordOf, NamesEachOnce, is_target}
 use Rattle.record_text.specs.Made.{RisesTo}
-use Rattle.record_text.specs.Placing.{bytes_in, irq_of, is_in_span, memory_of, order_at, placed, placed_at, placed_input, port_of, raised}
+use Rattle.record_text.specs.Resolving.{bytes_in, irq_of, is_in_span, memory_of, order_at, resolved, resolved_at, resolved_input, port_of, raised}
 use Rattle.record_text.specs.Reading.{Standing, all_ascii, at_start, entry_at, nothing_until, record_after, record_of, standing_after, with_entry}
 use Rattle.record_text.specs.Steps.{◌>>=◌, mapped}
 use Rattle.record_text.specs.Table.{Entry, input_entry, order_entry, end_entry, entry_tick}
@@ -73,7 +73,7 @@ at_most most [] h = tt
 at_most most (e ∷ []) h = (h, tt)
 at_most most (e ∷ f ∷ es) h = let later = at_most most (f ∷ es) h.1 in (omega (arith, h.0, later.0), later)
 
--- ---- what the lines that are left say
+-- ---- what the lines that remain say
 
 abbrev InputHolds : Bench → NamedInput → Type 0
 InputHolds bench input = IsTrue (is_known bench input) × IsInput input
@@ -159,7 +159,7 @@ holds_after bench s n (line ∷ lines) r h =
     let more = holds_with bench s first.0 rest.0 (entry_at-Ok bench s n line first.0 first.1) (holds_after bench (standing_after s first.0) (n + 1) lines rest.0 rest.1) in
     rw whole at more
 
--- ---- places
+-- ---- what is found lies among the devices
 
 found_any : {X : Type 0} (p q : X → Bool) (xs : List X) (x : X) → find p xs ≡ Some x → q x ≡ true → list_any q xs ≡ true
 found_any p q [] x h t = cc
@@ -184,13 +184,13 @@ bytes_fit : (devices : Devices) (name memory : List ℕ) (offset : ℕ) (bytes :
     → is_some (option_and_then (bytes_in offset bytes) o) ≡ true → IsInputOf devices (unwrap_or (option_and_then (bytes_in offset bytes) o) Idle)
 bytes_fit devices name memory offset bytes d None e f few h = cc
 bytes_fit devices name memory offset bytes d (Some m) e f few h =
-    elim (nat_le (offset + length bytes) m.bytes) as (λ b. nat_le (offset + length bytes) m.bytes ≡ b → is_some (if b then Some (Mem (m.place + offset) bytes) else None) ≡ true
-    → IsInputOf devices (unwrap_or (if b then Some (Mem (m.place + offset) bytes) else None) Idle)) [
+    elim (nat_le (offset + length bytes) m.bytes) as (λ b. nat_le (offset + length bytes) m.bytes ≡ b → is_some (if b then Some (Mem (m.address + offset) bytes) else None) ≡ true
+    → IsInputOf devices (unwrap_or (if b then Some (Mem (m.address + offset) bytes) else None) Idle)) [
       | true ↦ λ fits t.
           let le = leb-true (offset + length bytes) m.bytes fits in
-          let here = and_from (nat_le m.place (m.place + offset)) (nat_le (m.place + offset + length bytes) (m.place + m.bytes)) (le-leb m.place (m.place + offset) (omega arith)) (le-leb (m.place + offset + length bytes) (m.place + m.bytes) (omega (arith, le))) in
-          let within = found_any (λ m. bytes_eq m.name memory) (λ (w : RecordMemory). nat_le w.place (m.place + offset) && nat_le (m.place + offset + length bytes) (w.place + w.bytes)) d.memories m f here in
-          (found_any (λ d. bytes_eq d.name name) (λ d. list_any (λ w. nat_le w.place (m.place + offset) && nat_le (m.place + offset + length bytes) (w.place + w.bytes)) d.memories) devices.devices d e within, few.some, few.few)
+          let here = and_from (nat_le m.address (m.address + offset)) (nat_le (m.address + offset + length bytes) (m.address + m.bytes)) (le-leb m.address (m.address + offset) (omega arith)) (le-leb (m.address + offset + length bytes) (m.address + m.bytes) (omega (arith, le))) in
+          let within = found_any (λ m. bytes_eq m.name memory) (λ (w : RecordMemory). nat_le w.address (m.address + offset) && nat_le (m.address + offset + length bytes) (w.address + w.bytes)) d.memories m f here in
+          (found_any (λ d. bytes_eq d.name name) (λ d. list_any (λ w. nat_le w.address (m.address + offset) && nat_le (m.address + offset + length bytes) (w.address + w.bytes)) d.memories) devices.devices d e within, few.some, few.few)
       | false ↦ λ fits t. cc
     ] refl h
 
@@ -225,7 +225,7 @@ dma_fits devices addr bytes at n less few e =
       | false ↦ λ t. tt
     ] refl
 
-input_fits : (devices : Devices) (input : NamedInput) → InputHolds (bench_of devices) input → IsInputOf devices (unwrap_or (placed_input devices input) Idle)
+input_fits : (devices : Devices) (input : NamedInput) → InputHolds (bench_of devices) input → IsInputOf devices (unwrap_or (resolved_input devices input) Idle)
 input_fits devices (port_input device port value) h =
     port_fits devices device port value (find (λ d. bytes_eq d.name device) devices.devices) refl h.1 (sym (known_is devices (port_input device port value)) ∙ h.0)
 input_fits devices (memory_input device memory offset bytes) h =
@@ -234,9 +234,9 @@ input_fits devices (irq_input device irq) h = irq_fits devices device irq (find 
 input_fits devices (dma_input device addr bytes) h =
     dma_fits devices addr bytes (position_or_len (λ d. bytes_eq d.name device) devices.devices) (length devices.devices) h.1.0 h.1.1 refl
 
--- ---- the record by places
+-- ---- the record by addresses and numbers
 
-input_ticks : (devices : Devices) (es : List (ℕ × NamedInput)) → map (λ i. i.tick) (map (placed_at devices) es) ≡ map (λ e. e.0) es
+input_ticks : (devices : Devices) (es : List (ℕ × NamedInput)) → map (λ i. i.tick) (map (resolved_at devices) es) ≡ map (λ e. e.0) es
 input_ticks devices [] = refl
 input_ticks devices (e ∷ es) = ap (λ ts. e.0 ∷ ts) (input_ticks devices es)
 
@@ -248,28 +248,28 @@ all_map : {X Y : Type 0} (P : X → Type 0) (Q : Y → Type 0) (f : X → Y) →
 all_map P Q f g [] h = tt
 all_map P Q f g (x ∷ xs) h = (g x h.0, all_map P Q f g xs h.1)
 
-placed_lawful : (devices : Devices) (r : DeviceRecord) → Holds (bench_of devices) at_start r → IsRecordOf devices (placed devices r)
-placed_lawful devices r h = record {
+resolved_lawful : (devices : Devices) (r : DeviceRecord) → Holds (bench_of devices) at_start r → IsRecordOf devices (resolved devices r)
+resolved_lawful devices r h = record {
   ticks = h.limit (omega arith);
   inputs_in_order = rw (input_ticks devices r.inputs) (never_falling 0 r.end r.inputs h.inputs);
-  inputs_by_end = All-from_recursion _ _ (all_map (λ e. e.0 ≤ r.end) (λ i. i.tick ≤ r.end) (placed_at devices) (λ e le. le) r.inputs (within_end 0 r.end r.inputs h.inputs));
-  inputs_fit = All-from_recursion _ _ (all_map (λ e. InputHolds (bench_of devices) e.1) (λ i. IsInputOf devices i.input) (placed_at devices) (λ e. input_fits devices e.1) r.inputs h.known);
+  inputs_by_end = All-from_recursion _ _ (all_map (λ e. e.0 ≤ r.end) (λ i. i.tick ≤ r.end) (resolved_at devices) (λ e le. le) r.inputs (within_end 0 r.end r.inputs h.inputs));
+  inputs_fit = All-from_recursion _ _ (all_map (λ e. InputHolds (bench_of devices) e.1) (λ i. IsInputOf devices i.input) (resolved_at devices) (λ e. input_fits devices e.1) r.inputs h.known);
   orders_rise = rw (order_ticks r.orders) (rising r.end (map (λ o. o.0) r.orders) h.rise);
   orders_by_end = All-from_recursion _ _ (all_map (λ o. o.0 ≤ r.end) (λ o. o.tick ≤ r.end) order_at (λ o le. le) r.orders (at_most r.end r.orders h.rise));
   orders_name_each = All-from_recursion _ _ (all_map (OrderHolds (bench_of devices) at_start) (λ o. NamesEachOnce devices.cpus o.cpus) order_at (λ o holds. holds.each) r.orders h.orders);
 }
 
-record_lawful : (devices : Devices) (text : List ℕ) (r : DeviceRecord) → record_of text (bench_of devices) ≡ Ok r → IsRecordOf devices (placed devices r)
+record_lawful : (devices : Devices) (text : List ℕ) (r : DeviceRecord) → record_of text (bench_of devices) ≡ Ok r → IsRecordOf devices (resolved devices r)
 unfolding record_of
 record_lawful devices text r h =
     let lines = passed (all_ascii 1 (lines_of text)) (record_after (bench_of devices) at_start 1 (lines_of text)) r h in
-    placed_lawful devices r (holds_after (bench_of devices) at_start 1 (lines_of text) r lines.1)
+    resolved_lawful devices r (holds_after (bench_of devices) at_start 1 (lines_of text) r lines.1)
 
-from_mapped : (devices : Devices) (s : Result DeviceRecord RecordFault) (x : Record) → ((r : DeviceRecord) → s ≡ Ok r → IsRecordOf devices (placed devices r)) → mapped (placed devices) s ≡ Ok x → IsRecordOf devices x
-from_mapped devices (Ok r) x law h = let same : placed devices r ≡ x = cc in rw same at (law r refl)
+from_mapped : (devices : Devices) (s : Result DeviceRecord RecordFault) (x : Record) → ((r : DeviceRecord) → s ≡ Ok r → IsRecordOf devices (resolved devices r)) → mapped (resolved devices) s ≡ Ok x → IsRecordOf devices x
+from_mapped devices (Ok r) x law h = let same : resolved devices r ≡ x = cc in rw same at (law r refl)
 from_mapped devices (Err fault) x law h = cc
 
-pub read_lawful : (devices : Devices) (text : List ℕ) (x : Record) → mapped (placed devices) (record_of text (bench_of devices)) ≡ Ok x → IsRecordOf devices x
+pub read_lawful : (devices : Devices) (text : List ℕ) (x : Record) → mapped (resolved devices) (record_of text (bench_of devices)) ≡ Ok x → IsRecordOf devices x
 read_lawful devices text x h = from_mapped devices (record_of text (bench_of devices)) x (λ r. record_lawful devices text r) h
 
 pub ruleset lawful = (read_lawful)

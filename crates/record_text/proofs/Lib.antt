@@ -1,6 +1,6 @@
 pub mod Digits
-pub mod Endings
 pub mod Lawful
+pub mod LineErrors
 pub mod Lines
 pub mod Orders
 pub mod Parts

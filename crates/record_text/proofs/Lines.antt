@@ -9,7 +9,7 @@ use Rattle.std.proofs.lemmas.List.{map_push}
 use Rattle.record_text.specs.Bench.{bench_device, bench_of, has_bytes, has_irq, has_port, is_known}
 use Rattle.record_text.specs.DeviceRecord.{DeviceRecord, NamedInput, port_input, memory_input, irq_input, dma_input}
 use Rattle.record_text.specs.Made.{grown, made_line, made_says, made_with, standing_of, with_end, with_input, with_order}
-use Rattle.record_text.specs.Placing.{bytes_in, irq_of, is_in_span, memory_of, order_at, placed, placed_at, placed_input, port_of, raised}
+use Rattle.record_text.specs.Resolving.{bytes_in, irq_of, is_in_span, memory_of, order_at, resolved, resolved_at, resolved_input, port_of, raised}
 use Rattle.record_text.specs.Reading.{Standing, are_distinct, entry_at, in_line, names_known, not_back, nothing_until, order_fits, record_after, standing_after, with_entry}
 use Rattle.record_text.specs.Saying.{line_of, said}
 use Rattle.record_text.specs.Steps.{◌>>=◌, ◌>>◌, mapped}
@@ -31,7 +31,7 @@ use Rattle.record_text.specs.declared.record.Input.{Input}
 use Rattle.record_text.specs.declared.record.Input.TheVariants.{Idle}
 use Rattle.record_text.specs.declared.record.Record.{Record}
 
--- ---- what is on the bench is what has a place
+-- ---- what is on the bench is what is resolved
 
 find-map : {X Y : Type 0} (f : X → Y) (p : Y → Bool) (xs : List X) → find p (map f xs) ≡ option_map f (find (λ x. p (f x)) xs)
 find-map f p [] = refl
@@ -78,18 +78,18 @@ irq_known irq (Some d) =
     ∙ some-map (λ (i : RecordIrq). i.name) (find (λ i. bytes_eq i.name irq) d.irqs)
     ∙ sym (some-map (λ (i : RecordIrq). raised i.target) (find (λ i. bytes_eq i.name irq) d.irqs))
 
-found_place : {X : Type 0} (p : X → Bool) (xs : List X) → nat_lt (position_or_len p xs) (length xs) ≡ is_some (find p xs)
-found_place p [] = refl
-found_place p (x ∷ xs) =
+found_position : {X : Type 0} (p : X → Bool) (xs : List X) → nat_lt (position_or_len p xs) (length xs) ≡ is_some (find p xs)
+found_position p [] = refl
+found_position p (x ∷ xs) =
     elim (p x) as (λ b. nat_lt (cond (not b) (1 + position_or_len p xs) 0) (length (x ∷ xs)) ≡ is_some (cond b (Some x) (find p xs))) [
       | true ↦ grind (arith, nat_tests)
-      | false ↦ let e : nat_lt (1 + position_or_len p xs) (length (x ∷ xs)) ≡ nat_lt (position_or_len p xs) (length xs) = grind (arith, nat_tests) in e ∙ found_place p xs
+      | false ↦ let e : nat_lt (1 + position_or_len p xs) (length (x ∷ xs)) ≡ nat_lt (position_or_len p xs) (length xs) = grind (arith, nat_tests) in e ∙ found_position p xs
     ]
 
 found_number : {X : Type 0} (p : X → Bool) (xs : List X) → is_some (position p xs) ≡ is_some (find p xs)
-found_number p xs = some_if (nat_lt (position_or_len p xs) (length xs)) (position_or_len p xs) ∙ found_place p xs
+found_number p xs = some_if (nat_lt (position_or_len p xs) (length xs)) (position_or_len p xs) ∙ found_position p xs
 
-pub known_is : (devices : Devices) (input : NamedInput) → is_known (bench_of devices) input ≡ is_some (placed_input devices input)
+pub known_is : (devices : Devices) (input : NamedInput) → is_known (bench_of devices) input ≡ is_some (resolved_input devices input)
 known_is devices (port_input device port value) =
     ap (λ o. option_map_or (has_port port) o false) (find-map bench_device (λ d. bytes_eq d.name device) devices.devices)
     ∙ port_known port value (find (λ d. bytes_eq d.name device) devices.devices)
@@ -115,18 +115,18 @@ ruled devices m n e = do
   names_known (bench_of devices) n e
   Ok e
 
-says_input : (devices : Devices) (m : Made) (n tick : ℕ) (input : NamedInput) (o : Option Input) → placed_input devices input ≡ o
+says_input : (devices : Devices) (m : Made) (n tick : ℕ) (input : NamedInput) (o : Option Input) → resolved_input devices input ≡ o
     → made_says m n tick (InputSaid o) ≡ mapped (made_with devices m) ((if is_some o then Ok tt else Err (Unknown n)) >> Ok (input_entry tick input))
 says_input devices m n tick input None e = refl
 says_input devices m n tick input (Some x) e = ap (λ o. Ok (with_input m tick (unwrap_or o Idle))) (sym e)
 
 pub made_is : (devices : Devices) (m : Made) (n : ℕ) (e : Entry) → made_line m n (line_of devices e) ≡ mapped (made_with devices m) (ruled devices m n e)
 made_is devices m n (input_entry tick input) =
-    elim (nat_lt tick m.tick) as (λ b. (if b then Err (Back n) else made_says m n tick (InputSaid (placed_input devices input)))
+    elim (nat_lt tick m.tick) as (λ b. (if b then Err (Back n) else made_says m n tick (InputSaid (resolved_input devices input)))
     ≡ mapped (made_with devices m) ((if b then Err (Back n) else Ok tt) >> (Ok tt >> ((if is_known (bench_of devices) input then Ok tt else Err (Unknown n)) >> Ok (input_entry tick input))))) [
       | true ↦ refl
       | false ↦
-          says_input devices m n tick input (placed_input devices input) refl
+          says_input devices m n tick input (resolved_input devices input) refl
           ∙ ap (λ b. mapped (made_with devices m) ((if b then Ok tt else Err (Unknown n)) >> Ok (input_entry tick input))) (sym (known_is devices input))
     ]
 made_is devices m n (order_entry tick cpus) =
@@ -177,7 +177,7 @@ line_refused devices m n text want h e =
 
 pub ruleset lines_made = (after_end, line_made, line_refused)
 
--- ---- the lines that are left
+-- ---- the lines that remain
 
 standing_with : (devices : Devices) (m : Made) (e : Entry) → standing_of (made_with devices m e) ≡ standing_after (standing_of m) e
 standing_with devices m (input_entry tick input) = refl
@@ -188,9 +188,9 @@ standing_with devices m (end_entry tick) = refl
 entry_grown : (devices : Devices) (m : Made) (e : Entry) (r : Result DeviceRecord RecordFault)
     → grown devices m (r >>= λ more. Ok (with_entry e more)) ≡ grown devices (made_with devices m e) r
 entry_grown devices m (input_entry tick input) (Ok r) =
-    ap (λ inputs. Ok (record { end = r.end; inputs = inputs; orders = m.orders ++ map order_at r.orders })) (sym (append_assoc m.inputs (placed_at devices (tick, input) ∷ []) (map (placed_at devices) r.inputs)))
+    ap (λ inputs. Ok (record { end = r.end; inputs = inputs; orders = m.orders ++ map order_at r.orders })) (sym (append_assoc m.inputs (resolved_at devices (tick, input) ∷ []) (map (resolved_at devices) r.inputs)))
 entry_grown devices m (order_entry tick cpus) (Ok r) =
-    ap (λ orders. Ok (record { end = r.end; inputs = m.inputs ++ map (placed_at devices) r.inputs; orders = orders })) (sym (append_assoc m.orders (order_at (tick, cpus) ∷ []) (map order_at r.orders)))
+    ap (λ orders. Ok (record { end = r.end; inputs = m.inputs ++ map (resolved_at devices) r.inputs; orders = orders })) (sym (append_assoc m.orders (order_at (tick, cpus) ∷ []) (map order_at r.orders)))
 entry_grown devices m (end_entry tick) (Ok r) = refl
 entry_grown devices m e (Err fault) = refl
 
@@ -227,7 +227,7 @@ pub grown_to_fault : (devices : Devices) (m : Made) (n : ℕ) (line : List ℕ) 
 unfolding record_after
 grown_to_fault devices m n line lines fault h = grown_refused devices m fault (entry_at (bench_of devices) (standing_of m) n line) _ h
 
--- no line is left
+-- no line remains
 pub grown_ended : (devices : Devices) (m : Made) (n : ℕ) → m.ended ≡ true
     → grown devices m (record_after (bench_of devices) (standing_of m) n []) ≡ Ok (record { end = m.tick; inputs = m.inputs; orders = m.orders })
 unfolding record_after
@@ -240,7 +240,7 @@ unfolding record_after
 grown_unended devices m n h = ap (λ b. grown devices m (if b then Ok (nothing_until m.tick) else Err (NoEnd n))) h
 
 -- nothing was read yet
-pub grown_none : (devices : Devices) (r : Result DeviceRecord RecordFault) → grown devices (record { tick = 0; ended = false; inputs = []; orders = [] }) r ≡ mapped (placed devices) r
+pub grown_none : (devices : Devices) (r : Result DeviceRecord RecordFault) → grown devices (record { tick = 0; ended = false; inputs = []; orders = [] }) r ≡ mapped (resolved devices) r
 grown_none devices (Ok r) = refl
 grown_none devices (Err fault) = refl
 

@@ -9,8 +9,8 @@ use Rattle.record_text.specs.Words.{lines_of, parts_of, without_empty_end}
 
 -- ---- cut at the first such byte
 
-is_place : (a n at : ℕ) → cond (ltb a n) (Some a) None ≡ Some at → at ≡ a
-is_place a n at h = grind (arith, nat_tests)
+is_position : (a n at : ℕ) → cond (ltb a n) (Some a) None ≡ Some at → at ≡ a
+is_position a n at h = grind (arith, nat_tests)
 
 is_within : (a n at : ℕ) → cond (ltb a n) (Some a) None ≡ Some at → a < n
 is_within a n at h = grind (arith, nat_tests)
@@ -21,7 +21,7 @@ is_none a n h = grind (arith, nat_tests)
 pub parts_at : (byte : ℕ) (text : List ℕ) (at : ℕ) → position (λ c. c == byte) text ≡ Some at → parts_of byte text ≡ take at text ∷ parts_of byte (drop (at + 1) text)
 parts_at byte text at h =
     let p : ℕ → Bool = λ c. c == byte in
-    let e = is_place (position_or_len p text) (length text) at h in
+    let e = is_position (position_or_len p text) (length text) at h in
     rw e (slice_split_first p text 0 (is_within (position_or_len p text) (length text) at h))
 
 pub parts_none : (byte : ℕ) (text : List ℕ) → position (λ c. c == byte) text ≡ None → parts_of byte text ≡ text ∷ []

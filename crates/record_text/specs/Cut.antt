@@ -1,4 +1,4 @@
--- What is left of a text that is cut into parts.
+-- What remains of a text that is cut into parts.
 use Rattle.std.specs.Prelude.{◌≡◌, ℕ, List, [], ◌∷◌, Option, Some, None, Result, Err}
 use Rattle.std.specs.Borrow.{Bor}
 use Rattle.record_text.specs.Words.{parts_of}
@@ -8,14 +8,14 @@ use Rattle.record_text.specs.declared.fault.LineWant.TheVariants.{Count}
 use Rattle.record_text.specs.declared.number.LineError.{LineError}
 use Rattle.record_text.specs.declared.number.LineError.TheVariants.{Want}
 
--- the parts that are left: none, or at least one
-abbrev pub parts_left : ℕ → Option (Bor (List ℕ)) → List (List ℕ)
-parts_left byte None = []
-parts_left byte (Some rest) = parts_of byte rest.now
+-- the parts that remain: none, or at least one
+abbrev pub parts_remaining : ℕ → Option (Bor (List ℕ)) → List (List ℕ)
+parts_remaining byte None = []
+parts_remaining byte (Some rest) = parts_of byte rest.now
 
--- the words of a line that are left
-abbrev pub words_left : Words → List (List ℕ)
-words_left words = parts_left 32 words.rest
+-- the words of a line that remain
+abbrev pub words_remaining : Words → List (List ℕ)
+words_remaining words = parts_remaining 32 words.rest
 
 -- the first word was taken, or there was none
 abbrev pub TakesWord : List (List ℕ) → Option (Bor (List ℕ)) → List (List ℕ) → Type 0
@@ -24,4 +24,4 @@ TakesWord before (Some word) after = before ≡ word.now ∷ after
 
 -- there is another number of words than what was wanted
 abbrev pub IsMiscounted : {X : Type 0} → Result X LineWant → LineError → Type 0
-IsMiscounted r end = (end ≡ Want Count) × (r ≡ Err Count)
+IsMiscounted r error = (error ≡ Want Count) × (r ≡ Err Count)

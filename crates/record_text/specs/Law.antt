@@ -3,7 +3,7 @@ use Rattle.std.specs.Prelude.{◌≡◌, ℕ, ◌+◌, ◌<◌, ◌≤◌, ◌==
 use Rattle.std.specs.List.{list_all, list_any}
 use Rattle.std.specs.List.Sorted.{IsNonDecreasing, IsStrictlyIncreasing}
 use Rattle.muen_num.specs.declared.limits.TheConstants.{GUEST_END, MOST_TICKS}
-use Rattle.record_text.specs.Placing.{is_in_span}
+use Rattle.record_text.specs.Resolving.{is_in_span}
 use Rattle.record_text.specs.Reading.{are_distinct}
 use Rattle.record_text.specs.declared.devices.Devices.{Devices}
 use Rattle.record_text.specs.declared.devices.IrqTarget.{IrqTarget}
@@ -20,10 +20,10 @@ is_target subject vector (Some target) = (target.subject == subject) && (target.
 abbrev pub has_port_of_devices : Devices → ℕ → Bool
 has_port_of_devices devices port = list_any (λ d. list_any (is_in_span port) d.ports) devices.devices
 
--- as many bytes from a place on lie in the memory of some device
+-- as many bytes from an address on lie in the memory of some device
 abbrev pub has_memory_of_devices : Devices → ℕ → ℕ → Bool
 has_memory_of_devices devices at count =
-    list_any (λ d. list_any (λ m. nat_le m.place at && nat_le (at + count) (m.place + m.bytes)) d.memories) devices.devices
+    list_any (λ d. list_any (λ m. nat_le m.address at && nat_le (at + count) (m.address + m.bytes)) d.memories) devices.devices
 
 -- some interrupt of a device goes there
 abbrev pub has_target_of_devices : Devices → ℕ → ℕ → Bool

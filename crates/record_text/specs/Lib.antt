@@ -4,8 +4,8 @@ pub mod DeviceRecord
 pub mod FaultTexts
 pub mod Law
 pub mod Made
-pub mod Placing
 pub mod Reading
+pub mod Resolving
 pub mod Saying
 pub mod Steps
 pub mod Table

@@ -2,7 +2,7 @@
 use Rattle.std.specs.Prelude.{ℕ, ◌<◌, ◌≤◌, ◌==◌, ◌&&◌, true, false, not, nat_lt, List, [], ◌∷◌, ◌++◌, map, Some, None, Result, Ok, Err, unwrap_or, if◌then◌else◌}
 use Rattle.std.specs.List.{list_any}
 use Rattle.record_text.specs.DeviceRecord.{DeviceRecord}
-use Rattle.record_text.specs.Placing.{placed_input, placed_at, order_at}
+use Rattle.record_text.specs.Resolving.{resolved_input, resolved_at, order_at}
 use Rattle.record_text.specs.Reading.{Standing, are_distinct}
 use Rattle.record_text.specs.Table.{Entry, input_entry, order_entry, end_entry}
 use Rattle.record_text.specs.declared.devices.Devices.{Devices}
@@ -63,15 +63,15 @@ made_line m n line = if nat_lt line.tick m.tick then Err (Back n) else made_says
 -- ---- one line more, in names
 
 abbrev pub made_with : Devices → Made → Entry → Made
-made_with devices m (input_entry tick input) = with_input m tick (unwrap_or (placed_input devices input) Idle)
+made_with devices m (input_entry tick input) = with_input m tick (unwrap_or (resolved_input devices input) Idle)
 made_with devices m (order_entry tick cpus) = with_order m tick cpus
 made_with devices m (end_entry tick) = with_end m tick
 
--- what was read, and behind it what the lines that are left say
+-- what was read, and behind it what the lines that remain say
 abbrev pub grown : Devices → Made → Result DeviceRecord RecordFault → Result Record RecordFault
 grown devices m (Ok r) = Ok (record {
   end = r.end;
-  inputs = m.inputs ++ map (placed_at devices) r.inputs;
+  inputs = m.inputs ++ map (resolved_at devices) r.inputs;
   orders = m.orders ++ map order_at r.orders;
 })
 grown devices m (Err fault) = Err fault

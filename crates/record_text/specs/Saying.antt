@@ -1,6 +1,6 @@
 -- What the reader of a line answers.
 use Rattle.std.specs.Prelude.{◌≡◌, ℕ, ◌^◌, nat_lt, Option, Some, None, Result, Ok, Err, if◌then◌else◌}
-use Rattle.record_text.specs.Placing.{placed_input}
+use Rattle.record_text.specs.Resolving.{resolved_input}
 use Rattle.record_text.specs.Steps.{mapped}
 use Rattle.record_text.specs.Table.{Entry, input_entry, order_entry, end_entry}
 use Rattle.record_text.specs.declared.devices.Devices.{Devices}
@@ -13,10 +13,10 @@ use Rattle.record_text.specs.declared.number.LineError.TheVariants.{Want, NoMemo
 abbrev pub within_word : ℕ → Option ℕ
 within_word n = if nat_lt n (2 ^ 64) then Some n else None
 
--- what is read, or the end by its first fault
-abbrev pub ended : {X : Type 0} → Result X LineWant → Result X LineError
-ended (Ok x) = Ok x
-ended (Err want) = Err (Want want)
+-- what is read, or the error by its first fault
+abbrev pub with_line_error : {X : Type 0} → Result X LineWant → Result X LineError
+with_line_error (Ok x) = Ok x
+with_line_error (Err want) = Err (Want want)
 
 -- it is what is wanted, unless memory was refused
 abbrev pub Gives : {X : Type 0} → Result X LineWant → Result X LineError → Type 0
@@ -26,7 +26,7 @@ Gives wanted (Err NoMemory) = Unit {0}
 
 -- what a line says, with each name found or not
 abbrev pub line_of : Devices → Entry → RecordLine
-line_of devices (input_entry tick input) = record { tick = tick; says = Input (placed_input devices input) }
+line_of devices (input_entry tick input) = record { tick = tick; says = Input (resolved_input devices input) }
 line_of devices (order_entry tick cpus) = record { tick = tick; says = Order cpus }
 line_of devices (end_entry tick) = record { tick = tick; says = End }
 

@@ -41,10 +41,10 @@ pub struct PortSpan {
 pub struct RecordMemory {
     pub name: Name,
     /// The physical address of its first byte.
-    pub place: u64,
+    pub address: u64,
     /// How many bytes it has.
     pub bytes: u64,
-    pub ghost fits: { place + bytes < 2 ^ 64 },
+    pub ghost fits: { address + bytes < 2 ^ 64 },
 }
 
 /// An interrupt of a device.

@@ -9,11 +9,11 @@ pub mod fault;
 mod line;
 mod made;
 mod number;
-mod place;
 mod reading;
 pub mod record;
+mod resolving;
 
-pub use devices::{RecordDevice, Devices, RecordIrq, IrqTarget, RecordMemory, PortSpan};
+pub use devices::{Devices, IrqTarget, PortSpan, RecordDevice, RecordIrq, RecordMemory};
 pub use fault::{LineWant, RecordFault};
 pub use reading::read;
 pub use record::{INPUT_MOST, Input, Record, TickInput, TickOrder};

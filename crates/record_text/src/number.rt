@@ -2,7 +2,7 @@
 ghost use Rattle.std.specs.Prelude.{◌≡◌, ◌+◌, ◌^◌, ◌<◌, false, true, Err, Ok, IfOk, option_and_then};
 ghost use Rattle.std.specs.List.{list_all};
 ghost use Rattle.std.specs.Char.{is_ascii_digit};
-ghost use Rattle.record_text.specs.Saying.{Gives, ended, within_word};
+ghost use Rattle.record_text.specs.Saying.{Gives, with_line_error, within_word};
 ghost use Rattle.record_text.specs.Words.{digits_from, hex_bytes, is_badly_begun, number_below, tick_of};
 
 use crate::fault::LineWant;
@@ -25,7 +25,7 @@ impl From<NoMemory> for LineError {
     ghost use Rattle.std.specs.Prelude.{◌≡◌};
     ghost use Rattle.record_text.specs.declared.number.LineError.TheVariants.{NoMemory as RanOut};
 
-    ghost from_gives = { λ _ end. end ≡ RanOut };
+    ghost from_gives = { λ _ error. error ≡ RanOut };
 
     fn from(_: NoMemory) -> Self {
         LineError::NoMemory
@@ -63,7 +63,7 @@ fn value(word: &[u8]) -> Option<u64>
 /// The number below 2^64 that a word spells: decimal, without leading zeros.
 #[tactic(auto, unfolding(crate::specs::Words::number_below), using(crate::proofs::Digits::numbers))]
 pub(crate) fn number(word: &[u8]) -> Result<u64, LineError>
-    ensures { result ≡ ended (number_below (2 ^ 64) word.now) }
+    ensures { result ≡ with_line_error (number_below (2 ^ 64) word.now) }
 {
     if is_badly_begun(word) || !has_digits_alone(word) {
         return Err(LineError::Want(LineWant::Number));
@@ -77,7 +77,7 @@ pub(crate) fn number(word: &[u8]) -> Result<u64, LineError>
 /// The number below `end` that a word spells.
 #[tactic(auto, using(crate::proofs::Digits::narrowed))]
 pub(crate) fn number_below(word: &[u8], end: u64) -> Result<u64, LineError>
-    ensures value { result ≡ ended (number_below end word.now) }
+    ensures value { result ≡ with_line_error (number_below end word.now) }
     ensures within { IfOk result (λ n. n < end) }
 {
     let n = number(word)?;
@@ -91,28 +91,28 @@ pub(crate) fn number_below(word: &[u8], end: u64) -> Result<u64, LineError>
 /// The number of a tick, 0 to 100,000.
 #[tactic(auto, unfolding(crate::specs::Words::tick_of))]
 pub(crate) fn tick_of(word: &[u8]) -> Result<u32, LineError>
-    ensures { result ≡ ended (tick_of word.now) }
+    ensures { result ≡ with_line_error (tick_of word.now) }
 {
     Ok(number_below(word, MOST_TICKS + 1)? as u32)
 }
 
 /// A number below 256.
 pub(crate) fn byte_of(word: &[u8]) -> Result<u8, LineError>
-    ensures { result ≡ ended (number_below 256 word.now) }
+    ensures { result ≡ with_line_error (number_below 256 word.now) }
 {
     Ok(number_below(word, 256)? as u8)
 }
 
 /// The number of an I/O port.
 pub(crate) fn port_of(word: &[u8]) -> Result<u16, LineError>
-    ensures { result ≡ ended (number_below (LAST_PORT + 1) word.now) }
+    ensures { result ≡ with_line_error (number_below (LAST_PORT + 1) word.now) }
 {
     Ok(number_below(word, LAST_PORT + 1)? as u16)
 }
 
 /// The number of a CPU, where there are so many.
 pub(crate) fn cpu_of(word: &[u8], cpus: u8) -> Result<u8, LineError>
-    ensures { result ≡ ended (number_below cpus word.now) }
+    ensures { result ≡ with_line_error (number_below cpus word.now) }
 {
     Ok(number_below(word, u64::from(cpus))? as u8)
 }

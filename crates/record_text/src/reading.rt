@@ -5,7 +5,7 @@ ghost use Rattle.muen_num.specs.Answers.{Answers};
 ghost use Rattle.record_text.specs.Bench.{bench_of};
 ghost use Rattle.record_text.specs.Law.{IsRecordOf};
 ghost use Rattle.record_text.specs.Made.{IsInOrder, made_with, standing_of};
-ghost use Rattle.record_text.specs.Placing.{placed};
+ghost use Rattle.record_text.specs.Resolving.{resolved};
 ghost use Rattle.record_text.specs.Reading.{all_ascii, at_start, entry_at, record_after, record_of};
 ghost use Rattle.record_text.specs.Steps.{mapped};
 ghost use Rattle.record_text.specs.Words.{lines_of};
@@ -68,7 +68,7 @@ fn add_line(
 
 // All that the lines say.
 fn read_lines(alloc: Global, bytes: &[u8], devices: &Devices) -> Result<Record, RecordFault>
-    ensures { Answers RecordFault.NoMemory (mapped (placed devices.now) (record_after (bench_of devices.now) at_start 1 (lines_of bytes.now))) result }
+    ensures { Answers RecordFault.NoMemory (mapped (resolved devices.now) (record_after (bench_of devices.now) at_start 1 (lines_of bytes.now))) result }
 {
     let mut made = nothing(alloc);
     let mut rest = bytes;
@@ -98,7 +98,7 @@ fn read_lines(alloc: Global, bytes: &[u8], devices: &Devices) -> Result<Record, 
 // The record, or its first fault.
 #[tactic(auto, unfolding(crate::specs::Reading::record_of))]
 fn read_text(alloc: Global, bytes: &[u8], devices: &Devices) -> Result<Record, RecordFault>
-    ensures { Answers RecordFault.NoMemory (mapped (placed devices.now) (record_of bytes.now (bench_of devices.now))) result }
+    ensures { Answers RecordFault.NoMemory (mapped (resolved devices.now) (record_of bytes.now (bench_of devices.now))) result }
 {
     check_ascii(bytes)?;
     read_lines(alloc, bytes, devices)
@@ -109,7 +109,7 @@ fn read_text(alloc: Global, bytes: &[u8], devices: &Devices) -> Result<Record, R
 /// The time is linear in the number of bytes.
 #[tactic(auto, using(crate::proofs::Lawful::lawful))]
 pub fn read(alloc: Global, bytes: &[u8], devices: &Devices) -> Result<Record, RecordFault>
-    ensures exact { Answers RecordFault.NoMemory (mapped (placed devices.now) (record_of bytes.now (bench_of devices.now))) result }
+    ensures exact { Answers RecordFault.NoMemory (mapped (resolved devices.now) (record_of bytes.now (bench_of devices.now))) result }
     ensures lawful { IfOk result (IsRecordOf devices.now) }
 {
     read_text(alloc, bytes, devices)

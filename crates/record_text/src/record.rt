@@ -1,4 +1,4 @@
-//! The device record of a run, by places and numbers.
+//! The device record of a run, by addresses and numbers.
 use muen_num::Seq;
 
 /// The most bytes of one input into memory; there is at least one.

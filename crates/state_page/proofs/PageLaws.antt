@@ -85,15 +85,15 @@ word_in size n i words rest h small =
     let long : length front ≡ n * i = length-words n (take i words) ∙ ap (λ k. n * k) (length-take-le i words (omega arith)) in
     ap (λ x. number_at (padded size x) (n * i) n) joined ∙ (number_in size (n * i) n front (le_bytes n w) _ long (length-le_bytes n w) ∙ number_of_bytes n w small)
 
-map_places : (f : ℕ → ℕ) (xs : List ℕ) (n : ℕ) → n ≤ length xs → ((i : ℕ) → i < n → f i ≡ get_or xs i 0) → map f (numbers_below n) ≡ take n xs
-map_places f xs zero h p = refl
-map_places f xs (suc n) h p =
-    map-append f (numbers_below n) (n ∷ []) ∙ (ap₂ (λ ys y. ys ++ y ∷ []) (map_places f xs n (omega arith) (λ i l. p i (omega arith))) (p n (omega arith)) ∙ sym (take-suc xs n 0 h))
+map_indexes : (f : ℕ → ℕ) (xs : List ℕ) (n : ℕ) → n ≤ length xs → ((i : ℕ) → i < n → f i ≡ get_or xs i 0) → map f (numbers_below n) ≡ take n xs
+map_indexes f xs zero h p = refl
+map_indexes f xs (suc n) h p =
+    map-append f (numbers_below n) (n ∷ []) ∙ (ap₂ (λ ys y. ys ++ y ∷ []) (map_indexes f xs n (omega arith) (λ i l. p i (omega arith))) (p n (omega arith)) ∙ sym (take-suc xs n 0 h))
 
 pub registers_back : (size n : ℕ) (words rest page : List ℕ) → length words ≡ n → ((k : ℕ) → get_or words k 0 < 2 ^ 64) → page ≡ padded size (flat_map (le_bytes 8) words ++ rest) → registers_in n page ≡ words
 unfolding registers_in
 registers_back size n words rest page e small p =
-    rw p (map_places (λ i. number_at (padded size (flat_map (le_bytes 8) words ++ rest)) (8 * i) 8) words n (omega arith) (λ i h. word_in size 8 i words rest (omega arith) (small i)) ∙ take_all n words (omega arith))
+    rw p (map_indexes (λ i. number_at (padded size (flat_map (le_bytes 8) words ++ rest)) (8 * i) 8) words n (omega arith) (λ i h. word_in size 8 i words rest (omega arith) (small i)) ∙ take_all n words (omega arith))
 
 -- what is read of the four fields behind the registers
 pub record Reads (page w₁ w₂ w₃ : List ℕ) (byte : ℕ) : Type 0 where

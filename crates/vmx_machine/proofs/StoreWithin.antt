@@ -9,7 +9,7 @@ use Rattle.muen_num.specs.declared.access.AccessKind.TheVariants.{Read, Write, F
 use Rattle.muen_num.specs.declared.access.AccessSize.{AccessSize}
 use Rattle.muen_num.specs.declared.access.AccessSize.TheVariants.{One, Two, Four, Eight}
 use Rattle.machine_meaning.specs.Memory.{Page, is_there, change, over, le_bytes, store_of}
-use Rattle.machine_meaning.specs.Walks.{bits_of, index_at, span, is_present, is_leaf, is_misconfigured, reads, walk_from, walk_of, entry_of, root_of}
+use Rattle.machine_meaning.specs.Walks.{bits_of, index_at, entry_size, is_present, is_leaf, is_misconfigured, reads, walk_from, walk_of, entry_of, root_of}
 use Rattle.machine_meaning.specs.declared.walk.Walk.{Walk}
 use Rattle.machine_meaning.specs.declared.walk.Walk.TheVariants.{At, Violation, Misconfigured}
 use Rattle.vmx_machine.specs.Within.{IsWithin, EndsWithin}
@@ -20,24 +20,24 @@ stored_within m page offset n v h =
     let o : (4096 * page + offset) % 4096 ≡ offset = omega arith in
     ap₂ (λ j i. change m j (λ old. over old i (le_bytes n v))) k o
 
--- a place in a page of each size keeps the multiple of the access's size
+-- an address in a page of each size keeps the multiple of the access's size
 in_small : (size : AccessSize) (b addr : ℕ) → addr % bytes_of size ≡ 0 → (4096 * b + addr % 4096) % bytes_of size ≡ 0
 in_small One b addr h = omega arith
 in_small Two b addr h = omega arith
 in_small Four b addr h = omega arith
 in_small Eight b addr h = omega arith
 
-in_middle : (size : AccessSize) (b addr : ℕ) → addr % bytes_of size ≡ 0 → (4096 * b + addr % 2097152) % bytes_of size ≡ 0
-in_middle One b addr h = omega arith
-in_middle Two b addr h = omega arith
-in_middle Four b addr h = omega arith
-in_middle Eight b addr h = omega arith
-
-in_large : (size : AccessSize) (b addr : ℕ) → addr % bytes_of size ≡ 0 → (4096 * b + addr % 1073741824) % bytes_of size ≡ 0
+in_large : (size : AccessSize) (b addr : ℕ) → addr % bytes_of size ≡ 0 → (4096 * b + addr % 2097152) % bytes_of size ≡ 0
 in_large One b addr h = omega arith
 in_large Two b addr h = omega arith
 in_large Four b addr h = omega arith
 in_large Eight b addr h = omega arith
+
+in_huge : (size : AccessSize) (b addr : ℕ) → addr % bytes_of size ≡ 0 → (4096 * b + addr % 1073741824) % bytes_of size ≡ 0
+in_huge One b addr h = omega arith
+in_huge Two b addr h = omega arith
+in_huge Four b addr h = omega arith
+in_huge Eight b addr h = omega arith
 
 in_top : (size : AccessSize) (b addr : ℕ) → addr % bytes_of size ≡ 0 → (4096 * b + addr % 549755813888) % bytes_of size ≡ 0
 in_top One b addr h = omega arith
@@ -46,10 +46,10 @@ in_top Four b addr h = omega arith
 in_top Eight b addr h = omega arith
 
 module _ (entry : ℕ → ℕ → Option ℕ) (there : ℕ → Bool) (addr want : ℕ) (size : AccessSize) (fine : addr % bytes_of size ≡ 0) where
-  by_rights : (enough found : Bool) (rights place : ℕ) → rights < 8 → place % bytes_of size ≡ 0 → EndsWithin (bytes_of size) (cond enough (cond found (At place) Misconfigured) (Violation rights))
-  by_rights true true rights place r p = p
-  by_rights true false rights place r p = tt
-  by_rights false found rights place r p = r
+  by_rights : (enough found : Bool) (rights address : ℕ) → rights < 8 → address % bytes_of size ≡ 0 → EndsWithin (bytes_of size) (cond enough (cond found (At address) Misconfigured) (Violation rights))
+  by_rights true true rights address r p = p
+  by_rights true false rights address r p = tt
+  by_rights false found rights address r p = r
 
   by_entry : (present bad leaf : Bool) (end deep : Walk) → EndsWithin (bytes_of size) end → EndsWithin (bytes_of size) deep → EndsWithin (bytes_of size) (cond present (cond bad Misconfigured (cond leaf end deep)) (Violation 0))
   by_entry false bad leaf end deep e d = omega arith
@@ -60,10 +60,10 @@ module _ (entry : ℕ → ℕ → Option ℕ) (there : ℕ → Bool) (addr want 
   kept : (rights e : ℕ) → rights < 8 → bit_and rights e < 8
   kept rights e h = let l = and_le_l rights e in omega (arith, l)
 
-  reads_within : (level rights : ℕ) (o : Option ℕ) (below : ℕ → ℕ → Walk) → rights < 8 → ((b : ℕ) → (4096 * b + addr % span level) % bytes_of size ≡ 0) → ((t r : ℕ) → r < 8 → EndsWithin (bytes_of size) (below t r)) → EndsWithin (bytes_of size) (reads there level addr want rights o below)
+  reads_within : (level rights : ℕ) (o : Option ℕ) (below : ℕ → ℕ → Walk) → rights < 8 → ((b : ℕ) → (4096 * b + addr % entry_size level) % bytes_of size ≡ 0) → ((t r : ℕ) → r < 8 → EndsWithin (bytes_of size) (below t r)) → EndsWithin (bytes_of size) (reads there level addr want rights o below)
   reads_within level rights None below r p d = tt
   reads_within level rights (Some e) below r p d =
-      by_entry (is_present e) (is_misconfigured level e) (is_leaf level e) _ _ (by_rights (bit_and (bit_and rights (bits_of e 0 2)) want == want) (there ((4096 * bits_of e 12 51 + addr % span level) / 4096)) (bit_and rights (bits_of e 0 2)) (4096 * bits_of e 12 51 + addr % span level) (kept rights (bits_of e 0 2) r) (p (bits_of e 12 51))) (d (bits_of e 12 51) (bit_and rights (bits_of e 0 2)) (kept rights (bits_of e 0 2) r))
+      by_entry (is_present e) (is_misconfigured level e) (is_leaf level e) _ _ (by_rights (bit_and (bit_and rights (bits_of e 0 2)) want == want) (there ((4096 * bits_of e 12 51 + addr % entry_size level) / 4096)) (bit_and rights (bits_of e 0 2)) (4096 * bits_of e 12 51 + addr % entry_size level) (kept rights (bits_of e 0 2) r) (p (bits_of e 12 51))) (d (bits_of e 12 51) (bit_and rights (bits_of e 0 2)) (kept rights (bits_of e 0 2) r))
 
   pub from_within : (table rights : ℕ) → rights < 8 → EndsWithin (bytes_of size) (walk_from entry there addr want 3 table rights)
   unfolding walk_from
@@ -73,10 +73,10 @@ module _ (entry : ℕ → ℕ → Option ℕ) (there : ℕ → Bool) (addr want 
       zero_level t r h = reads_within 0 r (entry t (index_at 0 addr)) (λ _ _. Misconfigured) h (λ b. in_small size b addr fine) (λ _ _ _. tt)
 
       one : (t r : ℕ) → r < 8 → EndsWithin (bytes_of size) (walk_from entry there addr want 1 t r)
-      one t r h = reads_within 1 r (entry t (index_at 1 addr)) (λ t r. walk_from entry there addr want 0 t r) h (λ b. in_middle size b addr fine) zero_level
+      one t r h = reads_within 1 r (entry t (index_at 1 addr)) (λ t r. walk_from entry there addr want 0 t r) h (λ b. in_large size b addr fine) zero_level
 
       two : (t r : ℕ) → r < 8 → EndsWithin (bytes_of size) (walk_from entry there addr want 2 t r)
-      two t r h = reads_within 2 r (entry t (index_at 2 addr)) (λ t r. walk_from entry there addr want 1 t r) h (λ b. in_large size b addr fine) one
+      two t r h = reads_within 2 r (entry t (index_at 2 addr)) (λ t r. walk_from entry there addr want 1 t r) h (λ b. in_huge size b addr fine) one
 
       three : (t r : ℕ) → r < 8 → EndsWithin (bytes_of size) (walk_from entry there addr want 3 t r)
       three t r h = reads_within 3 r (entry t (index_at 3 addr)) (λ t r. walk_from entry there addr want 2 t r) h (λ b. in_top size b addr fine) two
@@ -90,9 +90,9 @@ bit_fits Read = omega arith
 bit_fits Write = omega arith
 bit_fits Fetch = omega arith
 
--- a place is in a page, and its offset there is a multiple of what it is a multiple of
-pub page_within : (place : ℕ) (size : AccessSize) → place % bytes_of size ≡ 0 → place < 2 ^ 64 → IsWithin (place / 4096) (place % 4096) (bytes_of size)
-page_within place One h l = record { below = omega arith; inside = omega arith; aligned = omega arith }
-page_within place Two h l = record { below = omega arith; inside = omega arith; aligned = omega arith }
-page_within place Four h l = record { below = omega arith; inside = omega arith; aligned = omega arith }
-page_within place Eight h l = record { below = omega arith; inside = omega arith; aligned = omega arith }
+-- an address is in a page, and its offset there is a multiple of what it is a multiple of
+pub page_within : (address : ℕ) (size : AccessSize) → address % bytes_of size ≡ 0 → address < 2 ^ 64 → IsWithin (address / 4096) (address % 4096) (bytes_of size)
+page_within address One h l = record { below = omega arith; inside = omega arith; aligned = omega arith }
+page_within address Two h l = record { below = omega arith; inside = omega arith; aligned = omega arith }
+page_within address Four h l = record { below = omega arith; inside = omega arith; aligned = omega arith }
+page_within address Eight h l = record { below = omega arith; inside = omega arith; aligned = omega arith }

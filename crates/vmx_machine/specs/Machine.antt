@@ -35,11 +35,11 @@ pub record MachineState : Type 0 where
 abbrev pub page_at : List Page → ℕ → List ℕ
 page_at pages k = unwrap_or (page_of pages k) []
 
--- ---- what a step asks of the machine: places are pages
+-- ---- what a step asks of the machine: targets are pages
 
 -- by where a walk ends: a violation has the bit of the access and, in bits 5:3, the rights found; a misconfiguration has 0
 abbrev pub reach_by : AccessKind → ℕ → Walk → Reach ℕ
-reach_by kind addr (At place) = Reached (place / 4096) (place % 4096)
+reach_by kind addr (At address) = Reached (address / 4096) (address % 4096)
 reach_by kind addr (Violation rights) = Refused EXIT_EPT_VIOLATION (kind_bit kind + 8 * rights) addr
 reach_by kind addr Misconfigured = Refused EXIT_EPT_MISCONFIGURATION 0 addr
 
@@ -75,7 +75,7 @@ machine_world pages c file ports tick = record {
 
 abbrev pub with_store : Option (Stored ℕ) → List Page → List Page
 with_store None pages = pages
-with_store (Some w) pages = change pages w.place (λ old. over old w.offset w.bytes)
+with_store (Some w) pages = change pages w.target (λ old. over old w.offset w.bytes)
 
 abbrev pub with_write : Option MsrWrite → List ℕ → List ℕ
 with_write None file = file

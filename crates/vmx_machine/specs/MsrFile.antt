@@ -3,9 +3,9 @@ use Rattle.std.specs.Prelude.{ℕ, ◌+◌, ◌-◌, ◌&&◌, nat_le, if◌then
 use Rattle.muen_num.specs.declared.limits.TheConstants.{LOW_MSR_LAST, HIGH_MSR_FIRST, HIGH_MSR_LAST}
 use Rattle.look_up.specs.ByNumber.{change_at}
 
--- where the file has an MSR: those of the low range from 0 on, and those of the high range behind them
-abbrev pub place_of : ℕ → Option ℕ
-place_of index =
+-- the slot of the file that an MSR has: those of the low range from 0 on, and those of the high range behind them
+abbrev pub slot_of : ℕ → Option ℕ
+slot_of index =
     if nat_le index LOW_MSR_LAST
     then Some index
     else (if nat_le HIGH_MSR_FIRST index && nat_le index HIGH_MSR_LAST then Some (LOW_MSR_LAST + 1 + (index - HIGH_MSR_FIRST)) else None)
@@ -20,7 +20,7 @@ zeros n = replicate n 0
 
 -- the value of an MSR, if the file has it
 abbrev pub value_in : List ℕ → ℕ → Option ℕ
-value_in file index = option_and_then (slice_get file) (place_of index)
+value_in file index = option_and_then (slice_get file) (slot_of index)
 
 abbrev pub put_at : Option ℕ → ℕ → List ℕ → List ℕ
 put_at None value file = file
@@ -28,4 +28,4 @@ put_at (Some i) value file = change_at i (λ _. value) file
 
 -- with this value of an MSR; an MSR that it doesn't have is passed over
 abbrev pub with_msr : ℕ → ℕ → List ℕ → List ℕ
-with_msr index value file = put_at (place_of index) value file
+with_msr index value file = put_at (slot_of index) value file

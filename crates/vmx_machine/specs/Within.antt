@@ -15,8 +15,8 @@ abbrev pub LeadsWithin : ℕ → Reach ℕ → Type 0
 LeadsWithin size (Reached page offset) = IsWithin page offset size
 LeadsWithin size (Refused reason qualification addr) = Unit {0}
 
--- a walk of an address that is a multiple of the size ends at such a place; the rights that it finds are three bits
+-- a walk of an address that is a multiple of the size ends at such an address; the rights that it finds are three bits
 abbrev pub EndsWithin : ℕ → Walk → Type 0
-EndsWithin size (At place) = place % size ≡ 0
+EndsWithin size (At address) = address % size ≡ 0
 EndsWithin size (Violation rights) = rights < 8
 EndsWithin size Misconfigured = Unit {0}

@@ -22,14 +22,14 @@ use phys_mem::PhysMem;
 const FOUND: u64 = 1 << 3;
 
 // A physical address, by its page.
-fn in_page(place: u64, size: AccessSize) -> Reach<u64>
-    requires { place % bytes_of size ≡ 0 }
-    ensures place { result ≡ Reach.Reached (place / 4096) (place % 4096) }
+fn in_page(address: u64, size: AccessSize) -> Reach<u64>
+    requires { address % bytes_of size ≡ 0 }
+    ensures reached { result ≡ Reach.Reached (address / 4096) (address % 4096) }
     ensures within { LeadsWithin (bytes_of size) result }
 {
     Reach::Reached {
-        place: place / PAGE,
-        offset: place % PAGE,
+        target: address / PAGE,
+        offset: address % PAGE,
     }
 }
 
@@ -45,12 +45,12 @@ fn look<M: PhysMem, T: Translate>(
     requires fits { T.fits walk.old (M.pages mem.now) }
     requires addr { addr < GUEST_END }
     requires aligned { addr % bytes_of size ≡ 0 }
-    ensures place { result ≡ look_in (M.pages mem.now) eptp kind addr }
+    ensures reached { result ≡ look_in (M.pages mem.now) eptp kind addr }
     ensures within { LeadsWithin (bytes_of size) result }
     ensures fits { T.fits walk.new (M.pages mem.now) }
 {
     match walk.walk(mem, eptp, addr, kind) {
-        Walk::At(place) => in_page(place, size),
+        Walk::At(address) => in_page(address, size),
         Walk::Violation(rights) => Reach::Refused {
             reason: EXIT_EPT_VIOLATION,
             qualification: u64::from(kind.bit()) + FOUND * rights,
@@ -74,7 +74,7 @@ pub(crate) fn reach<M: PhysMem, T: Translate>(
     size: AccessSize,
 ) -> Reach<u64>
     requires { T.fits walk.old (M.pages mem.now) }
-    ensures place { result ≡ reach_of (look_in (M.pages mem.now) eptp) kind (bytes_of size) addr }
+    ensures reached { result ≡ reach_of (look_in (M.pages mem.now) eptp) kind (bytes_of size) addr }
     ensures within { LeadsWithin (bytes_of size) result }
     ensures fits { T.fits walk.new (M.pages mem.now) }
 {
@@ -96,7 +96,12 @@ pub(crate) fn reach<M: PhysMem, T: Translate>(
 }
 
 /// Whether an access of ports exits, by the I/O bitmaps as they are in memory now.
-pub(crate) fn ports_exit<M: PhysMem>(mem: &M, control: &Control, port: u16, size: AccessSize) -> bool
+pub(crate) fn ports_exit<M: PhysMem>(
+    mem: &M,
+    control: &Control,
+    port: u16,
+    size: AccessSize,
+) -> bool
     ensures { result ≡ ports_exit (M.pages mem.now) control.now port (bytes_of size) }
 {
     let page = number_of(control.io_bitmaps);

@@ -98,7 +98,7 @@ pub(crate) fn loaded<M: PhysMem>(
     ensures end { result.end ≡ (loaded (page_at (M.pages mem.now)) s.now after.now reg (bytes_of size) reach).end }
 {
     match reach {
-        Reach::Reached { place, offset } => sets(after, reg, number_in(mem, place, offset, size)),
+        Reach::Reached { target, offset } => sets(after, reg, number_in(mem, target, offset, size)),
         Reach::Refused {
             reason,
             qualification,
@@ -125,8 +125,8 @@ pub(crate) fn stored<M: PhysMem, T: Translate>(
     ensures fits { T.fits walk.new (M.pages mem.new) }
 {
     match reach {
-        Reach::Reached { place, offset } => {
-            put(mem, walk, PAGE * place + offset, value.size, value.value);
+        Reach::Reached { target, offset } => {
+            put(mem, walk, PAGE * target + offset, value.size, value.value);
             went_on(
                 &asked.after,
                 StepEnd::Stored {

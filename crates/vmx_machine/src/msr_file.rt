@@ -1,7 +1,7 @@
 //! The machine-specific registers of a CPU.
 ghost use Rattle.std.specs.Prelude.{◌≡◌, slice_get, length, IfOk};
 ghost use Rattle.look_up.specs.ByNumber.{change_at};
-ghost use Rattle.vmx_machine.specs.MsrFile.{place_of, value_in, with_msr, most, zeros};
+ghost use Rattle.vmx_machine.specs.MsrFile.{slot_of, value_in, with_msr, most, zeros};
 
 use muen_num::NoMemory;
 use muen_num::limits::{HIGH_MSR_FIRST, HIGH_MSR_LAST, LOW_MSR_LAST};
@@ -29,9 +29,9 @@ impl Model for MsrFile {
     ghost view = { λ f. f.values.items };
 }
 
-// Where an MSR is kept. None of one outside both ranges.
-fn place_of(index: u64) -> Option<usize>
-    ensures { result ≡ place_of index }
+// The slot of an MSR. None of one outside both ranges.
+fn slot_of(index: u64) -> Option<usize>
+    ensures { result ≡ slot_of index }
 {
     if index <= LOW_MSR_LAST {
         return Some(index as usize);
@@ -42,13 +42,13 @@ fn place_of(index: u64) -> Option<usize>
     None
 }
 
-// Another value at a place, if there is one.
+// Another value in a slot, if there is one.
 #[tactic(auto, using(look_up::proofs::ChangeLaws::set_is, look_up::proofs::ChangeLaws::past_is))]
-fn put_value(values: &mut [u64], place: usize, value: u64)
-    ensures { values.new ≡ change_at place (λ _. value) values.old }
+fn put_value(values: &mut [u64], slot: usize, value: u64)
+    ensures { values.new ≡ change_at slot (λ _. value) values.old }
 {
-    if place < values.len() {
-        values[place] = value;
+    if slot < values.len() {
+        values[slot] = value;
     }
 }
 
@@ -77,16 +77,16 @@ impl MsrFile {
     pub fn get(&self, index: u64) -> Option<u64>
         ensures { result ≡ value_in self.now index }
     {
-        let place = place_of(index)?;
-        self.values.get(place).copied()
+        let slot = slot_of(index)?;
+        self.values.get(slot).copied()
     }
 
     /// Sets a register. One outside both ranges is passed over.
     pub fn put(&mut self, index: u64, value: u64)
         ensures { self.new ≡ with_msr index value self.old }
     {
-        if let Some(place) = place_of(index) {
-            put_value(&mut self.values, place, value);
+        if let Some(slot) = slot_of(index) {
+            put_value(&mut self.values, slot, value);
         }
     }
 }

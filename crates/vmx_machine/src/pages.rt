@@ -67,7 +67,7 @@ pub(crate) fn bytes_of_page<M: PhysMem>(mem: &M, page: u64) -> &[u8]
     }
 }
 
-// The number at a place within a page. It is 0 where the page isn't there.
+// The number at an offset in a page. It is 0 where the page isn't there.
 #[tactic(auto, unfolding(page_parts::specs::Fields::number_at))]
 pub(crate) fn number_in<M: PhysMem>(mem: &M, page: u64, offset: u64, size: AccessSize) -> u64
     requires { IsWithin page offset (bytes_of size) }

@@ -46,12 +46,12 @@ fn performed<M: PhysMem, T: Translate>(
         Wish::Nothing => went_on(after, StepEnd::Plain),
         Wish::Set { reg, value } => went_on(after, StepEnd::Set { reg, value }),
         Wish::Load { reg, addr, size } => {
-            let place = reach(mem, walk, control.eptp, AccessKind::Read, addr, size);
-            loaded(mem, s, after, reg, size, place)
+            let reached = reach(mem, walk, control.eptp, AccessKind::Read, addr, size);
+            loaded(mem, s, after, reg, size, reached)
         }
         Wish::Store { addr, size, value } => {
-            let place = reach(mem, walk, control.eptp, AccessKind::Write, addr, size);
-            stored(mem, walk, s, asked, Storing { addr, size, value }, place)
+            let reached = reach(mem, walk, control.eptp, AccessKind::Write, addr, size);
+            stored(mem, walk, s, asked, Storing { addr, size, value }, reached)
         }
         Wish::PortIn { reg, port, size } => {
             let input = ports_input(mem, control, bench, port, size);
@@ -90,19 +90,19 @@ fn fetched<M: PhysMem, T: Translate>(
     bench: &Bench,
     tick: u32,
     on: &Entered,
-    place: Reach<u64>,
+    reached: Reach<u64>,
 ) -> Done
     requires fits { T.fits walk.old (M.pages mem.old) }
-    requires within { LeadsWithin 8 place }
-    ensures pages { M.pages mem.new ≡ with_store (fetched (machine_world (M.pages mem.old) on.now.control file.old bench.now.ports tick) on.now.state place).stored (M.pages mem.old) }
-    ensures file { file.new ≡ with_write (fetched (machine_world (M.pages mem.old) on.now.control file.old bench.now.ports tick) on.now.state place).msr file.old }
-    ensures state { result.state ≡ (fetched (machine_world (M.pages mem.old) on.now.control file.old bench.now.ports tick) on.now.state place).state }
-    ensures end { result.end ≡ (fetched (machine_world (M.pages mem.old) on.now.control file.old bench.now.ports tick) on.now.state place).end }
+    requires within { LeadsWithin 8 reached }
+    ensures pages { M.pages mem.new ≡ with_store (fetched (machine_world (M.pages mem.old) on.now.control file.old bench.now.ports tick) on.now.state reached).stored (M.pages mem.old) }
+    ensures file { file.new ≡ with_write (fetched (machine_world (M.pages mem.old) on.now.control file.old bench.now.ports tick) on.now.state reached).msr file.old }
+    ensures state { result.state ≡ (fetched (machine_world (M.pages mem.old) on.now.control file.old bench.now.ports tick) on.now.state reached).state }
+    ensures end { result.end ≡ (fetched (machine_world (M.pages mem.old) on.now.control file.old bench.now.ports tick) on.now.state reached).end }
     ensures fits { T.fits walk.new (M.pages mem.new) }
 {
-    match place {
-        Reach::Reached { place, offset } => {
-            let word = number_in(mem, place, offset, AccessSize::Eight);
+    match reached {
+        Reach::Reached { target, offset } => {
+            let word = number_in(mem, target, offset, AccessSize::Eight);
             match decode(word.to_le_bytes()) {
                 None => faulted(&on.state, EXIT_EXCEPTION, 0, 0),
                 Some(instruction) => {
@@ -135,7 +135,7 @@ fn step<M: PhysMem, T: Translate>(
     ensures end { result.end ≡ (step (machine_world (M.pages mem.old) on.now.control file.old bench.now.ports tick) on.now.state).end }
     ensures fits { T.fits walk.new (M.pages mem.new) }
 {
-    let place = reach(
+    let reached = reach(
         mem,
         walk,
         on.control.eptp,
@@ -143,7 +143,7 @@ fn step<M: PhysMem, T: Translate>(
         on.state.pc,
         AccessSize::Eight,
     );
-    fetched(mem, walk, file, bench, tick, on, place)
+    fetched(mem, walk, file, bench, tick, on, reached)
 }
 
 /// One step of who is on a CPU. Where nobody is, nothing happens.

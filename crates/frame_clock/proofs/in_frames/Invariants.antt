@@ -5,7 +5,7 @@ use Rattle.image_plan.specs.Plan.{frame_of}
 use Rattle.image_plan.specs.Slot.{frame_slots}
 use Rattle.frame_clock.proofs.in_frames.Given as goal
 
--- the frames that are left have what is left of the tick where all of them have the tick
+-- the frames that remain have what remains of the tick where all of them have the tick
 abbrev pub invariant-loop-frame : goal.invariant-loop-frame
 invariant-loop-frame l =
     slice_get (flat_map (frame_slots l.major) (map frame_of (drop l.frame-index l.frames))) l.rest ≡ slice_get (flat_map (frame_slots l.major) (map frame_of l.frames)) l.tick

@@ -21,7 +21,7 @@ returns-then-is_misconfigured g t c =
 pub returns-then-is_leaf : goal.returns-then-is_leaf
 returns-then-is_leaf g t c =
     let m = g.M.PhysMem.pages c.args.mem.now in
-    walk_leaf (entry_of m) (is_there m) c.args.addr c.args.want c.args.level c.args.table c.args.rights c.in-Some.entry c.in-Some.ensures c.end.result c.rights_of.result c.page_number-number.result c.span.result (c.end.ensures c.args.addr) c.rights_of.ensures c.page_number-number.ensures.value c.span.ensures.value c.if-not-is_present.ensures c.if-is_misconfigured.ensures c.if-is_leaf.ensures
+    walk_leaf (entry_of m) (is_there m) c.args.addr c.args.want c.args.level c.args.table c.args.rights c.in-Some.entry c.in-Some.ensures c.leaf_end.result c.rights_of.result c.page_number-number.result c.entry_size.result (c.leaf_end.ensures c.args.addr) c.rights_of.ensures c.page_number-number.ensures.value c.entry_size.ensures.value c.if-not-is_present.ensures c.if-is_misconfigured.ensures c.if-is_leaf.ensures
 
 pub returns : goal.returns
 returns g t c =

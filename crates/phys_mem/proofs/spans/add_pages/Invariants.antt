@@ -3,7 +3,7 @@ use Rattle.phys_mem.specs.Frames.{pages_in}
 use Rattle.phys_mem.specs.Frames.{pages_by}
 use Rattle.phys_mem.proofs.spans.add_pages.Given as goal
 
--- the pages so far and those of what is left
+-- the pages so far and those of what remains
 abbrev pub invariant-loop-page : goal.invariant-loop-page
 invariant-loop-page l =
     record {

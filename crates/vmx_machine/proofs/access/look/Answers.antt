@@ -16,4 +16,4 @@ overflow_add-result g c =
 
 pub in_page-requires : goal.in_page-requires
 in_page-requires g c =
-    walk_within (g.M.PhysMem.pages c.args.mem.now) c.args.eptp c.args.addr c.args.kind c.args.size (At c.in-At.place) c.requires.aligned c.in-At.ensures.walk
+    walk_within (g.M.PhysMem.pages c.args.mem.now) c.args.eptp c.args.addr c.args.kind c.args.size (At c.in-At.address) c.requires.aligned c.in-At.ensures.walk

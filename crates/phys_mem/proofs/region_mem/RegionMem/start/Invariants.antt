@@ -3,7 +3,7 @@ use Rattle.phys_mem.specs.Frames.{pages_by}
 use Rattle.phys_mem.specs.Spans.{AreSpans, pages_of_spans}
 use Rattle.phys_mem.proofs.region_mem.RegionMem.start.Given as goal
 
--- the pages so far and those of the spans that are left
+-- the pages so far and those of the spans that remain
 abbrev pub invariant-loop-span : goal.invariant-loop-span
 invariant-loop-span l =
     record {

@@ -2,7 +2,7 @@
 ghost use Rattle.std.specs.Prelude.{◌≡◌, ◌<◌, length, map, option_map, slice_get};
 ghost use Rattle.image_plan.specs.Plan.{frames_in};
 ghost use Rattle.frame_clock.specs.FrameSlot.{slot_of};
-ghost use Rattle.frame_clock.specs.FrameAt.{next_major, place_at, slot_in, ticks_of_majors, first_place};
+ghost use Rattle.frame_clock.specs.Frames.{next_major, frame_at_tick, slot_in, ticks_of_majors, first_frame};
 
 use crate::{FrameSlot, in_frames};
 use image_plan::{Major, Minor, Plan};
@@ -20,7 +20,7 @@ pub struct FrameAt {
 impl FrameAt {
     /// The first major frame, from tick 0 on.
     pub fn first() -> FrameAt
-        ensures { result ≡ first_place }
+        ensures { result ≡ first_frame }
     {
         FrameAt { major: 0, start: 0 }
     }
@@ -67,11 +67,11 @@ fn next_major(count: usize, major: usize, pick: Option<u8>) -> usize
     }
 }
 
-/// The place at a tick, by the place at the tick before: where that one's ticks are over, the next
-/// major frame begins. That is the one that is picked, by its number, and the same one again where
+/// The major frame at a tick, by that at the tick before: where its ticks are over, the next major
+/// frame begins. That is the one that is picked, by its number, and the same one again where
 /// there is no such; where nothing is picked it is the one behind it, and the first behind the last.
 pub fn advance(p: &Plan, at: FrameAt, pick: Option<u8>, tick: u32) -> FrameAt
-    ensures { result ≡ place_at (ticks_of_majors p.now) at pick tick }
+    ensures { result ≡ frame_at_tick (ticks_of_majors p.now) at pick tick }
 {
     let majors = p.majors.items();
     let ticks = match ticks_of(majors, at.major) {

@@ -1,4 +1,4 @@
--- The minor frames of a CPU in the major frame of a place.
+-- The minor frames of a CPU in the major frame that runs.
 use Rattle.std.proofs.Common.{◌≡◌, ℕ, ◌-◌, ◌∙◌, List, [], Option, Some, None, map, refl, sym, ap}
 use Rattle.std.specs.Prelude.{slice_get, option_map, option_and_then, unwrap_or}
 use Rattle.std.specs.List.{flat_map}
@@ -10,10 +10,10 @@ use Rattle.image_plan.specs.declared.plan.Minor.{Minor}
 use Rattle.image_plan.specs.declared.plan.Plan.{Plan}
 use Rattle.image_plan.proofs.SlotLaws.{frames_at}
 use Rattle.muen_num.specs.Frame.{Frame}
-use Rattle.frame_clock.specs.FrameAt.{slot_in}
-use Rattle.frame_clock.specs.declared.place.FrameAt.{FrameAt}
+use Rattle.frame_clock.specs.Frames.{slot_in}
+use Rattle.frame_clock.specs.declared.frame_at.FrameAt.{FrameAt}
 
--- the slot at a tick, of these minor frames of a place's major frame
+-- the slot at a tick, of these minor frames of the major frame that runs
 abbrev slot_of_frames : FrameAt → ℕ → List Frame → Option Slot
 slot_of_frames at tick fs = slice_get (flat_map (frame_slots at.major) fs) (tick - at.start)
 

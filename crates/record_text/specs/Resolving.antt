@@ -23,7 +23,7 @@ port_of port value d = if list_any (is_in_span port) d.ports then Some (Port por
 
 -- bytes from an offset on that lie in the memory
 abbrev pub bytes_in : ℕ → List ℕ → RecordMemory → Option Input
-bytes_in offset bytes m = if nat_le (offset + length bytes) m.bytes then Some (Mem (m.place + offset) bytes) else None
+bytes_in offset bytes m = if nat_le (offset + length bytes) m.bytes then Some (Mem (m.address + offset) bytes) else None
 
 abbrev pub memory_of : List ℕ → ℕ → List ℕ → RecordDevice → Option Input
 memory_of memory offset bytes d = option_and_then (bytes_in offset bytes) (find (λ m. bytes_eq m.name memory) d.memories)
@@ -36,23 +36,23 @@ abbrev pub irq_of : List ℕ → RecordDevice → Option Input
 irq_of irq d = option_map (λ i. raised i.target) (find (λ i. bytes_eq i.name irq) d.irqs)
 
 -- where an input goes, if what it names is there
-abbrev pub placed_input : Devices → NamedInput → Option Input
-placed_input devices (port_input device port value) =
+abbrev pub resolved_input : Devices → NamedInput → Option Input
+resolved_input devices (port_input device port value) =
     option_and_then (port_of port value) (find (λ d. bytes_eq d.name device) devices.devices)
-placed_input devices (memory_input device memory offset bytes) =
+resolved_input devices (memory_input device memory offset bytes) =
     option_and_then (memory_of memory offset bytes) (find (λ d. bytes_eq d.name device) devices.devices)
-placed_input devices (irq_input device irq) =
+resolved_input devices (irq_input device irq) =
     option_and_then (irq_of irq) (find (λ d. bytes_eq d.name device) devices.devices)
-placed_input devices (dma_input device addr bytes) =
+resolved_input devices (dma_input device addr bytes) =
     option_map (λ number. Dma number addr bytes) (position (λ d. bytes_eq d.name device) devices.devices)
 
 -- what isn't there does nothing; a record that is read names nothing such
-abbrev pub placed_at : Devices → ℕ × NamedInput → TickInput
-placed_at devices e = record { tick = e.0; input = unwrap_or (placed_input devices e.1) Idle }
+abbrev pub resolved_at : Devices → ℕ × NamedInput → TickInput
+resolved_at devices e = record { tick = e.0; input = unwrap_or (resolved_input devices e.1) Idle }
 
 abbrev pub order_at : ℕ × List ℕ → TickOrder
 order_at e = record { tick = e.0; cpus = e.1 }
 
--- the record by places and numbers
-abbrev pub placed : Devices → DeviceRecord → Record
-placed devices r = record { end = r.end; inputs = map (placed_at devices) r.inputs; orders = map order_at r.orders }
+-- the record by addresses and numbers
+abbrev pub resolved : Devices → DeviceRecord → Record
+resolved devices r = record { end = r.end; inputs = map (resolved_at devices) r.inputs; orders = map order_at r.orders }

@@ -4,8 +4,8 @@ use Rattle.std.specs.List.{flat_map}
 use Rattle.image_plan.specs.Plan.{frame_of}
 use Rattle.image_plan.specs.Slot.{frame_slots}
 use Rattle.image_plan.specs.declared.plan.Minor.{Minor}
-use Rattle.frame_clock.proofs.FramePlaces.{no_major, no_cpu, in_frames_there}
-use Rattle.frame_clock.proofs.place.slot.Goals as goal
+use Rattle.frame_clock.proofs.MinorFrames.{no_major, no_cpu, in_frames_there}
+use Rattle.frame_clock.proofs.frame_at.slot.Goals as goal
 
 pub returns-in-None : goal.returns-in-None
 returns-in-None c =

@@ -3,9 +3,9 @@ ghost use Rattle.std.specs.Prelude.{◌≡◌, ◌<◌, IfSome, length, option_m
 ghost use Rattle.std.specs.List.{find, list_any};
 ghost use Rattle.std.specs.Str.{bytes_eq};
 ghost use Rattle.record_text.specs.DeviceRecord.{dma_input, irq_input, memory_input, port_input};
-ghost use Rattle.record_text.specs.Placing.{bytes_in, irq_of, is_in_span, memory_of, placed_input, port_of, raised};
+ghost use Rattle.record_text.specs.Resolving.{bytes_in, irq_of, is_in_span, memory_of, resolved_input, port_of, raised};
 
-use crate::devices::{RecordDevice, Devices, RecordIrq, IrqTarget, RecordMemory, PortSpan};
+use crate::devices::{Devices, IrqTarget, PortSpan, RecordDevice, RecordIrq, RecordMemory};
 use crate::record::Input;
 use muen_num::Seq;
 
@@ -58,7 +58,7 @@ fn bytes_in(memory: &RecordMemory, offset: u64, bytes: Seq<u8>) -> Option<Input>
     let len = bytes.len() as u64;
     if offset <= memory.bytes && len <= memory.bytes - offset {
         return Some(Input::Mem {
-            at: memory.place + offset,
+            at: memory.address + offset,
             bytes,
         });
     }
@@ -95,8 +95,8 @@ fn irq_of(device: &RecordDevice, irq: &[u8]) -> Option<Input>
 }
 
 /// The input byte of a port of the device of this name; `None` where there is no such port.
-pub(crate) fn place_port(devices: &Devices, device: &[u8], port: u16, value: u8) -> Option<Input>
-    ensures { result ≡ placed_input devices.now (port_input device.now port value) }
+pub(crate) fn resolve_port(devices: &Devices, device: &[u8], port: u16, value: u8) -> Option<Input>
+    ensures { result ≡ resolved_input devices.now (port_input device.now port value) }
 {
     let device = device_named(devices, device)?;
     if has_port(device.ports.items(), port) {
@@ -107,33 +107,33 @@ pub(crate) fn place_port(devices: &Devices, device: &[u8], port: u16, value: u8)
 
 /// Bytes for a memory of the device of this name; `None` where there is no such memory, or they
 /// don't lie in it.
-pub(crate) fn place_memory(
+pub(crate) fn resolve_memory(
     devices: &Devices,
     device: &[u8],
     memory: &[u8],
     offset: u64,
     bytes: Seq<u8>,
 ) -> Option<Input>
-    ensures { result ≡ placed_input devices.now (memory_input device.now memory.now offset bytes) }
+    ensures { result ≡ resolved_input devices.now (memory_input device.now memory.now offset bytes) }
 {
     memory_of(device_named(devices, device)?, memory, offset, bytes)
 }
 
 /// An interrupt of the device of this name; `None` where there is no such interrupt.
-pub(crate) fn place_irq(devices: &Devices, device: &[u8], irq: &[u8]) -> Option<Input>
-    ensures { result ≡ placed_input devices.now (irq_input device.now irq.now) }
+pub(crate) fn resolve_irq(devices: &Devices, device: &[u8], irq: &[u8]) -> Option<Input>
+    ensures { result ≡ resolved_input devices.now (irq_input device.now irq.now) }
 {
     irq_of(device_named(devices, device)?, irq)
 }
 
 /// Bytes that the device of this name writes; `None` where there is no such device.
-pub(crate) fn place_dma(
+pub(crate) fn resolve_dma(
     devices: &Devices,
     device: &[u8],
     addr: u64,
     bytes: Seq<u8>,
 ) -> Option<Input>
-    ensures { result ≡ placed_input devices.now (dma_input device.now addr bytes) }
+    ensures { result ≡ resolved_input devices.now (dma_input device.now addr bytes) }
 {
     let device = device_number(devices, device)? as u8;
     Some(Input::Dma {
