@@ -46,7 +46,7 @@ use Rattle.policy_types.specs.declared.source.Required.{Required}
 use Rattle.policy_types.specs.declared.source.Source.{Source}
 use Rattle.policy_types.specs.declared.source.Subject.{Subject}
 use Rattle.sound_stands.proofs.Each.{each_append, each_flat, each_some as each_made, if_some}
-use Rattle.sound_stands.proofs.PolicyFacts.{found_again, found_any, found_by_name, found_passes, found_index, passes_any}
+use Rattle.sound_stands.proofs.PolicyFacts.{found_again, found_any, found_by_name, found_index, found_passes, passes_any}
 use Rattle.sound_stands.proofs.ThingFacts.{channel_is_thing, channel_long, device_is_thing, device_long, provided_is_thing, provided_long, region_is_thing, region_long}
 
 -- ---- what holds of each element
