@@ -150,7 +150,7 @@ module _ (p q : Source) (lawful : IsLawful p) (lawful_too : IsLawful q) (members
 
   store_both : (k : Thing) (o : Option (Stored Thing)) (x x' : System) → thing_in x.things k ≡ thing_in x'.things k → thing_in (with_store o x).things k ≡ thing_in (with_store o x').things k
   store_both k None x x' same = same
-  store_both k (Some w) x x' same = change_thing_alike w.place k (λ old. over old w.offset w.bytes) x.things x'.things same
+  store_both k (Some w) x x' same = change_thing_alike w.target k (λ old. over old w.offset w.bytes) x.things x'.things same
 
   module _ (a : TurnAnswer) where
     own_p : System

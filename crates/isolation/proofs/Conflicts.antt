@@ -125,15 +125,15 @@ pub record BothPages (u s : Subject) (x : Thing) : Type 0 where
   pub seen : list_any (λ m. bytes_eq m.subject name) s.monitors ≡ true
 
 module _ (p : Source) (lawful : IsLawful p) (u s : Subject) (in_u : In u p.subjects) (in_s : In s p.subjects) (other : u.name ≡ s.name → ⊥) where
-  by_role : (name : List ℕ) (rights : Rights) (lower : Rights) (a : OnChannel p u name rights) (b : OnChannel p s name lower) → a.end.role ≡ Writer → (role : Role) → b.end.role ≡ role → flows_to p u s ≡ true
+  by_role : (name : List ℕ) (rights : Rights) (lower : Rights) (a : OnChannel p u name rights) (b : OnChannel p s name lower) → a.channel_end.role ≡ Writer → (role : Role) → b.channel_end.role ≡ role → flows_to p u s ≡ true
   by_role name rights lower a b writes Writer is =
-      let mine = writer_in p u in_u a.channel.name a.end a.its (a.of ∙ sym a.called) writes in
-      let its = writer_in p s in_s a.channel.name b.end b.its (b.of ∙ sym a.called) is in
-      absurd (other (ap (λ e. e.0) (single (writers_of p a.channel.name) (u.name, a.end) (s.name, b.end) (writers_once p lawful a.channel a.declared) mine its)))
+      let mine = writer_in p u in_u a.channel.name a.channel_end a.its (a.of ∙ sym a.called) writes in
+      let its = writer_in p s in_s a.channel.name b.channel_end b.its (b.of ∙ sym a.called) is in
+      absurd (other (ap (λ e. e.0) (single (writers_of p a.channel.name) (u.name, a.channel_end) (s.name, b.channel_end) (writers_once p lawful a.channel a.declared) mine its)))
   by_role name rights lower a b writes Reader is =
-      let reads : reads_from b.end b.end.role a.end.channel ≡ true = ap (λ role. reads_from b.end role a.end.channel) is ∙ (bytes_eq-Decides b.end.channel a.end.channel).1 (b.of ∙ sym a.of) in
-      flows_by p u s (inl (any_in (λ e. writes_it e.role && list_any (λ f. reads_from f f.role e.channel) (channel_ends p s)) (channel_ends p u) a.end a.its
-      (and_from (writes_it a.end.role) (list_any (λ f. reads_from f f.role a.end.channel) (channel_ends p s)) (ap writes_it writes) (any_in (λ f. reads_from f f.role a.end.channel) (channel_ends p s) b.end b.its reads))))
+      let reads : reads_from b.channel_end b.channel_end.role a.channel_end.channel ≡ true = ap (λ role. reads_from b.channel_end role a.channel_end.channel) is ∙ (bytes_eq-Decides b.channel_end.channel a.channel_end.channel).1 (b.of ∙ sym a.of) in
+      flows_by p u s (inl (any_in (λ e. writes_it e.role && list_any (λ f. reads_from f f.role e.channel) (channel_ends p s)) (channel_ends p u) a.channel_end a.its
+      (and_from (writes_it a.channel_end.role) (list_any (λ f. reads_from f f.role a.channel_end.channel) (channel_ends p s)) (ap writes_it writes) (any_in (λ f. reads_from f f.role a.channel_end.channel) (channel_ends p s) b.channel_end b.its reads))))
 
   by_device : (device memory : List ℕ) → OnDevice p u device memory → OnDevice p s device memory → flows_to p u s ≡ true
   by_device device memory a b =
@@ -150,7 +150,7 @@ module _ (p : Source) (lawful : IsLawful p) (u s : Subject) (in_u : In u p.subje
       and_from (allows w.rights Write && is_region w.thing) (list_any (λ v. same_thing w.thing v.thing) (windows_of p s)) (and_from (allows w.rights Write) (is_region w.thing) writes (ap is_region is)) their in
       inl (flows_by p u s (inr (inl (any_in (λ w. allows w.rights Write && is_region w.thing && list_any (λ v. same_thing w.thing v.thing) (windows_of p s)) (windows_of p u) w in_w it))))
   by_kind w v in_w in_v writes same (channel name) is on seen =
-      inl (by_role name w.rights v.rights on seen (writes_as on.end.role w.rights on.by writes) seen.end.role refl)
+      inl (by_role name w.rights v.rights on seen (writes_as on.channel_end.role w.rights on.by writes) seen.channel_end.role refl)
   by_kind w v in_w in_v writes same (provided subject logical) is on seen = absurd (other (sym on ∙ seen))
   by_kind w v in_w in_v writes same (device_memory device memory) is on seen = inl (by_device device memory on seen)
   by_kind w v in_w in_v writes same (state name) is on seen =

@@ -57,13 +57,13 @@ two_counted f (y ∷ ys) a b ne (inr h) (inr k) m n =
 pub passing_counted : {X : Type 0} (test : X → Bool) (xs : List X) (x : X) → In x xs → test x ≡ true → 1 ≤ count_by test xs
 passing_counted test xs x h passes = one_counted (λ x. cond (test x) 1 0) xs x h (rw passes (omega arith))
 
--- ---- places
+-- ---- indexes
 
--- where two tests pass once each at most, and somewhere both do, they pass first at the same place
-pub same_place : {X : Type 0} (p q : X → Bool) (f g : X → ℕ) → ((x : X) → p x ≡ true → 1 ≤ f x) → ((x : X) → q x ≡ true → 1 ≤ g x) → (xs : List X) → sum_by f xs ≤ 1 → sum_by g xs ≤ 1 → list_any (λ x. p x && q x) xs ≡ true
+-- where two tests pass once each at most, and somewhere both do, they pass first at the same index
+pub same_index : {X : Type 0} (p q : X → Bool) (f g : X → ℕ) → ((x : X) → p x ≡ true → 1 ≤ f x) → ((x : X) → q x ≡ true → 1 ≤ g x) → (xs : List X) → sum_by f xs ≤ 1 → sum_by g xs ≤ 1 → list_any (λ x. p x && q x) xs ≡ true
     → position_or_len p xs ≡ position_or_len q xs
-same_place p q f g counts marks [] few scarce both = refl
-same_place {X} p q f g counts marks (x ∷ xs) few scarce both =
+same_index p q f g counts marks [] few scarce both = refl
+same_index {X} p q f g counts marks (x ∷ xs) few scarce both =
     let sum : sum_by f (x ∷ xs) ≡ f x + sum_by f xs = sum_by-cons f x xs in
     let marked : sum_by g (x ∷ xs) ≡ g x + sum_by g xs = sum_by-cons g x xs in
     elim (p x) as (λ b. p x ≡ b → ((b && q x) || list_any (λ x. p x && q x) xs) ≡ true → cond (not b) (1 + position_or_len p xs) 0 ≡ position_or_len q (x ∷ xs)) [
@@ -82,7 +82,7 @@ same_place {X} p q f g counts marks (x ∷ xs) few scarce both =
         | false ↦ λ _.
             let fewer : sum_by f xs ≤ 1 = omega (arith, sum, few) in
             let scarcer : sum_by g xs ≤ 1 = omega (arith, marked, scarce) in
-            ap (λ n. 1 + n) (same_place p q f g counts marks xs fewer scarcer h)
+            ap (λ n. 1 + n) (same_index p q f g counts marks xs fewer scarcer h)
       ] refl
     ] refl both
   where
@@ -104,30 +104,30 @@ same_place {X} p q f g counts marks (x ∷ xs) few scarce both =
           | inr k ↦ let later = some_second p q g marks xs k in omega (arith, later, sum)
         ]
 
--- what stands at a place is an element
+-- what stands at an index is an element
 pub in_at : {X : Type 0} (xs : List X) (k : ℕ) (x : X) → slice_get xs k ≡ Some x → In x xs
 in_at [] k x at = absurd (cc (at))
 in_at (y ∷ ys) zero x at = inl (cc (at))
 in_at (y ∷ ys) (suc k) x at = inr (in_at ys k x at)
 
 -- where a test passes once at most, it passes first wherever it passes
-first_place : {X : Type 0} (test : X → Bool) (f : X → ℕ) → ((x : X) → test x ≡ true → 1 ≤ f x) → (xs : List X) (k : ℕ) (x : X) → sum_by f xs ≤ 1 → slice_get xs k ≡ Some x → test x ≡ true → position_or_len test xs ≡ k
-first_place test f counts [] k x few at passes = absurd (cc (at))
-first_place test f counts (y ∷ ys) zero x few at passes =
+first_index : {X : Type 0} (test : X → Bool) (f : X → ℕ) → ((x : X) → test x ≡ true → 1 ≤ f x) → (xs : List X) (k : ℕ) (x : X) → sum_by f xs ≤ 1 → slice_get xs k ≡ Some x → test x ≡ true → position_or_len test xs ≡ k
+first_index test f counts [] k x few at passes = absurd (cc (at))
+first_index test f counts (y ∷ ys) zero x few at passes =
     let same : y ≡ x = cc (at) in
     ap (λ b. cond (not b) (1 + position_or_len test ys) 0) (ap test same ∙ passes)
-first_place {X} test f counts (y ∷ ys) (suc k) x few at passes =
+first_index {X} test f counts (y ∷ ys) (suc k) x few at passes =
     let sum : sum_by f (y ∷ ys) ≡ f y + sum_by f ys = sum_by-cons f y ys in
     let fewer : sum_by f ys ≤ 1 = omega (arith, sum, few) in
-    let later : position_or_len test ys ≡ k = first_place test f counts ys k x fewer at passes in
+    let later : position_or_len test ys ≡ k = first_index test f counts ys k x fewer at passes in
     let some : 1 ≤ sum_by f ys = one_counted f ys x (in_at ys k x at) (counts x passes) in
     elim (test y) as (λ b. test y ≡ b → cond (not b) (1 + position_or_len test ys) 0 ≡ suc k) [
       | true ↦ λ e. let here : 1 ≤ f y = counts y e in absurd (omega (arith, here, some, sum, few))
       | false ↦ λ _. omega (arith, later)
     ] refl
 
-pub only_place : {X : Type 0} (test : X → Bool) (f : X → ℕ) → ((x : X) → test x ≡ true → 1 ≤ f x) → (xs : List X) (k : ℕ) (x : X) → sum_by f xs ≤ 1 → slice_get xs k ≡ Some x → test x ≡ true → position test xs ≡ Some k
-only_place test f counts xs k x few at passes =
-    let place = first_place test f counts xs k x few at passes in
+pub only_index : {X : Type 0} (test : X → Bool) (f : X → ℕ) → ((x : X) → test x ≡ true → 1 ≤ f x) → (xs : List X) (k : ℕ) (x : X) → sum_by f xs ≤ 1 → slice_get xs k ≡ Some x → test x ≡ true → position test xs ≡ Some k
+only_index test f counts xs k x few at passes =
+    let index = first_index test f counts xs k x few at passes in
     let within = slice_get_within xs k x at in
-    ap (λ n. cond (nat_lt n (length xs)) (Some n) None) place ∙ ap (λ b. cond b (Some k) None) (lt-ltb k (length xs) within)
+    ap (λ n. cond (nat_lt n (length xs)) (Some n) None) index ∙ ap (λ b. cond b (Some k) None) (lt-ltb k (length xs) within)

@@ -53,7 +53,7 @@ module _ (p : Source) (members : List (List ℕ)) (cpu tick : ℕ) (y : System) 
 -- the members have the same slots at this tick
 abbrev pub SameSlots : Source → Source → List (List ℕ) → ℕ → System → System → Type 0
 SameSlots p q members tick y z =
-    (s w : Subject) → is_member members s ≡ true → subject_named p s.name ≡ Some s → subject_named q s.name ≡ Some w → own_slot p s y.place tick ≡ own_slot q w z.place tick
+    (s w : Subject) → is_member members s ≡ true → subject_named p s.name ≡ Some s → subject_named q s.name ≡ Some w → own_slot p s y.frame tick ≡ own_slot q w z.frame tick
 
 module _ (p q : Source) (lawful : IsLawful p) (lawful_too : IsLawful q) (members : List (List ℕ)) (closed : IsClosed p members) (closed_too : IsClosed q members) (f g : Held) (r t : DeviceRecord) (ends : ℕ) (agree : Agree members p q f g r t ends) (tick : ℕ) where
   -- members are alike after it, and it prints the same of each
@@ -85,7 +85,7 @@ module _ (p q : Source) (lawful : IsLawful p) (lawful_too : IsLawful q) (members
         let found : subject_named p s.0.name ≡ Some s.0 = ap (subject_named p) name ∙ s.1 in
         let found_too : subject_named q s.0.name ≡ Some v = ap (subject_named q) name ∙ acts.named in
         let own = (agree.each s.0 v inside found found_too).own in
-        let mine : own_slot p s.0 y.place tick ≡ Some slot.first = slots s.0 v inside found found_too ∙ acts.slot_is in
+        let mine : own_slot p s.0 y.frame tick ≡ Some slot.first = slots s.0 v inside found found_too ∙ acts.slot_is in
         let active : is_active p y s.0.name ≡ true = (h s.0 inside found).active ∙ ap (is_active q z) name ∙ acts.active in
         let turn = has_its_turn p s.0 tick y slot.first found mine active in
         (turn.slot, s.0, ap (λ c. turner p c tick y) (sym (same_cpu p q s.0 v own ∙ acts.on)) ∙ turn.is, inside)
@@ -112,7 +112,7 @@ module _ (p q : Source) (lawful : IsLawful p) (lawful_too : IsLawful q) (members
         let own = (agree.each u v.0 member acts.named v.1).own in
         let name = same_name p q u v.0 own in
         let found : subject_named q v.0.name ≡ Some v.0 = ap (subject_named q) (sym name) ∙ v.1 in
-        let mine : own_slot q v.0 z.place tick ≡ Some slot.first = sym (slots u v.0 member acts.named v.1) ∙ acts.slot_is in
+        let mine : own_slot q v.0 z.frame tick ≡ Some slot.first = sym (slots u v.0 member acts.named v.1) ∙ acts.slot_is in
         let active : is_active q z v.0.name ≡ true = ap (is_active q z) (sym name) ∙ sym (h u member acts.named).active ∙ acts.active in
         let turn = has_its_turn q v.0 tick z slot.first found mine active in
         let is' : turner q cpu tick z ≡ Some (turn.slot, v.0) = ap (λ c. turner q c tick z) (sym acts.on ∙ same_cpu p q u v.0 own) ∙ turn.is in

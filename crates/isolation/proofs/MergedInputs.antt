@@ -158,13 +158,13 @@ module _ (p q : Source) (members : List (List ℕ)) (f g : Held) (r t : DeviceRe
 
   -- ---- all inputs of a tick
 
-  -- what is left of the second's inputs behind the first that reaches a member
+  -- what remains of the second's inputs behind the first that reaches a member
   record Skipped (y : System) (i : NamedInput) (rest is : List NamedInput) (z : System) : Type 0 where
-    pub left : List NamedInput
+    pub remaining : List NamedInput
     pub here : System
     pub alike : AreAlike p q members y here
-    pub same : all_taken (system q) is z ≡ all_taken (system q) left (takes q i here)
-    pub agrees : rest ≡ filter (touches q members) left
+    pub same : all_taken (system q) is z ≡ all_taken (system q) remaining (takes q i here)
+    pub agrees : rest ≡ filter (touches q members) remaining
 
   skip : (y : System) (i : NamedInput) (rest is : List NamedInput) (z : System) → AreAlike p q members y z → i ∷ rest ≡ filter (touches q members) is → Skipped y i rest is z
   skip y i rest [] z h same = absurd (cc (same))
@@ -172,10 +172,10 @@ module _ (p q : Source) (members : List (List ℕ)) (f g : Held) (r t : DeviceRe
       elim (touches q members j) as (λ b. touches q members j ≡ b → i ∷ rest ≡ cond b (j ∷ filter (touches q members) js) (filter (touches q members) js) → Skipped y i rest (j ∷ js) z) [
         | true ↦ λ e k.
             let first : i ≡ j = cc (k) in
-            record { left = js; here = z; alike = h; same = ap (λ x. all_taken (system q) js (takes q x z)) (sym first); agrees = cc (k) }
+            record { remaining = js; here = z; alike = h; same = ap (λ x. all_taken (system q) js (takes q x z)) (sym first); agrees = cc (k) }
         | false ↦ λ e k.
             let later = skip y i rest js (takes q j z) (alike_right p q members f g r t ends agree y z (takes q j z) (input_outside q members j z e) h) k in
-            record { left = later.left; here = later.here; alike = later.alike; same = later.same; agrees = later.agrees }
+            record { remaining = later.remaining; here = later.here; alike = later.alike; same = later.same; agrees = later.agrees }
       ] refl same
 
   rest_outside : (is : List NamedInput) (y z : System) → [] ≡ filter (touches q members) is → AreAlike p q members y z → AreAlike p q members y (all_taken (system q) is z)
@@ -192,6 +192,6 @@ module _ (p q : Source) (members : List (List ℕ)) (f g : Held) (r t : DeviceRe
       elim (touches p members i) as (λ b. touches p members i ≡ b → cond b (i ∷ filter (touches p members) is) (filter (touches p members) is) ≡ filter (touches q members) js → AreAlike p q members (all_taken (system p) is (takes p i y)) (all_taken (system q) js z)) [
         | true ↦ λ e k.
             let at = skip y i (filter (touches p members) is) js z h k in
-            subst (AreAlike p q members (all_taken (system p) is (takes p i y))) (sym at.same) (inputs_both is at.left (takes p i y) (takes q i at.here) at.agrees (input_both i y at.here e at.alike))
+            subst (AreAlike p q members (all_taken (system p) is (takes p i y))) (sym at.same) (inputs_both is at.remaining (takes p i y) (takes q i at.here) at.agrees (input_both i y at.here e at.alike))
         | false ↦ λ e k. inputs_both is js (takes p i y) z k (alike_left p q members y (takes p i y) z (input_outside p members i y e) h)
       ] refl same

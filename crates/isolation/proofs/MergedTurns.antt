@@ -30,14 +30,14 @@ use Rattle.isolation.proofs.OutsiderTurns.{outsiders_turn}
 use Rattle.isolation.proofs.Stores.{by_store}
 use Rattle.isolation.proofs.Turners.{has_turner, turner, turner_acts}
 
--- ---- the place stays
+-- ---- the frame stays
 
-pub turn_place : (p : Source) (cpu tick : ℕ) (y : System) → (system_turn p cpu tick y).state.place ≡ y.place
-turn_place p cpu tick y =
-    turn_cases p cpu tick y (λ t. t.state.place ≡ y.place) refl (λ slot name u st values has.
+pub turn_frame : (p : Source) (cpu tick : ℕ) (y : System) → (system_turn p cpu tick y).state.frame ≡ y.frame
+turn_frame p cpu tick y =
+    turn_cases p cpu tick y (λ t. t.state.frame ≡ y.frame) refl (λ slot name u st values has.
     let a : TurnAnswer = solo_turn (own_of p u) (record { state = st; msrs = values }) (inbox_of p y u slot.first tick) in
     let own : System = with_own u.name a.state a.msr y in
-    (by_raised p u a.raised (took u.name a.taken (with_store a.stored own))).place ∙ (by_store a.stored own).place)
+    (by_raised p u a.raised (took u.name a.taken (with_store a.stored own))).frame ∙ (by_store a.stored own).frame)
 
 -- ---- lines
 
@@ -85,7 +85,7 @@ module _ (p q : Source) (lawful : IsLawful p) (lawful_too : IsLawful q) (members
         listed = turn_listed p c tick y h.listed;
         listed_too = h.listed_too;
         alike = alike_left p q members y (system_turn p c tick y).state z (leaves p lawful members closed c tick y h.listed empty) h.alike;
-        slots = λ s w member found found'. ap (λ at. own_slot p s at tick) (turn_place p c tick y) ∙ h.slots s w member found found';
+        slots = λ s w member found found'. ap (λ at. own_slot p s at tick) (turn_frame p c tick y) ∙ h.slots s w member found found';
       }
 
   ready_right : (c : ℕ) (y z : System) → holds_member q members c ≡ false → Ready y z → Ready y (system_turn q c tick z).state
@@ -94,17 +94,17 @@ module _ (p q : Source) (lawful : IsLawful p) (lawful_too : IsLawful q) (members
         listed = h.listed;
         listed_too = turn_listed q c tick z h.listed_too;
         alike = alike_right p q members f g r t ends agree y z (system_turn q c tick z).state (leaves q lawful_too members closed_too c tick z h.listed_too empty) h.alike;
-        slots = λ s w member found found'. h.slots s w member found found' ∙ sym (ap (λ at. own_slot q w at tick) (turn_place q c tick z));
+        slots = λ s w member found found'. h.slots s w member found found' ∙ sym (ap (λ at. own_slot q w at tick) (turn_frame q c tick z));
       }
 
-  -- what is left of the second's turns behind those of CPUs that hold no member
+  -- what remains of the second's turns behind those of CPUs that hold no member
   record Skipped (y : System) (c : ℕ) (rest order : List ℕ) (z : System) : Type 0 where
-    pub left : List ℕ
+    pub remaining : List ℕ
     pub here : System
     pub ready : Ready y here
-    pub state : (turns (system q) tick order z).state ≡ (turns (system q) tick (c ∷ left) here).state
-    pub lines : (s : Subject) → is_member members s ≡ true → subject_named p s.name ≡ Some s → find (λ l. bytes_eq l.subject s.name) (turns (system q) tick order z).lines ≡ find (λ l. bytes_eq l.subject s.name) (turns (system q) tick (c ∷ left) here).lines
-    pub agrees : rest ≡ filter (holds_member q members) left
+    pub state : (turns (system q) tick order z).state ≡ (turns (system q) tick (c ∷ remaining) here).state
+    pub lines : (s : Subject) → is_member members s ≡ true → subject_named p s.name ≡ Some s → find (λ l. bytes_eq l.subject s.name) (turns (system q) tick order z).lines ≡ find (λ l. bytes_eq l.subject s.name) (turns (system q) tick (c ∷ remaining) here).lines
+    pub agrees : rest ≡ filter (holds_member q members) remaining
 
   silent_right : (c : ℕ) (z : System) → AreListed q z.active → holds_member q members c ≡ false → (s : Subject) → is_member members s ≡ true → subject_named p s.name ≡ Some s → find (λ l. bytes_eq l.subject s.name) (cons_option (system_turn q c tick z).line []) ≡ None
   silent_right c z listed empty s member found =
@@ -119,7 +119,7 @@ module _ (p q : Source) (lawful : IsLawful p) (lawful_too : IsLawful q) (members
         | true ↦ λ e k.
             let first : c ≡ d = cc (k) in
             record {
-              left = ds;
+              remaining = ds;
               here = z;
               ready = h;
               state = ap (λ x. (turns (system q) tick (x ∷ ds) z).state) (sym first);
@@ -130,7 +130,7 @@ module _ (p q : Source) (lawful : IsLawful p) (lawful_too : IsLawful q) (members
             let turned = system_turn q d tick z in
             let later = skip y c rest ds turned.state (ready_right d y z e h) k in
             record {
-              left = later.left;
+              remaining = later.remaining;
               here = later.here;
               ready = later.ready;
               state = later.state;
@@ -166,7 +166,7 @@ module _ (p q : Source) (lawful : IsLawful p) (lawful_too : IsLawful q) (members
           listed = turn_listed p c tick y h.listed;
           listed_too = turn_listed q c tick z h.listed_too;
           alike = step.alike;
-          slots = λ s w member found found'. ap (λ at. own_slot p s at tick) (turn_place p c tick y) ∙ h.slots s w member found found' ∙ sym (ap (λ at. own_slot q w at tick) (turn_place q c tick z));
+          slots = λ s w member found found'. ap (λ at. own_slot p s at tick) (turn_frame p c tick y) ∙ h.slots s w member found found' ∙ sym (ap (λ at. own_slot q w at tick) (turn_frame q c tick z));
         },
       )
 
@@ -179,11 +179,11 @@ module _ (p q : Source) (lawful : IsLawful p) (lawful_too : IsLawful q) (members
             let step = both_step c y at.here at.ready in
             let left = system_turn p c tick y in
             let right = system_turn q c tick at.here in
-            let later = turns_both cs at.left left.state right.state at.agrees step.1 in
+            let later = turns_both cs at.remaining left.state right.state at.agrees step.1 in
             record {
               alike = subst (AreAlike p q members (turns (system p) tick cs left.state).state) (sym at.state) later.alike;
               lines = λ s member found.
-                  find_both (λ l. bytes_eq l.subject s.name) left.line right.line (turns (system p) tick cs left.state).lines (turns (system q) tick at.left right.state).lines (step.0.lines s member found) (later.lines s member found)
+                  find_both (λ l. bytes_eq l.subject s.name) left.line right.line (turns (system p) tick cs left.state).lines (turns (system q) tick at.remaining right.state).lines (step.0.lines s member found) (later.lines s member found)
                   ∙ sym (at.lines s member found);
             }
         | false ↦ λ e k.

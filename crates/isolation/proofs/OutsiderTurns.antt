@@ -102,10 +102,10 @@ module _ (p : Source) (lawful : IsLawful p) (members : List (List ℕ)) (closed 
       let on = subst (IsOn p s v.one.rights) (same_things v.one.thing x v.passes ∙ sym is) (window_is p s v.one v.within) in
       dry (flows_by p u s (inr (inr (inr (inr (inl (any_in (λ m. bytes_eq m.subject u.name) s.monitors on.monitor on.its ((bytes_eq-Decides on.monitor.subject u.name).1 on.of))))))))
 
-  store_unseen : (x : Thing) → is_shown (windows_of p s) x ≡ true → (o : Option (Stored Thing)) → IfSome o (λ w. IsWritable (windows_of p u) w.place) → (y : System) → thing_in (with_store o y).things x ≡ thing_in y.things x
+  store_unseen : (x : Thing) → is_shown (windows_of p s) x ≡ true → (o : Option (Stored Thing)) → IfSome o (λ w. IsWritable (windows_of p u) w.target) → (y : System) → thing_in (with_store o y).things x ≡ thing_in y.things x
   store_unseen x shown None h y = refl
   store_unseen x shown (Some w) h y =
-      value_other same_thing w.place x (λ old. over old w.offset w.bytes) y.things (things_apart w.place x (λ e. unseen x shown (subst (IsWritable (windows_of p u)) e h)))
+      value_other same_thing w.target x (λ old. over old w.offset w.bytes) y.things (things_apart w.target x (λ e. unseen x shown (subst (IsWritable (windows_of p u)) e h)))
 
   no_event : (w : SourceWay) → reaches (event_of p u w) s.name ≡ true → ⊥
   no_event w h = dry (flows_by p u s (inr (inr (inl (way_counts p u s w h)))))
@@ -150,7 +150,7 @@ module _ (p : Source) (lawful : IsLawful p) (members : List (List ℕ)) (closed 
   outsider_acted slot name u st values has outside = λ s member is.
       let in_s = (find_in (λ q. bytes_eq q.name s.name) p.subjects s is).0 in
       let in_u = (find_in (λ q. bytes_eq q.name name) p.subjects u has.is).0 in
-      let at = there_is (slice_get p.scheduling.groups slot.group) cpu (slot_here p cpu (majors_kept p lawful.rule_16) y.place tick slot has.in_slot) in
+      let at = there_is (slice_get p.scheduling.groups slot.group) cpu (slot_here p cpu (majors_kept p lawful.rule_16) y.frame tick slot has.in_slot) in
       let acts : slice_get y.active slot.group ≡ Some u.name = has.active ∙ ap Some (sym (named_so p name u has.is)) in
       outsider_answer p lawful members closed u s in_u in_s member outside (record { state = st; msrs = values }) (inbox_of p y u slot.first tick) y slot.group at.0 at.1 (listed slot.group u.name at.0 acts at.1) acts
 

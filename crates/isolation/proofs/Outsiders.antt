@@ -39,7 +39,7 @@ use Rattle.sound_stands.proofs.Each.{if_some}
 use Rattle.system_laws.proofs.OwnLines.{listed_passes}
 use Rattle.system_laws.specs.Members.{lists}
 use Rattle.isolation.specs.Alike.{is_active}
-use Rattle.isolation.proofs.Counts.{only_place, passing_counted, same_place}
+use Rattle.isolation.proofs.Counts.{only_index, passing_counted, same_index}
 use Rattle.isolation.proofs.Switches.{raised_fits}
 
 -- ---- outside a closed set
@@ -77,12 +77,12 @@ module _ (p : Source) (kept : MembersKept p) where
   -- the group that lists it is its own
   pub own_group : (s : Subject) → In s p.subjects → (k : ℕ) (g : Group) → slice_get p.scheduling.groups k ≡ Some g → lists s.name g ≡ true → group_of p s.name ≡ Some k
   own_group s in_s k g at h =
-      only_place (lists s.name) (λ g. count_by (λ n. bytes_eq n s.name) g.subjects) (λ g. listing_counts s.name g) p.scheduling.groups k g (listed_few s in_s) at h
+      only_index (lists s.name) (λ g. count_by (λ n. bytes_eq n s.name) g.subjects) (λ g. listing_counts s.name g) p.scheduling.groups k g (listed_few s in_s) at h
 
   -- two that one group lists are in one group
   pub one_group : (a b : Subject) → In a p.subjects → In b p.subjects → some_group_lists p a.name b.name ≡ true → group_of p b.name ≡ group_of p a.name
   one_group a b in_a in_b h =
-      let same = same_place (lists a.name) (lists b.name) (λ g. count_by (λ n. bytes_eq n a.name) g.subjects) (λ g. count_by (λ n. bytes_eq n b.name) g.subjects) (λ g. listing_counts a.name g) (λ g. listing_counts b.name g) p.scheduling.groups (listed_few a in_a) (listed_few b in_b) h in
+      let same = same_index (lists a.name) (lists b.name) (λ g. count_by (λ n. bytes_eq n a.name) g.subjects) (λ g. count_by (λ n. bytes_eq n b.name) g.subjects) (λ g. listing_counts a.name g) (λ g. listing_counts b.name g) p.scheduling.groups (listed_few a in_a) (listed_few b in_b) h in
       ap (λ n. cond (nat_lt n (length p.scheduling.groups)) (Some n) None) (sym same)
 
   -- a name that a group lists is that of a subject
@@ -187,19 +187,19 @@ module _ (own : Own) (mine : OwnState) (inbox : Inbox) where
         | false ↦ λ _ k. absurd (cc (k))
       ] refl h
 
-  step_writes : IfSome (step (alone own mine.msrs inbox) mine.state).stored (λ w. IsWritable own.windows w.place)
+  step_writes : IfSome (step (alone own mine.msrs inbox) mine.state).stored (λ w. IsWritable own.windows w.target)
   step_writes =
-      if_some (λ (w : Stored Thing). IsWritable own.windows w.place) (step (alone own mine.msrs inbox) mine.state).stored
-      (λ w e. let at = step_stored (alone own mine.msrs inbox) mine.state w e in by_window at.addr w.offset w.place (find (λ w. holds w at.addr) own.windows) refl at.looked)
+      if_some (λ (w : Stored Thing). IsWritable own.windows w.target) (step (alone own mine.msrs inbox) mine.state).stored
+      (λ w e. let at = step_stored (alone own mine.msrs inbox) mine.state w e in by_window at.addr w.offset w.target (find (λ w. holds w at.addr) own.windows) refl at.looked)
 
-  by_cases : (stopped : Bool) (vector : Option ℕ) (halted : Bool) (st : SubjectState) (traps : List ℕ) (a : Answer Thing) → IfSome a.stored (λ w. IsWritable own.windows w.place)
-      → IfSome (cond stopped (waits st) (unless_delivered st vector (cond halted (waits st) (stepped traps a)))).stored (λ w. IsWritable own.windows w.place)
+  by_cases : (stopped : Bool) (vector : Option ℕ) (halted : Bool) (st : SubjectState) (traps : List ℕ) (a : Answer Thing) → IfSome a.stored (λ w. IsWritable own.windows w.target)
+      → IfSome (cond stopped (waits st) (unless_delivered st vector (cond halted (waits st) (stepped traps a)))).stored (λ w. IsWritable own.windows w.target)
   by_cases true vector halted st traps a h = tt
   by_cases false (Some v) halted st traps a h = tt
   by_cases false None true st traps a h = tt
   by_cases false None false st traps a h = h
 
-  pub turn_writes : IfSome (solo_turn own mine inbox).stored (λ w. IsWritable own.windows w.place)
+  pub turn_writes : IfSome (solo_turn own mine inbox).stored (λ w. IsWritable own.windows w.target)
   unfolding solo_turn
   turn_writes =
       by_cases mine.state.stopped (vector_for mine.state inbox) mine.state.halted mine.state own.traps (step (alone own mine.msrs inbox) mine.state) step_writes

@@ -10,8 +10,8 @@ pub record LeavesAllElse (y z : System) : Type 0 where
   pub now : z.now ≡ y.now
   pub later : z.later ≡ y.later
   pub active : z.active ≡ y.active
-  pub place : z.place ≡ y.place
+  pub frame : z.frame ≡ y.frame
 
 pub by_store : (o : Option (Stored Thing)) (y : System) → LeavesAllElse y (with_store o y)
-by_store None y = record { msrs = refl; ports = refl; now = refl; later = refl; active = refl; place = refl }
-by_store (Some w) y = record { msrs = refl; ports = refl; now = refl; later = refl; active = refl; place = refl }
+by_store None y = record { msrs = refl; ports = refl; now = refl; later = refl; active = refl; frame = refl }
+by_store (Some w) y = record { msrs = refl; ports = refl; now = refl; later = refl; active = refl; frame = refl }

@@ -79,43 +79,43 @@ module _ (p : Source) (lawful : IsLawful p) (u : Subject) (in_u : In u p.subject
   writes_only e Writer way h = refl
   writes_only e Reader way h = absurd (cc (h))
 
-  by_channel : (end : ChannelEnd) → In end (channel_ends p u) → writes_it end.role ≡ true → (e : Raised) → channel_event p end.channel ≡ Some e → fits_mode p e.mode u.name e.target.subject ≡ true
-  by_channel end its writes e h = by_found (find (λ c. bytes_eq c.name end.channel) p.channels) refl h
+  by_channel : (channel_end : ChannelEnd) → In channel_end (channel_ends p u) → writes_it channel_end.role ≡ true → (e : Raised) → channel_event p channel_end.channel ≡ Some e → fits_mode p e.mode u.name e.target.subject ≡ true
+  by_channel channel_end its writes e h = by_found (find (λ c. bytes_eq c.name channel_end.channel) p.channels) refl h
     where
-      by_target : (c : Channel) → In c p.channels → c.name ≡ end.channel → (m : EventMode) → c.has_event ≡ Some m → (o : Option Target) → slice_get (channel_targets p end.channel) 0 ≡ o → option_map (λ t. record { mode = m; target = t }) o ≡ Some e → fits_mode p e.mode u.name e.target.subject ≡ true
+      by_target : (c : Channel) → In c p.channels → c.name ≡ channel_end.channel → (m : EventMode) → c.has_event ≡ Some m → (o : Option Target) → slice_get (channel_targets p channel_end.channel) 0 ≡ o → option_map (λ t. record { mode = m; target = t }) o ≡ Some e → fits_mode p e.mode u.name e.target.subject ≡ true
       by_target c declared called m has None at k = absurd (cc (k))
       by_target c declared called m has (Some t) at k =
           let same : record { mode = m; target = t } ≡ e = cc (k) in
-          let to = flat_some (λ q. map (λ x. record { subject = q.name; vector = x.vector }) (filter (λ x. reads_from x x.role end.channel) (channel_ends p q))) p.subjects t (in_at (channel_targets p end.channel) 0 t at) in
-          let entry = map_some (λ x. record { subject = to.one.name; vector = x.vector }) (filter (λ x. reads_from x x.role end.channel) (channel_ends p to.one)) t to.part in
-          let kept = filter_some (λ x. reads_from x x.role end.channel) (channel_ends p to.one) entry.one entry.within in
-          let reads = reads_only entry.one entry.one.role end.channel kept.1 in
-          let end_of_target : In (to.one.name, entry.one) (ends_of p end.channel) =
-          flat_in (λ s. map (λ e. (s.name, e)) (filter (λ e. bytes_eq e.channel end.channel) (channel_ends p s))) p.subjects to.one (to.one.name, entry.one) to.within
-          (map_in (λ e. (to.one.name, e)) (filter (λ e. bytes_eq e.channel end.channel) (channel_ends p to.one)) entry.one (filter_in (λ e. bytes_eq e.channel end.channel) (channel_ends p to.one) entry.one kept.0 ((bytes_eq-Decides entry.one.channel end.channel).1 reads.0))) in
-          let target : In to.one.name (map (λ e. e.0) (readers_of p end.channel)) =
-          map_in (λ (e : List ℕ × ChannelEnd). e.0) (readers_of p end.channel) (to.one.name, entry.one) (filter_in (λ e. not (writes_it e.1.role)) (ends_of p end.channel) (to.one.name, entry.one) end_of_target (ap not reads.1)) in
-          let own_end : In (u.name, end) (ends_of p end.channel) =
-          flat_in (λ s. map (λ e. (s.name, e)) (filter (λ e. bytes_eq e.channel end.channel) (channel_ends p s))) p.subjects u (u.name, end) in_u
-          (map_in (λ e. (u.name, e)) (filter (λ e. bytes_eq e.channel end.channel) (channel_ends p u)) end (filter_in (λ e. bytes_eq e.channel end.channel) (channel_ends p u) end its ((bytes_eq-Decides end.channel end.channel).1 refl))) in
-          let mine : In u.name (map (λ e. e.0) (writers_of p end.channel)) =
-          map_in (λ (e : List ℕ × ChannelEnd). e.0) (writers_of p end.channel) (u.name, end) (filter_in (λ e. writes_it e.1.role) (ends_of p end.channel) (u.name, end) own_end writes) in
+          let to = flat_some (λ q. map (λ x. record { subject = q.name; vector = x.vector }) (filter (λ x. reads_from x x.role channel_end.channel) (channel_ends p q))) p.subjects t (in_at (channel_targets p channel_end.channel) 0 t at) in
+          let entry = map_some (λ x. record { subject = to.one.name; vector = x.vector }) (filter (λ x. reads_from x x.role channel_end.channel) (channel_ends p to.one)) t to.part in
+          let kept = filter_some (λ x. reads_from x x.role channel_end.channel) (channel_ends p to.one) entry.one entry.within in
+          let reads = reads_only entry.one entry.one.role channel_end.channel kept.1 in
+          let target_channel_end : In (to.one.name, entry.one) (ends_of p channel_end.channel) =
+          flat_in (λ s. map (λ e. (s.name, e)) (filter (λ e. bytes_eq e.channel channel_end.channel) (channel_ends p s))) p.subjects to.one (to.one.name, entry.one) to.within
+          (map_in (λ e. (to.one.name, e)) (filter (λ e. bytes_eq e.channel channel_end.channel) (channel_ends p to.one)) entry.one (filter_in (λ e. bytes_eq e.channel channel_end.channel) (channel_ends p to.one) entry.one kept.0 ((bytes_eq-Decides entry.one.channel channel_end.channel).1 reads.0))) in
+          let target : In to.one.name (map (λ e. e.0) (readers_of p channel_end.channel)) =
+          map_in (λ (e : List ℕ × ChannelEnd). e.0) (readers_of p channel_end.channel) (to.one.name, entry.one) (filter_in (λ e. not (writes_it e.1.role)) (ends_of p channel_end.channel) (to.one.name, entry.one) target_channel_end (ap not reads.1)) in
+          let own_channel_end : In (u.name, channel_end) (ends_of p channel_end.channel) =
+          flat_in (λ s. map (λ e. (s.name, e)) (filter (λ e. bytes_eq e.channel channel_end.channel) (channel_ends p s))) p.subjects u (u.name, channel_end) in_u
+          (map_in (λ e. (u.name, e)) (filter (λ e. bytes_eq e.channel channel_end.channel) (channel_ends p u)) channel_end (filter_in (λ e. bytes_eq e.channel channel_end.channel) (channel_ends p u) channel_end its ((bytes_eq-Decides channel_end.channel channel_end.channel).1 refl))) in
+          let mine : In u.name (map (λ e. e.0) (writers_of p channel_end.channel)) =
+          map_in (λ (e : List ℕ × ChannelEnd). e.0) (writers_of p channel_end.channel) (u.name, channel_end) (filter_in (λ e. writes_it e.1.role) (ends_of p channel_end.channel) (u.name, channel_end) own_channel_end writes) in
           let own : channel_mode_offence p c c.has_event ≡ None = none_in (λ c. channel_mode_offence p c c.has_event) p.channels (channel_modes p lawful.rule_13) c declared in
-          let none : mode_offence p m c.name (map (λ e. e.0) (writers_of p end.channel)) (map (λ e. e.0) (readers_of p end.channel)) ≡ None =
+          let none : mode_offence p m c.name (map (λ e. e.0) (writers_of p channel_end.channel)) (map (λ e. e.0) (readers_of p channel_end.channel)) ≡ None =
           subst (λ n. mode_offence p m c.name (map (λ e. e.0) (writers_of p n)) (map (λ e. e.0) (readers_of p n)) ≡ None) called (subst (λ o. channel_mode_offence p c o ≡ None) has own) in
-          let fit = fits p m c.name (map (λ e. e.0) (writers_of p end.channel)) (map (λ e. e.0) (readers_of p end.channel)) u.name to.one.name none mine target in
+          let fit = fits p m c.name (map (λ e. e.0) (writers_of p channel_end.channel)) (map (λ e. e.0) (readers_of p channel_end.channel)) u.name to.one.name none mine target in
           subst (λ r. fits_mode p r.mode u.name r.target.subject ≡ true) same (subst (λ n. fits_mode p m u.name n ≡ true) (ap (λ t. t.subject) entry.image) fit)
 
-      by_mode : (c : Channel) → In c p.channels → c.name ≡ end.channel → (o : Option EventMode) → c.has_event ≡ o → option_and_then (λ m. option_map (λ t. record { mode = m; target = t }) (slice_get (channel_targets p end.channel) 0)) o ≡ Some e → fits_mode p e.mode u.name e.target.subject ≡ true
+      by_mode : (c : Channel) → In c p.channels → c.name ≡ channel_end.channel → (o : Option EventMode) → c.has_event ≡ o → option_and_then (λ m. option_map (λ t. record { mode = m; target = t }) (slice_get (channel_targets p channel_end.channel) 0)) o ≡ Some e → fits_mode p e.mode u.name e.target.subject ≡ true
       by_mode c declared called None has k = absurd (cc (k))
-      by_mode c declared called (Some m) has k = by_target c declared called m has (slice_get (channel_targets p end.channel) 0) refl k
+      by_mode c declared called (Some m) has k = by_target c declared called m has (slice_get (channel_targets p channel_end.channel) 0) refl k
 
-      by_found : (o : Option Channel) → find (λ c. bytes_eq c.name end.channel) p.channels ≡ o
-          → option_and_then (λ c. option_and_then (λ m. option_map (λ t. record { mode = m; target = t }) (slice_get (channel_targets p end.channel) 0)) c.has_event) o ≡ Some e → fits_mode p e.mode u.name e.target.subject ≡ true
+      by_found : (o : Option Channel) → find (λ c. bytes_eq c.name channel_end.channel) p.channels ≡ o
+          → option_and_then (λ c. option_and_then (λ m. option_map (λ t. record { mode = m; target = t }) (slice_get (channel_targets p channel_end.channel) 0)) c.has_event) o ≡ Some e → fits_mode p e.mode u.name e.target.subject ≡ true
       by_found None is k = absurd (cc (k))
       by_found (Some c) is k =
-          let at = find_in (λ c. bytes_eq c.name end.channel) p.channels c is in
-          by_mode c at.0 ((bytes_eq-Decides c.name end.channel).0 at.1) c.has_event refl k
+          let at = find_in (λ c. bytes_eq c.name channel_end.channel) p.channels c is in
+          by_mode c at.0 ((bytes_eq-Decides c.name channel_end.channel).0 at.1) c.has_event refl k
 
   -- ---- what a subject raises fits its mode
 
@@ -123,15 +123,15 @@ module _ (p : Source) (lawful : IsLawful p) (u : Subject) (in_u : In u p.subject
   of_source way e None is k = absurd (cc (k))
   of_source way e (Some source) is k = by_named source (find_in (λ e. same_way e.way way) u.sources source is).0 e k
 
-  of_end : (way : SourceWay) (e : Raised) (o : Option ChannelEnd) → find (λ e. writes_by e e.role way) (channel_ends p u) ≡ o → option_and_then (λ e. channel_event p e.channel) o ≡ Some e → fits_mode p e.mode u.name e.target.subject ≡ true
-  of_end way e None is k = absurd (cc (k))
-  of_end way e (Some end) is k =
-      let at = find_in (λ e. writes_by e e.role way) (channel_ends p u) end is in
-      by_channel end at.0 (writes_only end end.role way at.1) e k
+  of_channel_end : (way : SourceWay) (e : Raised) (o : Option ChannelEnd) → find (λ e. writes_by e e.role way) (channel_ends p u) ≡ o → option_and_then (λ e. channel_event p e.channel) o ≡ Some e → fits_mode p e.mode u.name e.target.subject ≡ true
+  of_channel_end way e None is k = absurd (cc (k))
+  of_channel_end way e (Some channel_end) is k =
+      let at = find_in (λ e. writes_by e e.role way) (channel_ends p u) channel_end is in
+      by_channel channel_end at.0 (writes_only channel_end channel_end.role way at.1) e k
 
   of_either : (way : SourceWay) (e : Raised) (a b : Option Raised) → by_source p u way ≡ a → by_end p u way ≡ b → option_or a b ≡ Some e → fits_mode p e.mode u.name e.target.subject ≡ true
   of_either way e (Some x) b is other k = of_source way e (find (λ e. same_way e.way way) u.sources) refl (is ∙ k)
-  of_either way e None b is other k = of_end way e (find (λ e. writes_by e e.role way) (channel_ends p u)) refl (other ∙ k)
+  of_either way e None b is other k = of_channel_end way e (find (λ e. writes_by e e.role way) (channel_ends p u)) refl (other ∙ k)
 
   pub raised_fits : (way : SourceWay) (e : Raised) → event_of p u way ≡ Some e → fits_mode p e.mode u.name e.target.subject ≡ true
   raised_fits way e h = of_either way e (by_source p u way) (by_end p u way) refl refl (sym (event_is p u way) ∙ h)

@@ -38,7 +38,7 @@ turner_slot p None y = None
 turner_slot p (Some slot) y = turner_member p slot (slice_get y.active slot.group)
 
 abbrev pub turner : Source → ℕ → ℕ → System → Option (Slot × Subject)
-turner p cpu tick y = turner_slot p (slot_in (frames_of p cpu) y.place tick) y
+turner p cpu tick y = turner_slot p (slot_in (frames_of p cpu) y.frame tick) y
 
 abbrev pub turn_of : Source → ℕ → ℕ → Option (Slot × Subject) → System → Turned System TurnLine
 turn_of p cpu tick None y = idle y
@@ -57,7 +57,7 @@ by_slot p cpu tick None y = refl
 by_slot p cpu tick (Some slot) y = by_member p cpu tick slot (slice_get y.active slot.group) y
 
 pub turn_is : (p : Source) (cpu tick : ℕ) (y : System) → system_turn p cpu tick y ≡ turn_of p cpu tick (turner p cpu tick y) y
-turn_is p cpu tick y = by_slot p cpu tick (slot_in (frames_of p cpu) y.place tick) y
+turn_is p cpu tick y = by_slot p cpu tick (slot_in (frames_of p cpu) y.frame tick) y
 
 -- ---- who it is
 
@@ -71,7 +71,7 @@ pub record Turner (p : Source) (cpu tick : ℕ) (y : System) (slot : Slot) (u : 
   pub member : List ℕ
   pub has : HasTurn p cpu tick y slot member u
 
-subject_has : (p : Source) (cpu tick : ℕ) (y : System) (slot : Slot) (member : List ℕ) → slot_in (frames_of p cpu) y.place tick ≡ Some slot → slice_get y.active slot.group ≡ Some member → (o : Option Subject) → subject_named p member ≡ o → (at : Slot) (u : Subject)
+subject_has : (p : Source) (cpu tick : ℕ) (y : System) (slot : Slot) (member : List ℕ) → slot_in (frames_of p cpu) y.frame tick ≡ Some slot → slice_get y.active slot.group ≡ Some member → (o : Option Subject) → subject_named p member ≡ o → (at : Slot) (u : Subject)
     → option_map {U = Slot × Subject} (λ u. (slot, u)) o ≡ Some (at, u) → Turner p cpu tick y at u
 subject_has p cpu tick y slot member in_slot active None is at u h = absurd (cc (h))
 subject_has p cpu tick y slot member in_slot active (Some q) is at u h =
@@ -79,16 +79,16 @@ subject_has p cpu tick y slot member in_slot active (Some q) is at u h =
     let same : q ≡ u = ap (λ (o : Option (Slot × Subject)). option_map_or (λ e. e.1) o q) h in
     subst (λ s. Turner p cpu tick y s u) same_slot (subst (Turner p cpu tick y slot) same (record { member = member; has = record { in_slot = in_slot; active = active; is = is } }))
 
-member_has : (p : Source) (cpu tick : ℕ) (y : System) (slot : Slot) → slot_in (frames_of p cpu) y.place tick ≡ Some slot → (o : Option (List ℕ)) → slice_get y.active slot.group ≡ o → (at : Slot) (u : Subject) → turner_member p slot o ≡ Some (at, u) → Turner p cpu tick y at u
+member_has : (p : Source) (cpu tick : ℕ) (y : System) (slot : Slot) → slot_in (frames_of p cpu) y.frame tick ≡ Some slot → (o : Option (List ℕ)) → slice_get y.active slot.group ≡ o → (at : Slot) (u : Subject) → turner_member p slot o ≡ Some (at, u) → Turner p cpu tick y at u
 member_has p cpu tick y slot in_slot None active at u h = absurd (cc (h))
 member_has p cpu tick y slot in_slot (Some member) active at u h = subject_has p cpu tick y slot member in_slot active (subject_named p member) refl at u h
 
-slot_has : (p : Source) (cpu tick : ℕ) (y : System) (o : Option Slot) → slot_in (frames_of p cpu) y.place tick ≡ o → (at : Slot) (u : Subject) → turner_slot p o y ≡ Some (at, u) → Turner p cpu tick y at u
+slot_has : (p : Source) (cpu tick : ℕ) (y : System) (o : Option Slot) → slot_in (frames_of p cpu) y.frame tick ≡ o → (at : Slot) (u : Subject) → turner_slot p o y ≡ Some (at, u) → Turner p cpu tick y at u
 slot_has p cpu tick y None in_slot at u h = absurd (cc (h))
 slot_has p cpu tick y (Some slot) in_slot at u h = member_has p cpu tick y slot in_slot (slice_get y.active slot.group) refl at u h
 
 pub has_turner : (p : Source) (cpu tick : ℕ) (y : System) (at : Slot) (u : Subject) → turner p cpu tick y ≡ Some (at, u) → Turner p cpu tick y at u
-has_turner p cpu tick y at u h = slot_has p cpu tick y (slot_in (frames_of p cpu) y.place tick) refl at u h
+has_turner p cpu tick y at u h = slot_has p cpu tick y (slot_in (frames_of p cpu) y.frame tick) refl at u h
 
 -- ---- by its slot, and by whether it is active
 
@@ -102,7 +102,7 @@ pub record Acts (p : Source) (cpu tick : ℕ) (y : System) (slot : Slot) (u : Su
   pub listed : lists u.name group ≡ true
   pub acts : slice_get y.active slot.group ≡ Some u.name
   pub its : group_of p u.name ≡ Some slot.group
-  pub slot_is : own_slot p u y.place tick ≡ Some slot.first
+  pub slot_is : own_slot p u y.frame tick ≡ Some slot.first
   pub active : is_active p y u.name ≡ true
 
 pub turner_acts : (p : Source) → IsLawful p → (cpu tick : ℕ) (y : System) → AreListed p y.active → (slot : Slot) (u : Subject) → Turner p cpu tick y slot u → Acts p cpu tick y slot u
@@ -111,7 +111,7 @@ turner_acts p lawful cpu tick y listed slot u turn =
     let within = (find_in (λ s. bytes_eq s.name turn.member) p.subjects u has.is).0 in
     let name = named_so p turn.member u has.is in
     let on = turn_on p (majors_kept p lawful.rule_16) (members_kept p lawful.rule_17) cpu tick y listed slot turn.member u has in
-    let at = there_is (slice_get p.scheduling.groups slot.group) cpu (slot_here p cpu (majors_kept p lawful.rule_16) y.place tick slot has.in_slot) in
+    let at = there_is (slice_get p.scheduling.groups slot.group) cpu (slot_here p cpu (majors_kept p lawful.rule_16) y.frame tick slot has.in_slot) in
     let acts : slice_get y.active slot.group ≡ Some u.name = has.active ∙ ap Some (sym name) in
     let listed_it = listed slot.group u.name at.0 acts at.1 in
     let its = own_group p (members_kept p lawful.rule_17) u within slot.group at.0 at.1 listed_it in
@@ -124,7 +124,7 @@ turner_acts p lawful cpu tick y listed slot u turn =
       listed = listed_it;
       acts = acts;
       its = its;
-      slot_is = ap (λ c. option_and_then (λ slot. cond (option_map_or (λ k. k == slot.group) (group_of p u.name) false) (Some slot.first) None) (slot_in (frames_of p c) y.place tick)) on
+      slot_is = ap (λ c. option_and_then (λ slot. cond (option_map_or (λ k. k == slot.group) (group_of p u.name) false) (Some slot.first) None) (slot_in (frames_of p c) y.frame tick)) on
           ∙ ap (option_and_then (λ (slot : Slot). cond (option_map_or (λ k. k == slot.group) (group_of p u.name) false) (Some slot.first) None)) has.in_slot
           ∙ ap (λ o. cond (option_map_or (λ k. k == slot.group) o false) (Some slot.first) None) its
           ∙ ap (λ b. cond b (Some slot.first) None) (eq-eqb slot.group slot.group refl);
@@ -139,13 +139,13 @@ pub record Turns (p : Source) (s : Subject) (tick : ℕ) (y : System) (first : B
   pub begins : slot.first ≡ first
   pub is : turner p s.cpu tick y ≡ Some (slot, s)
 
-by_active : (p : Source) (s : Subject) (tick : ℕ) (y : System) (slot : Slot) → slot_in (frames_of p s.cpu) y.place tick ≡ Some slot → subject_named p s.name ≡ Some s → (o : Option (List ℕ)) → slice_get y.active slot.group ≡ o → option_map_or (λ member. bytes_eq member s.name) o false ≡ true
+by_active : (p : Source) (s : Subject) (tick : ℕ) (y : System) (slot : Slot) → slot_in (frames_of p s.cpu) y.frame tick ≡ Some slot → subject_named p s.name ≡ Some s → (o : Option (List ℕ)) → slice_get y.active slot.group ≡ o → option_map_or (λ member. bytes_eq member s.name) o false ≡ true
     → turner p s.cpu tick y ≡ Some (slot, s)
 by_active p s tick y slot in_slot is None at active = absurd (cc (active))
 by_active p s tick y slot in_slot is (Some member) at active =
     turner_has p s.cpu tick y slot member s (record { in_slot = in_slot; active = at; is = ap (subject_named p) ((bytes_eq-Decides member s.name).0 active) ∙ is })
 
-by_group : (p : Source) (s : Subject) (tick : ℕ) (y : System) (first : Bool) (slot : Slot) → slot_in (frames_of p s.cpu) y.place tick ≡ Some slot → subject_named p s.name ≡ Some s → (o : Option ℕ) → group_of p s.name ≡ o
+by_group : (p : Source) (s : Subject) (tick : ℕ) (y : System) (first : Bool) (slot : Slot) → slot_in (frames_of p s.cpu) y.frame tick ≡ Some slot → subject_named p s.name ≡ Some s → (o : Option ℕ) → group_of p s.name ≡ o
     → cond (option_map_or (λ k. k == slot.group) o false) (Some slot.first) None ≡ Some first → option_map_or (λ member. bytes_eq member s.name) (option_and_then (λ g. slice_get y.active g) o) false ≡ true → Turns p s tick y first
 by_group p s tick y first slot in_slot is None at mine active = absurd (cc (mine))
 by_group p s tick y first slot in_slot is (Some k) at mine active =
@@ -156,10 +156,10 @@ by_group p s tick y first slot in_slot is (Some k) at mine active =
       | false ↦ λ _ h. absurd (cc (h))
     ] refl mine
 
-by_own_slot : (p : Source) (s : Subject) (tick : ℕ) (y : System) (first : Bool) (o : Option Slot) → slot_in (frames_of p s.cpu) y.place tick ≡ o → subject_named p s.name ≡ Some s
+by_own_slot : (p : Source) (s : Subject) (tick : ℕ) (y : System) (first : Bool) (o : Option Slot) → slot_in (frames_of p s.cpu) y.frame tick ≡ o → subject_named p s.name ≡ Some s
     → option_and_then (λ (slot : Slot). cond (option_map_or (λ k. k == slot.group) (group_of p s.name) false) (Some slot.first) None) o ≡ Some first → is_active p y s.name ≡ true → Turns p s tick y first
 by_own_slot p s tick y first None in_slot is mine active = absurd (cc (mine))
 by_own_slot p s tick y first (Some slot) in_slot is mine active = by_group p s tick y first slot in_slot is (group_of p s.name) refl mine active
 
-pub has_its_turn : (p : Source) (s : Subject) (tick : ℕ) (y : System) (first : Bool) → subject_named p s.name ≡ Some s → own_slot p s y.place tick ≡ Some first → is_active p y s.name ≡ true → Turns p s tick y first
-has_its_turn p s tick y first is mine active = by_own_slot p s tick y first (slot_in (frames_of p s.cpu) y.place tick) refl is mine active
+pub has_its_turn : (p : Source) (s : Subject) (tick : ℕ) (y : System) (first : Bool) → subject_named p s.name ≡ Some s → own_slot p s y.frame tick ≡ Some first → is_active p y s.name ≡ true → Turns p s tick y first
+has_its_turn p s tick y first is mine active = by_own_slot p s tick y first (slot_in (frames_of p s.cpu) y.frame tick) refl is mine active

@@ -49,13 +49,13 @@ use Rattle.subject_model.specs.View.{Seen, ran_through, seen_in, through, view_o
 use Rattle.system_laws.proofs.ActiveMembers.{begun_listed}
 use Rattle.system_laws.proofs.StatePages.{first_paged}
 use Rattle.system_laws.proofs.Unmoved.{by_irq}
-use Rattle.isolation.specs.Agree.{Agree, AgreeOnFrames, chosen, holds_member, is_first, own_slot, plain_place, unchosen}
+use Rattle.isolation.specs.Agree.{Agree, AgreeOnFrames, chosen, holds_member, is_first, own_slot, plain_frame, unchosen}
 use Rattle.isolation.specs.Alike.{AreAlike, AreSameViews, is_active}
 use Rattle.isolation.proofs.Alike.{same_cpu, same_entry, same_member, same_name, same_windows}
 use Rattle.isolation.proofs.CpuTurns.{SameSlots}
 use Rattle.isolation.proofs.Inboxes.{shown_alike}
 use Rattle.isolation.proofs.MergedInputs.{inputs_both}
-use Rattle.isolation.proofs.MergedTurns.{Ready, turn_place, turns_both}
+use Rattle.isolation.proofs.MergedTurns.{Ready, turn_frame, turns_both}
 
 -- ---- at the start
 
@@ -100,31 +100,31 @@ start_alike p q members f g r t ends agree = λ s member is.
       ports = λ n _. refl;
     }
 
--- ---- places
+-- ---- frames
 
-input_place : (p : Source) (i : NamedInput) (y : System) → (takes p i y).place ≡ y.place
-input_place p (port_input device port value) y = refl
-input_place p (memory_input device memory offset bytes) y = refl
-input_place p (irq_input device irq) y = (by_irq (irq_of p device irq) y).place
-input_place p (dma_input device addr bytes) y = refl
+input_frame : (p : Source) (i : NamedInput) (y : System) → (takes p i y).frame ≡ y.frame
+input_frame p (port_input device port value) y = refl
+input_frame p (memory_input device memory offset bytes) y = refl
+input_frame p (irq_input device irq) y = (by_irq (irq_of p device irq) y).frame
+input_frame p (dma_input device addr bytes) y = refl
 
-inputs_place : (p : Source) (is : List NamedInput) (y : System) → (all_taken (system p) is y).place ≡ y.place
-inputs_place p [] y = refl
-inputs_place p (i ∷ is) y = inputs_place p is (takes p i y) ∙ input_place p i y
+inputs_frame : (p : Source) (is : List NamedInput) (y : System) → (all_taken (system p) is y).frame ≡ y.frame
+inputs_frame p [] y = refl
+inputs_frame p (i ∷ is) y = inputs_frame p is (takes p i y) ∙ input_frame p i y
 
-turns_place : (p : Source) (tick : ℕ) (order : List ℕ) (y : System) → (turns (system p) tick order y).state.place ≡ y.place
-turns_place p tick [] y = refl
-turns_place p tick (c ∷ cs) y = turns_place p tick cs (system_turn p c tick y).state ∙ turn_place p c tick y
+turns_frame : (p : Source) (tick : ℕ) (order : List ℕ) (y : System) → (turns (system p) tick order y).state.frame ≡ y.frame
+turns_frame p tick [] y = refl
+turns_frame p tick (c ∷ cs) y = turns_frame p tick cs (system_turn p c tick y).state ∙ turn_frame p c tick y
 
 -- before a tick, where nothing picks a frame
-placed : Source → ℕ → FrameAt
-placed p zero = first_place
-placed p (suc n) = plain_place p n
+frame_before : Source → ℕ → FrameAt
+frame_before p zero = first_place
+frame_before p (suc n) = plain_frame p n
 
-begun_place : (p : Source) (n : ℕ) (at : FrameAt) → at ≡ placed p n → place_at (ticks_of_majors p) at None n ≡ plain_place p n
-unfolding placed
-begun_place p zero at is = ap (λ at. place_at (ticks_of_majors p) at None 0) is
-begun_place p (suc n) at is = ap (λ at. place_at (ticks_of_majors p) at None (suc n)) is
+begun_frame : (p : Source) (n : ℕ) (at : FrameAt) → at ≡ frame_before p n → place_at (ticks_of_majors p) at None n ≡ plain_frame p n
+unfolding frame_before
+begun_frame p zero at is = ap (λ at. place_at (ticks_of_majors p) at None 0) is
+begun_frame p (suc n) at is = ap (λ at. place_at (ticks_of_majors p) at None (suc n)) is
 
 -- ---- orders
 
@@ -169,14 +169,14 @@ module _ (p : Source) (lawful : IsLawful p) (members : List (List ℕ)) (closed 
       let at = any_some (λ w. same_thing w.thing x && allows w.rights Write) windows h in
       any_in (λ w. same_thing w.thing x) windows at.one at.within (and_parts (same_thing at.one.thing x) (allows at.one.rights Write) at.passes).0
 
-  its_place : (xs : List Subject) (x : Subject) → In x xs → (k : ℕ) × (slice_get xs k ≡ Some x)
-  its_place [] x h = absurd h
-  its_place (y ∷ ys) x (inl same) = (0, ap Some same)
-  its_place (y ∷ ys) x (inr h) = let later = its_place ys x h in (suc later.0, later.1)
+  its_index : (xs : List Subject) (x : Subject) → In x xs → (k : ℕ) × (slice_get xs k ≡ Some x)
+  its_index [] x h = absurd h
+  its_index (y ∷ ys) x (inl same) = (0, ap Some same)
+  its_index (y ∷ ys) x (inr h) = let later = its_index ys x h in (suc later.0, later.1)
 
   -- who has a name is found by it
   itself : (s : Subject) → In s p.subjects → subject_named p s.name ≡ Some s
-  itself s within = let at = its_place p.subjects s within in found_by_name (λ (s : Subject). s.name) p.subjects (unique p lawful.rule_1).subjects at.0 s at.1
+  itself s within = let at = its_index p.subjects s within in found_by_name (λ (s : Subject). s.name) p.subjects (unique p lawful.rule_1).subjects at.0 s at.1
 
   its_chooser : (t : Tau0) → p.scheduling.tau0 ≡ Some t → Chooser t
   its_chooser t is =
@@ -203,16 +203,16 @@ module _ (p q : Source) (lawful : IsLawful p) (lawful_too : IsLawful q) (members
   run_q n = (run_to (system q) (inputs_at t) (order_at q t) n (start_of q g)).state
 
   -- where the frames stand before a tick
-  abbrev Placed : AgreeOnFrames members p q ends → ℕ → System → System → Type 0
-  Placed (unchosen a b c) n y z = (y.place ≡ placed p n) × (z.place ≡ placed q n)
-  Placed (chosen a b c d e k l o) n y z = y.place ≡ z.place
+  abbrev HaveFrames : AgreeOnFrames members p q ends → ℕ → System → System → Type 0
+  HaveFrames (unchosen a b c) n y z = (y.frame ≡ frame_before p n) × (z.frame ≡ frame_before q n)
+  HaveFrames (chosen a b c d e k l o) n y z = y.frame ≡ z.frame
 
   -- a tick begins
-  begun_slots : (fr : AgreeOnFrames members p q ends) (n : ℕ) → n < ends → (y z : System) → AreAlike p q members y z → Placed fr n y z → SameSlots p q members n (begins p n y) (begins q n z) × Placed fr (suc n) (begins p n y) (begins q n z)
-  unfolding placed
+  begun_slots : (fr : AgreeOnFrames members p q ends) (n : ℕ) → n < ends → (y z : System) → AreAlike p q members y z → HaveFrames fr n y z → SameSlots p q members n (begins p n y) (begins q n z) × HaveFrames fr (suc n) (begins p n y) (begins q n z)
+  unfolding frame_before
   begun_slots (unchosen a b c) n low y z h at =
-      let left : (begins p n y).place ≡ plain_place p n = ap (λ o. place_at (ticks_of_majors p) y.place (pick_in y o) n) a ∙ begun_place p n y.place at.0 in
-      let right : (begins q n z).place ≡ plain_place q n = ap (λ o. place_at (ticks_of_majors q) z.place (pick_in z o) n) b ∙ begun_place q n z.place at.1 in (
+      let left : (begins p n y).frame ≡ plain_frame p n = ap (λ o. place_at (ticks_of_majors p) y.frame (pick_in y o) n) a ∙ begun_frame p n y.frame at.0 in
+      let right : (begins q n z).frame ≡ plain_frame q n = ap (λ o. place_at (ticks_of_majors q) z.frame (pick_in z o) n) b ∙ begun_frame q n z.frame at.1 in (
         λ s w inside is is'. ap (λ at. own_slot p s at n) left ∙ c s w inside is is' n low ∙ sym (ap (λ at. own_slot q w at n) right),
         (left, right),
       )
@@ -220,11 +220,11 @@ module _ (p q : Source) (lawful : IsLawful p) (lawful_too : IsLawful q) (members
       let who = its_chooser p lawful members closed m in_m member a c in
       let byte : thing_in y.things (region a.region) ≡ thing_in z.things (region b.region) = (h who.one who.inside who.is).shown (region a.region) who.shown ∙ ap (λ n. thing_in z.things (region n)) k in
       let pick : pick_in y p.scheduling.tau0 ≡ pick_in z q.scheduling.tau0 = ap (pick_in y) c ∙ ap (option_and_then (λ bytes. slice_get bytes 0)) byte ∙ sym (ap (pick_in z) d) in
-      let same : (begins p n y).place ≡ (begins q n z).place = λ i. place_at (l i) (at i) (pick i) n in
-      (λ s w inside is is'. o s w inside is is' (begins p n y).place n ∙ ap (λ at. own_slot q w at n) same, same)
+      let same : (begins p n y).frame ≡ (begins q n z).frame = λ i. place_at (l i) (at i) (pick i) n in
+      (λ s w inside is is'. o s w inside is is' (begins p n y).frame n ∙ ap (λ at. own_slot q w at n) same, same)
 
   -- before the turns of a tick
-  ready : (n : ℕ) → n < ends → AreAlike p q members (run_p n) (run_q n) → Placed agree.frames n (run_p n) (run_q n)
+  ready : (n : ℕ) → n < ends → AreAlike p q members (run_p n) (run_q n) → HaveFrames agree.frames n (run_p n) (run_q n)
       → Ready p q lawful lawful_too members closed closed_too f g r t ends agree n (begun (system p) n (inputs_at r n) (run_p n)) (begun (system q) n (inputs_at t n) (run_q n))
   ready n low h at =
       let slots = (begun_slots agree.frames n low (run_p n) (run_q n) h at).0 in
@@ -233,9 +233,9 @@ module _ (p q : Source) (lawful : IsLawful p) (lawful_too : IsLawful q) (members
         listed_too = begun_listed q g (members_kept q lawful_too.rule_17) (inputs_at t) (order_at q t) n;
         alike = inputs_both p q members f g r t ends agree (inputs_at r n) (inputs_at t n) (begins p n (run_p n)) (begins q n (run_q n)) (agree.inputs n low) (begun_alike n (run_p n) (run_q n) h);
         slots = λ s w inside is is'.
-            ap (λ at. own_slot p s at n) (inputs_place p (inputs_at r n) (begins p n (run_p n)))
+            ap (λ at. own_slot p s at n) (inputs_frame p (inputs_at r n) (begins p n (run_p n)))
             ∙ slots s w inside is is'
-            ∙ sym (ap (λ at. own_slot q w at n) (inputs_place q (inputs_at t n) (begins q n (run_q n))));
+            ∙ sym (ap (λ at. own_slot q w at n) (inputs_frame q (inputs_at t n) (begins q n (run_q n))));
       }
     where
       begun_alike : (n : ℕ) (y z : System) → AreAlike p q members y z → AreAlike p q members (begins p n y) (begins q n z)
@@ -244,16 +244,16 @@ module _ (p q : Source) (lawful : IsLawful p) (lawful_too : IsLawful q) (members
           record { page = a.page; msrs = a.msrs; now = a.now; later = a.later; active = a.active; shown = a.shown; ports = a.ports }
 
   -- after a tick the frames stand where they stood in it
-  placed_after : (fr : AgreeOnFrames members p q ends) (n : ℕ) (y z y' z' : System) → y'.place ≡ y.place → z'.place ≡ z.place → Placed fr n y z → Placed fr n y' z'
-  placed_after (unchosen a b c) n y z y' z' left right at = (left ∙ at.0, right ∙ at.1)
-  placed_after (chosen a b c d e k l o) n y z y' z' left right at = left ∙ at ∙ sym right
+  frames_after : (fr : AgreeOnFrames members p q ends) (n : ℕ) (y z y' z' : System) → y'.frame ≡ y.frame → z'.frame ≡ z.frame → HaveFrames fr n y z → HaveFrames fr n y' z'
+  frames_after (unchosen a b c) n y z y' z' left right at = (left ∙ at.0, right ∙ at.1)
+  frames_after (chosen a b c d e k l o) n y z y' z' left right at = left ∙ at ∙ sym right
 
-  at_start : (fr : AgreeOnFrames members p q ends) → Placed fr 0 (start_of p f) (start_of q g)
-  unfolding start_of placed
+  at_start : (fr : AgreeOnFrames members p q ends) → HaveFrames fr 0 (start_of p f) (start_of q g)
+  unfolding start_of frame_before
   at_start (unchosen a b c) = (refl, refl)
   at_start (chosen a b c d e k l o) = refl
 
-  runs : (n : ℕ) → n ≤ ends → AreAlike p q members (run_p n) (run_q n) × Placed agree.frames n (run_p n) (run_q n)
+  runs : (n : ℕ) → n ≤ ends → AreAlike p q members (run_p n) (run_q n) × HaveFrames agree.frames n (run_p n) (run_q n)
   runs zero low = (start_alike p q members f g r t ends agree, at_start agree.frames)
   runs (suc n) low =
       let before = runs n (omega (arith, low)) in
@@ -263,9 +263,9 @@ module _ (p q : Source) (lawful : IsLawful p) (lawful_too : IsLawful q) (members
       let both = turns_both p q lawful lawful_too members closed closed_too f g r t ends agree n (order_at p r n) (order_at q t n) y z (agree.orders n under) (ready n under before.0 before.1) in
       let at = (begun_slots agree.frames n under (run_p n) (run_q n) before.0 before.1).1 in (
         both.alike,
-        placed_after agree.frames (suc n) (begins p n (run_p n)) (begins q n (run_q n)) (run_p (suc n)) (run_q (suc n))
-            (turns_place p n (order_at p r n) y ∙ inputs_place p (inputs_at r n) (begins p n (run_p n)))
-            (turns_place q n (order_at q t n) z ∙ inputs_place q (inputs_at t n) (begins q n (run_q n))) at,
+        frames_after agree.frames (suc n) (begins p n (run_p n)) (begins q n (run_q n)) (run_p (suc n)) (run_q (suc n))
+            (turns_frame p n (order_at p r n) y ∙ inputs_frame p (inputs_at r n) (begins p n (run_p n)))
+            (turns_frame q n (order_at q t n) z ∙ inputs_frame q (inputs_at t n) (begins q n (run_q n))) at,
       )
 
   -- ---- views

@@ -50,10 +50,10 @@ pub record OnChannel (p : Source) (u : Subject) (name : List ℕ) (rights : Righ
   pub channel : Channel
   pub declared : In channel p.channels
   pub called : channel.name ≡ name
-  pub end : ChannelEnd
-  pub its : In end (channel_ends p u)
-  pub of : end.channel ≡ name
-  pub by : role_rights end.role ≡ rights
+  pub channel_end : ChannelEnd
+  pub its : In channel_end (channel_ends p u)
+  pub of : channel_end.channel ≡ name
+  pub by : role_rights channel_end.role ≡ rights
 
 -- a memory of a device that is granted to it
 pub record OnDevice (p : Source) (u : Subject) (device memory : List ℕ) : Type 0 where
@@ -97,15 +97,15 @@ module _ (p : Source) (u : Subject) where
       by_found None k = absurd (cc (k))
       by_found (Some r) k = let same : window guest r.size rights (region r.name) ≡ w = cc (k) in subst (IsWindow p u) same tt
 
-  on_channel : (end : ChannelEnd) → In end (channel_ends p u) → (guest : ℕ) (w : Window Thing) → channel_window p end.channel guest end.role ≡ Some w → IsWindow p u w
-  on_channel end its guest w h = by_found (find (λ c. bytes_eq c.name end.channel) p.channels) refl h
+  on_channel : (channel_end : ChannelEnd) → In channel_end (channel_ends p u) → (guest : ℕ) (w : Window Thing) → channel_window p channel_end.channel guest channel_end.role ≡ Some w → IsWindow p u w
+  on_channel channel_end its guest w h = by_found (find (λ c. bytes_eq c.name channel_end.channel) p.channels) refl h
     where
-      by_found : (o : Option Channel) → find (λ c. bytes_eq c.name end.channel) p.channels ≡ o → option_map (λ (c : Channel). window guest c.size (role_rights end.role) (channel c.name)) o ≡ Some w → IsWindow p u w
+      by_found : (o : Option Channel) → find (λ c. bytes_eq c.name channel_end.channel) p.channels ≡ o → option_map (λ (c : Channel). window guest c.size (role_rights channel_end.role) (channel c.name)) o ≡ Some w → IsWindow p u w
       by_found None is k = absurd (cc (k))
       by_found (Some c) is k =
-          let same : window guest c.size (role_rights end.role) (channel c.name) ≡ w = cc (k) in
-          let at = find_in (λ c. bytes_eq c.name end.channel) p.channels c is in
-          subst (IsWindow p u) same (record { channel = c; declared = at.0; called = refl; end = end; its = its; of = sym ((bytes_eq-Decides c.name end.channel).0 at.1); by = refl })
+          let same : window guest c.size (role_rights channel_end.role) (channel c.name) ≡ w = cc (k) in
+          let at = find_in (λ c. bytes_eq c.name channel_end.channel) p.channels c is in
+          subst (IsWindow p u) same (record { channel = c; declared = at.0; called = refl; channel_end = channel_end; its = its; of = sym ((bytes_eq-Decides c.name channel_end.channel).0 at.1); by = refl })
 
   on_device : (grant : DeviceUse) → In grant u.devices → (m : DeviceMapping) → In m grant.memory → (w : Window Thing) → device_window p grant.device m ≡ Some w → IsWindow p u w
   on_device grant its m maps w h = by_device (find (λ d. bytes_eq d.name grant.device) p.devices) refl h
@@ -150,8 +150,8 @@ module _ (p : Source) (u : Subject) where
   on_component_channel : (c : Component) → component_by p u.component ≡ Some c → (x : ComponentChannel) → In x c.channels → (w : Window Thing) → component_channel_window p u x ≡ Some w → IsWindow p u w
   on_component_channel c is x within w h = by_entry (entry_of u.component x.logical) refl h
     where
-      its_end : (e : MapEntry) → entry_of u.component x.logical ≡ Some e → In (record { channel = e.physical; role = x.role; call = x.call; vector = x.vector }) (channel_ends p u)
-      its_end e there =
+      its_channel_end : (e : MapEntry) → entry_of u.component x.logical ≡ Some e → In (record { channel = e.physical; role = x.role; call = x.call; vector = x.vector }) (channel_ends p u)
+      its_channel_end e there =
           right_in (map (λ (c : ChannelUse). record { channel = c.channel; role = c.role; call = c.call; vector = c.vector }) u.channels) (component_ends u (component_by p u.component)) (record { channel = e.physical; role = x.role; call = x.call; vector = x.vector })
           (subst (λ o. In (record { channel = e.physical; role = x.role; call = x.call; vector = x.vector }) (component_ends u o)) (sym is)
           (filter_map_in (λ (x : ComponentChannel). option_map (λ (e : MapEntry). record { channel = e.physical; role = x.role; call = x.call; vector = x.vector }) (entry_of u.component x.logical)) c.channels x (record { channel = e.physical; role = x.role; call = x.call; vector = x.vector }) within
@@ -159,7 +159,7 @@ module _ (p : Source) (u : Subject) where
 
       by_entry : (o : Option MapEntry) → entry_of u.component x.logical ≡ o → option_and_then (λ (e : MapEntry). channel_window p e.physical x.virtual_address x.role) o ≡ Some w → IsWindow p u w
       by_entry None there k = absurd (cc (k))
-      by_entry (Some e) there k = on_channel (record { channel = e.physical; role = x.role; call = x.call; vector = x.vector }) (its_end e there) x.virtual_address w k
+      by_entry (Some e) there k = on_channel (record { channel = e.physical; role = x.role; call = x.call; vector = x.vector }) (its_channel_end e there) x.virtual_address w k
 
   on_component : (o : Option Component) → component_by p u.component ≡ o → (w : Window Thing) → In w (component_windows p u o) → IsWindow p u w
   on_component None is w h = absurd h
@@ -195,9 +195,9 @@ module _ (p : Source) (u : Subject) where
                   on_region at.one.region at.one.virtual_address at.one.rights w at.made
               | inr its ↦
                   let at = made_here (λ (c : ChannelUse). channel_window p c.channel c.virtual_address c.role) u.channels w its in
-                  let end : ChannelEnd = record { channel = at.one.channel; role = at.one.role; call = at.one.call; vector = at.one.vector } in
+                  let channel_end : ChannelEnd = record { channel = at.one.channel; role = at.one.role; call = at.one.call; vector = at.one.vector } in
                   let here = map_in (λ (c : ChannelUse). record { channel = c.channel; role = c.role; call = c.call; vector = c.vector }) u.channels at.one at.within in
-                  on_channel end (left_in (map (λ (c : ChannelUse). record { channel = c.channel; role = c.role; call = c.call; vector = c.vector }) u.channels) (component_ends u (component_by p u.component)) end here) at.one.virtual_address w at.made
+                  on_channel channel_end (left_in (map (λ (c : ChannelUse). record { channel = c.channel; role = c.role; call = c.call; vector = c.vector }) u.channels) (component_ends u (component_by p u.component)) channel_end here) at.one.virtual_address w at.made
             ]
             | inr its ↦
                 let grant = flat_some (λ (d : DeviceUse). filter_map (device_window p d.device) d.memory) u.devices w its in

@@ -43,7 +43,7 @@ abbrev pub is_first : Source → List ℕ → Bool
 is_first p name =
     option_map_or (λ g. bytes_eq (first_member g.subjects) name) (option_and_then (λ k. slice_get p.scheduling.groups k) (group_of p name)) false
 
--- whether its group has the subject's CPU at a tick of a place, and where it has, whether the tick is the first of its minor frame
+-- whether its group has the subject's CPU at a tick of a major frame, and where it has, whether the tick is the first of its minor frame
 abbrev pub own_slot : Source → Subject → FrameAt → ℕ → Option Bool
 own_slot p s at tick =
     option_and_then (λ slot. if option_map_or (λ k. k == slot.group) (group_of p s.name) false then Some slot.first else None)
@@ -79,16 +79,16 @@ holds_member p members cpu = list_any (λ s. is_member members s && (s.cpu == cp
 
 -- ---- what agrees of the plans
 
--- the place at a tick, where nothing ever picks a major frame
-abbrev pub plain_place : Source → ℕ → FrameAt
-plain_place p tick = place_after (ticks_of_majors p) tick
+-- the major frame at a tick, where nothing ever picks one
+abbrev pub plain_frame : Source → ℕ → FrameAt
+plain_frame p tick = place_after (ticks_of_majors p) tick
 
 -- the CPUs go to the groups of members at the same ticks: where nobody chooses frames in either policy, of each tick; where the
 -- same subject chooses them by the same region in both, of each tick of each major frame, of which there are as many, and as long
 pub data AgreeOnFrames (members : List (List ℕ)) (p q : Source) (ends : ℕ) : Type 0 where
   unchosen : p.scheduling.tau0 ≡ None → q.scheduling.tau0 ≡ None
       → ((s z : Subject) → is_member members s ≡ true → subject_named p s.name ≡ Some s → subject_named q s.name ≡ Some z → (tick : ℕ) → tick < ends
-      → own_slot p s (plain_place p tick) tick ≡ own_slot q z (plain_place q tick) tick)
+      → own_slot p s (plain_frame p tick) tick ≡ own_slot q z (plain_frame q tick) tick)
       → AgreeOnFrames members p q ends
   chosen : (t u : Tau0) → p.scheduling.tau0 ≡ Some t → q.scheduling.tau0 ≡ Some u → t.subject ≡ u.subject → t.region ≡ u.region → ticks_of_majors p ≡ ticks_of_majors q
       → ((s z : Subject) → is_member members s ≡ true → subject_named p s.name ≡ Some s → subject_named q s.name ≡ Some z → (at : FrameAt) (tick : ℕ) → own_slot p s at tick ≡ own_slot q z at tick)

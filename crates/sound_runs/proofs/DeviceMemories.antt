@@ -40,7 +40,7 @@ use Rattle.sound_runs.proofs.SameInputs.{HasMemories, IsThing}
 
 -- ---- what stands once in a list
 
--- it stands at one place at most
+-- it stands at one index at most
 abbrev Once : {X : Type 0} → List X → X → Type 0
 Once xs x = (n m : ℕ) → slice_get xs n ≡ Some x → slice_get xs m ≡ Some x → n ≡ m
 
@@ -48,7 +48,7 @@ Once xs x = (n m : ℕ) → slice_get xs n ≡ Some x → slice_get xs m ≡ Som
 
 -- where a thing lies, and how long it is
 record LiesAt (p : Source) (i : Image) (x : Thing) (s : SpanPart) : Type 0 where
-  first : (ground_of p i).first x ≡ s.place / 4096
+  first : (ground_of p i).first x ≡ s.address / 4096
   pages : (ground_of p i).pages x ≡ s.pages
 
 -- a span with the tag and the kind of a thing that stands once is the thing's
@@ -66,17 +66,17 @@ lies_at p files i keeps sound x once other a s here tagged kind =
     let same : of_thing.0 ≡ x = thing_by of_thing.0 x (sym of_thing.2.tag ∙ tagged) (sym of_thing.2.kind ∙ kind) in
     let at : slice_get (things_of p) listed.0 ≡ Some x = of_thing.1 ∙ ap Some same in
     let t = listed_span p files i keeps sound x (any_at (λ y. same_thing y x) (things_of p) listed.0 x at (same_thing_self x)) in
-    let place : listed.0 ≡ t.number = once listed.0 t.number at t.listed in
-    let is : e ≡ t.span = same_at (slice_get (thing_spans i) t.number) e t.span (ap (slice_get (thing_spans i)) (sym place) ∙ listed.1) t.numbered in
-    record { first = t.first ∙ ap (λ (u : Span). u.0.place / 4096) (sym is); pages = t.pages ∙ ap (λ (u : Span). u.0.pages) (sym is) }
+    let index : listed.0 ≡ t.number = once listed.0 t.number at t.listed in
+    let is : e ≡ t.span = same_at (slice_get (thing_spans i) t.number) e t.span (ap (slice_get (thing_spans i)) (sym index) ∙ listed.1) t.numbered in
+    record { first = t.first ∙ ap (λ (u : Span). u.0.address / 4096) (sym is); pages = t.pages ∙ ap (λ (u : Span). u.0.pages) (sym is) }
 
 -- ---- the window of a memory
 
 -- an element that something is made of
 record MadeOf {X Y : Type 0} (f : X → Option Y) (xs : List X) (y : Y) : Type 0 where
-  place : ℕ
+  index : ℕ
   one : X
-  here : slice_get xs place ≡ Some one
+  here : slice_get xs index ≡ Some one
   made : f one ≡ Some y
 
 made_of : {X Y : Type 0} (f : X → Option Y) (xs : List X) (n : ℕ) (y : Y) → slice_get (flat_map (λ x. option_to_list (f x)) xs) n ≡ Some y → MadeOf f xs y
@@ -85,19 +85,19 @@ made_of {X} {Y} f (x ∷ xs) n y a = by_first (f x) refl (λ n. made_of f xs n y
   where
     by_first : (o : Option Y) → f x ≡ o → ((n : ℕ) → slice_get (flat_map (λ x. option_to_list (f x)) xs) n ≡ Some y → MadeOf f xs y)
         → (n : ℕ) → slice_get (option_to_list o ++ flat_map (λ x. option_to_list (f x)) xs) n ≡ Some y → MadeOf f (x ∷ xs) y
-    by_first None e later n a = let r = later n a in record { place = suc r.place; one = r.one; here = r.here; made = r.made }
-    by_first (Some z) e later zero a = record { place = 0; one = x; here = refl; made = e ∙ a }
-    by_first (Some z) e later (suc n) a = let r = later n a in record { place = suc r.place; one = r.one; here = r.here; made = r.made }
+    by_first None e later n a = let r = later n a in record { index = suc r.index; one = r.one; here = r.here; made = r.made }
+    by_first (Some z) e later zero a = record { index = 0; one = x; here = refl; made = e ∙ a }
+    by_first (Some z) e later (suc n) a = let r = later n a in record { index = suc r.index; one = r.one; here = r.here; made = r.made }
 
 -- the memory is that of a device's span
 record ShowsMemory (s : SpanPart) (m : NamedMemory) : Type 0 where
   device : is_device s.kind ≡ true
   named : part_name s.tag.part ≡ Some m.name
-  place : m.place ≡ s.place
+  address : m.place ≡ s.address
   bytes : m.bytes ≡ 4096 * s.pages
 
 abbrev memory_from : SpanPart → List ℕ → NamedMemory
-memory_from s name = record { name = name; place = s.place; bytes = PAGE * s.pages }
+memory_from s name = record { name = name; place = s.address; bytes = PAGE * s.pages }
 
 shows_by : (s : SpanPart) (m : NamedMemory) (b : Bool) (o : Option (List ℕ)) → is_device s.kind ≡ b → part_name s.tag.part ≡ o
     → option_map (memory_from s) (if b then o else None) ≡ Some m → ShowsMemory s m
@@ -106,7 +106,7 @@ shows_by s m true (Some text) kind part h =
     record {
       device = kind;
       named = part ∙ ap (λ (u : NamedMemory). Some u.name) e;
-      place = sym (ap (λ (u : NamedMemory). u.place) e);
+      address = sym (ap (λ (u : NamedMemory). u.place) e);
       bytes = sym (ap (λ (u : NamedMemory). u.bytes) e);
     }
 shows_by s m true None kind part h = absurd (cc (h))
@@ -129,7 +129,7 @@ device_kind DeviceKind h = refl
 
 -- ---- the device of the policy
 
--- a device of the image with the policy's at the same place
+-- a device of the image with the policy's at the same index
 record DeviceAt (p : Source) (i : Image) (device : List ℕ) (d : DevicePart) : Type 0 where
   one : Device
   is : IsDeviceOf p i one d
@@ -139,13 +139,13 @@ device_at : (p : Source) (files : Held) (i : Image) → IsSound p files i → (d
 unfolding bench_of
 device_at p files i sound device d found =
     let f = found_at (λ (d : DevicePart). bytes_eq d.name device) i.devices d found in
-    let x = first_at (IsDeviceOf p i) p.devices i.devices f.place d sound.plan_and_events.devices f.here in
+    let x = first_at (IsDeviceOf p i) p.devices i.devices f.index d sound.plan_and_events.devices f.here in
     let bench : map (bench_device i) i.devices ≡ map device_of p.devices = ap (λ (b : Bench). b.devices) sound.plan_and_events.bench in
     let same : Some (bench_device i d) ≡ Some (device_of x.0) =
     sym (ap (option_map (bench_device i)) f.here)
-    ∙ sym (slice_get-map (bench_device i) i.devices f.place)
-    ∙ ap (λ bs. slice_get bs f.place) bench
-    ∙ slice_get-map device_of p.devices f.place
+    ∙ sym (slice_get-map (bench_device i) i.devices f.index)
+    ∙ ap (λ bs. slice_get bs f.index) bench
+    ∙ slice_get-map device_of p.devices f.index
     ∙ ap (option_map device_of) x.1 in
     let name : d.name ≡ x.0.name = ap (λ (b : BenchDevice). b.name) (same_some (bench_device i d) (device_of x.0) same) in
     record { one = x.0; is = x.2; named = sym name ∙ (bytes_eq-Decides d.name device).0 f.passes }
@@ -178,9 +178,9 @@ named_tag device memory a b name t e owner part is =
 whole_pages : (n : ℕ) → n % 4096 ≡ 0 → n ≡ 4096 * (n / 4096)
 whole_pages n h = omega (arith, h)
 
-is_thing : (p : Source) (i : Image) (device memory : List ℕ) (s : SpanPart) (m : NamedMemory) → s.place % 4096 ≡ 0 → ShowsMemory s m → LiesAt p i (device_memory device memory) s → IsThing (ground_of p i) device memory m
+is_thing : (p : Source) (i : Image) (device memory : List ℕ) (s : SpanPart) (m : NamedMemory) → s.address % 4096 ≡ 0 → ShowsMemory s m → LiesAt p i (device_memory device memory) s → IsThing (ground_of p i) device memory m
 is_thing p i device memory s m aligned shown lies = record {
-  place = shown.place ∙ whole_pages s.place aligned ∙ ap (λ n. 4096 * n) (sym lies.first);
+  address = shown.address ∙ whole_pages s.address aligned ∙ ap (λ n. 4096 * n) (sym lies.first);
   bytes = shown.bytes ∙ ap (λ n. 4096 * n) (sym lies.pages);
 }
 
@@ -191,15 +191,15 @@ pub memories_of_image : (p : Source) (files : Held) (i : Image) → KeepsConditi
 memories_of_image p files i keeps sound device memory d m found found_memory =
     let x = device_at p files i sound device d found in
     let f = found_at (λ (m : NamedMemory). bytes_eq m.name memory) (memories_of i.spans d) m found_memory in
-    let w = made_of (memory_of_window i.spans) d.windows f.place m f.here in
+    let w = made_of (memory_of_window i.spans) d.windows f.index m f.here in
     let s = shown_by (find (λ (s : SpanPart). s.number == w.one.span) i.spans) m w.made in
     let at = found_at (λ (s : SpanPart). s.number == w.one.span) i.spans s.0 s.1 in
     let number : s.0.number ≡ w.one.span = eqb-true s.0.number w.one.span at.passes in
-    let tag = window_tag p i x.one d x.is w.place w.one w.here in
+    let tag = window_tag p i x.one d x.is w.index w.one w.here in
     let tagged : s.0.tag ≡ thing_tag (device_memory x.one.name tag.0.name) =
-    same_some s.0.tag (thing_tag (device_memory x.one.name tag.0.name)) (sym (found_tag i keeps w.one.span at.place s.0 at.here number) ∙ tag.1) in
+    same_some s.0.tag (thing_tag (device_memory x.one.name tag.0.name)) (sym (found_tag i keeps w.one.span at.index s.0 at.here number) ∙ tag.1) in
     let memory_name : m.name ≡ memory = (bytes_eq-Decides m.name memory).0 f.passes in
     let is_tag = named_tag device memory x.one.name tag.0.name m.name s.0.tag tagged x.named s.2.named memory_name in
-    let aligned = (all_at IsSpan i.spans at.place s.0 keeps.spans.each at.here).aligned in
+    let aligned = (all_at IsSpan i.spans at.index s.0 keeps.spans.each at.here).aligned in
     is_thing p i device memory s.0 m aligned s.2
-    (lies_at p files i keeps sound (device_memory device memory) (thing_once p sound.lawful (device_memory device memory)) refl at.place s.0 at.here is_tag (device_kind s.0.kind s.2.device))
+    (lies_at p files i keeps sound (device_memory device memory) (thing_once p sound.lawful (device_memory device memory)) refl at.index s.0 at.here is_tag (device_kind s.0.kind s.2.device))

@@ -79,7 +79,7 @@ lines_in_order i keeps device pages =
     (λ n. ap (span_text device pages) (found_by_number i keeps n)) (numbers_below (length i.spans))
     ∙ flat_looked (λ (o : Option Span). span_text device pages (option_map (λ e. e.0) o)) (span_at i) refl (numbers_below (length i.spans))
     ∙ flat_kept (line_of device pages) (λ e. not (is_kernel e.0.kind))
-    (λ e. kernel_silent device e.0.tag (sha256 (bytes_from pages (e.0.place / PAGE) e.0.pages)) e.0.kind)
+    (λ e. kernel_silent device e.0.tag (sha256 (bytes_from pages (e.0.address / PAGE) e.0.pages)) e.0.kind)
     (by_number i)
 
 -- ---- the spans of things
@@ -95,14 +95,14 @@ line_told device tag tag' kind kind' bytes bytes' a b c = rw (a, b, c) refl
 
 -- and so do all of them
 lines_told : (p : Source) (files : Held) (pages : List Page) (y : System) (device : Bool) (xs : List Thing) (es : List Span) → AllZip (IsSpanOf p files) xs es
-    → ((x : Thing) (e : Span) → IsSpanOf p files x e → (k : ℕ) → slice_get xs k ≡ Some x → slice_get es k ≡ Some e → bytes_from pages (e.0.place / PAGE) e.0.pages ≡ bytes_in y.things x)
+    → ((x : Thing) (e : Span) → IsSpanOf p files x e → (k : ℕ) → slice_get xs k ≡ Some x → slice_get es k ≡ Some e → bytes_from pages (e.0.address / PAGE) e.0.pages ≡ bytes_in y.things x)
     → flat_map (line_of device pages) es ≡ flat_map (told device y) xs
 lines_told p files pages y device [] [] all same = refl
 lines_told p files pages y device [] (e ∷ es) all same = absurd all
 lines_told p files pages y device (x ∷ xs) [] all same = absurd all
 lines_told p files pages y device (x ∷ xs) (e ∷ es) all same =
     ap (λ ls. ls ++ flat_map (line_of device pages) es)
-    (line_told device e.0.tag (thing_tag x) e.0.kind (kind_of x) (bytes_from pages (e.0.place / PAGE) e.0.pages) (bytes_in y.things x) all.0.tag all.0.kind (same x e all.0 zero refl refl))
+    (line_told device e.0.tag (thing_tag x) e.0.kind (kind_of x) (bytes_from pages (e.0.address / PAGE) e.0.pages) (bytes_in y.things x) all.0.tag all.0.kind (same x e all.0 zero refl refl))
     ∙ ap (λ ls. told device y x ++ ls) (lines_told p files pages y device xs es all.1 (λ z f is k a b. same z f is (suc k) a b))
 
 -- ---- things in order
@@ -142,7 +142,7 @@ in_two_passes p y =
 abbrev pub HasBytes : Source → Held → Image → List Page → System → Type 0
 HasBytes p files i pages y =
     (x : Thing) (e : Span) → IsSpanOf p files x e → (k : ℕ) → slice_get (things_of p) k ≡ Some x → slice_get (thing_spans i) k ≡ Some e
-    → bytes_from pages (e.0.place / PAGE) e.0.pages ≡ bytes_in y.things x
+    → bytes_from pages (e.0.address / PAGE) e.0.pages ≡ bytes_in y.things x
 
 -- the lines of all spans are those of all things
 pub spans_text_is : (p : Source) (files : Held) (i : Image) (pages : List Page) (y : System) → KeepsConditions i → AreContents p files i → HasBytes p files i pages y

@@ -69,12 +69,12 @@ memory_with : (o : Option Span) → option_and_then (λ e. option_map (λ text. 
 memory_with None = refl
 memory_with (Some e) = refl
 
-named_in : (s : SpanPart) (o : Option (List ℕ)) → option_map name_and_size (option_map (λ name. record { name = name; place = s.place; bytes = PAGE * s.pages }) o) ≡ option_map (λ text. (text, PAGE * s.pages)) o
+named_in : (s : SpanPart) (o : Option (List ℕ)) → option_map name_and_size (option_map (λ name. record { name = name; place = s.address; bytes = PAGE * s.pages }) o) ≡ option_map (λ text. (text, PAGE * s.pages)) o
 named_in s None = refl
 named_in s (Some text) = refl
 
 named_if : (s : SpanPart) (text : List ℕ) (b : Bool) → (if b then part_name s.tag.part else None) ≡ Some text
-    → option_map name_and_size (option_map (λ name. record { name = name; place = s.place; bytes = PAGE * s.pages }) (if b then part_name s.tag.part else None)) ≡ memory_in s
+    → option_map name_and_size (option_map (λ name. record { name = name; place = s.address; bytes = PAGE * s.pages }) (if b then part_name s.tag.part else None)) ≡ memory_in s
 named_if s text true h = named_in s (part_name s.tag.part)
 named_if s text false h = cc
 
@@ -116,7 +116,7 @@ pub same_bench : (i : Image) → KeepsConditions i → image_bench i ≡ bench_o
 unfolding bench_of
 same_bench i keeps = ap (λ ds. record { cpus = i.header.cpus; devices = ds }) (devices_same i keeps.contents i.devices keeps.devices)
 
--- ---- what is on the bench is what has a place
+-- ---- what is on the bench is what has an index
 
 some_if : {X : Type 0} (b : Bool) (x : X) → is_some (if b then Some x else None) ≡ b
 some_if true x = refl
@@ -126,21 +126,21 @@ some-map : {X Y : Type 0} (f : X → Y) (o : Option X) → is_some (option_map f
 some-map f None = refl
 some-map f (Some x) = refl
 
-found_place : {X : Type 0} (p : X → Bool) (xs : List X) → nat_lt (position_or_len p xs) (length xs) ≡ is_some (find p xs)
-found_place p [] = refl
-found_place p (x ∷ xs) =
+found_index : {X : Type 0} (p : X → Bool) (xs : List X) → nat_lt (position_or_len p xs) (length xs) ≡ is_some (find p xs)
+found_index p [] = refl
+found_index p (x ∷ xs) =
     elim (p x) as (λ b. nat_lt (cond (not b) (1 + position_or_len p xs) 0) (length (x ∷ xs)) ≡ is_some (cond b (Some x) (find p xs))) [
       | true ↦ grind (arith, nat_tests)
-      | false ↦ let e : nat_lt (1 + position_or_len p xs) (length (x ∷ xs)) ≡ nat_lt (position_or_len p xs) (length xs) = grind (arith, nat_tests) in e ∙ found_place p xs
+      | false ↦ let e : nat_lt (1 + position_or_len p xs) (length (x ∷ xs)) ≡ nat_lt (position_or_len p xs) (length xs) = grind (arith, nat_tests) in e ∙ found_index p xs
     ]
 
 found_number : {X : Type 0} (p : X → Bool) (xs : List X) → is_some (position p xs) ≡ is_some (find p xs)
-found_number p xs = some_if (nat_lt (position_or_len p xs) (length xs)) (position_or_len p xs) ∙ found_place p xs
+found_number p xs = some_if (nat_lt (position_or_len p xs) (length xs)) (position_or_len p xs) ∙ found_index p xs
 
 port_known : (spans : List SpanPart) (port value : ℕ) (o : Option DevicePart) → option_map_or (has_port port) (option_map (bench_device_of spans) o) false ≡ is_some (option_and_then (port_input_of port value) o)
 port_known spans port value None = refl
 port_known spans port value (Some d) =
-    list_any-map (λ span. nat_le span.0 port && nat_le port span.1) (λ (r : PortSpan). (r.start, r.end)) d.ports
+    list_any-map (λ range. nat_le range.0 port && nat_le port range.1) (λ (r : PortSpan). (r.start, r.end)) d.ports
     ∙ sym (some_if (list_any (is_in_range port) d.ports) _)
 
 bytes_known : (offset : ℕ) (bytes : List ℕ) (o : Option NamedMemory)
@@ -180,7 +180,7 @@ known_is i (dma_input device addr bytes) =
 
 -- a memory of a device lies where the thing of these names does, and is as long
 pub record IsThing (g : Ground) (device memory : List ℕ) (m : NamedMemory) : Type 0 where
-  pub place : m.place ≡ 4096 * g.first (device_memory device memory)
+  pub address : m.place ≡ 4096 * g.first (device_memory device memory)
   pub bytes : m.bytes ≡ 4096 * g.pages (device_memory device memory)
 
 -- each that is found by its names
@@ -216,13 +216,13 @@ module _ (g : Ground) where
   bytes_alike device memory offset bytes None there small h = cc
   bytes_alike device memory offset bytes (Some m) there small h =
       let is = there m refl in
-      let place = is.place in
+      let address = is.address in
       let size = is.bytes in
       elim (nat_le (offset + length bytes) m.bytes) as (λ b. nat_le (offset + length bytes) m.bytes ≡ b → is_some (if b then Some (Mem (m.place + offset) bytes) else None) ≡ true
       → SameInput g (unwrap_or (if b then Some (Mem (m.place + offset) bytes) else None) Idle) (memory_input device memory offset bytes)) [
         | true ↦ λ fits t.
             let within = leb-true (offset + length bytes) m.bytes fits in
-            record { same = refl; place = omega (arith, place); room = omega (arith, size, within); small = small }
+            record { same = refl; address = omega (arith, address); room = omega (arith, size, within); small = small }
         | false ↦ λ fits t. cc
       ] refl h
 

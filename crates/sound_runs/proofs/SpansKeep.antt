@@ -55,7 +55,7 @@ title_kept Msrs h = tt
 -- a span that stands behind what was before
 record Stands (h : Header) (b : SpansBefore) (x : SpanPart) : Type 0 where
   one : IsSpan x
-  behind : b.end ≤ x.place
+  behind : b.end ≤ x.address
   numbered : x.number < h.spans
   unseen : slice_index_or b.seen x.number true ≡ false
   choice : suits_tau0 h.tau0 x.number x.kind ≡ true
@@ -64,20 +64,20 @@ record Stands (h : Header) (b : SpansBefore) (x : SpanPart) : Type 0 where
 one_stands : (h : Header) (b : SpansBefore) (x : SpanPart) → (span h b).fits x → Stands h b x
 unfolding span field only gap done number byte coded is_kind
 one_stands h b x f =
-    let place = both_true (eqb (x.place % PAGE) 0) (nat_le b.end x.place) f.0.1 in
-    let size = both_true (nat_lt 0 x.pages) (nat_le (x.place + PAGE * x.pages) PHYSICAL_END) f.1.0.1 in
+    let address = both_true (eqb (x.address % PAGE) 0) (nat_le b.end x.address) f.0.1 in
+    let size = both_true (nat_lt 0 x.pages) (nat_le (x.address + PAGE * x.pages) PHYSICAL_END) f.1.0.1 in
     let fresh = both_true (nat_lt x.number h.spans) (not (slice_index_or b.seen x.number true)) f.1.1.0.1 in
     let kind = both_true (suits_tau0 h.tau0 x.number x.kind) (has_room b x.pages x.kind) f.1.1.1.0.1 in
     record {
       one = record {
-        aligned = eqb-true (x.place % PAGE) 0 place.0;
+        aligned = eqb-true (x.address % PAGE) 0 address.0;
         some = ltb-true 0 x.pages size.0;
-        low = leb-true (x.place + PAGE * x.pages) PHYSICAL_END size.1;
+        low = leb-true (x.address + PAGE * x.pages) PHYSICAL_END size.1;
         part = f.1.1.1.1.0.1;
         owner = name_kept x.tag.owner f.1.1.1.1.1.0;
         called = title_kept x.tag.part f.1.1.1.1.1.1.0;
       };
-      behind = leb-true b.end x.place place.1;
+      behind = leb-true b.end x.address address.1;
       numbered = ltb-true x.number h.spans fresh.0;
       unseen = not-true (slice_index_or b.seen x.number true) fresh.1;
       choice = kind.0;
@@ -134,7 +134,7 @@ device_room b x (y ∷ ys) left room later = device_pages b x (y ∷ ys) (later 
 pub record Follow (h : Header) (b : SpansBefore) (xs : List SpanPart) : Type 0 where
   pub each : All IsSpan xs
   pub ascend : Ascend xs
-  pub behind : All (λ s. b.end ≤ s.place) xs
+  pub behind : All (λ s. b.end ≤ s.address) xs
   pub numbered : All (λ s. s.number < h.spans) xs
   pub differ : HaveDifferentNumbers xs
   pub unseen : All (λ s. slice_index_or b.seen s.number true ≡ false) xs
@@ -162,13 +162,13 @@ other_mark seen n m low unset e = true≢false (sym (get_or-set_same seen n true
 one_follows : (h : Header) (b : SpansBefore) (x : SpanPart) (xs : List SpanPart) → b.left ≡ suc (length xs) → length b.seen ≡ h.spans → Stands h b x → Follow h (after h b x) xs → Follow h b (x ∷ xs)
 unfolding after
 one_follows h b x xs left all s f =
-    let place : b.end ≤ x.place = s.behind in
+    let begins : b.end ≤ x.address = s.behind in
     let numbered : x.number < h.spans = s.numbered in
     let differ : (k : ℕ) (d : SpanPart) → k < length xs → x.number ≢ (get_or xs k d).number = λ k d l. other_mark b.seen x.number (get_or xs k d).number (omega (arith, numbered, all)) (f.unseen k d l) in
     record {
       each = All-cons IsSpan x xs s.one f.each;
-      ascend = AllPairs-cons (λ p q. end_of p ≤ q.place) x xs (λ k d l. f.behind k d l) f.ascend;
-      behind = All-cons (λ q. b.end ≤ q.place) x xs s.behind (λ k d l. let later = f.behind k d l in omega (arith, place, later));
+      ascend = AllPairs-cons (λ p q. end_of p ≤ q.address) x xs (λ k d l. f.behind k d l) f.ascend;
+      behind = All-cons (λ q. b.end ≤ q.address) x xs s.behind (λ k d l. let later = f.behind k d l in omega (arith, begins, later));
       numbered = All-cons (λ q. q.number < h.spans) x xs s.numbered f.numbered;
       differ = AllPairs-cons (λ p q. p.number ≢ q.number) x xs differ f.differ;
       unseen = All-cons (λ q. slice_index_or b.seen q.number true ≡ false) x xs s.unseen (λ k d l. sym (get_or-set_other b.seen x.number (get_or xs k d).number true true (λ e. differ k d l (sym e))) ∙ f.unseen k d l);

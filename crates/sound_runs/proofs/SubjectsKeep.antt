@@ -90,10 +90,10 @@ events_kept h es f = record { many = f.0; each = each_kept (nothing_left h) (λ 
 
 -- ---- subjects
 
-one_subject : (i : Image) (place : ℕ) (q : SubjectPart) → (subject (outline i.header i.spans i.plan.groups) place).fits q → IsSubject i (place, q)
+one_subject : (i : Image) (index : ℕ) (q : SubjectPart) → (subject (outline i.header i.spans i.plan.groups) index).fits q → IsSubject i (index, q)
 unfolding subject field only gap done byte number is_group_of
-one_subject i place q f =
-    let two = both_true (is_group_on i.plan.groups q.cpu q.group) (is_first_here i.plan.groups place q.group) f.1.0.1 in
+one_subject i index q f =
+    let two = both_true (is_group_on i.plan.groups q.cpu q.group) (is_first_here i.plan.groups index q.group) f.1.0.1 in
     record {
       cpu = ltb-true q.cpu i.header.cpus f.0.1;
       in_group = two.0;
@@ -109,17 +109,17 @@ one_subject i place q f =
       traps = events_kept i.header q.traps f.1.1.1.1.1.1.1.1.1.1.0;
     }
 
-next_number : (place : ℕ) → place < 255 → min (place + 1) 255 ≡ place + 1
-next_number place low = omega (arith, low)
+next_number : (index : ℕ) → index < 255 → min (index + 1) 255 ≡ index + 1
+next_number index low = omega (arith, low)
 
-subjects_from : (i : Image) (place : ℕ) (qs : List SubjectPart) → place + length qs ≤ 32 → all_fit (next_place (outline i.header i.spans i.plan.groups)) (λ b. (subject (outline i.header i.spans i.plan.groups) b).fits) place qs
-    → All (IsSubject i) (enumerate_from place qs)
+subjects_from : (i : Image) (index : ℕ) (qs : List SubjectPart) → index + length qs ≤ 32 → all_fit (next_place (outline i.header i.spans i.plan.groups)) (λ b. (subject (outline i.header i.spans i.plan.groups) b).fits) index qs
+    → All (IsSubject i) (enumerate_from index qs)
 unfolding all_fit
-subjects_from i place [] room f = All-nil (IsSubject i)
-subjects_from i place (q ∷ qs) room f =
-    let next = next_number place (omega (arith, room)) in
-    let rest = subjects_from i (place + 1) qs (omega (arith, room)) (subst (λ n. all_fit (next_place (outline i.header i.spans i.plan.groups)) (λ b. (subject (outline i.header i.spans i.plan.groups) b).fits) n qs) next f.1) in
-    All-cons (IsSubject i) (place, q) (enumerate_from (place + 1) qs) (one_subject i place q f.0) rest
+subjects_from i index [] room f = All-nil (IsSubject i)
+subjects_from i index (q ∷ qs) room f =
+    let next = next_number index (omega (arith, room)) in
+    let rest = subjects_from i (index + 1) qs (omega (arith, room)) (subst (λ n. all_fit (next_place (outline i.header i.spans i.plan.groups)) (λ b. (subject (outline i.header i.spans i.plan.groups) b).fits) n qs) next f.1) in
+    All-cons (IsSubject i) (index, q) (enumerate_from (index + 1) qs) (one_subject i index q f.0) rest
 
 pub subjects_kept : (i : Image) → length i.subjects ≤ 32 → all_fit (next_place (outline i.header i.spans i.plan.groups)) (λ b. (subject (outline i.header i.spans i.plan.groups) b).fits) 0 i.subjects
     → All (IsSubject i) (enumerate_from 0 i.subjects)

@@ -142,7 +142,7 @@ module _ (p : Source) (files : Held) (i : Image) (keeps : KeepsConditions i) (so
       let there : ThingSpan p files i x = listed_span p files i keeps sound x listed in
       let number : there.number ≡ k = thing_once p sound.lawful x there.number k there.listed atx in
       let same : there.span ≡ e = same_at (slice_get (thing_spans i) k) there.span e (ap (slice_get (thing_spans i)) (sym number) ∙ there.numbered) ate in
-      let first : g.first x ≡ e.0.place / PAGE = there.first ∙ ap (λ (z : Span). z.0.place / PAGE) same in
+      let first : g.first x ≡ e.0.address / PAGE = there.first ∙ ap (λ (z : Span). z.0.address / PAGE) same in
       let pages : g.pages x ≡ e.0.pages = there.pages ∙ ap (λ (z : Span). z.0.pages) same in
       let bytes = bytes_there x listed (no_state x (ap is_kernel (sym there.is.kind) ∙ there.not_kernel)) in
       ap (λ f. bytes_from pages_then f e.0.pages) (sym first)

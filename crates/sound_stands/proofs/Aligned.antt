@@ -26,7 +26,7 @@ use Rattle.policy_meaning.specs.Thing.{Thing, state, same_thing, things_of}
 use Rattle.policy_meaning.specs.Windows.{Access, access_of, byte, violation, windows_of}
 use Rattle.policy_types.specs.declared.source.Source.{Source}
 use Rattle.policy_types.specs.declared.source.Subject.{Subject}
-use Rattle.stands_for.specs.Ground.{place_in}
+use Rattle.stands_for.specs.Ground.{page_and_offset}
 use Rattle.vmx_machine.specs.Machine.{look_in, msr_exits_in, page_at, ports_exit, reach_by as reach_by_walk}
 use Rattle.vmx_machine.specs.declared.control.Control.{Control}
 use Rattle.sound_stands.specs.GroundOf.{ground_of}
@@ -36,76 +36,76 @@ use Rattle.sound_stands.proofs.PageFacts.{io_page_there, msr_page_there, second_
 
 -- ---- spans begin where pages do
 
-span_aligned : (i : Image) → KeepsConditions i → (n : ℕ) (o : Option Span) → span_at i n ≡ o → option_map_or (λ (e : Span). e.0.place) o 0 % 4096 ≡ 0
+span_aligned : (i : Image) → KeepsConditions i → (n : ℕ) (o : Option Span) → span_at i n ≡ o → option_map_or (λ (e : Span). e.0.address) o 0 % 4096 ≡ 0
 span_aligned i keeps n None is = refl
 span_aligned i keeps n (Some e) is =
     let within = (span_by i keeps n e is).0 in
-    (all_at IsSpan i.spans within.place e.0 keeps.spans.each within.span).aligned
+    (all_at IsSpan i.spans within.index e.0 keeps.spans.each within.span).aligned
 
-abbrev Placed : Type 0
-Placed = Thing × ℕ
+abbrev Addressed : Type 0
+Addressed = Thing × ℕ
 
-abbrev AreAligned : List Placed → Type 0
-AreAligned xs = (k : ℕ) (e : Placed) → slice_get xs k ≡ Some e → e.1 % 4096 ≡ 0
+abbrev AreAligned : List Addressed → Type 0
+AreAligned xs = (k : ℕ) (e : Addressed) → slice_get xs k ≡ Some e → e.1 % 4096 ≡ 0
 
-both_aligned : (xs ys : List Placed) → AreAligned xs → AreAligned ys → (k : ℕ) (e : Placed) → slice_get (xs ++ ys) k ≡ Some e → e.1 % 4096 ≡ 0
+both_aligned : (xs ys : List Addressed) → AreAligned xs → AreAligned ys → (k : ℕ) (e : Addressed) → slice_get (xs ++ ys) k ≡ Some e → e.1 % 4096 ≡ 0
 both_aligned [] ys a b k e at = b k e at
 both_aligned (x ∷ xs) ys a b zero e at = a 0 e at
 both_aligned (x ∷ xs) ys a b (suc k) e at = both_aligned xs ys (λ k. a (suc k)) b k e at
 
-things_aligned : (p : Source) (i : Image) → KeepsConditions i → (k : ℕ) (e : Placed) → slice_get (zip (things_of p) (map (λ (e : Span). e.0.place) (thing_spans i))) k ≡ Some e → e.1 % 4096 ≡ 0
+things_aligned : (p : Source) (i : Image) → KeepsConditions i → (k : ℕ) (e : Addressed) → slice_get (zip (things_of p) (map (λ (e : Span). e.0.address) (thing_spans i))) k ≡ Some e → e.1 % 4096 ≡ 0
 unfolding by_number
 things_aligned p i keeps k e at =
-    let places : List ℕ = map (λ (e : Span). e.0.place) (thing_spans i) in
-    let there = (zipped_both (things_of p) places k e at).1 in
-    let s = from_some (λ (e : Span). e.0.place) (slice_get (thing_spans i) k) e.1 (sym (slice_get-map (λ (e : Span). e.0.place) (thing_spans i) k) ∙ there) in
+    let addresses : List ℕ = map (λ (e : Span). e.0.address) (thing_spans i) in
+    let there = (zipped_both (things_of p) addresses k e at).1 in
+    let s = from_some (λ (e : Span). e.0.address) (slice_get (thing_spans i) k) e.1 (sym (slice_get-map (λ (e : Span). e.0.address) (thing_spans i) k) ∙ there) in
     let kept = filtered_at (λ (e : Span). not (is_kernel e.0.kind)) (by_number i) k s.0 s.1 in
     let from = kept_at (span_at i) (numbers_below (length i.spans)) kept.0 s.0 kept.1 in
     subst (λ n. n % 4096 ≡ 0) s.2 (span_aligned i keeps from.0 (Some s.0) from.1)
 
-states_aligned : (p : Source) (i : Image) → KeepsConditions i → (k : ℕ) (e : Placed) → slice_get (zip (map (λ (s : Subject). state s.name) p.subjects) (map (λ (q : SubjectPart). place_at i q.state) i.subjects)) k ≡ Some e → e.1 % 4096 ≡ 0
+states_aligned : (p : Source) (i : Image) → KeepsConditions i → (k : ℕ) (e : Addressed) → slice_get (zip (map (λ (s : Subject). state s.name) p.subjects) (map (λ (q : SubjectPart). place_at i q.state) i.subjects)) k ≡ Some e → e.1 % 4096 ≡ 0
 states_aligned p i keeps k e at =
     let names : List Thing = map (λ (s : Subject). state s.name) p.subjects in
-    let places : List ℕ = map (λ (q : SubjectPart). place_at i q.state) i.subjects in
-    let there = (zipped_both names places k e at).1 in
+    let addresses : List ℕ = map (λ (q : SubjectPart). place_at i q.state) i.subjects in
+    let there = (zipped_both names addresses k e at).1 in
     let q = from_some (λ (q : SubjectPart). place_at i q.state) (slice_get i.subjects k) e.1 (sym (slice_get-map (λ (q : SubjectPart). place_at i q.state) i.subjects k) ∙ there) in
     subst (λ n. n % 4096 ≡ 0) q.2 (span_aligned i keeps q.0.state (span_at i q.0.state) refl)
 
 -- what is found, or nothing
-found_aligned : (test : Placed → Bool) (xs : List Placed) → AreAligned xs → (o : Option Placed) → find test xs ≡ o → option_map_or (λ (e : Placed). e.1) o 0 % 4096 ≡ 0
+found_aligned : (test : Addressed → Bool) (xs : List Addressed) → AreAligned xs → (o : Option Addressed) → find test xs ≡ o → option_map_or (λ (e : Addressed). e.1) o 0 % 4096 ≡ 0
 found_aligned test xs h None is = refl
-found_aligned test xs h (Some e) is = let f = found_at test xs e is in h f.place e f.here
+found_aligned test xs h (Some e) is = let f = found_at test xs e is in h f.index e f.here
 
 -- a thing or a state page begins where a page does
-pub place_aligned : (p : Source) (i : Image) → KeepsConditions i → (x : Thing) → place_of p i x % 4096 ≡ 0
+pub address_aligned : (p : Source) (i : Image) → KeepsConditions i → (x : Thing) → place_of p i x % 4096 ≡ 0
 unfolding place_of
-place_aligned p i keeps x =
-    let things = zip (things_of p) (map (λ (e : Span). e.0.place) (thing_spans i)) in
+address_aligned p i keeps x =
+    let things = zip (things_of p) (map (λ (e : Span). e.0.address) (thing_spans i)) in
     let states = zip (map (λ (s : Subject). state s.name) p.subjects) (map (λ (q : SubjectPart). place_at i q.state) i.subjects) in
-    found_aligned (λ (e : Placed). same_thing e.0 x) (things ++ states) (both_aligned things states (things_aligned p i keeps) (states_aligned p i keeps)) (find (λ (e : Placed). same_thing e.0 x) (things ++ states)) refl
+    found_aligned (λ (e : Addressed). same_thing e.0 x) (things ++ states) (both_aligned things states (things_aligned p i keeps) (states_aligned p i keeps)) (find (λ (e : Addressed). same_thing e.0 x) (things ++ states)) refl
 
 -- ---- walks
 
-page_by : (place offset : ℕ) → place % 4096 ≡ 0 → (place + offset) / 4096 ≡ place / 4096 + offset / 4096
-page_by place offset h = omega (arith, h)
+page_by : (address offset : ℕ) → address % 4096 ≡ 0 → (address + offset) / 4096 ≡ address / 4096 + offset / 4096
+page_by address offset h = omega (arith, h)
 
-offset_by : (place offset : ℕ) → place % 4096 ≡ 0 → (place + offset) % 4096 ≡ offset % 4096
-offset_by place offset h = omega (arith, h)
+offset_by : (address offset : ℕ) → address % 4096 ≡ 0 → (address + offset) % 4096 ≡ offset % 4096
+offset_by address offset h = omega (arith, h)
 
 -- where a walk ends that is led to a byte of a thing, there is that byte by its page
-led_alike : (place : Thing → ℕ) → ((x : Thing) → place x % 4096 ≡ 0) → (kind : AccessKind) (addr : ℕ) (a : Access Thing) → reach_by_walk kind addr (led place a) ≡ renamed_reach (place_in (λ x. place x / PAGE)) (reach_by kind addr a)
-led_alike place aligned kind addr (byte x offset) =
-    ap (λ n. Reached n ((place x + offset) % 4096)) (page_by (place x) offset (aligned x)) ∙ ap (Reached (place x / 4096 + offset / 4096)) (offset_by (place x) offset (aligned x))
-led_alike place aligned kind addr (violation found) = refl
+led_alike : (address : Thing → ℕ) → ((x : Thing) → address x % 4096 ≡ 0) → (kind : AccessKind) (addr : ℕ) (a : Access Thing) → reach_by_walk kind addr (led address a) ≡ renamed_reach (page_and_offset (λ x. address x / PAGE)) (reach_by kind addr a)
+led_alike address aligned kind addr (byte x offset) =
+    ap (λ n. Reached n ((address x + offset) % 4096)) (page_by (address x) offset (aligned x)) ∙ ap (Reached (address x / 4096 + offset / 4096)) (offset_by (address x) offset (aligned x))
+led_alike address aligned kind addr (violation found) = refl
 
 -- a walk for a subject leads where its windows do
 pub walks_alike : (p : Source) (files : Held) (i : Image) → KeepsConditions i → IsSound p files i → (n : Subject) (q : SubjectPart) (kind : AccessKind) (addr : ℕ) → addr < GUEST_END → (s : ℕ) → slice_get p.subjects s ≡ Some n → slice_get i.subjects s ≡ Some q
-    → look_in (memory_of i) q.eptp kind addr ≡ renamed_reach (place_in (λ x. place_of p i x / PAGE)) (reach_by kind addr (access_of (windows_of p n) addr kind))
+    → look_in (memory_of i) q.eptp kind addr ≡ renamed_reach (page_and_offset (λ x. place_of p i x / PAGE)) (reach_by kind addr (access_of (windows_of p n) addr kind))
 walks_alike p files i keeps sound n q kind addr low s named at =
     let walks = both_at (HasWalks p i) p.subjects i.subjects s n q sound.walks named at in
     ap (λ m. reach_by_walk kind addr (walk_of m q.eptp addr kind)) (same_memory i)
     ∙ ap (reach_by_walk kind addr) (walks addr kind low)
-    ∙ led_alike (place_of p i) (place_aligned p i keeps) kind addr (access_of (windows_of p n) addr kind)
+    ∙ led_alike (place_of p i) (address_aligned p i keeps) kind addr (access_of (windows_of p n) addr kind)
 
 -- ---- bitmaps
 

@@ -28,7 +28,7 @@ use Rattle.policy_types.specs.declared.source.Source.{Source}
 use Rattle.policy_types.specs.declared.source.SourceWay.{SourceWay}
 use Rattle.policy_types.specs.declared.source.SourceWay.TheVariants.{Call, Trap}
 use Rattle.policy_types.specs.declared.source.Subject.{Subject}
-use Rattle.sound_stands.proofs.PolicyFacts.{found_any, found_passes, found_place}
+use Rattle.sound_stands.proofs.PolicyFacts.{found_any, found_index, found_passes}
 
 -- ---- the numbers of calls and traps
 
@@ -59,16 +59,16 @@ great_trap (Trap m) i l same small =
     let b : m < MOST_CALLS = ltb-true m MOST_CALLS small in
     omega (arith, e, b, l)
 
-great_end : (call : Option ℕ) (i : ℕ) → MOST_CALLS ≤ i → is_call call (Call i) ≡ true → is_small call ≡ true → ⊥
+great_channel_end : (call : Option ℕ) (i : ℕ) → MOST_CALLS ≤ i → is_call call (Call i) ≡ true → is_small call ≡ true → ⊥
 unfolding is_small
-great_end None i l same small = absurd (cc)
-great_end (Some m) i l same small =
+great_channel_end None i l same small = absurd (cc)
+great_channel_end (Some m) i l same small =
     let e : m ≡ i = eqb-true m i same in
     let b : m < MOST_CALLS = ltb-true m MOST_CALLS small in
     omega (arith, e, b, l)
 
 great_writer : (e : ChannelEnd) (role : Role) (i : ℕ) → MOST_CALLS ≤ i → writes_by e role (Call i) ≡ true → is_small e.call ≡ true → ⊥
-great_writer e Writer i l same small = great_end e.call i l same small
+great_writer e Writer i l same small = great_channel_end e.call i l same small
 great_writer e Reader i l same small = absurd (cc)
 
 -- no end of a channel is for traps
@@ -76,13 +76,13 @@ no_trap : (call : Option ℕ) (i : ℕ) → is_call call (Trap i) ≡ false
 no_trap None i = refl
 no_trap (Some m) i = refl
 
-no_trap_end : (e : ChannelEnd) (role : Role) (i : ℕ) → writes_by e role (Trap i) ≡ false
-no_trap_end e Writer i = no_trap e.call i
-no_trap_end e Reader i = refl
+no_trap_channel_end : (e : ChannelEnd) (role : Role) (i : ℕ) → writes_by e role (Trap i) ≡ false
+no_trap_channel_end e Writer i = no_trap e.call i
+no_trap_channel_end e Reader i = refl
 
-no_ends : (i : ℕ) (es : List ChannelEnd) → find (λ e. writes_by e e.role (Trap i)) es ≡ None
-no_ends i [] = refl
-no_ends i (e ∷ es) = ap (λ b. cond b (Some e) (find (λ e. writes_by e e.role (Trap i)) es)) (no_trap_end e e.role i) ∙ no_ends i es
+no_channel_ends : (i : ℕ) (es : List ChannelEnd) → find (λ e. writes_by e e.role (Trap i)) es ≡ None
+no_channel_ends i [] = refl
+no_channel_ends i (e ∷ es) = ap (λ b. cond b (Some e) (find (λ e. writes_by e e.role (Trap i)) es)) (no_trap_channel_end e e.role i) ∙ no_channel_ends i es
 
 -- ---- traps
 
@@ -105,7 +105,7 @@ raised_as e t = record { mode = e.mode; target = t }
 module _ (p : Source) (lawful : IsLawful p) where
   record Small (n : Subject) : Type 0 where
     calls : list_all (λ e. is_small (call_number e.way)) n.sources ≡ true
-    ends : list_all (λ e. is_small e.call) (channel_ends p n) ≡ true
+    channel_calls : list_all (λ e. is_small e.call) (channel_ends p n) ≡ true
     traps : list_all (λ e. is_small (trap_reason e.way)) n.sources ≡ true
 
   -- rule 14 of a subject
@@ -121,7 +121,7 @@ module _ (p : Source) (lawful : IsLawful p) where
       let traps = (and_parts (list_all low (filter_map (λ e. trap_reason e.way) n.sources)) (are_distinct (filter_map (λ e. trap_reason e.way) n.sources)) both.1).0 in
       record {
         calls = sym (all_some low (λ e. call_number e.way) n.sources) ∙ calls.0;
-        ends = sym (all_some low (λ e. e.call) (channel_ends p n)) ∙ calls.1;
+        channel_calls = sym (all_some low (λ e. e.call) (channel_ends p n)) ∙ calls.1;
         traps = sym (all_some low (λ e. trap_reason e.way) n.sources) ∙ traps;
       }
 
@@ -133,10 +133,10 @@ module _ (p : Source) (lawful : IsLawful p) where
       let by_source : find (λ e. same_way e.way (Call i)) n.sources ≡ None =
       none_found (λ e. same_way e.way (Call i)) n.sources (λ e is.
       great_call e.way i l (found_passes (λ e. same_way e.way (Call i)) n.sources e is) (found_among (λ e. same_way e.way (Call i)) (λ e. is_small (call_number e.way)) n.sources e is small.calls)) in
-      let by_end : find (λ e. writes_by e e.role (Call i)) (channel_ends p n) ≡ None =
+      let by_channel_end : find (λ e. writes_by e e.role (Call i)) (channel_ends p n) ≡ None =
       none_found (λ e. writes_by e e.role (Call i)) (channel_ends p n) (λ e is.
-      great_writer e e.role i l (found_passes (λ e. writes_by e e.role (Call i)) (channel_ends p n) e is) (found_among (λ e. writes_by e e.role (Call i)) (λ e. is_small e.call) (channel_ends p n) e is small.ends)) in
-      rw (by_source, by_end) refl
+      great_writer e e.role i l (found_passes (λ e. writes_by e e.role (Call i)) (channel_ends p n) e is) (found_among (λ e. writes_by e e.role (Call i)) (λ e. is_small e.call) (channel_ends p n) e is small.channel_calls)) in
+      rw (by_source, by_channel_end) refl
 
   -- nor has a trap
   pub few_traps : (s : ℕ) (n : Subject) (i : ℕ) → slice_get p.subjects s ≡ Some n → MOST_CALLS ≤ i → event_of p n (Trap i) ≡ None
@@ -146,7 +146,7 @@ module _ (p : Source) (lawful : IsLawful p) where
       let by_source : find (λ e. same_way e.way (Trap i)) n.sources ≡ None =
       none_found (λ e. same_way e.way (Trap i)) n.sources (λ e is.
       great_trap e.way i l (found_passes (λ e. same_way e.way (Trap i)) n.sources e is) (found_among (λ e. same_way e.way (Trap i)) (λ e. is_small (trap_reason e.way)) n.sources e is small.traps)) in
-      rw (by_source, no_ends i (channel_ends p n)) refl
+      rw (by_source, no_channel_ends i (channel_ends p n)) refl
 
   -- ---- the events of traps
 
@@ -208,14 +208,14 @@ module _ (p : Source) (lawful : IsLawful p) where
   -- what a trap entry names is raised
   trap_raised : (s : ℕ) (n : Subject) (i : ℕ) (e : EventSource) → slice_get p.subjects s ≡ Some n → find (λ e. same_way e.way (Trap i)) n.sources ≡ Some e → is_some (named_event p e.event) ≡ true
   trap_raised s n i e at is =
-      let place = found_place (λ e. same_way e.way (Trap i)) n.sources e is in
-      named_raised e.event (source_declared s n e place.0 at place.1)
+      let index = found_index (λ e. same_way e.way (Trap i)) n.sources e is in
+      named_raised e.event (source_declared s n e index.0 at index.1)
 
   trap_by_source : (s : ℕ) (n : Subject) (i : ℕ) → slice_get p.subjects s ≡ Some n → is_some (event_of p n (Trap i)) ≡ is_some (find (λ e. same_way e.way (Trap i)) n.sources)
   unfolding event_of
   trap_by_source s n i at =
       let rest = option_and_then (λ e. channel_event p e.channel) (find (λ e. writes_by e e.role (Trap i)) (channel_ends p n)) in
-      let nothing : rest ≡ None = ap (option_and_then (λ (e : ChannelEnd). channel_event p e.channel)) (no_ends i (channel_ends p n)) in
+      let nothing : rest ≡ None = ap (option_and_then (λ (e : ChannelEnd). channel_event p e.channel)) (no_channel_ends i (channel_ends p n)) in
       ap (λ o. is_some (option_or (option_and_then (λ e. named_event p e.event) (find (λ e. same_way e.way (Trap i)) n.sources)) o)) nothing
       ∙ (elim (find (λ e. same_way e.way (Trap i)) n.sources)
       as (λ o. find (λ e. same_way e.way (Trap i)) n.sources ≡ o → is_some (option_or (option_and_then (λ (e : EventSource). named_event p e.event) o) None) ≡ is_some o) [

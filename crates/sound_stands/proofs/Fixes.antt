@@ -30,10 +30,10 @@ use Rattle.sound_stands.proofs.EventFacts.{few_calls, few_traps, traps_are_event
 use Rattle.sound_stands.proofs.ListFacts.{all_at, first_at, other_at, same_at}
 use Rattle.sound_stands.proofs.MsrFacts.{in_msr_file}
 use Rattle.sound_stands.proofs.PageFacts.{io_kept, msrbm_kept, second_io_kept, tables_kept}
-use Rattle.sound_stands.proofs.PlaceFacts.{no_thing, state_place}
+use Rattle.sound_stands.proofs.StateFacts.{no_thing, state_pages}
 use Rattle.sound_stands.proofs.PlanFacts.{no_slots, tau0_bytes, tau0_region}
 use Rattle.sound_stands.proofs.PolicyFacts.{found_again, names_differ}
-use Rattle.sound_stands.proofs.RegionFacts.{tau0_place}
+use Rattle.sound_stands.proofs.RegionFacts.{same_tau0_page}
 use Rattle.sound_stands.proofs.Slots.{majors, planned, same_cpus, slots}
 use Rattle.sound_stands.proofs.SpansOfThings.{listed_pages}
 use Rattle.sound_stands.proofs.SpotFacts.{apart, aside}
@@ -213,7 +213,7 @@ module _ (p : Source) (files : Held) (i : Image) (keeps : KeepsConditions i) (so
     no_slots = no_slots p sound.lawful;
     planned = planned p files i keeps sound;
     majors = majors p files i sound;
-    tau0 = tau0_place p files i keeps sound;
+    tau0 = same_tau0_page p files i keeps sound;
     tau0_there = tau0_page;
     apart = apart p files i keeps sound;
     aside = aside p files i keeps sound;
@@ -221,7 +221,7 @@ module _ (p : Source) (files : Held) (i : Image) (keeps : KeepsConditions i) (so
     io_bitmap = io_kept p i keeps;
     second_io_bitmap = second_io_kept p i keeps;
     msr_bitmap = msrbm_kept p i keeps;
-    state_place = state_place p files i keeps sound (names_differ p sound.lawful);
+    state_pages = state_pages p files i keeps sound (names_differ p sound.lawful);
     no_thing = no_thing p files i keeps sound;
     sees = all_seen;
     in_file = in_msr_file p sound.lawful;

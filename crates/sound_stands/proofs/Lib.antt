@@ -10,7 +10,7 @@ pub mod ListFacts
 pub mod MemoryFacts
 pub mod NumberFacts
 pub mod PageFacts
-pub mod PlaceFacts
+pub mod StateFacts
 pub mod RegionFacts
 pub mod SpanFacts
 pub mod SpansOfThings

@@ -1,4 +1,4 @@
--- Elements of lists by their places, and what tests, maps and filters tell of them.
+-- Elements of lists by their indexes, and what tests, maps and filters tell of them.
 use Rattle.std.proofs.Common.{◌≡◌, ℕ, zero, suc, ◌+◌, ◌<◌, cond, Bool, true, false, List, [], ◌∷◌, map, filter, get_or, Option, Some, None, refl, sym, ap, subst, ◌∙◌, inl, inr}
 use Rattle.std.specs.Prelude.{option_map, slice_get}
 use Rattle.std.specs.List.{All, AllPairs, AllZip, cons_option, enumerate_from, filter_map, find, list_any, zip}
@@ -25,7 +25,7 @@ pub pairs_at : {X : Type 0} (R : X → X → Type 0) (xs : List X) (i j : ℕ) (
 pairs_at R xs i j x y h less at to =
     subst (λ z. R z y) (get_or_from_slice_get xs i x x at) (subst (R (get_or xs i x)) (get_or_from_slice_get xs j y x to) (h i j x less (slice_get_within xs j y to)))
 
--- elements at a place of two lists of which a relation holds, place by place
+-- elements at an index of two lists of which a relation holds, index by index
 pub both_at : {X Y : Type 0} (R : X → Y → Type 0) (xs : List X) (ys : List Y) (k : ℕ) (x : X) (y : Y) → AllZip R xs ys → slice_get xs k ≡ Some x → slice_get ys k ≡ Some y → R x y
 both_at R [] ys k x y h a b = absurd (cc)
 both_at R (z ∷ zs) [] k x y h a b = absurd h
@@ -35,7 +35,7 @@ both_at R (z ∷ zs) (w ∷ ws) zero x y h a b =
     subst (λ u. R u y) p (subst (R z) q h.0)
 both_at R (z ∷ zs) (w ∷ ws) (suc k) x y h a b = both_at R zs ws k x y h.1 a b
 
--- what stands at a place of the first has something at that place of the second
+-- what stands at an index of the first has something at that index of the second
 pub other_at : {X Y : Type 0} (R : X → Y → Type 0) (xs : List X) (ys : List Y) (k : ℕ) (x : X) → AllZip R xs ys → slice_get xs k ≡ Some x → (y : Y) × (slice_get ys k ≡ Some y) × R x y
 other_at R [] ys k x h a = absurd (cc)
 other_at R (z ∷ zs) [] k x h a = absurd h
@@ -58,33 +58,33 @@ any_at test (y ∷ ys) zero x at h =
     let e : y ≡ x = cc in or_left (test y) (list_any test ys) (subst (λ z. test z ≡ true) (sym e) h)
 any_at test (y ∷ ys) (suc n) x at h = or_right (test y) (list_any test ys) (any_at test ys n x at h)
 
--- one that passes, and its place
+-- one that passes, and its index
 pub record Passing {X : Type 0} (test : X → Bool) (xs : List X) : Type 0 where
-  pub place : ℕ
+  pub index : ℕ
   pub one : X
-  pub here : slice_get xs place ≡ Some one
+  pub here : slice_get xs index ≡ Some one
   pub passes : test one ≡ true
 
 pub any_passing : {X : Type 0} (test : X → Bool) (xs : List X) → list_any test xs ≡ true → Passing test xs
 any_passing test [] h = absurd (cc)
 any_passing test (y ∷ ys) h =
     elim (or_cases (test y) (list_any test ys) h) as (λ _. Passing test (y ∷ ys)) [
-      | inl e ↦ record { place = 0; one = y; here = refl; passes = e }
-      | inr e ↦ let p = any_passing test ys e in record { place = suc p.place; one = p.one; here = p.here; passes = p.passes }
+      | inl e ↦ record { index = 0; one = y; here = refl; passes = e }
+      | inr e ↦ let p = any_passing test ys e in record { index = suc p.index; one = p.one; here = p.here; passes = p.passes }
     ]
 
 pub none_passing : {X : Type 0} (test : X → Bool) (xs : List X) → ((n : ℕ) (x : X) → slice_get xs n ≡ Some x → test x ≡ true → ⊥) → list_any test xs ≡ false
 none_passing test xs never =
     elim (cases_Bool (list_any test xs)) [
-      | inl t ↦ let p = any_passing test xs t in absurd (never p.place p.one p.here p.passes)
+      | inl t ↦ let p = any_passing test xs t in absurd (never p.index p.one p.here p.passes)
       | inr f ↦ f
     ]
 
 -- ---- a search
 
 pub record FoundAt {X : Type 0} (test : X → Bool) (xs : List X) (x : X) : Type 0 where
-  pub place : ℕ
-  pub here : slice_get xs place ≡ Some x
+  pub index : ℕ
+  pub here : slice_get xs index ≡ Some x
   pub passes : test x ≡ true
 
 pub found_at : {X : Type 0} (test : X → Bool) (xs : List X) (x : X) → find test xs ≡ Some x → FoundAt test xs x
@@ -94,10 +94,10 @@ found_at test (y ∷ ys) x h =
       | inl t ↦
           let g : Some y ≡ Some x = ap (λ b. cond b (Some y) (find test ys)) (sym t) ∙ h in
           let e : y ≡ x = same_some y x g in
-          record { place = 0; here = g; passes = subst (λ z. test z ≡ true) e t }
+          record { index = 0; here = g; passes = subst (λ z. test z ≡ true) e t }
       | inr f ↦
           let p = found_at test ys x (ap (λ b. cond b (Some y) (find test ys)) (sym f) ∙ h) in
-          record { place = suc p.place; here = p.here; passes = p.passes }
+          record { index = suc p.index; here = p.here; passes = p.passes }
     ]
 
 pub found_some : {X : Type 0} (test : X → Bool) (xs : List X) (n : ℕ) (x : X) → slice_get xs n ≡ Some x → test x ≡ true → (y : X) × (find test xs ≡ Some y)
@@ -112,12 +112,12 @@ found_some test (y ∷ ys) (suc n) x at h =
       | inr f ↦ (r.0, ap (λ b. cond b (Some y) (find test ys)) f ∙ r.1)
     ]
 
--- where all that passes is at one place, this is what is found
+-- where all that passes is at one index, this is what is found
 pub found_only : {X : Type 0} (test : X → Bool) (xs : List X) (n : ℕ) (x : X) → slice_get xs n ≡ Some x → test x ≡ true → ((m : ℕ) (y : X) → slice_get xs m ≡ Some y → test y ≡ true → m ≡ n) → find test xs ≡ Some x
 found_only test xs n x at h only =
     let r = found_some test xs n x at h in
     let p = found_at test xs r.0 r.1 in
-    let e : r.0 ≡ x = same_at (slice_get xs n) r.0 x (ap (slice_get xs) (sym (only p.place r.0 p.here p.passes)) ∙ p.here) at in
+    let e : r.0 ≡ x = same_at (slice_get xs n) r.0 x (ap (slice_get xs) (sym (only p.index r.0 p.here p.passes)) ∙ p.here) at in
     r.1 ∙ ap Some e
 
 -- ---- two lists side by side

@@ -28,22 +28,22 @@ use Rattle.sound_stands.proofs.SpanFacts.{KernelSpan, number_once}
 
 -- ---- one memory, written twice
 
-placed_is : (ss : List SpanPart) (bs : List (List ℕ)) → loaded_spans ss bs ≡ map placed_bytes (zip ss bs)
+loaded_is : (ss : List SpanPart) (bs : List (List ℕ)) → loaded_spans ss bs ≡ map placed_bytes (zip ss bs)
 unfolding zero_bytes
-placed_is [] bs = refl
-placed_is (s ∷ ss) [] = refl
-placed_is (s ∷ ss) (b ∷ bs) = ap (λ r. loaded_span s b ∷ r) (placed_is ss bs)
+loaded_is [] bs = refl
+loaded_is (s ∷ ss) [] = refl
+loaded_is (s ∷ ss) (b ∷ bs) = ap (λ r. loaded_span s b ∷ r) (loaded_is ss bs)
 
 pub same_memory : (i : Image) → loaded_memory i ≡ memory_of i
 unfolding memory_of
-same_memory i = ap pages_of_spans (placed_is i.spans i.contents)
+same_memory i = ap pages_of_spans (loaded_is i.spans i.contents)
 
 -- ---- a span with what it has at the start
 
 pub record SpanIn (i : Image) (e : Span) : Type 0 where
-  pub place : ℕ
-  pub span : slice_get i.spans place ≡ Some e.0
-  pub content : slice_get i.contents place ≡ Some e.1
+  pub index : ℕ
+  pub span : slice_get i.spans index ≡ Some e.0
+  pub content : slice_get i.contents index ≡ Some e.1
   pub long : length (bytes_of e) ≡ 4096 * e.0.pages
 
 long_by : (s : SpanPart) (bytes : List ℕ) → IsContent s bytes → length (bytes_of (s, bytes)) ≡ 4096 * s.pages
@@ -56,41 +56,41 @@ long_by s bytes =
 pub span_with : (i : Image) → KeepsConditions i → (a : ℕ) (s : SpanPart) → slice_get i.spans a ≡ Some s → (bytes : List ℕ) × SpanIn i (s, bytes)
 span_with i keeps a s at =
     let c = other_at IsContent i.spans i.contents a s keeps.contents at in
-    (c.0, record { place = a; span = at; content = c.1; long = long_by s c.0 c.2 })
+    (c.0, record { index = a; span = at; content = c.1; long = long_by s c.0 c.2 })
 
 -- what a number stands for is such a span
 pub span_by : (i : Image) → KeepsConditions i → (n : ℕ) (e : Span) → span_at i n ≡ Some e → SpanIn i e × (e.0.number ≡ n)
 span_by i keeps n e h =
     let p = found_at (λ (u : Span). u.0.number == n) (spans_in i) e h in
-    let both = zipped_both i.spans i.contents p.place e p.here in
-    (record { place = p.place; span = both.0; content = both.1; long = long_by e.0 e.1 (both_at IsContent i.spans i.contents p.place e.0 e.1 keeps.contents both.0 both.1) }, eqb-true e.0.number n p.passes)
+    let both = zipped_both i.spans i.contents p.index e p.here in
+    (record { index = p.index; span = both.0; content = both.1; long = long_by e.0 e.1 (both_at IsContent i.spans i.contents p.index e.0 e.1 keeps.contents both.0 both.1) }, eqb-true e.0.number n p.passes)
 
 -- such a span is what its number stands for
 pub by_its_number : (i : Image) → KeepsConditions i → (n : ℕ) (e : Span) → SpanIn i e → e.0.number ≡ n → span_at i n ≡ Some e
 by_its_number i keeps n e h is =
-    found_only (λ (u : Span). u.0.number == n) (spans_in i) h.place e (zipped_at i.spans i.contents h.place e.0 e.1 h.span h.content) (eq-eqb e.0.number n is)
-    (λ m u here passes. number_once i.spans keeps.spans m h.place u.0 e.0 (zipped_both i.spans i.contents m u here).0 h.span (eqb-true u.0.number n passes ∙ sym is))
+    found_only (λ (u : Span). u.0.number == n) (spans_in i) h.index e (zipped_at i.spans i.contents h.index e.0 e.1 h.span h.content) (eq-eqb e.0.number n is)
+    (λ m u here passes. number_once i.spans keeps.spans m h.index u.0 e.0 (zipped_both i.spans i.contents m u here).0 h.span (eqb-true u.0.number n passes ∙ sym is))
 
 -- ---- pages of memory
 
-placed_at : (i : Image) (e : Span) → (h : SpanIn i e) → slice_get (loaded_spans i.spans i.contents) h.place ≡ Some (placed_bytes e)
-placed_at i e h =
-    ap (λ ss. slice_get ss h.place) (placed_is i.spans i.contents)
-    ∙ slice_get-map placed_bytes (spans_in i) h.place
-    ∙ ap (option_map placed_bytes) (zipped_at i.spans i.contents h.place e.0 e.1 h.span h.content)
+loaded_at : (i : Image) (e : Span) → (h : SpanIn i e) → slice_get (loaded_spans i.spans i.contents) h.index ≡ Some (placed_bytes e)
+loaded_at i e h =
+    ap (λ ss. slice_get ss h.index) (loaded_is i.spans i.contents)
+    ∙ slice_get-map placed_bytes (spans_in i) h.index
+    ∙ ap (option_map placed_bytes) (zipped_at i.spans i.contents h.index e.0 e.1 h.span h.content)
 
 pages_long : (n m j : ℕ) → n ≡ 4096 * m → j < m → j < n / 4096
 pages_long n m j e h = omega (arith, e, h)
 
 -- page j of a span stands in memory
-pub page_there : (i : Image) → KeepsConditions i → (e : Span) → SpanIn i e → (j : ℕ) → j < e.0.pages → page_of (loaded_memory i) (e.0.place / 4096 + j) ≡ Some (part j (bytes_of e))
+pub page_there : (i : Image) → KeepsConditions i → (e : Span) → SpanIn i e → (j : ℕ) → j < e.0.pages → page_of (loaded_memory i) (e.0.address / 4096 + j) ≡ Some (part j (bytes_of e))
 page_there i keeps e h j l =
-    in_spans (loaded_spans i.spans i.contents) (parts_load i (conditions_fit i keeps)) h.place (placed_bytes e) (placed_at i e h) j (pages_long (length (bytes_of e)) e.0.pages j h.long l)
+    in_spans (loaded_spans i.spans i.contents) (parts_load i (conditions_fit i keeps)) h.index (placed_bytes e) (loaded_at i e h) j (pages_long (length (bytes_of e)) e.0.pages j h.long l)
 
 -- page k of the span of a number stands in memory
 pub numbered_page : (i : Image) → KeepsConditions i → (code pages n k : ℕ) → KernelSpan i.spans code pages n → k < pages → page_of (loaded_memory i) (page_of_span i.spans n + k) ≡ Some (page_at i n k)
 numbered_page i keeps code pages n k s l =
-    let c = span_with i keeps s.place s.span s.here in
+    let c = span_with i keeps s.index s.span s.here in
     let many = s.pages_there in
     let is : span_at i n ≡ Some (s.span, c.0) = by_its_number i keeps n (s.span, c.0) c.1 s.number in
     ap (λ j. page_of (loaded_memory i) (j + k)) s.first
@@ -100,7 +100,7 @@ numbered_page i keeps code pages n k s l =
 -- it has 4096 bytes
 pub numbered_page_long : (i : Image) → KeepsConditions i → (code pages n k : ℕ) → KernelSpan i.spans code pages n → k < pages → length (page_at i n k) ≡ 4096
 numbered_page_long i keeps code pages n k s l =
-    let c = span_with i keeps s.place s.span s.here in
+    let c = span_with i keeps s.index s.span s.here in
     let many = s.pages_there in
     let is : span_at i n ≡ Some (s.span, c.0) = by_its_number i keeps n (s.span, c.0) c.1 s.number in
     let bytes = bytes_of (s.span, c.0) in
@@ -121,7 +121,7 @@ bytes_in (suc n) k bytes h = All-cons AreBytes (record { number = k; bytes = tak
 bytes_in_spans : (ss : List MemorySpan) → All (λ s. All IsByte s.bytes) ss → All AreBytes (pages_of_spans ss)
 bytes_in_spans [] h = All-nil AreBytes
 bytes_in_spans (s ∷ ss) h =
-    All-append AreBytes (pages_in (length s.bytes / 4096) (s.place / 4096) s.bytes) (pages_of_spans ss) (bytes_in (length s.bytes / 4096) (s.place / 4096) s.bytes (All-head (λ u. All IsByte u.bytes) s ss h)) (bytes_in_spans ss (All-tail (λ u. All IsByte u.bytes) s ss h))
+    All-append AreBytes (pages_in (length s.bytes / 4096) (s.address / 4096) s.bytes) (pages_of_spans ss) (bytes_in (length s.bytes / 4096) (s.address / 4096) s.bytes (All-head (λ u. All IsByte u.bytes) s ss h)) (bytes_in_spans ss (All-tail (λ u. All IsByte u.bytes) s ss h))
 
 loaded_bytes : (s : SpanPart) (bytes : List ℕ) → All IsByte bytes → All IsByte (loaded_span s bytes).bytes
 unfolding zero_bytes

@@ -24,10 +24,10 @@ use Rattle.vmx_machine.specs.MsrFile.{place_of}
 
 -- ---- in the MSR file
 
-has_place : (a b : Bool) (m n : ℕ) → is_some (if a then Some m else (if b then Some n else None)) ≡ (a || b)
-has_place true b m n = refl
-has_place false true m n = refl
-has_place false false m n = refl
+has_slot : (a b : Bool) (m n : ℕ) → is_some (if a then Some m else (if b then Some n else None)) ≡ (a || b)
+has_slot true b m n = refl
+has_slot false true m n = refl
+has_slot false false m n = refl
 
 -- the two ranges of an MSR file
 is_covered : ℕ → Bool
@@ -36,7 +36,7 @@ is_covered index = nat_le index LOW_MSR_LAST || (nat_le HIGH_MSR_FIRST index && 
 covered : (index : ℕ) → is_covered index ≡ true → is_some (place_of index) ≡ true
 unfolding is_covered
 covered index h =
-    has_place (nat_le index LOW_MSR_LAST) (nat_le HIGH_MSR_FIRST index && nat_le index HIGH_MSR_LAST) index (LOW_MSR_LAST + 1 + (index - HIGH_MSR_FIRST)) ∙ h
+    has_slot (nat_le index LOW_MSR_LAST) (nat_le HIGH_MSR_FIRST index && nat_le index HIGH_MSR_LAST) index (LOW_MSR_LAST + 1 + (index - HIGH_MSR_FIRST)) ∙ h
 
 -- a test that passes at each number below a bound passes at each of them
 each_below : (test : ℕ → Bool) (n : ℕ) → ((k : ℕ) → k < n → test k ≡ true) → list_all test (numbers_below n) ≡ true
@@ -174,7 +174,7 @@ module _ (p : Source) (lawful : IsLawful p) where
       let both = and_parts (list_all is_msr_range n.msrs) (msrs_apart n.msrs) (passes_at keeps p.subjects s n (all_pass keeps (λ s. alone s.name) p.subjects lawful.rule_11) at) in
       record { ranges = both.0; apart = both.1 }
 
-  -- a granted MSR has a place in an MSR file
+  -- a granted MSR has a slot in an MSR file
   pub in_msr_file : (s : ℕ) (n : Subject) (index : ℕ) (write : Bool) → slice_get p.subjects s ≡ Some n → is_granted (msrs_of n) index write ≡ true → is_some (place_of index) ≡ true
   unfolding msrs_of
   in_msr_file s n index write at granted =

@@ -110,16 +110,16 @@ some_number xs h n low =
 
 -- the span of a number below the count
 pub record SpanOf (xs : List SpanPart) (n : ℕ) : Type 0 where
-  pub place : ℕ
+  pub index : ℕ
   pub span : SpanPart
-  pub here : slice_get xs place ≡ Some span
+  pub here : slice_get xs index ≡ Some span
   pub number : span.number ≡ n
   pub found : find (λ s. s.number == n) xs ≡ Some span
-  pub first : page_of_span xs n ≡ span.place / 4096
+  pub first : page_of_span xs n ≡ span.address / 4096
 
 pub span_of : (xs : List SpanPart) → AreSpans xs → (n : ℕ) → n < length xs → SpanOf xs n
 span_of xs h n low =
     let p = any_passing (λ s. s.number == n) xs (some_number xs h n low) in
     let is = eqb-true p.one.number n p.passes in
-    let found = found_by xs h p.place n p.one p.here is in
-    record { place = p.place; span = p.one; here = p.here; number = is; found = found; first = first_page_of xs n p.one found }
+    let found = found_by xs h p.index n p.one p.here is in
+    record { index = p.index; span = p.one; here = p.here; number = is; found = found; first = first_page_of xs n p.one found }

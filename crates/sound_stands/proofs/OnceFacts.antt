@@ -1,4 +1,4 @@
--- Each thing stands at one place among the things of a lawful policy.
+-- Each thing stands at one index among the things of a lawful policy.
 use Rattle.std.proofs.Common.{◌≡◌, ℕ, zero, suc, ◌<◌, List, [], ◌∷◌, ◌++◌, length, map, get_or, Option, Some, None, refl, sym, ap, subst, ◌∙◌, inl, inr, arith}
 use Rattle.std.specs.Prelude.{⊤, slice_get}
 use Rattle.std.specs.List.{flat_map}
@@ -17,17 +17,17 @@ use Rattle.policy_types.specs.declared.source.Source.{Source}
 use Rattle.muen_num.proofs.Members.{In, append_some, flat_some, map_in, map_some}
 use Rattle.sound_stands.proofs.ListFacts.{found_at, same_some}
 
--- ---- elements and places
+-- ---- elements and indexes
 
-in_place : {X : Type 0} (xs : List X) (n : ℕ) (x : X) → slice_get xs n ≡ Some x → In x xs
-in_place [] n x a = absurd (cc)
-in_place (y ∷ ys) zero x a = inl (same_some y x a)
-in_place (y ∷ ys) (suc n) x a = inr (in_place ys n x a)
+in_at : {X : Type 0} (xs : List X) (n : ℕ) (x : X) → slice_get xs n ≡ Some x → In x xs
+in_at [] n x a = absurd (cc)
+in_at (y ∷ ys) zero x a = inl (same_some y x a)
+in_at (y ∷ ys) (suc n) x a = inr (in_at ys n x a)
 
-place_of_one : {X : Type 0} (xs : List X) (x : X) → In x xs → (n : ℕ) × (slice_get xs n ≡ Some x)
-place_of_one [] x i = absurd i
-place_of_one (y ∷ ys) x (inl e) = (0, ap Some e)
-place_of_one (y ∷ ys) x (inr i) = let r = place_of_one ys x i in (suc r.0, r.1)
+index_of_one : {X : Type 0} (xs : List X) (x : X) → In x xs → (n : ℕ) × (slice_get xs n ≡ Some x)
+index_of_one [] x i = absurd i
+index_of_one (y ∷ ys) x (inl e) = (0, ap Some e)
+index_of_one (y ∷ ys) x (inr i) = let r = index_of_one ys x i in (suc r.0, r.1)
 
 -- ---- lists in which each element stands once
 
@@ -35,12 +35,12 @@ abbrev pub Once : {X : Type 0} → List X → Type 0
 Once [] = ⊤
 Once (x ∷ xs) = (In x xs → ⊥) × Once xs
 
--- then an element tells its place
+-- then an element tells its index
 pub once_at : {X : Type 0} (xs : List X) (x : X) (k l : ℕ) → Once xs → slice_get xs k ≡ Some x → slice_get xs l ≡ Some x → k ≡ l
 once_at [] x k l h a b = absurd (cc)
 once_at (y ∷ ys) x zero zero h a b = refl
-once_at (y ∷ ys) x zero (suc l) h a b = absurd (h.0 (subst (λ z. In z ys) (sym (same_some y x a)) (in_place ys l x b)))
-once_at (y ∷ ys) x (suc k) zero h a b = absurd (h.0 (subst (λ z. In z ys) (sym (same_some y x b)) (in_place ys k x a)))
+once_at (y ∷ ys) x zero (suc l) h a b = absurd (h.0 (subst (λ z. In z ys) (sym (same_some y x a)) (in_at ys l x b)))
+once_at (y ∷ ys) x (suc k) zero h a b = absurd (h.0 (subst (λ z. In z ys) (sym (same_some y x b)) (in_at ys k x a)))
 once_at (y ∷ ys) x (suc k) (suc l) h a b = ap suc (once_at ys x k l h.1 a b)
 
 -- names of which none is repeated
@@ -50,7 +50,7 @@ once_names (x ∷ xs) h = (apart, once_names xs (unique_parts (x ∷ []) xs h).1
   where
     apart : In x xs → ⊥
     apart i =
-        let r = place_of_one xs x i in
+        let r = index_of_one xs x i in
         let e : get_or xs r.0 [] ≡ x = get_or_from_slice_get xs r.0 x [] r.1 in
         let low : r.0 < length xs = slice_get_within xs r.0 x r.1 in
         let same : 0 ≡ suc r.0 = eqb-true 0 (suc r.0) (sym (same_name (x ∷ xs) 0 (suc r.0) h (omega arith) (omega (arith, low))) ∙ ap (bytes_eq x) e ∙ same_self x) in
@@ -138,7 +138,7 @@ provided_once p lawful subject (Some used) = by_component (component_by p (Some 
     by_component None e = tt
     by_component (Some c) e =
         let at = found_at (λ c. bytes_eq c.name used.used) p.components c e in
-        brought_once subject c (logical_unique p at.place c lawful.rule_1 at.here)
+        brought_once subject c (logical_unique p at.index c lawful.rule_1 at.here)
 
 -- ---- a device's memories
 
@@ -154,7 +154,7 @@ memories_whose d e x i j =
 
 memories_once : (p : Source) → IsLawful p → (d : Device) → In d p.devices → Once (map (λ m. device_memory d.name m.name) d.memory)
 memories_once p lawful d i =
-    let at = place_of_one p.devices d i in
+    let at = index_of_one p.devices d i in
     once_map (λ m. m.name) (λ m. device_memory d.name m.name) d.memory (λ x z e. cc (e)) (once_names (map (λ m. m.name) d.memory) (parts_unique p at.0 d lawful.rule_1 at.1).memory)
 
 -- ---- all things
@@ -186,6 +186,6 @@ things_once p lawful =
     (λ d e x i j. memories_whose d e x i j))
     (λ x i. let f = flat_some (λ d. map (λ m. device_memory d.name m.name) d.memory) p.devices x i in memories_kind f.one x f.part)).once
 
--- each thing stands at one place among the things of a policy
+-- each thing stands at one index among the things of a policy
 pub thing_once : (p : Source) → IsLawful p → (x : Thing) (k l : ℕ) → slice_get (things_of p) k ≡ Some x → slice_get (things_of p) l ≡ Some x → k ≡ l
 thing_once p lawful x k l a b = once_at (things_of p) x k l (things_once p lawful) a b

@@ -35,25 +35,25 @@ use Rattle.sound_stands.proofs.SpansOfThings.{thing_span}
 
 -- ---- tables
 
-in_page : (place pages at : ℕ) → place % 4096 ≡ 0 → place ≤ at → at + 8 ≤ place + 4096 * pages → at / 4096 < place / 4096 + pages
-in_page place pages at a b c = omega (arith, a, b, c)
+in_page : (address pages at : ℕ) → address % 4096 ≡ 0 → address ≤ at → at + 8 ≤ address + 4096 * pages → at / 4096 < address / 4096 + pages
+in_page address pages at a b c = omega (arith, a, b, c)
 
-above : (place at : ℕ) → place ≤ at → place / 4096 ≤ at / 4096
-above place at h = omega (arith, h)
+above : (address at : ℕ) → address ≤ at → address / 4096 ≤ at / 4096
+above address at h = omega (arith, h)
 
 -- what lies in a span of tables is on a page of tables
 pub entry_kept : (p : Source) (i : Image) → KeepsConditions i → (at : ℕ) → is_in_tables i at ≡ true → (ground_of p i).kept (at / 4096) ≡ true
 unfolding ground_of
 entry_kept p i keeps at h =
-    let f = any_passing (λ s. is_tables s && nat_le s.place at && nat_le (at + 8) (end_of s)) i.spans h in
+    let f = any_passing (λ s. is_tables s && nat_le s.address at && nat_le (at + 8) (end_of s)) i.spans h in
     let s = f.one in
-    let outer = and_parts (is_tables s && nat_le s.place at) (nat_le (at + 8) (end_of s)) f.passes in
-    let inner = and_parts (is_tables s) (nat_le s.place at) outer.0 in
+    let outer = and_parts (is_tables s && nat_le s.address at) (nat_le (at + 8) (end_of s)) f.passes in
+    let inner = and_parts (is_tables s) (nat_le s.address at) outer.0 in
     let kind = and_parts (is_kernel s.kind) (part_code s.tag.part == part_code Ept) inner.0 in
-    let low = leb-true s.place at inner.1 in
-    let each = all_at IsSpan i.spans f.place s keeps.spans.each f.here in
-    page_kept i.spans f.place s (at / 4096) f.here (and_from (is_kernel s.kind) _ kind.0 (or_left (part_code s.tag.part == part_code Ept) _ kind.1))
-    (record { low = above s.place at low; high = in_page s.place s.pages at each.aligned low (leb-true (at + 8) (end_of s) outer.1) })
+    let low = leb-true s.address at inner.1 in
+    let each = all_at IsSpan i.spans f.index s keeps.spans.each f.here in
+    page_kept i.spans f.index s (at / 4096) f.here (and_from (is_kernel s.kind) _ kind.0 (or_left (part_code s.tag.part == part_code Ept) _ kind.1))
+    (record { low = above s.address at low; high = in_page s.address s.pages at each.aligned low (leb-true (at + 8) (end_of s) outer.1) })
 
 -- a walk for a subject reads pages of tables alone
 pub tables_kept : (p : Source) (files : Held) (i : Image) → KeepsConditions i → IsSound p files i → (s : ℕ) (c : Control) (addr : ℕ) → slice_get (ground_of p i).setup.controls s ≡ Some c → addr < GUEST_END → All (λ at. (ground_of p i).kept (at / 4096) ≡ true) (places_read (ground_of p i).memory c.eptp addr)
@@ -77,7 +77,7 @@ bitmap_kept : (p : Source) (i : Image) → KeepsConditions i → (code pages n k
 unfolding ground_of
 bitmap_kept p i keeps code pages n k low is s l =
     let many = s.pages_there in
-    page_kept i.spans s.place s.span (page_of_span i.spans n + k) s.here (kept_by_code s.span code (kernel_kind i.spans code pages n keeps.spans s low) s.part is)
+    page_kept i.spans s.index s.span (page_of_span i.spans n + k) s.here (kept_by_code s.span code (kernel_kind i.spans code pages n keeps.spans s low) s.part is)
     (subst (λ m. HasPage (m + k) s.span) (sym s.first) (page_in s.span k (omega (arith, l, many))))
 
 at_first : (n : ℕ) → n + 0 ≡ n

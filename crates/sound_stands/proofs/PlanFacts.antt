@@ -51,12 +51,12 @@ no_frames p cpu (m ∷ ms) l h =
     rw (here, no_frames p cpu ms l both.1) refl
 
 -- nor a slot
-no_slot : (ms : List MajorFrame) (place : FrameAt) (tick : ℕ) → slot_in (map without ms) place tick ≡ None
-no_slot ms place tick =
-    ap (option_and_then (λ (m : List Frame). slice_get (flat_map (frame_slots place.major) m) (tick - place.start))) (slice_get-map without ms place.major)
-    ∙ by (slice_get ms place.major)
+no_slot : (ms : List MajorFrame) (frame : FrameAt) (tick : ℕ) → slot_in (map without ms) frame tick ≡ None
+no_slot ms frame tick =
+    ap (option_and_then (λ (m : List Frame). slice_get (flat_map (frame_slots frame.major) m) (tick - frame.start))) (slice_get-map without ms frame.major)
+    ∙ by (slice_get ms frame.major)
   where
-    by : (o : Option MajorFrame) → option_and_then (λ (m : List Frame). slice_get (flat_map (frame_slots place.major) m) (tick - place.start)) (option_map without o) ≡ None
+    by : (o : Option MajorFrame) → option_and_then (λ (m : List Frame). slice_get (flat_map (frame_slots frame.major) m) (tick - frame.start)) (option_map without o) ≡ None
     by None = refl
     by (Some m) = refl
 
@@ -73,10 +73,10 @@ any_first a b (x ∷ xs) h =
 
 module _ (p : Source) (lawful : IsLawful p) where
   -- a CPU that isn't there has no slot at any tick
-  pub no_slots : (cpu : ℕ) (place : FrameAt) (tick : ℕ) → p.processor.logical_cpus ≤ cpu → slot_in (frames_of p cpu) place tick ≡ None
+  pub no_slots : (cpu : ℕ) (frame : FrameAt) (tick : ℕ) → p.processor.logical_cpus ≤ cpu → slot_in (frames_of p cpu) frame tick ≡ None
   unfolding frames_of
-  no_slots cpu place tick l =
-      ap (λ frames. slot_in frames place tick) (no_frames p cpu p.scheduling.major_frames l (cpus_kept p lawful.rule_3).majors) ∙ no_slot p.scheduling.major_frames place tick
+  no_slots cpu frame tick l =
+      ap (λ frames. slot_in frames frame tick) (no_frames p cpu p.scheduling.major_frames l (cpus_kept p lawful.rule_3).majors) ∙ no_slot p.scheduling.major_frames frame tick
 
   -- the region that chooses frames is declared
   pub tau0_memory : (t : Tau0) → p.scheduling.tau0 ≡ Some t → list_any (λ r. bytes_eq r.name t.region) p.memory ≡ true

@@ -26,9 +26,9 @@ found_passes test (y ∷ ys) x h =
       | false ↦ λ _ is. found_passes test ys x is
     ] refl h
 
--- and has a place
-pub found_place : {X : Type 0} (test : X → Bool) (xs : List X) (x : X) → find test xs ≡ Some x → (k : ℕ) × (slice_get xs k ≡ Some x)
-found_place test xs x h = (position_or_len test xs, sym (find_at test xs) ∙ h)
+-- and has an index
+pub found_index : {X : Type 0} (test : X → Bool) (xs : List X) (x : X) → find test xs ≡ Some x → (k : ℕ) × (slice_get xs k ≡ Some x)
+found_index test xs x h = (position_or_len test xs, sym (find_at test xs) ∙ h)
 
 -- something is found just where something passes
 pub found_any : {X : Type 0} (test : X → Bool) (xs : List X) → is_some (find test xs) ≡ list_any test xs
@@ -39,7 +39,7 @@ found_any test (x ∷ xs) =
       | false ↦ found_any test xs
     ]
 
--- something passes where that of a place does
+-- something passes where that of an index does
 pub passes_any : {X : Type 0} (test : X → Bool) (xs : List X) (k : ℕ) (x : X) → slice_get xs k ≡ Some x → test x ≡ true → list_any test xs ≡ true
 passes_any test [] k x at h = absurd (cc)
 passes_any test (y ∷ ys) zero x at h = let same : y ≡ x = cc in ap (λ b. b || list_any test ys) (ap test same ∙ h)
@@ -52,21 +52,21 @@ passes_any test (y ∷ ys) (suc k) x at h =
 -- ---- by unique names
 
 module _ {X : Type 0} (f : X → List ℕ) (xs : List X) (names : repeated (map f xs) ≡ None) where
-  -- the name of what stands at a place
+  -- the name of what stands at an index
   name_of : (k : ℕ) (x : X) → slice_get xs k ≡ Some x → name_at (map f xs) k ≡ f x
   name_of k x at = get_or_from_slice_get (map f xs) k (f x) [] (slice_get-map f xs k ∙ ap (option_map f) at)
 
   within_names : (k : ℕ) (x : X) → slice_get xs k ≡ Some x → k < length (map f xs)
   within_names k x at = let here = slice_get_within xs k x at in let many = length-map xs f in omega (arith, here, many)
 
-  -- two with the same name stand at the same place
-  pub same_place : (j k : ℕ) (x y : X) → slice_get xs j ≡ Some x → slice_get xs k ≡ Some y → f x ≡ f y → j ≡ k
-  same_place j k x y at_j at_k same =
+  -- two with the same name stand at the same index
+  pub same_index : (j k : ℕ) (x y : X) → slice_get xs j ≡ Some x → slice_get xs k ≡ Some y → f x ≡ f y → j ≡ k
+  same_index j k x y at_j at_k same =
       sym (position_is (map f xs) j names (within_names j x at_j))
       ∙ ap (λ n. position_or_len (λ m. bytes_eq m n) (map f xs)) (name_of j x at_j ∙ same ∙ sym (name_of k y at_k))
       ∙ position_is (map f xs) k names (within_names k y at_k)
 
-  -- what stands at a place is found by its name
+  -- what stands at an index is found by its name
   pub found_by_name : (k : ℕ) (x : X) → slice_get xs k ≡ Some x → find (λ y. bytes_eq (f y) (f x)) xs ≡ Some x
   found_by_name k x at =
       ap (λ n. find (λ y. bytes_eq (f y) n) xs) (sym (name_of k x at)) ∙ found_at_place f xs k names (slice_get_within xs k x at) ∙ at
@@ -76,7 +76,7 @@ module _ {X : Type 0} (f : X → List ℕ) (xs : List X) (names : repeated (map 
 module _ (p : Source) (lawful : IsLawful p) where
   -- two subjects with the same name are the same
   pub names_differ : (s t : ℕ) (n m : Subject) → slice_get p.subjects s ≡ Some n → slice_get p.subjects t ≡ Some m → n.name ≡ m.name → s ≡ t
-  names_differ s t n m at_s at_t same = same_place (λ (x : Subject). x.name) p.subjects (unique p lawful.rule_1).subjects s t n m at_s at_t same
+  names_differ s t n m at_s at_t same = same_index (λ (x : Subject). x.name) p.subjects (unique p lawful.rule_1).subjects s t n m at_s at_t same
 
   -- a subject is found by its name
   pub found_again : (s : ℕ) (n : Subject) → slice_get p.subjects s ≡ Some n → subject_named p n.name ≡ Some n

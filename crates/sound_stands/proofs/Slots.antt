@@ -38,8 +38,8 @@ unfolding bench_of
 same_cpus p files i sound = ap (λ b. b.cpus) sound.plan_and_events.bench
 
 -- a CPU that is there has the slots of the policy
-pub slots : (p : Source) (files : Held) (i : Image) → IsSound p files i → (cpu : ℕ) (place : FrameAt) (tick : ℕ) → cpu < p.processor.logical_cpus → slot_in (frames_in i.plan cpu) place tick ≡ slot_in (frames_of p cpu) place tick
-slots p files i sound cpu place tick low = ap (λ frames. slot_in frames place tick) (sound.plan_and_events.plan.frames cpu low)
+pub slots : (p : Source) (files : Held) (i : Image) → IsSound p files i → (cpu : ℕ) (frame : FrameAt) (tick : ℕ) → cpu < p.processor.logical_cpus → slot_in (frames_in i.plan cpu) frame tick ≡ slot_in (frames_of p cpu) frame tick
+slots p files i sound cpu frame tick low = ap (λ frames. slot_in frames frame tick) (sound.plan_and_events.plan.frames cpu low)
 
 -- ---- the groups of slots
 
@@ -71,16 +71,16 @@ one_cpu None a b h k = absurd (cc (h))
 one_cpu (Some g) a b h k = sym (eqb-true g.cpu a h) ∙ eqb-true g.cpu b k
 
 -- who is in the group of a slot is on the CPU that has the slot
-pub planned : (p : Source) (files : Held) (i : Image) → KeepsConditions i → IsSound p files i → (cpu : ℕ) (place : FrameAt) (tick : ℕ) (slot : Slot) (s : ℕ) (q : SubjectPart)
-    → slot_in (frames_of p cpu) place tick ≡ Some slot → slice_get i.subjects s ≡ Some q → q.group ≡ slot.group → q.cpu ≡ cpu
-planned p files i keeps sound cpu place tick slot s q is at same =
+pub planned : (p : Source) (files : Held) (i : Image) → KeepsConditions i → IsSound p files i → (cpu : ℕ) (frame : FrameAt) (tick : ℕ) (slot : Slot) (s : ℕ) (q : SubjectPart)
+    → slot_in (frames_of p cpu) frame tick ≡ Some slot → slice_get i.subjects s ≡ Some q → q.group ≡ slot.group → q.cpu ≡ cpu
+planned p files i keeps sound cpu frame tick slot s q is at same =
     elim (cases_lt cpu p.processor.logical_cpus) [
       | inl low ↦
           let plan = sound.plan_and_events.plan in
-          let on = group_of_slot i.plan cpu place tick slot plan.valid (subst (λ n. cpu < n) (sym plan.cpus) low) (slots p files i sound cpu place tick low ∙ is) in
+          let on = group_of_slot i.plan cpu frame tick slot plan.valid (subst (λ n. cpu < n) (sym plan.cpus) low) (slots p files i sound cpu frame tick low ∙ is) in
           let mine = (subject_kept i keeps s q at).1.in_group in
           one_cpu (slice_get i.plan.groups slot.group) q.cpu cpu (subst (λ n. is_group_on i.plan.groups q.cpu n ≡ true) same mine) on
-      | inr high ↦ absurd (let none = no_slots p sound.lawful cpu place tick high in cc (none, is))
+      | inr high ↦ absurd (let none = no_slots p sound.lawful cpu frame tick high in cc (none, is))
     ]
 
 -- ---- the ticks of major frames

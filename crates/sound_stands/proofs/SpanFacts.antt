@@ -19,22 +19,22 @@ use Rattle.sound_stands.proofs.ListFacts.{all_at, any_at, any_passing, found_onl
 
 -- page k is one of the span
 pub record HasPage (k : ℕ) (s : SpanPart) : Type 0 where
-  pub low : s.place / 4096 ≤ k
-  pub high : k < s.place / 4096 + s.pages
+  pub low : s.address / 4096 ≤ k
+  pub high : k < s.address / 4096 + s.pages
 
 pub has_page : (k : ℕ) (s : SpanPart) → is_page_of k s ≡ true → HasPage k s
 has_page k s h =
-    let b = and_parts (nat_le (s.place / 4096) k) (nat_lt k (s.place / 4096 + s.pages)) h in
+    let b = and_parts (nat_le (s.address / 4096) k) (nat_lt k (s.address / 4096 + s.pages)) h in
     record { low = leb-true _ _ b.0; high = ltb-true _ _ b.1 }
 
 pub is_page : (k : ℕ) (s : SpanPart) → HasPage k s → is_page_of k s ≡ true
-is_page k s h = and_from (nat_le (s.place / 4096) k) (nat_lt k (s.place / 4096 + s.pages)) (le-leb _ _ h.low) (lt-ltb _ _ h.high)
+is_page k s h = and_from (nat_le (s.address / 4096) k) (nat_lt k (s.address / 4096 + s.pages)) (le-leb _ _ h.low) (lt-ltb _ _ h.high)
 
 -- page j of a span
-pub page_in : (s : SpanPart) (j : ℕ) → j < s.pages → HasPage (s.place / 4096 + j) s
+pub page_in : (s : SpanPart) (j : ℕ) → j < s.pages → HasPage (s.address / 4096 + j) s
 page_in s j h = record { low = omega arith; high = omega (arith, h) }
 
-pub first_page_in : (s : SpanPart) → 0 < s.pages → HasPage (s.place / 4096) s
+pub first_page_in : (s : SpanPart) → 0 < s.pages → HasPage (s.address / 4096) s
 first_page_in s h = record { low = omega arith; high = omega (arith, h) }
 
 clash : (p n q k : ℕ) → p % 4096 ≡ 0 → p + 4096 * n ≤ q → k < p / 4096 + n → q / 4096 ≤ k → ⊥
@@ -43,7 +43,7 @@ clash p n q k a b c d = omega (arith, a, b, c, d)
 ends_before : (xs : List SpanPart) → AreSpans xs → (a b : ℕ) (s t : SpanPart) (k : ℕ) → slice_get xs a ≡ Some s → slice_get xs b ≡ Some t → HasPage k s → HasPage k t → a < b → ⊥
 ends_before xs h a b s t k at to p q less =
     let first = all_at IsSpan xs a s h.each at in
-    clash s.place s.pages t.place k first.aligned (pairs_at (λ u v. end_of u ≤ v.place) xs a b s t h.ascend less at to) p.high q.low
+    clash s.address s.pages t.address k first.aligned (pairs_at (λ u v. end_of u ≤ v.address) xs a b s t h.ascend less at to) p.high q.low
 
 -- no two spans have a page in common
 pub page_once : (xs : List SpanPart) → AreSpans xs → (a b : ℕ) (s t : SpanPart) (k : ℕ) → slice_get xs a ≡ Some s → slice_get xs b ≡ Some t → HasPage k s → HasPage k t → a ≡ b
@@ -81,21 +81,21 @@ pub found_by : (xs : List SpanPart) → AreSpans xs → (a n : ℕ) (s : SpanPar
 found_by xs h a n s at e = subst (λ k. find (λ u. u.number == k) xs ≡ Some s) e (number_found xs h a s at)
 
 -- its first page
-pub first_page_of : (xs : List SpanPart) (n : ℕ) (s : SpanPart) → find (λ e. e.number == n) xs ≡ Some s → page_of_span xs n ≡ s.place / 4096
-first_page_of xs n s e = ap (λ o. option_map_or (λ (u : SpanPart). u.place / 4096) o 0) e
+pub first_page_of : (xs : List SpanPart) (n : ℕ) (s : SpanPart) → find (λ e. e.number == n) xs ≡ Some s → page_of_span xs n ≡ s.address / 4096
+first_page_of xs n s e = ap (λ o. option_map_or (λ (u : SpanPart). u.address / 4096) o 0) e
 
 -- ---- spans of the kernel
 
 -- a span that has a part of a subject, with its number and so many pages
 pub record KernelSpan (xs : List SpanPart) (code pages n : ℕ) : Type 0 where
-  pub place : ℕ
+  pub index : ℕ
   pub span : SpanPart
-  pub here : slice_get xs place ≡ Some span
+  pub here : slice_get xs index ≡ Some span
   pub number : span.number ≡ n
   pub part : part_code span.tag.part ≡ code
   pub pages_there : pages ≤ span.pages
   pub found : find (λ e. e.number == n) xs ≡ Some span
-  pub first : page_of_span xs n ≡ span.place / 4096
+  pub first : page_of_span xs n ≡ span.address / 4096
 
 pub kernel_span : (xs : List SpanPart) (code pages n : ℕ) → AreSpans xs → is_kernel_span xs code pages n ≡ true → KernelSpan xs code pages n
 unfolding is_kernel_span
@@ -103,9 +103,9 @@ kernel_span xs code pages n h e =
     let p = any_passing (λ s. (s.number == n) && (part_code s.tag.part == code) && nat_le pages s.pages) xs e in
     let outer = and_parts ((p.one.number == n) && (part_code p.one.tag.part == code)) (nat_le pages p.one.pages) p.passes in
     let inner = and_parts (p.one.number == n) (part_code p.one.tag.part == code) outer.0 in
-    let found = found_by xs h p.place n p.one p.here (eqb-true p.one.number n inner.0) in
+    let found = found_by xs h p.index n p.one p.here (eqb-true p.one.number n inner.0) in
     record {
-      place = p.place;
+      index = p.index;
       span = p.one;
       here = p.here;
       number = eqb-true p.one.number n inner.0;
@@ -125,7 +125,7 @@ kind_by_part Device code h low = absurd (let e = eqb-true code 1 h in omega (ari
 
 pub kernel_kind : (xs : List SpanPart) (code pages n : ℕ) → AreSpans xs → (k : KernelSpan xs code pages n) → 2 ≤ code → is_kernel k.span.kind ≡ true
 kernel_kind xs code pages n h k low =
-    let each = all_at IsSpan xs k.place k.span h.each k.here in
+    let each = all_at IsSpan xs k.index k.span h.each k.here in
     let part = k.part in
     kind_by_part k.span.kind (part_code k.span.tag.part) each.part (omega (arith, part, low))
 

@@ -64,7 +64,7 @@ pub record ThingSpan (p : Source) (files : Held) (i : Image) (x : Thing) : Type 
   pub is : IsSpanOf p files x span
   pub not_kernel : is_kernel span.0.kind ≡ false
   pub pages : (ground_of p i).pages x ≡ span.0.pages
-  pub first : (ground_of p i).first x ≡ span.0.place / 4096
+  pub first : (ground_of p i).first x ≡ span.0.address / 4096
 
 -- a thing with its span
 abbrev pub Listed : Type 0
@@ -84,12 +84,12 @@ found_front test (y ∷ xs) ys x h = by_test (test y) (found_front test xs ys x)
     by_test true later h = h
     by_test false later h = later h
 
-place_by : (p : Source) (i : Image) (x : Thing) (e : Listed) → find (λ (e : Listed). same_thing e.0 x) (listed p i) ≡ Some e → place_of p i x ≡ e.1.0.place
+address_by : (p : Source) (i : Image) (x : Thing) (e : Listed) → find (λ (e : Listed). same_thing e.0 x) (listed p i) ≡ Some e → place_of p i x ≡ e.1.0.address
 unfolding place_of
-place_by p i x e h =
+address_by p i x e h =
     ap (λ o. option_map_or (λ (e : Thing × ℕ). e.1) o 0)
-    (found_front (λ (e : Thing × ℕ). same_thing e.0 x) (zip (things_of p) (map (λ (e : Span). e.0.place) (thing_spans i))) _ (e.0, e.1.0.place)
-    (found_changed (λ y. same_thing y x) (λ (e : Span). e.0.place) (things_of p) (thing_spans i) ∙ ap (option_map (λ (e : Listed). (e.0, e.1.0.place))) h))
+    (found_front (λ (e : Thing × ℕ). same_thing e.0 x) (zip (things_of p) (map (λ (e : Span). e.0.address) (thing_spans i))) _ (e.0, e.1.0.address)
+    (found_changed (λ y. same_thing y x) (λ (e : Span). e.0.address) (things_of p) (thing_spans i) ∙ ap (option_map (λ (e : Listed). (e.0, e.1.0.address))) h))
 
 not_true : (b : Bool) → not b ≡ true → b ≡ false
 not_true true h = absurd (false≢true h)
@@ -99,21 +99,21 @@ pub span_of_listed : (p : Source) (files : Held) (i : Image) → KeepsConditions
 unfolding ground_of by_number
 span_of_listed p files i keeps sound x e h =
     let f = found_at (λ (e : Listed). same_thing e.0 x) (listed p i) e h in
-    let both = zipped_both (things_of p) (thing_spans i) f.place e f.here in
+    let both = zipped_both (things_of p) (thing_spans i) f.index e f.here in
     let same : e.0 ≡ x = same_things e.0 x f.passes in
-    let at : slice_get (things_of p) f.place ≡ Some x = both.0 ∙ ap Some same in
-    let kept = filtered_at (λ (e : Span). not (is_kernel e.0.kind)) (by_number i) f.place e.1 both.1 in
+    let at : slice_get (things_of p) f.index ≡ Some x = both.0 ∙ ap Some same in
+    let kept = filtered_at (λ (e : Span). not (is_kernel e.0.kind)) (by_number i) f.index e.1 both.1 in
     let from = kept_at (span_at i) (numbers_below (length i.spans)) kept.0 e.1 kept.1 in
     record {
-      number = f.place;
+      number = f.index;
       listed = at;
       span = e.1;
       numbered = both.1;
       within = (span_by i keeps from.0 e.1 from.1).0;
-      is = both_at (IsSpanOf p files) (things_of p) (thing_spans i) f.place x e.1 sound.contents at both.1;
+      is = both_at (IsSpanOf p files) (things_of p) (thing_spans i) f.index x e.1 sound.contents at both.1;
       not_kernel = not_true (is_kernel e.1.0.kind) kept.2;
       pages = pages_by p i x ∙ ap (λ o. option_map_or (λ (e : Thing × ℕ). e.1) (option_map (λ (e : Listed). (e.0, e.1.0.pages)) o) 0) h;
-      first = ap (λ n. n / 4096) (place_by p i x e h);
+      first = ap (λ n. n / 4096) (address_by p i x e h);
     }
 
 -- what has pages is a thing of the policy
@@ -129,8 +129,8 @@ thing_span p files i keeps sound x j low = by_found (find (λ (e : Listed). same
 pub listed_span : (p : Source) (files : Held) (i : Image) → KeepsConditions i → IsSound p files i → (x : Thing) → list_any (λ y. same_thing y x) (things_of p) ≡ true → ThingSpan p files i x
 listed_span p files i keeps sound x h =
     let a = any_passing (λ y. same_thing y x) (things_of p) h in
-    let b = other_at (IsSpanOf p files) (things_of p) (thing_spans i) a.place a.one sound.contents a.here in
-    let f = found_some (λ (e : Listed). same_thing e.0 x) (listed p i) a.place (a.one, b.0) (zipped_at (things_of p) (thing_spans i) a.place a.one b.0 a.here b.1) a.passes in
+    let b = other_at (IsSpanOf p files) (things_of p) (thing_spans i) a.index a.one sound.contents a.here in
+    let f = found_some (λ (e : Listed). same_thing e.0 x) (listed p i) a.index (a.one, b.0) (zipped_at (things_of p) (thing_spans i) a.index a.one b.0 a.here b.1) a.passes in
     span_of_listed p files i keeps sound x f.0 f.1
 
 -- its pages are as many as its bytes fill

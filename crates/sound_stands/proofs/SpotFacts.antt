@@ -30,7 +30,7 @@ pub thing_spot : (p : Source) (files : Held) (i : Image) → KeepsConditions i �
 thing_spot p files i keeps sound x j k at =
     let t = thing_span p files i keeps sound x j at.0 in
     let low : j < t.span.0.pages = subst (λ n. j < n) t.pages at.0 in
-    let is : t.span.0.place / 4096 + j ≡ k = ap (λ n. n + j) (sym t.first) ∙ at.1 in
+    let is : t.span.0.address / 4096 + j ≡ k = ap (λ n. n + j) (sym t.first) ∙ at.1 in
     record { span = t; page = subst (λ n. HasPage n t.span.0) is (page_in t.span.0 j low); is = at.1 }
 
 -- page k is the first one of a span that the kernel has for a subject, of this code and number
@@ -39,7 +39,7 @@ pub record KernelAt (i : Image) (code n k : ℕ) : Type 0 where
   pub page : HasPage k span.span
   pub kind : is_kernel span.span.kind ≡ true
 
-kernel_spot : (i : Image) → KeepsConditions i → (code n : ℕ) → 2 ≤ code → (s : KernelSpan i.spans code 1 n) → (k : ℕ) → s.span.place / 4096 ≡ k → KernelAt i code n k
+kernel_spot : (i : Image) → KeepsConditions i → (code n : ℕ) → 2 ≤ code → (s : KernelSpan i.spans code 1 n) → (k : ℕ) → s.span.address / 4096 ≡ k → KernelAt i code n k
 kernel_spot i keeps code n low s k is =
     let some = s.pages_there in
     record { span = s; page = subst (λ m. HasPage m s.span) is (first_page_in s.span (omega (arith, some))); kind = kernel_kind i.spans code 1 n keeps.spans s low }
@@ -66,7 +66,7 @@ area_spot p i keeps s k at =
 
 one_thing : (p : Source) (files : Held) (i : Image) → KeepsConditions i → (x y : Thing) (j l k : ℕ) → ThingAt p files i x j k → ThingAt p files i y l k → x ≡ y
 one_thing p files i keeps x y j l k a b =
-    let e = same_span i.spans keeps.spans a.span.within.place b.span.within.place a.span.span.0 b.span.span.0 k a.span.within.span b.span.within.span a.page b.page in
+    let e = same_span i.spans keeps.spans a.span.within.index b.span.within.index a.span.span.0 b.span.span.0 k a.span.within.span b.span.within.span a.page b.page in
     thing_by x y (sym a.span.is.tag ∙ ap (λ s. s.tag) e ∙ b.span.is.tag) (sym a.span.is.kind ∙ ap (λ s. s.kind) e ∙ b.span.is.kind)
 
 one_page : (f j l k : ℕ) → f + j ≡ k → f + l ≡ k → j ≡ l
@@ -80,12 +80,12 @@ same_things_page p files i keeps x y j l k a b =
 
 not_both : (p : Source) (files : Held) (i : Image) → KeepsConditions i → (x : Thing) (j code n k : ℕ) → ThingAt p files i x j k → KernelAt i code n k → ⊥
 not_both p files i keeps x j code n k a b =
-    let e = same_span i.spans keeps.spans a.span.within.place b.span.place a.span.span.0 b.span.span k a.span.within.span b.span.here a.page b.page in
+    let e = same_span i.spans keeps.spans a.span.within.index b.span.index a.span.span.0 b.span.span k a.span.within.span b.span.here a.page b.page in
     true≢false (sym b.kind ∙ (ap (λ s. is_kernel s.kind) (sym e) ∙ a.span.not_kernel))
 
 one_kernel : (i : Image) → KeepsConditions i → (code n code' m k : ℕ) → KernelAt i code n k → KernelAt i code' m k → (code ≡ code') × (n ≡ m)
 one_kernel i keeps code n code' m k a b =
-    let e = same_span i.spans keeps.spans a.span.place b.span.place a.span.span b.span.span k a.span.here b.span.here a.page b.page in
+    let e = same_span i.spans keeps.spans a.span.index b.span.index a.span.span b.span.span k a.span.here b.span.here a.page b.page in
     (sym a.span.part ∙ ap (λ s. part_code s.tag.part) e ∙ b.span.part, sym a.span.number ∙ ap (λ s. s.number) e ∙ b.span.number)
 
 -- the pages of two different spots differ
@@ -133,12 +133,12 @@ pub aside : (p : Source) (files : Held) (i : Image) → KeepsConditions i → Is
 unfolding ground_of
 aside p files i keeps sound (thing_at x l) j at =
     let t = thing_spot p files i keeps sound x l j at in
-    page_not_kept i.spans keeps.spans t.span.within.place t.span.span.0 j t.span.within.span (and_left (is_kernel t.span.span.0.kind) _ t.span.not_kernel) t.page
+    page_not_kept i.spans keeps.spans t.span.within.index t.span.span.0 j t.span.within.span (and_left (is_kernel t.span.span.0.kind) _ t.span.not_kernel) t.page
 aside p files i keeps sound (state_at s) j at =
     let o = state_spot p i keeps s j at in
     let k = o.at.span in
-    page_not_kept i.spans keeps.spans k.place k.span j k.here (own_not_kept k.span 2 k.part (λ e. omega (arith, e)) (λ e. omega (arith, e)) (λ e. omega (arith, e))) o.at.page
+    page_not_kept i.spans keeps.spans k.index k.span j k.here (own_not_kept k.span 2 k.part (λ e. omega (arith, e)) (λ e. omega (arith, e)) (λ e. omega (arith, e))) o.at.page
 aside p files i keeps sound (area_at s) j at =
     let o = area_spot p i keeps s j at in
     let k = o.at.span in
-    page_not_kept i.spans keeps.spans k.place k.span j k.here (own_not_kept k.span 6 k.part (λ e. omega (arith, e)) (λ e. omega (arith, e)) (λ e. omega (arith, e))) o.at.page
+    page_not_kept i.spans keeps.spans k.index k.span j k.here (own_not_kept k.span 6 k.part (λ e. omega (arith, e)) (λ e. omega (arith, e)) (λ e. omega (arith, e))) o.at.page

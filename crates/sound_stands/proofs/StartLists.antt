@@ -30,7 +30,7 @@ counted_at n [] k x at = absurd (cc)
 counted_at n (y ∷ ys) zero x at = let e : y ≡ x = cc in let m : n ≡ n + 0 = omega arith in ap (λ z. Some (n, z)) e ∙ ap (λ i. Some (i, x)) m
 counted_at n (y ∷ ys) (suc k) x at = let m : n + 1 + k ≡ n + suc k = omega arith in counted_at (n + 1) ys k x at ∙ ap (λ i. Some (i, x)) m
 
--- an element stands with its place
+-- an element stands with its index
 pub numbered_at : {X : Type 0} (xs : List X) (k : ℕ) (x : X) → slice_get xs k ≡ Some x → slice_get (enumerate_from 0 xs) k ≡ Some (k, x)
 numbered_at xs k x at = let m : 0 + k ≡ k = omega arith in counted_at 0 xs k x at ∙ ap (λ i. Some (i, x)) m
 

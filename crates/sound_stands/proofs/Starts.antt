@@ -166,5 +166,5 @@ module _ (p : Source) (files : HeldFiles) (i : Image) (keeps : KeepsConditions i
     ports = same_inputs;
     many_ports = zeros_long (LAST_PORT + 1);
     small_ports = zeros_small (LAST_PORT + 1);
-    place = refl;
+    frame = refl;
   }

@@ -46,7 +46,7 @@ use Rattle.policy_types.specs.declared.source.Required.{Required}
 use Rattle.policy_types.specs.declared.source.Source.{Source}
 use Rattle.policy_types.specs.declared.source.Subject.{Subject}
 use Rattle.sound_stands.proofs.Each.{each_append, each_flat, each_some as each_made, if_some}
-use Rattle.sound_stands.proofs.PolicyFacts.{found_again, found_any, found_by_name, found_passes, found_place, passes_any}
+use Rattle.sound_stands.proofs.PolicyFacts.{found_again, found_any, found_by_name, found_index, found_passes, passes_any}
 use Rattle.sound_stands.proofs.ThingFacts.{channel_is_thing, channel_long, device_is_thing, device_long, provided_is_thing, provided_long, region_is_thing, region_long}
 
 -- ---- what holds of each element
@@ -145,8 +145,8 @@ module _ (p : Source) where
         | None ↦ λ _ k. absurd (cc)
         | Some x ↦ λ is k.
             let same : window m.virtual_address x.size m.rights (device_memory d.name x.name) ≡ w = cc in
-            let device = found_place (λ d. bytes_eq d.name name) p.devices d found in
-            let memory = found_place (λ x. bytes_eq x.name m.memory) d.memory x is in
+            let device = found_index (λ d. bytes_eq d.name name) p.devices d found in
+            let memory = found_index (λ x. bytes_eq x.name m.memory) d.memory x is in
             subst (IsOnThing p) same (record {
               declared = device_is_thing p device.0 d memory.0 x device.1 memory.1;
               bytes = λ files. device_long p files d.name x.name d x (device_again name d found) (memory_again m.memory d.memory x is);
@@ -177,9 +177,9 @@ module _ (p : Source) where
       by None k = absurd (cc)
       by (Some e) k = on_channel e.physical x.virtual_address x.role w k
 
-  component_place : (used : Option ComponentUse) (c : Component) → component_by p used ≡ Some c → (k : ℕ) × (slice_get p.components k ≡ Some c)
-  component_place None c h = absurd (cc)
-  component_place (Some used) c h = found_place (λ c. bytes_eq c.name used.used) p.components c h
+  component_index : (used : Option ComponentUse) (c : Component) → component_by p used ≡ Some c → (k : ℕ) × (slice_get p.components k ≡ Some c)
+  component_index None c h = absurd (cc)
+  component_index (Some used) c h = found_index (λ c. bytes_eq c.name used.used) p.components c h
 
 provided_names : (c : Component) → repeated (logical_names c) ≡ None → repeated (map (λ x. x.logical) c.provides) ≡ None
 provided_names c h =
@@ -188,7 +188,7 @@ provided_names c h =
     let channels = map (λ x. x.logical) c.channels in
     (unique_parts provides memory (unique_parts (provides ++ memory) channels h).0).0
 
--- where none offends after those before it, one at a place doesn't after some
+-- where none offends after those before it, one at an index doesn't after some
 none_after : {X : Type 0} (at : List X → X → Option Offence) (before xs : List X) (k : ℕ) (x : X) → first_after at before xs ≡ None → slice_get xs k ≡ Some x → (front : List X) × (at front x ≡ None)
 none_after at before [] k x h e = absurd (cc)
 none_after at before (y ∷ ys) zero x h e = let same : y ≡ x = cc in (before, ap (at before) (sym same) ∙ (none_both (at before y) (first_after at (before ++ y ∷ []) ys) h).0)
@@ -198,8 +198,8 @@ module _ (p : Source) (lawful : IsLawful p) (s : ℕ) (n : Subject) (at : slice_
   -- a window on a region that a component brings along
   on_provided : (c : Component) (j : ℕ) (x : Provided) → component_by p n.component ≡ Some c → slice_get c.provides j ≡ Some x → IsOnThing p (window x.virtual_address x.size x.rights (provided n.name x.logical))
   on_provided c j x used in_it =
-      let place = component_place p n.component c used in
-      let names = provided_names c (logical_unique p place.0 c lawful.rule_1 place.1) in
+      let index = component_index p n.component c used in
+      let names = provided_names c (logical_unique p index.0 c lawful.rule_1 index.1) in
       record {
         declared = provided_is_thing p s n c j x at used in_it;
         bytes = λ files. provided_long p files n.name x.logical n c x (found_again p lawful s n at) used (found_by_name (λ (y : Provided). y.logical) c.provides names j x in_it);
@@ -216,16 +216,16 @@ module _ (p : Source) (lawful : IsLawful p) (s : ℕ) (n : Subject) (at : slice_
       as (λ o. find (λ s. bytes_eq s.name m.subject) p.subjects ≡ o → is_on (option_map (λ (s : Subject). s.cpu) o) n.cpu ≡ true → IsOnState p s n (monitor_window m)) [
         | None ↦ λ _ k. absurd (cc)
         | Some t ↦ λ is k.
-            let place = found_place (λ s. bytes_eq s.name m.subject) p.subjects t is in
+            let index = found_index (λ s. bytes_eq s.name m.subject) p.subjects t is in
             let named : t.name ≡ m.subject = (bytes_eq-Decides t.name m.subject).0 (found_passes (λ s. bytes_eq s.name m.subject) p.subjects t is) in
             record {
-              number = place.0;
+              number = index.0;
               subject = t;
-              at = place.1;
+              at = index.1;
               page = ap state named;
               cpu = eqb-true t.cpu n.cpu k;
               other = λ e.
-                  let both_there : Some t ≡ Some n = sym place.1 ∙ ap (slice_get p.subjects) e ∙ at in
+                  let both_there : Some t ≡ Some n = sym index.1 ∙ ap (slice_get p.subjects) e ∙ at in
                   let itself : t ≡ n = cc in
                   let name : bytes_eq m.subject n.name ≡ true = ap (λ x. bytes_eq x n.name) (sym named ∙ ap (λ (x : Subject). x.name) itself) ∙ same_self n.name in
                   true≢false (sym both.0 ∙ ap not name);
@@ -335,8 +335,8 @@ reached windows kind addr x offset h =
           elim (allows w.rights kind) as (λ b. cond b (byte w.thing (addr - w.guest)) (violation w.rights) ≡ byte x offset → IsReached windows addr x offset) [
             | true ↦ λ e.
                 let thing : w.thing ≡ x = cc in
-                let place : addr - w.guest ≡ offset = cc in
-                record { by = w; found = is; thing = thing; start = place }
+                let start : addr - w.guest ≡ offset = cc in
+                record { by = w; found = is; thing = thing; start = start }
             | false ↦ λ e. absurd (cc)
           ] k
     ] refl h
@@ -365,7 +365,7 @@ pub sees : (p : Source) → IsLawful p → (s : ℕ) (n : Subject) (kind : Acces
 sees p lawful s n kind addr x offset at h =
     let r = reached (windows_of p n) kind addr x offset h in
     let w = r.by in
-    let place = found_place (λ w. holds w addr) (windows_of p n) w r.found in
+    let index = found_index (λ w. holds w addr) (windows_of p n) w r.found in
     let ends = and_parts (nat_le w.guest addr) (nat_lt addr (w.guest + w.size)) (found_passes (λ w. holds w addr) (windows_of p n) w r.found) in
     let from : w.guest ≤ addr = leb-true w.guest addr ends.0 in
     let below : addr < w.guest + w.size = ltb-true addr (w.guest + w.size) ends.1 in
@@ -375,6 +375,6 @@ sees p lawful s n kind addr x offset at h =
     record {
       there = subst (λ x. IsByteOf p x offset ⊎ IsWatched p s n x offset) r.thing
           (byte_of p s n addr offset w inside (each_found (IsOn p s n) (λ w. holds w addr) (windows_of p n) w (each_window p lawful s n at) r.found));
-      shown = passes_any (λ w. same_thing w.thing x) (windows_of p n) place.0 w place.1 (ap (same_thing w.thing) (sym r.thing) ∙ same_itself w.thing);
+      shown = passes_any (λ w. same_thing w.thing x) (windows_of p n) index.0 w index.1 (ap (same_thing w.thing) (sym r.thing) ∙ same_itself w.thing);
       aligned = omega (arith, from, is, whole);
     }

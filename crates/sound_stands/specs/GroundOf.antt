@@ -24,7 +24,7 @@ is_kept s = is_kernel s.kind && ((part_code s.tag.part == part_code Ept) || ((pa
 
 -- a page is one of the span
 abbrev pub is_page_of : ℕ → SpanPart → Bool
-is_page_of page s = nat_le (s.place / PAGE) page && nat_lt page (s.place / PAGE + s.pages)
+is_page_of page s = nat_le (s.address / PAGE) page && nat_lt page (s.address / PAGE + s.pages)
 
 unfoldable pub ground_of : Source → Image → Ground
 ground_of p i = record {

@@ -24,57 +24,57 @@ use Rattle.stands_for.specs.Held.{IsByte, IsWord, FitsFile, AreDistinct, indices
 
 -- where an MSR is in the file
 abbrev StandsAt : ℕ → ℕ → Type 0
-StandsAt index place =
-    ((index ≤ LOW_MSR_LAST) × (place ≡ index))
-    ⊎ ((HIGH_MSR_FIRST ≤ index) × (index ≤ HIGH_MSR_LAST) × (place + HIGH_MSR_FIRST ≡ LOW_MSR_LAST + 1 + index))
+StandsAt index slot =
+    ((index ≤ LOW_MSR_LAST) × (slot ≡ index))
+    ⊎ ((HIGH_MSR_FIRST ≤ index) × (index ≤ HIGH_MSR_LAST) × (slot + HIGH_MSR_FIRST ≡ LOW_MSR_LAST + 1 + index))
 
-place_tells : (index place : ℕ) → place_of index ≡ Some place → StandsAt index place
-place_tells index place e = grind (arith, nat_tests)
+slot_tells : (index slot : ℕ) → place_of index ≡ Some slot → StandsAt index slot
+slot_tells index slot e = grind (arith, nat_tests)
 
-below_most : (index place : ℕ) → StandsAt index place → place < most
-below_most index place (inl h) = omega (arith, h.0, h.1)
-below_most index place (inr h) = omega (arith, h.0, h.1, h.2)
+below_most : (index slot : ℕ) → StandsAt index slot → slot < most
+below_most index slot (inl h) = omega (arith, h.0, h.1)
+below_most index slot (inr h) = omega (arith, h.0, h.1, h.2)
 
-one_index : (i j place : ℕ) → StandsAt i place → StandsAt j place → i ≡ j
-one_index i j place (inl h) (inl g) = omega (arith, h.1, g.1)
-one_index i j place (inl h) (inr g) = absurd (omega (arith, h.0, h.1, g.0, g.2))
-one_index i j place (inr h) (inl g) = absurd (omega (arith, h.0, h.2, g.0, g.1))
-one_index i j place (inr h) (inr g) = omega (arith, h.0, h.2, g.0, g.2)
+one_index : (i j slot : ℕ) → StandsAt i slot → StandsAt j slot → i ≡ j
+one_index i j slot (inl h) (inl g) = omega (arith, h.1, g.1)
+one_index i j slot (inl h) (inr g) = absurd (omega (arith, h.0, h.1, g.0, g.2))
+one_index i j slot (inr h) (inl g) = absurd (omega (arith, h.0, h.2, g.0, g.1))
+one_index i j slot (inr h) (inr g) = omega (arith, h.0, h.2, g.0, g.2)
 
--- two MSRs that have a place have two
-apart_places : (i j place : ℕ) → (i ≡ j → ⊥) → place_of j ≡ Some place → place_of i ≡ Some place → ⊥
-apart_places i j place ne e h = ne (one_index i j place (place_tells i place h) (place_tells j place e))
+-- two MSRs that have a slot have two
+apart_slots : (i j slot : ℕ) → (i ≡ j → ⊥) → place_of j ≡ Some slot → place_of i ≡ Some slot → ⊥
+apart_slots i j slot ne e h = ne (one_index i j slot (slot_tells i slot h) (slot_tells j slot e))
 
-there_at : (file : List ℕ) (o : Option ℕ) → ((place : ℕ) → o ≡ Some place → place < length file) → is_some o ≡ true → (v : ℕ) × (option_and_then (slice_get file) o ≡ Some v)
+there_at : (file : List ℕ) (o : Option ℕ) → ((slot : ℕ) → o ≡ Some slot → slot < length file) → is_some o ≡ true → (v : ℕ) × (option_and_then (slice_get file) o ≡ Some v)
 there_at file None h s = absurd (false≢true s)
-there_at file (Some place) h s = (get_or file place 0, slice_get-get_or file place 0 (h place refl))
+there_at file (Some slot) h s = (get_or file slot 0, slice_get-get_or file slot 0 (h slot refl))
 
-in_length : (file : List ℕ) (index place : ℕ) → length file ≡ most → place_of index ≡ Some place → place < length file
-in_length file index place l e = subst (λ n. place < n) (sym l) (below_most index place (place_tells index place e))
+in_length : (file : List ℕ) (index slot : ℕ) → length file ≡ most → place_of index ≡ Some slot → slot < length file
+in_length file index slot l e = subst (λ n. slot < n) (sym l) (below_most index slot (slot_tells index slot e))
 
--- an MSR that has a place has a value
+-- an MSR that has a slot has a value
 pub value_there : (file : List ℕ) (index : ℕ) → length file ≡ most → is_some (place_of index) ≡ true → (v : ℕ) × (value_in file index ≡ Some v)
-value_there file index l s = there_at file (place_of index) (λ place e. in_length file index place l e) s
+value_there file index l s = there_at file (place_of index) (λ slot e. in_length file index slot l e) s
 
-word_at_place : (file : List ℕ) (o : Option ℕ) (v : ℕ) → All IsWord file → option_and_then (slice_get file) o ≡ Some v → IsWord v
-word_at_place file None v h e = absurd (cc (e))
-word_at_place file (Some place) v h e =
-    subst IsWord (get_or_from_slice_get file place v 0 e) (h place 0 (slice_get_within file place v e))
+word_at_slot : (file : List ℕ) (o : Option ℕ) (v : ℕ) → All IsWord file → option_and_then (slice_get file) o ≡ Some v → IsWord v
+word_at_slot file None v h e = absurd (cc (e))
+word_at_slot file (Some slot) v h e =
+    subst IsWord (get_or_from_slice_get file slot v 0 e) (h slot 0 (slice_get_within file slot v e))
 
 -- each value of the file fits
 pub value_fits : (file : List ℕ) (index v : ℕ) → FitsFile file → value_in file index ≡ Some v → IsWord v
-value_fits file index v f e = word_at_place file (place_of index) v f.words e
+value_fits file index v f e = word_at_slot file (place_of index) v f.words e
 
 length-put_at : (o : Option ℕ) (v : ℕ) (file : List ℕ) → length (put_at o v file) ≡ length file
 length-put_at None v file = refl
-length-put_at (Some place) v file = length_stays place (λ _. v) file
+length-put_at (Some slot) v file = length_stays slot (λ _. v) file
 
 pub length-with_msr : (index v : ℕ) (file : List ℕ) → length (with_msr index v file) ≡ length file
 length-with_msr index v file = length-put_at (place_of index) v file
 
 put_words : (o : Option ℕ) (v : ℕ) (file : List ℕ) → IsWord v → All IsWord file → All IsWord (put_at o v file)
 put_words None v file w h = h
-put_words (Some place) v file w h = subst (All IsWord) (set_is place file v) (All-set IsWord file place v w h)
+put_words (Some slot) v file w h = subst (All IsWord) (set_is slot file v) (All-set IsWord file slot v w h)
 
 -- with a value that fits, the file fits
 pub with_msr_fits : (index v : ℕ) (file : List ℕ) → IsWord v → FitsFile file → FitsFile (with_msr index v file)
@@ -84,16 +84,16 @@ with_msr_fits index v file w f =
       words = put_words (place_of index) v file w f.words;
     }
 
-put_same : (o : Option ℕ) (v : ℕ) (file : List ℕ) → ((place : ℕ) → o ≡ Some place → place < length file) → is_some o ≡ true → option_and_then (slice_get (put_at o v file)) o ≡ Some v
+put_same : (o : Option ℕ) (v : ℕ) (file : List ℕ) → ((slot : ℕ) → o ≡ Some slot → slot < length file) → is_some o ≡ true → option_and_then (slice_get (put_at o v file)) o ≡ Some v
 put_same None v file h s = absurd (false≢true s)
-put_same (Some place) v file h s =
-    element_changes place (λ _. v) file ∙ ap (option_map (λ _. v)) (slice_get-get_or file place 0 (h place refl))
+put_same (Some slot) v file h s =
+    element_changes slot (λ _. v) file ∙ ap (option_map (λ _. v)) (slice_get-get_or file slot 0 (h slot refl))
 
 -- the value that was put
 pub with_msr_same : (index v : ℕ) (file : List ℕ) → length file ≡ most → is_some (place_of index) ≡ true → value_in (with_msr index v file) index ≡ Some v
-with_msr_same index v file l s = put_same (place_of index) v file (λ place e. in_length file index place l e) s
+with_msr_same index v file l s = put_same (place_of index) v file (λ slot e. in_length file index slot l e) s
 
-put_other : (o q : Option ℕ) (v : ℕ) (file : List ℕ) → ((place : ℕ) → o ≡ Some place → q ≡ Some place → ⊥) → option_and_then (slice_get (put_at o v file)) q ≡ option_and_then (slice_get file) q
+put_other : (o q : Option ℕ) (v : ℕ) (file : List ℕ) → ((slot : ℕ) → o ≡ Some slot → q ≡ Some slot → ⊥) → option_and_then (slice_get (put_at o v file)) q ≡ option_and_then (slice_get file) q
 put_other None q v file h = refl
 put_other (Some a) None v file h = refl
 put_other (Some a) (Some b) v file h = others_stay a b (λ _. v) file (λ e. h a refl (ap Some e))
@@ -101,7 +101,7 @@ put_other (Some a) (Some b) v file h = others_stay a b (λ _. v) file (λ e. h a
 -- the values of other MSRs stay
 pub with_msr_other : (index v i : ℕ) (file : List ℕ) → (i ≡ index → ⊥) → value_in (with_msr index v file) i ≡ value_in file i
 with_msr_other index v i file ne =
-    put_other (place_of index) (place_of i) v file (λ place e h. apart_places i index place ne e h)
+    put_other (place_of index) (place_of i) v file (λ slot e h. apart_slots i index slot ne e h)
 
 -- ---- numbers below a bound
 

@@ -23,7 +23,7 @@ use Rattle.vmx_machine.specs.declared.cpu.Entered.{Entered}
 use Rattle.kernel_core.specs.Kernel.{Live}
 use Rattle.subject_model.specs.Alone.{MsrValues, Things, msr_value, thing_in}
 use Rattle.subject_model.specs.System.{System, change_named, change_thing, with_bytes, with_own, with_store, with_write}
-use Rattle.stands_for.specs.Ground.{Ground, Joined, thing_at, state_at, area_at, IsAt, place_in}
+use Rattle.stands_for.specs.Ground.{Ground, Joined, thing_at, state_at, area_at, IsAt, page_and_offset}
 use Rattle.stands_for.specs.Fixed.{IsFixed, Watches}
 use Rattle.stands_for.specs.Held.{Held, held_by, held, is_on, on_cpu, on_pages, FitsState, FitsFile, IsByte, IsOwn, IsWord}
 use Rattle.stands_for.specs.Stands.{Shows, HasPages, SameEntered, FitsCpu, FitsEntered, StandsFor, Running}
@@ -37,11 +37,11 @@ use Rattle.stands_for.proofs.Moves.{state_spot}
 -- ---- MSR values, by index on both sides
 
 value_written : (index v : ℕ) (file : List ℕ) → value_in (with_msr index v file) index ≡ option_map (λ _. v) (value_in file index)
-value_written index v file = by_place (place_of index)
+value_written index v file = by_slot (place_of index)
   where
-    by_place : (o : Option ℕ) → option_and_then (slice_get (put_at o v file)) o ≡ option_map (λ _. v) (option_and_then (slice_get file) o)
-    by_place None = refl
-    by_place (Some i) = element_changes i (λ _. v) file
+    by_slot : (o : Option ℕ) → option_and_then (slice_get (put_at o v file)) o ≡ option_map (λ _. v) (option_and_then (slice_get file) o)
+    by_slot None = refl
+    by_slot (Some i) = element_changes i (λ _. v) file
 
 msr_alike : (m : Option MsrWrite) (file : List ℕ) (values : MsrValues) (index : ℕ) → value_in file index ≡ msr_value values index → value_in (with_file m file) index ≡ msr_value (with_write m values) index
 msr_alike None file values index h = h
@@ -165,7 +165,7 @@ module _ (g : Ground) (fixed : IsFixed g) where
       ports = run.stands.ports;
       many_ports = run.stands.many_ports;
       small_ports = run.stands.small_ports;
-      place = run.stands.place;
+      frame = run.stands.frame;
     }
       where
         some_same : (t s : ℕ) → Some s ≡ Some t → t ≡ s
@@ -194,7 +194,7 @@ module _ (g : Ground) (fixed : IsFixed g) where
         ports = stands.ports;
         many_ports = stands.many_ports;
         small_ports = stands.small_ports;
-        place = stands.place;
+        frame = stands.frame;
       }
 
   -- ---- .. of the state page of a subject that is on no CPU
@@ -227,7 +227,7 @@ module _ (g : Ground) (fixed : IsFixed g) where
         ports = stands.ports;
         many_ports = stands.many_ports;
         small_ports = stands.small_ports;
-        place = stands.place;
+        frame = stands.frame;
       }
 
   -- who is watched is not on the CPU
@@ -242,7 +242,7 @@ module _ (g : Ground) (fixed : IsFixed g) where
   seen_stands k y cpu s n q c j its on x offset new room small (inr h) stands =
       let w = h.1 in
       let done = page_stands k y w.number w.subject w.part w.control offset new w.joined small (watched_away k cpu s n q c x j its on w) stands in
-      let there : w.control.state ≡ g.first x = sym (fixed.state_place w.number w.subject w.control w.joined.subject w.joined.control) ∙ ap g.first w.page in
+      let there : w.control.state ≡ g.first x = sym (fixed.state_pages w.number w.subject w.control w.joined.subject w.joined.control) ∙ ap g.first w.page in
       let page : w.control.state ≡ g.first x + offset / 4096 = omega (arith, there, h.0) in
       let off : offset ≡ offset % 4096 = omega (arith, h.0) in
       subst (λ i. StandsFor g (with_page_of (g.first x + offset / 4096) (λ old. over old i new) k) (with_bytes x offset new y)) off
@@ -251,12 +251,12 @@ module _ (g : Ground) (fixed : IsFixed g) where
 
   -- what a store needs: where it goes is seen, and it stays in its page
   pub record IsStoreOf (s : ℕ) (n : Subject) (w : Stored Thing) : Type 0 where
-    pub there : (w.offset / 4096 < g.pages w.place) ⊎ ((w.offset < 4096) × Watches g s n w.place)
+    pub there : (w.offset / 4096 < g.pages w.target) ⊎ ((w.offset < 4096) × Watches g s n w.target)
     pub room : w.offset % 4096 + length w.bytes ≤ 4096
     pub small : All IsByte w.bytes
 
-  pub store_stands : (k : Live) (y : System) (cpu s : ℕ) (n : Subject) (q : SubjectPart) (c : Control) → Joined g s n q c → q.cpu ≡ cpu → slice_get k.on cpu ≡ Some (Some s) → (o : Option (Stored Thing)) → ((w : Stored Thing) → o ≡ Some w → IsStoreOf s n w) → StandsFor g k y → StandsFor g (with_pages (option_map (renamed_store (place_in g.first)) o) k) (with_store o y)
+  pub store_stands : (k : Live) (y : System) (cpu s : ℕ) (n : Subject) (q : SubjectPart) (c : Control) → Joined g s n q c → q.cpu ≡ cpu → slice_get k.on cpu ≡ Some (Some s) → (o : Option (Stored Thing)) → ((w : Stored Thing) → o ≡ Some w → IsStoreOf s n w) → StandsFor g k y → StandsFor g (with_pages (option_map (renamed_store (page_and_offset g.first)) o) k) (with_store o y)
   store_stands k y cpu s n q c j its on None h stands = stands
   store_stands k y cpu s n q c j its on (Some w) h stands =
       let is = h w refl in
-      seen_stands k y cpu s n q c j its on w.place w.offset w.bytes is.room is.small is.there stands
+      seen_stands k y cpu s n q c j its on w.target w.offset w.bytes is.room is.small is.there stands

@@ -97,7 +97,7 @@ module _ (g : Ground) (fixed : IsFixed g) where
     ports = stands.ports;
     many_ports = stands.many_ports;
     small_ports = stands.small_ports;
-    place = (λ i. place_at (fixed.majors i) (stands.place i) (pick_same k y stands i) tick);
+    frame = (λ i. place_at (fixed.majors i) (stands.frame i) (pick_same k y stands i) tick);
   }
 
   -- ---- inputs
@@ -112,7 +112,7 @@ module _ (g : Ground) (fixed : IsFixed g) where
     ports = (λ i. slice_set (stands.ports i) (same.number i) (same.byte i));
     many_ports = length-set k.ports port value ∙ stands.many_ports;
     small_ports = All-set IsByte k.ports port value same.small stands.small_ports;
-    place = stands.place;
+    frame = stands.frame;
   }
 
   abbrev pub with_all_pages : List Page → Live → Live
@@ -134,7 +134,7 @@ module _ (g : Ground) (fixed : IsFixed g) where
   write_stands : (k : Live) (y : System) (at : ℕ) (bytes : List ℕ) (x : Thing) (offset : ℕ) (new : List ℕ) → SameWrite g at bytes x offset new → StandsFor g k y → StandsFor g (with_all_pages (written k.machine.pages at bytes) k) (with_bytes x offset new y)
   write_stands k y at bytes x offset new same stands =
       subst (λ b. StandsFor g (with_all_pages (written k.machine.pages at bytes) k) (with_bytes x offset b y)) same.same
-      (written_stands bytes x at offset k y same.place same.room same.small stands)
+      (written_stands bytes x at offset k y same.address same.room same.small stands)
 
   irq_stands : (k : Live) (y : System) (s v : ℕ) (device irq : List ℕ) → SameIrq g s v device irq → StandsFor g k y → StandsFor g (kernel_takes (Irq s v) k) (takes g.policy (irq_input device irq) y)
   irq_stands k y s v device irq same stands =

@@ -265,7 +265,7 @@ bytes_lengths x offset bytes y = change_lengths x (λ old. over old offset bytes
 
 store_lengths : (w : Option (Stored Thing)) (y : System) → SameLengths y.things (with_store w y).things
 store_lengths None y x away = refl
-store_lengths (Some w) y x away = bytes_lengths w.place w.offset w.bytes y x away
+store_lengths (Some w) y x away = bytes_lengths w.target w.offset w.bytes y x away
 
 -- events change no thing
 active_things : (o : Option ℕ) (name : List ℕ) (y : System) → (with_active o name y).things ≡ y.things
@@ -313,7 +313,7 @@ slot_lengths p cpu tick (Some slot) y x away = member_lengths p cpu tick slot.fi
 
 -- a turn keeps how long things are
 pub turn_lengths : (p : Source) (cpu tick : ℕ) (y : System) → SameLengths y.things (system_turn p cpu tick y).state.things
-turn_lengths p cpu tick y x away = slot_lengths p cpu tick (slot_in (frames_of p cpu) y.place tick) y x away
+turn_lengths p cpu tick y x away = slot_lengths p cpu tick (slot_in (frames_of p cpu) y.frame tick) y x away
 
 -- so does the begin of a tick
 pub begins_lengths : (p : Source) (tick : ℕ) (y : System) → SameLengths y.things (begins p tick y).things

@@ -76,7 +76,7 @@ module _ (g : Ground) (fixed : IsFixed g) where
     ports = stands.ports;
     many_ports = stands.many_ports;
     small_ports = stands.small_ports;
-    place = stands.place;
+    frame = stands.frame;
   }
 
   -- ---- a vector is taken

@@ -34,14 +34,14 @@ pub part_there : (old : Option (List ℕ)) (o : ℕ) (bs : List ℕ) → o % 409
 part_there None o bs room = refl
 part_there (Some x) o bs room = ap Some (sym (over_part x o bs (4096 * (o / 4096)) 4096 (o % 4096) (omega arith) room))
 
-apart_places : (j o n : ℕ) → o % 4096 + n ≤ 4096 → (j ≡ o / 4096 → ⊥) → (4096 * j + 4096 ≤ o) ⊎ (o + n ≤ 4096 * j)
-apart_places j o n room ne =
+apart_ranges : (j o n : ℕ) → o % 4096 + n ≤ 4096 → (j ≡ o / 4096 → ⊥) → (4096 * j + 4096 ≤ o) ⊎ (o + n ≤ 4096 * j)
+apart_ranges j o n room ne =
     elim (cases_lt j (o / 4096)) [ inl l ↦ inl (omega arith) | inr g ↦ let m : o / 4096 < j = omega (arith, ne) in inr (omega arith) ]
 
 -- any other part stays
 pub part_elsewhere : (old : Option (List ℕ)) (j o : ℕ) (bs : List ℕ) → o % 4096 + length bs ≤ 4096 → (j ≡ o / 4096 → ⊥) → option_map (part j) old ≡ option_map (part j) (option_map (λ x. over x o bs) old)
 part_elsewhere None j o bs room ne = refl
-part_elsewhere (Some x) j o bs room ne = ap Some (sym (over_apart x o bs (4096 * j) 4096 (apart_places j o (length bs) room ne)))
+part_elsewhere (Some x) j o bs room ne = ap Some (sym (over_apart x o bs (4096 * j) 4096 (apart_ranges j o (length bs) room ne)))
 
 inner : (xs : List ℕ) (q d n m o : ℕ) → o ≡ q + d → d + m ≤ n → take m (drop d (take n (drop q xs))) ≡ take m (drop o xs)
 inner xs q d n m o e h =

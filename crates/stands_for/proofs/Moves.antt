@@ -186,7 +186,7 @@ module _ (g : Ground) (fixed : IsFixed g) where
       ports = stands.ports;
       many_ports = stands.many_ports;
       small_ports = stands.small_ports;
-      place = stands.place;
+      frame = stands.frame;
     }
 
     -- a subject was on it
@@ -248,7 +248,7 @@ module _ (g : Ground) (fixed : IsFixed g) where
         ports = stands.ports;
         many_ports = stands.many_ports;
         small_ports = stands.small_ports;
-        place = stands.place;
+        frame = stands.frame;
       }
 
   -- ---- entering a CPU on which nobody is
@@ -334,7 +334,7 @@ module _ (g : Ground) (fixed : IsFixed g) where
         ports = stands.ports;
         many_ports = stands.many_ports;
         small_ports = stands.small_ports;
-        place = stands.place;
+        frame = stands.frame;
       };
       on = on_there;
       unit = now_on;
@@ -361,7 +361,7 @@ module _ (g : Ground) (fixed : IsFixed g) where
           ports = stands.ports;
           many_ports = stands.many_ports;
           small_ports = stands.small_ports;
-          place = stands.place;
+          frame = stands.frame;
         };
         on = on;
         unit = u;

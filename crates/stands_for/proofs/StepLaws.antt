@@ -41,7 +41,7 @@ pub record IsStored {X : Type 0} (w : World X) (st : Stored X) : Type 0 where
   pub value : ℕ
   pub below : addr < GUEST_END
   pub aligned : addr % count size ≡ 0
-  pub looked : w.look Write addr ≡ Reached st.place st.offset
+  pub looked : w.look Write addr ≡ Reached st.target st.offset
   pub bytes : st.bytes ≡ le_bytes (count size) value
 
 -- an MSR that is written may be written, and its value is a word
@@ -242,8 +242,8 @@ module _ {X : Type 0} (w : World X) where
     pub stored : OnStored a.stored
     pub msr : FitsState s → OnWritten a.msr
 
-  is_plain : (s after : SubjectState) (end : StepEnd) → (FitsWorld w → FitsState s → FitsState after) → IsAnswer s (went_on after end)
-  is_plain s after end h = record { state = λ v f. exited_fits after false (h v f); stored = tt; msr = λ f. tt }
+  is_plain : (s after : SubjectState) (step_end : StepEnd) → (FitsWorld w → FitsState s → FitsState after) → IsAnswer s (went_on after step_end)
+  is_plain s after step_end h = record { state = λ v f. exited_fits after false (h v f); stored = tt; msr = λ f. tt }
 
   is_exit : (s : SubjectState) (reason qualification addr call : ℕ) → IsAnswer s (exits s reason qualification addr call)
   is_exit s reason qualification addr call = record { state = λ v f. exited_fits s true f; stored = tt; msr = λ f. tt }
@@ -253,13 +253,13 @@ module _ {X : Type 0} (w : World X) where
       is_plain s (with_register after reg value) _ (λ v f. with_register_fits after reg value (g v) (h f))
 
   is_loaded : (s after : SubjectState) (reg n : ℕ) (c : Reach X) → (FitsState s → FitsState after) → IsAnswer s (loaded w.bytes s after reg n c)
-  is_loaded s after reg n (Reached place offset) h = is_set s after reg (word_at n (w.bytes place) offset) h (λ v. omega arith)
+  is_loaded s after reg n (Reached target offset) h = is_set s after reg (word_at n (w.bytes target) offset) h (λ v. omega arith)
   is_loaded s after reg n (Refused reason qualification addr) h = is_exit s reason qualification addr 0
 
   -- what an access for a store reaches
   abbrev Looked : AccessSize → ℕ → Reach X → Type 0
-  Looked size addr (Reached place offset) =
-      (addr < GUEST_END) × (addr % count size ≡ 0) × (w.look Write addr ≡ Reached place offset)
+  Looked size addr (Reached target offset) =
+      (addr < GUEST_END) × (addr % count size ≡ 0) × (w.look Write addr ≡ Reached target offset)
   Looked size addr (Refused reason qualification guest) = Unit {0}
 
   -- by whether the address is a multiple of the size, and whether it is beyond the end
@@ -279,7 +279,7 @@ module _ {X : Type 0} (w : World X) where
   multiple addr n h = grind (arith, nat_tests, h)
 
   looked_of : (size : AccessSize) (addr : ℕ) (c : Reach X) → addr < GUEST_END → addr % count size ≡ 0 → w.look Write addr ≡ c → Looked size addr c
-  looked_of size addr (Reached place offset) l a e = (l, a, e)
+  looked_of size addr (Reached target offset) l a e = (l, a, e)
   looked_of size addr (Refused reason qualification guest) l a e = tt
 
   looked : (size : AccessSize) (addr : ℕ) → Looked size addr (reach_of w.look Write (count size) addr)
@@ -287,7 +287,7 @@ module _ {X : Type 0} (w : World X) where
       by_looked size (addr % count size == 0) (nat_le GUEST_END addr) addr (w.look Write addr) (λ a l. looked_of size addr (w.look Write addr) (low addr l) (multiple addr (count size) a) refl)
 
   is_stored : (s after : SubjectState) (addr : ℕ) (size : AccessSize) (value : ℕ) (c : Reach X) → Looked size addr c → (FitsState s → FitsState after) → IsAnswer s (stored_to s after addr size value c)
-  is_stored s after addr size value (Reached place offset) l h = record {
+  is_stored s after addr size value (Reached target offset) l h = record {
     state = λ v f. exited_fits after false (h f);
     stored = record { addr = addr; size = size; value = value; below = l.0; aligned = l.1; looked = l.2; bytes = refl };
     msr = λ f. tt;
@@ -336,8 +336,8 @@ module _ {X : Type 0} (w : World X) where
       is_performed s (effect_of s i).after (effect_of s i).wish (λ f. (effect_fits s i d.fits f).after) (λ f. (effect_fits s i d.fits f).wish)
 
   is_fetched : (s : SubjectState) (c : Reach X) → IsAnswer s (fetched w s c)
-  is_fetched s (Reached place offset) =
-      is_executed s (decode_of (to_le_bytes w64 (word_at 8 (w.bytes place) offset))) (decoded (to_le_bytes w64 (word_at 8 (w.bytes place) offset)))
+  is_fetched s (Reached target offset) =
+      is_executed s (decode_of (to_le_bytes w64 (word_at 8 (w.bytes target) offset))) (decoded (to_le_bytes w64 (word_at 8 (w.bytes target) offset)))
   is_fetched s (Refused reason qualification addr) = is_exit s reason qualification addr 0
 
   is_answer : (s : SubjectState) → IsAnswer s (step w s)

@@ -41,10 +41,10 @@ use Rattle.vmx_machine.specs.Machine.{CpuStepped, Stepped, answered as cpu_answe
 use Rattle.vmx_machine.specs.declared.control.Control.{Control}
 use Rattle.vmx_machine.specs.declared.cpu.Cpu.{Cpu}
 use Rattle.vmx_machine.specs.declared.cpu.Entered.{Entered}
-use Rattle.kernel_core.specs.Kernel.{Live, acts_on, delivers, end_of as kernel_end_of, entry, event_of, handled, idle as kernel_idle, raised_by as kernel_raised_by, stepped as kernel_stepped, turn_in_slot as kernel_turn_in_slot, turn_of, turn_of_member as kernel_turn_of_member, turn_on, vector_for as kernel_vector_for, switched}
+use Rattle.kernel_core.specs.Kernel.{Live, acts_on, delivers, end_of as kernel_exit_end_of, entry, event_of, handled, idle as kernel_idle, raised_by as kernel_raised_by, stepped as kernel_stepped, turn_in_slot as kernel_turn_in_slot, turn_of, turn_of_member as kernel_turn_of_member, turn_on, vector_for as kernel_vector_for, switched}
 use Rattle.subject_model.specs.Alone.{Inbox, MsrValues, msr_value, alone, end_of, has_trap, injects, own_of, reach_by, solo_turn, state_after, stepped, unless_delivered, vector_for, waits, way_after, way_of, what_of}
 use Rattle.subject_model.specs.System.{System, inbox_of, line_at, named, raised_by, state_of, system_turn, took, turn_answered, turn_from, turn_in_slot, turn_of_member, with_own, with_store}
-use Rattle.stands_for.specs.Ground.{Ground, Joined, name_at, place_in}
+use Rattle.stands_for.specs.Ground.{Ground, Joined, name_at, page_and_offset}
 use Rattle.stands_for.specs.Fixed.{IsFixed, Sees}
 use Rattle.stands_for.specs.Held.{FitsState, IsByte, IsWord}
 use Rattle.stands_for.specs.Stands.{FitsEntered, Running, StandsFor}
@@ -130,8 +130,8 @@ module _ (g : Ground) (fixed : IsFixed g) where
           | inr h ↦ elim (cases_Bool (reason == EXIT_VMCALL)) [ inl v ↦ rw (h, v) refl | inr v ↦ rw (h, v, j.trapped reason) refl ]
         ]
 
-    end_same : (reason call : ℕ) → kernel_end_of reason (is_some (event_of q reason call)) ≡ end_of reason (has_trap (traps_of n) reason)
-    end_same reason call =
+    exit_end_same : (reason call : ℕ) → kernel_exit_end_of reason (is_some (event_of q reason call)) ≡ end_of reason (has_trap (traps_of n) reason)
+    exit_end_same reason call =
         elim (cases_Bool (reason == EXIT_HLT)) [
           | inl h ↦ rw h refl
           | inr h ↦ elim (cases_Bool (reason == EXIT_VMCALL)) [ inl v ↦ rw (h, v) refl | inr v ↦ rw (h, v, j.trapped reason) refl ]
@@ -167,8 +167,8 @@ module _ (g : Ground) (fixed : IsFixed g) where
   stored_is : (s : ℕ) (n : Subject) (values : MsrValues) (inbox : Inbox) (w : Stored Thing) → slice_get g.policy.subjects s ≡ Some n → IsStored (alone (own_of g.policy n) values inbox) w → IsStoreOf g fixed s n w
   unfolding own_of
   stored_is s n values inbox w at h =
-      let found : access_of (windows_of g.policy n) h.addr Write ≡ byte w.place w.offset = reach_is w.place w.offset h.addr (access_of (windows_of g.policy n) h.addr Write) h.looked in
-      let seen : Sees g s n h.addr w.place w.offset = fixed.sees s n Write h.addr w.place w.offset at found in
+      let found : access_of (windows_of g.policy n) h.addr Write ≡ byte w.target w.offset = reach_is w.target w.offset h.addr (access_of (windows_of g.policy n) h.addr Write) h.looked in
+      let seen : Sees g s n h.addr w.target w.offset = fixed.sees s n Write h.addr w.target w.offset at found in
       let long : length w.bytes ≡ count h.size = ap length h.bytes ∙ length-le_bytes (count h.size) h.value in
       let fits : w.offset % 4096 + count h.size ≤ 4096 = in_page h.size h.addr w.offset h.aligned seen.aligned in
       record {
@@ -227,8 +227,8 @@ module _ (g : Ground) (fixed : IsFixed g) where
     abbrev machine : World ℕ
     machine = machine_world k.machine.pages c run.unit.file k.ports tick
 
-    alike : step machine st ≡ renamed (place_in g.first) (step world st)
-    alike = step_alike (place_in g.first) world machine (worlds_alike g fixed k y cpu s n q c first tick run j its) st
+    alike : step machine st ≡ renamed (page_and_offset g.first) (step world st)
+    alike = step_alike (page_and_offset g.first) world machine (worlds_alike g fixed k y cpu s n q c first tick run j its) st
 
     -- what the CPU has after its step
     cpu_is : cpu_step k.ports tick k.machine.pages run.unit ≡ cpu_answered c run.unit.file k.machine.pages (step machine st)
@@ -252,7 +252,7 @@ module _ (g : Ground) (fixed : IsFixed g) where
     -- ---- what it leaves
     module _ (a : Answer Thing) (is : step world st ≡ a) where
       abbrev then_live : SubjectState → Live
-      then_live z = with_pages (option_map (renamed_store (place_in g.first)) a.stored) (with_cpu cpu z a.msr k)
+      then_live z = with_pages (option_map (renamed_store (page_and_offset g.first)) a.stored) (with_cpu cpu z a.msr k)
 
       stores : (w : Stored Thing) → a.stored ≡ Some w → IsStoreOf g fixed s n w
       stores w e = stored_is s n run.msrs.values inbox w j.subject (step_stored world st w (ap (λ (x : Answer Thing). x.stored) is ∙ e))
@@ -281,17 +281,17 @@ module _ (g : Ground) (fixed : IsFixed g) where
           changes_join cpu (with_entered a.state a.msr) (with_state (finished how)) k.machine.cpus
           ∙ change_agrees cpu (λ u. with_state (finished how) (with_entered a.state a.msr u)) (with_entered (finished how' a.state) a.msr) k.machine.cpus run.unit run.at (twice (finished how) a.state a.msr run.unit ∙ ap (λ h. with_entered (finished h a.state) a.msr run.unit) e)
 
-      exit_alike : (reason qualification addr call : ℕ) → FitsState a.state → Alike (record { state = record k { machine = exit_finished cpu (finish_of reason (is_some (event_of q reason call))) (then_live a.state).machine; router = kernel_raised_by (event_of q reason call) k.router }; line = Some (record { tick = tick; cpu = cpu; subject = q.name; pc = st.pc; what = Exit reason qualification addr (kernel_end_of reason (is_some (event_of q reason call))) }) }) (turn_answered g.policy cpu tick n st.pc (record { state = finished (finish_of reason (has_trap (traps_of n) reason)) a.state; what = Some (Exit reason qualification addr (end_of reason (has_trap (traps_of n) reason))); stored = a.stored; msr = a.msr; taken = None; raised = way_of (traps_of n) reason call }) y)
+      exit_alike : (reason qualification addr call : ℕ) → FitsState a.state → Alike (record { state = record k { machine = exit_finished cpu (finish_of reason (is_some (event_of q reason call))) (then_live a.state).machine; router = kernel_raised_by (event_of q reason call) k.router }; line = Some (record { tick = tick; cpu = cpu; subject = q.name; pc = st.pc; what = Exit reason qualification addr (kernel_exit_end_of reason (is_some (event_of q reason call))) }) }) (turn_answered g.policy cpu tick n st.pc (record { state = finished (finish_of reason (has_trap (traps_of n) reason)) a.state; what = Some (Exit reason qualification addr (end_of reason (has_trap (traps_of n) reason))); stored = a.stored; msr = a.msr; taken = None; raised = way_of (traps_of n) reason call }) y)
       exit_alike reason qualification addr call f = record {
         state = subst (λ cpus. StandsFor g (record k { machine = record { pages = (then_live a.state).machine.pages; cpus = cpus }; router = kernel_raised_by (event_of q reason call) k.router }) (raised_by g.policy n (way_of (traps_of n) reason call) (took n.name None (with_store a.stored (with_own n.name (finished (finish_of reason (has_trap (traps_of n) reason)) a.state) a.msr y)))))
             (sym (cpus_same (finish_of reason (is_some (event_of q reason call))) (finish_of reason (has_trap (traps_of n) reason)) (finish_same s n q c j reason call)))
             (exit_state reason call f);
         line = line_same (Exit reason qualification addr (end_of reason (has_trap (traps_of n) reason)))
-            ∙ ap (λ e. Some (record { tick = tick; cpu = cpu; subject = q.name; pc = st.pc; what = Exit reason qualification addr e })) (sym (end_same s n q c j reason call));
+            ∙ ap (λ e. Some (record { tick = tick; cpu = cpu; subject = q.name; pc = st.pc; what = Exit reason qualification addr e })) (sym (exit_end_same s n q c j reason call));
       }
 
       -- by how the step ended
-      ended_alike : FitsState a.state → (end : StepEnd) → Alike (handled (record { tick = tick; cpu = cpu; subject = q.name; pc = st.pc }) q end (then_live a.state)) (turn_answered g.policy cpu tick n st.pc (record { state = state_after (traps_of n) end a.state; what = Some (what_of (traps_of n) end); stored = a.stored; msr = a.msr; taken = None; raised = way_after (traps_of n) end }) y)
+      ended_alike : FitsState a.state → (step_end : StepEnd) → Alike (handled (record { tick = tick; cpu = cpu; subject = q.name; pc = st.pc }) q step_end (then_live a.state)) (turn_answered g.policy cpu tick n st.pc (record { state = state_after (traps_of n) step_end a.state; what = Some (what_of (traps_of n) step_end); stored = a.stored; msr = a.msr; taken = None; raised = way_after (traps_of n) step_end }) y)
       ended_alike f ends.Plain = plain_alike f Ran
       ended_alike f (ends.Set reg value) = plain_alike f (Set reg value)
       ended_alike f (ends.Stored size addr value) = plain_alike f (Wrote size addr value)
@@ -332,7 +332,7 @@ module _ (g : Ground) (fixed : IsFixed g) where
     unfolding own_of
     instruction_alike =
         subst (λ (x : Stepped). Alike (handled (record { tick = tick; cpu = cpu; subject = q.name; pc = st.pc }) q x.end (record k { machine = x.machine })) (turn_answered g.policy cpu tick n st.pc (stepped (traps_of n) (step world st)) y))
-        (sym (stepped_is (renamed (place_in g.first) (step world st)) alike))
+        (sym (stepped_is (renamed (page_and_offset g.first) (step world st)) alike))
         (ended_alike (step world st) refl (step_fits world st world_fits fits) (step world st).end)
 
     -- ---- the cases of a turn
@@ -353,17 +353,17 @@ module _ (g : Ground) (fixed : IsFixed g) where
     acts_stand = rw (there, run.state, run.msrs.at) (acts_alike st.stopped refl)
 
   -- ---- whose turn it is
-  member_alike : (k : Live) (y : System) → StandsFor g k y → (cpu tick : ℕ) → IsWord tick → (slot : Slot) → slot_in (frames_of g.policy cpu) y.place tick ≡ Some slot → (who : Option ℕ) → slice_get k.on cpu ≡ Some who → (o : Option ℕ) → slice_get k.router.active slot.group ≡ o → Alike (kernel_turn_of_member g.setup cpu tick slot.first who o k) (turn_of_member g.policy cpu tick slot.first (option_map (name_at g) o) y)
+  member_alike : (k : Live) (y : System) → StandsFor g k y → (cpu tick : ℕ) → IsWord tick → (slot : Slot) → slot_in (frames_of g.policy cpu) y.frame tick ≡ Some slot → (who : Option ℕ) → slice_get k.on cpu ≡ Some who → (o : Option ℕ) → slice_get k.router.active slot.group ≡ o → Alike (kernel_turn_of_member g.setup cpu tick slot.first who o k) (turn_of_member g.policy cpu tick slot.first (option_map (name_at g) o) y)
   member_alike k y stands cpu tick small slot found who on None at = record { state = stands; line = refl }
   member_alike k y stands cpu tick small slot found who on (Some s) at =
       let m = stands.router.members slot.group s at in
       let j = m.is.joined in
-      let its : m.is.part.cpu ≡ cpu = fixed.planned cpu y.place tick slot s m.is.part found j.part m.in_group in
+      let its : m.is.part.cpu ≡ cpu = fixed.planned cpu y.frame tick slot s m.is.part found j.part m.in_group in
       let here : is_some (slice_get k.machine.cpus cpu) ≡ true = stands.cpus.cpus_there cpu ∙ (sym (stands.cpus.on_there cpu) ∙ ap is_some on) in
       rw (name_is g fixed s m.is.subject m.is.part m.is.control j, j.found, j.part, j.control)
       (acts_stand (switched cpu s m.is.control who k) y cpu tick s m.is.subject m.is.part m.is.control slot.first (switches g fixed k y stands cpu s m.is.subject m.is.part m.is.control j its who on (slice_get k.machine.cpus cpu) refl here) j its small)
 
-  slot_alike : (k : Live) (y : System) → StandsFor g k y → (cpu tick : ℕ) → IsWord tick → (who : Option ℕ) → slice_get k.on cpu ≡ Some who → (o : Option Slot) → slot_in (frames_of g.policy cpu) y.place tick ≡ o → Alike (kernel_turn_in_slot g.setup cpu tick who o k) (turn_in_slot g.policy cpu tick o y)
+  slot_alike : (k : Live) (y : System) → StandsFor g k y → (cpu tick : ℕ) → IsWord tick → (who : Option ℕ) → slice_get k.on cpu ≡ Some who → (o : Option Slot) → slot_in (frames_of g.policy cpu) y.frame tick ≡ o → Alike (kernel_turn_in_slot g.setup cpu tick who o k) (turn_in_slot g.policy cpu tick o y)
   slot_alike k y stands cpu tick small who on None found = record { state = stands; line = refl }
   slot_alike k y stands cpu tick small who on (Some slot) found =
       rw (stands.router.same_active slot.group) (member_alike k y stands cpu tick small slot found who on (slice_get k.router.active slot.group) refl)
@@ -371,11 +371,11 @@ module _ (g : Ground) (fixed : IsFixed g) where
   on_alike : (k : Live) (y : System) → StandsFor g k y → (cpu tick : ℕ) → IsWord tick → (o : Option (Option ℕ)) → slice_get k.on cpu ≡ o → Alike (turn_on g.setup cpu tick o k) (system_turn g.policy cpu tick y)
   on_alike k y stands cpu tick small None on =
       let beyond : g.policy.processor.logical_cpus ≤ cpu = not_below cpu g.policy.processor.logical_cpus (sym (stands.cpus.on_there cpu) ∙ ap is_some on) in
-      rw (fixed.no_slots cpu y.place tick beyond) (record { state = stands; line = refl })
+      rw (fixed.no_slots cpu y.frame tick beyond) (record { state = stands; line = refl })
   on_alike k y stands cpu tick small (Some who) on =
       let below : cpu < g.policy.processor.logical_cpus = is_below cpu g.policy.processor.logical_cpus (sym (stands.cpus.on_there cpu) ∙ ap is_some on) in
-      let same : slot_in (frames_in g.setup.plan cpu) k.place tick ≡ slot_in (frames_of g.policy cpu) y.place tick = ap (λ p. slot_in (frames_in g.setup.plan cpu) p tick) stands.place ∙ fixed.slots cpu y.place tick below in
-      rw same (slot_alike k y stands cpu tick small who on (slot_in (frames_of g.policy cpu) y.place tick) refl)
+      let same : slot_in (frames_in g.setup.plan cpu) k.frame tick ≡ slot_in (frames_of g.policy cpu) y.frame tick = ap (λ p. slot_in (frames_in g.setup.plan cpu) p tick) stands.frame ∙ fixed.slots cpu y.frame tick below in
+      rw same (slot_alike k y stands cpu tick small who on (slot_in (frames_of g.policy cpu) y.frame tick) refl)
 
   -- **the turn** of any CPU
   pub turn_stands : (cpu tick : ℕ) (k : Live) (y : System) → IsWord tick → StandsFor g k y → AreAlikeTurns (StandsFor g) (turn_of g.setup cpu tick k) (system_turn g.policy cpu tick y)

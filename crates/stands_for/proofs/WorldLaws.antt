@@ -26,7 +26,7 @@ use Rattle.vmx_machine.specs.declared.control.Control.{Control}
 use Rattle.vmx_machine.specs.declared.cpu.Cpu.{Cpu}
 use Rattle.subject_model.specs.Alone.{Things, alone, bytes_in, input_byte, own_of, reach_by, thing_in}
 use Rattle.subject_model.specs.System.{System, inbox_of, is_shown}
-use Rattle.stands_for.specs.Ground.{Ground, Joined, place_in}
+use Rattle.stands_for.specs.Ground.{Ground, Joined, page_and_offset}
 use Rattle.stands_for.specs.Held.{held_by}
 use Rattle.stands_for.specs.Fixed.{IsFixed, Watches}
 use Rattle.stands_for.specs.Stands.{Running}
@@ -110,7 +110,7 @@ module _ (g : Ground) (fixed : IsFixed g) where
       let on : slice_get k.on w.part.cpu ≡ Some (Some s) = ap (slice_get k.on) same ∙ r.on in
       let own = r.stands.owns w.number w.subject w.part w.control w.joined (λ e. w.other (cc (e))) in
       ap (λ z. page_of k.machine.pages (g.first z)) (sym w.page)
-      ∙ (ap (page_of k.machine.pages) (fixed.state_place w.number w.subject w.control w.joined.subject w.joined.control)
+      ∙ (ap (page_of k.machine.pages) (fixed.state_pages w.number w.subject w.control w.joined.subject w.joined.control)
       ∙ (sym (off_page w.number w.control.msrs (page_of k.machine.pages w.control.state) (page_of k.machine.pages w.control.msr_area) (slice_get k.on w.part.cpu) (slice_get k.machine.cpus w.part.cpu) s on (λ e. w.other (sym e)))
       ∙ (sym own.page ∙ ap (thing_in y.things) w.page)))
 
@@ -135,7 +135,7 @@ module _ (g : Ground) (fixed : IsFixed g) where
   shown_bytes things n x h =
       value_filtered same_thing (is_shown (windows_of g.policy n)) x things (λ a same. ap (is_shown (windows_of g.policy n)) (same_things a x same) ∙ h)
 
-  pub worlds_alike : (k : Live) (y : System) (cpu s : ℕ) (n : Subject) (q : SubjectPart) (c : Control) (first : Bool) (tick : ℕ) (r : Running g k y cpu s n c) → Joined g s n q c → q.cpu ≡ cpu → AreAlike (place_in g.first) (alone (own_of g.policy n) r.msrs.values (inbox_of g.policy y n first tick)) (machine_world k.machine.pages c r.unit.file k.ports tick)
+  pub worlds_alike : (k : Live) (y : System) (cpu s : ℕ) (n : Subject) (q : SubjectPart) (c : Control) (first : Bool) (tick : ℕ) (r : Running g k y cpu s n c) → Joined g s n q c → q.cpu ≡ cpu → AreAlike (page_and_offset g.first) (alone (own_of g.policy n) r.msrs.values (inbox_of g.policy y n first tick)) (machine_world k.machine.pages c r.unit.file k.ports tick)
   unfolding own_of inbox_of
   worlds_alike k y cpu s n q c first tick r joined its =
       let exits : (port size : ℕ) → ports_exit k.machine.pages c port size ≡ not (are_granted (ports_of g.policy n) port size) = λ port size. ports_stay g fixed k.machine.pages y.things s c port size r.stands.shows joined.control ∙ joined.ports port size in

@@ -52,9 +52,9 @@ pub record IsFixed (g : Ground) : Type 0 where
   pub trap_targets : (s i : ℕ) (q : SubjectPart) (e : EventPart) → slice_get g.setup.subjects s ≡ Some q → entry q.traps i ≡ Some e → IsSubject g e.target
   -- both have the same frames, and a group's CPU is that of its members
   pub cpus : (s : ℕ) (q : SubjectPart) → slice_get g.setup.subjects s ≡ Some q → q.cpu < g.policy.processor.logical_cpus
-  pub slots : (cpu : ℕ) (place : FrameAt) (tick : ℕ) → cpu < g.policy.processor.logical_cpus → slot_in (frames_in g.setup.plan cpu) place tick ≡ slot_in (frames_of g.policy cpu) place tick
-  pub no_slots : (cpu : ℕ) (place : FrameAt) (tick : ℕ) → g.policy.processor.logical_cpus ≤ cpu → slot_in (frames_of g.policy cpu) place tick ≡ None
-  pub planned : (cpu : ℕ) (place : FrameAt) (tick : ℕ) (slot : Slot) (s : ℕ) (q : SubjectPart) → slot_in (frames_of g.policy cpu) place tick ≡ Some slot → slice_get g.setup.subjects s ≡ Some q → q.group ≡ slot.group → q.cpu ≡ cpu
+  pub slots : (cpu : ℕ) (frame : FrameAt) (tick : ℕ) → cpu < g.policy.processor.logical_cpus → slot_in (frames_in g.setup.plan cpu) frame tick ≡ slot_in (frames_of g.policy cpu) frame tick
+  pub no_slots : (cpu : ℕ) (frame : FrameAt) (tick : ℕ) → g.policy.processor.logical_cpus ≤ cpu → slot_in (frames_of g.policy cpu) frame tick ≡ None
+  pub planned : (cpu : ℕ) (frame : FrameAt) (tick : ℕ) (slot : Slot) (s : ℕ) (q : SubjectPart) → slot_in (frames_of g.policy cpu) frame tick ≡ Some slot → slice_get g.setup.subjects s ≡ Some q → q.group ≡ slot.group → q.cpu ≡ cpu
   pub majors : ticks_in_plan g.setup.plan ≡ ticks_of_majors g.policy
   -- the page whose first byte chooses a major frame is that of the policy's region
   pub tau0 : g.setup.tau0 ≡ option_map (λ t. g.first (region t.region)) g.policy.scheduling.tau0
@@ -67,7 +67,7 @@ pub record IsFixed (g : Ground) : Type 0 where
   pub second_io_bitmap : (s : ℕ) (c : Control) → slice_get g.setup.controls s ≡ Some c → g.kept (c.io_bitmaps + 1) ≡ true
   pub msr_bitmap : (s : ℕ) (c : Control) → slice_get g.setup.controls s ≡ Some c → g.kept c.msr_bitmap ≡ true
   -- a state page is where its subject's control says
-  pub state_place : (s : ℕ) (n : Subject) (c : Control) → slice_get g.policy.subjects s ≡ Some n → slice_get g.setup.controls s ≡ Some c → g.first (state n.name) ≡ c.state
+  pub state_pages : (s : ℕ) (n : Subject) (c : Control) → slice_get g.policy.subjects s ≡ Some n → slice_get g.setup.controls s ≡ Some c → g.first (state n.name) ≡ c.state
   pub no_thing : (name : List ℕ) → g.pages (state name) ≡ 0
   -- what a subject reaches
   pub sees : (s : ℕ) (n : Subject) (kind : AccessKind) (addr : ℕ) (x : Thing) (offset : ℕ) → slice_get g.policy.subjects s ≡ Some n → access_of (windows_of g.policy n) addr kind ≡ byte x offset → Sees g s n addr x offset

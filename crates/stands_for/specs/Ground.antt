@@ -43,8 +43,8 @@ abbrev pub raised_of : Ground → EventPart → Raised
 raised_of g e = record { mode = e.mode; target = record { subject = name_at g e.target; vector = e.vector } }
 
 -- the page and the offset in it of a thing's byte
-abbrev pub place_in : (Thing → ℕ) → Thing → ℕ → ℕ × ℕ
-place_in first x offset = (first x + offset / 4096, offset % 4096)
+abbrev pub page_and_offset : (Thing → ℕ) → Thing → ℕ → ℕ × ℕ
+page_and_offset first x offset = (first x + offset / 4096, offset % 4096)
 
 -- page j of a thing's bytes
 abbrev pub part : ℕ → List ℕ → List ℕ
@@ -66,7 +66,7 @@ pub record Joined (g : Ground) (s : ℕ) (n : Subject) (q : SubjectPart) (c : Co
   pub ports : (port size : ℕ) → ports_exit g.memory c port size ≡ not (are_granted (ports_of g.policy n) port size)
   pub msrs : (index : ℕ) (write : Bool) → msr_exits_in g.memory c index write ≡ not (is_granted (msrs_of n) index write)
   pub walks : (kind : AccessKind) (addr : ℕ) → addr < GUEST_END
-      → look_in g.memory c.eptp kind addr ≡ renamed_reach (place_in g.first) (reach_by kind addr (access_of (windows_of g.policy n) addr kind))
+      → look_in g.memory c.eptp kind addr ≡ renamed_reach (page_and_offset g.first) (reach_by kind addr (access_of (windows_of g.policy n) addr kind))
 
 -- there are a subject, a part and a control of this number
 pub record IsSubject (g : Ground) (s : ℕ) : Type 0 where

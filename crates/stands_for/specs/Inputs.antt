@@ -18,7 +18,7 @@ pub record SamePort (port value p v : ℕ) : Type 0 where
 -- the same bytes go to where the thing has this offset, and the thing has room for them
 pub record SameWrite (g : Ground) (at : ℕ) (bytes : List ℕ) (x : Thing) (offset : ℕ) (new : List ℕ) : Type 0 where
   pub same : bytes ≡ new
-  pub place : at ≡ 4096 * g.first x + offset
+  pub address : at ≡ 4096 * g.first x + offset
   pub room : offset + length bytes ≤ 4096 * g.pages x
   pub small : All IsByte bytes
 

@@ -90,7 +90,7 @@ pub record StandsBut (g : Ground) (but : Option ℕ) (k : Live) (y : System) : T
   pub ports : k.ports ≡ y.ports
   pub many_ports : length k.ports ≡ LAST_PORT + 1
   pub small_ports : All IsByte k.ports
-  pub place : k.place ≡ y.place
+  pub frame : k.frame ≡ y.frame
 
 -- **the machine and its kernel stand for the system**
 abbrev pub StandsFor : Ground → Live → System → Type 0

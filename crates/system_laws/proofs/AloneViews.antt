@@ -103,7 +103,7 @@ module _ (p : Source) (s : Subject) (is : subject_named p s.name ≡ Some s) (no
     by_slot (Some slot) = by_member slot.first (slice_get y.active slot.group)
 
     own_turn : IsAlone tick (reaching p s tick y) mine (system_turn p s.cpu tick y)
-    own_turn = by_slot (slot_in (frames_of p s.cpu) y.place tick)
+    own_turn = by_slot (slot_in (frames_of p s.cpu) y.frame tick)
 
   -- ---- the turns of a tick
 

@@ -30,21 +30,21 @@ module _ (p : Source) (cpu tick : ℕ) (y : System) (R : Turned System TurnLine 
   by_own slot member q has (Some st) None = nothing
   by_own slot member q has None values = nothing
 
-  by_subject : (slot : Slot) (member : List ℕ) → slot_in (frames_of p cpu) y.place tick ≡ Some slot → slice_get y.active slot.group ≡ Some member → (o : Option Subject) → subject_named p member ≡ o → R (turn_of_subject p cpu tick slot.first o y)
+  by_subject : (slot : Slot) (member : List ℕ) → slot_in (frames_of p cpu) y.frame tick ≡ Some slot → slice_get y.active slot.group ≡ Some member → (o : Option Subject) → subject_named p member ≡ o → R (turn_of_subject p cpu tick slot.first o y)
   by_subject slot member in_slot active None is = nothing
   by_subject slot member in_slot active (Some q) is =
       by_own slot member q (record { in_slot = in_slot; active = active; is = is }) (state_of y q.name) (named y.msrs q.name)
 
-  by_member : (slot : Slot) → slot_in (frames_of p cpu) y.place tick ≡ Some slot → (o : Option (List ℕ)) → slice_get y.active slot.group ≡ o → R (turn_of_member p cpu tick slot.first o y)
+  by_member : (slot : Slot) → slot_in (frames_of p cpu) y.frame tick ≡ Some slot → (o : Option (List ℕ)) → slice_get y.active slot.group ≡ o → R (turn_of_member p cpu tick slot.first o y)
   by_member slot in_slot None active = nothing
   by_member slot in_slot (Some member) active = by_subject slot member in_slot active (subject_named p member) refl
 
-  by_slot : (o : Option Slot) → slot_in (frames_of p cpu) y.place tick ≡ o → R (turn_in_slot p cpu tick o y)
+  by_slot : (o : Option Slot) → slot_in (frames_of p cpu) y.frame tick ≡ o → R (turn_in_slot p cpu tick o y)
   by_slot None in_slot = nothing
   by_slot (Some slot) in_slot = by_member slot in_slot (slice_get y.active slot.group) refl
 
   pub turn_cases : R (system_turn p cpu tick y)
-  turn_cases = by_slot (slot_in (frames_of p cpu) y.place tick) refl
+  turn_cases = by_slot (slot_in (frames_of p cpu) y.frame tick) refl
 
 -- ---- a run
 

@@ -50,7 +50,7 @@ module _ (p : Source) (majors : MajorsKept p) (members : MembersKept p) (cpu : �
 
   pub turn_on : (tick : ℕ) (y : System) → AreListed p y.active → (slot : Slot) (member : List ℕ) (q : Subject) → HasTurn p cpu tick y slot member q → q.cpu ≡ cpu
   turn_on tick y h slot member q has =
-      in_active y h slot.group (slice_get p.scheduling.groups slot.group) refl (slot_here p cpu majors y.place tick slot has.in_slot) member has.active q has.is
+      in_active y h slot.group (slice_get p.scheduling.groups slot.group) refl (slot_here p cpu majors y.frame tick slot has.in_slot) member has.active q has.is
 
 -- the name of who has it is that under which it was found
 pub named_so : (p : Source) (member : List ℕ) (q : Subject) → subject_named p member ≡ Some q → q.name ≡ member

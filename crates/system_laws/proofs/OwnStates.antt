@@ -50,7 +50,7 @@ store_msrs (Some w) y = refl
 store_stays : (s : Subject) (o : Option (Stored Thing)) (y : System) → StoresElsewhere s o → thing_in (with_store o y).things (state s.name) ≡ thing_in y.things (state s.name)
 store_stays s None y h = refl
 store_stays s (Some w) y h =
-    value_other same_thing w.place (state s.name) (λ old. over old w.offset w.bytes) y.things (things_apart w.place (state s.name) h)
+    value_other same_thing w.target (state s.name) (λ old. over old w.offset w.bytes) y.things (things_apart w.target (state s.name) h)
 
 -- ---- the answer of another subject, and its own
 

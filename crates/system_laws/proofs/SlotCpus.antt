@@ -30,7 +30,7 @@ is_here p cpu group = option_map_or (λ g. g.cpu == cpu) (slice_get p.scheduling
 
 -- ---- the minor frames of a CPU
 
--- what stands at the place of the first that passes is that
+-- what stands at the index of the first that passes is that
 at_first : {X : Type 0} (test : X → Bool) (xs : List X) (k : ℕ) → position test xs ≡ Some k → slice_get xs k ≡ find test xs
 at_first test xs k is =
     elim (nat_lt (position_or_len test xs) (length xs)) as (λ b. cond b (Some (position_or_len test xs)) None ≡ Some k → slice_get xs k ≡ find test xs) [

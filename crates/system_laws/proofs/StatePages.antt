@@ -63,7 +63,7 @@ module _ (name : List ℕ) where
   store_kept : (s : Subject) → s.name ≡ name → (o : Option (Stored Thing)) (y : System) → StoresElsewhere s o → Paged name y.things → Paged name (with_store o y).things
   store_kept s same None y none h = h
   store_kept s same (Some w) y none h =
-      other_kept w.place (λ old. over old w.offset w.bytes) y.things (subst (λ n. w.place ≡ state n → ⊥) same none) h
+      other_kept w.target (λ old. over old w.offset w.bytes) y.things (subst (λ n. w.target ≡ state n → ⊥) same none) h
 
   -- ---- inputs
 

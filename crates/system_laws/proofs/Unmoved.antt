@@ -1,4 +1,4 @@
--- What events leave: all things, all MSRs, the input bytes of ports, and the frame place.
+-- What events leave: all things, all MSRs, the input bytes of ports, and the frame.
 use Rattle.std.proofs.Common.{◌≡◌, ℕ, List, Option, Some, None, refl}
 use Rattle.muen_num.specs.declared.mode.EventMode.{EventMode}
 use Rattle.muen_num.specs.declared.mode.EventMode.TheVariants.{Asap, Async, Own as OwnMode, Switch}
@@ -14,22 +14,22 @@ pub record Unmoved (y z : System) : Type 0 where
   pub things : z.things ≡ y.things
   pub msrs : z.msrs ≡ y.msrs
   pub ports : z.ports ≡ y.ports
-  pub place : z.place ≡ y.place
+  pub frame : z.frame ≡ y.frame
 
 unmoved : (y : System) → Unmoved y y
-unmoved y = record { things = refl; msrs = refl; ports = refl; place = refl }
+unmoved y = record { things = refl; msrs = refl; ports = refl; frame = refl }
 
 by_group : (o : Option ℕ) (member : List ℕ) (y : System) → Unmoved y (with_active o member y)
 by_group None member y = unmoved y
-by_group (Some g) member y = record { things = refl; msrs = refl; ports = refl; place = refl }
+by_group (Some g) member y = record { things = refl; msrs = refl; ports = refl; frame = refl }
 
 by_mode : (p : Source) (mode : EventMode) (t : Target) (y : System) → Unmoved y (happens_as p mode t y)
-by_mode p Asap t y = record { things = refl; msrs = refl; ports = refl; place = refl }
-by_mode p Async t y = record { things = refl; msrs = refl; ports = refl; place = refl }
-by_mode p OwnMode t y = record { things = refl; msrs = refl; ports = refl; place = refl }
+by_mode p Asap t y = record { things = refl; msrs = refl; ports = refl; frame = refl }
+by_mode p Async t y = record { things = refl; msrs = refl; ports = refl; frame = refl }
+by_mode p OwnMode t y = record { things = refl; msrs = refl; ports = refl; frame = refl }
 by_mode p Switch t y =
     let handed = by_group (group_of p t.subject) t.subject (pends_now t y) in
-    record { things = handed.things; msrs = handed.msrs; ports = handed.ports; place = handed.place }
+    record { things = handed.things; msrs = handed.msrs; ports = handed.ports; frame = handed.frame }
 
 by_event : (p : Source) (o : Option Raised) (y : System) → Unmoved y (happens p o y)
 by_event p None y = unmoved y
@@ -41,4 +41,4 @@ by_raised p q (Some way) y = by_event p (event_of p q way) y
 
 pub by_irq : (o : Option Target) (y : System) → Unmoved y (irq_reaches o y)
 by_irq None y = unmoved y
-by_irq (Some t) y = record { things = refl; msrs = refl; ports = refl; place = refl }
+by_irq (Some t) y = record { things = refl; msrs = refl; ports = refl; frame = refl }

@@ -177,7 +177,7 @@ module _ (s : Subject) where
   reached addr (byte z o) x offset h e = let same : z ≡ x = cc (e) in subst (λ z. z ≡ state s.name → ⊥) same h
   reached addr (violation rights) x offset h e = absurd (cc (e))
 
-  elsewhere : (o : Option (Stored Thing)) → ((w : Stored Thing) → o ≡ Some w → w.place ≡ state s.name → ⊥) → StoresElsewhere s o
+  elsewhere : (o : Option (Stored Thing)) → ((w : Stored Thing) → o ≡ Some w → w.target ≡ state s.name → ⊥) → StoresElsewhere s o
   elsewhere None h = tt
   elsewhere (Some w) h = h w refl
 
@@ -190,7 +190,7 @@ module _ (s : Subject) where
     step_elsewhere : StoresElsewhere s (step (alone own mine.msrs inbox) mine.state).stored
     step_elsewhere =
         elsewhere (step (alone own mine.msrs inbox) mine.state).stored
-        (λ w e. let at = step_stored (alone own mine.msrs inbox) mine.state w e in looked at.addr w.place w.offset at.looked)
+        (λ w e. let at = step_stored (alone own mine.msrs inbox) mine.state w e in looked at.addr w.target w.offset at.looked)
 
     -- by whether it is stopped, whether a vector is delivered, and whether it is halted
     by_cases : (stopped : Bool) (vector : Option ℕ) (halted : Bool) (st : SubjectState) (traps : List ℕ) (a : Answer Thing) → StoresElsewhere s a.stored

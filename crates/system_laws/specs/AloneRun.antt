@@ -48,7 +48,7 @@ reaching_slot p s tick (Some slot) y = reaching_member p s tick slot.first (slic
 
 -- at a turn of its CPU; nothing where the turn is another subject's
 abbrev pub reaching : Source → Subject → ℕ → System → Option Inbox
-reaching p s tick y = reaching_slot p s tick (slot_in (frames_of p s.cpu) y.place tick) y
+reaching p s tick y = reaching_slot p s tick (slot_in (frames_of p s.cpu) y.frame tick) y
 
 -- the CPUs whose turns come before that of this one
 abbrev pub before : ℕ → List ℕ → List ℕ

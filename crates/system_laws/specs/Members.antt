@@ -20,6 +20,6 @@ AreListed p active = (k : ℕ) (name : List ℕ) (g : Group) → slice_get activ
 
 -- whose turn it is: this subject's, which is the active member of the slot's group
 pub record HasTurn (p : Source) (cpu tick : ℕ) (y : System) (slot : Slot) (member : List ℕ) (q : Subject) : Type 0 where
-  pub in_slot : slot_in (frames_of p cpu) y.place tick ≡ Some slot
+  pub in_slot : slot_in (frames_of p cpu) y.frame tick ≡ Some slot
   pub active : slice_get y.active slot.group ≡ Some member
   pub is : subject_named p member ≡ Some q

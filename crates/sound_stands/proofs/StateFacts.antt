@@ -36,7 +36,7 @@ pub no_thing : (p : Source) (files : Held) (i : Image) → KeepsConditions i →
 unfolding ground_of
 no_thing p files i keeps sound name = pages_by p i (state name) ∙ ap (λ o. option_map_or (λ (e : Thing × ℕ). e.1) (option_map (λ (e : Listed). (e.0, e.1.0.pages)) o) 0) (no_state p files i keeps sound name)
 
--- ---- its place
+-- ---- its address
 
 found_behind : {X : Type 0} (test : X → Bool) (xs ys : List X) → find test xs ≡ None → find test (xs ++ ys) ≡ find test ys
 found_behind test [] ys h = refl
@@ -46,7 +46,7 @@ found_behind test (x ∷ xs) ys h = by_test (test x) (found_behind test xs ys) h
     by_test true later h = absurd (cc (h))
     by_test false later h = later h
 
--- names that are the same are at one place
+-- names that are the same are at one index
 abbrev NamedOnce : Source → Type 0
 NamedOnce p = (s t : ℕ) (n m : Subject) → slice_get p.subjects s ≡ Some n → slice_get p.subjects t ≡ Some m → n.name ≡ m.name → s ≡ t
 
@@ -54,28 +54,28 @@ state_found : (p : Source) (i : Image) → NamedOnce p → (s : ℕ) (n : Subjec
     → find (λ (e : Thing × ℕ). same_thing e.0 (state n.name)) (zip (map (λ s. state s.name) p.subjects) (map (λ q. place_at i q.state) i.subjects)) ≡ Some (state n.name, place_at i q.state)
 state_found p i once s n q at to =
     let names : List Thing = map (λ s. state s.name) p.subjects in
-    let places : List ℕ = map (λ q. place_at i q.state) i.subjects in
-    found_only (λ (e : Thing × ℕ). same_thing e.0 (state n.name)) (zip names places) s (state n.name, place_at i q.state)
-    (zipped_at names places s (state n.name) (place_at i q.state) (slice_get-map (λ (s : Subject). state s.name) p.subjects s ∙ ap (option_map (λ (s : Subject). state s.name)) at) (slice_get-map (λ (q : SubjectPart). place_at i q.state) i.subjects s ∙ ap (option_map (λ (q : SubjectPart). place_at i q.state)) to))
+    let addresses : List ℕ = map (λ q. place_at i q.state) i.subjects in
+    found_only (λ (e : Thing × ℕ). same_thing e.0 (state n.name)) (zip names addresses) s (state n.name, place_at i q.state)
+    (zipped_at names addresses s (state n.name) (place_at i q.state) (slice_get-map (λ (s : Subject). state s.name) p.subjects s ∙ ap (option_map (λ (s : Subject). state s.name)) at) (slice_get-map (λ (q : SubjectPart). place_at i q.state) i.subjects s ∙ ap (option_map (λ (q : SubjectPart). place_at i q.state)) to))
     (same_thing_self (state n.name))
     (λ m e here passes.
-    let both = zipped_both names places m e here in
+    let both = zipped_both names addresses m e here in
     let o = from_some (λ (s : Subject). state s.name) (slice_get p.subjects m) e.0 (sym (slice_get-map (λ (s : Subject). state s.name) p.subjects m) ∙ both.0) in
     once m s o.0 n o.1 at (state_names o.0.name n.name (o.2 ∙ same_things e.0 (state n.name) passes)))
 
-state_at_place : (p : Source) (files : Held) (i : Image) → KeepsConditions i → IsSound p files i → NamedOnce p → (s : ℕ) (n : Subject) (q : SubjectPart) → slice_get p.subjects s ≡ Some n → slice_get i.subjects s ≡ Some q → place_of p i (state n.name) ≡ place_at i q.state
+state_at_address : (p : Source) (files : Held) (i : Image) → KeepsConditions i → IsSound p files i → NamedOnce p → (s : ℕ) (n : Subject) (q : SubjectPart) → slice_get p.subjects s ≡ Some n → slice_get i.subjects s ≡ Some q → place_of p i (state n.name) ≡ place_at i q.state
 unfolding place_of
-state_at_place p files i keeps sound once s n q at to =
-    let front = found_changed (λ y. same_thing y (state n.name)) (λ (e : Span). e.0.place) (things_of p) (thing_spans i) ∙ ap (option_map (λ (e : Listed). (e.0, e.1.0.place))) (no_state p files i keeps sound n.name) in
-    ap (λ o. option_map_or (λ (e : Thing × ℕ). e.1) o 0) (found_behind (λ (e : Thing × ℕ). same_thing e.0 (state n.name)) (zip (things_of p) (map (λ (e : Span). e.0.place) (thing_spans i))) _ front ∙ state_found p i once s n q at to)
+state_at_address p files i keeps sound once s n q at to =
+    let front = found_changed (λ y. same_thing y (state n.name)) (λ (e : Span). e.0.address) (things_of p) (thing_spans i) ∙ ap (option_map (λ (e : Listed). (e.0, e.1.0.address))) (no_state p files i keeps sound n.name) in
+    ap (λ o. option_map_or (λ (e : Thing × ℕ). e.1) o 0) (found_behind (λ (e : Thing × ℕ). same_thing e.0 (state n.name)) (zip (things_of p) (map (λ (e : Span). e.0.address) (thing_spans i))) _ front ∙ state_found p i once s n q at to)
 
 -- the state page of a subject is where its control says
-pub state_place : (p : Source) (files : Held) (i : Image) → KeepsConditions i → IsSound p files i → ((s t : ℕ) (n m : Subject) → slice_get p.subjects s ≡ Some n → slice_get p.subjects t ≡ Some m → n.name ≡ m.name → s ≡ t)
+pub state_pages : (p : Source) (files : Held) (i : Image) → KeepsConditions i → IsSound p files i → ((s t : ℕ) (n m : Subject) → slice_get p.subjects s ≡ Some n → slice_get p.subjects t ≡ Some m → n.name ≡ m.name → s ≡ t)
     → (s : ℕ) (n : Subject) (c : Control) → slice_get p.subjects s ≡ Some n → slice_get (ground_of p i).setup.controls s ≡ Some c → (ground_of p i).first (state n.name) ≡ c.state
 unfolding ground_of
-state_place p files i keeps sound once s n c named at =
+state_pages p files i keeps sound once s n c named at =
     let k = controlled p i s c at in
     let span = (subject_spans i keeps s k.part k.here).state in
-    let b = span_with i keeps span.place span.span span.here in
-    let place : place_at i k.part.state ≡ span.span.place = ap (λ o. option_map_or (λ (e : Span). e.0.place) o 0) (by_its_number i keeps k.part.state (span.span, b.0) b.1 span.number) in
-    ap (λ m. m / 4096) (state_at_place p files i keeps sound once s n k.part named k.here ∙ place) ∙ sym span.first ∙ ap (λ d. d.state) k.is
+    let b = span_with i keeps span.index span.span span.here in
+    let address : place_at i k.part.state ≡ span.span.address = ap (λ o. option_map_or (λ (e : Span). e.0.address) o 0) (by_its_number i keeps k.part.state (span.span, b.0) b.1 span.number) in
+    ap (λ m. m / 4096) (state_at_address p files i keeps sound once s n k.part named k.here ∙ address) ∙ sym span.first ∙ ap (λ d. d.state) k.is
