@@ -1,15 +1,15 @@
 //! Each reader of a field on bytes made by hand, and the printed texts.
-use image_form::fault::{Field, FormError, ImageFault, FormFault};
+use image_form::fault::{Field, FormError, FormFault, ImageFault};
 use image_form::reading::{byte_of, bytes_upto, gap_of, name_of, tag_of, u16_of, u32_of, u64_of};
 use image_form::writing::put_name;
 use std::test::Fail;
 
-fn short(left: usize) -> FormError {
-    FormError::At(FormFault::Short(left))
+fn short(remaining: usize) -> FormError {
+    FormError::At(FormFault::Short(remaining))
 }
 
-fn bad(left: usize, field: Field) -> FormError {
-    FormError::At(FormFault::Bad(left, field))
+fn bad(remaining: usize, field: Field) -> FormError {
+    FormError::At(FormFault::Bad(remaining, field))
 }
 
 #[test]

@@ -42,12 +42,12 @@ fn plan(alloc: Global) -> Result<Plan, AllocError> {
     })
 }
 
-fn frame_slot(major: usize, group: u8, first: bool, left: u32) -> FrameSlot {
+fn frame_slot(major: usize, group: u8, first: bool, remaining: u32) -> FrameSlot {
     FrameSlot {
         major,
         group,
         first,
-        left,
+        remaining,
     }
 }
 
@@ -81,7 +81,7 @@ fn the_frames_begin_anew(rt: HostRuntime) -> Result<(), Fail> {
 }
 
 #[test]
-fn places(rt: HostRuntime) -> Result<(), Fail> {
+fn frames_picked(rt: HostRuntime) -> Result<(), Fail> {
     let plan = plan(rt.alloc())?;
     let first = FrameAt::first();
     // within a major frame nothing is picked

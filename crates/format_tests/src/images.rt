@@ -64,8 +64,8 @@ fn has_its_calls(image: &Image) -> Option<bool> {
 
 fn has_its_subjects(image: &Image) -> Option<bool> {
     let subject = image.subjects.items().get(1)?;
-    let place = (subject.cpu, subject.group, subject.msrs);
-    Some(place == (1, 1, 64) && subject.name.as_str() == "t.-_9")
+    let numbers = (subject.cpu, subject.group, subject.msrs);
+    Some(numbers == (1, 1, 64) && subject.name.as_str() == "t.-_9")
 }
 
 fn has_its_device(image: &Image) -> Option<bool> {

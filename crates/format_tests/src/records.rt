@@ -1,6 +1,6 @@
 //! Records with their faults, and with their values.
 use muen_num::{Name, Seq};
-use record_text::{RecordDevice, Devices, RecordIrq, IrqTarget, RecordMemory, PortSpan, read};
+use record_text::{Devices, IrqTarget, PortSpan, RecordDevice, RecordIrq, RecordMemory, read};
 use std::alloc::Global;
 use std::test::Fail;
 
@@ -32,7 +32,7 @@ fn irqs(alloc: Global) -> Result<Seq<RecordIrq>, Fail> {
 fn devices(alloc: Global) -> Result<Devices, Fail> {
     let buf = RecordMemory {
         name: name("buf")?,
-        place: 0x20_0000,
+        address: 0x20_0000,
         bytes: 4096,
     };
     let regs = PortSpan {

@@ -3,7 +3,7 @@ use muen_num::text::{
     append, append_decimal, append_decimal8, append_decimal32, append_hex4, append_hex8,
     append_hex16, append_hex32,
 };
-use muen_num::{Name, TagPart, Seq, Tag, first_pair};
+use muen_num::{Name, Seq, Tag, TagPart, first_pair};
 use std::test::Fail;
 
 // Each row is a text, and that of the name that it is, or `none`.
@@ -82,7 +82,7 @@ fn keeps_a_list(rt: HostRuntime) -> Result<(), Fail> {
     Ok(())
 }
 
-// The later one's place tells which pair is first.
+// The later one's index tells which pair is first.
 #[test]
 fn finds_the_first_pair(rt: HostRuntime) {
     let found = first_pair(&[5, 20, 2, 20, 5], |a: &u64, b: &u64| {

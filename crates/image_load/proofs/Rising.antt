@@ -23,20 +23,20 @@ use Rattle.image_load.specs.Loading.{AreLow, IsLow}
 
 -- whole pages behind an end, of addresses that there are
 record IsBehind (end : ℕ) (s : SpanPart) : Type 0 where
-  aligned : s.place % PAGE ≡ 0
-  behind : end ≤ s.place
-  low : s.place + PAGE * s.pages ≤ PHYSICAL_END
+  aligned : s.address % PAGE ≡ 0
+  behind : end ≤ s.address
+  low : s.address + PAGE * s.pages ≤ PHYSICAL_END
 
 abbrev Rise : ℕ → List SpanPart → Type 0
 Rise end [] = Unit {0}
-Rise end (s ∷ ss) = IsBehind end s × Rise (s.place + PAGE * s.pages) ss
+Rise end (s ∷ ss) = IsBehind end s × Rise (s.address + PAGE * s.pages) ss
 
 one_behind : (h : Header) (b : SpansBefore) (s : SpanPart) → (span h b).fits s → IsBehind b.end s
 unfolding span field only gap done number byte coded
 one_behind h b s fits =
-    let place = both_true _ _ fits.0.1 in
+    let address = both_true _ _ fits.0.1 in
     let size = both_true _ _ fits.1.0.1 in
-    record { aligned = eqb-true _ _ place.0; behind = leb-true _ _ place.1; low = leb-true _ _ size.1 }
+    record { aligned = eqb-true _ _ address.0; behind = leb-true _ _ address.1; low = leb-true _ _ size.1 }
 
 rising : (h : Header) (b : SpansBefore) (ss : List SpanPart) → all_fit (after h) (λ d. (span h d).fits) b ss → Rise b.end ss
 unfolding all_fit after
@@ -49,7 +49,7 @@ parts_rise i fits = rising i.header (no_spans_before i.header) i.spans fits.1.0.
 
 low_each : (end : ℕ) (ss : List SpanPart) → Rise end ss → AllByRecursion IsLow ss
 low_each end [] h = tt
-low_each end (s ∷ ss) h = (record { low = h.0.low }, low_each (s.place + PAGE * s.pages) ss h.1)
+low_each end (s ∷ ss) h = (record { low = h.0.low }, low_each (s.address + PAGE * s.pages) ss h.1)
 
 pub parts_low : (i : Image) → IsParts i → AreLow i.spans
 parts_low i fits = All-from_recursion _ _ (low_each 0 i.spans (parts_rise i fits))
@@ -75,7 +75,7 @@ contents_length s bytes =
 
 abbrev Follow : ℕ → List MemorySpan → Type 0
 Follow end [] = Unit {0}
-Follow end (s ∷ ss) = (end ≤ s.place) × IsSpan s × Follow (end_of s) ss
+Follow end (s ∷ ss) = (end ≤ s.address) × IsSpan s × Follow (end_of s) ss
 
 follow_loaded : (end : ℕ) (ss : List SpanPart) (bs : List (List ℕ)) → Rise end ss → each_fit (λ s. (content s).fits) ss bs → Follow end (loaded_spans ss bs)
 unfolding each_fit
@@ -84,22 +84,22 @@ follow_loaded end (s ∷ ss) [] h fits = tt
 follow_loaded end (s ∷ ss) (b ∷ bs) h fits =
     let long = contents_length s b fits.0 in
     let here = h.0 in
-    let at_end : end_of (loaded_span s b) ≡ s.place + PAGE * s.pages = ap (λ n. s.place + n) long in (
+    let at_end : end_of (loaded_span s b) ≡ s.address + PAGE * s.pages = ap (λ n. s.address + n) long in (
       here.behind,
       record { aligned = here.aligned; whole = omega (arith, long); low = omega (arith, at_end, here.low) },
-      subst (λ n. Follow n (loaded_spans ss bs)) (sym at_end) (follow_loaded (s.place + PAGE * s.pages) ss bs h.1 fits.1),
+      subst (λ n. Follow n (loaded_spans ss bs)) (sym at_end) (follow_loaded (s.address + PAGE * s.pages) ss bs h.1 fits.1),
     )
 
 spans_each : (end : ℕ) (ss : List MemorySpan) → Follow end ss → AllByRecursion IsSpan ss
 spans_each end [] h = tt
 spans_each end (s ∷ ss) h = (h.1, spans_each (end_of s) ss h.2)
 
-all_behind : (end : ℕ) (ss : List MemorySpan) → Follow end ss → (j : ℕ) (d : MemorySpan) → j < length ss → end ≤ (get_or ss j d).place
+all_behind : (end : ℕ) (ss : List MemorySpan) → Follow end ss → (j : ℕ) (d : MemorySpan) → j < length ss → end ≤ (get_or ss j d).address
 all_behind end [] h j d low = absurd (omega arith)
 all_behind end (s ∷ ss) h zero d low = h.0
 all_behind end (s ∷ ss) h (suc j) d low =
     let more = all_behind (end_of s) ss h.2 j d (omega (arith, low)) in
-    let first : end ≤ s.place = h.0 in
+    let first : end ≤ s.address = h.0 in
     omega (arith, more, first)
 
 spans_apart : (end : ℕ) (ss : List MemorySpan) → Follow end ss → AreApart ss

@@ -1,4 +1,4 @@
 pub mod Loaded
 pub mod Loading
-pub mod Places
-pub mod Placing
+pub mod RecordDevices
+pub mod Resolving

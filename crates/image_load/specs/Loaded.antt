@@ -20,7 +20,7 @@ unfoldable pub zero_bytes : ℕ → List ℕ
 zero_bytes n = replicate n 0
 
 abbrev pub loaded_span : SpanPart → List ℕ → MemorySpan
-loaded_span s bytes = record { place = s.place; bytes = if is_device s.kind then zero_bytes (PAGE * s.pages) else bytes }
+loaded_span s bytes = record { address = s.address; bytes = if is_device s.kind then zero_bytes (PAGE * s.pages) else bytes }
 
 abbrev pub loaded_spans : List SpanPart → List (List ℕ) → List MemorySpan
 loaded_spans (s ∷ ss) (bytes ∷ more) = loaded_span s bytes ∷ loaded_spans ss more
@@ -33,7 +33,7 @@ memory_of i = pages_of_spans (loaded_spans i.spans i.contents)
 
 -- the first page of the span with this number
 abbrev pub page_of_span : List SpanPart → ℕ → ℕ
-page_of_span spans n = option_map_or (λ s. s.place / PAGE) (find (λ s. s.number == n) spans) 0
+page_of_span spans n = option_map_or (λ s. s.address / PAGE) (find (λ s. s.number == n) spans) 0
 
 abbrev pub control_of : List SpanPart → SubjectPart → Control
 control_of spans s = record {

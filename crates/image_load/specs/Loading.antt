@@ -10,7 +10,7 @@ use Rattle.image_load.specs.declared.loading.Loaded.{Loaded}
 
 -- the span ends where physical addresses do, or before it
 pub record IsLow (s : SpanPart) : Type 0 where
-  pub low : s.place + PAGE * s.pages ≤ PHYSICAL_END
+  pub low : s.address + PAGE * s.pages ≤ PHYSICAL_END
 
 abbrev pub AreLow : List SpanPart → Type 0
 AreLow spans = All IsLow spans

@@ -3,8 +3,8 @@
 
 mod loading;
 mod memory;
-mod places;
 mod reading;
+mod record_devices;
 mod setup;
 mod spans;
 

@@ -20,7 +20,7 @@ pub struct Loaded {
     pub setup: Setup,
     /// The memory at the start.
     pub memory: RegionMem,
-    /// The spans of memory, by their places.
+    /// The spans of memory, by their addresses.
     pub spans: Seq<SpanPart>,
 }
 

@@ -7,7 +7,7 @@ ghost use Rattle.image_load.specs.Loaded.{loaded_span, loaded_spans, zero_bytes}
 use image_pack::SpanPart;
 use muen_num::limits::PAGE;
 use muen_num::{NoMemory, Seq};
-use phys_mem::{RegionMem, MemorySpan};
+use phys_mem::{MemorySpan, RegionMem};
 use std::alloc::Global;
 
 // So many zeros.
@@ -24,14 +24,14 @@ fn load_span(alloc: Global, span: &SpanPart, bytes: Seq<u8>) -> Result<MemorySpa
 {
     if !span.kind.is_device() {
         return Ok(MemorySpan {
-            place: span.place,
+            address: span.address,
             bytes,
         });
     }
     let count = PAGE * u64::from(span.pages);
     let bytes = Seq::of(zeros(alloc, count as usize)?);
     Ok(MemorySpan {
-        place: span.place,
+        address: span.address,
         bytes,
     })
 }

@@ -1,12 +1,12 @@
 //! The device record that bytes are for an image.
 ghost use Rattle.std.specs.Prelude.{IfOk};
-ghost use Rattle.image_load.specs.Placing.{image_bench, image_record};
+ghost use Rattle.image_load.specs.Resolving.{image_bench, image_record};
 ghost use Rattle.kernel_core.specs.Ticks.{CanRun};
 ghost use Rattle.muen_num.specs.Answers.{Answers};
 ghost use Rattle.record_text.specs.Reading.{record_of};
 ghost use Rattle.record_text.specs.Steps.{mapped};
 
-use crate::places::devices_of;
+use crate::record_devices::devices_of;
 use image_pack::Parts;
 use record_text::{Record, RecordFault, read};
 use std::alloc::Global;
@@ -16,7 +16,7 @@ use std::alloc::Global;
 /// # Errors
 /// The first fault of the bytes; memory is refused.
 pub fn read_record(alloc: Global, parts: &Parts, bytes: &[u8]) -> Result<Record, RecordFault>
-    // It is the record that the text is, by the image's places and numbers, or its first fault.
+    // It is the record that the text is, by the image's addresses and numbers, or its first fault.
     ensures exact { Answers RecordFault.NoMemory (mapped (image_record parts.now) (record_of bytes.now (image_bench parts.now))) result }
     // A kernel can run it.
     ensures can_run { IfOk result CanRun }

@@ -17,7 +17,7 @@ fn page_of_span(spans: &[SpanPart], number: u16) -> u32
     ensures { result ≡ page_of_span spans.now number }
 {
     match span_numbered(spans, number) {
-        Some(span) => (span.place / PAGE) as u32,
+        Some(span) => (span.address / PAGE) as u32,
         None => 0,
     }
 }

@@ -24,17 +24,17 @@ one_more n = ap numbers_below (add-one n)
 
 -- ---- inputs
 
-found_low : (ts : List TickInput) (place : ℕ) (i : Input) (o : Option TickInput) → All (λ t. IsLow t.input) ts → slice_get ts place ≡ o → option_map (λ t. t.input) o ≡ Some i → IsLow i
-found_low ts place i None low here is = absurd (none-some i is)
-found_low ts place i (Some t) low here is =
-    let there : IsLow (slice_index_or ts place t).input = low place t (slice_get_within ts place t here) in
-    subst IsLow (ap (λ (u : TickInput). u.input) (get_or_from_slice_get ts place t t here) ∙ ap (λ o. unwrap_or o t.input) is) there
+found_low : (ts : List TickInput) (index : ℕ) (i : Input) (o : Option TickInput) → All (λ t. IsLow t.input) ts → slice_get ts index ≡ o → option_map (λ t. t.input) o ≡ Some i → IsLow i
+found_low ts index i None low here is = absurd (none-some i is)
+found_low ts index i (Some t) low here is =
+    let there : IsLow (slice_index_or ts index t).input = low index t (slice_get_within ts index t here) in
+    subst IsLow (ap (λ (u : TickInput). u.input) (get_or_from_slice_get ts index t t here) ∙ ap (λ o. unwrap_or o t.input) is) there
 
 -- an input that comes in a tick ends below 2 ^ 64
-pub low_input : (run : Record) (tick place : ℕ) (i : Input) → All (λ t. IsLow t.input) run.inputs → Some i ≡ slice_get (tick_inputs run tick) place → IsLow i
-low_input run tick place i low is =
-    found_low (inputs_at run tick) place i (slice_get (inputs_at run tick) place) (All-filter (λ (t : TickInput). t.tick == tick) (λ (t : TickInput). IsLow t.input) run.inputs low) refl
-    (sym (slice_get-map (λ (t : TickInput). t.input) (inputs_at run tick) place) ∙ sym is)
+pub low_input : (run : Record) (tick index : ℕ) (i : Input) → All (λ t. IsLow t.input) run.inputs → Some i ≡ slice_get (tick_inputs run tick) index → IsLow i
+low_input run tick index i low is =
+    found_low (inputs_at run tick) index i (slice_get (inputs_at run tick) index) (All-filter (λ (t : TickInput). t.tick == tick) (λ (t : TickInput). IsLow t.input) run.inputs low) refl
+    (sym (slice_get-map (λ (t : TickInput). t.input) (inputs_at run tick) index) ∙ sym is)
 
 module _ (setup : Setup) where
   taken_more : (is : List Input) (n : ℕ) (k : Live) → all_taken (kernel setup) (take (suc n) is) k ≡ takes_any (slice_get is n) (all_taken (kernel setup) (take n is) k)

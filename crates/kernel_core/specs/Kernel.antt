@@ -36,7 +36,7 @@ pub record Live : Type 0 where
   -- the input byte of each port
   pub ports : List ℕ
   -- the major frame that runs, and its first tick
-  pub place : FrameAt
+  pub frame : FrameAt
 
 -- ---- who is on a CPU
 
@@ -71,8 +71,8 @@ event_of part reason call =
     else (if reason == EXIT_VMCALL then entry part.calls call else entry part.traps reason)
 
 -- how the kernel ended an exit, by whether it raised an event
-abbrev pub end_of : ℕ → Bool → ExitEnd
-end_of reason raises =
+abbrev pub exit_end_of : ℕ → Bool → ExitEnd
+exit_end_of reason raises =
     if reason == EXIT_HLT then Halt
     else (if reason == EXIT_VMCALL then On
     else (if raises then Trap else Stop))
@@ -83,7 +83,7 @@ raised_by (Some e) r = raised e r
 
 abbrev pub exit_handled : Turn → ℕ → ℕ → ℕ → Option EventPart → Live → Turned Live TurnLine
 exit_handled t reason qualification addr event k =
-    told t (Exit reason qualification addr (end_of reason (is_some event))) (record k {
+    told t (Exit reason qualification addr (exit_end_of reason (is_some event))) (record k {
       machine = exit_finished t.cpu (finish_of reason (is_some event)) k.machine;
       router = raised_by event k.router;
     })
@@ -158,7 +158,7 @@ turn_in_slot setup cpu tick on None k = idle k
 
 -- by who is on the CPU; a CPU that isn't there takes no turn
 abbrev pub turn_on : Setup → ℕ → ℕ → Option (Option ℕ) → Live → Turned Live TurnLine
-turn_on setup cpu tick (Some on) k = turn_in_slot setup cpu tick on (slot_in (frames_in setup.plan cpu) k.place tick) k
+turn_on setup cpu tick (Some on) k = turn_in_slot setup cpu tick on (slot_in (frames_in setup.plan cpu) k.frame tick) k
 turn_on setup cpu tick None k = idle k
 
 -- **the turn** of a CPU in a tick

@@ -23,7 +23,7 @@ live_started setup cpus pages = record {
   router = router_started setup.subjects setup.plan.groups;
   on = replicate cpus None;
   ports = no_inputs;
-  place = first_place;
+  frame = first_place;
 }
 
 -- ---- a tick begins
@@ -34,7 +34,7 @@ pick_of tau0 pages = option_and_then (λ page. slice_get (page_at pages page) 0)
 
 abbrev pub begins : Setup → ℕ → Live → Live
 begins setup tick k =
-    record k { place = place_at (ticks_of_majors setup.plan) k.place (pick_of setup.tau0 k.machine.pages) tick }
+    record k { frame = place_at (ticks_of_majors setup.plan) k.frame (pick_of setup.tau0 k.machine.pages) tick }
 
 -- ---- inputs; no table lets a device reach memory by itself
 

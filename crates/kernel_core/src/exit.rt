@@ -1,6 +1,6 @@
 //! What the kernel makes of an exit.
 ghost use Rattle.std.specs.Prelude.{◌≡◌, option_and_then, slice_get};
-ghost use Rattle.kernel_core.specs.Kernel.{end_of, entry, event_of};
+ghost use Rattle.kernel_core.specs.Kernel.{entry, event_of, exit_end_of};
 
 use image_pack::{EventPart, SubjectPart};
 use muen_num::limits::{EXIT_HLT, EXIT_VMCALL};
@@ -29,8 +29,8 @@ pub(crate) fn event_of(part: &SubjectPart, reason: u8, call: u64) -> Option<Even
 }
 
 /// How the kernel ends an exit, by whether it raises an event.
-pub(crate) fn end_of(reason: u8, raises: bool) -> ExitEnd
-    ensures { result ≡ end_of reason raises }
+pub(crate) fn exit_end_of(reason: u8, raises: bool) -> ExitEnd
+    ensures { result ≡ exit_end_of reason raises }
 {
     match reason {
         EXIT_HLT => ExitEnd::Halt,

@@ -7,7 +7,7 @@ ghost use Rattle.vmx_machine.specs.Machine.{entered, left, state_on};
 ghost use Rattle.kernel_core.specs.Kernel.{turn_of, turn_in_slot, turn_of_member, turn_of_subject, switched, goes_on, acts_on, acts, delivers, injects, goes_further, handled, exit_handled, raised_by, event_of, vector_for};
 ghost use Rattle.kernel_core.specs.Ticks.{CanRun, kernel_started};
 
-use crate::exit::{end_of, event_of};
+use crate::exit::{event_of, exit_end_of};
 use crate::on_cpus::{nobody, on_cpu, put_on};
 use crate::setup::Setup;
 use crate::turn::Turn;
@@ -23,7 +23,7 @@ use record_text::Record;
 use std::alloc::Global;
 use std::marker::Model;
 use subject_state::SubjectState;
-use view_text::{TurnLine, TurnAction};
+use view_text::{TurnAction, TurnLine};
 use vmx_machine::{Control, Machine};
 
 /// The kernel of a system that runs on a record.
@@ -35,7 +35,7 @@ pub struct Kernel<M: PhysMem, T: Translate> {
     pub(crate) router: Router,
     pub(crate) on: Vec<Option<u8>>,
     pub(crate) bench: Bench,
-    pub(crate) place: FrameAt,
+    pub(crate) frame: FrameAt,
     pub(crate) tick: u32,
 }
 
@@ -49,7 +49,7 @@ impl<M: PhysMem, T: Translate> Model for Kernel<M, T> {
       setup = k.setup;
       cpus = k.cpus;
       run = k.bench.run;
-      live = record { machine = k.machine; router = k.router; on = k.on.items; ports = k.bench.ports; place = k.place };
+      live = record { machine = k.machine; router = k.router; on = k.on.items; ports = k.bench.ports; frame = k.frame };
       tick = k.tick;
     } };
 
@@ -85,7 +85,7 @@ impl<M: PhysMem, T: Translate> Kernel<M, T> {
             router,
             on,
             bench,
-            place: FrameAt::first(),
+            frame: FrameAt::first(),
             tick: 0,
         })
     }
@@ -137,7 +137,7 @@ impl<M: PhysMem, T: Translate> Kernel<M, T> {
             reason,
             qualification,
             addr,
-            end: end_of(reason, raises),
+            end: exit_end_of(reason, raises),
         })
     }
 
@@ -150,7 +150,11 @@ impl<M: PhysMem, T: Translate> Kernel<M, T> {
         match end {
             StepEnd::Plain => turn.line(TurnAction::Ran),
             StepEnd::Set { reg, value } => turn.line(TurnAction::Set { reg, value }),
-            StepEnd::Stored { size, addr, value } => turn.line(TurnAction::Stored { size, addr, value }),
+            StepEnd::Stored { size, addr, value } => turn.line(TurnAction::Stored {
+                size,
+                addr,
+                value,
+            }),
             StepEnd::Out { size, port, value } => turn.line(TurnAction::Out { size, port, value }),
             StepEnd::WroteMsr { index, value } => turn.line(TurnAction::WroteMsr { index, value }),
             StepEnd::Exit {
@@ -193,7 +197,13 @@ impl<M: PhysMem, T: Translate> Kernel<M, T> {
         }
     }
 
-    fn act(&mut self, turn: Turn, subject: u8, first: bool, state: &SubjectState) -> Option<TurnLine>
+    fn act(
+        &mut self,
+        turn: Turn,
+        subject: u8,
+        first: bool,
+        state: &SubjectState,
+    ) -> Option<TurnLine>
         requires { turn.cpu < length self.old.live.machine.cpus }
         ensures state { (part : SubjectPart) → slice_get self.old.setup.subjects subject ≡ Some part → self.new ≡ record self.old { live = (acts turn subject part first state.now self.old.live).state } }
         ensures line { (part : SubjectPart) → slice_get self.old.setup.subjects subject ≡ Some part → result ≡ (acts turn subject part first state.now self.old.live).line }
@@ -277,7 +287,13 @@ impl<M: PhysMem, T: Translate> Kernel<M, T> {
     }
 
     // The turn of a subject, by its number.
-    fn turn_of_subject(&mut self, cpu: u8, subject: u8, first: bool, on: Option<u8>) -> Option<TurnLine>
+    fn turn_of_subject(
+        &mut self,
+        cpu: u8,
+        subject: u8,
+        first: bool,
+        on: Option<u8>,
+    ) -> Option<TurnLine>
         requires { cpu < length self.old.live.machine.cpus }
         ensures state { self.new ≡ record self.old { live = (turn_of_subject cpu self.old.tick subject first on (slice_get self.old.setup.subjects subject) (slice_get self.old.setup.controls subject) self.old.live).state } }
         ensures line { result ≡ (turn_of_subject cpu self.old.tick subject first on (slice_get self.old.setup.subjects subject) (slice_get self.old.setup.controls subject) self.old.live).line }
@@ -298,7 +314,7 @@ impl<M: PhysMem, T: Translate> Kernel<M, T> {
         ensures line { result ≡ (turn_of self.old.setup cpu self.old.tick self.old.live).line }
     {
         let on = on_cpu(&self.on, cpu as usize)?;
-        let slot = slot(&self.setup.plan, self.place, cpu, self.tick)?;
+        let slot = slot(&self.setup.plan, self.frame, cpu, self.tick)?;
         let subject = self.router.active(slot.group)?;
         self.turn_of_subject(cpu, subject, slot.first, on)
     }

@@ -36,13 +36,13 @@ fn pick<M: PhysMem>(mem: &M, tau0: Option<u32>) -> Option<u8>
     }
 }
 
-// The CPU of this place in the order by number.
+// The CPU of this index in the order by number.
 #[tactic(auto, using(muen_num::proofs::NumbersBelow::number_at, crate::proofs::Orders::past_numbers))]
-fn by_number(cpus: u8, place: usize) -> Option<u8>
-    ensures { result ≡ slice_get (numbers_below cpus) place }
+fn by_number(cpus: u8, index: usize) -> Option<u8>
+    ensures { result ≡ slice_get (numbers_below cpus) index }
 {
-    if place < cpus as usize {
-        Some(place as u8)
+    if index < cpus as usize {
+        Some(index as u8)
     } else {
         None
     }
@@ -54,7 +54,7 @@ impl<M: PhysMem, T: Translate> Kernel<M, T> {
         ensures { self.new ≡ record self.old { live = begins self.old.setup self.old.tick self.old.live } }
     {
         let pick = pick(self.machine.mem(), self.setup.tau0);
-        self.place = advance(&self.setup.plan, self.place, pick, self.tick);
+        self.frame = advance(&self.setup.plan, self.frame, pick, self.tick);
     }
 
     // How many inputs the tick has.
@@ -64,11 +64,11 @@ impl<M: PhysMem, T: Translate> Kernel<M, T> {
         self.bench.inputs(self.tick).len()
     }
 
-    // The input of the tick at this place comes.
-    fn take_input(&mut self, place: usize)
-        ensures { self.new ≡ record self.old { live = takes_any (slice_get (tick_inputs self.old.run self.old.tick) place) self.old.live } }
+    // The input of the tick at this index comes.
+    fn take_input(&mut self, index: usize)
+        ensures { self.new ≡ record self.old { live = takes_any (slice_get (tick_inputs self.old.run self.old.tick) index) self.old.live } }
     {
-        match input_at(self.bench.inputs(self.tick), place) {
+        match input_at(self.bench.inputs(self.tick), index) {
             None => {}
             Some(Input::Port { port, value }) => {
                 let (port, value) = (*port, *value);
@@ -84,8 +84,8 @@ impl<M: PhysMem, T: Translate> Kernel<M, T> {
     fn take_inputs(&mut self)
         ensures { self.new ≡ record self.old { live = all_taken (kernel self.old.setup) (tick_inputs self.old.run self.old.tick) self.old.live } }
     {
-        for place in 0..self.count() {
-            self.take_input(place);
+        for index in 0..self.count() {
+            self.take_input(index);
         }
     }
 
@@ -109,14 +109,14 @@ impl<M: PhysMem, T: Translate> Kernel<M, T> {
         }
     }
 
-    /// The CPU that takes the turn of this place in the tick: as the record orders them, and by number
+    /// The CPU that takes the turn of this index in the tick: as the record orders them, and by number
     /// where it doesn't. None behind the last.
-    pub fn cpu_at(&self, place: usize) -> Option<u8>
-        ensures { result ≡ slice_get (tick_order self.now.run self.now.cpus self.now.tick) place }
+    pub fn cpu_at(&self, index: usize) -> Option<u8>
+        ensures { result ≡ slice_get (tick_order self.now.run self.now.cpus self.now.tick) index }
     {
         match self.bench.order(self.tick) {
-            None => by_number(self.cpus, place),
-            Some(order) => order.get(place).copied(),
+            None => by_number(self.cpus, index),
+            Some(order) => order.get(index).copied(),
         }
     }
 
@@ -158,11 +158,11 @@ fn leave_all<M: PhysMem, T: Translate>(machine: &mut Machine<M, T>, cpus: usize)
     }
 }
 
-// The input at a place.
-fn input_at(inputs: &[TickInput], place: usize) -> Option<&Input>
-    ensures { option_map (λ i. i.now) result ≡ slice_get (map (λ i. i.input) inputs.now) place }
+// The input at an index.
+fn input_at(inputs: &[TickInput], index: usize) -> Option<&Input>
+    ensures { option_map (λ i. i.now) result ≡ slice_get (map (λ i. i.input) inputs.now) index }
 {
-    match inputs.get(place) {
+    match inputs.get(index) {
         None => None,
         Some(found) => Some(&found.input),
     }

@@ -3,7 +3,7 @@ ghost use Rattle.std.specs.Prelude.{◌≡◌};
 ghost use Rattle.kernel_core.specs.Kernel.{line_of};
 
 use muen_num::Name;
-use view_text::{TurnLine, TurnAction};
+use view_text::{TurnAction, TurnLine};
 
 /// Who takes a turn, and when.
 #[derive(Clone, Copy, Debug, PartialEq, Eq)]

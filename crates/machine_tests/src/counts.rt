@@ -11,7 +11,7 @@ fn window(guest: u64, size: u64) -> Window
     Window {
         guest,
         size,
-        place: 0,
+        address: 0,
         rights: Rights::READ,
         caching: Caching::Wb,
         leaf: Leaf::Small,

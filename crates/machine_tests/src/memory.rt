@@ -1,16 +1,16 @@
-use muen_num::{Seq, AccessSize};
-use phys_mem::{PhysMem, RegionMem, MemorySpan};
+use muen_num::{AccessSize, Seq};
+use phys_mem::{MemorySpan, PhysMem, RegionMem};
 use std::alloc::Global;
 use std::test::Fail;
 
 /// Two pages from 1 MiB on, and one page at 2 GiB.
 fn memory(alloc: Global) -> Result<RegionMem, Fail> {
     let low = MemorySpan {
-        place: 0x10_0000,
+        address: 0x10_0000,
         bytes: Seq::of(vec![in alloc; 0; 0x2000]?),
     };
     let high = MemorySpan {
-        place: 0x8000_0000,
+        address: 0x8000_0000,
         bytes: Seq::of(vec![in alloc; 7; 0x1000]?),
     };
     let spans = vec![in alloc; low, high]?;

@@ -1,4 +1,4 @@
-//! Bytes at places that were computed by hand.
+//! Bytes at offsets that were computed by hand.
 use msrbm_emit::{emit, emit_area};
 use policy_types::MsrGrant;
 use std::test::Fail;

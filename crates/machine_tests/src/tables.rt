@@ -20,8 +20,8 @@ fn page_of(leaf: Leaf) -> u64
 {
     match leaf {
         Leaf::Small => PAGE,
-        Leaf::Middle => LARGE_PAGE,
-        Leaf::Large => 512 * LARGE_PAGE,
+        Leaf::Large => LARGE_PAGE,
+        Leaf::Huge => 512 * LARGE_PAGE,
     }
 }
 
@@ -32,16 +32,16 @@ fn is_emittable(window: Window) -> bool
     if rights >= 8 || rights % 2 == 0 || window.size == 0 {
         return false;
     }
-    if window.guest % PAGE != 0 || window.size % PAGE != 0 || window.place % PAGE != 0 {
+    if window.guest % PAGE != 0 || window.size % PAGE != 0 || window.address % PAGE != 0 {
         return false;
     }
-    if window.guest >= GUEST_END || window.size > PHYSICAL_END || window.place >= PHYSICAL_END {
+    if window.guest >= GUEST_END || window.size > PHYSICAL_END || window.address >= PHYSICAL_END {
         return false;
     }
     let page = page_of(window.leaf);
     window.guest + window.size <= GUEST_END
-        && window.place + window.size <= PHYSICAL_END
-        && window.place % page == window.guest % page
+        && window.address + window.size <= PHYSICAL_END
+        && window.address % page == window.guest % page
 }
 
 fn are_emittable(windows: &[Window]) -> bool
@@ -85,7 +85,7 @@ fn entries_set(out: &[u8]) -> usize {
     count
 }
 
-// Whether emitting gives these entries, each with its table and its place in the table, and all
+// Whether emitting gives these entries, each with its table and its index in the table, and all
 // others are 0.
 fn emits(
     alloc: Global,
@@ -109,11 +109,11 @@ fn emits(
     Ok(entries_set(&out) == expected.len())
 }
 
-fn small(guest: u64, place: u64, rights: Rights, caching: Caching) -> Window {
+fn small(guest: u64, address: u64, rights: Rights, caching: Caching) -> Window {
     Window {
         guest,
         size: PAGE,
-        place,
+        address,
         rights,
         caching,
         leaf: Leaf::Small,
@@ -127,10 +127,10 @@ fn a_large_page_beside_a_small_one(rt: HostRuntime) -> Result<(), Fail> {
     let data = Window {
         guest: 0x80_0000,
         size: LARGE_PAGE,
-        place: 0x20_0000,
+        address: 0x20_0000,
         rights: Rights::READ.union(Rights::WRITE),
         caching: Caching::Wb,
-        leaf: Leaf::Middle,
+        leaf: Leaf::Large,
     };
     let expected = [
         (0, 0, 0x10_1007),
@@ -149,10 +149,10 @@ fn a_page_of_a_gigabyte(rt: HostRuntime) -> Result<(), Fail> {
     let window = Window {
         guest: 0x4000_0000,
         size: 0x4000_0000,
-        place: 0x8000_0000,
+        address: 0x8000_0000,
         rights: Rights::READ.union(Rights::WRITE),
         caching: Caching::Wb,
-        leaf: Leaf::Large,
+        leaf: Leaf::Huge,
     };
     let expected = [(0, 0, 0x10_1007), (1, 1, 0x8000_00b3)];
     assert_eq!(rt; emits(rt.alloc(), &[window], &expected)?, true);

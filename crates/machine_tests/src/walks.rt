@@ -1,7 +1,7 @@
 use ept_walk::{PlainWalk, Translate};
 use machine_meaning::Walk;
-use muen_num::{AccessKind, Seq, AccessSize};
-use phys_mem::{PhysMem, RegionMem, MemorySpan};
+use muen_num::{AccessKind, AccessSize, Seq};
+use phys_mem::{MemorySpan, PhysMem, RegionMem};
 use std::alloc::Global;
 use std::test::Fail;
 
@@ -15,11 +15,11 @@ const PAGE_TABLE: u64 = 0x10_3000;
 /// Seven pages from 1 MiB on, for tables, and one page at 2 GiB.
 fn memory(alloc: Global) -> Result<RegionMem, Fail> {
     let low = MemorySpan {
-        place: 0x10_0000,
+        address: 0x10_0000,
         bytes: Seq::of(vec![in alloc; 0; 0x7000]?),
     };
     let high = MemorySpan {
-        place: 0x8000_0000,
+        address: 0x8000_0000,
         bytes: Seq::of(vec![in alloc; 0; 0x1000]?),
     };
     let spans = vec![in alloc; low, high]?;
@@ -28,8 +28,8 @@ fn memory(alloc: Global) -> Result<RegionMem, Fail> {
 
 /// Writes an entry into the table of a level, 3 for the PML4 table.
 fn write<M: PhysMem>(mem: &mut M, level: u64, index: u64, entry: u64) {
-    let place = PAGE_TABLE - 0x1000 * (level % 4) + 8 * (index % 512);
-    mem.store(place, AccessSize::Eight, entry);
+    let address = PAGE_TABLE - 0x1000 * (level % 4) + 8 * (index % 512);
+    mem.store(address, AccessSize::Eight, entry);
 }
 
 /// Where a walk for reading ends, with an entry in place of the first one of its level.

@@ -4,7 +4,7 @@ ghost use Rattle.muen_outside.specs.declared.files.FileError.TheVariants.{NoMemo
 ghost use Rattle.muen_outside.specs.Counts.{Rose};
 ghost use Rattle.muen_outside.specs.Store.{reading_of, KeepsOthers, insert_known};
 ghost use Rattle.muen_outside.specs.States.{FilesState};
-ghost use Rattle.muen_outside.specs.ErrorTexts.{file_end_text};
+ghost use Rattle.muen_outside.specs.ErrorTexts.{file_error_text};
 ghost use Rattle.muen_outside.specs.Found.{seen, IsMiss, IsWithin};
 
 use muen_num::Seq;
@@ -33,7 +33,7 @@ pub enum FileError {
 impl FileError {
     /// The text of the error.
     pub fn as_str(self) -> &'static str
-        ensures { result.now ≡ file_end_text self }
+        ensures { result.now ≡ file_error_text self }
     {
         match self {
             FileError::Failed => "file fault",
@@ -43,9 +43,9 @@ impl FileError {
 }
 
 impl fmt::Display for FileError {
-    ghost use Rattle.muen_outside.specs.ErrorTexts.{file_end_text};
+    ghost use Rattle.muen_outside.specs.ErrorTexts.{file_error_text};
 
-    ghost output = { λ e. Some (file_end_text e) };
+    ghost output = { λ e. Some (file_error_text e) };
 
     fn fmt<W: fmt::Write>(&self, f: &mut fmt::Formatter<W>) -> fmt::Result {
         f.write_str(self.as_str())

@@ -11,7 +11,7 @@ use Rattle.image_load.proofs.Rising.{parts_low}
 use Rattle.image_pack.specs.Parts.{IsParts}
 use Rattle.image_pack.specs.declared.parts.Image.{Image}
 
-pub low_pages : (s : SpanPart) → IsLow s → s.place / 4096 + s.pages ≤ 2 ^ 52
+pub low_pages : (s : SpanPart) → IsLow s → s.address / 4096 + s.pages ≤ 2 ^ 52
 low_pages s low = let l = low.low in omega (arith, l)
 
 pub found_low : (spans : List SpanPart) (n : ℕ) (s : SpanPart) → AreLow spans → find (λ s. s.number == n) spans ≡ Some s → IsLow s

@@ -44,7 +44,7 @@ abbrev pub bytes_from : List Page → ℕ → ℕ → List ℕ
 bytes_from pages first n = flat_map (λ j. page_at pages (first + j)) (numbers_below n)
 
 abbrev pub digest_in : List Page → SpanPart → List ℕ
-digest_in pages s = sha256 (bytes_from pages (s.place / PAGE) s.pages)
+digest_in pages s = sha256 (bytes_from pages (s.address / PAGE) s.pages)
 
 -- what is printed as a region, and what as a device's memory; what the kernel has for a subject isn't printed
 abbrev pub prints_as : Bool → SpanKind → Bool

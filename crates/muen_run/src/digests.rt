@@ -51,7 +51,7 @@ fn put_span<S: Sink, M: PhysMem>(
     ensures { Gives (region_text span.now.tag device (digest_in (M.pages mem.now) span.now)) (behind (S.state out.old) buffer.old) (behind (S.state out.new) buffer.new) result }
 {
     let mut space = [0u8; 256];
-    let digest = digest_of(mem, span.place / PAGE, span.pages);
+    let digest = digest_of(mem, span.address / PAGE, span.pages);
     let n = region_line(&span.tag, device, &digest, &mut space);
     buffer.put(&space[..n], out)
 }

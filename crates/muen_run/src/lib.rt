@@ -31,9 +31,9 @@ pub enum RunError {
 
 impl From<NoMemory> for RunError {
     ghost use Rattle.std.specs.Prelude.{◌≡◌};
-    ghost use Rattle.muen_run.specs.declared.RunError.TheVariants as ends;
+    ghost use Rattle.muen_run.specs.declared.RunError.TheVariants as errors;
 
-    ghost from_gives = { λ refused end. end ≡ ends.NoMemory };
+    ghost from_gives = { λ refused error. error ≡ errors.NoMemory };
 
     fn from(refused: NoMemory) -> RunError {
         let NoMemory = refused;

@@ -13,7 +13,11 @@ use view_text::{TurnLine, turn_line};
 
 // The line of a turn, if it has one.
 #[tactic(auto, using(muen_outside::proofs::Buffered::gives))]
-fn put_line<S: Sink>(line: Option<TurnLine>, buffer: &mut Buffer, out: &mut S) -> Result<(), SinkFault>
+fn put_line<S: Sink>(
+    line: Option<TurnLine>,
+    buffer: &mut Buffer,
+    out: &mut S,
+) -> Result<(), SinkFault>
     ensures { Gives (flat_map turn_text (option_to_list line)) (behind (S.state out.old) buffer.old) (behind (S.state out.new) buffer.new) result }
 {
     match line {
@@ -26,12 +30,12 @@ fn put_line<S: Sink>(line: Option<TurnLine>, buffer: &mut Buffer, out: &mut S) -
     }
 }
 
-// The turn of a place in the tick.
-fn turn_at<M: PhysMem, T: Translate>(kernel: &mut Kernel<M, T>, place: usize) -> Option<TurnLine>
-    ensures state { kernel.new ≡ with_live kernel.old (turn_at kernel.old (slice_get (order_of kernel.old) place)).state }
-    ensures line { result ≡ (turn_at kernel.old (slice_get (order_of kernel.old) place)).line }
+// The turn of an index in the tick.
+fn turn_at<M: PhysMem, T: Translate>(kernel: &mut Kernel<M, T>, index: usize) -> Option<TurnLine>
+    ensures state { kernel.new ≡ with_live kernel.old (turn_at kernel.old (slice_get (order_of kernel.old) index)).state }
+    ensures line { result ≡ (turn_at kernel.old (slice_get (order_of kernel.old) index)).line }
 {
-    match kernel.cpu_at(place) {
+    match kernel.cpu_at(index) {
         None => None,
         Some(cpu) => kernel.turn(cpu),
     }
@@ -47,8 +51,8 @@ fn put_turns<S: Sink, M: PhysMem, T: Translate>(
     ensures lines { Gives (flat_map turn_text (turns_in kernel.old (order_of kernel.old)).lines) (behind (S.state out.old) buffer.old) (behind (S.state out.new) buffer.new) result }
     ensures state { OnOk result (kernel.new ≡ with_live kernel.old (turns_in kernel.old (order_of kernel.old)).state) }
 {
-    for place in 0..kernel.turns() {
-        let line = turn_at(kernel, place);
+    for index in 0..kernel.turns() {
+        let line = turn_at(kernel, index);
         put_line(line, buffer, out)?;
     }
     Ok(())

@@ -117,7 +117,7 @@ const ONE_SUBJECT: &str = r#"{"processor":{"logicalCpus":1},
 fn longer(alloc: Global, document: &str, lists: &str, count: u32) -> Result<String, Fail> {
     let mut text = String::from_str(alloc, document)?;
     for list in lists.split(" | ") {
-        let Some((place, item)) = list.split_once("=>") else {
+        let Some((anchor, item)) = list.split_once("=>") else {
             return Err(Fail::new("no list"));
         };
         let mut items = String::new(alloc);
@@ -126,8 +126,8 @@ fn longer(alloc: Global, document: &str, lists: &str, count: u32) -> Result<Stri
             items.push_str(item.replace(alloc, '@', number.as_str())?.as_str())?;
             items.push(',')?;
         }
-        items.push_str(place)?;
-        text = text.as_str().replacen(alloc, place, items.as_str(), 1)?;
+        items.push_str(anchor)?;
+        text = text.as_str().replacen(alloc, anchor, items.as_str(), 1)?;
     }
     Ok(text)
 }

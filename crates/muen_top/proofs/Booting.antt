@@ -5,7 +5,7 @@ use Rattle.image_form.specs.Faults.{Tells}
 use Rattle.image_form.specs.Form.{IsBytes}
 use Rattle.image_form.specs.declared.fault.ImageFault.{ImageFault}
 use Rattle.image_form.specs.declared.fault.ImageFault.TheVariants.{Short, Bad, Trailing, NoMemory as NoMemoryForImage}
-use Rattle.image_load.specs.Placing.{image_bench, image_record}
+use Rattle.image_load.specs.Resolving.{image_bench, image_record}
 use Rattle.image_meaning.specs.Bench.{devices_of}
 use Rattle.image_meaning.specs.Sound.{IsSound}
 use Rattle.image_pack.specs.Parts.{IsImage}
@@ -38,7 +38,7 @@ use Rattle.muen_top.specs.FilesSeen.{SawAfter, ShownAfter}
 use Rattle.muen_top.specs.Loads.{IsReadBack, IsReadOf, NotMade, refused, unmade, NotRead, NotReadAfter}
 use Rattle.muen_top.specs.PolicyCommands.{Gives, Stops}
 use Rattle.muen_top.specs.Runs.{OnlyMemory}
-use Rattle.muen_top.specs.Stops.{stop_of_end, stop_of_fault, stop_of_image_fault, stop_of_refusal}
+use Rattle.muen_top.specs.CommandErrors.{error_of_build, error_of_image_fault, error_of_record_fault, error_of_refusal}
 use Rattle.muen_top.specs.declared.outcome.CommandError.{CommandError}
 use Rattle.muen_top.specs.declared.outcome.CommandError.TheVariants.{Usage, Missing, TooLong, Refused, ImageRefused, RecordRefused, FileFault, NoMemory}
 use Rattle.muen_top.proofs.FilesSeen.{explained_after, shown_after}
@@ -50,11 +50,11 @@ use Rattle.muen_top.proofs.Told.{for_a_file, some_files}
 pub read_so : (i j : Image) → Tells (Ok i) (Ok j) → i ≡ j
 read_so i j h = cc (h)
 
-pub unread_so : (i : Image) (fault : ImageFault) (stop : CommandError) → Tells (Ok i) (Err fault) → stop ≡ stop_of_image_fault fault → OnlyMemory stop
-unread_so i NoMemoryForImage stop h made = subst OnlyMemory (sym made) tt
-unread_so i (Short at) stop h made = absurd (cc (h))
-unread_so i (Bad at field) stop h made = absurd (cc (h))
-unread_so i (Trailing at) stop h made = absurd (cc (h))
+pub unread_so : (i : Image) (fault : ImageFault) (error : CommandError) → Tells (Ok i) (Err fault) → error ≡ error_of_image_fault fault → OnlyMemory error
+unread_so i NoMemoryForImage error h made = subst OnlyMemory (sym made) tt
+unread_so i (Short at) error h made = absurd (cc (h))
+unread_so i (Bad at field) error h made = absurd (cc (h))
+unread_so i (Trailing at) error h made = absurd (cc (h))
 
 module _ (p : Source) (looks : List Look) (bytes : List ℕ) (all_bytes : IsBytes bytes) (built : (files : Store) → ShowAll files looks → IsImageFor p files bytes) where
   pub back_so : (result : Result Image CommandError) → ((i : Image) → IsImage bytes i → IsReadOf i result) → IfOk result (λ i. (files : Store) → ShowAll files looks → IsReadBack p files i)
@@ -63,11 +63,11 @@ module _ (p : Source) (looks : List Look) (bytes : List ℕ) (all_bytes : IsByte
       let b = built files s in
       let same = only b.parts b.image in
       record { bytes = bytes; all_bytes = all_bytes; image = subst (IsImage bytes) same b.image; sound = subst (IsSound p files) same b.sound }
-  back_so (Err stop) only = tt
+  back_so (Err error) only = tt
 
-  pub not_back : (result : Result Image CommandError) → ((i : Image) → IsImage bytes i → IsReadOf i result) → IfErr result (λ stop. (files : Store) → ShowAll files looks → OnlyMemory stop)
+  pub not_back : (result : Result Image CommandError) → ((i : Image) → IsImage bytes i → IsReadOf i result) → IfErr result (λ error. (files : Store) → ShowAll files looks → OnlyMemory error)
   not_back (Ok j) only = tt
-  not_back (Err stop) only = λ files s. let b = built files s in only b.parts b.image
+  not_back (Err error) only = λ files s. let b = built files s in only b.parts b.image
 
 -- ---- the answer
 
@@ -86,8 +86,8 @@ by_document files policy name bytes answer is eq =
 -- ---- the policy's file
 
 module _ (policy name : List ℕ) (old new : FilesState) where
-  pub policy_not_read : (stop : CommandError) → NotRead policy POLICY_MOST old new stop → Stops (boot policy name) old new stop
-  policy_not_read stop h = not_read POLICY_MOST policy (boot_next name) (boot policy name) (rests policy name) old new stop h
+  pub policy_not_read : (error : CommandError) → NotRead policy POLICY_MOST old new error → Stops (boot policy name) old new error
+  policy_not_read error h = not_read POLICY_MOST policy (boot_next name) (boot policy name) (rests policy name) old new error h
 
   no_memory : Stops (boot policy name) old new NoMemory
   no_memory = out_of_memory POLICY_MOST policy (boot_next name) (boot policy name) (rests policy name) old new
@@ -95,7 +95,7 @@ module _ (policy name : List ℕ) (old new : FilesState) where
   file_fault : Rose old.faults new.faults → Stops (boot policy name) old new FileFault
   file_fault h = let s = some_files old.held in record { files = s.files; told = s.told; stops = h }
 
-  refusal_of : (r : Refusal) → Stops (boot policy name) old new (Refused r) → Stops (boot policy name) old new (stop_of_refusal r)
+  refusal_of : (r : Refusal) → Stops (boot policy name) old new (Refused r) → Stops (boot policy name) old new (error_of_refusal r)
   refusal_of r h = of_refusal POLICY_MOST policy (boot_next name) (boot policy name) (rests policy name) old new r h
 
 -- ---- the policy
@@ -113,13 +113,13 @@ module _ (policy name : List ℕ) (old between : FilesState) (bytes : List ℕ) 
         );
       }
 
-  policy_refused : (new : FilesState) (end : BuildError) (stop : CommandError) → Ends (document_look policy bytes ∷ []) (RefusesDocument bytes) between new end → stop ≡ stop_of_end end → Stops (boot policy name) old new stop
-  policy_refused new (RefusedPolicy r) stop (inl is) made =
-      let out : stop ≡ NoMemory = made ∙ ap stop_of_refusal is in
+  policy_refused : (new : FilesState) (build_error : BuildError) (error : CommandError) → Ends (document_look policy bytes ∷ []) (RefusesDocument bytes) between new build_error → error ≡ error_of_build build_error → Stops (boot policy name) old new error
+  policy_refused new (RefusedPolicy r) error (inl is) made =
+      let out : error ≡ NoMemory = made ∙ ap error_of_refusal is in
       subst (Stops (boot policy name) old new) (sym out) (no_memory policy name old new)
-  policy_refused new (RefusedPolicy r) stop (inr h) made =
+  policy_refused new (RefusedPolicy r) error (inr h) made =
       subst (Stops (boot policy name) old new) (sym made) (refusal_of policy name old new r (refused_so new r h))
-  policy_refused new FaultOfFiles stop rose made =
+  policy_refused new FaultOfFiles error rose made =
       subst (Stops (boot policy name) old new) (sym made) (file_fault policy name old new (omega (arith, rose, follows.faults)))
 
   -- ---- an accepted policy
@@ -135,10 +135,10 @@ module _ (policy name : List ℕ) (old between : FilesState) (bytes : List ℕ) 
     follows_mid = record { held = on.held ∙ follows.held; faults = omega (arith, follows.faults, on.faults); misses = omega (arith, follows.misses, on.misses) }
 
     -- its image is written and read again, unless memory was refused
-    parts_refused : (stop : CommandError) → ((files : Store) → ShowAll files (looks_of policy bytes found) → OnlyMemory stop) → Stops (boot policy name) old mid stop
-    parts_refused stop h = only stop (h accepting.files accepting.shows)
+    parts_refused : (error : CommandError) → ((files : Store) → ShowAll files (looks_of policy bytes found) → OnlyMemory error) → Stops (boot policy name) old mid error
+    parts_refused error h = only error (h accepting.files accepting.shows)
       where
-        only : (stop : CommandError) → OnlyMemory stop → Stops (boot policy name) old mid stop
+        only : (error : CommandError) → OnlyMemory error → Stops (boot policy name) old mid error
         only NoMemory h = no_memory policy name old mid
         only Usage h = absurd h
         only (Missing n) h = absurd h
@@ -162,7 +162,7 @@ module _ (policy name : List ℕ) (old between : FilesState) (bytes : List ℕ) 
 
       -- the record's file isn't read
 
-      pub record_not_read : (stop : CommandError) → NotReadAfter (looks_of policy bytes found) name RECORD_MOST mid new stop → Stops (boot policy name) old new stop
+      pub record_not_read : (error : CommandError) → NotReadAfter (looks_of policy bytes found) name RECORD_MOST mid new error → Stops (boot policy name) old new error
       record_not_read (Missing n) h =
           let s = shown absent h.1 in
           record { files = s.files; told = s.told; stops = (after absent s ∙ ap (λ x. stops (missing x)) (sym h.0), omega (arith, follows_mid.misses, h.2)) }
@@ -181,20 +181,20 @@ module _ (policy name : List ℕ) (old between : FilesState) (bytes : List ℕ) 
       same_bench : (files : Store) → ShowAll files (looks_of policy bytes found) → image_bench i ≡ devices_of p
       same_bench files s = let b = back files s in image_bench_is p files b.bytes i b.image b.sound
 
-      of_fault : {reading : Reading} (s : Shown reading) (fault : RecordFault) → boot_answer s.files policy name ≡ stops (record_refused fault) → (stop : CommandError) → stop ≡ stop_of_fault fault → Stops (boot policy name) old new stop
-      of_fault s NoMemoryForRecord answer stop made = subst (Stops (boot policy name) old new) (sym made) (no_memory policy name old new)
-      of_fault s fault answer stop made =
+      of_fault : {reading : Reading} (s : Shown reading) (fault : RecordFault) → boot_answer s.files policy name ≡ stops (record_refused fault) → (error : CommandError) → error ≡ error_of_record_fault fault → Stops (boot policy name) old new error
+      of_fault s NoMemoryForRecord answer error made = subst (Stops (boot policy name) old new) (sym made) (no_memory policy name old new)
+      of_fault s fault answer error made =
           subst (Stops (boot policy name) old new) (sym made) (record { files = s.files; told = s.told; stops = answer })
 
-      pub record_refused_so : (text : List ℕ) (fault : RecordFault) (stop : CommandError) → SawAfter (looks_of policy bytes found) name RECORD_MOST (whole text) mid new → Answers NoMemoryForRecord (mapped (image_record i) (record_of text (image_bench i))) (Err fault) → stop ≡ stop_of_fault fault → Stops (boot policy name) old new stop
-      record_refused_so text fault stop too (inl is) made =
-          subst (Stops (boot policy name) old new) (sym (made ∙ ap stop_of_fault is)) (no_memory policy name old new)
-      record_refused_so text fault stop too (inr read) made =
+      pub record_refused_so : (text : List ℕ) (fault : RecordFault) (error : CommandError) → SawAfter (looks_of policy bytes found) name RECORD_MOST (whole text) mid new → Answers NoMemoryForRecord (mapped (image_record i) (record_of text (image_bench i))) (Err fault) → error ≡ error_of_record_fault fault → Stops (boot policy name) old new error
+      record_refused_so text fault error too (inl is) made =
+          subst (Stops (boot policy name) old new) (sym (made ∙ ap error_of_record_fault is)) (no_memory policy name old new)
+      record_refused_so text fault error too (inr read) made =
           let s = shown (whole text) too in
           let named = mapped_err (image_record i) (record_of text (image_bench i)) fault read in
           let says : record_of text (devices_of p) ≡ Err fault = ap (record_of text) (sym (same_bench s.files s.shows)) ∙ named in
           let answer : boot_answer s.files policy name ≡ stops (record_refused fault) = after (whole text) s ∙ ap (trace_answer s.files p) says in
-          of_fault s fault answer stop made
+          of_fault s fault answer error made
 
       -- both are read
 
@@ -216,6 +216,6 @@ module _ (policy name : List ℕ) (old between : FilesState) (bytes : List ℕ) 
 
   -- ---- the document gives no image
 
-  pub not_made : (mid : FilesState) (on : Follows between mid) (stop : CommandError) → NotMade policy bytes between mid stop → Stops (boot policy name) old mid stop
-  not_made mid on stop (refused end ends made) = policy_refused mid end stop ends made
-  not_made mid on stop (unmade found grows only) = parts_refused mid found grows on stop only
+  pub not_made : (mid : FilesState) (on : Follows between mid) (error : CommandError) → NotMade policy bytes between mid error → Stops (boot policy name) old mid error
+  not_made mid on error (refused build_error ends made) = policy_refused mid build_error error ends made
+  not_made mid on error (unmade found grows only) = parts_refused mid found grows on error only

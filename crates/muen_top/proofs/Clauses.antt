@@ -3,7 +3,7 @@ use Rattle.std.proofs.Common.{◌≡◌, inl, inr, ◌⊎◌, ◌≢◌, ℕ, Li
 use Rattle.std.specs.FinMap.{get}
 use Rattle.image_form.specs.Faults.{unpacked}
 use Rattle.image_form.specs.declared.fault.ImageFault.{ImageFault}
-use Rattle.image_load.specs.Placing.{image_bench}
+use Rattle.image_load.specs.Resolving.{image_bench}
 use Rattle.image_pack.specs.Image.{image as image_form}
 use Rattle.image_pack.specs.declared.parts.Image.{Image}
 use Rattle.muen_outside.specs.Counts.{Rose}
@@ -23,7 +23,7 @@ use Rattle.muen_num.specs.declared.limits.TheConstants.{RECORD_MOST}
 use Rattle.muen_top.specs.Calls.{IsDone, Prints, StopsFor, ComesOf, Ran, IsFault, Answered, RefusesPolicy, LacksFile, RefusesImage, RefusesRecord}
 use Rattle.muen_top.specs.Commands.{Command, build, boot, run, map, flows, command_of}
 use Rattle.muen_top.specs.Headline.{PrintsText}
-use Rattle.muen_top.specs.Reports.{refusal_status, reason_status, reason_text, status_of, stop_status, stop_text, Told, Reported, Ends}
+use Rattle.muen_top.specs.Reports.{refusal_status, reason_status, reason_text, status_of, error_status, error_text, Told, Reported, Ends}
 use Rattle.muen_top.specs.declared.outcome.Outcome.{Outcome}
 use Rattle.muen_top.specs.declared.outcome.Outcome.TheVariants.{Done, Stopped, OutputFault}
 use Rattle.muen_top.specs.declared.outcome.CommandError.{CommandError}
@@ -43,22 +43,22 @@ module _ (old new : FilesState) (out out' err err' : SinkState) (status : ℕ) w
   abbrev Of : Answer → Type 0
   Of answer = Comes answer old new out out' err err' status
 
-  of_stop : (answer : Answer) (stop : CommandError) → status ≡ stop_status stop → StopsFor answer old new stop → out' ≡ out → Told (stop_text stop) err err' → Of answer
-  of_stop answer Usage is for quiet told = stopped usage is for quiet told (λ h. absurd (omega arith))
-  of_stop answer (Missing name) is for quiet told = stopped (missing name.now) is for.0 quiet told (λ h. for.1)
-  of_stop answer (TooLong name n) is for quiet told = stopped (too_long name.now n) is for.0 quiet told (λ h. for.1)
-  of_stop answer (Refused refusal) is for quiet told = stopped (refused refusal) is for.0 quiet told for.1
-  of_stop answer (ImageRefused fault) is for quiet told = stopped (image_refused fault) is for quiet told (λ h. absurd (omega arith))
-  of_stop answer (RecordRefused fault) is for quiet told = stopped (record_refused fault) is for quiet told (λ h. absurd (omega arith))
-  of_stop answer FileFault is for quiet told = failed is for quiet
-  of_stop answer NoMemory is for quiet told = no_memory is quiet
+  of_error : (answer : Answer) (error : CommandError) → status ≡ error_status error → StopsFor answer old new error → out' ≡ out → Told (error_text error) err err' → Of answer
+  of_error answer Usage is for quiet told = stopped usage is for quiet told (λ h. absurd (omega arith))
+  of_error answer (Missing name) is for quiet told = stopped (missing name.now) is for.0 quiet told (λ h. for.1)
+  of_error answer (TooLong name n) is for quiet told = stopped (too_long name.now n) is for.0 quiet told (λ h. for.1)
+  of_error answer (Refused refusal) is for quiet told = stopped (refused refusal) is for.0 quiet told for.1
+  of_error answer (ImageRefused fault) is for quiet told = stopped (image_refused fault) is for quiet told (λ h. absurd (omega arith))
+  of_error answer (RecordRefused fault) is for quiet told = stopped (record_refused fault) is for quiet told (λ h. absurd (omega arith))
+  of_error answer FileFault is for quiet told = failed is for quiet
+  of_error answer NoMemory is for quiet told = no_memory is quiet
 
   of_outcome : (answer : Answer) (outcome : Outcome) → status ≡ status_of outcome → ComesOf answer old new out out' outcome → Reported err err' outcome → Of answer
   of_outcome answer Done is came told = done is came told
   of_outcome (prints text) OutputFault is came told = cut_off text is refl came
   of_outcome (writes image p files) OutputFault is came told = absurd came
   of_outcome (stops reason) OutputFault is came told = absurd came
-  of_outcome answer (Stopped stop) is came told = of_stop answer stop is came.0 came.1 told
+  of_outcome answer (Stopped error) is came told = of_error answer error is came.0 came.1 told
 
 -- ---- which statuses a reason has
 

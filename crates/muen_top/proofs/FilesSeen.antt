@@ -59,7 +59,7 @@ component_copied e is = sym is ∙ ap Some (sym e)
 
 module _ (looks : List Look) (name : List ℕ) (most : ℕ) (old new : FilesState) where
   -- a read that gives no bytes, of a name of which the looks show what it holds
-  pub not_within : (bytes : List ℕ) → ((files : Store) → ShowAll files looks → get files name ≡ Some bytes) → (stop : CommandError) → NotWithin name bytes most old new stop → NotReadAfter looks name most old new stop
+  pub not_within : (bytes : List ℕ) → ((files : Store) → ShowAll files looks → get files name ≡ Some bytes) → (error : CommandError) → NotWithin name bytes most old new error → NotReadAfter looks name most old new error
   not_within bytes is (TooLong n k) h = (h.0, known bytes is h.1, h.2)
   not_within bytes is FileFault h = h
   not_within bytes is NoMemory h = tt
@@ -77,8 +77,8 @@ module _ (before bytes name : List ℕ) (limit : ℕ) (same : bytes_eq name befo
   pub known_before : (reading : Reading) → reading ≡ reading_of (Some bytes) most → SawAfter (look before limit (whole bytes) ∷ []) name most reading old new
   known_before reading eq = known bytes held_before eq
 
-  pub not_before : (stop : CommandError) → NotWithin name bytes most old new stop → NotReadAfter (look before limit (whole bytes) ∷ []) name most old new stop
-  not_before stop h = not_within (look before limit (whole bytes) ∷ []) name most old new bytes held_before stop h
+  pub not_before : (error : CommandError) → NotWithin name bytes most old new error → NotReadAfter (look before limit (whole bytes) ∷ []) name most old new error
+  not_before error h = not_within (look before limit (whole bytes) ∷ []) name most old new bytes held_before error h
 
 module _ (l : Look) (ls : List Look) (name : List ℕ) (most : ℕ) (old new : FilesState) where
   -- after one look, and so after more, at other names
@@ -86,7 +86,7 @@ module _ (l : Look) (ls : List Look) (name : List ℕ) (most : ℕ) (old new : F
   after_more reading others (known content is eq) = known content (λ files s. is files (s.0, tt)) eq
   after_more reading others (unknown other also) = unknown (other.0, others) also
 
-  pub not_after_more : (stop : CommandError) → AreOthers ls name → NotReadAfter (l ∷ []) name most old new stop → NotReadAfter (l ∷ ls) name most old new stop
+  pub not_after_more : (error : CommandError) → AreOthers ls name → NotReadAfter (l ∷ []) name most old new error → NotReadAfter (l ∷ ls) name most old new error
   not_after_more (Missing n) others h = (h.0, after_more absent others h.1, h.2)
   not_after_more (TooLong n k) others h = (h.0, after_more (long k) others h.1, h.2)
   not_after_more FileFault others h = h
@@ -104,12 +104,12 @@ module _ (policy document : List ℕ) (found : Files) (name : List ℕ) (most : 
   pub of_component : (bytes : List ℕ) (reading : Reading) → find_bytes name found ≡ Some bytes → reading ≡ reading_of (Some bytes) most → SawAfter (looks_of policy document found) name most reading old new
   of_component bytes reading is eq = known bytes (held_by_component bytes is) eq
 
-  pub no_component : (bytes : List ℕ) (stop : CommandError) → find_bytes name found ≡ Some bytes → NotWithin name bytes most old new stop → NotReadAfter (looks_of policy document found) name most old new stop
-  no_component bytes stop is h = not_within (looks_of policy document found) name most old new bytes (held_by_component bytes is) stop h
+  pub no_component : (bytes : List ℕ) (error : CommandError) → find_bytes name found ≡ Some bytes → NotWithin name bytes most old new error → NotReadAfter (looks_of policy document found) name most old new error
+  no_component bytes error is h = not_within (looks_of policy document found) name most old new bytes (held_by_component bytes is) error h
 
   -- the policy's document, or another file
   pub of_another : (reading : Reading) → find_bytes name found ≡ None → SawAfter (document_look policy document ∷ []) name most reading old new → SawAfter (looks_of policy document found) name most reading old new
   of_another reading none h = after_more (document_look policy document) _ name most old new reading (others_found found name none) h
 
-  pub no_other : (stop : CommandError) → find_bytes name found ≡ None → NotReadAfter (document_look policy document ∷ []) name most old new stop → NotReadAfter (looks_of policy document found) name most old new stop
-  no_other stop none h = not_after_more (document_look policy document) _ name most old new stop (others_found found name none) h
+  pub no_other : (error : CommandError) → find_bytes name found ≡ None → NotReadAfter (document_look policy document ∷ []) name most old new error → NotReadAfter (looks_of policy document found) name most old new error
+  no_other error none h = not_after_more (document_look policy document) _ name most old new error (others_found found name none) h

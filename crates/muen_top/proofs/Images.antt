@@ -22,7 +22,7 @@ use Rattle.muen_top.specs.Kept.{IsWriteOf, KeepsFiles, KeepsHeld, MayWrite}
 use Rattle.muen_top.specs.Loads.{NotRead}
 use Rattle.muen_top.specs.PolicyCommands.{Stops}
 use Rattle.muen_top.specs.Reports.{status_of}
-use Rattle.muen_top.specs.Stops.{stop_of_end, stop_of_refusal}
+use Rattle.muen_top.specs.CommandErrors.{error_of_build, error_of_refusal}
 use Rattle.muen_top.specs.declared.outcome.Outcome.{Outcome}
 use Rattle.muen_top.specs.declared.outcome.Outcome.TheVariants.{Done, Stopped, OutputFault}
 use Rattle.muen_top.specs.declared.outcome.CommandError.{CommandError}
@@ -48,13 +48,13 @@ by_document files policy image bytes answer is eq =
 -- ---- the policy's file
 
 module _ (policy image : List ℕ) (old new : FilesState) where
-  pub image_not_read : (stop : CommandError) → NotRead policy POLICY_MOST old new stop → Stops (build policy image) old new stop
-  image_not_read stop h = not_read POLICY_MOST policy (image_next image) (build policy image) (rests policy image) old new stop h
+  pub image_not_read : (error : CommandError) → NotRead policy POLICY_MOST old new error → Stops (build policy image) old new error
+  image_not_read error h = not_read POLICY_MOST policy (image_next image) (build policy image) (rests policy image) old new error h
 
   no_memory : Stops (build policy image) old new NoMemory
   no_memory = out_of_memory POLICY_MOST policy (image_next image) (build policy image) (rests policy image) old new
 
-  refusal_of : (r : Refusal) → Stops (build policy image) old new (Refused r) → Stops (build policy image) old new (stop_of_refusal r)
+  refusal_of : (r : Refusal) → Stops (build policy image) old new (Refused r) → Stops (build policy image) old new (error_of_refusal r)
   refusal_of r h = of_refusal POLICY_MOST policy (image_next image) (build policy image) (rests policy image) old new r h
 
   file_fault : Rose old.faults new.faults → Stops (build policy image) old new FileFault
@@ -75,13 +75,13 @@ module _ (policy : List ℕ) (old between new : FilesState) (bytes : List ℕ) (
         );
       }
 
-  pub image_refused : (end : BuildError) (stop : CommandError) → Ends (document_look policy bytes ∷ []) (RefusesDocument bytes) between new end → stop ≡ stop_of_end end → (image : List ℕ) → Stops (build policy image) old new stop
-  image_refused (RefusedPolicy r) stop (inl is) made image =
-      let out : stop ≡ NoMemory = made ∙ ap stop_of_refusal is in
+  pub image_refused : (build_error : BuildError) (error : CommandError) → Ends (document_look policy bytes ∷ []) (RefusesDocument bytes) between new build_error → error ≡ error_of_build build_error → (image : List ℕ) → Stops (build policy image) old new error
+  image_refused (RefusedPolicy r) error (inl is) made image =
+      let out : error ≡ NoMemory = made ∙ ap error_of_refusal is in
       subst (Stops (build policy image) old new) (sym out) (no_memory policy image old new)
-  image_refused (RefusedPolicy r) stop (inr h) made image =
+  image_refused (RefusedPolicy r) error (inr h) made image =
       subst (Stops (build policy image) old new) (sym made) (refusal_of policy image old new r (refused_so image r h))
-  image_refused FaultOfFiles stop rose made image =
+  image_refused FaultOfFiles error rose made image =
       subst (Stops (build policy image) old new) (sym made) (file_fault policy image old new (omega (arith, rose, follows.faults)))
 
   pub image_made : (written : List ℕ) → Builds between.held (document_look policy bytes ∷ []) bytes written → IsMade policy old written

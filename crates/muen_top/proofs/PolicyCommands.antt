@@ -22,7 +22,7 @@ use Rattle.muen_top.specs.Commands.{Command, map, flows}
 use Rattle.muen_top.specs.Loads.{NotRead}
 use Rattle.muen_top.specs.PolicyCommands.{Gives, Stops}
 use Rattle.muen_top.specs.Runs.{RunsTo}
-use Rattle.muen_top.specs.Stops.{stop_of_refusal}
+use Rattle.muen_top.specs.CommandErrors.{error_of_refusal}
 use Rattle.muen_top.specs.declared.outcome.Outcome.{Outcome}
 use Rattle.muen_top.specs.declared.outcome.Outcome.TheVariants.{Done, Stopped, OutputFault}
 use Rattle.muen_top.specs.declared.outcome.CommandError.{CommandError}
@@ -45,7 +45,7 @@ module _ (most : ℕ) (name : List ℕ) (next : Store → List ℕ → Answer) (
   by_reading files reading is = rests files ∙ ap (of_file name (next files)) is
 
   -- the file isn't read
-  pub not_read : (stop : CommandError) → NotRead name most old new stop → Stops command old new stop
+  pub not_read : (error : CommandError) → NotRead name most old new error → Stops command old new error
   not_read (Missing n) h =
       let s = shown absent h.1 in
       record { files = s.files; told = s.told; stops = (by_reading s.files absent s.shows.0 ∙ ap (λ x. stops (missing x)) (sym h.0), h.1.missed tt) }
@@ -75,7 +75,7 @@ module _ (most : ℕ) (name : List ℕ) (next : Store → List ℕ → Answer) (
         stops = (by_reading s.files (whole bytes) s.shows.0 ∙ is s.files, λ three. absurd (false≢true (sym none ∙ for_a_file r three)));
       }
 
-  pub of_refusal : (r : Refusal) → Stops command old new (Refused r) → Stops command old new (stop_of_refusal r)
+  pub of_refusal : (r : Refusal) → Stops command old new (Refused r) → Stops command old new (error_of_refusal r)
   of_refusal NoMemoryFor h = out_of_memory
   of_refusal NotJson h = h
   of_refusal (Shape place want) h = h
@@ -85,12 +85,12 @@ module _ (most : ℕ) (name : List ℕ) (next : Store → List ℕ → Answer) (
   of_refusal (FileFit region room length) h = h
   of_refusal (NoRoom region size) h = h
 
-  policy_refused : (bytes : List ℕ) (wanted : Result Source Refusal) (r : Refusal) (stop : CommandError) → Saw name most (whole bytes) old new → Answers NoMemoryFor wanted (Err r)
-      → (wanted ≡ Err r → (files : Store) → next files bytes ≡ stops (refused r)) → (wanted ≡ Err r → is_for_a_file r ≡ false) → stop ≡ stop_of_refusal r → Stops command old new stop
-  policy_refused bytes wanted r stop saw (inl is) answer none made =
-      let out : stop ≡ NoMemory = made ∙ ap stop_of_refusal is in
+  policy_refused : (bytes : List ℕ) (wanted : Result Source Refusal) (r : Refusal) (error : CommandError) → Saw name most (whole bytes) old new → Answers NoMemoryFor wanted (Err r)
+      → (wanted ≡ Err r → (files : Store) → next files bytes ≡ stops (refused r)) → (wanted ≡ Err r → is_for_a_file r ≡ false) → error ≡ error_of_refusal r → Stops command old new error
+  policy_refused bytes wanted r error saw (inl is) answer none made =
+      let out : error ≡ NoMemory = made ∙ ap error_of_refusal is in
       subst (Stops command old new) (sym out) out_of_memory
-  policy_refused bytes wanted r stop saw (inr e) answer none made =
+  policy_refused bytes wanted r error saw (inr e) answer none made =
       subst (Stops command old new) (sym made) (of_refusal r (refused_so bytes r saw (answer e) (none e)))
 
 -- ---- `map`
@@ -103,13 +103,13 @@ unfolding map_answer map_next
 rests_map policy files = refl
 
 module _ (policy : List ℕ) (old new : FilesState) where
-  pub map_not_read : (stop : CommandError) → NotRead policy POLICY_MOST old new stop → Stops (map policy) old new stop
-  map_not_read stop h = not_read POLICY_MOST policy map_next (map policy) (rests_map policy) old new stop h
+  pub map_not_read : (error : CommandError) → NotRead policy POLICY_MOST old new error → Stops (map policy) old new error
+  map_not_read error h = not_read POLICY_MOST policy map_next (map policy) (rests_map policy) old new error h
 
-  pub map_refused : (bytes : List ℕ) (r : Refusal) (stop : CommandError) → Saw policy POLICY_MOST (whole bytes) old new → Answers NoMemoryFor (laid_policy_of bytes) (Err r) → stop ≡ stop_of_refusal r → Stops (map policy) old new stop
+  pub map_refused : (bytes : List ℕ) (r : Refusal) (error : CommandError) → Saw policy POLICY_MOST (whole bytes) old new → Answers NoMemoryFor (laid_policy_of bytes) (Err r) → error ≡ error_of_refusal r → Stops (map policy) old new error
   unfolding map_next
-  map_refused bytes r stop saw h made =
-      policy_refused POLICY_MOST policy map_next (map policy) (rests_map policy) old new bytes (laid_policy_of bytes) r stop saw h (λ e files. ap map_policy_answer e) (laid_for_no_file bytes r) made
+  map_refused bytes r error saw h made =
+      policy_refused POLICY_MOST policy map_next (map policy) (rests_map policy) old new bytes (laid_policy_of bytes) r error saw h (λ e files. ap map_policy_answer e) (laid_for_no_file bytes r) made
 
   pub map_gives : (bytes : List ℕ) (p : Source) → Saw policy POLICY_MOST (whole bytes) old new → laid_policy_of bytes ≡ Ok p → Gives (map policy) old (prints (map_text_of p))
   unfolding map_next
@@ -125,13 +125,13 @@ unfolding flows_answer flows_next
 rests_flows policy files = refl
 
 module _ (policy : List ℕ) (old new : FilesState) where
-  pub flows_not_read : (stop : CommandError) → NotRead policy POLICY_MOST old new stop → Stops (flows policy) old new stop
-  flows_not_read stop h = not_read POLICY_MOST policy flows_next (flows policy) (rests_flows policy) old new stop h
+  pub flows_not_read : (error : CommandError) → NotRead policy POLICY_MOST old new error → Stops (flows policy) old new error
+  flows_not_read error h = not_read POLICY_MOST policy flows_next (flows policy) (rests_flows policy) old new error h
 
-  pub flows_refused : (bytes : List ℕ) (r : Refusal) (stop : CommandError) → Saw policy POLICY_MOST (whole bytes) old new → Answers NoMemoryFor (lawful_policy_of bytes) (Err r) → stop ≡ stop_of_refusal r → Stops (flows policy) old new stop
+  pub flows_refused : (bytes : List ℕ) (r : Refusal) (error : CommandError) → Saw policy POLICY_MOST (whole bytes) old new → Answers NoMemoryFor (lawful_policy_of bytes) (Err r) → error ≡ error_of_refusal r → Stops (flows policy) old new error
   unfolding flows_next
-  flows_refused bytes r stop saw h made =
-      policy_refused POLICY_MOST policy flows_next (flows policy) (rests_flows policy) old new bytes (lawful_policy_of bytes) r stop saw h (λ e files. ap flows_policy_answer e) (for_no_file bytes r) made
+  flows_refused bytes r error saw h made =
+      policy_refused POLICY_MOST policy flows_next (flows policy) (rests_flows policy) old new bytes (lawful_policy_of bytes) r error saw h (λ e files. ap flows_policy_answer e) (for_no_file bytes r) made
 
   pub flows_gives : (bytes : List ℕ) (p : Source) → Saw policy POLICY_MOST (whole bytes) old new → lawful_policy_of bytes ≡ Ok p → Gives (flows policy) old (prints (flow_text_of p))
   unfolding flows_next
@@ -155,5 +155,5 @@ module _ (command : Command) (old new : FilesState) (out out' : SinkState) where
   pub printed : (text : List ℕ) (outcome : Outcome) → Gives command old (prints text) → RunsTo text out out' outcome → Came (Some command) old new out out' outcome
   printed text outcome g h = record { files = g.files; told = g.told; comes = of_text text outcome (answer_of g.files (Some command)) g.is h }
 
-  pub ended : (stop : CommandError) → Stops command old new stop → out' ≡ out → Came (Some command) old new out out' (Stopped stop)
-  ended stop s quiet = record { files = s.files; told = s.told; comes = (s.stops, quiet) }
+  pub ended : (error : CommandError) → Stops command old new error → out' ≡ out → Came (Some command) old new out out' (Stopped error)
+  ended error s quiet = record { files = s.files; told = s.told; comes = (s.stops, quiet) }

@@ -4,7 +4,7 @@ use Rattle.std.specs.FinMap.{get}
 use Rattle.image_form.specs.Faults.{Tells, unpacked}
 use Rattle.image_form.specs.declared.fault.ImageFault.{ImageFault}
 use Rattle.image_form.specs.declared.fault.ImageFault.TheVariants.{Short, Bad, Trailing, NoMemory as NoMemoryForImage}
-use Rattle.image_load.specs.Placing.{image_bench, image_record}
+use Rattle.image_load.specs.Resolving.{image_bench, image_record}
 use Rattle.image_pack.specs.Image.{image as image_form}
 use Rattle.image_pack.specs.declared.parts.Image.{Image}
 use Rattle.muen_build.specs.Looks.{Follows, Look, Saw, look}
@@ -26,7 +26,7 @@ use Rattle.muen_top.specs.Commands.{run}
 use Rattle.muen_top.specs.FilesSeen.{SawAfter, ShownAfter}
 use Rattle.muen_top.specs.Loads.{NotRead, NotReadAfter}
 use Rattle.muen_top.specs.PolicyCommands.{Gives, Stops}
-use Rattle.muen_top.specs.Stops.{stop_of_fault, stop_of_image_fault}
+use Rattle.muen_top.specs.CommandErrors.{error_of_image_fault, error_of_record_fault}
 use Rattle.muen_top.specs.declared.outcome.CommandError.{CommandError}
 use Rattle.muen_top.specs.declared.outcome.CommandError.TheVariants.{Usage, Missing, TooLong, Refused, ImageRefused, RecordRefused, FileFault, NoMemory}
 use Rattle.muen_top.proofs.Told.{some_files}
@@ -50,8 +50,8 @@ by_image files image name bytes answer is eq =
 -- ---- the image's file
 
 module _ (image name : List ℕ) (old new : FilesState) where
-  pub image_not_read : (stop : CommandError) → NotRead image IMAGE_MOST old new stop → Stops (run image name) old new stop
-  image_not_read stop h = not_read IMAGE_MOST image (run_next name) (run image name) (rests image name) old new stop h
+  pub image_not_read : (error : CommandError) → NotRead image IMAGE_MOST old new error → Stops (run image name) old new error
+  image_not_read error h = not_read IMAGE_MOST image (run_next name) (run image name) (rests image name) old new error h
 
   no_memory : Stops (run image name) old new NoMemory
   no_memory = out_of_memory IMAGE_MOST image (run_next name) (run image name) (rests image name) old new
@@ -67,14 +67,14 @@ module _ (image name : List ℕ) (old mid : FilesState) (bytes : List ℕ) (saw 
       let s = explained old.held (look image IMAGE_MOST (whole bytes) ∷ []) (seen_first image IMAGE_MOST (whole bytes) old mid saw) in
       record { files = s.files; told = s.told; stops = by_image s.files image name bytes (Err fault) s.shows.0 is }
 
-  of_image_fault : (fault : ImageFault) → Tells (unpacked image_form bytes) (Err fault) → Stops (run image name) old mid (stop_of_image_fault fault)
+  of_image_fault : (fault : ImageFault) → Tells (unpacked image_form bytes) (Err fault) → Stops (run image name) old mid (error_of_image_fault fault)
   of_image_fault NoMemoryForImage h = no_memory image name old mid
   of_image_fault (Short at) h = refused_so (Short at) h
   of_image_fault (Bad at field) h = refused_so (Bad at field) h
   of_image_fault (Trailing at) h = refused_so (Trailing at) h
 
-  pub image_refused_so : (fault : ImageFault) (stop : CommandError) → Tells (unpacked image_form bytes) (Err fault) → stop ≡ stop_of_image_fault fault → Stops (run image name) old mid stop
-  image_refused_so fault stop h made = subst (Stops (run image name) old mid) (sym made) (of_image_fault fault h)
+  pub image_refused_so : (fault : ImageFault) (error : CommandError) → Tells (unpacked image_form bytes) (Err fault) → error ≡ error_of_image_fault fault → Stops (run image name) old mid error
+  image_refused_so fault error h made = subst (Stops (run image name) old mid) (sym made) (of_image_fault fault h)
 
   -- ---- the record's file, where the image is one
 
@@ -93,7 +93,7 @@ module _ (image name : List ℕ) (old mid : FilesState) (bytes : List ℕ) (saw 
         by_image s.files image name bytes (Ok i) s.shows.0 is
         ∙ ap (of_file name (λ found. named_answer i (record_of found (image_bench i)))) s.shows'
 
-    pub input_not_read : (stop : CommandError) → NotReadAfter seen name RECORD_MOST mid new stop → Stops (run image name) old new stop
+    pub input_not_read : (error : CommandError) → NotReadAfter seen name RECORD_MOST mid new error → Stops (run image name) old new error
     input_not_read (Missing n) h =
         let s = both absent h.1 in
         record {
@@ -117,19 +117,19 @@ module _ (image name : List ℕ) (old mid : FilesState) (bytes : List ℕ) (saw 
 
     -- ---- the record
 
-    of_fault : {reading : Reading} (s : Both reading) (fault : RecordFault) → run_answer s.files image name ≡ stops (record_refused fault) → (stop : CommandError) → stop ≡ stop_of_fault fault → Stops (run image name) old new stop
-    of_fault s NoMemoryForRecord answer stop made = subst (Stops (run image name) old new) (sym made) (no_memory image name old new)
-    of_fault s fault answer stop made =
+    of_fault : {reading : Reading} (s : Both reading) (fault : RecordFault) → run_answer s.files image name ≡ stops (record_refused fault) → (error : CommandError) → error ≡ error_of_record_fault fault → Stops (run image name) old new error
+    of_fault s NoMemoryForRecord answer error made = subst (Stops (run image name) old new) (sym made) (no_memory image name old new)
+    of_fault s fault answer error made =
         subst (Stops (run image name) old new) (sym made) (record { files = s.files; told = s.told; stops = answer })
 
-    pub input_refused_so : (text : List ℕ) (fault : RecordFault) (stop : CommandError) → SawAfter seen name RECORD_MOST (whole text) mid new → Answers NoMemoryForRecord (mapped (image_record i) (record_of text (image_bench i))) (Err fault) → stop ≡ stop_of_fault fault → Stops (run image name) old new stop
-    input_refused_so text fault stop after (inl is) made =
-        subst (Stops (run image name) old new) (sym (made ∙ ap stop_of_fault is)) (no_memory image name old new)
-    input_refused_so text fault stop after (inr read) made =
+    pub input_refused_so : (text : List ℕ) (fault : RecordFault) (error : CommandError) → SawAfter seen name RECORD_MOST (whole text) mid new → Answers NoMemoryForRecord (mapped (image_record i) (record_of text (image_bench i))) (Err fault) → error ≡ error_of_record_fault fault → Stops (run image name) old new error
+    input_refused_so text fault error after (inl is) made =
+        subst (Stops (run image name) old new) (sym (made ∙ ap error_of_record_fault is)) (no_memory image name old new)
+    input_refused_so text fault error after (inr read) made =
         let s = both (whole text) after in
         let named = mapped_err (image_record i) (record_of text (image_bench i)) fault read in
         let answer : run_answer s.files image name ≡ stops (record_refused fault) = after_both (whole text) s ∙ ap (named_answer i) named in
-        of_fault s fault answer stop made
+        of_fault s fault answer error made
 
     pub input_read : (text : List ℕ) (input : Record) → SawAfter seen name RECORD_MOST (whole text) mid new → mapped (image_record i) (record_of text (image_bench i)) ≡ Ok input → Gives (run image name) old (prints (image_text i input))
     input_read text input after read =

@@ -2,7 +2,7 @@
 use Rattle.std.proofs.Common.{◌≡◌, ℕ, List, Some, ap, ◌∙◌}
 use Rattle.image_form.specs.Faults.{unpacked}
 use Rattle.image_form.proofs.Theorem.{back}
-use Rattle.image_load.specs.Placing.{image_bench}
+use Rattle.image_load.specs.Resolving.{image_bench}
 use Rattle.image_meaning.specs.Bench.{devices_of}
 use Rattle.image_pack.specs.Image.{image as image_form}
 use Rattle.image_pack.proofs.ImageLaws.{image_laws}

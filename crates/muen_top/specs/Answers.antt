@@ -3,7 +3,7 @@ use Rattle.std.specs.Prelude.{ℕ, List, Option, Some, None, Result, Ok, Err}
 use Rattle.std.specs.FinMap.{get}
 use Rattle.flow_report.specs.FlowText.{flow_text_of}
 use Rattle.image_form.specs.Faults.{unpacked}
-use Rattle.image_load.specs.Placing.{image_bench, image_record}
+use Rattle.image_load.specs.Resolving.{image_bench, image_record}
 use Rattle.image_pack.specs.Image.{image as image_form}
 use Rattle.image_pack.specs.declared.parts.Image.{Image}
 use Rattle.map_report.specs.MapText.{map_text_of}

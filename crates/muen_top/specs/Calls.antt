@@ -41,7 +41,7 @@ StopsFor answer old new NoMemory = Unit {0}
 
 abbrev pub ComesOf : Answer → FilesState → FilesState → SinkState → SinkState → Outcome → Type 0
 ComesOf answer old new out out' Done = IsDone answer old new out out'
-ComesOf answer old new out out' (Stopped stop) = StopsFor answer old new stop × (out' ≡ out)
+ComesOf answer old new out out' (Stopped error) = StopsFor answer old new error × (out' ≡ out)
 ComesOf answer old new out out' OutputFault = Prints answer (λ text. Failed text out out')
 
 -- over some files that hold what is told, the outcome comes of the command's answer

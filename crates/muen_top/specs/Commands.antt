@@ -9,7 +9,7 @@ pub data Command : Type 0 where
   boot : List ℕ → List ℕ → Command
   -- an image and a device record, by the names of their files: the image runs on the record
   run : List ℕ → List ℕ → Command
-  -- a policy, by the name of its file: its places and windows are printed
+  -- a policy, by the name of its file: its addresses and windows are printed
   map : List ℕ → Command
   -- a policy, by the name of its file: on whom each subject can depend is printed
   flows : List ℕ → Command

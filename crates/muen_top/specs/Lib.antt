@@ -1,5 +1,6 @@
 pub mod Answers
 pub mod Calls
+pub mod CommandErrors
 pub mod Commands
 pub mod FilesSeen
 pub mod Headline
@@ -10,4 +11,3 @@ pub mod Parsed
 pub mod PolicyCommands
 pub mod Reports
 pub mod Runs
-pub mod Stops

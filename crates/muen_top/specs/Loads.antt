@@ -13,7 +13,7 @@ use Rattle.muen_outside.specs.Store.{Store, absent, long, reading_of}
 use Rattle.policy_types.specs.declared.source.Source.{Source}
 use Rattle.muen_top.specs.FilesSeen.{SawAfter}
 use Rattle.muen_top.specs.Runs.{OnlyMemory}
-use Rattle.muen_top.specs.Stops.{stop_of_end}
+use Rattle.muen_top.specs.CommandErrors.{error_of_build}
 use Rattle.muen_top.specs.declared.outcome.CommandError.{CommandError}
 use Rattle.muen_top.specs.declared.outcome.CommandError.TheVariants.{Missing, TooLong, FileFault, NoMemory}
 
@@ -45,7 +45,7 @@ NotReadAfter looks name most old new _ = ⊥
 -- what reading the bytes of an image of these parts comes to
 abbrev pub IsReadOf : Image → Result Image CommandError → Type 0
 IsReadOf i (Ok j) = i ≡ j
-IsReadOf i (Err stop) = OnlyMemory stop
+IsReadOf i (Err error) = OnlyMemory error
 
 -- the bytes of an image of these parts, which is sound for this policy over files that hold this
 pub record IsReadBack (p : Source) (files : Store) (i : Image) : Type 0 where
@@ -64,6 +64,6 @@ pub record IsMade (policy document : List ℕ) (old : FilesState) (found : Files
   pub back : (files : Store) → ShowAll files (looks_of policy document found) → IsReadBack source files i
 
 -- why it gives none: the policy isn't accepted, or memory was refused for the image
-pub data NotMade (policy document : List ℕ) (old new : FilesState) (stop : CommandError) : Type 0 where
-  refused : (end : BuildError) → Ends (document_look policy document ∷ []) (RefusesDocument document) old new end → stop ≡ stop_of_end end → NotMade policy document old new stop
-  unmade : (found : Files) → Grows old.held (document_look policy document ∷ []) (looks_of policy document found) → ((files : Store) → ShowAll files (looks_of policy document found) → OnlyMemory stop) → NotMade policy document old new stop
+pub data NotMade (policy document : List ℕ) (old new : FilesState) (error : CommandError) : Type 0 where
+  refused : (build_error : BuildError) → Ends (document_look policy document ∷ []) (RefusesDocument document) old new build_error → error ≡ error_of_build build_error → NotMade policy document old new error
+  unmade : (found : Files) → Grows old.held (document_look policy document ∷ []) (looks_of policy document found) → ((files : Store) → ShowAll files (looks_of policy document found) → OnlyMemory error) → NotMade policy document old new error

@@ -14,7 +14,7 @@ pub record Gives (command : Command) (old : FilesState) (answer : Answer) : Type
   pub is : answer_of files (Some command) ≡ answer
 
 -- nothing is printed, as over some files that hold what is told the command's answer says
-pub record Stops (command : Command) (old new : FilesState) (stop : CommandError) : Type 0 where
+pub record Stops (command : Command) (old new : FilesState) (error : CommandError) : Type 0 where
   pub files : Store
   pub told : IfSome old.held (λ m. files ≡ m)
-  pub stops : StopsFor (answer_of files (Some command)) old new stop
+  pub stops : StopsFor (answer_of files (Some command)) old new error

@@ -70,32 +70,32 @@ Ends (stops reason) err err' status = (status ≡ reason_status reason) × Told 
 
 -- ---- of the outcome of a command
 
-abbrev pub stop_text : CommandError → List ℕ
-stop_text Usage = usage_text
-stop_text (Missing name) = missing_text name.now
-stop_text (TooLong name n) = too_long_text name.now n
-stop_text (Refused refusal) = refusal_text refusal
-stop_text (ImageRefused fault) = image_fault_text fault
-stop_text (RecordRefused fault) = record_fault_text fault
-stop_text FileFault = codes "file fault"
-stop_text NoMemory = codes "out of memory"
+abbrev pub error_text : CommandError → List ℕ
+error_text Usage = usage_text
+error_text (Missing name) = missing_text name.now
+error_text (TooLong name n) = too_long_text name.now n
+error_text (Refused refusal) = refusal_text refusal
+error_text (ImageRefused fault) = image_fault_text fault
+error_text (RecordRefused fault) = record_fault_text fault
+error_text FileFault = codes "file fault"
+error_text NoMemory = codes "out of memory"
 
-abbrev pub stop_status : CommandError → ℕ
-stop_status Usage = 1
-stop_status (Missing name) = 3
-stop_status (TooLong name n) = 3
-stop_status (Refused refusal) = refusal_status refusal
-stop_status (ImageRefused fault) = 5
-stop_status (RecordRefused fault) = 6
-stop_status FileFault = 4
-stop_status NoMemory = 8
+abbrev pub error_status : CommandError → ℕ
+error_status Usage = 1
+error_status (Missing name) = 3
+error_status (TooLong name n) = 3
+error_status (Refused refusal) = refusal_status refusal
+error_status (ImageRefused fault) = 5
+error_status (RecordRefused fault) = 6
+error_status FileFault = 4
+error_status NoMemory = 8
 
 abbrev pub status_of : Outcome → ℕ
 status_of Done = 0
-status_of (Stopped stop) = stop_status stop
+status_of (Stopped error) = error_status error
 status_of OutputFault = 7
 
 abbrev pub Reported : SinkState → SinkState → Outcome → Type 0
 Reported old new Done = new ≡ old
-Reported old new (Stopped stop) = Told (stop_text stop) old new
+Reported old new (Stopped error) = Told (error_text error) old new
 Reported old new OutputFault = Told (codes "output fault") old new

@@ -14,5 +14,5 @@ OnlyMemory _ = ⊥
 
 abbrev pub RunsTo : List ℕ → SinkState → SinkState → Outcome → Type 0
 RunsTo text old new Done = Appended text old new
-RunsTo text old new (Stopped stop) = OnlyMemory stop × (new ≡ old)
+RunsTo text old new (Stopped error) = OnlyMemory error × (new ≡ old)
 RunsTo text old new OutputFault = Failed text old new

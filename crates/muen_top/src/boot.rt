@@ -21,7 +21,7 @@ ghost use Rattle.muen_top.specs.PolicyCommands.{Gives, Stops};
 ghost use Rattle.muen_top.specs.Runs.{OnlyMemory};
 
 use crate::loading::{load, load_too, within};
-use crate::outcome::{Outcome, CommandError};
+use crate::outcome::{CommandError, Outcome};
 use crate::run::{Loaded, run_image};
 use image_load::read_record;
 use image_pack::{Parts, unpack};
@@ -49,10 +49,10 @@ fn parts_of<'a>(
     placed: &Placed,
     found: &ComponentFiles,
 ) -> Result<Parts, CommandError<'a>>
-    requires lawful { lawful_policy_of document.now ≡ Ok (source_of placed.now.plain.lawful) }
-    requires accepts { Accepts (looks_of name.now document.now found.now) document.now (source_of placed.now.plain.lawful) }
-    ensures ok { IfOk result (λ i. (files : Store) → ShowAll files (looks_of name.now document.now found.now) → IsReadBack (source_of placed.now.plain.lawful) files i) }
-    ensures err { IfErr result (λ stop. (files : Store) → ShowAll files (looks_of name.now document.now found.now) → OnlyMemory stop) }
+    requires lawful { lawful_policy_of document.now ≡ Ok (source_of placed.now.expanded.lawful) }
+    requires accepts { Accepts (looks_of name.now document.now found.now) document.now (source_of placed.now.expanded.lawful) }
+    ensures ok { IfOk result (λ i. (files : Store) → ShowAll files (looks_of name.now document.now found.now) → IsReadBack (source_of placed.now.expanded.lawful) files i) }
+    ensures err { IfErr result (λ error. (files : Store) → ShowAll files (looks_of name.now document.now found.now) → OnlyMemory error) }
 {
     let bytes = image(alloc, name, document, placed, found)?;
     read_back(alloc, &bytes)
@@ -150,6 +150,6 @@ pub(crate) fn boot<'a, F: Files, S: Sink>(
 {
     match read_both(alloc, policy, inputs, files) {
         Ok(Loaded { parts, input }) => run_image(alloc, parts, input, out),
-        Err(stop) => Outcome::Stopped(stop),
+        Err(error) => Outcome::Stopped(error),
     }
 }

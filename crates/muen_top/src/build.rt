@@ -11,7 +11,7 @@ ghost use Rattle.muen_top.specs.PolicyCommands.{Stops};
 ghost use Rattle.muen_top.specs.Reports.{status_of};
 
 use crate::loading::load;
-use crate::outcome::{Outcome, CommandError};
+use crate::outcome::{CommandError, Outcome};
 use muen_num::limits::POLICY_MOST;
 use muen_outside::{FileError, Files};
 use std::alloc::Global;
@@ -23,7 +23,7 @@ fn image_of<'a, F: Files>(
     files: &mut F,
 ) -> Result<Vec<u8>, CommandError<'a>>
     ensures ok { IfOk result (λ v. IsMade policy.now (F.state files.old) v.items) }
-    ensures err { IfErr result (λ stop. (image : List ℕ) → Stops (build_command policy.now image) (F.state files.old) (F.state files.new) stop) }
+    ensures err { IfErr result (λ error. (image : List ℕ) → Stops (build_command policy.now image) (F.state files.old) (F.state files.new) error) }
     ensures follows { Follows (F.state files.old) (F.state files.new) }
 {
     let bytes = load(alloc, policy, POLICY_MOST, files)?;
@@ -55,6 +55,6 @@ pub(crate) fn build<'a, F: Files>(
 {
     match image_of(alloc, policy, files) {
         Ok(bytes) => write_image(alloc, image, &bytes, files),
-        Err(stop) => Outcome::Stopped(stop),
+        Err(error) => Outcome::Stopped(error),
     }
 }

@@ -8,7 +8,7 @@ ghost use Rattle.muen_top.specs.Reports.{status_of};
 use crate::boot::boot;
 use crate::build::build;
 use crate::command::Command;
-use crate::outcome::{Outcome, CommandError};
+use crate::outcome::{CommandError, Outcome};
 use crate::policy_commands;
 use crate::report::{report, status};
 use crate::run::run;

@@ -14,7 +14,7 @@ pub(crate) enum Command<'a> {
     Boot { policy: &'a str, inputs: &'a str },
     /// An image runs on a device record, both by the names of their files.
     Run { image: &'a str, inputs: &'a str },
-    /// The places and windows of a policy are printed.
+    /// The addresses and windows of a policy are printed.
     Map(&'a str),
     /// On whom each subject of a policy can depend is printed.
     Flows(&'a str),

@@ -1,6 +1,6 @@
 // How a command comes to an end.
 ghost use Rattle.std.specs.Prelude.{◌≡◌};
-ghost use Rattle.muen_top.specs.Stops.{stop_of_refusal, stop_of_fault};
+ghost use Rattle.muen_top.specs.CommandErrors.{error_of_record_fault, error_of_refusal};
 
 use image_pack::ImageFault;
 use muen_build::BuildError;
@@ -31,9 +31,9 @@ pub(crate) enum CommandError<'a> {
 
 impl<'a> From<NoMemory> for CommandError<'a> {
     ghost use Rattle.std.specs.Prelude.{◌≡◌};
-    ghost use Rattle.muen_top.specs.declared.outcome.CommandError.TheVariants as stops;
+    ghost use Rattle.muen_top.specs.declared.outcome.CommandError.TheVariants as errors;
 
-    ghost from_gives = { λ refused stop. stop ≡ stops.NoMemory };
+    ghost from_gives = { λ refused error. error ≡ errors.NoMemory };
 
     fn from(refused: NoMemory) -> CommandError<'a> {
         let NoMemory = refused;
@@ -43,9 +43,9 @@ impl<'a> From<NoMemory> for CommandError<'a> {
 
 impl<'a> From<Refusal> for CommandError<'a> {
     ghost use Rattle.std.specs.Prelude.{◌≡◌};
-    ghost use Rattle.muen_top.specs.Stops.{stop_of_refusal};
+    ghost use Rattle.muen_top.specs.CommandErrors.{error_of_refusal};
 
-    ghost from_gives = { λ refusal stop. stop ≡ stop_of_refusal refusal };
+    ghost from_gives = { λ refusal error. error ≡ error_of_refusal refusal };
 
     fn from(refusal: Refusal) -> CommandError<'a> {
         if refusal.is_no_memory() {
@@ -58,12 +58,12 @@ impl<'a> From<Refusal> for CommandError<'a> {
 
 impl<'a> From<BuildError> for CommandError<'a> {
     ghost use Rattle.std.specs.Prelude.{◌≡◌};
-    ghost use Rattle.muen_top.specs.Stops.{stop_of_end};
+    ghost use Rattle.muen_top.specs.CommandErrors.{error_of_build};
 
-    ghost from_gives = { λ end stop. stop ≡ stop_of_end end };
+    ghost from_gives = { λ build_error error. error ≡ error_of_build build_error };
 
-    fn from(end: BuildError) -> CommandError<'a> {
-        match end {
+    fn from(build_error: BuildError) -> CommandError<'a> {
+        match build_error {
             BuildError::Refused(refusal) => CommandError::from(refusal),
             BuildError::FileFault => CommandError::FileFault,
         }
@@ -72,9 +72,9 @@ impl<'a> From<BuildError> for CommandError<'a> {
 
 impl<'a> From<ImageFault> for CommandError<'a> {
     ghost use Rattle.std.specs.Prelude.{◌≡◌};
-    ghost use Rattle.muen_top.specs.Stops.{stop_of_image_fault};
+    ghost use Rattle.muen_top.specs.CommandErrors.{error_of_image_fault};
 
-    ghost from_gives = { λ fault stop. stop ≡ stop_of_image_fault fault };
+    ghost from_gives = { λ fault error. error ≡ error_of_image_fault fault };
 
     fn from(fault: ImageFault) -> CommandError<'a> {
         match fault {
@@ -86,9 +86,9 @@ impl<'a> From<ImageFault> for CommandError<'a> {
 
 impl<'a> From<RecordFault> for CommandError<'a> {
     ghost use Rattle.std.specs.Prelude.{◌≡◌};
-    ghost use Rattle.muen_top.specs.Stops.{stop_of_fault};
+    ghost use Rattle.muen_top.specs.CommandErrors.{error_of_record_fault};
 
-    ghost from_gives = { λ fault stop. stop ≡ stop_of_fault fault };
+    ghost from_gives = { λ fault error. error ≡ error_of_record_fault fault };
 
     fn from(fault: RecordFault) -> CommandError<'a> {
         match fault {

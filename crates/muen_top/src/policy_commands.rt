@@ -11,7 +11,7 @@ ghost use Rattle.muen_top.specs.PolicyCommands.{Gives, Stops};
 ghost use Rattle.muen_top.specs.Runs.{RunsTo};
 
 use crate::loading::load;
-use crate::outcome::{Outcome, CommandError};
+use crate::outcome::{CommandError, Outcome};
 use flow_report::flow_text;
 use map_report::map_text;
 use muen_num::limits::POLICY_MOST;
@@ -20,13 +20,13 @@ use policy_lawful::Lawful;
 use region_alloc::Placed;
 use std::alloc::Global;
 
-// The policy of this file, with the places of its regions.
+// The policy of this file, with the addresses of its regions.
 fn read_placed<'a, F: Files>(
     alloc: Global,
     policy: &'a str,
     files: &mut F,
 ) -> Result<Placed, CommandError<'a>>
-    ensures ok { IfOk result (λ x. Gives (map_command policy.now) (F.state files.old) (prints (map_text_of (source_of x.plain.lawful)))) }
+    ensures ok { IfOk result (λ x. Gives (map_command policy.now) (F.state files.old) (prints (map_text_of (source_of x.expanded.lawful)))) }
     ensures err { IfErr result (Stops (map_command policy.now) (F.state files.old) (F.state files.new)) }
     ensures follows { Follows (F.state files.old) (F.state files.new) }
 {
@@ -36,7 +36,7 @@ fn read_placed<'a, F: Files>(
 }
 
 fn print_map<'a, S: Sink>(alloc: Global, placed: &Placed, out: &mut S) -> Outcome<'a>
-    ensures { RunsTo (map_text_of (source_of placed.now.plain.lawful)) (S.state out.old) (S.state out.new) result }
+    ensures { RunsTo (map_text_of (source_of placed.now.expanded.lawful)) (S.state out.old) (S.state out.new) result }
 {
     let mut buffer = match Buffer::make(alloc) {
         Ok(buffer) => buffer,
@@ -60,7 +60,7 @@ pub(crate) fn map<'a, F: Files, S: Sink>(
 {
     match read_placed(alloc, policy, files) {
         Ok(placed) => print_map(alloc, &placed, out),
-        Err(stop) => Outcome::Stopped(stop),
+        Err(error) => Outcome::Stopped(error),
     }
 }
 
@@ -108,6 +108,6 @@ pub(crate) fn flows<'a, F: Files, S: Sink>(
 {
     match read_lawful(alloc, policy, files) {
         Ok(lawful) => print_flows(alloc, &lawful, out),
-        Err(stop) => Outcome::Stopped(stop),
+        Err(error) => Outcome::Stopped(error),
     }
 }

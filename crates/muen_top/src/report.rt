@@ -2,9 +2,9 @@
 ghost use Rattle.std.specs.Prelude.{◌≡◌, codes};
 ghost use Rattle.muen_num.specs.Pieces.{whole};
 ghost use Rattle.muen_outside.specs.Puts.{Puts};
-ghost use Rattle.muen_top.specs.Reports.{line_of, refusal_status, status_of, stop_text, usage_text, Reported};
+ghost use Rattle.muen_top.specs.Reports.{error_text, line_of, refusal_status, status_of, usage_text, Reported};
 
-use crate::outcome::{Outcome, CommandError};
+use crate::outcome::{CommandError, Outcome};
 use itoa::Buffer;
 use muen_num::Pieces;
 use muen_outside::{Sink, SinkFault, put_pieces};
@@ -18,11 +18,11 @@ fn usage() -> &'static str
     "usage: build POLICY IMAGE, run IMAGE RECORD, boot POLICY RECORD, map POLICY, flows POLICY, load NUMBER, verify IMAGE POLICY, build POLICY IMAGE DMA, run IMAGE RECORD DMA"
 }
 
-// The text of a stop in pieces.
-fn pieces<'a>(stop: &'a CommandError<'_>, one: &'a mut Buffer, two: &'a mut Buffer) -> Pieces<'a>
-    ensures { whole result ≡ stop_text stop.now }
+// The text of an error in pieces.
+fn pieces<'a>(error: &'a CommandError<'_>, one: &'a mut Buffer, two: &'a mut Buffer) -> Pieces<'a>
+    ensures { whole result ≡ error_text error.now }
 {
-    match stop {
+    match error {
         CommandError::Usage => usage().into(),
         CommandError::Missing(name) => ("missing file ", *name).into(),
         CommandError::TooLong(name, length) => {
@@ -57,10 +57,10 @@ pub(crate) fn report<S: Sink>(outcome: &Outcome<'_>, err: &mut S)
 {
     match outcome {
         Outcome::Done => {}
-        Outcome::Stopped(stop) => {
+        Outcome::Stopped(error) => {
             let mut one = Buffer::new();
             let mut two = Buffer::new();
-            let _ = put_line(&pieces(stop, &mut one, &mut two), err);
+            let _ = put_line(&pieces(error, &mut one, &mut two), err);
         }
         Outcome::OutputFault => {
             let _ = put_line(&output_fault(), err);

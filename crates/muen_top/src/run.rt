@@ -10,7 +10,7 @@ ghost use Rattle.muen_top.specs.PolicyCommands.{Gives, Stops};
 ghost use Rattle.muen_top.specs.Runs.{RunsTo};
 
 use crate::loading::{load, load_too};
-use crate::outcome::{Outcome, CommandError};
+use crate::outcome::{CommandError, Outcome};
 use image_load::read_record;
 use image_pack::{Parts, unpack};
 use muen_num::limits::{IMAGE_MOST, RECORD_MOST};
@@ -75,6 +75,6 @@ pub(crate) fn run<'a, F: Files, S: Sink>(
 {
     match read_both(alloc, image, inputs, files) {
         Ok(Loaded { parts, input }) => run_image(alloc, parts, input, out),
-        Err(stop) => Outcome::Stopped(stop),
+        Err(error) => Outcome::Stopped(error),
     }
 }

@@ -19,7 +19,7 @@ region 0000000000109000 0000000000001000 one:msrs\n\
 window one 0000000000400000 0000000000001000 rx code\n\
 ";
 
-/// A region at a place of its own and one that lies at a multiple of 2 MiB.
+/// A region at an address of its own and one that lies at a multiple of 2 MiB.
 pub(crate) const FIXED: &str =
     r#"{"processor":{"logicalCpus":1},"memoryBlocks":[{"name":"ram","physicalAddress":"16#0010_0000#","size":"16#0040_0000#"}],
 "memory":[{"name":"code","size":"16#1000#","content":{"hex":"01100000050000001700000000000000"}},{"name":"pool",

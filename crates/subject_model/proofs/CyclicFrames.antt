@@ -14,7 +14,7 @@ use Rattle.image_plan.proofs.ByNumber.{there}
 use Rattle.image_plan.proofs.SlotLaws.{first_major, later_major, length_slots, ticks_of}
 use Rattle.image_plan.specs.Slot.{frame_slots, slot_at, slots_from}
 use Rattle.muen_num.specs.Frame.{Frame}
-use Rattle.subject_model.specs.Laws.{AreFrames, place_after}
+use Rattle.subject_model.specs.Laws.{AreFrames, frame_after}
 
 -- ---- the ticks of major frames
 
@@ -56,19 +56,19 @@ whole_sums : (frames : List (List Frame)) → whole (map ticks_of frames) ≡ su
 whole_sums [] = refl
 whole_sums (m ∷ ms) = ap (λ n. ticks_of m + n) (whole_sums ms) ∙ sym (sum_by-cons ticks_of m ms)
 
--- ---- the place at a tick
+-- ---- the major frame at a tick
 
--- the major frame at a place is there and has this tick, and it began after all major frames ran some times and those before it once
-record IsPlace (ticks : List ℕ) (tick : ℕ) (at : FrameAt) : Type 0 where
+-- the major frame is there and has this tick, and it began after all major frames ran some times and those before it once
+record IsFrame (ticks : List ℕ) (tick : ℕ) (at : FrameAt) : Type 0 where
   size : ℕ
   rounds : ℕ
   found : slice_get ticks at.major ≡ Some size
   begun : at.start ≤ tick
-  left : tick < at.start + size
+  remaining : tick < at.start + size
   since : at.start ≡ rounds * whole ticks + before at.major ticks
 
-place_begins : (ticks : List ℕ) (tick major rounds : ℕ) → All (λ n. 0 < n) ticks → major < length ticks → tick ≡ rounds * whole ticks + before major ticks → IsPlace ticks tick (record { major = major; start = tick })
-place_begins ticks tick major rounds each l since =
+frame_begins : (ticks : List ℕ) (tick major rounds : ℕ) → All (λ n. 0 < n) ticks → major < length ticks → tick ≡ rounds * whole ticks + before major ticks → IsFrame ticks tick (record { major = major; start = tick })
+frame_begins ticks tick major rounds each l since =
     let size = there ticks major l in
     let some = some_at ticks major size.0 each size.1 in
     record {
@@ -76,45 +76,45 @@ place_begins ticks tick major rounds each l since =
       rounds = rounds;
       found = size.1;
       begun = omega arith;
-      left = omega (arith, some);
+      remaining = omega (arith, some);
       since = since;
     }
 
-place_stays : (ticks : List ℕ) (tick : ℕ) (at : FrameAt) (p : IsPlace ticks tick at) → (suc tick ≡ at.start + p.size → ⊥) → IsPlace ticks (suc tick) at
-place_stays ticks tick at p ne =
+frame_stays : (ticks : List ℕ) (tick : ℕ) (at : FrameAt) (p : IsFrame ticks tick at) → (suc tick ≡ at.start + p.size → ⊥) → IsFrame ticks (suc tick) at
+frame_stays ticks tick at p ne =
     let begun = p.begun in
-    let left = p.left in
+    let remaining = p.remaining in
     record {
       size = p.size;
       rounds = p.rounds;
       found = p.found;
       begun = omega (arith, begun);
-      left = omega (arith, left, ne);
+      remaining = omega (arith, remaining, ne);
       since = p.since;
     }
 
-place_turns : (ticks : List ℕ) (tick : ℕ) (at : FrameAt) (p : IsPlace ticks tick at) → All (λ n. 0 < n) ticks → 0 < length ticks → suc tick ≡ at.start + p.size → IsPlace ticks (suc tick) (record { major = next_major (length ticks) at.major None; start = suc tick })
-place_turns ticks tick at p each some end =
+frame_turns : (ticks : List ℕ) (tick : ℕ) (at : FrameAt) (p : IsFrame ticks tick at) → All (λ n. 0 < n) ticks → 0 < length ticks → suc tick ≡ at.start + p.size → IsFrame ticks (suc tick) (record { major = next_major (length ticks) at.major None; start = suc tick })
+frame_turns ticks tick at p each some end =
     let since = p.since in
     elim (cases_lt (at.major + 1) (length ticks)) [
       | inl h ↦
           let next = ap (λ n. before n ticks) (add-one at.major) ∙ before_next ticks at.major p.size p.found in
-          subst (λ b. IsPlace ticks (suc tick) (record { major = cond b (at.major + 1) 0; start = suc tick })) (sym (lt-ltb (at.major + 1) (length ticks) h))
-          (place_begins ticks (suc tick) (at.major + 1) p.rounds each h (omega (arith, since, end, next)))
+          subst (λ b. IsFrame ticks (suc tick) (record { major = cond b (at.major + 1) 0; start = suc tick })) (sym (lt-ltb (at.major + 1) (length ticks) h))
+          (frame_begins ticks (suc tick) (at.major + 1) p.rounds each h (omega (arith, since, end, next)))
       | inr h ↦
           let last = before_last ticks at.major p.size p.found h in
           let more = suc-mul p.rounds (whole ticks) in
-          subst (λ b. IsPlace ticks (suc tick) (record { major = cond b (at.major + 1) 0; start = suc tick })) (sym (le-ltb (at.major + 1) (length ticks) h))
-          (place_begins ticks (suc tick) 0 (suc p.rounds) each some (omega (arith, since, end, last, more)))
+          subst (λ b. IsFrame ticks (suc tick) (record { major = cond b (at.major + 1) 0; start = suc tick })) (sym (le-ltb (at.major + 1) (length ticks) h))
+          (frame_begins ticks (suc tick) 0 (suc p.rounds) each some (omega (arith, since, end, last, more)))
     ]
 
-place_goes : (ticks : List ℕ) (tick : ℕ) (at : FrameAt) → All (λ n. 0 < n) ticks → 0 < length ticks → IsPlace ticks tick at → IsPlace ticks (suc tick) (place_at ticks at None (suc tick))
-place_goes ticks tick at each some p =
+frame_goes : (ticks : List ℕ) (tick : ℕ) (at : FrameAt) → All (λ n. 0 < n) ticks → 0 < length ticks → IsFrame ticks tick at → IsFrame ticks (suc tick) (place_at ticks at None (suc tick))
+frame_goes ticks tick at each some p =
     let next : FrameAt = record { major = next_major (length ticks) at.major None; start = suc tick } in
-    subst (λ o. IsPlace ticks (suc tick) (place_by (length ticks) at None (suc tick) o)) (sym p.found)
+    subst (λ o. IsFrame ticks (suc tick) (place_by (length ticks) at None (suc tick) o)) (sym p.found)
     (elim (cases_eq (suc tick) (at.start + p.size)) [
-      | inl h ↦ subst (λ b. IsPlace ticks (suc tick) (cond b next at)) (sym (eq-eqb (suc tick) (at.start + p.size) h)) (place_turns ticks tick at p each some h)
-      | inr h ↦ subst (λ b. IsPlace ticks (suc tick) (cond b next at)) (sym (ne_eqb (suc tick) (at.start + p.size) h)) (place_stays ticks tick at p h)
+      | inl h ↦ subst (λ b. IsFrame ticks (suc tick) (cond b next at)) (sym (eq-eqb (suc tick) (at.start + p.size) h)) (frame_turns ticks tick at p each some h)
+      | inr h ↦ subst (λ b. IsFrame ticks (suc tick) (cond b next at)) (sym (ne_eqb (suc tick) (at.start + p.size) h)) (frame_stays ticks tick at p h)
     ])
 
 first_stays : (ticks : List ℕ) (size : ℕ) → slice_get ticks 0 ≡ Some size → 0 < size → place_at ticks first_place None 0 ≡ first_place
@@ -122,14 +122,14 @@ first_stays ticks size e some =
     ap (place_by (length ticks) first_place None 0) e
     ∙ ap (λ b. cond b (record { major = next_major (length ticks) 0 None; start = 0 }) first_place) (ne_eqb 0 (0 + size) (λ h. absurd (omega (arith, some, h))))
 
-places : (ticks : List ℕ) (tick : ℕ) → All (λ n. 0 < n) ticks → 0 < length ticks → IsPlace ticks tick (place_after ticks tick)
-places ticks zero each some =
+frame_runs : (ticks : List ℕ) (tick : ℕ) → All (λ n. 0 < n) ticks → 0 < length ticks → IsFrame ticks tick (frame_after ticks tick)
+frame_runs ticks zero each some =
     let size = there ticks 0 some in
     let none : 0 ≡ 0 * whole ticks + 0 = omega arith in
-    subst (IsPlace ticks 0) (sym (first_stays ticks size.0 size.1 (some_at ticks 0 size.0 each size.1))) (place_begins ticks 0 0 0 each some none)
-places ticks (suc tick) each some = place_goes ticks tick (place_after ticks tick) each some (places ticks tick each some)
+    subst (IsFrame ticks 0) (sym (first_stays ticks size.0 size.1 (some_at ticks 0 size.0 each size.1))) (frame_begins ticks 0 0 0 each some none)
+frame_runs ticks (suc tick) each some = frame_goes ticks tick (frame_after ticks tick) each some (frame_runs ticks tick each some)
 
--- ---- the slot at a place
+-- ---- the slot of a major frame
 
 -- a tick of a major frame stands in the row of all ticks behind those of the major frames before
 in_row : (frames : List (List Frame)) (first major k : ℕ) (fs : List Frame) → slice_get frames major ≡ Some fs → k < ticks_of fs → slice_get (slots_from first frames) (before major (map ticks_of frames) + k) ≡ slice_get (flat_map (frame_slots (first + major)) fs) k
@@ -154,20 +154,20 @@ frames_behind : (o : Option (List Frame)) (size : ℕ) → option_map ticks_of o
 frames_behind None size e = absurd (cc (e))
 frames_behind (Some fs) size e = let same : ticks_of fs ≡ size = cc (e) in (fs, refl, same)
 
-slot_by_place : (frames : List (List Frame)) (tick : ℕ) (at : FrameAt) → IsPlace (map ticks_of frames) tick at → slot_in frames at tick ≡ slot_at frames tick
+slot_by_frame : (frames : List (List Frame)) (tick : ℕ) (at : FrameAt) → IsFrame (map ticks_of frames) tick at → slot_in frames at tick ≡ slot_at frames tick
 unfolding slot_at
-slot_by_place frames tick at p =
+slot_by_frame frames tick at p =
     let ticks = map ticks_of frames in
     let k = tick - at.start in
     let begun = p.begun in
-    let left = p.left in
+    let remaining = p.remaining in
     let since = p.since in
     let behind = frames_behind (slice_get frames at.major) p.size (sym (slice_get-map ticks_of frames at.major) ∙ p.found) in
     let fs = behind.0 in
     let size = behind.2 in
-    let inside : k < ticks_of fs = omega (arith, begun, left, size) in
+    let inside : k < ticks_of fs = omega (arith, begun, remaining, size) in
     let most = before_within ticks at.major p.size p.found in
-    let below : before at.major ticks + k < whole ticks = omega (arith, begun, left, most) in
+    let below : before at.major ticks + k < whole ticks = omega (arith, begun, remaining, most) in
     let split : tick ≡ p.rounds * whole ticks + (before at.major ticks + k) = omega (arith, begun, since) in
     let long : length (slots_from 0 frames) ≡ whole ticks = length_slots 0 frames ∙ sym (whole_sums frames) in
     let round : tick % length (slots_from 0 frames) ≡ before at.major ticks + k = ap (λ n. tick % n) long ∙ ap (λ n. n % whole ticks) split ∙ mod-mul-add p.rounds (whole ticks) (before at.major ticks + k) below in
@@ -177,7 +177,7 @@ slot_by_place frames tick at p =
     ∙ sym (in_row frames 0 at.major k fs behind.1 inside)
     ∙ ap (slice_get (slots_from 0 frames)) (sym round)
 
--- where nothing picks one, the slot of the place at a tick is the tick's slot in the row of all
-pub slots_cyclic : (frames : List (List Frame)) (ticks : List ℕ) (tick : ℕ) → AreFrames frames ticks → slot_in frames (place_after ticks tick) tick ≡ slot_at frames tick
+-- where nothing picks one, the slot of the major frame at a tick is the tick's slot in the row of all
+pub slots_cyclic : (frames : List (List Frame)) (ticks : List ℕ) (tick : ℕ) → AreFrames frames ticks → slot_in frames (frame_after ticks tick) tick ≡ slot_at frames tick
 slots_cyclic frames ticks tick a =
-    slot_by_place frames tick (place_after ticks tick) (subst (λ ts. IsPlace ts tick (place_after ticks tick)) a.sums (places ticks tick a.each a.some))
+    slot_by_frame frames tick (frame_after ticks tick) (subst (λ ts. IsFrame ts tick (frame_after ticks tick)) a.sums (frame_runs ticks tick a.each a.some))

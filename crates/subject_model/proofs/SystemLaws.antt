@@ -98,7 +98,7 @@ raised_things p s (Some way) y = by_event (event_of p s way)
 
 stored_elsewhere : (s : Subject) (o : Option (Stored Thing)) (y : System) → StoresElsewhere s o → thing_in (with_store o y).things (state s.name) ≡ thing_in y.things (state s.name)
 stored_elsewhere s None y h = refl
-stored_elsewhere s (Some w) y h = value_other same_thing w.place (state s.name) _ y.things (things_apart w.place (state s.name) h)
+stored_elsewhere s (Some w) y h = value_other same_thing w.target (state s.name) _ y.things (things_apart w.target (state s.name) h)
 
 there_after : (new : List ℕ) (o : Option (List ℕ)) (page : List ℕ) → o ≡ Some page → option_map (λ _. new) o ≡ Some new
 there_after new (Some x) page e = refl

@@ -85,7 +85,7 @@ pub record Inbox : Type 0 where
   pub first : Bool
   pub tick : ℕ
 
--- ---- what a step of its sees: places are things
+-- ---- what a step of its sees: targets are things
 
 -- where a window leads; a missing right is an EPT violation, whose qualification has the bit of the access, and the rights that
 -- were found in bits 5:3
@@ -142,8 +142,8 @@ abbrev pub has_trap : List ℕ → ℕ → Bool
 has_trap traps reason = list_any (λ t. t == reason) traps
 
 -- how it goes on, as a line tells it
-abbrev pub end_of : ℕ → Bool → ExitEnd
-end_of reason trap =
+abbrev pub exit_end_of : ℕ → Bool → ExitEnd
+exit_end_of reason trap =
     if reason == EXIT_HLT then Halt
     else (if reason == EXIT_VMCALL then On
     else (if trap then Trapped else Stop))
@@ -163,7 +163,7 @@ what_of traps (ends.Set reg value) = Set reg value
 what_of traps (ends.Stored size addr value) = Wrote size addr value
 what_of traps (ends.Out size port value) = Out size port value
 what_of traps (ends.WroteMsr index value) = WroteMsr index value
-what_of traps (ends.Exit reason qualification addr call) = Exit reason qualification addr (end_of reason (has_trap traps reason))
+what_of traps (ends.Exit reason qualification addr call) = Exit reason qualification addr (exit_end_of reason (has_trap traps reason))
 
 abbrev pub state_after : List ℕ → StepEnd → SubjectState → SubjectState
 state_after traps (ends.Exit reason qualification addr call) s = finished (finish_of reason (has_trap traps reason)) s

@@ -28,7 +28,7 @@ pick_in y None = None
 pick_in y (Some t) = option_and_then (λ bytes. slice_get bytes 0) (thing_in y.things (region t.region))
 
 abbrev pub begins : Source → ℕ → System → System
-begins p tick y = record y { place = place_at (ticks_of_majors p) y.place (pick_in y p.scheduling.tau0) tick }
+begins p tick y = record y { frame = place_at (ticks_of_majors p) y.frame (pick_in y p.scheduling.tau0) tick }
 
 -- ---- inputs; without tables for it no device reaches memory by itself
 

@@ -22,7 +22,7 @@ AreOthers a b = a ≡ b → ⊥
 -- what is stored is stored elsewhere than on the subject's own state page
 abbrev pub StoresElsewhere : Subject → Option (Stored Thing) → Type 0
 StoresElsewhere s None = Unit {0}
-StoresElsewhere s (Some w) = w.place ≡ state s.name → ⊥
+StoresElsewhere s (Some w) = w.target ≡ state s.name → ⊥
 
 -- what pends at any subject but this one stays
 pub record KeepsOthers (name : List ℕ) (y z : System) : Type 0 where
@@ -35,7 +35,7 @@ pub record IsTurnOf (p : Source) (cpu tick : ℕ) (y : System) (s : Subject) (fi
   pub slot : Slot
   pub member : List ℕ
   pub values : MsrValues
-  pub in_slot : slot_in (frames_of p cpu) y.place tick ≡ Some slot
+  pub in_slot : slot_in (frames_of p cpu) y.frame tick ≡ Some slot
   pub begins : slot.first ≡ first
   pub active : slice_get y.active slot.group ≡ Some member
   pub is : subject_named p member ≡ Some s
@@ -52,7 +52,7 @@ pub record AreFrames (frames : List (List Frame)) (ticks : List ℕ) : Type 0 wh
   pub each : All (λ n. 0 < n) ticks
   pub some : 0 < length ticks
 
--- the place at a tick where nothing ever picks a major frame
-abbrev pub place_after : List ℕ → ℕ → FrameAt
-place_after ticks zero = place_at ticks first_place None 0
-place_after ticks (suc tick) = place_at ticks (place_after ticks tick) None (suc tick)
+-- the major frame at a tick where nothing ever picks one
+abbrev pub frame_after : List ℕ → ℕ → FrameAt
+frame_after ticks zero = place_at ticks first_place None 0
+frame_after ticks (suc tick) = place_at ticks (frame_after ticks tick) None (suc tick)

@@ -1,6 +1,6 @@
 -- The abstract system: the things by name, with the state page of each subject among them, the values of each subject's MSRs, the
 -- ports' input bytes, the pending events, the active member of each scheduling group, and the major frame that runs. There is no
--- kernel in it, no table and no place (this project's own, after Muen's system policy).
+-- kernel in it, no table and no address (this project's own, after Muen's system policy).
 use Rattle.std.specs.Prelude.{ℕ, ◌+◌, ◌==◌, Bool, List, [], ◌++◌, map, filter, replicate, slice_get, slice_index_or, Option, Some, None, option_map, unwrap_or}
 use Rattle.std.specs.List.{find, list_any}
 use Rattle.std.specs.Str.{bytes_eq}
@@ -61,7 +61,7 @@ pub record System : Type 0 where
   -- each group's active member, by the group's number
   pub active : List (List ℕ)
   -- the major frame that runs, and its first tick
-  pub place : FrameAt
+  pub frame : FrameAt
 
 unfoldable pub first_page : Subject → List ℕ
 first_page s = page_bytes (started s.entry)
@@ -78,7 +78,7 @@ start_of p files = record {
   now = map (λ s. (s.name, [])) p.subjects;
   later = map (λ s. (s.name, [])) p.subjects;
   active = map (λ g. first_member g.subjects) p.scheduling.groups;
-  place = first_place;
+  frame = first_place;
 }
 
 -- ---- what reaches a subject
@@ -121,7 +121,7 @@ with_bytes x offset bytes y = record y { things = change_thing x (λ old. over o
 
 abbrev pub with_store : Option (Stored Thing) → System → System
 with_store None y = y
-with_store (Some w) y = with_bytes w.place w.offset w.bytes y
+with_store (Some w) y = with_bytes w.target w.offset w.bytes y
 
 -- a vector isn't pending any more
 abbrev pub took : List ℕ → Option ℕ → System → System
@@ -198,4 +198,4 @@ turn_in_slot p cpu tick (Some slot) y = turn_of_member p cpu tick slot.first (sl
 
 -- **the turn** of a CPU in a tick
 abbrev pub system_turn : Source → ℕ → ℕ → System → Turned System TurnLine
-system_turn p cpu tick y = turn_in_slot p cpu tick (slot_in (frames_of p cpu) y.place tick) y
+system_turn p cpu tick y = turn_in_slot p cpu tick (slot_in (frames_of p cpu) y.frame tick) y

@@ -24,7 +24,7 @@ ghost use Rattle.state_page.specs.StatePage.{page_bytes};
 ghost use Rattle.policy_meaning.specs.Frames.{group_of};
 ghost use Rattle.subject_state.specs.declared.SubjectState.{SubjectState};
 ghost use Rattle.subject_model.specs.Alone.{Inbox, MsrValues, Own, OwnState, TurnAnswer, alone, bytes_in, solo_turn, thing_in, vector_for, waits};
-ghost use Rattle.subject_model.specs.Laws.{AreFrames, AreOthers, IsTurnOf, KeepsOthers, StoresElsewhere, place_after, with_page};
+ghost use Rattle.subject_model.specs.Laws.{AreFrames, AreOthers, IsTurnOf, KeepsOthers, StoresElsewhere, frame_after, with_page};
 ghost use Rattle.subject_model.specs.System.{System, answered, happens_as, inbox_of, named, raised_by, system_turn, with_own, with_write};
 
 /// A stopped subject does nothing, and its turn has no line.
@@ -106,5 +106,5 @@ pub fn a_handover_counts_from_the_next_turn()
 /// is that of the row of all ticks.
 pub fn frames_go_cyclically()
     ensures { (frames : List (List Frame)) (ticks : List ℕ) (tick : ℕ) → AreFrames frames ticks
-        → slot_in frames (place_after ticks tick) tick ≡ slot_at frames tick }
+        → slot_in frames (frame_after ticks tick) tick ≡ slot_at frames tick }
 {}

@@ -85,8 +85,8 @@ pub fn call(
     })
 }
 
-/// The document with changes, between which are bars: the text before `=>` gives way at its first place
-/// to that behind it. An error where it has no place in the document.
+/// The document with changes, between which are bars: the text before `=>` gives way where it first
+/// stands to that behind it. An error where it stands nowhere in the document.
 pub fn changed(alloc: Global, document: &str, changes: &str) -> Result<String, Fail> {
     let mut text = String::from_str(alloc, document)?;
     for change in changes.split(" | ") {

@@ -13,11 +13,11 @@ use Rattle.view_text.specs.declared.TurnAction.TheVariants.{Ran, Set, Stored, Ou
 use Rattle.view_text.specs.declared.ExitEnd.{ExitEnd}
 use Rattle.view_text.specs.declared.ExitEnd.TheVariants.{On, Halt, Trap, Stop}
 
-abbrev pub end_text : ExitEnd → List ℕ
-end_text On = codes "on"
-end_text Halt = codes "halt"
-end_text Trap = codes "trap"
-end_text Stop = codes "stop"
+abbrev pub exit_end_text : ExitEnd → List ℕ
+exit_end_text On = codes "on"
+exit_end_text Halt = codes "halt"
+exit_end_text Trap = codes "trap"
+exit_end_text Stop = codes "stop"
 
 abbrev pub what_text : TurnAction → List ℕ
 what_text Ran = codes "-"
@@ -27,7 +27,7 @@ what_text (Out size port value) = codes "out " ++ decimal (bytes_of size) ++ cod
 what_text (WroteMsr index value) = codes "wrmsr " ++ hex8 index ++ codes " " ++ hex16 value
 what_text (Inject vector) = codes "inject " ++ decimal vector
 what_text (Exit reason qualification addr end) =
-    codes "exit " ++ decimal reason ++ codes " " ++ hex16 qualification ++ codes " " ++ hex16 addr ++ codes " " ++ end_text end
+    codes "exit " ++ decimal reason ++ codes " " ++ hex16 qualification ++ codes " " ++ hex16 addr ++ codes " " ++ exit_end_text end
 
 -- the line of a turn
 unfoldable pub turn_text : TurnLine → List ℕ

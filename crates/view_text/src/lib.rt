@@ -2,12 +2,12 @@
 #![tactic(auto)]
 
 ghost use Rattle.std.specs.Prelude.{◌≡◌, ◌+◌, ◌≤◌, ◌++◌, length, take};
-ghost use Rattle.view_text.specs.ViewText.{turn_text, what_text, end_text, flags_of, state_text, end_line_text, registers_text, region_text, kind_word};
+ghost use Rattle.view_text.specs.ViewText.{turn_text, what_text, exit_end_text, flags_of, state_text, end_line_text, registers_text, region_text, kind_word};
 
 use muen_num::text::{
     append, append_decimal8, append_decimal32, append_hex4, append_hex8, append_hex16, append_hex32,
 };
-use muen_num::{Name, AccessSize, Tag};
+use muen_num::{AccessSize, Name, Tag};
 use subject_state::SubjectState;
 
 /// The line of a turn.
@@ -74,10 +74,10 @@ pub enum ExitEnd {
     Stop,
 }
 
-fn append_end(out: &mut [u8], at: usize, end: ExitEnd) -> usize
+fn append_exit_end(out: &mut [u8], at: usize, end: ExitEnd) -> usize
     requires { at + 4 ≤ length out.old }
     ensures end { result ≤ at + 4 }
-    ensures text { take result out.new ≡ take at out.old ++ end_text end }
+    ensures text { take result out.new ≡ take at out.old ++ exit_end_text end }
 {
     match end {
         ExitEnd::On => append(out, at, b"on"),
@@ -106,7 +106,7 @@ fn append_exit(
     let at = append(out, at, b" ");
     let at = append_hex16(out, at, addr);
     let at = append(out, at, b" ");
-    append_end(out, at, end)
+    append_exit_end(out, at, end)
 }
 
 fn append_set(out: &mut [u8], at: usize, reg: u8, value: u64) -> usize

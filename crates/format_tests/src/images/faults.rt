@@ -4,8 +4,8 @@ use super::spelled::{CHOSEN, PLAIN, spelled};
 use std::alloc::Global;
 use std::test::Fail;
 
-// Each row has the answer and, behind bars, changes to the image: a place in it, and the bytes that
-// are put there in hexadecimal. A place alone is the image's new length.
+// Each row has the answer and, behind bars, changes to the image: an offset in it, and the bytes that
+// are put there in hexadecimal. An offset alone is the image's new length.
 const PLAIN_ROWS: &str = r#"image refused at 0: magic | 7 33
 image refused at 8: count | 8 0
 image refused at 8: count | 8 9
@@ -149,16 +149,16 @@ image refused at 2678: span | 2665 2 | 2678 7 0"#;
 fn changed(alloc: Global, image: &[u8], changes: &str) -> Result<Vec<u8>, Fail> {
     let mut bytes = image.to_vec(alloc)?;
     for change in changes.split(" | ") {
-        let (place, new) = match change.split_once(' ') {
+        let (offset, new) = match change.split_once(' ') {
             Some(parts) => parts,
             None => (change, ""),
         };
-        let place: usize = place.parse().ok().ok_or("a place")?;
+        let offset: usize = offset.parse().ok().ok_or("a place")?;
         if new.is_empty() {
-            bytes.resize(place, 0)?;
+            bytes.resize(offset, 0)?;
         }
         let new = spelled(alloc, new)?;
-        for (old, byte) in bytes.iter_mut().skip(place).zip(&new) {
+        for (old, byte) in bytes.iter_mut().skip(offset).zip(&new) {
             *old = *byte;
         }
     }

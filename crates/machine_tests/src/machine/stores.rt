@@ -139,7 +139,10 @@ fn bytes_of_a_device(rt: HostRuntime) -> Result<(), Fail> {
     machine.device_write(DEVICE - 1, &[5, 6]);
     machine.device_write(DEVICE + 9, &[]);
     let mem = machine.mem();
-    assert_eq!(rt; mem.load(DEVICE + 0xffc, AccessSize::Four), Some(0x0201_0000));
+    assert_eq!(rt;
+        mem.load(DEVICE + 0xffc, AccessSize::Four),
+        Some(0x0201_0000)
+    );
     assert_eq!(rt; mem.load(DEVICE, AccessSize::Eight), Some(6));
     assert_eq!(rt; mem.load(DEVICE + 0x1000, AccessSize::Eight), None);
     Ok(())

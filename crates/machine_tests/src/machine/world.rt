@@ -6,8 +6,8 @@ ghost use Rattle.std.specs.Prelude.{◌≡◌, ◌<◌, ◌^◌, length, IfOk};
 use device_bench::Bench;
 use ept_walk::PlainWalk;
 use guest_step::StepEnd;
-use muen_num::{Seq, AccessSize};
-use phys_mem::{PhysMem, RegionMem, MemorySpan};
+use muen_num::{AccessSize, Seq};
+use phys_mem::{MemorySpan, PhysMem, RegionMem};
 use record_text::Record;
 use std::alloc::Global;
 use std::test::Fail;
@@ -100,18 +100,18 @@ pub(super) fn subject_at(pc: u64, word: u64, r1: u64) -> Start {
 
 fn memory(alloc: Global) -> Result<RegionMem, Fail> {
     let low = MemorySpan {
-        place: 0x10_0000,
+        address: 0x10_0000,
         bytes: Seq::of(vec![in alloc; 0; 0xd000]?),
     };
     let device = MemorySpan {
-        place: DEVICE,
+        address: DEVICE,
         bytes: Seq::of(vec![in alloc; 0; 0x1000]?),
     };
     let spans = vec![in alloc; low, device]?;
     Ok(RegionMem::start(alloc, spans)?)
 }
 
-// The word at a place that is a multiple of eight.
+// The word at an address that is a multiple of eight.
 fn set<M: PhysMem>(mem: &mut M, at: u64, word: u64) {
     mem.store(at - at % 8, AccessSize::Eight, word);
 }

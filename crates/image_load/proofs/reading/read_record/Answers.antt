@@ -4,8 +4,8 @@ use Rattle.muen_num.specs.declared.limits.TheConstants.{MOST_DEVICES}
 use Rattle.record_text.specs.declared.fault.RecordFault.TheVariants.{NoMemory}
 use Rattle.image_pack.specs.declared.parts.Image.{Image}
 use Rattle.image_load.specs.Loading.{AreLow}
-use Rattle.image_load.specs.Places.{HasDevices}
-use Rattle.image_load.proofs.Placed.{read_can_run, same_reading}
+use Rattle.image_load.specs.RecordDevices.{HasDevices}
+use Rattle.image_load.proofs.Resolved.{read_can_run, same_reading}
 use Rattle.image_load.proofs.Rising.{parts_few, parts_low}
 use Rattle.image_load.proofs.reading.read_record.Goals as goal
 

@@ -15,7 +15,7 @@ returns-in_ok-copy-in-Some-clause-ok g c =
 pub returns-in_ok-copy-in-Some-clause-err : goal.returns-in_ok-copy-in-Some-clause-err
 returns-in_ok-copy-in-Some-clause-err g c =
     let same = whole_same c.in_ok-copy-in-Some.field-0 c.in-Some.bytes.now c.in_ok-copy-in-Some.ensures in
-    IfErr-weaker c.within.result _ _ (λ stop is. no_component _ _ _ _ _ _ _ c.in_ok-copy-in-Some.field-0 stop (component_copied same c.in-Some.ensures) is) c.within.ensures.err
+    IfErr-weaker c.within.result _ _ (λ error is. no_component _ _ _ _ _ _ _ c.in_ok-copy-in-Some.field-0 error (component_copied same c.in-Some.ensures) is) c.within.ensures.err
 
 -- none has
 
@@ -23,4 +23,4 @@ pub returns-in-None-clause-ok : goal.returns-in-None-clause-ok
 returns-in-None-clause-ok g c = IfOk-weaker c.load_too.result _ _ (λ bytes is. of_another _ _ _ _ _ _ _ (whole bytes) (sym c.in-None.ensures) is) (c.load_too.ensures.ok POLICY_MOST)
 
 pub returns-in-None-clause-err : goal.returns-in-None-clause-err
-returns-in-None-clause-err g c = IfErr-weaker c.load_too.result _ _ (λ stop is. no_other _ _ _ _ _ _ _ stop (sym c.in-None.ensures) is) (c.load_too.ensures.err POLICY_MOST)
+returns-in-None-clause-err g c = IfErr-weaker c.load_too.result _ _ (λ error is. no_other _ _ _ _ _ _ _ error (sym c.in-None.ensures) is) (c.load_too.ensures.err POLICY_MOST)

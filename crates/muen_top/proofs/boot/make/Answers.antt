@@ -19,7 +19,7 @@ returns-in_err-parts-clause-err g c =
 pub returns-clause-ok : goal.returns-clause-ok
 returns-clause-ok g c =
     record {
-      source = source_of c.in_ok-placed.field-0.placed.plain.lawful;
+      source = source_of c.in_ok-placed.field-0.placed.expanded.lawful;
       grows = c.in_ok-placed.ensures.grows;
       accepts = c.in_ok-placed.ensures.accepts;
       back = c.in_ok-parts.ensures.ok;

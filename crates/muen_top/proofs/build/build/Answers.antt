@@ -8,4 +8,4 @@ returns-in-Ok-clause-came g c out =
     image_written _ _ _ _ _ _ c.in-Ok.ensures.follows c.in-Ok.ensures.ok (rw c.deref.ensures.value at c.write_image.ensures.all_bytes) out c.write_image.result (rw c.deref.ensures.value at c.write_image.ensures.writes)
 
 pub returns-in-Err-clause-came : goal.returns-in-Err-clause-came
-returns-in-Err-clause-came g c out = ended _ _ _ out out c.in-Err.stop (c.in-Err.ensures.err c.args.image.now) refl
+returns-in-Err-clause-came g c out = ended _ _ _ out out c.in-Err.error (c.in-Err.ensures.err c.args.image.now) refl

@@ -12,4 +12,4 @@ returns-then-eq-clause-ok g c limit =
 
 pub returns-then-eq-clause-err : goal.returns-then-eq-clause-err
 returns-then-eq-clause-err g c limit =
-    IfErr-weaker c.within.result _ _ (λ stop is. not_before _ _ _ limit (sym c.eq.ensures ∙ c.if-eq.true) _ _ _ stop is) c.within.ensures.err
+    IfErr-weaker c.within.result _ _ (λ error is. not_before _ _ _ limit (sym c.eq.ensures ∙ c.if-eq.true) _ _ _ error is) c.within.ensures.err

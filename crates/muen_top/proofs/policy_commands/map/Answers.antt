@@ -6,4 +6,4 @@ pub returns-in-Ok-clause-came : goal.returns-in-Ok-clause-came
 returns-in-Ok-clause-came g c = printed _ _ _ _ _ _ c.print_map.result c.in-Ok.ensures.ok c.print_map.ensures
 
 pub returns-in-Err-clause-came : goal.returns-in-Err-clause-came
-returns-in-Err-clause-came g c = ended _ _ _ _ _ c.in-Err.stop c.in-Err.ensures.err refl
+returns-in-Err-clause-came g c = ended _ _ _ _ _ c.in-Err.error c.in-Err.ensures.err refl

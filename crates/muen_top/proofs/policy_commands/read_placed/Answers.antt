@@ -17,4 +17,4 @@ returns-in_err-placed-clause-err g c =
 
 -- it is read
 pub returns-clause-ok : goal.returns-clause-ok
-returns-clause-ok g c = map_gives _ _ _ c.in_ok-bytes.bytes (source_of c.in_ok-placed.placed.plain.lawful) c.in_ok-bytes.ensures.ok (rw c.items.ensures at c.in_ok-placed.ensures)
+returns-clause-ok g c = map_gives _ _ _ c.in_ok-bytes.bytes (source_of c.in_ok-placed.placed.expanded.lawful) c.in_ok-bytes.ensures.ok (rw c.items.ensures at c.in_ok-placed.ensures)

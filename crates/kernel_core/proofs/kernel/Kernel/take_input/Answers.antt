@@ -9,7 +9,7 @@ pub device_write-requires : goal.device_write-requires
 device_write-requires g c =
     let bench = c.self.inside.bench in
     let found = c.in-Some-Mem in
-    let is = ap Some (sym found.field-0-is) ∙ ap (option_map (λ i. i.now)) (sym found.is) ∙ c.input_at.ensures ∙ ap (λ (ts : List TickInput). slice_get (map (λ (t : TickInput). t.input) ts) c.args.place) c.inputs.ensures in
-    let low = low_input bench.run c.self.inside.tick c.args.place (Mem found.at found.bytes) c.self.invariant.2.low is in
+    let is = ap Some (sym found.field-0-is) ∙ ap (option_map (λ i. i.now)) (sym found.is) ∙ c.input_at.ensures ∙ ap (λ (ts : List TickInput). slice_get (map (λ (t : TickInput). t.input) ts) c.args.index) c.inputs.ensures in
+    let low = low_input bench.run c.self.inside.tick c.args.index (Mem found.at found.bytes) c.self.invariant.2.low is in
     let same = ap length c.items.ensures in
     omega (arith, low, same)

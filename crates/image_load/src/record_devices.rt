@@ -3,19 +3,19 @@ ghost use Rattle.std.specs.Prelude.{◌≡◌, ◌++◌, ◌≤◌, IfOk, OnOk, 
 ghost use Rattle.std.specs.List.{AllZip, flat_map};
 ghost use Rattle.muen_num.specs.declared.limits.TheConstants.{MOST_DEVICES};
 ghost use Rattle.image_load.specs.Loading.{AreLow, IsLow};
-ghost use Rattle.image_load.specs.Places.{HasDevices, IsPlaced, irq_place, named_memory, port_place};
-ghost use Rattle.image_load.specs.Placing.{memory_of_span, memory_of_window};
+ghost use Rattle.image_load.specs.RecordDevices.{HasDevices, IsRecordDevice, named_memory, record_irq, record_ports};
+ghost use Rattle.image_load.specs.Resolving.{memory_of_span, memory_of_window};
 
 use crate::spans::span_numbered;
 use image_pack::{DevicePart, Image, IrqPart, SpanPart, WindowPart};
 use muen_num::limits::PAGE;
-use muen_num::{NoMemory, TagPart, Seq};
-use record_text::{RecordDevice, Devices, RecordIrq, IrqTarget, RecordMemory, PortSpan};
+use muen_num::{NoMemory, Seq, TagPart};
+use record_text::{Devices, IrqTarget, PortSpan, RecordDevice, RecordIrq, RecordMemory};
 use std::alloc::{AllocError, Global};
 
 // A range of ports.
-fn port_place(range: &image_pack::PortSpan) -> PortSpan
-    ensures { result ≡ port_place range.now }
+fn record_ports(range: &image_pack::PortSpan) -> PortSpan
+    ensures { result ≡ record_ports range.now }
 {
     PortSpan {
         start: range.start,
@@ -25,14 +25,14 @@ fn port_place(range: &image_pack::PortSpan) -> PortSpan
 
 // The ranges of ports.
 fn ports_of(alloc: Global, ranges: &[image_pack::PortSpan]) -> Result<Vec<PortSpan>, AllocError>
-    ensures { IfOk result (λ v. v.items ≡ map port_place ranges.now) }
+    ensures { IfOk result (λ v. v.items ≡ map record_ports ranges.now) }
 {
-    ranges.iter().map(port_place).collect(alloc)
+    ranges.iter().map(record_ports).collect(alloc)
 }
 
 // An interrupt, and where it goes.
-fn irq_place(irq: &IrqPart) -> RecordIrq
-    ensures { result ≡ irq_place irq.now }
+fn record_irq(irq: &IrqPart) -> RecordIrq
+    ensures { result ≡ record_irq irq.now }
 {
     RecordIrq {
         name: irq.name,
@@ -45,9 +45,9 @@ fn irq_place(irq: &IrqPart) -> RecordIrq
 
 // The interrupts.
 fn irqs_of(alloc: Global, irqs: &[IrqPart]) -> Result<Vec<RecordIrq>, AllocError>
-    ensures { IfOk result (λ v. v.items ≡ map irq_place irqs.now) }
+    ensures { IfOk result (λ v. v.items ≡ map record_irq irqs.now) }
 {
-    irqs.iter().map(irq_place).collect(alloc)
+    irqs.iter().map(record_irq).collect(alloc)
 }
 
 // The memory that a span is, if it is a device's.
@@ -61,7 +61,7 @@ fn memory_of_span(span: &SpanPart) -> Option<RecordMemory>
     match span.tag.part {
         TagPart::Named(name) => Some(RecordMemory {
             name,
-            place: span.place,
+            address: span.address,
             bytes: PAGE * u64::from(span.pages),
         }),
         _ => None,
@@ -109,13 +109,13 @@ fn memories_of(
 }
 
 // A device, with what a record may name of it.
-fn place_device(
+fn record_device(
     alloc: Global,
     spans: &[SpanPart],
     device: &DevicePart,
 ) -> Result<RecordDevice, AllocError>
     requires { AreLow spans.now }
-    ensures { IfOk result (IsPlaced spans.now device.now) }
+    ensures { IfOk result (IsRecordDevice spans.now device.now) }
 {
     Ok(RecordDevice {
         name: device.name,
@@ -126,19 +126,19 @@ fn place_device(
 }
 
 // The devices, by number.
-fn place_devices(
+fn record_devices(
     alloc: Global,
     spans: &[SpanPart],
     devices: &[DevicePart],
 ) -> Result<Vec<RecordDevice>, AllocError>
     requires { AreLow spans.now }
-    ensures { IfOk result (λ v. AllZip (IsPlaced spans.now) devices.now v.items) }
+    ensures { IfOk result (λ v. AllZip (IsRecordDevice spans.now) devices.now v.items) }
 {
-    let mut places = Vec::new(alloc);
+    let mut made = Vec::new(alloc);
     for device in devices {
-        places.push(place_device(alloc, spans, device)?)?;
+        made.push(record_device(alloc, spans, device)?)?;
     }
-    Ok(places)
+    Ok(made)
 }
 
 /// What a device record may name of an image, and where it goes.
@@ -150,7 +150,7 @@ pub(crate) fn devices_of(alloc: Global, image: &Image) -> Result<Devices, NoMemo
     requires few { length image.now.devices ≤ MOST_DEVICES }
     ensures { IfOk result (HasDevices image.now) }
 {
-    let devices = place_devices(alloc, image.spans.items(), image.devices.items())?;
+    let devices = record_devices(alloc, image.spans.items(), image.devices.items())?;
     Ok(Devices {
         cpus: image.header.cpus,
         devices: Seq::of(devices),

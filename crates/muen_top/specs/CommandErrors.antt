@@ -1,4 +1,4 @@
--- The stop that a refusal, or the fault of an image or of a record, makes.
+-- The error that a refusal, or the fault of an image or of a record, makes.
 use Rattle.std.specs.Prelude.{if◌then◌else◌}
 use Rattle.policy_types.specs.Refusals.{is_no_memory}
 use Rattle.policy_types.specs.declared.refusal.Refusal.{Refusal}
@@ -11,17 +11,17 @@ use Rattle.record_text.specs.declared.fault.RecordFault.TheVariants.{NoMemory as
 use Rattle.muen_top.specs.declared.outcome.CommandError.{CommandError}
 use Rattle.muen_top.specs.declared.outcome.CommandError.TheVariants.{Refused, ImageRefused, RecordRefused, FileFault, NoMemory}
 
-abbrev pub stop_of_refusal : Refusal → CommandError
-stop_of_refusal refusal = if is_no_memory refusal then NoMemory else Refused refusal
+abbrev pub error_of_refusal : Refusal → CommandError
+error_of_refusal refusal = if is_no_memory refusal then NoMemory else Refused refusal
 
-abbrev pub stop_of_end : BuildError → CommandError
-stop_of_end (RefusedPolicy refusal) = stop_of_refusal refusal
-stop_of_end FaultOfFiles = FileFault
+abbrev pub error_of_build : BuildError → CommandError
+error_of_build (RefusedPolicy refusal) = error_of_refusal refusal
+error_of_build FaultOfFiles = FileFault
 
-abbrev pub stop_of_image_fault : ImageFault → CommandError
-stop_of_image_fault NoMemoryForImage = NoMemory
-stop_of_image_fault fault = ImageRefused fault
+abbrev pub error_of_image_fault : ImageFault → CommandError
+error_of_image_fault NoMemoryForImage = NoMemory
+error_of_image_fault fault = ImageRefused fault
 
-abbrev pub stop_of_fault : RecordFault → CommandError
-stop_of_fault NoMemoryForRecord = NoMemory
-stop_of_fault fault = RecordRefused fault
+abbrev pub error_of_record_fault : RecordFault → CommandError
+error_of_record_fault NoMemoryForRecord = NoMemory
+error_of_record_fault fault = RecordRefused fault

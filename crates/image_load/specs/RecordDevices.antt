@@ -13,28 +13,28 @@ use Rattle.record_text.specs.declared.devices.RecordIrq.{RecordIrq}
 use Rattle.record_text.specs.declared.devices.IrqTarget.{IrqTarget as RecordTarget}
 use Rattle.record_text.specs.declared.devices.RecordMemory.{RecordMemory}
 use Rattle.record_text.specs.declared.devices.PortSpan.{PortSpan as RecordPorts}
-use Rattle.image_load.specs.Placing.{NamedMemory, memories_of}
+use Rattle.image_load.specs.Resolving.{NamedMemory, memories_of}
 
-abbrev pub port_place : PortSpan → RecordPorts
-port_place r = record { start = r.start; end = r.end }
+abbrev pub record_ports : PortSpan → RecordPorts
+record_ports r = record { start = r.start; end = r.end }
 
-abbrev pub target_place : IrqTarget → RecordTarget
-target_place t = record { subject = t.subject; vector = t.vector }
+abbrev pub record_target : IrqTarget → RecordTarget
+record_target t = record { subject = t.subject; vector = t.vector }
 
-abbrev pub irq_place : IrqPart → RecordIrq
-irq_place q = record { name = q.name; target = option_map target_place q.target }
+abbrev pub record_irq : IrqPart → RecordIrq
+record_irq q = record { name = q.name; target = option_map record_target q.target }
 
 abbrev pub named_memory : RecordMemory → NamedMemory
-named_memory m = record { name = m.name; place = m.place; bytes = m.bytes }
+named_memory m = record { name = m.name; address = m.address; bytes = m.bytes }
 
--- a device's places are those of its parts
-pub record IsPlaced (spans : List SpanPart) (d : DevicePart) (p : RecordDevice) : Type 0 where
+-- a device that a record may name is that of its parts
+pub record IsRecordDevice (spans : List SpanPart) (d : DevicePart) (p : RecordDevice) : Type 0 where
   pub name : p.name ≡ d.name
-  pub ports : p.ports ≡ map port_place d.ports
+  pub ports : p.ports ≡ map record_ports d.ports
   pub memories : map named_memory p.memories ≡ memories_of spans d
-  pub irqs : p.irqs ≡ map irq_place d.irqs
+  pub irqs : p.irqs ≡ map record_irq d.irqs
 
 -- an image's devices
 pub record HasDevices (i : Image) (ds : Devices) : Type 0 where
   pub cpus : ds.cpus ≡ i.header.cpus
-  pub placed : AllZip (IsPlaced i.spans) i.devices ds.devices
+  pub devices : AllZip (IsRecordDevice i.spans) i.devices ds.devices

@@ -1,4 +1,4 @@
--- Devices whose places are those of an image give its bench and its records.
+-- The devices of an image that a record may name give its bench and its records.
 use Rattle.std.proofs.Common.{◌≡◌, ℕ, ◌+◌, ◌<◌, ◌^◌, Bool, true, false, cond, List, [], ◌∷◌, length, map, Option, Some, None, Result, Ok, Err, IfOk, find, position, option_and_then, option_map, unwrap_or, nat_lt, nat_le, refl, sym, ap, ap₂, ◌∙◌, arith}
 use Rattle.std.specs.Prelude.{◌&&◌, ◌||◌, not, if◌then◌else◌}
 use Rattle.std.specs.List.{AllZip, list_any, position_or_len}
@@ -15,7 +15,7 @@ use Rattle.kernel_core.specs.Ticks.{CanRun, IsLow}
 use Rattle.record_text.specs.Bench.{BenchDevice, bench_device, bench_of}
 use Rattle.record_text.specs.DeviceRecord.{DeviceRecord, NamedInput, port_input, memory_input, irq_input, dma_input}
 use Rattle.record_text.specs.Law.{IsInputOf, IsRecordOf}
-use Rattle.record_text.specs.Placing.{bytes_in, irq_of, is_in_span, memory_of, order_at, placed, placed_at, placed_input, port_of, raised as raised_place}
+use Rattle.record_text.specs.Placing.{bytes_in, irq_of, is_in_span, memory_of, order_at, placed, placed_at, placed_input, port_of, raised as record_raised}
 use Rattle.record_text.specs.Reading.{record_of}
 use Rattle.record_text.specs.Steps.{mapped}
 use Rattle.record_text.specs.declared.devices.RecordDevice.{RecordDevice}
@@ -27,8 +27,8 @@ use Rattle.record_text.specs.declared.fault.RecordFault.{RecordFault}
 use Rattle.record_text.specs.declared.record.Input.{Input}
 use Rattle.record_text.specs.declared.record.Input.TheVariants.{Port, Mem, Irq, Idle, Dma}
 use Rattle.record_text.specs.declared.record.Record.{Record}
-use Rattle.image_load.specs.Places.{HasDevices, IsPlaced, irq_place, named_memory, port_place, target_place}
-use Rattle.image_load.specs.Placing.{bench_device_of, bytes_into, image_bench, image_record, input_of, irq_input_of, memories_of, memory_input_of, port_input_of, raised, tick_input_of}
+use Rattle.image_load.specs.RecordDevices.{HasDevices, IsRecordDevice, named_memory, record_irq, record_ports, record_target}
+use Rattle.image_load.specs.Resolving.{bench_device_of, bytes_into, image_bench, image_record, input_of, irq_input_of, memories_of, memory_input_of, port_input_of, raised, tick_input_of}
 
 -- ---- lists side by side
 
@@ -94,31 +94,31 @@ map_same f g same (x ∷ xs) = ap₂ (λ z zs. z ∷ zs) (same x) (map_same f g 
 
 -- ---- one device
 
-ports_same : (spans : List SpanPart) (port value : ℕ) (d : DevicePart) (p : RecordDevice) → IsPlaced spans d p → port_of port value p ≡ port_input_of port value d
+ports_same : (spans : List SpanPart) (port value : ℕ) (d : DevicePart) (p : RecordDevice) → IsRecordDevice spans d p → port_of port value p ≡ port_input_of port value d
 ports_same spans port value d p h =
-    ap (λ b. if b then Some (Port port value) else None) (ap (list_any (is_in_span port)) h.ports ∙ any-map port_place (is_in_span port) d.ports)
+    ap (λ b. if b then Some (Port port value) else None) (ap (list_any (is_in_span port)) h.ports ∙ any-map record_ports (is_in_span port) d.ports)
 
 bytes_same : (offset : ℕ) (bytes : List ℕ) (o : Option RecordMemory) → option_and_then (bytes_in offset bytes) o ≡ option_and_then (bytes_into offset bytes) (option_map named_memory o)
 bytes_same offset bytes None = refl
 bytes_same offset bytes (Some m) = refl
 
-memories_same : (spans : List SpanPart) (memory : List ℕ) (offset : ℕ) (bytes : List ℕ) (d : DevicePart) (p : RecordDevice) → IsPlaced spans d p → memory_of memory offset bytes p ≡ memory_input_of spans memory offset bytes d
+memories_same : (spans : List SpanPart) (memory : List ℕ) (offset : ℕ) (bytes : List ℕ) (d : DevicePart) (p : RecordDevice) → IsRecordDevice spans d p → memory_of memory offset bytes p ≡ memory_input_of spans memory offset bytes d
 memories_same spans memory offset bytes d p h =
     bytes_same offset bytes (find (λ m. bytes_eq m.name memory) p.memories)
     ∙ ap (option_and_then (bytes_into offset bytes)) (sym (find-map named_memory (λ m. bytes_eq m.name memory) p.memories) ∙ ap (find (λ m. bytes_eq m.name memory)) h.memories)
 
-raised_same : (target : Option IrqTarget) → raised_place (option_map target_place target) ≡ raised target
+raised_same : (target : Option IrqTarget) → record_raised (option_map record_target target) ≡ raised target
 raised_same None = refl
 raised_same (Some t) = refl
 
-found_raised : (o : Option IrqPart) → option_map (λ q. raised_place q.target) (option_map irq_place o) ≡ option_map (λ q. raised q.target) o
+found_raised : (o : Option IrqPart) → option_map (λ q. record_raised q.target) (option_map record_irq o) ≡ option_map (λ q. raised q.target) o
 found_raised None = refl
 found_raised (Some q) = ap (λ r. Some r) (raised_same q.target)
 
-irqs_same : (spans : List SpanPart) (irq : List ℕ) (d : DevicePart) (p : RecordDevice) → IsPlaced spans d p → irq_of irq p ≡ irq_input_of irq d
+irqs_same : (spans : List SpanPart) (irq : List ℕ) (d : DevicePart) (p : RecordDevice) → IsRecordDevice spans d p → irq_of irq p ≡ irq_input_of irq d
 irqs_same spans irq d p h =
-    ap (λ qs. option_map (λ q. raised_place q.target) (find (λ q. bytes_eq q.name irq) qs)) h.irqs
-    ∙ ap (option_map (λ q. raised_place q.target)) (find-map irq_place (λ q. bytes_eq q.name irq) d.irqs)
+    ap (λ qs. option_map (λ q. record_raised q.target) (find (λ q. bytes_eq q.name irq) qs)) h.irqs
+    ∙ ap (option_map (λ q. record_raised q.target)) (find-map record_irq (λ q. bytes_eq q.name irq) d.irqs)
     ∙ found_raised (find (λ q. bytes_eq q.name irq) d.irqs)
 
 abbrev device_made : List ℕ → List (ℕ × ℕ) → List (List ℕ × ℕ) → List (List ℕ) → BenchDevice
@@ -128,32 +128,32 @@ made_same : {name name' : List ℕ} {ports ports' : List (ℕ × ℕ)} {memories
     → device_made name ports memories irqs ≡ device_made name' ports' memories' irqs'
 made_same n p m q = cc
 
-bench_same : (spans : List SpanPart) (d : DevicePart) (p : RecordDevice) → IsPlaced spans d p → bench_device p ≡ bench_device_of spans d
+bench_same : (spans : List SpanPart) (d : DevicePart) (p : RecordDevice) → IsRecordDevice spans d p → bench_device p ≡ bench_device_of spans d
 bench_same spans d p h =
-    let ports : map (λ (r : RecordPorts). (r.start, r.end)) p.ports ≡ map (λ r. (r.start, r.end)) d.ports = ap (map (λ r. (r.start, r.end))) h.ports ∙ map-map port_place (λ r. (r.start, r.end)) d.ports in
+    let ports : map (λ (r : RecordPorts). (r.start, r.end)) p.ports ≡ map (λ r. (r.start, r.end)) d.ports = ap (map (λ r. (r.start, r.end))) h.ports ∙ map-map record_ports (λ r. (r.start, r.end)) d.ports in
     let memories : map (λ (m : RecordMemory). (m.name, m.bytes)) p.memories ≡ map (λ m. (m.name, m.bytes)) (memories_of spans d) =
     sym (map-map named_memory (λ m. (m.name, m.bytes)) p.memories) ∙ ap (map (λ m. (m.name, m.bytes))) h.memories in
-    let irqs : map (λ (q : RecordIrq). q.name) p.irqs ≡ map (λ q. q.name) d.irqs = ap (map (λ q. q.name)) h.irqs ∙ map-map irq_place (λ q. q.name) d.irqs in
+    let irqs : map (λ (q : RecordIrq). q.name) p.irqs ≡ map (λ q. q.name) d.irqs = ap (map (λ q. q.name)) h.irqs ∙ map-map record_irq (λ q. q.name) d.irqs in
     made_same h.name ports memories irqs
 
 -- ---- the whole
 
-called_same : (spans : List SpanPart) (name : List ℕ) (d : DevicePart) (p : RecordDevice) → IsPlaced spans d p → bytes_eq p.name name ≡ bytes_eq d.name name
+called_same : (spans : List SpanPart) (name : List ℕ) (d : DevicePart) (p : RecordDevice) → IsRecordDevice spans d p → bytes_eq p.name name ≡ bytes_eq d.name name
 called_same spans name d p h = ap (λ n. bytes_eq n name) h.name
 
 same_bench : (i : Image) (ds : Devices) → HasDevices i ds → bench_of ds ≡ image_bench i
 same_bench i ds h =
-    ap₂ (λ n bs. record { cpus = n; devices = bs }) h.cpus (map_paired (IsPlaced i.spans) (bench_device_of i.spans) bench_device (bench_same i.spans) i.devices ds.devices h.placed)
+    ap₂ (λ n bs. record { cpus = n; devices = bs }) h.cpus (map_paired (IsRecordDevice i.spans) (bench_device_of i.spans) bench_device (bench_same i.spans) i.devices ds.devices h.devices)
 
 same_input : (i : Image) (ds : Devices) → HasDevices i ds → (input : NamedInput) → placed_input ds input ≡ input_of i input
 same_input i ds h (port_input device port value) =
-    then_paired (IsPlaced i.spans) (port_input_of port value) (port_of port value) (ports_same i.spans port value) _ _ (found_paired (IsPlaced i.spans) (λ d. bytes_eq d.name device) (λ d. bytes_eq d.name device) (called_same i.spans device) i.devices ds.devices h.placed)
+    then_paired (IsRecordDevice i.spans) (port_input_of port value) (port_of port value) (ports_same i.spans port value) _ _ (found_paired (IsRecordDevice i.spans) (λ d. bytes_eq d.name device) (λ d. bytes_eq d.name device) (called_same i.spans device) i.devices ds.devices h.devices)
 same_input i ds h (memory_input device memory offset bytes) =
-    then_paired (IsPlaced i.spans) (memory_input_of i.spans memory offset bytes) (memory_of memory offset bytes) (memories_same i.spans memory offset bytes) _ _ (found_paired (IsPlaced i.spans) (λ d. bytes_eq d.name device) (λ d. bytes_eq d.name device) (called_same i.spans device) i.devices ds.devices h.placed)
+    then_paired (IsRecordDevice i.spans) (memory_input_of i.spans memory offset bytes) (memory_of memory offset bytes) (memories_same i.spans memory offset bytes) _ _ (found_paired (IsRecordDevice i.spans) (λ d. bytes_eq d.name device) (λ d. bytes_eq d.name device) (called_same i.spans device) i.devices ds.devices h.devices)
 same_input i ds h (irq_input device irq) =
-    then_paired (IsPlaced i.spans) (irq_input_of irq) (irq_of irq) (irqs_same i.spans irq) _ _ (found_paired (IsPlaced i.spans) (λ d. bytes_eq d.name device) (λ d. bytes_eq d.name device) (called_same i.spans device) i.devices ds.devices h.placed)
+    then_paired (IsRecordDevice i.spans) (irq_input_of irq) (irq_of irq) (irqs_same i.spans irq) _ _ (found_paired (IsRecordDevice i.spans) (λ d. bytes_eq d.name device) (λ d. bytes_eq d.name device) (called_same i.spans device) i.devices ds.devices h.devices)
 same_input i ds h (dma_input device addr bytes) =
-    ap (option_map (λ number. Dma number addr bytes)) (position_paired (IsPlaced i.spans) (λ d. bytes_eq d.name device) (λ d. bytes_eq d.name device) (called_same i.spans device) i.devices ds.devices h.placed)
+    ap (option_map (λ number. Dma number addr bytes)) (position_paired (IsRecordDevice i.spans) (λ d. bytes_eq d.name device) (λ d. bytes_eq d.name device) (called_same i.spans device) i.devices ds.devices h.devices)
 
 same_tick : (i : Image) (ds : Devices) → HasDevices i ds → (e : ℕ × NamedInput) → placed_at ds e ≡ tick_input_of i e
 same_tick i ds h e = ap (λ o. record { tick = e.0; input = unwrap_or o Idle }) (same_input i ds h e.1)
@@ -181,17 +181,17 @@ from_any P p (x ∷ xs) gives h =
       | false ↦ λ e t. from_any P p xs gives t
     ] refl h
 
-memory_low : (at count : ℕ) (m : RecordMemory) → (nat_le m.place at && nat_le (at + count) (m.place + m.bytes)) ≡ true → at + count < 2 ^ 64
+memory_low : (at count : ℕ) (m : RecordMemory) → (nat_le m.address at && nat_le (at + count) (m.address + m.bytes)) ≡ true → at + count < 2 ^ 64
 memory_low at count m h =
-    let within = leb-true (at + count) (m.place + m.bytes) (both_true (nat_le m.place at) (nat_le (at + count) (m.place + m.bytes)) h).1 in
-    let fits : m.place + m.bytes < 2 ^ 64 = m.fits in
+    let within = leb-true (at + count) (m.address + m.bytes) (both_true (nat_le m.address at) (nat_le (at + count) (m.address + m.bytes)) h).1 in
+    let fits : m.address + m.bytes < 2 ^ 64 = m.fits in
     omega (arith, within, fits)
 
 input_low : (ds : Devices) (input : Input) → IsInputOf ds input → IsLow input
 input_low ds (Port port value) h = tt
 input_low ds (Mem at bytes) h =
-    from_any (at + length bytes < 2 ^ 64) (λ d. list_any (λ m. nat_le m.place at && nat_le (at + length bytes) (m.place + m.bytes)) d.memories) ds.devices
-    (λ d. from_any (at + length bytes < 2 ^ 64) (λ m. nat_le m.place at && nat_le (at + length bytes) (m.place + m.bytes)) d.memories (memory_low at (length bytes)))
+    from_any (at + length bytes < 2 ^ 64) (λ d. list_any (λ m. nat_le m.address at && nat_le (at + length bytes) (m.address + m.bytes)) d.memories) ds.devices
+    (λ d. from_any (at + length bytes < 2 ^ 64) (λ m. nat_le m.address at && nat_le (at + length bytes) (m.address + m.bytes)) d.memories (memory_low at (length bytes)))
     h.0
 input_low ds (Irq subject vector) h = tt
 input_low ds Idle h = tt

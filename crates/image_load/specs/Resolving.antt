@@ -23,11 +23,11 @@ use Rattle.record_text.specs.declared.record.TickInput.{TickInput}
 -- a memory's name, the address of its first byte, and how many bytes it has
 pub record NamedMemory : Type 0 where
   pub name : List ℕ
-  pub place : ℕ
+  pub address : ℕ
   pub bytes : ℕ
 
 abbrev pub memory_of_span : SpanPart → Option NamedMemory
-memory_of_span s = option_map (λ name. record { name = name; place = s.place; bytes = PAGE * s.pages }) (device_name s)
+memory_of_span s = option_map (λ name. record { name = name; address = s.address; bytes = PAGE * s.pages }) (device_name s)
 
 abbrev pub memory_of_window : List SpanPart → WindowPart → Option NamedMemory
 memory_of_window spans w = option_and_then memory_of_span (find (λ s. s.number == w.span) spans)
@@ -57,7 +57,7 @@ abbrev pub port_input_of : ℕ → ℕ → DevicePart → Option Input
 port_input_of port value d = if list_any (is_in_range port) d.ports then Some (Port port value) else None
 
 abbrev pub bytes_into : ℕ → List ℕ → NamedMemory → Option Input
-bytes_into offset bytes m = if nat_le (offset + length bytes) m.bytes then Some (Mem (m.place + offset) bytes) else None
+bytes_into offset bytes m = if nat_le (offset + length bytes) m.bytes then Some (Mem (m.address + offset) bytes) else None
 
 abbrev pub memory_input_of : List SpanPart → List ℕ → ℕ → List ℕ → DevicePart → Option Input
 memory_input_of spans memory offset bytes d =
@@ -85,6 +85,6 @@ input_of i (dma_input device addr bytes) =
 abbrev pub tick_input_of : Image → ℕ × NamedInput → TickInput
 tick_input_of i e = record { tick = e.0; input = unwrap_or (input_of i e.1) Idle }
 
--- **the record** by places and numbers
+-- **the record** by addresses and numbers
 abbrev pub image_record : Image → DeviceRecord → Record
 image_record i r = record { end = r.end; inputs = map (tick_input_of i) r.inputs; orders = map order_at r.orders }

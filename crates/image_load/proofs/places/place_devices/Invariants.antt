@@ -1,8 +1,0 @@
--- What is known while the devices are gone through.
-use Rattle.std.proofs.Common.{take}
-use Rattle.std.specs.List.{AllZip}
-use Rattle.image_load.specs.Places.{IsPlaced}
-use Rattle.image_load.proofs.places.place_devices.Given as goal
-
-abbrev pub invariant-loop-device : goal.invariant-loop-device
-invariant-loop-device l = AllZip (IsPlaced l.spans) (take l.device-index l.devices) l.places.items
