@@ -1,7 +1,7 @@
 -- Which tables walks read.
 use Rattle.std.proofs.Common.{◌≡◌, inl, inr, ℕ, zero, suc, ◌+◌, ◌-◌, ◌*◌, ◌/◌, ◌^◌, ◌<◌, ◌≤◌, true, false, List, [], ◌∷◌, length, get_or, Option, Some, None, refl, ap, sym, ◌∙◌, arith, All, subst}
 use Rattle.ept_count.specs.declared.window.Window.{Window}
-use Rattle.machine_meaning.specs.Walks.{span, index_at, place_of, places_from, goes_on}
+use Rattle.machine_meaning.specs.Walks.{entry_size, index_at, entry_address, addresses_from, goes_on}
 use Rattle.ept_emit.specs.Entries.{IsEmittable, is_whole, leaf_entry}
 use Rattle.ept_emit.specs.Tables.{IsWritten, child}
 use Rattle.ept_emit.proofs.EntryBits.{goes_free, goes_page, goes_table}
@@ -22,7 +22,7 @@ pub record IsRead (addresses : List ℕ) (base l l2 k2 : ℕ) : Type 0 where
   pub within : l - l2 < length addresses
   pub here : get_or addresses (l - l2) 0 / 4096 ≡ base + k2
 
-met_first : (out : ℕ → ℕ) (base hi : ℕ) (ws : List Window) (l k addr : ℕ) → IsMet out base hi ws l k addr 0 (place_of (base + k) (index_at l addr))
+met_first : (out : ℕ → ℕ) (base hi : ℕ) (ws : List Window) (l k addr : ℕ) → IsMet out base hi ws l k addr 0 (entry_address (base + k) (index_at l addr))
 met_first out base hi ws l k addr =
     record {
       table = k;
@@ -32,7 +32,7 @@ met_first out base hi ws l k addr =
       high = omega arith;
     }
 
-read_first : (base l k i : ℕ) (rest : List ℕ) → i < 512 → IsRead (place_of (base + k) i ∷ rest) base l l k
+read_first : (base l k i : ℕ) (rest : List ℕ) → i < 512 → IsRead (entry_address (base + k) i ∷ rest) base l l k
 read_first base l k i rest lt =
     let e : l - l ≡ 0 = omega arith in
     record {
@@ -43,33 +43,33 @@ read_first base l k i rest lt =
 
 module _ (entry : ℕ → ℕ → Option ℕ) (out : ℕ → ℕ) (base lo hi : ℕ) (ws : List Window) (addr : ℕ) (small : base + hi ≤ 2 ^ 28) (has : Has entry out base hi) (ok : All IsEmittable ws) where
   abbrev after : ℕ → ℕ → List ℕ
-  after l k = goes_on (suc l) (entry (base + k) (index_at (suc l) addr)) [] (λ t. places_from entry addr l t)
+  after l k = goes_on (suc l) (entry (base + k) (index_at (suc l) addr)) [] (λ t. addresses_from entry addr l t)
 
   after_free : (l k : ℕ) → k < hi → window_of ws (suc l) addr ≡ None → IsWritten out base lo hi ws (suc l) k addr → after l k ≡ []
   after_free l k lt none h =
-      let word = none_of (Under out base lo hi ws (suc l) addr) base lo hi (suc l) (addr / span (suc l)) (word_of out (suc l) k addr) (window_of ws (suc l) addr) none (written_parts out base lo hi ws (suc l) k addr h) in
-      ap (λ o. goes_on (suc l) o [] (λ t. places_from entry addr l t)) (has k (index_at (suc l) addr) lt (omega arith)) ∙ goes_free (suc l) (word_of out (suc l) k addr) [] (λ t. places_from entry addr l t) word
+      let word = none_of (Under out base lo hi ws (suc l) addr) base lo hi (suc l) (addr / entry_size (suc l)) (word_of out (suc l) k addr) (window_of ws (suc l) addr) none (written_parts out base lo hi ws (suc l) k addr h) in
+      ap (λ o. goes_on (suc l) o [] (λ t. addresses_from entry addr l t)) (has k (index_at (suc l) addr) lt (omega arith)) ∙ goes_free (suc l) (word_of out (suc l) k addr) [] (λ t. addresses_from entry addr l t) word
 
-  after_page : (l k : ℕ) (w : Window) → k < hi → window_of ws (suc l) addr ≡ Some w → is_whole w (suc l) (addr / span (suc l)) ≡ true → IsWritten out base lo hi ws (suc l) k addr → after l k ≡ []
+  after_page : (l k : ℕ) (w : Window) → k < hi → window_of ws (suc l) addr ≡ Some w → is_whole w (suc l) (addr / entry_size (suc l)) ≡ true → IsWritten out base lo hi ws (suc l) k addr → after l k ≡ []
   after_page l k w lt some whole h =
-      let e = addr / span (suc l) in
+      let e = addr / entry_size (suc l) in
       let m = mapped_on ws (suc l) addr w ok some whole in
       let word = leaf_of (Under out base lo hi ws (suc l) addr) base lo hi (suc l) e (word_of out (suc l) k addr) (window_of ws (suc l) addr) w some whole (written_parts out base lo hi ws (suc l) k addr h) in
-      ap (λ o. goes_on (suc l) o [] (λ t. places_from entry addr l t)) (has k (index_at (suc l) addr) lt (omega arith))
-      ∙ (ap (λ q. goes_on (suc l) (Some q) [] (λ t. places_from entry addr l t)) word
-      ∙ goes_page (suc l) (leaf_entry w (suc l) e) [] (λ t. places_from entry addr l t) m.present m.fine m.leaf)
+      ap (λ o. goes_on (suc l) o [] (λ t. addresses_from entry addr l t)) (has k (index_at (suc l) addr) lt (omega arith))
+      ∙ (ap (λ q. goes_on (suc l) (Some q) [] (λ t. addresses_from entry addr l t)) word
+      ∙ goes_page (suc l) (leaf_entry w (suc l) e) [] (λ t. addresses_from entry addr l t) m.present m.fine m.leaf)
 
-  after_table : (l k : ℕ) (w : Window) → k < hi → window_of ws (suc l) addr ≡ Some w → is_whole w (suc l) (addr / span (suc l)) ≡ false → IsWritten out base lo hi ws (suc l) k addr → after l k ≡ places_from entry addr l (base + child base (word_of out (suc l) k addr))
+  after_table : (l k : ℕ) (w : Window) → k < hi → window_of ws (suc l) addr ≡ Some w → is_whole w (suc l) (addr / entry_size (suc l)) ≡ false → IsWritten out base lo hi ws (suc l) k addr → after l k ≡ addresses_from entry addr l (base + child base (word_of out (suc l) k addr))
   after_table l k w lt some part h =
       let q = child_of out base lo hi ws l k addr w some part h in
       let c = child base (word_of out (suc l) k addr) in
-      ap (λ o. goes_on (suc l) o [] (λ t. places_from entry addr l t)) (has k (index_at (suc l) addr) lt (omega arith))
-      ∙ goes_table l (word_of out (suc l) k addr) (base + c) [] (λ t. places_from entry addr l t) q.0.is (omega (arith, q.0.high))
+      ap (λ o. goes_on (suc l) o [] (λ t. addresses_from entry addr l t)) (has k (index_at (suc l) addr) lt (omega arith))
+      ∙ goes_table l (word_of out (suc l) k addr) (base + c) [] (λ t. addresses_from entry addr l t) q.0.is (omega (arith, q.0.high))
 
   none_after : (xs : List ℕ) (i : ℕ) → xs ≡ [] → i < length xs → ⊥
   none_after xs i e lt = let z = rw e at lt in omega arith
 
-  pub met : (l k i : ℕ) (d : ℕ) → k < hi → IsWritten out base lo hi ws l k addr → i < length (places_from entry addr l (base + k)) → IsMet out base hi ws l k addr i (get_or (places_from entry addr l (base + k)) i d)
+  pub met : (l k i : ℕ) (d : ℕ) → k < hi → IsWritten out base lo hi ws l k addr → i < length (addresses_from entry addr l (base + k)) → IsMet out base hi ws l k addr i (get_or (addresses_from entry addr l (base + k)) i d)
   met zero k zero d lt h within = met_first out base hi ws zero k addr
   met zero k (suc i) d lt h within = absurd (omega arith)
   met (suc l) k zero d lt h within = met_first out base hi ws (suc l) k addr
@@ -86,7 +86,7 @@ module _ (entry : ℕ → ℕ → Option ℕ) (out : ℕ → ℕ) (base lo hi : 
             let same : suc l - suc i ≡ l - i = omega arith in
             record {
               table = r.table;
-              meets = rw same (inr (below_from out base ws l k addr (l - i) r.table (leads_from (λ c. Meets out base ws l c addr (l - i) r.table) c (suc l) (addr / span (suc l)) (window_of ws (suc l) addr) w some part r.meets)));
+              meets = rw same (inr (below_from out base ws l k addr (l - i) r.table (leads_from (λ c. Meets out base ws l c addr (l - i) r.table) c (suc l) (addr / entry_size (suc l)) (window_of ws (suc l) addr) w some part r.meets)));
               depth = omega (arith, r.depth);
               low = subst (λ (xs : List ℕ). 4096 * (base + r.table) ≤ get_or xs i d) (sym e) r.low;
               high = subst (λ (xs : List ℕ). get_or xs i d + 8 ≤ 4096 * (base + r.table) + 4096) (sym e) r.high;
@@ -103,7 +103,7 @@ module _ (entry : ℕ → ℕ → Option ℕ) (out : ℕ → ℕ) (base lo hi : 
         here = rw (next, e) r.here;
       }
 
-  pub read : (l k l2 k2 : ℕ) → k < hi → IsWritten out base lo hi ws l k addr → Meets out base ws l k addr l2 k2 → IsRead (places_from entry addr l (base + k)) base l l2 k2
+  pub read : (l k l2 k2 : ℕ) → k < hi → IsWritten out base lo hi ws l k addr → Meets out base ws l k addr l2 k2 → IsRead (addresses_from entry addr l (base + k)) base l l2 k2
   read zero k l2 k2 lt h (inl e) = rw (e.0, e.1) (read_first base zero k (index_at zero addr) [] (omega arith))
   read zero k l2 k2 lt h (inr b) = absurd (below_lowest out base ws k addr l2 k2 b)
   read (suc l) k l2 k2 lt h (inl e) = rw (e.0, e.1) (read_first base (suc l) k (index_at (suc l) addr) (after l k) (omega arith))
@@ -112,9 +112,9 @@ module _ (entry : ℕ → ℕ → Option ℕ) (out : ℕ → ℕ) (base lo hi : 
       let deeper : ℕ → Type 0 = λ c. Meets out base ws l c addr l2 k2 in
       let p = below_parts out base ws l k addr l2 k2 b in
       elim (kind_of ws (suc l) addr) [
-        | Free none ↦ absurd (leads_none deeper c (suc l) (addr / span (suc l)) (window_of ws (suc l) addr) none p)
-        | Whole w some whole ↦ absurd (leads_leaf deeper c (suc l) (addr / span (suc l)) (window_of ws (suc l) addr) w some whole p)
+        | Free none ↦ absurd (leads_none deeper c (suc l) (addr / entry_size (suc l)) (window_of ws (suc l) addr) none p)
+        | Whole w some whole ↦ absurd (leads_leaf deeper c (suc l) (addr / entry_size (suc l)) (window_of ws (suc l) addr) w some whole p)
         | Part w some part ↦
             let q = child_of out base lo hi ws l k addr w some part h in
-            read_next l k l2 k2 (place_of (base + k) (index_at (suc l) addr)) (after l k) (places_from entry addr l (base + c)) (after_table l k w lt some part h) (read l c l2 k2 q.0.high q.1 (leads_to deeper c (suc l) (addr / span (suc l)) (window_of ws (suc l) addr) w some part p))
+            read_next l k l2 k2 (entry_address (base + k) (index_at (suc l) addr)) (after l k) (addresses_from entry addr l (base + c)) (after_table l k w lt some part h) (read l c l2 k2 q.0.high q.1 (leads_to deeper c (suc l) (addr / entry_size (suc l)) (window_of ws (suc l) addr) w some part p))
       ]

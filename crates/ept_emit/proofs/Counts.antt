@@ -4,7 +4,7 @@ use Rattle.std.specs.List.{find, list_any}
 use Rattle.std.proofs.lemmas.Bool.{cases_Bool}
 use Rattle.ept_count.specs.declared.window.Window.{Window}
 use Rattle.ept_count.specs.Pages.{count, one, is_taken, touches, ept_pages}
-use Rattle.machine_meaning.specs.Walks.{span}
+use Rattle.machine_meaning.specs.Walks.{entry_size}
 use Rattle.ept_emit.specs.Entries.{window_on}
 use Rattle.ept_emit.specs.Needs.{needs}
 
@@ -22,9 +22,9 @@ needs_add ws zero e a b = refl
 needs_add ws (suc l) e a b =
     let f : 512 * (a + b) ≡ 512 * a + 512 * b = omega arith in
     let g : 512 * (e + a) ≡ 512 * e + 512 * a = omega arith in
-    rw (f, g) (omega (arith, count_add (is_taken ws (span (suc l))) e a b, needs_add ws l (512 * e) (512 * a) (512 * b)))
+    rw (f, g) (omega (arith, count_add (is_taken ws (entry_size (suc l))) e a b, needs_add ws l (512 * e) (512 * a) (512 * b)))
 
-needs_one : (ws : List Window) (l e : ℕ) → needs ws (suc l) e 1 ≡ one (is_taken ws (span (suc l)) e) + needs ws l (512 * e) 512
+needs_one : (ws : List Window) (l e : ℕ) → needs ws (suc l) e 1 ≡ one (is_taken ws (entry_size (suc l)) e) + needs ws l (512 * e) 512
 unfolding needs count
 needs_one ws l e = let z : e + 0 ≡ e = omega arith in rw z (omega arith)
 
@@ -37,11 +37,11 @@ any_found p (x ∷ ws) w h =
     ]
 
 -- an entry that references a table is one of those counted
-pub needs_at : (ws : List Window) (l e : ℕ) (w : Window) → l ≢ 0 → window_on ws (span l * e) (span l) ≡ Some w → needs ws l e 1 ≡ 1 + needs ws (l - 1) (512 * e) 512
+pub needs_at : (ws : List Window) (l e : ℕ) (w : Window) → l ≢ 0 → window_on ws (entry_size l * e) (entry_size l) ≡ Some w → needs ws l e 1 ≡ 1 + needs ws (l - 1) (512 * e) 512
 needs_at ws zero e w ne some = absurd (ne refl)
 needs_at ws (suc l) e w ne some =
     let f : suc l - 1 ≡ l = omega arith in
-    let t : one (is_taken ws (span (suc l)) e) ≡ 1 = ap one (any_found (λ x. touches x (span (suc l) * e) (span (suc l))) ws w some) in
+    let t : one (is_taken ws (entry_size (suc l)) e) ≡ 1 = ap one (any_found (λ x. touches x (entry_size (suc l) * e) (entry_size (suc l))) ws w some) in
     rw f (needs_one ws l e ∙ rw t refl)
 
 pub pages_are : (ws : List Window) → 1 + needs ws 3 0 512 ≡ ept_pages ws

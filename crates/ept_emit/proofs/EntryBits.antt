@@ -5,7 +5,7 @@ use Rattle.std.proofs.lemmas.Bool.{cases_Bool, or_from, or_right, and_from, and_
 use Rattle.std.proofs.lemmas.Nat.{and_mask, and_comm}
 use Rattle.machine_meaning.specs.declared.walk.Walk.{Walk}
 use Rattle.machine_meaning.specs.declared.walk.Walk.TheVariants.{Violation, Misconfigured}
-use Rattle.machine_meaning.specs.Walks.{span, bits_of, is_present, is_leaf, is_misconfigured, has_lone_rights, has_no_type, is_misaligned, has_reserved, is_beyond, reads, ends, goes_on}
+use Rattle.machine_meaning.specs.Walks.{entry_size, bits_of, is_present, is_leaf, is_misconfigured, has_lone_rights, has_no_type, is_misaligned, has_reserved, is_beyond, reads, leaf_end, goes_on}
 use Rattle.policy_types.specs.declared.rights.Caching.{Caching}
 use Rattle.policy_types.specs.declared.rights.Caching.TheVariants.{Uc, Wc, Wt, Wp, Wb}
 use Rattle.ept_emit.specs.Entries.{size_bit, table_entry, type_of}
@@ -74,7 +74,7 @@ if_true b x y h k = rw h k
 if_false : (b : Bool) (x y : Bool) → b ≡ false → y ≡ false → (if b then x else y) ≡ false
 if_false b x y h k = rw h k
 
-pub maps_fine : (l x r : ℕ) (c : Caching) → l < 3 → x % 4096 ≡ 0 → x % span l ≡ 0 → x < 2 ^ 40 → r < 8 → r % 2 ≡ 1 → is_misconfigured l (maps l x (type_of c) r) ≡ false
+pub maps_fine : (l x r : ℕ) (c : Caching) → l < 3 → x % 4096 ≡ 0 → x % entry_size l ≡ 0 → x < 2 ^ 40 → r < 8 → r % 2 ≡ 1 → is_misconfigured l (maps l x (type_of c) r) ≡ false
 maps_fine l x r c low a aligned small b odd =
     let t = type_of c in
     let lt = type_small c in
@@ -82,7 +82,7 @@ maps_fine l x r c low a aligned small b odd =
     let p : has_lone_rights word ≡ false = ap lone (maps_rights l x t r a b) ∙ not_lone r odd in
     let q : is_beyond word ≡ false = not_from_true _ (eq-eqb _ _ (maps_beyond l x t r a small lt b)) in
     let u : has_no_type word ≡ false = ap no_type (maps_type l x t r a lt b) ∙ type_known c in
-    let v : is_misaligned l word ≡ false = not_from_true _ (eq-eqb _ _ (ap (λ n. n % span l) (maps_address l x t r a small lt b) ∙ aligned)) in
+    let v : is_misaligned l word ≡ false = not_from_true _ (eq-eqb _ _ (ap (λ n. n % entry_size l) (maps_address l x t r a small lt b) ∙ aligned)) in
     or_from _ _ p (or_from _ _ q (if_true (is_leaf l word) (has_no_type word || is_misaligned l word) (has_reserved l word) (maps_leaf l x t r low a lt b) (or_from _ _ u v)))
 
 -- ---- an entry that references the table in a page
@@ -122,17 +122,17 @@ table_fine l p small =
 
 -- ---- what the walk does at an entry
 
-by_tests : (there : ℕ → Bool) (l addr want rights word : ℕ) (new : ℕ → ℕ → Walk) (p m f : Bool) → is_present word ≡ p → is_misconfigured l word ≡ m → is_leaf l word ≡ f → reads there l addr want rights (Some word) new ≡ (if p then (if m then Misconfigured else (if f then ends there addr want (bit_and rights (bits_of word 0 2)) (4096 * bits_of word 12 51 + addr % span l) else new (bits_of word 12 51) (bit_and rights (bits_of word 0 2)))) else Violation 0)
+by_tests : (there : ℕ → Bool) (l addr want rights word : ℕ) (new : ℕ → ℕ → Walk) (p m f : Bool) → is_present word ≡ p → is_misconfigured l word ≡ m → is_leaf l word ≡ f → reads there l addr want rights (Some word) new ≡ (if p then (if m then Misconfigured else (if f then leaf_end there addr want (bit_and rights (bits_of word 0 2)) (4096 * bits_of word 12 51 + addr % entry_size l) else new (bits_of word 12 51) (bit_and rights (bits_of word 0 2)))) else Violation 0)
 by_tests there l addr want rights word new p m f a b c = rw (sym a, sym b, sym c) refl
 
 pub reads_free : (there : ℕ → Bool) (l addr want word : ℕ) (new : ℕ → ℕ → Walk) → word ≡ 0 → reads there l addr want 7 (Some word) new ≡ Violation 0
 reads_free there l addr want word new h = rw h refl
 
-pub reads_page : (there : ℕ → Bool) (l addr want word r x : ℕ) (new : ℕ → ℕ → Walk) → is_present word ≡ true → is_misconfigured l word ≡ false → is_leaf l word ≡ true → bits_of word 0 2 ≡ r → r < 8 → 4096 * bits_of word 12 51 ≡ x → reads there l addr want 7 (Some word) new ≡ ends there addr want r (x + addr % span l)
+pub reads_page : (there : ℕ → Bool) (l addr want word r x : ℕ) (new : ℕ → ℕ → Walk) → is_present word ≡ true → is_misconfigured l word ≡ false → is_leaf l word ≡ true → bits_of word 0 2 ≡ r → r < 8 → 4096 * bits_of word 12 51 ≡ x → reads there l addr want 7 (Some word) new ≡ leaf_end there addr want r (x + addr % entry_size l)
 reads_page there l addr want word r x new a b c rights small address =
     by_tests there l addr want 7 word new true false true a b c
-    ∙ (ap (λ q. ends there addr want q (4096 * bits_of word 12 51 + addr % span l)) (ap (bit_and 7) rights ∙ rights_kept r small)
-    ∙ ap (λ y. ends there addr want r (y + addr % span l)) address)
+    ∙ (ap (λ q. leaf_end there addr want q (4096 * bits_of word 12 51 + addr % entry_size l)) (ap (bit_and 7) rights ∙ rights_kept r small)
+    ∙ ap (λ y. leaf_end there addr want r (y + addr % entry_size l)) address)
 
 pub reads_table : (there : ℕ → Bool) (l addr want word p : ℕ) (new : ℕ → ℕ → Walk) → word ≡ table_entry p → p < 2 ^ 28 → reads there (suc l) addr want 7 (Some word) new ≡ new p 7
 reads_table there l addr want word p new is small =

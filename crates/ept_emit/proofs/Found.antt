@@ -6,17 +6,17 @@ use Rattle.std.proofs.lemmas.List.{drop_all, get_or_default, length-drop, get_or
 use Rattle.std.proofs.Math.Nat.{mul-div-le, lt-div-mul-add}
 use Rattle.ept_count.specs.declared.window.Window.{Window}
 use Rattle.ept_count.specs.Pages.{touches, AreApart}
-use Rattle.machine_meaning.specs.Walks.{span}
+use Rattle.machine_meaning.specs.Walks.{entry_size}
 use Rattle.ept_emit.specs.Entries.{level_of, is_whole, window_on}
 use Rattle.ept_emit.specs.Emitted.{holds, window_at}
 use Rattle.ept_emit.specs.Searches.{IsPast}
 
-pub span_some : (l : ℕ) → 1 ≤ span l
+pub span_some : (l : ℕ) → 1 ≤ entry_size l
 span_some zero = omega arith
 span_some (suc l) = omega (arith, span_some l)
 
-pub around : (l g : ℕ) → (span l * (g / span l) ≤ g) × (g < span l * (g / span l) + span l)
-around l g = let some = span_some l in (omega (arith, mul-div-le g (span l)), omega (arith, lt-div-mul-add {a = g} {b = span l} some))
+pub around : (l g : ℕ) → (entry_size l * (g / entry_size l) ≤ g) × (g < entry_size l * (g / entry_size l) + entry_size l)
+around l g = let some = span_some l in (omega (arith, mul-div-le g (entry_size l)), omega (arith, lt-div-mul-add {a = g} {b = entry_size l} some))
 
 pub touches_parts : (w : Window) (lo n : ℕ) → touches w lo n ≡ true → (w.guest < lo + n) × (lo < w.guest + w.size)
 touches_parts w lo n h = let p = and_parts _ _ h in (ltb-true _ _ p.0, ltb-true _ _ p.1)
@@ -130,7 +130,7 @@ same_or_later (x ∷ ws) lo n g w t apart h k a b =
           same_or_later ws lo n g w t (apart_tail x ws apart) e (rw q at k) a b
     ]
 
-pub whole_parts : (w : Window) (l e : ℕ) → l ≢ 0 → is_whole w l e ≡ true → (l ≤ level_of w.leaf) × (w.guest ≤ span l * e) × (span l * e + span l ≤ w.guest + w.size)
+pub whole_parts : (w : Window) (l e : ℕ) → l ≢ 0 → is_whole w l e ≡ true → (l ≤ level_of w.leaf) × (w.guest ≤ entry_size l * e) × (entry_size l * e + entry_size l ≤ w.guest + w.size)
 whole_parts w l e ne h =
     elim (or_cases _ _ h) [
       | inl z ↦ absurd (ne (eqb-true _ _ z))
@@ -145,16 +145,16 @@ not_lowest w zero e h z = true≢false h
 not_lowest w (suc l) e h z = omega arith
 
 -- no page of this level around the address is the window's where the entry's window hasn't it
-pub not_whole : (ws : List Window) (l g : ℕ) (w t : Window) → AreApart ws → l ≢ 0 → window_on ws (span l * (g / span l)) (span l) ≡ Some w → is_whole w l (g / span l) ≡ false → window_at ws g ≡ Some t → is_whole t l (g / span l) ≡ false
+pub not_whole : (ws : List Window) (l g : ℕ) (w t : Window) → AreApart ws → l ≢ 0 → window_on ws (entry_size l * (g / entry_size l)) (entry_size l) ≡ Some w → is_whole w l (g / entry_size l) ≡ false → window_at ws g ≡ Some t → is_whole t l (g / entry_size l) ≡ false
 not_whole ws l g w t apart ne h part k =
-    let e = g / span l in
+    let e = g / entry_size l in
     let r = around l g in
-    elim (same_or_later ws (span l * e) (span l) g w t apart h k r.0 r.1) [
+    elim (same_or_later ws (entry_size l * e) (entry_size l) g w t apart h k r.0 r.1) [
       | inl same ↦ subst (λ (y : Window). is_whole y l e ≡ false) same part
       | inr later ↦ elim (cases_Bool (is_whole t l e)) [
         | inl v ↦
             let p = whole_parts t l e ne v in
-            let q = first_touched ws (span l * e) (span l) w h in
+            let q = first_touched ws (entry_size l * e) (entry_size l) w h in
             absurd (omega arith)
         | inr f ↦ f
       ]

@@ -7,7 +7,7 @@ use Rattle.ept_count.specs.declared.window.Window.{Window}
 use Rattle.ept_count.specs.Pages.{AreApart}
 use Rattle.machine_meaning.specs.declared.walk.Walk.TheVariants.{At, Violation}
 use Rattle.machine_meaning.specs.Memory.{Page, page_of, is_there, le_number, load_of}
-use Rattle.machine_meaning.specs.Walks.{span, entry_of, root_of, walk_of, walk_from, places_read, places_from, leaf_size, end_span}
+use Rattle.machine_meaning.specs.Walks.{entry_size, entry_of, root_of, walk_of, walk_from, addresses_read, addresses_from, leaf_size, end_entry_size}
 use Rattle.muen_num.specs.Access.{kind_bit}
 use Rattle.muen_num.specs.declared.access.AccessKind.{AccessKind}
 use Rattle.muen_num.specs.declared.access.AccessKind.TheVariants.{Read, Write, Fetch}
@@ -81,7 +81,7 @@ module _ (m : List Page) (at n total : ℕ) (out : List ℕ) (ws : List Window) 
   size_held addr None is lt apart = tt
   size_held addr (Some w) is lt apart =
       let size = size_written (entry_of m) (word_at out) (at / 4096) 1 n ws addr w bounded entries ok apart is 3 0 some (numbered.written addr (in_all addr lt)) (λ h allowed inside. let low = level_low w.leaf in omega arith) in
-      subst (λ (t : ℕ). IsGreatestSize w addr (end_span (entry_of m) addr 3 t)) (sym (root_is at page)) size
+      subst (λ (t : ℕ). IsGreatestSize w addr (end_entry_size (entry_of m) addr 3 t)) (sym (root_is at page)) size
 
   -- a table that is read
   record Tells (addr level pg : ℕ) : Type 0 where
@@ -89,7 +89,7 @@ module _ (m : List Page) (at n total : ℕ) (out : List ℕ) (ws : List Window) 
     is : pg ≡ at / 4096 + table
     meets : Meets (word_at out) (at / 4096) ws 3 0 addr level table
 
-  tells_at : (addr level pg : ℕ) → addr < 2 ^ 48 → level ≤ 3 → 3 - level < length (places_from (entry_of m) addr 3 (at / 4096 + 0)) → get_or (places_from (entry_of m) addr 3 (at / 4096 + 0)) (3 - level) 0 / 4096 ≡ pg → Tells addr level pg
+  tells_at : (addr level pg : ℕ) → addr < 2 ^ 48 → level ≤ 3 → 3 - level < length (addresses_from (entry_of m) addr 3 (at / 4096 + 0)) → get_or (addresses_from (entry_of m) addr 3 (at / 4096 + 0)) (3 - level) 0 / 4096 ≡ pg → Tells addr level pg
   tells_at addr level pg lt depth within here =
       let r = met (entry_of m) (word_at out) (at / 4096) 1 n ws addr bounded entries ok 3 0 (3 - level) 0 some (numbered.written addr (in_all addr lt)) within in
       let same : 3 - (3 - level) ≡ level = omega arith in
@@ -101,7 +101,7 @@ module _ (m : List Page) (at n total : ℕ) (out : List ℕ) (ws : List Window) 
 
   tells : (addr level pg : ℕ) → addr < 2 ^ 48 → Reads m (eptp_of at) addr level pg → Tells addr level pg
   tells addr level pg lt r =
-      subst (λ (t : ℕ). 3 - level < length (places_from (entry_of m) addr 3 t) → get_or (places_from (entry_of m) addr 3 t) (3 - level) 0 / 4096 ≡ pg → Tells addr level pg) (sym (root_is at page)) (tells_at addr level pg lt r.depth) r.within r.here
+      subst (λ (t : ℕ). 3 - level < length (addresses_from (entry_of m) addr 3 t) → get_or (addresses_from (entry_of m) addr 3 t) (3 - level) 0 / 4096 ≡ pg → Tells addr level pg) (sym (root_is at page)) (tells_at addr level pg lt r.depth) r.within r.here
 
   reads_of : (addr l2 k2 : ℕ) (addresses : List ℕ) → IsRead addresses (at / 4096) 3 l2 k2 → (l2 ≤ 3) × (3 - l2 < length addresses) × (get_or addresses (3 - l2) 0 / 4096 ≡ at / 4096 + k2)
   reads_of addr l2 k2 addresses r = (r.level, r.within, r.here)
@@ -109,7 +109,7 @@ module _ (m : List Page) (at n total : ℕ) (out : List ℕ) (ws : List Window) 
   told : (addr l2 k2 : ℕ) → addr < 2 ^ 48 → Meets (word_at out) (at / 4096) ws 3 0 addr l2 k2 → Reads m (eptp_of at) addr l2 (at / 4096 + k2)
   told addr l2 k2 lt meets =
       let r = read (entry_of m) (word_at out) (at / 4096) 1 n ws addr bounded entries ok 3 0 l2 k2 some (numbered.written addr (in_all addr lt)) meets in
-      let q = subst (λ (t : ℕ). IsRead (places_from (entry_of m) addr 3 t) (at / 4096) 3 l2 k2) (sym (root_is at page)) r in
+      let q = subst (λ (t : ℕ). IsRead (addresses_from (entry_of m) addr 3 t) (at / 4096) 3 l2 k2) (sym (root_is at page)) r in
       record {
         depth = q.level;
         within = q.within;
@@ -123,23 +123,23 @@ module _ (m : List Page) (at n total : ℕ) (out : List ℕ) (ws : List Window) 
   table_low addr l2 k2 lt (inl e) = omega (arith, e.1)
   table_low addr l2 k2 lt (inr b) = let p = table_in addr l2 k2 lt b in p.1
 
-  pub alone_held : (addr : ℕ) → addr < 2 ^ 48 → All (λ address. (at ≤ address) × (address + 8 ≤ at + length out)) (places_read m (eptp_of at) addr)
+  pub alone_held : (addr : ℕ) → addr < 2 ^ 48 → All (λ address. (at ≤ address) × (address + 8 ≤ at + length out)) (addresses_read m (eptp_of at) addr)
   alone_held addr lt =
-      subst (λ (t : ℕ). All (λ address. (at ≤ address) × (address + 8 ≤ at + length out)) (places_from (entry_of m) addr 3 t)) (sym (root_is at page)) (λ i d within.
+      subst (λ (t : ℕ). All (λ address. (at ≤ address) × (address + 8 ≤ at + length out)) (addresses_from (entry_of m) addr 3 t)) (sym (root_is at page)) (λ i d within.
       let r = met (entry_of m) (word_at out) (at / 4096) 1 n ws addr bounded entries ok 3 0 i d some (numbered.written addr (in_all addr lt)) within in
       let low = table_low addr (3 - i) r.table lt r.meets in
       (omega (arith, r.low), omega (arith, r.high)))
 
-  root_path : (a level : ℕ) → a < 2 ^ 48 → level ≡ 3 → a / span (suc level) ≡ 0
+  root_path : (a level : ℕ) → a < 2 ^ 48 → level ≡ 3 → a / entry_size (suc level) ≡ 0
   root_path a level lt e = rw e (omega arith)
 
-  paths_of : (a b level other k : ℕ) → a < 2 ^ 48 → b < 2 ^ 48 → Meets (word_at out) (at / 4096) ws 3 0 a level k → Meets (word_at out) (at / 4096) ws 3 0 b other k → (level ≡ other) × (a / span (suc level) ≡ b / span (suc level))
+  paths_of : (a b level other k : ℕ) → a < 2 ^ 48 → b < 2 ^ 48 → Meets (word_at out) (at / 4096) ws 3 0 a level k → Meets (word_at out) (at / 4096) ws 3 0 b other k → (level ≡ other) × (a / entry_size (suc level) ≡ b / entry_size (suc level))
   paths_of a b level other k la lb (inl x) (inl y) = (x.0 ∙ sym y.0, root_path a level la x.0 ∙ sym (root_path b level lb x.0))
   paths_of a b level other k la lb (inl x) (inr y) = let p = table_in b other k lb y in absurd (omega (arith, x.1, p.0))
   paths_of a b level other k la lb (inr x) (inl y) = let p = table_in a level k la x in absurd (omega (arith, y.1, p.0))
   paths_of a b level other k la lb (inr x) (inr y) = numbered.paths a b level other k (in_all a la) (in_all b lb) x y
 
-  pub paths_held : (a b level other pg : ℕ) → a < 2 ^ 48 → b < 2 ^ 48 → Reads m (eptp_of at) a level pg → Reads m (eptp_of at) b other pg → (level ≡ other) × (a / span (suc level) ≡ b / span (suc level))
+  pub paths_held : (a b level other pg : ℕ) → a < 2 ^ 48 → b < 2 ^ 48 → Reads m (eptp_of at) a level pg → Reads m (eptp_of at) b other pg → (level ≡ other) × (a / entry_size (suc level) ≡ b / entry_size (suc level))
   paths_held a b level other pg la lb ra rb =
       let x = tells a level pg la ra in
       let y = tells b other pg lb rb in
@@ -185,7 +185,7 @@ module _ (m : List Page) (at n total : ℕ) (out : List ℕ) (ws : List Window) 
           | inl e ↦ inl (rw e (root_read (2 ^ 48 - 1) (at / 4096 + 0) (omega arith) (omega arith)))
           | inr ne ↦
               let r = numbered.reached k (omega arith) used in
-              let w : r.addr / span 3 / 512 ≡ 0 = r.within in
+              let w : r.addr / entry_size 3 / 512 ≡ 0 = r.within in
               let below : r.addr < 2 ^ 48 = omega arith in
               inl (record {
                 addr = r.addr;

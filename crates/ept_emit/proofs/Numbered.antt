@@ -3,7 +3,7 @@ use Rattle.std.proofs.Common.{◌≡◌, ◌≢◌, ◌⊎◌, inl, inr, ℕ, ze
 use Rattle.std.proofs.lemmas.Bool.{cases_eq, cases_lt}
 use Rattle.std.proofs.Math.Nat.{div-div-eq-div-mul, mul-div_cancel, mul-le-mul_left}
 use Rattle.ept_count.specs.declared.window.Window.{Window}
-use Rattle.machine_meaning.specs.Walks.{span}
+use Rattle.machine_meaning.specs.Walks.{entry_size}
 use Rattle.ept_emit.specs.Entries.{is_whole, leaf_entry, table_entry, window_on}
 use Rattle.ept_emit.specs.Tables.{IsWritten, Below, IsReference, IsReached, AreNumbered, child}
 use Rattle.ept_emit.proofs.Found.{span_some, around}
@@ -14,24 +14,24 @@ use Rattle.ept_emit.proofs.Written.{Under, Meets, word_of, window_of, written_fr
 below_none : (out : ℕ → ℕ) (base : ℕ) (ws : List Window) (l k g l2 k2 : ℕ) → window_of ws l g ≡ None → Below out base ws l k g l2 k2 → ⊥
 below_none out base ws zero k g l2 k2 none b = below_lowest out base ws k g l2 k2 b
 below_none out base ws (suc l) k g l2 k2 none b =
-    leads_none (λ c. Meets out base ws l c g l2 k2) (child base (word_of out (suc l) k g)) (suc l) (g / span (suc l)) (window_of ws (suc l) g) none (below_parts out base ws l k g l2 k2 b)
+    leads_none (λ c. Meets out base ws l c g l2 k2) (child base (word_of out (suc l) k g)) (suc l) (g / entry_size (suc l)) (window_of ws (suc l) g) none (below_parts out base ws l k g l2 k2 b)
 
-below_leaf : (out : ℕ → ℕ) (base : ℕ) (ws : List Window) (l k g l2 k2 : ℕ) (w : Window) → window_of ws l g ≡ Some w → is_whole w l (g / span l) ≡ true → Below out base ws l k g l2 k2 → ⊥
+below_leaf : (out : ℕ → ℕ) (base : ℕ) (ws : List Window) (l k g l2 k2 : ℕ) (w : Window) → window_of ws l g ≡ Some w → is_whole w l (g / entry_size l) ≡ true → Below out base ws l k g l2 k2 → ⊥
 below_leaf out base ws zero k g l2 k2 w some whole b = below_lowest out base ws k g l2 k2 b
 below_leaf out base ws (suc l) k g l2 k2 w some whole b =
-    leads_leaf (λ c. Meets out base ws l c g l2 k2) (child base (word_of out (suc l) k g)) (suc l) (g / span (suc l)) (window_of ws (suc l) g) w some whole (below_parts out base ws l k g l2 k2 b)
+    leads_leaf (λ c. Meets out base ws l c g l2 k2) (child base (word_of out (suc l) k g)) (suc l) (g / entry_size (suc l)) (window_of ws (suc l) g) w some whole (below_parts out base ws l k g l2 k2 b)
 
 -- the set of one entry's addresses
 abbrev pub InEntry : ℕ → ℕ → ℕ → Type 0
-InEntry l e g = g / span l ≡ e
+InEntry l e g = g / entry_size l ≡ e
 
 -- of the addresses of a whole table
 abbrev pub InTable : ℕ → ℕ → ℕ → Type 0
-InTable l p g = g / span l / 512 ≡ p
+InTable l p g = g / entry_size l / 512 ≡ p
 
 -- of its first i entries
 abbrev pub InFirst : ℕ → ℕ → ℕ → ℕ → Type 0
-InFirst l p i g = (g / span l / 512 ≡ p) × (g / span l < 512 * p + i)
+InFirst l p i g = (g / entry_size l / 512 ≡ p) × (g / entry_size l < 512 * p + i)
 
 none_below : (out : ℕ → ℕ) (base used : ℕ) (ws : List Window) (l k : ℕ) (P : ℕ → Type 0) → ((g : ℕ) → P g → IsWritten out base used used ws l k g) → ((g l2 k2 : ℕ) → P g → Below out base ws l k g l2 k2 → ⊥) → AreNumbered out base used used ws l k P
 none_below out base used ws l k P written none =
@@ -42,13 +42,13 @@ none_below out base used ws l k P written none =
       order = λ h l2 j k2 a b c d. absurd (none h l2 k2 a b);
     }
 
-pub numbered_free : (out : ℕ → ℕ) (base used : ℕ) (ws : List Window) (l k e : ℕ) → out (512 * k + e % 512) ≡ 0 → window_on ws (span l * e) (span l) ≡ None → AreNumbered out base used used ws l k (InEntry l e)
+pub numbered_free : (out : ℕ → ℕ) (base used : ℕ) (ws : List Window) (l k e : ℕ) → out (512 * k + e % 512) ≡ 0 → window_on ws (entry_size l * e) (entry_size l) ≡ None → AreNumbered out base used used ws l k (InEntry l e)
 numbered_free out base used ws l k e at none =
-    none_below out base used ws l k (InEntry l e) (λ g within. written_from out base used used ws l k g (stands_none (Under out base used used ws l g) base used used l (g / span l) (word_of out l k g) (window_of ws l g) (rw within none) (rw within at))) (λ g l2 k2 within b. below_none out base ws l k g l2 k2 (rw within none) b)
+    none_below out base used ws l k (InEntry l e) (λ g within. written_from out base used used ws l k g (stands_none (Under out base used used ws l g) base used used l (g / entry_size l) (word_of out l k g) (window_of ws l g) (rw within none) (rw within at))) (λ g l2 k2 within b. below_none out base ws l k g l2 k2 (rw within none) b)
 
-pub numbered_leaf : (out : ℕ → ℕ) (base used : ℕ) (ws : List Window) (l k e : ℕ) (w : Window) → out (512 * k + e % 512) ≡ leaf_entry w l e → window_on ws (span l * e) (span l) ≡ Some w → is_whole w l e ≡ true → AreNumbered out base used used ws l k (InEntry l e)
+pub numbered_leaf : (out : ℕ → ℕ) (base used : ℕ) (ws : List Window) (l k e : ℕ) (w : Window) → out (512 * k + e % 512) ≡ leaf_entry w l e → window_on ws (entry_size l * e) (entry_size l) ≡ Some w → is_whole w l e ≡ true → AreNumbered out base used used ws l k (InEntry l e)
 numbered_leaf out base used ws l k e w at some whole =
-    none_below out base used ws l k (InEntry l e) (λ g within. written_from out base used used ws l k g (stands_leaf (Under out base used used ws l g) base used used l (g / span l) (word_of out l k g) (window_of ws l g) w (rw within some) (rw within whole) (rw within at))) (λ g l2 k2 within b. below_leaf out base ws l k g l2 k2 w (rw within some) (rw within whole) b)
+    none_below out base used ws l k (InEntry l e) (λ g within. written_from out base used used ws l k g (stands_leaf (Under out base used used ws l g) base used used l (g / entry_size l) (word_of out l k g) (window_of ws l g) w (rw within some) (rw within whole) (rw within at))) (λ g l2 k2 within b. below_leaf out base ws l k g l2 k2 w (rw within some) (rw within whole) b)
 
 -- ---- an entry that references a table
 
@@ -65,33 +65,33 @@ reference_is base c hi word h lt =
     }
 
 -- an address of an entry is one of the table that it references
-entry_table : (l e g : ℕ) → g / span (suc l) ≡ e → g / span l / 512 ≡ e
+entry_table : (l e g : ℕ) → g / entry_size (suc l) ≡ e → g / entry_size l / 512 ≡ e
 entry_table l e g h =
-    let m : span l * 512 ≡ 512 * span l = omega arith in
-    div-div-eq-div-mul g (span l) 512 ∙ (ap (λ n. g / n) m ∙ h)
+    let m : entry_size l * 512 ≡ 512 * entry_size l = omega arith in
+    div-div-eq-div-mul g (entry_size l) 512 ∙ (ap (λ n. g / n) m ∙ h)
 
-table_entry_of : (l e g : ℕ) → g / span l / 512 ≡ e → g / span (suc l) ≡ e
+table_entry_of : (l e g : ℕ) → g / entry_size l / 512 ≡ e → g / entry_size (suc l) ≡ e
 table_entry_of l e g h =
-    let m : span l * 512 ≡ 512 * span l = omega arith in
-    sym (ap (λ n. g / n) m) ∙ (sym (div-div-eq-div-mul g (span l) 512) ∙ h)
+    let m : entry_size l * 512 ≡ 512 * entry_size l = omega arith in
+    sym (ap (λ n. g / n) m) ∙ (sym (div-div-eq-div-mul g (entry_size l) 512) ∙ h)
 
-first_address : (l e : ℕ) → span l * e / span l ≡ e
-first_address l e = let m : span l * e ≡ e * span l = omega arith in let some : 0 < span l = omega (arith, span_some l) in ap (λ n. n / span l) m ∙ mul-div_cancel e {n = span l} some
+first_address : (l e : ℕ) → entry_size l * e / entry_size l ≡ e
+first_address l e = let m : entry_size l * e ≡ e * entry_size l = omega arith in let some : 0 < entry_size l = omega (arith, span_some l) in ap (λ n. n / entry_size l) m ∙ mul-div_cancel e {n = entry_size l} some
 
-module _ (out : ℕ → ℕ) (base used top : ℕ) (ws : List Window) (l k e : ℕ) (w : Window) (at : out (512 * k + e % 512) ≡ table_entry (base + used)) (some : window_on ws (span (suc l) * e) (span (suc l)) ≡ Some w) (part : is_whole w (suc l) e ≡ false) (more : used < top) (below : AreNumbered out base (used + 1) top ws l used (InTable l e)) where
+module _ (out : ℕ → ℕ) (base used top : ℕ) (ws : List Window) (l k e : ℕ) (w : Window) (at : out (512 * k + e % 512) ≡ table_entry (base + used)) (some : window_on ws (entry_size (suc l) * e) (entry_size (suc l)) ≡ Some w) (part : is_whole w (suc l) e ≡ false) (more : used < top) (below : AreNumbered out base (used + 1) top ws l used (InTable l e)) where
   abbrev Deep : ℕ → ℕ → ℕ → ℕ → Type 0
   Deep g l2 k2 c = Meets out base ws l c g l2 k2
 
   down : (g l2 k2 : ℕ) → InEntry (suc l) e g → Below out base ws (suc l) k g l2 k2 → Meets out base ws l used g l2 k2
   down g l2 k2 within b =
       let c : child base (word_of out (suc l) k g) ≡ used = child_is base used (word_of out (suc l) k g) (rw within at) in
-      let p = leads_to (Deep g l2 k2) (child base (word_of out (suc l) k g)) (suc l) (g / span (suc l)) (window_of ws (suc l) g) w (rw within some) (rw within part) (below_parts out base ws l k g l2 k2 b) in
+      let p = leads_to (Deep g l2 k2) (child base (word_of out (suc l) k g)) (suc l) (g / entry_size (suc l)) (window_of ws (suc l) g) w (rw within some) (rw within part) (below_parts out base ws l k g l2 k2 b) in
       rw c at p
 
   up : (g l2 k2 : ℕ) → InEntry (suc l) e g → Meets out base ws l used g l2 k2 → Below out base ws (suc l) k g l2 k2
   up g l2 k2 within m =
       let c : child base (word_of out (suc l) k g) ≡ used = child_is base used (word_of out (suc l) k g) (rw within at) in
-      below_from out base ws l k g l2 k2 (leads_from (Deep g l2 k2) (child base (word_of out (suc l) k g)) (suc l) (g / span (suc l)) (window_of ws (suc l) g) w (rw within some) (rw within part) (rw c m))
+      below_from out base ws l k g l2 k2 (leads_from (Deep g l2 k2) (child base (word_of out (suc l) k g)) (suc l) (g / entry_size (suc l)) (window_of ws (suc l) g) w (rw within some) (rw within part) (rw c m))
 
   within_below : (g l2 k2 : ℕ) → InEntry (suc l) e g → Below out base ws l used g l2 k2 → used < k2
   within_below g l2 k2 within b =
@@ -104,9 +104,9 @@ module _ (out : ℕ → ℕ) (base used top : ℕ) (ws : List Window) (l k e : �
       let is : word ≡ table_entry (base + used) = rw within at in
       let c : child base word ≡ used = child_is base used word is in
       let there = keeps out out base (used + 1) top used top ws (omega arith) (omega arith) (λ _ _ _. refl) l used g refl (below.written g (entry_table l e g within)) in
-      written_from out base used top ws (suc l) k g (stands_table (Under out base used top ws (suc l) g) base used top (suc l) (g / span (suc l)) word (window_of ws (suc l) g) w (rw within some) (rw within part) (reference_is base used top word is more) (rw c there))
+      written_from out base used top ws (suc l) k g (stands_table (Under out base used top ws (suc l) g) base used top (suc l) (g / entry_size (suc l)) word (window_of ws (suc l) g) w (rw within some) (rw within part) (reference_is base used top word is more) (rw c there))
 
-  table_paths : (g h l2 j k2 : ℕ) → InEntry (suc l) e g → InEntry (suc l) e h → Below out base ws (suc l) k g l2 k2 → Below out base ws (suc l) k h j k2 → (l2 ≡ j) × (g / span (suc l2) ≡ h / span (suc l2))
+  table_paths : (g h l2 j k2 : ℕ) → InEntry (suc l) e g → InEntry (suc l) e h → Below out base ws (suc l) k g l2 k2 → Below out base ws (suc l) k h j k2 → (l2 ≡ j) × (g / entry_size (suc l2) ≡ h / entry_size (suc l2))
   table_paths g h l2 j k2 a b c d =
       elim (down g l2 k2 a c) [
         | inl e1 ↦ elim (down h j k2 b d) [
@@ -123,8 +123,8 @@ module _ (out : ℕ → ℕ) (base used top : ℕ) (ws : List Window) (l k e : �
   table_reached k2 a b =
       elim (cases_eq k2 used) [
         | inl same ↦
-            let g = span (suc l) * e in
-            let within : g / span (suc l) ≡ e = first_address (suc l) e in
+            let g = entry_size (suc l) * e in
+            let within : g / entry_size (suc l) ≡ e = first_address (suc l) e in
             record { addr = g; depth = l; within = within; below = up g l k2 within (inl (refl, same)) }
         | inr ne ↦
             let r = below.reached k2 (omega arith) b in
@@ -180,7 +180,7 @@ module _ (out new : ℕ → ℕ) (base used top result : ℕ) (ws : List Window)
         | inr q ↦ keeps new new base top result used result ws some (omega arith) (λ _ _ _. refl) l k g refl (next.written g q)
       ]
 
-  both_paths : (g h l2 j k2 : ℕ) → R g → R h → Below new base ws l k g l2 k2 → Below new base ws l k h j k2 → (l2 ≡ j) × (g / span (suc l2) ≡ h / span (suc l2))
+  both_paths : (g h l2 j k2 : ℕ) → R g → R h → Below new base ws l k g l2 k2 → Below new base ws l k h j k2 → (l2 ≡ j) × (g / entry_size (suc l2) ≡ h / entry_size (suc l2))
   both_paths g h l2 j k2 a b c d =
       elim (split g a) [
         | inl p ↦ elim (split h b) [
@@ -240,19 +240,19 @@ numbered_same out base used top ws l k P Q to from old =
       order = λ h l2 j k2 a b c d. let r = old.order h l2 j k2 (from h a) b c d in record { addr = r.addr; depth = r.depth; within = (to r.addr r.within.0, r.within.1); below = r.below };
     }
 
-earlier : (l g h e : ℕ) → g / span l < e → h / span l ≡ e → g ≤ h
+earlier : (l g h e : ℕ) → g / entry_size l < e → h / entry_size l ≡ e → g ≤ h
 earlier l g h e lt eq =
     let a = around l g in
     let b = around l h in
-    let here : span l * e ≤ h = rw eq at b.0 in
-    let next : g / span l + 1 ≤ e = omega arith in
-    let m : span l * (g / span l + 1) ≤ span l * e = mul-le-mul_left (span l) next in
+    let here : entry_size l * e ≤ h = rw eq at b.0 in
+    let next : g / entry_size l + 1 ≤ e = omega arith in
+    let m : entry_size l * (g / entry_size l + 1) ≤ entry_size l * e = mul-le-mul_left (entry_size l) next in
     omega (arith, a.1, here, m)
 
 -- one entry more of a table
 pub one_more : (out new : ℕ → ℕ) (base used top result : ℕ) (ws : List Window) (l k p i : ℕ) → k < used → used ≤ top → top ≤ result → i < 512 → AreNumbered out base used top ws l k (InFirst l p i) → AreNumbered new base top result ws l k (InEntry l (512 * p + i)) → ((j : ℕ) → j < 512 * top → j ≢ 512 * k + (512 * p + i) % 512 → new j ≡ out j) → AreNumbered new base used result ws l k (InFirst l p (i + 1))
 one_more out new base used top result ws l k p i in_used some more small old next rest =
-    numbered_both out new base used top result ws l k (InFirst l p i) (InEntry l (512 * p + i)) (InFirst l p (i + 1)) some more (λ g r. elim (cases_eq (g / span l) (512 * p + i)) [
+    numbered_both out new base used top result ws l k (InFirst l p i) (InEntry l (512 * p + i)) (InFirst l p (i + 1)) some more (λ g r. elim (cases_eq (g / entry_size l) (512 * p + i)) [
       | inl e ↦ inr e
       | inr ne ↦ inl (r.0, omega (arith, r.1))
     ]) (λ g a. (a.0, omega (arith, a.1))) (λ g e. (omega arith, omega arith)) (λ g h a b. earlier l g h (512 * p + i) a.1 b) (λ j a b. rest j b (λ h. omega arith)) (λ g a. let a0 = a.0 in let a1 = a.1 in rest _ (omega arith) (λ h. omega arith)) old next
@@ -264,10 +264,10 @@ whole_table out base used top ws l k p i all old =
 
 -- ---- at a level that isn't the lowest
 
-pub span_up : (l : ℕ) → l ≢ 0 → span (suc (l - 1)) ≡ span l
-span_up l ne = let e : suc (l - 1) ≡ l = omega arith in ap span e
+pub span_up : (l : ℕ) → l ≢ 0 → entry_size (suc (l - 1)) ≡ entry_size l
+span_up l ne = let e : suc (l - 1) ≡ l = omega arith in ap entry_size e
 
-pub numbered_table_at : (out : ℕ → ℕ) (base used top : ℕ) (ws : List Window) (l k e : ℕ) (w : Window) → l ≢ 0 → out (512 * k + e % 512) ≡ table_entry (base + used) → window_on ws (span l * e) (span l) ≡ Some w → is_whole w l e ≡ false → used < top → AreNumbered out base (used + 1) top ws (l - 1) used (InTable (l - 1) e) → AreNumbered out base used top ws l k (InEntry l e)
+pub numbered_table_at : (out : ℕ → ℕ) (base used top : ℕ) (ws : List Window) (l k e : ℕ) (w : Window) → l ≢ 0 → out (512 * k + e % 512) ≡ table_entry (base + used) → window_on ws (entry_size l * e) (entry_size l) ≡ Some w → is_whole w l e ≡ false → used < top → AreNumbered out base (used + 1) top ws (l - 1) used (InTable (l - 1) e) → AreNumbered out base used top ws l k (InEntry l e)
 numbered_table_at out base used top ws zero k e w ne at some part more below = absurd (ne refl)
 numbered_table_at out base used top ws (suc l) k e w ne at some part more below =
     let f : suc l - 1 ≡ l = omega arith in
@@ -275,10 +275,10 @@ numbered_table_at out base used top ws (suc l) k e w ne at some part more below 
 
 -- ---- numbers of entries
 
-pub entry_small : (l e n : ℕ) → span l * (e + 1) ≤ n → e + 1 ≤ n
+pub entry_small : (l e n : ℕ) → entry_size l * (e + 1) ≤ n → e + 1 ≤ n
 entry_small l e n h = omega (arith, mul-le-mul_left (e + 1) (span_some l))
 
-pub entry_in : (l p i n : ℕ) → span (suc l) * (p + 1) ≤ n → i < 512 → span l * (512 * p + i + 1) ≤ n
+pub entry_in : (l p i n : ℕ) → entry_size (suc l) * (p + 1) ≤ n → i < 512 → entry_size l * (512 * p + i + 1) ≤ n
 entry_in l p i n h lt =
     let a : 512 * p + i + 1 ≤ 512 * p + 512 = omega arith in
-    omega (arith, mul-le-mul_left (span l) a)
+    omega (arith, mul-le-mul_left (entry_size l) a)

@@ -2,7 +2,7 @@
 use Rattle.std.proofs.Common.{◌≡◌, ◌⊎◌, inl, inr, ℕ, zero, suc, ◌+◌, ◌*◌, ◌/◌, ◌%◌, ◌<◌, ◌≤◌, true, false, List, Option, Some, None, refl, arith}
 use Rattle.std.proofs.lemmas.Bool.{cases_Bool}
 use Rattle.ept_count.specs.declared.window.Window.{Window}
-use Rattle.machine_meaning.specs.Walks.{span}
+use Rattle.machine_meaning.specs.Walks.{entry_size}
 use Rattle.ept_emit.specs.Entries.{is_whole, leaf_entry, window_on}
 use Rattle.ept_emit.specs.Tables.{IsWritten, Below, Stands, Leads, IsReference, child}
 
@@ -14,17 +14,17 @@ Under out base lo hi ws (suc l) g c = IsWritten out base lo hi ws l c g
 
 -- the entry, its word and its window
 abbrev pub word_of : (ℕ → ℕ) → ℕ → ℕ → ℕ → ℕ
-word_of out l k g = out (512 * k + g / span l % 512)
+word_of out l k g = out (512 * k + g / entry_size l % 512)
 
 abbrev pub window_of : List Window → ℕ → ℕ → Option Window
-window_of ws l g = window_on ws (span l * (g / span l)) (span l)
+window_of ws l g = window_on ws (entry_size l * (g / entry_size l)) (entry_size l)
 
-pub written_parts : (out : ℕ → ℕ) (base lo hi : ℕ) (ws : List Window) (l k g : ℕ) → IsWritten out base lo hi ws l k g → Stands (Under out base lo hi ws l g) base lo hi l (g / span l) (word_of out l k g) (window_of ws l g)
+pub written_parts : (out : ℕ → ℕ) (base lo hi : ℕ) (ws : List Window) (l k g : ℕ) → IsWritten out base lo hi ws l k g → Stands (Under out base lo hi ws l g) base lo hi l (g / entry_size l) (word_of out l k g) (window_of ws l g)
 unfolding IsWritten
 written_parts out base lo hi ws zero k g h = h
 written_parts out base lo hi ws (suc l) k g h = h
 
-pub written_from : (out : ℕ → ℕ) (base lo hi : ℕ) (ws : List Window) (l k g : ℕ) → Stands (Under out base lo hi ws l g) base lo hi l (g / span l) (word_of out l k g) (window_of ws l g) → IsWritten out base lo hi ws l k g
+pub written_from : (out : ℕ → ℕ) (base lo hi : ℕ) (ws : List Window) (l k g : ℕ) → Stands (Under out base lo hi ws l g) base lo hi l (g / entry_size l) (word_of out l k g) (window_of ws l g) → IsWritten out base lo hi ws l k g
 unfolding IsWritten
 written_from out base lo hi ws zero k g h = h
 written_from out base lo hi ws (suc l) k g h = h
@@ -32,11 +32,11 @@ written_from out base lo hi ws (suc l) k g h = h
 abbrev pub Meets : (ℕ → ℕ) → ℕ → List Window → ℕ → ℕ → ℕ → ℕ → ℕ → Type 0
 Meets out base ws l k g l2 k2 = ((l2 ≡ l) × (k2 ≡ k)) ⊎ Below out base ws l k g l2 k2
 
-pub below_parts : (out : ℕ → ℕ) (base : ℕ) (ws : List Window) (l k g l2 k2 : ℕ) → Below out base ws (suc l) k g l2 k2 → Leads (λ c. Meets out base ws l c g l2 k2) (child base (word_of out (suc l) k g)) (suc l) (g / span (suc l)) (window_of ws (suc l) g)
+pub below_parts : (out : ℕ → ℕ) (base : ℕ) (ws : List Window) (l k g l2 k2 : ℕ) → Below out base ws (suc l) k g l2 k2 → Leads (λ c. Meets out base ws l c g l2 k2) (child base (word_of out (suc l) k g)) (suc l) (g / entry_size (suc l)) (window_of ws (suc l) g)
 unfolding Below
 below_parts out base ws l k g l2 k2 h = h
 
-pub below_from : (out : ℕ → ℕ) (base : ℕ) (ws : List Window) (l k g l2 k2 : ℕ) → Leads (λ c. Meets out base ws l c g l2 k2) (child base (word_of out (suc l) k g)) (suc l) (g / span (suc l)) (window_of ws (suc l) g) → Below out base ws (suc l) k g l2 k2
+pub below_from : (out : ℕ → ℕ) (base : ℕ) (ws : List Window) (l k g l2 k2 : ℕ) → Leads (λ c. Meets out base ws l c g l2 k2) (child base (word_of out (suc l) k g)) (suc l) (g / entry_size (suc l)) (window_of ws (suc l) g) → Below out base ws (suc l) k g l2 k2
 unfolding Below
 below_from out base ws l k g l2 k2 h = h
 
@@ -79,13 +79,13 @@ leads_from deeper c l e o w some whole h = rw some (rw whole h)
 -- what an entry's window says of it
 pub data Kinds (ws : List Window) (l g : ℕ) : Type 0 where
   Free : window_of ws l g ≡ None → Kinds ws l g
-  Whole : (w : Window) → window_of ws l g ≡ Some w → is_whole w l (g / span l) ≡ true → Kinds ws l g
-  Part : (w : Window) → window_of ws l g ≡ Some w → is_whole w l (g / span l) ≡ false → Kinds ws l g
+  Whole : (w : Window) → window_of ws l g ≡ Some w → is_whole w l (g / entry_size l) ≡ true → Kinds ws l g
+  Part : (w : Window) → window_of ws l g ≡ Some w → is_whole w l (g / entry_size l) ≡ false → Kinds ws l g
 
 by_option : (ws : List Window) (l g : ℕ) (o : Option Window) → window_of ws l g ≡ o → Kinds ws l g
 by_option ws l g None h = Free h
 by_option ws l g (Some w) h =
-    elim (cases_Bool (is_whole w l (g / span l))) [
+    elim (cases_Bool (is_whole w l (g / entry_size l))) [
       | inl t ↦ Whole w h t
       | inr f ↦ Part w h f
     ]
@@ -114,13 +114,13 @@ keeps_entry base lo hi lo2 hi2 l e word old new (Some w) below above deeper =
 -- tables and an entry that nothing changed, in bounds as wide or wider
 pub keeps : (out new : ℕ → ℕ) (base lo hi lo2 hi2 : ℕ) (ws : List Window) → lo2 ≤ lo → hi ≤ hi2 → ((j : ℕ) → 512 * lo ≤ j → j < 512 * hi → new j ≡ out j) → (l k g : ℕ) → word_of new l k g ≡ word_of out l k g → IsWritten out base lo hi ws l k g → IsWritten new base lo2 hi2 ws l k g
 keeps out new base lo hi lo2 hi2 ws below above same zero k g at h =
-    written_from new base lo2 hi2 ws zero k g (rw at (keeps_entry base lo hi lo2 hi2 zero (g / span zero) (word_of out zero k g) (Under out base lo hi ws zero g) (Under new base lo2 hi2 ws zero g) (window_of ws zero g) below above (λ c _ _ s. absurd s) (written_parts out base lo hi ws zero k g h)))
+    written_from new base lo2 hi2 ws zero k g (rw at (keeps_entry base lo hi lo2 hi2 zero (g / entry_size zero) (word_of out zero k g) (Under out base lo hi ws zero g) (Under new base lo2 hi2 ws zero g) (window_of ws zero g) below above (λ c _ _ s. absurd s) (written_parts out base lo hi ws zero k g h)))
 keeps out new base lo hi lo2 hi2 ws below above same (suc l) k g at h =
-    written_from new base lo2 hi2 ws (suc l) k g (rw at (keeps_entry base lo hi lo2 hi2 (suc l) (g / span (suc l)) (word_of out (suc l) k g) (Under out base lo hi ws (suc l) g) (Under new base lo2 hi2 ws (suc l) g) (window_of ws (suc l) g) below above (λ c a b s. keeps out new base lo hi lo2 hi2 ws below above same l c g (same _ (omega arith) (omega arith)) s) (written_parts out base lo hi ws (suc l) k g h)))
+    written_from new base lo2 hi2 ws (suc l) k g (rw at (keeps_entry base lo hi lo2 hi2 (suc l) (g / entry_size (suc l)) (word_of out (suc l) k g) (Under out base lo hi ws (suc l) g) (Under new base lo2 hi2 ws (suc l) g) (window_of ws (suc l) g) below above (λ c a b s. keeps out new base lo hi lo2 hi2 ws below above same l c g (same _ (omega arith) (omega arith)) s) (written_parts out base lo hi ws (suc l) k g h)))
 
 -- the table that is referenced, with what is written below it
-pub child_of : (out : ℕ → ℕ) (base lo hi : ℕ) (ws : List Window) (l k g : ℕ) (w : Window) → window_of ws (suc l) g ≡ Some w → is_whole w (suc l) (g / span (suc l)) ≡ false → IsWritten out base lo hi ws (suc l) k g → IsReference base lo hi (word_of out (suc l) k g) × IsWritten out base lo hi ws l (child base (word_of out (suc l) k g)) g
-child_of out base lo hi ws l k g w some part h = table_of (Under out base lo hi ws (suc l) g) base lo hi (suc l) (g / span (suc l)) (word_of out (suc l) k g) (window_of ws (suc l) g) w some part (written_parts out base lo hi ws (suc l) k g h)
+pub child_of : (out : ℕ → ℕ) (base lo hi : ℕ) (ws : List Window) (l k g : ℕ) (w : Window) → window_of ws (suc l) g ≡ Some w → is_whole w (suc l) (g / entry_size (suc l)) ≡ false → IsWritten out base lo hi ws (suc l) k g → IsReference base lo hi (word_of out (suc l) k g) × IsWritten out base lo hi ws l (child base (word_of out (suc l) k g)) g
+child_of out base lo hi ws l k g w some part h = table_of (Under out base lo hi ws (suc l) g) base lo hi (suc l) (g / entry_size (suc l)) (word_of out (suc l) k g) (window_of ws (suc l) g) w some part (written_parts out base lo hi ws (suc l) k g h)
 
 -- the tables below are those
 pub below_within : (out : ℕ → ℕ) (base lo hi : ℕ) (ws : List Window) (l k g l2 k2 : ℕ) → IsWritten out base lo hi ws l k g → Below out base ws l k g l2 k2 → (lo ≤ k2) × (k2 < hi)
@@ -130,11 +130,11 @@ below_within out base lo hi ws (suc l) k g l2 k2 h b =
     let deeper : ℕ → Type 0 = λ c. Meets out base ws l c g l2 k2 in
     let c = child base (word_of out (suc l) k g) in
     elim (kind_of ws (suc l) g) [
-      | Free none ↦ absurd (leads_none deeper c (suc l) (g / span (suc l)) (window_of ws (suc l) g) none p)
-      | Whole w some t ↦ absurd (leads_leaf deeper c (suc l) (g / span (suc l)) (window_of ws (suc l) g) w some t p)
+      | Free none ↦ absurd (leads_none deeper c (suc l) (g / entry_size (suc l)) (window_of ws (suc l) g) none p)
+      | Whole w some t ↦ absurd (leads_leaf deeper c (suc l) (g / entry_size (suc l)) (window_of ws (suc l) g) w some t p)
       | Part w some f ↦
           let q = child_of out base lo hi ws l k g w some f h in
-          elim (leads_to deeper c (suc l) (g / span (suc l)) (window_of ws (suc l) g) w some f p) [
+          elim (leads_to deeper c (suc l) (g / entry_size (suc l)) (window_of ws (suc l) g) w some f p) [
             | inl e ↦ (omega (arith, q.0.low, e.1), omega (arith, q.0.high, e.1))
             | inr d ↦ below_within out base lo hi ws l c g l2 k2 q.1 d
           ]
@@ -149,13 +149,13 @@ below_keeps out new base lo hi ws same (suc l) k g l2 k2 at h b =
     let deep : ℕ → Type 0 = λ c. Meets new base ws l c g l2 k2 in
     let c = child base (word_of out (suc l) k g) in
     elim (kind_of ws (suc l) g) [
-      | Free none ↦ absurd (leads_none deeper c (suc l) (g / span (suc l)) (window_of ws (suc l) g) none p)
-      | Whole w some t ↦ absurd (leads_leaf deeper c (suc l) (g / span (suc l)) (window_of ws (suc l) g) w some t p)
+      | Free none ↦ absurd (leads_none deeper c (suc l) (g / entry_size (suc l)) (window_of ws (suc l) g) none p)
+      | Whole w some t ↦ absurd (leads_leaf deeper c (suc l) (g / entry_size (suc l)) (window_of ws (suc l) g) w some t p)
       | Part w some f ↦
           let q = child_of out base lo hi ws l k g w some f h in
-          let there : deep c = elim (leads_to deeper c (suc l) (g / span (suc l)) (window_of ws (suc l) g) w some f p) [
+          let there : deep c = elim (leads_to deeper c (suc l) (g / entry_size (suc l)) (window_of ws (suc l) g) w some f p) [
             | inl e ↦ inl e
             | inr d ↦ inr (below_keeps out new base lo hi ws same l c g l2 k2 (same _ (omega (arith, q.0.low)) (omega (arith, q.0.high))) q.1 d)
           ] in
-          below_from new base ws l k g l2 k2 (rw at (leads_from deep c (suc l) (g / span (suc l)) (window_of ws (suc l) g) w some f there))
+          below_from new base ws l k g l2 k2 (rw at (leads_from deep c (suc l) (g / entry_size (suc l)) (window_of ws (suc l) g) w some f there))
     ]

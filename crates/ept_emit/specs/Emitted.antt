@@ -5,7 +5,7 @@ use Rattle.ept_count.specs.declared.window.Window.{Window}
 use Rattle.machine_meaning.specs.declared.walk.Walk.{Walk}
 use Rattle.machine_meaning.specs.declared.walk.Walk.TheVariants.{At, Violation}
 use Rattle.machine_meaning.specs.Memory.{Page, is_there, page_of}
-use Rattle.machine_meaning.specs.Walks.{places_read, span}
+use Rattle.machine_meaning.specs.Walks.{addresses_read, entry_size}
 use Rattle.muen_num.specs.declared.access.AccessKind.{AccessKind}
 use Rattle.policy_types.specs.Rights.{allows}
 use Rattle.ept_emit.specs.Entries.{level_of}
@@ -36,13 +36,13 @@ translation ws addr kind = translation_in (window_at ws addr) addr kind
 
 -- the aligned range around an address that a page of this level maps lies wholly in the window
 pub record IsInside (w : Window) (level addr : ℕ) : Type 0 where
-  pub begins : w.guest ≤ span level * (addr / span level)
-  pub ends : span level * (addr / span level) + span level ≤ w.guest + w.size
+  pub begins : w.guest ≤ entry_size level * (addr / entry_size level)
+  pub ends : entry_size level * (addr / entry_size level) + entry_size level ≤ w.guest + w.size
 
 -- the size is the greatest of those up to the window's whose aligned range around the address lies wholly in the window
 pub record IsGreatestSize (w : Window) (addr size : ℕ) : Type 0 where
   pub level : ℕ
-  pub is : size ≡ span level
+  pub is : size ≡ entry_size level
   pub allowed : level ≤ level_of w.leaf
   pub inside : IsInside w level addr
   pub greatest : (higher : ℕ) → higher ≤ level_of w.leaf → IsInside w higher addr → higher ≤ level
@@ -61,8 +61,8 @@ HasAddresses m ws = All (λ w. (k : ℕ) → w.address ≤ 4096 * k → 4096 * k
 -- level 3, on down
 pub record Reads (m : List Page) (eptp addr level page : ℕ) : Type 0 where
   pub depth : level ≤ 3
-  pub within : 3 - level < length (places_read m eptp addr)
-  pub here : slice_index (places_read m eptp addr) (3 - level) / 4096 ≡ page
+  pub within : 3 - level < length (addresses_read m eptp addr)
+  pub here : slice_index (addresses_read m eptp addr) (3 - level) / 4096 ≡ page
 
 -- some walk for an address up to a last one reads the table in this page
 pub record IsReadBy (m : List Page) (eptp last page : ℕ) : Type 0 where

@@ -7,7 +7,7 @@ use Rattle.ept_count.specs.declared.window.Leaf.TheVariants.{Small, Large, Huge}
 use Rattle.ept_count.specs.declared.window.Window.{Window}
 use Rattle.ept_count.specs.Pages.{touches}
 use Rattle.machine_meaning.specs.Memory.{le_number}
-use Rattle.machine_meaning.specs.Walks.{span}
+use Rattle.machine_meaning.specs.Walks.{entry_size}
 use Rattle.policy_types.specs.declared.rights.Caching.{Caching}
 use Rattle.policy_types.specs.declared.rights.Caching.TheVariants.{Uc, Wc, Wt, Wp, Wb}
 
@@ -36,11 +36,11 @@ size_bit (suc level) = 128
 abbrev pub is_whole : Window → ℕ → ℕ → Bool
 is_whole w level e =
     (level == 0)
-    || (nat_le level (level_of w.leaf) && (nat_le w.guest (span level * e) && nat_le (span level * e + span level) (w.guest + w.size)))
+    || (nat_le level (level_of w.leaf) && (nat_le w.guest (entry_size level * e) && nat_le (entry_size level * e + entry_size level) (w.guest + w.size)))
 
 -- an entry that maps a page of the window
 abbrev pub leaf_entry : Window → ℕ → ℕ → ℕ
-leaf_entry w level e = w.address + (span level * e - w.guest) + size_bit level + 8 * type_of w.caching + w.rights.0
+leaf_entry w level e = w.address + (entry_size level * e - w.guest) + size_bit level + 8 * type_of w.caching + w.rights.0
 
 -- an entry that references the table in a page: it takes no right away
 abbrev pub table_entry : ℕ → ℕ
@@ -65,4 +65,4 @@ pub record IsEmittable (w : Window) : Type 0 where
   pub address_end : w.address + w.size ≤ 2 ^ 40
   pub known : w.rights.0 < 8
   pub read : w.rights.0 % 2 ≡ 1
-  pub aligned : w.address % span (level_of w.leaf) ≡ w.guest % span (level_of w.leaf)
+  pub aligned : w.address % entry_size (level_of w.leaf) ≡ w.guest % entry_size (level_of w.leaf)

@@ -2,9 +2,9 @@
 use Rattle.std.specs.Prelude.{ℕ, zero, suc, ◌+◌, ◌*◌, List}
 use Rattle.ept_count.specs.declared.window.Window.{Window}
 use Rattle.ept_count.specs.Pages.{count, is_taken}
-use Rattle.machine_meaning.specs.Walks.{span}
+use Rattle.machine_meaning.specs.Walks.{entry_size}
 
 -- the tables below the n entries from e on of a level, as many as there can be
 unfoldable pub needs : List Window → ℕ → ℕ → ℕ → ℕ
 needs ws zero e n = 0
-needs ws (suc level) e n = count (is_taken ws (span (suc level))) e n + needs ws level (512 * e) (512 * n)
+needs ws (suc level) e n = count (is_taken ws (entry_size (suc level))) e n + needs ws level (512 * e) (512 * n)

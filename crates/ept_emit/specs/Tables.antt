@@ -2,7 +2,7 @@
 -- is in page base + k. A level is that of a table, from 3 of the PML4 table down to 0 of a page table.
 use Rattle.std.specs.Prelude.{◌≡◌, ◌⊎◌, ℕ, zero, suc, ◌+◌, ◌-◌, ◌*◌, ◌/◌, ◌%◌, ◌<◌, ◌≤◌, Bool, true, false, List, Option, Some, None}
 use Rattle.ept_count.specs.declared.window.Window.{Window}
-use Rattle.machine_meaning.specs.Walks.{span}
+use Rattle.machine_meaning.specs.Walks.{entry_size}
 use Rattle.ept_emit.specs.Entries.{is_whole, leaf_entry, table_entry, window_on}
 
 abbrev pub Chosen : Type 0 → Type 0 → Bool → Type 0
@@ -30,9 +30,9 @@ Stands deeper base lo hi level e word (Some w) =
 -- have for these windows, and all tables below lie among lo to hi - 1
 unfoldable pub IsWritten : (ℕ → ℕ) → ℕ → ℕ → ℕ → List Window → ℕ → ℕ → ℕ → Type 0
 IsWritten word base lo hi ws zero table addr =
-    Stands (λ c. ⊥) base lo hi 0 (addr / span 0) (word (512 * table + addr / span 0 % 512)) (window_on ws (span 0 * (addr / span 0)) (span 0))
+    Stands (λ c. ⊥) base lo hi 0 (addr / entry_size 0) (word (512 * table + addr / entry_size 0 % 512)) (window_on ws (entry_size 0 * (addr / entry_size 0)) (entry_size 0))
 IsWritten word base lo hi ws (suc level) table addr =
-    Stands (λ c. IsWritten word base lo hi ws level c addr) base lo hi (suc level) (addr / span (suc level)) (word (512 * table + addr / span (suc level) % 512)) (window_on ws (span (suc level) * (addr / span (suc level))) (span (suc level)))
+    Stands (λ c. IsWritten word base lo hi ws level c addr) base lo hi (suc level) (addr / entry_size (suc level)) (word (512 * table + addr / entry_size (suc level) % 512)) (window_on ws (entry_size (suc level) * (addr / entry_size (suc level))) (entry_size (suc level)))
 
 -- what holds of the table c that an entry references, if it references one
 abbrev pub Leads : (ℕ → Type 0) → ℕ → ℕ → ℕ → Option Window → Type 0
@@ -43,7 +43,7 @@ Leads deeper c level e (Some w) = Chosen ⊥ (deeper c) (is_whole w level e)
 unfoldable pub Below : (ℕ → ℕ) → ℕ → List Window → ℕ → ℕ → ℕ → ℕ → ℕ → Type 0
 Below word base ws zero table addr l k = ⊥
 Below word base ws (suc level) table addr l k =
-    Leads (λ c. ((l ≡ level) × (k ≡ c)) ⊎ Below word base ws level c addr l k) (child base (word (512 * table + addr / span (suc level) % 512))) (suc level) (addr / span (suc level)) (window_on ws (span (suc level) * (addr / span (suc level))) (span (suc level)))
+    Leads (λ c. ((l ≡ level) × (k ≡ c)) ⊎ Below word base ws level c addr l k) (child base (word (512 * table + addr / entry_size (suc level) % 512))) (suc level) (addr / entry_size (suc level)) (window_on ws (entry_size (suc level) * (addr / entry_size (suc level))) (entry_size (suc level)))
 
 -- a walk for some address of a set comes to table k
 pub record IsReached (word : ℕ → ℕ) (base : ℕ) (ws : List Window) (level table : ℕ) (Within : ℕ → Type 0) (k : ℕ) : Type 0 where
@@ -57,6 +57,6 @@ pub record IsReached (word : ℕ → ℕ) (base : ℕ) (ws : List Window) (level
 -- which ascending addresses reach them
 pub record AreNumbered (word : ℕ → ℕ) (base used top : ℕ) (ws : List Window) (level table : ℕ) (Within : ℕ → Type 0) : Type 0 where
   pub written : (g : ℕ) → Within g → IsWritten word base used top ws level table g
-  pub paths : (g h l j k : ℕ) → Within g → Within h → Below word base ws level table g l k → Below word base ws level table h j k → (l ≡ j) × (g / span (suc l) ≡ h / span (suc l))
+  pub paths : (g h l j k : ℕ) → Within g → Within h → Below word base ws level table g l k → Below word base ws level table h j k → (l ≡ j) × (g / entry_size (suc l) ≡ h / entry_size (suc l))
   pub reached : (k : ℕ) → used ≤ k → k < top → IsReached word base ws level table Within k
   pub order : (h l j k : ℕ) → Within h → Below word base ws level table h l k → used ≤ j → j ≤ k → IsReached word base ws level table (λ g. Within g × (g ≤ h)) j

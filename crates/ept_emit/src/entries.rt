@@ -1,7 +1,7 @@
 //! The entries of tables, and which pages map windows.
 ghost use Rattle.std.specs.Prelude.{◌≡◌, ◌≢◌, ℕ, ◌+◌, ◌*◌, ◌^◌, ◌<◌, ◌≤◌, length};
 ghost use Rattle.ept_emit.specs.Entries.{IsEmittable, is_whole, leaf_entry, level_of, table_entry, type_of, word_at};
-ghost use Rattle.machine_meaning.specs.Walks.{span};
+ghost use Rattle.machine_meaning.specs.Walks.{entry_size};
 
 use bitflags::Flags;
 use ept_count::{Leaf, Window};
@@ -33,7 +33,7 @@ const MAPS_PAGE: u64 = 1 << 7;
 /// level 0 that of page tables.
 pub(crate) fn entry_size(level: u32) -> u64
     requires { level < 4 }
-    ensures value { result ≡ span level }
+    ensures value { result ≡ entry_size level }
     ensures small { result ≤ 2 ^ 39 }
     ensures some { 4096 ≤ result }
 {
@@ -74,7 +74,7 @@ fn type_of(caching: Caching) -> u64
 pub(crate) fn is_whole(window: Window, level: u32, entry: u64) -> bool
     requires emittable { IsEmittable window }
     requires level { level < 4 }
-    requires small { span level * entry < 2 ^ 48 }
+    requires small { entry_size level * entry < 2 ^ 48 }
     ensures { result ≡ is_whole window level entry }
 {
     if level == 0 {
@@ -91,7 +91,7 @@ pub(crate) fn is_whole(window: Window, level: u32, entry: u64) -> bool
 pub(crate) fn leaf_entry(window: Window, level: u32, entry: u64) -> u64
     requires emittable { IsEmittable window }
     requires level { level < 4 }
-    requires touched { span level * entry < window.guest + window.size }
+    requires touched { entry_size level * entry < window.guest + window.size }
     ensures { result ≡ leaf_entry window level entry }
 {
     let start = entry_size(level) * entry;

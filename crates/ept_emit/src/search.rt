@@ -3,7 +3,7 @@ ghost use Rattle.std.specs.Prelude.{◌≡◌, ◌+◌, ◌*◌, ◌^◌, ◌<�
 ghost use Rattle.ept_count.specs.Pages.{AreApart};
 ghost use Rattle.ept_emit.specs.Entries.{IsEmittable, window_on};
 ghost use Rattle.ept_emit.specs.Searches.{IsPast};
-ghost use Rattle.machine_meaning.specs.Walks.{span};
+ghost use Rattle.machine_meaning.specs.Walks.{entry_size};
 
 use crate::entries::entry_size;
 use ept_count::Window;
@@ -33,10 +33,10 @@ pub(crate) fn window_on(windows: &[Window], level: u32, entry: u64) -> Option<Wi
     requires emittable { All IsEmittable windows.now }
     requires apart { AreApart windows.now }
     requires level { level < 4 }
-    requires small { span level * entry < 2 ^ 48 }
-    ensures value { result ≡ window_on windows.now (span level * entry) (span level) }
+    requires small { entry_size level * entry < 2 ^ 48 }
+    ensures value { result ≡ window_on windows.now (entry_size level * entry) (entry_size level) }
     ensures emittable { IfSome result IsEmittable }
-    ensures touched { IfSome result (λ w. span level * entry < w.guest + w.size) }
+    ensures touched { IfSome result (λ w. entry_size level * entry < w.guest + w.size) }
 {
     let bytes = entry_size(level);
     let start = bytes * entry;

@@ -6,7 +6,7 @@ ghost use Rattle.ept_emit.specs.Entries.{IsEmittable, word_at};
 ghost use Rattle.ept_emit.specs.Needs.{needs};
 ghost use Rattle.ept_emit.specs.Tables.{AreNumbered, IsWritten};
 ghost use Rattle.machine_meaning.specs.Memory.{Page};
-ghost use Rattle.machine_meaning.specs.Walks.{leaf_size, places_read, span, walk_of};
+ghost use Rattle.machine_meaning.specs.Walks.{leaf_size, addresses_read, entry_size, walk_of};
 ghost use Rattle.muen_num.specs.declared.access.AccessKind.{AccessKind};
 
 use crate::entries::{TABLE_ENTRIES, is_whole, leaf_entry, set_word, table_entry};
@@ -34,11 +34,11 @@ fn write_entry(
     requires level { level < 4 }
     requires base { 4096 * base + length out.old ≤ 2 ^ 40 }
     requires table { table < used }
-    requires entry { span level * (entry + 1) ≤ 2 ^ 48 }
+    requires entry { entry_size level * (entry + 1) ≤ 2 ^ 48 }
     requires room { 4096 * (used + needs windows.now level entry 1) ≤ length out.old }
     ensures few { result ≤ used + needs windows.now level entry 1 }
     ensures more { used ≤ result }
-    ensures numbered { AreNumbered (word_at out.new) base used result windows.now level table (λ g. g / span level ≡ entry) }
+    ensures numbered { AreNumbered (word_at out.new) base used result windows.now level table (λ g. g / entry_size level ≡ entry) }
     ensures rest { (j : ℕ) → j < 512 * used → j ≢ 512 * table + entry % 512 → word_at out.new j ≡ word_at out.old j }
     ensures beyond { (j : ℕ) → 512 * result ≤ j → word_at out.new j ≡ word_at out.old j }
 {
@@ -72,11 +72,11 @@ fn write_table(
     requires level { level < 4 }
     requires base { 4096 * base + length out.old ≤ 2 ^ 40 }
     requires table { table < used }
-    requires parent { span (suc level) * (parent + 1) ≤ 2 ^ 48 }
+    requires parent { entry_size (suc level) * (parent + 1) ≤ 2 ^ 48 }
     requires room { 4096 * (used + needs windows.now level (512 * parent) 512) ≤ length out.old }
     ensures few { result ≤ used + needs windows.now level (512 * parent) 512 }
     ensures more { used ≤ result }
-    ensures numbered { AreNumbered (word_at out.new) base used result windows.now level table (λ g. g / span level / 512 ≡ parent) }
+    ensures numbered { AreNumbered (word_at out.new) base used result windows.now level table (λ g. g / entry_size level / 512 ≡ parent) }
     ensures rest { (j : ℕ) → j < 512 * used → j / 512 ≢ table → word_at out.new j ≡ word_at out.old j }
     ensures beyond { (j : ℕ) → 512 * result ≤ j → word_at out.new j ≡ word_at out.old j }
 {
@@ -111,8 +111,8 @@ pub fn emit(windows: &[Window], at: u64, out: &mut [u8])
     requires end { at + 4096 * ept_pages windows.now ≤ 2 ^ 40 }
     requires room { length out.old ≡ 4096 * ept_pages windows.now }
     ensures walk { (m : List Page) (addr : ℕ) (kind : AccessKind) → HasTables m at out.new → HasAddresses m windows.now → addr < 2 ^ 48 → walk_of m (eptp_of at) addr kind ≡ translation windows.now addr kind }
-    ensures alone { (m : List Page) (addr : ℕ) → HasTables m at out.new → addr < 2 ^ 48 → All (λ address. (at ≤ address) × (address + 8 ≤ at + length out.new)) (places_read m (eptp_of at) addr) }
-    ensures paths { (m : List Page) (a b level other page : ℕ) → HasTables m at out.new → a < 2 ^ 48 → b < 2 ^ 48 → Reads m (eptp_of at) a level page → Reads m (eptp_of at) b other page → (level ≡ other) × (a / span (suc level) ≡ b / span (suc level)) }
+    ensures alone { (m : List Page) (addr : ℕ) → HasTables m at out.new → addr < 2 ^ 48 → All (λ address. (at ≤ address) × (address + 8 ≤ at + length out.new)) (addresses_read m (eptp_of at) addr) }
+    ensures paths { (m : List Page) (a b level other page : ℕ) → HasTables m at out.new → a < 2 ^ 48 → b < 2 ^ 48 → Reads m (eptp_of at) a level page → Reads m (eptp_of at) b other page → (level ≡ other) × (a / entry_size (suc level) ≡ b / entry_size (suc level)) }
     ensures leaves { (m : List Page) (addr : ℕ) → HasTables m at out.new → addr < 2 ^ 48 → IfSome (window_at windows.now addr) (λ w. IsGreatestSize w addr (leaf_size m (eptp_of at) addr)) }
     ensures order { (m : List Page) (addr level page k : ℕ) → HasTables m at out.new → addr < 2 ^ 48 → Reads m (eptp_of at) addr level page → at / 4096 ≤ k → k ≤ page → IsReadBy m (eptp_of at) addr k }
     ensures rest { (m : List Page) (k : ℕ) → HasTables m at out.new → k < ept_pages windows.now → IsReadBy m (eptp_of at) (2 ^ 48 - 1) (at / 4096 + k) ⊎ ((i : ℕ) → i < 512 → word_at out.new (512 * k + i) ≡ 0) }

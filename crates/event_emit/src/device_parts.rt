@@ -3,7 +3,7 @@ ghost use Rattle.std.specs.Prelude.{◌≡◌, ◌+◌, ◌<◌, ◌^◌, true, 
 ghost use Rattle.std.specs.List.{list_all, sum_by};
 ghost use Rattle.event_emit.specs.ByIndex.{AreFew, RouteFew, device_part, device_parts, irq_parts, irq_target, port_span, window_parts};
 ghost use Rattle.event_emit.specs.Tables.{AreDevices};
-ghost use Rattle.expand_grants.specs.ByPlace.{fits_device, fits_ports};
+ghost use Rattle.expand_grants.specs.ByIndex.{fits_device, fits_ports};
 ghost use Rattle.expand_grants.specs.Grants.{route_for};
 
 use crate::event_tables::are_named;

@@ -8,7 +8,7 @@ use Rattle.std.proofs.lemmas.Bool.Decides.{nat_tests}
 use Rattle.std.proofs.lemmas.List.Folds.{find-append}
 use Rattle.muen_num.proofs.Lists.{passes_at, there}
 use Rattle.policy_lawful.specs.MoreRules.{offence_12, offence_6}
-use Rattle.policy_lawful.specs.Resolution.{IsResolved, Resolution, name_at, source_of, subject_named, subject_placed}
+use Rattle.policy_lawful.specs.Resolution.{IsResolved, Resolution, name_at, source_of, subject_named, subject_in_range}
 use Rattle.policy_lawful.specs.declared.resolved.EventSource.{EventSource}
 use Rattle.policy_lawful.specs.declared.resolved.Subject.{Subject}
 use Rattle.policy_meaning.specs.Events.{ChannelEnd, channel_event, event_of, is_call, named_event, same_way, writes_by}
@@ -18,9 +18,9 @@ use Rattle.policy_types.specs.declared.source.Event.{Event}
 use Rattle.policy_types.specs.declared.source.EventSource.{EventSource as NamedSource}
 use Rattle.policy_types.specs.declared.source.SourceWay.{SourceWay}
 use Rattle.policy_types.specs.declared.source.SourceWay.TheVariants.{Call as SourceCall, Trap as SourceTrap}
-use Rattle.policy_views.specs.Views.{end_named, ends_of}
+use Rattle.policy_views.specs.Views.{channel_end_named, channel_ends_of}
 use Rattle.policy_views.specs.declared.view.ChannelEnd.{ChannelEnd}
-use Rattle.policy_views.proofs.EndsByPlace.{ends_by_place, ends_placed}
+use Rattle.policy_views.proofs.EndsByIndex.{ends_by_index, ends_in_range}
 use Rattle.expand_grants.specs.Grants.{entry_raised, is_way, raised_named}
 use Rattle.expand_grants.specs.Raising.{all_readers, all_targets, call_entry, channel_end_entry, entries_of, entry, first_reached, source_entry, way_of, writer_call}
 use Rattle.expand_grants.specs.declared.granted.EventEntry.{EventEntry}
@@ -62,7 +62,7 @@ module _ (way : SourceWay) where
   entry_some : (w : Way) (e : Event) (o : Option Event) (x : Option Reached) → o ≡ Some e → is_some x ≡ true → is_some (option_and_then (λ e. option_map (entry w e.mode) x) o) ≡ true
   entry_some w e o x is some = ap (λ o. is_some (option_and_then (λ (e : Event). option_map (entry w e.mode) x) o)) is ∙ some-map (entry w e.mode) x ∙ some
 
-  module _ (r : Resolution) (q : IsResolved r) (s : Subject) (in_range : subject_placed r s ≡ true) where
+  module _ (r : Resolution) (q : IsResolved r) (s : Subject) (in_range : subject_in_range r s ≡ true) where
     abbrev source_named : EventSource → NamedSource
     source_named e = record { event = name_at (event_names r) e.event; way = e.way }
 
@@ -137,26 +137,26 @@ module _ (way : SourceWay) where
     abbrev is_met : ChannelEnd → Bool
     is_met e = nat_lt e.channel (length r.channels) && raises e
 
-    channel_end_found : list_all is_met (ends_of r s) ≡ true
-        → option_and_then (λ e. channel_event (source_of r) e.channel) (find (λ e. writes_by e e.role way) (map (end_named r) (ends_of r s)))
-        ≡ option_map (raised_named r) (find of_way (filter_map (channel_end_entry r.channels (all_readers r)) (ends_of r s)))
+    channel_end_found : list_all is_met (channel_ends_of r s) ≡ true
+        → option_and_then (λ e. channel_event (source_of r) e.channel) (find (λ e. writes_by e e.role way) (map (channel_end_named r) (channel_ends_of r s)))
+        ≡ option_map (raised_named r) (find of_way (filter_map (channel_end_entry r.channels (all_readers r)) (channel_ends_of r s)))
     channel_end_found met =
-        found_filtered (λ (e : ChannelEnd). writes_by e e.role way) (end_named r) (channel_end_entry r.channels (all_readers r)) of_way (λ e. channel_event (source_of r) e.channel) (raised_named r)
+        found_filtered (λ (e : ChannelEnd). writes_by e e.role way) (channel_end_named r) (channel_end_entry r.channels (all_readers r)) of_way (λ e. channel_event (source_of r) e.channel) (raised_named r)
         is_met
-        (λ e ok. channel_end_way e e.role e.call (writes_by (end_named r e) e.role way) refl)
+        (λ e ok. channel_end_way e e.role e.call (writes_by (channel_end_named r e) e.role way) refl)
         (λ e ok hit. channel_end_some e e.role e.call (and_parts (nat_lt e.channel (length r.channels)) (raises e) ok).1 hit)
         (λ e ok hit. channel_end_is e e.role e.call (ltb-true e.channel (length r.channels) (and_parts (nat_lt e.channel (length r.channels)) (raises e) ok).0) hit)
-        (ends_of r s) met
+        (channel_ends_of r s) met
 
 -- ---- of a subject
 
 -- each end is at a channel, and a writer's call raises an event
-channel_ends_met : (r : Resolution) (k : ℕ) (s : Subject) → IsResolved r → offence_6 (source_of r) ≡ None → slice_get r.subjects k ≡ Some s → subject_placed r s ≡ true
-    → list_all (λ e. nat_lt e.channel (length r.channels) && option_map_or (λ n. is_some (call_entry r.channels (all_readers r) e.channel n)) (writer_call e e.role) true) (ends_of r s) ≡ true
+channel_ends_met : (r : Resolution) (k : ℕ) (s : Subject) → IsResolved r → offence_6 (source_of r) ≡ None → slice_get r.subjects k ≡ Some s → subject_in_range r s ≡ true
+    → list_all (λ e. nat_lt e.channel (length r.channels) && option_map_or (λ n. is_some (call_entry r.channels (all_readers r) e.channel n)) (writer_call e e.role) true) (channel_ends_of r s) ≡ true
 channel_ends_met r k s q lawful at in_range =
-    all_at (λ (e : ChannelEnd). nat_lt e.channel (length r.channels) && option_map_or (λ n. is_some (call_entry r.channels (all_readers r) e.channel n)) (writer_call e e.role) true) (ends_of r s)
+    all_at (λ (e : ChannelEnd). nat_lt e.channel (length r.channels) && option_map_or (λ n. is_some (call_entry r.channels (all_readers r) e.channel n)) (writer_call e e.role) true) (channel_ends_of r s)
     (λ i e in_it.
-    let ok = passes_at (λ e. nat_lt e.channel (length r.channels)) (ends_of r s) i e (ends_placed r s in_range) in_it in
+    let ok = passes_at (λ e. nat_lt e.channel (length r.channels)) (channel_ends_of r s) i e (ends_in_range r s in_range) in_it in
     and_from (nat_lt e.channel (length r.channels)) (option_map_or (λ n. is_some (call_entry r.channels (all_readers r) e.channel n)) (writer_call e e.role) true) ok
     (call_raises r q e.channel (ltb-true e.channel (length r.channels) ok) lawful k i s e at in_range in_it refl))
 
@@ -165,15 +165,15 @@ both_raised f None b = refl
 both_raised f (Some x) b = refl
 
 -- the entries of a subject tell for each way the event that it raises
-pub events_by_index : (r : Resolution) (k : ℕ) (s : Subject) → IsResolved r → offence_6 (source_of r) ≡ None → offence_12 (source_of r) ≡ None → slice_get r.subjects k ≡ Some s → subject_placed r s ≡ true
+pub events_by_index : (r : Resolution) (k : ℕ) (s : Subject) → IsResolved r → offence_6 (source_of r) ≡ None → offence_12 (source_of r) ≡ None → slice_get r.subjects k ≡ Some s → subject_in_range r s ≡ true
     → (way : SourceWay) → entry_raised r (entries_of r s) way ≡ event_of (source_of r) (subject_named r s) way
 unfolding event_of
 events_by_index r k s q lawful_6 lawful_12 at in_range way =
     let by_source = filter_map (source_entry r.events (all_targets r.subjects)) s.sources in
-    let by_channel_end = filter_map (channel_end_entry r.channels (all_readers r)) (ends_of r s) in
+    let by_channel_end = filter_map (channel_end_entry r.channels (all_readers r)) (channel_ends_of r s) in
     ap (option_map (raised_named r)) (find-append (λ e. is_way way e.way) by_source by_channel_end)
     ∙ both_raised (raised_named r) (find (λ e. is_way way e.way) by_source) (find (λ e. is_way way e.way) by_channel_end)
     ∙ ap (λ o. option_or o (option_map (raised_named r) (find (λ e. is_way way e.way) by_channel_end))) (sym (source_found way r q s in_range lawful_12))
     ∙ ap (option_or (option_and_then (λ e. named_event (source_of r) e.event) (find (λ e. same_way e.way way) (subject_named r s).sources)))
     (sym (channel_end_found way r q s in_range (channel_ends_met r k s q lawful_6 at in_range))
-    ∙ ap (λ es. option_and_then (λ (e : ChannelEnd). channel_event (source_of r) e.channel) (find (λ e. writes_by e e.role way) es)) (sym (ends_by_place r s q in_range)))
+    ∙ ap (λ es. option_and_then (λ (e : ChannelEnd). channel_event (source_of r) e.channel) (find (λ e. writes_by e e.role way) es)) (sym (ends_by_index r s q in_range)))

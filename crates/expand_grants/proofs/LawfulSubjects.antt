@@ -6,9 +6,9 @@ use Rattle.std.proofs.lemmas.List.{take_more}
 use Rattle.std.proofs.lemmas.Option.{slice_get_read}
 use Rattle.muen_num.proofs.Lists.{passes_at}
 use Rattle.policy_lawful.specs.Lawful.{IsLawful}
-use Rattle.policy_lawful.specs.Resolution.{IsResolved, Resolution, source_of, subject_placed}
+use Rattle.policy_lawful.specs.Resolution.{IsResolved, Resolution, source_of, subject_in_range}
 use Rattle.policy_lawful.specs.declared.resolved.Subject.{Subject}
-use Rattle.policy_lawful.proofs.SourceElements.{parts_placed}
+use Rattle.policy_lawful.proofs.SourceElements.{parts_in_range}
 use Rattle.expand_grants.specs.ByIndex.{fits_device, fits_msrs, fits_uses}
 use Rattle.expand_grants.specs.Kept.{IsKept}
 use Rattle.expand_grants.specs.Raising.{fits_channel_ends, fits_sources, fits_targets}
@@ -34,7 +34,7 @@ module _ (r : Resolution) (q : IsResolved r) (lawful : IsLawful (source_of r)) w
   -- of one of its subjects
   pub subject_kept : (k : ℕ) (s : Subject) → slice_get r.subjects k ≡ Some s → IsKept r s
   subject_kept k s at =
-      let in_range = passes_at (subject_placed r) r.subjects k s (parts_placed r q.placed).subjects at in
+      let in_range = passes_at (subject_in_range r) r.subjects k s (parts_in_range r q.in_range).subjects at in
       record {
         guests = guests_differ r k s q lawful.rule_4 lawful.rule_5 at in_range;
         ports = ports_by_index r s q in_range;

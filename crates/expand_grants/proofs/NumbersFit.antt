@@ -11,13 +11,13 @@ use Rattle.muen_num.proofs.SearchLaws.{all_pass}
 use Rattle.muen_num.specs.declared.limits.TheConstants.{FIRST_VECTOR, LAST_VECTOR, MOST_CALLS}
 use Rattle.policy_lawful.specs.MoreRules.{are_distinct, are_numbers, are_vectors, call_number, calls_of, has_vector, offence_14, offence_15, trap_reason, vectors_of}
 use Rattle.policy_lawful.specs.Offences.{alone}
-use Rattle.policy_lawful.specs.Resolution.{IsResolved, Resolution, device_named, device_part, name_at, source_of, subject_named, subject_placed}
+use Rattle.policy_lawful.specs.Resolution.{IsResolved, Resolution, device_named, device_part, name_at, source_of, subject_named, subject_in_range}
 use Rattle.policy_lawful.specs.declared.resolved.DeviceUse.{DeviceUse}
 use Rattle.policy_lawful.specs.declared.resolved.EventSource.{EventSource}
 use Rattle.policy_lawful.specs.declared.resolved.EventTarget.{EventTarget}
 use Rattle.policy_lawful.specs.declared.resolved.IrqUse.{IrqUse}
 use Rattle.policy_lawful.specs.declared.resolved.Subject.{Subject}
-use Rattle.policy_lawful.proofs.SourceElements.{parts_placed}
+use Rattle.policy_lawful.proofs.SourceElements.{parts_in_range}
 use Rattle.policy_meaning.specs.Events.{channel_ends}
 use Rattle.policy_types.specs.declared.source.EventSource.{EventSource as NamedSource}
 use Rattle.policy_types.specs.declared.source.EventTarget.{EventTarget as NamedTarget}
@@ -25,8 +25,8 @@ use Rattle.policy_types.specs.declared.source.IrqUse.{IrqUse as NamedIrq}
 use Rattle.policy_types.specs.declared.source.SourceWay.{SourceWay}
 use Rattle.policy_types.specs.declared.source.SourceWay.TheVariants.{Call, Trap}
 use Rattle.policy_types.specs.declared.source.Subject.{Subject as NamedSubject}
-use Rattle.policy_views.specs.Views.{end_named, ends_of}
-use Rattle.policy_views.proofs.EndsByPlace.{ends_by_place}
+use Rattle.policy_views.specs.Views.{channel_end_named, channel_ends_of}
+use Rattle.policy_views.proofs.EndsByIndex.{ends_by_index}
 use Rattle.expand_grants.specs.ByIndex.{fits_irq, fits_use, fits_uses}
 use Rattle.expand_grants.specs.Raising.{fits_channel_end, fits_channel_ends, fits_number, fits_source, fits_sources, fits_target, fits_targets, fits_way}
 use Rattle.expand_grants.proofs.Elements.{all_flat, all_some}
@@ -72,7 +72,7 @@ keeps_14 r s = are_numbers (calls_of (source_of r) s) && are_numbers (filter_map
 abbrev keeps_15 : Resolution → NamedSubject → Bool
 keeps_15 r s = list_all (has_vector (source_of r)) s.targets && are_vectors (vectors_of (source_of r) s)
 
-module _ (r : Resolution) (q : IsResolved r) (s : Subject) (in_range : subject_placed r s ≡ true) where
+module _ (r : Resolution) (q : IsResolved r) (s : Subject) (in_range : subject_in_range r s ≡ true) where
   sources_fit : keeps_14 r (subject_named r s) ≡ true → fits_sources s ≡ true
   sources_fit h =
       let both = and_parts (are_numbers (calls_of (source_of r) (subject_named r s))) (are_numbers (filter_map (λ e. trap_reason e.way) (subject_named r s).sources)) h in
@@ -86,15 +86,15 @@ module _ (r : Resolution) (q : IsResolved r) (s : Subject) (in_range : subject_p
       sym (all_some is_call_number (λ e. trap_reason e.way) (subject_named r s).sources ∙ list_all-map (λ e. option_map_or is_call_number (trap_reason e.way) true) (source_named r) s.sources) ∙ traps in
       each_of (λ e. option_map_or is_call_number (call_number e.way) true) (λ e. option_map_or is_call_number (trap_reason e.way) true) fits_source (λ e a b. way_in e.way a b) s.sources by_call by_trap
 
-  channel_end_calls : keeps_14 r (subject_named r s) ≡ true → list_all (λ e. option_map_or is_call_number e.call true) (ends_of r s) ≡ true
+  channel_end_calls : keeps_14 r (subject_named r s) ≡ true → list_all (λ e. option_map_or is_call_number e.call true) (channel_ends_of r s) ≡ true
   channel_end_calls h =
       let both = and_parts (are_numbers (calls_of (source_of r) (subject_named r s))) (are_numbers (filter_map (λ e. trap_reason e.way) (subject_named r s).sources)) h in
       let calls = (and_parts (list_all is_call_number (calls_of (source_of r) (subject_named r s))) (are_distinct (calls_of (source_of r) (subject_named r s))) both.0).0 in
       let of_ends = (and_parts (list_all is_call_number (filter_map (λ e. call_number e.way) (subject_named r s).sources)) (list_all is_call_number (filter_map (λ e. e.call) (channel_ends (source_of r) (subject_named r s))))
       (sym (list_all-append is_call_number (filter_map (λ e. call_number e.way) (subject_named r s).sources) (filter_map (λ e. e.call) (channel_ends (source_of r) (subject_named r s)))) ∙ calls)).1 in
       sym (all_some is_call_number (λ e. e.call) (channel_ends (source_of r) (subject_named r s))
-      ∙ ap (list_all (λ e. option_map_or is_call_number e.call true)) (ends_by_place r s q in_range)
-      ∙ list_all-map (λ e. option_map_or is_call_number e.call true) (end_named r) (ends_of r s)) ∙ of_ends
+      ∙ ap (list_all (λ e. option_map_or is_call_number e.call true)) (ends_by_index r s q in_range)
+      ∙ list_all-map (λ e. option_map_or is_call_number e.call true) (channel_end_named r) (channel_ends_of r s)) ∙ of_ends
 
   -- the vectors of its targets, its ends and its devices' interrupts
   record Vectors : Type 0 where
@@ -121,10 +121,10 @@ module _ (r : Resolution) (q : IsResolved r) (s : Subject) (in_range : subject_p
   channel_ends_fit : keeps_14 r (subject_named r s) ≡ true → keeps_15 r (subject_named r s) ≡ true → fits_channel_ends r s ≡ true
   channel_ends_fit g h =
       each_of (λ e. option_map_or is_call_number e.call true) (λ e. option_map_or is_vector e.vector true) fits_channel_end
-      (λ e a b. and_from (fits_number e.call) (fits_number e.vector) (call_in e.call a) (vector_in e.vector b)) (ends_of r s) (channel_end_calls g)
+      (λ e a b. and_from (fits_number e.call) (fits_number e.vector) (call_in e.call a) (vector_in e.vector b)) (channel_ends_of r s) (channel_end_calls g)
       (sym (all_some is_vector (λ e. e.vector) (channel_ends (source_of r) (subject_named r s))
-      ∙ ap (list_all (λ e. option_map_or is_vector e.vector true)) (ends_by_place r s q in_range)
-      ∙ list_all-map (λ e. option_map_or is_vector e.vector true) (end_named r) (ends_of r s)) ∙ (vectors h).ends)
+      ∙ ap (list_all (λ e. option_map_or is_vector e.vector true)) (ends_by_index r s q in_range)
+      ∙ list_all-map (λ e. option_map_or is_vector e.vector true) (channel_end_named r) (channel_ends_of r s)) ∙ (vectors h).ends)
 
   use_fits : (d : DeviceUse) → list_all is_vector (map (λ i. i.vector) (device_named r d).irqs) ≡ true → fits_use d ≡ true
   use_fits d h =
@@ -149,18 +149,18 @@ module _ (r : Resolution) (q : IsResolved r) (lawful_14 : offence_14 (source_of 
   all_15 = sym (list_all-map (keeps_15 r) (subject_named r) r.subjects) ∙ all_pass (keeps_15 r) (λ s. alone s.name) (source_of r).subjects lawful_15
 
   pub all_sources_fit : list_all fits_sources r.subjects ≡ true
-  all_sources_fit = each_of (subject_placed r) (λ s. keeps_14 r (subject_named r s)) fits_sources (λ s p h. sources_fit r q s p h) r.subjects (parts_placed r q.placed).subjects all_14
+  all_sources_fit = each_of (subject_in_range r) (λ s. keeps_14 r (subject_named r s)) fits_sources (λ s p h. sources_fit r q s p h) r.subjects (parts_in_range r q.in_range).subjects all_14
 
   pub all_targets_fit : list_all fits_targets r.subjects ≡ true
-  all_targets_fit = each_of (subject_placed r) (λ s. keeps_15 r (subject_named r s)) fits_targets (λ s p h. targets_fit r q s p h) r.subjects (parts_placed r q.placed).subjects all_15
+  all_targets_fit = each_of (subject_in_range r) (λ s. keeps_15 r (subject_named r s)) fits_targets (λ s p h. targets_fit r q s p h) r.subjects (parts_in_range r q.in_range).subjects all_15
 
   pub all_uses_fit : list_all fits_uses r.subjects ≡ true
-  all_uses_fit = each_of (subject_placed r) (λ s. keeps_15 r (subject_named r s)) fits_uses (λ s p h. uses_fit r q s p h) r.subjects (parts_placed r q.placed).subjects all_15
+  all_uses_fit = each_of (subject_in_range r) (λ s. keeps_15 r (subject_named r s)) fits_uses (λ s p h. uses_fit r q s p h) r.subjects (parts_in_range r q.in_range).subjects all_15
 
   both_kept : list_all (λ s. keeps_14 r (subject_named r s) && keeps_15 r (subject_named r s)) r.subjects ≡ true
   both_kept = each_of (λ s. keeps_14 r (subject_named r s)) (λ s. keeps_15 r (subject_named r s)) (λ s. keeps_14 r (subject_named r s) && keeps_15 r (subject_named r s)) (λ s a b. and_from (keeps_14 r (subject_named r s)) (keeps_15 r (subject_named r s)) a b) r.subjects all_14 all_15
 
   pub all_channel_ends_fit : list_all (fits_channel_ends r) r.subjects ≡ true
   all_channel_ends_fit =
-      each_of (subject_placed r) (λ s. keeps_14 r (subject_named r s) && keeps_15 r (subject_named r s)) (fits_channel_ends r)
-      (λ s p h. let b = and_parts (keeps_14 r (subject_named r s)) (keeps_15 r (subject_named r s)) h in channel_ends_fit r q s p b.0 b.1) r.subjects (parts_placed r q.placed).subjects both_kept
+      each_of (subject_in_range r) (λ s. keeps_14 r (subject_named r s) && keeps_15 r (subject_named r s)) (fits_channel_ends r)
+      (λ s p h. let b = and_parts (keeps_14 r (subject_named r s)) (keeps_15 r (subject_named r s)) h in channel_ends_fit r q s p b.0 b.1) r.subjects (parts_in_range r q.in_range).subjects both_kept

@@ -14,14 +14,14 @@ use Rattle.muen_num.proofs.Lists.{there}
 use Rattle.muen_num.proofs.SearchLaws.{none_both, unless_none}
 use Rattle.policy_lawful.specs.MoreRules.{offence_10, ports_apart, ports_offence}
 use Rattle.policy_lawful.specs.Offences.{alone, two}
-use Rattle.policy_lawful.specs.Resolution.{IsResolved, Resolution, device_named, device_part, device_placed, name_at, source_of, subject_named, subject_placed}
+use Rattle.policy_lawful.specs.Resolution.{IsResolved, Resolution, device_named, device_part, device_in_range, name_at, source_of, subject_named, subject_in_range}
 use Rattle.policy_lawful.specs.declared.resolved.DeviceUse.{DeviceUse}
 use Rattle.policy_lawful.specs.declared.resolved.Subject.{Subject}
-use Rattle.policy_lawful.proofs.Places.{found_at_place}
+use Rattle.policy_lawful.proofs.Indexes.{found_at_index}
 use Rattle.policy_lawful.proofs.UniqueNames.{parts_unique, unique}
 use Rattle.policy_types.specs.declared.source.Device.{Device}
 use Rattle.policy_types.specs.declared.source.Ports.{Ports}
-use Rattle.policy_views.proofs.WindowsByPlace.{subject_parts}
+use Rattle.policy_views.proofs.WindowsByIndex.{subject_parts}
 use Rattle.expand_grants.specs.ByIndex.{fits_device, fits_ports, range_at, ranges_at}
 use Rattle.expand_grants.specs.Resources.{device_ranges, port_ranges_of, range_of}
 use Rattle.expand_grants.proofs.Mapped.{filter_maps_same, flat_maps_same}
@@ -32,7 +32,7 @@ module _ (r : Resolution) (q : IsResolved r) where
   -- the device at an index, by its name
   pub device_found : (k : ℕ) → k < length r.devices → find (λ x. bytes_eq x.name (name_at (map (λ x. x.name) r.devices) k)) r.devices ≡ slice_get r.devices k
   unfolding source_of
-  device_found k l = found_at_place (λ x. x.name) r.devices k (unique (source_of r) q.names).devices l
+  device_found k l = found_at_index (λ x. x.name) r.devices k (unique (source_of r) q.names).devices l
 
   -- the range at an index of a device that is there
   range_by_index : (device index : ℕ) (d : Device) → slice_get r.devices device ≡ Some d → nat_lt index (length (map (λ m. m.name) d.io_ports)) ≡ true
@@ -41,11 +41,11 @@ module _ (r : Resolution) (q : IsResolved r) where
   range_by_index device index d is l =
       let many : length (map (λ m. m.name) d.io_ports) ≡ length d.io_ports = length-map d.io_ports (λ m. m.name) in
       let here : index < length (map (λ m. m.name) d.io_ports) = ltb-true index (length (map (λ m. m.name) d.io_ports)) l in
-      ap (option_map range_of) (found_at_place (λ x. x.name) d.io_ports index (parts_unique (source_of r) device d q.names is).io_ports (omega (arith, many, here)))
+      ap (option_map range_of) (found_at_index (λ x. x.name) d.io_ports index (parts_unique (source_of r) device d q.names is).io_ports (omega (arith, many, here)))
       ∙ ap (option_and_then (λ d. option_map range_of (slice_get d.io_ports index))) (sym is)
 
   -- the ranges of a use of a device
-  pub ranges_by_index : (used : DeviceUse) → device_placed r used ≡ true → device_ranges (source_of r) (device_named r used) ≡ ranges_at r.devices used
+  pub ranges_by_index : (used : DeviceUse) → device_in_range r used ≡ true → device_ranges (source_of r) (device_named r used) ≡ ranges_at r.devices used
   unfolding source_of
   ranges_by_index used h =
       let b = and_parts _ _ h in
@@ -66,10 +66,10 @@ module _ (r : Resolution) (q : IsResolved r) where
       used.io_ports c.1
 
 -- the ranges of a subject
-pub ports_by_index : (r : Resolution) (s : Subject) → IsResolved r → subject_placed r s ≡ true → port_ranges_of (source_of r) (subject_named r s) ≡ flat_map (ranges_at r.devices) s.devices
+pub ports_by_index : (r : Resolution) (s : Subject) → IsResolved r → subject_in_range r s ≡ true → port_ranges_of (source_of r) (subject_named r s) ≡ flat_map (ranges_at r.devices) s.devices
 unfolding port_ranges_of
 ports_by_index r s q h =
-    flat_maps_same (device_ranges (source_of r)) (device_named r) (ranges_at r.devices) (device_placed r) (λ used l. ranges_by_index r q used l) s.devices (subject_parts r s h).devices
+    flat_maps_same (device_ranges (source_of r)) (device_named r) (ranges_at r.devices) (device_in_range r) (λ used l. ranges_by_index r q used l) s.devices (subject_parts r s h).devices
 
 -- ---- numbers that fit
 

@@ -12,20 +12,20 @@ use Rattle.muen_num.proofs.SearchLaws.{all_pass}
 use Rattle.muen_num.specs.declared.mode.EventMode.{EventMode}
 use Rattle.policy_lawful.specs.MoreRules.{fits_event, is_connected, is_writer, offence_6, readers_of, writers_of}
 use Rattle.policy_lawful.specs.Offences.{alone}
-use Rattle.policy_lawful.specs.Resolution.{IsResolved, Resolution, name_at, source_of, subject_named, subject_placed}
+use Rattle.policy_lawful.specs.Resolution.{IsResolved, Resolution, name_at, source_of, subject_named, subject_in_range}
 use Rattle.policy_lawful.specs.declared.resolved.Subject.{Subject}
-use Rattle.policy_lawful.proofs.Places.{found_at_place, same_name, same_self}
-use Rattle.policy_lawful.proofs.SourceElements.{parts_placed}
+use Rattle.policy_lawful.proofs.Indexes.{found_at_index, same_name, same_self}
+use Rattle.policy_lawful.proofs.SourceElements.{parts_in_range}
 use Rattle.policy_lawful.proofs.UniqueNames.{unique}
 use Rattle.policy_meaning.specs.Events.{ChannelEnd, channel_ends, channel_event, channel_targets, reads_from}
 use Rattle.policy_types.specs.declared.rights.Role.{Role}
 use Rattle.policy_types.specs.declared.rights.Role.TheVariants.{Reader, Writer}
 use Rattle.policy_types.specs.declared.source.Channel.{Channel}
 use Rattle.policy_types.specs.declared.source.Subject.{Subject as NamedSubject}
-use Rattle.policy_views.specs.Views.{end_named, ends_of}
+use Rattle.policy_views.specs.Views.{channel_end_named, channel_ends_of}
 use Rattle.policy_views.specs.declared.view.ChannelEnd.{ChannelEnd}
-use Rattle.policy_views.proofs.EndsByPlace.{ends_by_place, ends_placed}
-use Rattle.policy_views.proofs.WindowsByPlace.{name_there}
+use Rattle.policy_views.proofs.EndsByIndex.{ends_by_index, ends_in_range}
+use Rattle.policy_views.proofs.WindowsByIndex.{name_there}
 use Rattle.expand_grants.specs.Grants.{raised_named}
 use Rattle.expand_grants.specs.Raising.{all_readers, call_entry, entry, first_reached, reader_reached, subject_readers, writer_call}
 use Rattle.expand_grants.specs.declared.granted.Way.{Way}
@@ -58,7 +58,7 @@ module _ (r : Resolution) (q : IsResolved r) (k : ℕ) (within : k < length r.ch
 
   -- an end of this role
   reads_same : (index : ℕ) (e : ChannelEnd) (role : Role) → nat_lt e.channel (length r.channels) ≡ true
-      → reads_from (end_named r e) role (name_at (channel_names r) k) ≡ option_map_or (λ (x : Reached). x.by == k) (reader_reached index e role) false
+      → reads_from (channel_end_named r e) role (name_at (channel_names r) k) ≡ option_map_or (λ (x : Reached). x.by == k) (reader_reached index e role) false
   reads_same index e Writer ok = refl
   reads_same index e Reader ok = same_channel e.channel ok
 
@@ -69,24 +69,24 @@ module _ (r : Resolution) (q : IsResolved r) (k : ℕ) (within : k < length r.ch
       let same : record { by = e.channel; subject = index; vector = e.vector } ≡ x = cc in
       ap (λ n. record { subject = n; vector = e.vector }) (sym at) ∙ ap (reaches r) same
 
-  of_subject : (index : ℕ) (s : Subject) → slice_get r.subjects index ≡ Some s → subject_placed r s ≡ true
+  of_subject : (index : ℕ) (s : Subject) → slice_get r.subjects index ≡ Some s → subject_in_range r s ≡ true
       → map (λ e. record { subject = s.name; vector = e.vector }) (filter (λ e. reads_from e e.role (name_at (channel_names r) k)) (channel_ends (source_of r) (subject_named r s)))
       ≡ map (reaches r) (filter (λ x. x.by == k) (subject_readers r (index, s)))
   of_subject index s at h =
-      ap (λ es. map (λ (e : ChannelEnd). record { subject = s.name; vector = e.vector }) (filter (λ e. reads_from e e.role (name_at (channel_names r) k)) es)) (ends_by_place r s q h)
-      ∙ filtered_some (λ (e : ChannelEnd). reads_from e e.role (name_at (channel_names r) k)) (end_named r) (λ (x : Reached). x.by == k) (λ e. reader_reached index e e.role)
+      ap (λ es. map (λ (e : ChannelEnd). record { subject = s.name; vector = e.vector }) (filter (λ e. reads_from e e.role (name_at (channel_names r) k)) es)) (ends_by_index r s q h)
+      ∙ filtered_some (λ (e : ChannelEnd). reads_from e e.role (name_at (channel_names r) k)) (channel_end_named r) (λ (x : Reached). x.by == k) (λ e. reader_reached index e e.role)
       (λ e. record { subject = s.name; vector = e.vector }) (reaches r) (λ e. nat_lt e.channel (length r.channels))
       (λ e ok. reads_same index e e.role ok)
       (λ e x is. out_same index s.name (name_there (λ s. s.name) r.subjects index s at) e e.role x is)
-      (ends_of r s) (ends_placed r s h)
+      (channel_ends_of r s) (ends_in_range r s h)
 
   -- the first reader of the channel at an index
   pub first_reader : slice_get (channel_targets (source_of r) (name_at (channel_names r) k)) 0 ≡ option_map (reaches r) (first_reached (all_readers r) k)
   unfolding source_of
   first_reader =
       first_by_index (λ t. map (λ e. record { subject = t.name; vector = e.vector }) (filter (λ e. reads_from e e.role (name_at (channel_names r) k)) (channel_ends (source_of r) t)))
-      (subject_named r) (λ (x : Reached). x.by == k) (subject_readers r) (reaches r) (subject_placed r) r.subjects
-      (λ index s at h. of_subject index s at h) (parts_placed r q.placed).subjects
+      (subject_named r) (λ (x : Reached). x.by == k) (subject_readers r) (reaches r) (subject_in_range r) r.subjects
+      (λ index s at h. of_subject index s at h) (parts_in_range r q.in_range).subjects
 
   -- the event of the channel at an index, by its name
   pub channel_by_index : (n : ℕ) → channel_event (source_of r) (name_at (channel_names r) k) ≡ option_map (raised_named r) (call_entry r.channels (all_readers r) k n)
@@ -94,7 +94,7 @@ module _ (r : Resolution) (q : IsResolved r) (k : ℕ) (within : k < length r.ch
   channel_by_index n =
       let at = there r.channels k within in
       ap (option_and_then (λ (c : Channel). option_and_then (λ m. option_map (λ t. record { mode = m; target = t }) (slice_get (channel_targets (source_of r) (name_at (channel_names r) k)) 0)) c.has_event))
-      (found_at_place (λ x. x.name) r.channels k (unique (source_of r) q.names).channels within ∙ at.1)
+      (found_at_index (λ x. x.name) r.channels k (unique (source_of r) q.names).channels within ∙ at.1)
       ∙ ap (λ o. option_and_then (λ m. option_map (λ t. record { mode = m; target = t }) o) at.0.has_event) first_reader
       ∙ raised_in r (Call n) at.0.has_event (first_reached (all_readers r) k)
       ∙ ap (λ o. option_map (raised_named r) (option_and_then (λ (c : Channel). option_and_then (λ mode. option_map (entry (Call n) mode) (first_reached (all_readers r) k)) c.has_event) o)) (sym at.1)
@@ -132,8 +132,8 @@ module _ (r : Resolution) (q : IsResolved r) (k : ℕ) (within : k < length r.ch
 
   -- what is told of each writer of the channel is told of an end that writes it
   pub writer_tells : (t : List ℕ × ChannelEnd → Bool) → list_all t (writers_of (source_of r) (name_at (channel_names r) k)) ≡ true
-      → (j i : ℕ) (s : Subject) (e : ChannelEnd) → slice_get r.subjects j ≡ Some s → subject_placed r s ≡ true → slice_get (ends_of r s) i ≡ Some e → e.channel ≡ k
-      → (not (is_writer e.role) || t (s.name, end_named r e)) ≡ true
+      → (j i : ℕ) (s : Subject) (e : ChannelEnd) → slice_get r.subjects j ≡ Some s → subject_in_range r s ≡ true → slice_get (channel_ends_of r s) i ≡ Some e → e.channel ≡ k
+      → (not (is_writer e.role) || t (s.name, channel_end_named r e)) ≡ true
   unfolding source_of
   writer_tells t all j i s e at h in_it here =
       let p = source_of r in
@@ -147,12 +147,12 @@ module _ (r : Resolution) (q : IsResolved r) (k : ℕ) (within : k < length r.ch
       let by_channel_end : list_all (λ (x : ChannelEnd). not (bytes_eq x.channel name) || t' (s.name, x)) (channel_ends p (subject_named r s)) ≡ true =
       sym (list_all-map t' (λ x. (s.name, x)) (filter (λ e. bytes_eq e.channel name) (channel_ends p (subject_named r s)))
       ∙ all_filter (λ x. t' (s.name, x)) (λ e. bytes_eq e.channel name) (channel_ends p (subject_named r s))) ∙ one in
-      let by_index : list_all (λ x. not (bytes_eq (end_named r x).channel name) || t' (s.name, end_named r x)) (ends_of r s) ≡ true =
-      sym (ap (list_all (λ (x : ChannelEnd). not (bytes_eq x.channel name) || t' (s.name, x))) (ends_by_place r s q h)
-      ∙ list_all-map (λ (x : ChannelEnd). not (bytes_eq x.channel name) || t' (s.name, x)) (end_named r) (ends_of r s)) ∙ by_channel_end in
-      let mine = passes_at (λ x. not (bytes_eq (end_named r x).channel name) || t' (s.name, end_named r x)) (ends_of r s) i e by_index in_it in
+      let by_index : list_all (λ x. not (bytes_eq (channel_end_named r x).channel name) || t' (s.name, channel_end_named r x)) (channel_ends_of r s) ≡ true =
+      sym (ap (list_all (λ (x : ChannelEnd). not (bytes_eq x.channel name) || t' (s.name, x))) (ends_by_index r s q h)
+      ∙ list_all-map (λ (x : ChannelEnd). not (bytes_eq x.channel name) || t' (s.name, x)) (channel_end_named r) (channel_ends_of r s)) ∙ by_channel_end in
+      let mine = passes_at (λ x. not (bytes_eq (channel_end_named r x).channel name) || t' (s.name, channel_end_named r x)) (channel_ends_of r s) i e by_index in_it in
       let same : bytes_eq (name_at (channel_names r) e.channel) name ≡ true = ap (λ n. bytes_eq (name_at (channel_names r) n) name) here ∙ same_self name in
-      ap (λ b. not b || t' (s.name, end_named r e)) (sym same) ∙ mine
+      ap (λ b. not b || t' (s.name, channel_end_named r e)) (sym same) ∙ mine
 
   -- a writer's call raises an event
   raises : (e : ChannelEnd) (c : Channel) (m : Option EventMode) (role : Role) (call : Option ℕ)
@@ -184,7 +184,7 @@ module _ (r : Resolution) (q : IsResolved r) (k : ℕ) (within : k < length r.ch
       sym (some-map (reaches r) (first_reached (all_readers r) k)) ∙ ap is_some (sym first_reader)
       ∙ first_there (readers_of (source_of r) (name_at (channel_names r) k)) (channel_targets (source_of r) (name_at (channel_names r) k)) (many_readers (name_at (channel_names r) k)) h
 
-  pub call_raises : offence_6 (source_of r) ≡ None → (j i : ℕ) (s : Subject) (e : ChannelEnd) → slice_get r.subjects j ≡ Some s → subject_placed r s ≡ true → slice_get (ends_of r s) i ≡ Some e → e.channel ≡ k
+  pub call_raises : offence_6 (source_of r) ≡ None → (j i : ℕ) (s : Subject) (e : ChannelEnd) → slice_get r.subjects j ≡ Some s → subject_in_range r s ≡ true → slice_get (channel_ends_of r s) i ≡ Some e → e.channel ≡ k
       → option_map_or (λ n. is_some (call_entry r.channels (all_readers r) k n)) (writer_call e e.role) true ≡ true
   unfolding source_of offence_6
   call_raises lawful j i s e at h in_it here =

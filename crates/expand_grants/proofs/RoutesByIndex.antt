@@ -7,18 +7,18 @@ use Rattle.std.specs.Str.{bytes_eq}
 use Rattle.std.proofs.lemmas.Bool.{and_parts, ltb-true}
 use Rattle.std.proofs.lemmas.Bool.Decides.{nat_tests}
 use Rattle.std.proofs.lemmas.List.{length-map}
-use Rattle.policy_lawful.specs.Resolution.{IsResolved, Resolution, device_named, device_part, device_placed, name_at, source_of, subject_named, subject_placed}
+use Rattle.policy_lawful.specs.Resolution.{IsResolved, Resolution, device_named, device_part, device_in_range, name_at, source_of, subject_named, subject_in_range}
 use Rattle.policy_lawful.specs.declared.resolved.DeviceUse.{DeviceUse}
 use Rattle.policy_lawful.specs.declared.resolved.IrqUse.{IrqUse}
 use Rattle.policy_lawful.specs.declared.resolved.Subject.{Subject}
-use Rattle.policy_lawful.proofs.Places.{same_name}
-use Rattle.policy_lawful.proofs.SourceElements.{parts_placed}
+use Rattle.policy_lawful.proofs.Indexes.{same_name}
+use Rattle.policy_lawful.proofs.SourceElements.{parts_in_range}
 use Rattle.policy_lawful.proofs.UniqueNames.{parts_unique, unique}
 use Rattle.policy_meaning.specs.Events.{Target, irq_of}
 use Rattle.policy_types.specs.declared.source.Device.{Device}
 use Rattle.policy_types.specs.declared.source.Irq.{Irq}
 use Rattle.policy_types.specs.declared.source.IrqUse.{IrqUse as NamedIrq}
-use Rattle.policy_views.proofs.WindowsByPlace.{name_there, subject_parts, within_names}
+use Rattle.policy_views.proofs.WindowsByIndex.{name_there, subject_parts, within_names}
 use Rattle.expand_grants.specs.ByIndex.{all_routes, device_routes, route, subject_routes}
 use Rattle.expand_grants.specs.Grants.{AreRoutes, routed, target_named}
 use Rattle.expand_grants.specs.declared.granted.Route.{Route}
@@ -71,7 +71,7 @@ module _ (r : Resolution) (q : IsResolved r) (device irq : ℕ) (d : Device) (i 
   is_wanted t = (t.device == device) && (t.irq == irq)
 
   -- of what a subject is granted of a device
-  of_use : (index : ℕ) (name : List ℕ) → name_at (map (λ s. s.name) r.subjects) index ≡ name → (used : DeviceUse) → device_placed r used ≡ true
+  of_use : (index : ℕ) (name : List ℕ) → name_at (map (λ s. s.name) r.subjects) index ≡ name → (used : DeviceUse) → device_in_range r used ≡ true
       → map (λ x. record { subject = name; vector = Some x.vector }) (filter (λ x. bytes_eq (device_named r used).device d.name && bytes_eq x.irq i.name) (device_named r used).irqs)
       ≡ map (goes r) (filter is_wanted (device_routes index used))
   of_use index name at used h =
@@ -84,12 +84,12 @@ module _ (r : Resolution) (q : IsResolved r) (device irq : ℕ) (d : Device) (i 
       (λ x. ap (λ n. record { subject = n; vector = Some x.vector }) (sym at))
       used.irqs b.1
 
-  of_subject : (index : ℕ) (s : Subject) → slice_get r.subjects index ≡ Some s → subject_placed r s ≡ true
+  of_subject : (index : ℕ) (s : Subject) → slice_get r.subjects index ≡ Some s → subject_in_range r s ≡ true
       → flat_map (λ u. map (λ x. record { subject = (subject_named r s).name; vector = Some x.vector }) (filter (λ x. bytes_eq u.device d.name && bytes_eq x.irq i.name) u.irqs)) (subject_named r s).devices
       ≡ map (goes r) (filter is_wanted (subject_routes (index, s)))
   of_subject index s at h =
       flat_filtered (λ u. map (λ x. record { subject = s.name; vector = Some x.vector }) (filter (λ x. bytes_eq u.device d.name && bytes_eq x.irq i.name) u.irqs)) (device_named r)
-      is_wanted (device_routes index) (goes r) (device_placed r)
+      is_wanted (device_routes index) (goes r) (device_in_range r)
       (λ used ok. of_use index s.name (name_there (λ s. s.name) r.subjects index s at) used ok)
       s.devices (subject_parts r s h).devices
 
@@ -97,8 +97,8 @@ module _ (r : Resolution) (q : IsResolved r) (device irq : ℕ) (d : Device) (i 
   unfolding irq_of source_of
   irq_by_index =
       sym (first_by_index (λ s. flat_map (λ u. map (λ x. record { subject = s.name; vector = Some x.vector }) (filter (λ x. bytes_eq u.device d.name && bytes_eq x.irq i.name) u.irqs)) s.devices)
-      (subject_named r) is_wanted subject_routes (goes r) (subject_placed r) r.subjects
-      (λ k s at h. of_subject k s at h) (parts_placed r q.placed).subjects)
+      (subject_named r) is_wanted subject_routes (goes r) (subject_in_range r) r.subjects
+      (λ k s at h. of_subject k s at h) (parts_in_range r q.in_range).subjects)
 
 pub routes_by_index : (r : Resolution) (routes : List Route) → IsResolved r → routes ≡ all_routes r.subjects → AreRoutes r routes
 routes_by_index r routes q same = λ device irq d i is in_it. ap (λ ts. routed r ts device irq) same ∙ irq_by_index r q device irq d i is in_it

@@ -8,17 +8,17 @@ use Rattle.muen_num.proofs.Lists.{passes_at, there}
 use Rattle.muen_num.proofs.SearchLaws.{all_pass}
 use Rattle.policy_lawful.specs.MoreRules.{offence_12, sources_of, targets_of}
 use Rattle.policy_lawful.specs.Offences.{alone}
-use Rattle.policy_lawful.specs.Resolution.{IsResolved, Resolution, name_at, source_of, subject_named, subject_placed}
+use Rattle.policy_lawful.specs.Resolution.{IsResolved, Resolution, name_at, source_of, subject_named, subject_in_range}
 use Rattle.policy_lawful.specs.declared.resolved.EventTarget.{EventTarget}
 use Rattle.policy_lawful.specs.declared.resolved.Subject.{Subject}
-use Rattle.policy_lawful.proofs.Places.{found_at_place, same_name}
-use Rattle.policy_lawful.proofs.SourceElements.{parts_placed}
+use Rattle.policy_lawful.proofs.Indexes.{found_at_index, same_name}
+use Rattle.policy_lawful.proofs.SourceElements.{parts_in_range}
 use Rattle.policy_lawful.proofs.UniqueNames.{unique}
 use Rattle.policy_meaning.specs.Events.{Target, event_targets, named_event}
 use Rattle.policy_types.specs.declared.source.Event.{Event}
 use Rattle.policy_types.specs.declared.source.EventTarget.{EventTarget as NamedTarget}
 use Rattle.policy_types.specs.declared.source.Subject.{Subject as NamedSubject}
-use Rattle.policy_views.proofs.WindowsByPlace.{name_there}
+use Rattle.policy_views.proofs.WindowsByIndex.{name_there}
 use Rattle.expand_grants.specs.Grants.{raised_named, target_named}
 use Rattle.expand_grants.specs.Raising.{all_targets, entry, first_reached, subject_targets, target_reached}
 use Rattle.expand_grants.specs.declared.granted.Way.{Way}
@@ -49,7 +49,7 @@ module _ (r : Resolution) (q : IsResolved r) (k : ℕ) (within : k < length r.ev
       let here : j < length r.events = ltb-true j (length r.events) ok in
       same_name (event_names r) j k (unique (source_of r) q.names).events (omega (arith, many, here)) (omega (arith, many, within))
 
-  of_subject : (index : ℕ) (s : Subject) → slice_get r.subjects index ≡ Some s → subject_placed r s ≡ true
+  of_subject : (index : ℕ) (s : Subject) → slice_get r.subjects index ≡ Some s → subject_in_range r s ≡ true
       → map (λ e. record { subject = s.name; vector = e.vector }) (filter (λ e. bytes_eq e.event (name_at (event_names r) k)) (subject_named r s).targets)
       ≡ map (reaches r) (filter (λ x. x.by == k) (subject_targets (index, s)))
   of_subject index s at h =
@@ -64,8 +64,8 @@ module _ (r : Resolution) (q : IsResolved r) (k : ℕ) (within : k < length r.ev
   unfolding source_of
   first_target =
       first_by_index (λ t. map (λ e. record { subject = t.name; vector = e.vector }) (filter (λ e. bytes_eq e.event (name_at (event_names r) k)) t.targets))
-      (subject_named r) (λ (x : Reached). x.by == k) subject_targets (reaches r) (subject_placed r) r.subjects
-      (λ index s at h. of_subject index s at h) (parts_placed r q.placed).subjects
+      (subject_named r) (λ (x : Reached). x.by == k) subject_targets (reaches r) (subject_in_range r) r.subjects
+      (λ index s at h. of_subject index s at h) (parts_in_range r q.in_range).subjects
 
   -- the event at an index, by its name
   pub event_by_index : (way : Way) → named_event (source_of r) (name_at (event_names r) k)
@@ -74,7 +74,7 @@ module _ (r : Resolution) (q : IsResolved r) (k : ℕ) (within : k < length r.ev
   event_by_index way =
       let at = there r.events k within in
       ap (option_and_then (λ (e : Event). option_map (λ t. record { mode = e.mode; target = t }) (slice_get (event_targets (source_of r) (name_at (event_names r) k)) 0)))
-      (found_at_place (λ x. x.name) r.events k (unique (source_of r) q.names).events within ∙ at.1)
+      (found_at_index (λ x. x.name) r.events k (unique (source_of r) q.names).events within ∙ at.1)
       ∙ ap (option_map (λ t. record { mode = at.0.mode; target = t })) first_target
       ∙ raised_by r way at.0 (first_reached (all_targets r.subjects) k)
       ∙ ap (λ o. option_map (raised_named r) (option_and_then (λ (e : Event). option_map (entry way e.mode) (first_reached (all_targets r.subjects) k)) o)) (sym at.1)

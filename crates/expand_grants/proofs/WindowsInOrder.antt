@@ -12,14 +12,14 @@ use Rattle.std.proofs.lemmas.Option.{slice_get-get_or}
 use Rattle.muen_num.proofs.FirstPair.{pairs_at}
 use Rattle.muen_num.proofs.Lists.{passes_at}
 use Rattle.muen_num.proofs.SearchLaws.{unless_none}
-use Rattle.policy_lawful.specs.Resolution.{IsResolved, Resolution, source_of, subject_named, subject_placed}
+use Rattle.policy_lawful.specs.Resolution.{IsResolved, Resolution, source_of, subject_named, subject_in_range}
 use Rattle.policy_lawful.specs.Rules.{are_apart, first_overlap, is_guest, offence_4, offence_5, overlapping, window_extents}
 use Rattle.policy_lawful.specs.declared.offence.Extent.{Extent}
 use Rattle.policy_lawful.specs.declared.resolved.Subject.{Subject}
 use Rattle.policy_lawful.proofs.KeptAddresses.{addresses_kept}
 use Rattle.policy_views.specs.Views.{view_extent, views_of}
 use Rattle.policy_views.specs.declared.view.View.{View}
-use Rattle.policy_views.proofs.ExtentsByPlace.{extents_by_place}
+use Rattle.policy_views.proofs.ExtentsByIndex.{extents_by_index}
 use Rattle.expand_grants.specs.Grants.{is_lower}
 use Rattle.expand_grants.specs.Kept.{same_guest}
 use Rattle.expand_grants.specs.Ordered.{in_order}
@@ -95,12 +95,12 @@ extents_differ views ranges none =
     (unless_none _ _ apart))
 
 -- the windows of a subject are at different guest addresses
-pub guests_differ : (r : Resolution) (k : ℕ) (s : Subject) → IsResolved r → offence_4 (source_of r) ≡ None → offence_5 (source_of r) ≡ None → slice_get r.subjects k ≡ Some s → subject_placed r s ≡ true
+pub guests_differ : (r : Resolution) (k : ℕ) (s : Subject) → IsResolved r → offence_4 (source_of r) ≡ None → offence_5 (source_of r) ≡ None → slice_get r.subjects k ≡ Some s → subject_in_range r s ≡ true
     → IsDistinct same_guest (views_of r s)
 unfolding source_of offence_5
 guests_differ r k s q lawful_4 lawful_5 at in_range =
     let p = source_of r in
-    let by_index = extents_by_place r s q in_range in
+    let by_index = extents_by_index r s q in_range in
     let ranges = passes_at (λ s. list_all (λ e. is_guest e.address e.size) (window_extents p (subject_named r s))) r.subjects k s
     (sym (list_all-map (λ s. list_all (λ e. is_guest e.address e.size) (window_extents p s)) (subject_named r) r.subjects) ∙ (addresses_kept p lawful_4).windows) at in
     let none = none_there (λ s. first_overlap (window_extents p s)) (subject_named r) r.subjects k s lawful_5 at in

@@ -17,7 +17,7 @@ use Rattle.policy_types.specs.declared.source.Channel.{Channel}
 use Rattle.policy_types.specs.declared.source.Event.{Event}
 use Rattle.policy_types.specs.declared.source.SourceWay.{SourceWay}
 use Rattle.policy_types.specs.declared.source.SourceWay.TheVariants.{Call as SourceCall, Trap as SourceTrap}
-use Rattle.policy_views.specs.Views.{ends_of}
+use Rattle.policy_views.specs.Views.{channel_ends_of}
 use Rattle.policy_views.specs.declared.view.ChannelEnd.{ChannelEnd}
 
 -- ---- subjects that are reached
@@ -39,7 +39,7 @@ reader_reached index e Writer = None
 
 -- by the ends of a subject with its index
 abbrev pub subject_readers : Resolution → ℕ × Subject → List Reached
-subject_readers r (index, s) = filter_map (λ e. reader_reached index e e.role) (ends_of r s)
+subject_readers r (index, s) = filter_map (λ e. reader_reached index e e.role) (channel_ends_of r s)
 
 abbrev pub all_readers : Resolution → List Reached
 all_readers r = flat_map (subject_readers r) (enumerate_from 0 r.subjects)
@@ -78,7 +78,7 @@ channel_end_entry channels readers e = option_and_then (call_entry channels read
 abbrev pub entries_of : Resolution → Subject → List EventEntry
 entries_of r s =
     filter_map (source_entry r.events (all_targets r.subjects)) s.sources
-    ++ filter_map (channel_end_entry r.channels (all_readers r)) (ends_of r s)
+    ++ filter_map (channel_end_entry r.channels (all_readers r)) (channel_ends_of r s)
 
 -- ---- numbers that fit
 
@@ -95,7 +95,7 @@ abbrev pub fits_channel_end : ChannelEnd → Bool
 fits_channel_end e = fits_number e.call && fits_number e.vector
 
 abbrev pub fits_channel_ends : Resolution → Subject → Bool
-fits_channel_ends r s = list_all fits_channel_end (ends_of r s)
+fits_channel_ends r s = list_all fits_channel_end (channel_ends_of r s)
 
 abbrev pub fits_way : SourceWay → Bool
 fits_way (SourceCall n) = nat_lt n (2 ^ 8)

@@ -11,7 +11,7 @@ use policy_lawful::Resolved;
 use policy_lawful::resolved::{EventSource, Subject};
 use policy_types::Role;
 use policy_types::source::{Channel, Event, SourceWay};
-use policy_views::{ChannelEnd, ends};
+use policy_views::{ChannelEnd, channel_ends};
 use std::alloc::Global;
 
 fn way_of(way: SourceWay) -> Way
@@ -141,7 +141,7 @@ pub(crate) fn entries_of(
         targets,
         subject.sources.items(),
     )?;
-    let ends = ends(alloc, policy, subject)?;
+    let ends = channel_ends(alloc, policy, subject)?;
     add_channel_ends(&mut entries, policy.channels(), readers, &ends)?;
     Ok(Seq::of(entries))
 }

@@ -9,7 +9,7 @@ use muen_num::NoMemory;
 use policy_lawful::Resolved;
 use policy_lawful::resolved::{EventTarget, Subject};
 use policy_types::Role;
-use policy_views::{ChannelEnd, ends};
+use policy_views::{ChannelEnd, channel_ends};
 use std::alloc::Global;
 
 /// A subject that is reached.
@@ -108,7 +108,7 @@ pub(crate) fn all_readers(alloc: Global, policy: &Resolved) -> Result<Vec<Reache
 {
     let mut noted = Vec::new(alloc);
     for (index, subject) in policy.subjects().iter().enumerate() {
-        let ends = ends(alloc, policy, subject)?;
+        let ends = channel_ends(alloc, policy, subject)?;
         note_readers(&mut noted, index, &ends)?;
     }
     Ok(noted)

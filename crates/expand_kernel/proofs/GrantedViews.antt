@@ -16,15 +16,15 @@ use Rattle.expand_kernel.proofs.TablePages.{pages_permuted}
 use Rattle.muen_num.proofs.FirstPair.{pairs_at}
 use Rattle.muen_num.proofs.Lists.{map-map}
 use Rattle.muen_num.proofs.SearchLaws.{unless_none}
-use Rattle.policy_lawful.specs.Resolution.{IsResolved, Resolution, source_of, subject_named, subject_placed}
+use Rattle.policy_lawful.specs.Resolution.{IsResolved, Resolution, source_of, subject_named, subject_in_range}
 use Rattle.policy_lawful.specs.Rules.{are_apart, first_overlap, is_guest, overlapping, window_extents}
 use Rattle.policy_lawful.specs.Offences.{two}
 use Rattle.policy_lawful.specs.declared.resolved.Subject.{Subject}
 use Rattle.policy_meaning.specs.Windows.{windows_of}
 use Rattle.policy_views.specs.Views.{view_extent, view_window, views_of}
 use Rattle.policy_views.specs.declared.view.View.{View}
-use Rattle.policy_views.proofs.ExtentsByPlace.{extents_by_place}
-use Rattle.policy_views.proofs.WindowsByPlace.{windows_by_place}
+use Rattle.policy_views.proofs.ExtentsByIndex.{extents_by_index}
+use Rattle.policy_views.proofs.WindowsByIndex.{windows_by_index}
 
 -- ---- pairs of a list that is mapped
 
@@ -81,12 +81,12 @@ can_map_in_order vs guests none =
 
 -- ---- of a subject
 
-module _ (r : Resolution) (q : IsResolved r) (s : Subject) (in_range : subject_placed r s ≡ true) where
+module _ (r : Resolution) (q : IsResolved r) (s : Subject) (in_range : subject_in_range r s ≡ true) where
   -- its windows are as rules 4 and 5 say
   pub can_map_views : list_all (λ e. is_guest e.address e.size) (window_extents (source_of r) (subject_named r s)) ≡ true
       → first_overlap (window_extents (source_of r) (subject_named r s)) ≡ None → CanMap (in_order is_lower (views_of r s))
   can_map_views guests none =
-      let same = extents_by_place r s q in_range in
+      let same = extents_by_index r s q in_range in
       can_map_in_order (views_of r s) (sym (ap (list_all (λ e. is_guest e.address e.size)) same) ∙ guests) (sym (ap first_overlap same) ∙ none)
 
   -- in order or not, by name or by index
@@ -94,6 +94,6 @@ module _ (r : Resolution) (q : IsResolved r) (s : Subject) (in_range : subject_p
   pages_of_views =
       let vs = views_of r s in
       let named : map mapped_window (windows_of (source_of r) (subject_named r s)) ≡ mapped_views vs =
-      ap (map mapped_window) (windows_by_place r s q in_range) ∙ map-map mapped_window (view_window r s.name) vs in
+      ap (map mapped_window) (windows_by_index r s q in_range) ∙ map-map mapped_window (view_window r s.name) vs in
       sym (pages_permuted (mapped_views vs) (mapped_views (in_order is_lower vs)) (IsPermutation-map mapped_view vs (in_order is_lower vs) (in_order_permutes is_lower vs)))
       ∙ sym (λ i. ept_pages (named i))

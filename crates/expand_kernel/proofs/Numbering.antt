@@ -14,11 +14,11 @@ use Rattle.ept_count.specs.Pages.{ept_pages}
 use Rattle.muen_num.specs.Search.{first_in}
 use Rattle.muen_num.proofs.SearchLaws.{none_both}
 use Rattle.policy_lawful.specs.Lawful.{IsLawful}
-use Rattle.policy_lawful.specs.Resolution.{IsResolved, Resolution, source_of, subject_named, subject_placed}
+use Rattle.policy_lawful.specs.Resolution.{IsResolved, Resolution, source_of, subject_named, subject_in_range}
 use Rattle.policy_lawful.specs.Rules.{first_overlap, is_guest, offence_5, window_extents}
 use Rattle.policy_lawful.specs.declared.resolved.Subject.{Subject}
 use Rattle.policy_lawful.proofs.KeptAddresses.{addresses_kept}
-use Rattle.policy_lawful.proofs.SourceElements.{parts_placed}
+use Rattle.policy_lawful.proofs.SourceElements.{parts_in_range}
 use Rattle.policy_types.specs.declared.source.Subject.{Subject as NamedSubject}
 
 -- each window of a subject is a range of guest addresses
@@ -27,7 +27,7 @@ are_guests r s = list_all (λ e. is_guest e.address e.size) (window_extents (sou
 
 module _ (r : Resolution) (q : IsResolved r) where
   -- each subject's views can be mapped
-  can_map_each : (ss : List Subject) (gs : List Grants) → AllZip (AreGrantsOf r) ss gs → list_all (subject_placed r) ss ≡ true
+  can_map_each : (ss : List Subject) (gs : List Grants) → AllZip (AreGrantsOf r) ss gs → list_all (subject_in_range r) ss ≡ true
       → list_all (are_guests r) (map (subject_named r) ss) ≡ true → first_in (λ s. first_overlap (window_extents (source_of r) s)) (map (subject_named r) ss) ≡ None
       → AllByRecursion (λ g. CanMap g.views) gs
   can_map_each [] [] granted in_range guests none = tt
@@ -40,7 +40,7 @@ module _ (r : Resolution) (q : IsResolved r) where
       (rw granted.0.views (can_map_views r q s p.0 a.0 n.0), can_map_each ss gs granted.1 p.1 a.1 n.1)
 
   -- and the kernel's regions are by its windows
-  kernel_by_index : (ss : List Subject) (gs : List Grants) → AllZip (AreGrantsOf r) ss gs → list_all (subject_placed r) ss ≡ true
+  kernel_by_index : (ss : List Subject) (gs : List Grants) → AllZip (AreGrantsOf r) ss gs → list_all (subject_in_range r) ss ≡ true
       → kernel_for_each ss gs ≡ flat_map (kernel_regions_of (source_of r)) (map (subject_named r) ss)
   unfolding kernel_for_each
   kernel_by_index [] [] granted in_range = refl
@@ -56,14 +56,14 @@ pub can_map_granted : (r : Resolution) (gs : List Grants) → IsResolved r → I
 unfolding offence_5 source_of
 can_map_granted r gs q lawful granted =
     All-from_recursion (λ g. CanMap g.views) gs
-    (can_map_each r q r.subjects gs granted (parts_placed r q.placed).subjects (addresses_kept (source_of r) lawful.rule_4).windows lawful.rule_5)
+    (can_map_each r q r.subjects gs granted (parts_in_range r q.in_range).subjects (addresses_kept (source_of r) lawful.rule_4).windows lawful.rule_5)
 
 -- the regions of a policy by number
 pub regions_by_index : (r : Resolution) (gs : List Grants) → IsResolved r → AreGrants r gs
     → map own_region r.memory ++ map channel_region r.channels ++ flat_map (brought_at r.components) r.subjects ++ kernel_for_each r.subjects gs ≡ regions_of (source_of r)
 unfolding regions_of source_of
 regions_by_index r gs q granted =
-    let in_range = (parts_placed r q.placed).subjects in
+    let in_range = (parts_in_range r q.in_range).subjects in
     λ i. map own_region r.memory ++ map channel_region r.channels ++ sym (brought_by_index r q r.subjects in_range) i ++ kernel_by_index r q r.subjects gs granted in_range i
 
 -- the same, where they were joined one list after the other

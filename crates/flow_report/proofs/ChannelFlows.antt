@@ -7,17 +7,17 @@ use Rattle.std.specs.Str.{bytes_eq}
 use Rattle.std.proofs.lemmas.Bool.{ltb-true}
 use Rattle.std.proofs.lemmas.List.{length-map}
 use Rattle.muen_num.proofs.Lists.{list_any-map}
-use Rattle.policy_lawful.specs.Resolution.{IsResolved, Resolution, name_at, source_of, subject_named, subject_placed}
+use Rattle.policy_lawful.specs.Resolution.{IsResolved, Resolution, name_at, source_of, subject_named, subject_in_range}
 use Rattle.policy_lawful.specs.Rules.{repeated}
 use Rattle.policy_lawful.specs.declared.resolved.Subject.{Subject}
-use Rattle.policy_lawful.proofs.Places.{same_name}
+use Rattle.policy_lawful.proofs.Indexes.{same_name}
 use Rattle.policy_lawful.proofs.UniqueNames.{unique}
 use Rattle.policy_meaning.specs.Events.{ChannelEnd, channel_ends, reads_from}
 use Rattle.policy_types.specs.declared.rights.Role.{Role}
 use Rattle.policy_types.specs.declared.rights.Role.TheVariants.{Writer, Reader}
-use Rattle.policy_views.specs.Views.{end_named, ends_of}
+use Rattle.policy_views.specs.Views.{channel_end_named, channel_ends_of}
 use Rattle.policy_views.specs.declared.view.ChannelEnd.{ChannelEnd}
-use Rattle.policy_views.proofs.EndsByPlace.{ends_by_place, ends_placed}
+use Rattle.policy_views.proofs.EndsByIndex.{ends_by_index, ends_in_range}
 use Rattle.flow_report.specs.Flows.{by_channel, is_writer}
 use Rattle.muen_num.proofs.Members.{any_agree, passes_in}
 use Rattle.flow_report.specs.ByIndex.{channel_read, channel_written, has, meet}
@@ -39,33 +39,33 @@ module _ (r : Resolution) (q : IsResolved r) where
       same_name (channel_names r) j k (channels_unique r q) (omega (arith, many, left)) (omega (arith, many, right))
 
   read_at : (f : ChannelEnd) (role : Role) (k : ℕ) → nat_lt f.channel (length r.channels) ≡ true → nat_lt k (length r.channels) ≡ true
-      → reads_from (end_named r f) role (name_at (channel_names r) k) ≡ option_map_or (λ y. y == k) (channel_read role f.channel) false
+      → reads_from (channel_end_named r f) role (name_at (channel_names r) k) ≡ option_map_or (λ y. y == k) (channel_read role f.channel) false
   read_at f Reader k a b = same_channel f.channel k a b
   read_at f Writer k a b = refl
 
   -- who reads a channel
-  reads_at : (s : Subject) (k : ℕ) → subject_placed r s ≡ true → nat_lt k (length r.channels) ≡ true
-      → list_any (λ f. reads_from f f.role (name_at (channel_names r) k)) (channel_ends (source_of r) (subject_named r s)) ≡ has (filter_map (λ f. channel_read f.role f.channel) (ends_of r s)) k
+  reads_at : (s : Subject) (k : ℕ) → subject_in_range r s ≡ true → nat_lt k (length r.channels) ≡ true
+      → list_any (λ f. reads_from f f.role (name_at (channel_names r) k)) (channel_ends (source_of r) (subject_named r s)) ≡ has (filter_map (λ f. channel_read f.role f.channel) (channel_ends_of r s)) k
   reads_at s k in_range b =
-      ap (list_any (λ (f : ChannelEnd). reads_from f f.role (name_at (channel_names r) k))) (ends_by_place r s q in_range)
-      ∙ list_any-map (λ (f : ChannelEnd). reads_from f f.role (name_at (channel_names r) k)) (end_named r) (ends_of r s)
-      ∙ any_agree (λ f. reads_from (end_named r f) f.role (name_at (channel_names r) k)) (λ f. option_map_or (λ y. y == k) (channel_read f.role f.channel) false) (ends_of r s)
-      (λ f i. read_at f f.role k (passes_in (λ (e : ChannelEnd). nat_lt e.channel (length r.channels)) (ends_of r s) (ends_placed r s in_range) f i) b)
-      ∙ sym (any_filter_map (λ y. y == k) (λ (f : ChannelEnd). channel_read f.role f.channel) (ends_of r s))
+      ap (list_any (λ (f : ChannelEnd). reads_from f f.role (name_at (channel_names r) k))) (ends_by_index r s q in_range)
+      ∙ list_any-map (λ (f : ChannelEnd). reads_from f f.role (name_at (channel_names r) k)) (channel_end_named r) (channel_ends_of r s)
+      ∙ any_agree (λ f. reads_from (channel_end_named r f) f.role (name_at (channel_names r) k)) (λ f. option_map_or (λ y. y == k) (channel_read f.role f.channel) false) (channel_ends_of r s)
+      (λ f i. read_at f f.role k (passes_in (λ (e : ChannelEnd). nat_lt e.channel (length r.channels)) (channel_ends_of r s) (ends_in_range r s in_range) f i) b)
+      ∙ sym (any_filter_map (λ y. y == k) (λ (f : ChannelEnd). channel_read f.role f.channel) (channel_ends_of r s))
 
-  written_at : (s : Subject) (role : Role) (k : ℕ) → subject_placed r s ≡ true → nat_lt k (length r.channels) ≡ true
-      → (is_writer role && list_any (λ f. reads_from f f.role (name_at (channel_names r) k)) (channel_ends (source_of r) (subject_named r s))) ≡ option_map_or (has (filter_map (λ f. channel_read f.role f.channel) (ends_of r s))) (channel_written role k) false
+  written_at : (s : Subject) (role : Role) (k : ℕ) → subject_in_range r s ≡ true → nat_lt k (length r.channels) ≡ true
+      → (is_writer role && list_any (λ f. reads_from f f.role (name_at (channel_names r) k)) (channel_ends (source_of r) (subject_named r s))) ≡ option_map_or (has (filter_map (λ f. channel_read f.role f.channel) (channel_ends_of r s))) (channel_written role k) false
   written_at s Writer k in_range b = reads_at s k in_range b
   written_at s Reader k in_range b = refl
 
-  pub channel_same : (u s : Subject) → subject_placed r u ≡ true → subject_placed r s ≡ true
+  pub channel_same : (u s : Subject) → subject_in_range r u ≡ true → subject_in_range r s ≡ true
       → by_channel (source_of r) (subject_named r u) (subject_named r s)
-      ≡ meet (filter_map (λ e. channel_written e.role e.channel) (ends_of r u)) (filter_map (λ e. channel_read e.role e.channel) (ends_of r s))
+      ≡ meet (filter_map (λ e. channel_written e.role e.channel) (channel_ends_of r u)) (filter_map (λ e. channel_read e.role e.channel) (channel_ends_of r s))
   channel_same u s a b =
       let readers = channel_ends (source_of r) (subject_named r s) in
-      let numbers = filter_map (λ (f : ChannelEnd). channel_read f.role f.channel) (ends_of r s) in
-      ap (list_any (λ (e : ChannelEnd). is_writer e.role && list_any (λ f. reads_from f f.role e.channel) readers)) (ends_by_place r u q a)
-      ∙ list_any-map (λ (e : ChannelEnd). is_writer e.role && list_any (λ f. reads_from f f.role e.channel) readers) (end_named r) (ends_of r u)
-      ∙ any_agree (λ e. is_writer e.role && list_any (λ f. reads_from f f.role (name_at (channel_names r) e.channel)) readers) (λ e. option_map_or (has numbers) (channel_written e.role e.channel) false) (ends_of r u)
-      (λ e i. written_at s e.role e.channel b (passes_in (λ (e : ChannelEnd). nat_lt e.channel (length r.channels)) (ends_of r u) (ends_placed r u a) e i))
-      ∙ sym (any_filter_map (has numbers) (λ (e : ChannelEnd). channel_written e.role e.channel) (ends_of r u))
+      let numbers = filter_map (λ (f : ChannelEnd). channel_read f.role f.channel) (channel_ends_of r s) in
+      ap (list_any (λ (e : ChannelEnd). is_writer e.role && list_any (λ f. reads_from f f.role e.channel) readers)) (ends_by_index r u q a)
+      ∙ list_any-map (λ (e : ChannelEnd). is_writer e.role && list_any (λ f. reads_from f f.role e.channel) readers) (channel_end_named r) (channel_ends_of r u)
+      ∙ any_agree (λ e. is_writer e.role && list_any (λ f. reads_from f f.role (name_at (channel_names r) e.channel)) readers) (λ e. option_map_or (has numbers) (channel_written e.role e.channel) false) (channel_ends_of r u)
+      (λ e i. written_at s e.role e.channel b (passes_in (λ (e : ChannelEnd). nat_lt e.channel (length r.channels)) (channel_ends_of r u) (ends_in_range r u a) e i))
+      ∙ sym (any_filter_map (has numbers) (λ (e : ChannelEnd). channel_written e.role e.channel) (channel_ends_of r u))

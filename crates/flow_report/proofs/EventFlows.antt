@@ -10,13 +10,13 @@ use Rattle.std.proofs.lemmas.List.Folds.{find_at}
 use Rattle.std.proofs.lemmas.Option.{slice_get_past}
 use Rattle.muen_num.specs.declared.mode.EventMode.{EventMode}
 use Rattle.muen_num.proofs.Lists.{find-map, found_among, list_any-map, there}
-use Rattle.policy_lawful.specs.Resolution.{IsResolved, Resolution, name_at, source_of, subject_named, subject_placed}
+use Rattle.policy_lawful.specs.Resolution.{IsResolved, Resolution, name_at, source_of, subject_named, subject_in_range}
 use Rattle.policy_lawful.specs.Rules.{repeated}
 use Rattle.policy_lawful.specs.declared.resolved.EventSource.{EventSource as ResolvedSource}
 use Rattle.policy_lawful.specs.declared.resolved.EventTarget.{EventTarget as ResolvedTarget}
 use Rattle.policy_lawful.specs.declared.resolved.Subject.{Subject}
-use Rattle.policy_lawful.proofs.Places.{found_at_place, same_name}
-use Rattle.policy_lawful.proofs.SourceElements.{parts_placed}
+use Rattle.policy_lawful.proofs.Indexes.{found_at_index, same_name}
+use Rattle.policy_lawful.proofs.SourceElements.{parts_in_range}
 use Rattle.policy_lawful.proofs.UniqueNames.{unique}
 use Rattle.policy_meaning.specs.Events.{Target, event_targets, named_event, same_way}
 use Rattle.policy_types.specs.declared.source.Event.{Event}
@@ -24,7 +24,7 @@ use Rattle.policy_types.specs.declared.source.EventSource.{EventSource}
 use Rattle.policy_types.specs.declared.source.EventTarget.{EventTarget}
 use Rattle.policy_types.specs.declared.source.SourceWay.{SourceWay}
 use Rattle.policy_types.specs.declared.source.Subject.{Subject as NamedSubject}
-use Rattle.policy_views.proofs.WindowsByPlace.{name_there}
+use Rattle.policy_views.proofs.WindowsByIndex.{name_there}
 use Rattle.flow_report.specs.Flows.{reaches}
 use Rattle.flow_report.proofs.EventWays.{by_source}
 use Rattle.muen_num.proofs.Members.{any_agree}
@@ -52,10 +52,10 @@ same_event r q j k a b =
     let right : k < length r.events = ltb-true k (length r.events) b in
     same_name (event_names r) j k (events_unique r q) (omega (arith, many, left)) (omega (arith, many, right))
 
-targets_in_range : (r : Resolution) (t : Subject) → subject_placed r t ≡ true → list_all (λ e. nat_lt e.event (length r.events)) t.targets ≡ true
+targets_in_range : (r : Resolution) (t : Subject) → subject_in_range r t ≡ true → list_all (λ e. nat_lt e.event (length r.events)) t.targets ≡ true
 targets_in_range r t ok = (and_parts _ _ (and_parts _ _ ok).0).1
 
-sources_in_range : (r : Resolution) (t : Subject) → subject_placed r t ≡ true → list_all (λ e. nat_lt e.event (length r.events)) t.sources ≡ true
+sources_in_range : (r : Resolution) (t : Subject) → subject_in_range r t ≡ true → list_all (λ e. nat_lt e.event (length r.events)) t.sources ≡ true
 sources_in_range r t ok = (and_parts _ _ (and_parts _ _ (and_parts _ _ ok).0).0).1
 
 -- the target is the subject of this name
@@ -87,12 +87,12 @@ module _ (r : Resolution) (q : IsResolved r) (j : ℕ) (s : Subject) (h : At r j
       ]
 
   -- the first of all is of the first subject that has one
-  first_of_all : (k : ℕ) → nat_lt k (length r.events) ≡ true → (ts : List Subject) → list_all (subject_placed r) ts ≡ true
+  first_of_all : (k : ℕ) → nat_lt k (length r.events) ≡ true → (ts : List Subject) → list_all (subject_in_range r) ts ≡ true
       → hits s.name (slice_get (flat_map (λ t. map (λ e. record { subject = t.name; vector = e.vector }) (filter (λ e. bytes_eq e.event (name_at (event_names r) k)) t.targets)) (map (subject_named r) ts)) 0)
       ≡ option_map_or (λ t. bytes_eq t.name s.name) (find (λ t. list_any (λ e. e.event == k) t.targets) ts) false
   first_of_all k l [] all = refl
   first_of_all k l (t ∷ ts) all =
-      let parts = and_parts (subject_placed r t) (list_all (subject_placed r) ts) all in
+      let parts = and_parts (subject_in_range r t) (list_all (subject_in_range r) ts) all in
       let to : NamedSubject → List Target = λ t. map (λ e. record { subject = t.name; vector = e.vector }) (filter (λ e. bytes_eq e.event (name_at (event_names r) k)) t.targets) in
       let rest : List Target = flat_map to (map (subject_named r) ts) in
       let later : hits s.name (slice_get rest 0) ≡ option_map_or (λ t. bytes_eq t.name s.name) (find (λ t. list_any (λ e. e.event == k) t.targets) ts) false = first_of_all k l ts parts.1 in
@@ -123,11 +123,11 @@ module _ (r : Resolution) (q : IsResolved r) (j : ℕ) (s : Subject) (h : At r j
   event_same k l =
       let within = ltb-true k (length r.events) l in
       let e = there r.events k within in
-      let found = found_at_place (λ (x : Event). x.name) r.events k (events_unique r q) within ∙ e.1 in
+      let found = found_at_index (λ (x : Event). x.name) r.events k (events_unique r q) within ∙ e.1 in
       let first = slice_get (event_targets (source_of r) (name_at (event_names r) k)) 0 in
       ap (λ o. reaches (option_and_then (λ (e : Event). option_map (λ t. record { mode = e.mode; target = t }) first) o) s.name) found
       ∙ reaches_mode e.0.mode first s.name
-      ∙ first_of_all k l r.subjects (parts_placed r q.placed).subjects
+      ∙ first_of_all k l r.subjects (parts_in_range r q.in_range).subjects
       ∙ target_found (λ t. list_any (λ e. e.event == k) t.targets)
 
   raised_same : (u : Subject) (way : SourceWay) → list_all (λ e. nat_lt e.event (length r.events)) u.sources ≡ true
@@ -141,7 +141,7 @@ module _ (r : Resolution) (q : IsResolved r) (j : ℕ) (s : Subject) (h : At r j
         | Some x ↦ λ e. event_same x.event (found_among test (λ (e : ResolvedSource). nat_lt e.event (length r.events)) u.sources x e in_range)
       ] refl
 
-  pub sources_same : (u : Subject) → subject_placed r u ≡ true → by_sources (source_of r) (subject_named r u) (subject_named r s) ≡ has (filter_map (λ e. reached_by r.subjects u.sources e.way) u.sources) j
+  pub sources_same : (u : Subject) → subject_in_range r u ≡ true → by_sources (source_of r) (subject_named r u) (subject_named r s) ≡ has (filter_map (λ e. reached_by r.subjects u.sources e.way) u.sources) j
   sources_same u in_range =
       let own = sources_in_range r u in_range in
       list_any-map (λ (e : EventSource). reaches (by_source (source_of r) (subject_named r u) e.way) s.name) (source_named r) u.sources

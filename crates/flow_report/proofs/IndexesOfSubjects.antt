@@ -8,15 +8,15 @@ use Rattle.std.proofs.lemmas.Bool.{eqb-true}
 use Rattle.std.proofs.lemmas.List.{length-map}
 use Rattle.std.proofs.lemmas.Option.{slice_get_within}
 use Rattle.muen_num.proofs.Lists.{passes_at}
-use Rattle.policy_lawful.specs.Resolution.{IsResolved, Resolution, name_at, subject_placed}
+use Rattle.policy_lawful.specs.Resolution.{IsResolved, Resolution, name_at, subject_in_range}
 use Rattle.policy_lawful.specs.Rules.{repeated}
 use Rattle.policy_lawful.specs.declared.resolved.Subject.{Subject}
-use Rattle.policy_lawful.proofs.Places.{same_name, same_self}
-use Rattle.policy_lawful.proofs.SourceElements.{parts_placed}
+use Rattle.policy_lawful.proofs.Indexes.{same_name, same_self}
+use Rattle.policy_lawful.proofs.SourceElements.{parts_in_range}
 use Rattle.policy_lawful.proofs.UniqueNames.{subject_names, subjects_unique}
 use Rattle.policy_types.specs.declared.source.Source.{Source}
 use Rattle.policy_types.specs.declared.source.Subject.{Subject as NamedSubject}
-use Rattle.policy_views.proofs.WindowsByPlace.{name_there}
+use Rattle.policy_views.proofs.WindowsByIndex.{name_there}
 use Rattle.muen_num.proofs.Members.{In}
 use Rattle.flow_report.proofs.MarkedSets.{HasUniqueNames}
 
@@ -84,8 +84,8 @@ pub record At (r : Resolution) (index : ℕ) (s : Subject) : Type 0 where
   pub at : slice_get r.subjects index ≡ Some s
 
 module _ (r : Resolution) (q : IsResolved r) where
-  pub is_in_range : (index : ℕ) (s : Subject) → At r index s → subject_placed r s ≡ true
-  is_in_range index s h = passes_at (subject_placed r) r.subjects index s (parts_placed r q.placed).subjects h.at
+  pub is_in_range : (index : ℕ) (s : Subject) → At r index s → subject_in_range r s ≡ true
+  is_in_range index s h = passes_at (subject_in_range r) r.subjects index s (parts_in_range r q.in_range).subjects h.at
 
   pub own_name : (index : ℕ) (s : Subject) → At r index s → name_at (subject_names r) index ≡ s.name
   own_name index s h = name_there (λ s. s.name) r.subjects index s h.at

@@ -8,7 +8,7 @@ use Rattle.std.proofs.lemmas.Bool.Decides.{same_from_decides}
 use Rattle.std.proofs.lemmas.Slice.Eq.{bytes_eq-Decides}
 use Rattle.muen_num.specs.declared.access.AccessKind.TheVariants.{Write}
 use Rattle.muen_num.proofs.Lists.{list_any-map}
-use Rattle.policy_lawful.specs.Resolution.{IsResolved, Resolution, source_of, subject_named, subject_placed}
+use Rattle.policy_lawful.specs.Resolution.{IsResolved, Resolution, source_of, subject_named, subject_in_range}
 use Rattle.policy_lawful.specs.Rules.{maps}
 use Rattle.policy_lawful.specs.declared.resolved.Subject.{Subject}
 use Rattle.policy_meaning.specs.Thing.{Thing, region, channel, provided, device_memory, state, same_thing}
@@ -18,8 +18,8 @@ use Rattle.policy_views.specs.Views.{is_on_region, thing_shown, view_window, vie
 use Rattle.policy_views.specs.declared.view.Shown.{Shown}
 use Rattle.policy_views.specs.declared.view.Shown.TheVariants.{Memory, Channel, Provided as Given, Device, State}
 use Rattle.policy_views.specs.declared.view.View.{View}
-use Rattle.policy_views.proofs.RegionsByPlace.{has_name, is_named, maps_at, place_there, views_named}
-use Rattle.policy_views.proofs.WindowsByPlace.{windows_by_place}
+use Rattle.policy_views.proofs.RegionsByIndex.{has_name, is_named, maps_at, index_there, views_named}
+use Rattle.policy_views.proofs.WindowsByIndex.{windows_by_index}
 use Rattle.flow_report.specs.Flows.{by_memory, is_region}
 use Rattle.muen_num.proofs.Members.{any_agree, passes_in}
 use Rattle.flow_report.specs.ByIndex.{has, meet, region_changed, region_shown}
@@ -46,7 +46,7 @@ on_region k (Given j) = refl
 on_region k (Device i j) = refl
 on_region k (State j) = refl
 
-module _ (r : Resolution) (q : IsResolved r) (s : Subject) (in_range : subject_placed r s ≡ true) where
+module _ (r : Resolution) (q : IsResolved r) (s : Subject) (in_range : subject_in_range r s ≡ true) where
   abbrev numbers : List ℕ
   numbers = filter_map (λ v. region_shown v.shows) (views_of r s)
 
@@ -56,7 +56,7 @@ module _ (r : Resolution) (q : IsResolved r) (s : Subject) (in_range : subject_p
   -- it maps the region at an index
   mapped_at : (name : List ℕ) (k : ℕ) → has_name r name (Memory k) ≡ true → list_any (λ w. same_thing (region name) w.thing) windows ≡ has numbers k
   mapped_at name k named =
-      let at = place_there r name k named in
+      let at = index_there r name k named in
       any_agree (λ (w : Window Thing). same_thing (region name) w.thing) (λ w. same_thing w.thing (region name)) windows (λ w _. region_turned name w.thing)
       ∙ ap (λ n. maps (source_of r) n (subject_named r s)) (sym at.2)
       ∙ maps_at r s k at.0 q in_range at.1
@@ -77,11 +77,11 @@ module _ (r : Resolution) (q : IsResolved r) (s : Subject) (in_range : subject_p
   changed_at subject v true named = shown_at subject v v.shows named
   changed_at subject v false named = refl
 
-  pub memory_same : (u : Subject) → subject_placed r u ≡ true
+  pub memory_same : (u : Subject) → subject_in_range r u ≡ true
       → by_memory (source_of r) (subject_named r u) (subject_named r s) ≡ meet (filter_map region_changed (views_of r u)) (filter_map (λ v. region_shown v.shows) (views_of r s))
   memory_same u a =
       let test : Window Thing → Bool = λ w. allows w.rights Write && is_region w.thing && list_any (λ v. same_thing w.thing v.thing) windows in
-      ap (list_any test) (windows_by_place r u q a)
+      ap (list_any test) (windows_by_index r u q a)
       ∙ list_any-map test (view_window r u.name) (views_of r u)
       ∙ any_agree (λ v. test (view_window r u.name v)) (λ v. option_map_or (has numbers) (region_changed v) false) (views_of r u)
       (λ v i. changed_at u.name v (allows v.rights Write) (passes_in (is_named r) (views_of r u) (views_named r u) v i))

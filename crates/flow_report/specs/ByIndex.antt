@@ -14,7 +14,7 @@ use Rattle.policy_types.specs.declared.rights.Role.{Role}
 use Rattle.policy_types.specs.declared.rights.Role.TheVariants.{Writer, Reader}
 use Rattle.policy_types.specs.declared.source.SourceWay.{SourceWay}
 use Rattle.policy_types.specs.declared.source.Tau0.{Tau0}
-use Rattle.policy_views.specs.Views.{ends_of, views_of}
+use Rattle.policy_views.specs.Views.{channel_ends_of, views_of}
 use Rattle.policy_views.specs.declared.view.Shown.{Shown}
 use Rattle.policy_views.specs.declared.view.Shown.TheVariants.{Memory}
 use Rattle.policy_views.specs.declared.view.View.{View}
@@ -69,8 +69,8 @@ is_chooser o name = option_map_or (λ t. bytes_eq t.subject name) o false
 abbrev pub contacts_of : Resolution → ℕ × Subject → Contacts
 contacts_of r (index, s) = record {
   index = index;
-  writes = filter_map (λ e. channel_written e.role e.channel) (ends_of r s);
-  reads = filter_map (λ e. channel_read e.role e.channel) (ends_of r s);
+  writes = filter_map (λ e. channel_written e.role e.channel) (channel_ends_of r s);
+  reads = filter_map (λ e. channel_read e.role e.channel) (channel_ends_of r s);
   changes = filter_map region_changed (views_of r s);
   maps = filter_map (λ v. region_shown v.shows) (views_of r s);
   reaches = filter_map (λ e. reached_by r.subjects s.sources e.way) s.sources;

@@ -10,7 +10,7 @@ use policy_lawful::Resolved;
 use policy_lawful::resolved::{EventSource, Monitor, Subject};
 use policy_types::Role;
 use policy_types::source::{SourceWay, Tau0};
-use policy_views::{ChannelEnd, Shown, View, ends, views};
+use policy_views::{ChannelEnd, Shown, View, channel_ends, views};
 use std::alloc::{AllocError, Global};
 
 /// A subject's index, and by indexes what it gives to others and takes from them.
@@ -203,7 +203,7 @@ fn make_contacts(
 ) -> Result<Contacts, NoMemory>
     ensures { IfOk result (λ f. f ≡ contacts_of policy.now (index, subject.now)) }
 {
-    let ends = ends(alloc, policy, subject)?;
+    let ends = channel_ends(alloc, policy, subject)?;
     let views = views(alloc, policy, subject)?;
     let (sources, monitors) = (subject.sources.items(), subject.monitors.items());
     Ok(Contacts {

@@ -1,7 +1,7 @@
 -- The instructions of the guests: this project's own table.
 use Rattle.std.specs.Prelude.{◌≡◌, ℕ, ℤ, pos, ◌+◌, ◌-◌, ◌*◌, ◌/◌, ◌%◌, ◌^◌, ◌<◌, ◌==◌, ◌&&◌, ◌||◌, Bool, true, false, not, List, [], ◌∷◌, slice_index, slice_set, nat_lt, bit_and, bit_or, bit_xor, Option, Some, None, option_and_then, if◌then◌else◌}
 use Rattle.std.specs.Int.{w32, w64, from_le_bytes, to_le_bytes, cast_signed, cast_unsigned}
-use Rattle.muen_num.specs.Size.{bytes_of}
+use Rattle.muen_num.specs.AccessSize.{bytes_of}
 use Rattle.muen_num.specs.declared.access.AccessSize.{AccessSize}
 use Rattle.muen_num.specs.declared.access.AccessSize.TheVariants.{One, Two, Four, Eight}
 use Rattle.subject_state.specs.declared.SubjectState.{SubjectState}

@@ -1,6 +1,6 @@
 -- Worlds in which the same targets have other names.
 use Rattle.std.specs.Prelude.{◌≡◌, ℕ, ◌%◌, ◌<◌, option_map}
-use Rattle.muen_num.specs.Size.{bytes_of as count}
+use Rattle.muen_num.specs.AccessSize.{bytes_of as count}
 use Rattle.muen_num.specs.declared.access.AccessKind.{AccessKind}
 use Rattle.muen_num.specs.declared.access.AccessSize.{AccessSize}
 use Rattle.muen_num.specs.declared.limits.TheConstants.{GUEST_END}

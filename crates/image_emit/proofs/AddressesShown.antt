@@ -9,7 +9,7 @@ use Rattle.std.proofs.lemmas.Option.{slice_get-get_or, slice_get-map}
 use Rattle.std.proofs.lemmas.Slice.Zip.{AllZip-long}
 use Rattle.event_emit.specs.Tables.{AreTables}
 use Rattle.expand_grants.specs.Grants.{AreGrantsOf}
-use Rattle.expand_kernel.specs.ByPlace.{provided_at}
+use Rattle.expand_kernel.specs.ByIndex.{provided_at}
 use Rattle.expand_kernel.specs.declared.region.Region.{Region}
 use Rattle.image_emit.specs.Made.{IsMade, Made, image_of, policy_of, subject_part, subject_parts}
 use Rattle.image_emit.proofs.Contents.{IsRegionOf, addresses_enough, regions_of_things, spans_of_memory, spans_of_regions, thing_spans_are, with_content}
@@ -31,7 +31,7 @@ use Rattle.policy_lawful.specs.Resolution.{Resolution, name_at, source_of, subje
 use Rattle.policy_lawful.specs.Rules.{logical_names, repeated}
 use Rattle.policy_lawful.specs.declared.resolved.ComponentUse.{ComponentUse}
 use Rattle.policy_lawful.specs.declared.resolved.Subject.{Subject}
-use Rattle.policy_lawful.proofs.Places.{same_self}
+use Rattle.policy_lawful.proofs.Indexes.{same_self}
 use Rattle.policy_lawful.proofs.UniqueNames.{logical_unique, parts_unique, subjects_unique, unique}
 use Rattle.policy_meaning.specs.Thing.{Thing, channel, device_memory, provided, region, same_thing, state}
 use Rattle.policy_types.specs.declared.source.Component.{Component}
@@ -43,7 +43,7 @@ use Rattle.policy_views.specs.Views.{thing_shown, views_of}
 use Rattle.policy_views.specs.declared.view.Shown.{Shown}
 use Rattle.policy_views.specs.declared.view.Shown.TheVariants.{Memory, Channel, Provided, Device, State}
 use Rattle.policy_views.specs.declared.view.View.{View}
-use Rattle.policy_views.proofs.WindowsByPlace.{name_there}
+use Rattle.policy_views.proofs.WindowsByIndex.{name_there}
 use Rattle.span_emit.specs.Spans.{device_span, memories_of, region_span}
 use Rattle.subject_emit.specs.Mapped.{brought_before, kernel_first, shown_address}
 use Rattle.subject_emit.specs.Shows.{brought_to}

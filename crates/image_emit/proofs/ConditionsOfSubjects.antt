@@ -10,7 +10,7 @@ use Rattle.ept_count.specs.declared.window.Window.{Window}
 use Rattle.event_emit.specs.Tables.{AreTables}
 use Rattle.event_emit.specs.declared.event_tables.EventTables.{EventTables}
 use Rattle.expand_grants.specs.declared.granted.Grants.{Grants}
-use Rattle.expand_kernel.specs.ByPlace.{mapped_views}
+use Rattle.expand_kernel.specs.ByIndex.{mapped_views}
 use Rattle.expand_kernel.specs.Regions.{anywhere, kernel_regions}
 use Rattle.expand_kernel.specs.declared.region.Region.{Region}
 use Rattle.expand_kernel.specs.declared.region.RegionKind.TheVariants.{Kernel}

@@ -5,7 +5,7 @@ use Rattle.std.specs.List.{AllZip, enumerate_from, filter, flat_map, zip}
 use Rattle.std.proofs.lemmas.List.{length-replicate, map-append}
 use Rattle.std.proofs.lemmas.List.Elements.{All-append, All-cons, All-from_recursion, All-head, All-map, All-nil, All-tail, filter-append}
 use Rattle.std.proofs.lemmas.Option.{get_or_from_slice_get, slice_get_within}
-use Rattle.expand_kernel.specs.ByPlace.{brought_at, kernel_for, kernel_for_each, provided_at}
+use Rattle.expand_kernel.specs.ByIndex.{brought_at, kernel_for, kernel_for_each, provided_at}
 use Rattle.expand_kernel.specs.Regions.{channel_region, own_region, provided_region}
 use Rattle.expand_kernel.specs.declared.region.Region.{Region}
 use Rattle.image_emit.specs.Made.{IsMade, Made, content_at, image_of, kernel_bytes, policy_of, region_bytes, thing_bytes}

@@ -25,7 +25,7 @@ use Rattle.image_emit.proofs.Walks.{granted_at, mapped_at, on_view}
 use Rattle.image_emit.proofs.WalksByWindow.{found_contained}
 use Rattle.image_meaning.specs.Memory.{memory_of}
 use Rattle.image_meaning.specs.Sound.{ForEachSubject, address_of}
-use Rattle.machine_meaning.specs.Walks.{leaf_size, span}
+use Rattle.machine_meaning.specs.Walks.{leaf_size, entry_size}
 use Rattle.muen_num.specs.declared.limits.TheConstants.{GUEST_END}
 use Rattle.policy_lawful.specs.Resolution.{source_of, subject_named}
 use Rattle.policy_lawful.specs.Rules.{is_guest, is_page_aligned, is_page_size}
@@ -44,7 +44,7 @@ use Rattle.subject_emit.proofs.ShownViews.{granted_shown}
 -- ---- where guest and physical address agree
 
 -- modulo the size of a page, they agree modulo that of smaller ones
-agree_below : (guest address : ℕ) (leaf : Leaf) (level : ℕ) → address % span (level_of leaf) ≡ guest % span (level_of leaf) → level ≤ level_of leaf → guest % span level ≡ address % span level
+agree_below : (guest address : ℕ) (leaf : Leaf) (level : ℕ) → address % entry_size (level_of leaf) ≡ guest % entry_size (level_of leaf) → level ≤ level_of leaf → guest % entry_size level ≡ address % entry_size level
 agree_below guest address Small zero e l = sym e
 agree_below guest address Small (suc n) e l = absurd (omega (arith, l))
 agree_below guest address Large zero e l = omega (arith, e)
@@ -61,7 +61,7 @@ low_leaf Large = omega arith
 low_leaf Huge = omega arith
 
 -- the level is that of the greatest page at which they agree
-allowed : (guest address level : ℕ) → level ≤ 2 → guest % span level ≡ address % span level → level ≤ level_of (leaf_for guest address)
+allowed : (guest address level : ℕ) → level ≤ 2 → guest % entry_size level ≡ address % entry_size level → level ≤ level_of (leaf_for guest address)
 allowed guest address zero l e = omega arith
 allowed guest address (suc zero) l e = elim (cases_Bool (guest % 2 ^ 30 == address % 2 ^ 30)) [
   | inl large ↦ rw (large) (omega arith)

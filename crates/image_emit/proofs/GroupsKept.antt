@@ -15,7 +15,7 @@ use Rattle.image_plan.specs.Plan.{is_group_on}
 use Rattle.image_plan.specs.declared.plan.GroupPart.{GroupPart}
 use Rattle.muen_num.proofs.Lists.{passes_at, there}
 use Rattle.policy_lawful.proofs.KeptMembers.{members_kept}
-use Rattle.policy_lawful.proofs.Places.{found_at_place, same_self}
+use Rattle.policy_lawful.proofs.Indexes.{found_at_index, same_self}
 use Rattle.policy_lawful.proofs.UniqueNames.{names_of_subjects, subject_names, unique}
 use Rattle.policy_lawful.specs.Resolution.{name_at, source_of, subject_named}
 use Rattle.policy_lawful.specs.Rules.{is_group, is_on, subject_cpu, times_listed}
@@ -142,7 +142,7 @@ module _ (m : Made) (h : IsMade m) (k : ℕ) (s : Subject) (at : slice_get (poli
       let name : name_at names k ≡ s.name = ap (λ ns. name_at ns k) same ∙ name_of r k s at in
       ap (subject_cpu p) (sym name)
       ∙ ap (option_map (λ (x : SourceSubject). x.cpu))
-      (found_at_place (λ (x : SourceSubject). x.name) p.subjects k (unique p h.resolved.names).subjects (slice_get_within p.subjects k (subject_named r s) source_at) ∙ source_at)
+      (found_at_index (λ (x : SourceSubject). x.name) p.subjects k (unique p h.resolved.names).subjects (slice_get_within p.subjects k (subject_named r s) source_at) ∙ source_at)
 
   -- the group is on its CPU
   same_cpu : (g : HasGroup) → s.cpu ≡ g.group.cpu

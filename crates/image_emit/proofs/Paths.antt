@@ -10,7 +10,7 @@ use Rattle.ept_count.specs.Pages.{ept_pages}
 use Rattle.ept_emit.specs.Emitted.{Reads, eptp_of}
 use Rattle.event_emit.specs.declared.event_tables.EventTables.{EventTables}
 use Rattle.expand_grants.specs.declared.granted.Grants.{Grants}
-use Rattle.expand_kernel.specs.ByPlace.{mapped_views}
+use Rattle.expand_kernel.specs.ByIndex.{mapped_views}
 use Rattle.expand_kernel.specs.Regions.{anywhere}
 use Rattle.expand_kernel.specs.declared.region.RegionKind.TheVariants.{Kernel}
 use Rattle.image_emit.specs.Built.{HasOnePathPerTable}

@@ -7,8 +7,8 @@ use Rattle.std.proofs.lemmas.List.{map-append}
 use Rattle.std.proofs.lemmas.List.Elements.{All-append, All-nil}
 use Rattle.std.proofs.lemmas.Option.{slice_get_within}
 use Rattle.policy_lawful.specs.Rules.{repeated}
-use Rattle.policy_lawful.proofs.Places.{found_at_place}
-use Rattle.policy_views.proofs.WindowsByPlace.{name_there}
+use Rattle.policy_lawful.proofs.Indexes.{found_at_index}
+use Rattle.policy_views.proofs.WindowsByIndex.{name_there}
 
 -- ---- mapped
 
@@ -71,5 +71,5 @@ all_pieces P f h (x ∷ xs) = All-append P (f x) (flat_map f xs) (h x) (all_piec
 pub found_by_name : {X : Type 0} (f : X → List ℕ) (xs : List X) → repeated (map f xs) ≡ None → (k : ℕ) (x : X) → slice_get xs k ≡ Some x → find (λ y. bytes_eq (f y) (f x)) xs ≡ Some x
 found_by_name f xs unique k x at =
     ap (λ n. find (λ y. bytes_eq (f y) n) xs) (sym (name_there f xs k x at))
-    ∙ found_at_place f xs k unique (slice_get_within xs k x at)
+    ∙ found_at_index f xs k unique (slice_get_within xs k x at)
     ∙ at

@@ -20,10 +20,10 @@ use Rattle.image_pack.specs.declared.parts.IrqTarget.{IrqTarget}
 use Rattle.image_pack.specs.declared.parts.SubjectPart.{SubjectPart}
 use Rattle.muen_num.proofs.Lists.{list_any-map, passes_at, position-map}
 use Rattle.policy_lawful.proofs.KeptMembers.{members_kept}
-use Rattle.policy_lawful.proofs.Places.{same_name}
-use Rattle.policy_lawful.proofs.SourceElements.{parts_placed}
+use Rattle.policy_lawful.proofs.Indexes.{same_name}
+use Rattle.policy_lawful.proofs.SourceElements.{parts_in_range}
 use Rattle.policy_lawful.proofs.UniqueNames.{subject_names, subjects_unique}
-use Rattle.policy_lawful.specs.Resolution.{Resolution, group_named, group_placed, name_at, source_of, subject_named}
+use Rattle.policy_lawful.specs.Resolution.{Resolution, group_named, group_in_range, name_at, source_of, subject_named}
 use Rattle.policy_lawful.specs.Rules.{repeated, times_listed}
 use Rattle.policy_lawful.specs.declared.resolved.Group.{Group as ResolvedGroup}
 use Rattle.policy_lawful.specs.declared.resolved.Subject.{Subject}
@@ -76,7 +76,7 @@ uncounted test (x ∷ xs) h =
 -- ---- groups
 
 -- a group lists the name of a subject just where it has the subject's index
-lists_alike : (r : Resolution) (k : ℕ) → repeated (subject_names r) ≡ None → k < length r.subjects → (g : ResolvedGroup) → group_placed r g ≡ true
+lists_alike : (r : Resolution) (k : ℕ) → repeated (subject_names r) ≡ None → k < length r.subjects → (g : ResolvedGroup) → group_in_range r g ≡ true
     → list_any (λ n. bytes_eq n (name_at (subject_names r) k)) (map (name_at (subject_names r)) g.subjects) ≡ list_any (λ n. n == k) g.subjects
 lists_alike r k unique within g placed =
     let names = subject_names r in
@@ -107,11 +107,11 @@ in_group m h k s at =
     let some : position_or_len test groups < length groups =
     some_passes test (λ g. count_by (λ n. bytes_eq n s.name) g.subjects) (λ g. uncounted (λ n. bytes_eq n s.name) g.subjects) groups (omega (arith, once)) in
     let many : length groups ≡ length r.scheduling.groups = length-map r.scheduling.groups (group_named r) in
-    let alike : (g : ResolvedGroup) → group_placed r g ≡ true → test (group_named r g) ≡ has g = λ g ok.
+    let alike : (g : ResolvedGroup) → group_in_range r g ≡ true → test (group_named r g) ≡ has g = λ g ok.
     ap (λ name. list_any (λ n. bytes_eq n name) (group_named r g).subjects) (sym (name_of r k s at)) ∙ lists_alike r k unique within g ok in
     let same : position_or_len test groups ≡ position_or_len has r.scheduling.groups =
     position-map test (group_named r) r.scheduling.groups
-    ∙ index_same (λ g. test (group_named r g)) has (group_placed r) alike r.scheduling.groups (parts_placed r h.resolved.placed).groups in
+    ∙ index_same (λ g. test (group_named r g)) has (group_in_range r) alike r.scheduling.groups (parts_in_range r h.resolved.in_range).groups in
     let number : group_at r k ≡ position_or_len has r.scheduling.groups =
     ap (λ o. unwrap_or o 0) (position_there has r.scheduling.groups (omega (arith, some, many, same))) in
     position_there test groups some ∙ ap Some (same ∙ sym number)

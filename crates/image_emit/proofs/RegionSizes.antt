@@ -8,10 +8,10 @@ use Rattle.std.proofs.lemmas.List.Sums.{sum_by-cons}
 use Rattle.std.proofs.lemmas.Option.{get_or_from_slice_get, slice_get-map}
 use Rattle.ept_count.specs.Pages.{ept_pages}
 use Rattle.expand_grants.specs.declared.granted.Grants.{Grants}
-use Rattle.expand_kernel.specs.ByPlace.{brought_at, kernel_for, kernel_for_each, mapped_views, provided_at}
+use Rattle.expand_kernel.specs.ByIndex.{brought_at, kernel_for, kernel_for_each, mapped_views, provided_at}
 use Rattle.expand_kernel.specs.Regions.{channel_region, own_region, provided_region}
 use Rattle.expand_kernel.specs.declared.region.Region.{Region}
-use Rattle.expand_kernel.proofs.Numbering.{regions_by_place}
+use Rattle.expand_kernel.proofs.Numbering.{regions_by_index}
 use Rattle.image_emit.specs.Made.{IsMade, Made, kernel_bytes, policy_of, region_bytes}
 use Rattle.machine_meaning.specs.Exits.{area_bytes}
 use Rattle.msrbm_emit.specs.Area.{area_of, count_of, entries_of, entry_of, size_of}
@@ -95,7 +95,7 @@ abbrev pub last_regions : Made → List Region
 last_regions m = kernel_for_each (policy_of m).subjects m.placed.expanded.grants
 
 pub regions_are : (m : Made) → IsMade m → m.placed.expanded.regions ≡ first_regions m ++ last_regions m
-regions_are m h = h.expansion.regions ∙ sym (regions_by_place (policy_of m) m.placed.expanded.grants h.resolved h.expansion.grants)
+regions_are m h = h.expansion.regions ∙ sym (regions_by_index (policy_of m) m.placed.expanded.grants h.resolved h.expansion.grants)
 
 pub first_many : (m : Made) → length (first_regions m) ≡ kernel_first (policy_of m) 0
 first_many m =

@@ -6,7 +6,7 @@ use Rattle.ept_count.specs.Pages.{ept_pages}
 use Rattle.ept_emit.specs.Emitted.{HasTables}
 use Rattle.event_emit.specs.declared.event_tables.EventTables.{EventTables}
 use Rattle.expand_grants.specs.declared.granted.Grants.{Grants}
-use Rattle.expand_kernel.specs.ByPlace.{mapped_views}
+use Rattle.expand_kernel.specs.ByIndex.{mapped_views}
 use Rattle.image_emit.specs.Made.{IsMade, Made, image_of, policy_of}
 use Rattle.image_emit.proofs.PagesThere.{page_there}
 use Rattle.image_emit.proofs.BySubject.{IsAtIndex, each_subject}

@@ -5,21 +5,21 @@ use Rattle.std.specs.Option.{option_map_or}
 use Rattle.std.specs.List.{flat_map}
 use Rattle.std.proofs.lemmas.Bool.{and_parts, ltb-true}
 use Rattle.std.proofs.lemmas.List.Folds.{flat_map-map}
-use Rattle.expand_kernel.specs.ByPlace.{provided_at}
+use Rattle.expand_kernel.specs.ByIndex.{provided_at}
 use Rattle.image_emit.proofs.PiecesOfLists.{map_pieces, flat_map_at}
 use Rattle.muen_num.proofs.Lists.{map-map, passes_at}
-use Rattle.policy_lawful.specs.Resolution.{IsResolved, Resolution, component_named, component_placed, source_of, subject_named, subject_placed}
+use Rattle.policy_lawful.specs.Resolution.{IsResolved, Resolution, component_named, component_in_range, source_of, subject_named, subject_in_range}
 use Rattle.policy_lawful.specs.declared.resolved.ComponentUse.{ComponentUse}
 use Rattle.policy_lawful.specs.declared.resolved.Subject.{Subject}
-use Rattle.policy_lawful.proofs.Places.{found_at_place}
-use Rattle.policy_lawful.proofs.SourceElements.{parts_placed}
+use Rattle.policy_lawful.proofs.Indexes.{found_at_index}
+use Rattle.policy_lawful.proofs.SourceElements.{parts_in_range}
 use Rattle.policy_lawful.proofs.UniqueNames.{unique}
 use Rattle.policy_meaning.specs.Thing.{Thing, channel, component_by, device_memory, provided, provided_by, region, things_of}
 use Rattle.policy_types.specs.declared.source.Component.{Component}
 use Rattle.policy_types.specs.declared.source.Device.{Device}
 use Rattle.policy_types.specs.declared.source.DeviceMemory.{DeviceMemory}
 use Rattle.policy_types.specs.declared.source.Subject.{Subject as NamedSubject}
-use Rattle.policy_views.proofs.WindowsByPlace.{subject_parts}
+use Rattle.policy_views.proofs.WindowsByIndex.{subject_parts}
 use Rattle.span_emit.specs.Spans.{memories_of}
 
 -- ---- in the order of their numbers
@@ -58,17 +58,17 @@ provided_of name None = refl
 provided_of name (Some c) = refl
 
 module _ (r : Resolution) (q : IsResolved r) where
-  use_by_name : (o : Option ComponentUse) → option_map_or (component_placed r) o true ≡ true → component_by (source_of r) (option_map (component_named r) o) ≡ used_component r o
+  use_by_name : (o : Option ComponentUse) → option_map_or (component_in_range r) o true ≡ true → component_by (source_of r) (option_map (component_named r) o) ≡ used_component r o
   unfolding source_of
   use_by_name None in_range = refl
   use_by_name (Some used) in_range =
-      found_at_place (λ (c : Component). c.name) r.components used.used (unique (source_of r) q.names).components
+      found_at_index (λ (c : Component). c.name) r.components used.used (unique (source_of r) q.names).components
       (ltb-true used.used (length r.components) (and_parts (nat_lt used.used (length r.components)) _ in_range).0)
 
   -- the component of a subject, by its name
   pub component_is : (k : ℕ) (s : Subject) → slice_get r.subjects k ≡ Some s → component_by (source_of r) (subject_named r s).component ≡ used_component r s.component
   component_is k s at =
-      let in_range : subject_placed r s ≡ true = passes_at (subject_placed r) r.subjects k s (parts_placed r q.placed).subjects at in
+      let in_range : subject_in_range r s ≡ true = passes_at (subject_in_range r) r.subjects k s (parts_in_range r q.in_range).subjects at in
       use_by_name s.component (subject_parts r s in_range).component
 
   provided_are : (k : ℕ) (s : Subject) → slice_get r.subjects k ≡ Some s → provided_by s.name (component_by (source_of r) (subject_named r s).component) ≡ provided_things r.components s

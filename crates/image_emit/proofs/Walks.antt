@@ -10,7 +10,7 @@ use Rattle.ept_emit.specs.Emitted.{holds as is_in, translation, translation_in, 
 use Rattle.expand_grants.specs.Grants.{AreGrantsOf, is_lower}
 use Rattle.expand_grants.specs.declared.granted.Grants.{Grants}
 use Rattle.expand_grants.proofs.Ordered.{in_order_permutes}
-use Rattle.expand_kernel.specs.ByPlace.{CanMap}
+use Rattle.expand_kernel.specs.ByIndex.{CanMap}
 use Rattle.expand_kernel.proofs.Numbering.{can_map_granted}
 use Rattle.image_emit.specs.Made.{IsMade, Made, image_of, policy_of}
 use Rattle.image_emit.proofs.AddressesShown.{address_shown}
@@ -23,16 +23,16 @@ use Rattle.image_meaning.specs.Sound.{ForEachSubject, HasWalks, led, address_of}
 use Rattle.machine_meaning.specs.declared.walk.Walk.TheVariants.{At, Violation}
 use Rattle.muen_num.proofs.Lists.{find-map, passes_at}
 use Rattle.muen_num.specs.declared.access.AccessKind.{AccessKind}
-use Rattle.policy_lawful.specs.Resolution.{source_of, subject_named, subject_placed}
+use Rattle.policy_lawful.specs.Resolution.{source_of, subject_named, subject_in_range}
 use Rattle.policy_lawful.specs.declared.resolved.Subject.{Subject}
-use Rattle.policy_lawful.proofs.SourceElements.{parts_placed}
+use Rattle.policy_lawful.proofs.SourceElements.{parts_in_range}
 use Rattle.policy_meaning.specs.Thing.{Thing}
 use Rattle.policy_meaning.specs.Windows.{access_by, access_of, byte, holds, violation, windows_of}
 use Rattle.policy_types.specs.Rights.{allows}
 use Rattle.policy_types.specs.declared.rights.Rights.{Rights}
 use Rattle.policy_views.specs.Views.{thing_shown, view_window, views_of}
 use Rattle.policy_views.specs.declared.view.View.{View}
-use Rattle.policy_views.proofs.WindowsByPlace.{windows_by_place}
+use Rattle.policy_views.proofs.WindowsByIndex.{windows_by_index}
 use Rattle.subject_emit.specs.Mapped.{mapped, mapped_windows, shown_address}
 use Rattle.subject_emit.proofs.SamePages.{apart_mapped}
 
@@ -73,8 +73,8 @@ module _ (m : Made) (h : IsMade m) (k : ℕ) (s : Subject) (g : Grants) (at : sl
 
   pub granted_at : (addr : ℕ) → find (λ w. holds w addr) (windows_of (source_of (policy_of m)) (subject_named (policy_of m) s)) ≡ option_map (view_window (policy_of m) s.name) (find (on_view addr) views)
   granted_at addr =
-      let in_range : subject_placed (policy_of m) s ≡ true = passes_at (subject_placed (policy_of m)) (policy_of m).subjects k s (parts_placed (policy_of m) h.resolved.placed).subjects at in
-      ap (find (λ w. holds w addr)) (windows_by_place (policy_of m) s h.resolved in_range)
+      let in_range : subject_in_range (policy_of m) s ≡ true = passes_at (subject_in_range (policy_of m)) (policy_of m).subjects k s (parts_in_range (policy_of m) h.resolved.in_range).subjects at in
+      ap (find (λ w. holds w addr)) (windows_by_index (policy_of m) s h.resolved in_range)
       ∙ find-map (λ w. holds w addr) (view_window (policy_of m) s.name) views
 
   led_by : (addr : ℕ) (kind : AccessKind) (o : Option View) → find (on_view addr) views ≡ o

@@ -8,7 +8,7 @@ use Rattle.image_meaning.specs.Memory.{memory_of, address_at}
 use Rattle.image_meaning.specs.Sound.{address_of}
 use Rattle.image_pack.specs.declared.parts.Image.{Image}
 use Rattle.image_pack.specs.declared.parts.SubjectPart.{SubjectPart}
-use Rattle.machine_meaning.specs.Walks.{leaf_size, span}
+use Rattle.machine_meaning.specs.Walks.{leaf_size, entry_size}
 use Rattle.muen_num.specs.declared.limits.TheConstants.{GUEST_END}
 use Rattle.policy_meaning.specs.Thing.{Thing}
 use Rattle.policy_meaning.specs.Windows.{Window, holds, windows_of}
@@ -31,7 +31,7 @@ pub record HasPlacement (p : Source) (i : Image) : Type 0 where
 pub record IsOnePath (j k level other a b : ℕ) : Type 0 where
   pub subject : j ≡ k
   pub depth : level ≡ other
-  pub range : a / span (suc level) ≡ b / span (suc level)
+  pub range : a / entry_size (suc level) ≡ b / entry_size (suc level)
 
 -- no page of tables is read at two paths
 abbrev pub HasOnePathPerTable : Image → Type 0
@@ -45,14 +45,14 @@ HasOnePathPerTable i =
 -- whose size guest and physical address agree, and whose aligned range of addresses lies wholly in the window
 pub record FitsWindow (w : Window Thing) (address level addr : ℕ) : Type 0 where
   pub small : level ≤ 2
-  pub agrees : w.guest % span level ≡ address % span level
-  pub begins : w.guest ≤ span level * (addr / span level)
-  pub ends : span level * (addr / span level) + span level ≤ w.guest + w.size
+  pub agrees : w.guest % entry_size level ≡ address % entry_size level
+  pub begins : w.guest ≤ entry_size level * (addr / entry_size level)
+  pub ends : entry_size level * (addr / entry_size level) + entry_size level ≤ w.guest + w.size
 
 -- a size is the greatest of a page that fits the window
 pub record IsGreatestPage (w : Window Thing) (address addr size : ℕ) : Type 0 where
   pub level : ℕ
-  pub is : size ≡ span level
+  pub is : size ≡ entry_size level
   pub fits : FitsWindow w address level addr
   pub greatest : (higher : ℕ) → FitsWindow w address higher addr → higher ≤ level
 

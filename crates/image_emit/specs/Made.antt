@@ -7,7 +7,7 @@ use Rattle.ept_emit.specs.Emitted.{eptp_of}
 use Rattle.event_emit.specs.Tables.{AreDevices, AreTables}
 use Rattle.event_emit.specs.declared.event_tables.EventTables.{EventTables}
 use Rattle.expand_grants.specs.declared.granted.Grants.{Grants}
-use Rattle.expand_kernel.specs.ByPlace.{provided_at}
+use Rattle.expand_kernel.specs.ByIndex.{provided_at}
 use Rattle.expand_kernel.specs.Expansion.{IsExpansion}
 use Rattle.image_pack.specs.Parts.{counted}
 use Rattle.image_pack.specs.SpanConditions.{AreSpans}

@@ -15,7 +15,7 @@ use Rattle.kernel_core.specs.Ticks.{CanRun, IsLow}
 use Rattle.record_text.specs.Bench.{BenchDevice, bench_device, bench_of}
 use Rattle.record_text.specs.DeviceRecord.{DeviceRecord, NamedInput, port_input, memory_input, irq_input, dma_input}
 use Rattle.record_text.specs.Law.{IsInputOf, IsRecordOf}
-use Rattle.record_text.specs.Placing.{bytes_in, irq_of, is_in_span, memory_of, order_at, placed, placed_at, placed_input, port_of, raised as record_raised}
+use Rattle.record_text.specs.Resolving.{bytes_in, irq_of, is_in_span, memory_of, order_at, resolved, resolved_at, resolved_input, port_of, raised as record_raised}
 use Rattle.record_text.specs.Reading.{record_of}
 use Rattle.record_text.specs.Steps.{mapped}
 use Rattle.record_text.specs.declared.devices.RecordDevice.{RecordDevice}
@@ -145,7 +145,7 @@ same_bench : (i : Image) (ds : Devices) → HasDevices i ds → bench_of ds ≡ 
 same_bench i ds h =
     ap₂ (λ n bs. record { cpus = n; devices = bs }) h.cpus (map_paired (IsRecordDevice i.spans) (bench_device_of i.spans) bench_device (bench_same i.spans) i.devices ds.devices h.devices)
 
-same_input : (i : Image) (ds : Devices) → HasDevices i ds → (input : NamedInput) → placed_input ds input ≡ input_of i input
+same_input : (i : Image) (ds : Devices) → HasDevices i ds → (input : NamedInput) → resolved_input ds input ≡ input_of i input
 same_input i ds h (port_input device port value) =
     then_paired (IsRecordDevice i.spans) (port_input_of port value) (port_of port value) (ports_same i.spans port value) _ _ (found_paired (IsRecordDevice i.spans) (λ d. bytes_eq d.name device) (λ d. bytes_eq d.name device) (called_same i.spans device) i.devices ds.devices h.devices)
 same_input i ds h (memory_input device memory offset bytes) =
@@ -155,21 +155,21 @@ same_input i ds h (irq_input device irq) =
 same_input i ds h (dma_input device addr bytes) =
     ap (option_map (λ number. Dma number addr bytes)) (position_paired (IsRecordDevice i.spans) (λ d. bytes_eq d.name device) (λ d. bytes_eq d.name device) (called_same i.spans device) i.devices ds.devices h.devices)
 
-same_tick : (i : Image) (ds : Devices) → HasDevices i ds → (e : ℕ × NamedInput) → placed_at ds e ≡ tick_input_of i e
+same_tick : (i : Image) (ds : Devices) → HasDevices i ds → (e : ℕ × NamedInput) → resolved_at ds e ≡ tick_input_of i e
 same_tick i ds h e = ap (λ o. record { tick = e.0; input = unwrap_or o Idle }) (same_input i ds h e.1)
 
-same_record : (i : Image) (ds : Devices) → HasDevices i ds → (r : DeviceRecord) → placed ds r ≡ image_record i r
+same_record : (i : Image) (ds : Devices) → HasDevices i ds → (r : DeviceRecord) → resolved ds r ≡ image_record i r
 same_record i ds h r =
-    ap (λ is. record { end = r.end; inputs = is; orders = map order_at r.orders }) (map_same (placed_at ds) (tick_input_of i) (same_tick i ds h) r.inputs)
+    ap (λ is. record { end = r.end; inputs = is; orders = map order_at r.orders }) (map_same (resolved_at ds) (tick_input_of i) (same_tick i ds h) r.inputs)
 
 mapped_same : {A B E : Type 0} (f g : A → B) → ((x : A) → f x ≡ g x) → (r : Result A E) → mapped f r ≡ mapped g r
 mapped_same f g same (Ok x) = ap (λ y. Ok y) (same x)
 mapped_same f g same (Err e) = refl
 
 -- what is read for such devices is what is read for the image
-pub same_reading : (i : Image) (ds : Devices) (bytes : List ℕ) → HasDevices i ds → mapped (placed ds) (record_of bytes (bench_of ds)) ≡ mapped (image_record i) (record_of bytes (image_bench i))
+pub same_reading : (i : Image) (ds : Devices) (bytes : List ℕ) → HasDevices i ds → mapped (resolved ds) (record_of bytes (bench_of ds)) ≡ mapped (image_record i) (record_of bytes (image_bench i))
 same_reading i ds bytes h =
-    ap (λ b. mapped (placed ds) (record_of bytes b)) (same_bench i ds h) ∙ mapped_same (placed ds) (image_record i) (same_record i ds h) (record_of bytes (image_bench i))
+    ap (λ b. mapped (resolved ds) (record_of bytes b)) (same_bench i ds h) ∙ mapped_same (resolved ds) (image_record i) (same_record i ds h) (record_of bytes (image_bench i))
 
 -- ---- a kernel can run a record of such devices
 

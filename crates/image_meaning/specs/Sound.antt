@@ -16,7 +16,7 @@ use Rattle.image_pack.specs.declared.parts.SpanKind.TheVariants.{Own, Channel, P
 use Rattle.image_pack.specs.declared.parts.SpanPart.{SpanPart}
 use Rattle.image_pack.specs.declared.parts.SubjectPart.{SubjectPart}
 use Rattle.machine_meaning.specs.Exits.{area_index, area_value, msr_exits, port_exits}
-use Rattle.machine_meaning.specs.Walks.{places_read, walk_of}
+use Rattle.machine_meaning.specs.Walks.{addresses_read, walk_of}
 use Rattle.machine_meaning.specs.declared.walk.Walk.{Walk}
 use Rattle.machine_meaning.specs.declared.walk.Walk.TheVariants.{At, Violation}
 use Rattle.muen_num.specs.Range.{numbers_below}
@@ -105,7 +105,7 @@ is_in_tables i at = list_any (λ s. is_tables s && nat_le s.address at && nat_le
 -- **the tables**: each entry that a walk for a subject reads lies in a span of tables
 abbrev pub ReadsTables : Image → SubjectPart → Type 0
 ReadsTables i q =
-    (addr : ℕ) → addr < GUEST_END → All (λ at. is_in_tables i at ≡ true) (places_read (memory_of i) q.eptp addr)
+    (addr : ℕ) → addr < GUEST_END → All (λ at. is_in_tables i at ≡ true) (addresses_read (memory_of i) q.eptp addr)
 
 -- ---- bitmaps
 

@@ -11,7 +11,7 @@ use Rattle.machine_meaning.specs.Pending.{with_vector}
 use Rattle.muen_num.specs.declared.mode.EventMode.{EventMode}
 use Rattle.muen_num.specs.declared.mode.EventMode.TheVariants.{Asap, Async, Own as OwnMode, Switch}
 use Rattle.policy_lawful.proofs.KeptMembers.{members_kept}
-use Rattle.policy_lawful.proofs.Places.{same_self}
+use Rattle.policy_lawful.proofs.Indexes.{same_self}
 use Rattle.policy_lawful.specs.Lawful.{IsLawful}
 use Rattle.policy_lawful.specs.MoreRules.{fits_mode, some_group_lists}
 use Rattle.policy_meaning.specs.Events.{Raised, Target, event_of}

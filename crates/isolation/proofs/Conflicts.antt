@@ -10,7 +10,7 @@ use Rattle.muen_num.proofs.SearchLaws.{all_pass, none_both, unless_none}
 use Rattle.muen_num.specs.Search.{first_in}
 use Rattle.muen_num.specs.declared.access.AccessKind.TheVariants.{Write}
 use Rattle.policy_lawful.specs.Lawful.{IsLawful}
-use Rattle.policy_lawful.specs.MoreRules.{device_offence, ends_of, fits_event, granted_once, is_connected, is_writer as writes_it, offence_6, offence_9, readers_of, times_granted, writers_of}
+use Rattle.policy_lawful.specs.MoreRules.{device_offence, ends_of_channel, fits_event, granted_once, is_connected, is_writer as writes_it, offence_6, offence_9, readers_of, times_granted, writers_of}
 use Rattle.policy_lawful.specs.Offences.{alone, two}
 use Rattle.policy_meaning.specs.Events.{ChannelEnd, channel_ends, reads_from}
 use Rattle.policy_meaning.specs.Thing.{Thing, channel, device_memory, provided, region, same_thing, state}
@@ -71,7 +71,7 @@ writers_once p lawful c declared =
 writer_in : (p : Source) (u : Subject) → In u p.subjects → (name : List ℕ) (e : ChannelEnd) → In e (channel_ends p u) → e.channel ≡ name → e.role ≡ Writer → In (u.name, e) (writers_of p name)
 writer_in p u in_u name e its of by =
     let here : bytes_eq e.channel name ≡ true = (bytes_eq-Decides e.channel name).1 of in
-    filter_in (λ e. writes_it e.1.role) (ends_of p name) (u.name, e)
+    filter_in (λ e. writes_it e.1.role) (ends_of_channel p name) (u.name, e)
     (flat_in (λ s. map (λ e. (s.name, e)) (filter (λ e. bytes_eq e.channel name) (channel_ends p s))) p.subjects u (u.name, e) in_u
     (map_in (λ e. (u.name, e)) (filter (λ e. bytes_eq e.channel name) (channel_ends p u)) e (filter_in (λ e. bytes_eq e.channel name) (channel_ends p u) e its here)))
     (ap writes_it by)

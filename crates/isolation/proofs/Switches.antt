@@ -10,7 +10,7 @@ use Rattle.muen_num.proofs.SearchLaws.{all_pass, none_both}
 use Rattle.muen_num.specs.Search.{first_in}
 use Rattle.muen_num.specs.declared.mode.EventMode.{EventMode}
 use Rattle.policy_lawful.specs.Lawful.{IsLawful}
-use Rattle.policy_lawful.specs.MoreRules.{channel_mode_offence, ends_of, fits_mode, is_writer as writes_it, mode_offence, offence_13, readers_of, sources_of, targets_of, writers_of}
+use Rattle.policy_lawful.specs.MoreRules.{channel_mode_offence, ends_of_channel, fits_mode, is_writer as writes_it, mode_offence, offence_13, readers_of, sources_of, targets_of, writers_of}
 use Rattle.policy_lawful.specs.Offences.{two}
 use Rattle.policy_meaning.specs.Events.{ChannelEnd, Raised, Target, channel_ends, channel_event, channel_targets, event_of, event_targets, named_event, reads_from, same_way, writes_by}
 use Rattle.policy_types.specs.declared.rights.Role.{Role}
@@ -22,7 +22,7 @@ use Rattle.policy_types.specs.declared.source.EventTarget.{EventTarget}
 use Rattle.policy_types.specs.declared.source.Source.{Source}
 use Rattle.policy_types.specs.declared.source.SourceWay.{SourceWay}
 use Rattle.policy_types.specs.declared.source.Subject.{Subject}
-use Rattle.flow_report.proofs.EventWays.{by_end, by_source, event_is}
+use Rattle.flow_report.proofs.EventWays.{by_channel_end, by_source, event_is}
 use Rattle.isolation.proofs.Conflicts.{none_in}
 use Rattle.isolation.proofs.Counts.{flat_in, in_at}
 
@@ -90,16 +90,16 @@ module _ (p : Source) (lawful : IsLawful p) (u : Subject) (in_u : In u p.subject
           let entry = map_some (λ x. record { subject = to.one.name; vector = x.vector }) (filter (λ x. reads_from x x.role channel_end.channel) (channel_ends p to.one)) t to.part in
           let kept = filter_some (λ x. reads_from x x.role channel_end.channel) (channel_ends p to.one) entry.one entry.within in
           let reads = reads_only entry.one entry.one.role channel_end.channel kept.1 in
-          let target_channel_end : In (to.one.name, entry.one) (ends_of p channel_end.channel) =
+          let target_channel_end : In (to.one.name, entry.one) (ends_of_channel p channel_end.channel) =
           flat_in (λ s. map (λ e. (s.name, e)) (filter (λ e. bytes_eq e.channel channel_end.channel) (channel_ends p s))) p.subjects to.one (to.one.name, entry.one) to.within
           (map_in (λ e. (to.one.name, e)) (filter (λ e. bytes_eq e.channel channel_end.channel) (channel_ends p to.one)) entry.one (filter_in (λ e. bytes_eq e.channel channel_end.channel) (channel_ends p to.one) entry.one kept.0 ((bytes_eq-Decides entry.one.channel channel_end.channel).1 reads.0))) in
           let target : In to.one.name (map (λ e. e.0) (readers_of p channel_end.channel)) =
-          map_in (λ (e : List ℕ × ChannelEnd). e.0) (readers_of p channel_end.channel) (to.one.name, entry.one) (filter_in (λ e. not (writes_it e.1.role)) (ends_of p channel_end.channel) (to.one.name, entry.one) target_channel_end (ap not reads.1)) in
-          let own_channel_end : In (u.name, channel_end) (ends_of p channel_end.channel) =
+          map_in (λ (e : List ℕ × ChannelEnd). e.0) (readers_of p channel_end.channel) (to.one.name, entry.one) (filter_in (λ e. not (writes_it e.1.role)) (ends_of_channel p channel_end.channel) (to.one.name, entry.one) target_channel_end (ap not reads.1)) in
+          let own_channel_end : In (u.name, channel_end) (ends_of_channel p channel_end.channel) =
           flat_in (λ s. map (λ e. (s.name, e)) (filter (λ e. bytes_eq e.channel channel_end.channel) (channel_ends p s))) p.subjects u (u.name, channel_end) in_u
           (map_in (λ e. (u.name, e)) (filter (λ e. bytes_eq e.channel channel_end.channel) (channel_ends p u)) channel_end (filter_in (λ e. bytes_eq e.channel channel_end.channel) (channel_ends p u) channel_end its ((bytes_eq-Decides channel_end.channel channel_end.channel).1 refl))) in
           let mine : In u.name (map (λ e. e.0) (writers_of p channel_end.channel)) =
-          map_in (λ (e : List ℕ × ChannelEnd). e.0) (writers_of p channel_end.channel) (u.name, channel_end) (filter_in (λ e. writes_it e.1.role) (ends_of p channel_end.channel) (u.name, channel_end) own_channel_end writes) in
+          map_in (λ (e : List ℕ × ChannelEnd). e.0) (writers_of p channel_end.channel) (u.name, channel_end) (filter_in (λ e. writes_it e.1.role) (ends_of_channel p channel_end.channel) (u.name, channel_end) own_channel_end writes) in
           let own : channel_mode_offence p c c.has_event ≡ None = none_in (λ c. channel_mode_offence p c c.has_event) p.channels (channel_modes p lawful.rule_13) c declared in
           let none : mode_offence p m c.name (map (λ e. e.0) (writers_of p channel_end.channel)) (map (λ e. e.0) (readers_of p channel_end.channel)) ≡ None =
           subst (λ n. mode_offence p m c.name (map (λ e. e.0) (writers_of p n)) (map (λ e. e.0) (readers_of p n)) ≡ None) called (subst (λ o. channel_mode_offence p c o ≡ None) has own) in
@@ -129,9 +129,9 @@ module _ (p : Source) (lawful : IsLawful p) (u : Subject) (in_u : In u p.subject
       let at = find_in (λ e. writes_by e e.role way) (channel_ends p u) channel_end is in
       by_channel channel_end at.0 (writes_only channel_end channel_end.role way at.1) e k
 
-  of_either : (way : SourceWay) (e : Raised) (a b : Option Raised) → by_source p u way ≡ a → by_end p u way ≡ b → option_or a b ≡ Some e → fits_mode p e.mode u.name e.target.subject ≡ true
+  of_either : (way : SourceWay) (e : Raised) (a b : Option Raised) → by_source p u way ≡ a → by_channel_end p u way ≡ b → option_or a b ≡ Some e → fits_mode p e.mode u.name e.target.subject ≡ true
   of_either way e (Some x) b is other k = of_source way e (find (λ e. same_way e.way way) u.sources) refl (is ∙ k)
   of_either way e None b is other k = of_channel_end way e (find (λ e. writes_by e e.role way) (channel_ends p u)) refl (other ∙ k)
 
   pub raised_fits : (way : SourceWay) (e : Raised) → event_of p u way ≡ Some e → fits_mode p e.mode u.name e.target.subject ≡ true
-  raised_fits way e h = of_either way e (by_source p u way) (by_end p u way) refl refl (sym (event_is p u way) ∙ h)
+  raised_fits way e h = of_either way e (by_source p u way) (by_channel_end p u way) refl refl (sym (event_is p u way) ∙ h)

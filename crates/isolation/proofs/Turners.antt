@@ -5,12 +5,12 @@ use Rattle.std.specs.Option.{option_map_or}
 use Rattle.std.specs.Str.{bytes_eq}
 use Rattle.std.proofs.lemmas.Bool.{eq-eqb, eqb-true}
 use Rattle.std.proofs.lemmas.Slice.Eq.{bytes_eq-Decides}
-use Rattle.frame_clock.specs.FrameAt.{slot_in}
+use Rattle.frame_clock.specs.Frames.{slot_in}
 use Rattle.image_plan.specs.Slot.{Slot}
 use Rattle.muen_num.proofs.Members.{In, find_in}
 use Rattle.policy_lawful.proofs.KeptMajors.{majors_kept}
 use Rattle.policy_lawful.proofs.KeptMembers.{members_kept}
-use Rattle.policy_lawful.proofs.Places.{same_self}
+use Rattle.policy_lawful.proofs.Indexes.{same_self}
 use Rattle.policy_lawful.specs.Lawful.{IsLawful}
 use Rattle.policy_meaning.specs.Frames.{frames_of, group_of}
 use Rattle.policy_types.specs.declared.source.Group.{Group}

@@ -9,8 +9,8 @@ use Rattle.std.proofs.lemmas.List.{length-map}
 use Rattle.std.proofs.lemmas.Option.{slice_get-map, slice_get_within}
 use Rattle.std.proofs.lemmas.Slice.Eq.{bytes_eq-Decides}
 use Rattle.expand_grants.specs.Resources.{msrs_of}
-use Rattle.frame_clock.specs.FrameAt.{first_place, place_at}
-use Rattle.frame_clock.specs.declared.place.FrameAt.{FrameAt}
+use Rattle.frame_clock.specs.Frames.{first_frame, frame_at_tick}
+use Rattle.frame_clock.specs.declared.frame_at.FrameAt.{FrameAt}
 use Rattle.image_plan.proofs.ByNumber.{length_numbers, number_at}
 use Rattle.muen_num.proofs.Members.{In, all_in, any_in, any_some, find_in}
 use Rattle.muen_num.specs.Range.{numbers_below}
@@ -118,13 +118,13 @@ turns_frame p tick (c ∷ cs) y = turns_frame p tick cs (system_turn p c tick y)
 
 -- before a tick, where nothing picks a frame
 frame_before : Source → ℕ → FrameAt
-frame_before p zero = first_place
+frame_before p zero = first_frame
 frame_before p (suc n) = plain_frame p n
 
-begun_frame : (p : Source) (n : ℕ) (at : FrameAt) → at ≡ frame_before p n → place_at (ticks_of_majors p) at None n ≡ plain_frame p n
+begun_frame : (p : Source) (n : ℕ) (at : FrameAt) → at ≡ frame_before p n → frame_at_tick (ticks_of_majors p) at None n ≡ plain_frame p n
 unfolding frame_before
-begun_frame p zero at is = ap (λ at. place_at (ticks_of_majors p) at None 0) is
-begun_frame p (suc n) at is = ap (λ at. place_at (ticks_of_majors p) at None (suc n)) is
+begun_frame p zero at is = ap (λ at. frame_at_tick (ticks_of_majors p) at None 0) is
+begun_frame p (suc n) at is = ap (λ at. frame_at_tick (ticks_of_majors p) at None (suc n)) is
 
 -- ---- orders
 
@@ -211,8 +211,8 @@ module _ (p q : Source) (lawful : IsLawful p) (lawful_too : IsLawful q) (members
   begun_slots : (fr : AgreeOnFrames members p q ends) (n : ℕ) → n < ends → (y z : System) → AreAlike p q members y z → HaveFrames fr n y z → SameSlots p q members n (begins p n y) (begins q n z) × HaveFrames fr (suc n) (begins p n y) (begins q n z)
   unfolding frame_before
   begun_slots (unchosen a b c) n low y z h at =
-      let left : (begins p n y).frame ≡ plain_frame p n = ap (λ o. place_at (ticks_of_majors p) y.frame (pick_in y o) n) a ∙ begun_frame p n y.frame at.0 in
-      let right : (begins q n z).frame ≡ plain_frame q n = ap (λ o. place_at (ticks_of_majors q) z.frame (pick_in z o) n) b ∙ begun_frame q n z.frame at.1 in (
+      let left : (begins p n y).frame ≡ plain_frame p n = ap (λ o. frame_at_tick (ticks_of_majors p) y.frame (pick_in y o) n) a ∙ begun_frame p n y.frame at.0 in
+      let right : (begins q n z).frame ≡ plain_frame q n = ap (λ o. frame_at_tick (ticks_of_majors q) z.frame (pick_in z o) n) b ∙ begun_frame q n z.frame at.1 in (
         λ s w inside is is'. ap (λ at. own_slot p s at n) left ∙ c s w inside is is' n low ∙ sym (ap (λ at. own_slot q w at n) right),
         (left, right),
       )
@@ -220,7 +220,7 @@ module _ (p q : Source) (lawful : IsLawful p) (lawful_too : IsLawful q) (members
       let who = its_chooser p lawful members closed m in_m member a c in
       let byte : thing_in y.things (region a.region) ≡ thing_in z.things (region b.region) = (h who.one who.inside who.is).shown (region a.region) who.shown ∙ ap (λ n. thing_in z.things (region n)) k in
       let pick : pick_in y p.scheduling.tau0 ≡ pick_in z q.scheduling.tau0 = ap (pick_in y) c ∙ ap (option_and_then (λ bytes. slice_get bytes 0)) byte ∙ sym (ap (pick_in z) d) in
-      let same : (begins p n y).frame ≡ (begins q n z).frame = λ i. place_at (l i) (at i) (pick i) n in
+      let same : (begins p n y).frame ≡ (begins q n z).frame = λ i. frame_at_tick (l i) (at i) (pick i) n in
       (λ s w inside is is'. o s w inside is is' (begins p n y).frame n ∙ ap (λ at. own_slot q w at n) same, same)
 
   -- before the turns of a tick

@@ -5,8 +5,8 @@ use Rattle.std.specs.Option.{option_map_or}
 use Rattle.std.specs.Str.{bytes_eq}
 use Rattle.expand_grants.specs.Resources.{ports_of}
 use Rattle.flow_report.specs.Flows.{is_member, reaches}
-use Rattle.frame_clock.specs.FrameAt.{slot_in}
-use Rattle.frame_clock.specs.declared.place.FrameAt.{FrameAt}
+use Rattle.frame_clock.specs.Frames.{slot_in}
+use Rattle.frame_clock.specs.declared.frame_at.FrameAt.{FrameAt}
 use Rattle.policy_lawful.specs.MoreRules.{is_switch}
 use Rattle.policy_meaning.specs.Contents.{Held}
 use Rattle.policy_meaning.specs.Events.{Raised, Target, event_of, irq_of}
@@ -20,7 +20,7 @@ use Rattle.policy_types.specs.declared.source.Tau0.{Tau0}
 use Rattle.record_text.specs.DeviceRecord.{DeviceRecord, NamedInput, port_input, memory_input, irq_input, dma_input}
 use Rattle.subject_model.specs.Alone.{own_of, thing_in}
 use Rattle.subject_model.specs.Clock.{inputs_at, order_at, ticks_of_majors}
-use Rattle.subject_model.specs.Laws.{place_after}
+use Rattle.subject_model.specs.Laws.{frame_after}
 use Rattle.subject_model.specs.System.{is_shown, start_of, subject_named}
 
 -- ---- what agrees for one subject
@@ -81,7 +81,7 @@ holds_member p members cpu = list_any (λ s. is_member members s && (s.cpu == cp
 
 -- the major frame at a tick, where nothing ever picks one
 abbrev pub plain_frame : Source → ℕ → FrameAt
-plain_frame p tick = place_after (ticks_of_majors p) tick
+plain_frame p tick = frame_after (ticks_of_majors p) tick
 
 -- the CPUs go to the groups of members at the same ticks: where nobody chooses frames in either policy, of each tick; where the
 -- same subject chooses them by the same region in both, of each tick of each major frame, of which there are as many, and as long

@@ -8,8 +8,8 @@ use Rattle.image_pack.specs.declared.parts.SubjectPart.{SubjectPart}
 use Rattle.image_plan.specs.Plan.{frames_in}
 use Rattle.image_plan.specs.Slot.{Slot}
 use Rattle.look_up.specs.ByNumber.{change_at}
-use Rattle.frame_clock.specs.FrameAt.{slot_in}
-use Rattle.frame_clock.specs.declared.place.FrameAt.{FrameAt}
+use Rattle.frame_clock.specs.Frames.{slot_in}
+use Rattle.frame_clock.specs.declared.frame_at.FrameAt.{FrameAt}
 use Rattle.event_router.specs.Router.{RouterState, raised, deliverable, taken}
 use Rattle.guest_step.specs.Finish.{finish_of}
 use Rattle.guest_step.specs.declared.end.StepEnd.{StepEnd}

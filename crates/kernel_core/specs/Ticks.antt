@@ -7,7 +7,7 @@ use Rattle.record_text.specs.declared.record.Input.{Input}
 use Rattle.record_text.specs.declared.record.Input.TheVariants.{Port, Mem, Irq, Idle, Dma}
 use Rattle.record_text.specs.declared.record.Record.{Record}
 use Rattle.device_bench.specs.Devices.{IsInOrder, inputs_at, order_at, no_inputs}
-use Rattle.frame_clock.specs.FrameAt.{place_at, ticks_of_majors, first_place}
+use Rattle.frame_clock.specs.Frames.{frame_at_tick, ticks_of_majors, first_frame}
 use Rattle.event_router.specs.Router.{started as router_started, pends_now}
 use Rattle.tick_run.specs.Run.{Clocked, Ran, run_to}
 use Rattle.view_text.specs.declared.TurnLine.{TurnLine}
@@ -23,7 +23,7 @@ live_started setup cpus pages = record {
   router = router_started setup.subjects setup.plan.groups;
   on = replicate cpus None;
   ports = no_inputs;
-  frame = first_place;
+  frame = first_frame;
 }
 
 -- ---- a tick begins
@@ -34,7 +34,7 @@ pick_of tau0 pages = option_and_then (λ page. slice_get (page_at pages page) 0)
 
 abbrev pub begins : Setup → ℕ → Live → Live
 begins setup tick k =
-    record k { frame = place_at (ticks_of_majors setup.plan) k.frame (pick_of setup.tau0 k.machine.pages) tick }
+    record k { frame = frame_at_tick (ticks_of_majors setup.plan) k.frame (pick_of setup.tau0 k.machine.pages) tick }
 
 -- ---- inputs; no table lets a device reach memory by itself
 

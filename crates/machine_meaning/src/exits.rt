@@ -2,7 +2,7 @@
 ghost use Rattle.std.specs.Prelude.{◌≡◌, ◌+◌};
 ghost use Rattle.std.specs.List.{list_any};
 ghost use Rattle.muen_num.specs.Range.{numbers_below};
-ghost use Rattle.muen_num.specs.Size.{bytes_of};
+ghost use Rattle.muen_num.specs.AccessSize.{bytes_of};
 ghost use Rattle.machine_meaning.specs.Exits.{is_set, port_is_set, port_exits, msr_bit, msr_exits};
 
 use muen_num::AccessSize;

@@ -2,7 +2,7 @@
 ghost use Rattle.std.specs.Prelude.{◌≡◌, All, IsTrue};
 ghost use Rattle.ept_count.specs.Pages.{AreApart, IsMapped};
 ghost use Rattle.ept_emit.specs.Entries.{IsEmittable, level_of};
-ghost use Rattle.machine_meaning.specs.Walks.{span};
+ghost use Rattle.machine_meaning.specs.Walks.{entry_size};
 
 use bitflags::Flags;
 use ept_count::{Leaf, Window, pages};
@@ -16,7 +16,7 @@ const TABLES_AT: u64 = 0x10_0000;
 
 // The bytes of the window's greatest page.
 fn page_of(leaf: Leaf) -> u64
-    ensures { result ≡ span (level_of leaf) }
+    ensures { result ≡ entry_size (level_of leaf) }
 {
     match leaf {
         Leaf::Small => PAGE,

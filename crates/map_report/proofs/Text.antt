@@ -15,16 +15,16 @@ use Rattle.expand_kernel.specs.declared.region.Region.{Region}
 use Rattle.muen_num.specs.declared.tag.TagPart.TheVariants.{Named}
 use Rattle.muen_num.proofs.Lists.{there}
 use Rattle.policy_types.specs.declared.source.Block.{Block}
-use Rattle.policy_lawful.specs.Resolution.{IsResolved, Resolution, source_of, subject_named, subject_placed}
+use Rattle.policy_lawful.specs.Resolution.{IsResolved, Resolution, source_of, subject_named, subject_in_range}
 use Rattle.policy_lawful.specs.declared.resolved.Subject.{Subject}
-use Rattle.policy_lawful.proofs.SourceElements.{parts_placed}
+use Rattle.policy_lawful.proofs.SourceElements.{parts_in_range}
 use Rattle.policy_meaning.specs.Thing.{Thing}
 use Rattle.policy_meaning.specs.Windows.{Window}
 use Rattle.policy_views.specs.Views.{thing_shown, view_window, views_of}
 use Rattle.policy_views.specs.declared.view.Shown.{Shown}
 use Rattle.policy_views.specs.declared.view.Shown.TheVariants.{Memory, Channel, Provided, Device, State}
 use Rattle.policy_views.specs.declared.view.View.{View}
-use Rattle.policy_views.proofs.WindowsByPlace.{name_there, windows_by_place}
+use Rattle.policy_views.proofs.WindowsByIndex.{name_there, windows_by_index}
 use Rattle.region_alloc.specs.Placement.{in_a_block, placement_of}
 use Rattle.region_alloc.specs.Placed.{AreInside}
 use Rattle.map_report.specs.MapText.{device_lines, map_text_at, map_text_of, region_lines, tag, text_where, thing_tag, window_line, window_lines}
@@ -74,7 +74,7 @@ same_lines r subject (v ∷ vs) all =
 
 -- ---- one subject
 
-of_subject : (r : Resolution) → IsResolved r → (s : Subject) (g : Grants) → subject_placed r s ≡ true → AreGrantsOf r s g → view_lines r s.name g.views ≡ window_lines (source_of r) (subject_named r s)
+of_subject : (r : Resolution) → IsResolved r → (s : Subject) (g : Grants) → subject_in_range r s ≡ true → AreGrantsOf r s g → view_lines r s.name g.views ≡ window_lines (source_of r) (subject_named r s)
 of_subject r q s g in_range h =
     let there = all_in_order (shows_what_is_there r) is_lower (views_of r s) (views_there r s) in
     let line = line_of_window s.name in
@@ -82,17 +82,17 @@ of_subject r q s g in_range h =
     ∙ same_lines r s.name (in_order is_lower (views_of r s)) there
     ∙ sym (flat_map-map line (view_window r s.name) (in_order is_lower (views_of r s)))
     ∙ ap (flat_map line) (map_in_order (view_window r s.name) (λ v w. nat_le v.guest w.guest) (views_of r s))
-    ∙ ap (λ ws. flat_map line (in_order (λ v w. nat_le v.guest w.guest) ws)) (sym (windows_by_place r s q in_range))
+    ∙ ap (λ ws. flat_map line (in_order (λ v w. nat_le v.guest w.guest) ws)) (sym (windows_by_index r s q in_range))
 
 -- ---- all subjects
 
-of_subjects : (r : Resolution) → IsResolved r → (at : ℕ → List View) (n : ℕ) (ss : List Subject) (gs : List Grants) → AllZip (AreGrantsOf r) ss gs → list_all (subject_placed r) ss ≡ true
+of_subjects : (r : Resolution) → IsResolved r → (at : ℕ → List View) (n : ℕ) (ss : List Subject) (gs : List Grants) → AllZip (AreGrantsOf r) ss gs → list_all (subject_in_range r) ss ≡ true
     → ((k : ℕ) (g : Grants) → slice_get gs k ≡ Some g → at (n + k) ≡ g.views)
     → flat_map (λ x. view_lines r x.1.name (at x.0)) (enumerate_from n ss) ≡ flat_map (λ s. window_lines (source_of r) (subject_named r s)) ss
 of_subjects r q at n [] gs zip in_range is = refl
 of_subjects r q at n (s ∷ ss) [] zip in_range is = absurd zip
 of_subjects r q at n (s ∷ ss) (g ∷ gs) zip in_range is =
-    let parts = and_parts (subject_placed r s) (list_all (subject_placed r) ss) in_range in
+    let parts = and_parts (subject_in_range r s) (list_all (subject_in_range r) ss) in_range in
     let here : at n ≡ g.views = ap at (omega arith) ∙ is 0 g refl in
     let later : (k : ℕ) (h : Grants) → slice_get gs k ≡ Some h → at (n + 1 + k) ≡ h.views = λ k h e. ap at (omega arith) ∙ is (suc k) h e in
     ap (λ vs. view_lines r s.name vs ++ flat_map (λ x. view_lines r x.1.name (at x.0)) (enumerate_from (n + 1) ss)) here
@@ -102,7 +102,7 @@ of_subjects r q at n (s ∷ ss) (g ∷ gs) zip in_range is =
 windows_named : (r : Resolution) → IsResolved r → (gs : List Grants) → AreGrants r gs → all_view_lines r gs 0 r.subjects ≡ flat_map (window_lines (source_of r)) (source_of r).subjects
 unfolding source_of
 windows_named r q gs zip =
-    of_subjects r q (views_at gs) 0 r.subjects gs zip (parts_placed r q.placed).subjects (λ k g e. ap (λ n. views_at gs n) (omega arith) ∙ ap (λ o. option_map_or (λ g. g.views) o []) e)
+    of_subjects r q (views_at gs) 0 r.subjects gs zip (parts_in_range r q.in_range).subjects (λ k g e. ap (λ n. views_at gs n) (omega arith) ∙ ap (λ o. option_map_or (λ g. g.views) o []) e)
     ∙ sym (flat_map-map (window_lines (source_of r)) (subject_named r) r.subjects)
 
 -- ---- the whole

@@ -12,7 +12,7 @@ use Rattle.policy_lawful.proofs.SourceElements.{parts_in_range}
 use Rattle.policy_lawful.proofs.UniqueNames.{unique}
 use Rattle.policy_meaning.specs.Thing.{component_by}
 use Rattle.policy_types.specs.declared.source.Component.{Component}
-use Rattle.expand_kernel.specs.ByPlace.{provided_at}
+use Rattle.expand_kernel.specs.ByIndex.{provided_at}
 use Rattle.muen_build.specs.Filling.{brought_at, filled_at, filled_provided, filled_region}
 use Rattle.muen_build.specs.Refusals.{filled_by, filled_of}
 
@@ -49,4 +49,4 @@ module _ (r : Resolution) (h : IsResolved r) where
 pub filled_by_index : (r : Resolution) → IsResolved r → filled_at r ≡ filled_of (source_of r)
 unfolding filled_of source_of
 filled_by_index r h =
-    sym (ap (λ xs. map filled_region r.memory ++ xs) (of_subjects r h r.subjects (parts_in_range r h.placed).subjects))
+    sym (ap (λ xs. map filled_region r.memory ++ xs) (of_subjects r h r.subjects (parts_in_range r h.in_range).subjects))

@@ -7,10 +7,10 @@ use Rattle.std.proofs.lemmas.Grind.{flat_map-append}
 use Rattle.std.proofs.lemmas.List.{length-map, length-replicate, length-take, map-append, take_all, take_more}
 use Rattle.std.proofs.lemmas.List.Concat.{flat_map-cons}
 use Rattle.expand_grants.specs.Grants.{AreGrants}
-use Rattle.expand_kernel.specs.ByPlace.{brought_at, kernel_for_each, provided_at}
+use Rattle.expand_kernel.specs.ByIndex.{brought_at, kernel_for_each, provided_at}
 use Rattle.expand_kernel.specs.Regions.{channel_region, own_region, provided_region, regions_of}
 use Rattle.expand_kernel.specs.declared.region.Region.{Region}
-use Rattle.expand_kernel.proofs.Numbering.{regions_by_place}
+use Rattle.expand_kernel.proofs.Numbering.{regions_by_index}
 use Rattle.image_emit.specs.Made.{IsFilled}
 use Rattle.muen_build.specs.Accepting.{Files}
 use Rattle.muen_build.specs.Reading.{content_read, read_bytes, sized, things_read}
@@ -123,7 +123,7 @@ module _ (name document : List ℕ) (found : Files) where
   pub things_filled : (x : Placement) → IsResolved x.expanded.lawful → x.expanded.regions ≡ regions_of (source_of x.expanded.lawful) → AreGrants x.expanded.lawful x.expanded.grants → IsFilled x (things_read name document found x.expanded.lawful)
   things_filled x resolved are granted =
       let r = x.expanded.lawful in
-      let regions : x.expanded.regions ≡ first_regions r ++ kernel_for_each r.subjects x.expanded.grants = are ∙ sym (regions_by_place r x.expanded.grants resolved granted) in
+      let regions : x.expanded.regions ≡ first_regions r ++ kernel_for_each r.subjects x.expanded.grants = are ∙ sym (regions_by_index r x.expanded.grants resolved granted) in
       let front : take (length (things_read name document found r)) x.expanded.regions ≡ first_regions r =
       ap₂ (λ n rs. take n rs) (many r) regions ∙ take-append_seam (first_regions r) (kernel_for_each r.subjects x.expanded.grants) in
       record { many = many r ∙ first_many r; sizes = things_sized r ∙ ap (map (λ (r : Region). r.size)) (sym front) }

@@ -4,7 +4,7 @@ ghost use Rattle.muen_num.specs.Search.{as_refusal};
 ghost use Rattle.muen_outside.specs.Store.{find_bytes, whole};
 ghost use Rattle.policy_lawful.specs.Resolution.{source_of};
 ghost use Rattle.muen_build.specs.Accepting.{FailsWith, Grows, IsAdded, Known, NotFound, NotRead, Passes, Refuses, looks_of, of_all, of_brought, of_filled, part_length};
-ghost use Rattle.expand_kernel.specs.ByPlace.{provided_at};
+ghost use Rattle.expand_kernel.specs.ByIndex.{provided_at};
 ghost use Rattle.muen_build.specs.Filling.{brought_at, filled, filled_provided, filled_region};
 ghost use Rattle.muen_build.specs.Looks.{Follows, Saw};
 ghost use Rattle.muen_build.specs.Refusals.{filled_of, too_long_for};

@@ -1,7 +1,7 @@
 //! What a policy's regions hold, made of the files that were read.
 ghost use Rattle.std.specs.Prelude.{◌≡◌, ◌++◌, IfOk, OnOk, map, replicate};
 ghost use Rattle.std.specs.List.{flat_map};
-ghost use Rattle.expand_kernel.specs.ByPlace.{provided_at};
+ghost use Rattle.expand_kernel.specs.ByIndex.{provided_at};
 ghost use Rattle.muen_build.specs.Reading.{content_read, read_bytes, sized, things_read};
 ghost use Rattle.policy_meaning.specs.Contents.{file_part};
 

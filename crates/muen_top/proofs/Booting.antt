@@ -10,7 +10,7 @@ use Rattle.image_meaning.specs.Bench.{devices_of}
 use Rattle.image_meaning.specs.Sound.{IsSound}
 use Rattle.image_pack.specs.Parts.{IsImage}
 use Rattle.image_pack.specs.declared.parts.Image.{Image}
-use Rattle.muen_build.specs.Accepting.{Accepts, Ends, Files, Grows, RefusedFor, RefusesDocument, looks_of}
+use Rattle.muen_build.specs.Accepting.{Accepts, FailsWith, Files, Grows, RefusedFor, RefusesDocument, looks_of}
 use Rattle.muen_build.specs.Building.{IsImageFor}
 use Rattle.muen_build.specs.Looks.{Explained, Follows, Look, Saw, Seen, ShowAll, document_look}
 use Rattle.muen_build.specs.Refusals.{accepted_policy_of}
@@ -113,7 +113,7 @@ module _ (policy name : List ℕ) (old between : FilesState) (bytes : List ℕ) 
         );
       }
 
-  policy_refused : (new : FilesState) (build_error : BuildError) (error : CommandError) → Ends (document_look policy bytes ∷ []) (RefusesDocument bytes) between new build_error → error ≡ error_of_build build_error → Stops (boot policy name) old new error
+  policy_refused : (new : FilesState) (build_error : BuildError) (error : CommandError) → FailsWith (document_look policy bytes ∷ []) (RefusesDocument bytes) between new build_error → error ≡ error_of_build build_error → Stops (boot policy name) old new error
   policy_refused new (RefusedPolicy r) error (inl is) made =
       let out : error ≡ NoMemory = made ∙ ap error_of_refusal is in
       subst (Stops (boot policy name) old new) (sym out) (no_memory policy name old new)

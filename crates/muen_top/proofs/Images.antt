@@ -3,7 +3,7 @@ use Rattle.std.proofs.Common.{◌≡◌, inl, inr, ℕ, List, [], ◌∷◌, Opt
 use Rattle.std.specs.FinMap.{get}
 use Rattle.image_form.specs.Form.{IsBytes}
 use Rattle.muen_num.specs.declared.limits.TheConstants.{POLICY_MOST}
-use Rattle.muen_build.specs.Accepting.{Ends, RefusedFor, RefusesDocument}
+use Rattle.muen_build.specs.Accepting.{FailsWith, RefusedFor, RefusesDocument}
 use Rattle.muen_build.specs.Building.{Builds}
 use Rattle.muen_build.specs.Looks.{Follows, Saw, document_look}
 use Rattle.muen_build.specs.Refusals.{accepted_policy_of}
@@ -75,7 +75,7 @@ module _ (policy : List ℕ) (old between new : FilesState) (bytes : List ℕ) (
         );
       }
 
-  pub image_refused : (build_error : BuildError) (error : CommandError) → Ends (document_look policy bytes ∷ []) (RefusesDocument bytes) between new build_error → error ≡ error_of_build build_error → (image : List ℕ) → Stops (build policy image) old new error
+  pub image_refused : (build_error : BuildError) (error : CommandError) → FailsWith (document_look policy bytes ∷ []) (RefusesDocument bytes) between new build_error → error ≡ error_of_build build_error → (image : List ℕ) → Stops (build policy image) old new error
   image_refused (RefusedPolicy r) error (inl is) made image =
       let out : error ≡ NoMemory = made ∙ ap error_of_refusal is in
       subst (Stops (build policy image) old new) (sym out) (no_memory policy image old new)

@@ -4,7 +4,7 @@ use Rattle.image_form.specs.Form.{IsBytes}
 use Rattle.image_meaning.specs.Sound.{IsSound}
 use Rattle.image_pack.specs.Parts.{IsImage}
 use Rattle.image_pack.specs.declared.parts.Image.{Image}
-use Rattle.muen_build.specs.Accepting.{Accepts, Ends, Files, Grows, RefusesDocument, looks_of}
+use Rattle.muen_build.specs.Accepting.{Accepts, FailsWith, Files, Grows, RefusesDocument, looks_of}
 use Rattle.muen_build.specs.Looks.{Look, Saw, ShowAll, document_look}
 use Rattle.muen_build.specs.declared.accepted.BuildError.{BuildError}
 use Rattle.muen_outside.specs.Counts.{Rose}
@@ -65,5 +65,5 @@ pub record IsMade (policy document : List ℕ) (old : FilesState) (found : Files
 
 -- why it gives none: the policy isn't accepted, or memory was refused for the image
 pub data NotMade (policy document : List ℕ) (old new : FilesState) (error : CommandError) : Type 0 where
-  refused : (build_error : BuildError) → Ends (document_look policy document ∷ []) (RefusesDocument document) old new build_error → error ≡ error_of_build build_error → NotMade policy document old new error
+  refused : (build_error : BuildError) → FailsWith (document_look policy document ∷ []) (RefusesDocument document) old new build_error → error ≡ error_of_build build_error → NotMade policy document old new error
   unmade : (found : Files) → Grows old.held (document_look policy document ∷ []) (looks_of policy document found) → ((files : Store) → ShowAll files (looks_of policy document found) → OnlyMemory error) → NotMade policy document old new error

@@ -10,7 +10,7 @@ use Rattle.muen_num.specs.Range.{numbers_below}
 use Rattle.image_plan.specs.Plan.{cpus_in, cpus_of, frame_of, frames_in}
 use Rattle.policy_meaning.specs.Frames as policy
 use Rattle.policy_meaning.specs.Frames.{entry_frames, frames_of, major_frames_of}
-use Rattle.policy_lawful.specs.Resolution.{Resolution, cpu_named, major_named, major_placed, source_of}
+use Rattle.policy_lawful.specs.Resolution.{Resolution, cpu_named, major_named, major_in_range, source_of}
 use Rattle.policy_lawful.specs.Rules.{repeated}
 use Rattle.policy_lawful.specs.declared.resolved.CpuFrames.{CpuFrames}
 use Rattle.policy_lawful.specs.declared.resolved.MajorFrame.{MajorFrame}
@@ -18,9 +18,9 @@ use Rattle.policy_lawful.specs.declared.resolved.MinorFrame.{MinorFrame}
 use Rattle.muen_num.proofs.Lists.{all_same, find-map, found_among, map-map}
 use Rattle.plan_emit.specs.Emitted.{cpu_part, emitted, major_part, minor_part}
 use Rattle.muen_num.proofs.NumbersBelow.{length_numbers, number_at}
-use Rattle.policy_lawful.proofs.SourceElements.{frame_named, many_majors, place_of_group}
+use Rattle.policy_lawful.proofs.SourceElements.{frame_named, many_majors, index_of_group}
 use Rattle.policy_lawful.proofs.UniqueNames.{group_names}
-use Rattle.policy_lawful.proofs.KeptByPlace.{entry_there, frame_there}
+use Rattle.policy_lawful.proofs.KeptByIndex.{entry_there, frame_there}
 use Rattle.policy_lawful.proofs.KeptPlan.{PlanKept}
 
 -- ---- the number of CPUs
@@ -41,7 +41,7 @@ same_frame : (r : Resolution) (f : MinorFrame) → repeated (group_names r) ≡ 
 unfolding source_of
 same_frame r f unique in_range =
     ap (option_map (λ n. record { group = n; ticks = f.ticks }))
-    (place_of_group r f.group unique (ltb-true f.group (length r.scheduling.groups) in_range))
+    (index_of_group r f.group unique (ltb-true f.group (length r.scheduling.groups) in_range))
 
 same_frames : (r : Resolution) (fs : List MinorFrame) → repeated (group_names r) ≡ None → list_all (frame_there r) fs ≡ true → filter_map (policy.frame_of (source_of r)) (map (frame_named r) fs) ≡ map frame_of (map minor_part fs)
 same_frames r [] unique in_range = refl
@@ -51,7 +51,7 @@ same_frames r (f ∷ fs) unique in_range =
     let rest = same_frames r fs unique parts.1 in
     rw here (ap (λ gs. frame_of (minor_part f) ∷ gs) rest)
 
-same_cpu : (r : Resolution) (cpu : ℕ) (m : MajorFrame) → repeated (group_names r) ≡ None → major_placed r m ≡ true → map frame_of (cpu_part m.cpus cpu) ≡ major_frames_of (source_of r) cpu (major_named r m)
+same_cpu : (r : Resolution) (cpu : ℕ) (m : MajorFrame) → repeated (group_names r) ≡ None → major_in_range r m ≡ true → map frame_of (cpu_part m.cpus cpu) ≡ major_frames_of (source_of r) cpu (major_named r m)
 same_cpu r cpu m unique in_range =
     let test : CpuFrames → Bool = λ c. c.cpu == cpu in
     let named : find (λ c. c.cpu == cpu) (map (cpu_named r) m.cpus) ≡ option_map (cpu_named r) (find test m.cpus) = find-map (λ c. c.cpu == cpu) (cpu_named r) m.cpus in
@@ -72,7 +72,7 @@ unfolding frames_in frames_of source_of
 frames_emitted r k cpu l =
     let cpus = r.processor.logical_cpus in
     map-map (λ m. map frame_of (slice_index_or m.cpus cpu [])) (major_part cpus) r.scheduling.major_frames
-    ∙ all_same (λ m. map frame_of (slice_index_or (map (cpu_part m.cpus) (numbers_below cpus)) cpu [])) (λ m. major_frames_of (source_of r) cpu (major_named r m)) (major_placed r)
+    ∙ all_same (λ m. map frame_of (slice_index_or (map (cpu_part m.cpus) (numbers_below cpus)) cpu [])) (λ m. major_frames_of (source_of r) cpu (major_named r m)) (major_in_range r)
     (λ m in_range. ap (map frame_of) (at_number m.cpus cpus cpu l) ∙ same_cpu r cpu m k.unique in_range)
     r.scheduling.major_frames k.majors_placed
     ∙ sym (map-map (major_frames_of (source_of r) cpu) (major_named r) r.scheduling.major_frames)

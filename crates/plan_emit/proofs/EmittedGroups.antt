@@ -10,7 +10,7 @@ use Rattle.policy_lawful.specs.declared.resolved.Group.{Group}
 use Rattle.muen_num.proofs.Lists.{all_same, each_from, map-map}
 use Rattle.plan_emit.specs.Emitted.{emitted, group_part}
 use Rattle.policy_lawful.proofs.SourceElements.{many_subjects}
-use Rattle.policy_lawful.proofs.KeptByPlace.{has_places, members_there}
+use Rattle.policy_lawful.proofs.KeptByIndex.{has_members, members_there}
 use Rattle.policy_lawful.proofs.KeptPlan.{PlanKept}
 
 pub groups_emitted : (r : Resolution) → map (λ g. g.cpu) (emitted r).groups ≡ map (λ g. g.cpu) (source_of r).scheduling.groups
@@ -34,7 +34,7 @@ firsts_emitted r k =
     let same : named ≡ names = map-map (λ s. s.name) (subject_named r) r.subjects in
     map-map (λ g. slice_index_or named g.first []) group_part r.scheduling.groups
     ∙ ap (λ ns. map (λ g. name_at ns (slice_index g.subjects 0)) r.scheduling.groups) same
-    ∙ all_same (λ g. name_at names (slice_index g.subjects 0)) (λ g. first_member (map (name_at names) g.subjects)) (has_places r)
+    ∙ all_same (λ g. name_at names (slice_index g.subjects 0)) (λ g. first_member (map (name_at names) g.subjects)) (has_members r)
     (λ g h. first_of_group names g (and_parts (nat_lt 0 (length g.subjects)) (list_all (λ i. nat_lt i (length r.subjects)) g.subjects) h).0)
     r.scheduling.groups (members_there r k)
     ∙ sym (map-map (λ g. first_member g.subjects) (group_named r) r.scheduling.groups)
@@ -46,7 +46,7 @@ first_there many (i ∷ is) some all = (and_parts (nat_lt i many) (list_all (λ 
 pub firsts_there : (r : Resolution) → PlanKept r → list_all (λ g. nat_lt g.first (length (source_of r).subjects)) (emitted r).groups ≡ true
 firsts_there r k =
     list_all-map (λ g. nat_lt g.first (length (source_of r).subjects)) group_part r.scheduling.groups
-    ∙ each_from (has_places r) (λ g. nat_lt (slice_index g.subjects 0) (length (source_of r).subjects))
+    ∙ each_from (has_members r) (λ g. nat_lt (slice_index g.subjects 0) (length (source_of r).subjects))
     (λ g h.
     let parts = and_parts (nat_lt 0 (length g.subjects)) (list_all (λ i. nat_lt i (length r.subjects)) g.subjects) h in
     ap (nat_lt (slice_index g.subjects 0)) (many_subjects r) ∙ first_there (length r.subjects) g.subjects parts.0 parts.1)

@@ -4,14 +4,14 @@ use Rattle.std.specs.Prelude.{◌&&◌, nat_lt, nat_le}
 use Rattle.std.specs.List.{list_all}
 use Rattle.std.proofs.lemmas.Bool.{and_from, and_parts, leb-true, lt-ltb, ltb-true}
 use Rattle.muen_num.specs.declared.limits.TheConstants.{MOST_CPUS, MOST_MINOR_FRAMES, MOST_SUBJECTS, MOST_TICKS}
-use Rattle.policy_lawful.specs.Resolution.{Resolution, major_placed, source_of}
+use Rattle.policy_lawful.specs.Resolution.{Resolution, major_in_range, source_of}
 use Rattle.policy_lawful.specs.declared.resolved.CpuFrames.{CpuFrames}
 use Rattle.plan_emit.specs.Emitted.{fits_entry, fits_group, fits_major, fits_minor}
 use Rattle.muen_num.proofs.Lists.{each_at_most, each_from, each_of}
-use Rattle.policy_lawful.proofs.KeptByPlace.{cpus_of_groups, entries_within, entry_there, frame_there, has_places, members_there}
+use Rattle.policy_lawful.proofs.KeptByIndex.{cpus_of_groups, entries_within, entry_there, frame_there, has_members, members_there}
 use Rattle.policy_lawful.proofs.KeptPlan.{PlanKept}
 use Rattle.policy_lawful.proofs.SourceElements.{many_groups, many_subjects}
-use Rattle.policy_lawful.specs.ByPlace.{is_short, ticks_in}
+use Rattle.policy_lawful.specs.ByIndex.{is_short, ticks_in}
 
 pub groups_fit : (r : Resolution) → PlanKept r → list_all fits_group r.scheduling.groups ≡ true
 unfolding source_of
@@ -22,7 +22,7 @@ groups_fit r k =
     let small : (i : ℕ) → nat_lt i (length r.subjects) ≡ true → nat_lt i (2 ^ 8) ≡ true = λ i l.
     let below : i < length r.subjects = ltb-true i (length r.subjects) l in
     lt-ltb i (2 ^ 8) (omega (arith, below, subjects, many)) in
-    each_of (λ g. nat_lt g.cpu r.processor.logical_cpus) (has_places r) fits_group
+    each_of (λ g. nat_lt g.cpu r.processor.logical_cpus) (has_members r) fits_group
     (λ g on in_range.
     let below : g.cpu < r.processor.logical_cpus = ltb-true g.cpu r.processor.logical_cpus on in
     let parts = and_parts (nat_lt 0 (length g.subjects)) (list_all (λ i. nat_lt i (length r.subjects)) g.subjects) in_range in
@@ -52,7 +52,7 @@ majors_fit r k =
     let subjects : length (source_of r).subjects ≤ MOST_SUBJECTS = k.limits.most_subjects in
     let groups : length (source_of r).scheduling.groups ≤ length (source_of r).subjects = k.members.few in
     let few : length r.scheduling.groups ≤ MOST_SUBJECTS = omega (arith, many_s, many_g, subjects, groups) in
-    each_of (λ m. list_all is_short m.cpus) (major_placed r) fits_major
+    each_of (λ m. list_all is_short m.cpus) (major_in_range r) fits_major
     (λ m short in_range. each_of is_short (entry_there r) fits_entry
     (λ c w q. entry_fits r c few w q) m.cpus short in_range)
     r.scheduling.major_frames (entries_within r k) k.majors_placed

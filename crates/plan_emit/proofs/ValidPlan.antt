@@ -12,7 +12,7 @@ use Rattle.muen_num.specs.Range.{numbers_below}
 use Rattle.image_plan.specs.Plan.{cpus_of, is_cpu, is_group_on, is_major, is_minor, is_plan}
 use Rattle.image_plan.specs.declared.plan.GroupPart.{GroupPart}
 use Rattle.image_plan.specs.declared.plan.Minor.{Minor}
-use Rattle.policy_lawful.specs.Resolution.{Resolution, cpu_named, major_named, major_placed, name_at, source_of}
+use Rattle.policy_lawful.specs.Resolution.{Resolution, cpu_named, major_named, major_in_range, name_at, source_of}
 use Rattle.policy_lawful.specs.Rules.{group_cpu, is_frame, is_on, repeated}
 use Rattle.policy_lawful.specs.Rules as rules
 use Rattle.policy_lawful.specs.declared.resolved.CpuFrames.{CpuFrames}
@@ -24,10 +24,10 @@ use Rattle.plan_emit.specs.Emitted.{cpu_part, emitted, first_ticks, group_part, 
 use Rattle.policy_lawful.proofs.KeptMajors as kept
 use Rattle.plan_emit.proofs.EmittedFrames.{cpus_emitted}
 use Rattle.muen_num.proofs.NumbersBelow.{length_numbers, number_passes, numbered}
-use Rattle.policy_lawful.proofs.SourceElements.{cpu_at_place, frame_named, many_majors, ticks_named}
+use Rattle.policy_lawful.proofs.SourceElements.{cpu_at_index, frame_named, many_majors, ticks_named}
 use Rattle.policy_lawful.proofs.UniqueNames.{group_names}
-use Rattle.policy_lawful.specs.ByPlace.{is_short, ticks_in}
-use Rattle.policy_lawful.proofs.KeptByPlace.{cpus_of_groups, entries_within, entry_there, frame_there}
+use Rattle.policy_lawful.specs.ByIndex.{is_short, ticks_in}
+use Rattle.policy_lawful.proofs.KeptByIndex.{cpus_of_groups, entries_within, entry_there, frame_there}
 use Rattle.policy_lawful.proofs.KeptPlan.{PlanKept}
 use Rattle.policy_lawful.proofs.KeptMajors.{has_frames, is_major_kept, is_named, some_ticks}
 
@@ -47,7 +47,7 @@ minor_valid r cpu f unique frame there =
     let on : is_group_on (parts_of r) cpu f.group ≡ is_on named cpu =
     ap (λ o. option_map_or (λ g. g.cpu == cpu) o false) (slice_get-map group_part r.scheduling.groups f.group)
     ∙ same_on cpu (slice_get r.scheduling.groups f.group)
-    ∙ sym (ap (λ o. is_on o cpu) (cpu_at_place r f.group unique (ltb-true f.group (length r.scheduling.groups) there))) in
+    ∙ sym (ap (λ o. is_on o cpu) (cpu_at_index r f.group unique (ltb-true f.group (length r.scheduling.groups) there))) in
     and_from (nat_lt 0 f.ticks) (is_group_on (parts_of r) cpu f.group) parts.0 (on ∙ parts.1)
 
 -- ---- entries
@@ -98,7 +98,7 @@ same_first r (c ∷ cs) = ticks_named r c
 record IsMajor (r : Resolution) (m : MajorFrame) : Type 0 where
   by_name : is_major_kept (source_of r) (major_named r m) ≡ true
   limits : list_all is_short m.cpus ≡ true
-  there : major_placed r m ≡ true
+  there : major_in_range r m ≡ true
 
 -- the entry of a CPU
 record HasEntry (r : Resolution) (m : MajorFrame) (cpu : ℕ) : Type 0 where
@@ -167,7 +167,7 @@ majors_valid r k =
     sym (list_all-map (is_major_kept (source_of r)) (major_named r) r.scheduling.major_frames) ∙ k.majors.majors in
     let limits : list_all (λ m. list_all is_short m.cpus) r.scheduling.major_frames ≡ true = entries_within r k in
     list_all-map (is_major (parts_of r) cpus) (major_part cpus) r.scheduling.major_frames
-    ∙ each_of (λ m. is_major_kept (source_of r) (major_named r m) && list_all is_short m.cpus) (major_placed r) (λ m. is_major (parts_of r) cpus (major_part cpus m))
+    ∙ each_of (λ m. is_major_kept (source_of r) (major_named r m) && list_all is_short m.cpus) (major_in_range r) (λ m. is_major (parts_of r) cpus (major_part cpus m))
     (λ m both there.
     let parts = and_parts (is_major_kept (source_of r) (major_named r m)) (list_all is_short m.cpus) both in
     major_valid r m k (record { by_name = parts.0; limits = parts.1; there = there }))

@@ -7,7 +7,7 @@ use Rattle.image_plan.specs.declared.plan.GroupPart.{GroupPart}
 use Rattle.image_plan.specs.declared.plan.Minor.{Minor}
 use Rattle.image_plan.specs.declared.plan.Major.{Major}
 use Rattle.image_plan.specs.declared.plan.Plan.{Plan}
-use Rattle.policy_lawful.specs.ByPlace.{ticks_in}
+use Rattle.policy_lawful.specs.ByIndex.{ticks_in}
 use Rattle.policy_lawful.specs.Resolution.{Resolution}
 use Rattle.policy_lawful.specs.declared.resolved.Group.{Group}
 use Rattle.policy_lawful.specs.declared.resolved.MajorFrame.{MajorFrame}

@@ -22,7 +22,7 @@ pub record PlanKept (r : Resolution) : Type 0 where
 
 pub plan_kept : (r : Resolution) → IsResolved r → IsLawful (source_of r) → PlanKept r
 plan_kept r resolved kept =
-    let in_range = parts_in_range r resolved.placed in
+    let in_range = parts_in_range r resolved.in_range in
     record {
       cpus = cpus_kept (source_of r) kept.rule_3;
       limits = limits_kept (source_of r) kept.rule_20;

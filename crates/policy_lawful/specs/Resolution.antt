@@ -205,4 +205,4 @@ are_in_range r =
 pub record IsResolved (r : Resolution) : Type 0 where
   pub names : offence_1 (source_of r) ≡ None
   pub references : offence_2 (source_of r) ≡ None
-  pub placed : are_in_range r ≡ true
+  pub in_range : are_in_range r ≡ true

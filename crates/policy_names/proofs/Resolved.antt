@@ -109,6 +109,6 @@ refused_by_2 p e one h =
 -- where neither is broken, it is resolved
 pub resolved : (p : Source) (r : Resolution) → broken 1 (offence_1 p) ≡ None → broken 2 (offence_2 p) ≡ None → StandsFor source_of are_in_range p r → IsResolved r
 resolved p r one two stands =
-    record { names = rw stands.same (none_broken 1 (offence_1 p) one); references = rw stands.same (none_broken 2 (offence_2 p) two); placed = stands.there }
+    record { names = rw stands.same (none_broken 1 (offence_1 p) one); references = rw stands.same (none_broken 2 (offence_2 p) two); in_range = stands.there }
 
 pub ruleset resolution = (names_in_turn, one_behind_another, resolved)

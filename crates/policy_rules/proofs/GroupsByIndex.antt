@@ -14,11 +14,11 @@ use Rattle.muen_num.proofs.SearchLaws.{first_over-map, option_or-None}
 use Rattle.policy_lawful.specs.Offences.{alone}
 use Rattle.policy_lawful.specs.Rules as rules
 use Rattle.policy_lawful.specs.Rules.{repeated, subject_cpu, is_on, times_listed, offence_17}
-use Rattle.policy_lawful.specs.Resolution.{Resolution, IsResolved, name_at, source_of, subject_named, group_named, group_placed}
+use Rattle.policy_lawful.specs.Resolution.{Resolution, IsResolved, name_at, source_of, subject_named, group_named, group_in_range}
 use Rattle.policy_lawful.specs.declared.resolved.Subject.{Subject as ResolvedSubject}
 use Rattle.policy_lawful.specs.declared.resolved.Group.{Group as ResolvedGroup}
-use Rattle.policy_lawful.proofs.Places.{found_at_place, same_name}
-use Rattle.policy_lawful.proofs.SourceElements.{parts_placed}
+use Rattle.policy_lawful.proofs.Indexes.{found_at_index, same_name}
+use Rattle.policy_lawful.proofs.SourceElements.{parts_in_range}
 use Rattle.policy_lawful.proofs.UniqueNames.{subject_names, subjects_unique}
 use Rattle.policy_rules.specs.Groups.{cpu_of_subject, is_member, is_group, group_offence, times_among, times_in, member_offence, AreTimes, groups_offence, counted_offence}
 use Rattle.muen_num.proofs.SameAnswers.{first_in-map, first_numbered_same, both_numbered, list_all_same, some_items, sum_by_same}
@@ -29,9 +29,9 @@ unfolding source_of
 subject_at_index r index unique within =
     ap (option_map (λ s. s.cpu)) (find-map (λ s. bytes_eq s.name (name_at (subject_names r) index)) (subject_named r) r.subjects)
     ∙ option_map-option_map (λ s. s.cpu) (subject_named r) (find (λ s. bytes_eq s.name (name_at (subject_names r) index)) r.subjects)
-    ∙ ap (option_map (λ s. s.cpu)) (found_at_place (λ s. s.name) r.subjects index unique within)
+    ∙ ap (option_map (λ s. s.cpu)) (found_at_index (λ s. s.name) r.subjects index unique within)
 
-same_group : (r : Resolution) (g : ResolvedGroup) → repeated (subject_names r) ≡ None → group_placed r g ≡ true → rules.is_group (source_of r) (group_named r g) ≡ is_group r.subjects g
+same_group : (r : Resolution) (g : ResolvedGroup) → repeated (subject_names r) ≡ None → group_in_range r g ≡ true → rules.is_group (source_of r) (group_named r g) ≡ is_group r.subjects g
 same_group r g unique in_range =
     let member : (index : ℕ) → nat_lt index (length r.subjects) ≡ true → is_on (subject_cpu (source_of r) (name_at (subject_names r) index)) g.cpu ≡ is_member r.subjects g.cpu index =
     λ index ok. ap (λ o. is_on o g.cpu) (subject_at_index r index unique (ltb-true index (length r.subjects) ok)) in
@@ -41,7 +41,7 @@ same_group r g unique in_range =
     ap (λ b. b && list_all (λ name. is_on (subject_cpu (source_of r) name) g.cpu) (map (name_at (subject_names r)) g.subjects)) (some_items (name_at (subject_names r)) g.subjects)
     ∙ ap (λ b. not (length g.subjects == 0) && b) members
 
-same_times : (r : Resolution) (k : ℕ) → repeated (subject_names r) ≡ None → k < length r.subjects → list_all (group_placed r) r.scheduling.groups ≡ true
+same_times : (r : Resolution) (k : ℕ) → repeated (subject_names r) ≡ None → k < length r.subjects → list_all (group_in_range r) r.scheduling.groups ≡ true
     → times_listed (source_of r) (name_at (subject_names r) k) ≡ times_in r.scheduling.groups k
 unfolding source_of
 same_times r k unique within in_range =
@@ -50,17 +50,17 @@ same_times r k unique within in_range =
     let one : (i : ℕ) → nat_lt i (length r.subjects) ≡ true → cond (bytes_eq (name_at names i) (name_at names k)) 1 0 ≡ cond (i == k) 1 0 = λ i ok.
     let l : i < length r.subjects = ltb-true i (length r.subjects) ok in
     ap (λ b. cond b 1 0) (same_name names i k unique (omega arith) (omega arith)) in
-    let among : (g : ResolvedGroup) → group_placed r g ≡ true → count_by (λ n. bytes_eq n (name_at names k)) (map (name_at names) g.subjects) ≡ times_among g.subjects k = λ g ok.
+    let among : (g : ResolvedGroup) → group_in_range r g ≡ true → count_by (λ n. bytes_eq n (name_at names k)) (map (name_at names) g.subjects) ≡ times_among g.subjects k = λ g ok.
     sum_by-map (λ n. cond (bytes_eq n (name_at names k)) 1 0) (name_at names) g.subjects
     ∙ sum_by_same (λ i. cond (bytes_eq (name_at names i) (name_at names k)) 1 0) (λ i. cond (i == k) 1 0) (λ i. nat_lt i (length r.subjects)) one g.subjects ok in
     sum_by-map (λ g. count_by (λ n. bytes_eq n (name_at names k)) g.subjects) (group_named r) r.scheduling.groups
-    ∙ sum_by_same (λ g. count_by (λ n. bytes_eq n (name_at names k)) (map (name_at names) g.subjects)) (λ g. times_among g.subjects k) (group_placed r) among r.scheduling.groups in_range
+    ∙ sum_by_same (λ g. count_by (λ n. bytes_eq n (name_at names k)) (map (name_at names) g.subjects)) (λ g. times_among g.subjects k) (group_in_range r) among r.scheduling.groups in_range
 
 name_of_subject : (r : Resolution) (k : ℕ) (s : ResolvedSubject) → slice_get r.subjects k ≡ Some s → name_at (subject_names r) k ≡ s.name
 name_of_subject r k s at =
     get_or-map (λ x. x.name) r.subjects k s [] (slice_get_within r.subjects k s at) ∙ ap (λ x. x.name) (get_or_from_slice_get r.subjects k s s at)
 
-same_member : (r : Resolution) → repeated (subject_names r) ≡ None → list_all (group_placed r) r.scheduling.groups ≡ true → (k : ℕ) (s : ResolvedSubject) → slice_get r.subjects k ≡ Some s
+same_member : (r : Resolution) → repeated (subject_names r) ≡ None → list_all (group_in_range r) r.scheduling.groups ≡ true → (k : ℕ) (s : ResolvedSubject) → slice_get r.subjects k ≡ Some s
     → unless (times_listed (source_of r) s.name == 1) (alone s.name) ≡ member_offence r.scheduling.groups (0 + k, s)
 same_member r unique in_range k s at =
     let within : k < length r.subjects = slice_get_within r.subjects k s at in
@@ -73,9 +73,9 @@ pub groups_by_index : (r : Resolution) → IsResolved r
 unfolding offence_17 source_of
 groups_by_index r resolved =
     let unique = subjects_unique r resolved.names in
-    let in_range = (parts_placed r resolved.placed).groups in
+    let in_range = (parts_in_range r resolved.in_range).groups in
     let first : first_in (λ g. unless (rules.is_group (source_of r) g) (alone g.name)) (map (group_named r) r.scheduling.groups) ≡ first_in (group_offence r.subjects) r.scheduling.groups =
-    first_in-map (group_named r) (λ g. unless (rules.is_group (source_of r) g) (alone g.name)) (group_offence r.subjects) (group_placed r)
+    first_in-map (group_named r) (λ g. unless (rules.is_group (source_of r) g) (alone g.name)) (group_offence r.subjects) (group_in_range r)
     (λ g ok. ap (λ b. unless b (alone g.name)) (same_group r g unique ok)) r.scheduling.groups in_range in
     let later : first_in (λ s. unless (times_listed (source_of r) s.name == 1) (alone s.name)) (map (subject_named r) r.subjects) ≡ first_in (member_offence r.scheduling.groups) (enumerate_from 0 r.subjects) =
     first_over-map (subject_named r) (λ s. unless (times_listed (source_of r) s.name == 1) (alone s.name)) r.subjects

@@ -10,23 +10,23 @@ use Rattle.muen_num.proofs.SameAnswers.{both_named, first_in-map, first_in_same,
 use Rattle.muen_num.proofs.SearchLaws.{option_or-None, option_or_assoc}
 use Rattle.muen_num.specs.declared.limits.TheConstants.{KERNEL_REGIONS, MOST_LOGICAL_NAMES, MOST_MINOR_FRAMES, MOST_MSRS, MOST_TICKS, MOST_WINDOWS}
 use Rattle.muen_num.specs.Search.{unless}
-use Rattle.policy_lawful.specs.ByPlace.{is_short}
+use Rattle.policy_lawful.specs.ByIndex.{is_short}
 use Rattle.policy_lawful.specs.Offences.{alone}
-use Rattle.policy_lawful.specs.Resolution.{IsResolved, Resolution, component_named, component_placed, cpu_named, major_named, source_of, subject_named, subject_placed}
+use Rattle.policy_lawful.specs.Resolution.{IsResolved, Resolution, component_named, component_in_range, cpu_named, major_named, source_of, subject_named, subject_in_range}
 use Rattle.policy_lawful.specs.Rules as rules
 use Rattle.policy_lawful.specs.Rules.{at_most, logical_names, major_name, offence_20, regions_for, subject_limit, window_extents}
 use Rattle.policy_lawful.specs.declared.resolved.ComponentUse.{ComponentUse}
 use Rattle.policy_lawful.specs.declared.resolved.CpuFrames.{CpuFrames}
 use Rattle.policy_lawful.specs.declared.resolved.MajorFrame.{MajorFrame}
 use Rattle.policy_lawful.specs.declared.resolved.Subject.{Subject}
-use Rattle.policy_lawful.proofs.SourceElements.{parts_placed, ticks_named}
+use Rattle.policy_lawful.proofs.SourceElements.{parts_in_range, ticks_named}
 use Rattle.policy_meaning.specs.Thing.{component_by}
 use Rattle.policy_types.specs.declared.source.Component.{Component}
 use Rattle.policy_types.specs.declared.source.Device.{Device}
 use Rattle.policy_types.specs.declared.source.MinorFrame.{MinorFrame}
 use Rattle.policy_views.specs.Views.{view_extent, views_of}
-use Rattle.policy_views.proofs.ExtentsByPlace.{extents_by_place}
-use Rattle.policy_views.proofs.WindowsByPlace.{component_at, component_there, subject_parts}
+use Rattle.policy_views.proofs.ExtentsByIndex.{extents_by_index}
+use Rattle.policy_views.proofs.WindowsByIndex.{component_at, component_there, subject_parts}
 use Rattle.policy_rules.specs.Limits.{device_memory_limit, limits_offence, major_limit, msrs_in, name_limit, provided_by_use, regions_of_subject, subject_limit_at}
 use Rattle.policy_rules.specs.Windows.{device_extent, device_extents}
 
@@ -68,12 +68,12 @@ names_named c =
     let many : length c.provides + length c.memory + length c.channels ≡ length (logical_names c) = omega (arith, a, b, d, front, whole) in
     ap (λ n. at_most n MOST_LOGICAL_NAMES c.name) many
 
-subject_named_limit : (r : Resolution) → IsResolved r → (s : Subject) → subject_placed r s ≡ true → subject_limit (source_of r) (subject_named r s) ≡ subject_limit_at r s
+subject_named_limit : (r : Resolution) → IsResolved r → (s : Subject) → subject_in_range r s ≡ true → subject_limit (source_of r) (subject_named r s) ≡ subject_limit_at r s
 subject_named_limit r q s in_range =
-    let many : length (window_extents (source_of r) (subject_named r s)) ≡ length (views_of r s) = ap length (extents_by_place r s q in_range) ∙ length-map (views_of r s) view_extent in
+    let many : length (window_extents (source_of r) (subject_named r s)) ≡ length (views_of r s) = ap length (extents_by_index r s q in_range) ∙ length-map (views_of r s) view_extent in
     ap (λ n. unless (nat_le n MOST_WINDOWS && nat_le (sum_by msrs_in s.msrs) MOST_MSRS) (alone s.name)) many
 
-provided_named : (r : Resolution) → IsResolved r → (o : Option ComponentUse) → option_map_or (component_placed r) o true ≡ true
+provided_named : (r : Resolution) → IsResolved r → (o : Option ComponentUse) → option_map_or (component_in_range r) o true ≡ true
     → option_map_or (λ c. length c.provides) (component_by (source_of r) (option_map (component_named r) o)) 0 ≡ provided_by_use r o
 provided_named r q None h = refl
 provided_named r q (Some used) h =
@@ -81,7 +81,7 @@ provided_named r q (Some used) h =
     ap (λ o. option_map_or (λ (c : Component). length c.provides) o 0) (component_at r q used c.0 c.1)
     ∙ ap (λ o. option_map_or (λ (c : Component). length c.provides) o 0) (sym c.1)
 
-regions_named : (r : Resolution) → IsResolved r → (s : Subject) → subject_placed r s ≡ true → regions_for (source_of r) (subject_named r s) ≡ regions_of_subject r s
+regions_named : (r : Resolution) → IsResolved r → (s : Subject) → subject_in_range r s ≡ true → regions_for (source_of r) (subject_named r s) ≡ regions_of_subject r s
 regions_named r q s in_range = ap (λ n. n + KERNEL_REGIONS) (provided_named r q s.component (subject_parts r s in_range).component)
 
 -- ---- major frames
@@ -100,12 +100,12 @@ major_limit_named r k m = ap (λ b. unless b (alone (major_name k))) (entries_na
 pub limits_by_index : (r : Resolution) → IsResolved r → limits_offence r ≡ offence_20 (source_of r)
 unfolding offence_20 source_of
 limits_by_index r q =
-    let in_range = (parts_placed r q.placed).subjects in
+    let in_range = (parts_in_range r q.in_range).subjects in
     let many = length-map r.subjects (subject_named r) in
     let majors = length-map r.scheduling.major_frames (major_named r) in
     let names = first_in_same name_limit (λ c. at_most (length (logical_names c)) MOST_LOGICAL_NAMES c.name) names_named r.components in
-    let subjects = first_in-map (subject_named r) (subject_limit (source_of r)) (subject_limit_at r) (subject_placed r) (λ s h. subject_named_limit r q s h) r.subjects in_range in
+    let subjects = first_in-map (subject_named r) (subject_limit (source_of r)) (subject_limit_at r) (subject_in_range r) (λ s h. subject_named_limit r q s h) r.subjects in_range in
     let regions : sum_by (regions_for (source_of r)) (map (subject_named r) r.subjects) ≡ sum_by (regions_of_subject r) r.subjects =
-    sum_by-map (regions_for (source_of r)) (subject_named r) r.subjects ∙ sum_by_same (λ s. regions_for (source_of r) (subject_named r s)) (regions_of_subject r) (subject_placed r) (λ s h. regions_named r q s h) r.subjects in_range in
+    sum_by-map (regions_for (source_of r)) (subject_named r) r.subjects ∙ sum_by_same (λ s. regions_for (source_of r) (subject_named r s)) (regions_of_subject r) (subject_in_range r) (λ s h. regions_named r q s h) r.subjects in_range in
     let within = both_named rules.major_limit major_limit (major_named r) (major_limit_named r) r.scheduling.major_frames in
     simp (many, majors, names, subjects, regions, within, option_or_assoc, option_or-None)

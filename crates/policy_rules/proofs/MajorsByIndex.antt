@@ -9,15 +9,15 @@ use Rattle.muen_num.specs.Range.{numbers_below}
 use Rattle.muen_num.specs.Search.{first_in, first_after, unless}
 use Rattle.muen_num.proofs.Lists.{list_any-map}
 use Rattle.muen_num.proofs.SearchLaws.{option_or-None}
-use Rattle.policy_lawful.specs.ByPlace.{ticks_in}
+use Rattle.policy_lawful.specs.ByIndex.{ticks_in}
 use Rattle.policy_lawful.specs.Offences.{two}
 use Rattle.policy_lawful.specs.Rules as rules
 use Rattle.policy_lawful.specs.Rules.{repeated, major_name, cpu_name, is_on, offence_16, tau0_offence}
-use Rattle.policy_lawful.specs.Resolution.{Resolution, IsResolved, source_of, cpu_named, major_named, major_placed}
+use Rattle.policy_lawful.specs.Resolution.{Resolution, IsResolved, source_of, cpu_named, major_named, major_in_range}
 use Rattle.policy_lawful.specs.declared.resolved.MajorFrame.{MajorFrame as ResolvedMajor}
 use Rattle.policy_lawful.specs.declared.resolved.CpuFrames.{CpuFrames as ResolvedCpu}
 use Rattle.policy_lawful.specs.declared.resolved.MinorFrame.{MinorFrame as ResolvedFrame}
-use Rattle.policy_lawful.proofs.SourceElements.{cpu_at_place, frame_named, parts_placed, ticks_named}
+use Rattle.policy_lawful.proofs.SourceElements.{cpu_at_index, frame_named, parts_in_range, ticks_named}
 use Rattle.policy_lawful.proofs.UniqueNames.{group_names, groups_unique}
 use Rattle.policy_rules.specs.Majors.{is_frame, has_first_ticks, is_entry, entry_offence, missing_offence, major_offence}
 use Rattle.muen_num.proofs.SameAnswers.{first_in_same, first_numbered-map, first_after-map, list_all_same, some_items}
@@ -29,7 +29,7 @@ same_frame : (r : Resolution) (cpu : ℕ) (f : ResolvedFrame) → repeated (grou
     → rules.is_frame (source_of r) cpu (frame_named r f) ≡ is_frame r.scheduling.groups cpu f
 unfolding frame_in_range
 same_frame r cpu f unique in_range =
-    ap (λ o. nat_lt 0 f.ticks && is_on o cpu) (cpu_at_place r f.group unique (ltb-true f.group (length r.scheduling.groups) in_range))
+    ap (λ o. nat_lt 0 f.ticks && is_on o cpu) (cpu_at_index r f.group unique (ltb-true f.group (length r.scheduling.groups) in_range))
 
 same_frames : (r : Resolution) (cpu : ℕ) (fs : List ResolvedFrame) → repeated (group_names r) ≡ None → list_all (frame_in_range r) fs ≡ true
     → list_all (rules.is_frame (source_of r) cpu) (map (frame_named r) fs) ≡ list_all (is_frame r.scheduling.groups cpu) fs
@@ -60,7 +60,7 @@ same_entry r before c unique in_range =
     (same_frames r c.cpu c.minor_frames unique in_range)
     (same_first_ticks r before c)
 
-same_major : (r : Resolution) (k : ℕ) (m : ResolvedMajor) → repeated (group_names r) ≡ None → major_placed r m ≡ true
+same_major : (r : Resolution) (k : ℕ) (m : ResolvedMajor) → repeated (group_names r) ≡ None → major_in_range r m ≡ true
     → rules.major_offence (source_of r) (k, major_named r m) ≡ major_offence r.scheduling.groups r.processor.logical_cpus (k, m)
 unfolding source_of cpu_in_range frame_in_range
 same_major r k m unique in_range =
@@ -80,5 +80,5 @@ unfolding offence_16 source_of
 majors_by_index r resolved =
     let unique = groups_unique r resolved.names in
     ap (λ o. option_or o (tau0_offence (source_of r) r.scheduling.tau0))
-    (sym (first_numbered-map (major_named r) (rules.major_offence (source_of r)) (major_offence r.scheduling.groups r.processor.logical_cpus) (major_placed r)
-    (λ k m ok. same_major r k m unique ok) 0 r.scheduling.major_frames (parts_placed r resolved.placed).majors))
+    (sym (first_numbered-map (major_named r) (rules.major_offence (source_of r)) (major_offence r.scheduling.groups r.processor.logical_cpus) (major_in_range r)
+    (λ k m ok. same_major r k m unique ok) 0 r.scheduling.major_frames (parts_in_range r resolved.in_range).majors))

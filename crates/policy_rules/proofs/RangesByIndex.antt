@@ -8,18 +8,18 @@ use Rattle.muen_num.specs.Search.{first_in, unless}
 use Rattle.muen_num.proofs.Lists.{each_from}
 use Rattle.muen_num.proofs.SameAnswers.{first_in-map, first_in_same}
 use Rattle.muen_num.proofs.SearchLaws.{all_pass, first_over-map, none_both, option_or-None, option_or_assoc}
-use Rattle.policy_lawful.specs.ByPlace.{block_extent}
+use Rattle.policy_lawful.specs.ByIndex.{block_extent}
 use Rattle.policy_lawful.specs.Offences.{alone, two}
-use Rattle.policy_lawful.specs.Resolution.{IsResolved, Resolution, source_of, subject_named, subject_placed}
+use Rattle.policy_lawful.specs.Resolution.{IsResolved, Resolution, source_of, subject_named, subject_in_range}
 use Rattle.policy_lawful.specs.Rules.{component_offence, first_overlap, is_guest, is_page_aligned, is_page_size, is_physical, offence_4, offence_5, offence_18, window_extents, window_offence}
 use Rattle.policy_lawful.specs.declared.offence.Extent.{Extent}
 use Rattle.policy_lawful.specs.declared.resolved.Subject.{Subject}
-use Rattle.policy_lawful.proofs.SourceElements.{parts_placed}
+use Rattle.policy_lawful.proofs.SourceElements.{parts_in_range}
 use Rattle.policy_types.specs.declared.source.Block.{Block}
 use Rattle.policy_types.specs.declared.source.Component.{Component}
 use Rattle.policy_types.specs.declared.source.Device.{Device}
 use Rattle.policy_views.specs.Views.{view_extent, views_of}
-use Rattle.policy_views.proofs.ExtentsByPlace.{extents_by_place}
+use Rattle.policy_views.proofs.ExtentsByIndex.{extents_by_index}
 use Rattle.policy_rules.specs.Windows.{addresses_offence, component_ranges, device_extent, device_extents, device_offence, elements_offence, outside_in, overlap_in, physical_extents}
 
 -- ---- rule 4
@@ -29,11 +29,11 @@ ranges_of_component c = simp (option_or_assoc, option_or-None)
 
 outside_named : (r : Resolution) → IsResolved r → first_in (window_offence (source_of r)) (map (subject_named r) r.subjects) ≡ first_in (outside_in r) r.subjects
 outside_named r q =
-    first_in-map (subject_named r) (window_offence (source_of r)) (outside_in r) (subject_placed r)
+    first_in-map (subject_named r) (window_offence (source_of r)) (outside_in r) (subject_in_range r)
     (λ s in_range.
-    ap (first_in (λ e. unless (is_guest e.address e.size) (two s.name e.name))) (extents_by_place r s q in_range)
+    ap (first_in (λ e. unless (is_guest e.address e.size) (two s.name e.name))) (extents_by_index r s q in_range)
     ∙ first_over-map view_extent (λ e. unless (is_guest e.address e.size) (two s.name e.name)) (views_of r s))
-    r.subjects (parts_placed r q.placed).subjects
+    r.subjects (parts_in_range r q.in_range).subjects
 
 pub addresses_by_index : (r : Resolution) → IsResolved r → addresses_offence r ≡ offence_4 (source_of r)
 unfolding offence_4 source_of
@@ -96,8 +96,8 @@ windows_sized r s h =
 pub windows_apart : (r : Resolution) → IsResolved r → first_in (overlap_in r) r.subjects ≡ offence_5 (source_of r)
 unfolding offence_5 source_of
 windows_apart r q =
-    sym (first_in-map (subject_named r) (λ s. first_overlap (window_extents (source_of r) s)) (overlap_in r) (subject_placed r)
-    (λ s in_range. ap first_overlap (extents_by_place r s q in_range)) r.subjects (parts_placed r q.placed).subjects)
+    sym (first_in-map (subject_named r) (λ s. first_overlap (window_extents (source_of r) s)) (overlap_in r) (subject_in_range r)
+    (λ s in_range. ap first_overlap (extents_by_index r s q in_range)) r.subjects (parts_in_range r q.in_range).subjects)
 
 -- ---- rule 18
 

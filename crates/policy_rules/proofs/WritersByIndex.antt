@@ -16,17 +16,17 @@ use Rattle.muen_num.proofs.SameAnswers.{first_numbered_same}
 use Rattle.muen_num.specs.Search.{first_after, first_in, unless}
 use Rattle.muen_num.specs.declared.access.AccessKind.TheVariants.{Write}
 use Rattle.policy_lawful.specs.Offences.{two}
-use Rattle.policy_lawful.specs.Resolution.{IsResolved, Resolution, source_of, subject_named, subject_placed}
+use Rattle.policy_lawful.specs.Resolution.{IsResolved, Resolution, source_of, subject_named, subject_in_range}
 use Rattle.policy_lawful.specs.Rules.{is_declared, is_sharer, maps, offence_8, other_than, sharing_offence, stranger, writes, writing_offence}
 use Rattle.policy_lawful.specs.declared.offence.Offence.{Offence}
 use Rattle.policy_lawful.specs.declared.resolved.Subject.{Subject}
-use Rattle.policy_lawful.proofs.SourceElements.{parts_placed}
+use Rattle.policy_lawful.proofs.SourceElements.{parts_in_range}
 use Rattle.policy_types.specs.Rights.{allows}
 use Rattle.policy_types.specs.declared.source.Region.{Region}
 use Rattle.policy_types.specs.declared.source.Subject.{Subject as NamedSubject}
 use Rattle.policy_views.specs.Views.{is_on_region, views_of}
 use Rattle.policy_views.specs.declared.view.View.{View}
-use Rattle.policy_views.proofs.RegionsByPlace.{any_same, maps_at, writes_at}
+use Rattle.policy_views.proofs.RegionsByIndex.{any_same, maps_at, writes_at}
 use Rattle.policy_rules.specs.Names.{HasAll}
 use Rattle.policy_rules.specs.Writers.{HasUsers, added, fault_at, not_shared, other_among, sharing_fault, stranger_among, user_of, users_fault, users_of, uses_of, with_user}
 use Rattle.policy_rules.specs.declared.writers.User.{User}
@@ -129,23 +129,23 @@ found_user r k test (s ∷ ss) =
     ]
 
 -- a subject of the source policy
-found_subject : (r : Resolution) → IsResolved r → (by : NamedSubject → Bool) (test : Subject → Bool) → ((s : Subject) → subject_placed r s ≡ true → by (subject_named r s) ≡ test s)
+found_subject : (r : Resolution) → IsResolved r → (by : NamedSubject → Bool) (test : Subject → Bool) → ((s : Subject) → subject_in_range r s ≡ true → by (subject_named r s) ≡ test s)
     → option_map (λ s. s.name) (find by (source_of r).subjects) ≡ option_map (λ s. s.name) (find test r.subjects)
 unfolding source_of
 found_subject r q by test same =
     ap (option_map (λ (s : NamedSubject). s.name)) (find-map by (subject_named r) r.subjects)
     ∙ option_map-option_map (λ (s : NamedSubject). s.name) (subject_named r) (find (λ s. by (subject_named r s)) r.subjects)
-    ∙ ap (option_map (λ (s : Subject). s.name)) (same_find (λ s. by (subject_named r s)) test (subject_placed r) same r.subjects (parts_placed r q.placed).subjects)
+    ∙ ap (option_map (λ (s : Subject). s.name)) (same_find (λ s. by (subject_named r s)) test (subject_in_range r) same r.subjects (parts_in_range r q.in_range).subjects)
 
 -- ---- one region
 
 module _ (r : Resolution) (q : IsResolved r) (k : ℕ) (x : Region) (is : slice_get r.memory k ≡ Some x) where
   -- users that pass, by names
-  user_is : (test : List ℕ → Bool → Bool) (by : NamedSubject → Bool) → ((s : Subject) → subject_placed r s ≡ true → by (subject_named r s) ≡ uses r k test s)
+  user_is : (test : List ℕ → Bool → Bool) (by : NamedSubject → Bool) → ((s : Subject) → subject_in_range r s ≡ true → by (subject_named r s) ≡ uses r k test s)
       → option_map (λ u. u.name) (find (λ u. test u.name u.writes) (users_of r k r.subjects)) ≡ option_map (λ s. s.name) (find by (source_of r).subjects)
   user_is test by same = found_user r k test r.subjects ∙ sym (found_subject r q by (uses r k test) same)
 
-  maps_besides : (s : Subject) (c : Bool) → subject_placed r s ≡ true → (maps (source_of r) x.name (subject_named r s) && c) ≡ list_any (λ v. is_on_region k v.shows && c) (views_of r s)
+  maps_besides : (s : Subject) (c : Bool) → subject_in_range r s ≡ true → (maps (source_of r) x.name (subject_named r s) && c) ≡ list_any (λ v. is_on_region k v.shows && c) (views_of r s)
   maps_besides s c h = ap (λ b. b && c) (maps_at r s k x q h is) ∙ sym (any_besides (λ v. is_on_region k v.shows) c (views_of r s))
 
   -- of the other than the writer
@@ -188,8 +188,8 @@ module _ (r : Resolution) (q : IsResolved r) (k : ℕ) (x : Region) (is : slice_
       list_any-map (λ m. bytes_eq m n) (λ u. u.name) (users_of r k r.subjects)
       ∙ users_named n r.subjects
       ∙ sym (list_any-map (λ s. bytes_eq s.name n && maps (source_of r) x.name s) (subject_named r) r.subjects
-      ∙ any_same (λ s. bytes_eq s.name n && maps (source_of r) x.name (subject_named r s)) (λ s. bytes_eq s.name n && list_any (λ v. is_on_region k v.shows) (views_of r s)) (subject_placed r)
-      (λ s h. ap (λ b. bytes_eq s.name n && b) (maps_at r s k x q h is)) r.subjects (parts_placed r q.placed).subjects)
+      ∙ any_same (λ s. bytes_eq s.name n && maps (source_of r) x.name (subject_named r s)) (λ s. bytes_eq s.name n && list_any (λ v. is_on_region k v.shows) (views_of r s)) (subject_in_range r)
+      (λ s h. ap (λ b. bytes_eq s.name n && b) (maps_at r s k x q h is)) r.subjects (parts_in_range r q.in_range).subjects)
 
   sharing_named : sharing_fault (users_of r k r.subjects) x ≡ sharing_offence (source_of r) x
   sharing_named =

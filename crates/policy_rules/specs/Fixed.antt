@@ -1,7 +1,7 @@
 -- Rule 19 of a policy: fixed regions as ranges, and the blocks that they lie in.
 use Rattle.std.specs.Prelude.{List, map}
 use Rattle.std.specs.List.{filter_map}
-use Rattle.policy_lawful.specs.ByPlace.{block_extent}
+use Rattle.policy_lawful.specs.ByIndex.{block_extent}
 use Rattle.policy_lawful.specs.MoreRules.{fixed_extent}
 use Rattle.policy_lawful.specs.declared.offence.Extent.{Extent}
 use Rattle.policy_types.specs.declared.source.Block.{Block}

@@ -4,7 +4,7 @@ use Rattle.std.specs.Option.{option_map_or, option_or}
 use Rattle.std.specs.List.{count_by, enumerate_from, list_all, sum_by}
 use Rattle.muen_num.specs.declared.limits.TheConstants.{KERNEL_REGIONS, MOST_BLOCK_BYTES, MOST_BLOCKS, MOST_CHANNELS, MOST_COMPONENTS, MOST_DEVICE_BYTES, MOST_DEVICE_WINDOWS, MOST_DEVICES, MOST_EVENTS, MOST_LOGICAL_NAMES, MOST_MAJOR_FRAMES, MOST_MSRS, MOST_REGIONS, MOST_SUBJECTS, MOST_WINDOWS}
 use Rattle.muen_num.specs.Search.{first_in, unless}
-use Rattle.policy_lawful.specs.ByPlace.{is_short}
+use Rattle.policy_lawful.specs.ByIndex.{is_short}
 use Rattle.policy_lawful.specs.Offences.{alone}
 use Rattle.policy_lawful.specs.Resolution.{Resolution}
 use Rattle.policy_lawful.specs.Rules.{at_most, device_limit, major_name}

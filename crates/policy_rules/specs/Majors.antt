@@ -4,7 +4,7 @@ use Rattle.std.specs.Option.{option_map_or, option_or}
 use Rattle.std.specs.List.{list_any, list_all}
 use Rattle.muen_num.specs.Range.{numbers_below}
 use Rattle.muen_num.specs.Search.{first_in, first_after, unless}
-use Rattle.policy_lawful.specs.ByPlace.{ticks_in}
+use Rattle.policy_lawful.specs.ByIndex.{ticks_in}
 use Rattle.policy_lawful.specs.Offences.{two}
 use Rattle.policy_lawful.specs.Rules.{major_name, cpu_name, is_on}
 use Rattle.policy_lawful.specs.declared.offence.Offence.{Offence}

@@ -2,7 +2,7 @@
 ghost use Rattle.std.specs.Prelude.{◌≡◌, None, map, IfOk};
 ghost use Rattle.std.specs.List.{flat_map};
 ghost use Rattle.muen_num.specs.Search.{first_in};
-ghost use Rattle.policy_lawful.specs.ByPlace.{block_extent};
+ghost use Rattle.policy_lawful.specs.ByIndex.{block_extent};
 ghost use Rattle.policy_lawful.specs.Resolution.{source_of};
 ghost use Rattle.policy_lawful.specs.Rules.{offence_4, offence_5, offence_18};
 ghost use Rattle.policy_rules.specs.Windows.{device_extent, device_extents, outside_in, overlap_in, physical_extents};

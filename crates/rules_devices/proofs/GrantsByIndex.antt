@@ -17,12 +17,12 @@ use Rattle.muen_num.proofs.SameAnswers.{both_named, first_numbered_same, sum_by_
 use Rattle.muen_num.proofs.SearchLaws.{first_over-map, option_or-None}
 use Rattle.policy_lawful.specs.MoreRules.{device_offence, granted_once, offence_9, times_granted}
 use Rattle.policy_lawful.specs.Offences.{two}
-use Rattle.policy_lawful.specs.Resolution.{Resolution, IsResolved, device_named, device_part, device_placed, name_at, source_of, subject_named, subject_placed}
+use Rattle.policy_lawful.specs.Resolution.{Resolution, IsResolved, device_named, device_part, device_in_range, name_at, source_of, subject_named, subject_in_range}
 use Rattle.policy_lawful.specs.Rules.{repeated}
 use Rattle.policy_lawful.specs.declared.resolved.DeviceUse.{DeviceUse}
 use Rattle.policy_lawful.specs.declared.resolved.Subject.{Subject}
-use Rattle.policy_lawful.proofs.Places.{same_name}
-use Rattle.policy_lawful.proofs.SourceElements.{parts_placed}
+use Rattle.policy_lawful.proofs.Indexes.{same_name}
+use Rattle.policy_lawful.proofs.SourceElements.{parts_in_range}
 use Rattle.policy_lawful.proofs.UniqueNames.{parts_unique, unique}
 use Rattle.policy_types.specs.declared.source.Device.{Device}
 use Rattle.policy_types.specs.declared.source.DeviceUse.{DeviceUse as NamedUse}
@@ -57,7 +57,7 @@ named_parts Irqs r u =
     ∙ sym (map-map (name_at (device_part r (λ d. part_names Irqs d) u.device)) (λ i. i.irq) u.irqs)
 
 -- they are there
-part_indexes_in_range : (p : Resource) (r : Resolution) (u : DeviceUse) → device_placed r u ≡ true → list_all (λ i. nat_lt i (length (device_part r (λ d. part_names p d) u.device))) (indexes_granted p u) ≡ true
+part_indexes_in_range : (p : Resource) (r : Resolution) (u : DeviceUse) → device_in_range r u ≡ true → list_all (λ i. nat_lt i (length (device_part r (λ d. part_names p d) u.device))) (indexes_granted p u) ≡ true
 part_indexes_in_range Memory r u h =
     list_all-map (λ i. nat_lt i (length (device_part r (λ d. part_names Memory d) u.device))) (λ m. m.memory) u.memory ∙ (and_parts _ _ (and_parts _ _ (and_parts _ _ h).0).0).1
 part_indexes_in_range IoPorts r u h = (and_parts _ _ (and_parts _ _ h).0).1
@@ -76,7 +76,7 @@ same_count names j indexes unique within in_range =
     ∙ sum_by_same (λ i. cond (bytes_eq (name_at names i) (name_at names j)) 1 0) (λ i. cond (i == j) 1 0) (λ i. nat_lt i (length names))
     (λ i ok. ap (λ b. cond b 1 0) (same_name names i j unique (ltb-true i (length names) ok) within)) indexes in_range
 
-use_count : (p : Resource) (r : Resolution) (k j : ℕ) (d : Device) (u : DeviceUse) → IsResolved r → slice_get r.devices k ≡ Some d → j < length (part_names p d) → device_placed r u ≡ true → u.device ≡ k
+use_count : (p : Resource) (r : Resolution) (k j : ℕ) (d : Device) (u : DeviceUse) → IsResolved r → slice_get r.devices k ≡ Some d → j < length (part_names p d) → device_in_range r u ≡ true → u.device ≡ k
     → count_by (λ n. bytes_eq n (name_at (part_names p d) j)) (granted_names p (device_named r u)) ≡ times_among (indexes_granted p u) j
 use_count p r k j d u h is within in_range on =
     let names : device_part r (λ d. part_names p d) u.device ≡ part_names p d = ap (device_part r (λ d. part_names p d)) on ∙ part_at p r k d is in
@@ -96,7 +96,7 @@ unfolding source_of
 devices_unique r h = (unique (source_of r) h.names).devices
 
 -- a use is of the device by its name just where it is by its index
-of_device : (r : Resolution) (k : ℕ) (d : Device) (u : DeviceUse) → IsResolved r → slice_get r.devices k ≡ Some d → device_placed r u ≡ true → bytes_eq (device_named r u).device d.name ≡ (u.device == k)
+of_device : (r : Resolution) (k : ℕ) (d : Device) (u : DeviceUse) → IsResolved r → slice_get r.devices k ≡ Some d → device_in_range r u ≡ true → bytes_eq (device_named r u).device d.name ≡ (u.device == k)
 of_device r k d u h is in_range =
     let names = map (λ (d : Device). d.name) r.devices in
     let many : length names ≡ length r.devices = length-map r.devices (λ d. d.name) in
@@ -113,11 +113,11 @@ where_true : (b : Bool) (m n : ℕ) → (b ≡ true → m ≡ n) → cond b m 0 
 where_true true m n h = h refl
 where_true false m n h = refl
 
-uses_count : (p : Resource) (r : Resolution) (k j : ℕ) (d : Device) → IsResolved r → slice_get r.devices k ≡ Some d → j < length (part_names p d) → (us : List DeviceUse) → list_all (device_placed r) us ≡ true
+uses_count : (p : Resource) (r : Resolution) (k j : ℕ) (d : Device) → IsResolved r → slice_get r.devices k ≡ Some d → j < length (part_names p d) → (us : List DeviceUse) → list_all (device_in_range r) us ≡ true
     → sum_by (λ u. count_by (λ n. bytes_eq n (name_at (part_names p d) j)) (granted_names p u)) (filter (λ u. bytes_eq u.device d.name) (map (device_named r) us)) ≡ sum_by (times_by_use p k j) us
 uses_count p r k j d h is within [] all = refl
 uses_count p r k j d h is within (u ∷ us) all =
-    let parts = and_parts (device_placed r u) (list_all (device_placed r) us) all in
+    let parts = and_parts (device_in_range r u) (list_all (device_in_range r) us) all in
     let times : NamedUse → ℕ = λ u. count_by (λ n. bytes_eq n (name_at (part_names p d) j)) (granted_names p u) in
     let rest = filter (λ u. bytes_eq u.device d.name) (map (device_named r) us) in
     let one : cond (u.device == k) (times (device_named r u)) 0 ≡ cond (u.device == k) (times_among (indexes_granted p u) j) 0 =
@@ -131,7 +131,7 @@ uses_count p r k j d h is within (u ∷ us) all =
 
 -- ---- all subjects
 
-subject_devices : (r : Resolution) (s : Subject) → subject_placed r s ≡ true → list_all (device_placed r) s.devices ≡ true
+subject_devices : (r : Resolution) (s : Subject) → subject_in_range r s ≡ true → list_all (device_in_range r) s.devices ≡ true
 subject_devices r s h = (and_parts _ _ (and_parts _ _ (and_parts _ _ (and_parts _ _ h).0).0).0).1
 
 same_times : (p : Resource) (r : Resolution) (k j : ℕ) (d : Device) → IsResolved r → slice_get r.devices k ≡ Some d → j < length (part_names p d)
@@ -140,8 +140,8 @@ unfolding source_of
 same_times p r k j d h is within =
     let times : NamedUse → ℕ = λ u. count_by (λ n. bytes_eq n (name_at (part_names p d) j)) (granted_names p u) in
     sum_by-map (λ s. sum_by times (filter (λ u. bytes_eq u.device d.name) s.devices)) (subject_named r) r.subjects
-    ∙ sum_by_same (λ s. sum_by times (filter (λ u. bytes_eq u.device d.name) (map (device_named r) s.devices))) (times_by_subject p k j) (subject_placed r)
-    (λ s in_range. uses_count p r k j d h is within s.devices (subject_devices r s in_range)) r.subjects (parts_placed r h.placed).subjects
+    ∙ sum_by_same (λ s. sum_by times (filter (λ u. bytes_eq u.device d.name) (map (device_named r) s.devices))) (times_by_subject p k j) (subject_in_range r)
+    (λ s in_range. uses_count p r k j d h is within s.devices (subject_devices r s in_range)) r.subjects (parts_in_range r h.in_range).subjects
 
 -- ---- counts tell what is granted twice
 
@@ -203,8 +203,8 @@ grants_by_index r memory io_ports irqs h a b c =
 -- each use is of a device
 pub uses_on_devices : (r : Resolution) → IsResolved r → All (IsOnDevices (length r.devices)) r.subjects
 uses_on_devices r h =
-    All-weaker (λ s. subject_placed r s ≡ true) (IsOnDevices (length r.devices)) (λ s in_range.
-    All-weaker (λ u. device_placed r u ≡ true) (λ u. u.device < length r.devices)
+    All-weaker (λ s. subject_in_range r s ≡ true) (IsOnDevices (length r.devices)) (λ s in_range.
+    All-weaker (λ u. device_in_range r u ≡ true) (λ u. u.device < length r.devices)
     (λ u ok. ltb-true u.device (length r.devices) (and_parts _ _ (and_parts _ _ (and_parts _ _ ok).0).0).0) s.devices
-    (AllPass-from_list_all (device_placed r) s.devices (subject_devices r s in_range))) r.subjects
-    (AllPass-from_list_all (subject_placed r) r.subjects (parts_placed r h.placed).subjects)
+    (AllPass-from_list_all (device_in_range r) s.devices (subject_devices r s in_range))) r.subjects
+    (AllPass-from_list_all (subject_in_range r) r.subjects (parts_in_range r h.in_range).subjects)

@@ -12,14 +12,14 @@ use Rattle.muen_num.proofs.SameAnswers.{both_numbered, first_in-map, first_numbe
 use Rattle.policy_lawful.specs.MoreRules as rules
 use Rattle.policy_lawful.specs.MoreRules.{are_within, entries_for, offence_7}
 use Rattle.policy_lawful.specs.Offences.{two}
-use Rattle.policy_lawful.specs.Resolution.{Resolution, IsResolved, component_named, component_placed, entry_named, entry_placed, source_of, subject_named, subject_placed}
+use Rattle.policy_lawful.specs.Resolution.{Resolution, IsResolved, component_named, component_in_range, entry_named, entry_in_range, source_of, subject_named, subject_in_range}
 use Rattle.policy_lawful.specs.Rules.{logical_names, repeated}
 use Rattle.policy_lawful.specs.declared.resolved.ComponentUse.{ComponentUse}
 use Rattle.policy_lawful.specs.declared.resolved.MapEntry.{MapEntry}
 use Rattle.policy_lawful.specs.declared.resolved.Wanted.{Wanted}
 use Rattle.policy_lawful.specs.declared.resolved.Wanted.TheVariants.{Memory as WantedMemory, Channel as WantedChannel}
-use Rattle.policy_lawful.proofs.Places.{found_at_place}
-use Rattle.policy_lawful.proofs.SourceElements.{parts_placed}
+use Rattle.policy_lawful.proofs.Indexes.{found_at_index}
+use Rattle.policy_lawful.proofs.SourceElements.{parts_in_range}
 use Rattle.policy_lawful.proofs.UniqueNames.{logical_unique, unique}
 use Rattle.policy_meaning.specs.Thing.{component_by}
 use Rattle.policy_types.specs.declared.source.Component.{Component}
@@ -30,7 +30,7 @@ use Rattle.policy_types.specs.declared.source.Region.{Region}
 use Rattle.policy_types.specs.declared.source.Required.{Required}
 use Rattle.policy_views.specs.Views.{same_wanted}
 use Rattle.policy_views.proofs.ChosenEntries.{entry_found}
-use Rattle.policy_views.proofs.WindowsByPlace.{component_at, component_there, name_there, subject_parts, within_names}
+use Rattle.policy_views.proofs.WindowsByIndex.{component_at, component_there, name_there, subject_parts, within_names}
 use Rattle.rules_events.specs.ByIndex.{AreItems, items_at}
 use Rattle.rules_events.specs.Components.{channel_fault, channel_given, channel_grant, channel_offence, component_offence, gives_channel, gives_region, grant, is_channel_mapped, is_memory_mapped, memory_fault, memory_given, memory_grant, memory_offence, subject_offence, use_offence}
 use Rattle.rules_events.specs.declared.components.Grant.{Grant}
@@ -128,19 +128,19 @@ unique_logical : (r : Resolution) → IsResolved r → (used : ℕ) (c : Compone
 unfolding source_of
 unique_logical r h used c is = logical_unique (source_of r) used c h.names is
 
-module _ (r : Resolution) (h : IsResolved r) (used : ComponentUse) (c : Component) (is : slice_get r.components used.used ≡ Some c) (in_range : list_all (λ e. entry_placed r used.used e.logical e.physical) used.map ≡ true) where
+module _ (r : Resolution) (h : IsResolved r) (used : ComponentUse) (c : Component) (is : slice_get r.components used.used ≡ Some c) (in_range : list_all (λ e. entry_in_range r used.used e.logical e.physical) used.map ≡ true) where
   named : MapEntry → NamedEntry
   named e = entry_named r used.used e.logical e
 
   -- a test for one logical name, by name or by index
-  memory_test : (k : ℕ) (x : Required) → slice_get c.memory k ≡ Some x → (e : MapEntry) → entry_placed r used.used e.logical e.physical ≡ true → bytes_eq (named e).logical x.logical ≡ same_wanted e.logical (WantedMemory k)
+  memory_test : (k : ℕ) (x : Required) → slice_get c.memory k ≡ Some x → (e : MapEntry) → entry_in_range r used.used e.logical e.physical ≡ true → bytes_eq (named e).logical x.logical ≡ same_wanted e.logical (WantedMemory k)
   unfolding named
   memory_test k x at e ok =
       sym (some_is (bytes_eq (named e).logical x.logical) (named e))
       ∙ entry_found r used.used c is (unique_logical r h used.used c is) (WantedMemory k) x.logical is_some is_some (within_names (λ x. x.logical) c.memory k x at) (sym (name_there (λ x. x.logical) c.memory k x at)) refl (λ e _ _. refl) (e ∷ []) (and_from _ true ok refl)
       ∙ some_is (same_wanted e.logical (WantedMemory k)) e
 
-  channel_test : (k : ℕ) (x : ComponentChannel) → slice_get c.channels k ≡ Some x → (e : MapEntry) → entry_placed r used.used e.logical e.physical ≡ true → bytes_eq (named e).logical x.logical ≡ same_wanted e.logical (WantedChannel k)
+  channel_test : (k : ℕ) (x : ComponentChannel) → slice_get c.channels k ≡ Some x → (e : MapEntry) → entry_in_range r used.used e.logical e.physical ≡ true → bytes_eq (named e).logical x.logical ≡ same_wanted e.logical (WantedChannel k)
   unfolding named
   channel_test k x at e ok =
       sym (some_is (bytes_eq (named e).logical x.logical) (named e))
@@ -148,31 +148,31 @@ module _ (r : Resolution) (h : IsResolved r) (used : ComponentUse) (c : Componen
       ∙ some_is (same_wanted e.logical (WantedChannel k)) e
 
   -- what an entry gives
-  memory_told : (k : ℕ) (x : Required) (w : Wanted) (e : MapEntry) → entry_placed r used.used w e.physical ≡ true → same_wanted w (WantedMemory k) ≡ true
+  memory_told : (k : ℕ) (x : Required) (w : Wanted) (e : MapEntry) → entry_in_range r used.used w e.physical ≡ true → same_wanted w (WantedMemory k) ≡ true
       → (option_map_or (λ y. y.size == x.size) (find (λ y. bytes_eq y.name (entry_named r used.used w e).physical) r.memory) false && are_within x.rights (entry_named r used.used w e).rights) ≡ gives_region r.memory x (grant e)
   memory_told k x (WantedChannel j) e ok same = absurd (cc)
   memory_told k x (WantedMemory j) e ok same =
-      ap (λ o. option_map_or (λ y. y.size == x.size) o false && are_within x.rights e.rights) (found_at_place (λ y. y.name) r.memory e.physical (regions_unique r h) (ltb-true e.physical (length r.memory) (and_parts _ _ ok).1))
+      ap (λ o. option_map_or (λ y. y.size == x.size) o false && are_within x.rights e.rights) (found_at_index (λ y. y.name) r.memory e.physical (regions_unique r h) (ltb-true e.physical (length r.memory) (and_parts _ _ ok).1))
       ∙ sized (slice_get r.memory e.physical) (λ y. y.size == x.size) (are_within x.rights e.rights)
 
-  channel_told : (k : ℕ) (x : ComponentChannel) (w : Wanted) (e : MapEntry) → entry_placed r used.used w e.physical ≡ true → same_wanted w (WantedChannel k) ≡ true
+  channel_told : (k : ℕ) (x : ComponentChannel) (w : Wanted) (e : MapEntry) → entry_in_range r used.used w e.physical ≡ true → same_wanted w (WantedChannel k) ≡ true
       → (option_map_or (λ y. y.size == x.size) (find (λ y. bytes_eq y.name (entry_named r used.used w e).physical) r.channels) false && not (is_some (entry_named r used.used w e).rights)) ≡ gives_channel r.channels x (grant e)
   channel_told k x (WantedMemory j) e ok same = absurd (cc)
   channel_told k x (WantedChannel j) e ok same =
-      ap (λ o. option_map_or (λ y. y.size == x.size) o false && not (is_some e.rights)) (found_at_place (λ y. y.name) r.channels e.physical (channels_unique r h) (ltb-true e.physical (length r.channels) (and_parts _ _ ok).1))
+      ap (λ o. option_map_or (λ y. y.size == x.size) o false && not (is_some e.rights)) (found_at_index (λ y. y.name) r.channels e.physical (channels_unique r h) (ltb-true e.physical (length r.channels) (and_parts _ _ ok).1))
       ∙ sized (slice_get r.channels e.physical) (λ y. y.size == x.size) (not (is_some e.rights))
 
   memory_mapped : (k : ℕ) (x : Required) → slice_get c.memory k ≡ Some x → rules.is_memory_mapped (source_of r) (component_named r used) x ≡ is_memory_mapped r.memory x (memory_given used.map k)
   unfolding source_of named
   memory_mapped k x at =
-      one_given named (λ e. bytes_eq e.logical x.logical) (λ e. same_wanted e.logical (WantedMemory k)) (λ e. entry_placed r used.used e.logical e.physical) memory_of k
+      one_given named (λ e. bytes_eq e.logical x.logical) (λ e. same_wanted e.logical (WantedMemory k)) (λ e. entry_in_range r used.used e.logical e.physical) memory_of k
       (λ e. option_map_or (λ y. y.size == x.size) (find (λ y. bytes_eq y.name e.physical) r.memory) false && are_within x.rights e.rights) (gives_region r.memory x)
       (memory_test k x at) (λ e es. memory_step k e.logical e es refl) (λ e ok same. memory_told k x e.logical e ok same) used.map in_range
 
   channel_mapped : (k : ℕ) (x : ComponentChannel) → slice_get c.channels k ≡ Some x → rules.is_channel_mapped (source_of r) (component_named r used) x ≡ is_channel_mapped r.channels x (channel_given used.map k)
   unfolding source_of named
   channel_mapped k x at =
-      one_given named (λ e. bytes_eq e.logical x.logical) (λ e. same_wanted e.logical (WantedChannel k)) (λ e. entry_placed r used.used e.logical e.physical) channel_of k
+      one_given named (λ e. bytes_eq e.logical x.logical) (λ e. same_wanted e.logical (WantedChannel k)) (λ e. entry_in_range r used.used e.logical e.physical) channel_of k
       (λ e. option_map_or (λ y. y.size == x.size) (find (λ y. bytes_eq y.name e.physical) r.channels) false && not (is_some e.rights)) (gives_channel r.channels x)
       (channel_test k x at) (λ e es. channel_step k e.logical e es refl) (λ e ok same. channel_told k x e.logical e ok same) used.map in_range
 
@@ -189,7 +189,7 @@ module _ (r : Resolution) (h : IsResolved r) (used : ComponentUse) (c : Componen
   component_same : (by : List ℕ) → rules.use_offence (source_of r) by (Some (component_named r used)) (Some c) ≡ component_offence r by used.map c
   component_same by = (λ i. option_or (memory_same by i) (channels_same by i))
 
-use_same : (r : Resolution) → IsResolved r → (by : List ℕ) (o : Option ComponentUse) → option_map_or (component_placed r) o true ≡ true
+use_same : (r : Resolution) → IsResolved r → (by : List ℕ) (o : Option ComponentUse) → option_map_or (component_in_range r) o true ≡ true
     → rules.use_offence (source_of r) by (option_map (component_named r) o) (component_by (source_of r) (option_map (component_named r) o)) ≡ use_offence r by o
 use_same r h by None in_range = refl
 use_same r h by (Some used) in_range =
@@ -201,5 +201,5 @@ use_same r h by (Some used) in_range =
 pub mapped_by_index : (r : Resolution) → IsResolved r → first_in (subject_offence r) r.subjects ≡ offence_7 (source_of r)
 unfolding offence_7 source_of
 mapped_by_index r h =
-    sym (first_in-map (subject_named r) (λ s. rules.use_offence (source_of r) s.name s.component (component_by (source_of r) s.component)) (subject_offence r) (subject_placed r)
-    (λ s ok. use_same r h s.name s.component (subject_parts r s ok).component) r.subjects (parts_placed r h.placed).subjects)
+    sym (first_in-map (subject_named r) (λ s. rules.use_offence (source_of r) s.name s.component (component_by (source_of r) s.component)) (subject_offence r) (subject_in_range r)
+    (λ s ok. use_same r h s.name s.component (subject_parts r s ok).component) r.subjects (parts_in_range r h.in_range).subjects)

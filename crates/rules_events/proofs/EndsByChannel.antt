@@ -6,16 +6,16 @@ use Rattle.std.proofs.lemmas.Bool.{ltb-true}
 use Rattle.std.proofs.lemmas.List.{length-map}
 use Rattle.policy_lawful.specs.MoreRules as rules
 use Rattle.policy_lawful.specs.MoreRules.{is_writer, readers_of, writers_of}
-use Rattle.policy_lawful.specs.Resolution.{Resolution, IsResolved, name_at, source_of, subject_named, subject_placed}
+use Rattle.policy_lawful.specs.Resolution.{Resolution, IsResolved, name_at, source_of, subject_named, subject_in_range}
 use Rattle.policy_lawful.specs.Rules.{repeated}
 use Rattle.policy_lawful.specs.declared.resolved.Subject.{Subject as ResolvedSubject}
-use Rattle.policy_lawful.proofs.Places.{same_name}
-use Rattle.policy_lawful.proofs.SourceElements.{parts_placed}
+use Rattle.policy_lawful.proofs.Indexes.{same_name}
+use Rattle.policy_lawful.proofs.SourceElements.{parts_in_range}
 use Rattle.policy_lawful.proofs.UniqueNames.{unique}
 use Rattle.policy_meaning.specs.Events.{ChannelEnd, channel_ends}
-use Rattle.policy_views.specs.Views.{end_named, ends_of}
+use Rattle.policy_views.specs.Views.{channel_end_named, channel_ends_of}
 use Rattle.policy_views.specs.declared.view.ChannelEnd.{ChannelEnd}
-use Rattle.policy_views.proofs.EndsByPlace.{ends_by_place, ends_placed}
+use Rattle.policy_views.proofs.EndsByIndex.{ends_by_index, ends_in_range}
 use Rattle.rules_events.specs.ByIndex.{items_at}
 use Rattle.rules_events.specs.ChannelEnds.{met, met_channel_ends, all_channel_ends, all_readers, all_writers, reads, writes}
 use Rattle.rules_events.specs.Parties.{party}
@@ -28,7 +28,7 @@ channel_names r = map (λ c. c.name) r.channels
 
 -- an end with the name of its subject
 abbrev pub met_named : Resolution → Met → List ℕ × ChannelEnd
-met_named r m = (m.party.name, end_named r m.end)
+met_named r m = (m.party.name, channel_end_named r m.end)
 
 channels_unique : (r : Resolution) → IsResolved r → repeated (channel_names r) ≡ None
 unfolding source_of
@@ -41,19 +41,19 @@ same_channel r j k h ok within =
     same_name (channel_names r) j k (channels_unique r h) (omega (arith, many, here)) (omega (arith, many, within))
 
 -- of one subject
-of_subject : (r : Resolution) (k n : ℕ) (s : ResolvedSubject) → IsResolved r → k < length r.channels → subject_placed r s ≡ true
+of_subject : (r : Resolution) (k n : ℕ) (s : ResolvedSubject) → IsResolved r → k < length r.channels → subject_in_range r s ≡ true
     → map (λ e. (s.name, e)) (filter (λ e. bytes_eq e.channel (name_at (channel_names r) k)) (channel_ends (source_of r) (subject_named r s))) ≡ map (met_named r) (items_at k (met_channel_ends r (n, s)))
 of_subject r k n s h within ok =
-    ap (λ es. map (λ e. (s.name, e)) (filter (λ e. bytes_eq e.channel (name_at (channel_names r) k)) es)) (ends_by_place r s h ok)
-    ∙ of_one (λ (e : ChannelEnd). bytes_eq e.channel (name_at (channel_names r) k)) (end_named r) (λ (e : ChannelEnd). e.channel) (λ e. nat_lt e.channel (length r.channels)) k (λ e ok. same_channel r e.channel k h ok within)
-    (λ e. (s.name, e)) (met (party (n, s))) (met_named r) (λ e. refl) (ends_of r s) (ends_placed r s ok)
+    ap (λ es. map (λ e. (s.name, e)) (filter (λ e. bytes_eq e.channel (name_at (channel_names r) k)) es)) (ends_by_index r s h ok)
+    ∙ of_one (λ (e : ChannelEnd). bytes_eq e.channel (name_at (channel_names r) k)) (channel_end_named r) (λ (e : ChannelEnd). e.channel) (λ e. nat_lt e.channel (length r.channels)) k (λ e ok. same_channel r e.channel k h ok within)
+    (λ e. (s.name, e)) (met (party (n, s))) (met_named r) (λ e. refl) (channel_ends_of r s) (ends_in_range r s ok)
 
 -- of all
 pub channel_ends_same : (r : Resolution) (k : ℕ) → IsResolved r → k < length r.channels → rules.ends_of (source_of r) (name_at (channel_names r) k) ≡ map (met_named r) (items_at k (all_channel_ends r))
 unfolding source_of
 channel_ends_same r k h within =
-    of_all (subject_named r) (subject_placed r) k (λ s. map (λ e. (s.name, e)) (filter (λ e. bytes_eq e.channel (name_at (channel_names r) k)) (channel_ends (source_of r) s))) (met_channel_ends r) (met_named r)
-    (λ n s ok. of_subject r k n s h within ok) 0 r.subjects (parts_placed r h.placed).subjects
+    of_all (subject_named r) (subject_in_range r) k (λ s. map (λ e. (s.name, e)) (filter (λ e. bytes_eq e.channel (name_at (channel_names r) k)) (channel_ends (source_of r) s))) (met_channel_ends r) (met_named r)
+    (λ n s ok. of_subject r k n s h within ok) 0 r.subjects (parts_in_range r h.in_range).subjects
 
 filter-map : {X Y : Type 0} (test : Y → Bool) (f : X → Y) (xs : List X) → filter test (map f xs) ≡ map f (filter (λ x. test (f x)) xs)
 filter-map test f [] = refl

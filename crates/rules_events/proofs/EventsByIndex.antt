@@ -12,11 +12,11 @@ use Rattle.muen_num.proofs.SameAnswers.{first_numbered_same}
 use Rattle.policy_lawful.specs.MoreRules.{offence_12, sources_of, targets_of}
 use Rattle.policy_lawful.specs.Offences.{alone}
 use Rattle.policy_lawful.specs.Rules.{repeated}
-use Rattle.policy_lawful.specs.Resolution.{Resolution, IsResolved, name_at, source_of, subject_named, subject_placed}
+use Rattle.policy_lawful.specs.Resolution.{Resolution, IsResolved, name_at, source_of, subject_named, subject_in_range}
 use Rattle.policy_lawful.specs.declared.resolved.EventSource.{EventSource as ResolvedSource}
 use Rattle.policy_lawful.specs.declared.resolved.EventTarget.{EventTarget as ResolvedTarget}
-use Rattle.policy_lawful.proofs.Places.{same_name}
-use Rattle.policy_lawful.proofs.SourceElements.{parts_placed}
+use Rattle.policy_lawful.proofs.Indexes.{same_name}
+use Rattle.policy_lawful.proofs.SourceElements.{parts_in_range}
 use Rattle.policy_lawful.proofs.UniqueNames.{unique}
 use Rattle.policy_types.specs.declared.source.Event.{Event}
 use Rattle.policy_types.specs.declared.source.EventSource.{EventSource}
@@ -51,19 +51,19 @@ same_event r j k h ok within =
 pub sources_same : (r : Resolution) (k : ℕ) → IsResolved r → k < length r.events → sources_of (source_of r) (name_at (event_names r) k) ≡ map (λ x. x.name) (sources_at r k)
 unfolding source_of
 sources_same r k h within =
-    of_all (subject_named r) (subject_placed r) k (λ s. map (λ e. s.name) (filter (λ e. bytes_eq e.event (name_at (event_names r) k)) s.sources)) source_parties (λ (x : Party). x.name)
+    of_all (subject_named r) (subject_in_range r) k (λ s. map (λ e. s.name) (filter (λ e. bytes_eq e.event (name_at (event_names r) k)) s.sources)) source_parties (λ (x : Party). x.name)
     (λ n s ok. of_one (λ e. bytes_eq e.event (name_at (event_names r) k)) (source_named r) (λ e. e.event) (λ e. nat_lt e.event (length r.events)) k (λ e ok. same_event r e.event k h ok within)
     (λ e. s.name) (λ e. party (n, s)) (λ x. x.name) (λ e. refl) s.sources (and_parts _ _ (and_parts _ _ (and_parts _ _ ok).0).0).1)
-    0 r.subjects (parts_placed r h.placed).subjects
+    0 r.subjects (parts_in_range r h.in_range).subjects
 
 -- and its targets
 pub targets_same : (r : Resolution) (k : ℕ) → IsResolved r → k < length r.events → targets_of (source_of r) (name_at (event_names r) k) ≡ map (λ x. x.name) (targets_at r k)
 unfolding source_of
 targets_same r k h within =
-    of_all (subject_named r) (subject_placed r) k (λ s. map (λ e. s.name) (filter (λ e. bytes_eq e.event (name_at (event_names r) k)) s.targets)) target_parties (λ (x : Party). x.name)
+    of_all (subject_named r) (subject_in_range r) k (λ s. map (λ e. s.name) (filter (λ e. bytes_eq e.event (name_at (event_names r) k)) s.targets)) target_parties (λ (x : Party). x.name)
     (λ n s ok. of_one (λ e. bytes_eq e.event (name_at (event_names r) k)) (target_named r) (λ e. e.event) (λ e. nat_lt e.event (length r.events)) k (λ e ok. same_event r e.event k h ok within)
     (λ e. s.name) (λ e. party (n, s)) (λ x. x.name) (λ e. refl) s.targets (and_parts _ _ (and_parts _ _ ok).0).1)
-    0 r.subjects (parts_placed r h.placed).subjects
+    0 r.subjects (parts_in_range r h.in_range).subjects
 
 -- ---- rule 12
 

@@ -19,16 +19,16 @@ use Rattle.muen_num.proofs.SameAnswers.{both_numbered, first_in-map, first_numbe
 use Rattle.policy_lawful.specs.MoreRules as rules
 use Rattle.policy_lawful.specs.MoreRules.{channel_mode_offence, is_writer, mode_offence, offence_13, readers_of, some_group_lists, sources_of, targets_of, writers_of}
 use Rattle.policy_lawful.specs.Offences.{two}
-use Rattle.policy_lawful.specs.Resolution.{Resolution, IsResolved, group_named, group_placed, name_at, source_of}
+use Rattle.policy_lawful.specs.Resolution.{Resolution, IsResolved, group_named, group_in_range, name_at, source_of}
 use Rattle.policy_lawful.specs.Rules.{repeated}
 use Rattle.policy_lawful.specs.declared.resolved.Group.{Group as ResolvedGroup}
 use Rattle.policy_lawful.specs.declared.resolved.Subject.{Subject as ResolvedSubject}
-use Rattle.policy_lawful.proofs.Places.{same_name, same_self}
-use Rattle.policy_lawful.proofs.SourceElements.{parts_placed}
+use Rattle.policy_lawful.proofs.Indexes.{same_name, same_self}
+use Rattle.policy_lawful.proofs.SourceElements.{parts_in_range}
 use Rattle.policy_lawful.proofs.UniqueNames.{subject_names, subjects_unique}
 use Rattle.policy_types.specs.declared.source.Channel.{Channel}
 use Rattle.policy_types.specs.declared.source.Event.{Event}
-use Rattle.policy_views.specs.Views.{ends_of}
+use Rattle.policy_views.specs.Views.{channel_ends_of}
 use Rattle.rules_events.specs.ByIndex.{AreItems, items_at}
 use Rattle.rules_events.specs.Listings.{all_memberships, memberships, share, stands_in}
 use Rattle.rules_events.specs.Directions.{channel_fault, channel_mode, channels_fault, event_fault, events_fault, fits_mode, mode_fault, parties_of, source_fault}
@@ -161,7 +161,7 @@ shared a b gs =
     ∙ any_numbered (λ x. lists a x.1 && stands_in (items_at b (all_memberships gs)) x.0) (λ g. lists a g && lists b g) 0 gs
     (λ i g is. ap (λ t. lists a g && t) (of_groups (λ j. j == 0 + i) b 0 gs ∙ one_number (lists b) 0 i gs g is))
 
-member_same : (r : Resolution) (k : ℕ) (g : ResolvedGroup) → repeated (subject_names r) ≡ None → k < length r.subjects → group_placed r g ≡ true
+member_same : (r : Resolution) (k : ℕ) (g : ResolvedGroup) → repeated (subject_names r) ≡ None → k < length r.subjects → group_in_range r g ≡ true
     → list_any (λ n. bytes_eq n (name_at (subject_names r) k)) (map (name_at (subject_names r)) g.subjects) ≡ lists k g
 member_same r k g unique within in_range =
     let many : length (subject_names r) ≡ length r.subjects = length-map r.subjects (λ s. s.name) in
@@ -174,11 +174,11 @@ groups_same : (r : Resolution) (a b : ℕ) → IsResolved r → a < length r.sub
 unfolding source_of
 groups_same r a b h la lb =
     let unique = subjects_unique r h.names in
-    let in_range = (parts_placed r h.placed).groups in
+    let in_range = (parts_in_range r h.in_range).groups in
     let na = name_at (subject_names r) a in
     let nb = name_at (subject_names r) b in
     list_any-map (λ g. list_any (λ n. bytes_eq n na) g.subjects && list_any (λ n. bytes_eq n nb) g.subjects) (group_named r) r.scheduling.groups
-    ∙ any_same (λ g. list_any (λ n. bytes_eq n na) (map (name_at (subject_names r)) g.subjects) && list_any (λ n. bytes_eq n nb) (map (name_at (subject_names r)) g.subjects)) (λ g. lists a g && lists b g) (group_placed r)
+    ∙ any_same (λ g. list_any (λ n. bytes_eq n na) (map (name_at (subject_names r)) g.subjects) && list_any (λ n. bytes_eq n nb) (map (name_at (subject_names r)) g.subjects)) (λ g. lists a g && lists b g) (group_in_range r)
     (λ g ok. ap (λ t. t && list_any (λ n. bytes_eq n nb) (map (name_at (subject_names r)) g.subjects)) (member_same r a g unique la ok) ∙ ap (λ t. lists a g && t) (member_same r b g unique lb ok)) r.scheduling.groups in_range
     ∙ sym (shared a b r.scheduling.groups)
 
@@ -238,7 +238,7 @@ targets_there r k =
 channel_ends_there : (r : Resolution) → list_all (λ x. is_there r x.1.party) (all_channel_ends r) ≡ true
 channel_ends_there r =
     each_noted (λ m. is_there r m.party) (met_channel_ends r) 0 r.subjects
-    (λ i s is. list_all-map (λ x. is_there r x.1.party) (λ e. (e.channel, met (party (0 + i, s)) e)) (ends_of r s) ∙ always (is_there r (party (0 + i, s))) (party_there r i s is) (ends_of r s))
+    (λ i s is. list_all-map (λ x. is_there r x.1.party) (λ e. (e.channel, met (party (0 + i, s)) e)) (channel_ends_of r s) ∙ always (is_there r (party (0 + i, s))) (party_there r i s is) (channel_ends_of r s))
 
 -- the parties of a channel's ends that pass a test
 parties_there : (r : Resolution) (test : ℕ × Met → Bool) (k : ℕ) → list_all (is_there r) (map (λ m. m.party) (items_at k (filter test (all_channel_ends r)))) ≡ true

@@ -15,11 +15,11 @@ use Rattle.policy_lawful.specs.Domains as domains
 use Rattle.policy_lawful.specs.Domains.{is_monitor, offence_24}
 use Rattle.policy_lawful.specs.Offences.{two}
 use Rattle.policy_lawful.specs.Rules.{repeated, subject_cpu}
-use Rattle.policy_lawful.specs.Resolution.{Resolution, IsResolved, name_at, source_of, subject_named, subject_placed}
+use Rattle.policy_lawful.specs.Resolution.{Resolution, IsResolved, name_at, source_of, subject_named, subject_in_range}
 use Rattle.policy_lawful.specs.declared.resolved.Monitor.{Monitor as ResolvedMonitor}
 use Rattle.policy_lawful.specs.declared.resolved.Subject.{Subject as ResolvedSubject}
-use Rattle.policy_lawful.proofs.Places.{found_at_place, same_name}
-use Rattle.policy_lawful.proofs.SourceElements.{parts_placed}
+use Rattle.policy_lawful.proofs.Indexes.{found_at_index, same_name}
+use Rattle.policy_lawful.proofs.SourceElements.{parts_in_range}
 use Rattle.policy_lawful.proofs.UniqueNames.{subject_names, subjects_unique}
 use Rattle.policy_types.specs.declared.source.Monitor.{Monitor}
 use Rattle.rules_events.specs.Monitors.{monitor_offence, monitors_offence, is_monitored}
@@ -57,7 +57,7 @@ unfolding source_of
 cpu_at r k o unique is =
     ap (option_map (λ s. s.cpu)) (find-map (λ s. bytes_eq s.name (name_at (subject_names r) k)) (subject_named r) r.subjects)
     ∙ option_map-option_map (λ s. s.cpu) (subject_named r) (find (λ s. bytes_eq s.name (name_at (subject_names r) k)) r.subjects)
-    ∙ ap (option_map (λ s. s.cpu)) (found_at_place (λ s. s.name) r.subjects k unique (slice_get_within r.subjects k o is) ∙ is)
+    ∙ ap (option_map (λ s. s.cpu)) (found_at_index (λ s. s.name) r.subjects k unique (slice_get_within r.subjects k o is) ∙ is)
 
 name_of_subject : (r : Resolution) (k : ℕ) (s : ResolvedSubject) → slice_get r.subjects k ≡ Some s → name_at (subject_names r) k ≡ s.name
 name_of_subject r k s at =
@@ -72,7 +72,7 @@ one_monitor r s before m unique all in_range =
     let name : name_at (subject_names r) m.subject ≡ other.0.name = name_of_subject r m.subject other.0 other.1 in
     rw (cpu_at r m.subject other.0 unique other.1, is_met r m.subject before unique within all, name, other.1) refl
 
-monitors_same : (r : Resolution) (s : ResolvedSubject) → repeated (subject_names r) ≡ None → subject_placed r s ≡ true → domains.monitor_offence (source_of r) (subject_named r s) ≡ monitors_offence r.subjects s
+monitors_same : (r : Resolution) (s : ResolvedSubject) → repeated (subject_names r) ≡ None → subject_in_range r s ≡ true → domains.monitor_offence (source_of r) (subject_named r s) ≡ monitors_offence r.subjects s
 monitors_same r s unique in_range =
     after_map (monitor_named r)
     (λ before m. unless (is_monitor (source_of r) (subject_named r s) before m) (two s.name m.subject))
@@ -85,5 +85,5 @@ pub monitors_by_index : (r : Resolution) → IsResolved r → first_in (monitors
 unfolding offence_24 source_of
 monitors_by_index r resolved =
     let unique = subjects_unique r resolved.names in
-    let in_range = (parts_placed r resolved.placed).subjects in
-    sym (first_in-map (subject_named r) (domains.monitor_offence (source_of r)) (monitors_offence r.subjects) (subject_placed r) (λ s ok. monitors_same r s unique ok) r.subjects in_range)
+    let in_range = (parts_in_range r resolved.in_range).subjects in
+    sym (first_in-map (subject_named r) (domains.monitor_offence (source_of r)) (monitors_offence r.subjects) (subject_in_range r) (λ s ok. monitors_same r s unique ok) r.subjects in_range)

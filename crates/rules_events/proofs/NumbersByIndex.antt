@@ -14,20 +14,20 @@ use Rattle.muen_num.proofs.SameAnswers.{first_in-map, list_all_same}
 use Rattle.policy_lawful.specs.MoreRules as rules
 use Rattle.policy_lawful.specs.MoreRules.{are_distinct, are_numbers, are_vectors, call_number, calls_of, is_switch, offence_14, offence_15, trap_reason, vectors_of}
 use Rattle.policy_lawful.specs.Offences.{alone}
-use Rattle.policy_lawful.specs.Resolution.{Resolution, IsResolved, device_named, device_part, name_at, source_of, subject_named, subject_placed}
+use Rattle.policy_lawful.specs.Resolution.{Resolution, IsResolved, device_named, device_part, name_at, source_of, subject_named, subject_in_range}
 use Rattle.policy_lawful.specs.declared.resolved.IrqUse.{IrqUse as ResolvedIrq}
 use Rattle.policy_types.specs.declared.source.IrqUse.{IrqUse}
 use Rattle.policy_lawful.specs.declared.resolved.EventSource.{EventSource as ResolvedSource}
 use Rattle.policy_lawful.specs.declared.resolved.EventTarget.{EventTarget as ResolvedTarget}
 use Rattle.policy_lawful.specs.declared.resolved.Subject.{Subject as ResolvedSubject}
-use Rattle.policy_lawful.proofs.Places.{found_at_place}
-use Rattle.policy_lawful.proofs.SourceElements.{parts_placed}
+use Rattle.policy_lawful.proofs.Indexes.{found_at_index}
+use Rattle.policy_lawful.proofs.SourceElements.{parts_in_range}
 use Rattle.policy_lawful.proofs.UniqueNames.{unique}
 use Rattle.policy_meaning.specs.Events.{channel_ends}
 use Rattle.policy_types.specs.declared.source.EventSource.{EventSource}
 use Rattle.policy_types.specs.declared.source.EventTarget.{EventTarget}
-use Rattle.policy_views.specs.Views.{end_named, ends_of}
-use Rattle.policy_views.proofs.EndsByPlace.{ends_by_place}
+use Rattle.policy_views.specs.Views.{channel_end_named, channel_ends_of}
+use Rattle.policy_views.proofs.EndsByIndex.{ends_by_index}
 use Rattle.rules_events.specs.Calls.{calls_at, traps_at, call_offence}
 use Rattle.rules_events.specs.Numbers.{are_distinct_in}
 use Rattle.rules_events.specs.Vectors.{has_vector, switches, irq_vectors, vectors_at, vector_offence}
@@ -63,18 +63,18 @@ irq_named r device i = record { irq = name_at (device_part r (λ x. map (λ m. m
 
 -- ---- rule 14
 
-calls_same : (r : Resolution) (s : ResolvedSubject) → IsResolved r → subject_placed r s ≡ true → calls_of (source_of r) (subject_named r s) ≡ calls_at r s
+calls_same : (r : Resolution) (s : ResolvedSubject) → IsResolved r → subject_in_range r s ≡ true → calls_of (source_of r) (subject_named r s) ≡ calls_at r s
 calls_same r s resolved in_range =
     let own : filter_map (λ e. call_number e.way) (map (source_named r) s.sources) ≡ filter_map (λ e. call_number e.way) s.sources =
     filter_map_both (λ e. call_number e.way) (source_named r) (λ e. call_number e.way) (λ e. refl) s.sources in
-    let of_ends : filter_map (λ e. e.call) (channel_ends (source_of r) (subject_named r s)) ≡ filter_map (λ e. e.call) (ends_of r s) =
-    ap (filter_map (λ e. e.call)) (ends_by_place r s resolved in_range) ∙ filter_map_both (λ e. e.call) (end_named r) (λ e. e.call) (λ e. refl) (ends_of r s) in
+    let of_ends : filter_map (λ e. e.call) (channel_ends (source_of r) (subject_named r s)) ≡ filter_map (λ e. e.call) (channel_ends_of r s) =
+    ap (filter_map (λ e. e.call)) (ends_by_index r s resolved in_range) ∙ filter_map_both (λ e. e.call) (channel_end_named r) (λ e. e.call) (λ e. refl) (channel_ends_of r s) in
     ap (λ xs. xs ++ filter_map (λ e. e.call) (channel_ends (source_of r) (subject_named r s))) own ∙ ap (λ xs. filter_map (λ e. call_number e.way) s.sources ++ xs) of_ends
 
 traps_same : (r : Resolution) (s : ResolvedSubject) → filter_map (λ e. trap_reason e.way) (subject_named r s).sources ≡ traps_at s
 traps_same r s = filter_map_both (λ e. trap_reason e.way) (source_named r) (λ e. trap_reason e.way) (λ e. refl) s.sources
 
-call_same : (r : Resolution) (s : ResolvedSubject) → IsResolved r → subject_placed r s ≡ true
+call_same : (r : Resolution) (s : ResolvedSubject) → IsResolved r → subject_in_range r s ≡ true
     → unless (are_numbers (calls_of (source_of r) (subject_named r s)) && are_numbers (filter_map (λ e. trap_reason e.way) (subject_named r s).sources)) (alone s.name) ≡ call_offence r s
 call_same r s resolved in_range =
     ap (λ ns. unless (are_numbers ns && are_numbers (filter_map (λ e. trap_reason e.way) (subject_named r s).sources)) (alone s.name)) (calls_same r s resolved in_range)
@@ -85,7 +85,7 @@ unfolding offence_14 source_of
 calls_by_index r resolved =
     sym (first_in-map (subject_named r)
     (λ s. unless (are_numbers (calls_of (source_of r) s) && are_numbers (filter_map (λ e. trap_reason e.way) s.sources)) (alone s.name))
-    (call_offence r) (subject_placed r) (λ s ok. call_same r s resolved ok) r.subjects (parts_placed r resolved.placed).subjects)
+    (call_offence r) (subject_in_range r) (λ s ok. call_same r s resolved ok) r.subjects (parts_in_range r resolved.in_range).subjects)
 
 -- ---- rule 15
 
@@ -93,12 +93,12 @@ calls_by_index r resolved =
 switch_same : (r : Resolution) (index : ℕ) → IsResolved r → nat_lt index (length r.events) ≡ true → rules.is_switch_event (source_of r) (name_at (map (λ e. e.name) r.events) index) ≡ switches r.events index
 unfolding source_of
 switch_same r index resolved ok =
-    ap (λ o. option_map_or (λ e. is_switch e.mode) o false) (found_at_place (λ e. e.name) r.events index (unique (source_of r) resolved.names).events (ltb-true index (length r.events) ok))
+    ap (λ o. option_map_or (λ e. is_switch e.mode) o false) (found_at_index (λ e. e.name) r.events index (unique (source_of r) resolved.names).events (ltb-true index (length r.events) ok))
 
 has_vector_same : (r : Resolution) (t : ResolvedTarget) → IsResolved r → nat_lt t.event (length r.events) ≡ true → rules.has_vector (source_of r) (target_named r t) ≡ has_vector r.events t
 has_vector_same r t resolved ok = ap (λ b. is_some t.vector || b) (switch_same r t.event resolved ok)
 
-have_vectors : (r : Resolution) (s : ResolvedSubject) → IsResolved r → subject_placed r s ≡ true → list_all (rules.has_vector (source_of r)) (subject_named r s).targets ≡ list_all (has_vector r.events) s.targets
+have_vectors : (r : Resolution) (s : ResolvedSubject) → IsResolved r → subject_in_range r s ≡ true → list_all (rules.has_vector (source_of r)) (subject_named r s).targets ≡ list_all (has_vector r.events) s.targets
 have_vectors r s resolved in_range =
     list_all-map (rules.has_vector (source_of r)) (target_named r) s.targets
     ∙ list_all_same (λ t. rules.has_vector (source_of r) (target_named r t)) (has_vector r.events) (λ t. nat_lt t.event (length r.events)) (λ t ok. has_vector_same r t resolved ok) s.targets (and_parts _ _ (and_parts _ _ in_range).0).1
@@ -106,17 +106,17 @@ have_vectors r s resolved in_range =
 irqs_same : (r : Resolution) (s : ResolvedSubject) → flat_map (λ d. map (λ i. i.vector) d.irqs) (subject_named r s).devices ≡ irq_vectors s
 irqs_same r s = flat_map_both (λ d. map (λ i. i.vector) d.irqs) (device_named r) (λ d. map (λ i. i.vector) d.irqs) (λ d. map-map (λ i. i.vector) (irq_named r d.device) d.irqs) s.devices
 
-vectors_same : (r : Resolution) (s : ResolvedSubject) → IsResolved r → subject_placed r s ≡ true → vectors_of (source_of r) (subject_named r s) ≡ vectors_at r s
+vectors_same : (r : Resolution) (s : ResolvedSubject) → IsResolved r → subject_in_range r s ≡ true → vectors_of (source_of r) (subject_named r s) ≡ vectors_at r s
 vectors_same r s resolved in_range =
     let own : filter_map (λ t. t.vector) (subject_named r s).targets ≡ filter_map (λ t. t.vector) s.targets =
     filter_map_both (λ t. t.vector) (target_named r) (λ t. t.vector) (λ t. refl) s.targets in
-    let of_ends : filter_map (λ e. e.vector) (channel_ends (source_of r) (subject_named r s)) ≡ filter_map (λ e. e.vector) (ends_of r s) =
-    ap (filter_map (λ e. e.vector)) (ends_by_place r s resolved in_range) ∙ filter_map_both (λ e. e.vector) (end_named r) (λ e. e.vector) (λ e. refl) (ends_of r s) in
+    let of_ends : filter_map (λ e. e.vector) (channel_ends (source_of r) (subject_named r s)) ≡ filter_map (λ e. e.vector) (channel_ends_of r s) =
+    ap (filter_map (λ e. e.vector)) (ends_by_index r s resolved in_range) ∙ filter_map_both (λ e. e.vector) (channel_end_named r) (λ e. e.vector) (λ e. refl) (channel_ends_of r s) in
     ap (λ xs. xs ++ filter_map (λ e. e.vector) (channel_ends (source_of r) (subject_named r s)) ++ flat_map (λ d. map (λ i. i.vector) d.irqs) (subject_named r s).devices) own
     ∙ ap (λ xs. filter_map (λ t. t.vector) s.targets ++ xs ++ flat_map (λ d. map (λ i. i.vector) d.irqs) (subject_named r s).devices) of_ends
-    ∙ ap (λ xs. filter_map (λ t. t.vector) s.targets ++ filter_map (λ e. e.vector) (ends_of r s) ++ xs) (irqs_same r s)
+    ∙ ap (λ xs. filter_map (λ t. t.vector) s.targets ++ filter_map (λ e. e.vector) (channel_ends_of r s) ++ xs) (irqs_same r s)
 
-vector_same : (r : Resolution) (s : ResolvedSubject) → IsResolved r → subject_placed r s ≡ true
+vector_same : (r : Resolution) (s : ResolvedSubject) → IsResolved r → subject_in_range r s ≡ true
     → unless (list_all (rules.has_vector (source_of r)) (subject_named r s).targets && are_vectors (vectors_of (source_of r) (subject_named r s))) (alone s.name) ≡ vector_offence r s
 vector_same r s resolved in_range =
     ap (λ b. unless (b && are_vectors (vectors_of (source_of r) (subject_named r s))) (alone s.name)) (have_vectors r s resolved in_range)
@@ -127,4 +127,4 @@ unfolding offence_15 source_of
 vectors_by_index r resolved =
     sym (first_in-map (subject_named r)
     (λ s. unless (list_all (rules.has_vector (source_of r)) s.targets && are_vectors (vectors_of (source_of r) s)) (alone s.name))
-    (vector_offence r) (subject_placed r) (λ s ok. vector_same r s resolved ok) r.subjects (parts_placed r resolved.placed).subjects)
+    (vector_offence r) (subject_in_range r) (λ s ok. vector_same r s resolved ok) r.subjects (parts_in_range r resolved.in_range).subjects)

@@ -7,10 +7,10 @@ use Rattle.policy_lawful.specs.Offences.{alone}
 use Rattle.policy_lawful.specs.Resolution.{Resolution}
 use Rattle.policy_lawful.specs.declared.offence.Offence.{Offence}
 use Rattle.policy_lawful.specs.declared.resolved.Subject.{Subject}
-use Rattle.policy_views.specs.Views.{ends_of}
+use Rattle.policy_views.specs.Views.{channel_ends_of}
 
 abbrev pub calls_at : Resolution → Subject → List ℕ
-calls_at r s = filter_map (λ e. call_number e.way) s.sources ++ filter_map (λ e. e.call) (ends_of r s)
+calls_at r s = filter_map (λ e. call_number e.way) s.sources ++ filter_map (λ e. e.call) (channel_ends_of r s)
 
 abbrev pub traps_at : Subject → List ℕ
 traps_at s = filter_map (λ e. trap_reason e.way) s.sources

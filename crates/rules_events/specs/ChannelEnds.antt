@@ -4,7 +4,7 @@ use Rattle.std.specs.List.{enumerate_from, flat_map}
 use Rattle.policy_lawful.specs.MoreRules.{is_writer}
 use Rattle.policy_lawful.specs.Resolution.{Resolution}
 use Rattle.policy_lawful.specs.declared.resolved.Subject.{Subject}
-use Rattle.policy_views.specs.Views.{ends_of}
+use Rattle.policy_views.specs.Views.{channel_ends_of}
 use Rattle.policy_views.specs.declared.view.ChannelEnd.{ChannelEnd}
 use Rattle.rules_events.specs.Parties.{party}
 use Rattle.rules_events.specs.declared.channel_ends.Met.{Met}
@@ -15,7 +15,7 @@ met p e = record { party = p; end = e }
 
 -- the ends of a subject with its index, each at its channel
 abbrev pub met_channel_ends : Resolution → ℕ × Subject → List (ℕ × Met)
-met_channel_ends r (index, s) = map (λ e. (e.channel, met (party (index, s)) e)) (ends_of r s)
+met_channel_ends r (index, s) = map (λ e. (e.channel, met (party (index, s)) e)) (channel_ends_of r s)
 
 abbrev pub all_channel_ends : Resolution → List (ℕ × Met)
 all_channel_ends r = flat_map (met_channel_ends r) (enumerate_from 0 r.subjects)

@@ -10,7 +10,7 @@ use Rattle.policy_lawful.specs.declared.offence.Offence.{Offence}
 use Rattle.policy_lawful.specs.declared.resolved.EventTarget.{EventTarget}
 use Rattle.policy_lawful.specs.declared.resolved.Subject.{Subject}
 use Rattle.policy_types.specs.declared.source.Event.{Event}
-use Rattle.policy_views.specs.Views.{ends_of}
+use Rattle.policy_views.specs.Views.{channel_ends_of}
 
 -- the event at an index switches
 abbrev pub switches : List Event → ℕ → Bool
@@ -23,7 +23,7 @@ abbrev pub irq_vectors : Subject → List ℕ
 irq_vectors s = flat_map (λ d. map (λ i. i.vector) d.irqs) s.devices
 
 abbrev pub vectors_at : Resolution → Subject → List ℕ
-vectors_at r s = filter_map (λ t. t.vector) s.targets ++ filter_map (λ e. e.vector) (ends_of r s) ++ irq_vectors s
+vectors_at r s = filter_map (λ t. t.vector) s.targets ++ filter_map (λ e. e.vector) (channel_ends_of r s) ++ irq_vectors s
 
 abbrev pub has_vectors : Resolution → Subject → Bool
 has_vectors r s = list_all (has_vector r.events) s.targets && are_vectors (vectors_at r s)

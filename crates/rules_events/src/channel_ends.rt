@@ -13,7 +13,7 @@ use muen_num::{NoMemory, Seq};
 use policy_lawful::Resolved;
 use policy_lawful::resolved::Subject;
 use policy_types::Role;
-use policy_views::{ChannelEnd, ends};
+use policy_views::{ChannelEnd, channel_ends};
 use std::alloc::{AllocError, Global};
 
 /// An end of a channel with its subject.
@@ -49,7 +49,7 @@ fn all_channel_ends(alloc: Global, policy: &Resolved) -> Result<Vec<(usize, Met)
 {
     let mut noted = Vec::new(alloc);
     for (index, subject) in policy.subjects().iter().enumerate() {
-        let ends = ends(alloc, policy, subject)?;
+        let ends = channel_ends(alloc, policy, subject)?;
         note_channel_ends(&mut noted, index, subject, &ends)?;
     }
     Ok(noted)

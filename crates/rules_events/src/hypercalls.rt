@@ -12,7 +12,7 @@ use muen_num::limits::MOST_CALLS;
 use policy_lawful::resolved::{EventSource, Subject};
 use policy_lawful::{Offence, Resolved};
 use policy_types::source::SourceWay;
-use policy_views::{ChannelEnd, ends};
+use policy_views::{ChannelEnd, channel_ends};
 use std::alloc::{AllocError, Global};
 
 fn call_number(way: SourceWay) -> Option<u64>
@@ -70,7 +70,7 @@ fn calls_at(alloc: Global, policy: &Resolved, subject: &Subject) -> Result<Vec<u
     ensures { IfOk result (λ v. v.items ≡ calls_at policy.now subject.now) }
 {
     let mut calls = calls_of(alloc, subject.sources.items())?;
-    let ends = ends(alloc, policy, subject)?;
+    let ends = channel_ends(alloc, policy, subject)?;
     let more = calls_of_channel_ends(alloc, &ends)?;
     calls.extend_from_slice(&more)?;
     Ok(calls)

@@ -12,7 +12,7 @@ use muen_num::{EventMode, NoMemory};
 use policy_lawful::resolved::{DeviceUse, EventTarget, IrqUse, Subject};
 use policy_lawful::{Offence, Resolved};
 use policy_types::source::Event;
-use policy_views::{ChannelEnd, ends};
+use policy_views::{ChannelEnd, channel_ends};
 use std::alloc::{AllocError, Global};
 
 /// Whether the target also becomes active.
@@ -86,7 +86,7 @@ fn vectors_at(alloc: Global, policy: &Resolved, subject: &Subject) -> Result<Vec
     ensures { IfOk result (λ v. v.items ≡ vectors_at policy.now subject.now) }
 {
     let mut vectors = vectors_of_targets(alloc, subject.targets.items())?;
-    let ends = ends(alloc, policy, subject)?;
+    let ends = channel_ends(alloc, policy, subject)?;
     let more = vectors_of_channel_ends(alloc, &ends)?;
     vectors.extend_from_slice(&more)?;
     add_devices(&mut vectors, subject.devices.items())?;

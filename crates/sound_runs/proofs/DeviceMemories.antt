@@ -9,7 +9,7 @@ use Rattle.std.proofs.lemmas.Slice.Eq.{bytes_eq-Decides}
 use Rattle.muen_num.proofs.NumbersBelow.{number_at}
 use Rattle.muen_num.specs.Range.{numbers_below}
 use Rattle.muen_num.specs.declared.limits.TheConstants.{PAGE}
-use Rattle.image_load.specs.Placing.{NamedMemory, memories_of, memory_of_span, memory_of_window}
+use Rattle.image_load.specs.Resolving.{NamedMemory, memories_of, memory_of_span, memory_of_window}
 use Rattle.image_meaning.specs.Memory.{Span, by_number, span_at}
 use Rattle.image_meaning.specs.Named.{bench_device, bench_of, tag_at}
 use Rattle.image_meaning.specs.Sound.{IsDeviceOf, IsSound, IsSpanOf, is_kernel, kind_of, thing_spans}
@@ -93,11 +93,11 @@ made_of {X} {Y} f (x ∷ xs) n y a = by_first (f x) refl (λ n. made_of f xs n y
 record ShowsMemory (s : SpanPart) (m : NamedMemory) : Type 0 where
   device : is_device s.kind ≡ true
   named : part_name s.tag.part ≡ Some m.name
-  address : m.place ≡ s.address
+  address : m.address ≡ s.address
   bytes : m.bytes ≡ 4096 * s.pages
 
 abbrev memory_from : SpanPart → List ℕ → NamedMemory
-memory_from s name = record { name = name; place = s.address; bytes = PAGE * s.pages }
+memory_from s name = record { name = name; address = s.address; bytes = PAGE * s.pages }
 
 shows_by : (s : SpanPart) (m : NamedMemory) (b : Bool) (o : Option (List ℕ)) → is_device s.kind ≡ b → part_name s.tag.part ≡ o
     → option_map (memory_from s) (if b then o else None) ≡ Some m → ShowsMemory s m
@@ -106,7 +106,7 @@ shows_by s m true (Some text) kind part h =
     record {
       device = kind;
       named = part ∙ ap (λ (u : NamedMemory). Some u.name) e;
-      address = sym (ap (λ (u : NamedMemory). u.place) e);
+      address = sym (ap (λ (u : NamedMemory). u.address) e);
       bytes = sym (ap (λ (u : NamedMemory). u.bytes) e);
     }
 shows_by s m true None kind part h = absurd (cc (h))

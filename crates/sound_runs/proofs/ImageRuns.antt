@@ -3,8 +3,8 @@ use Rattle.std.proofs.Common.{◌≡◌, ◌∙◌, ℕ, zero, suc, arith, List,
 use Rattle.std.specs.List.{All}
 use Rattle.std.proofs.lemmas.List.{append_assoc}
 use Rattle.image_form.specs.Form.{IsBytes, bytes_of, done, each, each_fit, each_spelled, field, items}
-use Rattle.image_pack.specs.Image.{after, after_device, content, device, group, header, image, major, next_place, no_spans_before, nothing_left, outline, span, subject}
-use Rattle.image_load.specs.Placing.{image_bench, image_record}
+use Rattle.image_pack.specs.Image.{after, after_device, content, device, group, header, image, major, next_index, no_spans_before, nothing_left, outline, span, subject}
+use Rattle.image_load.specs.Resolving.{image_bench, image_record}
 use Rattle.image_meaning.specs.Bench.{devices_of}
 use Rattle.image_meaning.specs.Sound.{IsSound}
 use Rattle.image_pack.specs.Parts.{IsImage, IsParts}
@@ -50,7 +50,7 @@ contents_of_bytes i f h =
     let contents = spelled_contents i.spans i.contents ++ [] in
     let devices = (items (after_device o) (device o) [] i.header.devices).spell i.devices in
     let majors = (items (nothing_left o) (major o) 0 i.header.majors).spell i.plan.majors in
-    let subjects = (items (next_place o) (subject o) 0 i.header.subjects).spell i.subjects in
+    let subjects = (items (next_index o) (subject o) 0 i.header.subjects).spell i.subjects in
     let groups = (items (nothing_left i.header) (group i.header) 0 i.header.groups).spell i.plan.groups in
     let spans = (items (after i.header) (span i.header) (no_spans_before i.header) i.header.spans).spell i.spans in
     each_of_bytes i.spans i.contents [] f.1.1.1.1.1.1.0

@@ -13,7 +13,7 @@ use Rattle.muen_num.proofs.Lists.{find-map, list_any-map}
 use Rattle.muen_num.specs.Range.{numbers_below}
 use Rattle.muen_num.specs.declared.limits.TheConstants.{PAGE}
 use Rattle.subject_model.specs.Clock.{inputs_at, order_at}
-use Rattle.image_load.specs.Placing.{NamedMemory, bench_device_of, bytes_into, device_called, image_bench, image_record, input_of, irq_input_of, is_in_range, memories_of, memory_input_of, memory_of_span, memory_of_window, port_input_of, raised, tick_input_of}
+use Rattle.image_load.specs.Resolving.{NamedMemory, bench_device_of, bytes_into, device_called, image_bench, image_record, input_of, irq_input_of, is_in_range, memories_of, memory_input_of, memory_of_span, memory_of_window, port_input_of, raised, tick_input_of}
 use Rattle.image_meaning.specs.Memory.{Span}
 use Rattle.image_meaning.specs.Named.{bench_device, bench_of, reached, subject_name, window_memory}
 use Rattle.image_meaning.specs.Sound.{ForEachSubject, IsDeviceOf, IsIrqOf, IsSubjectOf}
@@ -37,7 +37,7 @@ use Rattle.policy_types.specs.declared.source.Source.{Source}
 use Rattle.policy_types.specs.declared.source.Subject.{Subject}
 use Rattle.record_text.specs.Bench.{BenchDevice, has_bytes, has_irq, has_port, is_known}
 use Rattle.record_text.specs.DeviceRecord.{DeviceRecord, NamedInput, port_input, memory_input, irq_input, dma_input}
-use Rattle.record_text.specs.Placing.{order_at as order_of}
+use Rattle.record_text.specs.Resolving.{order_at as order_of}
 use Rattle.record_text.specs.declared.record.Input.TheVariants.{Port, Mem, Idle, Dma}
 use Rattle.sound_stands.specs.GroundOf.{ground_of}
 use Rattle.stands_for.specs.Ground.{Ground, IsSubject, name_at}
@@ -69,12 +69,12 @@ memory_with : (o : Option Span) → option_and_then (λ e. option_map (λ text. 
 memory_with None = refl
 memory_with (Some e) = refl
 
-named_in : (s : SpanPart) (o : Option (List ℕ)) → option_map name_and_size (option_map (λ name. record { name = name; place = s.address; bytes = PAGE * s.pages }) o) ≡ option_map (λ text. (text, PAGE * s.pages)) o
+named_in : (s : SpanPart) (o : Option (List ℕ)) → option_map name_and_size (option_map (λ name. record { name = name; address = s.address; bytes = PAGE * s.pages }) o) ≡ option_map (λ text. (text, PAGE * s.pages)) o
 named_in s None = refl
 named_in s (Some text) = refl
 
 named_if : (s : SpanPart) (text : List ℕ) (b : Bool) → (if b then part_name s.tag.part else None) ≡ Some text
-    → option_map name_and_size (option_map (λ name. record { name = name; place = s.address; bytes = PAGE * s.pages }) (if b then part_name s.tag.part else None)) ≡ memory_in s
+    → option_map name_and_size (option_map (λ name. record { name = name; address = s.address; bytes = PAGE * s.pages }) (if b then part_name s.tag.part else None)) ≡ memory_in s
 named_if s text true h = named_in s (part_name s.tag.part)
 named_if s text false h = cc
 
@@ -180,7 +180,7 @@ known_is i (dma_input device addr bytes) =
 
 -- a memory of a device lies where the thing of these names does, and is as long
 pub record IsThing (g : Ground) (device memory : List ℕ) (m : NamedMemory) : Type 0 where
-  pub address : m.place ≡ 4096 * g.first (device_memory device memory)
+  pub address : m.address ≡ 4096 * g.first (device_memory device memory)
   pub bytes : m.bytes ≡ 4096 * g.pages (device_memory device memory)
 
 -- each that is found by its names
@@ -218,8 +218,8 @@ module _ (g : Ground) where
       let is = there m refl in
       let address = is.address in
       let size = is.bytes in
-      elim (nat_le (offset + length bytes) m.bytes) as (λ b. nat_le (offset + length bytes) m.bytes ≡ b → is_some (if b then Some (Mem (m.place + offset) bytes) else None) ≡ true
-      → SameInput g (unwrap_or (if b then Some (Mem (m.place + offset) bytes) else None) Idle) (memory_input device memory offset bytes)) [
+      elim (nat_le (offset + length bytes) m.bytes) as (λ b. nat_le (offset + length bytes) m.bytes ≡ b → is_some (if b then Some (Mem (m.address + offset) bytes) else None) ≡ true
+      → SameInput g (unwrap_or (if b then Some (Mem (m.address + offset) bytes) else None) Idle) (memory_input device memory offset bytes)) [
         | true ↦ λ fits t.
             let within = leb-true (offset + length bytes) m.bytes fits in
             record { same = refl; address = omega (arith, address); room = omega (arith, size, within); small = small }

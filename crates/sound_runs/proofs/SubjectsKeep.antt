@@ -11,7 +11,7 @@ use Rattle.muen_num.specs.declared.mode.EventMode.TheVariants.{Asap, Async, Own,
 use Rattle.image_plan.specs.Plan.{is_group_on}
 use Rattle.image_plan.specs.declared.plan.GroupPart.{GroupPart}
 use Rattle.image_pack.specs.Codes.{event_in, event_of, is_switch, is_vector, mode_code, mode_of, vector_code, vector_of}
-use Rattle.image_pack.specs.Image.{event, events, group, is_first_here, is_group_of, next_place, nothing_left, outline, subject}
+use Rattle.image_pack.specs.Image.{event, events, group, is_first_here, is_group_of, next_index, nothing_left, outline, subject}
 use Rattle.image_pack.specs.ImageConditions.{AreEvents, IsEvent, IsGroup, IsSubject, IsVector}
 use Rattle.image_pack.specs.declared.outline.Header.{Header}
 use Rattle.image_pack.specs.declared.parts.EventPart.{EventPart}
@@ -112,15 +112,15 @@ one_subject i index q f =
 next_number : (index : ℕ) → index < 255 → min (index + 1) 255 ≡ index + 1
 next_number index low = omega (arith, low)
 
-subjects_from : (i : Image) (index : ℕ) (qs : List SubjectPart) → index + length qs ≤ 32 → all_fit (next_place (outline i.header i.spans i.plan.groups)) (λ b. (subject (outline i.header i.spans i.plan.groups) b).fits) index qs
+subjects_from : (i : Image) (index : ℕ) (qs : List SubjectPart) → index + length qs ≤ 32 → all_fit (next_index (outline i.header i.spans i.plan.groups)) (λ b. (subject (outline i.header i.spans i.plan.groups) b).fits) index qs
     → All (IsSubject i) (enumerate_from index qs)
 unfolding all_fit
 subjects_from i index [] room f = All-nil (IsSubject i)
 subjects_from i index (q ∷ qs) room f =
     let next = next_number index (omega (arith, room)) in
-    let rest = subjects_from i (index + 1) qs (omega (arith, room)) (subst (λ n. all_fit (next_place (outline i.header i.spans i.plan.groups)) (λ b. (subject (outline i.header i.spans i.plan.groups) b).fits) n qs) next f.1) in
+    let rest = subjects_from i (index + 1) qs (omega (arith, room)) (subst (λ n. all_fit (next_index (outline i.header i.spans i.plan.groups)) (λ b. (subject (outline i.header i.spans i.plan.groups) b).fits) n qs) next f.1) in
     All-cons (IsSubject i) (index, q) (enumerate_from (index + 1) qs) (one_subject i index q f.0) rest
 
-pub subjects_kept : (i : Image) → length i.subjects ≤ 32 → all_fit (next_place (outline i.header i.spans i.plan.groups)) (λ b. (subject (outline i.header i.spans i.plan.groups) b).fits) 0 i.subjects
+pub subjects_kept : (i : Image) → length i.subjects ≤ 32 → all_fit (next_index (outline i.header i.spans i.plan.groups)) (λ b. (subject (outline i.header i.spans i.plan.groups) b).fits) 0 i.subjects
     → All (IsSubject i) (enumerate_from 0 i.subjects)
 subjects_kept i room f = subjects_from i 0 i.subjects (omega (arith, room)) f

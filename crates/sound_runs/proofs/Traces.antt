@@ -6,7 +6,7 @@ use Rattle.std.specs.List.{flat_map, list_any}
 use Rattle.std.specs.Option.{option_map_or}
 use Rattle.std.proofs.lemmas.Bool.{true≢false}
 use Rattle.image_load.specs.Loaded.{memory_of, setup_of}
-use Rattle.image_load.specs.Placing.{image_record}
+use Rattle.image_load.specs.Resolving.{image_record}
 use Rattle.image_meaning.specs.Memory.{Span}
 use Rattle.image_meaning.specs.Sound.{IsSound, IsSubjectOf, is_kernel, kind_of, thing_spans}
 use Rattle.image_pack.specs.ImageConditions.{KeepsConditions}

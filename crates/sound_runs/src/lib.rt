@@ -5,7 +5,7 @@
 
 ghost use Rattle.std.specs.Prelude.{◌≡◌, ℕ, List, Ok};
 ghost use Rattle.subject_model.specs.Trace.{trace_of};
-ghost use Rattle.image_load.specs.Placing.{image_bench, image_record};
+ghost use Rattle.image_load.specs.Resolving.{image_bench, image_record};
 ghost use Rattle.image_meaning.specs.Sound.{IsSound};
 ghost use Rattle.image_pack.specs.ImageConditions.{KeepsConditions};
 ghost use Rattle.image_form.specs.Form.{IsBytes};

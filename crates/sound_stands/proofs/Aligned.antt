@@ -10,8 +10,8 @@ use Rattle.expand_grants.specs.Resources.{are_granted, is_granted, msrs_of, port
 use Rattle.guest_step.specs.Named.{renamed_reach}
 use Rattle.guest_step.specs.declared.reach.Reach.TheVariants.{Reached}
 use Rattle.image_load.specs.Loaded.{memory_of}
-use Rattle.image_meaning.specs.Memory.{Span, by_number, page_at as image_page, place_at, span_at}
-use Rattle.image_meaning.specs.Sound.{HasBitmaps, HasWalks, IsSound, is_kernel, led, place_of, thing_spans}
+use Rattle.image_meaning.specs.Memory.{Span, by_number, page_at as image_page, address_at, span_at}
+use Rattle.image_meaning.specs.Sound.{HasBitmaps, HasWalks, IsSound, is_kernel, led, address_of, thing_spans}
 use Rattle.image_pack.specs.ImageConditions.{KeepsConditions}
 use Rattle.image_pack.specs.SpanConditions.{IsSpan}
 use Rattle.image_pack.specs.declared.parts.Image.{Image}
@@ -63,12 +63,12 @@ things_aligned p i keeps k e at =
     let from = kept_at (span_at i) (numbers_below (length i.spans)) kept.0 s.0 kept.1 in
     subst (λ n. n % 4096 ≡ 0) s.2 (span_aligned i keeps from.0 (Some s.0) from.1)
 
-states_aligned : (p : Source) (i : Image) → KeepsConditions i → (k : ℕ) (e : Addressed) → slice_get (zip (map (λ (s : Subject). state s.name) p.subjects) (map (λ (q : SubjectPart). place_at i q.state) i.subjects)) k ≡ Some e → e.1 % 4096 ≡ 0
+states_aligned : (p : Source) (i : Image) → KeepsConditions i → (k : ℕ) (e : Addressed) → slice_get (zip (map (λ (s : Subject). state s.name) p.subjects) (map (λ (q : SubjectPart). address_at i q.state) i.subjects)) k ≡ Some e → e.1 % 4096 ≡ 0
 states_aligned p i keeps k e at =
     let names : List Thing = map (λ (s : Subject). state s.name) p.subjects in
-    let addresses : List ℕ = map (λ (q : SubjectPart). place_at i q.state) i.subjects in
+    let addresses : List ℕ = map (λ (q : SubjectPart). address_at i q.state) i.subjects in
     let there = (zipped_both names addresses k e at).1 in
-    let q = from_some (λ (q : SubjectPart). place_at i q.state) (slice_get i.subjects k) e.1 (sym (slice_get-map (λ (q : SubjectPart). place_at i q.state) i.subjects k) ∙ there) in
+    let q = from_some (λ (q : SubjectPart). address_at i q.state) (slice_get i.subjects k) e.1 (sym (slice_get-map (λ (q : SubjectPart). address_at i q.state) i.subjects k) ∙ there) in
     subst (λ n. n % 4096 ≡ 0) q.2 (span_aligned i keeps q.0.state (span_at i q.0.state) refl)
 
 -- what is found, or nothing
@@ -77,11 +77,11 @@ found_aligned test xs h None is = refl
 found_aligned test xs h (Some e) is = let f = found_at test xs e is in h f.index e f.here
 
 -- a thing or a state page begins where a page does
-pub address_aligned : (p : Source) (i : Image) → KeepsConditions i → (x : Thing) → place_of p i x % 4096 ≡ 0
-unfolding place_of
+pub address_aligned : (p : Source) (i : Image) → KeepsConditions i → (x : Thing) → address_of p i x % 4096 ≡ 0
+unfolding address_of
 address_aligned p i keeps x =
     let things = zip (things_of p) (map (λ (e : Span). e.0.address) (thing_spans i)) in
-    let states = zip (map (λ (s : Subject). state s.name) p.subjects) (map (λ (q : SubjectPart). place_at i q.state) i.subjects) in
+    let states = zip (map (λ (s : Subject). state s.name) p.subjects) (map (λ (q : SubjectPart). address_at i q.state) i.subjects) in
     found_aligned (λ (e : Addressed). same_thing e.0 x) (things ++ states) (both_aligned things states (things_aligned p i keeps) (states_aligned p i keeps)) (find (λ (e : Addressed). same_thing e.0 x) (things ++ states)) refl
 
 -- ---- walks
@@ -100,12 +100,12 @@ led_alike address aligned kind addr (violation found) = refl
 
 -- a walk for a subject leads where its windows do
 pub walks_alike : (p : Source) (files : Held) (i : Image) → KeepsConditions i → IsSound p files i → (n : Subject) (q : SubjectPart) (kind : AccessKind) (addr : ℕ) → addr < GUEST_END → (s : ℕ) → slice_get p.subjects s ≡ Some n → slice_get i.subjects s ≡ Some q
-    → look_in (memory_of i) q.eptp kind addr ≡ renamed_reach (page_and_offset (λ x. place_of p i x / PAGE)) (reach_by kind addr (access_of (windows_of p n) addr kind))
+    → look_in (memory_of i) q.eptp kind addr ≡ renamed_reach (page_and_offset (λ x. address_of p i x / PAGE)) (reach_by kind addr (access_of (windows_of p n) addr kind))
 walks_alike p files i keeps sound n q kind addr low s named at =
     let walks = both_at (HasWalks p i) p.subjects i.subjects s n q sound.walks named at in
     ap (λ m. reach_by_walk kind addr (walk_of m q.eptp addr kind)) (same_memory i)
     ∙ ap (reach_by_walk kind addr) (walks addr kind low)
-    ∙ led_alike (place_of p i) (address_aligned p i keeps) kind addr (access_of (windows_of p n) addr kind)
+    ∙ led_alike (address_of p i) (address_aligned p i keeps) kind addr (access_of (windows_of p n) addr kind)
 
 -- ---- bitmaps
 

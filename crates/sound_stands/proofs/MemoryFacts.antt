@@ -9,7 +9,7 @@ use Rattle.std.proofs.lemmas.List.Elements.{All-append, All-cons, All-drop, All-
 use Rattle.std.proofs.lemmas.Option.{slice_get-map}
 use Rattle.image_load.specs.Loaded.{loaded_span, loaded_spans, memory_of as loaded_memory, page_of_span, zero_bytes}
 use Rattle.image_load.proofs.Rising.{parts_load}
-use Rattle.image_meaning.specs.Memory.{Span, bytes_of, memory_of, page_at, placed_bytes, span_at, spans_in}
+use Rattle.image_meaning.specs.Memory.{Span, bytes_of, memory_of, page_at, memory_span, span_at, spans_in}
 use Rattle.image_meaning.proofs.MemoryPages.{in_spans}
 use Rattle.image_pack.specs.Codes.{is_device}
 use Rattle.image_pack.specs.ImageConditions.{IsContent, KeepsConditions}
@@ -28,7 +28,7 @@ use Rattle.sound_stands.proofs.SpanFacts.{KernelSpan, number_once}
 
 -- ---- one memory, written twice
 
-loaded_is : (ss : List SpanPart) (bs : List (List ℕ)) → loaded_spans ss bs ≡ map placed_bytes (zip ss bs)
+loaded_is : (ss : List SpanPart) (bs : List (List ℕ)) → loaded_spans ss bs ≡ map memory_span (zip ss bs)
 unfolding zero_bytes
 loaded_is [] bs = refl
 loaded_is (s ∷ ss) [] = refl
@@ -73,11 +73,11 @@ by_its_number i keeps n e h is =
 
 -- ---- pages of memory
 
-loaded_at : (i : Image) (e : Span) → (h : SpanIn i e) → slice_get (loaded_spans i.spans i.contents) h.index ≡ Some (placed_bytes e)
+loaded_at : (i : Image) (e : Span) → (h : SpanIn i e) → slice_get (loaded_spans i.spans i.contents) h.index ≡ Some (memory_span e)
 loaded_at i e h =
     ap (λ ss. slice_get ss h.index) (loaded_is i.spans i.contents)
-    ∙ slice_get-map placed_bytes (spans_in i) h.index
-    ∙ ap (option_map placed_bytes) (zipped_at i.spans i.contents h.index e.0 e.1 h.span h.content)
+    ∙ slice_get-map memory_span (spans_in i) h.index
+    ∙ ap (option_map memory_span) (zipped_at i.spans i.contents h.index e.0 e.1 h.span h.content)
 
 pages_long : (n m j : ℕ) → n ≡ 4096 * m → j < m → j < n / 4096
 pages_long n m j e h = omega (arith, e, h)
@@ -85,7 +85,7 @@ pages_long n m j e h = omega (arith, e, h)
 -- page j of a span stands in memory
 pub page_there : (i : Image) → KeepsConditions i → (e : Span) → SpanIn i e → (j : ℕ) → j < e.0.pages → page_of (loaded_memory i) (e.0.address / 4096 + j) ≡ Some (part j (bytes_of e))
 page_there i keeps e h j l =
-    in_spans (loaded_spans i.spans i.contents) (parts_load i (conditions_fit i keeps)) h.index (placed_bytes e) (loaded_at i e h) j (pages_long (length (bytes_of e)) e.0.pages j h.long l)
+    in_spans (loaded_spans i.spans i.contents) (parts_load i (conditions_fit i keeps)) h.index (memory_span e) (loaded_at i e h) j (pages_long (length (bytes_of e)) e.0.pages j h.long l)
 
 -- page k of the span of a number stands in memory
 pub numbered_page : (i : Image) → KeepsConditions i → (code pages n k : ℕ) → KernelSpan i.spans code pages n → k < pages → page_of (loaded_memory i) (page_of_span i.spans n + k) ≡ Some (page_at i n k)

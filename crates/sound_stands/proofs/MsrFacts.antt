@@ -20,7 +20,7 @@ use Rattle.policy_types.specs.declared.source.Msrs.{Msrs}
 use Rattle.policy_types.specs.declared.source.Source.{Source}
 use Rattle.policy_types.specs.declared.source.Subject.{Subject}
 use Rattle.stands_for.specs.Held.{AreDistinct}
-use Rattle.vmx_machine.specs.MsrFile.{place_of}
+use Rattle.vmx_machine.specs.MsrFile.{slot_of}
 
 -- ---- in the MSR file
 
@@ -33,7 +33,7 @@ has_slot false false m n = refl
 is_covered : ℕ → Bool
 is_covered index = nat_le index LOW_MSR_LAST || (nat_le HIGH_MSR_FIRST index && nat_le index HIGH_MSR_LAST)
 
-covered : (index : ℕ) → is_covered index ≡ true → is_some (place_of index) ≡ true
+covered : (index : ℕ) → is_covered index ≡ true → is_some (slot_of index) ≡ true
 unfolding is_covered
 covered index h =
     has_slot (nat_le index LOW_MSR_LAST) (nat_le HIGH_MSR_FIRST index && nat_le index HIGH_MSR_LAST) index (LOW_MSR_LAST + 1 + (index - HIGH_MSR_FIRST)) ∙ h
@@ -175,7 +175,7 @@ module _ (p : Source) (lawful : IsLawful p) where
       record { ranges = both.0; apart = both.1 }
 
   -- a granted MSR has a slot in an MSR file
-  pub in_msr_file : (s : ℕ) (n : Subject) (index : ℕ) (write : Bool) → slice_get p.subjects s ≡ Some n → is_granted (msrs_of n) index write ≡ true → is_some (place_of index) ≡ true
+  pub in_msr_file : (s : ℕ) (n : Subject) (index : ℕ) (write : Bool) → slice_get p.subjects s ≡ Some n → is_granted (msrs_of n) index write ≡ true → is_some (slot_of index) ≡ true
   unfolding msrs_of
   in_msr_file s n index write at granted =
       let f = found (λ (m : Msr). (m.index == index) && (if write then m.write else m.read)) (flat_map msrs_in n.msrs) granted in

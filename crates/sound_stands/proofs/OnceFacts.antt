@@ -5,7 +5,7 @@ use Rattle.std.specs.List.{flat_map}
 use Rattle.std.specs.Str.{bytes_eq}
 use Rattle.std.proofs.lemmas.Bool.{eqb-true}
 use Rattle.std.proofs.lemmas.Option.{get_or_from_slice_get, slice_get_within}
-use Rattle.policy_lawful.proofs.Places.{same_name, same_self}
+use Rattle.policy_lawful.proofs.Indexes.{same_name, same_self}
 use Rattle.policy_lawful.proofs.UniqueNames.{logical_unique, parts_unique, unique, unique_parts}
 use Rattle.policy_lawful.specs.Lawful.{IsLawful}
 use Rattle.policy_lawful.specs.Rules.{logical_names, repeated}

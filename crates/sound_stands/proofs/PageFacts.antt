@@ -14,7 +14,7 @@ use Rattle.image_pack.specs.declared.parts.Image.{Image}
 use Rattle.image_pack.specs.declared.parts.SpanPart.{SpanPart}
 use Rattle.image_pack.specs.declared.parts.SubjectPart.{SubjectPart}
 use Rattle.machine_meaning.specs.Memory.{page_of}
-use Rattle.machine_meaning.specs.Walks.{places_read}
+use Rattle.machine_meaning.specs.Walks.{addresses_read}
 use Rattle.muen_num.specs.declared.limits.TheConstants.{GUEST_END}
 use Rattle.muen_num.specs.declared.tag.TagPart.TheVariants.{State, Ept, Iobm, Msrbm, Msrs}
 use Rattle.policy_meaning.specs.Contents.{Held, initial_bytes}
@@ -56,16 +56,16 @@ entry_kept p i keeps at h =
     (record { low = above s.address at low; high = in_page s.address s.pages at each.aligned low (leb-true (at + 8) (end_of s) outer.1) })
 
 -- a walk for a subject reads pages of tables alone
-pub tables_kept : (p : Source) (files : Held) (i : Image) → KeepsConditions i → IsSound p files i → (s : ℕ) (c : Control) (addr : ℕ) → slice_get (ground_of p i).setup.controls s ≡ Some c → addr < GUEST_END → All (λ at. (ground_of p i).kept (at / 4096) ≡ true) (places_read (ground_of p i).memory c.eptp addr)
+pub tables_kept : (p : Source) (files : Held) (i : Image) → KeepsConditions i → IsSound p files i → (s : ℕ) (c : Control) (addr : ℕ) → slice_get (ground_of p i).setup.controls s ≡ Some c → addr < GUEST_END → All (λ at. (ground_of p i).kept (at / 4096) ≡ true) (addresses_read (ground_of p i).memory c.eptp addr)
 unfolding ground_of
 tables_kept p files i keeps sound s c addr at low =
     let k = controlled p i s c at in
     let n = first_at (λ s q. ReadsTables i q) p.subjects i.subjects s k.part sound.tables k.here in
     let reads = n.2 addr low in
     let eptp : k.part.eptp ≡ c.eptp = ap (λ d. d.eptp) k.is in
-    subst (λ e. All (λ at. (ground_of p i).kept (at / 4096) ≡ true) (places_read (loaded_memory i) e addr)) eptp
-    (subst (λ m. All (λ at. (ground_of p i).kept (at / 4096) ≡ true) (places_read m k.part.eptp addr)) (sym (same_memory i))
-    (All-weaker (λ at. is_in_tables i at ≡ true) (λ at. (ground_of p i).kept (at / 4096) ≡ true) (λ at h. entry_kept p i keeps at h) (places_read (memory_of i) k.part.eptp addr) reads))
+    subst (λ e. All (λ at. (ground_of p i).kept (at / 4096) ≡ true) (addresses_read (loaded_memory i) e addr)) eptp
+    (subst (λ m. All (λ at. (ground_of p i).kept (at / 4096) ≡ true) (addresses_read m k.part.eptp addr)) (sym (same_memory i))
+    (All-weaker (λ at. is_in_tables i at ≡ true) (λ at. (ground_of p i).kept (at / 4096) ≡ true) (λ at h. entry_kept p i keeps at h) (addresses_read (memory_of i) k.part.eptp addr) reads))
 
 -- ---- bitmaps
 

@@ -10,7 +10,7 @@ use Rattle.subject_model.specs.System.{subject_named}
 use Rattle.policy_lawful.specs.Lawful.{IsLawful}
 use Rattle.policy_lawful.specs.Resolution.{name_at}
 use Rattle.policy_lawful.specs.Rules.{repeated}
-use Rattle.policy_lawful.proofs.Places.{found_at_place, position_is}
+use Rattle.policy_lawful.proofs.Indexes.{found_at_index, position_is}
 use Rattle.policy_lawful.proofs.UniqueNames.{unique}
 use Rattle.policy_types.specs.declared.source.Source.{Source}
 use Rattle.policy_types.specs.declared.source.Subject.{Subject}
@@ -69,7 +69,7 @@ module _ {X : Type 0} (f : X → List ℕ) (xs : List X) (names : repeated (map 
   -- what stands at an index is found by its name
   pub found_by_name : (k : ℕ) (x : X) → slice_get xs k ≡ Some x → find (λ y. bytes_eq (f y) (f x)) xs ≡ Some x
   found_by_name k x at =
-      ap (λ n. find (λ y. bytes_eq (f y) n) xs) (sym (name_of k x at)) ∙ found_at_place f xs k names (slice_get_within xs k x at) ∙ at
+      ap (λ n. find (λ y. bytes_eq (f y) n) xs) (sym (name_of k x at)) ∙ found_at_index f xs k names (slice_get_within xs k x at) ∙ at
 
 -- ---- subjects
 

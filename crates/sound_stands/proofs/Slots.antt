@@ -7,8 +7,8 @@ use Rattle.std.proofs.lemmas.Bool.{and_parts, cases_lt, eqb-true}
 use Rattle.std.proofs.lemmas.List.Folds.{list_all-map}
 use Rattle.std.proofs.lemmas.Option.{slice_get-map}
 use Rattle.subject_model.specs.Clock.{ticks_of_majors}
-use Rattle.frame_clock.specs.FrameAt.{slot_in, ticks_of_majors as ticks_in_plan}
-use Rattle.frame_clock.specs.declared.place.FrameAt.{FrameAt}
+use Rattle.frame_clock.specs.Frames.{slot_in, ticks_of_majors as ticks_in_plan}
+use Rattle.frame_clock.specs.declared.frame_at.FrameAt.{FrameAt}
 use Rattle.image_meaning.specs.Named.{bench_of}
 use Rattle.image_meaning.specs.Sound.{IsSound}
 use Rattle.image_pack.specs.ImageConditions.{KeepsConditions}

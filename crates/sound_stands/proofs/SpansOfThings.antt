@@ -5,7 +5,7 @@ use Rattle.std.specs.List.{find, list_any, zip}
 use Rattle.std.specs.Option.{option_map_or}
 use Rattle.std.proofs.lemmas.Bool.{false≢true}
 use Rattle.image_meaning.specs.Memory.{Span, by_number, span_at}
-use Rattle.image_meaning.specs.Sound.{IsSound, IsSpanOf, is_kernel, kind_of, place_of, thing_spans}
+use Rattle.image_meaning.specs.Sound.{IsSound, IsSpanOf, is_kernel, kind_of, address_of, thing_spans}
 use Rattle.image_pack.specs.ImageConditions.{KeepsConditions}
 use Rattle.image_pack.specs.declared.parts.Image.{Image}
 use Rattle.muen_num.specs.Range.{numbers_below}
@@ -84,8 +84,8 @@ found_front test (y ∷ xs) ys x h = by_test (test y) (found_front test xs ys x)
     by_test true later h = h
     by_test false later h = later h
 
-address_by : (p : Source) (i : Image) (x : Thing) (e : Listed) → find (λ (e : Listed). same_thing e.0 x) (listed p i) ≡ Some e → place_of p i x ≡ e.1.0.address
-unfolding place_of
+address_by : (p : Source) (i : Image) (x : Thing) (e : Listed) → find (λ (e : Listed). same_thing e.0 x) (listed p i) ≡ Some e → address_of p i x ≡ e.1.0.address
+unfolding address_of
 address_by p i x e h =
     ap (λ o. option_map_or (λ (e : Thing × ℕ). e.1) o 0)
     (found_front (λ (e : Thing × ℕ). same_thing e.0 x) (zip (things_of p) (map (λ (e : Span). e.0.address) (thing_spans i))) _ (e.0, e.1.0.address)

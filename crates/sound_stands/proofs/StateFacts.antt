@@ -5,8 +5,8 @@ use Rattle.std.specs.List.{find, zip}
 use Rattle.std.specs.Option.{option_map_or}
 use Rattle.std.proofs.lemmas.Bool.{true≢false}
 use Rattle.std.proofs.lemmas.Option.{slice_get-map}
-use Rattle.image_meaning.specs.Memory.{Span, place_at}
-use Rattle.image_meaning.specs.Sound.{IsSound, is_kernel, place_of, thing_spans}
+use Rattle.image_meaning.specs.Memory.{Span, address_at}
+use Rattle.image_meaning.specs.Sound.{IsSound, is_kernel, address_of, thing_spans}
 use Rattle.image_pack.specs.ImageConditions.{KeepsConditions}
 use Rattle.image_pack.specs.declared.parts.Image.{Image}
 use Rattle.image_pack.specs.declared.parts.SubjectPart.{SubjectPart}
@@ -51,20 +51,20 @@ abbrev NamedOnce : Source → Type 0
 NamedOnce p = (s t : ℕ) (n m : Subject) → slice_get p.subjects s ≡ Some n → slice_get p.subjects t ≡ Some m → n.name ≡ m.name → s ≡ t
 
 state_found : (p : Source) (i : Image) → NamedOnce p → (s : ℕ) (n : Subject) (q : SubjectPart) → slice_get p.subjects s ≡ Some n → slice_get i.subjects s ≡ Some q
-    → find (λ (e : Thing × ℕ). same_thing e.0 (state n.name)) (zip (map (λ s. state s.name) p.subjects) (map (λ q. place_at i q.state) i.subjects)) ≡ Some (state n.name, place_at i q.state)
+    → find (λ (e : Thing × ℕ). same_thing e.0 (state n.name)) (zip (map (λ s. state s.name) p.subjects) (map (λ q. address_at i q.state) i.subjects)) ≡ Some (state n.name, address_at i q.state)
 state_found p i once s n q at to =
     let names : List Thing = map (λ s. state s.name) p.subjects in
-    let addresses : List ℕ = map (λ q. place_at i q.state) i.subjects in
-    found_only (λ (e : Thing × ℕ). same_thing e.0 (state n.name)) (zip names addresses) s (state n.name, place_at i q.state)
-    (zipped_at names addresses s (state n.name) (place_at i q.state) (slice_get-map (λ (s : Subject). state s.name) p.subjects s ∙ ap (option_map (λ (s : Subject). state s.name)) at) (slice_get-map (λ (q : SubjectPart). place_at i q.state) i.subjects s ∙ ap (option_map (λ (q : SubjectPart). place_at i q.state)) to))
+    let addresses : List ℕ = map (λ q. address_at i q.state) i.subjects in
+    found_only (λ (e : Thing × ℕ). same_thing e.0 (state n.name)) (zip names addresses) s (state n.name, address_at i q.state)
+    (zipped_at names addresses s (state n.name) (address_at i q.state) (slice_get-map (λ (s : Subject). state s.name) p.subjects s ∙ ap (option_map (λ (s : Subject). state s.name)) at) (slice_get-map (λ (q : SubjectPart). address_at i q.state) i.subjects s ∙ ap (option_map (λ (q : SubjectPart). address_at i q.state)) to))
     (same_thing_self (state n.name))
     (λ m e here passes.
     let both = zipped_both names addresses m e here in
     let o = from_some (λ (s : Subject). state s.name) (slice_get p.subjects m) e.0 (sym (slice_get-map (λ (s : Subject). state s.name) p.subjects m) ∙ both.0) in
     once m s o.0 n o.1 at (state_names o.0.name n.name (o.2 ∙ same_things e.0 (state n.name) passes)))
 
-state_at_address : (p : Source) (files : Held) (i : Image) → KeepsConditions i → IsSound p files i → NamedOnce p → (s : ℕ) (n : Subject) (q : SubjectPart) → slice_get p.subjects s ≡ Some n → slice_get i.subjects s ≡ Some q → place_of p i (state n.name) ≡ place_at i q.state
-unfolding place_of
+state_at_address : (p : Source) (files : Held) (i : Image) → KeepsConditions i → IsSound p files i → NamedOnce p → (s : ℕ) (n : Subject) (q : SubjectPart) → slice_get p.subjects s ≡ Some n → slice_get i.subjects s ≡ Some q → address_of p i (state n.name) ≡ address_at i q.state
+unfolding address_of
 state_at_address p files i keeps sound once s n q at to =
     let front = found_changed (λ y. same_thing y (state n.name)) (λ (e : Span). e.0.address) (things_of p) (thing_spans i) ∙ ap (option_map (λ (e : Listed). (e.0, e.1.0.address))) (no_state p files i keeps sound n.name) in
     ap (λ o. option_map_or (λ (e : Thing × ℕ). e.1) o 0) (found_behind (λ (e : Thing × ℕ). same_thing e.0 (state n.name)) (zip (things_of p) (map (λ (e : Span). e.0.address) (thing_spans i))) _ front ∙ state_found p i once s n q at to)
@@ -77,5 +77,5 @@ state_pages p files i keeps sound once s n c named at =
     let k = controlled p i s c at in
     let span = (subject_spans i keeps s k.part k.here).state in
     let b = span_with i keeps span.index span.span span.here in
-    let address : place_at i k.part.state ≡ span.span.address = ap (λ o. option_map_or (λ (e : Span). e.0.address) o 0) (by_its_number i keeps k.part.state (span.span, b.0) b.1 span.number) in
+    let address : address_at i k.part.state ≡ span.span.address = ap (λ o. option_map_or (λ (e : Span). e.0.address) o 0) (by_its_number i keeps k.part.state (span.span, b.0) b.1 span.number) in
     ap (λ m. m / 4096) (state_at_address p files i keeps sound once s n k.part named k.here ∙ address) ∙ sym span.first ∙ ap (λ d. d.state) k.is

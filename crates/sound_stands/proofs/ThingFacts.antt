@@ -8,7 +8,7 @@ use Rattle.std.proofs.lemmas.Bool.{and_from, or_left, or_right}
 use Rattle.std.proofs.lemmas.List.{length-replicate}
 use Rattle.std.proofs.lemmas.List.Folds.{list_any-append}
 use Rattle.muen_num.proofs.Lists.{list_any-map}
-use Rattle.policy_lawful.proofs.Places.{same_self}
+use Rattle.policy_lawful.proofs.Indexes.{same_self}
 use Rattle.policy_meaning.specs.Contents.{Held, content_bytes, initial_bytes, padded}
 use Rattle.policy_meaning.specs.Thing.{Thing, channel, component_by, device_memory, provided, provided_by, region, same_thing, things_of}
 use Rattle.policy_types.specs.declared.source.Channel.{Channel}

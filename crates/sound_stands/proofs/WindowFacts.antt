@@ -14,7 +14,7 @@ use Rattle.muen_num.specs.Search.{first_after, first_in, unless}
 use Rattle.muen_num.specs.declared.access.AccessKind.{AccessKind}
 use Rattle.muen_num.specs.declared.limits.TheConstants.{GUEST_END}
 use Rattle.policy_lawful.proofs.KeptAddresses.{addresses_kept}
-use Rattle.policy_lawful.proofs.Places.{same_self}
+use Rattle.policy_lawful.proofs.Indexes.{same_self}
 use Rattle.policy_lawful.proofs.UniqueNames.{logical_unique, unique_parts}
 use Rattle.policy_lawful.specs.Domains.{is_monitor, monitor_offence, offence_24}
 use Rattle.policy_lawful.specs.Lawful.{IsLawful}

@@ -3,7 +3,7 @@ use Rattle.std.specs.Prelude.{ℕ, ◌+◌, ◌/◌, ◌==◌, ◌&&◌, ◌||�
 use Rattle.std.specs.List.{All, find, list_any}
 use Rattle.std.specs.Option.{option_map_or}
 use Rattle.image_load.specs.Loaded.{memory_of, setup_of}
-use Rattle.image_meaning.specs.Sound.{is_kernel, place_of, thing_spans}
+use Rattle.image_meaning.specs.Sound.{is_kernel, address_of, thing_spans}
 use Rattle.image_pack.specs.Codes.{part_code}
 use Rattle.image_pack.specs.declared.parts.Image.{Image}
 use Rattle.image_pack.specs.declared.parts.SpanPart.{SpanPart}
@@ -30,7 +30,7 @@ unfoldable pub ground_of : Source → Image → Ground
 ground_of p i = record {
   policy = p;
   setup = setup_of i;
-  first = λ x. place_of p i x / PAGE;
+  first = λ x. address_of p i x / PAGE;
   pages = pages_in p i;
   kept = λ page. list_any (λ s. is_kept s && is_page_of page s) i.spans;
   memory = memory_of i;

@@ -16,7 +16,7 @@ use Rattle.guest_step.specs.Named.{renamed_store}
 use Rattle.state_page.specs.StatePage.{page_bytes, state_in}
 use Rattle.subject_state.specs.declared.SubjectState.{SubjectState}
 use Rattle.vmx_machine.specs.Machine.{with_store as with_page, with_write as with_file}
-use Rattle.vmx_machine.specs.MsrFile.{place_of, put_at, value_in, with_msr}
+use Rattle.vmx_machine.specs.MsrFile.{slot_of, put_at, value_in, with_msr}
 use Rattle.vmx_machine.specs.declared.control.Control.{Control}
 use Rattle.vmx_machine.specs.declared.cpu.Cpu.{Cpu}
 use Rattle.vmx_machine.specs.declared.cpu.Entered.{Entered}
@@ -37,7 +37,7 @@ use Rattle.stands_for.proofs.Moves.{state_spot}
 -- ---- MSR values, by index on both sides
 
 value_written : (index v : ℕ) (file : List ℕ) → value_in (with_msr index v file) index ≡ option_map (λ _. v) (value_in file index)
-value_written index v file = by_slot (place_of index)
+value_written index v file = by_slot (slot_of index)
   where
     by_slot : (o : Option ℕ) → option_and_then (slice_get (put_at o v file)) o ≡ option_map (λ _. v) (option_and_then (slice_get file) o)
     by_slot None = refl

@@ -4,7 +4,7 @@ use Rattle.std.specs.Prelude.{option_map, option_and_then, slice_get, slice_set,
 use Rattle.std.specs.List.{All}
 use Rattle.std.proofs.lemmas.Bool.{cases_Bool}
 use Rattle.std.proofs.lemmas.List.Elements.{All-nil, All-cons, All-head, All-tail, All-set}
-use Rattle.frame_clock.specs.FrameAt.{place_at}
+use Rattle.frame_clock.specs.Frames.{frame_at_tick}
 use Rattle.machine_meaning.specs.Memory.{Page, page_of, change, over, store_of}
 use Rattle.policy_meaning.specs.Thing.{Thing, region, device_memory, same_thing}
 use Rattle.policy_types.specs.declared.source.Tau0.{Tau0}
@@ -97,7 +97,7 @@ module _ (g : Ground) (fixed : IsFixed g) where
     ports = stands.ports;
     many_ports = stands.many_ports;
     small_ports = stands.small_ports;
-    frame = (λ i. place_at (fixed.majors i) (stands.frame i) (pick_same k y stands i) tick);
+    frame = (λ i. frame_at_tick (fixed.majors i) (stands.frame i) (pick_same k y stands i) tick);
   }
 
   -- ---- inputs

@@ -23,7 +23,7 @@ use Rattle.policy_types.specs.declared.source.Source.{Source}
 use Rattle.policy_types.specs.declared.source.SourceWay.{SourceWay}
 use Rattle.policy_types.specs.declared.source.Subject.{Subject}
 use Rattle.record_text.specs.DeviceRecord.{NamedInput, port_input, memory_input, irq_input, dma_input}
-use Rattle.frame_clock.specs.FrameAt.{slot_in}
+use Rattle.frame_clock.specs.Frames.{slot_in}
 use Rattle.state_page.specs.StatePage.{page_bytes, state_in}
 use Rattle.subject_state.specs.declared.SubjectState.{SubjectState}
 use Rattle.tick_run.specs.Run.{all_taken, begun, turns, tick_ran, run_to}

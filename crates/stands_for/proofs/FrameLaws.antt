@@ -10,7 +10,7 @@ use Rattle.machine_meaning.specs.Memory.{Page, page_of, change, over, le_number,
 use Rattle.machine_meaning.proofs.PageLaws.{page_of-change_other, page_of-change_same, is_there-change}
 use Rattle.machine_meaning.proofs.StoreLaws.{over_part, over_apart}
 use Rattle.machine_meaning.proofs.WalkLaws.{same_walks}
-use Rattle.muen_num.specs.Size.{bytes_of as count}
+use Rattle.muen_num.specs.AccessSize.{bytes_of as count}
 use Rattle.muen_num.specs.declared.access.AccessKind.{AccessKind}
 use Rattle.muen_num.specs.declared.access.AccessSize.{AccessSize}
 use Rattle.muen_num.specs.declared.access.AccessSize.TheVariants.{One, Two, Four, Eight}

@@ -4,7 +4,7 @@ use Rattle.std.specs.Prelude.{if◌then◌else◌, nat_lt, option_map, option_an
 use Rattle.std.specs.List.{All}
 use Rattle.std.proofs.lemmas.List.Elements.{All-drop, All-take}
 use Rattle.std.proofs.lemmas.Bool.{cases_lt, cases_Bool, false≢true, ltb-true, lt-ltb}
-use Rattle.muen_num.specs.Size.{bytes_of as count}
+use Rattle.muen_num.specs.AccessSize.{bytes_of as count}
 use Rattle.muen_num.specs.declared.access.AccessKind.TheVariants.{Write}
 use Rattle.muen_num.specs.declared.access.AccessSize.{AccessSize}
 use Rattle.muen_num.specs.declared.access.AccessSize.TheVariants.{One, Two, Four, Eight}
@@ -21,7 +21,7 @@ use Rattle.image_plan.specs.Plan.{frames_in}
 use Rattle.image_plan.specs.Slot.{Slot}
 use Rattle.look_up.specs.ByNumber.{change_at}
 use Rattle.look_up.proofs.ChangeLaws.{changes_join}
-use Rattle.frame_clock.specs.FrameAt.{slot_in}
+use Rattle.frame_clock.specs.Frames.{slot_in}
 use Rattle.event_router.specs.Router.{taken}
 use Rattle.guest_step.specs.Finish.{finished, finish_of, injected}
 use Rattle.guest_step.specs.declared.finish.Finish.{Finish}
@@ -41,8 +41,8 @@ use Rattle.vmx_machine.specs.Machine.{CpuStepped, Stepped, answered as cpu_answe
 use Rattle.vmx_machine.specs.declared.control.Control.{Control}
 use Rattle.vmx_machine.specs.declared.cpu.Cpu.{Cpu}
 use Rattle.vmx_machine.specs.declared.cpu.Entered.{Entered}
-use Rattle.kernel_core.specs.Kernel.{Live, acts_on, delivers, end_of as kernel_exit_end_of, entry, event_of, handled, idle as kernel_idle, raised_by as kernel_raised_by, stepped as kernel_stepped, turn_in_slot as kernel_turn_in_slot, turn_of, turn_of_member as kernel_turn_of_member, turn_on, vector_for as kernel_vector_for, switched}
-use Rattle.subject_model.specs.Alone.{Inbox, MsrValues, msr_value, alone, end_of, has_trap, injects, own_of, reach_by, solo_turn, state_after, stepped, unless_delivered, vector_for, waits, way_after, way_of, what_of}
+use Rattle.kernel_core.specs.Kernel.{Live, acts_on, delivers, exit_end_of as kernel_exit_end_of, entry, event_of, handled, idle as kernel_idle, raised_by as kernel_raised_by, stepped as kernel_stepped, turn_in_slot as kernel_turn_in_slot, turn_of, turn_of_member as kernel_turn_of_member, turn_on, vector_for as kernel_vector_for, switched}
+use Rattle.subject_model.specs.Alone.{Inbox, MsrValues, msr_value, alone, exit_end_of, has_trap, injects, own_of, reach_by, solo_turn, state_after, stepped, unless_delivered, vector_for, waits, way_after, way_of, what_of}
 use Rattle.subject_model.specs.System.{System, inbox_of, line_at, named, raised_by, state_of, system_turn, took, turn_answered, turn_from, turn_in_slot, turn_of_member, with_own, with_store}
 use Rattle.stands_for.specs.Ground.{Ground, Joined, name_at, page_and_offset}
 use Rattle.stands_for.specs.Fixed.{IsFixed, Sees}
@@ -130,7 +130,7 @@ module _ (g : Ground) (fixed : IsFixed g) where
           | inr h ↦ elim (cases_Bool (reason == EXIT_VMCALL)) [ inl v ↦ rw (h, v) refl | inr v ↦ rw (h, v, j.trapped reason) refl ]
         ]
 
-    exit_end_same : (reason call : ℕ) → kernel_exit_end_of reason (is_some (event_of q reason call)) ≡ end_of reason (has_trap (traps_of n) reason)
+    exit_end_same : (reason call : ℕ) → kernel_exit_end_of reason (is_some (event_of q reason call)) ≡ exit_end_of reason (has_trap (traps_of n) reason)
     exit_end_same reason call =
         elim (cases_Bool (reason == EXIT_HLT)) [
           | inl h ↦ rw h refl
@@ -281,12 +281,12 @@ module _ (g : Ground) (fixed : IsFixed g) where
           changes_join cpu (with_entered a.state a.msr) (with_state (finished how)) k.machine.cpus
           ∙ change_agrees cpu (λ u. with_state (finished how) (with_entered a.state a.msr u)) (with_entered (finished how' a.state) a.msr) k.machine.cpus run.unit run.at (twice (finished how) a.state a.msr run.unit ∙ ap (λ h. with_entered (finished h a.state) a.msr run.unit) e)
 
-      exit_alike : (reason qualification addr call : ℕ) → FitsState a.state → Alike (record { state = record k { machine = exit_finished cpu (finish_of reason (is_some (event_of q reason call))) (then_live a.state).machine; router = kernel_raised_by (event_of q reason call) k.router }; line = Some (record { tick = tick; cpu = cpu; subject = q.name; pc = st.pc; what = Exit reason qualification addr (kernel_exit_end_of reason (is_some (event_of q reason call))) }) }) (turn_answered g.policy cpu tick n st.pc (record { state = finished (finish_of reason (has_trap (traps_of n) reason)) a.state; what = Some (Exit reason qualification addr (end_of reason (has_trap (traps_of n) reason))); stored = a.stored; msr = a.msr; taken = None; raised = way_of (traps_of n) reason call }) y)
+      exit_alike : (reason qualification addr call : ℕ) → FitsState a.state → Alike (record { state = record k { machine = exit_finished cpu (finish_of reason (is_some (event_of q reason call))) (then_live a.state).machine; router = kernel_raised_by (event_of q reason call) k.router }; line = Some (record { tick = tick; cpu = cpu; subject = q.name; pc = st.pc; what = Exit reason qualification addr (kernel_exit_end_of reason (is_some (event_of q reason call))) }) }) (turn_answered g.policy cpu tick n st.pc (record { state = finished (finish_of reason (has_trap (traps_of n) reason)) a.state; what = Some (Exit reason qualification addr (exit_end_of reason (has_trap (traps_of n) reason))); stored = a.stored; msr = a.msr; taken = None; raised = way_of (traps_of n) reason call }) y)
       exit_alike reason qualification addr call f = record {
         state = subst (λ cpus. StandsFor g (record k { machine = record { pages = (then_live a.state).machine.pages; cpus = cpus }; router = kernel_raised_by (event_of q reason call) k.router }) (raised_by g.policy n (way_of (traps_of n) reason call) (took n.name None (with_store a.stored (with_own n.name (finished (finish_of reason (has_trap (traps_of n) reason)) a.state) a.msr y)))))
             (sym (cpus_same (finish_of reason (is_some (event_of q reason call))) (finish_of reason (has_trap (traps_of n) reason)) (finish_same s n q c j reason call)))
             (exit_state reason call f);
-        line = line_same (Exit reason qualification addr (end_of reason (has_trap (traps_of n) reason)))
+        line = line_same (Exit reason qualification addr (exit_end_of reason (has_trap (traps_of n) reason)))
             ∙ ap (λ e. Some (record { tick = tick; cpu = cpu; subject = q.name; pc = st.pc; what = Exit reason qualification addr e })) (sym (exit_end_same s n q c j reason call));
       }
 

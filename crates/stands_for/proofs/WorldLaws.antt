@@ -7,7 +7,7 @@ use Rattle.std.proofs.lemmas.Bool.{and_parts, cases_eq, eq-eqb, ne_eqb, true≢f
 use Rattle.std.proofs.lemmas.List.{get_or-drop, map_push}
 use Rattle.machine_meaning.specs.Memory.{page_of, le_number}
 use Rattle.muen_num.specs.Range.{numbers_below}
-use Rattle.muen_num.specs.Size.{bytes_of as count}
+use Rattle.muen_num.specs.AccessSize.{bytes_of as count}
 use Rattle.muen_num.specs.declared.access.AccessKind.{AccessKind}
 use Rattle.muen_num.specs.declared.access.AccessSize.{AccessSize}
 use Rattle.muen_num.specs.declared.limits.TheConstants.{LAST_PORT}

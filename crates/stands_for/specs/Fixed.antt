@@ -3,14 +3,14 @@ use Rattle.std.specs.Prelude.{◌≡◌, ◌⊎◌, ℕ, ◌+◌, ◌/◌, ◌%�
 use Rattle.std.specs.List.{All}
 use Rattle.subject_model.specs.Clock.{ticks_of_majors}
 use Rattle.expand_grants.specs.Resources.{is_granted, msrs_of}
-use Rattle.frame_clock.specs.FrameAt.{slot_in, ticks_of_majors as ticks_in_plan}
-use Rattle.frame_clock.specs.declared.place.FrameAt.{FrameAt}
+use Rattle.frame_clock.specs.Frames.{slot_in, ticks_of_majors as ticks_in_plan}
+use Rattle.frame_clock.specs.declared.frame_at.FrameAt.{FrameAt}
 use Rattle.image_pack.specs.declared.parts.EventPart.{EventPart}
 use Rattle.image_pack.specs.declared.parts.SubjectPart.{SubjectPart}
 use Rattle.image_plan.specs.Plan.{frames_in}
 use Rattle.image_plan.specs.Slot.{Slot}
 use Rattle.kernel_core.specs.Kernel.{entry}
-use Rattle.machine_meaning.specs.Walks.{places_read}
+use Rattle.machine_meaning.specs.Walks.{addresses_read}
 use Rattle.muen_num.specs.declared.access.AccessKind.{AccessKind}
 use Rattle.muen_num.specs.declared.limits.TheConstants.{GUEST_END}
 use Rattle.policy_meaning.specs.Frames.{frames_of}
@@ -18,7 +18,7 @@ use Rattle.policy_meaning.specs.Thing.{Thing, region, state}
 use Rattle.policy_meaning.specs.Windows.{access_of, byte, windows_of}
 use Rattle.policy_types.specs.declared.source.Subject.{Subject}
 use Rattle.policy_types.specs.declared.source.Tau0.{Tau0}
-use Rattle.vmx_machine.specs.MsrFile.{place_of}
+use Rattle.vmx_machine.specs.MsrFile.{slot_of}
 use Rattle.vmx_machine.specs.declared.control.Control.{Control}
 use Rattle.subject_model.specs.System.{is_shown}
 use Rattle.stands_for.specs.Ground.{Ground, Joined, IsSubject, Spot, IsAt}
@@ -62,7 +62,7 @@ pub record IsFixed (g : Ground) : Type 0 where
   -- the pages of things, states and areas differ, and none is one of tables or bitmaps
   pub apart : (a b : Spot) (j k : ℕ) → IsAt g a j → IsAt g b k → (a ≡ b → ⊥) → j ≡ k → ⊥
   pub aside : (a : Spot) (j : ℕ) → IsAt g a j → g.kept j ≡ false
-  pub tables : (s : ℕ) (c : Control) (addr : ℕ) → slice_get g.setup.controls s ≡ Some c → addr < GUEST_END → All (λ at. g.kept (at / 4096) ≡ true) (places_read g.memory c.eptp addr)
+  pub tables : (s : ℕ) (c : Control) (addr : ℕ) → slice_get g.setup.controls s ≡ Some c → addr < GUEST_END → All (λ at. g.kept (at / 4096) ≡ true) (addresses_read g.memory c.eptp addr)
   pub io_bitmap : (s : ℕ) (c : Control) → slice_get g.setup.controls s ≡ Some c → g.kept c.io_bitmaps ≡ true
   pub second_io_bitmap : (s : ℕ) (c : Control) → slice_get g.setup.controls s ≡ Some c → g.kept (c.io_bitmaps + 1) ≡ true
   pub msr_bitmap : (s : ℕ) (c : Control) → slice_get g.setup.controls s ≡ Some c → g.kept c.msr_bitmap ≡ true
@@ -72,4 +72,4 @@ pub record IsFixed (g : Ground) : Type 0 where
   -- what a subject reaches
   pub sees : (s : ℕ) (n : Subject) (kind : AccessKind) (addr : ℕ) (x : Thing) (offset : ℕ) → slice_get g.policy.subjects s ≡ Some n → access_of (windows_of g.policy n) addr kind ≡ byte x offset → Sees g s n addr x offset
   -- the MSRs that are granted are those of the MSR file
-  pub in_file : (s : ℕ) (n : Subject) (index : ℕ) (write : Bool) → slice_get g.policy.subjects s ≡ Some n → is_granted (msrs_of n) index write ≡ true → is_some (place_of index) ≡ true
+  pub in_file : (s : ℕ) (n : Subject) (index : ℕ) (write : Bool) → slice_get g.policy.subjects s ≡ Some n → is_granted (msrs_of n) index write ≡ true → is_some (slot_of index) ≡ true

@@ -8,7 +8,7 @@ use Rattle.std.proofs.lemmas.Option.{get_or_from_slice_get}
 use Rattle.ept_count.specs.Pages.{ept_pages}
 use Rattle.expand_grants.specs.Grants.{AreGrantsOf}
 use Rattle.expand_grants.specs.declared.granted.Grants.{Grants}
-use Rattle.expand_kernel.specs.ByPlace.{mapped_views, provided_at}
+use Rattle.expand_kernel.specs.ByIndex.{mapped_views, provided_at}
 use Rattle.expand_kernel.specs.Regions.{anywhere, channel_region, own_region, provided_region}
 use Rattle.expand_kernel.specs.declared.region.Region.{Region}
 use Rattle.expand_kernel.specs.declared.region.RegionKind.TheVariants.{Kernel}

@@ -7,7 +7,7 @@ use Rattle.ept_count.specs.declared.window.Leaf.{Leaf}
 use Rattle.ept_count.specs.declared.window.Leaf.TheVariants.{Small, Large, Huge}
 use Rattle.ept_emit.specs.Entries.{IsEmittable, level_of}
 use Rattle.expand_grants.specs.declared.granted.Grants.{Grants}
-use Rattle.machine_meaning.specs.Walks.{span}
+use Rattle.machine_meaning.specs.Walks.{entry_size}
 use Rattle.policy_lawful.specs.Rules.{is_guest, is_page_aligned, is_page_size}
 use Rattle.policy_views.specs.declared.view.View.{View}
 use Rattle.region_alloc.specs.Placed.{Placement}
@@ -18,7 +18,7 @@ use Rattle.subject_emit.proofs.AddressesFit.{AreAt}
 -- ---- the greatest page
 
 abbrev FitsLeaf : ℕ → ℕ → Leaf → Type 0
-FitsLeaf guest address leaf = address % span (level_of leaf) ≡ guest % span (level_of leaf)
+FitsLeaf guest address leaf = address % entry_size (level_of leaf) ≡ guest % entry_size (level_of leaf)
 
 fits_large : (guest address : ℕ) → address % 4096 ≡ 0 → guest % 4096 ≡ 0 → FitsLeaf guest address (if guest % 2 ^ 21 == address % 2 ^ 21 then Large else Small)
 fits_large guest address p g = elim (cases_Bool (guest % 2 ^ 21 == address % 2 ^ 21)) [

@@ -12,17 +12,17 @@ use Rattle.muen_num.proofs.SearchLaws.{all_none, all_pass, none_both}
 use Rattle.muen_num.specs.Search.{first_in, unless}
 use Rattle.policy_lawful.specs.Lawful.{IsLawful}
 use Rattle.policy_lawful.specs.Offences.{alone, two}
-use Rattle.policy_lawful.specs.Resolution.{IsResolved, Resolution, source_of, subject_named, subject_placed}
+use Rattle.policy_lawful.specs.Resolution.{IsResolved, Resolution, source_of, subject_named, subject_in_range}
 use Rattle.policy_lawful.specs.Rules.{is_guest, is_laid, is_physical, offence_4, window_extents}
 use Rattle.policy_lawful.specs.declared.resolved.Subject.{Subject}
 use Rattle.policy_lawful.proofs.KeptAddresses.{addresses_kept}
-use Rattle.policy_lawful.proofs.SourceElements.{parts_placed}
+use Rattle.policy_lawful.proofs.SourceElements.{parts_in_range}
 use Rattle.policy_types.specs.declared.source.Device.{Device}
 use Rattle.policy_types.specs.declared.source.DeviceMemory.{DeviceMemory}
 use Rattle.policy_types.specs.declared.source.Region.{Region}
 use Rattle.policy_types.specs.declared.source.Source.{Source}
 use Rattle.policy_views.specs.Views.{view_extent, views_of}
-use Rattle.policy_views.proofs.ExtentsByPlace.{extents_by_place}
+use Rattle.policy_views.proofs.ExtentsByIndex.{extents_by_index}
 use Rattle.region_alloc.proofs.EachInTurn.{All-in_order}
 
 all_from : {X : Type 0} (p : X → Bool) (xs : List X) → list_all p xs ≡ true → All (λ x. p x ≡ true) xs
@@ -56,12 +56,12 @@ module _ (r : Resolution) (lawful : IsLawful (source_of r)) where
   pub guests_granted : IsResolved r → (k : ℕ) (s : Subject) (g : Grants) → slice_get r.subjects k ≡ Some s → AreGrantsOf r s g → All (λ v. is_guest v.guest v.size ≡ true) g.views
   unfolding source_of
   guests_granted resolved k s g at granted =
-      let in_range = passes_at (subject_placed r) r.subjects k s (parts_placed r resolved.placed).subjects at in
+      let in_range = passes_at (subject_in_range r) r.subjects k s (parts_in_range r resolved.in_range).subjects at in
       let windows = addresses_kept (source_of r) lawful.rule_4 in
       let each : list_all (λ e. is_guest e.address e.size) (window_extents (source_of r) (subject_named r s)) ≡ true =
       passes_at (λ s. list_all (λ e. is_guest e.address e.size) (window_extents (source_of r) (subject_named r s))) r.subjects k s
       (sym (list_all-map (λ s. list_all (λ e. is_guest e.address e.size) (window_extents (source_of r) s)) (subject_named r) r.subjects) ∙ windows.windows) at in
       let views : list_all (λ v. is_guest v.guest v.size) (views_of r s) ≡ true =
       sym (list_all-map (λ e. is_guest e.address e.size) view_extent (views_of r s))
-      ∙ sym (ap (list_all (λ e. is_guest e.address e.size)) (extents_by_place r s resolved in_range)) ∙ each in
+      ∙ sym (ap (list_all (λ e. is_guest e.address e.size)) (extents_by_index r s resolved in_range)) ∙ each in
       rw granted.views (All-in_order _ (λ v. is_guest v.guest v.size ≡ true) (views_of r s) (all_from (λ v. is_guest v.guest v.size) (views_of r s) views))

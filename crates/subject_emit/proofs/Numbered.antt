@@ -8,10 +8,10 @@ use Rattle.std.proofs.lemmas.Slice.Zip.{AllZip-long}
 use Rattle.ept_count.specs.Pages.{ept_pages}
 use Rattle.expand_grants.specs.Grants.{AreGrantsOf}
 use Rattle.expand_grants.specs.declared.granted.Grants.{Grants}
-use Rattle.expand_kernel.specs.ByPlace.{brought_at, kernel_for, kernel_for_each, mapped_views, provided_at}
+use Rattle.expand_kernel.specs.ByIndex.{brought_at, kernel_for, kernel_for_each, mapped_views, provided_at}
 use Rattle.expand_kernel.specs.Regions.{channel_region, kernel_regions, own_region, provided_region}
 use Rattle.expand_kernel.specs.declared.region.Region.{Region}
-use Rattle.expand_kernel.proofs.Numbering.{regions_by_place}
+use Rattle.expand_kernel.proofs.Numbering.{regions_by_index}
 use Rattle.muen_num.proofs.Lists.{get_left, get_right}
 use Rattle.policy_lawful.specs.declared.resolved.Subject.{Subject}
 use Rattle.policy_types.specs.declared.source.Channel.{Channel}
@@ -90,7 +90,7 @@ module _ (x : Placement) (sound : IsSound x) where
 
   all : x.expanded.regions ≡ memory ++ channels ++ provided ++ kernel
   unfolding memory channels provided kernel
-  all = sound.regions ∙ sym (regions_by_place x.expanded.lawful x.expanded.grants sound.resolved sound.grants)
+  all = sound.regions ∙ sym (regions_by_index x.expanded.lawful x.expanded.grants sound.resolved sound.grants)
 
   memory_many : length memory ≡ length x.expanded.lawful.memory
   unfolding memory

@@ -6,7 +6,7 @@ use Rattle.std.specs.List.{flat_map}
 use Rattle.std.proofs.lemmas.List.{take_all}
 use Rattle.std.proofs.lemmas.List.Folds.{length-flat_map-take}
 use Rattle.std.proofs.lemmas.Option.{get_or_from_slice_get, slice_get_within}
-use Rattle.expand_kernel.specs.ByPlace.{provided_at}
+use Rattle.expand_kernel.specs.ByIndex.{provided_at}
 use Rattle.policy_lawful.specs.Resolution.{Resolution}
 use Rattle.policy_lawful.specs.declared.resolved.Subject.{Subject}
 use Rattle.policy_types.specs.declared.source.Component.{Component}

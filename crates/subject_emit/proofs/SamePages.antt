@@ -7,7 +7,7 @@ use Rattle.std.proofs.lemmas.List.Kept.{AllPairs-cons}
 use Rattle.ept_count.specs.Pages.{AreApart, count, ept_pages, is_taken, touches}
 use Rattle.ept_count.specs.declared.window.Window.{Window}
 use Rattle.expand_grants.specs.declared.granted.Grants.{Grants}
-use Rattle.expand_kernel.specs.ByPlace.{mapped_view, mapped_views}
+use Rattle.expand_kernel.specs.ByIndex.{mapped_view, mapped_views}
 use Rattle.muen_num.proofs.Lists.{list_any-map}
 use Rattle.region_alloc.specs.Placed.{Placement}
 use Rattle.subject_emit.specs.Mapped.{mapped, mapped_windows}

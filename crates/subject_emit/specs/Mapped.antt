@@ -6,7 +6,7 @@ use Rattle.ept_count.specs.declared.window.Leaf.{Leaf}
 use Rattle.ept_count.specs.declared.window.Leaf.TheVariants.{Small, Large, Huge}
 use Rattle.ept_count.specs.declared.window.Window.{Window}
 use Rattle.expand_grants.specs.declared.granted.Grants.{Grants}
-use Rattle.expand_kernel.specs.ByPlace.{provided_at}
+use Rattle.expand_kernel.specs.ByIndex.{provided_at}
 use Rattle.muen_num.specs.declared.limits.TheConstants.{KERNEL_REGIONS}
 use Rattle.policy_lawful.specs.Resolution.{Resolution}
 use Rattle.policy_types.specs.declared.rights.Caching.{Caching}

@@ -9,7 +9,7 @@ use Rattle.expand_grants.specs.declared.granted.Grants.{Grants}
 use Rattle.iobm_emit.specs.Ports.{is_granted_access}
 use Rattle.machine_meaning.specs.Exits.{area_bytes, msr_exits, port_exits}
 use Rattle.machine_meaning.specs.Memory.{Page}
-use Rattle.machine_meaning.specs.Walks.{leaf_size, places_read, span, walk_of}
+use Rattle.machine_meaning.specs.Walks.{leaf_size, addresses_read, entry_size, walk_of}
 use Rattle.msrbm_emit.specs.Area.{area_of, count_of}
 use Rattle.msrbm_emit.specs.Msrs.{is_granted}
 use Rattle.muen_num.specs.declared.access.AccessKind.{AccessKind}
@@ -30,8 +30,8 @@ tables_at x subject = slice_index x.addresses (kernel_first x.expanded.lawful su
 pub record AreTablesOf (windows : List Window) (at : ℕ) (tables : List ℕ) : Type 0 where
   pub len : length tables ≡ PAGE * ept_pages windows
   pub walk : (m : List Page) (addr : ℕ) (kind : AccessKind) → HasTables m at tables → HasAddresses m windows → addr < 2 ^ 48 → walk_of m (eptp_of at) addr kind ≡ translation windows addr kind
-  pub alone : (m : List Page) (addr : ℕ) → HasTables m at tables → addr < 2 ^ 48 → All (λ address. (at ≤ address) × (address + 8 ≤ at + length tables)) (places_read m (eptp_of at) addr)
-  pub paths : (m : List Page) (a b level other page : ℕ) → HasTables m at tables → a < 2 ^ 48 → b < 2 ^ 48 → Reads m (eptp_of at) a level page → Reads m (eptp_of at) b other page → (level ≡ other) × (a / span (suc level) ≡ b / span (suc level))
+  pub alone : (m : List Page) (addr : ℕ) → HasTables m at tables → addr < 2 ^ 48 → All (λ address. (at ≤ address) × (address + 8 ≤ at + length tables)) (addresses_read m (eptp_of at) addr)
+  pub paths : (m : List Page) (a b level other page : ℕ) → HasTables m at tables → a < 2 ^ 48 → b < 2 ^ 48 → Reads m (eptp_of at) a level page → Reads m (eptp_of at) b other page → (level ≡ other) × (a / entry_size (suc level) ≡ b / entry_size (suc level))
   pub leaves : (m : List Page) (addr : ℕ) → HasTables m at tables → addr < 2 ^ 48 → IfSome (window_at windows addr) (λ w. IsGreatestSize w addr (leaf_size m (eptp_of at) addr))
 
 -- the pages of the subject at an index, which is granted this

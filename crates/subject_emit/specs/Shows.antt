@@ -1,7 +1,7 @@
 -- What windows show is there, and windows may be read.
 use Rattle.std.specs.Prelude.{◌≡◌, ℕ, ◌+◌, ◌%◌, ◌<◌, ◌≤◌, List, [], length, slice_get, Option, Some, option_and_then, option_map}
 use Rattle.std.specs.Option.{option_map_or}
-use Rattle.expand_kernel.specs.ByPlace.{provided_at}
+use Rattle.expand_kernel.specs.ByIndex.{provided_at}
 use Rattle.muen_num.specs.declared.limits.TheConstants.{PAGE}
 use Rattle.policy_lawful.specs.Resolution.{Resolution}
 use Rattle.policy_types.specs.declared.rights.Rights.{Rights}

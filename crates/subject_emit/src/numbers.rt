@@ -1,7 +1,7 @@
 //! The numbers of regions: those of memory, the channels, those that each subject's component brings
 //! along, then the kernel's for each subject.
 ghost use Rattle.std.specs.Prelude.{◌≡◌, ◌+◌, ◌≤◌, ◌<◌, ◌^◌, length};
-ghost use Rattle.expand_kernel.specs.ByPlace.{provided_at};
+ghost use Rattle.expand_kernel.specs.ByIndex.{provided_at};
 ghost use Rattle.subject_emit.specs.Mapped.{brought_before, kernel_first};
 
 use muen_num::limits::KERNEL_REGIONS;

@@ -8,8 +8,8 @@ use Rattle.std.proofs.lemmas.List.Sums.{sum_by-cons}
 use Rattle.std.proofs.lemmas.Nat.{mod-mul-add}
 use Rattle.std.proofs.lemmas.Option.{slice_get-map}
 use Rattle.std.proofs.Math.Nat.{suc-mul}
-use Rattle.frame_clock.specs.FrameAt.{first_place, next_major, place_at, place_by, slot_in}
-use Rattle.frame_clock.specs.declared.place.FrameAt.{FrameAt}
+use Rattle.frame_clock.specs.Frames.{first_frame, next_major, frame_at_tick, frame_by_ticks, slot_in}
+use Rattle.frame_clock.specs.declared.frame_at.FrameAt.{FrameAt}
 use Rattle.image_plan.proofs.ByNumber.{there}
 use Rattle.image_plan.proofs.SlotLaws.{first_major, later_major, length_slots, ticks_of}
 use Rattle.image_plan.specs.Slot.{frame_slots, slot_at, slots_from}
@@ -108,19 +108,19 @@ frame_turns ticks tick at p each some end =
           (frame_begins ticks (suc tick) 0 (suc p.rounds) each some (omega (arith, since, end, last, more)))
     ]
 
-frame_goes : (ticks : List ℕ) (tick : ℕ) (at : FrameAt) → All (λ n. 0 < n) ticks → 0 < length ticks → IsFrame ticks tick at → IsFrame ticks (suc tick) (place_at ticks at None (suc tick))
+frame_goes : (ticks : List ℕ) (tick : ℕ) (at : FrameAt) → All (λ n. 0 < n) ticks → 0 < length ticks → IsFrame ticks tick at → IsFrame ticks (suc tick) (frame_at_tick ticks at None (suc tick))
 frame_goes ticks tick at each some p =
     let next : FrameAt = record { major = next_major (length ticks) at.major None; start = suc tick } in
-    subst (λ o. IsFrame ticks (suc tick) (place_by (length ticks) at None (suc tick) o)) (sym p.found)
+    subst (λ o. IsFrame ticks (suc tick) (frame_by_ticks (length ticks) at None (suc tick) o)) (sym p.found)
     (elim (cases_eq (suc tick) (at.start + p.size)) [
       | inl h ↦ subst (λ b. IsFrame ticks (suc tick) (cond b next at)) (sym (eq-eqb (suc tick) (at.start + p.size) h)) (frame_turns ticks tick at p each some h)
       | inr h ↦ subst (λ b. IsFrame ticks (suc tick) (cond b next at)) (sym (ne_eqb (suc tick) (at.start + p.size) h)) (frame_stays ticks tick at p h)
     ])
 
-first_stays : (ticks : List ℕ) (size : ℕ) → slice_get ticks 0 ≡ Some size → 0 < size → place_at ticks first_place None 0 ≡ first_place
+first_stays : (ticks : List ℕ) (size : ℕ) → slice_get ticks 0 ≡ Some size → 0 < size → frame_at_tick ticks first_frame None 0 ≡ first_frame
 first_stays ticks size e some =
-    ap (place_by (length ticks) first_place None 0) e
-    ∙ ap (λ b. cond b (record { major = next_major (length ticks) 0 None; start = 0 }) first_place) (ne_eqb 0 (0 + size) (λ h. absurd (omega (arith, some, h))))
+    ap (frame_by_ticks (length ticks) first_frame None 0) e
+    ∙ ap (λ b. cond b (record { major = next_major (length ticks) 0 None; start = 0 }) first_frame) (ne_eqb 0 (0 + size) (λ h. absurd (omega (arith, some, h))))
 
 frame_runs : (ticks : List ℕ) (tick : ℕ) → All (λ n. 0 < n) ticks → 0 < length ticks → IsFrame ticks tick (frame_after ticks tick)
 frame_runs ticks zero each some =

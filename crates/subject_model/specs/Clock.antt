@@ -2,7 +2,7 @@
 use Rattle.std.specs.Prelude.{ℕ, ◌==◌, List, map, filter, slice_get, slice_set, Option, Some, None, option_and_then}
 use Rattle.std.specs.List.{find, sum_by}
 use Rattle.std.specs.Option.{option_map_or}
-use Rattle.frame_clock.specs.FrameAt.{place_at}
+use Rattle.frame_clock.specs.Frames.{frame_at_tick}
 use Rattle.muen_num.specs.Range.{numbers_below}
 use Rattle.policy_meaning.specs.Contents.{Held}
 use Rattle.policy_meaning.specs.Events.{Target, irq_of}
@@ -28,7 +28,7 @@ pick_in y None = None
 pick_in y (Some t) = option_and_then (λ bytes. slice_get bytes 0) (thing_in y.things (region t.region))
 
 abbrev pub begins : Source → ℕ → System → System
-begins p tick y = record y { frame = place_at (ticks_of_majors p) y.frame (pick_in y p.scheduling.tau0) tick }
+begins p tick y = record y { frame = frame_at_tick (ticks_of_majors p) y.frame (pick_in y p.scheduling.tau0) tick }
 
 -- ---- inputs; without tables for it no device reaches memory by itself
 

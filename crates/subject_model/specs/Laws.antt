@@ -1,8 +1,8 @@
 -- What laws of the abstract system speak of.
 use Rattle.std.specs.Prelude.{◌≡◌, ℕ, zero, suc, ◌<◌, Bool, List, length, map, slice_get, Option, Some, None}
 use Rattle.std.specs.List.{All, sum_by}
-use Rattle.frame_clock.specs.FrameAt.{first_place, place_at, slot_in}
-use Rattle.frame_clock.specs.declared.place.FrameAt.{FrameAt}
+use Rattle.frame_clock.specs.Frames.{first_frame, frame_at_tick, slot_in}
+use Rattle.frame_clock.specs.declared.frame_at.FrameAt.{FrameAt}
 use Rattle.guest_step.specs.Step.{Stored}
 use Rattle.image_plan.specs.Slot.{Slot}
 use Rattle.muen_num.specs.Frame.{Frame}
@@ -54,5 +54,5 @@ pub record AreFrames (frames : List (List Frame)) (ticks : List ℕ) : Type 0 wh
 
 -- the major frame at a tick where nothing ever picks one
 abbrev pub frame_after : List ℕ → ℕ → FrameAt
-frame_after ticks zero = place_at ticks first_place None 0
-frame_after ticks (suc tick) = place_at ticks (frame_after ticks tick) None (suc tick)
+frame_after ticks zero = frame_at_tick ticks first_frame None 0
+frame_after ticks (suc tick) = frame_at_tick ticks (frame_after ticks tick) None (suc tick)

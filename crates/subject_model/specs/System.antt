@@ -5,8 +5,8 @@ use Rattle.std.specs.Prelude.{ℕ, ◌+◌, ◌==◌, Bool, List, [], ◌++◌, 
 use Rattle.std.specs.List.{find, list_any}
 use Rattle.std.specs.Str.{bytes_eq}
 use Rattle.expand_grants.specs.Resources.{msrs_of, ports_of}
-use Rattle.frame_clock.specs.FrameAt.{first_place, slot_in}
-use Rattle.frame_clock.specs.declared.place.FrameAt.{FrameAt}
+use Rattle.frame_clock.specs.Frames.{first_frame, slot_in}
+use Rattle.frame_clock.specs.declared.frame_at.FrameAt.{FrameAt}
 use Rattle.guest_step.specs.Step.{Stored, MsrWrite}
 use Rattle.image_plan.specs.Slot.{Slot}
 use Rattle.look_up.specs.ByNumber.{change_at}
@@ -78,7 +78,7 @@ start_of p files = record {
   now = map (λ s. (s.name, [])) p.subjects;
   later = map (λ s. (s.name, [])) p.subjects;
   active = map (λ g. first_member g.subjects) p.scheduling.groups;
-  frame = first_place;
+  frame = first_frame;
 }
 
 -- ---- what reaches a subject

@@ -7,7 +7,7 @@
 
 ghost use Rattle.std.specs.Prelude.{◌≡◌, ℕ, Bool, List, Some, None, true, slice_get};
 ghost use Rattle.expand_grants.specs.Resources.{are_granted};
-ghost use Rattle.frame_clock.specs.FrameAt.{slot_in};
+ghost use Rattle.frame_clock.specs.Frames.{slot_in};
 ghost use Rattle.guest_step.specs.Step.{MsrWrite};
 ghost use Rattle.guest_step.specs.declared.reach.Reach.TheVariants.{Reached};
 ghost use Rattle.image_plan.specs.Slot.{slot_at};

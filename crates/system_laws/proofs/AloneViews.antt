@@ -7,10 +7,10 @@ use Rattle.std.specs.Str.{bytes_eq}
 use Rattle.std.proofs.lemmas.Bool.{and_parts, eqb-true, eq-eqb, ltb-true, not-true, or_parts, true≢false}
 use Rattle.std.proofs.lemmas.List.Elements.{recursion_from_All}
 use Rattle.std.proofs.lemmas.Slice.Eq.{bytes_eq-Decides}
-use Rattle.frame_clock.specs.FrameAt.{slot_in}
+use Rattle.frame_clock.specs.Frames.{slot_in}
 use Rattle.image_plan.specs.Slot.{Slot}
 use Rattle.muen_num.proofs.Lists.{found_among, map-map}
-use Rattle.policy_lawful.proofs.Places.{same_self}
+use Rattle.policy_lawful.proofs.Indexes.{same_self}
 use Rattle.muen_num.specs.Range.{numbers_below}
 use Rattle.policy_lawful.proofs.KeptCpus.{cpus_kept}
 use Rattle.policy_lawful.proofs.KeptMajors.{MajorsKept, majors_kept}

@@ -1,7 +1,7 @@
 -- What inputs and turns keep, each state of a run has.
 use Rattle.std.proofs.Common.{◌≡◌, ℕ, zero, suc, Bool, List, [], ◌∷◌, Option, Some, None, refl}
 use Rattle.std.specs.Prelude.{slice_get}
-use Rattle.frame_clock.specs.FrameAt.{slot_in}
+use Rattle.frame_clock.specs.Frames.{slot_in}
 use Rattle.image_plan.specs.Slot.{Slot}
 use Rattle.policy_meaning.specs.Frames.{frames_of}
 use Rattle.policy_types.specs.declared.source.Source.{Source}

@@ -2,7 +2,7 @@
 use Rattle.std.specs.Prelude.{◌≡◌, ℕ, Bool, true, List, Some, slice_get}
 use Rattle.std.specs.List.{list_any}
 use Rattle.std.specs.Str.{bytes_eq}
-use Rattle.frame_clock.specs.FrameAt.{slot_in}
+use Rattle.frame_clock.specs.Frames.{slot_in}
 use Rattle.image_plan.specs.Slot.{Slot}
 use Rattle.policy_meaning.specs.Frames.{frames_of}
 use Rattle.policy_types.specs.declared.source.Group.{Group}

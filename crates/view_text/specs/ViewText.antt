@@ -3,7 +3,7 @@ use Rattle.std.specs.Prelude.{ℕ, ◌+◌, ◌-◌, ◌*◌, ◌==◌, Bool, tr
 use Rattle.std.specs.List.{flat_map}
 use Rattle.hex.specs.Hex.{encode_lower}
 use Rattle.muen_num.specs.Fixed.{hex4, hex8, hex16}
-use Rattle.muen_num.specs.Size.{bytes_of}
+use Rattle.muen_num.specs.AccessSize.{bytes_of}
 use Rattle.muen_num.specs.Tag.{tag_text}
 use Rattle.muen_num.specs.declared.tag.Tag.{Tag}
 use Rattle.subject_state.specs.declared.SubjectState.{SubjectState}

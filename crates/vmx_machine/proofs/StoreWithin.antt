@@ -3,7 +3,7 @@ use Rattle.std.proofs.Common.{◌≡◌, ℕ, ◌+◌, ◌*◌, ◌/◌, ◌%◌
 use Rattle.std.specs.Prelude.{bit_and}
 use Rattle.std.proofs.lemmas.Nat.{and_le_l}
 use Rattle.muen_num.specs.Access.{kind_bit}
-use Rattle.muen_num.specs.Size.{bytes_of}
+use Rattle.muen_num.specs.AccessSize.{bytes_of}
 use Rattle.muen_num.specs.declared.access.AccessKind.{AccessKind}
 use Rattle.muen_num.specs.declared.access.AccessKind.TheVariants.{Read, Write, Fetch}
 use Rattle.muen_num.specs.declared.access.AccessSize.{AccessSize}

@@ -1,6 +1,6 @@
 //! Where accesses of memory, of ports and of MSRs lead.
 ghost use Rattle.std.specs.Prelude.{◌≡◌, ◌/◌, ◌%◌, ◌^◌, ◌<◌, ◌≤◌};
-ghost use Rattle.muen_num.specs.Size.{bytes_of};
+ghost use Rattle.muen_num.specs.AccessSize.{bytes_of};
 ghost use Rattle.guest_step.specs.Step.{reach_of};
 ghost use Rattle.vmx_machine.specs.Machine.{look_in, ports_exit, ports_input, msr_exits_in, msr_input};
 ghost use Rattle.vmx_machine.specs.Within.{LeadsWithin};

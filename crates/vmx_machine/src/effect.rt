@@ -1,6 +1,6 @@
 //! What an instruction does once it is known where its access leads.
 ghost use Rattle.std.specs.Prelude.{◌≡◌, ◌<◌, ℕ, true, false};
-ghost use Rattle.muen_num.specs.Size.{bytes_of};
+ghost use Rattle.muen_num.specs.AccessSize.{bytes_of};
 ghost use Rattle.guest_step.specs.Step.{sets, loaded, stored_to, port_qualification, port_read, msr_read};
 ghost use Rattle.vmx_machine.specs.Machine.{page_at, with_store};
 ghost use Rattle.vmx_machine.specs.Within.{LeadsWithin};

@@ -2,7 +2,7 @@
 ghost use Rattle.std.specs.Prelude.{◌≡◌, ◌+◌, ◌*◌, ◌/◌, ◌%◌, ◌^◌, ◌<◌, ◌≤◌, ◌==◌, length};
 ghost use Rattle.machine_meaning.specs.Memory.{change, store_of};
 ghost use Rattle.muen_num.specs.Range.{numbers_below};
-ghost use Rattle.muen_num.specs.Size.{bytes_of};
+ghost use Rattle.muen_num.specs.AccessSize.{bytes_of};
 ghost use Rattle.page_parts.specs.Fields.{number_at};
 ghost use Rattle.state_page.specs.StatePage.{page_bytes, registers_in, has_flag, state_in};
 ghost use Rattle.guest_step.specs.Step.{word_at};

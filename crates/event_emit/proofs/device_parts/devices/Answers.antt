@@ -5,8 +5,8 @@ use Rattle.event_emit.specs.ByIndex.{AreFew, device_parts, has_name}
 use Rattle.event_emit.specs.Tables.{AreDevices}
 use Rattle.event_emit.proofs.DevicesByIndex.{are_devices, are_few}
 use Rattle.event_emit.proofs.device_parts.devices.Goals as goal
-use Rattle.expand_grants.specs.ByPlace.{fits_device}
-use Rattle.expand_grants.proofs.PortsByPlace.{ports_fit}
+use Rattle.expand_grants.specs.ByIndex.{fits_device}
+use Rattle.expand_grants.proofs.PortsByIndex.{ports_fit}
 use Rattle.policy_lawful.specs.Lawful.{IsLawful}
 use Rattle.policy_lawful.specs.Resolution.{Resolution, source_of}
 

@@ -1,7 +1,7 @@
 -- What has been put there so far.
 use Rattle.std.proofs.Common.{◌≡◌, ◌++◌, map, take}
 use Rattle.std.specs.List.{flat_map}
-use Rattle.expand_kernel.specs.ByPlace.{provided_at}
+use Rattle.expand_kernel.specs.ByIndex.{provided_at}
 use Rattle.muen_build.specs.Reading.{content_read}
 use Rattle.muen_build.proofs.things.put_subjects.Given as goal
 

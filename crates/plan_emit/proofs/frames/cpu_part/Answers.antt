@@ -4,7 +4,7 @@ use Rattle.std.specs.List.{find, list_all}
 use Rattle.std.proofs.lemmas.Bool.{and_parts}
 use Rattle.plan_emit.specs.Emitted.{fits_minor, fits_entry}
 use Rattle.plan_emit.proofs.frames.cpu_part.Goals as goal
-use Rattle.policy_lawful.specs.ByPlace.{ticks_in}
+use Rattle.policy_lawful.specs.ByIndex.{ticks_in}
 use Rattle.muen_num.proofs.Lists.{found_among}
 
 pub minor_parts-requires : goal.minor_parts-requires

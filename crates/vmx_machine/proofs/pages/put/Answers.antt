@@ -2,7 +2,7 @@ use Rattle.std.proofs.Common.{subst, sym, ◌∙◌}
 use Rattle.machine_meaning.specs.Memory.{store_of}
 use Rattle.machine_meaning.specs.Same.{SameOutside}
 use Rattle.machine_meaning.proofs.StoreLaws.{stores_differ_in_their_bytes}
-use Rattle.muen_num.specs.Size.{bytes_of}
+use Rattle.muen_num.specs.AccessSize.{bytes_of}
 use Rattle.vmx_machine.proofs.pages.put.Goals as goal
 
 pub returns-clause-fits : goal.returns-clause-fits

@@ -3,7 +3,7 @@ use Rattle.std.proofs.lemmas.Grind.{common_steps}
 use Rattle.std.proofs.lemmas.List.{get_or_read}
 use Rattle.machine_meaning.proofs.StoreLaws.{spelt}
 use Rattle.phys_mem.specs.Frames.{pages_by}
-use Rattle.muen_num.specs.Size.{bytes_of}
+use Rattle.muen_num.specs.AccessSize.{bytes_of}
 use Rattle.machine_meaning.specs.Memory.{le_bytes, over}
 use Rattle.phys_mem.proofs.region_mem.RegionMemPhysMem.store.Goals as goal
 
