@@ -1,7 +1,7 @@
 -- The numbers that few bytes spell.
 use Rattle.std.proofs.Common.{◌≡◌, ℕ, zero, suc, ◌+◌, ◌-◌, ◌*◌, ◌^◌, ◌<◌, ◌≤◌, List, [], ◌∷◌, length, get_or, take, drop, Fits, w8, arith}
 use Rattle.std.proofs.lemmas.Grind.{common_steps}
-use Rattle.machine_meaning.specs.Memory.{le_number}
+use Rattle.machine_layout.specs.Memory.{le_number}
 
 -- how many numbers n bytes spell
 abbrev worth : ℕ → ℕ

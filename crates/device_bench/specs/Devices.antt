@@ -3,7 +3,7 @@ use Rattle.std.specs.Prelude.{◌≡◌, ℕ, ◌+◌, ◌==◌, List, map, leng
 use Rattle.std.specs.List.{find}
 use Rattle.std.specs.List.Sorted.{IsNonDecreasing, IsStrictlyIncreasing}
 use Rattle.muen_num.specs.declared.limits.TheConstants.{LAST_PORT}
-use Rattle.machine_meaning.specs.Memory.{le_number}
+use Rattle.machine_layout.specs.Memory.{le_number}
 use Rattle.record_text.specs.declared.record.Record.{Record}
 use Rattle.record_text.specs.declared.record.TickInput.{TickInput}
 

@@ -2,7 +2,7 @@
 ghost use Rattle.std.specs.Prelude.{◌≡◌, ℕ, ◌+◌, ◌^◌, ◌==◌, ◌<◌, ◌≤◌, slice_get, slice_set, length, filter, option_map, IfOk};
 ghost use Rattle.std.specs.List.{AllWithin, find};
 ghost use Rattle.std.specs.List.Sorted.{IsNonDecreasingBy};
-ghost use Rattle.machine_meaning.specs.Memory.{le_number};
+ghost use Rattle.machine_layout.specs.Memory.{le_number};
 ghost use Rattle.muen_num.specs.AccessSize.{bytes_of};
 ghost use Rattle.device_bench.specs.Devices.{IsInOrder, inputs_at, order_at, zeros, no_inputs, value_of_ports};
 

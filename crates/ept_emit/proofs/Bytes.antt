@@ -3,7 +3,7 @@ use Rattle.std.proofs.Common.{◌≡◌, ◌≢◌, ◌⊎◌, inl, inr, ℕ, ze
 use Rattle.std.specs.Int.{w64, to_le_bytes}
 use Rattle.std.proofs.lemmas.Bool.{cases_order}
 use borrow.Rule.Slice.PartMut.{put_mid}
-use Rattle.machine_meaning.specs.Memory.{over, le_number, le_bytes}
+use Rattle.machine_layout.specs.Memory.{over, le_number, le_bytes}
 use Rattle.ept_emit.specs.Entries.{word_at}
 
 -- where it has room, it is the part before, the bytes, and the part after

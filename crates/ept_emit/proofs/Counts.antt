@@ -2,9 +2,9 @@
 use Rattle.std.proofs.Common.{◌≡◌, ◌≢◌, inl, inr, ℕ, zero, suc, ◌+◌, ◌-◌, ◌*◌, ◌<◌, ◌≤◌, Bool, true, List, [], ◌∷◌, Some, refl, ap, ◌∙◌, arith}
 use Rattle.std.specs.List.{find, list_any}
 use Rattle.std.proofs.lemmas.Bool.{cases_Bool}
-use Rattle.ept_count.specs.declared.window.Window.{Window}
-use Rattle.ept_count.specs.Pages.{count, one, is_taken, touches, ept_pages}
-use Rattle.machine_meaning.specs.Walks.{entry_size}
+use Rattle.ept_emit.specs.declared.window.Window.{Window}
+use Rattle.ept_emit.specs.Pages.{count, one, is_taken, touches, ept_pages}
+use Rattle.machine_layout.specs.Walks.{entry_size}
 use Rattle.ept_emit.specs.Entries.{window_on}
 use Rattle.ept_emit.specs.Needs.{needs}
 

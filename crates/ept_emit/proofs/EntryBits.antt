@@ -3,9 +3,9 @@ use Rattle.std.proofs.Common.{◌≡◌, inl, inr, ℕ, zero, suc, ◌+◌, ◌*
 use Rattle.std.specs.Prelude.{bit_and, nat_lt, not, if◌then◌else◌}
 use Rattle.std.proofs.lemmas.Bool.{cases_Bool, or_from, or_right, and_from, and_right, lt-ltb, eq-eqb, ne_eqb, not_from_true}
 use Rattle.std.proofs.lemmas.Nat.{and_mask, and_comm}
-use Rattle.machine_meaning.specs.declared.walk.Walk.{Walk}
-use Rattle.machine_meaning.specs.declared.walk.Walk.TheVariants.{Violation, Misconfigured}
-use Rattle.machine_meaning.specs.Walks.{entry_size, bits_of, is_present, is_leaf, is_misconfigured, has_lone_rights, has_no_type, is_misaligned, has_reserved, is_beyond, reads, leaf_end, goes_on}
+use Rattle.machine_layout.specs.declared.walk.Walk.{Walk}
+use Rattle.machine_layout.specs.declared.walk.Walk.TheVariants.{Violation, Misconfigured}
+use Rattle.machine_layout.specs.Walks.{entry_size, bits_of, is_present, is_leaf, is_misconfigured, has_lone_rights, has_no_type, is_misaligned, has_reserved, is_beyond, reads, leaf_end, goes_on}
 use Rattle.policy_types.specs.declared.rights.Caching.{Caching}
 use Rattle.policy_types.specs.declared.rights.Caching.TheVariants.{Uc, Wc, Wt, Wp, Wb}
 use Rattle.ept_emit.specs.Entries.{size_bit, table_entry, type_of}

@@ -3,11 +3,11 @@ use Rattle.std.proofs.Common.{◌≡◌, ◌⊎◌, inl, inr, ℕ, suc, ◌+◌,
 use Rattle.std.specs.Prelude.{IfSome, bit_and, if◌then◌else◌}
 use Rattle.std.proofs.lemmas.Bool.{cases_eq, cases_lt}
 use Rattle.std.proofs.lemmas.List.{drop-take, drop-drop, take-take}
-use Rattle.ept_count.specs.declared.window.Window.{Window}
-use Rattle.ept_count.specs.Pages.{AreApart}
-use Rattle.machine_meaning.specs.declared.walk.Walk.TheVariants.{At, Violation}
-use Rattle.machine_meaning.specs.Memory.{Page, page_of, is_there, le_number, load_of}
-use Rattle.machine_meaning.specs.Walks.{entry_size, entry_of, root_of, walk_of, walk_from, addresses_read, addresses_from, leaf_size, end_entry_size}
+use Rattle.ept_emit.specs.declared.window.Window.{Window}
+use Rattle.ept_emit.specs.Pages.{AreApart}
+use Rattle.machine_layout.specs.declared.walk.Walk.TheVariants.{At, Violation}
+use Rattle.machine_layout.specs.Memory.{Page, page_of, is_there, le_number, load_of}
+use Rattle.machine_layout.specs.Walks.{entry_size, entry_of, root_of, walk_of, walk_from, addresses_read, addresses_from, leaf_size, end_entry_size}
 use Rattle.muen_num.specs.Access.{kind_bit}
 use Rattle.muen_num.specs.declared.access.AccessKind.{AccessKind}
 use Rattle.muen_num.specs.declared.access.AccessKind.TheVariants.{Read, Write, Fetch}

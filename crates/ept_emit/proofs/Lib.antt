@@ -7,3 +7,5 @@ pub mod EntryBits
 pub mod Walked
 pub mod Addresses
 pub mod Held
+pub mod PageCounts
+pub mod Tallies

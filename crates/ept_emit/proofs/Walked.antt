@@ -3,13 +3,13 @@ use Rattle.std.proofs.Common.{◌≡◌, inl, inr, ℕ, zero, suc, ◌+◌, ◌-
 use Rattle.std.specs.Prelude.{bit_and, if◌then◌else◌}
 use Rattle.std.proofs.lemmas.Bool.{and_from, or_right, le-leb, cases_eq, true≢false}
 use Rattle.std.proofs.Math.Nat.{mod-eq-sub-mul-div}
-use Rattle.ept_count.specs.declared.window.Leaf.{Leaf}
-use Rattle.ept_count.specs.declared.window.Leaf.TheVariants.{Small, Large, Huge}
-use Rattle.ept_count.specs.declared.window.Window.{Window}
-use Rattle.ept_count.specs.Pages.{AreApart}
-use Rattle.machine_meaning.specs.declared.walk.Walk.{Walk}
-use Rattle.machine_meaning.specs.declared.walk.Walk.TheVariants.{At, Violation, Misconfigured}
-use Rattle.machine_meaning.specs.Walks.{entry_size, index_at, reads, leaf_end, walk_from, is_present, is_misconfigured, is_leaf, end_entry_size, goes_on}
+use Rattle.ept_emit.specs.declared.window.Leaf.{Leaf}
+use Rattle.ept_emit.specs.declared.window.Leaf.TheVariants.{Small, Large, Huge}
+use Rattle.ept_emit.specs.declared.window.Window.{Window}
+use Rattle.ept_emit.specs.Pages.{AreApart}
+use Rattle.machine_layout.specs.declared.walk.Walk.{Walk}
+use Rattle.machine_layout.specs.declared.walk.Walk.TheVariants.{At, Violation, Misconfigured}
+use Rattle.machine_layout.specs.Walks.{entry_size, index_at, reads, leaf_end, walk_from, is_present, is_misconfigured, is_leaf, end_entry_size, goes_on}
 use Rattle.ept_emit.specs.Entries.{IsEmittable, is_whole, leaf_entry, level_of, type_of, window_on}
 use Rattle.ept_emit.specs.Tables.{IsWritten, child}
 use Rattle.ept_emit.specs.Emitted.{window_at, IsInside, IsGreatestSize}

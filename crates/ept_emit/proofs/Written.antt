@@ -1,8 +1,8 @@
 -- One entry at a time: what stands, and what stays where other words change.
 use Rattle.std.proofs.Common.{◌≡◌, ◌⊎◌, inl, inr, ℕ, zero, suc, ◌+◌, ◌*◌, ◌/◌, ◌%◌, ◌<◌, ◌≤◌, true, false, List, Option, Some, None, refl, arith}
 use Rattle.std.proofs.lemmas.Bool.{cases_Bool}
-use Rattle.ept_count.specs.declared.window.Window.{Window}
-use Rattle.machine_meaning.specs.Walks.{entry_size}
+use Rattle.ept_emit.specs.declared.window.Window.{Window}
+use Rattle.machine_layout.specs.Walks.{entry_size}
 use Rattle.ept_emit.specs.Entries.{is_whole, leaf_entry, window_on}
 use Rattle.ept_emit.specs.Tables.{IsWritten, Below, Stands, Leads, IsReference, child}
 

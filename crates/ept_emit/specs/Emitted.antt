@@ -1,11 +1,11 @@
 -- What the emitted tables mean (Intel SDM volume 3, "VMX Support for Address Translation").
 use Rattle.std.specs.Prelude.{◌≡◌, ℕ, ◌+◌, ◌-◌, ◌*◌, ◌/◌, ◌<◌, ◌≤◌, ◌&&◌, nat_lt, nat_le, Bool, true, if◌then◌else◌, List, length, slice_index, take, drop, All, Option, Some, None}
 use Rattle.std.specs.List.{find}
-use Rattle.ept_count.specs.declared.window.Window.{Window}
-use Rattle.machine_meaning.specs.declared.walk.Walk.{Walk}
-use Rattle.machine_meaning.specs.declared.walk.Walk.TheVariants.{At, Violation}
-use Rattle.machine_meaning.specs.Memory.{Page, is_there, page_of}
-use Rattle.machine_meaning.specs.Walks.{addresses_read, entry_size}
+use Rattle.ept_emit.specs.declared.window.Window.{Window}
+use Rattle.machine_layout.specs.declared.walk.Walk.{Walk}
+use Rattle.machine_layout.specs.declared.walk.Walk.TheVariants.{At, Violation}
+use Rattle.machine_layout.specs.Memory.{Page, is_there, page_of}
+use Rattle.machine_layout.specs.Walks.{addresses_read, entry_size}
 use Rattle.muen_num.specs.declared.access.AccessKind.{AccessKind}
 use Rattle.policy_types.specs.Rights.{allows}
 use Rattle.ept_emit.specs.Entries.{level_of}

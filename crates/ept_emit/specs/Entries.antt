@@ -2,12 +2,12 @@
 -- EPT PML4 entry, and of the PDPTE, the PDE and the PTE that map a page or reference a table).
 use Rattle.std.specs.Prelude.{◌≡◌, ℕ, zero, suc, ◌+◌, ◌-◌, ◌*◌, ◌%◌, ◌^◌, ◌<◌, ◌≤◌, ◌==◌, ◌&&◌, ◌||◌, nat_le, Bool, List, take, drop, Option}
 use Rattle.std.specs.List.{find}
-use Rattle.ept_count.specs.declared.window.Leaf.{Leaf}
-use Rattle.ept_count.specs.declared.window.Leaf.TheVariants.{Small, Large, Huge}
-use Rattle.ept_count.specs.declared.window.Window.{Window}
-use Rattle.ept_count.specs.Pages.{touches}
-use Rattle.machine_meaning.specs.Memory.{le_number}
-use Rattle.machine_meaning.specs.Walks.{entry_size}
+use Rattle.ept_emit.specs.declared.window.Leaf.{Leaf}
+use Rattle.ept_emit.specs.declared.window.Leaf.TheVariants.{Small, Large, Huge}
+use Rattle.ept_emit.specs.declared.window.Window.{Window}
+use Rattle.ept_emit.specs.Pages.{touches}
+use Rattle.machine_layout.specs.Memory.{le_number}
+use Rattle.machine_layout.specs.Walks.{entry_size}
 use Rattle.policy_types.specs.declared.rights.Caching.{Caching}
 use Rattle.policy_types.specs.declared.rights.Caching.TheVariants.{Uc, Wc, Wt, Wp, Wb}
 

@@ -1,8 +1,8 @@
 -- How many tables lie below entries.
 use Rattle.std.specs.Prelude.{ℕ, zero, suc, ◌+◌, ◌*◌, List}
-use Rattle.ept_count.specs.declared.window.Window.{Window}
-use Rattle.ept_count.specs.Pages.{count, is_taken}
-use Rattle.machine_meaning.specs.Walks.{entry_size}
+use Rattle.ept_emit.specs.declared.window.Window.{Window}
+use Rattle.ept_emit.specs.Pages.{count, is_taken}
+use Rattle.machine_layout.specs.Walks.{entry_size}
 
 -- the tables below the n entries from e on of a level, as many as there can be
 unfoldable pub needs : List Window → ℕ → ℕ → ℕ → ℕ

@@ -1,6 +1,6 @@
 -- Windows that end by an address.
 use Rattle.std.specs.Prelude.{ℕ, ◌+◌, ◌<◌, ◌≤◌, List, length, slice_index_or}
-use Rattle.ept_count.specs.declared.window.Window.{Window}
+use Rattle.ept_emit.specs.declared.window.Window.{Window}
 
 -- k windows end by an address, and those behind them don't
 pub record IsPast (ws : List Window) (lo k : ℕ) : Type 0 where

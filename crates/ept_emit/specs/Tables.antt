@@ -1,8 +1,8 @@
 -- What stands in tables that lie one after another, and which tables lead to which. Tables are numbered from 0, and table k
 -- is in page base + k. A level is that of a table, from 3 of the PML4 table down to 0 of a page table.
 use Rattle.std.specs.Prelude.{◌≡◌, ◌⊎◌, ℕ, zero, suc, ◌+◌, ◌-◌, ◌*◌, ◌/◌, ◌%◌, ◌<◌, ◌≤◌, Bool, true, false, List, Option, Some, None}
-use Rattle.ept_count.specs.declared.window.Window.{Window}
-use Rattle.machine_meaning.specs.Walks.{entry_size}
+use Rattle.ept_emit.specs.declared.window.Window.{Window}
+use Rattle.machine_layout.specs.Walks.{entry_size}
 use Rattle.ept_emit.specs.Entries.{is_whole, leaf_entry, table_entry, window_on}
 
 abbrev pub Chosen : Type 0 → Type 0 → Bool → Type 0

@@ -1,10 +1,10 @@
 //! The entries of tables, and which pages map windows.
 ghost use Rattle.std.specs.Prelude.{◌≡◌, ◌≢◌, ℕ, ◌+◌, ◌*◌, ◌^◌, ◌<◌, ◌≤◌, length};
 ghost use Rattle.ept_emit.specs.Entries.{IsEmittable, is_whole, leaf_entry, level_of, table_entry, type_of, word_at};
-ghost use Rattle.machine_meaning.specs.Walks.{entry_size};
+ghost use Rattle.machine_layout.specs.Walks.{entry_size};
 
 use bitflags::Flags;
-use ept_count::{Leaf, Window};
+use crate::{Leaf, Window};
 use muen_num::limits::{LARGE_PAGE, PAGE};
 use policy_types::Caching;
 

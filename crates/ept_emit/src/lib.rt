@@ -1,9 +1,14 @@
 //! Emits the EPT tables that map windows (Intel SDM volume 3, "VMX Support for Address Translation"):
-//! a walk over the tables leads each guest address where its window does.
+//! a walk over the tables leads each guest address where its window does. How many pages the tables of
+//! windows take is counted from these alone.
 #![tactic(auto)]
 
 mod entries;
 mod search;
 mod tables;
+mod count;
+mod window;
 
 pub use tables::{emit, eptp};
+pub use count::pages;
+pub use window::{Leaf, Window};

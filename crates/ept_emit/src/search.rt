@@ -1,12 +1,12 @@
 //! Which window has an address of an entry.
 ghost use Rattle.std.specs.Prelude.{◌≡◌, ◌+◌, ◌*◌, ◌^◌, ◌<◌, ◌≤◌, length, All, IfSome};
-ghost use Rattle.ept_count.specs.Pages.{AreApart};
+ghost use Rattle.ept_emit.specs.Pages.{AreApart};
 ghost use Rattle.ept_emit.specs.Entries.{IsEmittable, window_on};
 ghost use Rattle.ept_emit.specs.Searches.{IsPast};
-ghost use Rattle.machine_meaning.specs.Walks.{entry_size};
+ghost use Rattle.machine_layout.specs.Walks.{entry_size};
 
 use crate::entries::entry_size;
-use ept_count::Window;
+use crate::Window;
 
 // How many windows end by this address.
 fn windows_before(windows: &[Window], address: u64) -> usize

@@ -1,17 +1,17 @@
 //! Tables, entry by entry.
 ghost use Rattle.std.specs.Prelude.{◌≡◌, ◌≢◌, ◌⊎◌, ℕ, suc, ◌+◌, ◌-◌, ◌*◌, ◌/◌, ◌%◌, ◌^◌, ◌<◌, ◌≤◌, length, All, List, IfSome};
-ghost use Rattle.ept_count.specs.Pages.{AreApart, ept_pages};
+ghost use Rattle.ept_emit.specs.Pages.{AreApart, ept_pages};
 ghost use Rattle.ept_emit.specs.Emitted.{HasAddresses, HasTables, IsGreatestSize, IsReadBy, Reads, eptp_of, translation, window_at};
 ghost use Rattle.ept_emit.specs.Entries.{IsEmittable, word_at};
 ghost use Rattle.ept_emit.specs.Needs.{needs};
 ghost use Rattle.ept_emit.specs.Tables.{AreNumbered, IsWritten};
-ghost use Rattle.machine_meaning.specs.Memory.{Page};
-ghost use Rattle.machine_meaning.specs.Walks.{leaf_size, addresses_read, entry_size, walk_of};
+ghost use Rattle.machine_layout.specs.Memory.{Page};
+ghost use Rattle.machine_layout.specs.Walks.{leaf_size, addresses_read, entry_size, walk_of};
 ghost use Rattle.muen_num.specs.declared.access.AccessKind.{AccessKind};
 
 use crate::entries::{TABLE_ENTRIES, is_whole, leaf_entry, set_word, table_entry};
 use crate::search::window_on;
-use ept_count::Window;
+use crate::Window;
 use muen_num::limits::PAGE;
 
 /// The level of the PML4 table.

@@ -1,6 +1,6 @@
 -- Which memories a walk fits that keeps nothing.
 use Rattle.std.specs.Prelude.{List}
-use Rattle.machine_meaning.specs.Memory.{Page}
+use Rattle.machine_layout.specs.Memory.{Page}
 use Rattle.ept_walk.specs.declared.plain.PlainWalk.{PlainWalk}
 
 -- every one

@@ -4,9 +4,9 @@
 //! The level of a table is 3 for the PML4 table, 2 for a page directory pointer table, 1 for a page
 //! directory, and 0 for a page table.
 ghost use Rattle.std.specs.Prelude.{◌≡◌, ◌+◌, ◌*◌, ◌%◌, ◌^◌, ◌<◌, ◌≤◌};
-ghost use Rattle.machine_meaning.specs.Walks.{bits_of, entry_size, index_at, entry_address, is_present, is_leaf, has_lone_rights, has_no_type, is_misaligned, has_reserved, is_beyond, is_misconfigured};
+ghost use Rattle.machine_layout.specs.Walks.{bits_of, entry_size, index_at, entry_address, is_present, is_leaf, has_lone_rights, has_no_type, is_misaligned, has_reserved, is_beyond, is_misconfigured};
 
-use machine_meaning::bits;
+use machine_layout::bits;
 use muen_num::limits::{LARGE_PAGE, PAGE};
 
 /// The level of the PML4 table.

@@ -1,13 +1,13 @@
 //! The walk that keeps nothing.
 ghost use Rattle.std.specs.Prelude.{◌≡◌, ℕ, ◌^◌, ◌<◌, List};
-ghost use Rattle.machine_meaning.specs.Memory.{Page, is_there};
-ghost use Rattle.machine_meaning.specs.Walks.{index_at, leaf_end, entry_of, walk_from};
+ghost use Rattle.machine_layout.specs.Memory.{Page, is_there};
+ghost use Rattle.machine_layout.specs.Walks.{index_at, leaf_end, entry_of, walk_from};
 
 use crate::Translate;
 use crate::entry::{
     PML4, entry_address, entry_size, is_leaf, is_misconfigured, is_present, page_number, rights_of,
 };
-use machine_meaning::Walk;
+use machine_layout::Walk;
 use muen_num::limits::PAGE;
 use muen_num::{AccessKind, AccessSize};
 use phys_mem::PhysMem;

@@ -1,10 +1,10 @@
 //! What translates guest addresses.
 ghost use Rattle.std.specs.Prelude.{◌≡◌, ◌^◌, ◌<◌, List};
-ghost use Rattle.machine_meaning.specs.Memory.{Page};
-ghost use Rattle.machine_meaning.specs.Same.{SameOutside};
-ghost use Rattle.machine_meaning.specs.Walks.{walk_of};
+ghost use Rattle.machine_layout.specs.Memory.{Page};
+ghost use Rattle.machine_layout.specs.Same.{SameOutside};
+ghost use Rattle.machine_layout.specs.Walks.{walk_of};
 
-use machine_meaning::Walk;
+use machine_layout::Walk;
 use muen_num::AccessKind;
 use phys_mem::PhysMem;
 

@@ -1,7 +1,7 @@
 -- From which vector on a set has none.
 use Rattle.std.proofs.Common.{◌≡◌, ℕ, zero, suc, ◌<◌, ◌≤◌, Bool, false, List, [], ◌∷◌, length, get_or, set, map, replicate, refl, ap, arith, inl, inr}
 use Rattle.std.proofs.lemmas.Bool.{cases_lt}
-use Rattle.look_up.specs.ByNumber.{change_at}
+use Rattle.muen_num.specs.ListChange.{change_at}
 use Rattle.event_router.specs.Vectors.{greatest}
 
 pub none_in_no_marks : (n v : ℕ) → get_or (replicate n false) v false ≡ false

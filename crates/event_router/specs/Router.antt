@@ -1,9 +1,9 @@
 -- Events and handovers between subjects, by numbers (this project's own, after Muen's events).
 use Rattle.std.specs.Prelude.{ℕ, Bool, false, ◌||◌, List, map, slice_get, Option, Some, None}
-use Rattle.look_up.specs.ByNumber.{change_at}
+use Rattle.muen_num.specs.ListChange.{change_at}
 use Rattle.image_pack.specs.declared.parts.EventPart.{EventPart}
 use Rattle.image_pack.specs.declared.parts.SubjectPart.{SubjectPart}
-use Rattle.image_plan.specs.declared.plan.GroupPart.{GroupPart}
+use Rattle.frame_clock.specs.declared.plan.GroupPart.{GroupPart}
 use Rattle.muen_num.specs.declared.mode.EventMode.{EventMode}
 use Rattle.muen_num.specs.declared.mode.EventMode.TheVariants.{Asap, Async, Own, Switch}
 use Rattle.event_router.specs.Vectors.{no_vectors, has, with_vector, without_vector, delivered}

@@ -1,12 +1,12 @@
 //! Pending events, and active members.
 ghost use Rattle.std.specs.Prelude.{◌≡◌, slice_get, map, Some, IfOk, option_map};
-ghost use Rattle.look_up.specs.ByNumber.{change_at};
+ghost use Rattle.muen_num.specs.ListChange.{change_at};
 ghost use Rattle.event_router.specs.Vectors.{no_vectors, with_vector, without_vector};
 ghost use Rattle.event_router.specs.Router.{started, pends, pends_now, with_active, raised, delivered_by, deliverable, taken, is_pending, has_in};
 
 use crate::vectors::{VectorSet, delivered};
 use image_pack::{EventPart, SubjectPart};
-use image_plan::GroupPart;
+use frame_clock::GroupPart;
 use muen_num::{EventMode, NoMemory};
 use std::alloc::{AllocError, Global};
 use std::marker::Model;
@@ -65,7 +65,7 @@ fn pend(sets: &mut [VectorSet], subject: usize, vector: Option<u8>)
 }
 
 // A subject becomes the active member of a group.
-#[tactic(auto, using(look_up::proofs::ChangeLaws::set_is, look_up::proofs::ChangeLaws::past_is))]
+#[tactic(auto, using(muen_num::proofs::ChangeLaws::set_is, muen_num::proofs::ChangeLaws::past_is))]
 fn activate(active: &mut [u8], group: usize, subject: u8)
     ensures { active.new ≡ change_at group (λ _. subject) active.old }
 {

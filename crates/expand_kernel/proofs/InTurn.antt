@@ -1,7 +1,7 @@
 -- What is known while the kernel's regions are made, for one subject after another.
 use Rattle.std.proofs.Common.{◌≡◌, ◌⊎◌, inl, inr, ℕ, suc, List, [], ◌∷◌, ◌++◌, append_assoc, append-nil, sym, ap, ◌∙◌, subst, arith}
 use Rattle.std.specs.List.{All}
-use Rattle.ept_count.specs.Pages.{ept_pages}
+use Rattle.ept_emit.specs.Pages.{ept_pages}
 use Rattle.expand_grants.specs.declared.granted.Grants.{Grants}
 use Rattle.expand_kernel.specs.ByIndex.{CanMap, kernel_for, kernel_for_each, mapped_views}
 use Rattle.expand_kernel.specs.Regions.{kernel_regions}

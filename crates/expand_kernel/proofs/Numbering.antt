@@ -10,7 +10,7 @@ use Rattle.expand_kernel.specs.Regions.{channel_region, kernel_regions, kernel_r
 use Rattle.expand_kernel.specs.declared.region.Region.{Region}
 use Rattle.expand_kernel.proofs.BroughtByIndex.{brought_by_index}
 use Rattle.expand_kernel.proofs.GrantedViews.{can_map_views, pages_of_views}
-use Rattle.ept_count.specs.Pages.{ept_pages}
+use Rattle.ept_emit.specs.Pages.{ept_pages}
 use Rattle.muen_num.specs.Search.{first_in}
 use Rattle.muen_num.proofs.SearchLaws.{none_both}
 use Rattle.policy_lawful.specs.Lawful.{IsLawful}

@@ -2,8 +2,8 @@
 use Rattle.std.proofs.Common.{◌≡◌, ℕ, zero, suc, ◌+◌, ◌*◌, ◌^◌, ◌≤◌, Bool, true, false, List, arith}
 use Rattle.std.specs.List.Sorted.{IsPermutation}
 use Rattle.std.proofs.lemmas.List.Sorted.{list_any-IsPermutation}
-use Rattle.ept_count.specs.Pages.{count, ept_pages, is_taken, one, touches}
-use Rattle.ept_count.specs.declared.window.Window.{Window}
+use Rattle.ept_emit.specs.Pages.{count, ept_pages, is_taken, one, touches}
+use Rattle.ept_emit.specs.declared.window.Window.{Window}
 
 -- ---- whatever the order
 

@@ -2,9 +2,9 @@
 use Rattle.std.specs.Prelude.{List, [], map, slice_get, Option, Some, None}
 use Rattle.std.specs.Option.{option_map_or}
 use Rattle.std.specs.List.{All, flat_map, zip}
-use Rattle.ept_count.specs.Pages.{AreApart, IsMapped, ept_pages}
-use Rattle.ept_count.specs.declared.window.Leaf.TheVariants.{Small}
-use Rattle.ept_count.specs.declared.window.Window.{Window as Mapped}
+use Rattle.ept_emit.specs.Pages.{AreApart, IsMapped, ept_pages}
+use Rattle.ept_emit.specs.declared.window.Leaf.TheVariants.{Small}
+use Rattle.ept_emit.specs.declared.window.Window.{Window as Mapped}
 use Rattle.expand_grants.specs.declared.granted.Grants.{Grants}
 use Rattle.expand_kernel.specs.Regions.{kernel_regions, provided_region}
 use Rattle.expand_kernel.specs.declared.region.Region.{Region}

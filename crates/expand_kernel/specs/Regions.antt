@@ -2,9 +2,9 @@
 -- own regions are this project's).
 use Rattle.std.specs.Prelude.{ℕ, ◌*◌, List, [], ◌∷◌, ◌++◌, map, Option, Some, None}
 use Rattle.std.specs.List.{flat_map}
-use Rattle.ept_count.specs.Pages.{ept_pages}
-use Rattle.ept_count.specs.declared.window.Leaf.TheVariants.{Small}
-use Rattle.ept_count.specs.declared.window.Window.{Window as Mapped}
+use Rattle.ept_emit.specs.Pages.{ept_pages}
+use Rattle.ept_emit.specs.declared.window.Leaf.TheVariants.{Small}
+use Rattle.ept_emit.specs.declared.window.Window.{Window as Mapped}
 use Rattle.expand_kernel.specs.declared.region.Region.{Region}
 use Rattle.expand_kernel.specs.declared.region.RegionKind.{RegionKind}
 use Rattle.expand_kernel.specs.declared.region.RegionKind.TheVariants.{Own, Channel, Provided, Kernel}

@@ -1,13 +1,13 @@
 //! The regions that the kernel has for each subject.
 ghost use Rattle.std.specs.Prelude.{◌≡◌, ◌≤◌, ◌^◌, map, IfOk};
 ghost use Rattle.std.specs.List.{All};
-ghost use Rattle.ept_count.specs.Pages.{ept_pages};
+ghost use Rattle.ept_emit.specs.Pages.{ept_pages};
 ghost use Rattle.expand_kernel.specs.ByIndex.{CanMap, kernel_for_each, mapped_view, mapped_views};
 ghost use Rattle.expand_kernel.specs.Regions.{kernel_regions};
 
 use crate::numbered::anywhere;
 use crate::region::{Region, RegionKind};
-use ept_count::{Leaf, Window, pages};
+use ept_emit::{Leaf, Window, pages};
 use expand_grants::Grants;
 use muen_num::limits::PAGE;
 use muen_num::{Name, NoMemory, TagPart};

@@ -2,10 +2,10 @@
 use Rattle.std.proofs.Common.{◌≡◌, ℕ, ◌+◌, ◌-◌, ◌<◌, ◌≤◌, List, ◌∷◌, length, map, get_or, drop, Some, sym, ap, ◌∙◌, arith, drop-cons, add-one}
 use Rattle.std.specs.Prelude.{slice_get}
 use Rattle.std.specs.List.{flat_map}
-use Rattle.image_plan.specs.Plan.{frame_of}
-use Rattle.image_plan.specs.Slot.{Slot, frame_slots}
-use Rattle.image_plan.specs.declared.plan.Minor.{Minor}
-use Rattle.image_plan.proofs.SlotLaws.{frame_slot, first_frame, later_frame}
+use Rattle.frame_clock.specs.Plan.{frame_of}
+use Rattle.frame_clock.specs.Slot.{Slot, frame_slots}
+use Rattle.frame_clock.specs.declared.plan.Minor.{Minor}
+use Rattle.frame_clock.proofs.SlotLaws.{frame_slot, first_frame, later_frame}
 
 -- an element, and those behind it
 remaining_from : {X : Type 0} (xs : List X) (i : ℕ) (d : X) → i < length xs → drop i xs ≡ get_or xs i d ∷ drop (i + 1) xs

@@ -3,12 +3,12 @@ use Rattle.std.proofs.Common.{◌≡◌, ℕ, ◌-◌, ◌∙◌, List, [], Opti
 use Rattle.std.specs.Prelude.{slice_get, option_map, option_and_then, unwrap_or}
 use Rattle.std.specs.List.{flat_map}
 use Rattle.std.proofs.lemmas.Option.{slice_get-map, unwrap_or-slice_get}
-use Rattle.image_plan.specs.Plan.{frame_of, frames_in}
-use Rattle.image_plan.specs.Slot.{Slot, frame_slots}
-use Rattle.image_plan.specs.declared.plan.Major.{Major}
-use Rattle.image_plan.specs.declared.plan.Minor.{Minor}
-use Rattle.image_plan.specs.declared.plan.Plan.{Plan}
-use Rattle.image_plan.proofs.SlotLaws.{frames_at}
+use Rattle.frame_clock.specs.Plan.{frame_of, frames_in}
+use Rattle.frame_clock.specs.Slot.{Slot, frame_slots}
+use Rattle.frame_clock.specs.declared.plan.Major.{Major}
+use Rattle.frame_clock.specs.declared.plan.Minor.{Minor}
+use Rattle.frame_clock.specs.declared.plan.Plan.{Plan}
+use Rattle.frame_clock.proofs.SlotLaws.{frames_at}
 use Rattle.muen_num.specs.Frame.{Frame}
 use Rattle.frame_clock.specs.Frames.{slot_in}
 use Rattle.frame_clock.specs.declared.frame_at.FrameAt.{FrameAt}

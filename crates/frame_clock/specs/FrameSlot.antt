@@ -1,5 +1,5 @@
 -- What an answer of the clock tells.
-use Rattle.image_plan.specs.Slot.{Slot}
+use Rattle.frame_clock.specs.Slot.{Slot}
 use Rattle.frame_clock.specs.declared.FrameSlot.{FrameSlot}
 
 abbrev pub slot_of : FrameSlot → Slot

@@ -3,8 +3,8 @@
 use Rattle.std.specs.Prelude.{ℕ, ◌+◌, ◌-◌, ◌==◌, if◌then◌else◌, nat_lt, List, map, length, slice_get, Option, Some, None, option_and_then}
 use Rattle.std.specs.List.{flat_map}
 use Rattle.muen_num.specs.Frame.{Frame}
-use Rattle.image_plan.specs.Slot.{Slot, frame_slots}
-use Rattle.image_plan.specs.declared.plan.Plan.{Plan}
+use Rattle.frame_clock.specs.Slot.{Slot, frame_slots}
+use Rattle.frame_clock.specs.declared.plan.Plan.{Plan}
 use Rattle.frame_clock.specs.declared.frame_at.FrameAt.{FrameAt}
 
 -- the first major frame, from tick 0 on

@@ -1,11 +1,11 @@
 //! The major frame that runs, and the slots in it.
 ghost use Rattle.std.specs.Prelude.{◌≡◌, ◌<◌, length, map, option_map, slice_get};
-ghost use Rattle.image_plan.specs.Plan.{frames_in};
+ghost use Rattle.frame_clock.specs.Plan.{frames_in};
 ghost use Rattle.frame_clock.specs.FrameSlot.{slot_of};
 ghost use Rattle.frame_clock.specs.Frames.{next_major, frame_at_tick, slot_in, ticks_of_majors, first_frame};
 
 use crate::{FrameSlot, in_frames};
-use image_plan::{Major, Minor, Plan};
+use crate::{Major, Minor, Plan};
 use muen_num::Seq;
 
 /// A major frame that runs, and since when.

@@ -6,15 +6,16 @@
 #![tactic(auto)]
 
 mod frame_at;
+mod plan;
 
 ghost use Rattle.std.specs.Prelude.{◌≡◌, map, option_map, slice_get};
 ghost use Rattle.std.specs.List.{flat_map};
-ghost use Rattle.image_plan.specs.Plan.{frame_of};
-ghost use Rattle.image_plan.specs.Slot.{frame_slots};
+ghost use Rattle.frame_clock.specs.Plan.{frame_of};
+ghost use Rattle.frame_clock.specs.Slot.{frame_slots};
 ghost use Rattle.frame_clock.specs.FrameSlot.{slot_of};
 
 pub use frame_at::{FrameAt, advance, slot};
-use image_plan::Minor;
+pub use plan::{GroupPart, Major, Minor, Plan};
 
 /// The frame of a CPU at a tick.
 #[derive(Clone, Copy, Debug, PartialEq, Eq)]

@@ -2,7 +2,7 @@
 use Rattle.std.proofs.Common.{◌≡◌, ℕ, true, false, List, [], ◌∷◌, Some, None, refl}
 use Rattle.std.specs.Prelude.{negsuc}
 use Rattle.muen_num.specs.declared.access.AccessSize.TheVariants.{One, Two, Four, Eight}
-use Rattle.subject_state.specs.declared.SubjectState.{SubjectState}
+use Rattle.state_page.specs.declared.state.SubjectState.{SubjectState}
 use Rattle.guest_isa.specs.GuestIsa.{decode_of, encoding_of, effect_of}
 use Rattle.guest_isa.specs.declared.instr.Instr.TheVariants.{Li, Lih, Sub, Shl, Shr, Load, Store, Jb, Jmp, In, Out, Rdmsr, Wrmsr, Rdtsc, Vmcall, Sti, Cli, Setv, Reti}
 use Rattle.guest_isa.specs.declared.instr.Wish.TheVariants.{Nothing, Set, Load as Loads, Store as Stores, PortIn, PortOut, ReadMsr, WriteMsr, Tick, Call}

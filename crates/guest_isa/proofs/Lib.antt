@@ -1,2 +1,3 @@
 mod Examples
 mod Spelled
+pub mod Alike

@@ -4,7 +4,7 @@ use Rattle.std.specs.Int.{w32, w64, from_le_bytes, to_le_bytes, cast_signed, cas
 use Rattle.muen_num.specs.AccessSize.{bytes_of}
 use Rattle.muen_num.specs.declared.access.AccessSize.{AccessSize}
 use Rattle.muen_num.specs.declared.access.AccessSize.TheVariants.{One, Two, Four, Eight}
-use Rattle.subject_state.specs.declared.SubjectState.{SubjectState}
+use Rattle.state_page.specs.declared.state.SubjectState.{SubjectState}
 use Rattle.guest_isa.specs.declared.spelling.Fields.{Fields}
 use Rattle.guest_isa.specs.declared.spelling.Named.{Named}
 use Rattle.guest_isa.specs.declared.instr.Instr.{Instr}

@@ -1,1 +1,4 @@
 pub mod GuestIsa
+pub mod Finish
+pub mod Named
+pub mod Step

@@ -5,7 +5,7 @@ ghost use Rattle.guest_isa.specs.GuestIsa.{register, advanced, with_register, ex
 
 use crate::instr::{Asked, Instr, Wish};
 use muen_num::AccessSize;
-use subject_state::SubjectState;
+use state_page::SubjectState;
 
 fn register(s: &SubjectState, r: u8) -> u64
     requires { r < 16 }

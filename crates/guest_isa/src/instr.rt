@@ -1,6 +1,6 @@
 // Instructions, and what they ask for.
 use muen_num::AccessSize;
-use subject_state::SubjectState;
+use state_page::SubjectState;
 
 /// An instruction. Register numbers are below 16. Arithmetic and addresses wrap at 2^64;
 /// immediates are sign-extended. Each instruction but a jump that is taken and `Reti` goes on at

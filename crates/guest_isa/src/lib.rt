@@ -1,10 +1,22 @@
-//! The instructions of the guests: this project's own table.
+//! The instructions of the guests (this project's own table), one step of a subject in any world, and
+//! what the kernel makes of its end.
+//!
+//! The definition of a step stands in specs/ (`Step`). It is one for all worlds: for a subject alone, in
+//! which an access reaches things by name, and for the machine, in which it reaches pages of memory.
 #![tactic(auto)]
 
 mod effect;
 mod instr;
 mod spelling;
+mod end;
+mod finish;
+mod reach;
+mod step_laws;
 
 pub use effect::{ask, with_register};
 pub use instr::{Asked, Instr, Wish};
 pub use spelling::{decode, encode};
+pub use end::StepEnd;
+pub use finish::{Finish, inject};
+pub use reach::Reach;
+pub use step_laws::alike_worlds_step_alike;

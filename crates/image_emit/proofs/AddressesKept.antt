@@ -7,7 +7,7 @@ use Rattle.image_emit.specs.Built.{HasPlacement}
 use Rattle.image_emit.specs.Made.{IsMade, Made, image_of, policy_of}
 use Rattle.image_emit.proofs.ByNumber.{as_many_addresses, span_numbered}
 use Rattle.image_emit.proofs.SpansAt.{region_at}
-use Rattle.image_meaning.specs.Memory.{Span, address_at}
+use Rattle.image_soundness.specs.Memory.{Span, address_at}
 use Rattle.muen_num.proofs.Lists.{there}
 use Rattle.policy_lawful.specs.Resolution.{source_of}
 

@@ -6,7 +6,7 @@ use Rattle.std.specs.List.{enumerate_from, flat_map}
 use Rattle.std.proofs.lemmas.Bool.{and_parts, eqb-true}
 use Rattle.std.proofs.lemmas.List.Elements.{All-map}
 use Rattle.std.proofs.lemmas.Option.{slice_get-map}
-use Rattle.ept_count.specs.declared.window.Window.{Window}
+use Rattle.ept_emit.specs.declared.window.Window.{Window}
 use Rattle.ept_emit.specs.Emitted.{HasAddresses}
 use Rattle.expand_grants.specs.Grants.{AreGrantsOf}
 use Rattle.expand_grants.specs.declared.granted.Grants.{Grants}
@@ -19,9 +19,9 @@ use Rattle.image_emit.proofs.ByNumber.{region_spans_length}
 use Rattle.image_emit.proofs.PagesThere.{page_there}
 use Rattle.image_emit.proofs.SpansOfKernel.{sound_of}
 use Rattle.image_emit.proofs.SpansAt.{at_number, region_at}
-use Rattle.image_meaning.specs.Memory.{memory_of}
+use Rattle.image_soundness.specs.Memory.{memory_of}
 use Rattle.image_pack.specs.declared.parts.SpanPart.{SpanPart}
-use Rattle.machine_meaning.specs.Memory.{is_there, page_of}
+use Rattle.machine_layout.specs.Memory.{is_there, page_of}
 use Rattle.muen_num.proofs.Lists.{get_right}
 use Rattle.muen_num.specs.declared.limits.TheConstants.{GUEST_END, PAGE}
 use Rattle.muen_num.specs.declared.tag.TagPart.TheVariants.{State as StatePart}

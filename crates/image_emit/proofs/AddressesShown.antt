@@ -22,8 +22,8 @@ use Rattle.image_emit.proofs.RegionSizes.{first_regions}
 use Rattle.image_emit.proofs.SpansAt.{at_number, zip_at}
 use Rattle.image_emit.proofs.ThingBytes.{provided_unique}
 use Rattle.image_emit.proofs.ThingsInOrder.{memory_thing, memory_things, provided_things, region_things, things_are}
-use Rattle.image_meaning.specs.Memory.{Span, address_at}
-use Rattle.image_meaning.specs.Sound.{address_of, addresses_of_things, thing_spans}
+use Rattle.image_soundness.specs.Memory.{Span, address_at}
+use Rattle.image_soundness.specs.Sound.{address_of, addresses_of_things, thing_spans}
 use Rattle.image_pack.specs.declared.parts.SpanPart.{SpanPart}
 use Rattle.image_pack.specs.declared.parts.SubjectPart.{SubjectPart}
 use Rattle.muen_num.proofs.Lists.{get_right, map-map}

@@ -17,10 +17,10 @@ use Rattle.image_emit.specs.Made.{IsMade, Made, image_of, policy_of}
 use Rattle.image_emit.proofs.AtIndexes.{looked_up}
 use Rattle.image_emit.proofs.BySubject.{each_subject}
 use Rattle.image_emit.proofs.SpansOfKernel.{kernel_bytes_at}
-use Rattle.image_meaning.specs.Memory.{bytes_at}
-use Rattle.image_meaning.specs.Sound.{ForEachSubject, HasArea}
-use Rattle.machine_meaning.proofs.AreaLaws.{areas_are_read_back}
-use Rattle.machine_meaning.specs.Exits.{AreaEntry, area_bytes, area_index, area_value, entry_bytes}
+use Rattle.image_soundness.specs.Memory.{bytes_at}
+use Rattle.image_soundness.specs.Sound.{ForEachSubject, HasArea}
+use Rattle.machine_layout.proofs.AreaLaws.{areas_are_read_back}
+use Rattle.machine_layout.specs.Exits.{AreaEntry, area_bytes, area_index, area_value, entry_bytes}
 use Rattle.msrbm_emit.specs.Area.{area_of, count_of, entries_of, entry_of, size_of}
 use Rattle.msrbm_emit.specs.Msrs.{is_covered}
 use Rattle.muen_num.proofs.Lists.{map-map}
@@ -28,7 +28,7 @@ use Rattle.muen_num.proofs.NumbersBelow.{length_numbers}
 use Rattle.muen_num.specs.Range.{numbers_below}
 use Rattle.muen_num.specs.declared.limits.TheConstants.{HIGH_MSR_FIRST, HIGH_MSR_LAST, LOW_MSR_LAST, PAGE}
 use Rattle.muen_num.specs.declared.tag.TagPart.TheVariants.{Msrs as MsrsPart}
-use Rattle.page_parts.specs.Fields.{padded}
+use Rattle.machine_layout.specs.PageFields.{padded}
 use Rattle.policy_lawful.specs.Resolution.{Resolution, source_of, subject_named}
 use Rattle.policy_lawful.specs.declared.resolved.Subject.{Subject}
 use Rattle.policy_types.specs.declared.resources.MsrGrant.{MsrGrant}

@@ -11,10 +11,10 @@ use Rattle.image_emit.specs.Made.{IsMade, Made, image_of, policy_of}
 use Rattle.image_emit.proofs.BySubject.{each_subject}
 use Rattle.image_emit.proofs.SpansOfKernel.{kernel_bytes_at}
 use Rattle.image_emit.proofs.BitmapsOfPorts.{any_port}
-use Rattle.image_meaning.specs.Memory.{bytes_at, page_at}
-use Rattle.image_meaning.specs.Sound.{ForEachSubject, HasBitmaps}
+use Rattle.image_soundness.specs.Memory.{bytes_at, page_at}
+use Rattle.image_soundness.specs.Sound.{ForEachSubject, HasBitmaps}
 use Rattle.iobm_emit.specs.Ports.{is_granted as is_port_granted, is_granted_access}
-use Rattle.machine_meaning.specs.Exits.{msr_exits, port_exits}
+use Rattle.machine_layout.specs.Exits.{msr_exits, port_exits}
 use Rattle.msrbm_emit.specs.Msrs.{allows, has_msr, is_granted as is_msr_granted}
 use Rattle.muen_num.proofs.Lists.{list_any-map}
 use Rattle.muen_num.specs.Range.{numbers_below}

@@ -10,7 +10,7 @@ use Rattle.expand_grants.specs.declared.granted.Grants.{Grants}
 use Rattle.image_emit.specs.Made.{IsMade, Made, image_of, policy_of, subject_part, subject_parts}
 use Rattle.image_emit.proofs.AtIndexes.{mapped_there, zipped_there}
 use Rattle.image_emit.proofs.SpansAt.{at_number, zip_at}
-use Rattle.image_meaning.specs.Sound.{ForEachSubject}
+use Rattle.image_soundness.specs.Sound.{ForEachSubject}
 use Rattle.image_pack.specs.declared.parts.SubjectPart.{SubjectPart}
 use Rattle.policy_lawful.specs.Resolution.{source_of, subject_named}
 use Rattle.policy_lawful.specs.declared.resolved.Subject.{Subject}

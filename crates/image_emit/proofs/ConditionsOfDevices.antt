@@ -20,7 +20,7 @@ use Rattle.image_pack.specs.declared.parts.IrqPart.{IrqPart}
 use Rattle.image_pack.specs.declared.parts.PortSpan.{PortSpan}
 use Rattle.image_pack.specs.declared.parts.SpanPart.{SpanPart}
 use Rattle.image_pack.specs.declared.parts.WindowPart.{WindowPart}
-use Rattle.image_plan.proofs.ByNumber.{length_numbers, number_at}
+use Rattle.muen_num.proofs.NumbersBelow.{length_numbers, number_at}
 use Rattle.muen_num.proofs.Lists.{get_left, get_right, passes_at}
 use Rattle.muen_num.specs.Naming.{is_name}
 use Rattle.muen_num.specs.Range.{numbers_below}

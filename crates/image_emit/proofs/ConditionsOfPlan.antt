@@ -19,8 +19,8 @@ use Rattle.image_pack.specs.Image.{is_between}
 use Rattle.image_pack.specs.ImageConditions.{AreCounted, IsChoice, IsGroup}
 use Rattle.image_pack.specs.SpanConditions.{HaveDifferentNumbers}
 use Rattle.image_pack.specs.declared.parts.SpanPart.{SpanPart}
-use Rattle.image_plan.specs.Plan.{cpus_of, is_major, is_plan}
-use Rattle.image_plan.specs.declared.plan.Plan.{Plan}
+use Rattle.frame_clock.specs.Plan.{cpus_of, is_major, is_plan}
+use Rattle.frame_clock.specs.declared.plan.Plan.{Plan}
 use Rattle.event_emit.specs.Tables.{AreDevices}
 use Rattle.image_pack.specs.declared.parts.DevicePart.{DevicePart}
 use Rattle.muen_num.proofs.Lists.{there}

@@ -15,8 +15,8 @@ use Rattle.image_emit.proofs.PiecesOfLists.{all_pieces, filter_map_same, zip_app
 use Rattle.image_emit.proofs.RegionSizes.{first_regions, last_regions, regions_are, things_sized}
 use Rattle.image_emit.proofs.ThingBytes.{memory_bytes_are, region_bytes_are}
 use Rattle.image_emit.proofs.ThingsInOrder.{memory_thing, memory_things, provided_things, region_things, things_are}
-use Rattle.image_meaning.specs.Memory.{Span}
-use Rattle.image_meaning.specs.Sound.{AreContents, IsSpanOf, is_kernel, kind_of, thing_spans}
+use Rattle.image_soundness.specs.Memory.{Span}
+use Rattle.image_soundness.specs.Sound.{AreContents, IsSpanOf, is_kernel, kind_of, thing_spans}
 use Rattle.image_pack.specs.declared.parts.SpanPart.{SpanPart}
 use Rattle.muen_num.proofs.Lists.{get_left}
 use Rattle.muen_num.specs.declared.limits.TheConstants.{PAGE}

@@ -7,8 +7,8 @@ use Rattle.std.specs.Option.{IfSome}
 use Rattle.std.proofs.lemmas.Bool.{and_parts, cases_Bool, eqb-true}
 use Rattle.std.proofs.lemmas.List.Elements.{All-contains}
 use Rattle.std.proofs.lemmas.List.Sorted.{Contains-permutation}
-use Rattle.ept_count.specs.declared.window.Leaf.{Leaf}
-use Rattle.ept_count.specs.declared.window.Leaf.TheVariants.{Small, Large, Huge}
+use Rattle.ept_emit.specs.declared.window.Leaf.{Leaf}
+use Rattle.ept_emit.specs.declared.window.Leaf.TheVariants.{Small, Large, Huge}
 use Rattle.ept_emit.specs.Emitted.{IsGreatestSize, eptp_of}
 use Rattle.ept_emit.specs.Entries.{level_of}
 use Rattle.event_emit.specs.declared.event_tables.EventTables.{EventTables}
@@ -23,9 +23,9 @@ use Rattle.image_emit.proofs.AddressesShown.{address_shown}
 use Rattle.image_emit.proofs.Tables.{has_tables}
 use Rattle.image_emit.proofs.Walks.{granted_at, mapped_at, on_view}
 use Rattle.image_emit.proofs.WalksByWindow.{found_contained}
-use Rattle.image_meaning.specs.Memory.{memory_of}
-use Rattle.image_meaning.specs.Sound.{ForEachSubject, address_of}
-use Rattle.machine_meaning.specs.Walks.{leaf_size, entry_size}
+use Rattle.image_soundness.specs.Memory.{memory_of}
+use Rattle.image_soundness.specs.Sound.{ForEachSubject, address_of}
+use Rattle.machine_layout.specs.Walks.{leaf_size, entry_size}
 use Rattle.muen_num.specs.declared.limits.TheConstants.{GUEST_END}
 use Rattle.policy_lawful.specs.Resolution.{source_of, subject_named}
 use Rattle.policy_lawful.specs.Rules.{is_guest, is_page_aligned, is_page_size}

@@ -11,8 +11,8 @@ use Rattle.std.proofs.lemmas.Slice.Eq.{bytes_eq-Decides}
 use Rattle.image_emit.proofs.PlanSubjects.{in_group, name_of}
 use Rattle.image_emit.specs.Made.{IsMade, Made, group_at, policy_of}
 use Rattle.image_pack.specs.Image.{is_first_here}
-use Rattle.image_plan.specs.Plan.{is_group_on}
-use Rattle.image_plan.specs.declared.plan.GroupPart.{GroupPart}
+use Rattle.frame_clock.specs.Plan.{is_group_on}
+use Rattle.frame_clock.specs.declared.plan.GroupPart.{GroupPart}
 use Rattle.muen_num.proofs.Lists.{passes_at, there}
 use Rattle.policy_lawful.proofs.KeptMembers.{members_kept}
 use Rattle.policy_lawful.proofs.Indexes.{found_at_index, same_self}

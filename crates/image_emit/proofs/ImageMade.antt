@@ -19,7 +19,7 @@ use Rattle.image_emit.specs.Built.{HasGreatestPages, HasOnePathPerTable, HasPlac
 use Rattle.image_emit.specs.Gathered.{AreParts, IsHeld}
 use Rattle.image_emit.specs.Known.{IsKnown}
 use Rattle.image_emit.specs.Made.{IsFilled, IsImageOf, IsMade, Made, choice_of, image_of, policy_of, thing_bytes}
-use Rattle.image_meaning.specs.Sound.{ForEachSubject, IsSound}
+use Rattle.image_soundness.specs.Sound.{ForEachSubject, IsSound}
 use Rattle.image_pack.proofs.ConditionsFit.{conditions_fit}
 use Rattle.image_pack.specs.Parts.{IsParts, counted}
 use Rattle.image_pack.specs.SpanConditions.{AreSpans}
@@ -27,7 +27,7 @@ use Rattle.image_pack.specs.declared.parts.DevicePart.{DevicePart}
 use Rattle.image_pack.specs.declared.parts.Image.{Image}
 use Rattle.image_pack.specs.declared.parts.SpanPart.{SpanPart}
 use Rattle.image_pack.specs.declared.parts.SubjectPart.{SubjectPart}
-use Rattle.image_plan.specs.declared.plan.Plan.{Plan}
+use Rattle.frame_clock.specs.declared.plan.Plan.{Plan}
 use Rattle.plan_emit.specs.PlanOf.{IsPlanOf}
 use Rattle.policy_lawful.specs.Resolution.{source_of}
 use Rattle.policy_meaning.specs.Contents.{Held}

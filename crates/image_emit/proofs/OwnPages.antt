@@ -7,7 +7,7 @@ use Rattle.event_emit.specs.declared.event_tables.EventTables.{EventTables}
 use Rattle.expand_grants.specs.declared.granted.Grants.{Grants}
 use Rattle.image_emit.proofs.AtIndexes.{mapped_there}
 use Rattle.image_emit.specs.Made.{IsMade, Made, image_of, policy_of, subject_part}
-use Rattle.image_meaning.specs.Sound.{HaveOwnPages, share_a_span}
+use Rattle.image_soundness.specs.Sound.{HaveOwnPages, share_a_span}
 use Rattle.image_pack.specs.declared.parts.SubjectPart.{SubjectPart}
 use Rattle.policy_lawful.specs.declared.resolved.Subject.{Subject}
 use Rattle.region_alloc.specs.Placed.{Placement}

@@ -9,13 +9,13 @@ use Rattle.std.proofs.lemmas.Option.{get_or_from_slice_get, slice_get-get_or, sl
 use Rattle.image_emit.specs.Made.{IsMade, Made, content_at, image_of}
 use Rattle.image_emit.proofs.ByNumber.{zip_self}
 use Rattle.image_emit.proofs.ContentLengths.{each_content}
-use Rattle.image_meaning.specs.Memory.{bytes_of, memory_of, memory_span}
-use Rattle.image_meaning.proofs.MemoryPages.{in_spans}
+use Rattle.image_soundness.specs.Memory.{bytes_of, memory_of, memory_span}
+use Rattle.image_soundness.proofs.MemoryPages.{in_spans}
 use Rattle.image_pack.specs.Codes.{is_device}
 use Rattle.image_pack.specs.ImageConditions.{IsContent}
 use Rattle.image_pack.specs.SpanConditions.{IsSpan as IsImageSpan, end_of as end_of_span}
 use Rattle.image_pack.specs.declared.parts.SpanPart.{SpanPart}
-use Rattle.machine_meaning.specs.Memory.{page_of}
+use Rattle.machine_layout.specs.Memory.{page_of}
 use Rattle.muen_num.proofs.Lists.{map-map, there}
 use Rattle.muen_num.specs.declared.limits.TheConstants.{PAGE}
 use Rattle.phys_mem.specs.Spans.{AreSpans, IsSpan, pages_of_spans}

@@ -3,7 +3,7 @@ use Rattle.std.proofs.Common.{◌≡◌, ◌∙◌, refl, sym, ap, ap₂, subst,
 use Rattle.std.specs.List.{enumerate_from}
 use Rattle.std.proofs.lemmas.Bool.{leb-true, ltb-true}
 use Rattle.std.proofs.lemmas.List.Sums.{AllPass-from_list_all}
-use Rattle.image_form.proofs.Loops.{drop_more}
+use Rattle.binary_form.proofs.Loops.{drop_more}
 use Rattle.event_emit.specs.declared.event_tables.EventTables.{EventTables}
 use Rattle.expand_grants.specs.declared.granted.Grants.{Grants}
 use Rattle.image_emit.specs.Fitting.{AreFew}

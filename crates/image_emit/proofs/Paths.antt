@@ -6,7 +6,7 @@ use Rattle.std.proofs.lemmas.Bool.{cases_lt}
 use Rattle.std.proofs.lemmas.List.Elements.{All-contains}
 use Rattle.std.proofs.lemmas.List.Sorted.{Contains-permutation}
 use Rattle.std.proofs.lemmas.Option.{get_or_from_slice_get, slice_get_within}
-use Rattle.ept_count.specs.Pages.{ept_pages}
+use Rattle.ept_emit.specs.Pages.{ept_pages}
 use Rattle.ept_emit.specs.Emitted.{Reads, eptp_of}
 use Rattle.event_emit.specs.declared.event_tables.EventTables.{EventTables}
 use Rattle.expand_grants.specs.declared.granted.Grants.{Grants}
@@ -19,7 +19,7 @@ use Rattle.image_emit.proofs.ByNumber.{as_many_addresses}
 use Rattle.image_emit.proofs.BySubject.{IsAtIndex, SubjectAt, subject_at}
 use Rattle.image_emit.proofs.SpansOfKernel.{kernel_numbered, kernel_span, sound_of}
 use Rattle.image_emit.proofs.Tables.{has_tables, tables_long}
-use Rattle.image_meaning.specs.Memory.{memory_of}
+use Rattle.image_soundness.specs.Memory.{memory_of}
 use Rattle.image_pack.specs.SpanConditions.{IsSpan}
 use Rattle.image_pack.specs.declared.parts.SubjectPart.{SubjectPart}
 use Rattle.muen_num.proofs.Lists.{there}

@@ -11,7 +11,7 @@ use Rattle.image_emit.proofs.ByNumber.{span_numbered}
 use Rattle.image_emit.proofs.PlanSubjects.{position_there}
 use Rattle.image_emit.proofs.SpansAt.{region_at}
 use Rattle.image_emit.specs.Made.{IsMade, Made, image_of, policy_of}
-use Rattle.image_meaning.specs.Named.{tag_at}
+use Rattle.image_soundness.specs.Named.{tag_at}
 use Rattle.muen_num.proofs.Lists.{get_left, there}
 use Rattle.muen_num.proofs.SearchLaws.{none_both, unless_none}
 use Rattle.muen_num.specs.Search.{first_in}

@@ -10,9 +10,9 @@ use Rattle.image_emit.proofs.ByNumber.{region_spans_length, span_numbered}
 use Rattle.image_emit.proofs.PlanSubjects.{same_reached}
 use Rattle.image_emit.proofs.SpansAt.{at_number}
 use Rattle.image_emit.specs.Made.{IsMade, Made, content_at, image_of, policy_of}
-use Rattle.image_meaning.specs.Memory.{span_at}
-use Rattle.image_meaning.specs.Named.{bench_device, bench_of, tag_at, window_memory}
-use Rattle.image_meaning.specs.Sound.{IsDeviceOf, IsIrqOf}
+use Rattle.image_soundness.specs.Memory.{span_at}
+use Rattle.image_soundness.specs.Named.{bench_device, bench_of, tag_at, window_memory}
+use Rattle.image_soundness.specs.Sound.{IsDeviceOf, IsIrqOf}
 use Rattle.image_pack.specs.Codes.{part_name}
 use Rattle.image_pack.specs.declared.parts.DevicePart.{DevicePart}
 use Rattle.image_pack.specs.declared.parts.Image.{Image}
@@ -29,7 +29,7 @@ use Rattle.policy_types.specs.declared.source.Irq.{Irq}
 use Rattle.record_text.specs.Bench.{Bench, BenchDevice}
 use Rattle.span_emit.proofs.KeptDevices.{IsPhysical, devices_physical}
 use Rattle.span_emit.specs.Spans.{device_span, device_spans, memories_of, region_spans, spans_of}
-use Rattle.image_meaning.specs.Bench.{bench_device as device_of, devices_of}
+use Rattle.image_soundness.specs.Bench.{bench_device as device_of, devices_of}
 
 -- ---- memory
 

@@ -3,7 +3,7 @@ use Rattle.image_emit.proofs.PlanChoice.{choice_of_policy}
 use Rattle.image_emit.proofs.PlanDevices.{bench_of_policy, devices_of_policy}
 use Rattle.image_emit.proofs.PlanSubjects.{subjects_of_policy}
 use Rattle.image_emit.specs.Made.{IsMade, Made, image_of, policy_of}
-use Rattle.image_meaning.specs.Sound.{HasPlanAndEvents}
+use Rattle.image_soundness.specs.Sound.{HasPlanAndEvents}
 use Rattle.policy_lawful.specs.Resolution.{source_of}
 
 -- **plan and events** of the image are the policy's

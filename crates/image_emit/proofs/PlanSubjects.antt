@@ -13,8 +13,8 @@ use Rattle.event_emit.specs.declared.event_tables.EventTables.{EventTables}
 use Rattle.expand_grants.specs.Grants.{AreGrantsOf, target_named}
 use Rattle.expand_grants.specs.declared.granted.Grants.{Grants}
 use Rattle.image_emit.specs.Made.{IsMade, Made, group_at, image_of, policy_of, subject_part}
-use Rattle.image_meaning.specs.Named.{raised, reached, target}
-use Rattle.image_meaning.specs.Sound.{ForEachSubject, IsSubjectOf}
+use Rattle.image_soundness.specs.Named.{raised, reached, target}
+use Rattle.image_soundness.specs.Sound.{ForEachSubject, IsSubjectOf}
 use Rattle.image_pack.specs.declared.parts.EventPart.{EventPart}
 use Rattle.image_pack.specs.declared.parts.IrqTarget.{IrqTarget}
 use Rattle.image_pack.specs.declared.parts.SubjectPart.{SubjectPart}

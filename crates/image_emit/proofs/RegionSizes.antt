@@ -6,19 +6,19 @@ use Rattle.std.specs.List.{AllZip, enumerate_from, flat_map, zip}
 use Rattle.std.proofs.lemmas.List.{length-map, length-replicate, map-append, take_all}
 use Rattle.std.proofs.lemmas.List.Sums.{sum_by-cons}
 use Rattle.std.proofs.lemmas.Option.{get_or_from_slice_get, slice_get-map}
-use Rattle.ept_count.specs.Pages.{ept_pages}
+use Rattle.ept_emit.specs.Pages.{ept_pages}
 use Rattle.expand_grants.specs.declared.granted.Grants.{Grants}
 use Rattle.expand_kernel.specs.ByIndex.{brought_at, kernel_for, kernel_for_each, mapped_views, provided_at}
 use Rattle.expand_kernel.specs.Regions.{channel_region, own_region, provided_region}
 use Rattle.expand_kernel.specs.declared.region.Region.{Region}
 use Rattle.expand_kernel.proofs.Numbering.{regions_by_index}
 use Rattle.image_emit.specs.Made.{IsMade, Made, kernel_bytes, policy_of, region_bytes}
-use Rattle.machine_meaning.specs.Exits.{area_bytes}
+use Rattle.machine_layout.specs.Exits.{area_bytes}
 use Rattle.msrbm_emit.specs.Area.{area_of, count_of, entries_of, entry_of, size_of}
 use Rattle.msrbm_emit.proofs.AreaLaws.{length-area}
 use Rattle.muen_num.specs.Range.{numbers_below}
 use Rattle.muen_num.specs.declared.limits.TheConstants.{PAGE}
-use Rattle.page_parts.specs.Fields.{padded}
+use Rattle.machine_layout.specs.PageFields.{padded}
 use Rattle.policy_lawful.specs.declared.resolved.Subject.{Subject}
 use Rattle.policy_types.specs.declared.resources.MsrGrant.{MsrGrant}
 use Rattle.policy_types.specs.declared.source.Component.{Component}
@@ -28,7 +28,7 @@ use Rattle.subject_emit.specs.Mapped.{kernel_first}
 use Rattle.subject_emit.specs.Pages.{ArePages}
 use Rattle.subject_emit.specs.declared.subject_pages.SubjectPages.{SubjectPages}
 use Rattle.subject_emit.proofs.SamePages.{pages_same}
-use Rattle.subject_state.specs.States.{started}
+use Rattle.state_page.specs.States.{started}
 
 -- ---- pages of the kernel
 

@@ -5,7 +5,7 @@ use Rattle.std.specs.Option.{option_map_or}
 use Rattle.std.specs.List.{flat_map}
 use Rattle.std.proofs.lemmas.List.{length-replicate}
 use Rattle.std.proofs.lemmas.Option.{get_or_from_slice_get, slice_get_within}
-use Rattle.ept_count.specs.Pages.{ept_pages}
+use Rattle.ept_emit.specs.Pages.{ept_pages}
 use Rattle.event_emit.specs.declared.event_tables.EventTables.{EventTables}
 use Rattle.expand_grants.specs.declared.granted.Grants.{Grants}
 use Rattle.expand_kernel.specs.ByIndex.{mapped_views}
@@ -15,11 +15,11 @@ use Rattle.image_emit.specs.Made.{IsMade, Made, content_at, image_of, kernel_byt
 use Rattle.image_emit.proofs.ByNumber.{span_numbered}
 use Rattle.image_emit.proofs.BySubject.{IsAtIndex}
 use Rattle.image_emit.proofs.SpansAt.{region_at}
-use Rattle.image_meaning.specs.Memory.{Span, bytes_at, bytes_of}
+use Rattle.image_soundness.specs.Memory.{Span, bytes_at, bytes_of}
 use Rattle.image_pack.specs.declared.parts.SpanPart.{SpanPart}
 use Rattle.muen_num.proofs.Lists.{get_right}
 use Rattle.muen_num.specs.declared.tag.TagPart.{TagPart}
-use Rattle.page_parts.specs.Fields.{padded}
+use Rattle.machine_layout.specs.PageFields.{padded}
 use Rattle.policy_lawful.specs.declared.resolved.Subject.{Subject}
 use Rattle.span_emit.specs.Spans.{region_span, spans_of}
 use Rattle.subject_emit.specs.Mapped.{kernel_first}

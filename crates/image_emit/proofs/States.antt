@@ -4,14 +4,14 @@ use Rattle.std.proofs.lemmas.List.{take_all}
 use Rattle.image_emit.specs.Made.{IsMade, Made, image_of, policy_of}
 use Rattle.image_emit.proofs.BySubject.{each_subject}
 use Rattle.image_emit.proofs.SpansOfKernel.{kernel_bytes_at, padded_length}
-use Rattle.image_meaning.specs.Memory.{bytes_at}
-use Rattle.image_meaning.specs.Sound.{ForEachSubject, IsFresh}
+use Rattle.image_soundness.specs.Memory.{bytes_at}
+use Rattle.image_soundness.specs.Sound.{ForEachSubject, IsFresh}
 use Rattle.muen_num.specs.declared.limits.TheConstants.{PAGE}
 use Rattle.muen_num.specs.declared.tag.TagPart.TheVariants.{State}
 use Rattle.policy_lawful.specs.Resolution.{source_of}
 use Rattle.state_page.specs.StatePage.{page_bytes}
 use Rattle.subject_emit.specs.Mapped.{kernel_first}
-use Rattle.subject_state.specs.States.{started}
+use Rattle.state_page.specs.States.{started}
 
 fresh_length : (entry : ℕ) → length (page_bytes (started entry)) ≡ PAGE
 unfolding page_bytes started

@@ -2,7 +2,7 @@
 use Rattle.std.proofs.Common.{◌≡◌, ℕ, ◌+◌, ◌*◌, ◌<◌, ◌≤◌, Bool, true, length, take, drop, Some, refl, ap, ◌∙◌, arith, le-leb}
 use Rattle.std.specs.Prelude.{◌&&◌, nat_le}
 use Rattle.std.proofs.lemmas.Bool.{and_from}
-use Rattle.ept_count.specs.Pages.{ept_pages}
+use Rattle.ept_emit.specs.Pages.{ept_pages}
 use Rattle.ept_emit.specs.Emitted.{HasTables}
 use Rattle.event_emit.specs.declared.event_tables.EventTables.{EventTables}
 use Rattle.expand_grants.specs.declared.granted.Grants.{Grants}
@@ -12,8 +12,8 @@ use Rattle.image_emit.proofs.PagesThere.{page_there}
 use Rattle.image_emit.proofs.BySubject.{IsAtIndex, each_subject}
 use Rattle.image_emit.proofs.SpansOfKernel.{kernel_content, kernel_numbered, kernel_span}
 use Rattle.image_emit.proofs.SpansAt.{some_span}
-use Rattle.image_meaning.specs.Memory.{memory_of}
-use Rattle.image_meaning.specs.Sound.{ForEachSubject, ReadsTables, is_in_tables, is_tables}
+use Rattle.image_soundness.specs.Memory.{memory_of}
+use Rattle.image_soundness.specs.Sound.{ForEachSubject, ReadsTables, is_in_tables, is_tables}
 use Rattle.image_pack.specs.SpanConditions.{end_of}
 use Rattle.image_pack.specs.declared.parts.SpanPart.{SpanPart}
 use Rattle.muen_num.specs.declared.limits.TheConstants.{PAGE}

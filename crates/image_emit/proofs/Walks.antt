@@ -18,9 +18,9 @@ use Rattle.image_emit.proofs.BySubject.{each_subject}
 use Rattle.image_emit.proofs.AddressesOfShown.{has_addresses}
 use Rattle.image_emit.proofs.Tables.{has_tables}
 use Rattle.image_emit.proofs.WalksByWindow.{ArePassedOnce, found_contained, found_permuted}
-use Rattle.image_meaning.specs.Memory.{memory_of}
-use Rattle.image_meaning.specs.Sound.{ForEachSubject, HasWalks, led, address_of}
-use Rattle.machine_meaning.specs.declared.walk.Walk.TheVariants.{At, Violation}
+use Rattle.image_soundness.specs.Memory.{memory_of}
+use Rattle.image_soundness.specs.Sound.{ForEachSubject, HasWalks, led, address_of}
+use Rattle.machine_layout.specs.declared.walk.Walk.TheVariants.{At, Violation}
 use Rattle.muen_num.proofs.Lists.{find-map, passes_at}
 use Rattle.muen_num.specs.declared.access.AccessKind.{AccessKind}
 use Rattle.policy_lawful.specs.Resolution.{source_of, subject_named, subject_in_range}

@@ -4,11 +4,11 @@ use Rattle.std.specs.Prelude.{◌≡◌, ℕ, suc, ◌+◌, ◌*◌, ◌/◌, �
 use Rattle.std.specs.List.{find}
 use Rattle.std.specs.Option.{IfSome}
 use Rattle.ept_emit.specs.Emitted.{Reads}
-use Rattle.image_meaning.specs.Memory.{memory_of, address_at}
-use Rattle.image_meaning.specs.Sound.{address_of}
+use Rattle.image_soundness.specs.Memory.{memory_of, address_at}
+use Rattle.image_soundness.specs.Sound.{address_of}
 use Rattle.image_pack.specs.declared.parts.Image.{Image}
 use Rattle.image_pack.specs.declared.parts.SubjectPart.{SubjectPart}
-use Rattle.machine_meaning.specs.Walks.{leaf_size, entry_size}
+use Rattle.machine_layout.specs.Walks.{leaf_size, entry_size}
 use Rattle.muen_num.specs.declared.limits.TheConstants.{GUEST_END}
 use Rattle.policy_meaning.specs.Thing.{Thing}
 use Rattle.policy_meaning.specs.Windows.{Window, holds, windows_of}

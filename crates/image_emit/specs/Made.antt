@@ -15,7 +15,7 @@ use Rattle.image_pack.specs.declared.parts.DevicePart.{DevicePart}
 use Rattle.image_pack.specs.declared.parts.Image.{Image}
 use Rattle.image_pack.specs.declared.parts.SpanPart.{SpanPart}
 use Rattle.image_pack.specs.declared.parts.SubjectPart.{SubjectPart}
-use Rattle.image_plan.specs.declared.plan.Plan.{Plan}
+use Rattle.frame_clock.specs.declared.plan.Plan.{Plan}
 use Rattle.msrbm_emit.specs.Area.{count_of}
 use Rattle.muen_num.specs.Naming.{is_name}
 use Rattle.plan_emit.specs.PlanOf.{IsPlanOf}

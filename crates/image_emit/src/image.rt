@@ -4,7 +4,7 @@ ghost use Rattle.image_emit.specs.Built.{HasGreatestPages, HasOnePathPerTable, H
 ghost use Rattle.image_emit.specs.Fitting.{AreFew};
 ghost use Rattle.image_emit.specs.Gathered.{AreAllPages, AreParts, AreReadable, IsHeld};
 ghost use Rattle.image_emit.specs.Made.{IsFilled, IsImageOf, thing_bytes};
-ghost use Rattle.image_meaning.specs.Sound.{ForEachSubject, IsSound};
+ghost use Rattle.image_soundness.specs.Sound.{ForEachSubject, IsSound};
 ghost use Rattle.image_pack.specs.SpanConditions.{HaveDifferentNumbers};
 ghost use Rattle.policy_lawful.specs.Resolution.{source_of};
 ghost use Rattle.policy_meaning.specs.Contents.{Held};

@@ -7,11 +7,11 @@ use Rattle.std.proofs.lemmas.Slice.Eq.{bytes_eq-Decides}
 use Rattle.muen_num.specs.declared.mode.EventMode.{EventMode}
 use Rattle.muen_num.specs.declared.mode.EventMode.TheVariants.{Asap, Async, Own as OwnMode, Switch}
 use Rattle.muen_num.specs.declared.tag.TagPart.TheVariants.{Whole, State, Ept, Iobm, Msrbm, Msrs}
-use Rattle.image_form.specs.declared.fault.Field.TheVariants as at
-use Rattle.image_form.specs.Form.{either, fits_either, present, fits_there, absent}
-use Rattle.image_form.specs.Name.{name}
-use Rattle.image_form.proofs.Leaves.{Laws, coded_laws}
-use Rattle.image_form.proofs.Forms.{both_true}
+use Rattle.binary_form.specs.declared.fault.Field.TheVariants as at
+use Rattle.binary_form.specs.Form.{either, fits_either, present, fits_there, absent}
+use Rattle.binary_form.specs.Name.{name}
+use Rattle.binary_form.proofs.Leaves.{Laws, coded_laws}
+use Rattle.binary_form.proofs.Forms.{both_true}
 use Rattle.image_pack.specs.Codes.{mark_in, mark_bytes, kind_of, kind_code, kind_in, kind_bytes, part_code, part_name, plain_part, part_of, is_part, mode_of, mode_code, vector_of, vector_code, event_of, if_mode, event_in, event_bytes, target_of, subject_code, irq_vector_code, is_target}
 use Rattle.image_pack.specs.Image.{mark, kind_byte, event, title, tau0_at}
 use Rattle.image_pack.specs.declared.outline.Header.{Header}

@@ -5,8 +5,8 @@ use Rattle.std.specs.List.{All, AllZip, sum_by}
 use Rattle.std.proofs.lemmas.List.{length-replicate}
 use Rattle.std.proofs.lemmas.Bool.{cases_eq, ne_eqb, leb-true}
 use Rattle.muen_num.specs.declared.limits.TheConstants.{MOST_BLOCK_BYTES, MOST_DEVICE_BYTES, PAGE}
-use Rattle.image_form.specs.Form.{each_fit, each, bytes_of, field, only, gap, done, number, byte, coded, either, present, absent, items}
-use Rattle.image_form.proofs.Forms.{both_true}
+use Rattle.binary_form.specs.Form.{each_fit, each, bytes_of, field, only, gap, done, number, byte, coded, either, present, absent, items}
+use Rattle.binary_form.proofs.Forms.{both_true}
 use Rattle.image_pack.specs.Codes.{is_own, mark_bytes, mark_in}
 use Rattle.image_pack.specs.Image.{content, counts, no_spans_before, header, image, is_between, suits_tau0, tau0_at}
 use Rattle.image_pack.specs.ImageConditions.{IsChoice, IsContent, KeepsConditions}

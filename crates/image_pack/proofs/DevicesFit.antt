@@ -5,8 +5,8 @@ use Rattle.std.specs.List.{All, AllZip, list_any}
 use Rattle.std.proofs.lemmas.Bool.{cases_eq}
 use Rattle.std.proofs.lemmas.List.Elements.{All-head, All-tail}
 use Rattle.std.proofs.lemmas.List.Folds.{list_any-append}
-use Rattle.image_form.specs.Form.{all_fit, field, only, gap, done, number, byte, items}
-use Rattle.image_form.proofs.NameLaws.{name_fits}
+use Rattle.binary_form.specs.Form.{all_fit, field, only, gap, done, number, byte, items}
+use Rattle.binary_form.proofs.NameLaws.{name_fits}
 use Rattle.image_pack.specs.Codes.{irq_vector_code, is_target, subject_code, target_of}
 use Rattle.image_pack.specs.Image.{after_device, after_irq, after_window, device, irq, is_listed, is_window, nothing_left, outline, range, window, window_name}
 use Rattle.image_pack.specs.ImageConditions.{AreDistinct, IsDevice, IsIrq, IsRange, IsReached, IsWindow}

@@ -3,12 +3,12 @@ use Rattle.std.proofs.Common.{◌≡◌, ◌≢◌, ◌∙◌, refl, sym, ap, ar
 use Rattle.std.specs.List.{enumerate_from, list_all, sum_by}
 use Rattle.std.proofs.lemmas.Bool.{eqb-true, leb-true, ltb-true}
 use Rattle.std.proofs.lemmas.List.Sums.{sum_by-cons}
-use Rattle.image_form.specs.Form.{all_fit, field, only, gap, done, number, byte, items}
-use Rattle.image_form.proofs.Forms.{both_true}
+use Rattle.binary_form.specs.Form.{all_fit, field, only, gap, done, number, byte, items}
+use Rattle.binary_form.proofs.Forms.{both_true}
 use Rattle.muen_num.specs.declared.limits.TheConstants.{MOST_MINOR_FRAMES, MOST_TICKS}
-use Rattle.image_plan.specs.Plan.{is_cpu, is_group_on, is_major, is_minor}
-use Rattle.image_plan.specs.declared.plan.Major.{Major}
-use Rattle.image_plan.specs.declared.plan.Minor.{Minor}
+use Rattle.frame_clock.specs.Plan.{is_cpu, is_group_on, is_major, is_minor}
+use Rattle.frame_clock.specs.declared.plan.Major.{Major}
+use Rattle.frame_clock.specs.declared.plan.Minor.{Minor}
 use Rattle.image_pack.specs.Image.{add_ticks, frames, major, minor, next_cpu, no_frames_before, nothing_left}
 use Rattle.image_pack.specs.declared.outline.Outline.{Outline}
 use Rattle.image_pack.specs.declared.reading.majors.CpuTicks.{CpuTicks}

@@ -2,10 +2,10 @@
 use Rattle.std.proofs.Common.{ℕ, Bool, List}
 use Rattle.std.specs.Prelude.{is_some}
 use Rattle.std.specs.Int.{w16, w32, w64}
-use Rattle.image_form.specs.Form.{field, only, gap, byte, number}
-use Rattle.image_form.proofs.Leaves.{Laws, number_laws, byte_laws, wide16, wide32, wide64}
-use Rattle.image_form.proofs.Forms.{Knows, laws, field_laws, field_laws_within, only_laws, gap_laws, done_laws, knows_field, knows_field_within, knows_gap, knows_done, items_laws, each_laws, knows_count}
-use Rattle.image_form.proofs.NameLaws.{name_laws}
+use Rattle.binary_form.specs.Form.{field, only, gap, byte, number}
+use Rattle.binary_form.proofs.Leaves.{Laws, number_laws, byte_laws, wide16, wide32, wide64}
+use Rattle.binary_form.proofs.Forms.{Knows, laws, field_laws, field_laws_within, only_laws, gap_laws, done_laws, knows_field, knows_field_within, knows_gap, knows_done, items_laws, each_laws, knows_count}
+use Rattle.binary_form.proofs.NameLaws.{name_laws}
 use Rattle.image_pack.specs.declared.outline.Header.{Header}
 use Rattle.image_pack.specs.declared.outline.Outline.{Outline}
 use Rattle.image_pack.specs.declared.reading.spans.SpansBefore.{SpansBefore}

@@ -4,8 +4,8 @@ use Rattle.std.specs.List.{All, sum_by}
 use Rattle.std.specs.Prelude.{slice_index_or}
 use Rattle.std.proofs.lemmas.List.Elements.{All-head, All-tail}
 use Rattle.std.proofs.lemmas.List.Sums.{sum_by-cons}
-use Rattle.image_form.specs.Form.{all_fit, field, only, gap, done, number, byte, coded, either, present, absent}
-use Rattle.image_form.proofs.NameLaws.{name_fits}
+use Rattle.binary_form.specs.Form.{all_fit, field, only, gap, done, number, byte, coded, either, present, absent}
+use Rattle.binary_form.proofs.NameLaws.{name_fits}
 use Rattle.muen_num.specs.declared.limits.TheConstants.{PAGE, MOST_BLOCK_BYTES, MOST_DEVICE_BYTES}
 use Rattle.muen_num.specs.Naming.{is_name}
 use Rattle.muen_num.specs.declared.tag.TagPart.{TagPart}

@@ -3,14 +3,14 @@ use Rattle.std.proofs.Common.{◌≡◌, refl, sym, arith, ℕ, zero, suc, ◌+�
 use Rattle.std.specs.List.{All, enumerate_from, list_any}
 use Rattle.std.proofs.lemmas.Bool.{eqb-true, ltb-true}
 use Rattle.std.proofs.lemmas.List.Elements.{All-head, All-tail}
-use Rattle.image_form.specs.Form.{all_fit, field, only, gap, done, number, byte, coded, items}
-use Rattle.image_form.proofs.Forms.{both_true}
-use Rattle.image_form.proofs.NameLaws.{name_fits}
+use Rattle.binary_form.specs.Form.{all_fit, field, only, gap, done, number, byte, coded, items}
+use Rattle.binary_form.proofs.Forms.{both_true}
+use Rattle.binary_form.proofs.NameLaws.{name_fits}
 use Rattle.muen_num.specs.declared.limits.TheConstants.{PAGE}
 use Rattle.muen_num.specs.declared.mode.EventMode.{EventMode}
 use Rattle.muen_num.specs.declared.mode.EventMode.TheVariants.{Asap, Async, Own, Switch}
-use Rattle.image_plan.specs.Plan.{is_group_on}
-use Rattle.image_plan.specs.declared.plan.GroupPart.{GroupPart}
+use Rattle.frame_clock.specs.Plan.{is_group_on}
+use Rattle.frame_clock.specs.declared.plan.GroupPart.{GroupPart}
 use Rattle.image_pack.specs.Codes.{event_bytes, event_in, event_of, is_vector, mode_code, mode_of, part_code, vector_code, vector_of}
 use Rattle.image_pack.specs.Image.{event, group, is_eptp, is_group_of, is_kernel_span, next_index, nothing_left, outline, subject}
 use Rattle.image_pack.specs.ImageConditions.{AreEvents, IsEvent, IsGroup, IsSubject, IsVector}

@@ -7,13 +7,13 @@ use Rattle.std.specs.Option.{option_map_or}
 use Rattle.std.specs.Str.{bytes_eq}
 use Rattle.muen_num.specs.declared.limits.TheConstants.{PAGE, PHYSICAL_END, MOST_BLOCK_BYTES, MOST_DEVICE_BYTES, MOST_CPUS, MOST_SUBJECTS, MOST_MAJOR_FRAMES, MOST_MINOR_FRAMES, MOST_TICKS, MOST_DEVICES, MOST_PER_DEVICE, MOST_REGIONS, MOST_DEVICE_WINDOWS, MOST_MSRS, MOST_CALLS}
 use Rattle.muen_num.specs.declared.tag.TagPart.TheVariants.{State, Iobm, Msrbm, Msrs}
-use Rattle.image_form.specs.Form.{Form, number, byte, bytes_of, coded, present, absent, either, only, field, gap, done, items, each}
-use Rattle.image_form.specs.Name.{name}
-use Rattle.image_form.specs.declared.fault.Field.TheVariants as at
-use Rattle.image_plan.specs.Plan.{is_group_on}
-use Rattle.image_plan.specs.declared.plan.GroupPart.{GroupPart}
-use Rattle.image_plan.specs.declared.plan.Minor.{Minor}
-use Rattle.image_plan.specs.declared.plan.Major.{Major}
+use Rattle.binary_form.specs.Form.{Form, number, byte, bytes_of, coded, present, absent, either, only, field, gap, done, items, each}
+use Rattle.binary_form.specs.Name.{name}
+use Rattle.binary_form.specs.declared.fault.Field.TheVariants as at
+use Rattle.frame_clock.specs.Plan.{is_group_on}
+use Rattle.frame_clock.specs.declared.plan.GroupPart.{GroupPart}
+use Rattle.frame_clock.specs.declared.plan.Minor.{Minor}
+use Rattle.frame_clock.specs.declared.plan.Major.{Major}
 use Rattle.image_pack.specs.Codes.{mark_in, mark_bytes, kind_in, kind_bytes, is_device, is_own, part_code, part_name, part_of, is_part, event_in, event_bytes, target_of, subject_code, irq_vector_code, is_target}
 use Rattle.image_pack.specs.declared.outline.Header.{Header}
 use Rattle.image_pack.specs.declared.outline.Outline.{Outline}

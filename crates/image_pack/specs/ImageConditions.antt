@@ -6,8 +6,8 @@ use Rattle.muen_num.specs.Naming.{is_name}
 use Rattle.muen_num.specs.declared.limits.TheConstants.{FIRST_VECTOR, MOST_CALLS, MOST_CPUS, MOST_DEVICES, MOST_MAJOR_FRAMES, MOST_MSRS, MOST_PER_DEVICE, MOST_SUBJECTS, PAGE}
 use Rattle.muen_num.specs.declared.mode.EventMode.{EventMode}
 use Rattle.muen_num.specs.declared.tag.TagPart.TheVariants.{State, Iobm, Msrbm, Msrs}
-use Rattle.image_plan.specs.Plan.{is_group_on, is_major}
-use Rattle.image_plan.specs.declared.plan.GroupPart.{GroupPart}
+use Rattle.frame_clock.specs.Plan.{is_group_on, is_major}
+use Rattle.frame_clock.specs.declared.plan.GroupPart.{GroupPart}
 use Rattle.image_pack.specs.Codes.{is_device, is_own, is_switch, part_code}
 use Rattle.image_pack.specs.Image.{is_between, is_eptp, is_first_here, is_kernel_span, window_name}
 use Rattle.image_pack.specs.SpanConditions.{AreSpans}

@@ -1,13 +1,13 @@
 //! Codes of an image, read and written.
 ghost use Rattle.std.specs.Prelude.{◌≡◌, [], ◌∷◌};
-ghost use Rattle.image_form.specs.Form.{Form, Gives};
+ghost use Rattle.binary_form.specs.Form.{Form, Gives};
 ghost use Rattle.image_pack.specs.Codes.{mark_bytes, kind_of, kind_code, is_device, is_own, part_code, part_name, part_of, plain_part, is_part, mode_of, mode_code, is_switch, is_vector, vector_of, vector_code, event_of, event_in, event_bytes, target_of, subject_code, irq_vector_code, is_target};
 ghost use Rattle.image_pack.specs.Image.{mark, kind_byte, event};
 
 use crate::outline::Header;
 use crate::parts::{EventPart, IrqTarget, SpanKind};
-use image_form::reading::{bad, short};
-use image_form::{Field, FormError};
+use binary_form::reading::{bad, short};
+use binary_form::{Field, FormError};
 use muen_num::limits::FIRST_VECTOR;
 use muen_num::{EventMode, Name, TagPart};
 
@@ -23,7 +23,7 @@ pub(crate) fn mark(has_tau0: bool) -> &'static [u8]
 }
 
 /// Whether the span of tau0 is named, by the first eight bytes.
-#[tactic(auto, unfolding(image_form::specs::Form::coded, image_form::specs::Form::coded_at, crate::specs::Codes::mark_in))]
+#[tactic(auto, unfolding(binary_form::specs::Form::coded, binary_form::specs::Form::coded_at, crate::specs::Codes::mark_in))]
 pub(crate) fn mark_of(bytes: &[u8]) -> Result<(bool, &[u8]), FormError>
     ensures { Gives (λ x. (x.0, x.1.now)) result (mark.read bytes.now) }
 {
@@ -84,7 +84,7 @@ impl SpanKind {
 }
 
 /// The kind of a span, by its byte.
-#[tactic(auto, unfolding(image_form::specs::Form::coded, image_form::specs::Form::coded_at, crate::specs::Codes::kind_in))]
+#[tactic(auto, unfolding(binary_form::specs::Form::coded, binary_form::specs::Form::coded_at, crate::specs::Codes::kind_in))]
 pub(crate) fn kind_byte_of(bytes: &[u8]) -> Result<(SpanKind, &[u8]), FormError>
     ensures { Gives (λ x. (x.0, x.1.now)) result (kind_byte.read bytes.now) }
 {
@@ -245,7 +245,7 @@ fn event_in(subjects: u8, mode: u8, target: u8, vector: u8, zero: u8) -> Option<
 }
 
 /// What an event of four bytes says.
-#[tactic(auto, unfolding(image_form::specs::Form::coded, image_form::specs::Form::coded_at, crate::specs::Image::event))]
+#[tactic(auto, unfolding(binary_form::specs::Form::coded, binary_form::specs::Form::coded_at, crate::specs::Image::event))]
 pub(crate) fn event_at<'a>(
     header: &Header,
     bytes: &'a [u8],

@@ -1,8 +1,8 @@
 //! An image that is known to be one, read from its bytes and written as them.
 ghost use Rattle.std.specs.Prelude.{◌≡◌, ◌≤◌, ◌<◌, Err, ◌++◌, ℕ, List, length, Ok, IfOk};
-ghost use Rattle.image_form.specs.Form.{Form, IsBytes, left_of, whole};
-ghost use Rattle.image_form.specs.Faults.{Tells, unpacked, IsShort};
-ghost use Rattle.image_form.specs.declared.fault.Field.{Field};
+ghost use Rattle.binary_form.specs.Form.{Form, IsBytes, left_of, whole};
+ghost use Rattle.binary_form.specs.Faults.{Tells, unpacked, IsShort};
+ghost use Rattle.binary_form.specs.declared.fault.Field.{Field};
 ghost use Rattle.image_pack.specs.Image.{image};
 ghost use Rattle.image_pack.specs.ImageConditions.{KeepsConditions};
 ghost use Rattle.image_pack.specs.Parts.{IsParts, IsImage, counted};
@@ -12,9 +12,9 @@ use crate::outline::Header;
 use crate::parts::{DevicePart, Image, SpanPart, SubjectPart};
 use crate::reading::whole::all_of;
 use crate::writing::put_image;
-use image_form::writing::{as_u8, as_u16};
-use image_form::{ImageFault, fault_of};
-use image_plan::Plan;
+use binary_form::writing::{as_u8, as_u16};
+use binary_form::{ImageFault, fault_of};
+use frame_clock::Plan;
 use muen_num::{NoMemory, Seq};
 use std::alloc::{AllocError, Global};
 use std::marker::Model;

@@ -1,14 +1,14 @@
 //! Rows of an image, one after the other: the loops, written once for every table.
 ghost use Rattle.std.specs.Prelude.{◌≡◌, ℕ, IfOk, OnOk, ◌++◌};
-ghost use Rattle.image_form.specs.Form.{Form, Gives, items};
+ghost use Rattle.binary_form.specs.Form.{Form, Gives, items};
 
-use image_form::FormError;
+use binary_form::FormError;
 use muen_num::Seq;
 use std::alloc::{AllocError, Global};
 
 /// What stands in a table of an image.
 pub trait Item: Drop {
-    ghost use Rattle.image_form.specs.Form.{Form};
+    ghost use Rattle.binary_form.specs.Form.{Form};
 
     /// What it may refer to.
     type Among: Drop;
@@ -49,7 +49,7 @@ pub trait Item: Drop {
 ///
 /// # Errors
 /// The first fault of a row; memory is refused.
-#[tactic(auto, unfolding(image_form::specs::Form::items))]
+#[tactic(auto, unfolding(binary_form::specs::Form::items))]
 pub fn items_of<'a, T: Item>(
     alloc: Global,
     among: &T::Among,
@@ -74,7 +74,7 @@ pub fn items_of<'a, T: Item>(
 ///
 /// # Errors
 /// Memory is refused.
-#[tactic(auto, unfolding(image_form::specs::Form::items))]
+#[tactic(auto, unfolding(binary_form::specs::Form::items))]
 pub fn put_items<T: Item>(list: &[T], out: &mut Vec<u8>) -> Result<(), AllocError>
     requires { (a : T.Among) × (b : T.Before) × (n : ℕ) × (items (T.next a) (T.form a) b n).fits list.now }
     ensures { (a : T.Among) (b : T.Before) (n : ℕ) → OnOk result (out.new.items ≡ out.old.items ++ (items (T.next a) (T.form a) b n).spell list.now) }

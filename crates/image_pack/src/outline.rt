@@ -1,6 +1,6 @@
 //! What the parts of an image count, and what its later parts refer to.
 use crate::parts::SpanPart;
-use image_plan::GroupPart;
+use frame_clock::GroupPart;
 use muen_num::Seq;
 
 /// The counts at the front of an image.

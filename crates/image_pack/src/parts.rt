@@ -1,6 +1,6 @@
 //! The parts of an image.
 use crate::outline::Header;
-use image_plan::Plan;
+use frame_clock::Plan;
 use muen_num::{EventMode, Name, Seq, Tag};
 
 /// What a span of memory is.

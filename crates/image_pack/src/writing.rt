@@ -1,8 +1,8 @@
 //! Writes an image, line for line as its form says.
-#![tactic(auto, using(image_form::proofs::Puts::appended), unfolding(image_form::specs::Form::only, image_form::specs::Form::field, image_form::specs::Form::gap, image_form::specs::Form::done))]
+#![tactic(auto, using(binary_form::proofs::Puts::appended), unfolding(binary_form::specs::Form::only, binary_form::specs::Form::field, binary_form::specs::Form::gap, binary_form::specs::Form::done))]
 
 ghost use Rattle.std.specs.Prelude.{◌≡◌, ℕ, ◌++◌, List, OnOk, is_some};
-ghost use Rattle.image_form.specs.Form.{Form, items, each};
+ghost use Rattle.binary_form.specs.Form.{Form, items, each};
 ghost use Rattle.image_pack.specs.Codes.{part_code, part_name};
 ghost use Rattle.image_pack.specs.Image.{tau0_at, counts, header, title, span, group, event, events, subject, minor, frames, major, range, window, irq, device, content, image};
 ghost use Rattle.image_pack.specs.declared.outline.Header.{Header};
@@ -17,14 +17,14 @@ use crate::outline::Header;
 use crate::parts::{
     DevicePart, EventPart, Image, IrqPart, PortSpan, SpanPart, SubjectPart, WindowPart,
 };
-use image_form::writing::{
+use binary_form::writing::{
     as_u8, as_u16, put_bytes, put_name, put_tag, put_u8, put_u16, put_u32, put_u64, put_zeros,
 };
-use image_plan::{GroupPart, Major, Minor};
+use frame_clock::{GroupPart, Major, Minor};
 use muen_num::{Seq, TagPart};
 use std::alloc::AllocError;
 
-#[tactic(auto, using(image_form::proofs::Puts::appended), unfolding(image_form::specs::Form::field, image_form::specs::Form::only, image_form::specs::Form::gap, image_form::specs::Form::done, image_form::specs::Form::either, image_form::specs::Form::present, image_form::specs::Form::absent, crate::specs::Image::tau0_at))]
+#[tactic(auto, using(binary_form::proofs::Puts::appended), unfolding(binary_form::specs::Form::field, binary_form::specs::Form::only, binary_form::specs::Form::gap, binary_form::specs::Form::done, binary_form::specs::Form::either, binary_form::specs::Form::present, binary_form::specs::Form::absent, crate::specs::Image::tau0_at))]
 fn put_tau0(out: &mut Vec<u8>, tau0: Option<u16>) -> Result<(), AllocError>
     ensures { (spans : ℕ) → OnOk result (out.new.items ≡ out.old.items ++ (tau0_at (is_some tau0) spans).spell tau0) }
 {
@@ -38,7 +38,7 @@ fn put_tau0(out: &mut Vec<u8>, tau0: Option<u16>) -> Result<(), AllocError>
     Ok(())
 }
 
-#[tactic(auto, using(image_form::proofs::Puts::appended), unfolding(image_form::specs::Form::field, image_form::specs::Form::only, image_form::specs::Form::gap, image_form::specs::Form::done, image_form::specs::Form::coded, crate::specs::Image::counts, crate::specs::Image::header))]
+#[tactic(auto, using(binary_form::proofs::Puts::appended), unfolding(binary_form::specs::Form::field, binary_form::specs::Form::only, binary_form::specs::Form::gap, binary_form::specs::Form::done, binary_form::specs::Form::coded, crate::specs::Image::counts, crate::specs::Image::header))]
 fn put_header(out: &mut Vec<u8>, h: &Header) -> Result<(), AllocError>
     ensures { OnOk result (out.new.items ≡ out.old.items ++ header.spell h.now) }
 {
@@ -54,7 +54,7 @@ fn put_header(out: &mut Vec<u8>, h: &Header) -> Result<(), AllocError>
     Ok(())
 }
 
-#[tactic(auto, using(image_form::proofs::Puts::appended), unfolding(image_form::specs::Form::either, image_form::specs::Form::present, image_form::specs::Form::absent, crate::specs::Image::title))]
+#[tactic(auto, using(binary_form::proofs::Puts::appended), unfolding(binary_form::specs::Form::either, binary_form::specs::Form::present, binary_form::specs::Form::absent, crate::specs::Image::title))]
 fn put_title(out: &mut Vec<u8>, part: &TagPart) -> Result<(), AllocError>
     ensures { OnOk result (out.new.items ≡ out.old.items ++ (title (part_code part.now)).spell (part_name part.now)) }
 {
@@ -65,7 +65,7 @@ fn put_title(out: &mut Vec<u8>, part: &TagPart) -> Result<(), AllocError>
     Ok(())
 }
 
-#[tactic(auto, using(image_form::proofs::Puts::appended), unfolding(image_form::specs::Form::field, image_form::specs::Form::only, image_form::specs::Form::gap, image_form::specs::Form::done, image_form::specs::Form::coded, crate::specs::Image::span))]
+#[tactic(auto, using(binary_form::proofs::Puts::appended), unfolding(binary_form::specs::Form::field, binary_form::specs::Form::only, binary_form::specs::Form::gap, binary_form::specs::Form::done, binary_form::specs::Form::coded, crate::specs::Image::span))]
 pub(crate) fn put_span(out: &mut Vec<u8>, s: &SpanPart) -> Result<(), AllocError>
     ensures { (h : Header) (b : SpansBefore) → OnOk result (out.new.items ≡ out.old.items ++ (span h b).spell s.now) }
 {
@@ -80,7 +80,7 @@ pub(crate) fn put_span(out: &mut Vec<u8>, s: &SpanPart) -> Result<(), AllocError
     Ok(())
 }
 
-#[tactic(auto, using(image_form::proofs::Puts::appended), unfolding(image_form::specs::Form::field, image_form::specs::Form::only, image_form::specs::Form::gap, image_form::specs::Form::done, crate::specs::Image::group))]
+#[tactic(auto, using(binary_form::proofs::Puts::appended), unfolding(binary_form::specs::Form::field, binary_form::specs::Form::only, binary_form::specs::Form::gap, binary_form::specs::Form::done, crate::specs::Image::group))]
 pub(crate) fn put_group(out: &mut Vec<u8>, g: &GroupPart) -> Result<(), AllocError>
     ensures { (h : Header) (b : ℕ) → OnOk result (out.new.items ≡ out.old.items ++ (group h b).spell g.now) }
 {
@@ -98,7 +98,7 @@ fn put_events(out: &mut Vec<u8>, list: &[Option<EventPart>]) -> Result<(), Alloc
     Ok(())
 }
 
-#[tactic(auto, using(image_form::proofs::Puts::appended), unfolding(image_form::specs::Form::field, image_form::specs::Form::only, image_form::specs::Form::gap, image_form::specs::Form::done, crate::specs::Image::subject))]
+#[tactic(auto, using(binary_form::proofs::Puts::appended), unfolding(binary_form::specs::Form::field, binary_form::specs::Form::only, binary_form::specs::Form::gap, binary_form::specs::Form::done, crate::specs::Image::subject))]
 pub(crate) fn put_subject(out: &mut Vec<u8>, s: &SubjectPart) -> Result<(), AllocError>
     requires { (o : Outline) × (index : ℕ) × (subject o index).fits s.now }
     ensures { (o : Outline) (index : ℕ) → OnOk result (out.new.items ≡ out.old.items ++ (subject o index).spell s.now) }
@@ -120,7 +120,7 @@ pub(crate) fn put_subject(out: &mut Vec<u8>, s: &SubjectPart) -> Result<(), Allo
     Ok(())
 }
 
-#[tactic(auto, using(image_form::proofs::Puts::appended), unfolding(image_form::specs::Form::field, image_form::specs::Form::only, image_form::specs::Form::gap, image_form::specs::Form::done, crate::specs::Image::minor))]
+#[tactic(auto, using(binary_form::proofs::Puts::appended), unfolding(binary_form::specs::Form::field, binary_form::specs::Form::only, binary_form::specs::Form::gap, binary_form::specs::Form::done, crate::specs::Image::minor))]
 pub(crate) fn put_minor(out: &mut Vec<u8>, f: &Minor) -> Result<(), AllocError>
     ensures { (o : Outline) (b : FramesBefore) → OnOk result (out.new.items ≡ out.old.items ++ (minor o b).spell f.now) }
 {
@@ -130,7 +130,7 @@ pub(crate) fn put_minor(out: &mut Vec<u8>, f: &Minor) -> Result<(), AllocError>
     Ok(())
 }
 
-#[tactic(auto, using(image_form::proofs::Puts::appended), unfolding(image_form::specs::Form::field, image_form::specs::Form::only, image_form::specs::Form::gap, crate::specs::Image::frames))]
+#[tactic(auto, using(binary_form::proofs::Puts::appended), unfolding(binary_form::specs::Form::field, binary_form::specs::Form::only, binary_form::specs::Form::gap, crate::specs::Image::frames))]
 pub(crate) fn put_frames(out: &mut Vec<u8>, list: &Seq<Minor>) -> Result<(), AllocError>
     requires { (o : Outline) × (c : CpuTicks) × (frames o c).fits list.now }
     ensures { (o : Outline) (c : CpuTicks) → OnOk result (out.new.items ≡ out.old.items ++ (frames o c).spell list.now) }
@@ -141,7 +141,7 @@ pub(crate) fn put_frames(out: &mut Vec<u8>, list: &Seq<Minor>) -> Result<(), All
     Ok(())
 }
 
-#[tactic(auto, using(image_form::proofs::Puts::appended), unfolding(image_form::specs::Form::field, image_form::specs::Form::only, image_form::specs::Form::done, crate::specs::Image::major))]
+#[tactic(auto, using(binary_form::proofs::Puts::appended), unfolding(binary_form::specs::Form::field, binary_form::specs::Form::only, binary_form::specs::Form::done, crate::specs::Image::major))]
 pub(crate) fn put_major(out: &mut Vec<u8>, m: &Major) -> Result<(), AllocError>
     requires { (o : Outline) × (b : ℕ) × (major o b).fits m.now }
     ensures { (o : Outline) (b : ℕ) → OnOk result (out.new.items ≡ out.old.items ++ (major o b).spell m.now) }
@@ -151,7 +151,7 @@ pub(crate) fn put_major(out: &mut Vec<u8>, m: &Major) -> Result<(), AllocError>
     Ok(())
 }
 
-#[tactic(auto, using(image_form::proofs::Puts::appended), unfolding(image_form::specs::Form::field, image_form::specs::Form::only, image_form::specs::Form::done, crate::specs::Image::range))]
+#[tactic(auto, using(binary_form::proofs::Puts::appended), unfolding(binary_form::specs::Form::field, binary_form::specs::Form::only, binary_form::specs::Form::done, crate::specs::Image::range))]
 pub(crate) fn put_range(out: &mut Vec<u8>, r: &PortSpan) -> Result<(), AllocError>
     ensures { (h : Header) (b : ℕ) → OnOk result (out.new.items ≡ out.old.items ++ (range h b).spell r.now) }
 {
@@ -160,7 +160,7 @@ pub(crate) fn put_range(out: &mut Vec<u8>, r: &PortSpan) -> Result<(), AllocErro
     Ok(())
 }
 
-#[tactic(auto, using(image_form::proofs::Puts::appended), unfolding(image_form::specs::Form::field, image_form::specs::Form::only, image_form::specs::Form::done, crate::specs::Image::window))]
+#[tactic(auto, using(binary_form::proofs::Puts::appended), unfolding(binary_form::specs::Form::field, binary_form::specs::Form::only, binary_form::specs::Form::done, crate::specs::Image::window))]
 pub(crate) fn put_window(out: &mut Vec<u8>, w: &WindowPart) -> Result<(), AllocError>
     ensures { (o : Outline) (names : List (List ℕ)) → OnOk result (out.new.items ≡ out.old.items ++ (window o names).spell w.now) }
 {
@@ -168,7 +168,7 @@ pub(crate) fn put_window(out: &mut Vec<u8>, w: &WindowPart) -> Result<(), AllocE
     Ok(())
 }
 
-#[tactic(auto, using(image_form::proofs::Puts::appended), unfolding(image_form::specs::Form::field, image_form::specs::Form::only, image_form::specs::Form::gap, image_form::specs::Form::done, crate::specs::Image::irq))]
+#[tactic(auto, using(binary_form::proofs::Puts::appended), unfolding(binary_form::specs::Form::field, binary_form::specs::Form::only, binary_form::specs::Form::gap, binary_form::specs::Form::done, crate::specs::Image::irq))]
 pub(crate) fn put_irq(out: &mut Vec<u8>, q: &IrqPart) -> Result<(), AllocError>
     ensures { (h : Header) (names : List (List ℕ)) → OnOk result (out.new.items ≡ out.old.items ++ (irq h names).spell q.now) }
 {
@@ -179,7 +179,7 @@ pub(crate) fn put_irq(out: &mut Vec<u8>, q: &IrqPart) -> Result<(), AllocError>
     Ok(())
 }
 
-#[tactic(auto, using(image_form::proofs::Puts::appended), unfolding(image_form::specs::Form::field, image_form::specs::Form::only, image_form::specs::Form::gap, image_form::specs::Form::done, crate::specs::Image::device))]
+#[tactic(auto, using(binary_form::proofs::Puts::appended), unfolding(binary_form::specs::Form::field, binary_form::specs::Form::only, binary_form::specs::Form::gap, binary_form::specs::Form::done, crate::specs::Image::device))]
 pub(crate) fn put_device(out: &mut Vec<u8>, d: &DevicePart) -> Result<(), AllocError>
     requires { (o : Outline) × (names : List (List ℕ)) × (device o names).fits d.now }
     ensures { (o : Outline) (names : List (List ℕ)) → OnOk result (out.new.items ≡ out.old.items ++ (device o names).spell d.now) }
@@ -195,7 +195,7 @@ pub(crate) fn put_device(out: &mut Vec<u8>, d: &DevicePart) -> Result<(), AllocE
     Ok(())
 }
 
-#[tactic(auto, unfolding(image_form::specs::Form::each, crate::specs::Image::content))]
+#[tactic(auto, unfolding(binary_form::specs::Form::each, crate::specs::Image::content))]
 fn put_contents(out: &mut Vec<u8>, spans: &[SpanPart], list: &[Seq<u8>]) -> Result<(), AllocError>
     requires { (each content spans.now).fits list.now }
     ensures { OnOk result (out.new.items ≡ out.old.items ++ (each content spans.now).spell list.now) }
@@ -210,7 +210,7 @@ fn put_contents(out: &mut Vec<u8>, spans: &[SpanPart], list: &[Seq<u8>]) -> Resu
 ///
 /// # Errors
 /// Memory is refused.
-#[tactic(auto, using(image_form::proofs::Puts::appended), unfolding(image_form::specs::Form::field, image_form::specs::Form::done, crate::specs::Image::image))]
+#[tactic(auto, using(binary_form::proofs::Puts::appended), unfolding(binary_form::specs::Form::field, binary_form::specs::Form::done, crate::specs::Image::image))]
 pub(crate) fn put_image(out: &mut Vec<u8>, i: &Image) -> Result<(), AllocError>
     requires { image.fits i.now }
     ensures { OnOk result (out.new.items ≡ out.old.items ++ image.spell i.now) }

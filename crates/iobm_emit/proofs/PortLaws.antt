@@ -6,8 +6,8 @@ use Rattle.std.proofs.lemmas.Bool.Decides.{nat_tests}
 use Rattle.std.proofs.lemmas.List.{take_all}
 use Rattle.std.proofs.lemmas.List.Folds.{list_any_more, list_any-append, list_all-append}
 use Rattle.muen_num.specs.Range.{numbers_below}
-use Rattle.machine_meaning.specs.Exits.{is_set, port_is_set, port_exits}
-use Rattle.page_parts.specs.Bits.{is_between}
+use Rattle.machine_layout.specs.Exits.{is_set, port_is_set, port_exits}
+use Rattle.machine_layout.specs.Bitmaps.{is_between}
 use Rattle.policy_types.specs.declared.resources.PortRange.{PortRange}
 use Rattle.iobm_emit.specs.Ports.{has_port, is_granted, is_granted_access}
 

@@ -1,10 +1,10 @@
 //! I/O bitmaps A and B.
 ghost use Rattle.std.specs.Prelude.{◌≡◌, ℕ, ◌+◌, ◌-◌, ◌<◌, min, not, length};
-ghost use Rattle.machine_meaning.specs.Exits.{is_set, port_exits};
+ghost use Rattle.machine_layout.specs.Exits.{is_set, port_exits};
 ghost use Rattle.iobm_emit.specs.Ports.{is_granted, is_granted_access};
 
 use muen_num::limits::PAGE;
-use page_parts::{clear_bits, set_all};
+use machine_layout::{clear_bits, set_all};
 use policy_types::PortRange;
 
 /// How many ports a bitmap covers, and the first port of bitmap B (Intel SDM volume 3, I/O-bitmap

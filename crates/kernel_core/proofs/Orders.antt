@@ -10,7 +10,7 @@ use Rattle.device_bench.specs.Devices.{inputs_at}
 use Rattle.record_text.specs.declared.record.Input.{Input}
 use Rattle.record_text.specs.declared.record.Record.{Record}
 use Rattle.record_text.specs.declared.record.TickInput.{TickInput}
-use Rattle.tick_run.specs.Run.{all_taken}
+use Rattle.frame_clock.specs.Run.{all_taken}
 use Rattle.vmx_machine.specs.Machine.{MachineState, left}
 use Rattle.kernel_core.specs.Kernel.{Live}
 use Rattle.kernel_core.specs.Ticks.{IsLow, KernelState, all_left, kernel, takes_any, tick_inputs}

@@ -2,19 +2,19 @@
 -- numbers alone; all else is in memory.
 use Rattle.std.specs.Prelude.{ℕ, ◌==◌, Bool, ◌||◌, if◌then◌else◌, List, slice_get, Option, Some, None, is_some, option_and_then}
 use Rattle.muen_num.specs.declared.limits.TheConstants.{EXIT_HLT, EXIT_VMCALL}
-use Rattle.subject_state.specs.declared.SubjectState.{SubjectState}
+use Rattle.state_page.specs.declared.state.SubjectState.{SubjectState}
 use Rattle.image_pack.specs.declared.parts.EventPart.{EventPart}
 use Rattle.image_pack.specs.declared.parts.SubjectPart.{SubjectPart}
-use Rattle.image_plan.specs.Plan.{frames_in}
-use Rattle.image_plan.specs.Slot.{Slot}
-use Rattle.look_up.specs.ByNumber.{change_at}
+use Rattle.frame_clock.specs.Plan.{frames_in}
+use Rattle.frame_clock.specs.Slot.{Slot}
+use Rattle.muen_num.specs.ListChange.{change_at}
 use Rattle.frame_clock.specs.Frames.{slot_in}
 use Rattle.frame_clock.specs.declared.frame_at.FrameAt.{FrameAt}
 use Rattle.event_router.specs.Router.{RouterState, raised, deliverable, taken}
-use Rattle.guest_step.specs.Finish.{finish_of}
-use Rattle.guest_step.specs.declared.end.StepEnd.{StepEnd}
-use Rattle.guest_step.specs.declared.end.StepEnd.TheVariants as ends
-use Rattle.tick_run.specs.Run.{Turned}
+use Rattle.guest_isa.specs.Finish.{finish_of}
+use Rattle.guest_isa.specs.declared.end.StepEnd.{StepEnd}
+use Rattle.guest_isa.specs.declared.end.StepEnd.TheVariants as ends
+use Rattle.frame_clock.specs.Run.{Turned}
 use Rattle.view_text.specs.declared.ExitEnd.{ExitEnd}
 use Rattle.view_text.specs.declared.ExitEnd.TheVariants.{On, Halt, Trap, Stop}
 use Rattle.view_text.specs.declared.TurnLine.{TurnLine}

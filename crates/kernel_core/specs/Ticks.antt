@@ -2,14 +2,14 @@
 use Rattle.std.specs.Prelude.{ℕ, ◌+◌, ◌^◌, ◌<◌, List, [], ◌∷◌, map, length, replicate, slice_get, slice_set, Option, Some, None, option_and_then, unwrap_or}
 use Rattle.std.specs.List.{All}
 use Rattle.muen_num.specs.Range.{numbers_below}
-use Rattle.machine_meaning.specs.Memory.{Page}
+use Rattle.machine_layout.specs.Memory.{Page}
 use Rattle.record_text.specs.declared.record.Input.{Input}
 use Rattle.record_text.specs.declared.record.Input.TheVariants.{Port, Mem, Irq, Idle, Dma}
 use Rattle.record_text.specs.declared.record.Record.{Record}
 use Rattle.device_bench.specs.Devices.{IsInOrder, inputs_at, order_at, no_inputs}
 use Rattle.frame_clock.specs.Frames.{frame_at_tick, ticks_of_majors, first_frame}
 use Rattle.event_router.specs.Router.{started as router_started, pends_now}
-use Rattle.tick_run.specs.Run.{Clocked, Ran, run_to}
+use Rattle.frame_clock.specs.Run.{Clocked, Ran, run_to}
 use Rattle.view_text.specs.declared.TurnLine.{TurnLine}
 use Rattle.vmx_machine.specs.Machine.{MachineState, page_at, started as machine_started, left, device_wrote}
 use Rattle.kernel_core.specs.Kernel.{Live, turn_of}

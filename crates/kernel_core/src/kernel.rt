@@ -1,7 +1,7 @@
 //! The kernel and its turns.
 ghost use Rattle.std.specs.Prelude.{◌≡◌, ◌<◌, length, slice_get, option_map, None, Some, IfOk};
 ghost use Rattle.image_pack.specs.declared.parts.SubjectPart.{SubjectPart};
-ghost use Rattle.look_up.specs.ByNumber.{change_at};
+ghost use Rattle.muen_num.specs.ListChange.{change_at};
 ghost use Rattle.event_router.specs.Router.{deliverable, taken};
 ghost use Rattle.vmx_machine.specs.Machine.{entered, left, state_on};
 ghost use Rattle.kernel_core.specs.Kernel.{turn_of, turn_in_slot, turn_of_member, turn_of_subject, switched, goes_on, acts_on, acts, delivers, injects, goes_further, handled, exit_handled, raised_by, event_of, vector_for};
@@ -15,14 +15,14 @@ use device_bench::Bench;
 use ept_walk::Translate;
 use event_router::Router;
 use frame_clock::{FrameAt, slot};
-use guest_step::{Finish, StepEnd};
+use guest_isa::{Finish, StepEnd};
 use image_pack::{EventPart, SubjectPart};
 use muen_num::{Name, NoMemory};
 use phys_mem::PhysMem;
 use record_text::Record;
 use std::alloc::Global;
 use std::marker::Model;
-use subject_state::SubjectState;
+use state_page::SubjectState;
 use view_text::{TurnAction, TurnLine};
 use vmx_machine::{Control, Machine};
 

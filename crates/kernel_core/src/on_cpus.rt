@@ -1,6 +1,6 @@
 //! Which subject is on which CPU, by numbers.
 ghost use Rattle.std.specs.Prelude.{◌≡◌, ◌<◌, List, ℕ, length, replicate, slice_get, Option, None, Some, IfOk};
-ghost use Rattle.look_up.specs.ByNumber.{change_at};
+ghost use Rattle.muen_num.specs.ListChange.{change_at};
 
 use muen_num::NoMemory;
 use std::alloc::Global;
@@ -20,7 +20,7 @@ pub(crate) fn on_cpu(on: &[Option<u8>], cpu: usize) -> Option<Option<u8>>
 }
 
 /// A subject goes onto a CPU.
-#[tactic(auto, using(look_up::proofs::ChangeLaws::set_is))]
+#[tactic(auto, using(muen_num::proofs::ChangeLaws::set_is))]
 pub(crate) fn put_on(on: &mut [Option<u8>], cpu: usize, subject: u8)
     requires { cpu < length on.old }
     ensures { on.new ≡ change_at cpu (λ _. Some subject) on.old }

@@ -1,6 +1,6 @@
 //! What a kernel is told of its system.
 use image_pack::SubjectPart;
-use image_plan::Plan;
+use frame_clock::Plan;
 use muen_num::Seq;
 use vmx_machine::Control;
 

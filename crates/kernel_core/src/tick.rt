@@ -2,7 +2,7 @@
 ghost use Rattle.std.specs.Prelude.{◌≡◌, ◌+◌, ◌*◌, ◌<◌, ◌≤◌, ◌^◌, None, length, replicate, map, slice_get, option_map};
 ghost use Rattle.muen_num.specs.Range.{numbers_below};
 ghost use Rattle.device_bench.specs.Devices.{order_at};
-ghost use Rattle.tick_run.specs.Run.{all_taken, begun};
+ghost use Rattle.frame_clock.specs.Run.{all_taken, begun};
 ghost use Rattle.state_page.specs.StatePage.{state_in};
 ghost use Rattle.vmx_machine.specs.Machine.{page_at};
 ghost use Rattle.kernel_core.specs.Ticks.{all_left, begins, ended, kernel, pick_of, takes_any, tick_inputs, tick_order};
@@ -13,7 +13,7 @@ use frame_clock::advance;
 use muen_num::limits::PAGE;
 use phys_mem::PhysMem;
 use record_text::{Input, TickInput};
-use subject_state::SubjectState;
+use state_page::SubjectState;
 use vmx_machine::Machine;
 
 // The first byte of a page, by its number.

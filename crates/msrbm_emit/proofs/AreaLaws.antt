@@ -4,10 +4,10 @@ use Rattle.std.proofs.lemmas.List.{take_more, map-append, length-map, take_all}
 use Rattle.std.proofs.lemmas.Grind.{flat_map-append}
 use Rattle.std.proofs.lemmas.List.Sums.{sum_by-cons, sum_by_more, sum_by_more_le}
 use Rattle.muen_num.specs.Range.{numbers_below}
-use Rattle.machine_meaning.specs.Exits.{AreaEntry, area_bytes, entry_bytes, entry_size}
-use Rattle.machine_meaning.specs.Memory.{le_bytes, over}
-use Rattle.page_parts.specs.Fields.{padded}
-use Rattle.page_parts.proofs.FieldLaws.{over_padded, length-le_bytes}
+use Rattle.machine_layout.specs.Exits.{AreaEntry, area_bytes, entry_bytes, entry_size}
+use Rattle.machine_layout.specs.Memory.{le_bytes, over}
+use Rattle.machine_layout.specs.PageFields.{padded}
+use Rattle.machine_layout.proofs.PageFieldLaws.{over_padded, length-le_bytes}
 use Rattle.policy_types.specs.declared.resources.MsrGrant.{MsrGrant}
 use Rattle.msrbm_emit.specs.Area.{area_of, count_of, entries_of, entry_of, size_of}
 

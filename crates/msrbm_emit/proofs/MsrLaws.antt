@@ -3,8 +3,8 @@ use Rattle.std.proofs.Common.{◌≡◌, ◌∙◌, ap, sym, refl, ℕ, ◌+◌,
 use Rattle.std.proofs.lemmas.Bool.Decides.{nat_tests}
 use Rattle.std.proofs.lemmas.List.Folds.{list_any_more}
 use Rattle.muen_num.specs.declared.limits.TheConstants.{LOW_MSR_LAST, HIGH_MSR_FIRST, HIGH_MSR_LAST}
-use Rattle.machine_meaning.specs.Exits.{is_set, low_part, high_part, msr_bit, exits_by, msr_exits}
-use Rattle.page_parts.specs.Bits.{is_between}
+use Rattle.machine_layout.specs.Exits.{is_set, low_part, high_part, msr_bit, exits_by, msr_exits}
+use Rattle.machine_layout.specs.Bitmaps.{is_between}
 use Rattle.policy_types.specs.declared.resources.MsrGrant.{MsrGrant}
 use Rattle.msrbm_emit.specs.Msrs.{has_msr, allows, is_covered, is_granted}
 

@@ -1,7 +1,7 @@
 -- The area of the MSRs that are granted.
 use Rattle.std.specs.Prelude.{ℕ, ◌+◌, ◌-◌, List, map, flat_map, sum_by}
 use Rattle.muen_num.specs.Range.{numbers_below}
-use Rattle.machine_meaning.specs.Exits.{AreaEntry}
+use Rattle.machine_layout.specs.Exits.{AreaEntry}
 use Rattle.policy_types.specs.declared.resources.MsrGrant.{MsrGrant}
 
 -- an MSR with the value 0

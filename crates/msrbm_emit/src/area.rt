@@ -1,11 +1,11 @@
 //! The area of MSRs.
 ghost use Rattle.std.specs.Prelude.{◌≡◌, ℕ, ◌+◌, ◌-◌, ◌*◌, ◌≤◌, List, ◌++◌, length};
-ghost use Rattle.machine_meaning.specs.Exits.{area_bytes, entry_bytes, entry_size};
-ghost use Rattle.page_parts.specs.Fields.{padded};
+ghost use Rattle.machine_layout.specs.Exits.{area_bytes, entry_bytes, entry_size};
+ghost use Rattle.machine_layout.specs.PageFields.{padded};
 ghost use Rattle.msrbm_emit.specs.Area.{area_of, count_of, entries_of, entry_of, size_of};
 
 use muen_num::limits::{MOST_MSRS, PAGE};
-use page_parts::{clear_all, put_word};
+use machine_layout::{clear_all, put_word};
 use policy_types::MsrGrant;
 
 /// The bytes of an entry (Intel SDM volume 3, format of an MSR entry).

@@ -9,7 +9,7 @@ use Rattle.expand_kernel.specs.Regions.{regions_of}
 use Rattle.expand_kernel.specs.declared.region.Region.{Region}
 use Rattle.image_emit.specs.Gathered.{AreReadable}
 use Rattle.image_emit.specs.Made.{IsFilled, thing_bytes}
-use Rattle.image_meaning.specs.Sound.{IsSound}
+use Rattle.image_soundness.specs.Sound.{IsSound}
 use Rattle.image_pack.specs.declared.parts.Image.{Image}
 use Rattle.muen_outside.specs.Store.{Store}
 use Rattle.policy_lawful.specs.Resolution.{IsResolved, Resolution, source_of}

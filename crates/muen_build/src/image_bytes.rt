@@ -1,7 +1,7 @@
 //! The image of a document's policy.
 ghost use Rattle.std.specs.Prelude.{◌≡◌, IfErr, IfOk, Ok, [], ◌∷◌};
 ghost use Rattle.image_emit.specs.Built.{HasGreatestPages, HasOnePathPerTable, HasPlacement};
-ghost use Rattle.image_meaning.specs.Sound.{ForEachSubject, IsSound};
+ghost use Rattle.image_soundness.specs.Sound.{ForEachSubject, IsSound};
 ghost use Rattle.muen_build.specs.Accepting.{Accepts, FailsWith, RefusesDocument, looks_of};
 ghost use Rattle.muen_build.specs.Building.{Builds, IsImageFor};
 ghost use Rattle.muen_build.specs.Looks.{Follows, ShowAll, document_look};

@@ -9,3 +9,4 @@ pub mod NumbersBelow
 pub mod Room
 pub mod SameAnswers
 pub mod SearchLaws
+pub mod ChangeLaws

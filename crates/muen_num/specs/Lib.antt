@@ -10,3 +10,5 @@ pub mod Range
 pub mod Search
 pub mod AccessSize
 pub mod Tag
+pub mod ListChange
+pub mod ListChangeLaws

@@ -1,5 +1,6 @@
 //! What every other crate stands on: names, lists that contracts see as their items, the limits,
-//! sizes of access, searches in order, and texts in pieces and in fixed buffers.
+//! sizes of access, searches in order, lists of which one element is changed, and texts in pieces and
+//! in fixed buffers.
 #![tactic(auto)]
 
 pub mod access;
@@ -11,6 +12,7 @@ pub mod searches;
 pub mod seq;
 pub mod tag;
 pub mod text;
+pub mod list_change;
 
 pub use access::{AccessKind, AccessSize};
 pub use mode::EventMode;
@@ -19,3 +21,4 @@ pub use pieces::Pieces;
 pub use searches::{first, first_numbered, first_pair};
 pub use seq::{NoMemory, Seq};
 pub use tag::{Tag, TagPart};
+pub use list_change::a_change_is_found;

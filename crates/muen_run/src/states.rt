@@ -11,7 +11,7 @@ use kernel_core::Kernel;
 use muen_num::Name;
 use muen_outside::{Buffer, PrintedLine, Sink, SinkFault, put_lines};
 use phys_mem::PhysMem;
-use subject_state::SubjectState;
+use state_page::SubjectState;
 use view_text::state_line;
 
 // A row of a subject's final state.

@@ -1,13 +1,13 @@
 -- What `boot` answers, as its files are read.
 use Rattle.std.proofs.Common.{◌≡◌, inl, inr, ℕ, List, [], ◌∷◌, Result, Ok, Err, IfErr, IfOk, refl, sym, ap, subst, ◌∙◌, arith}
 use Rattle.std.specs.FinMap.{get}
-use Rattle.image_form.specs.Faults.{Tells}
-use Rattle.image_form.specs.Form.{IsBytes}
-use Rattle.image_form.specs.declared.fault.ImageFault.{ImageFault}
-use Rattle.image_form.specs.declared.fault.ImageFault.TheVariants.{Short, Bad, Trailing, NoMemory as NoMemoryForImage}
+use Rattle.binary_form.specs.Faults.{Tells}
+use Rattle.binary_form.specs.Form.{IsBytes}
+use Rattle.binary_form.specs.declared.fault.ImageFault.{ImageFault}
+use Rattle.binary_form.specs.declared.fault.ImageFault.TheVariants.{Short, Bad, Trailing, NoMemory as NoMemoryForImage}
 use Rattle.image_load.specs.Resolving.{image_bench, image_record}
-use Rattle.image_meaning.specs.Bench.{devices_of}
-use Rattle.image_meaning.specs.Sound.{IsSound}
+use Rattle.image_soundness.specs.Bench.{devices_of}
+use Rattle.image_soundness.specs.Sound.{IsSound}
 use Rattle.image_pack.specs.Parts.{IsImage}
 use Rattle.image_pack.specs.declared.parts.Image.{Image}
 use Rattle.muen_build.specs.Accepting.{Accepts, FailsWith, Files, Grows, RefusedFor, RefusesDocument, looks_of}
@@ -31,7 +31,7 @@ use Rattle.record_text.specs.declared.fault.RecordFault.{RecordFault}
 use Rattle.record_text.specs.declared.fault.RecordFault.TheVariants.{NoMemory as NoMemoryForRecord}
 use Rattle.record_text.specs.declared.record.Record.{Record}
 use Rattle.record_text.proofs.Mapped.{mapped_err, mapped_ok}
-use Rattle.sound_runs.proofs.ImageRuns.{image_bench_is, image_runs}
+use Rattle.proof_runs.proofs.ImageRuns.{image_bench_is, image_runs}
 use Rattle.muen_top.specs.Answers.{Answer, prints, stops, missing, too_long, record_refused, of_file, policy_answer, trace_answer, boot_answer}
 use Rattle.muen_top.specs.Commands.{boot}
 use Rattle.muen_top.specs.FilesSeen.{SawAfter, ShownAfter}

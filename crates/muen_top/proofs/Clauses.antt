@@ -1,8 +1,8 @@
 -- The clauses of a whole call, from what came of its command.
 use Rattle.std.proofs.Common.{◌≡◌, inl, inr, ◌⊎◌, ◌≢◌, ℕ, List, Option, Some, None, IfSome, Result, Ok, Err, refl, sym, ap, subst, ◌∙◌, arith}
 use Rattle.std.specs.FinMap.{get}
-use Rattle.image_form.specs.Faults.{unpacked}
-use Rattle.image_form.specs.declared.fault.ImageFault.{ImageFault}
+use Rattle.binary_form.specs.Faults.{unpacked}
+use Rattle.binary_form.specs.declared.fault.ImageFault.{ImageFault}
 use Rattle.image_load.specs.Resolving.{image_bench}
 use Rattle.image_pack.specs.Image.{image as image_form}
 use Rattle.image_pack.specs.declared.parts.Image.{Image}
@@ -15,7 +15,7 @@ use Rattle.policy_types.specs.declared.refusal.Refusal.{Refusal}
 use Rattle.policy_types.specs.declared.refusal.Refusal.TheVariants.{NotJson, Shape, Rule, Missing as MissingFile, TooLong as TooLongFile, FileFit, NoRoom, NoMemory as NoMemoryFor}
 use Rattle.record_text.specs.DeviceRecord.{DeviceRecord}
 use Rattle.record_text.specs.Reading.{record_of}
-use Rattle.image_meaning.specs.Bench.{devices_of}
+use Rattle.image_soundness.specs.Bench.{devices_of}
 use Rattle.muen_build.specs.Refusals.{accepted_policy_of, laid_policy_of, lawful_policy_of}
 use Rattle.record_text.specs.declared.fault.RecordFault.{RecordFault}
 use Rattle.muen_top.specs.Answers.{Reason, usage, missing, too_long, refused, image_refused, record_refused, Answer, prints, writes, stops, of_file, image_answer, build_answer, trace_answer, policy_answer, boot_answer, named_answer, unpacked_answer, run_answer, map_answer, map_policy_answer, flows_answer, flows_policy_answer, answer_of}

@@ -1,7 +1,7 @@
 -- What `build` answers, as its files are read, and what it leaves of them.
 use Rattle.std.proofs.Common.{◌≡◌, inl, inr, ℕ, List, [], ◌∷◌, Option, Some, None, Result, Ok, Err, refl, sym, ap, subst, ◌∙◌, arith}
 use Rattle.std.specs.FinMap.{get}
-use Rattle.image_form.specs.Form.{IsBytes}
+use Rattle.binary_form.specs.Form.{IsBytes}
 use Rattle.muen_num.specs.declared.limits.TheConstants.{POLICY_MOST}
 use Rattle.muen_build.specs.Accepting.{FailsWith, RefusedFor, RefusesDocument}
 use Rattle.muen_build.specs.Building.{Builds}

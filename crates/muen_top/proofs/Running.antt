@@ -1,9 +1,9 @@
 -- What `run` answers, as its files are read.
 use Rattle.std.proofs.Common.{◌≡◌, inl, inr, ℕ, List, [], ◌∷◌, Result, Ok, Err, refl, sym, ap, subst, ◌∙◌, arith}
 use Rattle.std.specs.FinMap.{get}
-use Rattle.image_form.specs.Faults.{Tells, unpacked}
-use Rattle.image_form.specs.declared.fault.ImageFault.{ImageFault}
-use Rattle.image_form.specs.declared.fault.ImageFault.TheVariants.{Short, Bad, Trailing, NoMemory as NoMemoryForImage}
+use Rattle.binary_form.specs.Faults.{Tells, unpacked}
+use Rattle.binary_form.specs.declared.fault.ImageFault.{ImageFault}
+use Rattle.binary_form.specs.declared.fault.ImageFault.TheVariants.{Short, Bad, Trailing, NoMemory as NoMemoryForImage}
 use Rattle.image_load.specs.Resolving.{image_bench, image_record}
 use Rattle.image_pack.specs.Image.{image as image_form}
 use Rattle.image_pack.specs.declared.parts.Image.{Image}

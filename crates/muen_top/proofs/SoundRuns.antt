@@ -1,9 +1,9 @@
 -- What the program answers where files hold a policy, or an image that is sound for one, and a record of its devices.
 use Rattle.std.proofs.Common.{◌≡◌, ℕ, List, Some, ap, ◌∙◌}
-use Rattle.image_form.specs.Faults.{unpacked}
-use Rattle.image_form.proofs.Theorem.{back}
+use Rattle.binary_form.specs.Faults.{unpacked}
+use Rattle.binary_form.proofs.Theorem.{back}
 use Rattle.image_load.specs.Resolving.{image_bench}
-use Rattle.image_meaning.specs.Bench.{devices_of}
+use Rattle.image_soundness.specs.Bench.{devices_of}
 use Rattle.image_pack.specs.Image.{image as image_form}
 use Rattle.image_pack.proofs.ImageLaws.{image_laws}
 use Rattle.muen_build.specs.Refusals.{accepted_policy_of}
@@ -12,7 +12,7 @@ use Rattle.policy_meaning.specs.Contents.{Held}
 use Rattle.policy_types.specs.declared.source.Source.{Source}
 use Rattle.record_text.specs.DeviceRecord.{DeviceRecord}
 use Rattle.record_text.specs.Reading.{record_of}
-use Rattle.sound_runs.proofs.ImageRuns.{image_bench_is, image_runs}
+use Rattle.proof_runs.proofs.ImageRuns.{image_bench_is, image_runs}
 use Rattle.subject_model.specs.Trace.{trace_of}
 use Rattle.muen_top.specs.Answers.{answer_of, boot_answer, named_answer, of_file, policy_answer, prints, run_answer, trace_answer, unpacked_answer}
 use Rattle.muen_top.specs.Commands.{boot, run}

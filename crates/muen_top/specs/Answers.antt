@@ -2,7 +2,7 @@
 use Rattle.std.specs.Prelude.{ℕ, List, Option, Some, None, Result, Ok, Err}
 use Rattle.std.specs.FinMap.{get}
 use Rattle.flow_report.specs.FlowText.{flow_text_of}
-use Rattle.image_form.specs.Faults.{unpacked}
+use Rattle.binary_form.specs.Faults.{unpacked}
 use Rattle.image_load.specs.Resolving.{image_bench, image_record}
 use Rattle.image_pack.specs.Image.{image as image_form}
 use Rattle.image_pack.specs.declared.parts.Image.{Image}
@@ -17,9 +17,9 @@ use Rattle.subject_model.specs.Trace.{trace_of}
 use Rattle.muen_run.specs.RunText.{image_text}
 use Rattle.muen_top.specs.Commands.{Command, build, boot, run, map, flows}
 use Rattle.record_text.specs.Reading.{record_of}
-use Rattle.image_meaning.specs.Bench.{devices_of}
+use Rattle.image_soundness.specs.Bench.{devices_of}
 use Rattle.muen_build.specs.Refusals.{accepted_policy_of, laid_policy_of, lawful_policy_of}
-use Rattle.image_form.specs.declared.fault.ImageFault.{ImageFault}
+use Rattle.binary_form.specs.declared.fault.ImageFault.{ImageFault}
 use Rattle.record_text.specs.declared.fault.RecordFault.{RecordFault}
 
 -- why a command prints and writes nothing

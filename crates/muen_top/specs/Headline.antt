@@ -1,9 +1,9 @@
 -- What the headline speaks of: what a store holds, and how a call ends that prints a text.
 use Rattle.std.specs.Prelude.{◌≡◌, ◌⊎◌, ℕ, List, Ok}
 use Rattle.std.specs.FinMap.{get}
-use Rattle.image_form.specs.Form.{IsBytes}
-use Rattle.image_meaning.specs.Bench.{devices_of}
-use Rattle.image_meaning.specs.Sound.{IsSound}
+use Rattle.binary_form.specs.Form.{IsBytes}
+use Rattle.image_soundness.specs.Bench.{devices_of}
+use Rattle.image_soundness.specs.Sound.{IsSound}
 use Rattle.image_pack.specs.Parts.{IsImage}
 use Rattle.image_pack.specs.declared.parts.Image.{Image}
 use Rattle.muen_build.specs.Building.{IsImageFor}

@@ -1,7 +1,7 @@
 -- What reading a command's files comes to.
 use Rattle.std.specs.Prelude.{◌≡◌, ℕ, List, [], ◌∷◌, Some, Result, Ok, Err}
-use Rattle.image_form.specs.Form.{IsBytes}
-use Rattle.image_meaning.specs.Sound.{IsSound}
+use Rattle.binary_form.specs.Form.{IsBytes}
+use Rattle.image_soundness.specs.Sound.{IsSound}
 use Rattle.image_pack.specs.Parts.{IsImage}
 use Rattle.image_pack.specs.declared.parts.Image.{Image}
 use Rattle.muen_build.specs.Accepting.{Accepts, FailsWith, Files, Grows, RefusesDocument, looks_of}

@@ -2,7 +2,7 @@
 use Rattle.std.specs.Prelude.{◌≡◌, ℕ, List, ◌++◌, ◌⊎◌, codes, decimal}
 use Rattle.muen_outside.specs.States.{SinkState}
 use Rattle.muen_outside.specs.Puts.{Appended, Failed}
-use Rattle.image_form.specs.FaultText.{image_fault_text}
+use Rattle.binary_form.specs.FaultText.{image_fault_text}
 use Rattle.policy_types.specs.Refusals.{refusal_text}
 use Rattle.policy_types.specs.declared.refusal.Refusal.{Refusal}
 use Rattle.policy_types.specs.declared.refusal.Refusal.TheVariants.{NotJson, Shape, Rule, Missing as MissingFile, TooLong as TooLongFile, FileFit, NoRoom, NoMemory as NoMemoryFor}

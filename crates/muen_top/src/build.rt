@@ -1,6 +1,6 @@
 // The command `build`: a policy is read, and its image is written.
 ghost use Rattle.std.specs.Prelude.{ℕ, List, Some, IfOk, IfErr};
-ghost use Rattle.image_form.specs.Form.{IsBytes};
+ghost use Rattle.binary_form.specs.Form.{IsBytes};
 ghost use Rattle.muen_outside.specs.States.{SinkState};
 ghost use Rattle.muen_build.specs.Looks.{Follows};
 ghost use Rattle.muen_top.specs.Calls.{Came};

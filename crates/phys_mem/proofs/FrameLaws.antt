@@ -1,7 +1,7 @@
 -- What a tape of frames has at a number, by the number's first index.
 use Rattle.std.proofs.Common.{◌≡◌, ◌≢◌, ℕ, zero, suc, ◌+◌, ◌/◌, ◌<◌, ◌≤◌, true, false, eqb, List, [], ◌∷◌, ◌++◌, length, take, drop, get_or, set, Some, None, refl, sym, ap, ◌∙◌, append_assoc, arith}
 use Rattle.std.proofs.lemmas.Bool.Decides.{nat_tests}
-use Rattle.machine_meaning.specs.Memory.{Page, page_of, change}
+use Rattle.machine_layout.specs.Memory.{Page, page_of, change}
 use Rattle.phys_mem.specs.Frames.{pages_by, NoneBelow, IsFirst}
 use Rattle.phys_mem.specs.Frames.{pages_in}
 use Rattle.std.proofs.lemmas.List.{length-drop}

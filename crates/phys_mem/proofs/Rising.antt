@@ -3,7 +3,7 @@ use Rattle.std.proofs.Common.{◌≡◌, inl, inr, ℕ, zero, suc, ◌+◌, ◌*
 use Rattle.std.proofs.lemmas.List.{append-nil}
 use Rattle.std.proofs.lemmas.Bool.{cases_lt}
 use Rattle.std.proofs.lemmas.List.Elements.{All-cons, All-nil}
-use Rattle.machine_meaning.specs.Memory.{Page}
+use Rattle.machine_layout.specs.Memory.{Page}
 use Rattle.phys_mem.specs.Frames.{pages_by, pages_in, IsRising, NoneBelow, IsFirst}
 use Rattle.phys_mem.specs.Spans.{AreApart, AreSpans, IsSpan, end_of, pages_of_spans}
 use Rattle.phys_mem.specs.declared.spans.MemorySpan.{MemorySpan}

@@ -1,6 +1,6 @@
 use Rattle.std.proofs.Common.{◌≡◌, ℕ, zero, suc, ◌+◌, ◌-◌, ◌*◌, ◌/◌, ◌%◌, ◌^◌, ◌<◌, ◌≤◌, List, [], ◌∷◌, ◌++◌, length, get_or, take, drop, set, Fits, w8, arith}
 use Rattle.std.proofs.lemmas.Grind.{common_steps}
-use Rattle.machine_meaning.specs.Memory.{le_number, le_bytes}
+use Rattle.machine_layout.specs.Memory.{le_number, le_bytes}
 
 -- how many numbers n bytes spell
 abbrev worth : ℕ → ℕ

@@ -1,6 +1,6 @@
 -- Where a page is kept.
 use Rattle.std.specs.Prelude.{◌≡◌, ℕ, ◌<◌, List, [], length, slice_index_or, slice_set, Some, None}
-use Rattle.machine_meaning.specs.Memory.{Page, page_of, change}
+use Rattle.machine_layout.specs.Memory.{Page, page_of, change}
 use Rattle.phys_mem.specs.Frames.{pages_by}
 use Rattle.phys_mem.specs.declared.region_mem.RegionMem.{RegionMem}
 

@@ -1,6 +1,6 @@
 -- Pages by their numbers and their bytes, in two lists side by side.
 use Rattle.std.specs.Prelude.{◌≡◌, ◌≢◌, ℕ, zero, suc, ◌+◌, ◌<◌, List, [], ◌∷◌, length, slice_index, take, drop}
-use Rattle.machine_meaning.specs.Memory.{Page}
+use Rattle.machine_layout.specs.Memory.{Page}
 
 abbrev pub pages_by : List ℕ → List (List ℕ) → List Page
 pages_by (n ∷ ns) (f ∷ fs) = record { number = n; bytes = f } ∷ pages_by ns fs

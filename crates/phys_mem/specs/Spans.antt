@@ -1,7 +1,7 @@
 -- Spans of memory, and the pages that they have.
 use Rattle.std.specs.Prelude.{◌≡◌, ℕ, ◌+◌, ◌/◌, ◌%◌, ◌^◌, ◌<◌, ◌≤◌, List, [], ◌∷◌, ◌++◌, length, slice_index_or}
 use Rattle.std.specs.List.{All}
-use Rattle.machine_meaning.specs.Memory.{Page}
+use Rattle.machine_layout.specs.Memory.{Page}
 use Rattle.phys_mem.specs.Frames.{pages_in}
 use Rattle.phys_mem.specs.declared.spans.MemorySpan.{MemorySpan}
 

@@ -1,6 +1,6 @@
 //! Numbers as bytes, the lowest byte first.
 ghost use Rattle.std.specs.Prelude.{◌≡◌, ◌≤◌, length};
-ghost use Rattle.machine_meaning.specs.Memory.{le_number, le_bytes};
+ghost use Rattle.machine_layout.specs.Memory.{le_number, le_bytes};
 
 /// How many numbers a byte stands for.
 const BYTE_VALUES: u64 = 256;

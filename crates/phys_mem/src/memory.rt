@@ -2,7 +2,7 @@
 ghost use Rattle.std.specs.Prelude.{◌≡◌, ◌/◌, ◌%◌, List, OnSome, option_map};
 ghost use Rattle.std.specs.Borrow.{sem, LendsSo, Array, u8 as byte};
 ghost use Rattle.muen_num.specs.AccessSize.{bytes_of};
-ghost use Rattle.machine_meaning.specs.Memory.{Page, page_of, is_there, change, load_of, store_of};
+ghost use Rattle.machine_layout.specs.Memory.{Page, page_of, is_there, change, load_of, store_of};
 
 use muen_num::AccessSize;
 

@@ -1,7 +1,7 @@
 -- The plan of a resolved policy that keeps the rules is the policy's.
 use Rattle.std.proofs.Common.{◌≡◌, true, sym, subst}
 use Rattle.std.specs.List.{list_all}
-use Rattle.image_plan.specs.declared.plan.Plan.{Plan}
+use Rattle.frame_clock.specs.declared.plan.Plan.{Plan}
 use Rattle.policy_lawful.specs.Lawful.{IsLawful}
 use Rattle.policy_lawful.specs.Resolution.{IsResolved, Resolution, source_of}
 use Rattle.plan_emit.specs.Emitted.{emitted, fits_group, fits_major}

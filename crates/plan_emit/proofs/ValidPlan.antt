@@ -9,9 +9,9 @@ use Rattle.std.proofs.lemmas.List.Folds.{list_all-map}
 use Rattle.std.proofs.lemmas.Option.{slice_get-map}
 use Rattle.muen_num.specs.declared.limits.TheConstants.{MOST_CPUS, MOST_MAJOR_FRAMES, MOST_MINOR_FRAMES, MOST_TICKS}
 use Rattle.muen_num.specs.Range.{numbers_below}
-use Rattle.image_plan.specs.Plan.{cpus_of, is_cpu, is_group_on, is_major, is_minor, is_plan}
-use Rattle.image_plan.specs.declared.plan.GroupPart.{GroupPart}
-use Rattle.image_plan.specs.declared.plan.Minor.{Minor}
+use Rattle.frame_clock.specs.Plan.{cpus_of, is_cpu, is_group_on, is_major, is_minor, is_plan}
+use Rattle.frame_clock.specs.declared.plan.GroupPart.{GroupPart}
+use Rattle.frame_clock.specs.declared.plan.Minor.{Minor}
 use Rattle.policy_lawful.specs.Resolution.{Resolution, cpu_named, major_named, major_in_range, name_at, source_of}
 use Rattle.policy_lawful.specs.Rules.{group_cpu, is_frame, is_on, repeated}
 use Rattle.policy_lawful.specs.Rules as rules

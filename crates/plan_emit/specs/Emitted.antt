@@ -3,10 +3,10 @@ use Rattle.std.specs.Prelude.{ℕ, ◌^◌, ◌==◌, ◌&&◌, Bool, List, [], 
 use Rattle.std.specs.Option.{option_map_or}
 use Rattle.std.specs.List.{find, list_all}
 use Rattle.muen_num.specs.Range.{numbers_below}
-use Rattle.image_plan.specs.declared.plan.GroupPart.{GroupPart}
-use Rattle.image_plan.specs.declared.plan.Minor.{Minor}
-use Rattle.image_plan.specs.declared.plan.Major.{Major}
-use Rattle.image_plan.specs.declared.plan.Plan.{Plan}
+use Rattle.frame_clock.specs.declared.plan.GroupPart.{GroupPart}
+use Rattle.frame_clock.specs.declared.plan.Minor.{Minor}
+use Rattle.frame_clock.specs.declared.plan.Major.{Major}
+use Rattle.frame_clock.specs.declared.plan.Plan.{Plan}
 use Rattle.policy_lawful.specs.ByIndex.{ticks_in}
 use Rattle.policy_lawful.specs.Resolution.{Resolution}
 use Rattle.policy_lawful.specs.declared.resolved.Group.{Group}

@@ -1,8 +1,8 @@
 -- The scheduling plan of a policy, by numbers (this project's own format, after Muen's scheduling plans).
 use Rattle.std.specs.Prelude.{◌≡◌, ◌<◌, ℕ, true, [], length, map, slice_index_or, nat_lt}
 use Rattle.std.specs.List.{list_all}
-use Rattle.image_plan.specs.Plan.{cpus_of, frames_in, is_plan}
-use Rattle.image_plan.specs.declared.plan.Plan.{Plan}
+use Rattle.frame_clock.specs.Plan.{cpus_of, frames_in, is_plan}
+use Rattle.frame_clock.specs.declared.plan.Plan.{Plan}
 use Rattle.policy_meaning.specs.Frames.{first_member, frames_of}
 use Rattle.policy_types.specs.declared.source.Source.{Source}
 

@@ -7,7 +7,7 @@ ghost use Rattle.plan_emit.specs.PlanOf.{IsPlanOf};
 
 use crate::frames::major_parts;
 use crate::groups::group_parts;
-use image_plan::Plan;
+use frame_clock::Plan;
 use muen_num::NoMemory;
 use policy_lawful::Lawful;
 use policy_lawful::resolved::{Group, MajorFrame};

@@ -4,7 +4,7 @@ ghost use Rattle.std.specs.List.{find, list_all};
 ghost use Rattle.muen_num.specs.Range.{numbers_below};
 ghost use Rattle.plan_emit.specs.Emitted.{minor_part, cpu_part, first_ticks, major_part, fits_minor, fits_entry, fits_major};
 
-use image_plan::{Major, Minor};
+use frame_clock::{Major, Minor};
 use muen_num::{NoMemory, Seq};
 use policy_lawful::resolved::{CpuFrames, MajorFrame, MinorFrame};
 use std::alloc::Global;

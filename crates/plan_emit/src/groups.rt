@@ -3,7 +3,7 @@ ghost use Rattle.std.specs.Prelude.{◌≡◌, true, map, IfOk};
 ghost use Rattle.std.specs.List.{list_all};
 ghost use Rattle.plan_emit.specs.Emitted.{group_part, fits_group};
 
-use image_plan::GroupPart;
+use frame_clock::GroupPart;
 use muen_num::{NoMemory, Seq};
 use policy_lawful::resolved::Group;
 use std::alloc::Global;

@@ -10,10 +10,10 @@ use Rattle.muen_num.specs.Search.{first_pair}
 use Rattle.muen_num.proofs.FirstPair.{first_pair-append}
 use Rattle.muen_num.proofs.Lists.{list_any-map}
 use Rattle.muen_num.proofs.SearchLaws.{none_both}
-use Rattle.policy_extents.specs.Inside.{holds}
-use Rattle.policy_extents.specs.Inside as inside
-use Rattle.policy_extents.specs.AddressRange.{range_of}
-use Rattle.policy_extents.proofs.OwnThenPairs.{breaks_at_first, first_fault_is}
+use Rattle.rules_extents.specs.Inside.{holds}
+use Rattle.rules_extents.specs.Inside as inside
+use Rattle.rules_extents.specs.AddressRange.{range_of}
+use Rattle.rules_extents.proofs.OwnThenPairs.{breaks_at_first, first_fault_is}
 use Rattle.policy_lawful.specs.ByIndex.{block_extent}
 use Rattle.policy_lawful.specs.MoreRules.{is_inside, offence_19}
 use Rattle.policy_lawful.specs.Offences.{alone}

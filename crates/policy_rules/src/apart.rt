@@ -9,7 +9,7 @@ ghost use Rattle.policy_rules.specs.Windows.{device_extent, device_extents, outs
 
 use crate::windows::extents;
 use muen_num::NoMemory;
-use policy_extents::first_overlap;
+use rules_extents::first_overlap;
 use policy_lawful::resolved::{Resolved, Subject};
 use policy_lawful::{Extent, Offence};
 use policy_types::source::{Block, Device, DeviceMemory};

@@ -7,7 +7,7 @@ ghost use Rattle.policy_rules.specs.Fixed.{block_extents, fixed_extents};
 
 use crate::apart::block_extents;
 use muen_num::NoMemory;
-use policy_extents::{count_inside, first_fault};
+use rules_extents::{count_inside, first_fault};
 use policy_lawful::{Extent, Offence, Resolved};
 use policy_types::source::Region;
 use std::alloc::{AllocError, Global};

@@ -5,7 +5,7 @@ use Rattle.std.specs.List.{flat_map, list_all}
 use Rattle.std.specs.Str.{bytes_eq}
 use Rattle.std.proofs.lemmas.Bool.{and_parts, eqb-true, leb-true, ltb-true, or_cases}
 use Rattle.std.proofs.lemmas.List.Elements.{All-append, All-cons, All-from_recursion, All-map, All-nil}
-use Rattle.ept_count.specs.Pages.{ept_pages}
+use Rattle.ept_emit.specs.Pages.{ept_pages}
 use Rattle.expand_kernel.specs.Regions.{channel_region, kernel_regions, kernel_regions_of, mapped_window, own_region, provided_region, provided_regions, regions_of}
 use Rattle.muen_num.proofs.Lists.{found_among}
 use Rattle.muen_num.proofs.SearchLaws.{all_none, all_pass, none_both}

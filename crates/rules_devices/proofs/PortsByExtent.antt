@@ -13,7 +13,7 @@ use Rattle.std.proofs.lemmas.Grind.{flat_map-append}
 use Rattle.muen_num.specs.declared.limits.TheConstants.{LAST_PORT}
 use Rattle.muen_num.specs.Search.{first_in, first_after, unless}
 use Rattle.muen_num.proofs.SameAnswers.{first_in-map}
-use Rattle.policy_extents.proofs.OwnThenPairs.{BreaksAt, breaks_at_first, first_fault_is}
+use Rattle.rules_extents.proofs.OwnThenPairs.{BreaksAt, breaks_at_first, first_fault_is}
 use Rattle.policy_lawful.specs.MoreRules.{offence_10, ports_apart, ports_offence}
 use Rattle.policy_lawful.specs.Offences.{alone, two}
 use Rattle.policy_lawful.specs.Resolution.{Resolution, source_of}

@@ -7,7 +7,7 @@ ghost use Rattle.rules_devices.specs.Ranges.{is_port_range, port_extent};
 
 use muen_num::NoMemory;
 use muen_num::limits::LAST_PORT;
-use policy_extents::first_fault;
+use rules_extents::first_fault;
 use policy_lawful::{Extent, Offence, Resolved};
 use policy_types::source::{Device, Ports};
 use std::alloc::Global;

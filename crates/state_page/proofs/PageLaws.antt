@@ -5,10 +5,10 @@ use Rattle.muen_num.specs.declared.limits.TheConstants.{PAGE}
 use Rattle.std.proofs.lemmas.List.{map-append, take_more, take_more_set, get_or_at, take-append-drop, drop_more}
 use Rattle.std.proofs.lemmas.Grind.{flat_map-append}
 use Rattle.muen_num.specs.Range.{numbers_below}
-use Rattle.machine_meaning.specs.Memory.{le_bytes, le_number, over}
-use Rattle.page_parts.specs.Fields.{number_at, padded}
-use Rattle.page_parts.proofs.FieldLaws.{over_padded, length-le_bytes, number_of_bytes}
-use Rattle.subject_state.specs.declared.SubjectState.{SubjectState}
+use Rattle.machine_layout.specs.Memory.{le_bytes, le_number, over}
+use Rattle.machine_layout.specs.PageFields.{number_at, padded}
+use Rattle.machine_layout.proofs.PageFieldLaws.{over_padded, length-le_bytes, number_of_bytes}
+use Rattle.state_page.specs.declared.state.SubjectState.{SubjectState}
 use Rattle.state_page.specs.StatePage.{flag, page_bytes, registers_in, state_in, flags_of, interrupts_bit, halted_bit, stopped_bit, exited_bit}
 
 -- ---- flags

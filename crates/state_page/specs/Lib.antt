@@ -1,1 +1,2 @@
 pub mod StatePage
+pub mod States

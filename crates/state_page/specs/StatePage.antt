@@ -3,9 +3,9 @@ use Rattle.std.specs.Prelude.{ℕ, ◌+◌, ◌*◌, ◌^◌, ◌==◌, Bool, Li
 use Rattle.std.specs.Int.{bit_at}
 use Rattle.muen_num.specs.Range.{numbers_below}
 use Rattle.muen_num.specs.declared.limits.TheConstants.{PAGE}
-use Rattle.machine_meaning.specs.Memory.{le_bytes}
-use Rattle.page_parts.specs.Fields.{number_at, padded}
-use Rattle.subject_state.specs.declared.SubjectState.{SubjectState}
+use Rattle.machine_layout.specs.Memory.{le_bytes}
+use Rattle.machine_layout.specs.PageFields.{number_at, padded}
+use Rattle.state_page.specs.declared.state.SubjectState.{SubjectState}
 
 -- ---- the bits of the flags byte
 

@@ -1,7 +1,9 @@
-//! The state page of a subject: how the kernel keeps a subject's state in memory (this project's
-//! own machine).
+//! The state of a subject, and its state page: how the kernel keeps that state in memory (this
+//! project's own machine).
 #![tactic(auto)]
 
 mod page;
+mod state;
 
 pub use page::{read, write};
+pub use state::SubjectState;

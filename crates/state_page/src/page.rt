@@ -1,12 +1,12 @@
 //! Reading and writing state pages.
 ghost use Rattle.std.specs.Prelude.{◌≡◌, ◌==◌, ◌+◌, ℕ, ◌^◌, ◌<◌, ◌≤◌, [], slice_index, length, if◌then◌else◌, flat_map};
-ghost use Rattle.machine_meaning.specs.Memory.{le_bytes};
-ghost use Rattle.page_parts.specs.Fields.{padded};
+ghost use Rattle.machine_layout.specs.Memory.{le_bytes};
+ghost use Rattle.machine_layout.specs.PageFields.{padded};
 ghost use Rattle.state_page.specs.StatePage.{flag, flags_of, has_flag, page_bytes, registers_in, state_in};
 
 use muen_num::limits::PAGE;
-use page_parts::{clear_all, put_bytes, put_word, word_at};
-use subject_state::SubjectState;
+use machine_layout::{clear_all, put_bytes, put_word, word_at};
+use crate::SubjectState;
 
 /// How many registers a subject has; they begin at byte 0.
 const REGISTERS: usize = 16;

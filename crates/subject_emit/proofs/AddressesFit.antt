@@ -5,7 +5,7 @@ use Rattle.std.specs.Option.{option_map_or}
 use Rattle.std.proofs.lemmas.Bool.{and_parts, eqb-true, leb-true, or_cases}
 use Rattle.std.proofs.lemmas.List.Elements.{All-head, All-tail}
 use Rattle.std.proofs.lemmas.Option.{get_or_from_slice_get}
-use Rattle.ept_count.specs.Pages.{ept_pages}
+use Rattle.ept_emit.specs.Pages.{ept_pages}
 use Rattle.expand_grants.specs.Grants.{AreGrantsOf}
 use Rattle.expand_grants.specs.declared.granted.Grants.{Grants}
 use Rattle.expand_kernel.specs.ByIndex.{mapped_views, provided_at}

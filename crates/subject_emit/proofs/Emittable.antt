@@ -3,11 +3,11 @@ use Rattle.std.proofs.Common.{◌≡◌, ℕ, ◌+◌, ◌%◌, ◌^◌, inl, in
 use Rattle.std.specs.Prelude.{◌==◌, ◌&&◌, nat_le, if◌then◌else◌}
 use Rattle.std.proofs.lemmas.Bool.{and_parts, cases_Bool, eqb-true, leb-true, ltb-true}
 use Rattle.std.proofs.lemmas.List.Elements.{All-map}
-use Rattle.ept_count.specs.declared.window.Leaf.{Leaf}
-use Rattle.ept_count.specs.declared.window.Leaf.TheVariants.{Small, Large, Huge}
+use Rattle.ept_emit.specs.declared.window.Leaf.{Leaf}
+use Rattle.ept_emit.specs.declared.window.Leaf.TheVariants.{Small, Large, Huge}
 use Rattle.ept_emit.specs.Entries.{IsEmittable, level_of}
 use Rattle.expand_grants.specs.declared.granted.Grants.{Grants}
-use Rattle.machine_meaning.specs.Walks.{entry_size}
+use Rattle.machine_layout.specs.Walks.{entry_size}
 use Rattle.policy_lawful.specs.Rules.{is_guest, is_page_aligned, is_page_size}
 use Rattle.policy_views.specs.declared.view.View.{View}
 use Rattle.region_alloc.specs.Placed.{Placement}

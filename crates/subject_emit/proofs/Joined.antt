@@ -1,7 +1,7 @@
 -- Two bitmaps, one after the other.
 use Rattle.std.proofs.Common.{◌≡◌, ℕ, Bool, List, ◌++◌, length, take, drop, sym, ap, ◌∙◌}
 use Rattle.std.proofs.Math.Seq.{take-append_seam, drop-append_seam}
-use Rattle.machine_meaning.specs.Exits.{port_exits}
+use Rattle.machine_layout.specs.Exits.{port_exits}
 
 -- as many bytes as were written
 pub written : (n : ℕ) (new old : List ℕ) → length new ≡ n → take n (new ++ old) ≡ new

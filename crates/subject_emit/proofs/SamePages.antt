@@ -4,8 +4,8 @@ use Rattle.std.specs.List.{AllPairs}
 use Rattle.std.proofs.lemmas.List.{get_or-map, length-map}
 use Rattle.std.proofs.lemmas.List.Elements.{All-map}
 use Rattle.std.proofs.lemmas.List.Kept.{AllPairs-cons}
-use Rattle.ept_count.specs.Pages.{AreApart, count, ept_pages, is_taken, touches}
-use Rattle.ept_count.specs.declared.window.Window.{Window}
+use Rattle.ept_emit.specs.Pages.{AreApart, count, ept_pages, is_taken, touches}
+use Rattle.ept_emit.specs.declared.window.Window.{Window}
 use Rattle.expand_grants.specs.declared.granted.Grants.{Grants}
 use Rattle.expand_kernel.specs.ByIndex.{mapped_view, mapped_views}
 use Rattle.muen_num.proofs.Lists.{list_any-map}

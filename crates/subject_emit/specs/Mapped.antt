@@ -2,9 +2,9 @@
 use Rattle.std.specs.Prelude.{ℕ, ◌+◌, ◌*◌, ◌%◌, ◌^◌, ◌==◌, List, length, map, take, slice_get, slice_index, option_and_then, if◌then◌else◌}
 use Rattle.std.specs.List.{flat_map}
 use Rattle.std.specs.Option.{option_map_or}
-use Rattle.ept_count.specs.declared.window.Leaf.{Leaf}
-use Rattle.ept_count.specs.declared.window.Leaf.TheVariants.{Small, Large, Huge}
-use Rattle.ept_count.specs.declared.window.Window.{Window}
+use Rattle.ept_emit.specs.declared.window.Leaf.{Leaf}
+use Rattle.ept_emit.specs.declared.window.Leaf.TheVariants.{Small, Large, Huge}
+use Rattle.ept_emit.specs.declared.window.Window.{Window}
 use Rattle.expand_grants.specs.declared.granted.Grants.{Grants}
 use Rattle.expand_kernel.specs.ByIndex.{provided_at}
 use Rattle.muen_num.specs.declared.limits.TheConstants.{KERNEL_REGIONS}

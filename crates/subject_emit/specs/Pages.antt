@@ -2,25 +2,25 @@
 use Rattle.std.specs.Prelude.{◌≡◌, ℕ, suc, ◌+◌, ◌*◌, ◌/◌, ◌^◌, ◌<◌, ◌≤◌, not, Bool, List, length, take, drop, slice_index}
 use Rattle.std.specs.List.{All}
 use Rattle.std.specs.Option.{IfSome}
-use Rattle.ept_count.specs.Pages.{ept_pages}
-use Rattle.ept_count.specs.declared.window.Window.{Window}
+use Rattle.ept_emit.specs.Pages.{ept_pages}
+use Rattle.ept_emit.specs.declared.window.Window.{Window}
 use Rattle.ept_emit.specs.Emitted.{HasAddresses, HasTables, IsGreatestSize, Reads, eptp_of, translation, window_at}
 use Rattle.expand_grants.specs.declared.granted.Grants.{Grants}
 use Rattle.iobm_emit.specs.Ports.{is_granted_access}
-use Rattle.machine_meaning.specs.Exits.{area_bytes, msr_exits, port_exits}
-use Rattle.machine_meaning.specs.Memory.{Page}
-use Rattle.machine_meaning.specs.Walks.{leaf_size, addresses_read, entry_size, walk_of}
+use Rattle.machine_layout.specs.Exits.{area_bytes, msr_exits, port_exits}
+use Rattle.machine_layout.specs.Memory.{Page}
+use Rattle.machine_layout.specs.Walks.{leaf_size, addresses_read, entry_size, walk_of}
 use Rattle.msrbm_emit.specs.Area.{area_of, count_of}
 use Rattle.msrbm_emit.specs.Msrs.{is_granted}
 use Rattle.muen_num.specs.declared.access.AccessKind.{AccessKind}
 use Rattle.muen_num.specs.declared.limits.TheConstants.{PAGE, MOST_MSRS}
-use Rattle.page_parts.specs.Fields.{padded}
+use Rattle.machine_layout.specs.PageFields.{padded}
 use Rattle.policy_lawful.specs.declared.resolved.Subject.{Subject}
 use Rattle.region_alloc.specs.Placed.{Placement}
 use Rattle.state_page.specs.StatePage.{page_bytes}
 use Rattle.subject_emit.specs.Mapped.{kernel_first, mapped_windows}
 use Rattle.subject_emit.specs.declared.subject_pages.SubjectPages.{SubjectPages}
-use Rattle.subject_state.specs.States.{started}
+use Rattle.state_page.specs.States.{started}
 
 -- where the tables of the subject at an index lie: at its second region of the kernel
 abbrev pub tables_at : Placement → ℕ → ℕ

@@ -1,7 +1,7 @@
 -- What the tables of a subject need.
 use Rattle.std.specs.Prelude.{◌≡◌, ℕ, ◌+◌, ◌*◌, ◌%◌, ◌<◌, ◌≤◌, length}
 use Rattle.std.specs.List.{All}
-use Rattle.ept_count.specs.Pages.{AreApart, IsMapped, ept_pages}
+use Rattle.ept_emit.specs.Pages.{AreApart, IsMapped, ept_pages}
 use Rattle.ept_emit.specs.Entries.{IsEmittable}
 use Rattle.expand_grants.specs.declared.granted.Grants.{Grants}
 use Rattle.muen_num.specs.declared.limits.TheConstants.{PAGE, PHYSICAL_END}

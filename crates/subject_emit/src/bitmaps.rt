@@ -2,18 +2,18 @@
 ghost use Rattle.std.specs.Prelude.{◌≡◌, ◌*◌, ◌≤◌, ℕ, not, Bool, IfOk, IsTrue, length, take, drop};
 ghost use Rattle.std.specs.List.{list_all};
 ghost use Rattle.iobm_emit.specs.Ports.{is_granted_access};
-ghost use Rattle.machine_meaning.specs.Exits.{area_bytes, msr_exits, port_exits};
+ghost use Rattle.machine_layout.specs.Exits.{area_bytes, msr_exits, port_exits};
 ghost use Rattle.msrbm_emit.specs.Area.{area_of, count_of};
 ghost use Rattle.msrbm_emit.specs.Msrs.{is_covered, is_granted};
-ghost use Rattle.page_parts.specs.Fields.{padded};
+ghost use Rattle.machine_layout.specs.PageFields.{padded};
 ghost use Rattle.state_page.specs.StatePage.{page_bytes};
-ghost use Rattle.subject_state.specs.States.{started};
+ghost use Rattle.state_page.specs.States.{started};
 
 use muen_num::limits::{MOST_MSRS, PAGE};
 use muen_num::{NoMemory, Seq};
 use policy_types::{MsrGrant, PortRange};
 use std::alloc::{AllocError, Global};
-use subject_state::SubjectState;
+use state_page::SubjectState;
 
 fn blank_page(alloc: Global) -> Result<Vec<u8>, AllocError>
     ensures { IfOk result (λ page. length page.items ≡ PAGE) }

@@ -5,7 +5,7 @@ ghost use Rattle.subject_emit.specs.Mapped.{leaf_for, mapped, shown_caching, sho
 ghost use Rattle.subject_emit.specs.Shows.{HasAddresses, IsNumbered, IsShown};
 
 use crate::numbers::{channel_first, kernel_first, provided_first};
-use ept_count::{Leaf, Window};
+use ept_emit::{Leaf, Window};
 use muen_num::NoMemory;
 use muen_num::limits::LARGE_PAGE;
 use policy_types::Caching;

@@ -10,9 +10,9 @@ use Rattle.std.proofs.lemmas.Option.{slice_get-map}
 use Rattle.std.proofs.Math.Nat.{suc-mul}
 use Rattle.frame_clock.specs.Frames.{first_frame, next_major, frame_at_tick, frame_by_ticks, slot_in}
 use Rattle.frame_clock.specs.declared.frame_at.FrameAt.{FrameAt}
-use Rattle.image_plan.proofs.ByNumber.{there}
-use Rattle.image_plan.proofs.SlotLaws.{first_major, later_major, length_slots, ticks_of}
-use Rattle.image_plan.specs.Slot.{frame_slots, slot_at, slots_from}
+use Rattle.muen_num.proofs.Lists.{there}
+use Rattle.frame_clock.proofs.SlotLaws.{first_major, later_major, length_slots, ticks_of}
+use Rattle.frame_clock.specs.Slot.{frame_slots, slot_at, slots_from}
 use Rattle.muen_num.specs.Frame.{Frame}
 use Rattle.subject_model.specs.Laws.{AreFrames, frame_after}
 

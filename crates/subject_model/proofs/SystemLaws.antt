@@ -3,12 +3,12 @@ use Rattle.std.proofs.Common.{◌≡◌, ℕ, ◌+◌, cond, map, Bool, true, fa
 use Rattle.std.specs.Prelude.{option_map, slice_get}
 use Rattle.std.specs.Str.{bytes_eq}
 use Rattle.expand_grants.specs.Resources.{are_granted}
-use Rattle.guest_step.specs.Step.{MsrWrite, Stored, World, step}
-use Rattle.guest_step.specs.declared.reach.Reach.TheVariants.{Reached}
-use Rattle.machine_meaning.specs.Memory.{le_number}
+use Rattle.guest_isa.specs.Step.{MsrWrite, Stored, World, step}
+use Rattle.guest_isa.specs.declared.reach.Reach.TheVariants.{Reached}
+use Rattle.machine_layout.specs.Memory.{le_number}
 use Rattle.muen_num.specs.Range.{numbers_below}
-use Rattle.look_up.proofs.ChangeLaws.{element_changes}
-use Rattle.machine_meaning.specs.Pending.{with_vector}
+use Rattle.muen_num.proofs.ChangeLaws.{element_changes}
+use Rattle.machine_layout.specs.Pending.{with_vector}
 use Rattle.muen_num.specs.declared.access.AccessKind.{AccessKind}
 use Rattle.muen_num.specs.declared.mode.EventMode.{EventMode}
 use Rattle.muen_num.specs.declared.mode.EventMode.TheVariants.{Asap, Async, Own as OwnMode, Switch}
@@ -20,7 +20,7 @@ use Rattle.policy_types.specs.declared.source.SourceWay.{SourceWay}
 use Rattle.policy_types.specs.declared.source.Subject.{Subject}
 use Rattle.state_page.specs.StatePage.{page_bytes}
 use Rattle.policy_meaning.specs.Frames.{group_of}
-use Rattle.subject_state.specs.declared.SubjectState.{SubjectState}
+use Rattle.state_page.specs.declared.state.SubjectState.{SubjectState}
 use Rattle.subject_model.specs.Alone.{Inbox, MsrValues, Own, OwnState, TurnAnswer, alone, bytes_in, delivered, input_byte, input_of, reach_by, solo_turn, stepped, thing_in, unless_delivered, vector_for, waits}
 use Rattle.subject_model.specs.Laws.{AreOthers, KeepsOthers, StoresElsewhere}
 use Rattle.subject_model.specs.System.{System, answered, happens, happens_as, named, pends_now, raised_by, took, with_active, with_own, with_store, with_write}

@@ -4,13 +4,13 @@ use Rattle.std.specs.Prelude.{ℕ, zero, suc, ◌+◌, ◌*◌, ◌==◌, ◌&&�
 use Rattle.std.specs.List.{list_any}
 use Rattle.std.specs.Option.{option_map_or}
 use Rattle.expand_grants.specs.Resources.{Msr, are_granted, is_granted, msrs_of, ports_of}
-use Rattle.guest_step.specs.Finish.{finished, finish_of, injected}
-use Rattle.guest_step.specs.Step.{World, Stored, MsrWrite, Answer, step}
-use Rattle.guest_step.specs.declared.end.StepEnd.{StepEnd}
-use Rattle.guest_step.specs.declared.end.StepEnd.TheVariants as ends
-use Rattle.guest_step.specs.declared.reach.Reach.{Reach}
-use Rattle.guest_step.specs.declared.reach.Reach.TheVariants.{Reached, Refused}
-use Rattle.machine_meaning.specs.Memory.{le_number}
+use Rattle.guest_isa.specs.Finish.{finished, finish_of, injected}
+use Rattle.guest_isa.specs.Step.{World, Stored, MsrWrite, Answer, step}
+use Rattle.guest_isa.specs.declared.end.StepEnd.{StepEnd}
+use Rattle.guest_isa.specs.declared.end.StepEnd.TheVariants as ends
+use Rattle.guest_isa.specs.declared.reach.Reach.{Reach}
+use Rattle.guest_isa.specs.declared.reach.Reach.TheVariants.{Reached, Refused}
+use Rattle.machine_layout.specs.Memory.{le_number}
 use Rattle.muen_num.specs.Access.{kind_bit}
 use Rattle.muen_num.specs.Range.{numbers_below}
 use Rattle.muen_num.specs.declared.access.AccessKind.{AccessKind}
@@ -22,7 +22,7 @@ use Rattle.policy_types.specs.declared.source.Source.{Source}
 use Rattle.policy_types.specs.declared.source.SourceWay.{SourceWay}
 use Rattle.policy_types.specs.declared.source.SourceWay.TheVariants.{Call, Trap}
 use Rattle.policy_types.specs.declared.source.Subject.{Subject}
-use Rattle.subject_state.specs.declared.SubjectState.{SubjectState}
+use Rattle.state_page.specs.declared.state.SubjectState.{SubjectState}
 use Rattle.view_text.specs.declared.ExitEnd.{ExitEnd}
 use Rattle.view_text.specs.declared.ExitEnd.TheVariants.{On, Halt, Trap as Trapped, Stop}
 use Rattle.view_text.specs.declared.TurnAction.{TurnAction}

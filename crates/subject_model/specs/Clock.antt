@@ -11,7 +11,7 @@ use Rattle.policy_meaning.specs.Thing.{region, device_memory}
 use Rattle.policy_types.specs.declared.source.Source.{Source}
 use Rattle.policy_types.specs.declared.source.Tau0.{Tau0}
 use Rattle.record_text.specs.DeviceRecord.{DeviceRecord, NamedInput, port_input, memory_input, irq_input, dma_input}
-use Rattle.tick_run.specs.Run.{Clocked, Ran, run_to}
+use Rattle.frame_clock.specs.Run.{Clocked, Ran, run_to}
 use Rattle.view_text.specs.declared.TurnLine.{TurnLine}
 use Rattle.subject_model.specs.Alone.{thing_in}
 use Rattle.subject_model.specs.System.{System, pends_now, start_of, system_turn, with_bytes}

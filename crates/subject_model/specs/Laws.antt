@@ -3,15 +3,15 @@ use Rattle.std.specs.Prelude.{◌≡◌, ℕ, zero, suc, ◌<◌, Bool, List, le
 use Rattle.std.specs.List.{All, sum_by}
 use Rattle.frame_clock.specs.Frames.{first_frame, frame_at_tick, slot_in}
 use Rattle.frame_clock.specs.declared.frame_at.FrameAt.{FrameAt}
-use Rattle.guest_step.specs.Step.{Stored}
-use Rattle.image_plan.specs.Slot.{Slot}
+use Rattle.guest_isa.specs.Step.{Stored}
+use Rattle.frame_clock.specs.Slot.{Slot}
 use Rattle.muen_num.specs.Frame.{Frame}
 use Rattle.policy_meaning.specs.Frames.{frames_of}
 use Rattle.policy_meaning.specs.Thing.{Thing, state}
 use Rattle.policy_types.specs.declared.source.Source.{Source}
 use Rattle.policy_types.specs.declared.source.Subject.{Subject}
 use Rattle.state_page.specs.StatePage.{page_bytes}
-use Rattle.subject_state.specs.declared.SubjectState.{SubjectState}
+use Rattle.state_page.specs.declared.state.SubjectState.{SubjectState}
 use Rattle.subject_model.specs.Alone.{MsrValues}
 use Rattle.subject_model.specs.System.{System, change_thing, named, state_of, subject_named}
 

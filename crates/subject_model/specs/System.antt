@@ -7,11 +7,11 @@ use Rattle.std.specs.Str.{bytes_eq}
 use Rattle.expand_grants.specs.Resources.{msrs_of, ports_of}
 use Rattle.frame_clock.specs.Frames.{first_frame, slot_in}
 use Rattle.frame_clock.specs.declared.frame_at.FrameAt.{FrameAt}
-use Rattle.guest_step.specs.Step.{Stored, MsrWrite}
-use Rattle.image_plan.specs.Slot.{Slot}
-use Rattle.look_up.specs.ByNumber.{change_at}
-use Rattle.machine_meaning.specs.Memory.{over}
-use Rattle.machine_meaning.specs.Pending.{without, with_vector}
+use Rattle.guest_isa.specs.Step.{Stored, MsrWrite}
+use Rattle.frame_clock.specs.Slot.{Slot}
+use Rattle.muen_num.specs.ListChange.{change_at}
+use Rattle.machine_layout.specs.Memory.{over}
+use Rattle.machine_layout.specs.Pending.{without, with_vector}
 use Rattle.muen_num.specs.declared.limits.TheConstants.{LAST_PORT}
 use Rattle.muen_num.specs.declared.mode.EventMode.{EventMode}
 use Rattle.muen_num.specs.declared.mode.EventMode.TheVariants.{Asap, Async, Own as OwnMode, Switch}
@@ -24,9 +24,9 @@ use Rattle.policy_types.specs.declared.source.Source.{Source}
 use Rattle.policy_types.specs.declared.source.SourceWay.{SourceWay}
 use Rattle.policy_types.specs.declared.source.Subject.{Subject}
 use Rattle.state_page.specs.StatePage.{page_bytes, state_in}
-use Rattle.subject_state.specs.States.{started}
-use Rattle.subject_state.specs.declared.SubjectState.{SubjectState}
-use Rattle.tick_run.specs.Run.{Turned}
+use Rattle.state_page.specs.States.{started}
+use Rattle.state_page.specs.declared.state.SubjectState.{SubjectState}
+use Rattle.frame_clock.specs.Run.{Turned}
 use Rattle.view_text.specs.declared.TurnLine.{TurnLine}
 use Rattle.view_text.specs.declared.TurnAction.{TurnAction}
 use Rattle.subject_model.specs.ByKey.{value_of, change_of}

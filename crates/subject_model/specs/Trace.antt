@@ -8,7 +8,7 @@ use Rattle.policy_types.specs.declared.source.Source.{Source}
 use Rattle.policy_types.specs.declared.source.Subject.{Subject}
 use Rattle.record_text.specs.DeviceRecord.{DeviceRecord}
 use Rattle.view_text.specs.ViewText.{rows_text, turn_text, region_text}
-use Rattle.subject_state.specs.declared.SubjectState.{SubjectState}
+use Rattle.state_page.specs.declared.state.SubjectState.{SubjectState}
 use Rattle.subject_model.specs.Alone.{bytes_in}
 use Rattle.subject_model.specs.System.{System, state_of}
 use Rattle.subject_model.specs.Clock.{run_of}

@@ -8,8 +8,8 @@ use Rattle.policy_meaning.specs.Contents.{Held}
 use Rattle.policy_types.specs.declared.source.Source.{Source}
 use Rattle.policy_types.specs.declared.source.Subject.{Subject}
 use Rattle.record_text.specs.DeviceRecord.{DeviceRecord}
-use Rattle.subject_state.specs.declared.SubjectState.{SubjectState}
-use Rattle.tick_run.specs.Run.{Ran, run_to, tick_ran}
+use Rattle.state_page.specs.declared.state.SubjectState.{SubjectState}
+use Rattle.frame_clock.specs.Run.{Ran, run_to, tick_ran}
 use Rattle.view_text.specs.declared.TurnLine.{TurnLine}
 use Rattle.subject_model.specs.Alone.{MsrValues, Things}
 use Rattle.subject_model.specs.Clock.{inputs_at, order_at, system}

@@ -8,7 +8,7 @@ use muen_num::text::{
     append, append_decimal8, append_decimal32, append_hex4, append_hex8, append_hex16, append_hex32,
 };
 use muen_num::{AccessSize, Name, Tag};
-use subject_state::SubjectState;
+use state_page::SubjectState;
 
 /// The line of a turn.
 #[derive(Clone, Copy, Debug, PartialEq, Eq)]

@@ -3,9 +3,9 @@ use Rattle.std.proofs.Common.{◌≡◌, ℕ, suc, ◌+◌, ◌*◌, ◌<◌, Li
 use Rattle.std.proofs.Math.Seq.{drop-cons}
 use Rattle.std.proofs.lemmas.List.{map-append}
 use Rattle.muen_num.specs.Range.{numbers_below}
-use Rattle.machine_meaning.specs.Exits.{AreaEntry, area_index, area_value}
-use Rattle.machine_meaning.specs.Memory.{Page, store_of}
-use Rattle.page_parts.specs.Fields.{number_at}
+use Rattle.machine_layout.specs.Exits.{AreaEntry, area_index, area_value}
+use Rattle.machine_layout.specs.Memory.{Page, store_of}
+use Rattle.machine_layout.specs.PageFields.{number_at}
 use Rattle.vmx_machine.specs.Machine.{page_at, entries_in, filled, save_value, entry_saved, saved, written}
 use Rattle.vmx_machine.specs.MsrFile.{value_in, with_msr}
 

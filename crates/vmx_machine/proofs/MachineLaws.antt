@@ -1,9 +1,9 @@
 -- As many CPUs as before.
 use Rattle.std.proofs.Common.{◌≡◌, ℕ, List, length, Option, Some, None, refl}
-use Rattle.machine_meaning.specs.Memory.{Page}
+use Rattle.machine_layout.specs.Memory.{Page}
 use Rattle.vmx_machine.specs.Machine.{left_by, step_on, cpu_step, put_off_by}
 use Rattle.vmx_machine.specs.declared.cpu.Cpu.{Cpu}
-use Rattle.look_up.proofs.ChangeLaws.{length_stays}
+use Rattle.muen_num.proofs.ChangeLaws.{length_stays}
 
 pub left_length : (cpu : ℕ) (pages : List Page) (cpus : List Cpu) (o : Option Cpu) → length (left_by cpu pages cpus o).cpus ≡ length cpus
 left_length cpu pages cpus None = refl

@@ -8,10 +8,10 @@ use Rattle.muen_num.specs.declared.access.AccessKind.{AccessKind}
 use Rattle.muen_num.specs.declared.access.AccessKind.TheVariants.{Read, Write, Fetch}
 use Rattle.muen_num.specs.declared.access.AccessSize.{AccessSize}
 use Rattle.muen_num.specs.declared.access.AccessSize.TheVariants.{One, Two, Four, Eight}
-use Rattle.machine_meaning.specs.Memory.{Page, is_there, change, over, le_bytes, store_of}
-use Rattle.machine_meaning.specs.Walks.{bits_of, index_at, entry_size, is_present, is_leaf, is_misconfigured, reads, walk_from, walk_of, entry_of, root_of}
-use Rattle.machine_meaning.specs.declared.walk.Walk.{Walk}
-use Rattle.machine_meaning.specs.declared.walk.Walk.TheVariants.{At, Violation, Misconfigured}
+use Rattle.machine_layout.specs.Memory.{Page, is_there, change, over, le_bytes, store_of}
+use Rattle.machine_layout.specs.Walks.{bits_of, index_at, entry_size, is_present, is_leaf, is_misconfigured, reads, walk_from, walk_of, entry_of, root_of}
+use Rattle.machine_layout.specs.declared.walk.Walk.{Walk}
+use Rattle.machine_layout.specs.declared.walk.Walk.TheVariants.{At, Violation, Misconfigured}
 use Rattle.vmx_machine.specs.Within.{IsWithin, EndsWithin}
 
 pub stored_within : (m : List Page) (page offset n v : ℕ) → offset < 4096 → store_of m (4096 * page + offset) n v ≡ change m page (λ old. over old offset (le_bytes n v))

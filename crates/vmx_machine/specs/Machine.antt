@@ -5,22 +5,22 @@ use Rattle.muen_num.specs.Access.{kind_bit}
 use Rattle.muen_num.specs.Range.{numbers_below}
 use Rattle.muen_num.specs.declared.access.AccessKind.{AccessKind}
 use Rattle.muen_num.specs.declared.limits.TheConstants.{EXIT_EPT_VIOLATION, EXIT_EPT_MISCONFIGURATION}
-use Rattle.machine_meaning.specs.Exits.{port_exits, msr_exits, AreaEntry, area_index, area_value}
-use Rattle.machine_meaning.specs.Memory.{Page, page_of, change, over, store_of}
-use Rattle.machine_meaning.specs.Walks.{walk_of}
-use Rattle.machine_meaning.specs.declared.walk.Walk.{Walk}
-use Rattle.machine_meaning.specs.declared.walk.Walk.TheVariants.{At, Violation, Misconfigured}
+use Rattle.machine_layout.specs.Exits.{port_exits, msr_exits, AreaEntry, area_index, area_value}
+use Rattle.machine_layout.specs.Memory.{Page, page_of, change, over, store_of}
+use Rattle.machine_layout.specs.Walks.{walk_of}
+use Rattle.machine_layout.specs.declared.walk.Walk.{Walk}
+use Rattle.machine_layout.specs.declared.walk.Walk.TheVariants.{At, Violation, Misconfigured}
 use Rattle.state_page.specs.StatePage.{state_in, page_bytes}
-use Rattle.subject_state.specs.declared.SubjectState.{SubjectState}
+use Rattle.state_page.specs.declared.state.SubjectState.{SubjectState}
 use Rattle.device_bench.specs.Devices.{value_of_ports}
-use Rattle.guest_step.specs.Finish.{injected, finished}
-use Rattle.guest_step.specs.Step.{World, Stored, MsrWrite, Answer, step}
-use Rattle.guest_step.specs.declared.end.StepEnd.{StepEnd}
-use Rattle.guest_step.specs.declared.end.StepEnd.TheVariants.{Plain}
-use Rattle.guest_step.specs.declared.finish.Finish.{Finish}
-use Rattle.guest_step.specs.declared.reach.Reach.{Reach}
-use Rattle.guest_step.specs.declared.reach.Reach.TheVariants.{Reached, Refused}
-use Rattle.look_up.specs.ByNumber.{change_at}
+use Rattle.guest_isa.specs.Finish.{injected, finished}
+use Rattle.guest_isa.specs.Step.{World, Stored, MsrWrite, Answer, step}
+use Rattle.guest_isa.specs.declared.end.StepEnd.{StepEnd}
+use Rattle.guest_isa.specs.declared.end.StepEnd.TheVariants.{Plain}
+use Rattle.guest_isa.specs.declared.finish.Finish.{Finish}
+use Rattle.guest_isa.specs.declared.reach.Reach.{Reach}
+use Rattle.guest_isa.specs.declared.reach.Reach.TheVariants.{Reached, Refused}
+use Rattle.muen_num.specs.ListChange.{change_at}
 use Rattle.vmx_machine.specs.MsrFile.{value_in, with_msr, zeros, most}
 use Rattle.vmx_machine.specs.declared.control.Control.{Control}
 use Rattle.vmx_machine.specs.declared.cpu.Cpu.{Cpu}

@@ -1,9 +1,9 @@
 -- What an access within a page needs.
 use Rattle.std.specs.Prelude.{◌≡◌, ℕ, ◌%◌, ◌<◌, ◌^◌}
-use Rattle.machine_meaning.specs.declared.walk.Walk.{Walk}
-use Rattle.machine_meaning.specs.declared.walk.Walk.TheVariants.{At, Violation, Misconfigured}
-use Rattle.guest_step.specs.declared.reach.Reach.{Reach}
-use Rattle.guest_step.specs.declared.reach.Reach.TheVariants.{Reached, Refused}
+use Rattle.machine_layout.specs.declared.walk.Walk.{Walk}
+use Rattle.machine_layout.specs.declared.walk.Walk.TheVariants.{At, Violation, Misconfigured}
+use Rattle.guest_isa.specs.declared.reach.Reach.{Reach}
+use Rattle.guest_isa.specs.declared.reach.Reach.TheVariants.{Reached, Refused}
 
 -- a page, and an offset in it that is a multiple of the size
 pub record IsWithin (page offset size : ℕ) : Type 0 where

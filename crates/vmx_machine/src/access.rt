@@ -1,7 +1,7 @@
 //! Where accesses of memory, of ports and of MSRs lead.
 ghost use Rattle.std.specs.Prelude.{◌≡◌, ◌/◌, ◌%◌, ◌^◌, ◌<◌, ◌≤◌};
 ghost use Rattle.muen_num.specs.AccessSize.{bytes_of};
-ghost use Rattle.guest_step.specs.Step.{reach_of};
+ghost use Rattle.guest_isa.specs.Step.{reach_of};
 ghost use Rattle.vmx_machine.specs.Machine.{look_in, ports_exit, ports_input, msr_exits_in, msr_input};
 ghost use Rattle.vmx_machine.specs.Within.{LeadsWithin};
 
@@ -10,8 +10,8 @@ use crate::msr_file::MsrFile;
 use crate::pages::{bytes_of_page, number_of};
 use device_bench::Bench;
 use ept_walk::Translate;
-use guest_step::Reach;
-use machine_meaning::{Walk, msr_exits, port_exits};
+use guest_isa::Reach;
+use machine_layout::{Walk, msr_exits, port_exits};
 use muen_num::limits::{
     EXIT_EPT_MISCONFIGURATION, EXIT_EPT_VIOLATION, EXIT_EXCEPTION, GUEST_END, PAGE,
 };

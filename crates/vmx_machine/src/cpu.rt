@@ -1,7 +1,7 @@
 //! Logical CPUs.
 use crate::control::Control;
 use crate::msr_file::MsrFile;
-use subject_state::SubjectState;
+use state_page::SubjectState;
 
 /// The subject that is on a CPU.
 #[derive(Clone, Copy, Debug, PartialEq, Eq)]

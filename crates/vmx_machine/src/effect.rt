@@ -1,18 +1,18 @@
 //! What an instruction does once it is known where its access leads.
 ghost use Rattle.std.specs.Prelude.{◌≡◌, ◌<◌, ℕ, true, false};
 ghost use Rattle.muen_num.specs.AccessSize.{bytes_of};
-ghost use Rattle.guest_step.specs.Step.{sets, loaded, stored_to, port_qualification, port_read, msr_read};
+ghost use Rattle.guest_isa.specs.Step.{sets, loaded, stored_to, port_qualification, port_read, msr_read};
 ghost use Rattle.vmx_machine.specs.Machine.{page_at, with_store};
 ghost use Rattle.vmx_machine.specs.Within.{LeadsWithin};
 
 use crate::pages::{number_in, put};
 use ept_walk::Translate;
 use guest_isa::{Asked, with_register};
-use guest_step::{Reach, StepEnd};
+use guest_isa::{Reach, StepEnd};
 use muen_num::AccessSize;
 use muen_num::limits::{EXIT_IO, EXIT_RDMSR, PAGE};
 use phys_mem::PhysMem;
-use subject_state::SubjectState;
+use state_page::SubjectState;
 
 /// The bit of the qualification of a port access for input.
 const INPUT: u64 = 1 << 3;

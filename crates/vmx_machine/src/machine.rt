@@ -1,7 +1,7 @@
 //! The machine.
 ghost use Rattle.std.specs.Prelude.{◌≡◌, ◌+◌, ◌^◌, ◌<◌, length, replicate, slice_get, IfOk};
-ghost use Rattle.guest_step.specs.Finish.{injected, finished};
-ghost use Rattle.look_up.specs.ByNumber.{change_at};
+ghost use Rattle.guest_isa.specs.Finish.{injected, finished};
+ghost use Rattle.muen_num.specs.ListChange.{change_at};
 ghost use Rattle.state_page.specs.StatePage.{state_in};
 ghost use Rattle.vmx_machine.specs.Machine.{page_at, put_on, put_off_by, with_state, fresh, started, entered, left_by, left, step_on, state_on, vector_injected, exit_finished, machine_step, device_wrote};
 
@@ -12,12 +12,12 @@ use crate::pages::{fill, number_of, put_off, state_in, write_bytes};
 use crate::step::cpu_step;
 use device_bench::Bench;
 use ept_walk::Translate;
-use guest_step::{Finish, StepEnd, inject};
+use guest_isa::{Finish, StepEnd, inject};
 use muen_num::NoMemory;
 use phys_mem::PhysMem;
 use std::alloc::Global;
 use std::marker::Model;
-use subject_state::SubjectState;
+use state_page::SubjectState;
 
 // So many CPUs on which nobody is.
 fn fresh_cpus(alloc: Global, count: u8) -> Result<Vec<Cpu>, NoMemory>
@@ -85,7 +85,7 @@ fn finish(cpu: &mut Cpu, how: Finish)
 }
 
 // A subject goes onto the CPU of this number.
-#[tactic(auto, using(look_up::proofs::ChangeLaws::change_is))]
+#[tactic(auto, using(muen_num::proofs::ChangeLaws::change_is))]
 fn enter_on<M: PhysMem>(mem: &M, cpus: &mut [Cpu], cpu: usize, control: Control)
     requires { cpu < length cpus.old }
     ensures { cpus.new ≡ change_at cpu (put_on (M.pages mem.now) control) cpus.old }
@@ -94,7 +94,7 @@ fn enter_on<M: PhysMem>(mem: &M, cpus: &mut [Cpu], cpu: usize, control: Control)
 }
 
 // Who is on the CPU of this number leaves it.
-#[tactic(auto, using(look_up::proofs::ChangeLaws::change_is, look_up::proofs::ChangeLaws::item_is))]
+#[tactic(auto, using(muen_num::proofs::ChangeLaws::change_is, muen_num::proofs::ChangeLaws::item_is))]
 fn leave_on<M: PhysMem, T: Translate>(mem: &mut M, walk: &mut T, cpus: &mut [Cpu], cpu: usize)
     requires fits { T.fits walk.old (M.pages mem.old) }
     requires cpu { cpu < length cpus.old }
@@ -106,7 +106,7 @@ fn leave_on<M: PhysMem, T: Translate>(mem: &mut M, walk: &mut T, cpus: &mut [Cpu
 }
 
 // A vector is delivered to who is on the CPU of this number.
-#[tactic(auto, using(look_up::proofs::ChangeLaws::change_is))]
+#[tactic(auto, using(muen_num::proofs::ChangeLaws::change_is))]
 fn deliver_on(cpus: &mut [Cpu], cpu: usize, vector: u8)
     requires { cpu < length cpus.old }
     ensures { cpus.new ≡ change_at cpu (with_state (injected vector)) cpus.old }
@@ -115,7 +115,7 @@ fn deliver_on(cpus: &mut [Cpu], cpu: usize, vector: u8)
 }
 
 // Who is on the CPU of this number goes on after an exit.
-#[tactic(auto, using(look_up::proofs::ChangeLaws::change_is))]
+#[tactic(auto, using(muen_num::proofs::ChangeLaws::change_is))]
 fn finish_on(cpus: &mut [Cpu], cpu: usize, how: Finish)
     requires { cpu < length cpus.old }
     ensures { cpus.new ≡ change_at cpu (with_state (finished how)) cpus.old }
@@ -124,7 +124,7 @@ fn finish_on(cpus: &mut [Cpu], cpu: usize, how: Finish)
 }
 
 // One step of who is on the CPU of this number.
-#[tactic(auto, using(look_up::proofs::ChangeLaws::change_is, look_up::proofs::ChangeLaws::item_is))]
+#[tactic(auto, using(muen_num::proofs::ChangeLaws::change_is, muen_num::proofs::ChangeLaws::item_is))]
 fn step_on<M: PhysMem, T: Translate>(
     mem: &mut M,
     walk: &mut T,
@@ -206,7 +206,7 @@ impl<M: PhysMem, T: Translate> Machine<M, T> {
     /// A subject goes onto a CPU: its state is read from its state page, and the entries of its area
     /// are loaded, in order, into the CPU's MSRs. An entry of an MSR that the CPU hasn't is passed
     /// over. Whoever was there is forgotten.
-    #[tactic(auto, using(look_up::proofs::ChangeLaws::length_stays))]
+    #[tactic(auto, using(muen_num::proofs::ChangeLaws::length_stays))]
     pub fn enter(&mut self, cpu: usize, control: Control)
         requires { cpu < length self.old.cpus }
         ensures machine { self.new ≡ entered cpu control self.old }
@@ -227,7 +227,7 @@ impl<M: PhysMem, T: Translate> Machine<M, T> {
     }
 
     /// An event of this vector is delivered to who is on a CPU.
-    #[tactic(auto, using(look_up::proofs::ChangeLaws::length_stays))]
+    #[tactic(auto, using(muen_num::proofs::ChangeLaws::length_stays))]
     pub fn inject(&mut self, cpu: usize, vector: u8)
         requires { cpu < length self.old.cpus }
         ensures machine { self.new ≡ vector_injected cpu vector self.old }
@@ -237,7 +237,7 @@ impl<M: PhysMem, T: Translate> Machine<M, T> {
     }
 
     /// Who is on a CPU goes on after an exit.
-    #[tactic(auto, using(look_up::proofs::ChangeLaws::length_stays))]
+    #[tactic(auto, using(muen_num::proofs::ChangeLaws::length_stays))]
     pub fn finish(&mut self, cpu: usize, how: Finish)
         requires { cpu < length self.old.cpus }
         ensures machine { self.new ≡ exit_finished cpu how self.old }

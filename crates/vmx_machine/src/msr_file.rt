@@ -1,6 +1,6 @@
 //! The machine-specific registers of a CPU.
 ghost use Rattle.std.specs.Prelude.{◌≡◌, slice_get, length, IfOk};
-ghost use Rattle.look_up.specs.ByNumber.{change_at};
+ghost use Rattle.muen_num.specs.ListChange.{change_at};
 ghost use Rattle.vmx_machine.specs.MsrFile.{slot_of, value_in, with_msr, most, zeros};
 
 use muen_num::NoMemory;
@@ -43,7 +43,7 @@ fn slot_of(index: u64) -> Option<usize>
 }
 
 // Another value in a slot, if there is one.
-#[tactic(auto, using(look_up::proofs::ChangeLaws::set_is, look_up::proofs::ChangeLaws::past_is))]
+#[tactic(auto, using(muen_num::proofs::ChangeLaws::set_is, muen_num::proofs::ChangeLaws::past_is))]
 fn put_value(values: &mut [u64], slot: usize, value: u64)
     ensures { values.new ≡ change_at slot (λ _. value) values.old }
 {

@@ -1,11 +1,11 @@
 //! What the machine reads and writes in pages of memory.
 ghost use Rattle.std.specs.Prelude.{◌≡◌, ◌+◌, ◌*◌, ◌/◌, ◌%◌, ◌^◌, ◌<◌, ◌≤◌, ◌==◌, length};
-ghost use Rattle.machine_meaning.specs.Memory.{change, store_of};
+ghost use Rattle.machine_layout.specs.Memory.{change, store_of};
 ghost use Rattle.muen_num.specs.Range.{numbers_below};
 ghost use Rattle.muen_num.specs.AccessSize.{bytes_of};
-ghost use Rattle.page_parts.specs.Fields.{number_at};
+ghost use Rattle.machine_layout.specs.PageFields.{number_at};
 ghost use Rattle.state_page.specs.StatePage.{page_bytes, registers_in, has_flag, state_in};
-ghost use Rattle.guest_step.specs.Step.{word_at};
+ghost use Rattle.guest_isa.specs.Step.{word_at};
 ghost use Rattle.vmx_machine.specs.Machine.{page_at, entries_in, filled, entry_saved, saved, put_off, written};
 ghost use Rattle.vmx_machine.specs.MsrFile.{with_msr};
 ghost use Rattle.vmx_machine.specs.Within.{IsWithin};
@@ -16,7 +16,7 @@ use ept_walk::Translate;
 use muen_num::AccessSize;
 use muen_num::limits::PAGE;
 use phys_mem::{PAGE_BYTES, PhysMem};
-use subject_state::SubjectState;
+use state_page::SubjectState;
 
 /// How many registers a state page has.
 const REGISTERS: usize = 16;
@@ -68,7 +68,7 @@ pub(crate) fn bytes_of_page<M: PhysMem>(mem: &M, page: u64) -> &[u8]
 }
 
 // The number at an offset in a page. It is 0 where the page isn't there.
-#[tactic(auto, unfolding(page_parts::specs::Fields::number_at))]
+#[tactic(auto, unfolding(machine_layout::specs::PageFields::number_at))]
 pub(crate) fn number_in<M: PhysMem>(mem: &M, page: u64, offset: u64, size: AccessSize) -> u64
     requires { IsWithin page offset (bytes_of size) }
     ensures number { result ≡ number_at (page_at (M.pages mem.now) page) offset (bytes_of size) }
@@ -120,7 +120,7 @@ fn has_flag(bytes: &[u8], bit: u32) -> bool
 }
 
 // The state that is kept in a page. All is 0 where the page isn't there.
-#[tactic(auto, unfolding(state_page::specs::StatePage::state_in, page_parts::specs::Fields::number_at))]
+#[tactic(auto, unfolding(state_page::specs::StatePage::state_in, machine_layout::specs::PageFields::number_at))]
 pub(crate) fn state_in<M: PhysMem>(mem: &M, page: u64) -> SubjectState
     requires { page < 2 ^ 52 }
     ensures { result ≡ state_in (page_at (M.pages mem.now) page) }

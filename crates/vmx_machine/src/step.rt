@@ -1,7 +1,7 @@
 //! One step of the subject that is on a CPU.
 ghost use Rattle.std.specs.Prelude.{◌≡◌, ◌<◌};
 ghost use Rattle.guest_isa.specs.GuestIsa.{IsValidWish};
-ghost use Rattle.guest_step.specs.Step.{performed, fetched, step};
+ghost use Rattle.guest_isa.specs.Step.{performed, fetched, step};
 ghost use Rattle.vmx_machine.specs.Machine.{machine_world, with_store, with_write, cpu_step};
 ghost use Rattle.vmx_machine.specs.Within.{LeadsWithin};
 
@@ -16,7 +16,7 @@ use crate::pages::number_in;
 use device_bench::Bench;
 use ept_walk::Translate;
 use guest_isa::{Asked, Wish, ask, decode};
-use guest_step::{Reach, StepEnd};
+use guest_isa::{Reach, StepEnd};
 use muen_num::limits::{EXIT_EXCEPTION, EXIT_HLT, EXIT_IO, EXIT_VMCALL, EXIT_WRMSR};
 use muen_num::{AccessKind, AccessSize};
 use phys_mem::PhysMem;

@@ -1,6 +1,6 @@
 use Rattle.std.proofs.Common.{◌<◌, ◌≤◌, ◌∙◌, sym, length, arith}
 use Rattle.std.specs.Prelude.{slice_index_or}
-use Rattle.image_plan.specs.declared.plan.Minor.{Minor}
+use Rattle.frame_clock.specs.declared.plan.Minor.{Minor}
 use Rattle.frame_clock.proofs.FrameSearch.{frame_here, frame_past}
 use Rattle.frame_clock.proofs.in_frames.Goals as goal
 

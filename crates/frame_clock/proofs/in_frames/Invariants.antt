@@ -1,8 +1,8 @@
 use Rattle.std.proofs.Common.{◌≡◌, map, drop}
 use Rattle.std.specs.Prelude.{slice_get}
 use Rattle.std.specs.List.{flat_map}
-use Rattle.image_plan.specs.Plan.{frame_of}
-use Rattle.image_plan.specs.Slot.{frame_slots}
+use Rattle.frame_clock.specs.Plan.{frame_of}
+use Rattle.frame_clock.specs.Slot.{frame_slots}
 use Rattle.frame_clock.proofs.in_frames.Given as goal
 
 -- the frames that remain have what remains of the tick where all of them have the tick

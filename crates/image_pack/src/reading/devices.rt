@@ -1,11 +1,11 @@
 //! Reads devices.
-#![tactic(auto, unfolding(image_form::specs::Form::only, image_form::specs::Form::field, image_form::specs::Form::gap, image_form::specs::Form::done))]
+#![tactic(auto, unfolding(binary_form::specs::Form::only, binary_form::specs::Form::field, binary_form::specs::Form::gap, binary_form::specs::Form::done))]
 
 ghost use Rattle.std.specs.Prelude.{◌≡◌, ◌==◌, ◌++◌, ◌∷◌, [], nat_le, not, option_to_list, OnOk, Some, option_map};
 ghost use Rattle.std.specs.List.{find};
-ghost use Rattle.image_form.specs.Form.{Form, Gives, only, byte};
-ghost use Rattle.image_form.specs.Name.{name};
-ghost use Rattle.image_form.specs.declared.fault.Field.{Field};
+ghost use Rattle.binary_form.specs.Form.{Form, Gives, only, byte};
+ghost use Rattle.binary_form.specs.Name.{name};
+ghost use Rattle.binary_form.specs.declared.fault.Field.{Field};
 ghost use Rattle.image_pack.specs.Image.{is_listed, range, device_name, window_name, is_window, after_window, window, after_irq, irq, after_device, device, nothing_left};
 
 use crate::codes::{is_target, part_name, target_of};
@@ -13,8 +13,8 @@ use crate::items::{Item, items_of};
 use crate::outline::{Header, Outline};
 use crate::parts::{DevicePart, IrqPart, PortSpan, SpanPart, WindowPart};
 use crate::writing::{put_device, put_irq, put_range, put_window};
-use image_form::reading::{bad, byte_of, gap_of, name_of, u16_of};
-use image_form::{Field, FormError};
+use binary_form::reading::{bad, byte_of, gap_of, name_of, u16_of};
+use binary_form::{Field, FormError};
 use muen_num::limits::MOST_PER_DEVICE;
 use muen_num::{Name, Seq};
 use std::alloc::{AllocError, Global};
@@ -62,7 +62,7 @@ impl Item for PortSpan {
 
     ghost form = { range };
 
-    #[tactic(auto, unfolding(image_form::specs::Form::only, image_form::specs::Form::field, image_form::specs::Form::done, crate::specs::Image::range))]
+    #[tactic(auto, unfolding(binary_form::specs::Form::only, binary_form::specs::Form::field, binary_form::specs::Form::done, crate::specs::Image::range))]
     fn read<'a>(
         alloc: Global,
         among: &Header,
@@ -122,7 +122,7 @@ impl Item for WindowPart {
 
     ghost form = { window };
 
-    #[tactic(auto, unfolding(image_form::specs::Form::only, image_form::specs::Form::field, image_form::specs::Form::done, crate::specs::Image::window, crate::specs::Image::is_window, crate::specs::Image::after_window))]
+    #[tactic(auto, unfolding(binary_form::specs::Form::only, binary_form::specs::Form::field, binary_form::specs::Form::done, crate::specs::Image::window, crate::specs::Image::is_window, crate::specs::Image::after_window))]
     fn read<'a>(
         alloc: Global,
         among: &Outline,
@@ -158,7 +158,7 @@ impl Item for IrqPart {
 
     ghost form = { irq };
 
-    #[tactic(auto, unfolding(image_form::specs::Form::only, image_form::specs::Form::field, image_form::specs::Form::gap, image_form::specs::Form::done, crate::specs::Image::irq))]
+    #[tactic(auto, unfolding(binary_form::specs::Form::only, binary_form::specs::Form::field, binary_form::specs::Form::gap, binary_form::specs::Form::done, crate::specs::Image::irq))]
     fn read<'a>(
         alloc: Global,
         among: &Header,
@@ -197,7 +197,7 @@ impl Item for DevicePart {
 
     ghost form = { device };
 
-    #[tactic(auto, unfolding(image_form::specs::Form::only, image_form::specs::Form::field, image_form::specs::Form::gap, image_form::specs::Form::done, crate::specs::Image::device))]
+    #[tactic(auto, unfolding(binary_form::specs::Form::only, binary_form::specs::Form::field, binary_form::specs::Form::gap, binary_form::specs::Form::done, crate::specs::Image::device))]
     fn read<'a>(
         alloc: Global,
         among: &Outline,

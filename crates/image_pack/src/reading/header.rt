@@ -1,18 +1,18 @@
 //! Reads the counts at the front, and the scheduling groups.
-#![tactic(auto, unfolding(image_form::specs::Form::only, image_form::specs::Form::field, image_form::specs::Form::gap, image_form::specs::Form::done))]
+#![tactic(auto, unfolding(binary_form::specs::Form::only, binary_form::specs::Form::field, binary_form::specs::Form::gap, binary_form::specs::Form::done))]
 
 ghost use Rattle.std.specs.Prelude.{◌≡◌};
-ghost use Rattle.image_form.specs.Form.{Form, Gives, only, byte};
-ghost use Rattle.image_form.specs.declared.fault.Field.{Field};
+ghost use Rattle.binary_form.specs.Form.{Form, Gives, only, byte};
+ghost use Rattle.binary_form.specs.declared.fault.Field.{Field};
 ghost use Rattle.image_pack.specs.Image.{is_between, tau0_span, tau0_at, counts, header, group, nothing_left};
 
 use crate::codes::mark_of;
 use crate::items::Item;
 use crate::outline::Header;
 use crate::writing::put_group;
-use image_form::reading::{bad, byte_of, gap_of, u16_of};
-use image_form::{Field, FormError};
-use image_plan::GroupPart;
+use binary_form::reading::{bad, byte_of, gap_of, u16_of};
+use binary_form::{Field, FormError};
+use frame_clock::GroupPart;
 use muen_num::limits::{
     MOST_CPUS, MOST_DEVICE_WINDOWS, MOST_DEVICES, MOST_MAJOR_FRAMES, MOST_REGIONS, MOST_SUBJECTS,
 };
@@ -48,7 +48,7 @@ fn tau0_span(spans: u16, bytes: &[u8]) -> Result<(u16, &[u8]), FormError>
     Ok((number, rest))
 }
 
-#[tactic(auto, unfolding(image_form::specs::Form::either, image_form::specs::Form::present, image_form::specs::Form::absent, crate::specs::Image::tau0_at))]
+#[tactic(auto, unfolding(binary_form::specs::Form::either, binary_form::specs::Form::present, binary_form::specs::Form::absent, crate::specs::Image::tau0_at))]
 fn tau0_of(has_tau0: bool, spans: u16, bytes: &[u8]) -> Result<(Option<u16>, &[u8]), FormError>
     ensures { Gives (λ x. (x.0, x.1.now)) result ((tau0_at has_tau0 spans).read bytes.now) }
 {
@@ -61,7 +61,7 @@ fn tau0_of(has_tau0: bool, spans: u16, bytes: &[u8]) -> Result<(Option<u16>, &[u
     }
 }
 
-#[tactic(auto, unfolding(image_form::specs::Form::only, image_form::specs::Form::field, image_form::specs::Form::gap, image_form::specs::Form::done, crate::specs::Image::counts))]
+#[tactic(auto, unfolding(binary_form::specs::Form::only, binary_form::specs::Form::field, binary_form::specs::Form::gap, binary_form::specs::Form::done, crate::specs::Image::counts))]
 fn counts_of(has_tau0: bool, bytes: &[u8]) -> Result<(Header, &[u8]), FormError>
     ensures { Gives (λ x. (x.0, x.1.now)) result ((counts has_tau0).read bytes.now) }
 {
@@ -95,7 +95,7 @@ fn counts_of(has_tau0: bool, bytes: &[u8]) -> Result<(Header, &[u8]), FormError>
 }
 
 /// The counts at the front of an image.
-#[tactic(auto, unfolding(image_form::specs::Form::field, crate::specs::Image::header))]
+#[tactic(auto, unfolding(binary_form::specs::Form::field, crate::specs::Image::header))]
 pub(crate) fn header_of(bytes: &[u8]) -> Result<(Header, &[u8]), FormError>
     ensures { Gives (λ x. (x.0, x.1.now)) result (header.read bytes.now) }
 {
@@ -114,7 +114,7 @@ impl Item for GroupPart {
 
     ghost form = { group };
 
-    #[tactic(auto, unfolding(image_form::specs::Form::only, image_form::specs::Form::field, image_form::specs::Form::gap, image_form::specs::Form::done, crate::specs::Image::group))]
+    #[tactic(auto, unfolding(binary_form::specs::Form::only, binary_form::specs::Form::field, binary_form::specs::Form::gap, binary_form::specs::Form::done, crate::specs::Image::group))]
     fn read<'a>(
         alloc: Global,
         among: &Header,

@@ -1,8 +1,8 @@
 //! Reads major frames.
-#![tactic(auto, unfolding(image_form::specs::Form::only, image_form::specs::Form::field, image_form::specs::Form::gap, image_form::specs::Form::done))]
+#![tactic(auto, unfolding(binary_form::specs::Form::only, binary_form::specs::Form::field, binary_form::specs::Form::gap, binary_form::specs::Form::done))]
 
 ghost use Rattle.std.specs.Prelude.{◌≡◌};
-ghost use Rattle.image_form.specs.Form.{Form, Gives, items};
+ghost use Rattle.binary_form.specs.Form.{Form, Gives, items};
 ghost use Rattle.image_pack.specs.Image.{is_between, is_ticks, add_ticks, minor, frames, next_cpu, major, no_frames_before, nothing_left};
 
 use crate::items::{Item, items_of};
@@ -10,9 +10,9 @@ use crate::outline::Outline;
 use crate::reading::header::is_between;
 use crate::reading::subjects::is_group_on;
 use crate::writing::{put_frames, put_major, put_minor};
-use image_form::reading::{bad, byte_of, gap_of, u16_of, u32_of};
-use image_form::{Field, FormError};
-use image_plan::{Major, Minor};
+use binary_form::reading::{bad, byte_of, gap_of, u16_of, u32_of};
+use binary_form::{Field, FormError};
+use frame_clock::{Major, Minor};
 use muen_num::Seq;
 use muen_num::limits::{MOST_MINOR_FRAMES, MOST_TICKS};
 use std::alloc::{AllocError, Global};
@@ -52,7 +52,7 @@ impl Item for Minor {
 
     ghost form = { minor };
 
-    #[tactic(auto, unfolding(image_form::specs::Form::only, image_form::specs::Form::field, image_form::specs::Form::gap, image_form::specs::Form::done, crate::specs::Image::minor))]
+    #[tactic(auto, unfolding(binary_form::specs::Form::only, binary_form::specs::Form::field, binary_form::specs::Form::gap, binary_form::specs::Form::done, crate::specs::Image::minor))]
     fn read<'a>(
         alloc: Global,
         among: &Outline,
@@ -89,7 +89,7 @@ impl Item for Seq<Minor> {
 
     ghost form = { frames };
 
-    #[tactic(auto, unfolding(image_form::specs::Form::only, image_form::specs::Form::field, image_form::specs::Form::gap, crate::specs::Image::frames))]
+    #[tactic(auto, unfolding(binary_form::specs::Form::only, binary_form::specs::Form::field, binary_form::specs::Form::gap, crate::specs::Image::frames))]
     fn read<'a>(
         alloc: Global,
         among: &Outline,
@@ -128,7 +128,7 @@ impl Item for Major {
 
     ghost form = { major };
 
-    #[tactic(auto, unfolding(image_form::specs::Form::only, image_form::specs::Form::field, image_form::specs::Form::done, crate::specs::Image::major))]
+    #[tactic(auto, unfolding(binary_form::specs::Form::only, binary_form::specs::Form::field, binary_form::specs::Form::done, crate::specs::Image::major))]
     fn read<'a>(
         alloc: Global,
         among: &Outline,

@@ -1,8 +1,8 @@
 //! Reads the table of spans.
-#![tactic(auto, unfolding(image_form::specs::Form::only, image_form::specs::Form::field, image_form::specs::Form::gap, image_form::specs::Form::done))]
+#![tactic(auto, unfolding(binary_form::specs::Form::only, binary_form::specs::Form::field, binary_form::specs::Form::gap, binary_form::specs::Form::done))]
 
 ghost use Rattle.std.specs.Prelude.{◌≡◌, ◌+◌, ◌*◌, ◌<◌, ◌≤◌, IfOk, IsTrue, length};
-ghost use Rattle.image_form.specs.Form.{Form, Gives, items};
+ghost use Rattle.binary_form.specs.Form.{Form, Gives, items};
 ghost use Rattle.image_pack.specs.Image.{after, sum32, pages_with, device_pages_with, is_address, is_size, is_new, suits_tau0, has_room, is_kind, title, span, no_spans_before};
 
 use crate::codes::{is_part, kind_byte_of, part_of};
@@ -10,8 +10,8 @@ use crate::items::{Item, items_of};
 use crate::outline::Header;
 use crate::parts::{SpanKind, SpanPart};
 use crate::writing::put_span;
-use image_form::reading::{bad, byte_of, gap_of, name_of, u16_of, u32_of, u64_of};
-use image_form::{Field, FormError};
+use binary_form::reading::{bad, byte_of, gap_of, name_of, u16_of, u32_of, u64_of};
+use binary_form::{Field, FormError};
 use muen_num::limits::{MOST_BLOCK_BYTES, MOST_DEVICE_BYTES, PAGE, PHYSICAL_END};
 use muen_num::{Name, Seq, Tag};
 use std::alloc::{AllocError, Global};
@@ -101,7 +101,7 @@ fn is_kind(header: &Header, before: &SpansBefore, pages: u32, number: u16, kind:
     suits_tau0(header.tau0, number, kind) && has_room(before, pages, kind)
 }
 
-#[tactic(auto, unfolding(image_form::specs::Form::either, image_form::specs::Form::present, image_form::specs::Form::absent, crate::specs::Image::title))]
+#[tactic(auto, unfolding(binary_form::specs::Form::either, binary_form::specs::Form::present, binary_form::specs::Form::absent, crate::specs::Image::title))]
 fn title_of(code: u8, bytes: &[u8]) -> Result<(Option<Name>, &[u8]), FormError>
     ensures { Gives (λ x. (x.0, x.1.now)) result ((title code).read bytes.now) }
 {
@@ -141,7 +141,7 @@ impl Item for SpanPart {
 
     ghost form = { span };
 
-    #[tactic(auto, unfolding(image_form::specs::Form::only, image_form::specs::Form::field, image_form::specs::Form::gap, image_form::specs::Form::done, crate::specs::Image::span))]
+    #[tactic(auto, unfolding(binary_form::specs::Form::only, binary_form::specs::Form::field, binary_form::specs::Form::gap, binary_form::specs::Form::done, crate::specs::Image::span))]
     fn read<'a>(
         alloc: Global,
         among: &Header,
@@ -212,7 +212,7 @@ fn no_spans_before(alloc: Global, header: &Header) -> Result<SpansBefore, AllocE
 }
 
 /// The table of spans.
-#[tactic(auto, unfolding(image_form::specs::Form::items))]
+#[tactic(auto, unfolding(binary_form::specs::Form::items))]
 pub(crate) fn spans_of<'a>(
     alloc: Global,
     header: &Header,

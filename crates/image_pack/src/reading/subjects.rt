@@ -1,11 +1,11 @@
 //! Reads subjects and their events.
-#![tactic(auto, unfolding(image_form::specs::Form::only, image_form::specs::Form::field, image_form::specs::Form::gap, image_form::specs::Form::done))]
+#![tactic(auto, unfolding(binary_form::specs::Form::only, binary_form::specs::Form::field, binary_form::specs::Form::gap, binary_form::specs::Form::done))]
 
 ghost use Rattle.std.specs.Prelude.{◌≡◌};
-ghost use Rattle.image_form.specs.Form.{Form, Gives, only, number};
-ghost use Rattle.image_form.specs.declared.fault.Field.{Field};
+ghost use Rattle.binary_form.specs.Form.{Form, Gives, only, number};
+ghost use Rattle.binary_form.specs.declared.fault.Field.{Field};
 ghost use Rattle.std.specs.Int.{w16};
-ghost use Rattle.image_plan.specs.Plan.{is_group_on};
+ghost use Rattle.frame_clock.specs.Plan.{is_group_on};
 ghost use Rattle.image_pack.specs.Codes.{part_code};
 ghost use Rattle.image_pack.specs.Image.{is_first_here, is_group_of, is_kernel_span, is_eptp, event, events, subject, next_index, nothing_left};
 
@@ -14,10 +14,10 @@ use crate::items::{Item, items_of};
 use crate::outline::{Header, Outline};
 use crate::parts::{EventPart, SpanPart, SubjectPart};
 use crate::writing::put_subject;
-use image_form::reading::{bad, byte_of, gap_of, name_of, u16_of, u64_of};
-use image_form::writing::put_tag;
-use image_form::{Field, FormError};
-use image_plan::GroupPart;
+use binary_form::reading::{bad, byte_of, gap_of, name_of, u16_of, u64_of};
+use binary_form::writing::put_tag;
+use binary_form::{Field, FormError};
+use frame_clock::GroupPart;
 use muen_num::limits::{MOST_CALLS, MOST_MSRS, PAGE, PHYSICAL_END};
 use muen_num::{Seq, TagPart};
 use std::alloc::{AllocError, Global};
@@ -105,7 +105,7 @@ impl Item for Option<EventPart> {
         event_at(among, bytes)
     }
 
-    #[tactic(auto, unfolding(image_form::specs::Form::coded, crate::specs::Image::event))]
+    #[tactic(auto, unfolding(binary_form::specs::Form::coded, crate::specs::Image::event))]
     fn put(&self, out: &mut Vec<u8>) -> Result<(), AllocError> {
         put_tag(out, &event_bytes(self))
     }
@@ -133,7 +133,7 @@ impl Item for SubjectPart {
 
     ghost form = { subject };
 
-    #[tactic(auto, unfolding(image_form::specs::Form::only, image_form::specs::Form::field, image_form::specs::Form::gap, image_form::specs::Form::done, crate::specs::Image::subject))]
+    #[tactic(auto, unfolding(binary_form::specs::Form::only, binary_form::specs::Form::field, binary_form::specs::Form::gap, binary_form::specs::Form::done, crate::specs::Image::subject))]
     fn read<'a>(
         alloc: Global,
         among: &Outline,

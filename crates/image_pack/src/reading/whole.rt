@@ -1,8 +1,8 @@
 //! Reads a whole image.
-#![tactic(auto, unfolding(image_form::specs::Form::only, image_form::specs::Form::field, image_form::specs::Form::gap, image_form::specs::Form::done))]
+#![tactic(auto, unfolding(binary_form::specs::Form::only, binary_form::specs::Form::field, binary_form::specs::Form::gap, binary_form::specs::Form::done))]
 
 ghost use Rattle.std.specs.Prelude.{◌≡◌};
-ghost use Rattle.image_form.specs.Form.{Form, Gives, each, whole};
+ghost use Rattle.binary_form.specs.Form.{Form, Gives, each, whole};
 ghost use Rattle.image_pack.specs.Image.{content, image};
 
 use crate::items::items_of;
@@ -10,9 +10,9 @@ use crate::outline::Outline;
 use crate::parts::{DevicePart, Image, SpanPart, SubjectPart};
 use crate::reading::header::header_of;
 use crate::reading::spans::spans_of;
-use image_form::reading::bytes_upto;
-use image_form::{FormError, FormFault};
-use image_plan::{GroupPart, Major, Plan};
+use binary_form::reading::bytes_upto;
+use binary_form::{FormError, FormFault};
+use frame_clock::{GroupPart, Major, Plan};
 use muen_num::Seq;
 use muen_num::limits::PAGE;
 use std::alloc::Global;
@@ -33,7 +33,7 @@ fn content_of<'a>(
     }
 }
 
-#[tactic(auto, unfolding(image_form::specs::Form::each))]
+#[tactic(auto, unfolding(binary_form::specs::Form::each))]
 fn contents_of<'a>(
     alloc: Global,
     spans: &[SpanPart],
@@ -51,7 +51,7 @@ fn contents_of<'a>(
     Ok((list, rest))
 }
 
-#[tactic(auto, unfolding(image_form::specs::Form::field, image_form::specs::Form::done, crate::specs::Image::image))]
+#[tactic(auto, unfolding(binary_form::specs::Form::field, binary_form::specs::Form::done, crate::specs::Image::image))]
 fn image_of(alloc: Global, bytes: &[u8]) -> Result<(Image, &[u8]), FormError>
     ensures { Gives (λ x. (x.0, x.1.now)) result (image.read bytes.now) }
 {
@@ -94,7 +94,7 @@ fn image_of(alloc: Global, bytes: &[u8]) -> Result<(Image, &[u8]), FormError>
 }
 
 /// The image that the bytes are, to the last one.
-#[tactic(auto, unfolding(image_form::specs::Form::whole))]
+#[tactic(auto, unfolding(binary_form::specs::Form::whole))]
 pub(crate) fn all_of(alloc: Global, bytes: &[u8]) -> Result<Image, FormError>
     ensures { Gives (λ i. i) result (whole image bytes.now) }
 {

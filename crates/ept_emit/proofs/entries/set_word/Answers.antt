@@ -1,5 +1,5 @@
 use Rattle.std.proofs.Common.{◌≡◌, ◌+◌, ◌*◌, ◌-◌, ◌∙◌, ap, arith}
-use Rattle.machine_meaning.specs.Memory.{le_bytes}
+use Rattle.machine_layout.specs.Memory.{le_bytes}
 use Rattle.ept_emit.specs.Entries.{word_at}
 use Rattle.ept_emit.proofs.Bytes.{same_bytes, spelt, word_other}
 use Rattle.ept_emit.proofs.entries.set_word.Goals as goal

@@ -1,5 +1,5 @@
 use Rattle.std.proofs.Common.{ℕ, ◌+◌, ◌-◌, ◌<◌, ◌≤◌, length, get_or}
-use Rattle.ept_count.specs.declared.window.Window.{Window}
+use Rattle.ept_emit.specs.declared.window.Window.{Window}
 use Rattle.ept_emit.proofs.search.windows_before.Given as goal
 
 -- those before `low` end by the address, those from `high` on don't

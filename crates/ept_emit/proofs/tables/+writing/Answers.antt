@@ -1,5 +1,5 @@
 use Rattle.std.proofs.Common.{rules, ◌≡◌, ◌+◌, ◌*◌, ◌%◌, ◌^◌, Some, sym, ◌∙◌, arith}
-use Rattle.machine_meaning.specs.Walks.{entry_size}
+use Rattle.machine_layout.specs.Walks.{entry_size}
 use Rattle.ept_emit.specs.Entries.{window_on, word_at}
 use Rattle.ept_emit.proofs.Counts.{needs_add, needs_at, room_in}
 use Rattle.ept_emit.proofs.Found.{not_lowest}

@@ -1,5 +1,5 @@
 use Rattle.std.proofs.Common.{◌∙◌, ◌/◌, ap, arith, refl, length}
-use Rattle.ept_count.specs.Pages.{ept_pages}
+use Rattle.ept_emit.specs.Pages.{ept_pages}
 use Rattle.ept_emit.specs.Emitted.{window_at}
 use Rattle.ept_emit.specs.Entries.{word_at}
 use Rattle.ept_emit.proofs.Bytes.{zero_word}

@@ -1,6 +1,6 @@
-use Rattle.machine_meaning.specs.Memory.{is_there}
-use Rattle.machine_meaning.specs.Walks.{entry_of}
-use Rattle.machine_meaning.proofs.WalkSteps.{walk_none, walk_absent, walk_bad, walk_leaf, walk_deeper}
+use Rattle.machine_layout.specs.Memory.{is_there}
+use Rattle.machine_layout.specs.Walks.{entry_of}
+use Rattle.machine_layout.proofs.WalkSteps.{walk_none, walk_absent, walk_bad, walk_leaf, walk_deeper}
 use Rattle.ept_walk.proofs.plain.+walk_from.Goals as goal
 
 pub returns-in_default : goal.returns-in_default

@@ -1,6 +1,6 @@
 use Rattle.std.proofs.Common.{◌∙◌}
 use Rattle.std.proofs.lemmas.Slice.Zip.{either_empty_from_Zip}
-use Rattle.ept_count.specs.Pages.{ept_pages}
+use Rattle.ept_emit.specs.Pages.{ept_pages}
 use Rattle.expand_kernel.specs.ByIndex.{mapped_views}
 use Rattle.expand_kernel.proofs.InTurn.{at_first, at_last, can_next, next_made}
 use Rattle.expand_kernel.proofs.kernel.of_kernel.Goals as goal

@@ -1,9 +1,9 @@
 use Rattle.std.proofs.Common.{◌∙◌, List, map, sym, ap}
 use Rattle.std.specs.Prelude.{slice_get, option_map}
 use Rattle.std.specs.List.{flat_map}
-use Rattle.image_plan.specs.Plan.{frame_of}
-use Rattle.image_plan.specs.Slot.{frame_slots}
-use Rattle.image_plan.specs.declared.plan.Minor.{Minor}
+use Rattle.frame_clock.specs.Plan.{frame_of}
+use Rattle.frame_clock.specs.Slot.{frame_slots}
+use Rattle.frame_clock.specs.declared.plan.Minor.{Minor}
 use Rattle.frame_clock.proofs.MinorFrames.{no_major, no_cpu, in_frames_there}
 use Rattle.frame_clock.proofs.frame_at.slot.Goals as goal
 

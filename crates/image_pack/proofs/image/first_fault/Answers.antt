@@ -1,4 +1,4 @@
-use Rattle.image_form.proofs.Theorem.{stays, before, only_short}
+use Rattle.binary_form.proofs.Theorem.{stays, before, only_short}
 use Rattle.image_pack.specs.Image.{image}
 use Rattle.image_pack.proofs.ImageLaws.{image_laws}
 use Rattle.image_pack.proofs.image.first_fault.Goals as goal

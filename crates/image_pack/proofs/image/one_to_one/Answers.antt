@@ -1,4 +1,4 @@
-use Rattle.image_form.proofs.Theorem.{back, spelled, apart}
+use Rattle.binary_form.proofs.Theorem.{back, spelled, apart}
 use Rattle.image_pack.specs.Image.{image}
 use Rattle.image_pack.proofs.ImageLaws.{image_laws}
 use Rattle.image_pack.proofs.image.one_to_one.Goals as goal

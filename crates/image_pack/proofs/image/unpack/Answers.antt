@@ -1,5 +1,5 @@
 use Rattle.std.proofs.Common.{Ok, Err, arith}
-use Rattle.image_form.proofs.Theorem.{is_found, is_error, is_unpacked, is_wanted, only_that}
+use Rattle.binary_form.proofs.Theorem.{is_found, is_error, is_unpacked, is_wanted, only_that}
 use Rattle.image_pack.specs.Image.{image}
 use Rattle.image_pack.proofs.ImageLaws.{image_laws}
 use Rattle.image_pack.proofs.image.unpack.Goals as goal

@@ -1,6 +1,6 @@
 use Rattle.std.proofs.lemmas.Result.{err_from_is_err_and}
-use Rattle.image_form.specs.Form.{items}
-use Rattle.image_form.proofs.Loops.{goes_on, ends, is_done}
+use Rattle.binary_form.specs.Form.{items}
+use Rattle.binary_form.proofs.Loops.{goes_on, ends, is_done}
 use Rattle.image_pack.proofs.items.items_of.Goals as goal
 
 pub returns-in_err-item : goal.returns-in_err-item

@@ -1,6 +1,6 @@
 use Rattle.std.proofs.Common.{◌≡◌, ◌-◌}
-use Rattle.image_form.specs.Form.{items_at}
-use Rattle.image_form.proofs.Loops.{with_front}
+use Rattle.binary_form.specs.Form.{items_at}
+use Rattle.binary_form.proofs.Loops.{with_front}
 use Rattle.image_pack.proofs.items.items_of.Given as goal
 
 abbrev pub invariant-loop-i : goal.invariant-loop-i

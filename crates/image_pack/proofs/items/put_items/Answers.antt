@@ -1,5 +1,5 @@
-use Rattle.image_form.specs.Form.{items}
-use Rattle.image_form.proofs.Puts.{fits_at, put_more, put_none, put_all}
+use Rattle.binary_form.specs.Form.{items}
+use Rattle.binary_form.proofs.Puts.{fits_at, put_more, put_none, put_all}
 use Rattle.image_pack.proofs.items.put_items.Goals as goal
 
 pub loop-item-init : goal.loop-item-init

@@ -1,5 +1,5 @@
 use Rattle.std.proofs.Common.{◌≡◌, ◌++◌, take}
-use Rattle.image_form.specs.Form.{spells}
+use Rattle.binary_form.specs.Form.{spells}
 use Rattle.image_pack.proofs.items.put_items.Given as goal
 
 abbrev pub invariant-loop-item : goal.invariant-loop-item

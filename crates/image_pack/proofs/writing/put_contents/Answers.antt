@@ -1,5 +1,5 @@
-use Rattle.image_form.specs.Form.{bytes_of, each}
-use Rattle.image_form.proofs.Loops.{each_put, each_put_all, each_length}
+use Rattle.binary_form.specs.Form.{bytes_of, each}
+use Rattle.binary_form.proofs.Loops.{each_put, each_put_all, each_length}
 use Rattle.image_pack.specs.Image.{content}
 use Rattle.image_pack.proofs.writing.put_contents.Goals as goal
 

@@ -1,5 +1,5 @@
 use Rattle.std.proofs.Common.{◌≡◌, ◌++◌, drop}
-use Rattle.image_form.specs.Form.{each_spelled}
+use Rattle.binary_form.specs.Form.{each_spelled}
 use Rattle.image_pack.specs.Image.{content}
 use Rattle.image_pack.proofs.writing.put_contents.Given as goal
 

@@ -1,5 +1,5 @@
-use Rattle.image_form.specs.Form.{only}
-use Rattle.image_form.proofs.Puts.{put_field, put_gap, put_done}
+use Rattle.binary_form.specs.Form.{only}
+use Rattle.binary_form.proofs.Puts.{put_field, put_gap, put_done}
 use Rattle.image_pack.specs.Image.{subject}
 use Rattle.image_pack.proofs.writing.put_subject.Goals as goal
 

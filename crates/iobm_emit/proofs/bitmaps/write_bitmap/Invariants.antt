@@ -1,5 +1,5 @@
 use Rattle.std.proofs.Common.{◌≡◌, ◌+◌, ◌<◌, ℕ, not, take}
-use Rattle.machine_meaning.specs.Exits.{is_set}
+use Rattle.machine_layout.specs.Exits.{is_set}
 use Rattle.iobm_emit.specs.Ports.{is_granted}
 use Rattle.iobm_emit.proofs.bitmaps.write_bitmap.Given as goal
 

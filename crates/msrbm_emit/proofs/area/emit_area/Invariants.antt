@@ -1,6 +1,6 @@
 use Rattle.std.proofs.Common.{◌≡◌, ◌*◌, length, take}
-use Rattle.machine_meaning.specs.Exits.{area_bytes, entry_size}
-use Rattle.page_parts.specs.Fields.{padded}
+use Rattle.machine_layout.specs.Exits.{area_bytes, entry_size}
+use Rattle.machine_layout.specs.PageFields.{padded}
 use Rattle.msrbm_emit.specs.Area.{area_of, count_of}
 use Rattle.msrbm_emit.proofs.area.emit_area.Given as goal
 

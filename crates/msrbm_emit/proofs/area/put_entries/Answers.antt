@@ -1,6 +1,6 @@
 use Rattle.std.proofs.Common.{◌∙◌, ◌+◌, ◌++◌, ap, length, arith}
-use Rattle.machine_meaning.specs.Exits.{area_bytes}
-use Rattle.page_parts.specs.Fields.{padded}
+use Rattle.machine_layout.specs.Exits.{area_bytes}
+use Rattle.machine_layout.specs.PageFields.{padded}
 use Rattle.msrbm_emit.proofs.AreaLaws.{range_step, range_ends}
 use Rattle.msrbm_emit.proofs.area.put_entries.Goals as goal
 

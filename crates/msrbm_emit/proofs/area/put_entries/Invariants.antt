@@ -1,6 +1,6 @@
 use Rattle.std.proofs.Common.{◌≡◌, ◌+◌, ◌-◌, ◌*◌, ◌≤◌, List, ℕ, ◌++◌, length}
-use Rattle.machine_meaning.specs.Exits.{area_bytes, entry_size}
-use Rattle.page_parts.specs.Fields.{padded}
+use Rattle.machine_layout.specs.Exits.{area_bytes, entry_size}
+use Rattle.machine_layout.specs.PageFields.{padded}
 use Rattle.msrbm_emit.specs.Area.{size_of}
 use Rattle.msrbm_emit.proofs.AreaLaws.{front_of}
 use Rattle.msrbm_emit.proofs.area.put_entries.Given as goal

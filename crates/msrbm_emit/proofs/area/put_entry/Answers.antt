@@ -1,5 +1,5 @@
 use Rattle.std.proofs.Common.{◌∙◌, ap}
-use Rattle.machine_meaning.specs.Memory.{le_bytes, over}
+use Rattle.machine_layout.specs.Memory.{le_bytes, over}
 use Rattle.msrbm_emit.proofs.AreaLaws.{entry_put}
 use Rattle.msrbm_emit.proofs.area.put_entry.Goals as goal
 

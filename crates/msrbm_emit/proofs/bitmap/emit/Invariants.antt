@@ -1,5 +1,5 @@
 use Rattle.std.proofs.Common.{◌≡◌, ℕ, Bool, not, take}
-use Rattle.machine_meaning.specs.Exits.{msr_exits}
+use Rattle.machine_layout.specs.Exits.{msr_exits}
 use Rattle.msrbm_emit.specs.Msrs.{is_granted}
 use Rattle.msrbm_emit.proofs.bitmap.emit.Given as goal
 

@@ -1,5 +1,5 @@
 use Rattle.std.proofs.Common.{◌≡◌, length, ◌-◌, ◌++◌, take}
-use Rattle.machine_meaning.specs.Memory.{le_bytes}
+use Rattle.machine_layout.specs.Memory.{le_bytes}
 use Rattle.phys_mem.proofs.little_endian.spell.Given as goal
 
 -- what is written, and what remains to spell

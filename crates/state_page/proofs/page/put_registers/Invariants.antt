@@ -1,6 +1,6 @@
 use Rattle.std.proofs.Common.{◌≡◌, length, take, flat_map}
-use Rattle.machine_meaning.specs.Memory.{le_bytes}
-use Rattle.page_parts.specs.Fields.{padded}
+use Rattle.machine_layout.specs.Memory.{le_bytes}
+use Rattle.machine_layout.specs.PageFields.{padded}
 use Rattle.state_page.proofs.page.put_registers.Given as goal
 
 -- the registers so far, and zeros behind them

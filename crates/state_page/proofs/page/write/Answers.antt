@@ -1,7 +1,7 @@
 use Rattle.std.proofs.Common.{◌≡◌, ◌∙◌, ◌^◌, ◌<◌, ℕ, ◌∷◌, ◌++◌, [], ap, arith, length, flat_map, rules}
-use Rattle.machine_meaning.specs.Memory.{le_bytes, over}
-use Rattle.page_parts.specs.Fields.{padded}
-use Rattle.page_parts.proofs.FieldLaws.{length-le_bytes}
+use Rattle.machine_layout.specs.Memory.{le_bytes, over}
+use Rattle.machine_layout.specs.PageFields.{padded}
+use Rattle.machine_layout.proofs.PageFieldLaws.{length-le_bytes}
 use Rattle.state_page.specs.StatePage.{page_bytes, flags_of}
 use Rattle.state_page.proofs.PageLaws.{fields_put, length-words, state_back}
 use Rattle.state_page.proofs.page.write.Goals as goal

@@ -2,11 +2,11 @@ use Rattle.std.proofs.Common.{◌≤◌, not, sym, ap, subst, ◌∙◌}
 use Rattle.std.specs.List.{list_all}
 use Rattle.expand_grants.specs.Grants.{AreGrantsOf}
 use Rattle.iobm_emit.specs.Ports.{is_granted_access}
-use Rattle.machine_meaning.specs.Exits.{area_bytes}
+use Rattle.machine_layout.specs.Exits.{area_bytes}
 use Rattle.msrbm_emit.specs.Area.{area_of, count_of}
 use Rattle.msrbm_emit.specs.Msrs.{is_covered, is_granted}
 use Rattle.muen_num.specs.declared.limits.TheConstants.{MOST_MSRS, PAGE}
-use Rattle.page_parts.specs.Fields.{padded}
+use Rattle.machine_layout.specs.PageFields.{padded}
 use Rattle.subject_emit.proofs.KeptMsrs.{msrs_covered, msrs_few}
 use Rattle.subject_emit.proofs.Pieces.{both_at}
 use Rattle.subject_emit.proofs.TablesReady.{ready}

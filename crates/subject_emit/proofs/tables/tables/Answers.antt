@@ -1,5 +1,5 @@
 use Rattle.std.proofs.Common.{◌≡◌, length, drop, ◌*◌, map, sym, ap, subst, ◌∙◌}
-use Rattle.ept_count.specs.Pages.{ept_pages}
+use Rattle.ept_emit.specs.Pages.{ept_pages}
 use Rattle.subject_emit.specs.Mapped.{mapped, mapped_windows}
 use Rattle.subject_emit.specs.Pages.{AreTablesOf, tables_at}
 use Rattle.subject_emit.proofs.Joined.{written}

@@ -1,5 +1,5 @@
 use Rattle.std.proofs.Common.{arith}
-use Rattle.machine_meaning.specs.declared.walk.Walk.TheVariants.{At, Violation}
+use Rattle.machine_layout.specs.declared.walk.Walk.TheVariants.{At, Violation}
 use Rattle.vmx_machine.proofs.StoreWithin.{walk_within, bit_fits}
 use Rattle.vmx_machine.proofs.access.look.Goals as goal
 

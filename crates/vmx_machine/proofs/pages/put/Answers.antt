@@ -1,7 +1,7 @@
 use Rattle.std.proofs.Common.{subst, sym, ◌∙◌}
-use Rattle.machine_meaning.specs.Memory.{store_of}
-use Rattle.machine_meaning.specs.Same.{SameOutside}
-use Rattle.machine_meaning.proofs.StoreLaws.{stores_differ_in_their_bytes}
+use Rattle.machine_layout.specs.Memory.{store_of}
+use Rattle.machine_layout.specs.Same.{SameOutside}
+use Rattle.machine_layout.proofs.StoreLaws.{stores_differ_in_their_bytes}
 use Rattle.muen_num.specs.AccessSize.{bytes_of}
 use Rattle.vmx_machine.proofs.pages.put.Goals as goal
 

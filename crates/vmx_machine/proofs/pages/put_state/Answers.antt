@@ -1,6 +1,6 @@
 use Rattle.std.proofs.Common.{◌≡◌, ℕ, ◌*◌, ◌/◌, List, ap, sym, ◌∙◌, arith}
-use Rattle.machine_meaning.specs.Memory.{change, page_of}
-use Rattle.machine_meaning.proofs.PageLaws.{change_none}
+use Rattle.machine_layout.specs.Memory.{change, page_of}
+use Rattle.machine_layout.proofs.PageLaws.{change_none}
 use Rattle.vmx_machine.proofs.pages.put_state.Goals as goal
 
 same_number : (k : ℕ) → (4096 * k) / 4096 ≡ k

@@ -1,4 +1,4 @@
-use Rattle.machine_meaning.proofs.PageLaws.{changes_differ_in_their_page}
+use Rattle.machine_layout.proofs.PageLaws.{changes_differ_in_their_page}
 use Rattle.state_page.specs.StatePage.{page_bytes}
 use Rattle.vmx_machine.proofs.pages.save_state.Goals as goal
 

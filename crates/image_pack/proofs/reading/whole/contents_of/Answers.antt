@@ -1,6 +1,6 @@
 use Rattle.std.proofs.lemmas.Result.{err_from_is_err_and}
-use Rattle.image_form.specs.Form.{each}
-use Rattle.image_form.proofs.Loops.{each_goes_on, each_ends, each_done}
+use Rattle.binary_form.specs.Form.{each}
+use Rattle.binary_form.proofs.Loops.{each_goes_on, each_ends, each_done}
 use Rattle.image_pack.specs.Image.{content}
 use Rattle.image_pack.proofs.reading.whole.contents_of.Goals as goal
 

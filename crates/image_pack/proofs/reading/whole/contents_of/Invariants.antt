@@ -1,6 +1,6 @@
 use Rattle.std.proofs.Common.{◌≡◌, drop}
-use Rattle.image_form.specs.Form.{each_at}
-use Rattle.image_form.proofs.Loops.{with_front}
+use Rattle.binary_form.specs.Form.{each_at}
+use Rattle.binary_form.proofs.Loops.{with_front}
 use Rattle.image_pack.specs.Image.{content}
 use Rattle.image_pack.proofs.reading.whole.contents_of.Given as goal
 

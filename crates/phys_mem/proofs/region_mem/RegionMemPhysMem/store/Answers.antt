@@ -1,10 +1,10 @@
 use Rattle.std.proofs.Common.{[], ◌≡◌, ◌∙◌, ◌≤◌, ◌+◌, ◌%◌, sym, ap, arith, rules, set, length, get_or}
 use Rattle.std.proofs.lemmas.Grind.{common_steps}
 use Rattle.std.proofs.lemmas.List.{get_or_read}
-use Rattle.machine_meaning.proofs.StoreLaws.{spelt}
+use Rattle.machine_layout.proofs.StoreLaws.{spelt}
 use Rattle.phys_mem.specs.Frames.{pages_by}
 use Rattle.muen_num.specs.AccessSize.{bytes_of}
-use Rattle.machine_meaning.specs.Memory.{le_bytes, over}
+use Rattle.machine_layout.specs.Memory.{le_bytes, over}
 use Rattle.phys_mem.proofs.region_mem.RegionMemPhysMem.store.Goals as goal
 
 pub returns-in-Some-clause-after : goal.returns-in-Some-clause-after

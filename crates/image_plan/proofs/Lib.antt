@@ -1,3 +1,0 @@
-mod Examples
-pub mod ByNumber
-pub mod SlotLaws

@@ -1,5 +1,0 @@
-use Rattle.isolation.proofs.TwoSystems.{same_views}
-use Rattle.isolation.proofs.members_see_the_same.Goals as goal
-
-pub returns : goal.returns
-returns c = same_views

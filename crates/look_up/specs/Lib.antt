@@ -1,2 +1,0 @@
-pub mod ByNumber
-pub mod Laws

@@ -1,0 +1,9 @@
+pub mod PageLaws
+pub mod StoreLaws
+pub mod WalkLaws
+pub mod BitFieldLaws
+pub mod WalkSteps
+pub mod AreaLaws
+pub mod ExitLaws
+pub mod BitmapLaws
+pub mod PageFieldLaws

@@ -1,0 +1,21 @@
+//! What the machine's memory means: its pages, the walk of EPT tables over them, which accesses of ports
+//! and of MSRs leave a subject, and how pages of bitmaps and of fields are written (Intel SDM volume 3).
+//! The definitions stand in specs/; the types that they answer with stand here, with laws of them.
+#![tactic(auto)]
+
+mod bit_fields;
+mod exits;
+mod laws;
+mod walk;
+mod bitmaps;
+mod page_fields;
+
+pub use bit_fields::{bits, with_bits};
+pub use exits::{msr_exits, port_exits};
+pub use laws::{
+    areas_are_read_back, changes_elsewhere_change_no_walk, pages_change_alone,
+    stores_change_their_bytes, walks_depend_on_their_entries,
+};
+pub use walk::Walk;
+pub use bitmaps::{clear_bits, set_all};
+pub use page_fields::{clear_all, put_bytes, put_word, word_at};

@@ -1,5 +1,0 @@
-use Rattle.machine_meaning.proofs.AreaLaws.{areas_are_read_back}
-use Rattle.machine_meaning.proofs.laws.areas_are_read_back.Goals as goal
-
-pub returns : goal.returns
-returns c = areas_are_read_back

@@ -1,6 +1,0 @@
-pub mod Exits
-pub mod Pending
-pub mod Memory
-pub mod Walks
-pub mod Same
-pub mod Laws

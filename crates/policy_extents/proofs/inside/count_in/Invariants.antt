@@ -1,8 +1,0 @@
--- So many were inside.
-use Rattle.std.specs.List.{list_any}
-use Rattle.policy_extents.specs.Inside.{holds}
-use Rattle.policy_extents.proofs.InsideOne.{Counting}
-use Rattle.policy_extents.proofs.inside.count_in.Given as goal
-
-abbrev pub invariant-loop-index : goal.invariant-loop-index
-invariant-loop-index l = Counting (λ e. list_any (holds e) l.ranges) l.extents l.index

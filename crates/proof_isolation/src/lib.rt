@@ -1,0 +1,60 @@
+//! Laws of isolation: what is outside a closed set of subjects changes nothing for its members.
+//!
+//! A set is closed where each subject that can reach a member is a member (`flows_to`, `IsClosed` of
+//! `flow_report`); `flows` prints the least such set with a subject. What the laws speak of stands in specs/:
+//! systems that are alike for members (`Alike`), and policies, files and records that agree on what reaches
+//! them (`Agree`). The functions here carry the laws; no command calls one.
+#![tactic(auto)]
+
+ghost use Rattle.std.specs.Prelude.{◌≡◌, ℕ, List, Some, All, IsTrue, false, min, slice_get, true};
+ghost use Rattle.flow_report.specs.Flows.{IsClosed, closure_of, is_member};
+ghost use Rattle.frame_clock.specs.Slot.{Slot};
+ghost use Rattle.policy_lawful.specs.Lawful.{IsLawful};
+ghost use Rattle.policy_meaning.specs.Contents.{Held};
+ghost use Rattle.policy_types.specs.declared.source.Source.{Source};
+ghost use Rattle.policy_types.specs.declared.source.Subject.{Subject};
+ghost use Rattle.record_text.specs.DeviceRecord.{DeviceRecord};
+ghost use Rattle.record_text.specs.Reading.{are_distinct};
+ghost use Rattle.subject_model.specs.Clock.{run_of};
+ghost use Rattle.subject_model.specs.System.{System, subject_named, system_turn};
+ghost use Rattle.subject_model.specs.View.{Seen, view_of};
+ghost use Rattle.proof_views.specs.LinesOf.{lines_of};
+ghost use Rattle.proof_views.specs.Members.{AreListed, HasTurn};
+ghost use Rattle.proof_isolation.specs.Agree.{Agree};
+ghost use Rattle.proof_isolation.specs.Alike.{AreAlike, AreSameViews};
+
+/// A turn that no member of a closed set has changes nothing that a member has or sees: no own state, no
+/// MSR, no pending event, not which member is active, no byte that a window shows, no input byte of a granted
+/// port. The policy is lawful, and each group's active member is one that the group lists, as in every run.
+pub fn outsiders_change_nothing()
+    ensures { (p : Source) (members : List (List ℕ)) (cpu tick : ℕ) (y : System) → IsLawful p → IsClosed p members → AreListed p y.active
+        → ((slot : Slot) (name : List ℕ) (u : Subject) → HasTurn p cpu tick y slot name u → is_member members u ≡ false)
+        → AreAlike p p members y (system_turn p cpu tick y).state }
+{}
+
+/// **Two systems.** Where a set of subjects is closed in two lawful policies, and these with their files and
+/// records agree on what reaches its members (`Agree`), each member has at each tick below both ends the same
+/// view in both: the same line, own state, MSRs, pending events, and bytes of all that its windows show. So it
+/// is whatever the programs, contents, devices, plans and policies of all others are, and whatever they do.
+pub fn members_see_the_same()
+    ensures { (p q : Source) (f g : Held) (r t : DeviceRecord) (members : List (List ℕ)) → IsLawful p → IsLawful q → IsClosed p members → IsClosed q members
+        → Agree members p q f g r t (min r.end t.end) → (s w : Subject) → is_member members s ≡ true → subject_named p s.name ≡ Some s → subject_named q s.name ≡ Some w
+        → (n : ℕ) (a b : Seen) → slice_get (view_of p f r s) n ≡ Some a → slice_get (view_of q g t w) n ≡ Some b → AreSameViews a b }
+{}
+
+/// So it is for each subject with the set that `flows` prints of it (`closure_of`): whoever isn't in this set
+/// changes nothing of what the subject sees.
+pub fn sets_of_flows_are_enough()
+    ensures { (p q : Source) (f g : Held) (r t : DeviceRecord) (s w : Subject) → IsLawful p → IsLawful q → subject_named p s.name ≡ Some s → subject_named q s.name ≡ Some w
+        → IsClosed q (closure_of p s.name) → Agree (closure_of p s.name) p q f g r t (min r.end t.end)
+        → (n : ℕ) (a b : Seen) → slice_get (view_of p f r s) n ≡ Some a → slice_get (view_of q g t w) n ≡ Some b → AreSameViews a b }
+{}
+
+/// And so are the lines that are printed of a member, where both runs have as many ticks and no order of a
+/// record names a CPU twice.
+pub fn members_print_the_same()
+    ensures { (p q : Source) (f g : Held) (r t : DeviceRecord) (members : List (List ℕ)) → IsLawful p → IsLawful q → IsClosed p members → IsClosed q members
+        → Agree members p q f g r t (min r.end t.end) → r.end ≡ t.end → All (λ o. IsTrue (are_distinct o.1)) r.orders → All (λ o. IsTrue (are_distinct o.1)) t.orders
+        → (s w : Subject) → is_member members s ≡ true → subject_named p s.name ≡ Some s → subject_named q s.name ≡ Some w
+        → lines_of s.name (run_of p f r).lines ≡ lines_of s.name (run_of q g t).lines }
+{}

@@ -1,0 +1,34 @@
+//! The run of a sound image prints what the abstract system of its policy does.
+//!
+//! The function here carries this law; no command calls it.
+#![tactic(auto)]
+
+ghost use Rattle.std.specs.Prelude.{◌≡◌, ℕ, List, Ok};
+ghost use Rattle.subject_model.specs.Trace.{trace_of};
+ghost use Rattle.image_load.specs.Resolving.{image_bench, image_record};
+ghost use Rattle.image_soundness.specs.Sound.{IsSound};
+ghost use Rattle.image_pack.specs.ImageConditions.{KeepsConditions};
+ghost use Rattle.binary_form.specs.Form.{IsBytes};
+ghost use Rattle.image_pack.specs.Parts.{IsImage, IsParts};
+ghost use Rattle.image_pack.specs.declared.parts.Image.{Image};
+ghost use Rattle.muen_run.specs.RunText.{image_text};
+ghost use Rattle.policy_meaning.specs.Contents.{Held};
+ghost use Rattle.policy_types.specs.declared.source.Source.{Source};
+ghost use Rattle.record_text.specs.DeviceRecord.{DeviceRecord};
+ghost use Rattle.record_text.specs.Reading.{record_of};
+ghost use Rattle.image_soundness.specs.Bench.{devices_of};
+
+/// For every policy and files for which an image is sound, and every device record of the policy's
+/// devices with any order of the CPUs in each tick: the text of the image's run is the text of the
+/// abstract system's run, in which each subject acts alone on its own state and what reaches it. And
+/// a record may name of the image what it may name of the policy.
+pub fn sound_images_run_as_their_systems()
+    ensures trace { (p : Source) (files : Held) (bytes : List ℕ) (i : Image) (text : List ℕ) (r : DeviceRecord) → IsBytes bytes → IsImage bytes i
+        → IsSound p files i → record_of text (devices_of p) ≡ Ok r → image_text i (image_record i r) ≡ trace_of p files r }
+    ensures bench { (p : Source) (files : Held) (bytes : List ℕ) (i : Image) → IsImage bytes i → IsSound p files i → image_bench i ≡ devices_of p }
+{}
+
+/// Parts that have a spelling keep the conditions of an image.
+pub fn what_has_a_spelling_keeps_the_conditions()
+    ensures { (i : Image) → IsParts i → KeepsConditions i }
+{}

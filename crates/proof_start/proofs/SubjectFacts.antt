@@ -1,0 +1,87 @@
+-- The subjects of an image: their spans, and their controls in the machine.
+use Rattle.std.proofs.Common.{◌≡◌, ℕ, true, false, Some, refl, sym, ap, ◌∙◌, inl, inr, arith}
+use Rattle.std.specs.Prelude.{◌==◌, option_map, slice_get}
+use Rattle.std.specs.List.{list_any}
+use Rattle.std.proofs.lemmas.Bool.{cases_lt, eq-eqb, true≢false}
+use Rattle.std.proofs.lemmas.Option.{slice_get-map}
+use Rattle.image_load.specs.Loaded.{control_of, memory_of}
+use Rattle.image_soundness.specs.Sound.{HaveOwnPages, own_spans, share_a_span}
+use Rattle.image_pack.specs.Codes.{part_code}
+use Rattle.image_pack.specs.ImageConditions.{IsSubject, KeepsConditions}
+use Rattle.image_pack.specs.declared.parts.Image.{Image}
+use Rattle.image_pack.specs.declared.parts.SubjectPart.{SubjectPart}
+use Rattle.muen_num.specs.declared.tag.TagPart.TheVariants.{State, Iobm, Msrbm, Msrs}
+use Rattle.policy_types.specs.declared.source.Source.{Source}
+use Rattle.vmx_machine.specs.declared.control.Control.{Control}
+use Rattle.proof_start.specs.GroundOf.{ground_of}
+use Rattle.proof_start.proofs.ListFacts.{all_at, any_at, enumerated_at, from_some, pairs_at}
+use Rattle.proof_start.proofs.SpanFacts.{KernelSpan, kernel_span}
+
+-- the spans that a subject has for itself
+pub record SubjectSpans (i : Image) (q : SubjectPart) : Type 0 where
+  pub state : KernelSpan i.spans (part_code State) 1 q.state
+  pub iobm : KernelSpan i.spans (part_code Iobm) 2 q.iobm
+  pub msrbm : KernelSpan i.spans (part_code Msrbm) 1 q.msrbm
+  pub area : KernelSpan i.spans (part_code Msrs) 1 q.area
+
+pub subject_kept : (i : Image) → KeepsConditions i → (s : ℕ) (q : SubjectPart) → slice_get i.subjects s ≡ Some q → (n : ℕ) × IsSubject i (n, q)
+subject_kept i keeps s q at =
+    let e = enumerated_at 0 i.subjects s q at in
+    (e.0, all_at (IsSubject i) _ s (e.0, q) keeps.subjects e.1)
+
+pub subject_spans : (i : Image) → KeepsConditions i → (s : ℕ) (q : SubjectPart) → slice_get i.subjects s ≡ Some q → SubjectSpans i q
+subject_spans i keeps s q at =
+    let k = (subject_kept i keeps s q at).1 in
+    record {
+      state = kernel_span i.spans (part_code State) 1 q.state keeps.spans k.state;
+      iobm = kernel_span i.spans (part_code Iobm) 2 q.iobm keeps.spans k.iobm;
+      msrbm = kernel_span i.spans (part_code Msrbm) 1 q.msrbm keeps.spans k.msrbm;
+      area = kernel_span i.spans (part_code Msrs) 1 q.area keeps.spans k.area;
+    }
+
+-- ---- controls
+
+-- the control of this number is that of a subject of the image
+pub record Controlled (i : Image) (s : ℕ) (c : Control) : Type 0 where
+  pub part : SubjectPart
+  pub here : slice_get i.subjects s ≡ Some part
+  pub is : control_of i.spans part ≡ c
+
+pub controlled : (p : Source) (i : Image) (s : ℕ) (c : Control) → slice_get (ground_of p i).setup.controls s ≡ Some c → Controlled i s c
+unfolding ground_of
+controlled p i s c at =
+    let f = from_some (control_of i.spans) (slice_get i.subjects s) c (sym (slice_get-map (control_of i.spans) i.subjects s) ∙ at) in
+    record { part = f.0; here = f.1; is = f.2 }
+
+pub control_at : (p : Source) (i : Image) (s : ℕ) (q : SubjectPart) → slice_get i.subjects s ≡ Some q → slice_get (ground_of p i).setup.controls s ≡ Some (control_of i.spans q)
+unfolding ground_of
+control_at p i s q at = slice_get-map (control_of i.spans) i.subjects s ∙ ap (option_map (control_of i.spans)) at
+
+pub part_at : (p : Source) (i : Image) (s : ℕ) → slice_get (ground_of p i).setup.subjects s ≡ slice_get i.subjects s
+unfolding ground_of
+part_at p i s = refl
+
+pub ground_policy : (p : Source) (i : Image) → (ground_of p i).policy ≡ p
+unfolding ground_of
+ground_policy p i = refl
+
+pub ground_memory : (p : Source) (i : Image) → (ground_of p i).memory ≡ memory_of i
+unfolding ground_of
+ground_memory p i = refl
+
+-- ---- own pages
+
+shares : (a b : SubjectPart) (k l n : ℕ) → slice_get (own_spans a) k ≡ Some n → slice_get (own_spans b) l ≡ Some n → share_a_span a b ≡ true
+shares a b k l n at to =
+    any_at (λ n. list_any (λ m. m == n) (own_spans b)) (own_spans a) k n at (any_at (λ m. m == n) (own_spans b) l n to (eq-eqb n n refl))
+
+-- no two subjects have a span in common
+pub own_apart : (i : Image) → HaveOwnPages i → (s t : ℕ) (q r : SubjectPart) (k l n : ℕ) → slice_get i.subjects s ≡ Some q → slice_get i.subjects t ≡ Some r → slice_get (own_spans q) k ≡ Some n → slice_get (own_spans r) l ≡ Some n → s ≡ t
+own_apart i own s t q r k l n at to here there =
+    elim (cases_lt s t) [
+      | inl less ↦ absurd (true≢false (sym (shares q r k l n here there) ∙ pairs_at (λ a b. share_a_span a b ≡ false) i.subjects s t q r own less at to))
+      | inr more ↦ elim (cases_lt t s) [
+        | inl less ↦ absurd (true≢false (sym (shares r q l k n there here) ∙ pairs_at (λ a b. share_a_span a b ≡ false) i.subjects t s r q own less to at))
+        | inr even ↦ omega (arith, more, even)
+      ]
+    ]

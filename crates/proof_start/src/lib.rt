@@ -1,0 +1,30 @@
+//! Images that are sound for a policy and its files: the machine that such an image makes stands for
+//! the policy's system.
+//!
+//! The definitions stand in specs/ (`GroundOf`). The functions here carry the laws; no command calls
+//! one.
+#![tactic(auto)]
+
+ghost use Rattle.subject_model.specs.System.{start_of};
+ghost use Rattle.image_load.specs.Loaded.{memory_of, setup_of};
+ghost use Rattle.image_soundness.specs.Sound.{IsSound};
+ghost use Rattle.image_pack.specs.ImageConditions.{KeepsConditions};
+ghost use Rattle.image_pack.specs.declared.parts.Image.{Image};
+ghost use Rattle.kernel_core.specs.Ticks.{live_started};
+ghost use Rattle.policy_meaning.specs.Contents.{Held};
+ghost use Rattle.policy_types.specs.declared.source.Source.{Source};
+ghost use Rattle.proof_turns.specs.Fixed.{IsFixed};
+ghost use Rattle.proof_turns.specs.Stands.{StandsFor};
+ghost use Rattle.proof_start.specs.GroundOf.{HoldsBytes, ground_of};
+
+/// What a machine needs as long as it runs holds of every sound image: subjects, events, frames,
+/// tables, bitmaps and windows are the policy's, and no page serves two.
+pub fn sound_images_hold_together()
+    ensures { (p : Source) (files : Held) (i : Image) → KeepsConditions i → IsSound p files i → IsFixed (ground_of p i) }
+{}
+
+/// At the start the machine of a sound image stands for the policy's system.
+pub fn sound_images_stand_at_the_start()
+    ensures { (p : Source) (files : Held) (i : Image) → KeepsConditions i → IsSound p files i → HoldsBytes i
+        → StandsFor (ground_of p i) (live_started (setup_of i) i.header.cpus (memory_of i)) (start_of p files) }
+{}

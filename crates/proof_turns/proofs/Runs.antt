@@ -1,0 +1,26 @@
+-- Runs of the machine are runs of the system, as long as ticks are words.
+use Rattle.std.proofs.Common.{ℕ, ◌^◌, ◌≤◌, List}
+use Rattle.record_text.specs.DeviceRecord.{NamedInput}
+use Rattle.record_text.specs.declared.record.Input.{Input}
+use Rattle.frame_clock.specs.Run.{run_to}
+use Rattle.frame_clock.specs.Alike.{AreAlike, AreAlikeRuns, AreAlikeTicks, AreAlikeTurns}
+use Rattle.frame_clock.proofs.AlikeRuns.{runs_alike}
+use Rattle.kernel_core.specs.Kernel.{Live, turn_of}
+use Rattle.kernel_core.specs.Ticks.{kernel}
+use Rattle.subject_model.specs.Clock.{system}
+use Rattle.subject_model.specs.System.{System, system_turn}
+use Rattle.proof_turns.specs.Ground.{Ground}
+use Rattle.proof_turns.specs.Fixed.{IsFixed}
+use Rattle.proof_turns.specs.Held.{IsWord}
+use Rattle.proof_turns.specs.Inputs.{SameInput}
+use Rattle.proof_turns.specs.Stands.{StandsFor}
+use Rattle.proof_turns.proofs.Clocks.{begins_stand, takes_stand}
+
+-- ---- the machine with its kernel, and the system
+
+module _ (g : Ground) (fixed : IsFixed g) (turn_stands : (cpu tick : ℕ) (k : Live) (y : System) → IsWord tick → StandsFor g k y → AreAlikeTurns (StandsFor g) (turn_of g.setup cpu tick k) (system_turn g.policy cpu tick y)) where
+  alike : AreAlike (StandsFor g) (SameInput g) (2 ^ 64) (kernel g.setup) (system g.policy)
+  alike = record { begins = begins_stand g fixed; takes = takes_stand g fixed; turn = λ cpu tick k y low stands. turn_stands cpu tick k y low stands }
+
+  pub runs_stand : (ins : ℕ → List Input) (ins' : ℕ → List NamedInput) (order order' : ℕ → List ℕ) → AreAlikeTicks (SameInput g) (2 ^ 64) ins ins' order order' → (n : ℕ) → n ≤ 2 ^ 64 → (k : Live) (y : System) → StandsFor g k y → AreAlikeRuns (StandsFor g) (run_to (kernel g.setup) ins order n k) (run_to (system g.policy) ins' order' n y)
+  runs_stand = runs_alike (StandsFor g) (SameInput g) (2 ^ 64) (kernel g.setup) (system g.policy) alike

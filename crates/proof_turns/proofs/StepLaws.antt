@@ -1,0 +1,362 @@
+-- A step keeps words, it stores where it looked, and it writes MSRs that may be written.
+use Rattle.std.proofs.Common.{◌≡◌, ◌∙◌, ℕ, suc, ◌+◌, ◌-◌, ◌*◌, ◌/◌, ◌%◌, ◌^◌, ◌<◌, ◌==◌, Bool, true, false, List, Option, Some, None, refl, subst, arith, length-set, w32, w64}
+use Rattle.std.specs.Prelude.{ℤ, pos, negsuc, not, nat_le, nat_lt, if◌then◌else◌, option_and_then}
+use Rattle.std.specs.Int.{cast_signed, cast_unsigned, to_le_bytes}
+use Rattle.std.specs.Int.Bits.{and_lt}
+use Rattle.std.proofs.lemmas.Bool.Decides.{nat_tests}
+use Rattle.std.proofs.lemmas.List.Elements.{All-set}
+use Rattle.std.proofs.lemmas.Nat.{or_lt, xor_lt}
+use Rattle.std.proofs.Math.Nat.{div-le_self}
+use mir.Val.{sel}
+use Rattle.muen_num.specs.Access.{kind_bit}
+use Rattle.muen_num.specs.AccessSize.{bytes_of as count}
+use Rattle.muen_num.specs.declared.access.AccessKind.TheVariants.{Read, Write, Fetch}
+use Rattle.muen_num.specs.declared.access.AccessSize.{AccessSize}
+use Rattle.muen_num.specs.declared.limits.TheConstants.{EXIT_EPT_VIOLATION, EXIT_EXCEPTION, GUEST_END}
+use Rattle.machine_layout.specs.Memory.{le_bytes}
+use Rattle.state_page.specs.declared.state.SubjectState.{SubjectState}
+use Rattle.guest_isa.specs.GuestIsa.{fields_of, size_of, port_size_of, system_instruction_of, instruction_of, decode_of, register, advanced, with_register, extended, offset_by, low_bytes, port_of, passed, set_register, jumped, jumped_if, effect_of}
+use Rattle.guest_isa.specs.declared.instr.Asked.{Asked}
+use Rattle.guest_isa.specs.declared.instr.Instr.{Instr}
+use Rattle.guest_isa.specs.declared.instr.Instr.TheVariants.{Nop, Li, Lih, Mov, Add, Sub, And, Or, Xor, Shl, Shr, Load, Store, Jmp, Jz, Jnz, Jb, In, Out, Rdmsr, Wrmsr, Rdtsc, Vmcall, Hlt, Sti, Cli, Setv, Reti}
+use Rattle.guest_isa.specs.declared.instr.Wish.{Wish}
+use Rattle.guest_isa.specs.declared.instr.Wish.TheVariants.{Nothing, Set as Sets, Load as Loads, Store as Stores, PortIn, PortOut, ReadMsr, WriteMsr, Tick, Call as Calls, Halt as Halts}
+use Rattle.guest_isa.specs.Step.{World, Stored, MsrWrite, Answer, went_on, exits, sets, reach_of, word_at, loaded, stored_to, port_read, port_written, msr_read, msr_written, performed, executed, fetched, step}
+use Rattle.guest_isa.specs.declared.end.StepEnd.{StepEnd}
+use Rattle.guest_isa.specs.declared.reach.Reach.{Reach}
+use Rattle.guest_isa.specs.declared.reach.Reach.TheVariants.{Reached, Refused}
+use Rattle.proof_turns.specs.Held.{IsWord, FitsState}
+use Rattle.proof_turns.proofs.StateLaws.{word_below}
+
+-- what the world tells are words
+pub record FitsWorld {X : Type 0} (w : World X) : Type 0 where
+  pub tick : IsWord w.tick
+  pub msr : (index v : ℕ) → w.msr index ≡ Some v → IsWord v
+  pub input : (port : ℕ) (size : AccessSize) (v : ℕ) → w.input port (count size) ≡ Some v → IsWord v
+
+-- what is stored was looked up: an aligned access of this size, at an address of the guest
+pub record IsStored {X : Type 0} (w : World X) (st : Stored X) : Type 0 where
+  pub addr : ℕ
+  pub size : AccessSize
+  pub value : ℕ
+  pub below : addr < GUEST_END
+  pub aligned : addr % count size ≡ 0
+  pub looked : w.look Write addr ≡ Reached st.target st.offset
+  pub bytes : st.bytes ≡ le_bytes (count size) value
+
+-- an MSR that is written may be written, and its value is a word
+pub record IsWritten {X : Type 0} (w : World X) (m : MsrWrite) : Type 0 where
+  pub allowed : w.sets_msr m.index ≡ true
+  pub word : IsWord m.value
+
+-- ---- immediates
+
+-- by its sign
+word_by : (n : ℕ) (small : Bool) → (small ≡ true → n < 2 ^ 31) → cast_unsigned w64 (sel small (pos n) (negsuc (2 ^ 32 - suc n))) < 2 ^ 64
+word_by n true h = let l = h refl in omega (arith, l)
+word_by n false h = omega arith
+
+half_by : (n : ℕ) (small : Bool) → (small ≡ true → n < 2 ^ 31) → cast_unsigned w32 (sel small (pos n) (negsuc (2 ^ 32 - suc n))) < 2 ^ 32
+half_by n true h = let l = h refl in omega (arith, l)
+half_by n false h = omega arith
+
+small_of : (n : ℕ) → nat_lt n (2 ^ 31) ≡ true → n < 2 ^ 31
+small_of n h = grind (arith, nat_tests, h)
+
+-- a number that is read as 32 signed bits, written as 64 bits and as 32
+immediate_word : (n : ℕ) → cast_unsigned w64 (cast_signed w32 n) < 2 ^ 64
+immediate_word n = word_by n (nat_lt n (2 ^ 31)) (small_of n)
+
+immediate_half : (n : ℕ) → cast_unsigned w32 (cast_signed w32 n) < 2 ^ 32
+immediate_half n = half_by n (nat_lt n (2 ^ 31)) (small_of n)
+
+abbrev FitsInstr : Instr → Type 0
+FitsInstr (Li rd imm) = IsWord (extended imm)
+FitsInstr (Lih rd imm) = cast_unsigned w32 imm < 2 ^ 32
+FitsInstr _ = Unit {0}
+
+abbrev FitsSome : Option Instr → Type 0
+FitsSome None = Unit {0}
+FitsSome (Some i) = FitsInstr i
+
+-- the immediate of an instruction, if there is one, has the bits that it is read with
+record Decoded (o : Option Instr) : Type 0 where
+  pub fits : FitsSome o
+
+either : (c : Bool) (a b : Option Instr) → Decoded a → Decoded b → Decoded (if c then a else b)
+either true a b h g = h
+either false a b h g = g
+
+no_row : Decoded None
+no_row = record { fits = tt }
+
+in_row : (c : Bool) (i : Instr) → FitsInstr i → Decoded (if c then Some i else None)
+in_row c i h = either c (Some i) None (record { fits = h }) no_row
+
+in_sized : (c : Bool) (i : AccessSize → Instr) (o : Option AccessSize) → ((size : AccessSize) → FitsInstr (i size)) → Decoded (option_and_then (λ size. if c then Some (i size) else None) o)
+in_sized c i None h = no_row
+in_sized c i (Some size) h = in_row c (i size) (h size)
+
+module _ (opcode rd rs size zero imm : ℕ) where
+  in_system : Decoded (system_instruction_of (record { opcode = opcode; rd = rd; rs = rs; size = size; zero = zero; imm = imm }))
+  in_system =
+      either (opcode == 17) _ _ (in_sized _ (λ size. In rd rs size (cast_signed w32 imm)) (port_size_of size) (λ size. tt))
+      (either (opcode == 18) _ _ (in_sized _ (λ size. Out rd rs size (cast_signed w32 imm)) (port_size_of size) (λ size. tt))
+      (either (opcode == 19) _ _ (in_row _ (Rdmsr rd rs) tt)
+      (either (opcode == 20) _ _ (in_row _ (Wrmsr rd rs) tt)
+      (either (opcode == 21) _ _ (in_row _ (Rdtsc rd) tt)
+      (either (opcode == 22) _ _ (in_row _ (Vmcall rs) tt)
+      (either (opcode == 23) _ _ (in_row _ Hlt tt)
+      (either (opcode == 24) _ _ (in_row _ Sti tt)
+      (either (opcode == 25) _ _ (in_row _ Cli tt)
+      (either (opcode == 26) _ _ (in_row _ (Setv rs) tt)
+      (either (opcode == 27) _ _ (in_row _ Reti tt) no_row))))))))))
+
+  in_table : Decoded (instruction_of (record { opcode = opcode; rd = rd; rs = rs; size = size; zero = zero; imm = imm }))
+  in_table =
+      either (opcode == 0) _ _ (in_row _ Nop tt)
+      (either (opcode == 1) _ _ (in_row _ (Li rd (cast_signed w32 imm)) (immediate_word imm))
+      (either (opcode == 2) _ _ (in_row _ (Lih rd (cast_signed w32 imm)) (immediate_half imm))
+      (either (opcode == 3) _ _ (in_row _ (Mov rd rs) tt)
+      (either (opcode == 4) _ _ (in_row _ (Add rd rs) tt)
+      (either (opcode == 5) _ _ (in_row _ (Sub rd rs) tt)
+      (either (opcode == 6) _ _ (in_row _ (And rd rs) tt)
+      (either (opcode == 7) _ _ (in_row _ (Or rd rs) tt)
+      (either (opcode == 8) _ _ (in_row _ (Xor rd rs) tt)
+      (either (opcode == 9) _ _ (in_row _ (Shl rd rs) tt)
+      (either (opcode == 10) _ _ (in_row _ (Shr rd rs) tt)
+      (either (opcode == 11) _ _ (in_sized _ (λ size. Load rd rs size (cast_signed w32 imm)) (size_of size) (λ size. tt))
+      (either (opcode == 12) _ _ (in_sized _ (λ size. Store rd rs size (cast_signed w32 imm)) (size_of size) (λ size. tt))
+      (either (opcode == 13) _ _ (in_row _ (Jmp (cast_signed w32 imm)) tt)
+      (either (opcode == 14) _ _ (in_row _ (Jz rd (cast_signed w32 imm)) tt)
+      (either (opcode == 15) _ _ (in_row _ (Jnz rd (cast_signed w32 imm)) tt)
+      (either (opcode == 16) _ _ (in_row _ (Jb rd rs (cast_signed w32 imm)) tt) in_system))))))))))))))))
+
+decoded : (b : List ℕ) → Decoded (decode_of b)
+unfolding decode_of
+decoded b =
+    let f = fields_of b in
+    in_table f.opcode f.rd f.rs f.size f.zero f.imm
+
+-- ---- effects
+
+abbrev FitsWish : Wish → Type 0
+FitsWish (WriteMsr index value) = IsWord value
+FitsWish _ = Unit {0}
+
+-- a state after an instruction and its wish have words
+record FitsAsked (a : Asked) : Type 0 where
+  pub after : FitsState a.after
+  pub wish : FitsWish a.wish
+
+register_fits : (s : SubjectState) (r : ℕ) → FitsState s → IsWord (register s r)
+register_fits s r f = word_below s.regs r f.regs
+
+with_register_fits : (s : SubjectState) (reg value : ℕ) → IsWord value → FitsState s → FitsState (with_register s reg value)
+with_register_fits s reg value v f = record {
+  many = length-set s.regs reg value ∙ f.many;
+  regs = All-set IsWord s.regs reg value v f.regs;
+  pc = f.pc;
+  epc = f.epc;
+  vbase = f.vbase;
+}
+
+advanced_fits : (s : SubjectState) → FitsState s → FitsState (advanced s)
+advanced_fits s f = record { many = f.many; regs = f.regs; pc = omega arith; epc = f.epc; vbase = f.vbase }
+
+exited_fits : (s : SubjectState) (exited : Bool) → FitsState s → FitsState (record s { exited = exited })
+exited_fits s exited f = record { many = f.many; regs = f.regs; pc = f.pc; epc = f.epc; vbase = f.vbase }
+
+interrupts_fit : (s : SubjectState) (interrupts : Bool) → FitsState s → FitsState (record s { interrupts = interrupts })
+interrupts_fit s interrupts f = record { many = f.many; regs = f.regs; pc = f.pc; epc = f.epc; vbase = f.vbase }
+
+passed_fits : (s : SubjectState) (wish : Wish) → FitsState s → FitsWish wish → FitsAsked (passed s wish)
+passed_fits s wish f g = record { after = advanced_fits s f; wish = g }
+
+set_fits : (s : SubjectState) (reg value : ℕ) → IsWord value → FitsState s → FitsAsked (set_register s reg value)
+set_fits s reg value v f = record { after = advanced_fits (with_register s reg value) (with_register_fits s reg value v f); wish = tt }
+
+jumped_fits : (s : SubjectState) (imm : ℤ) → FitsState s → FitsAsked (jumped s imm)
+jumped_fits s imm f =
+    record { after = record { many = f.many; regs = f.regs; pc = omega arith; epc = f.epc; vbase = f.vbase }; wish = tt }
+
+jumped_if_fits : (c : Bool) (s : SubjectState) (imm : ℤ) → FitsState s → FitsAsked (jumped_if c s imm)
+jumped_if_fits true s imm f = jumped_fits s imm f
+jumped_if_fits false s imm f = passed_fits s Nothing f tt
+
+joined_word : (low high : ℕ) → high < 2 ^ 32 → IsWord (low % 2 ^ 32 + high * 2 ^ 32)
+joined_word low high h = omega (arith, h)
+
+shifted_word : (n m : ℕ) → IsWord n → IsWord (n / m)
+shifted_word n m h = omega (arith, h, div-le_self n m)
+
+effect_fits : (s : SubjectState) (i : Instr) → FitsInstr i → FitsState s → FitsAsked (effect_of s i)
+effect_fits s Nop h f = passed_fits s Nothing f tt
+effect_fits s (Li rd imm) h f = set_fits s rd (extended imm) h f
+effect_fits s (Lih rd imm) h f = set_fits s rd _ (joined_word (register s rd) (cast_unsigned w32 imm) h) f
+effect_fits s (Mov rd rs) h f = set_fits s rd (register s rs) (register_fits s rs f) f
+effect_fits s (Add rd rs) h f = set_fits s rd _ (omega arith) f
+effect_fits s (Sub rd rs) h f = set_fits s rd _ (omega arith) f
+effect_fits s (And rd rs) h f = set_fits s rd _ (and_lt 64 (register s rd) (register s rs) (register_fits s rd f) (register_fits s rs f)) f
+effect_fits s (Or rd rs) h f = set_fits s rd _ (or_lt 64 (register s rd) (register s rs) (register_fits s rd f) (register_fits s rs f)) f
+effect_fits s (Xor rd rs) h f = set_fits s rd _ (xor_lt 64 (register s rd) (register s rs) (register_fits s rd f) (register_fits s rs f)) f
+effect_fits s (Shl rd rs) h f = set_fits s rd _ (omega arith) f
+effect_fits s (Shr rd rs) h f = set_fits s rd _ (shifted_word (register s rd) (2 ^ (register s rs % 64)) (register_fits s rd f)) f
+effect_fits s (Load rd rs size imm) h f = passed_fits s (Loads rd (offset_by (register s rs) imm) size) f tt
+effect_fits s (Store rd rs size imm) h f =
+    passed_fits s (Stores (offset_by (register s rs) imm) size (low_bytes size (register s rd))) f tt
+effect_fits s (Jmp imm) h f = jumped_fits s imm f
+effect_fits s (Jz rd imm) h f = jumped_if_fits (register s rd == 0) s imm f
+effect_fits s (Jnz rd imm) h f = jumped_if_fits (not (register s rd == 0)) s imm f
+effect_fits s (Jb rd rs imm) h f = jumped_if_fits (nat_lt (register s rd) (register s rs)) s imm f
+effect_fits s (In rd rs size imm) h f = passed_fits s (PortIn rd (port_of (register s rs) imm) size) f tt
+effect_fits s (Out rd rs size imm) h f =
+    passed_fits s (PortOut (port_of (register s rs) imm) size (low_bytes size (register s rd))) f tt
+effect_fits s (Rdmsr rd rs) h f = passed_fits s (ReadMsr rd (register s rs % 2 ^ 32)) f tt
+effect_fits s (Wrmsr rd rs) h f =
+    passed_fits s (WriteMsr (register s rs % 2 ^ 32) (register s rd)) f (register_fits s rd f)
+effect_fits s (Rdtsc rd) h f = passed_fits s (Tick rd) f tt
+effect_fits s (Vmcall rs) h f = passed_fits s (Calls (register s rs)) f tt
+effect_fits s Hlt h f = passed_fits s Halts f tt
+effect_fits s Sti h f = passed_fits (record s { interrupts = true }) Nothing (interrupts_fit s true f) tt
+effect_fits s Cli h f = passed_fits (record s { interrupts = false }) Nothing (interrupts_fit s false f) tt
+effect_fits s (Setv rs) h f =
+    passed_fits (record s { vbase = register s rs }) Nothing (record { many = f.many; regs = f.regs; pc = f.pc; epc = f.epc; vbase = register_fits s rs f }) tt
+effect_fits s Reti h f =
+    record { after = record { many = f.many; regs = f.regs; pc = f.epc; epc = f.epc; vbase = f.vbase }; wish = tt }
+
+-- ---- answers
+
+module _ {X : Type 0} (w : World X) where
+  abbrev OnStored : Option (Stored X) → Type 0
+  OnStored None = Unit {0}
+  OnStored (Some st) = IsStored w st
+
+  abbrev OnWritten : Option MsrWrite → Type 0
+  OnWritten None = Unit {0}
+  OnWritten (Some m) = IsWritten w m
+
+  -- the answer of a step from this state
+  record IsAnswer (s : SubjectState) (a : Answer X) : Type 0 where
+    pub state : FitsWorld w → FitsState s → FitsState a.state
+    pub stored : OnStored a.stored
+    pub msr : FitsState s → OnWritten a.msr
+
+  is_plain : (s after : SubjectState) (step_end : StepEnd) → (FitsWorld w → FitsState s → FitsState after) → IsAnswer s (went_on after step_end)
+  is_plain s after step_end h = record { state = λ v f. exited_fits after false (h v f); stored = tt; msr = λ f. tt }
+
+  is_exit : (s : SubjectState) (reason qualification addr call : ℕ) → IsAnswer s (exits s reason qualification addr call)
+  is_exit s reason qualification addr call = record { state = λ v f. exited_fits s true f; stored = tt; msr = λ f. tt }
+
+  is_set : (s after : SubjectState) (reg value : ℕ) → (FitsState s → FitsState after) → (FitsWorld w → IsWord value) → IsAnswer s (sets after reg value)
+  is_set s after reg value h g =
+      is_plain s (with_register after reg value) _ (λ v f. with_register_fits after reg value (g v) (h f))
+
+  is_loaded : (s after : SubjectState) (reg n : ℕ) (c : Reach X) → (FitsState s → FitsState after) → IsAnswer s (loaded w.bytes s after reg n c)
+  is_loaded s after reg n (Reached target offset) h = is_set s after reg (word_at n (w.bytes target) offset) h (λ v. omega arith)
+  is_loaded s after reg n (Refused reason qualification addr) h = is_exit s reason qualification addr 0
+
+  -- what an access for a store reaches
+  abbrev Looked : AccessSize → ℕ → Reach X → Type 0
+  Looked size addr (Reached target offset) =
+      (addr < GUEST_END) × (addr % count size ≡ 0) × (w.look Write addr ≡ Reached target offset)
+  Looked size addr (Refused reason qualification guest) = Unit {0}
+
+  -- by whether the address is a multiple of the size, and whether it is beyond the end
+  abbrev by : Bool → Bool → ℕ → Reach X → Reach X
+  by fine high addr c =
+      if fine then (if high then Refused EXIT_EPT_VIOLATION (kind_bit Write) addr else c) else Refused EXIT_EXCEPTION 0 0
+
+  by_looked : (size : AccessSize) (fine high : Bool) (addr : ℕ) (c : Reach X) → (fine ≡ true → high ≡ false → Looked size addr c) → Looked size addr (by fine high addr c)
+  by_looked size true true addr c h = tt
+  by_looked size true false addr c h = h refl refl
+  by_looked size false high addr c h = tt
+
+  low : (addr : ℕ) → nat_le GUEST_END addr ≡ false → addr < GUEST_END
+  low addr h = grind (arith, nat_tests, h)
+
+  multiple : (addr n : ℕ) → (addr % n == 0) ≡ true → addr % n ≡ 0
+  multiple addr n h = grind (arith, nat_tests, h)
+
+  looked_of : (size : AccessSize) (addr : ℕ) (c : Reach X) → addr < GUEST_END → addr % count size ≡ 0 → w.look Write addr ≡ c → Looked size addr c
+  looked_of size addr (Reached target offset) l a e = (l, a, e)
+  looked_of size addr (Refused reason qualification guest) l a e = tt
+
+  looked : (size : AccessSize) (addr : ℕ) → Looked size addr (reach_of w.look Write (count size) addr)
+  looked size addr =
+      by_looked size (addr % count size == 0) (nat_le GUEST_END addr) addr (w.look Write addr) (λ a l. looked_of size addr (w.look Write addr) (low addr l) (multiple addr (count size) a) refl)
+
+  is_stored : (s after : SubjectState) (addr : ℕ) (size : AccessSize) (value : ℕ) (c : Reach X) → Looked size addr c → (FitsState s → FitsState after) → IsAnswer s (stored_to s after addr size value c)
+  is_stored s after addr size value (Reached target offset) l h = record {
+    state = λ v f. exited_fits after false (h f);
+    stored = record { addr = addr; size = size; value = value; below = l.0; aligned = l.1; looked = l.2; bytes = refl };
+    msr = λ f. tt;
+  }
+  is_stored s after addr size value (Refused reason qualification guest) l h = is_exit s reason qualification guest 0
+
+  is_port_read : (s after : SubjectState) (reg port : ℕ) (size : AccessSize) (o : Option ℕ) → (FitsWorld w → (v : ℕ) → o ≡ Some v → IsWord v) → (FitsState s → FitsState after) → IsAnswer s (port_read s after reg port size o)
+  is_port_read s after reg port size (Some value) g h = is_set s after reg value h (λ v. g v value refl)
+  is_port_read s after reg port size None g h = is_exit s _ _ 0 0
+
+  is_port_written : (allowed : Bool) (s after : SubjectState) (port : ℕ) (size : AccessSize) (value : ℕ) → (FitsState s → FitsState after) → IsAnswer s (port_written allowed s after port size value)
+  is_port_written true s after port size value h = is_plain s after _ (λ v f. h f)
+  is_port_written false s after port size value h = is_exit s _ _ 0 0
+
+  is_msr_read : (s after : SubjectState) (reg : ℕ) (o : Option ℕ) → (FitsWorld w → (v : ℕ) → o ≡ Some v → IsWord v) → (FitsState s → FitsState after) → IsAnswer s (msr_read s after reg o)
+  is_msr_read s after reg (Some value) g h = is_set s after reg value h (λ v. g v value refl)
+  is_msr_read s after reg None g h = is_exit s _ 0 0 0
+
+  is_msr_written : (allowed : Bool) (s after : SubjectState) (index value : ℕ) → w.sets_msr index ≡ allowed → (FitsState s → IsWord value) → (FitsState s → FitsState after) → IsAnswer s (msr_written allowed s after index value)
+  is_msr_written true s after index value e g h = record {
+    state = λ v f. exited_fits after false (h f);
+    stored = tt;
+    msr = λ f. record { allowed = e; word = g f };
+  }
+  is_msr_written false s after index value e g h = is_exit s _ 0 0 0
+
+  is_performed : (s after : SubjectState) (wish : Wish) → (FitsState s → FitsState after) → (FitsState s → FitsWish wish) → IsAnswer s (performed w s after wish)
+  is_performed s after Nothing h g = is_plain s after _ (λ v f. h f)
+  is_performed s after (Sets reg value) h g = is_plain s after _ (λ v f. h f)
+  is_performed s after (Loads reg addr size) h g =
+      is_loaded s after reg (count size) (reach_of w.look Read (count size) addr) h
+  is_performed s after (Stores addr size value) h g =
+      is_stored s after addr size value (reach_of w.look Write (count size) addr) (looked size addr) h
+  is_performed s after (PortIn reg port size) h g =
+      is_port_read s after reg port size (w.input port (count size)) (λ v. v.input port size) h
+  is_performed s after (PortOut port size value) h g = is_port_written (w.output port (count size)) s after port size value h
+  is_performed s after (ReadMsr reg index) h g = is_msr_read s after reg (w.msr index) (λ v. v.msr index) h
+  is_performed s after (WriteMsr index value) h g = is_msr_written (w.sets_msr index) s after index value refl g h
+  is_performed s after (Tick reg) h g = is_set s after reg w.tick h (λ v. v.tick)
+  is_performed s after (Calls number) h g = is_exit s _ 0 0 number
+  is_performed s after Halts h g = is_exit s _ 0 0 0
+
+  is_executed : (s : SubjectState) (o : Option Instr) → Decoded o → IsAnswer s (executed w s o)
+  is_executed s None d = is_exit s _ 0 0 0
+  is_executed s (Some i) d =
+      is_performed s (effect_of s i).after (effect_of s i).wish (λ f. (effect_fits s i d.fits f).after) (λ f. (effect_fits s i d.fits f).wish)
+
+  is_fetched : (s : SubjectState) (c : Reach X) → IsAnswer s (fetched w s c)
+  is_fetched s (Reached target offset) =
+      is_executed s (decode_of (to_le_bytes w64 (word_at 8 (w.bytes target) offset))) (decoded (to_le_bytes w64 (word_at 8 (w.bytes target) offset)))
+  is_fetched s (Refused reason qualification addr) = is_exit s reason qualification addr 0
+
+  is_answer : (s : SubjectState) → IsAnswer s (step w s)
+  is_answer s = is_fetched s (reach_of w.look Fetch 8 s.pc)
+
+  is_some_stored : (o : Option (Stored X)) (st : Stored X) → OnStored o → o ≡ Some st → IsStored w st
+  is_some_stored o st h e = subst OnStored e h
+
+  is_some_written : (o : Option MsrWrite) (m : MsrWrite) → OnWritten o → o ≡ Some m → IsWritten w m
+  is_some_written o m h e = subst OnWritten e h
+
+  -- a step keeps words
+  pub step_fits : (s : SubjectState) → FitsWorld w → FitsState s → FitsState (step w s).state
+  step_fits s v f = (is_answer s).state v f
+
+  -- what a step stores was looked up
+  pub step_stored : (s : SubjectState) (st : Stored X) → (step w s).stored ≡ Some st → IsStored w st
+  step_stored s st e = is_some_stored (step w s).stored st (is_answer s).stored e
+
+  -- an MSR that a step writes may be written
+  pub step_msr : (s : SubjectState) (m : MsrWrite) → FitsState s → (step w s).msr ≡ Some m → IsWritten w m
+  step_msr s m f e = is_some_written (step w s).msr m ((is_answer s).msr f) e

@@ -1,0 +1,47 @@
+//! When a machine and its kernel stand for the abstract system of a policy, and that a run keeps
+//! this.
+//!
+//! The definitions stand in specs/: which numbers stand for which subjects and things (`Ground`), what
+//! holds as long as both run (`Fixed`), where a subject's own state is (`Held`), and when the machine
+//! stands for the system (`Stands`). The functions here carry the laws; no command calls one.
+#![tactic(auto)]
+
+ghost use Rattle.std.specs.Prelude.{◌≡◌, ℕ};
+ghost use Rattle.subject_model.specs.Clock.{begins as system_begins, takes as system_takes};
+ghost use Rattle.subject_model.specs.System.{System, system_turn};
+ghost use Rattle.kernel_core.specs.Kernel.{Live, turn_of};
+ghost use Rattle.kernel_core.specs.Ticks.{begins, ended, takes};
+ghost use Rattle.record_text.specs.DeviceRecord.{NamedInput};
+ghost use Rattle.record_text.specs.declared.record.Input.{Input};
+ghost use Rattle.frame_clock.specs.Alike.{AreAlikeTurns};
+ghost use Rattle.proof_turns.specs.Fixed.{IsFixed};
+ghost use Rattle.proof_turns.specs.Ground.{Ground};
+ghost use Rattle.proof_turns.specs.Held.{IsWord};
+ghost use Rattle.proof_turns.specs.Inputs.{SameInput};
+ghost use Rattle.proof_turns.specs.Stands.{StandsFor};
+
+/// A turn of any CPU, in any tick and whoever had turns before: the machine that stands for a system
+/// before the turn stands for the system after it, and both have the same line. So entering and
+/// leaving, tables, bitmaps and MSR areas change nothing that a subject could tell from being alone.
+pub fn turns_keep_standing()
+    ensures { (g : Ground) → IsFixed g → (cpu tick : ℕ) (k : Live) (y : System) → IsWord tick → StandsFor g k y
+        → AreAlikeTurns (StandsFor g) (turn_of g.setup cpu tick k) (system_turn g.policy cpu tick y) }
+{}
+
+/// So does the begin of a tick, with the major frame that it may choose.
+pub fn ticks_keep_standing()
+    ensures { (g : Ground) → IsFixed g → (tick : ℕ) (k : Live) (y : System) → StandsFor g k y
+        → StandsFor g (begins g.setup tick k) (system_begins g.policy tick y) }
+{}
+
+/// So does an input, where it is the same by numbers and by names.
+pub fn inputs_keep_standing()
+    ensures { (g : Ground) → IsFixed g → (i : Input) (e : NamedInput) (k : Live) (y : System) → SameInput g i e → StandsFor g k y
+        → StandsFor g (takes i k) (system_takes g.policy e y) }
+{}
+
+/// So does the end, at which all CPUs are left.
+pub fn the_end_keeps_standing()
+    ensures { (g : Ground) → IsFixed g → (cpus : ℕ) (k : Live) (y : System) → cpus ≡ g.policy.processor.logical_cpus → StandsFor g k y
+        → StandsFor g (ended cpus k) y }
+{}

@@ -1,0 +1,132 @@
+-- The own state of a subject: what its turn makes of it; and where no monitor may write it, nothing else changes it.
+use Rattle.std.proofs.Common.{◌≡◌, ℕ, Bool, false, List, [], ◌∷◌, Option, Some, None, refl, ap, ◌∙◌}
+use Rattle.std.specs.Prelude.{◌==◌, option_map}
+use Rattle.std.specs.Option.{IfSome}
+use Rattle.std.specs.Str.{bytes_eq}
+use Rattle.guest_isa.specs.Step.{Stored}
+use Rattle.machine_layout.specs.Memory.{over}
+use Rattle.policy_lawful.proofs.KeptMajors.{MajorsKept}
+use Rattle.policy_lawful.proofs.KeptMembers.{MembersKept}
+use Rattle.policy_meaning.specs.Events.{irq_of}
+use Rattle.policy_meaning.specs.Thing.{Thing, device_memory, same_thing, state}
+use Rattle.policy_types.specs.declared.source.Source.{Source}
+use Rattle.policy_types.specs.declared.source.Subject.{Subject}
+use Rattle.record_text.specs.DeviceRecord.{NamedInput, port_input, memory_input, irq_input, dma_input}
+use Rattle.state_page.specs.StatePage.{page_bytes, state_in}
+use Rattle.state_page.specs.declared.state.SubjectState.{SubjectState}
+use Rattle.frame_clock.specs.Run.{Turned, all_taken, begun}
+use Rattle.view_text.specs.declared.TurnLine.{TurnLine}
+use Rattle.subject_model.specs.Alone.{MsrValues, OwnState, TurnAnswer, own_of, solo_turn, thing_in}
+use Rattle.subject_model.specs.Clock.{begins, system, takes}
+use Rattle.subject_model.specs.Laws.{StoresElsewhere}
+use Rattle.subject_model.specs.System.{System, answered, inbox_of, named, state_of, subject_named, system_turn, took, with_own, with_store, with_write}
+use Rattle.subject_model.proofs.KeyLaws.{names_apart, things_apart, value_changed, value_other}
+use Rattle.proof_views.specs.AloneRun.{is_altered, on_page}
+use Rattle.proof_views.specs.Members.{AreListed}
+use Rattle.proof_views.proofs.Kept.{acted, turn_cases}
+use Rattle.proof_views.proofs.OwnLines.{not_of, other_name, turn_on}
+use Rattle.proof_views.proofs.Unmoved.{by_irq, by_raised}
+use Rattle.proof_views.proofs.Untouched.{solo_elsewhere}
+
+-- this is a subject's own state, with its MSRs
+pub record IsOwn (s : Subject) (y : System) (mine : OwnState) : Type 0 where
+  pub state : state_of y s.name ≡ Some mine.state
+  pub msrs : named y.msrs s.name ≡ Some mine.msrs
+
+-- its page and its MSRs stay
+pub record StaysOwn (s : Subject) (y z : System) : Type 0 where
+  pub page : thing_in z.things (state s.name) ≡ thing_in y.things (state s.name)
+  pub msrs : named z.msrs s.name ≡ named y.msrs s.name
+
+pub own_stays : (s : Subject) (y z : System) (mine : OwnState) → StaysOwn s y z → IsOwn s y mine → IsOwn s z mine
+own_stays s y z mine stays h = record { state = ap (option_map state_in) stays.page ∙ h.state; msrs = stays.msrs ∙ h.msrs }
+
+-- ---- a store
+
+pub store_msrs : (o : Option (Stored Thing)) (y : System) → (with_store o y).msrs ≡ y.msrs
+store_msrs None y = refl
+store_msrs (Some w) y = refl
+
+store_stays : (s : Subject) (o : Option (Stored Thing)) (y : System) → StoresElsewhere s o → thing_in (with_store o y).things (state s.name) ≡ thing_in y.things (state s.name)
+store_stays s None y h = refl
+store_stays s (Some w) y h =
+    value_other same_thing w.target (state s.name) (λ old. over old w.offset w.bytes) y.things (things_apart w.target (state s.name) h)
+
+-- ---- the answer of another subject, and its own
+
+pub other_answer : (p : Source) (s q : Subject) (a : TurnAnswer) (y : System) → (q.name ≡ s.name → ⊥) → StoresElsewhere s a.stored → StaysOwn s y (answered p q a y)
+other_answer p s q a y ne elsewhere =
+    let own : System = with_own q.name a.state a.msr y in
+    let rest = by_raised p q a.raised (took q.name a.taken (with_store a.stored own)) in
+    record {
+      page = ap (λ things. thing_in things (state s.name)) rest.things
+          ∙ store_stays s a.stored own elsewhere
+          ∙ value_other same_thing (state q.name) (state s.name) (λ _. page_bytes a.state) y.things (things_apart (state q.name) (state s.name) (λ e. ne (cc (e))));
+      msrs = ap (λ ms. named ms s.name) rest.msrs
+          ∙ ap (λ ms. named ms s.name) (store_msrs a.stored own)
+          ∙ value_other bytes_eq q.name s.name (with_write a.msr) y.msrs (names_apart q.name s.name ne);
+    }
+
+page_there : (o : Option (List ℕ)) (st : SubjectState) → option_map state_in o ≡ Some st → (page : List ℕ) × (o ≡ Some page)
+page_there None st h = absurd (cc (h))
+page_there (Some page) st h = (page, refl)
+
+pub own_answer : (p : Source) (s : Subject) (a : TurnAnswer) (y : System) (mine : OwnState) → IsOwn s y mine → StoresElsewhere s a.stored → IsOwn s (answered p s a y) (record { state = on_page a.state; msrs = with_write a.msr mine.msrs })
+own_answer p s a y mine h elsewhere =
+    let own : System = with_own s.name a.state a.msr y in
+    let rest = by_raised p s a.raised (took s.name a.taken (with_store a.stored own)) in
+    let page = page_there (thing_in y.things (state s.name)) mine.state h.state in
+    record {
+      state = ap (λ things. option_map state_in (thing_in things (state s.name))) rest.things
+          ∙ ap (option_map state_in) (store_stays s a.stored own elsewhere
+          ∙ value_changed same_thing (state s.name) (λ _. page_bytes a.state) y.things
+          ∙ ap (option_map (λ _. page_bytes a.state)) page.1);
+      msrs = ap (λ ms. named ms s.name) rest.msrs
+          ∙ ap (λ ms. named ms s.name) (store_msrs a.stored own)
+          ∙ value_changed bytes_eq s.name (with_write a.msr) y.msrs
+          ∙ ap (option_map (with_write a.msr)) h.msrs;
+    }
+
+-- ---- the beginning of a tick
+
+input_stays : (p : Source) (s : Subject) (i : NamedInput) (y : System) → StaysOwn s y (takes p i y)
+input_stays p s (port_input device port value) y = record { page = refl; msrs = refl }
+input_stays p s (memory_input device memory offset bytes) y =
+    record { page = value_other same_thing (device_memory device memory) (state s.name) (λ old. over old offset bytes) y.things (things_apart (device_memory device memory) (state s.name) (λ e. cc (e))); msrs = refl }
+input_stays p s (irq_input device irq) y =
+    let same = by_irq (irq_of p device irq) y in
+    record { page = ap (λ things. thing_in things (state s.name)) same.things; msrs = ap (λ ms. named ms s.name) same.msrs }
+input_stays p s (dma_input device addr bytes) y = record { page = refl; msrs = refl }
+
+inputs_stay : (p : Source) (s : Subject) (is : List NamedInput) (y : System) (mine : OwnState) → IsOwn s y mine → IsOwn s (all_taken (system p) is y) mine
+inputs_stay p s [] y mine h = h
+inputs_stay p s (i ∷ is) y mine h = inputs_stay p s is (takes p i y) mine (own_stays s y (takes p i y) mine (input_stays p s i y) h)
+
+pub begun_stays : (p : Source) (s : Subject) (tick : ℕ) (is : List NamedInput) (y : System) (mine : OwnState) → IsOwn s y mine → IsOwn s (begun (system p) tick is y) mine
+begun_stays p s tick is y mine h = inputs_stay p s is (begins p tick y) mine (record { state = h.state; msrs = h.msrs })
+
+-- ---- the turn of another subject
+
+-- it leaves this one's own state, and prints nothing of it
+pub record IsOthers (s : Subject) (y : System) (t : Turned System TurnLine) : Type 0 where
+  pub stays : StaysOwn s y t.state
+  pub line : IfSome t.line (λ l. bytes_eq l.subject s.name ≡ false)
+
+nothing_done : (s : Subject) (y : System) → StaysOwn s y y
+nothing_done s y = record { page = refl; msrs = refl }
+
+module _ (p : Source) (s : Subject) (none : is_altered p s ≡ false) (cpu tick : ℕ) (y : System) where
+  pub others_acted : (first : Bool) (member : List ℕ) (q : Subject) → subject_named p member ≡ Some q → (q.name ≡ s.name → ⊥) → (st : SubjectState) (values : MsrValues) → IsOthers s y (acted p cpu tick first q st values y)
+  others_acted first member q is ne st values =
+      let mine : OwnState = record { state = st; msrs = values } in
+      let answer : TurnAnswer = solo_turn (own_of p q) mine (inbox_of p y q first tick) in
+      record {
+        stays = other_answer p s q answer y ne (solo_elsewhere p s none q member is mine (inbox_of p y q first tick));
+        line = not_of tick cpu st.pc s.name q.name ne answer.what;
+      }
+
+  pub others_turn : MajorsKept p → MembersKept p → subject_named p s.name ≡ Some s → AreListed p y.active → (cpu == s.cpu) ≡ false → IsOthers s y (system_turn p cpu tick y)
+  others_turn majors members is h apart =
+      turn_cases p cpu tick y (IsOthers s y) (record { stays = nothing_done s y; line = tt }) (λ slot member q st values has.
+      let on = turn_on p majors members cpu tick y h slot member q has in
+      others_acted slot.first member q has.is (other_name p s q member is has.is (ap (λ c. c == s.cpu) on ∙ apart)) st values)

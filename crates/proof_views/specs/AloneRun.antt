@@ -1,0 +1,109 @@
+-- A subject by itself on the clock (this project's own): its own state and its lines, by what reaches it at its turns.
+use Rattle.std.specs.Prelude.{ℕ, zero, suc, ◌==◌, ◌&&◌, Bool, List, [], ◌∷◌, map, Option, Some, None, if◌then◌else◌, option_map, slice_get}
+use Rattle.std.specs.List.{list_any}
+use Rattle.std.specs.Str.{bytes_eq}
+use Rattle.expand_grants.specs.Resources.{msrs_of}
+use Rattle.frame_clock.specs.Frames.{slot_in}
+use Rattle.frame_clock.specs.Slot.{Slot}
+use Rattle.muen_num.specs.Range.{numbers_below}
+use Rattle.muen_num.specs.declared.access.AccessKind.TheVariants.{Write}
+use Rattle.policy_meaning.specs.Contents.{Held}
+use Rattle.policy_meaning.specs.Frames.{frames_of}
+use Rattle.policy_types.specs.Rights.{allows}
+use Rattle.policy_types.specs.declared.source.Monitor.{Monitor}
+use Rattle.policy_types.specs.declared.source.Source.{Source}
+use Rattle.policy_types.specs.declared.source.Subject.{Subject}
+use Rattle.record_text.specs.DeviceRecord.{DeviceRecord}
+use Rattle.state_page.specs.StatePage.{page_bytes, state_in}
+use Rattle.state_page.specs.States.{started}
+use Rattle.state_page.specs.declared.state.SubjectState.{SubjectState}
+use Rattle.frame_clock.specs.Run.{run_to, tick_ran}
+use Rattle.view_text.specs.declared.TurnLine.{TurnLine}
+use Rattle.view_text.specs.declared.TurnAction.{TurnAction}
+use Rattle.subject_model.specs.Alone.{Inbox, MsrValues, Own, OwnState, solo_turn}
+use Rattle.subject_model.specs.Clock.{inputs_at, order_at, system}
+use Rattle.subject_model.specs.System.{System, inbox_of, line_at, start_of, with_write}
+use Rattle.subject_model.specs.View.{Seen}
+
+-- ---- whom another one may write
+
+abbrev pub alters : List ℕ → Monitor → Bool
+alters name m = bytes_eq m.subject name && allows m.rights Write
+
+-- a subject has a monitor on this one with the right to write
+abbrev pub is_altered : Source → Subject → Bool
+is_altered p s = list_any (λ q. list_any (alters s.name) q.monitors) p.subjects
+
+-- ---- what reaches a subject in a run
+
+-- by the active member of the slot's group
+abbrev pub reaching_member : Source → Subject → ℕ → Bool → Option (List ℕ) → System → Option Inbox
+reaching_member p s tick first None y = None
+reaching_member p s tick first (Some member) y = if bytes_eq member s.name then Some (inbox_of p y s first tick) else None
+
+-- by the slot
+abbrev pub reaching_slot : Source → Subject → ℕ → Option Slot → System → Option Inbox
+reaching_slot p s tick None y = None
+reaching_slot p s tick (Some slot) y = reaching_member p s tick slot.first (slice_get y.active slot.group) y
+
+-- at a turn of its CPU; nothing where the turn is another subject's
+abbrev pub reaching : Source → Subject → ℕ → System → Option Inbox
+reaching p s tick y = reaching_slot p s tick (slot_in (frames_of p s.cpu) y.frame tick) y
+
+-- the CPUs whose turns come before that of this one
+abbrev pub before : ℕ → List ℕ → List ℕ
+before cpu [] = []
+before cpu (c ∷ order) = if c == cpu then [] else c ∷ before cpu order
+
+-- in a tick of the run on a record
+abbrev pub reaching_at : Source → Held → DeviceRecord → Subject → ℕ → Option Inbox
+reaching_at p files r s tick =
+    reaching p s tick (tick_ran (system p) tick (inputs_at r tick) (before s.cpu (order_at p r tick))
+    (run_to (system p) (inputs_at r) (order_at p r) tick (start_of p files)).state).state
+
+-- ---- the subject by itself
+
+-- a state as its page has it
+abbrev pub on_page : SubjectState → SubjectState
+on_page st = state_in (page_bytes st)
+
+-- at the start
+abbrev pub started_alone : Subject → OwnState
+started_alone s = record { state = on_page (started s.entry); msrs = map (λ m. (m.index, 0)) (msrs_of s) }
+
+-- after a tick in which this reaches it at its turn, or in which it has none
+abbrev pub after_tick : Own → Option Inbox → OwnState → OwnState
+after_tick own None mine = mine
+after_tick own (Some inbox) mine =
+    record { state = on_page (solo_turn own mine inbox).state; msrs = with_write (solo_turn own mine inbox).msr mine.msrs }
+
+-- what its line says of that tick
+abbrev pub says_in : Own → Option Inbox → OwnState → Option TurnAction
+says_in own None mine = None
+says_in own (Some inbox) mine = (solo_turn own mine inbox).what
+
+-- after so many ticks, by what reaches it in each
+abbrev pub alone_to : Own → (ℕ → Option Inbox) → ℕ → OwnState → OwnState
+alone_to own inboxes zero mine = mine
+alone_to own inboxes (suc tick) mine = after_tick own (inboxes tick) (alone_to own inboxes tick mine)
+
+-- of a view: its line, its own state and its MSRs
+pub record OwnSeen : Type 0 where
+  pub line : Option TurnLine
+  pub state : Option SubjectState
+  pub msrs : Option MsrValues
+
+abbrev pub own_part : Seen → OwnSeen
+own_part v = record { line = v.line; state = v.state; msrs = v.msrs }
+
+abbrev pub alone_in : Own → Option Inbox → ℕ → OwnState → OwnSeen
+alone_in own inbox tick mine = record {
+  line = option_map (line_at tick own.cpu own.name mine.state.pc) (says_in own inbox mine);
+  state = Some (after_tick own inbox mine).state;
+  msrs = Some (after_tick own inbox mine).msrs;
+}
+
+-- **the view of the subject by itself**, of so many ticks
+abbrev pub alone_view : Own → (ℕ → Option Inbox) → OwnState → ℕ → List OwnSeen
+alone_view own inboxes mine n =
+    map (λ tick. alone_in own (inboxes tick) tick (alone_to own inboxes tick mine)) (numbers_below n)

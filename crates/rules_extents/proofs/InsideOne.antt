@@ -1,0 +1,131 @@
+-- A range lies in one of many that share no address just where it lies in the last of those that begin at its address or
+-- before it.
+use Rattle.std.proofs.Common.{◌≡◌, ℕ, zero, suc, ◌+◌, ◌-◌, ◌<◌, ◌≤◌, inl, inr, Bool, true, false, cond, not, List, [], ◌∷◌, length, get_or, drop, drop-cons, add-one, map, None, refl, sym, ap, ◌∙◌, arith}
+use Rattle.std.specs.Prelude.{◌||◌, nat_le, nat_lt}
+use Rattle.std.specs.List.{All, AllAdjacentBelow, AllWithin, list_all, list_any, position_or_len}
+use Rattle.std.specs.List.Sorted.{IsPartitionedBy, IsPermutation, IsNonDecreasingBy}
+use Rattle.std.proofs.Math.ListN.{drop_of_length-le}
+use Rattle.std.proofs.lemmas.Bool.{cases_order, le-leb, leb-true, ltb-true}
+use Rattle.std.proofs.lemmas.Bool.Decides.{nat_tests}
+use Rattle.std.proofs.lemmas.List.Elements.{All-map, All-weaker}
+use Rattle.std.proofs.lemmas.List.Sorted.{All-permutation, list_any-IsPermutation}
+use Rattle.std.proofs.lemmas.List.Sums.{AllPass-from_list_all}
+use Rattle.muen_num.proofs.Lists.{list_any-map}
+use Rattle.policy_lawful.specs.Rules.{first_overlap}
+use Rattle.policy_lawful.specs.declared.offence.Extent.{Extent}
+use Rattle.rules_extents.specs.Inside.{holds, is_inside}
+use Rattle.rules_extents.specs.AddressRange.{range_of, IsBelow}
+use Rattle.rules_extents.specs.declared.overlap.AddressRange.{AddressRange}
+use Rattle.rules_extents.proofs.Overlaps.{ranges_apart}
+use Rattle.rules_extents.proofs.Ranges.{EachTwo-permutation, IsApart, neighbours_from_apart}
+
+-- ---- a test that one element alone may pass
+
+none_pass : {X : Type 0} (p : X → Bool) (xs : List X) → ((k : ℕ) (d : X) → k < length xs → p (get_or xs k d) ≡ false) → list_any p xs ≡ false
+none_pass p [] h = refl
+none_pass p (x ∷ xs) h = ap (λ b. b || list_any p xs) (h 0 x (omega arith)) ∙ none_pass p xs (λ k d l. h (suc k) d (omega arith))
+
+or_false : (b : Bool) → (b || false) ≡ b
+or_false true = refl
+or_false false = refl
+
+one_passes : {X : Type 0} (p : X → Bool) (xs : List X) (n : ℕ) (d : X) → n < length xs → ((k : ℕ) (d : X) → k < length xs → (k ≡ n → ⊥) → p (get_or xs k d) ≡ false) → list_any p xs ≡ p (get_or xs n d)
+one_passes p [] n d l h = absurd (omega arith)
+one_passes p (x ∷ xs) zero d l h =
+    ap (λ b. p x || b) (none_pass p xs (λ k d l. h (suc k) d (omega arith) (λ e. absurd (omega arith)))) ∙ or_false (p x)
+one_passes p (x ∷ xs) (suc n) d l h =
+    ap (λ b. b || list_any p xs) (h 0 x (omega arith) (λ e. absurd (omega arith)))
+    ∙ one_passes p xs n d (omega arith) (λ k d l other. h (suc k) d (omega arith) (λ e. other (omega arith)))
+
+-- ---- ranges in the order of their addresses
+
+begins_later : (e : Extent) (s : AddressRange) → e.address < s.address → holds e s ≡ false
+begins_later e s h = grind (arith, nat_tests)
+
+ends_before : (e : Extent) (s : AddressRange) → s.address + s.size < e.address + e.size → holds e s ≡ false
+ends_before e s h = grind (arith, nat_tests)
+
+module _ (ranges : List AddressRange) (e : Extent) (up : IsNonDecreasingBy (λ s. s.address) ranges) (below : AllAdjacentBelow IsBelow ranges (length ranges)) (some : nat_lt 0 e.size ≡ true) (count : ℕ) (bound : count ≤ length ranges) (before : AllWithin (λ s. s.address ≤ e.address) ranges 0 count) (behind : AllWithin (λ s. e.address < s.address) ranges count (length ranges)) where
+  size : 0 < e.size
+  size = ltb-true 0 e.size some
+
+  pub in_none : count ≡ 0 → false ≡ list_any (holds e) ranges
+  in_none none = sym (none_pass (holds e) ranges (λ k d l. begins_later e (get_or ranges k d) (behind k d (omega (arith, none)) l)))
+
+  not_last : (k : ℕ) (d : AddressRange) → k < length ranges → 0 < count → (k ≡ count - 1 → ⊥) → holds e (get_or ranges k d) ≡ false
+  not_last k d l there other =
+      elim (cases_order k (count - 1)) [
+        | inl same ↦ absurd (other same)
+        | inr apart ↦ elim apart [
+          | inl less ↦
+              let here = below k d (omega (arith, less, bound)) in
+              let on = up (k + 1) (count - 1) d (omega (arith, less)) (omega (arith, bound, there)) in
+              let at = before (count - 1) d (omega arith) (omega (arith, there)) in
+              ends_before e (get_or ranges k d) (omega (arith, here, on, at, size))
+          | inr more ↦ begins_later e (get_or ranges k d) (behind k d (omega (arith, more, there)) l)
+        ]
+      ]
+
+  pub in_last : (d : AddressRange) → 0 < count → holds e (get_or ranges (count - 1) d) ≡ list_any (holds e) ranges
+  in_last d there = sym (one_passes (holds e) ranges (count - 1) d (omega (arith, bound, there)) (λ k d l other. not_last k d l there other))
+
+-- a test of addresses divides them
+pub divided : (ranges : List AddressRange) (address : ℕ) → IsNonDecreasingBy (λ s. s.address) ranges → IsPartitionedBy (λ s. nat_le s.address address) ranges
+divided ranges address up i j d l m h =
+    let on = up i j d l m in
+    let at : (get_or ranges j d).address ≤ address = leb-true _ _ h in
+    le-leb _ _ (omega (arith, on, at))
+
+pub above : (a b : ℕ) → nat_le a b ≡ false → b < a
+above a b h = grind (arith, nat_tests)
+
+-- ---- one range after another
+
+-- the index of the first that fails, with so many passed
+pub record Counting {X : Type 0} (p : X → Bool) (xs : List X) (i : ℕ) : Type 0 where
+  pub so : i + position_or_len (λ x. not (p x)) (drop i xs) ≡ position_or_len (λ x. not (p x)) xs
+
+pub counting_first : {X : Type 0} (p : X → Bool) (xs : List X) → Counting p xs 0
+counting_first p xs = record { so = omega arith }
+
+step : {X : Type 0} (p : X → Bool) (xs : List X) (i : ℕ) (x : X) → i < length xs → x ≡ get_or xs i x → position_or_len (λ x. not (p x)) (drop i xs) ≡ cond (not (not (p x))) (1 + position_or_len (λ x. not (p x)) (drop (i + 1) xs)) 0
+step p xs i x within is =
+    ap (position_or_len (λ x. not (p x))) (drop-cons xs i x within)
+    ∙ ap (λ z. cond (not (not (p z))) (1 + position_or_len (λ x. not (p x)) (drop (suc i) xs)) 0) (sym is)
+    ∙ ap (λ n. cond (not (not (p x))) (1 + position_or_len (λ x. not (p x)) (drop n xs)) 0) (sym (add-one i))
+
+pub counting_on : {X : Type 0} (p : X → Bool) (xs : List X) (i : ℕ) (x : X) → Counting p xs i → i < length xs → x ≡ get_or xs i x → p x ≡ true → Counting p xs (i + 1)
+counting_on p xs i x c within is passes =
+    let here = step p xs i x within is ∙ ap (λ b. cond (not (not b)) (1 + position_or_len (λ x. not (p x)) (drop (i + 1) xs)) 0) passes in
+    record { so = omega (arith, here, c.so) }
+
+pub counted_here : {X : Type 0} (p : X → Bool) (xs : List X) (i : ℕ) (x : X) → Counting p xs i → i < length xs → x ≡ get_or xs i x → p x ≡ false → i ≡ position_or_len (λ x. not (p x)) xs
+counted_here p xs i x c within is fails =
+    let here = step p xs i x within is ∙ ap (λ b. cond (not (not b)) (1 + position_or_len (λ x. not (p x)) (drop (i + 1) xs)) 0) fails in
+    omega (arith, here, c.so)
+
+pub counted_all : {X : Type 0} (p : X → Bool) (xs : List X) (i : ℕ) → Counting p xs i → i ≡ length xs → length xs ≡ position_or_len (λ x. not (p x)) xs
+counted_all p xs i c end =
+    let rest : position_or_len (λ x. not (p x)) (drop i xs) ≡ 0 = ap (position_or_len (λ x. not (p x))) (drop_of_length-le xs (omega (arith, end))) in
+    omega (arith, rest, c.so, end)
+
+-- ---- the blocks
+
+full : (xs : List Extent) → list_all (λ e. nat_lt 0 e.size) xs ≡ true → All (λ e. 0 < e.size) xs
+full xs h = All-weaker (λ (e : Extent). nat_lt 0 e.size ≡ true) (λ e. 0 < e.size) (λ e t. ltb-true 0 e.size t) xs (AllPass-from_list_all (λ (e : Extent). nat_lt 0 e.size) xs h)
+
+-- in order each ends before the next begins
+pub blocks_below : (blocks : List Extent) (ranges : List AddressRange) → first_overlap blocks ≡ None → list_all (λ e. nat_lt 0 e.size) blocks ≡ true → IsPermutation (map range_of blocks) ranges → IsNonDecreasingBy (λ s. s.address) ranges → AllAdjacentBelow IsBelow ranges (length ranges)
+blocks_below blocks ranges apart sized moved up =
+    neighbours_from_apart ranges
+    (All-permutation (λ s. 0 < s.size) (map range_of blocks) ranges moved (All-map (λ s. 0 < s.size) range_of blocks (full blocks sized)))
+    up
+    (EachTwo-permutation IsApart (map range_of blocks) ranges moved (ranges_apart blocks apart))
+
+same_inside : (blocks : List Extent) (ranges : List AddressRange) (e : Extent) → IsPermutation (map range_of blocks) ranges → list_any (holds e) ranges ≡ is_inside blocks e
+same_inside blocks ranges e moved = sym (list_any-IsPermutation (holds e) (map range_of blocks) ranges moved) ∙ list_any-map (holds e) range_of blocks
+
+pub counted : (blocks : List Extent) (ranges : List AddressRange) (extents : List Extent) → IsPermutation (map range_of blocks) ranges → position_or_len (λ e. not (list_any (holds e) ranges)) extents ≡ position_or_len (λ e. not (is_inside blocks e)) extents
+counted blocks ranges [] moved = refl
+counted blocks ranges (e ∷ es) moved =
+    λ i. cond (not (not (same_inside blocks ranges e moved i))) (1 + counted blocks ranges es moved i) 0

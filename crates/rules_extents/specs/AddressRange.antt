@@ -1,0 +1,12 @@
+-- Ranges of addresses without their names.
+use Rattle.std.specs.Prelude.{◌+◌, ◌≤◌}
+use Rattle.policy_lawful.specs.declared.offence.Extent.{Extent}
+use Rattle.rules_extents.specs.declared.overlap.AddressRange.{AddressRange}
+
+-- a range without its name
+abbrev pub range_of : Extent → AddressRange
+range_of e = record { address = e.address; size = e.size }
+
+-- the first ends at or before the address of the second
+abbrev pub IsBelow : AddressRange → AddressRange → Type 0
+IsBelow a b = a.address + a.size ≤ b.address

@@ -1,0 +1,75 @@
+// Which ranges lie inside others.
+ghost use Rattle.std.specs.Prelude.{◌≡◌, ◌<◌, ◌≤◌, None, length, not, nat_lt, true, IfOk};
+ghost use Rattle.std.specs.List.{AllAdjacentBelow, AllWithin, list_all, list_any, position_or_len};
+ghost use Rattle.std.specs.List.Sorted.{IsNonDecreasingBy};
+ghost use Rattle.policy_lawful.specs.Rules.{first_overlap};
+ghost use Rattle.rules_extents.specs.Inside.{holds, is_inside};
+ghost use Rattle.rules_extents.specs.AddressRange.{IsBelow};
+
+use crate::overlap::{AddressRange, rising};
+use muen_num::NoMemory;
+use policy_lawful::Extent;
+use std::alloc::Global;
+
+// Whether a range lies wholly in this one.
+fn holds(range: AddressRange, extent: &Extent) -> bool
+    ensures { result ≡ holds extent.now range }
+{
+    let end = u128::from(extent.address) + u128::from(extent.size);
+    range.address <= extent.address && end <= u128::from(range.address) + u128::from(range.size)
+}
+
+// How many of these ranges begin at an address or before it.
+fn count_before(ranges: &[AddressRange], address: u64) -> usize
+    requires { IsNonDecreasingBy (λ s. s.address) ranges.now }
+    ensures bound { result ≤ length ranges.now }
+    ensures before { AllWithin (λ s. s.address ≤ address) ranges.now 0 result }
+    ensures behind { AllWithin (λ s. address < s.address) ranges.now result (length ranges.now) }
+{
+    ranges.partition_point(|range| range.address <= address)
+}
+
+// Whether a range lies wholly in one of these, which share no address.
+#[tactic(auto, using(crate::proofs::InsideOne::in_none, crate::proofs::InsideOne::in_last))]
+fn is_inside(ranges: &[AddressRange], extent: &Extent) -> bool
+    requires rising { IsNonDecreasingBy (λ s. s.address) ranges.now }
+    requires below { AllAdjacentBelow IsBelow ranges.now (length ranges.now) }
+    requires some { nat_lt 0 extent.now.size ≡ true }
+    ensures { result ≡ list_any (holds extent.now) ranges.now }
+{
+    let count = count_before(ranges, extent.address);
+    if count == 0 {
+        return false;
+    }
+    holds(ranges[count - 1], extent)
+}
+
+// How many of the first ranges lie each wholly in one of these, where the next one doesn't.
+fn count_in(ranges: &[AddressRange], extents: &[Extent]) -> usize
+    requires rising { IsNonDecreasingBy (λ s. s.address) ranges.now }
+    requires below { AllAdjacentBelow IsBelow ranges.now (length ranges.now) }
+    requires some { list_all (λ e. nat_lt 0 e.size) extents.now ≡ true }
+    ensures { result ≡ position_or_len (λ e. not (list_any (holds e) ranges.now)) extents.now }
+{
+    for (index, extent) in extents.iter().enumerate() {
+        if !is_inside(ranges, extent) {
+            return index;
+        }
+    }
+    extents.len()
+}
+
+/// How many of the first ranges lie each wholly in one of the blocks, where the next one, if there
+/// is one, doesn't. The blocks share no address, and no range is empty.
+///
+/// Answers `NoMemory` where memory was refused.
+#[tactic(auto, using(crate::proofs::InsideOne::blocks_below))]
+pub fn count_inside(alloc: Global, blocks: &[Extent], extents: &[Extent]) -> Result<usize, NoMemory>
+    requires apart { first_overlap blocks.now ≡ None }
+    requires blocks { list_all (λ e. nat_lt 0 e.size) blocks.now ≡ true }
+    requires some { list_all (λ e. nat_lt 0 e.size) extents.now ≡ true }
+    ensures { IfOk result (λ n. n ≡ position_or_len (λ e. not (is_inside blocks.now e)) extents.now) }
+{
+    let ranges = rising(alloc, blocks)?;
+    Ok(count_in(&ranges, extents))
+}

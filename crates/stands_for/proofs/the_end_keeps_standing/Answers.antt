@@ -1,5 +1,0 @@
-use Rattle.stands_for.proofs.Ends.{ended_stands}
-use Rattle.stands_for.proofs.the_end_keeps_standing.Goals as goal
-
-pub returns : goal.returns
-returns c = λ g fixed cpus k y many stands. ended_stands g fixed cpus many k y stands

@@ -1,5 +1,0 @@
-use Rattle.system_laws.proofs.StatePages.{pages_stay}
-use Rattle.system_laws.proofs.state_pages_are_their_subjects.Goals as goal
-
-pub returns : goal.returns
-returns c = pages_stay

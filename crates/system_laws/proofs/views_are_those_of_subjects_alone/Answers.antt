@@ -1,5 +1,0 @@
-use Rattle.system_laws.proofs.AloneViews.{views_alone}
-use Rattle.system_laws.proofs.views_are_those_of_subjects_alone.Goals as goal
-
-pub returns : goal.returns
-returns c = views_alone

@@ -1,0 +1,373 @@
+//! Whole calls over files and sinks in memory.
+use muen_outside::{MemFiles, MemSink};
+use std::alloc::Global;
+use std::test::Fail;
+use tests_support::{call, changed, file, has_pieces, numbers, text_of};
+
+pub(crate) const POLICY: &str = r#"{"processor":{"logicalCpus":1},
+"memoryBlocks":[{"name":"ram","physicalAddress":1048576,"size":65536}],
+"memory":[{"name":"code","size":4096,"content":{"hex":"01100000050000001700000000000000"}}],
+"subjects":[{"name":"one","cpu":0,"entry":4194304,
+"memory":[{"region":"code","virtualAddress":4194304,"rights":"rx"}]}],
+"scheduling":{"groups":[{"name":"g","cpu":0,"subjects":["one"]}],
+"majorFrames":[{"cpus":[{"cpu":0,"minorFrames":[{"group":"g","ticks":10}]}]}]}}"#;
+
+const THREE_TICKS: &str = "\
+0 0 one 0000000000400000 r1=0000000000000005\n\
+1 0 one 0000000000400008 exit 12 0000000000000000 0000000000000000 halt\n\
+end one 0000000000400010 0000000000000000 0000000000000000 10\n\
+regs one 0 0000000000000000 0000000000000005 0000000000000000 0000000000000000\n\
+regs one 4 0000000000000000 0000000000000000 0000000000000000 0000000000000000\n\
+regs one 8 0000000000000000 0000000000000000 0000000000000000 0000000000000000\n\
+regs one 12 0000000000000000 0000000000000000 0000000000000000 0000000000000000\n\
+region code d4837ed1427735f0510903e5523cb11cd438da2eb85d4aaea180ec5efa8719aa\n\
+";
+
+const NO_TICK: &str = "\
+end one 0000000000400000 0000000000000000 0000000000000000 8\n\
+regs one 0 0000000000000000 0000000000000000 0000000000000000 0000000000000000\n\
+regs one 4 0000000000000000 0000000000000000 0000000000000000 0000000000000000\n\
+regs one 8 0000000000000000 0000000000000000 0000000000000000 0000000000000000\n\
+regs one 12 0000000000000000 0000000000000000 0000000000000000 0000000000000000\n\
+region code d4837ed1427735f0510903e5523cb11cd438da2eb85d4aaea180ec5efa8719aa\n\
+";
+
+const UNDERSCORED: &str = r#"{"processor":{"logicalCpus":1},
+"memoryBlocks":[{"name":"ram","physicalAddress":"16#10__0#","size":65536}],"memory":[{}]}"#;
+
+// Three regions, two of them in windows, of which the second follows on the first.
+const SEVERAL: &str = r#"{"processor":{"logicalCpus":1},
+"memoryBlocks":[{"name":"ram","physicalAddress":1048576,"size":131072}],
+"memory":[{"name":"spare","size":4096,"content":{"fill":255}},{"name":"code","size":4096,"content":{"hex":"01100000050000001700000000000000"}},{"name":"lead","size":4096,"caching":"UC"}],
+"subjects":[{"name":"one","cpu":0,"entry":"16#3f_fff8#","memory":[{"region":"code","virtualAddress":"16#40_0000#","rights":"rx"},{"region":"lead","virtualAddress":"16#3f_f000#","rights":"rx"}]}],
+"scheduling":{"groups":[{"name":"g","cpu":0,"subjects":["one"]}],
+"majorFrames":[{"cpus":[{"cpu":0,"minorFrames":[{"group":"g","ticks":10}]}]}]}}"#;
+
+const SEVERAL_RAN: &str = "\
+0 0 one 00000000003ffff8 -\n\
+1 0 one 0000000000400000 r1=0000000000000005\n\
+2 0 one 0000000000400008 exit 12 0000000000000000 0000000000000000 halt\n\
+end one 0000000000400010 0000000000000000 0000000000000000 10\n\
+regs one 0 0000000000000000 0000000000000005 0000000000000000 0000000000000000\n\
+regs one 4 0000000000000000 0000000000000000 0000000000000000 0000000000000000\n\
+regs one 8 0000000000000000 0000000000000000 0000000000000000 0000000000000000\n\
+regs one 12 0000000000000000 0000000000000000 0000000000000000 0000000000000000\n\
+region spare f47a8ec3e9aff2318d896942282ad4fe37d6391c82914f54a5da8a37de1300c6\n\
+region code d4837ed1427735f0510903e5523cb11cd438da2eb85d4aaea180ec5efa8719aa\n\
+region lead ad7facb2586fc6e966c004d7d1d16b024f5805ff7cb47c7a85dabd8b48892ca7\n\
+";
+
+// A load from the first address past the guest addresses.
+const PAST: &str = r#"{"processor":{"logicalCpus":1},
+"memoryBlocks":[{"name":"ram","physicalAddress":1048576,"size":65536}],
+"memory":[{"name":"code","size":4096,"content":{"hex":"02200000000001000b12030000000000"}},{"name":"past","size":4096}],
+"subjects":[{"name":"one","cpu":0,"entry":4194304,
+"memory":[{"region":"code","virtualAddress":4194304,"rights":"rx"},{"region":"past","virtualAddress":281474976706560,"rights":"r"}]}],
+"scheduling":{"groups":[{"name":"g","cpu":0,"subjects":["one"]}],
+"majorFrames":[{"cpus":[{"cpu":0,"minorFrames":[{"group":"g","ticks":10}]}]}]}}"#;
+
+const PAST_RAN: &str = "\
+0 0 one 0000000000400000 r2=0001000000000000\n\
+1 0 one 0000000000400008 exit 48 0000000000000001 0001000000000000 stop\n\
+end one 0000000000400008 0000000000000000 0000000000000000 12\n\
+regs one 0 0000000000000000 0000000000000000 0001000000000000 0000000000000000\n\
+regs one 4 0000000000000000 0000000000000000 0000000000000000 0000000000000000\n\
+regs one 8 0000000000000000 0000000000000000 0000000000000000 0000000000000000\n\
+regs one 12 0000000000000000 0000000000000000 0000000000000000 0000000000000000\n\
+region code 2532b3dd774bdde1e568bcefd153005732096282e213a71bf47ba1546d4e7a6b\n\
+region past ad7facb2586fc6e966c004d7d1d16b024f5805ff7cb47c7a85dabd8b48892ca7\n\
+";
+
+// A store without the right to write.
+const READ_ONLY: &str = r#"{"processor":{"logicalCpus":1},
+"memoryBlocks":[{"name":"ram","physicalAddress":1048576,"size":65536}],
+"memory":[{"name":"code","size":4096,"content":{"hex":"01200000000050000c12030000000000"}},{"name":"ro","size":4096}],
+"subjects":[{"name":"one","cpu":0,"entry":4194304,
+"memory":[{"region":"code","virtualAddress":4194304,"rights":"rx"},{"region":"ro","virtualAddress":5242880,"rights":"r"}]}],
+"scheduling":{"groups":[{"name":"g","cpu":0,"subjects":["one"]}],
+"majorFrames":[{"cpus":[{"cpu":0,"minorFrames":[{"group":"g","ticks":10}]}]}]}}"#;
+
+const READ_ONLY_RAN: &str = "\
+0 0 one 0000000000400000 r2=0000000000500000\n\
+1 0 one 0000000000400008 exit 48 000000000000000a 0000000000500000 stop\n\
+end one 0000000000400008 0000000000000000 0000000000000000 12\n\
+regs one 0 0000000000000000 0000000000000000 0000000000500000 0000000000000000\n\
+regs one 4 0000000000000000 0000000000000000 0000000000000000 0000000000000000\n\
+regs one 8 0000000000000000 0000000000000000 0000000000000000 0000000000000000\n\
+regs one 12 0000000000000000 0000000000000000 0000000000000000 0000000000000000\n\
+region code 9e1d3ca39f4f9aa7496f453a1083800ae8d4c1dc60807ce8585fce6f629a66b9\n\
+region ro ad7facb2586fc6e966c004d7d1d16b024f5805ff7cb47c7a85dabd8b48892ca7\n\
+";
+
+// Two subjects without a window, each on a CPU of its own: both stop at their first fetch.
+const TWO_CPUS: &str = r#"{"processor":{"logicalCpus":2},
+"memoryBlocks":[{"name":"ram","physicalAddress":1048576,"size":131072}],
+"subjects":[{"name":"one","cpu":0,"entry":0},{"name":"two","cpu":1,"entry":0}],
+"scheduling":{"groups":[{"name":"g","cpu":0,"subjects":["one"]},{"name":"h","cpu":1,"subjects":["two"]}],
+"majorFrames":[{"cpus":[{"cpu":0,"minorFrames":[{"group":"g","ticks":1}]},{"cpu":1,"minorFrames":[{"group":"h","ticks":1}]}]}]}}"#;
+
+const TWO_CPUS_RAN: &str = "\
+0 0 one 0000000000000000 exit 48 0000000000000004 0000000000000000 stop\n\
+0 1 two 0000000000000000 exit 48 0000000000000004 0000000000000000 stop\n\
+end one 0000000000000000 0000000000000000 0000000000000000 12\n\
+regs one 0 0000000000000000 0000000000000000 0000000000000000 0000000000000000\n\
+regs one 4 0000000000000000 0000000000000000 0000000000000000 0000000000000000\n\
+regs one 8 0000000000000000 0000000000000000 0000000000000000 0000000000000000\n\
+regs one 12 0000000000000000 0000000000000000 0000000000000000 0000000000000000\n\
+end two 0000000000000000 0000000000000000 0000000000000000 12\n\
+regs two 0 0000000000000000 0000000000000000 0000000000000000 0000000000000000\n\
+regs two 4 0000000000000000 0000000000000000 0000000000000000 0000000000000000\n\
+regs two 8 0000000000000000 0000000000000000 0000000000000000 0000000000000000\n\
+regs two 12 0000000000000000 0000000000000000 0000000000000000 0000000000000000\n\
+";
+
+// A jump to itself.
+const LOOP: &str = r#"{"processor":{"logicalCpus":1},
+"memoryBlocks":[{"name":"ram","physicalAddress":1048576,"size":131072}],
+"memory":[{"name":"code","size":4096,"content":{"hex":"0d00000000000000"}}],
+"subjects":[{"name":"one","cpu":0,"entry":0,
+"memory":[{"region":"code","virtualAddress":0,"rights":"rx"}]}],
+"scheduling":{"groups":[{"name":"g","cpu":0,"subjects":["one"]}],
+"majorFrames":[{"cpus":[{"cpu":0,"minorFrames":[{"group":"g","ticks":10}]}]}]}}"#;
+
+// The files of the calls below, besides the policy `p`.
+const FILES: [(&str, &str); 12] = [
+    ("zero", "end 0"),
+    ("three", "end 3\n"),
+    ("late", "end 100001\n"),
+    ("broken", "{"),
+    ("list", "[]"),
+    ("bare", r#"{"processor":{"logicalCpus":1},"scheduling":{}}"#),
+    ("underscored", UNDERSCORED),
+    ("several", SEVERAL),
+    ("past", PAST),
+    ("ro", READ_ONLY),
+    ("two", TWO_CPUS),
+    ("loop", LOOP),
+];
+
+// They, and files of a page and of 5000 bytes; the calls of these digits fail.
+pub(crate) fn files(alloc: Global, policy: &str, fails: &str) -> Result<MemFiles, Fail> {
+    let mut held = Vec::new(alloc);
+    held.push(file(alloc, "p", policy.as_bytes())?)?;
+    for (name, text) in FILES {
+        held.push(file(alloc, name, text.as_bytes())?)?;
+    }
+    held.push((String::from_str(alloc, "page")?, vec![in alloc; 1; 4096]?))?;
+    held.push((String::from_str(alloc, "long")?, vec![in alloc; 1; 5000]?))?;
+    Ok(MemFiles::make(held, numbers(alloc, fails)?))
+}
+
+#[test]
+fn answers(rt: HostRuntime) -> Result<(), Fail> {
+    let alloc = rt.alloc();
+    let mut files = files(alloc, POLICY, "")?;
+    for (words, text) in [
+        ("boot p three", THREE_TICKS),
+        ("boot p zero", NO_TICK),
+        ("boot several three", SEVERAL_RAN),
+        ("boot past three", PAST_RAN),
+        ("boot ro three", READ_ONLY_RAN),
+        ("boot two three", TWO_CPUS_RAN),
+    ] {
+        let mut out = MemSink::make(alloc, 1000, Vec::new(alloc), 0)?;
+        let ended = call(alloc, words, &mut files, &mut out)?;
+        assert_eq!(rt; ended.answer(alloc)?.as_str(), "0 ", "{words}");
+        assert_eq!(rt; ended.out.as_str(), text, "{words}");
+    }
+    Ok(())
+}
+
+// Each row has the status with the line that is put, the calls on files that fail, the words, and
+// changes to the policy.
+const REFUSALS: &str =
+    r#"1 muen: usage: build POLICY IMAGE, run IMAGE RECORD, boot POLICY RECORD, map POLICY, flows POLICY, load NUMBER, verify IMAGE POLICY, build POLICY IMAGE DMA, run IMAGE RECORD DMA |  | 
+1 muen: usage: build POLICY IMAGE, run IMAGE RECORD, boot POLICY RECORD, map POLICY, flows POLICY, load NUMBER, verify IMAGE POLICY, build POLICY IMAGE DMA, run IMAGE RECORD DMA |  | run p
+1 muen: usage: build POLICY IMAGE, run IMAGE RECORD, boot POLICY RECORD, map POLICY, flows POLICY, load NUMBER, verify IMAGE POLICY, build POLICY IMAGE DMA, run IMAGE RECORD DMA |  | boot p three more
+1 muen: usage: build POLICY IMAGE, run IMAGE RECORD, boot POLICY RECORD, map POLICY, flows POLICY, load NUMBER, verify IMAGE POLICY, build POLICY IMAGE DMA, run IMAGE RECORD DMA |  | Boot p three
+1 muen: usage: build POLICY IMAGE, run IMAGE RECORD, boot POLICY RECORD, map POLICY, flows POLICY, load NUMBER, verify IMAGE POLICY, build POLICY IMAGE DMA, run IMAGE RECORD DMA |  | build
+1 muen: usage: build POLICY IMAGE, run IMAGE RECORD, boot POLICY RECORD, map POLICY, flows POLICY, load NUMBER, verify IMAGE POLICY, build POLICY IMAGE DMA, run IMAGE RECORD DMA |  | build p
+1 muen: usage: build POLICY IMAGE, run IMAGE RECORD, boot POLICY RECORD, map POLICY, flows POLICY, load NUMBER, verify IMAGE POLICY, build POLICY IMAGE DMA, run IMAGE RECORD DMA |  | build p image DMA
+2 muen: not JSON |  | boot broken three
+2 muen: not JSON |  | boot broken nothing
+2 muen: not JSON |  | build broken image
+2 muen: shape at : want object |  | boot list three
+2 muen: shape at /memoryBlocks/0/physicalAddress: want number |  | boot underscored three
+2 muen: rule 20: subjects subjects |  | boot bare three
+2 muen: rule 20: subjects subjects |  | build bare image
+3 muen: missing file absent |  | boot absent three
+3 muen: missing file absent |  | build absent image
+3 muen: missing file nothing |  | boot p nothing
+4 muen: file fault | 0 | boot p three
+4 muen: file fault | 1 | boot p three
+6 muen: record refused at line 1: range |  | boot p late
+6 muen: record refused at line 1: word |  | boot p p"#;
+
+// Contents from files, and from the policy, where `@` stands for a page of zeros. The record's file is
+// absent: it is read once the policy is accepted. Call 0 reads the policy. A file that is named twice is
+// read once, and the policy's own name is no call; so it is with the name of the record.
+pub(crate) const FROM_FILES: &str = r#"{"processor":{"logicalCpus":1},
+"memoryBlocks":[{"name":"ram","physicalAddress":1048576,"size":131072}],"memory":[MEMORY],
+"subjects":[{"name":"one","cpu":0,"entry":0}],
+"scheduling":{"groups":[{"name":"g","cpu":0,"subjects":["one"]}],
+"majorFrames":[{"cpus":[{"cpu":0,"minorFrames":[{"group":"g","ticks":1}]}]}]}}"#;
+
+const CONTENTS: &str =
+    r#"3 muen: missing file nothing |  | boot p absent | MEMORY=>{"name":"r","size":4096,"content":{"file":"nothing"}}
+3 muen: missing file absent |  | boot p absent | MEMORY=>{"name":"r","size":4096,"content":{"file":"page"}}
+2 muen: r: 4097 bytes in room for 4096 |  | boot p absent | MEMORY=>{"name":"r","size":4096,"content":{"file":"long","offset":903}}
+3 muen: missing file absent |  | boot p absent | MEMORY=>{"name":"q","size":4096},{"name":"r","size":4096,"content":{"file":"long","offset":904}}
+3 muen: missing file absent |  | boot p absent | MEMORY=>{"name":"r","size":4096,"content":{"file":"long","length":4096}}
+3 muen: missing file absent |  | boot p absent | MEMORY=>{"name":"r","size":4096,"content":{"file":"long","offset":5001,"length":9999}}
+2 muen: r: 5000 bytes in room for 4096 |  | boot p absent | MEMORY=>{"name":"r","size":4096,"content":{"file":"long"}},{"name":"q","size":4096,"content":{"file":"nothing"}}
+3 muen: missing file absent | 3 | boot p absent | MEMORY=>{"name":"r","size":4096,"content":{"file":"page"}},{"name":"q","size":4096,"content":{"file":"page"}}
+4 muen: file fault | 2 | boot p absent | MEMORY=>{"name":"r","size":4096,"content":{"file":"page"}},{"name":"q","size":8192,"content":{"file":"long"}}
+3 muen: missing file absent | 2 | boot p absent | MEMORY=>{"name":"r","size":4096,"content":{"file":"p"}}
+6 muen: record refused at line 1: word | 2 | boot p page | MEMORY=>{"name":"r","size":4096,"content":{"file":"page"}}
+6 muen: record refused at line 1: word | 1 | boot p p | MEMORY=>{"name":"r","size":4096,"content":{"file":"p"}}
+3 muen: missing file absent |  | boot p absent | MEMORY=>{"name":"a","size":4096,"content":{"hex":"@"}},{"name":"b","size":4096,"content":{"hex":""}}
+2 muen: b: 4097 bytes in room for 4096 |  | boot p absent | MEMORY=>{"name":"a","size":4096,"content":{"hex":"@"}},{"name":"b","size":4096,"content":{"hex":"@00"}},{"name":"c","size":4096,"content":{"hex":"@@"}}
+2 muen: rule 16: major.0 cpu.0 |  | boot p absent | MEMORY=>{"name":"a","size":4096,"content":{"hex":"@00"}} | "ticks":1=>"ticks":0"#;
+
+// Provided regions come after memory.
+const PROVIDED: &str = r#"{"processor":{"logicalCpus":1},"memory":[MEMORY],
+"components":[{"name":"feed","provides":[{"logical":"text","virtualAddress":0,"size":4096,"rights":"r","content":{"file":"long"}}]}],
+"subjects":[{"name":"one","cpu":0,"entry":0,"component":{"ref":"feed"}}],
+"scheduling":{"groups":[{"name":"g","cpu":0,"subjects":["one"]}],
+"majorFrames":[{"cpus":[{"cpu":0,"minorFrames":[{"group":"g","ticks":1}]}]}]}}"#;
+
+const PROVIDED_CONTENTS: &str =
+    r#"2 muen: one|text: 5000 bytes in room for 4096 |  | boot p absent | MEMORY=>{"name":"r","size":4096,"content":{"file":"page"}}
+3 muen: missing file nothing |  | boot p absent | MEMORY=>{"name":"r","size":4096,"content":{"file":"nothing"}}"#;
+
+// Nothing is put, and no file is made or changed.
+#[test]
+fn refusals(rt: HostRuntime) -> Result<(), Fail> {
+    let alloc = rt.alloc();
+    let page = text_of(alloc, &vec![in alloc; b'0'; 8192]?)?;
+    for (document, rows) in [
+        (POLICY, REFUSALS),
+        (FROM_FILES, CONTENTS),
+        (PROVIDED, PROVIDED_CONTENTS),
+    ] {
+        for row in rows.split('\n') {
+            let Some((want, rest)) = row.split_once(" | ") else {
+                return Err(Fail::new("no calls"));
+            };
+            let Some((fails, rest)) = rest.split_once(" | ") else {
+                return Err(Fail::new("no words"));
+            };
+            let (words, changes) = match rest.split_once(" | ") {
+                Some(parts) => parts,
+                None => (rest, ""),
+            };
+            let policy = changed(alloc, document, changes)?;
+            let policy = policy.as_str().replace(alloc, '@', page.as_str())?;
+            let mut files = files(alloc, policy.as_str(), fails)?;
+            let mut out = MemSink::make(alloc, 10, Vec::new(alloc), 0)?;
+            let ended = call(alloc, words, &mut files, &mut out)?;
+            assert_eq!(rt; ended.line(alloc)?.as_str(), want, "{row}");
+            assert_eq!(rt; out.calls(), 0, "{row}");
+            assert!(rt; files.get("image").is_none(), "{row}");
+            assert!(rt; files.get("p") == Some(policy.as_bytes()), "{row}");
+        }
+    }
+    Ok(())
+}
+
+const STOPPED: &str = "\
+0 0 one 0000000000000000 exit 48 0000000000000004 0000000000000000 stop\n\
+end one 0000000000000000 0000000000000000 0000000000000000 12\n\
+...";
+
+// A record of the name of a file that was read before: these bytes stand for it, and it is no call.
+#[test]
+fn a_record_that_was_read(rt: HostRuntime) -> Result<(), Fail> {
+    let alloc = rt.alloc();
+    let change = r#"MEMORY=>{"name":"r","size":4096,"content":{"file":"three"}}"#;
+    let policy = changed(alloc, FROM_FILES, change)?;
+    let mut files = files(alloc, policy.as_str(), "2")?;
+    let mut out = MemSink::make(alloc, 1000, Vec::new(alloc), 0)?;
+    let ended = call(alloc, "boot p three", &mut files, &mut out)?;
+    assert_eq!(rt; ended.answer(alloc)?.as_str(), "0 ");
+    assert!(rt; has_pieces(ended.out.as_str(), STOPPED));
+    Ok(())
+}
+
+// A put that fails, and one without room.
+#[test]
+fn faults(rt: HostRuntime) -> Result<(), Fail> {
+    let alloc = rt.alloc();
+    let mut files = files(alloc, POLICY, "")?;
+    for (room, fails, begin) in [
+        (1000, "0", "0 0"),
+        (
+            60,
+            "",
+            "0 0 one 0000000000400000 r1=0000000000000005\n1 0 one 0000000",
+        ),
+    ] {
+        let mut out = MemSink::make(alloc, room, numbers(alloc, fails)?, 3)?;
+        let ended = call(alloc, "boot p three", &mut files, &mut out)?;
+        assert_eq!(rt; ended.answer(alloc)?.as_str(), "7 muen: output fault\n");
+        assert_eq!(rt; ended.out.as_str(), begin);
+    }
+    Ok(())
+}
+
+// A text of more than 64 KiB is put in blocks of at most so many bytes, each of whole lines.
+#[test]
+fn blocks(rt: HostRuntime) -> Result<(), Fail> {
+    let alloc = rt.alloc();
+    let mut held = Vec::new(alloc);
+    held.push(file(alloc, "loop", LOOP.as_bytes())?)?;
+    held.push(file(alloc, "long", b"end 3000")?)?;
+    let mut files = MemFiles::make(held, Vec::new(alloc));
+    let mut out = MemSink::make(alloc, 200_000, Vec::new(alloc), 0)?;
+    let whole = call(alloc, "boot loop long", &mut files, &mut out)?;
+    assert_eq!(rt; whole.status, 0);
+    assert_eq!(rt; whole.out.len(), 89_345);
+    let mut failing = MemSink::make(alloc, 200_000, numbers(alloc, "1")?, 5)?;
+    let cut = call(alloc, "boot loop long", &mut files, &mut failing)?;
+    assert_eq!(rt; cut.status, 7);
+    assert_eq!(rt; cut.out.len(), 65_520 + 5);
+    assert!(rt; whole.out.as_str().starts_with(cut.out.as_str()));
+    Ok(())
+}
+
+// The last record is a file that was read for a content: a record may have fewer bytes.
+const LONG: &str = r#"boot long p | 3 muen: file long has 4194305 bytes
+boot p longer | 3 muen: file longer has 16777217 bytes
+boot q absent | 3 muen: file component has 67108865 bytes
+boot s longer | 3 muen: file longer has 16777217 bytes"#;
+
+#[test]
+fn long_files(rt: HostRuntime) -> Result<(), Fail> {
+    let alloc = rt.alloc();
+    let mut held = Vec::new(alloc);
+    held.push(file(alloc, "p", POLICY.as_bytes())?)?;
+    for (name, length, policy) in [
+        ("long", 4_194_305, ""),
+        ("longer", 16_777_217, "s"),
+        ("component", 67_108_865, "q"),
+    ] {
+        held.push((
+            String::from_str(alloc, name)?,
+            vec![in alloc; b' '; length]?,
+        ))?;
+        let memory = r#"{"name":"r","size":4096,"content":{"file":"FILE","length":1}}"#;
+        let text = FROM_FILES.replacen(alloc, "MEMORY", memory, 1)?;
+        let text = text.as_str().replacen(alloc, "FILE", name, 1)?;
+        held.push(file(alloc, policy, text.as_str().as_bytes())?)?;
+    }
+    let mut files = MemFiles::make(held, Vec::new(alloc));
+    let mut out = MemSink::make(alloc, 10, Vec::new(alloc), 0)?;
+    for row in LONG.split('\n') {
+        let Some((words, want)) = row.split_once(" | ") else {
+            return Err(Fail::new("no row"));
+        };
+        let ended = call(alloc, words, &mut files, &mut out)?;
+        assert_eq!(rt; ended.line(alloc)?.as_str(), want, "{row}");
+    }
+    Ok(())
+}

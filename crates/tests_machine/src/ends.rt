@@ -1,0 +1,35 @@
+//! What the kernel makes of exits and events.
+use guest_isa::{Finish, inject};
+use std::test::Fail;
+use state_page::SubjectState;
+
+#[test]
+fn after_each_exit(rt: HostRuntime) -> Result<(), Fail> {
+    let table = [
+        (12, true, Finish::Halt),
+        (12, false, Finish::Halt),
+        (18, false, Finish::On),
+        (48, true, Finish::On),
+        (48, false, Finish::Stop),
+        (0, false, Finish::Stop),
+    ];
+    for (reason, has_trap, finish) in table {
+        assert_eq!(rt; Finish::after(reason, has_trap), finish, "{reason}");
+    }
+    Ok(())
+}
+
+#[test]
+fn addresses_wrap(rt: HostRuntime) -> Result<(), Fail> {
+    let mut s = SubjectState::start(u64::MAX - 3);
+    s.vbase = u64::MAX;
+    s.halted = true;
+    assert_eq!(rt; Finish::On.of(&s).pc, 4);
+    assert_eq!(rt; Finish::Stop.of(&s).pc, u64::MAX - 3);
+    let handled = inject(&s, 255);
+    assert_eq!(rt;
+        (handled.pc, handled.epc, handled.halted),
+        (2039, u64::MAX - 3, false)
+    );
+    Ok(())
+}

@@ -1,0 +1,110 @@
+use ept_walk::{PlainWalk, Translate};
+use machine_layout::Walk;
+use muen_num::{AccessKind, AccessSize, Seq};
+use phys_mem::{MemorySpan, PhysMem, RegionMem};
+use std::alloc::Global;
+use std::test::Fail;
+
+/// The EPTP whose PML4 table is the first page of the tables.
+const EPTP: u64 = 0x10_001e;
+
+/// The page table's address. The page directory is the page before it, and so on up to the PML4
+/// table.
+const PAGE_TABLE: u64 = 0x10_3000;
+
+/// Seven pages from 1 MiB on, for tables, and one page at 2 GiB.
+fn memory(alloc: Global) -> Result<RegionMem, Fail> {
+    let low = MemorySpan {
+        address: 0x10_0000,
+        bytes: Seq::of(vec![in alloc; 0; 0x7000]?),
+    };
+    let high = MemorySpan {
+        address: 0x8000_0000,
+        bytes: Seq::of(vec![in alloc; 0; 0x1000]?),
+    };
+    let spans = vec![in alloc; low, high]?;
+    Ok(RegionMem::start(alloc, spans)?)
+}
+
+/// Writes an entry into the table of a level, 3 for the PML4 table.
+fn write<M: PhysMem>(mem: &mut M, level: u64, index: u64, entry: u64) {
+    let address = PAGE_TABLE - 0x1000 * (level % 4) + 8 * (index % 512);
+    mem.store(address, AccessSize::Eight, entry);
+}
+
+/// Where a walk for reading ends, with an entry in place of the first one of its level.
+fn walk_with(mem: &mut RegionMem, level: u64, entry: u64) -> Walk {
+    write(mem, 3, 0, 0x10_1007);
+    write(mem, 2, 0, 0x10_2007);
+    write(mem, 1, 0, 0x10_3007);
+    write(mem, 0, 0, 0x10_6037);
+    write(mem, level, 0, entry);
+    PlainWalk::new().walk(mem, EPTP, 0, AccessKind::Read)
+}
+
+/// Entries by their level, and where the walk ends with one.
+const ENTRIES: [(u64, u64, Walk); 28] = [
+    (3, 0x10_1002, Walk::Misconfigured),
+    (3, 0x10_1004, Walk::Misconfigured),
+    (3, 0x10_1006, Walk::Misconfigured),
+    (3, 0x10_100f, Walk::Misconfigured),
+    (3, 0x10_1047, Walk::Misconfigured),
+    (3, 0x10_1087, Walk::Misconfigured),
+    (3, 0x100_0010_1007, Walk::Misconfigured),
+    (2, 0x8_0000_0010_2007, Walk::Misconfigured),
+    (2, 0x8000_0097, Walk::Misconfigured),
+    (2, 0x8000_00bf, Walk::Misconfigured),
+    (2, 0xa000_00b7, Walk::Misconfigured),
+    (1, 0x10_3027, Walk::Misconfigured),
+    (1, 0x8000_009f, Walk::Misconfigured),
+    (1, 0x8010_00b7, Walk::Misconfigured),
+    (0, 0x10_6032, Walk::Misconfigured),
+    (0, 0x10_6034, Walk::Misconfigured),
+    (0, 0x10_6036, Walk::Misconfigured),
+    (0, 0x10_6017, Walk::Misconfigured),
+    (0, 0x10_601f, Walk::Misconfigured),
+    (0, 0x10_603f, Walk::Misconfigured),
+    (0, 0x100_0010_6037, Walk::Misconfigured),
+    (0, 0xfff0_0000_0010_6f37, Walk::At(0x10_6000)),
+    (0, 0x10_60f7, Walk::At(0x10_6000)),
+    (1, 0x8000_00b7, Walk::At(0x8000_0000)),
+    (2, 0x8000_00b7, Walk::At(0x8000_0000)),
+    (3, 0, Walk::Violation(0)),
+    (1, 0x9999_9007, Walk::Misconfigured),
+    (0, 0x10_7037, Walk::Misconfigured),
+];
+
+#[test]
+fn each_check(rt: HostRuntime) -> Result<(), Fail> {
+    let mut mem = memory(rt.alloc())?;
+    for (level, entry, end) in ENTRIES {
+        assert_eq!(rt; walk_with(&mut mem, level, entry), end, "{level} {entry:x}");
+    }
+    Ok(())
+}
+
+/// Walks over the worked tables: the EPTP, the guest address, what is done there, and where it ends.
+const WALKS: [(u64, u32, AccessKind, Walk); 7] = [
+    (EPTP, 0x40_0000, AccessKind::Read, Walk::At(0x10_6000)),
+    (EPTP, 0x40_0fff, AccessKind::Fetch, Walk::At(0x10_6fff)),
+    (EPTP, 0x40_0000, AccessKind::Write, Walk::Violation(5)),
+    (EPTP, 0x40_1000, AccessKind::Read, Walk::Violation(0)),
+    (EPTP, 0x4000_0123, AccessKind::Write, Walk::At(0x8000_0123)),
+    (EPTP, 0x4000_1000, AccessKind::Read, Walk::Misconfigured),
+    (u64::MAX, 0, AccessKind::Read, Walk::Misconfigured),
+];
+
+#[test]
+fn worked_tables(rt: HostRuntime) -> Result<(), Fail> {
+    let mut mem = memory(rt.alloc())?;
+    write(&mut mem, 3, 0, 0x10_1007);
+    write(&mut mem, 2, 0, 0x10_2007);
+    write(&mut mem, 2, 1, 0x8000_00b3);
+    write(&mut mem, 1, 2, 0x10_3007);
+    write(&mut mem, 0, 0, 0x10_6035);
+    for (eptp, guest, kind, end) in WALKS {
+        let walk = PlainWalk::new().walk(&mem, eptp, u64::from(guest), kind);
+        assert_eq!(rt; walk, end, "{guest:x}");
+    }
+    Ok(())
+}
