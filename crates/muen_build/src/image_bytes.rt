@@ -1,6 +1,6 @@
 //! The image of a document's policy.
 ghost use Rattle.std.specs.Prelude.{◌≡◌, IfErr, IfOk, Ok, [], ◌∷◌};
-ghost use Rattle.image_emit.specs.Built.{HasGreatestPages, HasOnePathPerTable, HasPlacement};
+ghost use Rattle.proof_build.specs.Built.{HasGreatestPages, HasOnePathPerTable, HasPlacement};
 ghost use Rattle.image_soundness.specs.Sound.{ForEachSubject, IsSound};
 ghost use Rattle.muen_build.specs.Accepting.{Accepts, FailsWith, RefusesDocument, looks_of};
 ghost use Rattle.muen_build.specs.Building.{Builds, IsImageFor};

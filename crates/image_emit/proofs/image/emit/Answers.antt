@@ -1,7 +1,7 @@
 use Rattle.std.proofs.Common.{◌∙◌, ap, sym, subst, arith, length}
 use Rattle.std.specs.List.{sum_by}
 use Rattle.image_emit.proofs.FewKnown.{are_few, cpus_few, regions_few, spans_few}
-use Rattle.image_emit.proofs.ImageMade.{has_leaves, has_paths, image_of_parts, is_placed, is_sound, parts_fit}
+use Rattle.image_emit.proofs.ImageMade.{image_of_parts, parts_fit}
 use Rattle.event_emit.specs.Tables.{AreDevices}
 use Rattle.image_emit.specs.Gathered.{IsHeld}
 use Rattle.image_emit.specs.Made.{IsImageOf, choice_of}
@@ -52,21 +52,5 @@ made c =
 pub make-requires : goal.make-requires
 make-requires c = parts_fit c.args.placed.now c.args.things _ (made c)
 
-pub returns-clause-made : goal.returns-clause-made
-returns-clause-made c = subst (IsImageOf c.args.placed.now c.args.things) (sym c.make.ensures) (made ((goal.at.returns-clause-made c).After-cpus))
-
-pub returns-clause-sound : goal.returns-clause-sound
-returns-clause-sound c = λ files e.
-    is_sound c.args.placed.now c.args.things c.make.result (subst (IsImageOf c.args.placed.now c.args.things) (sym c.make.ensures) (made ((goal.at.returns-clause-sound c).After-cpus))) files e
-
-pub returns-clause-placed : goal.returns-clause-placed
-returns-clause-placed c =
-    is_placed c.args.placed.now c.args.things c.make.result (subst (IsImageOf c.args.placed.now c.args.things) (sym c.make.ensures) (made ((goal.at.returns-clause-placed c).After-cpus)))
-
-pub returns-clause-paths : goal.returns-clause-paths
-returns-clause-paths c =
-    has_paths c.args.placed.now c.args.things c.make.result (subst (IsImageOf c.args.placed.now c.args.things) (sym c.make.ensures) (made ((goal.at.returns-clause-paths c).After-cpus)))
-
-pub returns-clause-leaves : goal.returns-clause-leaves
-returns-clause-leaves c =
-    has_leaves c.args.placed.now c.args.things c.make.result (subst (IsImageOf c.args.placed.now c.args.things) (sym c.make.ensures) (made ((goal.at.returns-clause-leaves c).After-cpus)))
+pub returns : goal.returns
+returns c = subst (IsImageOf c.args.placed.now c.args.things) (sym c.make.ensures) (made ((goal.at.returns c).After-cpus))

@@ -1,3 +1,5 @@
+use Rattle.std.proofs.lemmas.Result.{IfOk-weaker}
+use Rattle.proof_build.proofs.Sound.{has_leaves, has_paths, is_placed, is_sound}
 use Rattle.muen_build.proofs.Emitting.{filled_so, readable_so, sound_so}
 use Rattle.muen_build.proofs.image_bytes.parts.Goals as goal
 
@@ -14,4 +16,13 @@ emit-requires-clause-readable c =
 pub returns-clause-sound : goal.returns-clause-sound
 returns-clause-sound c =
     sound_so c.args.placed.now c.expanded-expanded.result.now c.expanded-expanded.ensures c.lawful.result.now c.resolved-policy.result.now c.lawful.ensures c.resolved-policy.ensures.value c.memory-memory.ensures.resolved
-    c.args.name.now c.args.document.now c.args.found.now c.in_ok-things.things c.in_ok-things.ensures c.emit.result c.requires.accepts c.emit.ensures.sound
+    c.args.name.now c.args.document.now c.args.found.now c.in_ok-things.things c.in_ok-things.ensures c.emit.result c.requires.accepts (IfOk-weaker c.emit.result _ _ (λ i made files e. is_sound c.args.placed.now c.in_ok-things.things i made files e) c.emit.ensures)
+
+pub returns-clause-placed : goal.returns-clause-placed
+returns-clause-placed c = IfOk-weaker c.emit.result _ _ (λ i made. is_placed c.args.placed.now c.in_ok-things.things i made) c.emit.ensures
+
+pub returns-clause-paths : goal.returns-clause-paths
+returns-clause-paths c = IfOk-weaker c.emit.result _ _ (λ i made. has_paths c.args.placed.now c.in_ok-things.things i made) c.emit.ensures
+
+pub returns-clause-leaves : goal.returns-clause-leaves
+returns-clause-leaves c = IfOk-weaker c.emit.result _ _ (λ i made. has_leaves c.args.placed.now c.in_ok-things.things i made) c.emit.ensures

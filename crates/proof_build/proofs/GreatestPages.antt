@@ -15,14 +15,14 @@ use Rattle.event_emit.specs.declared.event_tables.EventTables.{EventTables}
 use Rattle.expand_grants.specs.Grants.{is_lower}
 use Rattle.expand_grants.specs.declared.granted.Grants.{Grants}
 use Rattle.expand_grants.proofs.Ordered.{in_order_permutes}
-use Rattle.image_emit.specs.Built.{HasGreatestPages, IsGreatestPage}
+use Rattle.proof_build.specs.Built.{HasGreatestPages, IsGreatestPage}
 use Rattle.image_emit.specs.Made.{IsMade, Made, image_of, policy_of, subject_part}
 use Rattle.image_emit.proofs.BySubject.{IsAtIndex, each_subject}
 use Rattle.image_emit.proofs.SpansOfKernel.{sound_of}
-use Rattle.image_emit.proofs.AddressesShown.{address_shown}
-use Rattle.image_emit.proofs.Tables.{has_tables}
-use Rattle.image_emit.proofs.Walks.{granted_at, mapped_at, on_view}
-use Rattle.image_emit.proofs.WalksByWindow.{found_contained}
+use Rattle.proof_build.proofs.AddressesShown.{address_shown}
+use Rattle.proof_build.proofs.Tables.{has_tables}
+use Rattle.proof_build.proofs.Walks.{granted_at, mapped_at, on_view}
+use Rattle.proof_build.proofs.WalksByWindow.{found_contained}
 use Rattle.image_soundness.specs.Memory.{memory_of}
 use Rattle.image_soundness.specs.Sound.{ForEachSubject, address_of}
 use Rattle.machine_layout.specs.Walks.{leaf_size, entry_size}

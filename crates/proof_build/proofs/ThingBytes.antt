@@ -7,8 +7,8 @@ use Rattle.std.specs.Str.{bytes_eq}
 use Rattle.std.proofs.lemmas.List.{map-append}
 use Rattle.expand_kernel.specs.ByIndex.{provided_at}
 use Rattle.image_emit.specs.Made.{thing_bytes}
-use Rattle.image_emit.proofs.PiecesOfLists.{flat_map_at, found_by_name, map_at, map_pieces}
-use Rattle.image_emit.proofs.ThingsInOrder.{component_is, memory_thing, memory_things, provided_things, region_things, used_component}
+use Rattle.proof_build.proofs.PiecesOfLists.{flat_map_at, found_by_name, map_at, map_pieces}
+use Rattle.proof_build.proofs.ThingsInOrder.{component_is, memory_thing, memory_things, provided_things, region_things, used_component}
 use Rattle.muen_num.proofs.Lists.{find-map, map-map}
 use Rattle.policy_lawful.specs.Resolution.{IsResolved, Resolution, source_of, subject_named}
 use Rattle.policy_lawful.specs.Rules.{logical_names, repeated}

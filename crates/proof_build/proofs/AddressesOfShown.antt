@@ -16,7 +16,7 @@ use Rattle.expand_kernel.specs.declared.region.Region.{Region}
 use Rattle.expand_kernel.specs.declared.region.RegionKind.TheVariants.{Kernel}
 use Rattle.image_emit.specs.Made.{IsMade, Made, image_of, policy_of}
 use Rattle.image_emit.proofs.ByNumber.{region_spans_length}
-use Rattle.image_emit.proofs.PagesThere.{page_there}
+use Rattle.proof_build.proofs.PagesThere.{page_there}
 use Rattle.image_emit.proofs.SpansOfKernel.{sound_of}
 use Rattle.image_emit.proofs.SpansAt.{at_number, region_at}
 use Rattle.image_soundness.specs.Memory.{memory_of}

@@ -12,16 +12,16 @@ use Rattle.expand_grants.specs.Grants.{AreGrantsOf}
 use Rattle.expand_kernel.specs.ByIndex.{provided_at}
 use Rattle.expand_kernel.specs.declared.region.Region.{Region}
 use Rattle.image_emit.specs.Made.{IsMade, Made, image_of, policy_of, subject_part, subject_parts}
-use Rattle.image_emit.proofs.Contents.{IsRegionOf, addresses_enough, regions_of_things, spans_of_memory, spans_of_regions, thing_spans_are, with_content}
-use Rattle.image_emit.proofs.FirstIndexes.{IsFirstAt, at_left, beside_first, first_left, first_mapped, first_named, first_piece, first_right, none_joined, none_mapped, none_pieces, other_before}
-use Rattle.image_emit.proofs.NamedViews.{shown_name, view_called}
-use Rattle.image_emit.proofs.PiecesOfLists.{zip_joined}
-use Rattle.image_emit.proofs.AddressesKept.{lies_at}
+use Rattle.proof_build.proofs.Contents.{IsRegionOf, addresses_enough, regions_of_things, spans_of_memory, spans_of_regions, thing_spans_are, with_content}
+use Rattle.proof_build.proofs.FirstIndexes.{IsFirstAt, at_left, beside_first, first_left, first_mapped, first_named, first_piece, first_right, none_joined, none_mapped, none_pieces, other_before}
+use Rattle.proof_build.proofs.NamedViews.{shown_name, view_called}
+use Rattle.proof_build.proofs.PiecesOfLists.{zip_joined}
+use Rattle.proof_build.proofs.AddressesKept.{lies_at}
 use Rattle.image_emit.proofs.SpansOfKernel.{sound_of}
 use Rattle.image_emit.proofs.RegionSizes.{first_regions}
 use Rattle.image_emit.proofs.SpansAt.{at_number, zip_at}
-use Rattle.image_emit.proofs.ThingBytes.{provided_unique}
-use Rattle.image_emit.proofs.ThingsInOrder.{memory_thing, memory_things, provided_things, region_things, things_are}
+use Rattle.proof_build.proofs.ThingBytes.{provided_unique}
+use Rattle.proof_build.proofs.ThingsInOrder.{memory_thing, memory_things, provided_things, region_things, things_are}
 use Rattle.image_soundness.specs.Memory.{Span, address_at}
 use Rattle.image_soundness.specs.Sound.{address_of, addresses_of_things, thing_spans}
 use Rattle.image_pack.specs.declared.parts.SpanPart.{SpanPart}

@@ -5,7 +5,7 @@ use Rattle.std.specs.Option.{option_map_or}
 use Rattle.std.specs.List.{Contains, cons_option, enumerate_from, filter_map, flat_map}
 use Rattle.std.proofs.lemmas.List.Elements.{All-append, All-cons, All-contains, All-map, All-nil}
 use Rattle.expand_kernel.specs.ByIndex.{provided_at}
-use Rattle.image_emit.proofs.PiecesOfLists.{all_pieces}
+use Rattle.proof_build.proofs.PiecesOfLists.{all_pieces}
 use Rattle.muen_num.specs.declared.limits.TheConstants.{PAGE}
 use Rattle.policy_lawful.specs.Resolution.{Resolution}
 use Rattle.policy_lawful.specs.declared.resolved.ComponentUse.{ComponentUse}

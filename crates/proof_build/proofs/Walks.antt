@@ -13,11 +13,11 @@ use Rattle.expand_grants.proofs.Ordered.{in_order_permutes}
 use Rattle.expand_kernel.specs.ByIndex.{CanMap}
 use Rattle.expand_kernel.proofs.Numbering.{can_map_granted}
 use Rattle.image_emit.specs.Made.{IsMade, Made, image_of, policy_of}
-use Rattle.image_emit.proofs.AddressesShown.{address_shown}
+use Rattle.proof_build.proofs.AddressesShown.{address_shown}
 use Rattle.image_emit.proofs.BySubject.{each_subject}
-use Rattle.image_emit.proofs.AddressesOfShown.{has_addresses}
-use Rattle.image_emit.proofs.Tables.{has_tables}
-use Rattle.image_emit.proofs.WalksByWindow.{ArePassedOnce, found_contained, found_permuted}
+use Rattle.proof_build.proofs.AddressesOfShown.{has_addresses}
+use Rattle.proof_build.proofs.Tables.{has_tables}
+use Rattle.proof_build.proofs.WalksByWindow.{ArePassedOnce, found_contained, found_permuted}
 use Rattle.image_soundness.specs.Memory.{memory_of}
 use Rattle.image_soundness.specs.Sound.{ForEachSubject, HasWalks, led, address_of}
 use Rattle.machine_layout.specs.declared.walk.Walk.TheVariants.{At, Violation}

@@ -10,7 +10,7 @@ use Rattle.expand_grants.specs.Resources.{Msr, are_granted, is_granted, msr_gran
 use Rattle.image_emit.specs.Made.{IsMade, Made, image_of, policy_of}
 use Rattle.image_emit.proofs.BySubject.{each_subject}
 use Rattle.image_emit.proofs.SpansOfKernel.{kernel_bytes_at}
-use Rattle.image_emit.proofs.BitmapsOfPorts.{any_port}
+use Rattle.proof_build.proofs.BitmapsOfPorts.{any_port}
 use Rattle.image_soundness.specs.Memory.{bytes_at, page_at}
 use Rattle.image_soundness.specs.Sound.{ForEachSubject, HasBitmaps}
 use Rattle.iobm_emit.specs.Ports.{is_granted as is_port_granted, is_granted_access}

@@ -6,7 +6,7 @@ use Rattle.std.specs.List.{flat_map}
 use Rattle.std.proofs.lemmas.Bool.{and_parts, ltb-true}
 use Rattle.std.proofs.lemmas.List.Folds.{flat_map-map}
 use Rattle.expand_kernel.specs.ByIndex.{provided_at}
-use Rattle.image_emit.proofs.PiecesOfLists.{map_pieces, flat_map_at}
+use Rattle.proof_build.proofs.PiecesOfLists.{map_pieces, flat_map_at}
 use Rattle.muen_num.proofs.Lists.{map-map, passes_at}
 use Rattle.policy_lawful.specs.Resolution.{IsResolved, Resolution, component_named, component_in_range, source_of, subject_named, subject_in_range}
 use Rattle.policy_lawful.specs.declared.resolved.ComponentUse.{ComponentUse}

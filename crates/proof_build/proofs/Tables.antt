@@ -8,7 +8,7 @@ use Rattle.event_emit.specs.declared.event_tables.EventTables.{EventTables}
 use Rattle.expand_grants.specs.declared.granted.Grants.{Grants}
 use Rattle.expand_kernel.specs.ByIndex.{mapped_views}
 use Rattle.image_emit.specs.Made.{IsMade, Made, image_of, policy_of}
-use Rattle.image_emit.proofs.PagesThere.{page_there}
+use Rattle.proof_build.proofs.PagesThere.{page_there}
 use Rattle.image_emit.proofs.BySubject.{IsAtIndex, each_subject}
 use Rattle.image_emit.proofs.SpansOfKernel.{kernel_content, kernel_numbered, kernel_span}
 use Rattle.image_emit.proofs.SpansAt.{some_span}

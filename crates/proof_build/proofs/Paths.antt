@@ -13,12 +13,12 @@ use Rattle.expand_grants.specs.declared.granted.Grants.{Grants}
 use Rattle.expand_kernel.specs.ByIndex.{mapped_views}
 use Rattle.expand_kernel.specs.Regions.{anywhere}
 use Rattle.expand_kernel.specs.declared.region.RegionKind.TheVariants.{Kernel}
-use Rattle.image_emit.specs.Built.{HasOnePathPerTable}
+use Rattle.proof_build.specs.Built.{HasOnePathPerTable}
 use Rattle.image_emit.specs.Made.{IsMade, Made, image_of, policy_of}
 use Rattle.image_emit.proofs.ByNumber.{as_many_addresses}
 use Rattle.image_emit.proofs.BySubject.{IsAtIndex, SubjectAt, subject_at}
 use Rattle.image_emit.proofs.SpansOfKernel.{kernel_numbered, kernel_span, sound_of}
-use Rattle.image_emit.proofs.Tables.{has_tables, tables_long}
+use Rattle.proof_build.proofs.Tables.{has_tables, tables_long}
 use Rattle.image_soundness.specs.Memory.{memory_of}
 use Rattle.image_pack.specs.SpanConditions.{IsSpan}
 use Rattle.image_pack.specs.declared.parts.SubjectPart.{SubjectPart}

@@ -11,10 +11,10 @@ use Rattle.expand_kernel.specs.declared.region.Region.{Region}
 use Rattle.image_emit.specs.Made.{IsMade, Made, content_at, image_of, kernel_bytes, policy_of, region_bytes, thing_bytes}
 use Rattle.image_emit.proofs.ByNumber.{as_many_addresses, by_number_is}
 use Rattle.image_emit.proofs.ContentLengths.{region_kind, whole_regions, whole_size}
-use Rattle.image_emit.proofs.PiecesOfLists.{all_pieces, filter_map_same, zip_append, zip_map_both, zip_pieces}
+use Rattle.proof_build.proofs.PiecesOfLists.{all_pieces, filter_map_same, zip_append, zip_map_both, zip_pieces}
 use Rattle.image_emit.proofs.RegionSizes.{first_regions, last_regions, regions_are, things_sized}
-use Rattle.image_emit.proofs.ThingBytes.{memory_bytes_are, region_bytes_are}
-use Rattle.image_emit.proofs.ThingsInOrder.{memory_thing, memory_things, provided_things, region_things, things_are}
+use Rattle.proof_build.proofs.ThingBytes.{memory_bytes_are, region_bytes_are}
+use Rattle.proof_build.proofs.ThingsInOrder.{memory_thing, memory_things, provided_things, region_things, things_are}
 use Rattle.image_soundness.specs.Memory.{Span}
 use Rattle.image_soundness.specs.Sound.{AreContents, IsSpanOf, is_kernel, kind_of, thing_spans}
 use Rattle.image_pack.specs.declared.parts.SpanPart.{SpanPart}

@@ -3,7 +3,7 @@ use Rattle.std.proofs.Common.{◌≡◌, ℕ, Some, ap, arith}
 use Rattle.std.specs.Prelude.{slice_get, slice_index}
 use Rattle.std.specs.Option.{option_map_or}
 use Rattle.expand_kernel.specs.declared.region.Region.{Region}
-use Rattle.image_emit.specs.Built.{HasPlacement}
+use Rattle.proof_build.specs.Built.{HasPlacement}
 use Rattle.image_emit.specs.Made.{IsMade, Made, image_of, policy_of}
 use Rattle.image_emit.proofs.ByNumber.{as_many_addresses, span_numbered}
 use Rattle.image_emit.proofs.SpansAt.{region_at}
