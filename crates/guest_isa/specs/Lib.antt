@@ -2,3 +2,4 @@ pub mod GuestIsa
 pub mod Finish
 pub mod Named
 pub mod Step
+pub mod Words

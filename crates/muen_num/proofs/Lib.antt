@@ -10,3 +10,4 @@ pub mod Room
 pub mod SameAnswers
 pub mod SearchLaws
 pub mod ChangeLaws
+pub mod Each

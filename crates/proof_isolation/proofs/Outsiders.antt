@@ -34,8 +34,8 @@ use Rattle.subject_model.proofs.SystemLaws.{raised_alone}
 use Rattle.subject_model.specs.System.{System, happens, happens_as, named, pends_now, raised_by, took, with_active}
 use Rattle.state_page.specs.declared.state.SubjectState.{SubjectState}
 use Rattle.subject_model.specs.Alone.{Inbox, Own, OwnState, alone, reach_by, solo_turn, stepped, unless_delivered, vector_for, waits}
-use Rattle.proof_turns.proofs.StepLaws.{step_stored}
-use Rattle.proof_start.proofs.Each.{if_some}
+use Rattle.guest_isa.proofs.StepLaws.{step_stored}
+use Rattle.muen_num.proofs.Each.{if_some}
 use Rattle.proof_views.proofs.OwnLines.{listed_passes}
 use Rattle.proof_views.specs.Members.{lists}
 use Rattle.proof_isolation.specs.Alike.{is_active}

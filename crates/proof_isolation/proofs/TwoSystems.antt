@@ -40,8 +40,8 @@ use Rattle.muen_num.specs.Search.{first_in}
 use Rattle.policy_lawful.specs.Offences.{two}
 use Rattle.proof_isolation.proofs.Conflicts.{flows_by}
 use Rattle.proof_isolation.proofs.Outsiders.{no_flow}
-use Rattle.proof_start.proofs.PolicyFacts.{found_by_name}
-use Rattle.proof_start.proofs.StartLists.{named_map}
+use Rattle.subject_model.proofs.PolicyFacts.{found_by_name}
+use Rattle.subject_model.proofs.StartLists.{named_map}
 use Rattle.subject_model.specs.Alone.{own_of, thing_in}
 use Rattle.subject_model.specs.Clock.{begins, inputs_at, order_at, pick_in, system, takes, ticks_of_majors}
 use Rattle.subject_model.specs.System.{System, is_shown, named, start_of, subject_named, system_turn}

@@ -15,7 +15,7 @@ use Rattle.policy_meaning.specs.Contents.{Held}
 use Rattle.policy_types.specs.declared.source.Source.{Source}
 use Rattle.record_text.specs.DeviceRecord.{DeviceRecord}
 use Rattle.record_text.specs.Reading.{record_of}
-use Rattle.proof_turns.specs.Held.{IsByte}
+use Rattle.guest_isa.specs.Words.{IsByte}
 use Rattle.subject_model.specs.Trace.{trace_of}
 use Rattle.proof_runs.proofs.PartsKeep.{parts_keep}
 use Rattle.proof_runs.proofs.SameInputs.{same_bench}

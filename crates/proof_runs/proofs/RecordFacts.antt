@@ -21,7 +21,7 @@ use Rattle.record_text.specs.declared.fault.LineWant.TheVariants.{Hex}
 use Rattle.record_text.specs.declared.fault.RecordFault.TheVariants.{NoEnd}
 use Rattle.record_text.specs.declared.record.TheConstants.{INPUT_MOST}
 use Rattle.record_text.proofs.Rules.{IsRuled, entry_at-Ok, number_below-Ok, passed, then_ok}
-use Rattle.proof_turns.specs.Held.{IsByte}
+use Rattle.guest_isa.specs.Words.{IsByte}
 
 -- ---- what is read is a byte
 

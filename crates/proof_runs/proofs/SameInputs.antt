@@ -41,7 +41,7 @@ use Rattle.record_text.specs.Resolving.{order_at as order_of}
 use Rattle.record_text.specs.declared.record.Input.TheVariants.{Port, Mem, Idle, Dma}
 use Rattle.proof_start.specs.GroundOf.{ground_of}
 use Rattle.proof_turns.specs.Ground.{Ground, IsSubject, name_at}
-use Rattle.proof_turns.specs.Held.{IsByte}
+use Rattle.guest_isa.specs.Words.{IsByte}
 use Rattle.proof_turns.specs.Inputs.{SameInput, SameIrq}
 use Rattle.image_soundness.specs.Bench.{devices_of, bench_device as device_of}
 use Rattle.proof_runs.proofs.RecordFacts.{IsReadFor, IsSmall}

@@ -46,7 +46,7 @@ use Rattle.proof_start.specs.GroundOf.{HoldsBytes, ground_of}
 use Rattle.proof_start.proofs.Fixes.{fixed_of}
 use Rattle.proof_start.proofs.ListFacts.{any_at, same_at}
 use Rattle.proof_start.proofs.OnceFacts.{thing_once}
-use Rattle.proof_start.proofs.StartLists.{made_of}
+use Rattle.subject_model.proofs.StartLists.{made_of}
 use Rattle.proof_start.proofs.Starts.{start_stands}
 use Rattle.proof_start.proofs.SpansOfThings.{ThingSpan, listed_pages, listed_span}
 use Rattle.proof_start.proofs.Slots.{same_cpus}

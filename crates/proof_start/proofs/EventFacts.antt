@@ -28,7 +28,7 @@ use Rattle.policy_types.specs.declared.source.Source.{Source}
 use Rattle.policy_types.specs.declared.source.SourceWay.{SourceWay}
 use Rattle.policy_types.specs.declared.source.SourceWay.TheVariants.{Call, Trap}
 use Rattle.policy_types.specs.declared.source.Subject.{Subject}
-use Rattle.proof_start.proofs.PolicyFacts.{found_any, found_index, found_passes}
+use Rattle.subject_model.proofs.PolicyFacts.{found_any, found_index, found_passes}
 
 -- ---- the numbers of calls and traps
 

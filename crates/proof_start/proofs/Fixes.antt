@@ -32,7 +32,7 @@ use Rattle.proof_start.proofs.MsrFacts.{in_msr_file}
 use Rattle.proof_start.proofs.PageFacts.{io_kept, msrbm_kept, second_io_kept, tables_kept}
 use Rattle.proof_start.proofs.StateFacts.{no_thing, state_pages}
 use Rattle.proof_start.proofs.PlanFacts.{no_slots, tau0_bytes, tau0_region}
-use Rattle.proof_start.proofs.PolicyFacts.{found_again, names_differ}
+use Rattle.subject_model.proofs.PolicyFacts.{found_again, names_differ}
 use Rattle.proof_start.proofs.RegionFacts.{same_tau0_page}
 use Rattle.proof_start.proofs.Slots.{majors, planned, same_cpus, slots}
 use Rattle.proof_start.proofs.SpansOfThings.{listed_pages}

@@ -1,6 +1,3 @@
-pub mod Each
-pub mod SlotGroups
-pub mod PolicyFacts
 pub mod EventFacts
 pub mod MsrFacts
 pub mod ThingFacts
@@ -20,7 +17,6 @@ pub mod Slots
 pub mod Aligned
 pub mod Fixes
 pub mod StartAreas
-pub mod StartLists
 pub mod StartSets
 pub mod Starts
 pub mod OnceFacts

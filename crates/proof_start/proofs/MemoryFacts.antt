@@ -22,7 +22,7 @@ use Rattle.phys_mem.specs.Frames.{pages_in}
 use Rattle.phys_mem.specs.Spans.{pages_of_spans}
 use Rattle.phys_mem.specs.declared.spans.MemorySpan.{MemorySpan}
 use Rattle.proof_turns.specs.Ground.{part}
-use Rattle.proof_turns.specs.Held.{IsByte}
+use Rattle.guest_isa.specs.Words.{IsByte}
 use Rattle.proof_start.proofs.ListFacts.{both_at, found_at, found_only, other_at, zipped_at, zipped_both}
 use Rattle.proof_start.proofs.SpanFacts.{KernelSpan, number_once}
 

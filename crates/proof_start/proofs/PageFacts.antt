@@ -22,7 +22,7 @@ use Rattle.policy_meaning.specs.Thing.{Thing}
 use Rattle.policy_types.specs.declared.source.Source.{Source}
 use Rattle.policy_types.specs.declared.source.Subject.{Subject}
 use Rattle.proof_turns.specs.Ground.{part}
-use Rattle.proof_turns.specs.Held.{IsByte}
+use Rattle.guest_isa.specs.Words.{IsByte}
 use Rattle.state_page.specs.StatePage.{page_bytes}
 use Rattle.state_page.specs.States.{started}
 use Rattle.vmx_machine.specs.declared.control.Control.{Control}

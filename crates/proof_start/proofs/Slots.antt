@@ -27,7 +27,7 @@ use Rattle.policy_meaning.specs.Contents.{Held}
 use Rattle.policy_meaning.specs.Frames.{frames_of}
 use Rattle.policy_types.specs.declared.source.Source.{Source}
 use Rattle.proof_start.proofs.PlanFacts.{no_slots}
-use Rattle.proof_start.proofs.SlotGroups.{at_slot}
+use Rattle.frame_clock.proofs.SlotGroups.{at_slot}
 use Rattle.proof_start.proofs.SubjectFacts.{subject_kept}
 
 -- ---- CPUs and slots

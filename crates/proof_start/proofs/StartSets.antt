@@ -22,14 +22,15 @@ use Rattle.policy_types.specs.declared.source.Source.{Source}
 use Rattle.policy_types.specs.declared.source.Subject.{Subject}
 use Rattle.proof_turns.specs.Fixed.{IsFixed}
 use Rattle.proof_turns.specs.Ground.{Ground, name_at}
-use Rattle.proof_turns.specs.Held.{IsSameSet, IsWord, SameSet}
+use Rattle.guest_isa.specs.Words.{IsWord}
+use Rattle.proof_turns.specs.Held.{IsSameSet, SameSet}
 use Rattle.proof_turns.specs.Stands.{CpusStand, FitsCpu, IsMember, RouterStands, SameEntered}
 use Rattle.vmx_machine.specs.Machine.{fresh}
 use Rattle.vmx_machine.specs.MsrFile.{most, zeros}
 use Rattle.vmx_machine.specs.declared.cpu.Cpu.{Cpu}
 use Rattle.proof_start.specs.GroundOf.{ground_of}
 use Rattle.proof_start.proofs.ListFacts.{all_at, from_some, same_at}
-use Rattle.proof_start.proofs.StartLists.{named_map, numbered_at, replicated, replicated_there}
+use Rattle.subject_model.proofs.StartLists.{named_map, numbered_at, replicated, replicated_there}
 
 -- ---- sets of vectors
 

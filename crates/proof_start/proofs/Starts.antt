@@ -28,7 +28,8 @@ use Rattle.proof_turns.proofs.Holds.{held_off}
 use Rattle.subject_model.proofs.KeyLaws.{same_thing_self}
 use Rattle.proof_turns.specs.Fixed.{IsFixed}
 use Rattle.proof_turns.specs.Ground.{part}
-use Rattle.proof_turns.specs.Held.{AreEntries, HasMsr, Held, IsByte, IsOwn, entry_value, held_by, is_on, on_pages}
+use Rattle.guest_isa.specs.Words.{IsByte}
+use Rattle.proof_turns.specs.Held.{AreEntries, HasMsr, Held, IsOwn, entry_value, held_by, is_on, on_pages}
 use Rattle.proof_turns.specs.Stands.{HasPages, Shows, StandsFor}
 use Rattle.vmx_machine.specs.Machine.{entries_in, fresh}
 use Rattle.vmx_machine.specs.declared.control.Control.{Control}
@@ -39,7 +40,7 @@ use Rattle.proof_start.proofs.MsrFacts.{msrs_differ}
 use Rattle.proof_start.proofs.PageFacts.{area_page_there, its_control, small_pages, state_page_there, thing_pages}
 use Rattle.proof_start.proofs.SpansOfThings.{listed_span, thing_span}
 use Rattle.proof_start.proofs.StartAreas.{area_entries, area_values}
-use Rattle.proof_start.proofs.StartLists.{made_behind, made_of, named_map, numbered_at, replicated, states_map}
+use Rattle.subject_model.proofs.StartLists.{made_behind, made_of, named_map, numbered_at, replicated, states_map}
 use Rattle.proof_start.proofs.StartSets.{cpus_stand, router_stands, same_cpus}
 
 -- ---- ports

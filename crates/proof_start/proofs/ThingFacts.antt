@@ -21,7 +21,7 @@ use Rattle.policy_types.specs.declared.source.Provided.{Provided}
 use Rattle.policy_types.specs.declared.source.Region.{Region}
 use Rattle.policy_types.specs.declared.source.Source.{Source}
 use Rattle.policy_types.specs.declared.source.Subject.{Subject}
-use Rattle.proof_start.proofs.PolicyFacts.{passes_any}
+use Rattle.subject_model.proofs.PolicyFacts.{passes_any}
 
 -- ---- which things there are
 

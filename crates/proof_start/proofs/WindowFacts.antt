@@ -45,8 +45,8 @@ use Rattle.policy_types.specs.declared.source.Region.{Region}
 use Rattle.policy_types.specs.declared.source.Required.{Required}
 use Rattle.policy_types.specs.declared.source.Source.{Source}
 use Rattle.policy_types.specs.declared.source.Subject.{Subject}
-use Rattle.proof_start.proofs.Each.{each_append, each_flat, each_some as each_made, if_some}
-use Rattle.proof_start.proofs.PolicyFacts.{found_again, found_any, found_by_name, found_index, found_passes, passes_any}
+use Rattle.muen_num.proofs.Each.{each_append, each_flat, each_some as each_made, if_some}
+use Rattle.subject_model.proofs.PolicyFacts.{found_again, found_any, found_by_name, found_index, found_passes, passes_any}
 use Rattle.proof_start.proofs.ThingFacts.{channel_is_thing, channel_long, device_is_thing, device_long, provided_is_thing, provided_long, region_is_thing, region_long}
 
 -- ---- what holds of each element

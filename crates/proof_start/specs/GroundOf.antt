@@ -12,7 +12,7 @@ use Rattle.muen_num.specs.declared.tag.TagPart.TheVariants.{Ept, Iobm, Msrbm}
 use Rattle.policy_meaning.specs.Thing.{Thing, same_thing, things_of}
 use Rattle.policy_types.specs.declared.source.Source.{Source}
 use Rattle.proof_turns.specs.Ground.{Ground}
-use Rattle.proof_turns.specs.Held.{IsByte}
+use Rattle.guest_isa.specs.Words.{IsByte}
 
 -- how many pages the span of a thing has; none where it is no thing of the policy
 abbrev pub pages_in : Source → Image → Thing → ℕ

@@ -18,7 +18,8 @@ use Rattle.vmx_machine.specs.Machine.{entries_in, filled, save_value, entry_save
 use Rattle.vmx_machine.specs.MsrFile.{slot_of, most, value_in, put_at, with_msr}
 use Rattle.vmx_machine.proofs.StoreWithin.{stored_within}
 use Rattle.subject_model.specs.Alone.{is_in}
-use Rattle.proof_turns.specs.Held.{IsByte, IsWord, FitsFile, AreDistinct, indices, entry_value}
+use Rattle.guest_isa.specs.Words.{IsByte, IsWord}
+use Rattle.proof_turns.specs.Held.{FitsFile, AreDistinct, indices, entry_value}
 
 -- ---- the MSR file
 

@@ -25,10 +25,11 @@ use Rattle.subject_model.specs.Alone.{MsrValues, Things, msr_value, thing_in}
 use Rattle.subject_model.specs.System.{System, change_named, change_thing, with_bytes, with_own, with_store, with_write}
 use Rattle.proof_turns.specs.Ground.{Ground, Joined, thing_at, state_at, area_at, IsAt, page_and_offset}
 use Rattle.proof_turns.specs.Fixed.{IsFixed, Watches}
-use Rattle.proof_turns.specs.Held.{Held, held_by, held, is_on, on_cpu, on_pages, FitsState, FitsFile, IsByte, IsOwn, IsWord}
+use Rattle.guest_isa.specs.Words.{FitsState, IsByte, IsWord}
+use Rattle.proof_turns.specs.Held.{Held, held_by, held, is_on, on_cpu, on_pages, FitsFile, IsOwn}
 use Rattle.proof_turns.specs.Stands.{Shows, HasPages, SameEntered, FitsCpu, FitsEntered, StandsFor, Running}
 use Rattle.proof_turns.proofs.AreaLaws.{with_msr_fits, with_msr_other}
-use Rattle.proof_turns.proofs.StateLaws.{over_small}
+use Rattle.guest_isa.proofs.StateLaws.{over_small}
 use Rattle.subject_model.proofs.KeyLaws.{value_changed, value_other, names_apart, numbers_apart, things_apart, state_names}
 use Rattle.proof_turns.proofs.FrameLaws.{change_elsewhere, thing_changes}
 use Rattle.proof_turns.proofs.Holds.{same_found, not_some, found_before, some_changed, not_on, held_off, held_apart_on, held_same, own_same, each_subject}

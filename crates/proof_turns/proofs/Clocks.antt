@@ -20,7 +20,7 @@ use Rattle.subject_model.specs.Clock.{begins, pick_in, takes}
 use Rattle.subject_model.specs.System.{System, change_thing, with_bytes}
 use Rattle.proof_turns.specs.Ground.{Ground, part}
 use Rattle.proof_turns.specs.Fixed.{IsFixed}
-use Rattle.proof_turns.specs.Held.{IsByte}
+use Rattle.guest_isa.specs.Words.{IsByte}
 use Rattle.proof_turns.specs.Inputs.{SameInput, SameIrq, SamePort, SameWrite}
 use Rattle.proof_turns.specs.Stands.{StandsFor}
 use Rattle.proof_turns.proofs.Changes.{bytes_stand, with_page_of}

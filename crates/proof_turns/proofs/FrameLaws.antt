@@ -22,7 +22,7 @@ use Rattle.vmx_machine.specs.declared.control.Control.{Control}
 use Rattle.subject_model.specs.Alone.{Things, thing_in}
 use Rattle.subject_model.specs.System.{change_thing}
 use Rattle.proof_turns.specs.Ground.{Ground, Spot, thing_at, IsAt, part}
-use Rattle.proof_turns.specs.Held.{IsByte}
+use Rattle.guest_isa.specs.Words.{IsByte}
 use Rattle.proof_turns.specs.Fixed.{IsFixed}
 use Rattle.proof_turns.specs.Stands.{Shows}
 use Rattle.subject_model.proofs.KeyLaws.{value_changed, value_other, things_apart, cases_thing}

@@ -1,8 +1,6 @@
 pub mod SetLaws
 pub mod Holds
 pub mod AreaLaws
-pub mod StateLaws
-pub mod StepLaws
 pub mod FrameLaws
 pub mod WorldLaws
 pub mod Moves

@@ -24,10 +24,11 @@ use Rattle.subject_model.specs.Alone.{Things, is_in, thing_in}
 use Rattle.subject_model.specs.System.{System}
 use Rattle.proof_turns.specs.Ground.{Ground, Joined, Spot, thing_at, state_at, area_at, IsAt}
 use Rattle.proof_turns.specs.Fixed.{IsFixed}
-use Rattle.proof_turns.specs.Held.{AreDistinct, entry_value, Held, held_by, held, on_cpu, on_pages, is_on, AreEntries, FitsFile, IsByte, IsOwn, MsrsAre, indices}
+use Rattle.guest_isa.specs.Words.{IsByte}
+use Rattle.proof_turns.specs.Held.{AreDistinct, entry_value, Held, held_by, held, on_cpu, on_pages, is_on, AreEntries, FitsFile, IsOwn, MsrsAre, indices}
 use Rattle.proof_turns.specs.Stands.{Shows, HasPages, SameEntered, FitsCpu, FitsEntered, CpusStand, StandsFor, Running}
 use Rattle.proof_turns.proofs.AreaLaws.{saved_elsewhere, saved_there, saved_page, saved_is, length-saved, saved_small, entries_saved, indices_refreshed, refreshed_value, filled_value, entries_fit, filled_fits}
-use Rattle.proof_turns.proofs.StateLaws.{state_law, read_fits, written_bytes}
+use Rattle.guest_isa.proofs.StateLaws.{state_law, read_fits, written_bytes}
 use Rattle.proof_turns.proofs.Holds.{same_found, not_some, found_before, some_changed, not_on, held_off, held_apart, held_same, own_same, each_subject}
 
 -- memory with the page of a state and of an area written

@@ -11,7 +11,7 @@ use Rattle.subject_model.specs.Clock.{system}
 use Rattle.subject_model.specs.System.{System, system_turn}
 use Rattle.proof_turns.specs.Ground.{Ground}
 use Rattle.proof_turns.specs.Fixed.{IsFixed}
-use Rattle.proof_turns.specs.Held.{IsWord}
+use Rattle.guest_isa.specs.Words.{IsWord}
 use Rattle.proof_turns.specs.Inputs.{SameInput}
 use Rattle.proof_turns.specs.Stands.{StandsFor}
 use Rattle.proof_turns.proofs.Clocks.{begins_stand, takes_stand}

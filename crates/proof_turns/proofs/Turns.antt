@@ -46,14 +46,14 @@ use Rattle.subject_model.specs.Alone.{Inbox, MsrValues, msr_value, alone, exit_e
 use Rattle.subject_model.specs.System.{System, inbox_of, line_at, named, raised_by, state_of, system_turn, took, turn_answered, turn_from, turn_in_slot, turn_of_member, with_own, with_store}
 use Rattle.proof_turns.specs.Ground.{Ground, Joined, name_at, page_and_offset}
 use Rattle.proof_turns.specs.Fixed.{IsFixed, Sees}
-use Rattle.proof_turns.specs.Held.{FitsState, IsByte, IsWord}
+use Rattle.guest_isa.specs.Words.{FitsState, IsByte, IsWord}
 use Rattle.proof_turns.specs.Stands.{FitsEntered, Running, StandsFor}
 use Rattle.proof_turns.proofs.SetLaws.{same_delivered}
 use Rattle.machine_layout.proofs.PageFieldLaws.{length-le_bytes}
-use Rattle.proof_turns.proofs.StateLaws.{finished_fits, injected_fits, le_bytes_small, le_number_small}
+use Rattle.guest_isa.proofs.StateLaws.{finished_fits, injected_fits, le_bytes_small, le_number_small}
 use Rattle.expand_grants.specs.Resources.{is_granted, msrs_of}
 use Rattle.proof_turns.proofs.AreaLaws.{value_fits}
-use Rattle.proof_turns.proofs.StepLaws.{FitsWorld, IsStored, step_fits, step_msr, step_stored}
+use Rattle.guest_isa.proofs.StepLaws.{FitsWorld, IsStored, step_fits, step_msr, step_stored}
 use Rattle.proof_turns.proofs.WorldLaws.{worlds_alike}
 use Rattle.proof_turns.proofs.Moves.{switches}
 use Rattle.proof_turns.proofs.Changes.{IsStoreOf, WritesWord, own_stands, store_stands, with_cpu, with_entered, with_pages}

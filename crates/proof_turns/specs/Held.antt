@@ -1,6 +1,7 @@
 -- What a subject has for itself in a machine, wherever it is kept: on its CPU, or on its pages.
 use Rattle.std.specs.Prelude.{◌≡◌, ℕ, ◌^◌, ◌==◌, ◌<◌, Bool, true, false, if◌then◌else◌, List, [], ◌∷◌, length, Option, Some, None, option_map, slice_get, unwrap_or}
 use Rattle.std.specs.List.{All}
+use Rattle.guest_isa.specs.Words.{IsWord}
 use Rattle.subject_model.specs.Alone.{MsrValues, Things, is_in, msr_value, thing_in}
 use Rattle.subject_model.specs.System.{Named, named}
 use Rattle.event_router.specs.Vectors.{has}
@@ -12,7 +13,6 @@ use Rattle.machine_layout.specs.Memory.{page_of}
 use Rattle.policy_meaning.specs.Thing.{state}
 use Rattle.policy_types.specs.declared.source.Subject.{Subject}
 use Rattle.state_page.specs.StatePage.{page_bytes}
-use Rattle.state_page.specs.declared.state.SubjectState.{SubjectState}
 use Rattle.vmx_machine.specs.Machine.{entries_in}
 use Rattle.vmx_machine.specs.MsrFile.{most, value_in}
 use Rattle.vmx_machine.specs.declared.control.Control.{Control}
@@ -81,20 +81,7 @@ SameSet None None = ⊥
 SameSet (Some marks) None = ⊥
 SameSet None (Some vectors) = ⊥
 
--- ---- numbers that fit
-
-abbrev pub IsByte : ℕ → Type 0
-IsByte b = b < 256
-
-abbrev pub IsWord : ℕ → Type 0
-IsWord v = v < 2 ^ 64
-
-pub record FitsState (s : SubjectState) : Type 0 where
-  pub many : length s.regs ≡ 16
-  pub regs : All IsWord s.regs
-  pub pc : IsWord s.pc
-  pub epc : IsWord s.epc
-  pub vbase : IsWord s.vbase
+-- ---- values that fit
 
 pub record FitsFile (file : List ℕ) : Type 0 where
   pub length : length file ≡ most

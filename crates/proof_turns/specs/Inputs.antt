@@ -7,7 +7,7 @@ use Rattle.record_text.specs.DeviceRecord.{NamedInput, port_input, memory_input,
 use Rattle.record_text.specs.declared.record.Input.{Input}
 use Rattle.record_text.specs.declared.record.Input.TheVariants.{Port, Mem, Irq, Idle, Dma}
 use Rattle.proof_turns.specs.Ground.{Ground, IsSubject, name_at}
-use Rattle.proof_turns.specs.Held.{IsByte}
+use Rattle.guest_isa.specs.Words.{IsByte}
 
 -- the same port has the same byte
 pub record SamePort (port value p v : ℕ) : Type 0 where

@@ -17,7 +17,8 @@ use Rattle.vmx_machine.specs.declared.control.Control.{Control}
 use Rattle.vmx_machine.specs.declared.cpu.Cpu.{Cpu}
 use Rattle.vmx_machine.specs.declared.cpu.Entered.{Entered}
 use Rattle.proof_turns.specs.Ground.{Ground, IsSubject, Joined, name_at, part}
-use Rattle.proof_turns.specs.Held.{AreEntries, FitsFile, IsByte, FitsState, IsOwn, MsrsAre, SameSet, held}
+use Rattle.guest_isa.specs.Words.{IsByte, FitsState}
+use Rattle.proof_turns.specs.Held.{AreEntries, FitsFile, IsOwn, MsrsAre, SameSet, held}
 
 -- memory has the things' bytes, and tables and bitmaps are as they were at the start
 pub record Shows (g : Ground) (pages : List Page) (things : Things) : Type 0 where

@@ -16,7 +16,7 @@ ghost use Rattle.record_text.specs.declared.record.Input.{Input};
 ghost use Rattle.frame_clock.specs.Alike.{AreAlikeTurns};
 ghost use Rattle.proof_turns.specs.Fixed.{IsFixed};
 ghost use Rattle.proof_turns.specs.Ground.{Ground};
-ghost use Rattle.proof_turns.specs.Held.{IsWord};
+ghost use Rattle.guest_isa.specs.Words.{IsWord};
 ghost use Rattle.proof_turns.specs.Inputs.{SameInput};
 ghost use Rattle.proof_turns.specs.Stands.{StandsFor};
 

@@ -31,8 +31,8 @@ use Rattle.subject_model.specs.Clock.{inputs_at, order_at, system}
 use Rattle.subject_model.specs.System.{System, idle, inbox_of, line_at, named, start_of, state_of, subject_named, system_turn, turn_from, turn_in_slot, turn_of_member, turn_of_subject}
 use Rattle.subject_model.specs.View.{ran_through, seen_in, through, view_of}
 use Rattle.proof_views.specs.AloneRun.{after_tick, alone_in, alone_to, alone_view, before, is_altered, own_part, reaching, reaching_at, reaching_member, reaching_slot, says_in, started_alone}
-use Rattle.proof_start.proofs.Each.{found, mapped}
-use Rattle.proof_start.proofs.StartLists.{named_map}
+use Rattle.muen_num.proofs.Each.{found, mapped}
+use Rattle.subject_model.proofs.StartLists.{named_map}
 use Rattle.machine_layout.proofs.ExitLaws.{any_below}
 use Rattle.expand_grants.specs.Resources.{msrs_of}
 use Rattle.state_page.specs.StatePage.{state_in}

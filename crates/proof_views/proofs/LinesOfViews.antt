@@ -25,7 +25,7 @@ use Rattle.subject_model.specs.View.{Seen, ran_through, seen_in, through, view_o
 use Rattle.proof_views.specs.LinesOf.{lines_of}
 use Rattle.proof_views.specs.Members.{AreListed}
 use Rattle.proof_views.proofs.ActiveMembers.{begun_listed, turn_listed}
-use Rattle.proof_start.proofs.Each.{found}
+use Rattle.muen_num.proofs.Each.{found}
 use Rattle.proof_views.proofs.OwnLines.{other_line}
 
 -- ---- each CPU once

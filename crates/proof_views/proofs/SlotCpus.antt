@@ -21,8 +21,8 @@ use Rattle.policy_types.specs.declared.source.Group.{Group}
 use Rattle.policy_types.specs.declared.source.MajorFrame.{MajorFrame}
 use Rattle.policy_types.specs.declared.source.MinorFrame.{MinorFrame}
 use Rattle.policy_types.specs.declared.source.Source.{Source}
-use Rattle.proof_start.proofs.PolicyFacts.{found_passes}
-use Rattle.proof_start.proofs.SlotGroups.{at_slot}
+use Rattle.subject_model.proofs.PolicyFacts.{found_passes}
+use Rattle.frame_clock.proofs.SlotGroups.{at_slot}
 
 -- whether this group is there, and on this CPU
 abbrev pub is_here : Source → ℕ → ℕ → Bool

@@ -17,7 +17,7 @@ use Rattle.subject_model.specs.Alone.{MsrValues, Things, TurnAnswer, own_of, sol
 use Rattle.subject_model.specs.Clock.{system, takes}
 use Rattle.subject_model.specs.System.{System, answered, change_thing, first_page, inbox_of, start_of, subject_named, took, with_own, with_store}
 use Rattle.subject_model.proofs.KeyLaws.{cases_thing, things_apart, value_changed, value_other}
-use Rattle.proof_start.proofs.StartLists.{made_behind, states_map}
+use Rattle.subject_model.proofs.StartLists.{made_behind, states_map}
 use Rattle.proof_views.specs.Pages.{IsStatePage}
 use Rattle.proof_views.specs.AloneRun.{is_altered}
 use Rattle.proof_views.proofs.Unmoved.{by_irq, by_raised}

@@ -36,8 +36,8 @@ use Rattle.subject_model.specs.Alone.{Inbox, Own, OwnState, alone, own_of, reach
 use Rattle.subject_model.specs.Laws.{StoresElsewhere}
 use Rattle.subject_model.specs.System.{subject_named}
 use Rattle.subject_model.proofs.KeyLaws.{same_things}
-use Rattle.proof_turns.proofs.StepLaws.{step_stored}
-use Rattle.proof_start.proofs.Each.{chained, each_append, each_flat, each_map, each_some, found, mapped}
+use Rattle.guest_isa.proofs.StepLaws.{step_stored}
+use Rattle.muen_num.proofs.Each.{chained, each_append, each_flat, each_map, each_some, found, mapped}
 use Rattle.proof_views.specs.AloneRun.{alters, is_altered}
 
 -- it is the state page of no subject

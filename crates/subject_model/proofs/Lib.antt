@@ -2,3 +2,5 @@ pub mod KeyLaws
 pub mod SystemLaws
 mod CyclicFrames
 mod KeptTicks
+pub mod PolicyFacts
+pub mod StartLists

@@ -25,8 +25,8 @@ use Rattle.guest_isa.specs.Step.{World, Stored, MsrWrite, Answer, went_on, exits
 use Rattle.guest_isa.specs.declared.end.StepEnd.{StepEnd}
 use Rattle.guest_isa.specs.declared.reach.Reach.{Reach}
 use Rattle.guest_isa.specs.declared.reach.Reach.TheVariants.{Reached, Refused}
-use Rattle.proof_turns.specs.Held.{IsWord, FitsState}
-use Rattle.proof_turns.proofs.StateLaws.{word_below}
+use Rattle.guest_isa.specs.Words.{IsWord, FitsState}
+use Rattle.guest_isa.proofs.StateLaws.{word_below}
 
 -- what the world tells are words
 pub record FitsWorld {X : Type 0} (w : World X) : Type 0 where

@@ -16,7 +16,7 @@ use Rattle.state_page.specs.declared.state.SubjectState.{SubjectState}
 use Rattle.guest_isa.specs.Finish.{injected, finished}
 use Rattle.guest_isa.specs.declared.finish.Finish.{Finish}
 use Rattle.guest_isa.specs.declared.finish.Finish.TheVariants.{On, Halt, Stop}
-use Rattle.proof_turns.specs.Held.{IsByte, IsWord, FitsState}
+use Rattle.guest_isa.specs.Words.{IsByte, IsWord, FitsState}
 
 -- ---- bytes
 
