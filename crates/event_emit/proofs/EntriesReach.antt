@@ -19,7 +19,7 @@ use Rattle.policy_lawful.specs.Resolution.{Resolution, name_at, source_of, subje
 use Rattle.policy_lawful.specs.declared.resolved.Subject.{Subject}
 use Rattle.policy_lawful.proofs.KeptLimits.{limits_kept}
 use Rattle.policy_lawful.proofs.SourceElements.{many_subjects}
-use Rattle.policy_meaning.specs.Events.{event_of}
+use Rattle.policy_lawful.specs.Events.{event_of}
 use Rattle.policy_types.specs.declared.source.Device.{Device}
 use Rattle.policy_types.specs.declared.source.Irq.{Irq}
 use Rattle.policy_types.specs.declared.source.SourceWay.{SourceWay}

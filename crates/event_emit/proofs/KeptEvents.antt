@@ -18,7 +18,7 @@ use Rattle.muen_num.specs.declared.mode.EventMode.{EventMode}
 use Rattle.muen_num.specs.declared.mode.EventMode.TheVariants.{Asap, Async, Own, Switch}
 use Rattle.policy_lawful.specs.MoreRules.{are_distinct, are_vectors, fits_event, has_vector, is_connected, is_switch, is_writer, offence_15, offence_6, readers_of, vectors_of, writers_of}
 use Rattle.policy_lawful.specs.Offences.{alone}
-use Rattle.policy_meaning.specs.Events.{ChannelEnd, Raised, Target, channel_ends, channel_event, channel_targets, event_of, event_targets, irq_of, named_event, reads_from, same_way, writes_by}
+use Rattle.policy_lawful.specs.Events.{ChannelEnd, Raised, Target, channel_ends, channel_event, channel_targets, event_of, event_targets, irq_of, named_event, reads_from, same_way, writes_by}
 use Rattle.policy_types.specs.declared.rights.Role.{Role}
 use Rattle.policy_types.specs.declared.rights.Role.TheVariants.{Reader, Writer}
 use Rattle.policy_types.specs.declared.source.Channel.{Channel}

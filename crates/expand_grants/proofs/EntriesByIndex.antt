@@ -11,7 +11,7 @@ use Rattle.policy_lawful.specs.MoreRules.{offence_12, offence_6}
 use Rattle.policy_lawful.specs.Resolution.{IsResolved, Resolution, name_at, source_of, subject_named, subject_in_range}
 use Rattle.policy_lawful.specs.declared.resolved.EventSource.{EventSource}
 use Rattle.policy_lawful.specs.declared.resolved.Subject.{Subject}
-use Rattle.policy_meaning.specs.Events.{ChannelEnd, channel_event, event_of, is_call, named_event, same_way, writes_by}
+use Rattle.policy_lawful.specs.Events.{ChannelEnd, channel_event, event_of, is_call, named_event, same_way, writes_by}
 use Rattle.policy_types.specs.declared.rights.Role.{Role}
 use Rattle.policy_types.specs.declared.rights.Role.TheVariants.{Reader, Writer}
 use Rattle.policy_types.specs.declared.source.Event.{Event}

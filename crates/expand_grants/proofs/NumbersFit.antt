@@ -18,7 +18,7 @@ use Rattle.policy_lawful.specs.declared.resolved.EventTarget.{EventTarget}
 use Rattle.policy_lawful.specs.declared.resolved.IrqUse.{IrqUse}
 use Rattle.policy_lawful.specs.declared.resolved.Subject.{Subject}
 use Rattle.policy_lawful.proofs.SourceElements.{parts_in_range}
-use Rattle.policy_meaning.specs.Events.{channel_ends}
+use Rattle.policy_lawful.specs.Events.{channel_ends}
 use Rattle.policy_types.specs.declared.source.EventSource.{EventSource as NamedSource}
 use Rattle.policy_types.specs.declared.source.EventTarget.{EventTarget as NamedTarget}
 use Rattle.policy_types.specs.declared.source.IrqUse.{IrqUse as NamedIrq}

@@ -17,7 +17,7 @@ use Rattle.policy_lawful.specs.declared.resolved.Subject.{Subject}
 use Rattle.policy_lawful.proofs.Indexes.{found_at_index, same_name, same_self}
 use Rattle.policy_lawful.proofs.SourceElements.{parts_in_range}
 use Rattle.policy_lawful.proofs.UniqueNames.{unique}
-use Rattle.policy_meaning.specs.Events.{ChannelEnd, channel_ends, channel_event, channel_targets, reads_from}
+use Rattle.policy_lawful.specs.Events.{ChannelEnd, channel_ends, channel_event, channel_targets, reads_from}
 use Rattle.policy_types.specs.declared.rights.Role.{Role}
 use Rattle.policy_types.specs.declared.rights.Role.TheVariants.{Reader, Writer}
 use Rattle.policy_types.specs.declared.source.Channel.{Channel}

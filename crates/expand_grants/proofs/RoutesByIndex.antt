@@ -14,7 +14,7 @@ use Rattle.policy_lawful.specs.declared.resolved.Subject.{Subject}
 use Rattle.policy_lawful.proofs.Indexes.{same_name}
 use Rattle.policy_lawful.proofs.SourceElements.{parts_in_range}
 use Rattle.policy_lawful.proofs.UniqueNames.{parts_unique, unique}
-use Rattle.policy_meaning.specs.Events.{Target, irq_of}
+use Rattle.policy_lawful.specs.Events.{Target, irq_of}
 use Rattle.policy_types.specs.declared.source.Device.{Device}
 use Rattle.policy_types.specs.declared.source.Irq.{Irq}
 use Rattle.policy_types.specs.declared.source.IrqUse.{IrqUse as NamedIrq}

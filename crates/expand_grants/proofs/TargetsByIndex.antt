@@ -14,7 +14,7 @@ use Rattle.policy_lawful.specs.declared.resolved.Subject.{Subject}
 use Rattle.policy_lawful.proofs.Indexes.{found_at_index, same_name}
 use Rattle.policy_lawful.proofs.SourceElements.{parts_in_range}
 use Rattle.policy_lawful.proofs.UniqueNames.{unique}
-use Rattle.policy_meaning.specs.Events.{Target, event_targets, named_event}
+use Rattle.policy_lawful.specs.Events.{Target, event_targets, named_event}
 use Rattle.policy_types.specs.declared.source.Event.{Event}
 use Rattle.policy_types.specs.declared.source.EventTarget.{EventTarget as NamedTarget}
 use Rattle.policy_types.specs.declared.source.Subject.{Subject as NamedSubject}

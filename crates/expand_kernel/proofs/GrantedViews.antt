@@ -20,7 +20,7 @@ use Rattle.policy_lawful.specs.Resolution.{IsResolved, Resolution, source_of, su
 use Rattle.policy_lawful.specs.Rules.{are_apart, first_overlap, is_guest, overlapping, window_extents}
 use Rattle.policy_lawful.specs.Offences.{two}
 use Rattle.policy_lawful.specs.declared.resolved.Subject.{Subject}
-use Rattle.policy_meaning.specs.Windows.{windows_of}
+use Rattle.policy_lawful.specs.Windows.{windows_of}
 use Rattle.policy_views.specs.Views.{view_extent, view_window, views_of}
 use Rattle.policy_views.specs.declared.view.View.{View}
 use Rattle.policy_views.proofs.ExtentsByIndex.{extents_by_index}

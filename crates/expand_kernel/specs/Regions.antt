@@ -11,8 +11,8 @@ use Rattle.expand_kernel.specs.declared.region.RegionKind.TheVariants.{Own, Chan
 use Rattle.muen_num.specs.declared.limits.TheConstants.{PAGE}
 use Rattle.muen_num.specs.declared.tag.TagPart.{TagPart}
 use Rattle.muen_num.specs.declared.tag.TagPart.TheVariants.{Whole, Named, State, Ept, Iobm, Msrbm, Msrs}
-use Rattle.policy_meaning.specs.Thing.{component_by}
-use Rattle.policy_meaning.specs.Windows.{Window, windows_of}
+use Rattle.policy_lawful.specs.Thing.{component_by}
+use Rattle.policy_lawful.specs.Windows.{Window, windows_of}
 use Rattle.policy_types.specs.declared.rights.Caching.TheVariants.{Wb}
 use Rattle.policy_types.specs.declared.source.Channel.{Channel as SourceChannel}
 use Rattle.policy_types.specs.declared.source.Component.{Component}

@@ -4,7 +4,7 @@ use Rattle.std.specs.Prelude.{option_and_then, option_map}
 use Rattle.std.specs.Option.{option_or}
 use Rattle.std.specs.List.{filter_map, find}
 use Rattle.std.proofs.lemmas.Bool.{eqb-true}
-use Rattle.policy_meaning.specs.Events.{ChannelEnd, Raised, channel_ends, channel_event, event_of, is_call, named_event, same_way, writes_by}
+use Rattle.policy_lawful.specs.Events.{ChannelEnd, Raised, channel_ends, channel_event, event_of, is_call, named_event, same_way, writes_by}
 use Rattle.policy_types.specs.declared.rights.Role.{Role}
 use Rattle.policy_types.specs.declared.rights.Role.TheVariants.{Writer, Reader}
 use Rattle.policy_types.specs.declared.source.EventSource.{EventSource}

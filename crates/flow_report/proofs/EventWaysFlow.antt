@@ -6,7 +6,7 @@ use Rattle.std.specs.Str.{bytes_eq}
 use Rattle.std.proofs.lemmas.Bool.{and_from}
 use Rattle.std.proofs.lemmas.Slice.Eq.{bytes_eq-Decides}
 use Rattle.muen_num.specs.declared.mode.EventMode.{EventMode}
-use Rattle.policy_meaning.specs.Events.{ChannelEnd, Target, channel_ends, channel_event, channel_targets, event_of, reads_from, writes_by}
+use Rattle.policy_lawful.specs.Events.{ChannelEnd, Target, channel_ends, channel_event, channel_targets, event_of, reads_from, writes_by}
 use Rattle.policy_types.specs.declared.rights.Role.{Role}
 use Rattle.policy_types.specs.declared.rights.Role.TheVariants.{Writer, Reader}
 use Rattle.policy_types.specs.declared.source.Channel.{Channel}

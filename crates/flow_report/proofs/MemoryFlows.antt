@@ -11,8 +11,8 @@ use Rattle.muen_num.proofs.Lists.{list_any-map}
 use Rattle.policy_lawful.specs.Resolution.{IsResolved, Resolution, source_of, subject_named, subject_in_range}
 use Rattle.policy_lawful.specs.Rules.{maps}
 use Rattle.policy_lawful.specs.declared.resolved.Subject.{Subject}
-use Rattle.policy_meaning.specs.Thing.{Thing, region, channel, provided, device_memory, state, same_thing}
-use Rattle.policy_meaning.specs.Windows.{Window, windows_of}
+use Rattle.policy_lawful.specs.Thing.{Thing, region, channel, provided, device_memory, state, same_thing}
+use Rattle.policy_lawful.specs.Windows.{Window, windows_of}
 use Rattle.policy_types.specs.Rights.{allows}
 use Rattle.policy_views.specs.Views.{is_on_region, thing_shown, view_window, views_of}
 use Rattle.policy_views.specs.declared.view.Shown.{Shown}

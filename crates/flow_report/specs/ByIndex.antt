@@ -8,7 +8,7 @@ use Rattle.policy_lawful.specs.Resolution.{Resolution}
 use Rattle.policy_lawful.specs.declared.resolved.EventSource.{EventSource}
 use Rattle.policy_lawful.specs.declared.resolved.Monitor.{Monitor}
 use Rattle.policy_lawful.specs.declared.resolved.Subject.{Subject}
-use Rattle.policy_meaning.specs.Events.{same_way}
+use Rattle.policy_lawful.specs.Events.{same_way}
 use Rattle.policy_types.specs.Rights.{allows}
 use Rattle.policy_types.specs.declared.rights.Role.{Role}
 use Rattle.policy_types.specs.declared.rights.Role.TheVariants.{Writer, Reader}

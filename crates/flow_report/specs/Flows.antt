@@ -5,9 +5,9 @@ use Rattle.std.specs.Option.{option_map_or}
 use Rattle.std.specs.List.{All, filter_map, list_any}
 use Rattle.std.specs.Str.{bytes_eq}
 use Rattle.muen_num.specs.declared.access.AccessKind.TheVariants.{Write}
-use Rattle.policy_meaning.specs.Events.{Raised, channel_ends, event_of, reads_from}
-use Rattle.policy_meaning.specs.Thing.{Thing, region, same_thing}
-use Rattle.policy_meaning.specs.Windows.{windows_of}
+use Rattle.policy_lawful.specs.Events.{Raised, channel_ends, event_of, reads_from}
+use Rattle.policy_lawful.specs.Thing.{Thing, region, same_thing}
+use Rattle.policy_lawful.specs.Windows.{windows_of}
 use Rattle.policy_types.specs.Rights.{allows}
 use Rattle.policy_types.specs.declared.rights.Role.{Role}
 use Rattle.policy_types.specs.declared.rights.Role.TheVariants.{Writer, Reader}

@@ -2,7 +2,7 @@
 ghost use Rattle.std.specs.Prelude.{◌≡◌, ◌==◌, map, IfOk};
 ghost use Rattle.std.specs.List.{filter_map, list_any, enumerate_from};
 ghost use Rattle.policy_lawful.specs.Resolution.{IsResolved};
-ghost use Rattle.policy_meaning.specs.Events.{same_way};
+ghost use Rattle.policy_lawful.specs.Events.{same_way};
 ghost use Rattle.flow_report.specs.ByIndex.{all_contacts_of, channel_read, channel_written, contacts_of, event_by, first_target, flows_between, has, is_chooser, meet, reached_by, region_changed, region_shown, subject_changed};
 
 use muen_num::{AccessKind, Name, NoMemory, Seq};

@@ -1,6 +1,6 @@
 //! A law of direct flows: a function that does nothing, whose contract says it.
 ghost use Rattle.std.specs.Prelude.{◌≡◌, true};
-ghost use Rattle.policy_meaning.specs.Events.{event_of};
+ghost use Rattle.policy_lawful.specs.Events.{event_of};
 ghost use Rattle.policy_types.specs.declared.source.Source.{Source};
 ghost use Rattle.policy_types.specs.declared.source.SourceWay.{SourceWay};
 ghost use Rattle.policy_types.specs.declared.source.Subject.{Subject};

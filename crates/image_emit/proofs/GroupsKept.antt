@@ -20,7 +20,7 @@ use Rattle.policy_lawful.proofs.UniqueNames.{names_of_subjects, subject_names, u
 use Rattle.policy_lawful.specs.Resolution.{name_at, source_of, subject_named}
 use Rattle.policy_lawful.specs.Rules.{is_group, is_on, subject_cpu, times_listed}
 use Rattle.policy_lawful.specs.declared.resolved.Subject.{Subject}
-use Rattle.policy_meaning.specs.Frames.{first_member}
+use Rattle.policy_lawful.specs.Frames.{first_member}
 use Rattle.policy_types.specs.declared.source.Group.{Group}
 use Rattle.policy_types.specs.declared.source.Source.{Source}
 use Rattle.policy_types.specs.declared.source.Subject.{Subject as SourceSubject}

@@ -13,7 +13,7 @@ use Rattle.muen_num.proofs.SearchLaws.{all_pass}
 use Rattle.muen_num.specs.declared.mode.EventMode.{EventMode}
 use Rattle.policy_lawful.specs.MoreRules.{are_distinct, are_vectors, has_vector, offence_15, vectors_of}
 use Rattle.policy_lawful.specs.Offences.{alone}
-use Rattle.policy_meaning.specs.Events.{ChannelEnd, Raised, Target, channel_ends, channel_event, channel_targets, event_of, event_targets, named_event, reads_from, same_way, writes_by}
+use Rattle.policy_lawful.specs.Events.{ChannelEnd, Raised, Target, channel_ends, channel_event, channel_targets, event_of, event_targets, named_event, reads_from, same_way, writes_by}
 use Rattle.policy_types.specs.declared.source.Channel.{Channel}
 use Rattle.policy_types.specs.declared.source.Event.{Event}
 use Rattle.policy_types.specs.declared.source.EventTarget.{EventTarget}

@@ -18,7 +18,7 @@ use Rattle.muen_num.specs.Search.{first_in}
 use Rattle.policy_lawful.specs.Offences.{two}
 use Rattle.policy_lawful.specs.Resolution.{source_of}
 use Rattle.policy_lawful.specs.Rules.{major_offence, majors_of, offence_16, tau0_offence}
-use Rattle.policy_meaning.specs.Thing.{component_by, region, thing_tag}
+use Rattle.policy_lawful.specs.Thing.{component_by, region, thing_tag}
 use Rattle.policy_types.specs.declared.source.Region.{Region as SourceRegion}
 use Rattle.policy_types.specs.declared.source.Source.{Source}
 use Rattle.policy_types.specs.declared.source.Tau0.{Tau0}

@@ -22,7 +22,7 @@ use Rattle.muen_num.proofs.Lists.{get_left, get_right, map-map}
 use Rattle.muen_num.specs.Range.{numbers_below}
 use Rattle.muen_num.specs.declared.limits.TheConstants.{PAGE}
 use Rattle.policy_lawful.specs.Resolution.{Resolution, source_of}
-use Rattle.policy_meaning.specs.Thing.{device_memory, thing_tag}
+use Rattle.policy_lawful.specs.Thing.{device_memory, thing_tag}
 use Rattle.policy_types.specs.declared.source.Device.{Device as SourceDevice}
 use Rattle.policy_types.specs.declared.source.DeviceMemory.{DeviceMemory}
 use Rattle.policy_types.specs.declared.source.Irq.{Irq}

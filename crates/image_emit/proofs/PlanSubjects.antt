@@ -27,10 +27,10 @@ use Rattle.policy_lawful.specs.Resolution.{Resolution, group_named, group_in_ran
 use Rattle.policy_lawful.specs.Rules.{repeated, times_listed}
 use Rattle.policy_lawful.specs.declared.resolved.Group.{Group as ResolvedGroup}
 use Rattle.policy_lawful.specs.declared.resolved.Subject.{Subject}
-use Rattle.policy_meaning.specs.Events.{Raised, Target}
+use Rattle.policy_lawful.specs.Events.{Raised, Target}
 use Rattle.policy_types.specs.declared.source.Group.{Group}
 use Rattle.region_alloc.specs.Placed.{Placement}
-use Rattle.policy_meaning.specs.Frames.{group_of}
+use Rattle.policy_lawful.specs.Frames.{group_of}
 
 -- ---- the first that passes
 

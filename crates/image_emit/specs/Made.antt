@@ -22,7 +22,7 @@ use Rattle.plan_emit.specs.PlanOf.{IsPlanOf}
 use Rattle.policy_lawful.specs.Lawful.{IsLawful}
 use Rattle.policy_lawful.specs.Resolution.{IsResolved, Resolution, source_of}
 use Rattle.policy_lawful.specs.declared.resolved.Subject.{Subject}
-use Rattle.policy_meaning.specs.Contents.{Held, content_bytes}
+use Rattle.policy_lawful.specs.Contents.{Held, content_bytes}
 use Rattle.region_alloc.specs.Placed.{AreDisjoint, AreInside, IsPlacement, Placement}
 use Rattle.span_emit.specs.Spans.{spans_of}
 use Rattle.subject_emit.specs.Mapped.{kernel_first}

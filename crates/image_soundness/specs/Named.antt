@@ -10,7 +10,7 @@ use Rattle.image_pack.specs.declared.parts.IrqTarget.{IrqTarget}
 use Rattle.image_pack.specs.declared.parts.WindowPart.{WindowPart}
 use Rattle.muen_num.specs.declared.limits.TheConstants.{PAGE}
 use Rattle.muen_num.specs.declared.tag.Tag.{Tag}
-use Rattle.policy_meaning.specs.Events.{Raised, Target}
+use Rattle.policy_lawful.specs.Events.{Raised, Target}
 use Rattle.record_text.specs.Bench.{Bench, BenchDevice}
 
 -- ---- subjects

@@ -25,10 +25,10 @@ use Rattle.muen_num.specs.declared.limits.TheConstants.{GUEST_END, MOST_CALLS, P
 use Rattle.muen_num.specs.declared.tag.TagPart.TheVariants.{Ept}
 use Rattle.plan_emit.specs.PlanOf.{IsPlanOf}
 use Rattle.policy_lawful.specs.Lawful.{IsLawful}
-use Rattle.policy_meaning.specs.Contents.{Held, initial_bytes}
-use Rattle.policy_meaning.specs.Events.{event_of, irq_of}
-use Rattle.policy_meaning.specs.Thing.{Thing, region, channel, provided, device_memory, state, same_thing, things_of, thing_tag}
-use Rattle.policy_meaning.specs.Windows.{Access, access_of, byte, violation, windows_of}
+use Rattle.policy_lawful.specs.Contents.{Held, initial_bytes}
+use Rattle.policy_lawful.specs.Events.{event_of, irq_of}
+use Rattle.policy_lawful.specs.Thing.{Thing, region, channel, provided, device_memory, state, same_thing, things_of, thing_tag}
+use Rattle.policy_lawful.specs.Windows.{Access, access_of, byte, violation, windows_of}
 use Rattle.policy_types.specs.declared.source.Device.{Device as SourceDevice}
 use Rattle.policy_types.specs.declared.source.Irq.{Irq}
 use Rattle.policy_types.specs.declared.source.Source.{Source}
@@ -36,7 +36,7 @@ use Rattle.policy_types.specs.declared.source.SourceWay.TheVariants.{Call, Trap}
 use Rattle.policy_types.specs.declared.source.Subject.{Subject}
 use Rattle.state_page.specs.StatePage.{page_bytes}
 use Rattle.image_soundness.specs.Bench.{devices_of}
-use Rattle.policy_meaning.specs.Frames.{group_of}
+use Rattle.policy_lawful.specs.Frames.{group_of}
 use Rattle.state_page.specs.States.{started}
 
 -- of each subject of the policy and its part of the image, in order

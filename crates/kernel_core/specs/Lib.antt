@@ -1,2 +1,5 @@
+pub use Rattle.vmx_machine.specs.Machine
+pub use Rattle.vmx_machine.specs.declared.control.Control
+pub use Rattle.device_bench.specs.Devices
 pub mod Kernel
 pub mod Ticks

@@ -18,8 +18,8 @@ use Rattle.policy_types.specs.declared.source.Block.{Block}
 use Rattle.policy_lawful.specs.Resolution.{IsResolved, Resolution, source_of, subject_named, subject_in_range}
 use Rattle.policy_lawful.specs.declared.resolved.Subject.{Subject}
 use Rattle.policy_lawful.proofs.SourceElements.{parts_in_range}
-use Rattle.policy_meaning.specs.Thing.{Thing}
-use Rattle.policy_meaning.specs.Windows.{Window}
+use Rattle.policy_lawful.specs.Thing.{Thing}
+use Rattle.policy_lawful.specs.Windows.{Window}
 use Rattle.policy_views.specs.Views.{thing_shown, view_window, views_of}
 use Rattle.policy_views.specs.declared.view.Shown.{Shown}
 use Rattle.policy_views.specs.declared.view.Shown.TheVariants.{Memory, Channel, Provided, Device, State}

@@ -9,8 +9,8 @@ use Rattle.muen_num.specs.Tag.{tag_text}
 use Rattle.muen_num.specs.declared.tag.TagPart.{TagPart}
 use Rattle.muen_num.specs.declared.tag.TagPart.TheVariants.{Named, State, Whole}
 use Rattle.muen_num.specs.declared.tag.Tag.{Tag}
-use Rattle.policy_meaning.specs.Thing.{Thing, region, channel, provided, device_memory, state}
-use Rattle.policy_meaning.specs.Windows.{windows_of}
+use Rattle.policy_lawful.specs.Thing.{Thing, region, channel, provided, device_memory, state}
+use Rattle.policy_lawful.specs.Windows.{windows_of}
 use Rattle.policy_types.specs.Rights.{has}
 use Rattle.policy_types.specs.declared.rights.Rights.{Rights}
 use Rattle.policy_types.specs.declared.rights.TheConstants.Rights.{READ, WRITE, EXECUTE}

@@ -18,7 +18,7 @@ use Rattle.policy_json.specs.Objects.{read_object, read_optional, read_required}
 use Rattle.policy_json.specs.Table.{block, channel, channel_use, component, component_channel, component_use, content, device, device_mapping, device_use, domain, event, event_source, event_target, irq_use, map_entry, mapping, monitor, msrs, processor, provided, region, required_memory, scheduling, subject, system}
 use Rattle.policy_json.specs.Values.{read_list, read_name, read_number, read_rights}
 use Rattle.policy_lawful.specs.Lawful.{kept_or}
-use Rattle.policy_meaning.specs.Contents.{Held}
+use Rattle.policy_lawful.specs.Contents.{Held}
 use Rattle.muen_build.specs.Refusals.{accepted, accepted_policy_of, lawful_alone, lawful_policy_of, refusal_of, unlawful}
 use Rattle.subject_emit.specs.Shows.{IsReadable}
 use Rattle.muen_build.specs.WindowRights.{ComponentRights, DeviceRights, DomainRights, RightsKept, SubjectRights, UseRights}

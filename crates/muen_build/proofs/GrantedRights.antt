@@ -12,7 +12,7 @@ use Rattle.policy_types.specs.declared.rights.Role.TheVariants.{Writer, Reader}
 use Rattle.policy_types.specs.declared.source.Component.{Component}
 use Rattle.policy_types.specs.declared.source.ComponentChannel.{ComponentChannel}
 use Rattle.policy_types.specs.declared.source.Required.{Required}
-use Rattle.policy_meaning.specs.Windows.{role_rights}
+use Rattle.policy_lawful.specs.Windows.{role_rights}
 use Rattle.policy_lawful.specs.Resolution.{Resolution, component_named, device_named, entry_named, mapping_named, source_of, subject_named}
 use Rattle.policy_lawful.specs.declared.resolved.ComponentUse.{ComponentUse}
 use Rattle.policy_lawful.specs.declared.resolved.DeviceMapping.{DeviceMapping}

@@ -21,7 +21,7 @@ use Rattle.muen_build.specs.Reading.{content_read, read_bytes, sized, things_rea
 use Rattle.muen_build.specs.Refusals.{Filled, content_refused, contents_refused, file_refused, filled_refused, too_long_for}
 use Rattle.policy_lawful.specs.Resolution.{IsResolved, Resolution, source_of}
 use Rattle.policy_lawful.specs.declared.resolved.Subject.{Subject}
-use Rattle.policy_meaning.specs.Contents.{content_bytes, file_part, padded}
+use Rattle.policy_lawful.specs.Contents.{content_bytes, file_part, padded}
 use Rattle.policy_types.specs.declared.refusal.Refusal.TheVariants.{FileFit, Missing}
 use Rattle.policy_types.specs.declared.source.Channel.{Channel}
 use Rattle.policy_types.specs.declared.source.Component.{Component}

@@ -12,7 +12,7 @@ use Rattle.policy_lawful.specs.MoreRules.{offence_6, offence_7, offence_9, offen
 use Rattle.policy_lawful.specs.Offences.{broken}
 use Rattle.policy_lawful.specs.Rules.{offence_1, offence_2, offence_3, offence_4, offence_5, offence_8, offence_16, offence_17, offence_18, offence_20}
 use Rattle.policy_lawful.specs.declared.offence.Offence.{Offence}
-use Rattle.policy_meaning.specs.Contents.{Held}
+use Rattle.policy_lawful.specs.Contents.{Held}
 use Rattle.policy_types.specs.declared.refusal.Fault.{Fault}
 use Rattle.policy_types.specs.declared.refusal.Refusal.{Refusal}
 use Rattle.policy_types.specs.declared.refusal.Refusal.TheVariants.{NotJson, Shape, NoMemory}

@@ -16,7 +16,7 @@ use Rattle.muen_build.specs.Accepting.{Files}
 use Rattle.muen_build.specs.Reading.{content_read, read_bytes, sized, things_read}
 use Rattle.policy_lawful.specs.Resolution.{IsResolved, Resolution, source_of}
 use Rattle.policy_lawful.specs.declared.resolved.Subject.{Subject}
-use Rattle.policy_meaning.specs.Contents.{file_part}
+use Rattle.policy_lawful.specs.Contents.{file_part}
 use Rattle.policy_types.specs.declared.source.Channel.{Channel}
 use Rattle.policy_types.specs.declared.source.Component.{Component}
 use Rattle.policy_types.specs.declared.source.Content.{Content}

@@ -6,7 +6,7 @@ use Rattle.expand_kernel.specs.ByIndex.{provided_at}
 use Rattle.muen_build.specs.Accepting.{Files}
 use Rattle.muen_outside.specs.Store.{find_bytes}
 use Rattle.policy_lawful.specs.Resolution.{Resolution}
-use Rattle.policy_meaning.specs.Contents.{file_part, padded}
+use Rattle.policy_lawful.specs.Contents.{file_part, padded}
 use Rattle.policy_types.specs.declared.source.Content.{Content}
 use Rattle.policy_types.specs.declared.source.Content.TheVariants.{Zero, Fill, Inline, File}
 

@@ -11,8 +11,8 @@ use Rattle.muen_outside.specs.Store.{Reading, whole, absent, long, reading_of}
 use Rattle.policy_json.specs.Document.{policy_of}
 use Rattle.policy_lawful.specs.Lawful.{names_broken, rules_broken, kept_or}
 use Rattle.policy_lawful.specs.Resolution.{source_of}
-use Rattle.policy_meaning.specs.Contents.{Held, file_part}
-use Rattle.policy_meaning.specs.Thing.{component_by}
+use Rattle.policy_lawful.specs.Contents.{Held, file_part}
+use Rattle.policy_lawful.specs.Thing.{component_by}
 use Rattle.policy_types.specs.declared.refusal.Refusal.{Refusal}
 use Rattle.policy_types.specs.declared.refusal.Refusal.TheVariants.{Missing, TooLong, FileFit}
 use Rattle.policy_types.specs.declared.source.Component.{Component}

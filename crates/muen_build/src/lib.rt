@@ -11,7 +11,7 @@ ghost use Rattle.muen_num.specs.Answers.{Answers, Explains};
 ghost use Rattle.policy_json.specs.Document.{policy_of};
 ghost use Rattle.policy_lawful.specs.Lawful.{kept_source};
 ghost use Rattle.policy_lawful.specs.Resolution.{Resolution, source_of};
-ghost use Rattle.policy_meaning.specs.Contents.{Held};
+ghost use Rattle.policy_lawful.specs.Contents.{Held};
 ghost use Rattle.muen_build.specs.Accepting.{Accepts, FailsWith, Grows, Passes, Refuses, RefusesDocument, looks_of, of_all};
 ghost use Rattle.muen_build.specs.Looks.{Follows, document_look};
 ghost use Rattle.muen_build.specs.Refusals.{accepted_policy_of, filled_of, laid_policy_of, lawful_policy_of, placed_source};

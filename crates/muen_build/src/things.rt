@@ -3,7 +3,7 @@ ghost use Rattle.std.specs.Prelude.{◌≡◌, ◌++◌, IfOk, OnOk, map, replic
 ghost use Rattle.std.specs.List.{flat_map};
 ghost use Rattle.expand_kernel.specs.ByIndex.{provided_at};
 ghost use Rattle.muen_build.specs.Reading.{content_read, read_bytes, sized, things_read};
-ghost use Rattle.policy_meaning.specs.Contents.{file_part};
+ghost use Rattle.policy_lawful.specs.Contents.{file_part};
 
 use crate::accepted::ComponentFiles;
 use crate::contents::provided_by;

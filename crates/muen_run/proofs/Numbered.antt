@@ -10,8 +10,8 @@ use Rattle.state_page.specs.StatePage.{state_in}
 use Rattle.state_page.specs.declared.state.SubjectState.{SubjectState}
 use Rattle.view_text.specs.ViewText.{rows_text}
 use Rattle.image_pack.specs.declared.parts.SubjectPart.{SubjectPart}
-use Rattle.vmx_machine.specs.Machine.{page_at}
-use Rattle.vmx_machine.specs.declared.control.Control.{Control}
+use Rattle.kernel_core.specs.Machine.{page_at}
+use Rattle.kernel_core.specs.Control.{Control}
 use Rattle.kernel_core.specs.declared.setup.Setup.{Setup}
 use Rattle.muen_run.specs.RunText.{bytes_from, numbered_subject_text, subject_text}
 use Rattle.muen_outside.specs.Buffered.{OutState, Given, Lost, Gives}

@@ -15,8 +15,8 @@ use Rattle.image_pack.specs.declared.parts.SubjectPart.{SubjectPart}
 use Rattle.record_text.specs.declared.record.Record.{Record}
 use Rattle.view_text.specs.ViewText.{rows_text, turn_text, region_text}
 use Rattle.view_text.specs.declared.TurnLine.{TurnLine}
-use Rattle.vmx_machine.specs.Machine.{page_at}
-use Rattle.vmx_machine.specs.declared.control.Control.{Control}
+use Rattle.kernel_core.specs.Machine.{page_at}
+use Rattle.kernel_core.specs.Control.{Control}
 use Rattle.frame_clock.specs.Run.{Ran}
 use Rattle.kernel_core.specs.Kernel.{Live}
 use Rattle.kernel_core.specs.Ticks.{kernel_run_to, ended}

@@ -3,7 +3,7 @@ ghost use Rattle.std.specs.Prelude.{◌≡◌, ◌+◌, ◌/◌, ◌^◌, ◌<�
 ghost use Rattle.std.specs.List.{find};
 ghost use Rattle.sha2.specs.Sha256.{sha256};
 ghost use Rattle.muen_outside.specs.Buffered.{Gives, behind};
-ghost use Rattle.vmx_machine.specs.Machine.{page_at};
+ghost use Rattle.kernel_core.specs.Machine.{page_at};
 ghost use Rattle.view_text.specs.ViewText.{region_text};
 ghost use Rattle.image_load.specs.Loading.{AreLow, IsLow};
 ghost use Rattle.muen_run.specs.RunText.{bytes_from, digest_in, numbered_span_text, prints_as, spans_text};

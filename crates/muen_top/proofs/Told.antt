@@ -4,7 +4,7 @@ use Rattle.std.specs.Prelude.{true}
 use Rattle.muen_build.specs.Refusals.{is_for_a_file}
 use Rattle.muen_outside.specs.States.{FilesState, SinkState}
 use Rattle.muen_outside.specs.Store.{Store}
-use Rattle.policy_meaning.specs.Contents.{no_files}
+use Rattle.policy_lawful.specs.Contents.{no_files}
 use Rattle.policy_types.specs.declared.refusal.Refusal.{Refusal}
 use Rattle.policy_types.specs.declared.refusal.Refusal.TheVariants.{NotJson, Shape, Rule, Missing as MissingFile, TooLong as TooLongFile, FileFit, NoRoom, NoMemory as NoMemoryFor}
 use Rattle.muen_top.specs.Calls.{Came}

@@ -9,7 +9,7 @@ use Rattle.image_pack.specs.declared.parts.Image.{Image}
 use Rattle.map_report.specs.MapText.{map_text_of}
 use Rattle.muen_num.specs.declared.limits.TheConstants.{IMAGE_MOST, POLICY_MOST, RECORD_MOST}
 use Rattle.muen_outside.specs.Store.{Reading, whole, absent, long, reading_of}
-use Rattle.policy_meaning.specs.Contents.{Held}
+use Rattle.policy_lawful.specs.Contents.{Held}
 use Rattle.policy_types.specs.declared.refusal.Refusal.{Refusal}
 use Rattle.policy_types.specs.declared.source.Source.{Source}
 use Rattle.record_text.specs.DeviceRecord.{DeviceRecord}

@@ -12,7 +12,7 @@ use Rattle.muen_num.specs.declared.limits.TheConstants.{IMAGE_MOST, POLICY_MOST,
 use Rattle.muen_outside.specs.Puts.{Appended}
 use Rattle.muen_outside.specs.States.{SinkState}
 use Rattle.muen_outside.specs.Store.{Store, reading_of, whole}
-use Rattle.policy_meaning.specs.Contents.{Held}
+use Rattle.policy_lawful.specs.Contents.{Held}
 use Rattle.policy_types.specs.declared.source.Source.{Source}
 use Rattle.record_text.specs.DeviceRecord.{DeviceRecord}
 use Rattle.record_text.specs.Reading.{record_of}

@@ -5,7 +5,7 @@ ghost use Rattle.std.specs.Prelude.{◌≡◌, ◌≢◌, ◌⊎◌, ℕ, List, 
 ghost use Rattle.muen_outside.specs.Counts.{Rose};
 ghost use Rattle.muen_outside.specs.Puts.{Failed};
 ghost use Rattle.muen_outside.specs.Store.{Store};
-ghost use Rattle.policy_meaning.specs.Contents.{Held};
+ghost use Rattle.policy_lawful.specs.Contents.{Held};
 ghost use Rattle.policy_types.specs.declared.source.Source.{Source};
 ghost use Rattle.record_text.specs.DeviceRecord.{DeviceRecord};
 ghost use Rattle.subject_model.specs.Trace.{trace_of};

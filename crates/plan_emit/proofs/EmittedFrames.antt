@@ -8,8 +8,8 @@ use Rattle.std.proofs.lemmas.List.{get_or-map, length-map}
 use Rattle.std.proofs.lemmas.Option.{get_or_from_slice_get}
 use Rattle.muen_num.specs.Range.{numbers_below}
 use Rattle.frame_clock.specs.Plan.{cpus_in, cpus_of, frame_of, frames_in}
-use Rattle.policy_meaning.specs.Frames as policy
-use Rattle.policy_meaning.specs.Frames.{entry_frames, frames_of, major_frames_of}
+use Rattle.policy_lawful.specs.Frames as policy
+use Rattle.policy_lawful.specs.Frames.{entry_frames, frames_of, major_frames_of}
 use Rattle.policy_lawful.specs.Resolution.{Resolution, cpu_named, major_named, major_in_range, source_of}
 use Rattle.policy_lawful.specs.Rules.{repeated}
 use Rattle.policy_lawful.specs.declared.resolved.CpuFrames.{CpuFrames}

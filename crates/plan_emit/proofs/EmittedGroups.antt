@@ -4,7 +4,7 @@ use Rattle.std.specs.Prelude.{nat_lt, slice_index, slice_index_or}
 use Rattle.std.specs.List.{list_all}
 use Rattle.std.proofs.lemmas.Bool.{and_parts, ltb-true}
 use Rattle.std.proofs.lemmas.List.Folds.{list_all-map}
-use Rattle.policy_meaning.specs.Frames.{first_member}
+use Rattle.policy_lawful.specs.Frames.{first_member}
 use Rattle.policy_lawful.specs.Resolution.{Resolution, group_named, name_at, source_of, subject_named}
 use Rattle.policy_lawful.specs.declared.resolved.Group.{Group}
 use Rattle.muen_num.proofs.Lists.{all_same, each_from, map-map}

@@ -1,3 +1,8 @@
+pub use Rattle.policy_meaning.specs.Contents
+pub use Rattle.policy_meaning.specs.Events
+pub use Rattle.policy_meaning.specs.Frames
+pub use Rattle.policy_meaning.specs.Thing
+pub use Rattle.policy_meaning.specs.Windows
 pub mod ByIndex
 pub mod Domains
 pub mod Keeps

@@ -13,7 +13,7 @@ use Rattle.policy_lawful.specs.Resolution.{IsResolved, Resolution, source_of, su
 use Rattle.policy_lawful.specs.Rules.{tau0_offence, writes}
 use Rattle.policy_lawful.specs.declared.resolved.Subject.{Subject}
 use Rattle.policy_lawful.proofs.SourceElements.{parts_in_range}
-use Rattle.policy_meaning.specs.Thing.{region, same_thing}
+use Rattle.policy_lawful.specs.Thing.{region, same_thing}
 use Rattle.policy_types.specs.Rights.{allows}
 use Rattle.policy_types.specs.declared.source.Subject.{Subject as NamedSubject}
 use Rattle.policy_types.specs.declared.source.Tau0.{Tau0}

@@ -13,9 +13,9 @@ use Rattle.policy_lawful.specs.declared.resolved.MapEntry.{MapEntry}
 use Rattle.policy_lawful.specs.declared.resolved.Subject.{Subject}
 use Rattle.policy_lawful.specs.declared.resolved.Wanted.{Wanted}
 use Rattle.policy_lawful.specs.declared.resolved.Wanted.TheVariants.{Memory as WantedMemory, Channel as WantedChannel}
-use Rattle.policy_meaning.specs.Events.{ChannelEnd, channel_ends, component_ends}
-use Rattle.policy_meaning.specs.Thing.{component_by}
-use Rattle.policy_meaning.specs.Windows.{entry_of}
+use Rattle.policy_lawful.specs.Events.{ChannelEnd, channel_ends, component_ends}
+use Rattle.policy_lawful.specs.Thing.{component_by}
+use Rattle.policy_lawful.specs.Windows.{entry_of}
 use Rattle.policy_types.specs.declared.source.ChannelUse.{ChannelUse as NamedChannel}
 use Rattle.policy_types.specs.declared.source.Component.{Component}
 use Rattle.policy_types.specs.declared.source.ComponentChannel.{ComponentChannel}

@@ -22,8 +22,8 @@ use Rattle.policy_lawful.specs.declared.resolved.Subject.{Subject}
 use Rattle.policy_lawful.specs.declared.resolved.Wanted.TheVariants.{Memory as WantedMemory, Channel as WantedChannel}
 use Rattle.policy_lawful.proofs.Indexes.{same_name, same_self}
 use Rattle.policy_lawful.proofs.UniqueNames.{unique}
-use Rattle.policy_meaning.specs.Thing.{region, same_thing}
-use Rattle.policy_meaning.specs.Windows.{role_rights}
+use Rattle.policy_lawful.specs.Thing.{region, same_thing}
+use Rattle.policy_lawful.specs.Windows.{role_rights}
 use Rattle.policy_types.specs.Rights.{allows}
 use Rattle.policy_types.specs.declared.rights.Rights.{Rights}
 use Rattle.policy_types.specs.declared.rights.Role.{Role}

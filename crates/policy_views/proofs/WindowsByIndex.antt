@@ -19,8 +19,8 @@ use Rattle.policy_lawful.specs.declared.resolved.Wanted.{Wanted}
 use Rattle.policy_lawful.specs.declared.resolved.Wanted.TheVariants.{Memory as WantedMemory, Channel as WantedChannel}
 use Rattle.policy_lawful.proofs.Indexes.{found_at_index}
 use Rattle.policy_lawful.proofs.UniqueNames.{logical_unique, parts_unique, unique}
-use Rattle.policy_meaning.specs.Thing.{channel, component_by, provided, region}
-use Rattle.policy_meaning.specs.Windows.{channel_window, component_channel_window, component_windows, device_window, entry_of, monitor_window, region_window, required_window, role_rights, window, windows_of}
+use Rattle.policy_lawful.specs.Thing.{channel, component_by, provided, region}
+use Rattle.policy_lawful.specs.Windows.{channel_window, component_channel_window, component_windows, device_window, entry_of, monitor_window, region_window, required_window, role_rights, window, windows_of}
 use Rattle.policy_types.specs.declared.rights.Rights.{Rights}
 use Rattle.policy_types.specs.declared.rights.Role.{Role}
 use Rattle.policy_types.specs.declared.source.Component.{Component}

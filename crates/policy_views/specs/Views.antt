@@ -13,9 +13,9 @@ use Rattle.policy_lawful.specs.declared.resolved.Monitor.{Monitor}
 use Rattle.policy_lawful.specs.declared.resolved.Subject.{Subject}
 use Rattle.policy_lawful.specs.declared.resolved.Wanted.{Wanted}
 use Rattle.policy_lawful.specs.declared.resolved.Wanted.TheVariants.{Memory as WantedMemory, Channel as WantedChannel}
-use Rattle.policy_meaning.specs.Events.{ChannelEnd}
-use Rattle.policy_meaning.specs.Thing.{Thing, region, channel, provided, device_memory, state}
-use Rattle.policy_meaning.specs.Windows.{Window, window, role_rights}
+use Rattle.policy_lawful.specs.Events.{ChannelEnd}
+use Rattle.policy_lawful.specs.Thing.{Thing, region, channel, provided, device_memory, state}
+use Rattle.policy_lawful.specs.Windows.{Window, window, role_rights}
 use Rattle.policy_types.specs.declared.rights.Rights.{Rights}
 use Rattle.policy_types.specs.declared.rights.Role.{Role}
 use Rattle.policy_types.specs.declared.source.Component.{Component}

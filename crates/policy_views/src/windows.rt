@@ -1,7 +1,7 @@
 //! The windows of a subject, in order.
 ghost use Rattle.std.specs.Prelude.{◌≡◌, map, IfOk, option_copied};
 ghost use Rattle.std.specs.List.{filter_map, flat_map, enumerate_from};
-ghost use Rattle.policy_meaning.specs.Windows.{role_rights};
+ghost use Rattle.policy_lawful.specs.Windows.{role_rights};
 ghost use Rattle.policy_views.specs.Entries.{chosen_channel, chosen_region};
 ghost use Rattle.policy_views.specs.Views.{channel_view, component_channel_view, component_views, device_view, monitor_view, provided_view, region_view, required_view, use_views, views_of};
 

@@ -16,7 +16,7 @@ use Rattle.image_emit.specs.Made.{IsImageOf, IsMade, Made, image_of, policy_of, 
 use Rattle.image_soundness.specs.Sound.{ForEachSubject, IsSound}
 use Rattle.image_pack.specs.declared.parts.Image.{Image}
 use Rattle.policy_lawful.specs.Resolution.{source_of}
-use Rattle.policy_meaning.specs.Contents.{Held}
+use Rattle.policy_lawful.specs.Contents.{Held}
 use Rattle.policy_types.specs.declared.source.Source.{Source}
 use Rattle.region_alloc.specs.Placed.{Placement}
 

@@ -15,8 +15,8 @@ use Rattle.policy_lawful.specs.Rules.{logical_names, repeated}
 use Rattle.policy_lawful.specs.declared.resolved.ComponentUse.{ComponentUse}
 use Rattle.policy_lawful.specs.declared.resolved.Subject.{Subject}
 use Rattle.policy_lawful.proofs.UniqueNames.{logical_unique, parts_unique, subjects_unique, unique, unique_parts}
-use Rattle.policy_meaning.specs.Contents.{Held, content_bytes, initial_bytes}
-use Rattle.policy_meaning.specs.Thing.{Thing, channel, component_by, device_memory, provided, region}
+use Rattle.policy_lawful.specs.Contents.{Held, content_bytes, initial_bytes}
+use Rattle.policy_lawful.specs.Thing.{Thing, channel, component_by, device_memory, provided, region}
 use Rattle.policy_types.specs.declared.source.Channel.{Channel}
 use Rattle.policy_types.specs.declared.source.Component.{Component}
 use Rattle.policy_types.specs.declared.source.Device.{Device}

@@ -26,8 +26,8 @@ use Rattle.muen_num.specs.declared.access.AccessKind.{AccessKind}
 use Rattle.policy_lawful.specs.Resolution.{source_of, subject_named, subject_in_range}
 use Rattle.policy_lawful.specs.declared.resolved.Subject.{Subject}
 use Rattle.policy_lawful.proofs.SourceElements.{parts_in_range}
-use Rattle.policy_meaning.specs.Thing.{Thing}
-use Rattle.policy_meaning.specs.Windows.{access_by, access_of, byte, holds, violation, windows_of}
+use Rattle.policy_lawful.specs.Thing.{Thing}
+use Rattle.policy_lawful.specs.Windows.{access_by, access_of, byte, holds, violation, windows_of}
 use Rattle.policy_types.specs.Rights.{allows}
 use Rattle.policy_types.specs.declared.rights.Rights.{Rights}
 use Rattle.policy_views.specs.Views.{thing_shown, view_window, views_of}

@@ -10,8 +10,8 @@ use Rattle.image_pack.specs.declared.parts.Image.{Image}
 use Rattle.image_pack.specs.declared.parts.SubjectPart.{SubjectPart}
 use Rattle.machine_layout.specs.Walks.{leaf_size, entry_size}
 use Rattle.muen_num.specs.declared.limits.TheConstants.{GUEST_END}
-use Rattle.policy_meaning.specs.Thing.{Thing}
-use Rattle.policy_meaning.specs.Windows.{Window, holds, windows_of}
+use Rattle.policy_lawful.specs.Thing.{Thing}
+use Rattle.policy_lawful.specs.Windows.{Window, holds, windows_of}
 use Rattle.policy_types.specs.declared.source.Source.{Source}
 use Rattle.policy_types.specs.declared.source.Subject.{Subject}
 use Rattle.region_alloc.specs.Placement.{placement_of}

@@ -4,7 +4,7 @@ use Rattle.image_emit.specs.Made.{IsImageOf, thing_bytes}
 use Rattle.image_pack.specs.declared.parts.Image.{Image}
 use Rattle.image_soundness.specs.Sound.{ForEachSubject, IsSound}
 use Rattle.policy_lawful.specs.Resolution.{source_of}
-use Rattle.policy_meaning.specs.Contents.{Held}
+use Rattle.policy_lawful.specs.Contents.{Held}
 use Rattle.region_alloc.specs.Placed.{Placement}
 use Rattle.proof_build.specs.Built.{HasGreatestPages, HasOnePathPerTable, HasPlacement}
 

@@ -7,16 +7,16 @@ use Rattle.std.proofs.lemmas.Bool.{and_parts, cases_Bool, false_from_ne_true, no
 use Rattle.std.proofs.lemmas.Slice.Eq.{bytes_eq-Decides}
 use Rattle.muen_num.proofs.ChangeLaws.{element_changes}
 use Rattle.muen_num.specs.ListChange.{change_at}
-use Rattle.machine_layout.specs.Pending.{with_vector}
+use Rattle.subject_model.specs.Pending.{with_vector}
 use Rattle.muen_num.specs.declared.mode.EventMode.{EventMode}
 use Rattle.muen_num.specs.declared.mode.EventMode.TheVariants.{Asap, Async, Own as OwnMode, Switch}
 use Rattle.policy_lawful.proofs.KeptMembers.{members_kept}
 use Rattle.policy_lawful.proofs.Indexes.{same_self}
 use Rattle.policy_lawful.specs.Lawful.{IsLawful}
 use Rattle.policy_lawful.specs.MoreRules.{fits_mode, some_group_lists}
-use Rattle.policy_meaning.specs.Events.{Raised, Target, event_of}
-use Rattle.policy_meaning.specs.Frames.{group_of}
-use Rattle.policy_meaning.specs.Thing.{Thing, same_thing}
+use Rattle.policy_lawful.specs.Events.{Raised, Target, event_of}
+use Rattle.policy_lawful.specs.Frames.{group_of}
+use Rattle.policy_lawful.specs.Thing.{Thing, same_thing}
 use Rattle.policy_types.specs.declared.source.Source.{Source}
 use Rattle.policy_types.specs.declared.source.SourceWay.{SourceWay}
 use Rattle.policy_types.specs.declared.source.Subject.{Subject}

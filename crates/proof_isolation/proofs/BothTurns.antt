@@ -7,30 +7,30 @@ use Rattle.std.proofs.lemmas.Bool.{cases_Bool}
 use Rattle.std.proofs.lemmas.Slice.Eq.{bytes_eq-Decides}
 use Rattle.guest_isa.specs.Step.{Stored}
 use Rattle.frame_clock.specs.Slot.{Slot}
-use Rattle.machine_layout.specs.Memory.{over}
-use Rattle.machine_layout.specs.Pending.{without}
+use Rattle.subject_model.specs.Memory.{over}
+use Rattle.subject_model.specs.Pending.{without}
 use Rattle.muen_num.proofs.Members.{find_in}
 use Rattle.muen_num.specs.declared.mode.EventMode.{EventMode}
 use Rattle.muen_num.specs.declared.mode.EventMode.TheVariants.{Asap, Async, Own as OwnMode, Switch}
 use Rattle.policy_lawful.proofs.KeptMembers.{members_kept}
 use Rattle.policy_lawful.specs.Lawful.{IsLawful}
-use Rattle.policy_meaning.specs.Contents.{Held}
-use Rattle.policy_meaning.specs.Events.{Raised, event_of}
-use Rattle.policy_meaning.specs.Frames.{group_of}
-use Rattle.policy_meaning.specs.Thing.{Thing, state}
-use Rattle.policy_meaning.specs.Windows.{windows_of}
+use Rattle.policy_lawful.specs.Contents.{Held}
+use Rattle.policy_lawful.specs.Events.{Raised, event_of}
+use Rattle.policy_lawful.specs.Frames.{group_of}
+use Rattle.policy_lawful.specs.Thing.{Thing, state}
+use Rattle.policy_lawful.specs.Windows.{windows_of}
 use Rattle.policy_types.specs.declared.source.Source.{Source}
 use Rattle.policy_types.specs.declared.source.SourceWay.{SourceWay}
 use Rattle.policy_types.specs.declared.source.Subject.{Subject}
-use Rattle.record_text.specs.DeviceRecord.{DeviceRecord}
-use Rattle.state_page.specs.StatePage.{page_bytes, state_in}
-use Rattle.state_page.specs.declared.state.SubjectState.{SubjectState}
+use Rattle.subject_model.specs.DeviceRecord.{DeviceRecord}
+use Rattle.subject_model.specs.StatePage.{page_bytes, state_in}
+use Rattle.subject_model.specs.SubjectState.{SubjectState}
 use Rattle.frame_clock.specs.Run.{Turned}
-use Rattle.view_text.specs.declared.TurnLine.{TurnLine}
+use Rattle.subject_model.specs.TurnLine.{TurnLine}
 use Rattle.flow_report.specs.Flows.{is_member, reaches}
 use Rattle.subject_model.specs.Alone.{MsrValues, OwnState, TurnAnswer, own_of, solo_turn, thing_in}
 use Rattle.subject_model.specs.System.{System, answered, happens, happens_as, inbox_of, is_shown, line_at, named, raised_by, state_of, subject_named, took, turn_from, with_own, with_store, with_write}
-use Rattle.expand_grants.specs.Resources.{ports_of}
+use Rattle.subject_model.specs.Resources.{ports_of}
 use Rattle.proof_views.proofs.Kept.{acted}
 use Rattle.proof_views.proofs.Unmoved.{by_raised}
 use Rattle.proof_isolation.specs.Agree.{Agree, AgreeFor, hands_over, only_to}

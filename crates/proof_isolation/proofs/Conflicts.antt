@@ -12,9 +12,9 @@ use Rattle.muen_num.specs.declared.access.AccessKind.TheVariants.{Write}
 use Rattle.policy_lawful.specs.Lawful.{IsLawful}
 use Rattle.policy_lawful.specs.MoreRules.{device_offence, ends_of_channel, fits_event, granted_once, is_connected, is_writer as writes_it, offence_6, offence_9, readers_of, times_granted, writers_of}
 use Rattle.policy_lawful.specs.Offences.{alone, two}
-use Rattle.policy_meaning.specs.Events.{ChannelEnd, channel_ends, reads_from}
-use Rattle.policy_meaning.specs.Thing.{Thing, channel, device_memory, provided, region, same_thing, state}
-use Rattle.policy_meaning.specs.Windows.{Window, role_rights, windows_of}
+use Rattle.policy_lawful.specs.Events.{ChannelEnd, channel_ends, reads_from}
+use Rattle.policy_lawful.specs.Thing.{Thing, channel, device_memory, provided, region, same_thing, state}
+use Rattle.policy_lawful.specs.Windows.{Window, role_rights, windows_of}
 use Rattle.policy_types.specs.Rights.{allows, has}
 use Rattle.policy_types.specs.declared.rights.Rights.{Rights}
 use Rattle.policy_types.specs.declared.rights.Role.{Role}

@@ -6,19 +6,19 @@ use Rattle.std.specs.Option.{option_map_or}
 use Rattle.std.specs.Str.{bytes_eq}
 use Rattle.std.proofs.lemmas.Bool.{and_from, and_parts, cases_eq}
 use Rattle.std.proofs.lemmas.Slice.Eq.{bytes_eq-Decides}
-use Rattle.expand_grants.specs.Resources.{ports_of}
+use Rattle.subject_model.specs.Resources.{ports_of}
 use Rattle.muen_num.proofs.ChangeLaws.{element_changes, others_stay, set_is}
 use Rattle.muen_num.specs.ListChange.{change_at}
-use Rattle.machine_layout.specs.Memory.{over}
-use Rattle.machine_layout.specs.Pending.{with_vector}
+use Rattle.subject_model.specs.Memory.{over}
+use Rattle.subject_model.specs.Pending.{with_vector}
 use Rattle.muen_num.proofs.Members.{In, any_in, any_some, find_in}
-use Rattle.policy_meaning.specs.Contents.{Held}
-use Rattle.policy_meaning.specs.Events.{Target, irq_of}
-use Rattle.policy_meaning.specs.Thing.{Thing, device_memory, same_thing, state}
-use Rattle.policy_meaning.specs.Windows.{windows_of}
+use Rattle.policy_lawful.specs.Contents.{Held}
+use Rattle.policy_lawful.specs.Events.{Target, irq_of}
+use Rattle.policy_lawful.specs.Thing.{Thing, device_memory, same_thing, state}
+use Rattle.policy_lawful.specs.Windows.{windows_of}
 use Rattle.policy_types.specs.declared.source.Source.{Source}
 use Rattle.policy_types.specs.declared.source.Subject.{Subject}
-use Rattle.record_text.specs.DeviceRecord.{DeviceRecord, NamedInput, port_input, memory_input, irq_input, dma_input}
+use Rattle.subject_model.specs.DeviceRecord.{DeviceRecord, NamedInput, port_input, memory_input, irq_input, dma_input}
 use Rattle.frame_clock.specs.Run.{all_taken}
 use Rattle.flow_report.specs.Flows.{is_member}
 use Rattle.subject_model.proofs.KeyLaws.{names_apart, things_apart, value_other}

@@ -8,12 +8,12 @@ use Rattle.std.proofs.lemmas.Bool.{and_from, eq-eqb, false_from_ne_true}
 use Rattle.frame_clock.specs.Slot.{Slot}
 use Rattle.muen_num.proofs.Members.{any_in}
 use Rattle.policy_lawful.specs.Lawful.{IsLawful}
-use Rattle.policy_meaning.specs.Contents.{Held}
+use Rattle.policy_lawful.specs.Contents.{Held}
 use Rattle.policy_types.specs.declared.source.Source.{Source}
 use Rattle.policy_types.specs.declared.source.Subject.{Subject}
-use Rattle.record_text.specs.DeviceRecord.{DeviceRecord}
+use Rattle.subject_model.specs.DeviceRecord.{DeviceRecord}
 use Rattle.frame_clock.specs.Run.{turns}
-use Rattle.view_text.specs.declared.TurnLine.{TurnLine}
+use Rattle.subject_model.specs.TurnLine.{TurnLine}
 use Rattle.flow_report.specs.Flows.{IsClosed, is_member}
 use Rattle.subject_model.specs.Alone.{TurnAnswer, own_of, solo_turn}
 use Rattle.subject_model.specs.Clock.{system}

@@ -7,7 +7,7 @@ use Rattle.std.specs.Str.{bytes_eq}
 use Rattle.std.proofs.lemmas.Bool.{and_parts, false_from_ne_true, true_from_ne_false}
 use Rattle.std.proofs.lemmas.Slice.Eq.{bytes_eq-Decides}
 use Rattle.guest_isa.specs.Step.{Stored}
-use Rattle.machine_layout.specs.Memory.{over}
+use Rattle.subject_model.specs.Memory.{over}
 use Rattle.muen_num.proofs.Members.{In, any_in, any_some, find_in}
 use Rattle.muen_num.proofs.SearchLaws.{none_both, unless_none}
 use Rattle.muen_num.specs.Search.{first_after, first_in, unless}
@@ -18,17 +18,17 @@ use Rattle.policy_lawful.specs.Domains.{is_monitor, monitor_offence, offence_24}
 use Rattle.policy_lawful.specs.Lawful.{IsLawful}
 use Rattle.policy_lawful.specs.Offences.{two}
 use Rattle.policy_lawful.specs.Rules.{is_on, subject_cpu}
-use Rattle.policy_meaning.specs.Events.{event_of}
-use Rattle.policy_meaning.specs.Thing.{Thing, same_thing, state}
-use Rattle.policy_meaning.specs.Windows.{windows_of}
+use Rattle.policy_lawful.specs.Events.{event_of}
+use Rattle.policy_lawful.specs.Thing.{Thing, same_thing, state}
+use Rattle.policy_lawful.specs.Windows.{windows_of}
 use Rattle.policy_types.specs.Rights.{allows, has}
 use Rattle.policy_types.specs.declared.rights.TheConstants.Rights.{EXECUTE}
 use Rattle.policy_types.specs.declared.source.Group.{Group}
 use Rattle.policy_types.specs.declared.source.Source.{Source}
 use Rattle.policy_types.specs.declared.source.SourceWay.{SourceWay}
 use Rattle.policy_types.specs.declared.source.Subject.{Subject}
-use Rattle.state_page.specs.StatePage.{page_bytes}
-use Rattle.state_page.specs.declared.state.SubjectState.{SubjectState}
+use Rattle.subject_model.specs.StatePage.{page_bytes}
+use Rattle.subject_model.specs.SubjectState.{SubjectState}
 use Rattle.frame_clock.specs.Slot.{Slot}
 use Rattle.flow_report.proofs.EventWays.{way_counts}
 use Rattle.flow_report.specs.Flows.{IsClosed, by_change, by_sight, flows_to, is_member, reaches}

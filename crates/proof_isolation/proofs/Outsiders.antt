@@ -10,7 +10,7 @@ use Rattle.guest_isa.specs.Step.{Answer, Stored, step}
 use Rattle.guest_isa.specs.declared.reach.Reach.TheVariants.{Reached}
 use Rattle.muen_num.proofs.ChangeLaws.{element_changes, others_stay}
 use Rattle.muen_num.specs.ListChange.{change_at}
-use Rattle.machine_layout.specs.Pending.{without}
+use Rattle.subject_model.specs.Pending.{without}
 use Rattle.muen_num.proofs.Members.{In, all_in, any_some, find_in, passes_in}
 use Rattle.muen_num.specs.declared.access.AccessKind.TheVariants.{Write}
 use Rattle.muen_num.specs.declared.mode.EventMode.{EventMode}
@@ -19,10 +19,10 @@ use Rattle.policy_lawful.proofs.KeptMembers.{MembersKept}
 use Rattle.policy_lawful.specs.Lawful.{IsLawful}
 use Rattle.policy_lawful.specs.MoreRules.{fits_mode, some_group_lists}
 use Rattle.policy_lawful.specs.Rules.{is_group, is_on, subject_cpu, times_listed}
-use Rattle.policy_meaning.specs.Events.{Raised, event_of}
-use Rattle.policy_meaning.specs.Frames.{group_of}
-use Rattle.policy_meaning.specs.Thing.{Thing}
-use Rattle.policy_meaning.specs.Windows.{Window, access_by, byte, holds, violation}
+use Rattle.policy_lawful.specs.Events.{Raised, event_of}
+use Rattle.policy_lawful.specs.Frames.{group_of}
+use Rattle.policy_lawful.specs.Thing.{Thing}
+use Rattle.policy_lawful.specs.Windows.{Window, access_by, byte, holds, violation}
 use Rattle.policy_types.specs.Rights.{allows}
 use Rattle.policy_types.specs.declared.source.Group.{Group}
 use Rattle.policy_types.specs.declared.source.Source.{Source}
@@ -32,7 +32,7 @@ use Rattle.flow_report.specs.Flows.{IsClosed, flows_to, is_member, reaches}
 use Rattle.subject_model.proofs.KeyLaws.{names_apart, value_other}
 use Rattle.subject_model.proofs.SystemLaws.{raised_alone}
 use Rattle.subject_model.specs.System.{System, happens, happens_as, named, pends_now, raised_by, took, with_active}
-use Rattle.state_page.specs.declared.state.SubjectState.{SubjectState}
+use Rattle.subject_model.specs.SubjectState.{SubjectState}
 use Rattle.subject_model.specs.Alone.{Inbox, Own, OwnState, alone, reach_by, solo_turn, stepped, unless_delivered, vector_for, waits}
 use Rattle.guest_isa.proofs.StepLaws.{step_stored}
 use Rattle.muen_num.proofs.Each.{if_some}

@@ -1,7 +1,7 @@
 -- What a store leaves: all but the bytes of things.
 use Rattle.std.proofs.Common.{◌≡◌, Option, Some, None, refl}
 use Rattle.guest_isa.specs.Step.{Stored}
-use Rattle.policy_meaning.specs.Thing.{Thing}
+use Rattle.policy_lawful.specs.Thing.{Thing}
 use Rattle.subject_model.specs.System.{System, with_store}
 
 pub record LeavesAllElse (y z : System) : Type 0 where

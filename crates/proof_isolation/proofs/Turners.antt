@@ -12,12 +12,12 @@ use Rattle.policy_lawful.proofs.KeptMajors.{majors_kept}
 use Rattle.policy_lawful.proofs.KeptMembers.{members_kept}
 use Rattle.policy_lawful.proofs.Indexes.{same_self}
 use Rattle.policy_lawful.specs.Lawful.{IsLawful}
-use Rattle.policy_meaning.specs.Frames.{frames_of, group_of}
+use Rattle.policy_lawful.specs.Frames.{frames_of, group_of}
 use Rattle.policy_types.specs.declared.source.Group.{Group}
 use Rattle.policy_types.specs.declared.source.Source.{Source}
 use Rattle.policy_types.specs.declared.source.Subject.{Subject}
 use Rattle.frame_clock.specs.Run.{Turned}
-use Rattle.view_text.specs.declared.TurnLine.{TurnLine}
+use Rattle.subject_model.specs.TurnLine.{TurnLine}
 use Rattle.subject_model.specs.System.{System, idle, named, state_of, subject_named, system_turn, turn_from, turn_in_slot, turn_of_member, turn_of_subject}
 use Rattle.proof_views.specs.Members.{AreListed, HasTurn, lists}
 use Rattle.proof_views.proofs.OwnLines.{found_so, named_so, turn_on}

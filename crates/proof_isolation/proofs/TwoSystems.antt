@@ -8,7 +8,7 @@ use Rattle.std.proofs.lemmas.Bool.{and_from, and_parts, eq-eqb, eqb-true, true_f
 use Rattle.std.proofs.lemmas.List.{length-map}
 use Rattle.std.proofs.lemmas.Option.{slice_get-map, slice_get_within}
 use Rattle.std.proofs.lemmas.Slice.Eq.{bytes_eq-Decides}
-use Rattle.expand_grants.specs.Resources.{msrs_of}
+use Rattle.subject_model.specs.Resources.{msrs_of}
 use Rattle.frame_clock.specs.Frames.{first_frame, frame_at_tick}
 use Rattle.frame_clock.specs.declared.frame_at.FrameAt.{FrameAt}
 use Rattle.muen_num.proofs.NumbersBelow.{length_numbers, number_at}
@@ -19,19 +19,19 @@ use Rattle.policy_lawful.proofs.KeptMembers.{members_kept}
 use Rattle.policy_lawful.proofs.UniqueNames.{unique}
 use Rattle.policy_lawful.specs.Lawful.{IsLawful}
 use Rattle.policy_lawful.specs.Rules.{major_offence, majors_of, offence_16, tau0_offence, writes}
-use Rattle.policy_meaning.specs.Contents.{Held}
-use Rattle.policy_meaning.specs.Events.{irq_of}
-use Rattle.policy_meaning.specs.Frames.{first_member, group_of}
-use Rattle.policy_meaning.specs.Thing.{Thing, region, same_thing, state}
-use Rattle.policy_meaning.specs.Windows.{Window, windows_of}
+use Rattle.policy_lawful.specs.Contents.{Held}
+use Rattle.policy_lawful.specs.Events.{irq_of}
+use Rattle.policy_lawful.specs.Frames.{first_member, group_of}
+use Rattle.policy_lawful.specs.Thing.{Thing, region, same_thing, state}
+use Rattle.policy_lawful.specs.Windows.{Window, windows_of}
 use Rattle.policy_types.specs.Rights.{allows}
 use Rattle.policy_types.specs.declared.source.Group.{Group}
 use Rattle.policy_types.specs.declared.source.Source.{Source}
 use Rattle.policy_types.specs.declared.source.Subject.{Subject}
 use Rattle.policy_types.specs.declared.source.Tau0.{Tau0}
-use Rattle.record_text.specs.DeviceRecord.{DeviceRecord, NamedInput, port_input, memory_input, irq_input, dma_input}
-use Rattle.state_page.specs.StatePage.{page_bytes, state_in}
-use Rattle.state_page.specs.States.{started}
+use Rattle.subject_model.specs.DeviceRecord.{DeviceRecord, NamedInput, port_input, memory_input, irq_input, dma_input}
+use Rattle.subject_model.specs.StatePage.{page_bytes, state_in}
+use Rattle.subject_model.specs.States.{started}
 use Rattle.frame_clock.specs.Run.{all_taken, begun, run_to, turns}
 use Rattle.flow_report.specs.Flows.{IsClosed, by_plan, closure_of, is_member}
 use Rattle.flow_report.proofs.Closures.{closure_is_least}

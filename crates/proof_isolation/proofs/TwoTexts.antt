@@ -6,11 +6,11 @@ use Rattle.std.proofs.lemmas.List.{map-append}
 use Rattle.std.proofs.lemmas.List.Elements.{filter_map-append}
 use Rattle.muen_num.specs.Range.{numbers_below}
 use Rattle.policy_lawful.specs.Lawful.{IsLawful}
-use Rattle.policy_meaning.specs.Contents.{Held}
+use Rattle.policy_lawful.specs.Contents.{Held}
 use Rattle.policy_types.specs.declared.source.Source.{Source}
 use Rattle.policy_types.specs.declared.source.Subject.{Subject}
-use Rattle.record_text.specs.DeviceRecord.{DeviceRecord}
-use Rattle.record_text.specs.Reading.{are_distinct}
+use Rattle.subject_model.specs.DeviceRecord.{DeviceRecord}
+use Rattle.subject_model.specs.Reading.{are_distinct}
 use Rattle.flow_report.specs.Flows.{IsClosed, is_member}
 use Rattle.subject_model.specs.Clock.{run_of}
 use Rattle.subject_model.specs.System.{subject_named}

@@ -5,9 +5,9 @@ use Rattle.std.specs.List.{cons_option, filter_map, find, flat_map}
 use Rattle.std.specs.Str.{bytes_eq}
 use Rattle.std.proofs.lemmas.Slice.Eq.{bytes_eq-Decides}
 use Rattle.muen_num.proofs.Members.{In, append_some, filter_map_in, find_in, flat_some, left_in, map_in, map_some, right_in}
-use Rattle.policy_meaning.specs.Events.{ChannelEnd, channel_ends, component_ends}
-use Rattle.policy_meaning.specs.Thing.{Thing, channel, component_by, device_memory, provided, region, state}
-use Rattle.policy_meaning.specs.Windows.{Window, channel_window, component_channel_window, component_windows, device_window, entry_of, monitor_window, region_window, required_window, role_rights, window, windows_of}
+use Rattle.policy_lawful.specs.Events.{ChannelEnd, channel_ends, component_ends}
+use Rattle.policy_lawful.specs.Thing.{Thing, channel, component_by, device_memory, provided, region, state}
+use Rattle.policy_lawful.specs.Windows.{Window, channel_window, component_channel_window, component_windows, device_window, entry_of, monitor_window, region_window, required_window, role_rights, window, windows_of}
 use Rattle.policy_types.specs.declared.rights.Rights.{Rights}
 use Rattle.policy_types.specs.declared.source.Channel.{Channel}
 use Rattle.policy_types.specs.declared.source.ChannelUse.{ChannelUse}

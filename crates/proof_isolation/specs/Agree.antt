@@ -3,21 +3,21 @@ use Rattle.std.specs.Prelude.{◌≡◌, ℕ, ◌<◌, ◌==◌, ◌&&◌, Bool,
 use Rattle.std.specs.List.{list_any}
 use Rattle.std.specs.Option.{option_map_or}
 use Rattle.std.specs.Str.{bytes_eq}
-use Rattle.expand_grants.specs.Resources.{ports_of}
+use Rattle.subject_model.specs.Resources.{ports_of}
 use Rattle.flow_report.specs.Flows.{is_member, reaches}
 use Rattle.frame_clock.specs.Frames.{slot_in}
 use Rattle.frame_clock.specs.declared.frame_at.FrameAt.{FrameAt}
 use Rattle.policy_lawful.specs.MoreRules.{is_switch}
-use Rattle.policy_meaning.specs.Contents.{Held}
-use Rattle.policy_meaning.specs.Events.{Raised, Target, event_of, irq_of}
-use Rattle.policy_meaning.specs.Frames.{first_member, frames_of, group_of}
-use Rattle.policy_meaning.specs.Thing.{Thing, device_memory}
-use Rattle.policy_meaning.specs.Windows.{windows_of}
+use Rattle.policy_lawful.specs.Contents.{Held}
+use Rattle.policy_lawful.specs.Events.{Raised, Target, event_of, irq_of}
+use Rattle.policy_lawful.specs.Frames.{first_member, frames_of, group_of}
+use Rattle.policy_lawful.specs.Thing.{Thing, device_memory}
+use Rattle.policy_lawful.specs.Windows.{windows_of}
 use Rattle.policy_types.specs.declared.source.Source.{Source}
 use Rattle.policy_types.specs.declared.source.SourceWay.{SourceWay}
 use Rattle.policy_types.specs.declared.source.Subject.{Subject}
 use Rattle.policy_types.specs.declared.source.Tau0.{Tau0}
-use Rattle.record_text.specs.DeviceRecord.{DeviceRecord, NamedInput, port_input, memory_input, irq_input, dma_input}
+use Rattle.subject_model.specs.DeviceRecord.{DeviceRecord, NamedInput, port_input, memory_input, irq_input, dma_input}
 use Rattle.subject_model.specs.Alone.{own_of, thing_in}
 use Rattle.subject_model.specs.Clock.{inputs_at, order_at, ticks_of_majors}
 use Rattle.subject_model.specs.Laws.{frame_after}

@@ -3,11 +3,11 @@ use Rattle.std.specs.Prelude.{◌≡◌, ℕ, ◌==◌, Bool, false, true, List,
 use Rattle.std.specs.List.{list_any}
 use Rattle.std.specs.Option.{option_map_or}
 use Rattle.std.specs.Str.{bytes_eq}
-use Rattle.expand_grants.specs.Resources.{ports_of}
+use Rattle.subject_model.specs.Resources.{ports_of}
 use Rattle.flow_report.specs.Flows.{is_member}
-use Rattle.policy_meaning.specs.Frames.{group_of}
-use Rattle.policy_meaning.specs.Thing.{Thing, state}
-use Rattle.policy_meaning.specs.Windows.{windows_of}
+use Rattle.policy_lawful.specs.Frames.{group_of}
+use Rattle.policy_lawful.specs.Thing.{Thing, state}
+use Rattle.policy_lawful.specs.Windows.{windows_of}
 use Rattle.policy_types.specs.declared.source.Source.{Source}
 use Rattle.policy_types.specs.declared.source.Subject.{Subject}
 use Rattle.subject_model.specs.Alone.{thing_in}

@@ -10,11 +10,11 @@ ghost use Rattle.std.specs.Prelude.{◌≡◌, ℕ, List, Some, All, IsTrue, fal
 ghost use Rattle.flow_report.specs.Flows.{IsClosed, closure_of, is_member};
 ghost use Rattle.frame_clock.specs.Slot.{Slot};
 ghost use Rattle.policy_lawful.specs.Lawful.{IsLawful};
-ghost use Rattle.policy_meaning.specs.Contents.{Held};
+ghost use Rattle.policy_lawful.specs.Contents.{Held};
 ghost use Rattle.policy_types.specs.declared.source.Source.{Source};
 ghost use Rattle.policy_types.specs.declared.source.Subject.{Subject};
-ghost use Rattle.record_text.specs.DeviceRecord.{DeviceRecord};
-ghost use Rattle.record_text.specs.Reading.{are_distinct};
+ghost use Rattle.subject_model.specs.DeviceRecord.{DeviceRecord};
+ghost use Rattle.subject_model.specs.Reading.{are_distinct};
 ghost use Rattle.subject_model.specs.Clock.{run_of};
 ghost use Rattle.subject_model.specs.System.{System, subject_named, system_turn};
 ghost use Rattle.subject_model.specs.View.{Seen, view_of};

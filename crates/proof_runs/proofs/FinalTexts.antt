@@ -6,9 +6,9 @@ use Rattle.sha2.specs.Sha256.{sha256}
 use Rattle.muen_num.specs.Range.{numbers_below}
 use Rattle.muen_num.specs.declared.limits.TheConstants.{PAGE}
 use Rattle.muen_num.specs.declared.tag.Tag.{Tag}
-use Rattle.machine_layout.specs.Memory.{Page}
-use Rattle.state_page.specs.StatePage.{state_in}
-use Rattle.state_page.specs.declared.state.SubjectState.{SubjectState}
+use Rattle.subject_model.specs.Memory.{Page}
+use Rattle.subject_model.specs.StatePage.{state_in}
+use Rattle.subject_model.specs.SubjectState.{SubjectState}
 use Rattle.image_pack.specs.ImageConditions.{IsContent, KeepsConditions}
 use Rattle.image_pack.specs.declared.parts.Image.{Image}
 use Rattle.image_pack.specs.declared.parts.SpanKind.{SpanKind}
@@ -22,9 +22,9 @@ use Rattle.policy_meaning.specs.Thing.{Thing, region, channel, provided, device_
 use Rattle.policy_types.specs.declared.source.Component.{Component}
 use Rattle.policy_types.specs.declared.source.Source.{Source}
 use Rattle.policy_types.specs.declared.source.Subject.{Subject}
-use Rattle.view_text.specs.ViewText.{rows_text, region_text}
-use Rattle.vmx_machine.specs.Machine.{page_at}
-use Rattle.vmx_machine.specs.declared.control.Control.{Control}
+use Rattle.subject_model.specs.ViewText.{rows_text, region_text}
+use Rattle.kernel_core.specs.Machine.{page_at}
+use Rattle.kernel_core.specs.Control.{Control}
 use Rattle.kernel_core.specs.declared.setup.Setup.{Setup}
 use Rattle.subject_model.specs.Alone.{bytes_in}
 use Rattle.subject_model.specs.System.{System, state_of}

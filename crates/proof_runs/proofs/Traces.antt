@@ -14,7 +14,7 @@ use Rattle.image_pack.specs.declared.parts.Image.{Image}
 use Rattle.image_pack.specs.declared.parts.SubjectPart.{SubjectPart}
 use Rattle.kernel_core.specs.Kernel.{Live}
 use Rattle.kernel_core.specs.Ticks.{ended, kernel_run_to, live_started, tick_inputs, tick_order}
-use Rattle.machine_layout.specs.Memory.{Page}
+use Rattle.subject_model.specs.Memory.{Page}
 use Rattle.muen_num.specs.declared.limits.TheConstants.{PAGE}
 use Rattle.muen_run.specs.RunText.{bytes_from, final_text, image_text}
 use Rattle.policy_meaning.specs.Contents.{Held, initial_bytes}
@@ -26,11 +26,11 @@ use Rattle.record_text.specs.declared.record.Record.{Record}
 use Rattle.image_soundness.specs.Bench.{devices_of}
 use Rattle.frame_clock.specs.Run.{Ran, run_to}
 use Rattle.frame_clock.specs.Alike.{AreAlikeRuns}
-use Rattle.state_page.specs.StatePage.{state_in}
-use Rattle.vmx_machine.specs.Machine.{page_at}
-use Rattle.vmx_machine.specs.declared.control.Control.{Control}
-use Rattle.view_text.specs.ViewText.{turn_text}
-use Rattle.view_text.specs.declared.TurnLine.{TurnLine}
+use Rattle.subject_model.specs.StatePage.{state_in}
+use Rattle.kernel_core.specs.Machine.{page_at}
+use Rattle.kernel_core.specs.Control.{Control}
+use Rattle.subject_model.specs.ViewText.{turn_text}
+use Rattle.subject_model.specs.TurnLine.{TurnLine}
 use Rattle.subject_model.specs.Alone.{thing_in}
 use Rattle.subject_model.specs.Clock.{inputs_at, order_at, run_of, system}
 use Rattle.subject_model.specs.System.{System, first_page, start_of, state_of}

@@ -21,9 +21,9 @@ use Rattle.machine_layout.specs.Walks.{walk_of}
 use Rattle.muen_num.specs.Range.{numbers_below}
 use Rattle.muen_num.specs.declared.access.AccessKind.{AccessKind}
 use Rattle.muen_num.specs.declared.limits.TheConstants.{GUEST_END, PAGE}
-use Rattle.policy_meaning.specs.Contents.{Held}
-use Rattle.policy_meaning.specs.Thing.{Thing, state, same_thing, things_of}
-use Rattle.policy_meaning.specs.Windows.{Access, access_of, byte, violation, windows_of}
+use Rattle.policy_lawful.specs.Contents.{Held}
+use Rattle.policy_lawful.specs.Thing.{Thing, state, same_thing, things_of}
+use Rattle.policy_lawful.specs.Windows.{Access, access_of, byte, violation, windows_of}
 use Rattle.policy_types.specs.declared.source.Source.{Source}
 use Rattle.policy_types.specs.declared.source.Subject.{Subject}
 use Rattle.proof_turns.specs.Ground.{page_and_offset}

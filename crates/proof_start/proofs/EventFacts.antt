@@ -18,7 +18,7 @@ use Rattle.policy_lawful.specs.Lawful.{IsLawful}
 use Rattle.policy_lawful.specs.MoreRules.{are_distinct, are_numbers, call_number, calls_of, offence_12, offence_14, sources_of, targets_of, trap_reason}
 use Rattle.policy_lawful.specs.Offences.{alone, two}
 use Rattle.policy_lawful.specs.Rules.{Reference, component_references, device_references, frame_references, group_references, is_declared, majors_of, offence_2, refers, subject_references, undeclared}
-use Rattle.policy_meaning.specs.Events.{ChannelEnd, Raised, Target, channel_ends, channel_event, event_of, event_targets, is_call, named_event, same_way, trap_number, traps_of, writes_by}
+use Rattle.policy_lawful.specs.Events.{ChannelEnd, Raised, Target, channel_ends, channel_event, event_of, event_targets, is_call, named_event, same_way, trap_number, traps_of, writes_by}
 use Rattle.policy_types.specs.declared.rights.Role.{Role}
 use Rattle.policy_types.specs.declared.rights.Role.TheVariants.{Reader, Writer}
 use Rattle.policy_types.specs.declared.source.Event.{Event}

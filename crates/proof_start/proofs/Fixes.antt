@@ -13,10 +13,10 @@ use Rattle.image_soundness.specs.Sound.{IsSound, IsSubjectOf}
 use Rattle.kernel_core.specs.Kernel.{entry}
 use Rattle.muen_num.specs.declared.access.AccessKind.{AccessKind}
 use Rattle.muen_num.specs.declared.limits.TheConstants.{MOST_CALLS}
-use Rattle.policy_meaning.specs.Contents.{Held, initial_bytes}
-use Rattle.policy_meaning.specs.Events.{Raised, event_of}
-use Rattle.policy_meaning.specs.Thing.{Thing, region, state}
-use Rattle.policy_meaning.specs.Windows.{access_of, byte, windows_of}
+use Rattle.policy_lawful.specs.Contents.{Held, initial_bytes}
+use Rattle.policy_lawful.specs.Events.{Raised, event_of}
+use Rattle.policy_lawful.specs.Thing.{Thing, region, state}
+use Rattle.policy_lawful.specs.Windows.{access_of, byte, windows_of}
 use Rattle.policy_types.specs.declared.source.Source.{Source}
 use Rattle.policy_types.specs.declared.source.SourceWay.TheVariants.{Call, Trap}
 use Rattle.policy_types.specs.declared.source.Subject.{Subject}

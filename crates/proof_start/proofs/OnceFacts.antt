@@ -9,7 +9,7 @@ use Rattle.policy_lawful.proofs.Indexes.{same_name, same_self}
 use Rattle.policy_lawful.proofs.UniqueNames.{logical_unique, parts_unique, unique, unique_parts}
 use Rattle.policy_lawful.specs.Lawful.{IsLawful}
 use Rattle.policy_lawful.specs.Rules.{logical_names, repeated}
-use Rattle.policy_meaning.specs.Thing.{Thing, region, channel, provided, device_memory, state, component_by, provided_by, things_of}
+use Rattle.policy_lawful.specs.Thing.{Thing, region, channel, provided, device_memory, state, component_by, provided_by, things_of}
 use Rattle.policy_types.specs.declared.source.Component.{Component}
 use Rattle.policy_types.specs.declared.source.ComponentUse.{ComponentUse}
 use Rattle.policy_types.specs.declared.source.Device.{Device}

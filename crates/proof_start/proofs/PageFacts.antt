@@ -17,14 +17,14 @@ use Rattle.machine_layout.specs.Memory.{page_of}
 use Rattle.machine_layout.specs.Walks.{addresses_read}
 use Rattle.muen_num.specs.declared.limits.TheConstants.{GUEST_END}
 use Rattle.muen_num.specs.declared.tag.TagPart.TheVariants.{State, Ept, Iobm, Msrbm, Msrs}
-use Rattle.policy_meaning.specs.Contents.{Held, initial_bytes}
-use Rattle.policy_meaning.specs.Thing.{Thing}
+use Rattle.policy_lawful.specs.Contents.{Held, initial_bytes}
+use Rattle.policy_lawful.specs.Thing.{Thing}
 use Rattle.policy_types.specs.declared.source.Source.{Source}
 use Rattle.policy_types.specs.declared.source.Subject.{Subject}
 use Rattle.proof_turns.specs.Ground.{part}
 use Rattle.guest_isa.specs.Words.{IsByte}
-use Rattle.state_page.specs.StatePage.{page_bytes}
-use Rattle.state_page.specs.States.{started}
+use Rattle.subject_model.specs.StatePage.{page_bytes}
+use Rattle.subject_model.specs.States.{started}
 use Rattle.vmx_machine.specs.declared.control.Control.{Control}
 use Rattle.proof_start.specs.GroundOf.{HoldsBytes, ground_of, is_kept}
 use Rattle.proof_start.proofs.ListFacts.{all_at, any_passing, first_at, other_at, same_at}

@@ -17,9 +17,9 @@ use Rattle.policy_lawful.proofs.KeptCpus.{cpus_kept}
 use Rattle.policy_lawful.specs.Lawful.{IsLawful}
 use Rattle.policy_lawful.specs.Offences.{two}
 use Rattle.policy_lawful.specs.Rules.{is_alignment, is_fixed, is_laid, is_page_aligned, is_page_size, major_offence, majors_of, offence_16, tau0_offence}
-use Rattle.policy_meaning.specs.Contents.{Held, initial_bytes}
-use Rattle.policy_meaning.specs.Frames.{frames_of, major_frames_of}
-use Rattle.policy_meaning.specs.Thing.{region, same_thing, things_of}
+use Rattle.policy_lawful.specs.Contents.{Held, initial_bytes}
+use Rattle.policy_lawful.specs.Frames.{frames_of, major_frames_of}
+use Rattle.policy_lawful.specs.Thing.{region, same_thing, things_of}
 use Rattle.policy_types.specs.declared.source.CpuFrames.{CpuFrames}
 use Rattle.policy_types.specs.declared.source.MajorFrame.{MajorFrame}
 use Rattle.policy_types.specs.declared.source.Region.{Region}

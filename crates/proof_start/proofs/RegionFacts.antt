@@ -16,8 +16,8 @@ use Rattle.image_pack.specs.declared.parts.SpanKind.TheVariants.{Own, Channel, P
 use Rattle.image_pack.specs.declared.parts.SpanPart.{SpanPart}
 use Rattle.muen_num.proofs.NumbersBelow.{number_at}
 use Rattle.muen_num.specs.Range.{numbers_below}
-use Rattle.policy_meaning.specs.Contents.{Held}
-use Rattle.policy_meaning.specs.Thing.{region, same_thing, things_of, thing_tag}
+use Rattle.policy_lawful.specs.Contents.{Held}
+use Rattle.policy_lawful.specs.Thing.{region, same_thing, things_of, thing_tag}
 use Rattle.policy_types.specs.declared.source.Source.{Source}
 use Rattle.policy_types.specs.declared.source.Tau0.{Tau0}
 use Rattle.subject_model.proofs.KeyLaws.{same_thing_self}

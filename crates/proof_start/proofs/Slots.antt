@@ -23,8 +23,8 @@ use Rattle.frame_clock.specs.declared.plan.Minor.{Minor}
 use Rattle.frame_clock.specs.declared.plan.Plan.{Plan}
 use Rattle.muen_num.proofs.Lists.{each_from, passes_at}
 use Rattle.muen_num.specs.Frame.{Frame}
-use Rattle.policy_meaning.specs.Contents.{Held}
-use Rattle.policy_meaning.specs.Frames.{frames_of}
+use Rattle.policy_lawful.specs.Contents.{Held}
+use Rattle.policy_lawful.specs.Frames.{frames_of}
 use Rattle.policy_types.specs.declared.source.Source.{Source}
 use Rattle.proof_start.proofs.PlanFacts.{no_slots}
 use Rattle.frame_clock.proofs.SlotGroups.{at_slot}

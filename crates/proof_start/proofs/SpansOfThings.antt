@@ -9,8 +9,8 @@ use Rattle.image_soundness.specs.Sound.{IsSound, IsSpanOf, is_kernel, kind_of, a
 use Rattle.image_pack.specs.ImageConditions.{KeepsConditions}
 use Rattle.image_pack.specs.declared.parts.Image.{Image}
 use Rattle.muen_num.specs.Range.{numbers_below}
-use Rattle.policy_meaning.specs.Contents.{Held, initial_bytes}
-use Rattle.policy_meaning.specs.Thing.{Thing, region, channel, provided, device_memory, state, same_thing, things_of, thing_tag}
+use Rattle.policy_lawful.specs.Contents.{Held, initial_bytes}
+use Rattle.policy_lawful.specs.Thing.{Thing, region, channel, provided, device_memory, state, same_thing, things_of, thing_tag}
 use Rattle.policy_types.specs.declared.source.Source.{Source}
 use Rattle.subject_model.proofs.KeyLaws.{same_things}
 use Rattle.proof_start.specs.GroundOf.{ground_of, pages_in}

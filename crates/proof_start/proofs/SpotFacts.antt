@@ -9,8 +9,8 @@ use Rattle.image_pack.specs.declared.parts.Image.{Image}
 use Rattle.image_pack.specs.declared.parts.SpanPart.{SpanPart}
 use Rattle.image_pack.specs.declared.parts.SubjectPart.{SubjectPart}
 use Rattle.muen_num.specs.declared.tag.TagPart.TheVariants.{State, Msrs}
-use Rattle.policy_meaning.specs.Contents.{Held}
-use Rattle.policy_meaning.specs.Thing.{Thing}
+use Rattle.policy_lawful.specs.Contents.{Held}
+use Rattle.policy_lawful.specs.Thing.{Thing}
 use Rattle.policy_types.specs.declared.source.Source.{Source}
 use Rattle.proof_turns.specs.Ground.{Spot, thing_at, state_at, area_at, IsAt}
 use Rattle.proof_start.specs.GroundOf.{ground_of, is_kept}

@@ -16,8 +16,8 @@ use Rattle.image_pack.specs.declared.parts.Image.{Image}
 use Rattle.image_pack.specs.declared.parts.SubjectPart.{SubjectPart}
 use Rattle.frame_clock.specs.declared.plan.GroupPart.{GroupPart}
 use Rattle.muen_num.proofs.Lists.{passes_at, there}
-use Rattle.policy_meaning.specs.Contents.{Held}
-use Rattle.policy_meaning.specs.Frames.{first_member}
+use Rattle.policy_lawful.specs.Contents.{Held}
+use Rattle.policy_lawful.specs.Frames.{first_member}
 use Rattle.policy_types.specs.declared.source.Source.{Source}
 use Rattle.policy_types.specs.declared.source.Subject.{Subject}
 use Rattle.proof_turns.specs.Fixed.{IsFixed}

@@ -7,7 +7,7 @@ use Rattle.std.proofs.lemmas.List.{length-replicate}
 use Rattle.std.proofs.lemmas.List.Elements.{All-replicate}
 use Rattle.subject_model.specs.Alone.{MsrValues, Things, msr_value, thing_in}
 use Rattle.subject_model.specs.System.{Named, first_inputs, first_page, named, start_of, subject_named}
-use Rattle.device_bench.specs.Devices.{no_inputs, zeros}
+use Rattle.kernel_core.specs.Devices.{no_inputs, zeros}
 use Rattle.expand_grants.specs.Resources.{msrs_of}
 use Rattle.image_load.specs.Loaded.{memory_of as loaded_memory, setup_of}
 use Rattle.image_soundness.specs.Memory.{bytes_at, page_at}
@@ -18,12 +18,12 @@ use Rattle.image_pack.specs.declared.parts.SubjectPart.{SubjectPart}
 use Rattle.kernel_core.specs.Ticks.{live_started}
 use Rattle.machine_layout.specs.Memory.{page_of}
 use Rattle.muen_num.specs.declared.limits.TheConstants.{LAST_PORT}
-use Rattle.policy_meaning.specs.Contents.{Held as HeldFiles, initial_bytes}
-use Rattle.policy_meaning.specs.Thing.{Thing, same_thing, state, things_of}
+use Rattle.policy_lawful.specs.Contents.{Held as HeldFiles, initial_bytes}
+use Rattle.policy_lawful.specs.Thing.{Thing, same_thing, state, things_of}
 use Rattle.policy_types.specs.declared.source.Source.{Source}
 use Rattle.policy_types.specs.declared.source.Subject.{Subject}
-use Rattle.state_page.specs.StatePage.{page_bytes}
-use Rattle.state_page.specs.States.{started}
+use Rattle.subject_model.specs.StatePage.{page_bytes}
+use Rattle.subject_model.specs.States.{started}
 use Rattle.proof_turns.proofs.Holds.{held_off}
 use Rattle.subject_model.proofs.KeyLaws.{same_thing_self}
 use Rattle.proof_turns.specs.Fixed.{IsFixed}

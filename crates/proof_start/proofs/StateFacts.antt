@@ -10,8 +10,8 @@ use Rattle.image_soundness.specs.Sound.{IsSound, is_kernel, address_of, thing_sp
 use Rattle.image_pack.specs.ImageConditions.{KeepsConditions}
 use Rattle.image_pack.specs.declared.parts.Image.{Image}
 use Rattle.image_pack.specs.declared.parts.SubjectPart.{SubjectPart}
-use Rattle.policy_meaning.specs.Contents.{Held}
-use Rattle.policy_meaning.specs.Thing.{Thing, state, same_thing, things_of}
+use Rattle.policy_lawful.specs.Contents.{Held}
+use Rattle.policy_lawful.specs.Thing.{Thing, state, same_thing, things_of}
 use Rattle.policy_types.specs.declared.source.Source.{Source}
 use Rattle.policy_types.specs.declared.source.Subject.{Subject}
 use Rattle.subject_model.proofs.KeyLaws.{same_things, same_thing_self, state_names}

@@ -9,8 +9,8 @@ use Rattle.std.proofs.lemmas.List.{length-replicate}
 use Rattle.std.proofs.lemmas.List.Folds.{list_any-append}
 use Rattle.muen_num.proofs.Lists.{list_any-map}
 use Rattle.policy_lawful.proofs.Indexes.{same_self}
-use Rattle.policy_meaning.specs.Contents.{Held, content_bytes, initial_bytes, padded}
-use Rattle.policy_meaning.specs.Thing.{Thing, channel, component_by, device_memory, provided, provided_by, region, same_thing, things_of}
+use Rattle.policy_lawful.specs.Contents.{Held, content_bytes, initial_bytes, padded}
+use Rattle.policy_lawful.specs.Thing.{Thing, channel, component_by, device_memory, provided, provided_by, region, same_thing, things_of}
 use Rattle.policy_types.specs.declared.source.Channel.{Channel}
 use Rattle.policy_types.specs.declared.source.Component.{Component}
 use Rattle.policy_types.specs.declared.source.Content.{Content}

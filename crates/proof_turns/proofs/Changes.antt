@@ -13,8 +13,8 @@ use Rattle.muen_num.specs.ListChange.{change_at}
 use Rattle.muen_num.proofs.ChangeLaws.{element_changes}
 use Rattle.guest_isa.specs.Step.{MsrWrite, Stored}
 use Rattle.guest_isa.specs.Named.{renamed_store}
-use Rattle.state_page.specs.StatePage.{page_bytes, state_in}
-use Rattle.state_page.specs.declared.state.SubjectState.{SubjectState}
+use Rattle.subject_model.specs.StatePage.{page_bytes, state_in}
+use Rattle.subject_model.specs.SubjectState.{SubjectState}
 use Rattle.vmx_machine.specs.Machine.{with_store as with_page, with_write as with_file}
 use Rattle.vmx_machine.specs.MsrFile.{slot_of, put_at, value_in, with_msr}
 use Rattle.vmx_machine.specs.declared.control.Control.{Control}

@@ -24,8 +24,8 @@ use Rattle.policy_types.specs.declared.source.SourceWay.{SourceWay}
 use Rattle.policy_types.specs.declared.source.Subject.{Subject}
 use Rattle.record_text.specs.DeviceRecord.{NamedInput, port_input, memory_input, irq_input, dma_input}
 use Rattle.frame_clock.specs.Frames.{slot_in}
-use Rattle.state_page.specs.StatePage.{page_bytes, state_in}
-use Rattle.state_page.specs.declared.state.SubjectState.{SubjectState}
+use Rattle.subject_model.specs.StatePage.{page_bytes, state_in}
+use Rattle.subject_model.specs.SubjectState.{SubjectState}
 use Rattle.frame_clock.specs.Run.{all_taken, begun, turns, tick_ran, run_to}
 use Rattle.vmx_machine.specs.Machine.{MachineState, left, left_by, page_at, put_off_by}
 use Rattle.vmx_machine.specs.declared.control.Control.{Control}

@@ -12,8 +12,8 @@ use Rattle.policy_types.specs.declared.source.Subject.{Subject}
 use Rattle.image_pack.specs.declared.parts.SubjectPart.{SubjectPart}
 use Rattle.muen_num.specs.ListChange.{change_at}
 use Rattle.muen_num.proofs.ChangeLaws.{element_changes, changes_join}
-use Rattle.state_page.specs.StatePage.{page_bytes, state_in}
-use Rattle.state_page.specs.declared.state.SubjectState.{SubjectState}
+use Rattle.subject_model.specs.StatePage.{page_bytes, state_in}
+use Rattle.subject_model.specs.SubjectState.{SubjectState}
 use Rattle.vmx_machine.specs.Machine.{MachineState, saved, entries_in, put_on, put_off_by, left, left_by, entered, page_at}
 use Rattle.vmx_machine.specs.MsrFile.{value_in}
 use Rattle.vmx_machine.specs.declared.control.Control.{Control}

@@ -25,13 +25,13 @@ use Rattle.frame_clock.specs.Frames.{slot_in}
 use Rattle.event_router.specs.Router.{taken}
 use Rattle.guest_isa.specs.Finish.{finished, finish_of, injected}
 use Rattle.guest_isa.specs.declared.finish.Finish.{Finish}
-use Rattle.device_bench.specs.Devices.{value_of_ports}
+use Rattle.kernel_core.specs.Devices.{value_of_ports}
 use Rattle.guest_isa.specs.Named.{renamed, renamed_store}
 use Rattle.guest_isa.specs.Step.{Answer, MsrWrite, Stored, World, step}
 use Rattle.guest_isa.proofs.Alike.{step_alike}
 use Rattle.guest_isa.specs.declared.end.StepEnd.{StepEnd}
 use Rattle.guest_isa.specs.declared.end.StepEnd.TheVariants as ends
-use Rattle.state_page.specs.declared.state.SubjectState.{SubjectState}
+use Rattle.subject_model.specs.SubjectState.{SubjectState}
 use Rattle.frame_clock.specs.Run.{Turned}
 use Rattle.frame_clock.specs.Alike.{AreAlikeTurns}
 use Rattle.view_text.specs.declared.TurnLine.{TurnLine}
@@ -51,7 +51,7 @@ use Rattle.proof_turns.specs.Stands.{FitsEntered, Running, StandsFor}
 use Rattle.proof_turns.proofs.SetLaws.{same_delivered}
 use Rattle.machine_layout.proofs.PageFieldLaws.{length-le_bytes}
 use Rattle.guest_isa.proofs.StateLaws.{finished_fits, injected_fits, le_bytes_small, le_number_small}
-use Rattle.expand_grants.specs.Resources.{is_granted, msrs_of}
+use Rattle.subject_model.specs.Resources.{is_granted, msrs_of}
 use Rattle.proof_turns.proofs.AreaLaws.{value_fits}
 use Rattle.guest_isa.proofs.StepLaws.{FitsWorld, IsStored, step_fits, step_msr, step_stored}
 use Rattle.proof_turns.proofs.WorldLaws.{worlds_alike}

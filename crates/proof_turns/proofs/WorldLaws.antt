@@ -11,8 +11,8 @@ use Rattle.muen_num.specs.AccessSize.{bytes_of as count}
 use Rattle.muen_num.specs.declared.access.AccessKind.{AccessKind}
 use Rattle.muen_num.specs.declared.access.AccessSize.{AccessSize}
 use Rattle.muen_num.specs.declared.limits.TheConstants.{LAST_PORT}
-use Rattle.device_bench.specs.Devices.{value_of_ports}
-use Rattle.expand_grants.specs.Resources.{are_granted, is_granted, msrs_of, ports_of}
+use Rattle.kernel_core.specs.Devices.{value_of_ports}
+use Rattle.subject_model.specs.Resources.{are_granted, is_granted, msrs_of, ports_of}
 use Rattle.policy_meaning.specs.Thing.{Thing, same_thing}
 use Rattle.policy_meaning.specs.Windows.{Access, byte, violation, access_of, windows_of}
 use Rattle.policy_types.specs.declared.source.Subject.{Subject}

@@ -2,7 +2,7 @@
 use Rattle.std.specs.Prelude.{◌≡◌, ◌⊎◌, ℕ, ◌+◌, ◌/◌, ◌%◌, ◌<◌, ◌≤◌, true, false, Bool, List, Some, None, is_some, option_map, slice_get}
 use Rattle.std.specs.List.{All}
 use Rattle.subject_model.specs.Clock.{ticks_of_majors}
-use Rattle.expand_grants.specs.Resources.{is_granted, msrs_of}
+use Rattle.subject_model.specs.Resources.{is_granted, msrs_of}
 use Rattle.frame_clock.specs.Frames.{slot_in, ticks_of_majors as ticks_in_plan}
 use Rattle.frame_clock.specs.declared.frame_at.FrameAt.{FrameAt}
 use Rattle.image_pack.specs.declared.parts.EventPart.{EventPart}

@@ -2,7 +2,7 @@
 use Rattle.std.specs.Prelude.{◌≡◌, ℕ, ◌+◌, ◌*◌, ◌/◌, ◌%◌, ◌<◌, not, Bool, List, take, drop, Some, is_some, option_map, slice_get, unwrap_or, []}
 use Rattle.subject_model.specs.Alone.{has_trap, reach_by}
 use Rattle.subject_model.specs.System.{subject_named}
-use Rattle.expand_grants.specs.Resources.{are_granted, is_granted, msrs_of, ports_of}
+use Rattle.subject_model.specs.Resources.{are_granted, is_granted, msrs_of, ports_of}
 use Rattle.guest_isa.specs.Named.{renamed_reach}
 use Rattle.image_pack.specs.declared.parts.EventPart.{EventPart}
 use Rattle.image_pack.specs.declared.parts.SubjectPart.{SubjectPart}

@@ -10,7 +10,7 @@ use Rattle.machine_layout.specs.Memory.{Page, is_there, page_of}
 use Rattle.muen_num.specs.declared.limits.TheConstants.{LAST_PORT}
 use Rattle.policy_meaning.specs.Thing.{Thing, state}
 use Rattle.policy_types.specs.declared.source.Subject.{Subject}
-use Rattle.state_page.specs.StatePage.{state_in}
+use Rattle.subject_model.specs.StatePage.{state_in}
 use Rattle.vmx_machine.specs.Machine.{entries_in}
 use Rattle.vmx_machine.specs.MsrFile.{value_in}
 use Rattle.vmx_machine.specs.declared.control.Control.{Control}

@@ -14,10 +14,10 @@ use Rattle.muen_num.specs.declared.mode.EventMode.{EventMode}
 use Rattle.muen_num.specs.declared.mode.EventMode.TheVariants.{Asap, Async, Own as OwnMode, Switch}
 use Rattle.policy_lawful.proofs.Indexes.{same_self}
 use Rattle.policy_lawful.specs.Rules.{is_group, is_on, subject_cpu}
-use Rattle.policy_meaning.specs.Contents.{Held}
-use Rattle.policy_meaning.specs.Events.{Raised, Target, event_of, irq_of}
-use Rattle.policy_meaning.specs.Frames.{first_member, group_of}
-use Rattle.policy_meaning.specs.Thing.{Thing}
+use Rattle.policy_lawful.specs.Contents.{Held}
+use Rattle.policy_lawful.specs.Events.{Raised, Target, event_of, irq_of}
+use Rattle.policy_lawful.specs.Frames.{first_member, group_of}
+use Rattle.policy_lawful.specs.Thing.{Thing}
 use Rattle.policy_types.specs.declared.source.Group.{Group}
 use Rattle.policy_types.specs.declared.source.Source.{Source}
 use Rattle.policy_types.specs.declared.source.SourceWay.{SourceWay}
@@ -27,7 +27,7 @@ use Rattle.policy_lawful.proofs.KeptMembers.{MembersKept}
 use Rattle.proof_views.specs.Members.{AreListed, lists}
 use Rattle.proof_views.proofs.Kept.{begun_keeps, run_keeps, turn_keeps}
 use Rattle.frame_clock.specs.Run.{begun, run_to}
-use Rattle.state_page.specs.declared.state.SubjectState.{SubjectState}
+use Rattle.subject_model.specs.SubjectState.{SubjectState}
 use Rattle.subject_model.specs.Alone.{MsrValues, TurnAnswer, own_of, solo_turn}
 use Rattle.subject_model.specs.Clock.{irq_reaches, system, takes}
 use Rattle.subject_model.specs.System.{System, answered, happens, happens_as, inbox_of, pends_now, raised_by, start_of, subject_named, system_turn, took, with_active, with_own, with_store}

@@ -16,14 +16,14 @@ use Rattle.policy_lawful.proofs.KeptCpus.{cpus_kept}
 use Rattle.policy_lawful.proofs.KeptMajors.{MajorsKept, majors_kept}
 use Rattle.policy_lawful.proofs.KeptMembers.{MembersKept, members_kept}
 use Rattle.policy_lawful.specs.Lawful.{IsLawful}
-use Rattle.policy_meaning.specs.Contents.{Held}
-use Rattle.policy_meaning.specs.Frames.{frames_of}
+use Rattle.policy_lawful.specs.Contents.{Held}
+use Rattle.policy_lawful.specs.Frames.{frames_of}
 use Rattle.policy_types.specs.declared.source.Source.{Source}
 use Rattle.policy_types.specs.declared.source.Subject.{Subject}
 use Rattle.record_text.specs.DeviceRecord.{DeviceRecord}
 use Rattle.record_text.specs.Law.{NamesEachOnce}
 use Rattle.record_text.specs.Reading.{are_distinct}
-use Rattle.state_page.specs.declared.state.SubjectState.{SubjectState}
+use Rattle.subject_model.specs.SubjectState.{SubjectState}
 use Rattle.frame_clock.specs.Run.{Turned, begun, run_to, turns}
 use Rattle.view_text.specs.declared.TurnLine.{TurnLine}
 use Rattle.subject_model.specs.Alone.{Inbox, MsrValues, OwnState, TurnAnswer, own_of, solo_turn}
@@ -34,8 +34,8 @@ use Rattle.proof_views.specs.AloneRun.{after_tick, alone_in, alone_to, alone_vie
 use Rattle.muen_num.proofs.Each.{found, mapped}
 use Rattle.subject_model.proofs.StartLists.{named_map}
 use Rattle.machine_layout.proofs.ExitLaws.{any_below}
-use Rattle.expand_grants.specs.Resources.{msrs_of}
-use Rattle.state_page.specs.StatePage.{state_in}
+use Rattle.subject_model.specs.Resources.{msrs_of}
+use Rattle.subject_model.specs.StatePage.{state_in}
 use Rattle.proof_views.proofs.StatePages.{first_paged}
 use Rattle.proof_views.specs.Members.{AreListed}
 use Rattle.proof_views.proofs.ActiveMembers.{begun_listed, turn_listed}

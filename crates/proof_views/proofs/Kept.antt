@@ -3,11 +3,11 @@ use Rattle.std.proofs.Common.{◌≡◌, ℕ, zero, suc, Bool, List, [], ◌∷�
 use Rattle.std.specs.Prelude.{slice_get}
 use Rattle.frame_clock.specs.Frames.{slot_in}
 use Rattle.frame_clock.specs.Slot.{Slot}
-use Rattle.policy_meaning.specs.Frames.{frames_of}
+use Rattle.policy_lawful.specs.Frames.{frames_of}
 use Rattle.policy_types.specs.declared.source.Source.{Source}
 use Rattle.policy_types.specs.declared.source.Subject.{Subject}
 use Rattle.record_text.specs.DeviceRecord.{NamedInput}
-use Rattle.state_page.specs.declared.state.SubjectState.{SubjectState}
+use Rattle.subject_model.specs.SubjectState.{SubjectState}
 use Rattle.frame_clock.specs.Run.{Turned, all_taken, begun, run_to, tick_ran, turns}
 use Rattle.view_text.specs.declared.TurnLine.{TurnLine}
 use Rattle.proof_views.specs.Members.{HasTurn}

@@ -4,7 +4,7 @@ use Rattle.std.specs.Prelude.{option_map, slice_get}
 use Rattle.std.proofs.lemmas.Option.{slice_get-map}
 use Rattle.muen_num.proofs.NumbersBelow.{number_at}
 use Rattle.muen_num.specs.Range.{numbers_below}
-use Rattle.policy_meaning.specs.Contents.{Held}
+use Rattle.policy_lawful.specs.Contents.{Held}
 use Rattle.policy_types.specs.declared.source.Source.{Source}
 use Rattle.policy_types.specs.declared.source.Subject.{Subject}
 use Rattle.record_text.specs.DeviceRecord.{DeviceRecord}

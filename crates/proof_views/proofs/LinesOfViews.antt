@@ -12,7 +12,7 @@ use Rattle.muen_num.specs.Range.{numbers_below}
 use Rattle.policy_lawful.proofs.KeptMajors.{MajorsKept, majors_kept}
 use Rattle.policy_lawful.proofs.KeptMembers.{MembersKept, members_kept}
 use Rattle.policy_lawful.specs.Lawful.{IsLawful}
-use Rattle.policy_meaning.specs.Contents.{Held}
+use Rattle.policy_lawful.specs.Contents.{Held}
 use Rattle.policy_types.specs.declared.source.Source.{Source}
 use Rattle.policy_types.specs.declared.source.Subject.{Subject}
 use Rattle.record_text.specs.DeviceRecord.{DeviceRecord}

@@ -7,13 +7,13 @@ use Rattle.guest_isa.specs.Step.{Stored}
 use Rattle.machine_layout.specs.Memory.{over}
 use Rattle.policy_lawful.proofs.KeptMajors.{MajorsKept}
 use Rattle.policy_lawful.proofs.KeptMembers.{MembersKept}
-use Rattle.policy_meaning.specs.Events.{irq_of}
-use Rattle.policy_meaning.specs.Thing.{Thing, device_memory, same_thing, state}
+use Rattle.policy_lawful.specs.Events.{irq_of}
+use Rattle.policy_lawful.specs.Thing.{Thing, device_memory, same_thing, state}
 use Rattle.policy_types.specs.declared.source.Source.{Source}
 use Rattle.policy_types.specs.declared.source.Subject.{Subject}
 use Rattle.record_text.specs.DeviceRecord.{NamedInput, port_input, memory_input, irq_input, dma_input}
-use Rattle.state_page.specs.StatePage.{page_bytes, state_in}
-use Rattle.state_page.specs.declared.state.SubjectState.{SubjectState}
+use Rattle.subject_model.specs.StatePage.{page_bytes, state_in}
+use Rattle.subject_model.specs.SubjectState.{SubjectState}
 use Rattle.frame_clock.specs.Run.{Turned, all_taken, begun}
 use Rattle.view_text.specs.declared.TurnLine.{TurnLine}
 use Rattle.subject_model.specs.Alone.{MsrValues, OwnState, TurnAnswer, own_of, solo_turn, thing_in}

@@ -15,7 +15,7 @@ use Rattle.muen_num.specs.Frame.{Frame}
 use Rattle.muen_num.specs.Range.{numbers_below}
 use Rattle.policy_lawful.proofs.KeptMajors.{MajorsKept, first_ticks, has_frames, is_major_kept, is_named}
 use Rattle.policy_lawful.specs.Rules.{group_cpu, is_frame, is_on, ticks_in}
-use Rattle.policy_meaning.specs.Frames.{entry_frames, frame_of, frames_of, major_frames_of}
+use Rattle.policy_lawful.specs.Frames.{entry_frames, frame_of, frames_of, major_frames_of}
 use Rattle.policy_types.specs.declared.source.CpuFrames.{CpuFrames}
 use Rattle.policy_types.specs.declared.source.Group.{Group}
 use Rattle.policy_types.specs.declared.source.MajorFrame.{MajorFrame}

@@ -3,15 +3,15 @@ use Rattle.std.proofs.Common.{◌≡◌, ℕ, Bool, List, map, Option, Some, Non
 use Rattle.std.specs.Prelude.{option_map}
 use Rattle.guest_isa.specs.Step.{Stored}
 use Rattle.machine_layout.specs.Memory.{over}
-use Rattle.policy_meaning.specs.Contents.{Held, initial_bytes}
-use Rattle.policy_meaning.specs.Events.{irq_of}
-use Rattle.policy_meaning.specs.Thing.{Thing, device_memory, same_thing, state, things_of}
+use Rattle.policy_lawful.specs.Contents.{Held, initial_bytes}
+use Rattle.policy_lawful.specs.Events.{irq_of}
+use Rattle.policy_lawful.specs.Thing.{Thing, device_memory, same_thing, state, things_of}
 use Rattle.policy_types.specs.declared.source.Source.{Source}
 use Rattle.policy_types.specs.declared.source.Subject.{Subject}
 use Rattle.record_text.specs.DeviceRecord.{NamedInput, port_input, memory_input, irq_input, dma_input}
-use Rattle.state_page.specs.StatePage.{page_bytes}
-use Rattle.state_page.specs.States.{started}
-use Rattle.state_page.specs.declared.state.SubjectState.{SubjectState}
+use Rattle.subject_model.specs.StatePage.{page_bytes}
+use Rattle.subject_model.specs.States.{started}
+use Rattle.subject_model.specs.SubjectState.{SubjectState}
 use Rattle.frame_clock.specs.Run.{run_to}
 use Rattle.subject_model.specs.Alone.{MsrValues, Things, TurnAnswer, own_of, solo_turn, thing_in}
 use Rattle.subject_model.specs.Clock.{system, takes}

@@ -2,8 +2,8 @@
 use Rattle.std.proofs.Common.{◌≡◌, ℕ, List, Option, Some, None, refl}
 use Rattle.muen_num.specs.declared.mode.EventMode.{EventMode}
 use Rattle.muen_num.specs.declared.mode.EventMode.TheVariants.{Asap, Async, Own as OwnMode, Switch}
-use Rattle.policy_meaning.specs.Events.{Raised, Target, event_of}
-use Rattle.policy_meaning.specs.Frames.{group_of}
+use Rattle.policy_lawful.specs.Events.{Raised, Target, event_of}
+use Rattle.policy_lawful.specs.Frames.{group_of}
 use Rattle.policy_types.specs.declared.source.Source.{Source}
 use Rattle.policy_types.specs.declared.source.SourceWay.{SourceWay}
 use Rattle.policy_types.specs.declared.source.Subject.{Subject}

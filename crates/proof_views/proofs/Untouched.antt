@@ -10,8 +10,8 @@ use Rattle.std.proofs.lemmas.Slice.Eq.{bytes_eq-Decides}
 use Rattle.guest_isa.specs.Step.{Answer, Stored, step}
 use Rattle.guest_isa.specs.declared.reach.Reach.TheVariants.{Reached}
 use Rattle.muen_num.specs.declared.access.AccessKind.TheVariants.{Write}
-use Rattle.policy_meaning.specs.Thing.{Thing, channel, component_by, device_memory, provided, provided_by, region, same_thing, state, things_of}
-use Rattle.policy_meaning.specs.Windows.{Access, Window, access_by, access_of, byte, channel_window, component_channel_window, component_windows, device_window, entry_of, holds, monitor_window, region_window, required_window, role_rights, violation, window, windows_of}
+use Rattle.policy_lawful.specs.Thing.{Thing, channel, component_by, device_memory, provided, provided_by, region, same_thing, state, things_of}
+use Rattle.policy_lawful.specs.Windows.{Access, Window, access_by, access_of, byte, channel_window, component_channel_window, component_windows, device_window, entry_of, holds, monitor_window, region_window, required_window, role_rights, violation, window, windows_of}
 use Rattle.policy_types.specs.Rights.{allows}
 use Rattle.policy_types.specs.declared.rights.Rights.{Rights}
 use Rattle.policy_types.specs.declared.rights.Role.{Role}
@@ -31,7 +31,7 @@ use Rattle.policy_types.specs.declared.source.Region.{Region}
 use Rattle.policy_types.specs.declared.source.Required.{Required}
 use Rattle.policy_types.specs.declared.source.Source.{Source}
 use Rattle.policy_types.specs.declared.source.Subject.{Subject}
-use Rattle.state_page.specs.declared.state.SubjectState.{SubjectState}
+use Rattle.subject_model.specs.SubjectState.{SubjectState}
 use Rattle.subject_model.specs.Alone.{Inbox, Own, OwnState, alone, own_of, reach_by, solo_turn, stepped, unless_delivered, vector_for, waits}
 use Rattle.subject_model.specs.Laws.{StoresElsewhere}
 use Rattle.subject_model.specs.System.{subject_named}

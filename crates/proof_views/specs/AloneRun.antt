@@ -2,21 +2,21 @@
 use Rattle.std.specs.Prelude.{ℕ, zero, suc, ◌==◌, ◌&&◌, Bool, List, [], ◌∷◌, map, Option, Some, None, if◌then◌else◌, option_map, slice_get}
 use Rattle.std.specs.List.{list_any}
 use Rattle.std.specs.Str.{bytes_eq}
-use Rattle.expand_grants.specs.Resources.{msrs_of}
+use Rattle.subject_model.specs.Resources.{msrs_of}
 use Rattle.frame_clock.specs.Frames.{slot_in}
 use Rattle.frame_clock.specs.Slot.{Slot}
 use Rattle.muen_num.specs.Range.{numbers_below}
 use Rattle.muen_num.specs.declared.access.AccessKind.TheVariants.{Write}
-use Rattle.policy_meaning.specs.Contents.{Held}
-use Rattle.policy_meaning.specs.Frames.{frames_of}
+use Rattle.policy_lawful.specs.Contents.{Held}
+use Rattle.policy_lawful.specs.Frames.{frames_of}
 use Rattle.policy_types.specs.Rights.{allows}
 use Rattle.policy_types.specs.declared.source.Monitor.{Monitor}
 use Rattle.policy_types.specs.declared.source.Source.{Source}
 use Rattle.policy_types.specs.declared.source.Subject.{Subject}
 use Rattle.record_text.specs.DeviceRecord.{DeviceRecord}
-use Rattle.state_page.specs.StatePage.{page_bytes, state_in}
-use Rattle.state_page.specs.States.{started}
-use Rattle.state_page.specs.declared.state.SubjectState.{SubjectState}
+use Rattle.subject_model.specs.StatePage.{page_bytes, state_in}
+use Rattle.subject_model.specs.States.{started}
+use Rattle.subject_model.specs.SubjectState.{SubjectState}
 use Rattle.frame_clock.specs.Run.{run_to, tick_ran}
 use Rattle.view_text.specs.declared.TurnLine.{TurnLine}
 use Rattle.view_text.specs.declared.TurnAction.{TurnAction}

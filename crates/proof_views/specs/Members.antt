@@ -4,7 +4,7 @@ use Rattle.std.specs.List.{list_any}
 use Rattle.std.specs.Str.{bytes_eq}
 use Rattle.frame_clock.specs.Frames.{slot_in}
 use Rattle.frame_clock.specs.Slot.{Slot}
-use Rattle.policy_meaning.specs.Frames.{frames_of}
+use Rattle.policy_lawful.specs.Frames.{frames_of}
 use Rattle.policy_types.specs.declared.source.Group.{Group}
 use Rattle.policy_types.specs.declared.source.Source.{Source}
 use Rattle.policy_types.specs.declared.source.Subject.{Subject}

@@ -7,7 +7,7 @@
 ghost use Rattle.std.specs.Prelude.{◌≡◌, ℕ, suc, false, List, Some, All, IsTrue, map, option_map, slice_get};
 ghost use Rattle.std.specs.List.{filter_map};
 ghost use Rattle.policy_lawful.specs.Lawful.{IsLawful};
-ghost use Rattle.policy_meaning.specs.Contents.{Held};
+ghost use Rattle.policy_lawful.specs.Contents.{Held};
 ghost use Rattle.policy_types.specs.declared.source.Source.{Source};
 ghost use Rattle.policy_types.specs.declared.source.Subject.{Subject};
 ghost use Rattle.record_text.specs.DeviceRecord.{DeviceRecord, NamedInput};

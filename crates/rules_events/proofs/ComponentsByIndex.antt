@@ -21,7 +21,7 @@ use Rattle.policy_lawful.specs.declared.resolved.Wanted.TheVariants.{Memory as W
 use Rattle.policy_lawful.proofs.Indexes.{found_at_index}
 use Rattle.policy_lawful.proofs.SourceElements.{parts_in_range}
 use Rattle.policy_lawful.proofs.UniqueNames.{logical_unique, unique}
-use Rattle.policy_meaning.specs.Thing.{component_by}
+use Rattle.policy_lawful.specs.Thing.{component_by}
 use Rattle.policy_types.specs.declared.source.Component.{Component}
 use Rattle.policy_types.specs.declared.source.ComponentChannel.{ComponentChannel}
 use Rattle.policy_types.specs.declared.source.MapEntry.{MapEntry as NamedEntry}

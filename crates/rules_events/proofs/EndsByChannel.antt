@@ -12,7 +12,7 @@ use Rattle.policy_lawful.specs.declared.resolved.Subject.{Subject as ResolvedSub
 use Rattle.policy_lawful.proofs.Indexes.{same_name}
 use Rattle.policy_lawful.proofs.SourceElements.{parts_in_range}
 use Rattle.policy_lawful.proofs.UniqueNames.{unique}
-use Rattle.policy_meaning.specs.Events.{ChannelEnd, channel_ends}
+use Rattle.policy_lawful.specs.Events.{ChannelEnd, channel_ends}
 use Rattle.policy_views.specs.Views.{channel_end_named, channel_ends_of}
 use Rattle.policy_views.specs.declared.view.ChannelEnd.{ChannelEnd}
 use Rattle.policy_views.proofs.EndsByIndex.{ends_by_index, ends_in_range}

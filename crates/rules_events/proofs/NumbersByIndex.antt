@@ -23,7 +23,7 @@ use Rattle.policy_lawful.specs.declared.resolved.Subject.{Subject as ResolvedSub
 use Rattle.policy_lawful.proofs.Indexes.{found_at_index}
 use Rattle.policy_lawful.proofs.SourceElements.{parts_in_range}
 use Rattle.policy_lawful.proofs.UniqueNames.{unique}
-use Rattle.policy_meaning.specs.Events.{channel_ends}
+use Rattle.policy_lawful.specs.Events.{channel_ends}
 use Rattle.policy_types.specs.declared.source.EventSource.{EventSource}
 use Rattle.policy_types.specs.declared.source.EventTarget.{EventTarget}
 use Rattle.policy_views.specs.Views.{channel_end_named, channel_ends_of}

@@ -14,7 +14,7 @@ use Rattle.muen_num.specs.Search.{first_in, unless}
 use Rattle.muen_num.specs.declared.limits.TheConstants.{KERNEL_REGIONS, MOST_BLOCK_BYTES, MOST_BLOCKS, MOST_CHANNELS, MOST_COMPONENTS, MOST_DEVICE_BYTES, MOST_DEVICE_WINDOWS, MOST_DEVICES, MOST_EVENTS, MOST_LOGICAL_NAMES, MOST_REGIONS, MOST_SUBJECTS}
 use Rattle.policy_lawful.specs.Offences.{alone}
 use Rattle.policy_lawful.specs.Rules.{at_most, device_limit, logical_names, offence_20, regions_for, subject_limit}
-use Rattle.policy_meaning.specs.Thing.{component_by}
+use Rattle.policy_lawful.specs.Thing.{component_by}
 use Rattle.policy_types.specs.declared.source.Component.{Component}
 use Rattle.policy_types.specs.declared.source.Device.{Device}
 use Rattle.policy_types.specs.declared.source.DeviceMemory.{DeviceMemory}

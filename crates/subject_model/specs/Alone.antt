@@ -15,9 +15,9 @@ use Rattle.muen_num.specs.Access.{kind_bit}
 use Rattle.muen_num.specs.Range.{numbers_below}
 use Rattle.muen_num.specs.declared.access.AccessKind.{AccessKind}
 use Rattle.muen_num.specs.declared.limits.TheConstants.{EXIT_EPT_VIOLATION, EXIT_HLT, EXIT_VMCALL}
-use Rattle.policy_meaning.specs.Events.{traps_of}
-use Rattle.policy_meaning.specs.Thing.{Thing, same_thing}
-use Rattle.policy_meaning.specs.Windows.{Window, Access, byte, violation, access_of, windows_of}
+use Rattle.policy_lawful.specs.Events.{traps_of}
+use Rattle.policy_lawful.specs.Thing.{Thing, same_thing}
+use Rattle.policy_lawful.specs.Windows.{Window, Access, byte, violation, access_of, windows_of}
 use Rattle.policy_types.specs.declared.source.Source.{Source}
 use Rattle.policy_types.specs.declared.source.SourceWay.{SourceWay}
 use Rattle.policy_types.specs.declared.source.SourceWay.TheVariants.{Call, Trap}

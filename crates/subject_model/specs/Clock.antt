@@ -4,10 +4,10 @@ use Rattle.std.specs.List.{find, sum_by}
 use Rattle.std.specs.Option.{option_map_or}
 use Rattle.frame_clock.specs.Frames.{frame_at_tick}
 use Rattle.muen_num.specs.Range.{numbers_below}
-use Rattle.policy_meaning.specs.Contents.{Held}
-use Rattle.policy_meaning.specs.Events.{Target, irq_of}
-use Rattle.policy_meaning.specs.Frames.{frames_of}
-use Rattle.policy_meaning.specs.Thing.{region, device_memory}
+use Rattle.policy_lawful.specs.Contents.{Held}
+use Rattle.policy_lawful.specs.Events.{Target, irq_of}
+use Rattle.policy_lawful.specs.Frames.{frames_of}
+use Rattle.policy_lawful.specs.Thing.{region, device_memory}
 use Rattle.policy_types.specs.declared.source.Source.{Source}
 use Rattle.policy_types.specs.declared.source.Tau0.{Tau0}
 use Rattle.record_text.specs.DeviceRecord.{DeviceRecord, NamedInput, port_input, memory_input, irq_input, dma_input}

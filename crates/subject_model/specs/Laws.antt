@@ -6,8 +6,8 @@ use Rattle.frame_clock.specs.declared.frame_at.FrameAt.{FrameAt}
 use Rattle.guest_isa.specs.Step.{Stored}
 use Rattle.frame_clock.specs.Slot.{Slot}
 use Rattle.muen_num.specs.Frame.{Frame}
-use Rattle.policy_meaning.specs.Frames.{frames_of}
-use Rattle.policy_meaning.specs.Thing.{Thing, state}
+use Rattle.policy_lawful.specs.Frames.{frames_of}
+use Rattle.policy_lawful.specs.Thing.{Thing, state}
 use Rattle.policy_types.specs.declared.source.Source.{Source}
 use Rattle.policy_types.specs.declared.source.Subject.{Subject}
 use Rattle.state_page.specs.StatePage.{page_bytes}

@@ -1,3 +1,13 @@
+pub use Rattle.machine_layout.specs.Memory
+pub use Rattle.machine_layout.specs.Pending
+pub use Rattle.record_text.specs.DeviceRecord
+pub use Rattle.record_text.specs.Reading
+pub use Rattle.expand_grants.specs.Resources
+pub use Rattle.view_text.specs.ViewText
+pub use Rattle.view_text.specs.declared.TurnLine
+pub use Rattle.state_page.specs.StatePage
+pub use Rattle.state_page.specs.States
+pub use Rattle.state_page.specs.declared.state.SubjectState
 pub mod ByKey
 pub mod Alone
 pub mod System

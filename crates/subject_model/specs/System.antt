@@ -15,11 +15,11 @@ use Rattle.machine_layout.specs.Pending.{without, with_vector}
 use Rattle.muen_num.specs.declared.limits.TheConstants.{LAST_PORT}
 use Rattle.muen_num.specs.declared.mode.EventMode.{EventMode}
 use Rattle.muen_num.specs.declared.mode.EventMode.TheVariants.{Asap, Async, Own as OwnMode, Switch}
-use Rattle.policy_meaning.specs.Contents.{Held, initial_bytes}
-use Rattle.policy_meaning.specs.Events.{Raised, Target, event_of}
-use Rattle.policy_meaning.specs.Frames.{first_member, frames_of, group_of}
-use Rattle.policy_meaning.specs.Thing.{Thing, state, same_thing, things_of}
-use Rattle.policy_meaning.specs.Windows.{Window, windows_of}
+use Rattle.policy_lawful.specs.Contents.{Held, initial_bytes}
+use Rattle.policy_lawful.specs.Events.{Raised, Target, event_of}
+use Rattle.policy_lawful.specs.Frames.{first_member, frames_of, group_of}
+use Rattle.policy_lawful.specs.Thing.{Thing, state, same_thing, things_of}
+use Rattle.policy_lawful.specs.Windows.{Window, windows_of}
 use Rattle.policy_types.specs.declared.source.Source.{Source}
 use Rattle.policy_types.specs.declared.source.SourceWay.{SourceWay}
 use Rattle.policy_types.specs.declared.source.Subject.{Subject}

@@ -1,6 +1,6 @@
 use Rattle.std.proofs.Common.{◌∙◌, ◌+◌, ap, subst}
 use Rattle.sha2.specs.Hashers.{Holds256}
-use Rattle.vmx_machine.specs.Machine.{page_at}
+use Rattle.kernel_core.specs.Machine.{page_at}
 use Rattle.muen_run.specs.RunText.{bytes_from}
 use Rattle.muen_run.proofs.Numbered.{one_page}
 use Rattle.muen_run.proofs.digests.digest_of.Goals as goal
