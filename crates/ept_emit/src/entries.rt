@@ -3,8 +3,8 @@ ghost use Rattle.std.specs.Prelude.{◌≡◌, ◌≢◌, ℕ, ◌+◌, ◌*◌,
 ghost use Rattle.ept_emit.specs.Entries.{IsEmittable, is_whole, leaf_entry, level_of, table_entry, type_of, word_at};
 ghost use Rattle.machine_layout.specs.Walks.{entry_size};
 
-use bitflags::Flags;
 use crate::{Leaf, Window};
+use bitflags::Flags;
 use muen_num::limits::{LARGE_PAGE, PAGE};
 use policy_types::Caching;
 

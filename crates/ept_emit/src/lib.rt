@@ -3,12 +3,12 @@
 //! windows take is counted from these alone.
 #![tactic(auto)]
 
+mod count;
 mod entries;
 mod search;
 mod tables;
-mod count;
 mod window;
 
-pub use tables::{emit, eptp};
 pub use count::pages;
+pub use tables::{emit, eptp};
 pub use window::{Leaf, Window};

@@ -5,8 +5,8 @@ ghost use Rattle.ept_emit.specs.Entries.{IsEmittable, window_on};
 ghost use Rattle.ept_emit.specs.Searches.{IsPast};
 ghost use Rattle.machine_layout.specs.Walks.{entry_size};
 
-use crate::entries::entry_size;
 use crate::Window;
+use crate::entries::entry_size;
 
 // How many windows end by this address.
 fn windows_before(windows: &[Window], address: u64) -> usize

@@ -9,9 +9,9 @@ ghost use Rattle.machine_layout.specs.Memory.{Page};
 ghost use Rattle.machine_layout.specs.Walks.{leaf_size, addresses_read, entry_size, walk_of};
 ghost use Rattle.muen_num.specs.declared.access.AccessKind.{AccessKind};
 
+use crate::Window;
 use crate::entries::{TABLE_ENTRIES, is_whole, leaf_entry, set_word, table_entry};
 use crate::search::window_on;
-use crate::Window;
 use muen_num::limits::PAGE;
 
 /// The level of the PML4 table.

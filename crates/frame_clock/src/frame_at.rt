@@ -4,8 +4,7 @@ ghost use Rattle.frame_clock.specs.Plan.{frames_in};
 ghost use Rattle.frame_clock.specs.FrameSlot.{slot_of};
 ghost use Rattle.frame_clock.specs.Frames.{next_major, frame_at_tick, slot_in, ticks_of_majors, first_frame};
 
-use crate::{FrameSlot, in_frames};
-use crate::{Major, Minor, Plan};
+use crate::{FrameSlot, Major, Minor, Plan, in_frames};
 use muen_num::Seq;
 
 /// A major frame that runs, and since when.

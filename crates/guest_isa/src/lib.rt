@@ -6,17 +6,17 @@
 #![tactic(auto)]
 
 mod effect;
-mod instr;
-mod spelling;
 mod end;
 mod finish;
+mod instr;
 mod reach;
+mod spelling;
 mod step_laws;
 
 pub use effect::{ask, with_register};
-pub use instr::{Asked, Instr, Wish};
-pub use spelling::{decode, encode};
 pub use end::StepEnd;
 pub use finish::{Finish, inject};
+pub use instr::{Asked, Instr, Wish};
 pub use reach::Reach;
+pub use spelling::{decode, encode};
 pub use step_laws::alike_worlds_step_alike;

@@ -12,9 +12,9 @@ mod parts;
 mod reading;
 mod writing;
 
-pub use image::{Parts, conditions, first_fault, one_to_one, pack, unpack};
 pub use binary_form::{Field, ImageFault};
 pub use frame_clock::{GroupPart, Major, Minor, Plan};
+pub use image::{Parts, conditions, first_fault, one_to_one, pack, unpack};
 pub use items::{Item, items_of, put_items};
 pub use outline::{Header, Outline};
 pub use parts::{

@@ -3,8 +3,8 @@ ghost use Rattle.std.specs.Prelude.{◌≡◌, ℕ, ◌+◌, ◌-◌, ◌<◌, m
 ghost use Rattle.machine_layout.specs.Exits.{is_set, port_exits};
 ghost use Rattle.iobm_emit.specs.Ports.{is_granted, is_granted_access};
 
-use muen_num::limits::PAGE;
 use machine_layout::{clear_bits, set_all};
+use muen_num::limits::PAGE;
 use policy_types::PortRange;
 
 /// How many ports a bitmap covers, and the first port of bitmap B (Intel SDM volume 3, I/O-bitmap

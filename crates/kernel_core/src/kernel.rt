@@ -20,9 +20,9 @@ use image_pack::{EventPart, SubjectPart};
 use muen_num::{Name, NoMemory};
 use phys_mem::PhysMem;
 use record_text::Record;
+use state_page::SubjectState;
 use std::alloc::Global;
 use std::marker::Model;
-use state_page::SubjectState;
 use view_text::{TurnAction, TurnLine};
 use vmx_machine::{Control, Machine};
 

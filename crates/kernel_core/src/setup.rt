@@ -1,6 +1,6 @@
 //! What a kernel is told of its system.
-use image_pack::SubjectPart;
 use frame_clock::Plan;
+use image_pack::SubjectPart;
 use muen_num::Seq;
 use vmx_machine::Control;
 

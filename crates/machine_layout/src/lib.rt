@@ -4,18 +4,18 @@
 #![tactic(auto)]
 
 mod bit_fields;
+mod bitmaps;
 mod exits;
 mod laws;
-mod walk;
-mod bitmaps;
 mod page_fields;
+mod walk;
 
 pub use bit_fields::{bits, with_bits};
+pub use bitmaps::{clear_bits, set_all};
 pub use exits::{msr_exits, port_exits};
 pub use laws::{
     areas_are_read_back, changes_elsewhere_change_no_walk, pages_change_alone,
     stores_change_their_bytes, walks_depend_on_their_entries,
 };
-pub use walk::Walk;
-pub use bitmaps::{clear_bits, set_all};
 pub use page_fields::{clear_all, put_bytes, put_word, word_at};
+pub use walk::Walk;

@@ -4,8 +4,8 @@ ghost use Rattle.machine_layout.specs.Exits.{area_bytes, entry_bytes, entry_size
 ghost use Rattle.machine_layout.specs.PageFields.{padded};
 ghost use Rattle.msrbm_emit.specs.Area.{area_of, count_of, entries_of, entry_of, size_of};
 
-use muen_num::limits::{MOST_MSRS, PAGE};
 use machine_layout::{clear_all, put_word};
+use muen_num::limits::{MOST_MSRS, PAGE};
 use policy_types::MsrGrant;
 
 /// The bytes of an entry (Intel SDM volume 3, format of an MSR entry).

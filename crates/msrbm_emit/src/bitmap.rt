@@ -4,8 +4,8 @@ ghost use Rattle.std.specs.List.{list_all};
 ghost use Rattle.machine_layout.specs.Exits.{low_part, high_part, msr_bit, msr_exits};
 ghost use Rattle.msrbm_emit.specs.Msrs.{allows, has_msr, is_covered, is_granted, IsMsr};
 
-use muen_num::limits::{HIGH_MSR_FIRST, HIGH_MSR_LAST, LOW_MSR_LAST, PAGE};
 use machine_layout::{clear_bits, set_all};
+use muen_num::limits::{HIGH_MSR_FIRST, HIGH_MSR_LAST, LOW_MSR_LAST, PAGE};
 use policy_types::MsrGrant;
 
 /// The byte at which the bits for reads of the low MSRs begin (Intel SDM volume 3, MSR-bitmap

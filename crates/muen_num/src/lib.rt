@@ -5,6 +5,7 @@
 
 pub mod access;
 pub mod limits;
+pub mod list_change;
 pub mod mode;
 pub mod name;
 pub mod pieces;
@@ -12,13 +13,12 @@ pub mod searches;
 pub mod seq;
 pub mod tag;
 pub mod text;
-pub mod list_change;
 
 pub use access::{AccessKind, AccessSize};
+pub use list_change::a_change_is_found;
 pub use mode::EventMode;
 pub use name::Name;
 pub use pieces::Pieces;
 pub use searches::{first, first_numbered, first_pair};
 pub use seq::{NoMemory, Seq};
 pub use tag::{Tag, TagPart};
-pub use list_change::a_change_is_found;

@@ -9,10 +9,10 @@ ghost use Rattle.policy_rules.specs.Windows.{device_extent, device_extents, outs
 
 use crate::windows::extents;
 use muen_num::NoMemory;
-use rules_extents::first_overlap;
 use policy_lawful::resolved::{Resolved, Subject};
 use policy_lawful::{Extent, Offence};
 use policy_types::source::{Block, Device, DeviceMemory};
+use rules_extents::first_overlap;
 use std::alloc::{AllocError, Global};
 
 // A block as a named range of physical memory.

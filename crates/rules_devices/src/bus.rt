@@ -8,9 +8,9 @@ ghost use Rattle.rules_devices.specs.Domains.{bus_extent, bus_offence};
 
 use muen_num::limits::{BDF_DEVICES, BDF_FUNCTIONS};
 use muen_num::{NoMemory, first};
-use rules_extents::first_overlap;
 use policy_lawful::{Extent, Offence};
 use policy_types::source::{Bdf, Device};
+use rules_extents::first_overlap;
 use std::alloc::{AllocError, Global};
 
 // Whether there are such a device and function number on a bus.

@@ -12,10 +12,10 @@ ghost use Rattle.rules_devices.specs.Windows.{undeclared_in, unaligned_in, outsi
 use crate::declared::Regions;
 use muen_num::limits::{GUEST_END, PAGE};
 use muen_num::{Name, NoMemory, first};
-use rules_extents::first_overlap;
 use policy_lawful::{Extent, Offence, Resolved};
 use policy_types::Rights;
 use policy_types::source::{Domain, Mapping};
+use rules_extents::first_overlap;
 use std::alloc::{AllocError, Global};
 
 // A domain and the region of one of its windows.

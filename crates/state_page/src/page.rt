@@ -4,9 +4,9 @@ ghost use Rattle.machine_layout.specs.Memory.{le_bytes};
 ghost use Rattle.machine_layout.specs.PageFields.{padded};
 ghost use Rattle.state_page.specs.StatePage.{flag, flags_of, has_flag, page_bytes, registers_in, state_in};
 
-use muen_num::limits::PAGE;
-use machine_layout::{clear_all, put_bytes, put_word, word_at};
 use crate::SubjectState;
+use machine_layout::{clear_all, put_bytes, put_word, word_at};
+use muen_num::limits::PAGE;
 
 /// How many registers a subject has; they begin at byte 0.
 const REGISTERS: usize = 16;

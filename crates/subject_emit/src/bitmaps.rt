@@ -12,8 +12,8 @@ ghost use Rattle.state_page.specs.States.{started};
 use muen_num::limits::{MOST_MSRS, PAGE};
 use muen_num::{NoMemory, Seq};
 use policy_types::{MsrGrant, PortRange};
-use std::alloc::{AllocError, Global};
 use state_page::SubjectState;
+use std::alloc::{AllocError, Global};
 
 fn blank_page(alloc: Global) -> Result<Vec<u8>, AllocError>
     ensures { IfOk result (λ page. length page.items ≡ PAGE) }

@@ -7,8 +7,7 @@ ghost use Rattle.subject_emit.specs.Shows.{HasAddresses};
 
 use crate::mapped::mapped_windows;
 use crate::numbers::kernel_first;
-use ept_emit::pages;
-use ept_emit::emit;
+use ept_emit::{emit, pages};
 use expand_grants::Grants;
 use muen_num::limits::PAGE;
 use muen_num::{NoMemory, Seq};

@@ -2,8 +2,8 @@
 ghost use Rattle.std.specs.Prelude.{◌≡◌};
 
 use muen_num::Name;
-use rules_extents::{first_fault, first_overlap};
 use policy_lawful::{Extent, Offence};
+use rules_extents::{first_fault, first_overlap};
 use std::test::Fail;
 
 // The name of one letter.

@@ -1,6 +1,5 @@
 //! Two CPUs over three rounds of a plan, against slots that were worked out by hand.
-use frame_clock::{FrameAt, FrameSlot, advance, slot};
-use frame_clock::{GroupPart, Major, Minor, Plan};
+use frame_clock::{FrameAt, FrameSlot, GroupPart, Major, Minor, Plan, advance, slot};
 use muen_num::Seq;
 use std::alloc::{AllocError, Global};
 use std::test::Fail;

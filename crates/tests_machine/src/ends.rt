@@ -1,7 +1,7 @@
 //! What the kernel makes of exits and events.
 use guest_isa::{Finish, inject};
-use std::test::Fail;
 use state_page::SubjectState;
+use std::test::Fail;
 
 #[test]
 fn after_each_exit(rt: HostRuntime) -> Result<(), Fail> {

@@ -1,7 +1,7 @@
 //! Three subjects in two groups.
 use event_router::Router;
-use image_pack::{EventPart, SubjectPart};
 use frame_clock::GroupPart;
+use image_pack::{EventPart, SubjectPart};
 use muen_num::{EventMode, Name, Seq};
 use std::alloc::Global;
 use std::test::Fail;

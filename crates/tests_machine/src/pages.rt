@@ -1,7 +1,6 @@
 //! The page of a state, byte by byte.
-use state_page::{read, write};
+use state_page::{SubjectState, read, write};
 use std::test::Fail;
-use state_page::SubjectState;
 
 #[test]
 fn bytes_of_a_state(rt: HostRuntime) -> Result<(), Fail> {

@@ -5,8 +5,7 @@ ghost use Rattle.ept_emit.specs.Entries.{IsEmittable, level_of};
 ghost use Rattle.machine_layout.specs.Walks.{entry_size};
 
 use bitflags::Flags;
-use ept_emit::{Leaf, Window, pages};
-use ept_emit::{emit, eptp};
+use ept_emit::{Leaf, Window, emit, eptp, pages};
 use muen_num::limits::{GUEST_END, LARGE_PAGE, PAGE, PHYSICAL_END};
 use policy_types::{Caching, Rights};
 use std::alloc::{AllocError, Global};

@@ -7,8 +7,7 @@ ghost use Rattle.vmx_machine.specs.Within.{LeadsWithin};
 
 use crate::pages::{number_in, put};
 use ept_walk::Translate;
-use guest_isa::{Asked, with_register};
-use guest_isa::{Reach, StepEnd};
+use guest_isa::{Asked, Reach, StepEnd, with_register};
 use muen_num::AccessSize;
 use muen_num::limits::{EXIT_IO, EXIT_RDMSR, PAGE};
 use phys_mem::PhysMem;

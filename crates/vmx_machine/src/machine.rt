@@ -15,9 +15,9 @@ use ept_walk::Translate;
 use guest_isa::{Finish, StepEnd, inject};
 use muen_num::NoMemory;
 use phys_mem::PhysMem;
+use state_page::SubjectState;
 use std::alloc::Global;
 use std::marker::Model;
-use state_page::SubjectState;
 
 // So many CPUs on which nobody is.
 fn fresh_cpus(alloc: Global, count: u8) -> Result<Vec<Cpu>, NoMemory>
