@@ -1,8 +1,9 @@
-//! Which frame a CPU has at a tick.
+//! The scheduling plan by numbers, which frame a CPU has at a tick, and what a run over ticks is.
 //!
-//! The definitions lay a plan's frames out tick by tick; the code counts ticks instead. The major
-//! frame that runs, with its first tick (`FrameAt`), goes on from tick to tick (`advance`), and tells
-//! each CPU's slot (`slot`).
+//! The definitions lay a plan's frames out tick by tick; the code counts ticks instead. Which major
+//! frame runs goes on from tick to tick (`FrameAt`, `advance`), and tells each CPU's slot (`slot`). A
+//! run over ticks (`Run` in specs/) is defined whatever its system is, with a law in proofs/
+//! (`AlikeRuns`): systems that are alike, and take alike inputs and orders in each tick, run alike.
 #![tactic(auto)]
 
 mod frame_at;
