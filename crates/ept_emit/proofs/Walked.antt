@@ -35,7 +35,7 @@ level_low Huge = omega arith
 pub record Fits (w : Window) (l e : ℕ) : Type 0 where
   pub allowed : l ≤ level_of w.leaf
   pub begins : w.guest ≤ entry_size l * e
-  pub leaf_end : entry_size l * e + entry_size l ≤ w.guest + w.size
+  pub ends : entry_size l * e + entry_size l ≤ w.guest + w.size
 
 -- the page of an entry, also at the lowest level
 fits_at : (w : Window) (l e : ℕ) → IsEmittable w → w.guest < entry_size l * e + entry_size l → entry_size l * e < w.guest + w.size → is_whole w l e ≡ true → Fits w l e
@@ -43,14 +43,14 @@ fits_at w zero e ok a b h =
     record {
       allowed = omega arith;
       begins = omega (arith, ok.guest);
-      leaf_end = omega (arith, ok.guest, ok.size);
+      ends = omega (arith, ok.guest, ok.size);
     }
 fits_at w (suc l) e ok a b h =
     let p = whole_parts w (suc l) e (λ z. omega arith) h in
     record {
       allowed = p.0;
       begins = p.1;
-      leaf_end = p.2;
+      ends = p.2;
     }
 
 pub fits : (ws : List Window) (l e : ℕ) (w : Window) → All IsEmittable ws → window_on ws (entry_size l * e) (entry_size l) ≡ Some w → is_whole w l e ≡ true → Fits w l e
@@ -216,7 +216,7 @@ module _ (entry : ℕ → ℕ → Option ℕ) (out : ℕ → ℕ) (base lo hi : 
       let fine = All_at IsEmittable ws addr t ok held in
       let inside : IsInside t 0 addr = record {
         begins = omega (arith, fine.guest, p.0);
-        leaf_end = omega (arith, fine.guest, fine.size, p.1);
+        ends = omega (arith, fine.guest, fine.size, p.1);
       } in
       record {
         level = 0;
@@ -251,7 +251,7 @@ module _ (entry : ℕ → ℕ → Option ℕ) (out : ℕ → ℕ) (base lo hi : 
               allowed = ft.allowed;
               inside = record {
                 begins = ft.begins;
-                leaf_end = ft.ends;
+                ends = ft.ends;
               };
               greatest = up;
             }

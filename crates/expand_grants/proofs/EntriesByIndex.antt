@@ -19,7 +19,7 @@ use Rattle.policy_types.specs.declared.source.EventSource.{EventSource as NamedS
 use Rattle.policy_types.specs.declared.source.SourceWay.{SourceWay}
 use Rattle.policy_types.specs.declared.source.SourceWay.TheVariants.{Call as SourceCall, Trap as SourceTrap}
 use Rattle.policy_views.specs.Views.{channel_end_named, channel_ends_of}
-use Rattle.policy_views.specs.declared.view.ChannelEnd.{ChannelEnd}
+use Rattle.policy_views.specs.declared.view.IndexedEnd.{IndexedEnd}
 use Rattle.policy_views.proofs.EndsByIndex.{ends_by_index, ends_in_range}
 use Rattle.expand_grants.specs.Grants.{entry_raised, is_way, raised_named}
 use Rattle.expand_grants.specs.Raising.{all_readers, all_targets, call_entry, channel_end_entry, entries_of, entry, first_reached, source_entry, way_of, writer_call}
@@ -82,10 +82,10 @@ module _ (way : SourceWay) where
 
     -- ---- ends of channels
 
-    abbrev raises : ChannelEnd → Bool
+    abbrev raises : IndexedEnd → Bool
     raises e = option_map_or (λ n. is_some (call_entry r.channels (all_readers r) e.channel n)) (writer_call e e.role) true
 
-    called_way : (e : ChannelEnd) (n : ℕ) (b : Bool) → is_way way (Call n) ≡ b → (o : Option EventEntry) → ((x : EventEntry) → o ≡ Some x → x.way ≡ Call n) → option_map_or of_way o b ≡ b
+    called_way : (e : IndexedEnd) (n : ℕ) (b : Bool) → is_way way (Call n) ≡ b → (o : Option EventEntry) → ((x : EventEntry) → o ≡ Some x → x.way ≡ Call n) → option_map_or of_way o b ≡ b
     called_way e n b same None is = refl
     called_way e n b same (Some x) is = ap (is_way way) (is x refl) ∙ same
 
@@ -104,13 +104,13 @@ module _ (way : SourceWay) where
         by_mode None h = absurd (cc)
         by_mode (Some m) h = by_reader m (first_reached (all_readers r) channel) h
 
-    channel_end_way : (e : ChannelEnd) (role : Role) (call : Option ℕ) → (b : Bool) → b ≡ writes_by (record { channel = name_at (channel_names r) e.channel; role = role; call = call; vector = e.vector }) role way
+    channel_end_way : (e : IndexedEnd) (role : Role) (call : Option ℕ) → (b : Bool) → b ≡ writes_by (record { channel = name_at (channel_names r) e.channel; role = role; call = call; vector = e.vector }) role way
         → option_map_or of_way (option_and_then (call_entry r.channels (all_readers r) e.channel) (writer_call (record { channel = e.channel; role = role; call = call; vector = e.vector }) role)) b ≡ b
     channel_end_way e Reader call b is = refl
     channel_end_way e Writer None b is = refl
     channel_end_way e Writer (Some n) b is = called_way e n b (call_same way n ∙ sym is) (call_entry r.channels (all_readers r) e.channel n) (λ x h. entry_called e.channel n x h)
 
-    channel_end_some : (e : ChannelEnd) (role : Role) (call : Option ℕ)
+    channel_end_some : (e : IndexedEnd) (role : Role) (call : Option ℕ)
         → option_map_or (λ n. is_some (call_entry r.channels (all_readers r) e.channel n)) (writer_call (record { channel = e.channel; role = role; call = call; vector = e.vector }) role) true ≡ true
         → writes_by (record { channel = name_at (channel_names r) e.channel; role = role; call = call; vector = e.vector }) role way ≡ true
         → is_some (option_and_then (call_entry r.channels (all_readers r) e.channel) (writer_call (record { channel = e.channel; role = role; call = call; vector = e.vector }) role)) ≡ true
@@ -122,7 +122,7 @@ module _ (way : SourceWay) where
         no (SourceTrap m) h = cc
     channel_end_some e Writer (Some n) h hit = h
 
-    channel_end_is : (e : ChannelEnd) (role : Role) (call : Option ℕ) → e.channel < length r.channels
+    channel_end_is : (e : IndexedEnd) (role : Role) (call : Option ℕ) → e.channel < length r.channels
         → writes_by (record { channel = name_at (channel_names r) e.channel; role = role; call = call; vector = e.vector }) role way ≡ true
         → channel_event (source_of r) (name_at (channel_names r) e.channel)
         ≡ option_map (raised_named r) (option_and_then (call_entry r.channels (all_readers r) e.channel) (writer_call (record { channel = e.channel; role = role; call = call; vector = e.vector }) role))
@@ -134,7 +134,7 @@ module _ (way : SourceWay) where
         no (SourceTrap m) h = cc
     channel_end_is e Writer (Some n) l hit = channel_by_index r q e.channel l n
 
-    abbrev is_met : ChannelEnd → Bool
+    abbrev is_met : IndexedEnd → Bool
     is_met e = nat_lt e.channel (length r.channels) && raises e
 
     channel_end_found : list_all is_met (channel_ends_of r s) ≡ true
@@ -154,7 +154,7 @@ module _ (way : SourceWay) where
 channel_ends_met : (r : Resolution) (k : ℕ) (s : Subject) → IsResolved r → offence_6 (source_of r) ≡ None → slice_get r.subjects k ≡ Some s → subject_in_range r s ≡ true
     → list_all (λ e. nat_lt e.channel (length r.channels) && option_map_or (λ n. is_some (call_entry r.channels (all_readers r) e.channel n)) (writer_call e e.role) true) (channel_ends_of r s) ≡ true
 channel_ends_met r k s q lawful at in_range =
-    all_at (λ (e : ChannelEnd). nat_lt e.channel (length r.channels) && option_map_or (λ n. is_some (call_entry r.channels (all_readers r) e.channel n)) (writer_call e e.role) true) (channel_ends_of r s)
+    all_at (λ (e : IndexedEnd). nat_lt e.channel (length r.channels) && option_map_or (λ n. is_some (call_entry r.channels (all_readers r) e.channel n)) (writer_call e e.role) true) (channel_ends_of r s)
     (λ i e in_it.
     let ok = passes_at (λ e. nat_lt e.channel (length r.channels)) (channel_ends_of r s) i e (ends_in_range r s in_range) in_it in
     and_from (nat_lt e.channel (length r.channels)) (option_map_or (λ n. is_some (call_entry r.channels (all_readers r) e.channel n)) (writer_call e e.role) true) ok

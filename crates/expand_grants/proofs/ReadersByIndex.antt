@@ -23,7 +23,7 @@ use Rattle.policy_types.specs.declared.rights.Role.TheVariants.{Reader, Writer}
 use Rattle.policy_types.specs.declared.source.Channel.{Channel}
 use Rattle.policy_types.specs.declared.source.Subject.{Subject as NamedSubject}
 use Rattle.policy_views.specs.Views.{channel_end_named, channel_ends_of}
-use Rattle.policy_views.specs.declared.view.ChannelEnd.{ChannelEnd}
+use Rattle.policy_views.specs.declared.view.IndexedEnd.{IndexedEnd}
 use Rattle.policy_views.proofs.EndsByIndex.{ends_by_index, ends_in_range}
 use Rattle.policy_views.proofs.WindowsByIndex.{name_there}
 use Rattle.expand_grants.specs.Grants.{raised_named}
@@ -57,12 +57,12 @@ module _ (r : Resolution) (q : IsResolved r) (k : ℕ) (within : k < length r.ch
       same_name (channel_names r) j k (unique (source_of r) q.names).channels (omega (arith, many, here)) (omega (arith, many, within))
 
   -- an end of this role
-  reads_same : (index : ℕ) (e : ChannelEnd) (role : Role) → nat_lt e.channel (length r.channels) ≡ true
+  reads_same : (index : ℕ) (e : IndexedEnd) (role : Role) → nat_lt e.channel (length r.channels) ≡ true
       → reads_from (channel_end_named r e) role (name_at (channel_names r) k) ≡ option_map_or (λ (x : Reached). x.by == k) (reader_reached index e role) false
   reads_same index e Writer ok = refl
   reads_same index e Reader ok = same_channel e.channel ok
 
-  out_same : (index : ℕ) (name : List ℕ) → name_at (map (λ s. s.name) r.subjects) index ≡ name → (e : ChannelEnd) (role : Role) (x : Reached) → reader_reached index e role ≡ Some x
+  out_same : (index : ℕ) (name : List ℕ) → name_at (map (λ s. s.name) r.subjects) index ≡ name → (e : IndexedEnd) (role : Role) (x : Reached) → reader_reached index e role ≡ Some x
       → record { subject = name; vector = e.vector } ≡ reaches r x
   out_same index name at e Writer x is = absurd (cc)
   out_same index name at e Reader x is =
@@ -132,7 +132,7 @@ module _ (r : Resolution) (q : IsResolved r) (k : ℕ) (within : k < length r.ch
 
   -- what is told of each writer of the channel is told of an end that writes it
   pub writer_tells : (t : List ℕ × ChannelEnd → Bool) → list_all t (writers_of (source_of r) (name_at (channel_names r) k)) ≡ true
-      → (j i : ℕ) (s : Subject) (e : ChannelEnd) → slice_get r.subjects j ≡ Some s → subject_in_range r s ≡ true → slice_get (channel_ends_of r s) i ≡ Some e → e.channel ≡ k
+      → (j i : ℕ) (s : Subject) (e : IndexedEnd) → slice_get r.subjects j ≡ Some s → subject_in_range r s ≡ true → slice_get (channel_ends_of r s) i ≡ Some e → e.channel ≡ k
       → (not (is_writer e.role) || t (s.name, channel_end_named r e)) ≡ true
   unfolding source_of
   writer_tells t all j i s e at h in_it here =
@@ -155,7 +155,7 @@ module _ (r : Resolution) (q : IsResolved r) (k : ℕ) (within : k < length r.ch
       ap (λ b. not b || t' (s.name, channel_end_named r e)) (sym same) ∙ mine
 
   -- a writer's call raises an event
-  raises : (e : ChannelEnd) (c : Channel) (m : Option EventMode) (role : Role) (call : Option ℕ)
+  raises : (e : IndexedEnd) (c : Channel) (m : Option EventMode) (role : Role) (call : Option ℕ)
       → (not (is_writer role) || option_map_or (λ _. true) m (not (is_some call))) ≡ true → option_map_or (λ _. is_some (first_reached (all_readers r) k)) m true ≡ true
       → option_map_or (λ n. is_some (option_and_then (λ mode. option_map (entry (Call n) mode) (first_reached (all_readers r) k)) m)) (writer_call (record { channel = e.channel; role = role; call = call; vector = e.vector }) role) true ≡ true
   raises e c m Reader call h there = refl
@@ -184,7 +184,7 @@ module _ (r : Resolution) (q : IsResolved r) (k : ℕ) (within : k < length r.ch
       sym (some-map (reaches r) (first_reached (all_readers r) k)) ∙ ap is_some (sym first_reader)
       ∙ first_there (readers_of (source_of r) (name_at (channel_names r) k)) (channel_targets (source_of r) (name_at (channel_names r) k)) (many_readers (name_at (channel_names r) k)) h
 
-  pub call_raises : offence_6 (source_of r) ≡ None → (j i : ℕ) (s : Subject) (e : ChannelEnd) → slice_get r.subjects j ≡ Some s → subject_in_range r s ≡ true → slice_get (channel_ends_of r s) i ≡ Some e → e.channel ≡ k
+  pub call_raises : offence_6 (source_of r) ≡ None → (j i : ℕ) (s : Subject) (e : IndexedEnd) → slice_get r.subjects j ≡ Some s → subject_in_range r s ≡ true → slice_get (channel_ends_of r s) i ≡ Some e → e.channel ≡ k
       → option_map_or (λ n. is_some (call_entry r.channels (all_readers r) k n)) (writer_call e e.role) true ≡ true
   unfolding source_of offence_6
   call_raises lawful j i s e at h in_it here =

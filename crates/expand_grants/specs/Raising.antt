@@ -18,7 +18,7 @@ use Rattle.policy_types.specs.declared.source.Event.{Event}
 use Rattle.policy_types.specs.declared.source.SourceWay.{SourceWay}
 use Rattle.policy_types.specs.declared.source.SourceWay.TheVariants.{Call as SourceCall, Trap as SourceTrap}
 use Rattle.policy_views.specs.Views.{channel_ends_of}
-use Rattle.policy_views.specs.declared.view.ChannelEnd.{ChannelEnd}
+use Rattle.policy_views.specs.declared.view.IndexedEnd.{IndexedEnd}
 
 -- ---- subjects that are reached
 
@@ -33,7 +33,7 @@ abbrev pub all_targets : List Subject → List Reached
 all_targets subjects = flat_map subject_targets (enumerate_from 0 subjects)
 
 -- a subject at an index by an end of this role
-abbrev pub reader_reached : ℕ → ChannelEnd → Role → Option Reached
+abbrev pub reader_reached : ℕ → IndexedEnd → Role → Option Reached
 reader_reached index e Reader = Some (record { by = e.channel; subject = index; vector = e.vector })
 reader_reached index e Writer = None
 
@@ -67,11 +67,11 @@ call_entry channels readers channel n =
     option_and_then (λ c. option_and_then (λ mode. option_map (entry (Call n) mode) (first_reached readers channel)) c.has_event) (slice_get channels channel)
 
 -- the call of an end of this role by which an event may be raised
-abbrev pub writer_call : ChannelEnd → Role → Option ℕ
+abbrev pub writer_call : IndexedEnd → Role → Option ℕ
 writer_call e Writer = e.call
 writer_call e Reader = None
 
-abbrev pub channel_end_entry : List Channel → List Reached → ChannelEnd → Option EventEntry
+abbrev pub channel_end_entry : List Channel → List Reached → IndexedEnd → Option EventEntry
 channel_end_entry channels readers e = option_and_then (call_entry channels readers e.channel) (writer_call e e.role)
 
 -- by the sources of a subject, then by its ends of channels
@@ -91,7 +91,7 @@ fits_target t = fits_number t.vector
 abbrev pub fits_targets : Subject → Bool
 fits_targets s = list_all fits_target s.targets
 
-abbrev pub fits_channel_end : ChannelEnd → Bool
+abbrev pub fits_channel_end : IndexedEnd → Bool
 fits_channel_end e = fits_number e.call && fits_number e.vector
 
 abbrev pub fits_channel_ends : Resolution → Subject → Bool

@@ -11,7 +11,7 @@ use policy_lawful::Resolved;
 use policy_lawful::resolved::{EventSource, Subject};
 use policy_types::Role;
 use policy_types::source::{Channel, Event, SourceWay};
-use policy_views::{ChannelEnd, channel_ends};
+use policy_views::{IndexedEnd, channel_ends};
 use std::alloc::Global;
 
 fn way_of(way: SourceWay) -> Way
@@ -76,7 +76,7 @@ fn call_entry(
 }
 
 // The call of an end by which an event may be raised: a writer's.
-fn writer_call(end: &ChannelEnd) -> Option<u8>
+fn writer_call(end: &IndexedEnd) -> Option<u8>
     requires { fits_channel_end end.now ≡ true }
     ensures { result ≡ writer_call end.now end.now.role }
 {
@@ -90,7 +90,7 @@ fn writer_call(end: &ChannelEnd) -> Option<u8>
 fn channel_end_entry(
     channels: &[Channel],
     readers: &[Reached],
-    end: &ChannelEnd,
+    end: &IndexedEnd,
 ) -> Option<EventEntry>
     requires { fits_channel_end end.now ≡ true }
     ensures { result ≡ channel_end_entry channels.now readers.now end.now }
@@ -106,7 +106,7 @@ fn add_channel_ends(
     entries: &mut Vec<EventEntry>,
     channels: &[Channel],
     readers: &[Reached],
-    ends: &[ChannelEnd],
+    ends: &[IndexedEnd],
 ) -> Result<(), NoMemory>
     requires { list_all fits_channel_end ends.now ≡ true }
     ensures { IfOk result (λ _. entries.new.items ≡ entries.old.items ++ filter_map (channel_end_entry channels.now readers.now) ends.now) }

@@ -9,7 +9,7 @@ use muen_num::NoMemory;
 use policy_lawful::Resolved;
 use policy_lawful::resolved::{EventTarget, Subject};
 use policy_types::Role;
-use policy_views::{ChannelEnd, channel_ends};
+use policy_views::{IndexedEnd, channel_ends};
 use std::alloc::Global;
 
 /// A subject that is reached.
@@ -74,7 +74,7 @@ pub(crate) fn all_targets(alloc: Global, subjects: &[Subject]) -> Result<Vec<Rea
     Ok(noted)
 }
 
-fn reader_reached(index: usize, end: &ChannelEnd) -> Option<Reached>
+fn reader_reached(index: usize, end: &IndexedEnd) -> Option<Reached>
     requires { fits_channel_end end.now ≡ true }
     ensures { result ≡ reader_reached index end.now end.now.role }
 {
@@ -89,7 +89,7 @@ fn reader_reached(index: usize, end: &ChannelEnd) -> Option<Reached>
 }
 
 // Notes that a subject is reached by those of its ends that read.
-fn note_readers(noted: &mut Vec<Reached>, index: usize, ends: &[ChannelEnd]) -> Result<(), NoMemory>
+fn note_readers(noted: &mut Vec<Reached>, index: usize, ends: &[IndexedEnd]) -> Result<(), NoMemory>
     requires { list_all fits_channel_end ends.now ≡ true }
     ensures { IfOk result (λ _. noted.new.items ≡ noted.old.items ++ filter_map (λ e. reader_reached index e e.role) ends.now) }
 {

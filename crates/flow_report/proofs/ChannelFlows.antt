@@ -16,7 +16,7 @@ use Rattle.policy_lawful.specs.Events.{ChannelEnd, channel_ends, reads_from}
 use Rattle.policy_types.specs.declared.rights.Role.{Role}
 use Rattle.policy_types.specs.declared.rights.Role.TheVariants.{Writer, Reader}
 use Rattle.policy_views.specs.Views.{channel_end_named, channel_ends_of}
-use Rattle.policy_views.specs.declared.view.ChannelEnd.{ChannelEnd}
+use Rattle.policy_views.specs.declared.view.IndexedEnd.{IndexedEnd}
 use Rattle.policy_views.proofs.EndsByIndex.{ends_by_index, ends_in_range}
 use Rattle.flow_report.specs.Flows.{by_channel, is_writer}
 use Rattle.muen_num.proofs.Members.{any_agree, passes_in}
@@ -38,7 +38,7 @@ module _ (r : Resolution) (q : IsResolved r) where
       let right : k < length r.channels = ltb-true k (length r.channels) b in
       same_name (channel_names r) j k (channels_unique r q) (omega (arith, many, left)) (omega (arith, many, right))
 
-  read_at : (f : ChannelEnd) (role : Role) (k : ℕ) → nat_lt f.channel (length r.channels) ≡ true → nat_lt k (length r.channels) ≡ true
+  read_at : (f : IndexedEnd) (role : Role) (k : ℕ) → nat_lt f.channel (length r.channels) ≡ true → nat_lt k (length r.channels) ≡ true
       → reads_from (channel_end_named r f) role (name_at (channel_names r) k) ≡ option_map_or (λ y. y == k) (channel_read role f.channel) false
   read_at f Reader k a b = same_channel f.channel k a b
   read_at f Writer k a b = refl
@@ -50,8 +50,8 @@ module _ (r : Resolution) (q : IsResolved r) where
       ap (list_any (λ (f : ChannelEnd). reads_from f f.role (name_at (channel_names r) k))) (ends_by_index r s q in_range)
       ∙ list_any-map (λ (f : ChannelEnd). reads_from f f.role (name_at (channel_names r) k)) (channel_end_named r) (channel_ends_of r s)
       ∙ any_agree (λ f. reads_from (channel_end_named r f) f.role (name_at (channel_names r) k)) (λ f. option_map_or (λ y. y == k) (channel_read f.role f.channel) false) (channel_ends_of r s)
-      (λ f i. read_at f f.role k (passes_in (λ (e : ChannelEnd). nat_lt e.channel (length r.channels)) (channel_ends_of r s) (ends_in_range r s in_range) f i) b)
-      ∙ sym (any_filter_map (λ y. y == k) (λ (f : ChannelEnd). channel_read f.role f.channel) (channel_ends_of r s))
+      (λ f i. read_at f f.role k (passes_in (λ (e : IndexedEnd). nat_lt e.channel (length r.channels)) (channel_ends_of r s) (ends_in_range r s in_range) f i) b)
+      ∙ sym (any_filter_map (λ y. y == k) (λ (f : IndexedEnd). channel_read f.role f.channel) (channel_ends_of r s))
 
   written_at : (s : Subject) (role : Role) (k : ℕ) → subject_in_range r s ≡ true → nat_lt k (length r.channels) ≡ true
       → (is_writer role && list_any (λ f. reads_from f f.role (name_at (channel_names r) k)) (channel_ends (source_of r) (subject_named r s))) ≡ option_map_or (has (filter_map (λ f. channel_read f.role f.channel) (channel_ends_of r s))) (channel_written role k) false
@@ -63,9 +63,9 @@ module _ (r : Resolution) (q : IsResolved r) where
       ≡ meet (filter_map (λ e. channel_written e.role e.channel) (channel_ends_of r u)) (filter_map (λ e. channel_read e.role e.channel) (channel_ends_of r s))
   channel_same u s a b =
       let readers = channel_ends (source_of r) (subject_named r s) in
-      let numbers = filter_map (λ (f : ChannelEnd). channel_read f.role f.channel) (channel_ends_of r s) in
+      let numbers = filter_map (λ (f : IndexedEnd). channel_read f.role f.channel) (channel_ends_of r s) in
       ap (list_any (λ (e : ChannelEnd). is_writer e.role && list_any (λ f. reads_from f f.role e.channel) readers)) (ends_by_index r u q a)
       ∙ list_any-map (λ (e : ChannelEnd). is_writer e.role && list_any (λ f. reads_from f f.role e.channel) readers) (channel_end_named r) (channel_ends_of r u)
       ∙ any_agree (λ e. is_writer e.role && list_any (λ f. reads_from f f.role (name_at (channel_names r) e.channel)) readers) (λ e. option_map_or (has numbers) (channel_written e.role e.channel) false) (channel_ends_of r u)
-      (λ e i. written_at s e.role e.channel b (passes_in (λ (e : ChannelEnd). nat_lt e.channel (length r.channels)) (channel_ends_of r u) (ends_in_range r u a) e i))
-      ∙ sym (any_filter_map (has numbers) (λ (e : ChannelEnd). channel_written e.role e.channel) (channel_ends_of r u))
+      (λ e i. written_at s e.role e.channel b (passes_in (λ (e : IndexedEnd). nat_lt e.channel (length r.channels)) (channel_ends_of r u) (ends_in_range r u a) e i))
+      ∙ sym (any_filter_map (has numbers) (λ (e : IndexedEnd). channel_written e.role e.channel) (channel_ends_of r u))

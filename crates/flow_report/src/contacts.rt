@@ -10,7 +10,7 @@ use policy_lawful::Resolved;
 use policy_lawful::resolved::{EventSource, Monitor, Subject};
 use policy_types::Role;
 use policy_types::source::{SourceWay, Tau0};
-use policy_views::{ChannelEnd, Shown, View, channel_ends, views};
+use policy_views::{IndexedEnd, Shown, View, channel_ends, views};
 use std::alloc::{AllocError, Global};
 
 /// A subject's index, and by indexes what it gives to others and takes from them.
@@ -35,7 +35,7 @@ pub(crate) struct Contacts {
     pub alters: Seq<usize>,
 }
 
-fn channel_written(end: &ChannelEnd) -> Option<usize>
+fn channel_written(end: &IndexedEnd) -> Option<usize>
     ensures { result ≡ channel_written end.now.role end.now.channel }
 {
     match end.role {
@@ -44,7 +44,7 @@ fn channel_written(end: &ChannelEnd) -> Option<usize>
     }
 }
 
-fn channel_read(end: &ChannelEnd) -> Option<usize>
+fn channel_read(end: &IndexedEnd) -> Option<usize>
     ensures { result ≡ channel_read end.now.role end.now.channel }
 {
     match end.role {
@@ -134,7 +134,7 @@ fn is_chooser(tau0: &Option<Tau0>, name: &Name) -> bool
     }
 }
 
-fn written(alloc: Global, ends: &[ChannelEnd]) -> Result<Vec<usize>, AllocError>
+fn written(alloc: Global, ends: &[IndexedEnd]) -> Result<Vec<usize>, AllocError>
     ensures { IfOk result (λ v. v.items ≡ filter_map (λ e. channel_written e.role e.channel) ends.now) }
 {
     ends.iter()
@@ -142,7 +142,7 @@ fn written(alloc: Global, ends: &[ChannelEnd]) -> Result<Vec<usize>, AllocError>
         .collect(alloc)
 }
 
-fn read(alloc: Global, ends: &[ChannelEnd]) -> Result<Vec<usize>, AllocError>
+fn read(alloc: Global, ends: &[IndexedEnd]) -> Result<Vec<usize>, AllocError>
     ensures { IfOk result (λ v. v.items ≡ filter_map (λ e. channel_read e.role e.channel) ends.now) }
 {
     ends.iter().filter_map(|e| channel_read(e)).collect(alloc)

@@ -22,7 +22,7 @@ use Rattle.policy_types.specs.declared.source.ComponentChannel.{ComponentChannel
 use Rattle.policy_types.specs.declared.source.MapEntry.{MapEntry as NamedEntry}
 use Rattle.policy_types.specs.declared.source.Subject.{Subject as NamedSubject}
 use Rattle.policy_views.specs.Views.{channel_end_named, channel_ends_of, component_end, same_wanted, use_ends}
-use Rattle.policy_views.specs.declared.view.ChannelEnd.{ChannelEnd}
+use Rattle.policy_views.specs.declared.view.IndexedEnd.{IndexedEnd}
 use Rattle.policy_views.proofs.ChosenEntries.{entry_found}
 use Rattle.policy_views.proofs.Mapped.{all_filtered, filter_numbered, found_same}
 use Rattle.policy_views.proofs.WindowsByIndex.{component_is, component_there, entries_in_range, name_there, subject_parts, unique_logical, within_names}
@@ -39,7 +39,7 @@ module _ (r : Resolution) (q : IsResolved r) (t : NamedSubject) (used : Componen
       → option_map (λ e. record { channel = e.physical; role = x.role; call = x.call; vector = x.vector }) (entry_of t.component x.logical) ≡ option_map (channel_end_named r) (component_end used.map (k, x))
   end_by_index k x at =
       let by : NamedEntry → ChannelEnd = λ e. record { channel = e.physical; role = x.role; call = x.call; vector = x.vector } in
-      let to : MapEntry → ChannelEnd = λ e. record { channel = e.physical; role = x.role; call = x.call; vector = x.vector } in
+      let to : MapEntry → IndexedEnd = λ e. record { channel = e.physical; role = x.role; call = x.call; vector = x.vector } in
       ap (λ o. option_map by (entry_of o x.logical)) uses
       ∙ entry_found r used.used c is (unique_logical r q t used c uses is in_range) (WantedChannel k) x.logical (option_map by) (λ o. option_map (channel_end_named r) (option_map to o))
       (within_names (λ x. x.logical) c.channels k x at) (sym (name_there (λ x. x.logical) c.channels k x at)) refl
@@ -75,7 +75,7 @@ ends_by_index r s q h =
 -- ---- indexes in range
 
 -- the end's channel is there
-abbrev within : Resolution → ChannelEnd → Bool
+abbrev within : Resolution → IndexedEnd → Bool
 within r e = nat_lt e.channel (length r.channels)
 
 entry_within : (r : Resolution) (used k : ℕ) (w : Wanted) (physical : ℕ) → entry_in_range r used w physical ≡ true → same_wanted w (WantedChannel k) ≡ true → true ≡ nat_lt physical (length r.channels)
@@ -85,7 +85,7 @@ entry_within r used k (WantedChannel j) physical h same = sym (and_parts _ _ h).
 end_within : (r : Resolution) (used : ℕ) (entries : List MapEntry) → list_all (λ e. entry_in_range r used e.logical e.physical) entries ≡ true → (x : ℕ × ComponentChannel)
     → option_map_or (within r) (component_end entries x) true ≡ true
 end_within r used entries in_range (k, x) =
-    let to : MapEntry → ChannelEnd = λ e. record { channel = e.physical; role = x.role; call = x.call; vector = x.vector } in
+    let to : MapEntry → IndexedEnd = λ e. record { channel = e.physical; role = x.role; call = x.call; vector = x.vector } in
     sym (found_same (λ e. same_wanted e.logical (WantedChannel k)) (λ e. e) (λ e. same_wanted e.logical (WantedChannel k)) (λ e. entry_in_range r used e.logical e.physical)
     (λ _. true) (λ o. option_map_or (within r) (option_map to o) true) refl (λ e _. refl) (λ e h same. entry_within r used k e.logical e.physical h same) entries in_range)
 

@@ -16,7 +16,7 @@ use Rattle.policy_views.specs.Views.{channel_view, component_channel_view, compo
 use Rattle.policy_views.specs.declared.entries.Choice.{Choice}
 use Rattle.policy_views.specs.declared.entries.Wants.{Wants}
 use Rattle.policy_views.specs.declared.entries.Wants.TheVariants.{Memory as WantsMemory, Channel as WantsChannel}
-use Rattle.policy_views.specs.declared.view.ChannelEnd.{ChannelEnd}
+use Rattle.policy_views.specs.declared.view.IndexedEnd.{IndexedEnd}
 
 -- ---- one entry more
 
@@ -102,6 +102,6 @@ pub ends_chosen : (choices : List (Option Choice)) (entries : List MapEntry) (xs
 ends_chosen choices entries xs has =
     filter_indexes (chosen_end choices) (component_end entries) 0 xs
     (λ k x l.
-    let to : Choice → ChannelEnd = λ c. record { channel = c.physical; role = x.role; call = x.call; vector = x.vector } in
+    let to : Choice → IndexedEnd = λ c. record { channel = c.physical; role = x.role; call = x.call; vector = x.vector } in
     let same : chosen_end choices (k, x) ≡ component_end entries (k, x) = ap (option_map to) (has.at k l) ∙ map_of_choice to (entry_for entries (WantedChannel k)) in
     ap (λ m. chosen_end choices (m, x)) (omega arith) ∙ same ∙ ap (λ m. component_end entries (m, x)) (omega arith))

@@ -11,7 +11,7 @@ use Rattle.policy_views.specs.Views.{channel_view, entry_for, region_view}
 use Rattle.policy_views.specs.declared.entries.Choice.{Choice}
 use Rattle.policy_views.specs.declared.entries.Wants.{Wants}
 use Rattle.policy_views.specs.declared.entries.Wants.TheVariants.{Memory as WantsMemory, Channel as WantsChannel}
-use Rattle.policy_views.specs.declared.view.ChannelEnd.{ChannelEnd}
+use Rattle.policy_views.specs.declared.view.IndexedEnd.{IndexedEnd}
 use Rattle.policy_views.specs.declared.view.View.{View}
 
 -- what an entry chooses
@@ -49,6 +49,6 @@ abbrev pub chosen_channel : Resolution → List (Option Choice) → ℕ × Compo
 chosen_channel r choices (index, x) =
     option_and_then (λ c. channel_view r c.physical x.virtual_address x.role) (slice_index_or choices index None)
 
-abbrev pub chosen_end : List (Option Choice) → ℕ × ComponentChannel → Option ChannelEnd
+abbrev pub chosen_end : List (Option Choice) → ℕ × ComponentChannel → Option IndexedEnd
 chosen_end choices (index, x) =
     option_map (λ c. record { channel = c.physical; role = x.role; call = x.call; vector = x.vector }) (slice_index_or choices index None)

@@ -22,7 +22,7 @@ use Rattle.policy_types.specs.declared.source.Component.{Component}
 use Rattle.policy_types.specs.declared.source.ComponentChannel.{ComponentChannel}
 use Rattle.policy_types.specs.declared.source.Provided.{Provided}
 use Rattle.policy_types.specs.declared.source.Required.{Required}
-use Rattle.policy_views.specs.declared.view.ChannelEnd.{ChannelEnd}
+use Rattle.policy_views.specs.declared.view.IndexedEnd.{IndexedEnd}
 use Rattle.policy_views.specs.declared.view.Shown.{Shown}
 use Rattle.policy_views.specs.declared.view.Shown.TheVariants.{Memory, Channel, Provided as Given, Device, State}
 use Rattle.policy_views.specs.declared.view.View.{View}
@@ -119,22 +119,22 @@ view_window r subject v = window v.guest v.size v.rights (thing_shown r subject 
 
 -- ---- ends of channels
 
-abbrev pub component_end : List MapEntry → ℕ × ComponentChannel → Option ChannelEnd
+abbrev pub component_end : List MapEntry → ℕ × ComponentChannel → Option IndexedEnd
 component_end entries (index, x) =
     option_map (λ e. record { channel = e.physical; role = x.role; call = x.call; vector = x.vector }) (entry_for entries (WantedChannel index))
 
-abbrev pub use_ends : Resolution → Option ComponentUse → List ChannelEnd
+abbrev pub use_ends : Resolution → Option ComponentUse → List IndexedEnd
 use_ends r None = []
 use_ends r (Some used) =
     option_map_or (λ c. filter_map (component_end used.map) (enumerate_from 0 c.channels)) (slice_get r.components used.used) []
 
 -- a subject's ends of channels, its own and those of its component
-unfoldable pub channel_ends_of : Resolution → Subject → List ChannelEnd
+unfoldable pub channel_ends_of : Resolution → Subject → List IndexedEnd
 channel_ends_of r s =
     map (λ c. record { channel = c.channel; role = c.role; call = c.call; vector = c.vector }) s.channels ++ use_ends r s.component
 
 -- the end with its channel by name
-abbrev pub channel_end_named : Resolution → ChannelEnd → ChannelEnd
+abbrev pub channel_end_named : Resolution → IndexedEnd → ChannelEnd
 channel_end_named r e = record {
   channel = name_at (map (λ c. c.name) r.channels) e.channel;
   role = e.role;

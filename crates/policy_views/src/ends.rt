@@ -5,7 +5,7 @@ ghost use Rattle.policy_views.specs.Entries.{chosen_end};
 ghost use Rattle.policy_views.specs.Views.{component_end, channel_ends_of, use_ends};
 
 use crate::entries::{Choice, Wants, choices};
-use crate::view::ChannelEnd;
+use crate::view::IndexedEnd;
 use muen_num::NoMemory;
 use policy_lawful::Resolved;
 use policy_lawful::resolved::{ChannelUse, ComponentUse, MapEntry, Subject};
@@ -16,11 +16,11 @@ fn component_end(
     choices: &[Option<Choice>],
     index: usize,
     channel: &ComponentChannel,
-) -> Option<ChannelEnd>
+) -> Option<IndexedEnd>
     ensures { result ≡ chosen_end choices.now (index, channel.now) }
 {
     match choices.get(index) {
-        Some(Some(choice)) => Some(ChannelEnd {
+        Some(Some(choice)) => Some(IndexedEnd {
             channel: choice.physical,
             role: channel.role,
             call: channel.call,
@@ -30,12 +30,12 @@ fn component_end(
     }
 }
 
-fn of_channels(alloc: Global, channels: &[ChannelUse]) -> Result<Vec<ChannelEnd>, AllocError>
+fn of_channels(alloc: Global, channels: &[ChannelUse]) -> Result<Vec<IndexedEnd>, AllocError>
     ensures { IfOk result (λ v. v.items ≡ map (λ c. record { channel = c.channel; role = c.role; call = c.call; vector = c.vector }) channels.now) }
 {
     channels
         .iter()
-        .map(|c| ChannelEnd {
+        .map(|c| IndexedEnd {
             channel: c.channel,
             role: c.role,
             call: c.call,
@@ -48,7 +48,7 @@ fn chosen_ends(
     alloc: Global,
     choices: &[Option<Choice>],
     channels: &[ComponentChannel],
-) -> Result<Vec<ChannelEnd>, AllocError>
+) -> Result<Vec<IndexedEnd>, AllocError>
     ensures { IfOk result (λ v. v.items ≡ filter_map (chosen_end choices.now) (enumerate_from 0 channels.now)) }
 {
     channels
@@ -63,7 +63,7 @@ fn of_component(
     alloc: Global,
     entries: &[MapEntry],
     channels: &[ComponentChannel],
-) -> Result<Vec<ChannelEnd>, NoMemory>
+) -> Result<Vec<IndexedEnd>, NoMemory>
     ensures { IfOk result (λ v. v.items ≡ filter_map (component_end entries.now) (enumerate_from 0 channels.now)) }
 {
     let choices = choices(alloc, Wants::Channel, channels.len(), entries)?;
@@ -75,7 +75,7 @@ fn of_use(
     alloc: Global,
     policy: &Resolved,
     used: &Option<ComponentUse>,
-) -> Result<Vec<ChannelEnd>, NoMemory>
+) -> Result<Vec<IndexedEnd>, NoMemory>
     ensures { IfOk result (λ v. v.items ≡ use_ends policy.now used.now) }
 {
     match used {
@@ -95,7 +95,7 @@ pub fn channel_ends(
     alloc: Global,
     policy: &Resolved,
     subject: &Subject,
-) -> Result<Vec<ChannelEnd>, NoMemory>
+) -> Result<Vec<IndexedEnd>, NoMemory>
     ensures { IfOk result (λ v. v.items ≡ channel_ends_of policy.now subject.now) }
 {
     let mut ends = of_channels(alloc, subject.channels.items())?;

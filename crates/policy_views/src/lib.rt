@@ -8,5 +8,5 @@ mod view;
 mod windows;
 
 pub use ends::channel_ends;
-pub use view::{ChannelEnd, Shown, View};
+pub use view::{IndexedEnd, Shown, View};
 pub use windows::views;

@@ -32,7 +32,7 @@ pub struct View {
 
 /// A subject's end of a channel, its own or one of its component.
 #[derive(Clone, Copy, Debug, PartialEq, Eq)]
-pub struct ChannelEnd {
+pub struct IndexedEnd {
     /// The channel's index.
     pub channel: usize,
     pub role: Role,

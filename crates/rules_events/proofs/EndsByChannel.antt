@@ -14,7 +14,7 @@ use Rattle.policy_lawful.proofs.SourceElements.{parts_in_range}
 use Rattle.policy_lawful.proofs.UniqueNames.{unique}
 use Rattle.policy_lawful.specs.Events.{ChannelEnd, channel_ends}
 use Rattle.policy_views.specs.Views.{channel_end_named, channel_ends_of}
-use Rattle.policy_views.specs.declared.view.ChannelEnd.{ChannelEnd}
+use Rattle.policy_views.specs.declared.view.IndexedEnd.{IndexedEnd}
 use Rattle.policy_views.proofs.EndsByIndex.{ends_by_index, ends_in_range}
 use Rattle.rules_events.specs.ByIndex.{items_at}
 use Rattle.rules_events.specs.ChannelEnds.{met, met_channel_ends, all_channel_ends, all_readers, all_writers, reads, writes}
@@ -45,7 +45,7 @@ of_subject : (r : Resolution) (k n : ℕ) (s : ResolvedSubject) → IsResolved r
     → map (λ e. (s.name, e)) (filter (λ e. bytes_eq e.channel (name_at (channel_names r) k)) (channel_ends (source_of r) (subject_named r s))) ≡ map (met_named r) (items_at k (met_channel_ends r (n, s)))
 of_subject r k n s h within ok =
     ap (λ es. map (λ e. (s.name, e)) (filter (λ e. bytes_eq e.channel (name_at (channel_names r) k)) es)) (ends_by_index r s h ok)
-    ∙ of_one (λ (e : ChannelEnd). bytes_eq e.channel (name_at (channel_names r) k)) (channel_end_named r) (λ (e : ChannelEnd). e.channel) (λ e. nat_lt e.channel (length r.channels)) k (λ e ok. same_channel r e.channel k h ok within)
+    ∙ of_one (λ (e : ChannelEnd). bytes_eq e.channel (name_at (channel_names r) k)) (channel_end_named r) (λ (e : IndexedEnd). e.channel) (λ e. nat_lt e.channel (length r.channels)) k (λ e ok. same_channel r e.channel k h ok within)
     (λ e. (s.name, e)) (met (party (n, s))) (met_named r) (λ e. refl) (channel_ends_of r s) (ends_in_range r s ok)
 
 -- of all

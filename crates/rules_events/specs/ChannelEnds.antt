@@ -5,12 +5,12 @@ use Rattle.policy_lawful.specs.MoreRules.{is_writer}
 use Rattle.policy_lawful.specs.Resolution.{Resolution}
 use Rattle.policy_lawful.specs.declared.resolved.Subject.{Subject}
 use Rattle.policy_views.specs.Views.{channel_ends_of}
-use Rattle.policy_views.specs.declared.view.ChannelEnd.{ChannelEnd}
+use Rattle.policy_views.specs.declared.view.IndexedEnd.{IndexedEnd}
 use Rattle.rules_events.specs.Parties.{party}
 use Rattle.rules_events.specs.declared.channel_ends.Met.{Met}
 use Rattle.rules_events.specs.declared.parties.Party.{Party}
 
-abbrev pub met : Party → ChannelEnd → Met
+abbrev pub met : Party → IndexedEnd → Met
 met p e = record { party = p; end = e }
 
 -- the ends of a subject with its index, each at its channel

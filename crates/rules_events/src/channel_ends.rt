@@ -13,14 +13,14 @@ use muen_num::{NoMemory, Seq};
 use policy_lawful::Resolved;
 use policy_lawful::resolved::Subject;
 use policy_types::Role;
-use policy_views::{ChannelEnd, channel_ends};
+use policy_views::{IndexedEnd, channel_ends};
 use std::alloc::{AllocError, Global};
 
 /// An end of a channel with its subject.
 #[derive(Clone, Copy, Debug, PartialEq, Eq)]
 pub(crate) struct Met {
     pub(crate) party: Party,
-    pub(crate) end: ChannelEnd,
+    pub(crate) end: IndexedEnd,
 }
 
 // Notes a subject's ends at their channels.
@@ -28,7 +28,7 @@ fn note_channel_ends(
     noted: &mut Vec<(usize, Met)>,
     index: usize,
     subject: &Subject,
-    ends: &[ChannelEnd],
+    ends: &[IndexedEnd],
 ) -> Result<(), NoMemory>
     ensures { IfOk result (λ _. noted.new.items ≡ noted.old.items ++ map (λ e. (e.channel, met (party (index, subject.now)) e)) ends.now) }
 {

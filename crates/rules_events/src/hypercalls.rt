@@ -12,7 +12,7 @@ use muen_num::limits::MOST_CALLS;
 use policy_lawful::resolved::{EventSource, Subject};
 use policy_lawful::{Offence, Resolved};
 use policy_types::source::SourceWay;
-use policy_views::{ChannelEnd, channel_ends};
+use policy_views::{IndexedEnd, channel_ends};
 use std::alloc::{AllocError, Global};
 
 fn call_number(way: SourceWay) -> Option<u64>
@@ -51,7 +51,7 @@ fn traps_of(alloc: Global, sources: &[EventSource]) -> Result<Vec<u64>, AllocErr
         .collect(alloc)
 }
 
-fn calls_of_channel_ends(alloc: Global, ends: &[ChannelEnd]) -> Result<Vec<u64>, AllocError>
+fn calls_of_channel_ends(alloc: Global, ends: &[IndexedEnd]) -> Result<Vec<u64>, AllocError>
     ensures { IfOk result (λ v. v.items ≡ filter_map (λ e. e.call) ends.now) }
 {
     ends.iter().filter_map(|e| e.call).collect(alloc)

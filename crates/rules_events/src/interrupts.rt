@@ -12,7 +12,7 @@ use muen_num::{EventMode, NoMemory};
 use policy_lawful::resolved::{DeviceUse, EventTarget, IrqUse, Subject};
 use policy_lawful::{Offence, Resolved};
 use policy_types::source::Event;
-use policy_views::{ChannelEnd, channel_ends};
+use policy_views::{IndexedEnd, channel_ends};
 use std::alloc::{AllocError, Global};
 
 /// Whether the target also becomes active.
@@ -54,7 +54,7 @@ fn vectors_of_targets(alloc: Global, targets: &[EventTarget]) -> Result<Vec<u64>
     targets.iter().filter_map(|t| t.vector).collect(alloc)
 }
 
-fn vectors_of_channel_ends(alloc: Global, ends: &[ChannelEnd]) -> Result<Vec<u64>, AllocError>
+fn vectors_of_channel_ends(alloc: Global, ends: &[IndexedEnd]) -> Result<Vec<u64>, AllocError>
     ensures { IfOk result (λ v. v.items ≡ filter_map (λ e. e.vector) ends.now) }
 {
     ends.iter().filter_map(|e| e.vector).collect(alloc)
