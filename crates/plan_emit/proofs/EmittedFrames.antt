@@ -74,5 +74,5 @@ frames_emitted r k cpu l =
     map-map (λ m. map frame_of (slice_index_or m.cpus cpu [])) (major_part cpus) r.scheduling.major_frames
     ∙ all_same (λ m. map frame_of (slice_index_or (map (cpu_part m.cpus) (numbers_below cpus)) cpu [])) (λ m. major_frames_of (source_of r) cpu (major_named r m)) (major_in_range r)
     (λ m in_range. ap (map frame_of) (at_number m.cpus cpus cpu l) ∙ same_cpu r cpu m k.unique in_range)
-    r.scheduling.major_frames k.majors_placed
+    r.scheduling.major_frames k.majors_in_range
     ∙ sym (map-map (major_frames_of (source_of r) cpu) (major_named r) r.scheduling.major_frames)

@@ -55,4 +55,4 @@ majors_fit r k =
     each_of (λ m. list_all is_short m.cpus) (major_in_range r) fits_major
     (λ m short in_range. each_of is_short (entry_there r) fits_entry
     (λ c w q. entry_fits r c few w q) m.cpus short in_range)
-    r.scheduling.major_frames (entries_within r k) k.majors_placed
+    r.scheduling.major_frames (entries_within r k) k.majors_in_range

@@ -173,7 +173,7 @@ majors_valid r k =
     major_valid r m k (record { by_name = parts.0; limits = parts.1; there = there }))
     r.scheduling.major_frames
     (each_both (λ m. is_major_kept (source_of r) (major_named r m)) (λ m. list_all is_short m.cpus) r.scheduling.major_frames named limits)
-    k.majors_placed
+    k.majors_in_range
 
 -- ---- the plan
 
