@@ -49,7 +49,7 @@ of_subject r k n s h within ok =
     (λ e. (s.name, e)) (met (party (n, s))) (met_named r) (λ e. refl) (channel_ends_of r s) (ends_in_range r s ok)
 
 -- of all
-pub channel_ends_same : (r : Resolution) (k : ℕ) → IsResolved r → k < length r.channels → rules.ends_of (source_of r) (name_at (channel_names r) k) ≡ map (met_named r) (items_at k (all_channel_ends r))
+pub channel_ends_same : (r : Resolution) (k : ℕ) → IsResolved r → k < length r.channels → rules.ends_of_channel (source_of r) (name_at (channel_names r) k) ≡ map (met_named r) (items_at k (all_channel_ends r))
 unfolding source_of
 channel_ends_same r k h within =
     of_all (subject_named r) (subject_in_range r) k (λ s. map (λ e. (s.name, e)) (filter (λ e. bytes_eq e.channel (name_at (channel_names r) k)) (channel_ends (source_of r) s))) (met_channel_ends r) (met_named r)
