@@ -156,10 +156,8 @@ impl Bench {
     pub fn order(&self, tick: u32) -> Option<&[u8]>
         ensures { option_map (λ o. o.now) result ≡ order_at self.now.run tick }
     {
-        match order_of(self.run.orders.items(), u64::from(tick)) {
-            None => None,
-            Some(order) => Some(order.cpus.items()),
-        }
+        let order = order_of(self.run.orders.items(), u64::from(tick))?;
+        Some(order.cpus.items())
     }
 
     /// How many ticks the run has.

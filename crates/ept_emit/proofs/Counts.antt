@@ -2,8 +2,9 @@
 use Rattle.std.proofs.Common.{◌≡◌, ◌≢◌, inl, inr, ℕ, zero, suc, ◌+◌, ◌-◌, ◌*◌, ◌<◌, ◌≤◌, Bool, true, List, [], ◌∷◌, Some, refl, ap, ◌∙◌, arith}
 use Rattle.std.specs.List.{find, list_any}
 use Rattle.std.proofs.lemmas.Bool.{cases_Bool}
+use Rattle.ept_emit.specs.declared.window.GuestRange.{GuestRange}
 use Rattle.ept_emit.specs.declared.window.Window.{Window}
-use Rattle.ept_emit.specs.Pages.{count, one, is_taken, touches, ept_pages}
+use Rattle.ept_emit.specs.Pages.{count, one, is_taken, range_of, ranges_of, touches, ept_pages}
 use Rattle.machine_layout.specs.Walks.{entry_size}
 use Rattle.ept_emit.specs.Entries.{window_on}
 use Rattle.ept_emit.specs.Needs.{needs}
@@ -22,16 +23,16 @@ needs_add ws zero e a b = refl
 needs_add ws (suc l) e a b =
     let f : 512 * (a + b) ≡ 512 * a + 512 * b = omega arith in
     let g : 512 * (e + a) ≡ 512 * e + 512 * a = omega arith in
-    rw (f, g) (omega (arith, count_add (is_taken ws (entry_size (suc l))) e a b, needs_add ws l (512 * e) (512 * a) (512 * b)))
+    rw (f, g) (omega (arith, count_add (is_taken (ranges_of ws) (entry_size (suc l))) e a b, needs_add ws l (512 * e) (512 * a) (512 * b)))
 
-needs_one : (ws : List Window) (l e : ℕ) → needs ws (suc l) e 1 ≡ one (is_taken ws (entry_size (suc l)) e) + needs ws l (512 * e) 512
+needs_one : (ws : List Window) (l e : ℕ) → needs ws (suc l) e 1 ≡ one (is_taken (ranges_of ws) (entry_size (suc l)) e) + needs ws l (512 * e) 512
 unfolding needs count
 needs_one ws l e = let z : e + 0 ≡ e = omega arith in rw z (omega arith)
 
-any_found : (p : Window → Bool) (ws : List Window) (w : Window) → find p ws ≡ Some w → list_any p ws ≡ true
+any_found : (p : GuestRange → Bool) (ws : List Window) (w : Window) → find (λ w. p (range_of w)) ws ≡ Some w → list_any p (ranges_of ws) ≡ true
 any_found p [] w h = absurd cc
 any_found p (x ∷ ws) w h =
-    elim (cases_Bool (p x)) [
+    elim (cases_Bool (p (range_of x))) [
       | inl t ↦ rw t refl
       | inr f ↦ let e = rw f at h in rw f (any_found p ws w e)
     ]
@@ -41,10 +42,10 @@ pub needs_at : (ws : List Window) (l e : ℕ) (w : Window) → l ≢ 0 → windo
 needs_at ws zero e w ne some = absurd (ne refl)
 needs_at ws (suc l) e w ne some =
     let f : suc l - 1 ≡ l = omega arith in
-    let t : one (is_taken ws (entry_size (suc l)) e) ≡ 1 = ap one (any_found (λ x. touches x (entry_size (suc l) * e) (entry_size (suc l))) ws w some) in
+    let t : one (is_taken (ranges_of ws) (entry_size (suc l)) e) ≡ 1 = ap one (any_found (λ r. touches r (entry_size (suc l) * e) (entry_size (suc l))) ws w some) in
     rw f (needs_one ws l e ∙ rw t refl)
 
-pub pages_are : (ws : List Window) → 1 + needs ws 3 0 512 ≡ ept_pages ws
+pub pages_are : (ws : List Window) → 1 + needs ws 3 0 512 ≡ ept_pages (ranges_of ws)
 unfolding needs
 pages_are ws = omega arith
 

@@ -4,7 +4,7 @@ use Rattle.std.specs.Prelude.{IfSome, bit_and, if◌then◌else◌}
 use Rattle.std.proofs.lemmas.Bool.{cases_eq, cases_lt}
 use Rattle.std.proofs.lemmas.List.{drop-take, drop-drop, take-take}
 use Rattle.ept_emit.specs.declared.window.Window.{Window}
-use Rattle.ept_emit.specs.Pages.{AreApart}
+use Rattle.ept_emit.specs.Pages.{AreApart, ranges_of}
 use Rattle.machine_layout.specs.declared.walk.Walk.TheVariants.{At, Violation}
 use Rattle.machine_layout.specs.Memory.{Page, page_of, is_there, le_number, load_of}
 use Rattle.machine_layout.specs.Walks.{entry_size, entry_of, root_of, walk_of, walk_from, addresses_read, addresses_from, leaf_size, end_entry_size}
@@ -77,7 +77,7 @@ module _ (m : List Page) (at n total : ℕ) (out : List ℕ) (ws : List Window) 
       ∙ (walk_written (entry_of m) (is_there m) (word_at out) (at / 4096) 1 n ws addr (kind_bit kind) bounded entries ok addresses 3 0 some (numbered.written addr (in_all addr lt))
       ∙ leads_is (window_at ws addr) addr kind)
 
-  pub size_held : (addr : ℕ) (o : Option Window) → window_at ws addr ≡ o → addr < 2 ^ 48 → AreApart ws → IfSome o (λ w. IsGreatestSize w addr (leaf_size m (eptp_of at) addr))
+  pub size_held : (addr : ℕ) (o : Option Window) → window_at ws addr ≡ o → addr < 2 ^ 48 → AreApart (ranges_of ws) → IfSome o (λ w. IsGreatestSize w addr (leaf_size m (eptp_of at) addr))
   size_held addr None is lt apart = tt
   size_held addr (Some w) is lt apart =
       let size = size_written (entry_of m) (word_at out) (at / 4096) 1 n ws addr w bounded entries ok apart is 3 0 some (numbered.written addr (in_all addr lt)) (λ h allowed inside. let low = level_low w.leaf in omega arith) in

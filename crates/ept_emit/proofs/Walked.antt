@@ -6,7 +6,7 @@ use Rattle.std.proofs.Math.Nat.{mod-eq-sub-mul-div}
 use Rattle.ept_emit.specs.declared.window.Leaf.{Leaf}
 use Rattle.ept_emit.specs.declared.window.Leaf.TheVariants.{Small, Large, Huge}
 use Rattle.ept_emit.specs.declared.window.Window.{Window}
-use Rattle.ept_emit.specs.Pages.{AreApart}
+use Rattle.ept_emit.specs.Pages.{AreApart, ranges_of}
 use Rattle.machine_layout.specs.declared.walk.Walk.{Walk}
 use Rattle.machine_layout.specs.declared.walk.Walk.TheVariants.{At, Violation, Misconfigured}
 use Rattle.machine_layout.specs.Walks.{entry_size, index_at, reads, leaf_end, walk_from, is_present, is_misconfigured, is_leaf, end_entry_size, goes_on}
@@ -204,7 +204,7 @@ module _ (entry : ℕ → ℕ → Option ℕ) (there : ℕ → Bool) (out : ℕ 
 
 -- ---- the size of the page
 
-module _ (entry : ℕ → ℕ → Option ℕ) (out : ℕ → ℕ) (base lo hi : ℕ) (ws : List Window) (addr : ℕ) (t : Window) (small : base + hi ≤ 2 ^ 28) (has : Has entry out base hi) (ok : All IsEmittable ws) (apart : AreApart ws) (held : window_at ws addr ≡ Some t) where
+module _ (entry : ℕ → ℕ → Option ℕ) (out : ℕ → ℕ) (base lo hi : ℕ) (ws : List Window) (addr : ℕ) (t : Window) (small : base + hi ≤ 2 ^ 28) (has : Has entry out base hi) (ok : All IsEmittable ws) (apart : AreApart (ranges_of ws)) (held : window_at ws addr ≡ Some t) where
   whole_from : (l : ℕ) → l ≤ level_of t.leaf → IsInside t l addr → is_whole t l (addr / entry_size l) ≡ true
   whole_from zero a h = refl
   whole_from (suc l) a h = or_right (suc l == 0) _ (and_from _ _ (le-leb _ _ a) (and_from _ _ (le-leb _ _ h.begins) (le-leb _ _ h.ends)))

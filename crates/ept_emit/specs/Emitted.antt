@@ -1,14 +1,14 @@
 -- What the emitted tables mean (Intel SDM volume 3, "VMX Support for Address Translation").
-use Rattle.std.specs.Prelude.{◌≡◌, ℕ, ◌+◌, ◌-◌, ◌*◌, ◌/◌, ◌<◌, ◌≤◌, ◌&&◌, nat_lt, nat_le, Bool, true, if◌then◌else◌, List, length, slice_index, take, drop, All, Option, Some, None}
+use Rattle.std.specs.Prelude.{◌≡◌, ◌⊎◌, ℕ, suc, ◌+◌, ◌-◌, ◌*◌, ◌/◌, ◌^◌, ◌<◌, ◌≤◌, ◌&&◌, nat_lt, nat_le, Bool, true, if◌then◌else◌, List, length, slice_index, take, drop, All, IfSome, Option, Some, None}
 use Rattle.std.specs.List.{find}
 use Rattle.ept_emit.specs.declared.window.Window.{Window}
 use Rattle.machine_layout.specs.declared.walk.Walk.{Walk}
 use Rattle.machine_layout.specs.declared.walk.Walk.TheVariants.{At, Violation}
 use Rattle.machine_layout.specs.Memory.{Page, is_there, page_of}
-use Rattle.machine_layout.specs.Walks.{addresses_read, entry_size}
+use Rattle.machine_layout.specs.Walks.{addresses_read, entry_size, leaf_size, walk_of}
 use Rattle.muen_num.specs.declared.access.AccessKind.{AccessKind}
 use Rattle.policy_types.specs.Rights.{allows}
-use Rattle.ept_emit.specs.Entries.{level_of}
+use Rattle.ept_emit.specs.Entries.{level_of, word_at}
 
 -- the extended-page-table pointer of tables whose PML4 table is at `at`: write back in bits 2:0, the length of walks minus
 -- one in bits 5:3, no flags of accesses in bit 6
@@ -70,3 +70,42 @@ pub record IsReadBy (m : List Page) (eptp last page : ℕ) : Type 0 where
   pub level : ℕ
   pub small : addr ≤ last
   pub reads : Reads m eptp addr level page
+
+-- ---- what tables at an address mean in every memory that has them
+
+-- a walk leads each access where the windows do
+abbrev pub AreTranslating : List Window → ℕ → List ℕ → Type 0
+AreTranslating ws at tables =
+    (m : List Page) (addr : ℕ) (kind : AccessKind) → HasTables m at tables → HasAddresses m ws → addr < 2 ^ 48
+    → walk_of m (eptp_of at) addr kind ≡ translation ws addr kind
+
+-- a walk reads nothing but the tables
+abbrev pub AreReadAlone : ℕ → List ℕ → Type 0
+AreReadAlone at tables =
+    (m : List Page) (addr : ℕ) → HasTables m at tables → addr < 2 ^ 48
+    → All (λ address. (at ≤ address) × (address + 8 ≤ at + length tables)) (addresses_read m (eptp_of at) addr)
+
+-- each table is read at one path: its level, and the address bits above it
+abbrev pub HaveOnePath : ℕ → List ℕ → Type 0
+HaveOnePath at tables =
+    (m : List Page) (a b level other page : ℕ) → HasTables m at tables → a < 2 ^ 48 → b < 2 ^ 48
+    → Reads m (eptp_of at) a level page → Reads m (eptp_of at) b other page
+    → (level ≡ other) × (a / entry_size (suc level) ≡ b / entry_size (suc level))
+
+-- each address of a window is mapped by the greatest page
+abbrev pub HaveGreatestPages : List Window → ℕ → List ℕ → Type 0
+HaveGreatestPages ws at tables =
+    (m : List Page) (addr : ℕ) → HasTables m at tables → addr < 2 ^ 48
+    → IfSome (window_at ws addr) (λ w. IsGreatestSize w addr (leaf_size m (eptp_of at) addr))
+
+-- tables lie in the order in which ascending addresses read them
+abbrev pub AreInOrder : ℕ → List ℕ → Type 0
+AreInOrder at tables =
+    (m : List Page) (addr level page k : ℕ) → HasTables m at tables → addr < 2 ^ 48 → Reads m (eptp_of at) addr level page
+    → at / 4096 ≤ k → k ≤ page → IsReadBy m (eptp_of at) addr k
+
+-- each of so many pages is read by some walk, or is zero
+abbrev pub AreReadOrZero : ℕ → ℕ → List ℕ → Type 0
+AreReadOrZero pages at tables =
+    (m : List Page) (k : ℕ) → HasTables m at tables → k < pages
+    → IsReadBy m (eptp_of at) (2 ^ 48 - 1) (at / 4096 + k) ⊎ ((i : ℕ) → i < 512 → word_at tables (512 * k + i) ≡ 0)

@@ -2,43 +2,37 @@
 ghost use Rattle.std.specs.Prelude.{◌≡◌, ◌*◌, ◌/◌, ◌^◌, ◌<◌, ◌≤◌, All};
 ghost use Rattle.ept_emit.specs.Pages.{AreApart, IsMapped, count, ept_pages, is_taken};
 
-use crate::window::Window;
-use muen_num::limits::LARGE_PAGE;
+use crate::window::GuestRange;
+use machine_layout::entries::{PML4_LEVEL, entry_size};
 
-/// The bytes that one entry of a page directory pointer table stands for (Intel SDM volume 3, EPT).
-const HUGE_PAGE: u64 = 512 * LARGE_PAGE;
-
-/// The bytes that one entry of a PML4 table stands for.
-const POINTER_TABLE_SIZE: u64 = 512 * HUGE_PAGE;
-
-// How many aligned ranges of so many bytes the windows touch: one table stands for each.
-fn values_taken(windows: &[Window], entry_size: u64) -> u64
-    requires mapped { All IsMapped windows.now }
-    requires apart { AreApart windows.now }
+// How many aligned ranges of so many bytes these ranges touch: one table stands for each.
+fn values_taken(ranges: &[GuestRange], entry_size: u64) -> u64
+    requires mapped { All IsMapped ranges.now }
+    requires apart { AreApart ranges.now }
     requires some { 0 < entry_size }
     requires whole { 2 ^ 48 ≡ 2 ^ 48 / entry_size * entry_size }
-    ensures value { result ≡ count (is_taken windows.now entry_size) 0 (2 ^ 48 / entry_size) }
+    ensures value { result ≡ count (is_taken ranges.now entry_size) 0 (2 ^ 48 / entry_size) }
     ensures small { result ≤ 2 ^ 48 }
 {
     let mut all = 0;
     let mut next = 0;
-    for window in windows {
-        let last = (window.guest + window.size - 1) / entry_size;
-        all += last + 1 - (window.guest / entry_size).max(next);
+    for range in ranges {
+        let last = (range.guest + range.size - 1) / entry_size;
+        all += last + 1 - (range.guest / entry_size).max(next);
         next = last + 1;
     }
     all
 }
 
-/// How many pages the tables of these windows take: the PML4, and a page for each table below it.
-/// The windows ascend, share no address, aren't empty, and end at 2^48 or before it. Physical
-/// addresses, rights and leaves don't matter, and nothing is gone through page by page.
-pub fn pages(windows: &[Window]) -> u64
-    requires mapped { All IsMapped windows.now }
-    requires apart { AreApart windows.now }
-    ensures { result ≡ ept_pages windows.now }
+/// How many pages the tables of windows at these guest addresses take: the PML4, and a page for each
+/// table below it. The ranges ascend, share no address, aren't empty, and end at 2^48 or before it. What
+/// windows show, and how, doesn't matter, and nothing is gone through page by page.
+pub fn pages(ranges: &[GuestRange]) -> u64
+    requires mapped { All IsMapped ranges.now }
+    requires apart { AreApart ranges.now }
+    ensures { result ≡ ept_pages ranges.now }
 {
-    1 + values_taken(windows, POINTER_TABLE_SIZE)
-        + values_taken(windows, HUGE_PAGE)
-        + values_taken(windows, LARGE_PAGE)
+    1 + values_taken(ranges, entry_size(PML4_LEVEL))
+        + values_taken(ranges, entry_size(PML4_LEVEL - 1))
+        + values_taken(ranges, entry_size(PML4_LEVEL - 2))
 }

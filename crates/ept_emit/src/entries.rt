@@ -5,45 +5,9 @@ ghost use Rattle.machine_layout.specs.Walks.{entry_size};
 
 use crate::{Leaf, Window};
 use bitflags::Flags;
-use muen_num::limits::{LARGE_PAGE, PAGE};
+use machine_layout::entries::{ALL_RIGHTS, ENTRY_BYTES, MAPS_PAGE, TYPE_UNIT, entry_size};
+use muen_num::limits::PAGE;
 use policy_types::Caching;
-
-/// How many entries a table has (Intel SDM volume 3, EPT).
-pub(crate) const TABLE_ENTRIES: u64 = 512;
-
-/// The bytes that an entry of a page directory pointer table stands for.
-const HUGE_PAGE: u64 = TABLE_ENTRIES * LARGE_PAGE;
-
-/// The bytes that an entry of a PML4 table stands for.
-const POINTER_TABLE_SIZE: u64 = TABLE_ENTRIES * HUGE_PAGE;
-
-/// The bytes of an entry.
-const ENTRY_BYTES: usize = 8;
-
-/// The read, write and execute bits of an entry (Intel SDM volume 3, formats of EPT entries).
-const ALL_RIGHTS: u64 = 7;
-
-/// What the memory type is multiplied by, so that it stands in bits 5:3 of an entry.
-const TYPE_UNIT: u64 = 8;
-
-/// Bit 7 of an entry above a page table: it maps a page.
-const MAPS_PAGE: u64 = 1 << 7;
-
-/// How many bytes an entry of a table of this level stands for: level 3 is that of the PML4 table,
-/// level 0 that of page tables.
-pub(crate) fn entry_size(level: u32) -> u64
-    requires { level < 4 }
-    ensures value { result ≡ entry_size level }
-    ensures small { result ≤ 2 ^ 39 }
-    ensures some { 4096 ≤ result }
-{
-    match level {
-        0 => PAGE,
-        1 => LARGE_PAGE,
-        2 => HUGE_PAGE,
-        _ => POINTER_TABLE_SIZE,
-    }
-}
 
 // The level of the tables whose entries map pages of this size.
 fn level_of(leaf: Leaf) -> u32
@@ -117,6 +81,6 @@ pub(crate) fn set_word(out: &mut [u8], word: usize, value: u64)
     ensures here { word_at out.new word ≡ value }
     ensures others { (j : ℕ) → j ≢ word → word_at out.new j ≡ word_at out.old j }
 {
-    let start = ENTRY_BYTES * word;
-    out[start..start + ENTRY_BYTES].copy_from_slice(&value.to_le_bytes());
+    let start = ENTRY_BYTES as usize * word;
+    out[start..start + ENTRY_BYTES as usize].copy_from_slice(&value.to_le_bytes());
 }

@@ -1,6 +1,6 @@
 //! Emits the EPT tables that map windows (Intel SDM volume 3, "VMX Support for Address Translation"):
 //! a walk over the tables leads each guest address where its window does. How many pages the tables of
-//! windows take is counted from these alone.
+//! windows take is counted from the guest addresses of these alone.
 #![tactic(auto)]
 
 mod count;
@@ -11,4 +11,4 @@ mod window;
 
 pub use count::pages;
 pub use tables::{emit, eptp};
-pub use window::{Leaf, Window};
+pub use window::{GuestRange, Leaf, Window};

@@ -1,17 +1,17 @@
 //! Which window has an address of an entry.
 ghost use Rattle.std.specs.Prelude.{◌≡◌, ◌+◌, ◌*◌, ◌^◌, ◌<◌, ◌≤◌, length, All, IfSome};
-ghost use Rattle.ept_emit.specs.Pages.{AreApart};
+ghost use Rattle.ept_emit.specs.Pages.{AreApart, ranges_of};
 ghost use Rattle.ept_emit.specs.Entries.{IsEmittable, window_on};
 ghost use Rattle.ept_emit.specs.Searches.{IsPast};
 ghost use Rattle.machine_layout.specs.Walks.{entry_size};
 
 use crate::Window;
-use crate::entries::entry_size;
+use machine_layout::entries::entry_size;
 
 // How many windows end by this address.
 fn windows_before(windows: &[Window], address: u64) -> usize
     requires emittable { All IsEmittable windows.now }
-    requires apart { AreApart windows.now }
+    requires apart { AreApart (ranges_of windows.now) }
     ensures { IsPast windows.now address result }
 {
     let mut low = 0;
@@ -31,7 +31,7 @@ fn windows_before(windows: &[Window], address: u64) -> usize
 /// The first window that has an address of this entry of this level, by binary search.
 pub(crate) fn window_on(windows: &[Window], level: u32, entry: u64) -> Option<Window>
     requires emittable { All IsEmittable windows.now }
-    requires apart { AreApart windows.now }
+    requires apart { AreApart (ranges_of windows.now) }
     requires level { level < 4 }
     requires small { entry_size level * entry < 2 ^ 48 }
     ensures value { result ≡ window_on windows.now (entry_size level * entry) (entry_size level) }

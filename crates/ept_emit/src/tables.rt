@@ -1,21 +1,17 @@
 //! Tables, entry by entry.
-ghost use Rattle.std.specs.Prelude.{◌≡◌, ◌≢◌, ◌⊎◌, ℕ, suc, ◌+◌, ◌-◌, ◌*◌, ◌/◌, ◌%◌, ◌^◌, ◌<◌, ◌≤◌, length, All, List, IfSome};
-ghost use Rattle.ept_emit.specs.Pages.{AreApart, ept_pages};
-ghost use Rattle.ept_emit.specs.Emitted.{HasAddresses, HasTables, IsGreatestSize, IsReadBy, Reads, eptp_of, translation, window_at};
+ghost use Rattle.std.specs.Prelude.{◌≡◌, ◌≢◌, ℕ, suc, ◌+◌, ◌*◌, ◌/◌, ◌%◌, ◌^◌, ◌<◌, ◌≤◌, length, All};
+ghost use Rattle.ept_emit.specs.Pages.{AreApart, ept_pages, ranges_of};
+ghost use Rattle.ept_emit.specs.Emitted.{AreInOrder, AreReadAlone, AreReadOrZero, AreTranslating, HaveGreatestPages, HaveOnePath, eptp_of};
 ghost use Rattle.ept_emit.specs.Entries.{IsEmittable, word_at};
 ghost use Rattle.ept_emit.specs.Needs.{needs};
 ghost use Rattle.ept_emit.specs.Tables.{AreNumbered, IsWritten};
-ghost use Rattle.machine_layout.specs.Memory.{Page};
-ghost use Rattle.machine_layout.specs.Walks.{leaf_size, addresses_read, entry_size, walk_of};
-ghost use Rattle.muen_num.specs.declared.access.AccessKind.{AccessKind};
+ghost use Rattle.machine_layout.specs.Walks.{entry_size};
 
 use crate::Window;
-use crate::entries::{TABLE_ENTRIES, is_whole, leaf_entry, set_word, table_entry};
+use crate::entries::{is_whole, leaf_entry, set_word, table_entry};
 use crate::search::window_on;
+use machine_layout::entries::{PML4_LEVEL, TABLE_ENTRIES};
 use muen_num::limits::PAGE;
-
-/// The level of the PML4 table.
-const ROOT_LEVEL: u32 = 3;
 
 // Writes one entry of a table, and all tables below it, which are those from `used` on. `entry` counts
 // over all tables of the level. Returns the number after the last table.
@@ -30,7 +26,7 @@ fn write_entry(
     entry: u64,
 ) -> usize
     requires emittable { All IsEmittable windows.now }
-    requires apart { AreApart windows.now }
+    requires apart { AreApart (ranges_of windows.now) }
     requires level { level < 4 }
     requires base { 4096 * base + length out.old ≤ 2 ^ 40 }
     requires table { table < used }
@@ -68,7 +64,7 @@ fn write_table(
     parent: u64,
 ) -> usize
     requires emittable { All IsEmittable windows.now }
-    requires apart { AreApart windows.now }
+    requires apart { AreApart (ranges_of windows.now) }
     requires level { level < 4 }
     requires base { 4096 * base + length out.old ≤ 2 ^ 40 }
     requires table { table < used }
@@ -106,21 +102,21 @@ fn write_table(
 /// would take; pages that larger ones save are zero at the end.
 pub fn emit(windows: &[Window], at: u64, out: &mut [u8])
     requires emittable { All IsEmittable windows.now }
-    requires apart { AreApart windows.now }
+    requires apart { AreApart (ranges_of windows.now) }
     requires at { at % 4096 ≡ 0 }
-    requires end { at + 4096 * ept_pages windows.now ≤ 2 ^ 40 }
-    requires room { length out.old ≡ 4096 * ept_pages windows.now }
-    ensures walk { (m : List Page) (addr : ℕ) (kind : AccessKind) → HasTables m at out.new → HasAddresses m windows.now → addr < 2 ^ 48 → walk_of m (eptp_of at) addr kind ≡ translation windows.now addr kind }
-    ensures alone { (m : List Page) (addr : ℕ) → HasTables m at out.new → addr < 2 ^ 48 → All (λ address. (at ≤ address) × (address + 8 ≤ at + length out.new)) (addresses_read m (eptp_of at) addr) }
-    ensures paths { (m : List Page) (a b level other page : ℕ) → HasTables m at out.new → a < 2 ^ 48 → b < 2 ^ 48 → Reads m (eptp_of at) a level page → Reads m (eptp_of at) b other page → (level ≡ other) × (a / entry_size (suc level) ≡ b / entry_size (suc level)) }
-    ensures leaves { (m : List Page) (addr : ℕ) → HasTables m at out.new → addr < 2 ^ 48 → IfSome (window_at windows.now addr) (λ w. IsGreatestSize w addr (leaf_size m (eptp_of at) addr)) }
-    ensures order { (m : List Page) (addr level page k : ℕ) → HasTables m at out.new → addr < 2 ^ 48 → Reads m (eptp_of at) addr level page → at / 4096 ≤ k → k ≤ page → IsReadBy m (eptp_of at) addr k }
-    ensures rest { (m : List Page) (k : ℕ) → HasTables m at out.new → k < ept_pages windows.now → IsReadBy m (eptp_of at) (2 ^ 48 - 1) (at / 4096 + k) ⊎ ((i : ℕ) → i < 512 → word_at out.new (512 * k + i) ≡ 0) }
-    ensures entries { (addr : ℕ) → addr < 2 ^ 48 → IsWritten (word_at out.new) (at / 4096) 1 (ept_pages windows.now) windows.now 3 0 addr }
+    requires end { at + 4096 * ept_pages (ranges_of windows.now) ≤ 2 ^ 40 }
+    requires room { length out.old ≡ 4096 * ept_pages (ranges_of windows.now) }
+    ensures walk { AreTranslating windows.now at out.new }
+    ensures alone { AreReadAlone at out.new }
+    ensures paths { HaveOnePath at out.new }
+    ensures leaves { HaveGreatestPages windows.now at out.new }
+    ensures order { AreInOrder at out.new }
+    ensures rest { AreReadOrZero (ept_pages (ranges_of windows.now)) at out.new }
+    ensures entries { (addr : ℕ) → addr < 2 ^ 48 → IsWritten (word_at out.new) (at / 4096) 1 (ept_pages (ranges_of windows.now)) windows.now 3 0 addr }
     ensures len { length out.new ≡ length out.old }
 {
     out.fill(0);
-    write_table(out, at / PAGE, 1, windows, ROOT_LEVEL, 0, 0);
+    write_table(out, at / PAGE, 1, windows, PML4_LEVEL, 0, 0);
 }
 
 /// The extended-page-table pointer of tables whose PML4 table is at `at`: memory type write back, walks

@@ -12,6 +12,14 @@ pub enum Leaf {
     Huge,
 }
 
+/// The guest addresses of a window: `size` bytes from `guest` on.
+#[derive(Clone, Copy, Debug, PartialEq, Eq)]
+pub struct GuestRange {
+    pub guest: u64,
+    /// In bytes.
+    pub size: u64,
+}
+
 /// A window: `size` bytes from the guest address `guest` on are those from the physical address
 /// `address` on.
 #[derive(Clone, Copy, Debug, PartialEq, Eq)]

@@ -1,7 +1,6 @@
 //! The walk of EPT tables in memory (Intel SDM volume 3, VMX support for address translation).
 #![tactic(auto)]
 
-mod entry;
 mod plain;
 mod translation;
 

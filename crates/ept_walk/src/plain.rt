@@ -4,16 +4,14 @@ ghost use Rattle.machine_layout.specs.Memory.{Page, is_there};
 ghost use Rattle.machine_layout.specs.Walks.{index_at, leaf_end, entry_of, walk_from};
 
 use crate::Translate;
-use crate::entry::{
-    PML4, entry_address, entry_size, is_leaf, is_misconfigured, is_present, page_number, rights_of,
-};
 use machine_layout::Walk;
+use machine_layout::entries::{
+    ALL_RIGHTS, PML4_LEVEL, entry_address, entry_size, is_leaf, is_misconfigured, is_present,
+    page_number, rights_of,
+};
 use muen_num::limits::PAGE;
 use muen_num::{AccessKind, AccessSize};
 use phys_mem::PhysMem;
-
-/// The rights of a walk before it has read an entry: all of them.
-const ALL_RIGHTS: u64 = 7;
 
 /// Reads the tables at each walk, one entry of each level at most, and keeps nothing.
 #[derive(Clone, Copy, Debug)]
@@ -47,7 +45,7 @@ fn leaf_end<M: PhysMem>(mem: &M, want: u64, rights: u64, address: u64) -> Walk
     if rights & want != want {
         return Walk::Violation(rights);
     }
-    match mem.page(address / PAGE * PAGE) {
+    match mem.page(address / PAGE) {
         Some(_) => Walk::At(address),
         None => Walk::Misconfigured,
     }
@@ -82,7 +80,14 @@ impl Translate for PlainWalk {
     ghost fits = { FitsEvery };
 
     fn walk<M: PhysMem>(&mut self, mem: &M, eptp: u64, addr: u64, kind: AccessKind) -> Walk {
-        walk_from(mem, addr, kind.bit() as u64, PML4, eptp / PAGE, ALL_RIGHTS)
+        walk_from(
+            mem,
+            addr,
+            kind.bit() as u64,
+            PML4_LEVEL,
+            eptp / PAGE,
+            ALL_RIGHTS,
+        )
     }
 
     fn stored(&mut self, _at: u64, _len: u64) {}

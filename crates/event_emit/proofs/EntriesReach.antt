@@ -8,7 +8,8 @@ use Rattle.std.proofs.lemmas.List.{length-map}
 use Rattle.std.proofs.lemmas.List.Folds.{list_all-map}
 use Rattle.event_emit.specs.ByIndex.{event_part, has_letters, has_name, irq_target}
 use Rattle.event_emit.specs.Tables.{IsEntry, IsIrqTarget}
-use Rattle.event_emit.proofs.KeptEvents.{irq_reaches, is_free, is_raised, is_routed, raised_reaches}
+use Rattle.event_emit.proofs.KeptEvents.{irq_reaches, is_raised, is_routed, raised_reaches}
+use Rattle.policy_lawful.proofs.KeptVectors.{is_free}
 use Rattle.expand_grants.specs.Grants.{AreRoutes, entry_raised, is_way, raised_named, route_for, target_named}
 use Rattle.expand_grants.specs.declared.granted.EventEntry.{EventEntry}
 use Rattle.expand_grants.specs.declared.granted.Route.{Route}

@@ -1,22 +1,22 @@
 -- Whom the events and interrupts of a policy reach, where its rules are kept: a subject with a name, under a vector that
 -- isn't kept for exceptions.
-use Rattle.std.proofs.Common.{◌≡◌, ℕ, Bool, true, false, cond, List, [], ◌∷◌, ◌++◌, map, Option, Some, None, refl, sym, ap, ◌∙◌}
+use Rattle.std.proofs.Common.{◌≡◌, ℕ, Bool, true, false, cond, List, [], ◌∷◌, map, Option, Some, None, refl, sym, ap, ◌∙◌}
 use Rattle.std.specs.Prelude.{◌==◌, ◌&&◌, ◌||◌, not, filter, is_some, nat_le, option_and_then, option_map, slice_get}
 use Rattle.std.specs.Option.{option_map_or, option_or}
-use Rattle.std.specs.List.{filter_map, find, flat_map, list_all}
+use Rattle.std.specs.List.{find, flat_map, list_all}
 use Rattle.std.specs.Str.{bytes_eq}
 use Rattle.std.proofs.lemmas.Bool.{and_from, and_parts}
-use Rattle.std.proofs.lemmas.List.Folds.{list_all-append, list_all-map}
+use Rattle.std.proofs.lemmas.List.Folds.{list_all-map}
 use Rattle.std.proofs.lemmas.Slice.Eq.{bytes_eq-Decides}
 use Rattle.event_emit.specs.ByIndex.{has_letters}
-use Rattle.expand_grants.proofs.Elements.{all_filter, all_flat, all_some}
+use Rattle.policy_lawful.proofs.EachPasses.{all_filter, all_flat}
 use Rattle.image_pack.specs.Codes.{is_switch as switches, is_vector, vector_code}
 use Rattle.muen_num.proofs.Lists.{each_of, found_among}
 use Rattle.muen_num.proofs.SearchLaws.{all_pass}
 use Rattle.muen_num.specs.declared.limits.TheConstants.{FIRST_VECTOR, LAST_VECTOR}
 use Rattle.muen_num.specs.declared.mode.EventMode.{EventMode}
 use Rattle.muen_num.specs.declared.mode.EventMode.TheVariants.{Asap, Async, Own, Switch}
-use Rattle.policy_lawful.specs.MoreRules.{are_distinct, are_vectors, fits_event, has_vector, is_connected, is_switch, is_writer, offence_15, offence_6, readers_of, vectors_of, writers_of}
+use Rattle.policy_lawful.specs.MoreRules.{fits_event, has_vector, is_connected, is_switch, is_writer, offence_15, offence_6, readers_of, writers_of}
 use Rattle.policy_lawful.specs.Offences.{alone}
 use Rattle.policy_lawful.specs.Events.{ChannelEnd, Raised, Target, channel_ends, channel_event, channel_targets, event_of, event_targets, irq_of, named_event, reads_from, same_way, writes_by}
 use Rattle.policy_types.specs.declared.rights.Role.{Role}
@@ -29,16 +29,9 @@ use Rattle.policy_types.specs.declared.source.IrqUse.{IrqUse}
 use Rattle.policy_types.specs.declared.source.Source.{Source}
 use Rattle.policy_types.specs.declared.source.SourceWay.{SourceWay}
 use Rattle.policy_types.specs.declared.source.Subject.{Subject}
+use Rattle.policy_lawful.proofs.KeptVectors.{each_keeps_vectors, is_free, is_free_if_any, keeps_vectors, vectors_kept}
 
 -- ---- vectors
-
--- a vector that isn't kept for exceptions
-abbrev pub is_free : ℕ → Bool
-is_free n = nat_le FIRST_VECTOR n && nat_le n LAST_VECTOR
-
--- none, or one of those
-abbrev is_free_if_any : Option ℕ → Bool
-is_free_if_any v = option_map_or is_free v true
 
 -- it reaches a subject with a name, under a vector that the mode allows
 abbrev reaches : EventMode → Target → Bool
@@ -86,37 +79,6 @@ then_raised f None h = refl
 then_raised f (Some x) h = h x
 
 module _ (p : Source) (names : list_all (λ s. has_letters s.name) p.subjects ≡ true) (lawful_6 : offence_6 p ≡ None) (lawful_15 : offence_15 p ≡ None) where
-  -- ---- what rule 15 says of a subject
-
-  abbrev keeps_15 : Subject → Bool
-  keeps_15 s = list_all (has_vector p) s.targets && are_vectors (vectors_of p s)
-
-  each_15 : list_all keeps_15 p.subjects ≡ true
-  unfolding offence_15
-  each_15 = all_pass keeps_15 (λ s. alone s.name) p.subjects lawful_15
-
-  record Vectors (s : Subject) : Type 0 where
-    named : list_all (has_vector p) s.targets ≡ true
-    targets : list_all (λ t. is_free_if_any t.vector) s.targets ≡ true
-    ends : list_all (λ e. is_free_if_any e.vector) (channel_ends p s) ≡ true
-    irqs : list_all (λ d. list_all is_free (map (λ i. i.vector) d.irqs)) s.devices ≡ true
-
-  vectors : (s : Subject) → keeps_15 s ≡ true → Vectors s
-  vectors s h =
-      let both = and_parts (list_all (has_vector p) s.targets) (are_vectors (vectors_of p s)) h in
-      let all = (and_parts (list_all is_free (vectors_of p s)) (are_distinct (vectors_of p s)) both.1).0 in
-      let a = filter_map (λ t. t.vector) s.targets in
-      let b = filter_map (λ e. e.vector) (channel_ends p s) in
-      let c = flat_map (λ d. map (λ i. i.vector) d.irqs) s.devices in
-      let last = and_parts (list_all is_free (a ++ b)) (list_all is_free c) (sym (list_all-append is_free (a ++ b) c) ∙ all) in
-      let first = and_parts (list_all is_free a) (list_all is_free b) (sym (list_all-append is_free a b) ∙ last.0) in
-      record {
-        named = both.0;
-        targets = sym (all_some is_free (λ t. t.vector) s.targets) ∙ first.0;
-        ends = sym (all_some is_free (λ e. e.vector) (channel_ends p s)) ∙ first.1;
-        irqs = sym (all_flat is_free (λ d. map (λ i. i.vector) d.irqs) s.devices) ∙ last.1;
-      }
-
   -- ---- events by name
 
   abbrev target_named : List ℕ → EventTarget → Target
@@ -135,9 +97,9 @@ module _ (p : Source) (names : list_all (λ s. has_letters s.name) p.subjects �
           | false ↦ λ _. refl
         ] refl
 
-    of_subject : (s : Subject) → has_letters s.name ≡ true → keeps_15 s ≡ true → list_all (reaches e.mode) (map (target_named s.name) (filter (λ t. bytes_eq t.event name) s.targets)) ≡ true
+    of_subject : (s : Subject) → has_letters s.name ≡ true → keeps_vectors p s ≡ true → list_all (reaches e.mode) (map (target_named s.name) (filter (λ t. bytes_eq t.event name) s.targets)) ≡ true
     of_subject s letters h =
-        let v = vectors s h in
+        let v = vectors_kept p s h in
         list_all-map (reaches e.mode) (target_named s.name) (filter (λ t. bytes_eq t.event name) s.targets)
         ∙ all_filter (λ t. reaches e.mode (target_named s.name t)) (λ t. bytes_eq t.event name) s.targets
         ∙ each_of (has_vector p) (λ t. is_free_if_any t.vector) (λ t. not (bytes_eq t.event name) || reaches e.mode (target_named s.name t))
@@ -146,8 +108,8 @@ module _ (p : Source) (names : list_all (λ s. has_letters s.name) p.subjects �
     targets_reached : list_all (reaches e.mode) (event_targets p name) ≡ true
     targets_reached =
         all_flat (reaches e.mode) (λ s. map (target_named s.name) (filter (λ t. bytes_eq t.event name) s.targets)) p.subjects
-        ∙ each_of (λ s. has_letters s.name) keeps_15 (λ s. list_all (reaches e.mode) (map (target_named s.name) (filter (λ t. bytes_eq t.event name) s.targets)))
-        of_subject p.subjects names each_15
+        ∙ each_of (λ s. has_letters s.name) (keeps_vectors p) (λ s. list_all (reaches e.mode) (map (target_named s.name) (filter (λ t. bytes_eq t.event name) s.targets)))
+        of_subject p.subjects names (each_keeps_vectors p lawful_15)
 
   event_raised : (name : List ℕ) → option_map_or is_raised (named_event p name) true ≡ true
   event_raised name =
@@ -200,7 +162,7 @@ module _ (p : Source) (names : list_all (λ s. has_letters s.name) p.subjects �
         let hear : list_all (hears mode) (readers_of p name) ≡ true = ap (λ n. list_all (hears mode) (readers_of p n)) (sym named) ∙ readers_hear (writers_of p c.name) (readers_of p c.name) c.has_event mode has fits in
         sym (all_filter (hears mode) (λ e. not (is_writer e.1.role)) (flat_map listed p.subjects) ∙ all_flat heard_from listed p.subjects) ∙ hear
 
-    of_reader : (s : Subject) → has_letters s.name ≡ true → list_all heard_from (listed s) ≡ true → keeps_15 s ≡ true
+    of_reader : (s : Subject) → has_letters s.name ≡ true → list_all heard_from (listed s) ≡ true → keeps_vectors p s ≡ true
         → list_all (reaches mode) (map (end_reached s.name) (filter (λ e. reads_from e e.role name) (channel_ends p s))) ≡ true
     of_reader s letters h k =
         let heard : list_all (λ e. not (bytes_eq e.channel name) || heard_from (s.name, e)) (channel_ends p s) ≡ true =
@@ -210,16 +172,16 @@ module _ (p : Source) (names : list_all (λ s. has_letters s.name) p.subjects �
         ∙ all_filter (λ e. reaches mode (end_reached s.name e)) (λ e. reads_from e e.role name) (channel_ends p s)
         ∙ each_of (λ e. not (bytes_eq e.channel name) || heard_from (s.name, e)) (λ e. is_free_if_any e.vector)
         (λ e. not (reads_from e e.role name) || reaches mode (end_reached s.name e))
-        (λ e a b. of_end s.name letters e e.role a b) (channel_ends p s) heard (vectors s k).ends
+        (λ e a b. of_end s.name letters e e.role a b) (channel_ends p s) heard (vectors_kept p s k).ends
 
     readers_reached : list_all (reaches mode) (channel_targets p name) ≡ true
     readers_reached =
         let both = each_of (λ s. has_letters s.name) (λ s. list_all heard_from (listed s)) (λ s. has_letters s.name && list_all heard_from (listed s))
         (λ s a b. and_from (has_letters s.name) (list_all heard_from (listed s)) a b) p.subjects names each_6 in
         all_flat (reaches mode) (λ s. map (end_reached s.name) (filter (λ e. reads_from e e.role name) (channel_ends p s))) p.subjects
-        ∙ each_of (λ s. has_letters s.name && list_all heard_from (listed s)) keeps_15
+        ∙ each_of (λ s. has_letters s.name && list_all heard_from (listed s)) (keeps_vectors p)
         (λ s. list_all (reaches mode) (map (end_reached s.name) (filter (λ e. reads_from e e.role name) (channel_ends p s))))
-        (λ s a b. let parts = and_parts (has_letters s.name) (list_all heard_from (listed s)) a in of_reader s parts.0 parts.1 b) p.subjects both each_15
+        (λ s a b. let parts = and_parts (has_letters s.name) (list_all heard_from (listed s)) a in of_reader s parts.0 parts.1 b) p.subjects both (each_keeps_vectors p lawful_15)
 
   channel_raised : (name : List ℕ) → option_map_or is_raised (channel_event p name) true ≡ true
   channel_raised name =
@@ -273,10 +235,10 @@ module _ (p : Source) (names : list_all (λ s. has_letters s.name) p.subjects �
       let of_use : Subject → DeviceUse → List Target = λ s d. map (irq_reached s.name) (filter (wanted d) d.irqs) in
       let all : list_all is_routed (flat_map (λ s. flat_map (of_use s) s.devices) p.subjects) ≡ true =
       all_flat is_routed (λ s. flat_map (of_use s) s.devices) p.subjects
-      ∙ each_of (λ s. has_letters s.name) keeps_15 (λ s. list_all is_routed (flat_map (of_use s) s.devices))
+      ∙ each_of (λ s. has_letters s.name) (keeps_vectors p) (λ s. list_all is_routed (flat_map (of_use s) s.devices))
       (λ s a b.
       all_flat is_routed (of_use s) s.devices
       ∙ each_of (λ d. list_all is_free (map (λ i. i.vector) d.irqs)) (λ d. list_all is_free (map (λ i. i.vector) d.irqs)) (λ d. list_all is_routed (of_use s d))
-      (λ d h _. use_routed s.name a wanted d h) s.devices (vectors s b).irqs (vectors s b).irqs)
-      p.subjects names each_15 in
+      (λ d h _. use_routed s.name a wanted d h) s.devices (vectors_kept p s b).irqs (vectors_kept p s b).irqs)
+      p.subjects names (each_keeps_vectors p lawful_15) in
       first_routed (flat_map (λ s. flat_map (of_use s) s.devices) p.subjects) all

@@ -11,8 +11,8 @@ use Rattle.expand_grants.specs.declared.granted.Way.TheVariants.{Call, Trap}
 use Rattle.image_pack.specs.declared.parts.DevicePart.{DevicePart}
 use Rattle.image_pack.specs.declared.parts.EventPart.{EventPart}
 use Rattle.image_pack.specs.declared.parts.IrqPart.{IrqPart}
-use Rattle.image_pack.specs.declared.parts.IrqTarget.{IrqTarget}
-use Rattle.image_pack.specs.declared.parts.PortSpan.{PortSpan}
+use Rattle.muen_num.specs.declared.devices.IrqTarget.{IrqTarget}
+use Rattle.muen_num.specs.declared.devices.PortSpan.{PortSpan}
 use Rattle.image_pack.specs.declared.parts.WindowPart.{WindowPart}
 use Rattle.muen_num.specs.Range.{numbers_below}
 use Rattle.muen_num.specs.declared.limits.TheConstants.{MOST_CALLS}

@@ -7,8 +7,8 @@ use Rattle.image_pack.specs.Codes.{is_vector, vector_code}
 use Rattle.image_pack.specs.declared.parts.DevicePart.{DevicePart}
 use Rattle.image_pack.specs.declared.parts.EventPart.{EventPart}
 use Rattle.image_pack.specs.declared.parts.IrqPart.{IrqPart}
-use Rattle.image_pack.specs.declared.parts.IrqTarget.{IrqTarget}
-use Rattle.image_pack.specs.declared.parts.PortSpan.{PortSpan}
+use Rattle.muen_num.specs.declared.devices.IrqTarget.{IrqTarget}
+use Rattle.muen_num.specs.declared.devices.PortSpan.{PortSpan}
 use Rattle.muen_num.specs.Range.{numbers_below}
 use Rattle.muen_num.specs.declared.limits.TheConstants.{FIRST_VECTOR, MOST_CALLS}
 use Rattle.policy_lawful.specs.Resolution.{Resolution, source_of, subject_named}

@@ -9,8 +9,8 @@ ghost use Rattle.expand_grants.specs.Grants.{route_for};
 use crate::event_tables::are_named;
 use expand_grants::Route;
 use expand_kernel::Expanded;
-use image_pack::{DevicePart, IrqPart, IrqTarget, PortSpan, WindowPart};
-use muen_num::{NoMemory, Seq};
+use image_pack::{DevicePart, IrqPart, WindowPart};
+use muen_num::{IrqTarget, NoMemory, PortSpan, Seq};
 use policy_types::source::{Device, Irq, Ports};
 use std::alloc::Global;
 
@@ -74,10 +74,8 @@ fn target_of(routes: &[Route], device: usize, irq: usize) -> Option<IrqTarget>
     requires { IfSome (route_for routes.now device irq) (λ t. t.subject < 2 ^ 8) }
     ensures { result ≡ option_map irq_target (route_for routes.now device irq) }
 {
-    match route_for(routes, device, irq) {
-        None => None,
-        Some(route) => Some(irq_target(route)),
-    }
+    let route = route_for(routes, device, irq)?;
+    Some(irq_target(route))
 }
 
 // The interrupts of the device at an index.

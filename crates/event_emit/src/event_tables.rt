@@ -68,10 +68,8 @@ fn entry_at(entries: &[EventEntry], way: Way) -> Option<EventPart>
     requires { IfSome (find (has_way way) entries.now) (λ e. e.target < 2 ^ 8) }
     ensures { result ≡ entry_at entries.now way }
 {
-    match entry_for(entries, way) {
-        None => None,
-        Some(entry) => Some(event_part(entry)),
-    }
+    let entry = entry_for(entries, way)?;
+    Some(event_part(entry))
 }
 
 // What these entries raise by calls, by their numbers.

@@ -179,11 +179,5 @@ impl Router {
 fn delivered_by(now: Option<&VectorSet>, later: Option<&VectorSet>, entry: bool) -> Option<u8>
     ensures { result ≡ delivered_by (option_map (λ s. s.now.marks) now.entry) (option_map (λ s. s.now.marks) later.entry) entry }
 {
-    match now {
-        None => None,
-        Some(now) => match later {
-            None => None,
-            Some(later) => delivered(now, later, entry),
-        },
-    }
+    delivered(now?, later?, entry)
 }

@@ -18,9 +18,9 @@ use Rattle.policy_types.specs.declared.source.Event.{Event}
 use Rattle.policy_types.specs.declared.source.EventSource.{EventSource as NamedSource}
 use Rattle.policy_types.specs.declared.source.SourceWay.{SourceWay}
 use Rattle.policy_types.specs.declared.source.SourceWay.TheVariants.{Call as SourceCall, Trap as SourceTrap}
-use Rattle.policy_views.specs.Views.{channel_end_named, channel_ends_of}
-use Rattle.policy_views.specs.declared.view.IndexedEnd.{IndexedEnd}
-use Rattle.policy_views.proofs.EndsByIndex.{ends_by_index, ends_in_range}
+use Rattle.policy_lawful.specs.Views.{channel_end_named, channel_ends_of}
+use Rattle.policy_lawful.specs.declared.view.IndexedEnd.{IndexedEnd}
+use Rattle.policy_lawful.proofs.EndsByIndex.{ends_by_index, ends_in_range}
 use Rattle.expand_grants.specs.Grants.{entry_raised, is_way, raised_named}
 use Rattle.expand_grants.specs.Raising.{all_readers, all_targets, call_entry, channel_end_entry, entries_of, entry, first_reached, source_entry, way_of, writer_call}
 use Rattle.expand_grants.specs.declared.granted.EventEntry.{EventEntry}

@@ -9,5 +9,6 @@ pub mod Ordered
 pub mod PortsByIndex
 pub mod ReadersByIndex
 pub mod RoutesByIndex
+pub mod SeenReaders
 pub mod TargetsByIndex
 pub mod WindowsInOrder

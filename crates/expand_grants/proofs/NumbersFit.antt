@@ -25,11 +25,11 @@ use Rattle.policy_types.specs.declared.source.IrqUse.{IrqUse as NamedIrq}
 use Rattle.policy_types.specs.declared.source.SourceWay.{SourceWay}
 use Rattle.policy_types.specs.declared.source.SourceWay.TheVariants.{Call, Trap}
 use Rattle.policy_types.specs.declared.source.Subject.{Subject as NamedSubject}
-use Rattle.policy_views.specs.Views.{channel_end_named, channel_ends_of}
-use Rattle.policy_views.proofs.EndsByIndex.{ends_by_index}
+use Rattle.policy_lawful.specs.Views.{channel_end_named, channel_ends_of}
+use Rattle.policy_lawful.proofs.EndsByIndex.{ends_by_index}
 use Rattle.expand_grants.specs.ByIndex.{fits_irq, fits_use, fits_uses}
 use Rattle.expand_grants.specs.Raising.{fits_channel_end, fits_channel_ends, fits_number, fits_source, fits_sources, fits_target, fits_targets, fits_way}
-use Rattle.expand_grants.proofs.Elements.{all_flat, all_some}
+use Rattle.policy_lawful.proofs.EachPasses.{all_flat, all_some}
 
 abbrev is_call_number : ℕ → Bool
 is_call_number n = nat_lt n MOST_CALLS

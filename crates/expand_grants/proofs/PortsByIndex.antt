@@ -21,7 +21,7 @@ use Rattle.policy_lawful.proofs.Indexes.{found_at_index}
 use Rattle.policy_lawful.proofs.UniqueNames.{parts_unique, unique}
 use Rattle.policy_types.specs.declared.source.Device.{Device}
 use Rattle.policy_types.specs.declared.source.Ports.{Ports}
-use Rattle.policy_views.proofs.WindowsByIndex.{subject_parts}
+use Rattle.policy_lawful.proofs.WindowsByIndex.{subject_parts}
 use Rattle.expand_grants.specs.ByIndex.{fits_device, fits_ports, range_at, ranges_at}
 use Rattle.expand_grants.specs.Resources.{device_ranges, port_ranges_of, range_of}
 use Rattle.expand_grants.proofs.Mapped.{filter_maps_same, flat_maps_same}

@@ -22,16 +22,17 @@ use Rattle.policy_types.specs.declared.rights.Role.{Role}
 use Rattle.policy_types.specs.declared.rights.Role.TheVariants.{Reader, Writer}
 use Rattle.policy_types.specs.declared.source.Channel.{Channel}
 use Rattle.policy_types.specs.declared.source.Subject.{Subject as NamedSubject}
-use Rattle.policy_views.specs.Views.{channel_end_named, channel_ends_of}
-use Rattle.policy_views.specs.declared.view.IndexedEnd.{IndexedEnd}
-use Rattle.policy_views.proofs.EndsByIndex.{ends_by_index, ends_in_range}
-use Rattle.policy_views.proofs.WindowsByIndex.{name_there}
+use Rattle.policy_lawful.specs.Views.{channel_end_named, channel_ends_of}
+use Rattle.policy_lawful.specs.declared.view.IndexedEnd.{IndexedEnd}
+use Rattle.policy_lawful.proofs.EndsByIndex.{ends_by_index, ends_in_range}
+use Rattle.policy_lawful.proofs.WindowsByIndex.{name_there}
 use Rattle.expand_grants.specs.Grants.{raised_named}
 use Rattle.expand_grants.specs.Raising.{all_readers, call_entry, entry, first_reached, reader_reached, subject_readers, writer_call}
 use Rattle.expand_grants.specs.declared.granted.Way.{Way}
 use Rattle.expand_grants.specs.declared.granted.Way.TheVariants.{Call}
 use Rattle.expand_grants.specs.declared.reached.Reached.{Reached}
-use Rattle.expand_grants.proofs.Elements.{all_filter, all_flat, first_there, lengths_same, some-map}
+use Rattle.expand_grants.proofs.Elements.{first_there, lengths_same, some-map}
+use Rattle.policy_lawful.proofs.EachPasses.{all_filter, all_flat}
 use Rattle.expand_grants.proofs.FirstByIndex.{filter-flat, filter-map, filter_same, filter_twice, filtered_some, first_by_index}
 use Rattle.expand_grants.proofs.TargetsByIndex.{reaches}
 

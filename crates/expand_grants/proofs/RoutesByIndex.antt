@@ -18,7 +18,7 @@ use Rattle.policy_lawful.specs.Events.{Target, irq_of}
 use Rattle.policy_types.specs.declared.source.Device.{Device}
 use Rattle.policy_types.specs.declared.source.Irq.{Irq}
 use Rattle.policy_types.specs.declared.source.IrqUse.{IrqUse as NamedIrq}
-use Rattle.policy_views.proofs.WindowsByIndex.{name_there, subject_parts, within_names}
+use Rattle.policy_lawful.proofs.WindowsByIndex.{name_there, subject_parts, within_names}
 use Rattle.expand_grants.specs.ByIndex.{all_routes, device_routes, route, subject_routes}
 use Rattle.expand_grants.specs.Grants.{AreRoutes, routed, target_named}
 use Rattle.expand_grants.specs.declared.granted.Route.{Route}

@@ -17,9 +17,9 @@ use Rattle.policy_lawful.specs.Rules.{are_apart, first_overlap, is_guest, offenc
 use Rattle.policy_lawful.specs.declared.offence.Extent.{Extent}
 use Rattle.policy_lawful.specs.declared.resolved.Subject.{Subject}
 use Rattle.policy_lawful.proofs.KeptAddresses.{addresses_kept}
-use Rattle.policy_views.specs.Views.{view_extent, views_of}
-use Rattle.policy_views.specs.declared.view.View.{View}
-use Rattle.policy_views.proofs.ExtentsByIndex.{extents_by_index}
+use Rattle.policy_lawful.specs.Views.{view_extent, views_of}
+use Rattle.policy_lawful.specs.declared.view.View.{View}
+use Rattle.policy_lawful.proofs.ExtentsByIndex.{extents_by_index}
 use Rattle.expand_grants.specs.Grants.{is_lower}
 use Rattle.expand_grants.specs.Kept.{same_guest}
 use Rattle.expand_grants.specs.Ordered.{in_order}

@@ -15,8 +15,8 @@ use Rattle.policy_types.specs.declared.source.Device.{Device}
 use Rattle.policy_types.specs.declared.source.Irq.{Irq}
 use Rattle.policy_types.specs.declared.source.SourceWay.{SourceWay}
 use Rattle.policy_types.specs.declared.source.SourceWay.TheVariants.{Call as SourceCall, Trap as SourceTrap}
-use Rattle.policy_views.specs.Views.{views_of}
-use Rattle.policy_views.specs.declared.view.View.{View}
+use Rattle.policy_lawful.specs.Views.{views_of}
+use Rattle.policy_lawful.specs.declared.view.View.{View}
 
 -- ---- views
 

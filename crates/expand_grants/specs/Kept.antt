@@ -9,8 +9,8 @@ use Rattle.policy_lawful.specs.Resolution.{Resolution, source_of, subject_named}
 use Rattle.policy_lawful.specs.declared.resolved.Subject.{Subject}
 use Rattle.policy_lawful.specs.Events.{event_of}
 use Rattle.policy_types.specs.declared.source.SourceWay.{SourceWay}
-use Rattle.policy_views.specs.Views.{views_of}
-use Rattle.policy_views.specs.declared.view.View.{View}
+use Rattle.policy_lawful.specs.Views.{views_of}
+use Rattle.policy_lawful.specs.declared.view.View.{View}
 
 abbrev pub same_guest : View → View → Bool
 same_guest a b = a.guest == b.guest

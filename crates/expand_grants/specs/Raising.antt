@@ -17,8 +17,8 @@ use Rattle.policy_types.specs.declared.source.Channel.{Channel}
 use Rattle.policy_types.specs.declared.source.Event.{Event}
 use Rattle.policy_types.specs.declared.source.SourceWay.{SourceWay}
 use Rattle.policy_types.specs.declared.source.SourceWay.TheVariants.{Call as SourceCall, Trap as SourceTrap}
-use Rattle.policy_views.specs.Views.{channel_ends_of}
-use Rattle.policy_views.specs.declared.view.IndexedEnd.{IndexedEnd}
+use Rattle.policy_lawful.specs.Views.{channel_ends_of}
+use Rattle.policy_lawful.specs.declared.view.IndexedEnd.{IndexedEnd}
 
 -- ---- subjects that are reached
 

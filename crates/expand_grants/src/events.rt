@@ -1,5 +1,5 @@
 //! The events that a subject raises.
-ghost use Rattle.std.specs.Prelude.{◌≡◌, ◌++◌, true, IfOk};
+ghost use Rattle.std.specs.Prelude.{◌≡◌, ◌++◌, true, slice_get, Some, IfOk};
 ghost use Rattle.std.specs.List.{filter_map, list_all};
 ghost use Rattle.expand_grants.specs.Raising.{all_readers, all_targets, call_entry, channel_end_entry, entries_of, entry, fits_channel_end, fits_channel_ends, fits_number, fits_source, fits_sources, fits_way, source_entry, way_of, writer_call};
 
@@ -7,11 +7,10 @@ use crate::append::push_some;
 use crate::granted::{EventEntry, Way};
 use crate::reached::{Reached, first_reached, small};
 use muen_num::{EventMode, NoMemory, Seq};
-use policy_lawful::Resolved;
 use policy_lawful::resolved::{EventSource, Subject};
+use policy_lawful::{IndexedEnd, Resolved};
 use policy_types::Role;
 use policy_types::source::{Channel, Event, SourceWay};
-use policy_views::{IndexedEnd, channel_ends};
 use std::alloc::Global;
 
 fn way_of(way: SourceWay) -> Way
@@ -117,7 +116,7 @@ fn add_channel_ends(
     Ok(())
 }
 
-/// The events that a subject raises, by its sources and then by its ends of channels, where this is
+/// The events that the subject at an index raises, by its sources and then by its ends of channels, where this is
 /// reached by events and by channels.
 ///
 /// Answers `NoMemory` where memory was refused.
@@ -126,8 +125,10 @@ pub(crate) fn entries_of(
     policy: &Resolved,
     targets: &[Reached],
     readers: &[Reached],
+    index: usize,
     subject: &Subject,
 ) -> Result<Seq<EventEntry>, NoMemory>
+    requires at { slice_get policy.now.subjects index ≡ Some subject.now }
     requires sources { fits_sources subject.now ≡ true }
     requires ends { fits_channel_ends policy.now subject.now ≡ true }
     requires targets { targets.now ≡ all_targets policy.now.subjects }
@@ -141,7 +142,11 @@ pub(crate) fn entries_of(
         targets,
         subject.sources.items(),
     )?;
-    let ends = channel_ends(alloc, policy, subject)?;
-    add_channel_ends(&mut entries, policy.channels(), readers, &ends)?;
+    add_channel_ends(
+        &mut entries,
+        policy.channels(),
+        readers,
+        policy.channel_ends(index),
+    )?;
     Ok(Seq::of(entries))
 }

@@ -1,5 +1,5 @@
 //! The grants and routes of a lawful policy.
-ghost use Rattle.std.specs.Prelude.{◌≡◌, true, IfOk};
+ghost use Rattle.std.specs.Prelude.{◌≡◌, true, slice_get, Some, IfOk};
 ghost use Rattle.std.specs.List.{list_all};
 ghost use Rattle.expand_grants.specs.ByIndex.{fits_device, all_routes};
 ghost use Rattle.expand_grants.specs.Grants.{AreGrants, AreGrantsOf, AreRoutes};
@@ -14,20 +14,22 @@ use crate::interrupts::all_routes;
 use crate::msrs::msr_grants;
 use crate::ports::port_ranges;
 use crate::reached::{Reached, all_readers, all_targets};
-use crate::windows::windows;
+use crate::windows::in_order;
 use muen_num::{NoMemory, Seq};
 use policy_lawful::resolved::Subject;
 use policy_lawful::{Lawful, Resolved};
 use std::alloc::Global;
 
-// What is granted to a subject, where this is reached by events and by channels.
+// What is granted to the subject at an index, where this is reached by events and by channels.
 fn of_subject(
     alloc: Global,
     policy: &Resolved,
     targets: &[Reached],
     readers: &[Reached],
+    index: usize,
     subject: &Subject,
 ) -> Result<Grants, NoMemory>
+    requires at { slice_get policy.now.subjects index ≡ Some subject.now }
     requires kept { IsKept policy.now subject.now }
     requires devices { list_all fits_device policy.now.devices ≡ true }
     requires targets { targets.now ≡ all_targets policy.now.subjects }
@@ -35,10 +37,10 @@ fn of_subject(
     ensures { IfOk result (AreGrantsOf policy.now subject.now) }
 {
     Ok(Grants {
-        views: windows(alloc, policy, subject)?,
+        views: in_order(alloc, policy.views(index))?,
         ports: port_ranges(alloc, policy.devices(), subject.devices.items())?,
         msrs: msr_grants(alloc, subject.msrs.items())?,
-        events: entries_of(alloc, policy, targets, readers, subject)?,
+        events: entries_of(alloc, policy, targets, readers, index, subject)?,
     })
 }
 
@@ -55,8 +57,8 @@ fn of_subjects(
     ensures { IfOk result (AreGrants policy.now) }
 {
     let mut grants = Seq::new(alloc);
-    for subject in policy.subjects() {
-        grants.push(of_subject(alloc, policy, targets, readers, subject)?)?;
+    for (index, subject) in policy.subjects().iter().enumerate() {
+        grants.push(of_subject(alloc, policy, targets, readers, index, subject)?)?;
     }
     Ok(grants)
 }

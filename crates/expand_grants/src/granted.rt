@@ -1,7 +1,7 @@
 //! What is granted to a subject, and routes of interrupts.
 use muen_num::{EventMode, Seq};
+use policy_lawful::View;
 use policy_types::{MsrGrant, PortRange};
-use policy_views::View;
 
 /// The way in which a subject raises an event.
 #[derive(Clone, Copy, Debug, PartialEq, Eq)]
@@ -36,7 +36,7 @@ pub struct Route {
 }
 
 /// What is granted to a subject.
-#[derive(Drop)]
+#[derive(Debug, Drop)]
 pub struct Grants {
     /// Its windows, by guest address.
     pub views: Seq<View>,

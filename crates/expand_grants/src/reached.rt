@@ -6,10 +6,9 @@ ghost use Rattle.expand_grants.specs.Raising.{all_readers, all_targets, first_re
 
 use crate::append::push_some;
 use muen_num::NoMemory;
-use policy_lawful::Resolved;
 use policy_lawful::resolved::{EventTarget, Subject};
+use policy_lawful::{IndexedEnd, Resolved};
 use policy_types::Role;
-use policy_views::{IndexedEnd, channel_ends};
 use std::alloc::Global;
 
 /// A subject that is reached.
@@ -107,9 +106,8 @@ pub(crate) fn all_readers(alloc: Global, policy: &Resolved) -> Result<Vec<Reache
     ensures { IfOk result (λ v. v.items ≡ all_readers policy.now) }
 {
     let mut noted = Vec::new(alloc);
-    for (index, subject) in policy.subjects().iter().enumerate() {
-        let ends = channel_ends(alloc, policy, subject)?;
-        note_readers(&mut noted, index, &ends)?;
+    for index in 0..policy.subjects().len() {
+        note_readers(&mut noted, index, policy.channel_ends(index))?;
     }
     Ok(noted)
 }

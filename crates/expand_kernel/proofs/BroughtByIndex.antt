@@ -11,8 +11,9 @@ use Rattle.policy_lawful.proofs.Indexes.{found_at_index}
 use Rattle.policy_lawful.proofs.UniqueNames.{unique}
 use Rattle.policy_lawful.specs.Thing.{component_by}
 use Rattle.policy_types.specs.declared.source.Component.{Component}
-use Rattle.policy_views.proofs.WindowsByIndex.{subject_parts}
-use Rattle.expand_kernel.specs.ByIndex.{brought_at, provided_at}
+use Rattle.policy_lawful.proofs.WindowsByIndex.{subject_parts}
+use Rattle.expand_kernel.specs.ByIndex.{brought_at}
+use Rattle.policy_lawful.specs.ByIndex.{provided_at}
 use Rattle.expand_kernel.specs.Regions.{provided_region, provided_regions}
 
 -- of the component that was found

@@ -9,8 +9,8 @@ use Rattle.ept_emit.specs.Pages.{IsMapped, ept_pages}
 use Rattle.expand_grants.specs.Grants.{is_lower}
 use Rattle.expand_grants.specs.Ordered.{in_order}
 use Rattle.expand_grants.proofs.Ordered.{in_order_permutes}
-use Rattle.expand_kernel.specs.ByIndex.{CanMap, mapped_view, mapped_views}
-use Rattle.expand_kernel.specs.Regions.{mapped_window}
+use Rattle.expand_kernel.specs.ByIndex.{CanMap, view_range, view_ranges}
+use Rattle.expand_kernel.specs.Regions.{window_range}
 use Rattle.expand_kernel.proofs.LowestFirst.{before_in_order, clash}
 use Rattle.expand_kernel.proofs.TablePages.{pages_permuted}
 use Rattle.muen_num.proofs.FirstPair.{pairs_at}
@@ -21,10 +21,10 @@ use Rattle.policy_lawful.specs.Rules.{are_apart, first_overlap, is_guest, overla
 use Rattle.policy_lawful.specs.Offences.{two}
 use Rattle.policy_lawful.specs.declared.resolved.Subject.{Subject}
 use Rattle.policy_lawful.specs.Windows.{windows_of}
-use Rattle.policy_views.specs.Views.{view_extent, view_window, views_of}
-use Rattle.policy_views.specs.declared.view.View.{View}
-use Rattle.policy_views.proofs.ExtentsByIndex.{extents_by_index}
-use Rattle.policy_views.proofs.WindowsByIndex.{windows_by_index}
+use Rattle.policy_lawful.specs.Views.{view_extent, view_window, views_of}
+use Rattle.policy_lawful.specs.declared.view.View.{View}
+use Rattle.policy_lawful.proofs.ExtentsByIndex.{extents_by_index}
+use Rattle.policy_lawful.proofs.WindowsByIndex.{windows_by_index}
 
 -- ---- pairs of a list that is mapped
 
@@ -37,7 +37,7 @@ pairs_mapped f R (x ∷ xs) h =
 -- ---- of views, by what the rules say of their ranges
 
 abbrev IsRange : View → Type 0
-IsRange v = IsMapped (mapped_view v)
+IsRange v = IsMapped (view_range v)
 
 guest_range : (v : View) → is_guest v.guest v.size ≡ true → IsRange v
 guest_range v h =
@@ -74,8 +74,8 @@ can_map_in_order vs guests none =
     let all : All IsRange vs = All-from_recursion IsRange vs (ranges vs guests) in
     let ys = in_order is_lower vs in
     record {
-      mapped = All-map IsMapped mapped_view ys (All-permutation IsRange vs ys (in_order_permutes is_lower vs) all);
-      apart = pairs_mapped mapped_view (λ a b. a.guest + a.size ≤ b.guest) ys
+      mapped = All-map IsMapped view_range ys (All-permutation IsRange vs ys (in_order_permutes is_lower vs) all);
+      apart = pairs_mapped view_range (λ a b. a.guest + a.size ≤ b.guest) ys
           (before_in_order (λ v. v.guest) (λ v. v.size) vs (distinct_views vs (pairs_at overlapping (map view_extent vs) none)) (λ k d l. (all k d l).some));
     }
 
@@ -90,10 +90,10 @@ module _ (r : Resolution) (q : IsResolved r) (s : Subject) (in_range : subject_i
       can_map_in_order (views_of r s) (sym (ap (list_all (λ e. is_guest e.address e.size)) same) ∙ guests) (sym (ap first_overlap same) ∙ none)
 
   -- in order or not, by name or by index
-  pub pages_of_views : ept_pages (mapped_views (in_order is_lower (views_of r s))) ≡ ept_pages (map mapped_window (windows_of (source_of r) (subject_named r s)))
+  pub pages_of_views : ept_pages (view_ranges (in_order is_lower (views_of r s))) ≡ ept_pages (map window_range (windows_of (source_of r) (subject_named r s)))
   pages_of_views =
       let vs = views_of r s in
-      let named : map mapped_window (windows_of (source_of r) (subject_named r s)) ≡ mapped_views vs =
-      ap (map mapped_window) (windows_by_index r s q in_range) ∙ map-map mapped_window (view_window r s.name) vs in
-      sym (pages_permuted (mapped_views vs) (mapped_views (in_order is_lower vs)) (IsPermutation-map mapped_view vs (in_order is_lower vs) (in_order_permutes is_lower vs)))
+      let named : map window_range (windows_of (source_of r) (subject_named r s)) ≡ view_ranges vs =
+      ap (map window_range) (windows_by_index r s q in_range) ∙ map-map window_range (view_window r s.name) vs in
+      sym (pages_permuted (view_ranges vs) (view_ranges (in_order is_lower vs)) (IsPermutation-map view_range vs (in_order is_lower vs) (in_order_permutes is_lower vs)))
       ∙ sym (λ i. ept_pages (named i))

@@ -3,11 +3,11 @@ use Rattle.std.proofs.Common.{◌≡◌, ◌⊎◌, inl, inr, ℕ, suc, List, []
 use Rattle.std.specs.List.{All}
 use Rattle.ept_emit.specs.Pages.{ept_pages}
 use Rattle.expand_grants.specs.declared.granted.Grants.{Grants}
-use Rattle.expand_kernel.specs.ByIndex.{CanMap, kernel_for, kernel_for_each, mapped_views}
+use Rattle.expand_kernel.specs.ByIndex.{CanMap, kernel_for, kernel_for_each, view_ranges}
 use Rattle.expand_kernel.specs.Regions.{kernel_regions}
 use Rattle.expand_kernel.specs.declared.region.Region.{Region}
 use Rattle.policy_lawful.specs.declared.resolved.Subject.{Subject}
-use Rattle.policy_views.specs.declared.view.View.{View}
+use Rattle.policy_lawful.specs.declared.view.View.{View}
 
 -- those made so far, and those of the remaining subjects, are all
 pub record InTurn (subjects : List Subject) (grants : List Grants) (remaining : List Subject) (granted : List Grants) (made : List Region) : Type 0 where
@@ -29,7 +29,7 @@ can_next subjects grants remaining granted made g gs views h is of =
 
 -- those for the next subject are made
 pub next_made : (subjects : List Subject) (grants : List Grants) (remaining : List Subject) (granted : List Grants) (made : List Region) (s : Subject) (ss : List Subject) (g : Grants) (gs : List Grants) (pages : ℕ) (new more : List Region)
-    → InTurn subjects grants remaining granted made → remaining ≡ s ∷ ss → granted ≡ g ∷ gs → pages ≡ ept_pages (mapped_views g.views) → new ≡ kernel_regions s.name pages → more ≡ made ++ new → InTurn subjects grants ss gs more
+    → InTurn subjects grants remaining granted made → remaining ≡ s ∷ ss → granted ≡ g ∷ gs → pages ≡ ept_pages (view_ranges g.views) → new ≡ kernel_regions s.name pages → more ≡ made ++ new → InTurn subjects grants ss gs more
 unfolding kernel_for_each
 next_made subjects grants remaining granted made s ss g gs pages new more h is of count now then = record {
   all =

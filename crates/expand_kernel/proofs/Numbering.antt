@@ -5,7 +5,7 @@ use Rattle.std.proofs.lemmas.Bool.{and_parts}
 use Rattle.std.proofs.lemmas.List.Elements.{All-from_recursion}
 use Rattle.expand_grants.specs.Grants.{AreGrants, AreGrantsOf}
 use Rattle.expand_grants.specs.declared.granted.Grants.{Grants}
-use Rattle.expand_kernel.specs.ByIndex.{CanMap, brought_at, kernel_for_each, mapped_views}
+use Rattle.expand_kernel.specs.ByIndex.{CanMap, brought_at, kernel_for_each, view_ranges}
 use Rattle.expand_kernel.specs.Regions.{channel_region, kernel_regions, kernel_regions_of, own_region, regions_of}
 use Rattle.expand_kernel.specs.declared.region.Region.{Region}
 use Rattle.expand_kernel.proofs.BroughtByIndex.{brought_by_index}
@@ -48,7 +48,7 @@ module _ (r : Resolution) (q : IsResolved r) where
   kernel_by_index (s ∷ ss) [] granted in_range = absurd granted
   kernel_by_index (s ∷ ss) (g ∷ gs) granted in_range =
       let p = and_parts _ _ in_range in
-      let views : ept_pages (mapped_views g.views) ≡ _ = (λ i. ept_pages (mapped_views (granted.0.views i))) ∙ pages_of_views r q s p.0 in
+      let views : ept_pages (view_ranges g.views) ≡ _ = (λ i. ept_pages (view_ranges (granted.0.views i))) ∙ pages_of_views r q s p.0 in
       λ i. kernel_regions s.name (views i) ++ kernel_by_index ss gs granted.1 p.1 i
 
 -- what is granted can be mapped

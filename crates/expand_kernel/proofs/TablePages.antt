@@ -1,17 +1,17 @@
--- How many pages tables take: it depends on which windows there are, not on their order, and it isn't many.
+-- How many pages tables take: it depends on which ranges there are, not on their order, and it isn't many.
 use Rattle.std.proofs.Common.{◌≡◌, ℕ, zero, suc, ◌+◌, ◌*◌, ◌^◌, ◌≤◌, Bool, true, false, List, arith}
 use Rattle.std.specs.List.Sorted.{IsPermutation}
 use Rattle.std.proofs.lemmas.List.Sorted.{list_any-IsPermutation}
 use Rattle.ept_emit.specs.Pages.{count, ept_pages, is_taken, one, touches}
-use Rattle.ept_emit.specs.declared.window.Window.{Window}
+use Rattle.ept_emit.specs.declared.window.GuestRange.{GuestRange}
 
 -- ---- whatever the order
 
-taken_permuted : (ws vs : List Window) → IsPermutation ws vs → (entry_size v : ℕ) → is_taken ws entry_size v ≡ is_taken vs entry_size v
+taken_permuted : (ws vs : List GuestRange) → IsPermutation ws vs → (entry_size v : ℕ) → is_taken ws entry_size v ≡ is_taken vs entry_size v
 taken_permuted ws vs p entry_size v = list_any-IsPermutation (λ w. touches w (entry_size * v) entry_size) ws vs p
 
--- windows take as many in one order as in another
-pub pages_permuted : (ws vs : List Window) → IsPermutation ws vs → ept_pages ws ≡ ept_pages vs
+-- ranges take as many in one order as in another
+pub pages_permuted : (ws vs : List GuestRange) → IsPermutation ws vs → ept_pages ws ≡ ept_pages vs
 pages_permuted ws vs p =
     λ i. 1 + count (λ v. taken_permuted ws vs p (2 ^ 39) v i) 0 (2 ^ 9) + count (λ v. taken_permuted ws vs p (2 ^ 30) v i) 0 (2 ^ 18) + count (λ v. taken_permuted ws vs p (2 ^ 21) v i) 0 (2 ^ 27)
 
@@ -30,7 +30,7 @@ count_at_most p lo (suc n) =
     omega arith
 
 -- their bytes are far fewer than 2^64
-pub few_pages : (ws : List Window) (n : ℕ) → n ≡ ept_pages ws → n ≤ 2 ^ 28
+pub few_pages : (ws : List GuestRange) (n : ℕ) → n ≡ ept_pages ws → n ≤ 2 ^ 28
 few_pages ws n e =
     let pointers = count_at_most (is_taken ws (2 ^ 39)) 0 (2 ^ 9) in
     let directories = count_at_most (is_taken ws (2 ^ 30)) 0 (2 ^ 18) in

@@ -5,7 +5,8 @@ use Rattle.expand_grants.specs.declared.granted.Grants.{Grants}
 use Rattle.expand_grants.specs.declared.granted.Route.{Route}
 use Rattle.expand_kernel.specs.Regions.{regions_of}
 use Rattle.expand_kernel.specs.declared.region.Region.{Region}
-use Rattle.policy_lawful.specs.Resolution.{Resolution, source_of}
+use Rattle.policy_lawful.specs.Lawful.{IsLawful}
+use Rattle.policy_lawful.specs.Resolution.{IsResolved, Resolution, source_of}
 
 pub record Expansion : Type 0 where
   pub lawful : Resolution
@@ -17,3 +18,9 @@ pub record IsExpansion (x : Expansion) : Type 0 where
   pub regions : x.regions ≡ regions_of (source_of x.lawful)
   pub grants : AreGrants x.lawful x.grants
   pub routes : AreRoutes x.lawful x.routes
+
+-- what its type promises: the policy is resolved and lawful beside
+pub record IsExpanded (x : Expansion) : Type 0 where
+  pub resolved : IsResolved x.lawful
+  pub lawful : IsLawful (source_of x.lawful)
+  pub expansion : IsExpansion x

@@ -1,10 +1,11 @@
 -- The regions of physical memory of a policy, in the order of their numbers (Muen system policy: memory regions; the kernel's
 -- own regions are this project's).
-use Rattle.std.specs.Prelude.{ℕ, ◌*◌, List, [], ◌∷◌, ◌++◌, map, Option, Some, None}
+use Rattle.std.specs.Prelude.{ℕ, ◌+◌, ◌*◌, List, [], ◌∷◌, ◌++◌, map, Option, Some, None}
 use Rattle.std.specs.List.{flat_map}
 use Rattle.ept_emit.specs.Pages.{ept_pages}
-use Rattle.ept_emit.specs.declared.window.Leaf.TheVariants.{Small}
-use Rattle.ept_emit.specs.declared.window.Window.{Window as Mapped}
+use Rattle.ept_emit.specs.declared.window.GuestRange.{GuestRange}
+use Rattle.expand_kernel.specs.declared.kernel.KernelRegion.{KernelRegion}
+use Rattle.expand_kernel.specs.declared.kernel.KernelRegion.TheVariants.{IoBitmaps, MsrArea, MsrBitmap, State as StatePage, Tables}
 use Rattle.expand_kernel.specs.declared.region.Region.{Region}
 use Rattle.expand_kernel.specs.declared.region.RegionKind.{RegionKind}
 use Rattle.expand_kernel.specs.declared.region.RegionKind.TheVariants.{Own, Channel, Provided, Kernel}
@@ -13,7 +14,6 @@ use Rattle.muen_num.specs.declared.tag.TagPart.{TagPart}
 use Rattle.muen_num.specs.declared.tag.TagPart.TheVariants.{Whole, Named, State, Ept, Iobm, Msrbm, Msrs}
 use Rattle.policy_lawful.specs.Thing.{component_by}
 use Rattle.policy_lawful.specs.Windows.{Window, windows_of}
-use Rattle.policy_types.specs.declared.rights.Caching.TheVariants.{Wb}
 use Rattle.policy_types.specs.declared.source.Channel.{Channel as SourceChannel}
 use Rattle.policy_types.specs.declared.source.Component.{Component}
 use Rattle.policy_types.specs.declared.source.Provided.{Provided as SourceProvided}
@@ -50,9 +50,9 @@ provided_regions subject (Some c) = map (provided_region subject) c.provides
 
 -- ---- of the kernel
 
--- a window as tables map it: where what it shows lies, and by which leaf, is nothing to how many there are
-abbrev pub mapped_window : {X : Type 0} → Window X → Mapped
-mapped_window w = record { guest = w.guest; size = w.size; address = 0; rights = w.rights; caching = Wb; leaf = Small }
+-- the guest addresses of a window
+abbrev pub window_range : {X : Type 0} → Window X → GuestRange
+window_range w = record { guest = w.guest; size = w.size }
 
 -- a subject's state page, EPT tables, two pages of I/O bitmaps, MSR bitmap and MSR area, where its tables take so many pages
 abbrev pub kernel_regions : List ℕ → ℕ → List Region
@@ -64,8 +64,28 @@ kernel_regions subject pages =
     ∷ anywhere Kernel subject Msrs PAGE
     ∷ []
 
+-- a subject's regions of the kernel, in the order of their numbers
+abbrev pub kernel_order : List KernelRegion
+kernel_order = StatePage ∷ Tables ∷ IoBitmaps ∷ MsrBitmap ∷ MsrArea ∷ []
+
+-- the number of one of them, by that of the first
+abbrev pub kernel_number : KernelRegion → ℕ → ℕ
+kernel_number StatePage first = first
+kernel_number Tables first = first + 1
+kernel_number IoBitmaps first = first + 2
+kernel_number MsrBitmap first = first + 3
+kernel_number MsrArea first = first + 4
+
+-- one of them, where the subject's tables take so many pages
+abbrev pub kernel_region : List ℕ → ℕ → KernelRegion → Region
+kernel_region subject pages StatePage = anywhere Kernel subject State PAGE
+kernel_region subject pages Tables = anywhere Kernel subject Ept (pages * PAGE)
+kernel_region subject pages IoBitmaps = anywhere Kernel subject Iobm (2 * PAGE)
+kernel_region subject pages MsrBitmap = anywhere Kernel subject Msrbm PAGE
+kernel_region subject pages MsrArea = anywhere Kernel subject Msrs PAGE
+
 abbrev pub kernel_regions_of : Source → Subject → List Region
-kernel_regions_of p s = kernel_regions s.name (ept_pages (map mapped_window (windows_of p s)))
+kernel_regions_of p s = kernel_regions s.name (ept_pages (map window_range (windows_of p s)))
 
 -- ---- all
 

@@ -1,9 +1,10 @@
 //! Lawful policies with all that follows from them but addresses.
 ghost use Rattle.std.specs.Prelude.{◌≡◌, IfOk};
 ghost use Rattle.expand_grants.specs.Grants.{AreGrants, AreRoutes};
-ghost use Rattle.expand_kernel.specs.Expansion.{IsExpansion};
+ghost use Rattle.expand_kernel.specs.Expansion.{IsExpanded};
 ghost use Rattle.expand_kernel.specs.Regions.{regions_of};
-ghost use Rattle.policy_lawful.specs.Resolution.{source_of};
+ghost use Rattle.policy_lawful.specs.Lawful.{IsLawful};
+ghost use Rattle.policy_lawful.specs.Resolution.{IsResolved, source_of};
 
 use crate::kernel::of_kernel;
 use crate::numbered::{of_channels, of_memory, of_subjects};
@@ -16,7 +17,7 @@ use std::marker::Model;
 
 /// A lawful policy with its regions by number, what is granted to each subject, and where the
 /// interrupts of devices go.
-#[derive(Drop)]
+#[derive(Debug, Drop)]
 pub struct Expanded {
     lawful: Lawful,
     regions: Seq<Region>,
@@ -25,7 +26,7 @@ pub struct Expanded {
 }
 
 impl Model for Expanded {
-    ghost use Rattle.expand_kernel.specs.Expansion.{Expansion, IsExpansion};
+    ghost use Rattle.expand_kernel.specs.Expansion.{Expansion, IsExpanded};
 
     ghost Value = { Expansion };
 
@@ -36,7 +37,7 @@ impl Model for Expanded {
       routes = p.routes;
     } };
 
-    ghost invariant = { λ p. IsExpansion (record {
+    ghost invariant = { λ p. IsExpanded (record {
       lawful = p.lawful;
       regions = p.regions;
       grants = p.grants;
@@ -57,6 +58,7 @@ impl Expanded {
     pub fn regions(&self) -> &[Region]
         ensures value { result.now ≡ self.now.regions }
         ensures regions { result.now ≡ regions_of (source_of self.now.lawful) }
+        ensures expanded { IsExpanded self.now }
     {
         self.regions.items()
     }
@@ -85,14 +87,16 @@ fn regions_by_number(
     grants: &[Grants],
 ) -> Result<Seq<Region>, NoMemory>
     requires { AreGrants lawful.now grants.now }
-    ensures { IfOk result (λ regions. regions ≡ regions_of (source_of lawful.now)) }
+    ensures regions { IfOk result (λ regions. regions ≡ regions_of (source_of lawful.now)) }
+    ensures resolved { IfOk result (λ _. IsResolved lawful.now) }
+    ensures lawful { IfOk result (λ _. IsLawful (source_of lawful.now)) }
 {
     let policy = lawful.resolved();
     let subjects = policy.subjects();
     let mut regions = of_memory(alloc, policy.memory())?;
     let channels = of_channels(alloc, policy.channels())?;
     regions.extend_from_slice(&channels)?;
-    let provided = of_subjects(alloc, policy.components(), subjects)?;
+    let provided = of_subjects(alloc, policy)?;
     regions.extend_from_slice(&provided)?;
     let kernel = of_kernel(alloc, subjects, grants)?;
     regions.extend_from_slice(&kernel)?;

@@ -1,65 +1,109 @@
 //! The regions that the kernel has for each subject.
-ghost use Rattle.std.specs.Prelude.{◌≡◌, ◌≤◌, ◌^◌, map, IfOk};
+ghost use Rattle.std.specs.Prelude.{◌≡◌, ◌≤◌, ◌+◌, ◌^◌, map, IfOk};
 ghost use Rattle.std.specs.List.{All};
 ghost use Rattle.ept_emit.specs.Pages.{ept_pages};
-ghost use Rattle.expand_kernel.specs.ByIndex.{CanMap, kernel_for_each, mapped_view, mapped_views};
-ghost use Rattle.expand_kernel.specs.Regions.{kernel_regions};
+ghost use Rattle.expand_kernel.specs.ByIndex.{CanMap, kernel_for_each, view_range, view_ranges};
+ghost use Rattle.expand_kernel.specs.Regions.{kernel_order, kernel_region};
+ghost use Rattle.muen_num.specs.declared.limits.TheConstants.{KERNEL_REGIONS};
 
 use crate::numbered::anywhere;
 use crate::region::{Region, RegionKind};
-use ept_emit::{Leaf, Window, pages};
+use ept_emit::{GuestRange, pages};
 use expand_grants::Grants;
-use muen_num::limits::PAGE;
+use muen_num::limits::{KERNEL_REGIONS, PAGE};
 use muen_num::{Name, NoMemory, TagPart};
+use policy_lawful::View;
 use policy_lawful::resolved::Subject;
-use policy_types::Caching;
-use policy_views::View;
 use std::alloc::{AllocError, Global};
 
-// A view as tables map it; where what it shows lies is nothing to how many tables there are.
-fn mapped_view(view: &View) -> Window
-    ensures { result ≡ mapped_view view.now }
-{
-    Window {
-        guest: view.guest,
-        size: view.size,
-        address: 0,
-        rights: view.rights,
-        caching: Caching::Wb,
-        leaf: Leaf::Small,
+/// What the kernel has a region of memory for, of each subject.
+#[derive(Clone, Copy, Debug, PartialEq, Eq)]
+pub enum KernelRegion {
+    /// Its state page.
+    State,
+    /// Its EPT tables.
+    Tables,
+    /// I/O bitmaps A and B.
+    IoBitmaps,
+    /// Its MSR bitmap.
+    MsrBitmap,
+    /// Its MSR area.
+    MsrArea,
+}
+
+impl KernelRegion {
+    ghost use Rattle.expand_kernel.specs.Regions.{kernel_number};
+
+    /// All of a subject, in the order of their numbers.
+    pub const ALL: [KernelRegion; KERNEL_REGIONS] = [
+        KernelRegion::State,
+        KernelRegion::Tables,
+        KernelRegion::IoBitmaps,
+        KernelRegion::MsrBitmap,
+        KernelRegion::MsrArea,
+    ];
+
+    /// The number of the region, where that of the first of its subject's is this.
+    pub fn number(self, first: usize) -> usize
+        requires { first + KERNEL_REGIONS ≤ 2 ^ 64 }
+        ensures { result ≡ kernel_number self first }
+    {
+        first + self as usize
     }
 }
 
-fn mapped_views(alloc: Global, views: &[View]) -> Result<Vec<Window>, AllocError>
-    ensures { IfOk result (λ v. v.items ≡ mapped_views views.now) }
+// The guest addresses of a view.
+fn guest_range(view: &View) -> GuestRange
+    ensures { result ≡ view_range view.now }
 {
-    views.iter().map(|view| mapped_view(view)).collect(alloc)
+    GuestRange {
+        guest: view.guest,
+        size: view.size,
+    }
+}
+
+// The guest addresses of views, in their order: how many pages tables take follows from these.
+fn guest_ranges(alloc: Global, views: &[View]) -> Result<Vec<GuestRange>, AllocError>
+    ensures { IfOk result (λ v. v.items ≡ view_ranges views.now) }
+{
+    views.iter().map(|view| guest_range(view)).collect(alloc)
 }
 
 // How many pages the tables of these views take.
 #[tactic(auto, using(crate::proofs::TablePages::few_pages))]
 fn table_pages(alloc: Global, views: &[View]) -> Result<u64, NoMemory>
     requires { CanMap views.now }
-    ensures value { IfOk result (λ n. n ≡ ept_pages (mapped_views views.now)) }
+    ensures value { IfOk result (λ n. n ≡ ept_pages (view_ranges views.now)) }
     ensures most { IfOk result (λ n. n ≤ 2 ^ 28) }
 {
-    let windows = mapped_views(alloc, views)?;
-    Ok(pages(&windows))
+    let ranges = guest_ranges(alloc, views)?;
+    Ok(pages(&ranges))
 }
 
-// The state page, the EPT tables, two pages of I/O bitmaps, the MSR bitmap and the MSR area of the
-// subject of this name, whose tables take so many pages.
-fn kernel_regions(subject: Name, pages: u64) -> [Region; 5]
+// A region of the kernel for the subject of this name, whose tables take so many pages.
+fn kernel_region(subject: Name, pages: u64, region: KernelRegion) -> Region
     requires { pages ≤ 2 ^ 28 }
-    ensures { result ≡ kernel_regions subject pages }
+    ensures { result ≡ kernel_region subject pages region }
 {
-    [
-        anywhere(RegionKind::Kernel, subject, TagPart::State, PAGE),
-        anywhere(RegionKind::Kernel, subject, TagPart::Ept, pages * PAGE),
-        anywhere(RegionKind::Kernel, subject, TagPart::Iobm, 2 * PAGE),
-        anywhere(RegionKind::Kernel, subject, TagPart::Msrbm, PAGE),
-        anywhere(RegionKind::Kernel, subject, TagPart::Msrs, PAGE),
-    ]
+    let kind = RegionKind::Kernel;
+    match region {
+        KernelRegion::State => anywhere(kind, subject, TagPart::State, PAGE),
+        KernelRegion::Tables => anywhere(kind, subject, TagPart::Ept, pages * PAGE),
+        KernelRegion::IoBitmaps => anywhere(kind, subject, TagPart::Iobm, 2 * PAGE),
+        KernelRegion::MsrBitmap => anywhere(kind, subject, TagPart::Msrbm, PAGE),
+        KernelRegion::MsrArea => anywhere(kind, subject, TagPart::Msrs, PAGE),
+    }
+}
+
+// All of the subject of this name, whose tables take so many pages.
+fn kernel_regions(alloc: Global, subject: Name, pages: u64) -> Result<Vec<Region>, AllocError>
+    requires { pages ≤ 2 ^ 28 }
+    ensures { IfOk result (λ v. v.items ≡ map (kernel_region subject pages) kernel_order) }
+{
+    KernelRegion::ALL
+        .iter()
+        .map(|region| kernel_region(subject, pages, *region))
+        .collect(alloc)
 }
 
 /// The kernel's regions for subjects with these grants, in order.
@@ -74,7 +118,8 @@ pub(crate) fn of_kernel(
     let mut regions = Vec::new(alloc);
     for (subject, granted) in subjects.iter().zip(grants) {
         let pages = table_pages(alloc, granted.views.items())?;
-        regions.extend_from_slice(&kernel_regions(subject.name, pages))?;
+        let more = kernel_regions(alloc, subject.name, pages)?;
+        regions.extend_from_slice(&more)?;
     }
     Ok(regions)
 }

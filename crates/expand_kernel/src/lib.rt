@@ -7,4 +7,5 @@ mod numbered;
 mod region;
 
 pub use expanded::{Expanded, expand};
+pub use kernel::KernelRegion;
 pub use region::{Region, RegionKind};

@@ -2,14 +2,15 @@
 //! the subjects' components bring along.
 ghost use Rattle.std.specs.Prelude.{◌≡◌, map, IfOk};
 ghost use Rattle.std.specs.List.{flat_map};
-ghost use Rattle.expand_kernel.specs.ByIndex.{brought_at, provided_at};
+ghost use Rattle.expand_kernel.specs.ByIndex.{brought_at};
 ghost use Rattle.expand_kernel.specs.Regions.{anywhere, channel_region, own_region, provided_region};
 
 use crate::region::{Region, RegionKind};
 use muen_num::limits::PAGE;
 use muen_num::{Name, NoMemory, Tag, TagPart};
-use policy_lawful::resolved::{ComponentUse, Subject};
-use policy_types::source::{Channel, Component, Provided, Region as Memory};
+use policy_lawful::Resolved;
+use policy_lawful::resolved::Subject;
+use policy_types::source::{Channel, Provided, Region as Memory};
 use std::alloc::{AllocError, Global};
 
 // A region that may be at any page.
@@ -92,43 +93,25 @@ fn of_provided(
         .collect(alloc)
 }
 
-// What the component of a use brings along.
-fn provided_by<'a>(components: &'a [Component], used: &Option<ComponentUse>) -> &'a [Provided]
-    ensures { result.now ≡ provided_at components.now used.now }
-{
-    match used {
-        None => &[],
-        Some(used) => match components.get(used.used) {
-            None => &[],
-            Some(component) => component.provides.items(),
-        },
-    }
-}
-
 // What a subject's component brings along.
 #[tactic(auto, unfolding(crate::specs::ByIndex::brought_at))]
 fn of_subject(
     alloc: Global,
-    components: &[Component],
+    policy: &Resolved,
     subject: &Subject,
 ) -> Result<Vec<Region>, AllocError>
-    ensures { IfOk result (λ v. v.items ≡ brought_at components.now subject.now) }
+    ensures { IfOk result (λ v. v.items ≡ brought_at policy.now.components subject.now) }
 {
-    let provides = provided_by(components, &subject.component);
-    of_provided(alloc, subject.name, provides)
+    of_provided(alloc, subject.name, policy.provided_by(subject))
 }
 
 /// What each subject's component brings along, in the order of the subjects.
-pub(crate) fn of_subjects(
-    alloc: Global,
-    components: &[Component],
-    subjects: &[Subject],
-) -> Result<Vec<Region>, NoMemory>
-    ensures { IfOk result (λ v. v.items ≡ flat_map (brought_at components.now) subjects.now) }
+pub(crate) fn of_subjects(alloc: Global, policy: &Resolved) -> Result<Vec<Region>, NoMemory>
+    ensures { IfOk result (λ v. v.items ≡ flat_map (brought_at policy.now.components) policy.now.subjects) }
 {
     let mut regions = Vec::new(alloc);
-    for subject in subjects {
-        let part = of_subject(alloc, components, subject)?;
+    for subject in policy.subjects() {
+        let part = of_subject(alloc, policy, subject)?;
         regions.extend_from_slice(&part)?;
     }
     Ok(regions)

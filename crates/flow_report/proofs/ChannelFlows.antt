@@ -15,9 +15,9 @@ use Rattle.policy_lawful.proofs.UniqueNames.{unique}
 use Rattle.policy_lawful.specs.Events.{ChannelEnd, channel_ends, reads_from}
 use Rattle.policy_types.specs.declared.rights.Role.{Role}
 use Rattle.policy_types.specs.declared.rights.Role.TheVariants.{Writer, Reader}
-use Rattle.policy_views.specs.Views.{channel_end_named, channel_ends_of}
-use Rattle.policy_views.specs.declared.view.IndexedEnd.{IndexedEnd}
-use Rattle.policy_views.proofs.EndsByIndex.{ends_by_index, ends_in_range}
+use Rattle.policy_lawful.specs.Views.{channel_end_named, channel_ends_of}
+use Rattle.policy_lawful.specs.declared.view.IndexedEnd.{IndexedEnd}
+use Rattle.policy_lawful.proofs.EndsByIndex.{ends_by_index, ends_in_range}
 use Rattle.flow_report.specs.Flows.{by_channel, is_writer}
 use Rattle.muen_num.proofs.Members.{any_agree, passes_in}
 use Rattle.flow_report.specs.ByIndex.{channel_read, channel_written, has, meet}

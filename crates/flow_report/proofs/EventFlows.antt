@@ -24,7 +24,7 @@ use Rattle.policy_types.specs.declared.source.EventSource.{EventSource}
 use Rattle.policy_types.specs.declared.source.EventTarget.{EventTarget}
 use Rattle.policy_types.specs.declared.source.SourceWay.{SourceWay}
 use Rattle.policy_types.specs.declared.source.Subject.{Subject as NamedSubject}
-use Rattle.policy_views.proofs.WindowsByIndex.{name_there}
+use Rattle.policy_lawful.proofs.WindowsByIndex.{name_there}
 use Rattle.flow_report.specs.Flows.{reaches}
 use Rattle.flow_report.proofs.EventWays.{by_source}
 use Rattle.muen_num.proofs.Members.{any_agree}

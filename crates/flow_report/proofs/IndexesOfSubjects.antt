@@ -16,7 +16,7 @@ use Rattle.policy_lawful.proofs.SourceElements.{parts_in_range}
 use Rattle.policy_lawful.proofs.UniqueNames.{subject_names, subjects_unique}
 use Rattle.policy_types.specs.declared.source.Source.{Source}
 use Rattle.policy_types.specs.declared.source.Subject.{Subject as NamedSubject}
-use Rattle.policy_views.proofs.WindowsByIndex.{name_there}
+use Rattle.policy_lawful.proofs.WindowsByIndex.{name_there}
 use Rattle.muen_num.proofs.Members.{In}
 use Rattle.flow_report.proofs.MarkedSets.{HasUniqueNames}
 

@@ -14,12 +14,12 @@ use Rattle.policy_lawful.specs.declared.resolved.Subject.{Subject}
 use Rattle.policy_lawful.specs.Thing.{Thing, region, channel, provided, device_memory, state, same_thing}
 use Rattle.policy_lawful.specs.Windows.{Window, windows_of}
 use Rattle.policy_types.specs.Rights.{allows}
-use Rattle.policy_views.specs.Views.{is_on_region, thing_shown, view_window, views_of}
-use Rattle.policy_views.specs.declared.view.Shown.{Shown}
-use Rattle.policy_views.specs.declared.view.Shown.TheVariants.{Memory, Channel, Provided as Given, Device, State}
-use Rattle.policy_views.specs.declared.view.View.{View}
-use Rattle.policy_views.proofs.RegionsByIndex.{has_name, is_named, maps_at, index_there, views_named}
-use Rattle.policy_views.proofs.WindowsByIndex.{windows_by_index}
+use Rattle.policy_lawful.specs.Views.{is_on_region, thing_shown, view_window, views_of}
+use Rattle.policy_lawful.specs.declared.view.Shown.{Shown}
+use Rattle.policy_lawful.specs.declared.view.Shown.TheVariants.{Memory, Channel, Provided as Given, Device, State}
+use Rattle.policy_lawful.specs.declared.view.View.{View}
+use Rattle.policy_lawful.proofs.RegionsByIndex.{has_name, is_named, maps_at, index_there, views_named}
+use Rattle.policy_lawful.proofs.WindowsByIndex.{windows_by_index}
 use Rattle.flow_report.specs.Flows.{by_memory, is_region}
 use Rattle.muen_num.proofs.Members.{any_agree, passes_in}
 use Rattle.flow_report.specs.ByIndex.{has, meet, region_changed, region_shown}

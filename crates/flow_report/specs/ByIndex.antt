@@ -14,10 +14,10 @@ use Rattle.policy_types.specs.declared.rights.Role.{Role}
 use Rattle.policy_types.specs.declared.rights.Role.TheVariants.{Writer, Reader}
 use Rattle.policy_types.specs.declared.source.SourceWay.{SourceWay}
 use Rattle.policy_types.specs.declared.source.Tau0.{Tau0}
-use Rattle.policy_views.specs.Views.{channel_ends_of, views_of}
-use Rattle.policy_views.specs.declared.view.Shown.{Shown}
-use Rattle.policy_views.specs.declared.view.Shown.TheVariants.{Memory}
-use Rattle.policy_views.specs.declared.view.View.{View}
+use Rattle.policy_lawful.specs.Views.{channel_ends_of, views_of}
+use Rattle.policy_lawful.specs.declared.view.Shown.{Shown}
+use Rattle.policy_lawful.specs.declared.view.Shown.TheVariants.{Memory}
+use Rattle.policy_lawful.specs.declared.view.View.{View}
 use Rattle.flow_report.specs.declared.contacts.Contacts.{Contacts}
 
 -- ---- ends of channels and views

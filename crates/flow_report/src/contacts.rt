@@ -1,16 +1,15 @@
 //! What a subject gives to others and what it takes from them.
-ghost use Rattle.std.specs.Prelude.{◌≡◌, ◌==◌, map, IfOk};
-ghost use Rattle.std.specs.List.{filter_map, list_any, enumerate_from};
+ghost use Rattle.std.specs.Prelude.{◌≡◌, ◌==◌, map, slice_get, Some, IfOk};
+ghost use Rattle.std.specs.List.{filter_map, list_any};
 ghost use Rattle.policy_lawful.specs.Resolution.{IsResolved};
 ghost use Rattle.policy_lawful.specs.Events.{same_way};
 ghost use Rattle.flow_report.specs.ByIndex.{all_contacts_of, channel_read, channel_written, contacts_of, event_by, first_target, flows_between, has, is_chooser, meet, reached_by, region_changed, region_shown, subject_changed};
 
 use muen_num::{AccessKind, Name, NoMemory, Seq};
-use policy_lawful::Resolved;
 use policy_lawful::resolved::{EventSource, Monitor, Subject};
+use policy_lawful::{IndexedEnd, Resolved, Shown, View};
 use policy_types::Role;
 use policy_types::source::{SourceWay, Tau0};
-use policy_views::{IndexedEnd, Shown, View, channel_ends, views};
 use std::alloc::{AllocError, Global};
 
 /// A subject's index, and by indexes what it gives to others and takes from them.
@@ -201,36 +200,22 @@ fn make_contacts(
     index: usize,
     subject: &Subject,
 ) -> Result<Contacts, NoMemory>
+    requires { slice_get policy.now.subjects index ≡ Some subject.now }
     ensures { IfOk result (λ f. f ≡ contacts_of policy.now (index, subject.now)) }
 {
-    let ends = channel_ends(alloc, policy, subject)?;
-    let views = views(alloc, policy, subject)?;
+    let (ends, views) = (policy.channel_ends(index), policy.views(index));
     let (sources, monitors) = (subject.sources.items(), subject.monitors.items());
     Ok(Contacts {
         index,
-        writes: Seq::of(written(alloc, &ends)?),
-        reads: Seq::of(read(alloc, &ends)?),
-        changes: Seq::of(changed(alloc, &views)?),
-        maps: Seq::of(mapped(alloc, &views)?),
+        writes: Seq::of(written(alloc, ends)?),
+        reads: Seq::of(read(alloc, ends)?),
+        changes: Seq::of(changed(alloc, views)?),
+        maps: Seq::of(mapped(alloc, views)?),
         reaches: Seq::of(reached(alloc, policy.subjects(), sources)?),
         chooses: is_chooser(&policy.scheduling().tau0, &subject.name),
         watches: Seq::of(watched(alloc, monitors)?),
         alters: Seq::of(altered(alloc, monitors)?),
     })
-}
-
-fn numbered_contacts(
-    alloc: Global,
-    policy: &Resolved,
-    subjects: &[Subject],
-) -> Result<Vec<Contacts>, NoMemory>
-    ensures { IfOk result (λ v. v.items ≡ map (contacts_of policy.now) (enumerate_from 0 subjects.now)) }
-{
-    let mut all_contacts = Vec::new(alloc);
-    for (index, subject) in subjects.iter().enumerate() {
-        all_contacts.push(make_contacts(alloc, policy, index, subject)?)?;
-    }
-    Ok(all_contacts)
 }
 
 /// The contacts of all subjects, in the policy's order.
@@ -240,7 +225,11 @@ pub(crate) fn all_contacts(alloc: Global, policy: &Resolved) -> Result<Vec<Conta
     ensures all_contacts { IfOk result (λ v. v.items ≡ all_contacts_of policy.now) }
     ensures resolved { IsResolved policy.now }
 {
-    numbered_contacts(alloc, policy, policy.subjects())
+    let mut all_contacts = Vec::new(alloc);
+    for (index, subject) in policy.subjects().iter().enumerate() {
+        all_contacts.push(make_contacts(alloc, policy, index, subject)?)?;
+    }
+    Ok(all_contacts)
 }
 
 fn has(indexes: &[usize], index: usize) -> bool

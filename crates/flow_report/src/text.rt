@@ -1,7 +1,7 @@
 //! The text of `flows`.
 ghost use Rattle.std.specs.Prelude.{◌≡◌, ◌++◌, [], false, slice_index_or};
 ghost use Rattle.std.specs.List.{enumerate_from, flat_map};
-ghost use Rattle.muen_outside.specs.Buffered.{Gives, behind};
+ghost use Rattle.muen_outside.specs.Prints.{Prints};
 ghost use Rattle.muen_outside.specs.Puts.{Puts};
 ghost use Rattle.policy_lawful.specs.Resolution.{source_of};
 ghost use Rattle.flow_report.specs.FlowText.{flow_text_of};
@@ -10,7 +10,7 @@ ghost use Rattle.flow_report.specs.TextByIndex.{line_end, line_start, lines_text
 
 use crate::sets::FlowSets;
 use muen_num::{Name, Seq};
-use muen_outside::{Buffer, Sink, SinkFault};
+use muen_outside::{Buffer, BufferedSink, Sink, SinkFault};
 use policy_lawful::Lawful;
 use policy_lawful::resolved::Subject;
 
@@ -39,13 +39,12 @@ fn marks_at(sets: &[Seq<bool>], index: usize) -> &[bool]
 fn put_two<S: Sink>(
     first: &[u8],
     second: &[u8],
-    buffer: &mut Buffer,
-    out: &mut S,
+    out: &mut BufferedSink<'_, S>,
 ) -> Result<(), SinkFault>
-    ensures { Gives (first.now ++ second.now) (behind (S.state out.old) buffer.old) (behind (S.state out.new) buffer.new) result }
+    ensures { Prints S.state (first.now ++ second.now) out.old out.new result }
 {
-    buffer.put(first, out)?;
-    buffer.put(second, out)
+    out.put(first)?;
+    out.put(second)
 }
 
 #[tactic(auto, using(muen_outside::proofs::Buffered::gives))]
@@ -53,13 +52,12 @@ fn put_three<S: Sink>(
     first: &[u8],
     second: &[u8],
     third: &[u8],
-    buffer: &mut Buffer,
-    out: &mut S,
+    out: &mut BufferedSink<'_, S>,
 ) -> Result<(), SinkFault>
-    ensures { Gives (first.now ++ second.now ++ third.now) (behind (S.state out.old) buffer.old) (behind (S.state out.new) buffer.new) result }
+    ensures { Prints S.state (first.now ++ second.now ++ third.now) out.old out.new result }
 {
-    put_two(first, second, buffer, out)?;
-    buffer.put(third, out)
+    put_two(first, second, out)?;
+    out.put(third)
 }
 
 // The name behind a space, where it is marked.
@@ -67,13 +65,12 @@ fn put_three<S: Sink>(
 fn put_member<S: Sink>(
     marked: bool,
     name: &Name,
-    buffer: &mut Buffer,
-    out: &mut S,
+    out: &mut BufferedSink<'_, S>,
 ) -> Result<(), SinkFault>
-    ensures { Gives (member_text marked name.now) (behind (S.state out.old) buffer.old) (behind (S.state out.new) buffer.new) result }
+    ensures { Prints S.state (member_text marked name.now) out.old out.new result }
 {
     if marked {
-        put_two(b" ", name.bytes(), buffer, out)
+        put_two(b" ", name.bytes(), out)
     } else {
         Ok(())
     }
@@ -84,13 +81,12 @@ fn put_member<S: Sink>(
 fn put_numbered<S: Sink>(
     set: &[bool],
     subjects: &[Subject],
-    buffer: &mut Buffer,
-    out: &mut S,
+    out: &mut BufferedSink<'_, S>,
 ) -> Result<(), SinkFault>
-    ensures { Gives (flat_map (member_at set.now) (enumerate_from 0 subjects.now)) (behind (S.state out.old) buffer.old) (behind (S.state out.new) buffer.new) result }
+    ensures { Prints S.state (flat_map (member_at set.now) (enumerate_from 0 subjects.now)) out.old out.new result }
 {
     for (index, subject) in subjects.iter().enumerate() {
-        put_member(is_marked(set, index), &subject.name, buffer, out)?;
+        put_member(is_marked(set, index), &subject.name, out)?;
     }
     Ok(())
 }
@@ -98,28 +94,27 @@ fn put_numbered<S: Sink>(
 fn put_members<S: Sink>(
     set: &[bool],
     subjects: &[Subject],
-    buffer: &mut Buffer,
-    out: &mut S,
+    out: &mut BufferedSink<'_, S>,
 ) -> Result<(), SinkFault>
-    ensures { Gives (members_text set.now subjects.now) (behind (S.state out.old) buffer.old) (behind (S.state out.new) buffer.new) result }
+    ensures { Prints S.state (members_text set.now subjects.now) out.old out.new result }
 {
-    put_numbered(set, subjects, buffer, out)
+    put_numbered(set, subjects, out)
 }
 
 // What stands before the members of a line.
 #[tactic(auto, unfolding(crate::specs::TextByIndex::line_start))]
-fn put_start<S: Sink>(name: &Name, buffer: &mut Buffer, out: &mut S) -> Result<(), SinkFault>
-    ensures { Gives (line_start name.now) (behind (S.state out.old) buffer.old) (behind (S.state out.new) buffer.new) result }
+fn put_start<S: Sink>(name: &Name, out: &mut BufferedSink<'_, S>) -> Result<(), SinkFault>
+    ensures { Prints S.state (line_start name.now) out.old out.new result }
 {
-    put_three(b"flow ", name.bytes(), b" from", buffer, out)
+    put_three(b"flow ", name.bytes(), b" from", out)
 }
 
 // What stands behind them.
 #[tactic(auto, unfolding(crate::specs::TextByIndex::line_end))]
-fn put_end<S: Sink>(buffer: &mut Buffer, out: &mut S) -> Result<(), SinkFault>
-    ensures { Gives line_end (behind (S.state out.old) buffer.old) (behind (S.state out.new) buffer.new) result }
+fn put_end<S: Sink>(out: &mut BufferedSink<'_, S>) -> Result<(), SinkFault>
+    ensures { Prints S.state line_end out.old out.new result }
 {
-    buffer.put(b"\n", out)
+    out.put(b"\n")
 }
 
 // A line: its start, the members, its end.
@@ -128,27 +123,25 @@ fn put_line<S: Sink>(
     name: &Name,
     set: &[bool],
     subjects: &[Subject],
-    buffer: &mut Buffer,
-    out: &mut S,
+    out: &mut BufferedSink<'_, S>,
 ) -> Result<(), SinkFault>
-    ensures { Gives (line_start name.now ++ members_text set.now subjects.now ++ line_end) (behind (S.state out.old) buffer.old) (behind (S.state out.new) buffer.new) result }
+    ensures { Prints S.state (line_start name.now ++ members_text set.now subjects.now ++ line_end) out.old out.new result }
 {
-    put_start(name, buffer, out)?;
-    put_members(set, subjects, buffer, out)?;
-    put_end(buffer, out)
+    put_start(name, out)?;
+    put_members(set, subjects, out)?;
+    put_end(out)
 }
 
 #[tactic(auto, using(crate::proofs::NumberedTexts::numbered))]
 fn put_lines<S: Sink>(
     subjects: &[Subject],
     sets: &[Seq<bool>],
-    buffer: &mut Buffer,
-    out: &mut S,
+    out: &mut BufferedSink<'_, S>,
 ) -> Result<(), SinkFault>
-    ensures { Gives (lines_text subjects.now sets.now) (behind (S.state out.old) buffer.old) (behind (S.state out.new) buffer.new) result }
+    ensures { Prints S.state (lines_text subjects.now sets.now) out.old out.new result }
 {
     for (index, subject) in subjects.iter().enumerate() {
-        put_line(&subject.name, marks_at(sets, index), subjects, buffer, out)?;
+        put_line(&subject.name, marks_at(sets, index), subjects, out)?;
     }
     Ok(())
 }
@@ -157,13 +150,12 @@ fn put_lines<S: Sink>(
 fn put_text<S: Sink>(
     policy: &Lawful,
     flows: &FlowSets,
-    buffer: &mut Buffer,
-    out: &mut S,
+    out: &mut BufferedSink<'_, S>,
 ) -> Result<(), SinkFault>
     requires { AreFlows (source_of policy.now) flows.now }
-    ensures { Gives (flow_text_of (source_of policy.now)) (behind (S.state out.old) buffer.old) (behind (S.state out.new) buffer.new) result }
+    ensures { Prints S.state (flow_text_of (source_of policy.now)) out.old out.new result }
 {
-    put_lines(policy.resolved().subjects(), flows.sets(), buffer, out)
+    put_lines(policy.resolved().subjects(), flows.sets(), out)
 }
 
 /// Puts a line for each subject: `flow SUBJECT from S1 S2 ..`, the subject itself and all that can
@@ -180,6 +172,7 @@ pub fn flow_text<S: Sink>(
     requires empty { buffer.old ≡ [] }
     ensures { Puts (flow_text_of (source_of policy.now)) (S.state out.old) (S.state out.new) result }
 {
-    put_text(policy, flows, buffer, out)?;
-    buffer.flush(out)
+    let mut out = BufferedSink { buffer, sink: out };
+    put_text(policy, flows, &mut out)?;
+    out.flush()
 }

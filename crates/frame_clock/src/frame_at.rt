@@ -29,10 +29,7 @@ impl FrameAt {
 fn ticks_of(majors: &[Major], major: usize) -> Option<u32>
     ensures { result ≡ slice_get (map (λ m. m.ticks) majors.now) major }
 {
-    match majors.get(major) {
-        None => None,
-        Some(found) => Some(found.ticks),
-    }
+    Some(majors.get(major)?.ticks)
 }
 
 // A major frame by its number.

@@ -22,7 +22,7 @@ use Rattle.guest_isa.specs.declared.instr.Instr.TheVariants.{Nop, Li, Lih, Mov, 
 use Rattle.guest_isa.specs.declared.instr.Wish.{Wish}
 use Rattle.guest_isa.specs.declared.instr.Wish.TheVariants.{Nothing, Set as Sets, Load as Loads, Store as Stores, PortIn, PortOut, ReadMsr, WriteMsr, Tick, Call as Calls, Halt as Halts}
 use Rattle.guest_isa.specs.Step.{World, Stored, MsrWrite, Answer, went_on, exits, sets, reach_of, word_at, loaded, stored_to, port_read, port_written, msr_read, msr_written, performed, executed, fetched, step}
-use Rattle.guest_isa.specs.declared.end.StepEnd.{StepEnd}
+use Rattle.guest_isa.specs.declared.end.Change.{Change}
 use Rattle.guest_isa.specs.declared.reach.Reach.{Reach}
 use Rattle.guest_isa.specs.declared.reach.Reach.TheVariants.{Reached, Refused}
 use Rattle.guest_isa.specs.Words.{IsWord, FitsState}
@@ -242,8 +242,8 @@ module _ {X : Type 0} (w : World X) where
     pub stored : OnStored a.stored
     pub msr : FitsState s → OnWritten a.msr
 
-  is_plain : (s after : SubjectState) (step_end : StepEnd) → (FitsWorld w → FitsState s → FitsState after) → IsAnswer s (went_on after step_end)
-  is_plain s after step_end h = record { state = λ v f. exited_fits after false (h v f); stored = tt; msr = λ f. tt }
+  is_plain : (s after : SubjectState) (change : Change) → (FitsWorld w → FitsState s → FitsState after) → IsAnswer s (went_on after change)
+  is_plain s after change h = record { state = λ v f. exited_fits after false (h v f); stored = tt; msr = λ f. tt }
 
   is_exit : (s : SubjectState) (reason qualification addr call : ℕ) → IsAnswer s (exits s reason qualification addr call)
   is_exit s reason qualification addr call = record { state = λ v f. exited_fits s true f; stored = tt; msr = λ f. tt }

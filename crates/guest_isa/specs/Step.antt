@@ -17,8 +17,10 @@ use Rattle.guest_isa.specs.declared.instr.Wish.{Wish}
 use Rattle.guest_isa.specs.declared.instr.Wish.TheVariants.{Nothing, Set as Sets, Load as Loads, Store as Stores, PortIn, PortOut, ReadMsr, WriteMsr, Tick, Call as Calls, Halt as Halts}
 use Rattle.guest_isa.specs.declared.reach.Reach.{Reach}
 use Rattle.guest_isa.specs.declared.reach.Reach.TheVariants.{Reached, Refused}
+use Rattle.guest_isa.specs.declared.end.Change.{Change}
+use Rattle.guest_isa.specs.declared.end.Change.TheVariants.{Plain, Set, Stored as Wrote, Out, WroteMsr}
 use Rattle.guest_isa.specs.declared.end.StepEnd.{StepEnd}
-use Rattle.guest_isa.specs.declared.end.StepEnd.TheVariants.{Plain, Set, Stored as Wrote, Out, WroteMsr, Exit}
+use Rattle.guest_isa.specs.declared.end.StepEnd.TheVariants.{Ran, Exit}
 
 -- ---- what a step asks of the world, whatever targets are called there
 
@@ -58,8 +60,8 @@ pub record Answer (X : Type 0) : Type 0 where
   pub msr : Option MsrWrite
 
 -- without an exit
-abbrev pub went_on : {X : Type 0} → SubjectState → StepEnd → Answer X
-went_on after end = record { state = record after { exited = false }; end = end; stored = None; msr = None }
+abbrev pub went_on : {X : Type 0} → SubjectState → Change → Answer X
+went_on after change = record { state = record after { exited = false }; end = Ran change; stored = None; msr = None }
 
 -- with an exit: `pc` stays, and the kernel acts
 abbrev pub exits : {X : Type 0} → SubjectState → ℕ → ℕ → ℕ → ℕ → Answer X
@@ -94,7 +96,7 @@ loaded bytes s after reg size (Refused reason qualification addr) = faulted s re
 abbrev pub stored_to : {X : Type 0} → SubjectState → SubjectState → ℕ → AccessSize → ℕ → Reach X → Answer X
 stored_to s after addr size value (Reached target offset) = record {
   state = record after { exited = false };
-  end = Wrote size addr value;
+  end = Ran (Wrote size addr value);
   stored = Some (record { target = target; offset = offset; bytes = le_bytes (count size) value });
   msr = None;
 }
@@ -125,7 +127,7 @@ msr_written allowed s after index value =
     if allowed
     then record {
       state = record after { exited = false };
-      end = WroteMsr index value;
+      end = Ran (WroteMsr index value);
       stored = None;
       msr = Some (record { index = index; value = value });
     }

@@ -1,10 +1,10 @@
 //! How steps end.
 use muen_num::AccessSize;
 
-/// How a step ended, before the kernel acts.
+/// What an instruction that ran has changed.
 #[derive(Clone, Copy, Debug, PartialEq, Eq)]
-pub enum StepEnd {
-    /// Nothing but `pc` and flags changed.
+pub enum Change {
+    /// Nothing but `pc` and flags.
     Plain,
     /// The register has this value now.
     Set {
@@ -28,6 +28,13 @@ pub enum StepEnd {
         index: u32,
         value: u64,
     },
+}
+
+/// How a step ended, before the kernel acts.
+#[derive(Clone, Copy, Debug, PartialEq, Eq)]
+pub enum StepEnd {
+    /// The subject goes on, with this change.
+    Ran(Change),
     /// The subject left, by an exit of the processor (Intel SDM volume 3).
     Exit {
         /// The exit reason.

@@ -14,7 +14,7 @@ mod spelling;
 mod step_laws;
 
 pub use effect::{ask, with_register};
-pub use end::StepEnd;
+pub use end::{Change, StepEnd};
 pub use finish::{Finish, inject};
 pub use instr::{Asked, Instr, Wish};
 pub use reach::Reach;

@@ -10,14 +10,16 @@ use Rattle.std.proofs.lemmas.Slice.Zip.{AllZip-long}
 use Rattle.event_emit.specs.Tables.{AreDevices, IsDevice as IsDeviceFrom, IsIrq as IsIrqFrom, ports_ends, span_ends}
 use Rattle.image_emit.proofs.ByNumber.{span_found}
 use Rattle.image_emit.proofs.ConditionsOfPlan.{subjects_many}
-use Rattle.image_emit.proofs.KeptPorts.{few_devices, has_few, is_range, names_differ, ports_kept}
+use Rattle.image_emit.proofs.NamesDiffer.{names_differ}
+use Rattle.policy_lawful.proofs.KeptLimits.{has_few_parts, limits_kept}
+use Rattle.policy_lawful.proofs.KeptPorts.{is_range, ports_kept}
 use Rattle.image_emit.proofs.PlanDevices.{irqs_named, memory_there}
 use Rattle.image_emit.specs.Made.{IsMade, Made, image_of, policy_of, subject_parts}
 use Rattle.image_pack.specs.Image.{device_name, window_name}
 use Rattle.image_pack.specs.ImageConditions.{AreDistinct, IsDevice, IsIrq, IsRange, IsWindow}
 use Rattle.image_pack.specs.declared.parts.DevicePart.{DevicePart}
 use Rattle.image_pack.specs.declared.parts.IrqPart.{IrqPart}
-use Rattle.image_pack.specs.declared.parts.PortSpan.{PortSpan}
+use Rattle.muen_num.specs.declared.devices.PortSpan.{PortSpan}
 use Rattle.image_pack.specs.declared.parts.SpanPart.{SpanPart}
 use Rattle.image_pack.specs.declared.parts.WindowPart.{WindowPart}
 use Rattle.muen_num.proofs.NumbersBelow.{length_numbers, number_at}
@@ -133,9 +135,9 @@ module _ (m : Made) (h : IsMade m) where
   -- ---- a device
 
   module _ (j : ℕ) (q : DevicePart) (d : Device) (first : ℕ) (at : slice_get (policy_of m).devices j ≡ Some d) (is : IsDeviceFrom (policy_of m) first d q) (has : HaveMemory (spans_of m.placed) first (named_memory d)) where
-    few : has_few d ≡ true
+    few : has_few_parts d ≡ true
     unfolding source_of
-    few = passes_at has_few (policy_of m).devices j d (few_devices (source_of (policy_of m)) h.lawful.rule_20).parts at
+    few = passes_at has_few_parts (policy_of m).devices j d (limits_kept (source_of (policy_of m)) h.lawful.rule_20).device_parts at
 
     ranges : list_all is_range d.io_ports ≡ true
     unfolding source_of

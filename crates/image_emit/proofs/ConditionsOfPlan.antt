@@ -9,7 +9,6 @@ use Rattle.std.proofs.lemmas.List.Sorted.{Contains-permutation, length_permutati
 use Rattle.std.proofs.lemmas.List.Sums.{AllPass-from_list_all}
 use Rattle.std.proofs.lemmas.Option.{get_or_from_slice_get, slice_get_within}
 use Rattle.expand_kernel.specs.Regions.{own_region}
-use Rattle.image_emit.proofs.KeptPorts.{few_devices}
 use Rattle.image_emit.proofs.PlanChoice.{first_index, is_memory, own_at}
 use Rattle.image_emit.proofs.PlanSubjects.{names_in_image, position_there}
 use Rattle.image_emit.proofs.SpansAt.{region_at}
@@ -138,7 +137,7 @@ module _ (m : Made) (h : IsMade m) where
   few_parts : length m.devices ≤ 32
   unfolding source_of
   few_parts =
-      let most : length (policy_of m).devices ≤ 32 = (few_devices (source_of (policy_of m)) h.lawful.rule_20).most in
+      let most : length (policy_of m).devices ≤ 32 = (limits_kept (source_of (policy_of m)) h.lawful.rule_20).most_devices in
       let many = devices_many m h in
       omega (arith, most, many)
 

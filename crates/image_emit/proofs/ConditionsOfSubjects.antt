@@ -6,11 +6,11 @@ use Rattle.std.proofs.lemmas.Bool.{and_from, eq-eqb, lt-ltb, ltb-true}
 use Rattle.std.proofs.lemmas.List.Elements.{All-cons, All-nil}
 use Rattle.ept_emit.specs.Pages.{ept_pages}
 use Rattle.ept_emit.specs.Emitted.{eptp_of}
-use Rattle.ept_emit.specs.declared.window.Window.{Window}
+use Rattle.ept_emit.specs.declared.window.GuestRange.{GuestRange}
 use Rattle.event_emit.specs.Tables.{AreTables}
 use Rattle.event_emit.specs.declared.event_tables.EventTables.{EventTables}
 use Rattle.expand_grants.specs.declared.granted.Grants.{Grants}
-use Rattle.expand_kernel.specs.ByIndex.{mapped_views}
+use Rattle.expand_kernel.specs.ByIndex.{view_ranges}
 use Rattle.expand_kernel.specs.Regions.{anywhere, kernel_regions}
 use Rattle.expand_kernel.specs.declared.region.Region.{Region}
 use Rattle.expand_kernel.specs.declared.region.RegionKind.TheVariants.{Kernel}
@@ -18,7 +18,7 @@ use Rattle.image_emit.proofs.AtIndexes.{mapped_there, zipped_there}
 use Rattle.image_emit.proofs.ConditionsOfPlan.{subjects_many}
 use Rattle.image_emit.proofs.EventsKept.{table_kept}
 use Rattle.image_emit.proofs.GroupsKept.{first_here, group_there}
-use Rattle.image_emit.proofs.SpansOfKernel.{sound_of}
+use Rattle.image_emit.proofs.SpansOfKernel.{placed_of}
 use Rattle.image_emit.proofs.SpansAt.{at_number, region_at, some_span, zip_at}
 use Rattle.image_emit.specs.Made.{IsMade, Made, image_of, policy_of, subject_part, subject_parts}
 use Rattle.image_pack.specs.Codes.{part_code}
@@ -57,7 +57,7 @@ all_with_numbers P from (x ∷ xs) h =
 -- ---- numbers
 
 -- tables of one page at least
-some_pages : (ws : List Window) → 1 ≤ ept_pages ws
+some_pages : (ws : List GuestRange) → 1 ≤ ept_pages ws
 some_pages ws = omega arith
 
 eptp_kept : (at size : ℕ) → at % 4096 ≡ 0 → 4096 ≤ size → at + size ≤ 2 ^ 40 → is_eptp (eptp_of at) ≡ true
@@ -71,14 +71,14 @@ module _ (m : Made) (h : IsMade m) where
 
   module _ (k : ℕ) (s : Subject) (g : Grants) (t : EventTables) (at : slice_get (policy_of m).subjects k ≡ Some s) (granted : slice_get m.placed.expanded.grants k ≡ Some g) (raised : slice_get m.events k ≡ Some t) where
     -- one of the kernel's regions for the subject
-    kernel_span : (j : ℕ) (y : Region) (code pages : ℕ) → slice_get (kernel_regions s.name (ept_pages (mapped_views g.views))) j ≡ Some y → part_code y.tag.part ≡ code → nat_le pages (y.size / PAGE) ≡ true
+    kernel_span : (j : ℕ) (y : Region) (code pages : ℕ) → slice_get (kernel_regions s.name (ept_pages (view_ranges g.views))) j ≡ Some y → part_code y.tag.part ≡ code → nat_le pages (y.size / PAGE) ≡ true
         → is_kernel_span m.spans code pages (kernel_first (policy_of m) k + j) ≡ true
     unfolding is_kernel_span
     kernel_span j y code pages is part size =
         let n = kernel_first (policy_of m) k + j in
         let span = region_span (n, (y, slice_index m.placed.addresses n)) in
         some_span m h (λ s. (s.number == n) && (part_code s.tag.part == code) && nat_le pages s.pages) n span
-        (region_at m h n y (kernel_at_index m.placed (sound_of m h) k j s g y at granted is))
+        (region_at m h n y (kernel_at_index m.placed (placed_of m h) k j s g y at granted is))
         (and_from ((n == n) && (part_code y.tag.part == code)) (nat_le pages (y.size / PAGE))
         (and_from (n == n) (part_code y.tag.part == code) (eq-eqb n n refl) (eq-eqb (part_code y.tag.part) code part)) size)
 
@@ -111,9 +111,9 @@ module _ (m : Made) (h : IsMade m) where
 
     pointer : is_eptp (eptp_of (tables_at m.placed k)) ≡ true
     pointer =
-        let there = tables_there m.placed (sound_of m h) k s g at granted in
-        let some = some_pages (mapped_views g.views) in
-        eptp_kept (tables_at m.placed k) (ept_pages (mapped_views g.views) * 4096) there.whole (omega (arith, some)) there.end
+        let there = tables_there m.placed (placed_of m h) k s g at granted in
+        let some = some_pages (view_ranges g.views) in
+        eptp_kept (tables_at m.placed k) (ept_pages (view_ranges g.views) * 4096) there.whole (omega (arith, some)) there.end
 
     events : (table : List (Option EventPart)) → AreEvents (length (policy_of m).subjects) table → AreEvents (length (subject_parts m)) table
     unfolding image_of

@@ -9,30 +9,19 @@ use Rattle.std.proofs.lemmas.Slice.Zip.{AllZip-long}
 use Rattle.expand_grants.specs.Grants.{AreGrantsOf}
 use Rattle.expand_grants.specs.declared.granted.Grants.{Grants}
 use Rattle.image_emit.specs.Fitting.{AreFew}
-use Rattle.image_emit.specs.Known.{IsKnown}
 use Rattle.msrbm_emit.specs.Area.{count_of}
 use Rattle.muen_num.proofs.Lists.{each_from, there}
 use Rattle.policy_lawful.proofs.KeptPlan.{PlanKept, plan_kept}
 use Rattle.policy_lawful.specs.Rules.{offence_20}
 use Rattle.policy_lawful.specs.Resolution.{Resolution, source_of, subject_named}
 use Rattle.policy_lawful.specs.declared.resolved.Subject.{Subject}
-use Rattle.region_alloc.specs.Placed.{Placement}
+use Rattle.region_alloc.specs.Placed.{IsPlaced, Placement}
 use Rattle.span_emit.proofs.KeptSums.{sums_kept, windows_length}
 use Rattle.span_emit.specs.Spans.{memories_of}
 use Rattle.subject_emit.proofs.KeptMsrs.{msrs_few}
 use Rattle.subject_emit.proofs.Numbered.{has_addresses}
 use Rattle.subject_emit.proofs.Pieces.{other_at}
 use Rattle.subject_emit.proofs.AddressesFit.{tables_there}
-use Rattle.subject_emit.specs.Sound.{IsSound}
-
-pub sound_known : (x : Placement) → IsKnown x → IsSound x
-sound_known x k = record {
-  resolved = k.resolved;
-  lawful = k.lawful;
-  grants = k.expansion.grants;
-  regions = k.expansion.regions;
-  addresses = k.placement;
-}
 
 -- each subject's MSRs, from any index on
 msrs_from : (r : Resolution) → offence_20 (source_of r) ≡ None → (ss : List Subject) (gs : List Grants) → ((j : ℕ) (s : Subject) → slice_get ss j ≡ Some s → (k : ℕ) × (slice_get r.subjects k ≡ Some s)) → AllZip (AreGrantsOf r) ss gs → list_all (λ g. nat_le (count_of g.msrs) 64) gs ≡ true
@@ -58,12 +47,11 @@ subjects_many : (r : Resolution) → length (source_of r).subjects ≡ length r.
 unfolding source_of
 subjects_many r = length-map r.subjects (subject_named r)
 
-pub are_few : (x : Placement) → IsKnown x → AreFew x
+pub are_few : (x : Placement) → IsPlaced x → AreFew x
 are_few x k =
     let r = x.expanded.lawful in
-    let sound = sound_known x k in
     let plan = plan_kept r k.resolved k.lawful in
-    let addresses = has_addresses x sound in
+    let addresses = has_addresses x k in
     let sums = sums_kept (source_of r) k.lawful.rule_20 in
     let few_regions = sums.regions in
     let regions = ap length k.expansion.regions in
@@ -81,7 +69,7 @@ are_few x k =
       tables = λ n low.
           let s = there r.subjects n low in
           let g = other_at (AreGrantsOf r) r.subjects x.expanded.grants n s.0 k.expansion.grants s.1 in
-          let at = tables_there x sound n s.0 g.0 s.1 g.1 in
+          let at = tables_there x k n s.0 g.0 s.1 g.1 in
           let end = at.end in
           omega (arith, end);
       cpus = cpus_small r plan;
@@ -90,7 +78,7 @@ are_few x k =
     }
 
 -- there are few regions, and few spans with those of devices' memory
-pub regions_few : (x : Placement) → IsKnown x → length x.expanded.regions ≤ 1024
+pub regions_few : (x : Placement) → IsPlaced x → length x.expanded.regions ≤ 1024
 regions_few x k =
     let few = (sums_kept (source_of x.expanded.lawful) k.lawful.rule_20).regions in
     let regions = ap length k.expansion.regions in
@@ -100,7 +88,7 @@ same_devices : (r : Resolution) → (source_of r).devices ≡ r.devices
 unfolding source_of
 same_devices r = refl
 
-pub spans_few : (x : Placement) → IsKnown x → length x.expanded.regions + sum_by (λ d. length d.memory) x.expanded.lawful.devices < 65536
+pub spans_few : (x : Placement) → IsPlaced x → length x.expanded.regions + sum_by (λ d. length d.memory) x.expanded.lawful.devices < 65536
 spans_few x k =
     let few = regions_few x k in
     let windows = (sums_kept (source_of x.expanded.lawful) k.lawful.rule_20).windows in
@@ -108,6 +96,6 @@ spans_few x k =
     let many = windows_length x.expanded.lawful.devices in
     omega (arith, few, windows, same, many)
 
-pub cpus_few : (x : Placement) → IsKnown x → x.expanded.lawful.processor.logical_cpus ≤ 8
+pub cpus_few : (x : Placement) → IsPlaced x → x.expanded.lawful.processor.logical_cpus ≤ 8
 unfolding source_of
 cpus_few x k = (plan_kept x.expanded.lawful k.resolved k.lawful).cpus.most

@@ -5,8 +5,8 @@ use Rattle.event_emit.specs.Tables.{AreDevices}
 use Rattle.image_emit.proofs.Conditions.{keeps}
 use Rattle.image_emit.proofs.ContentLengths.{contents_kept}
 use Rattle.image_emit.specs.Gathered.{AreParts, IsHeld}
-use Rattle.image_emit.specs.Known.{IsKnown}
 use Rattle.image_emit.specs.Made.{IsFilled, IsImageOf, IsMade, Made, choice_of, image_of}
+use Rattle.image_emit.specs.Named.{AreNamed}
 use Rattle.image_pack.proofs.ConditionsFit.{conditions_fit}
 use Rattle.image_pack.specs.Parts.{IsParts, counted}
 use Rattle.image_pack.specs.SpanConditions.{AreSpans}
@@ -17,11 +17,11 @@ use Rattle.image_pack.specs.declared.parts.SubjectPart.{SubjectPart}
 use Rattle.frame_clock.specs.declared.plan.Plan.{Plan}
 use Rattle.plan_emit.specs.PlanOf.{IsPlanOf}
 use Rattle.policy_lawful.specs.Resolution.{source_of}
-use Rattle.region_alloc.specs.Placed.{Placement}
+use Rattle.region_alloc.specs.Placed.{IsPlaced, Placement}
 use Rattle.span_emit.specs.Spans.{spans_of}
 
 module _ (x : Placement) (things : List (List ℕ)) (spans : List SpanPart) (held : List (List ℕ)) (parts : List SubjectPart) (plan : Plan) (devices : List DevicePart)
-    (known : IsKnown x) (filled : IsFilled x things) (numbered : IsPermutation (spans_of x) spans) (are : AreSpans spans) (h : IsHeld x things spans held) (p : AreParts x parts)
+    (known : IsPlaced x) (named : AreNamed x.expanded.lawful) (filled : IsFilled x things) (numbered : IsPermutation (spans_of x) spans) (are : AreSpans spans) (h : IsHeld x things spans held) (p : AreParts x parts)
     (plans : IsPlanOf (source_of x.expanded.lawful) plan) (are_devices : AreDevices x.expanded.lawful (length x.expanded.regions) x.expanded.lawful.devices devices) where
   all : Made
   all = record { placed = x; things = things; pages = h.pages; events = p.events; devices = devices; plan = plan; spans = spans }
@@ -35,8 +35,8 @@ module _ (x : Placement) (things : List (List ℕ)) (spans : List SpanPart) (hel
     placement = known.placement;
     inside = known.inside;
     disjoint = known.disjoint;
-    subjects_named = known.subjects_named;
-    devices_named = known.devices_named;
+    subjects_named = named.subjects;
+    devices_named = named.devices;
     filled = filled;
     pages = h.are;
     events = p.are;
@@ -59,13 +59,13 @@ module _ (x : Placement) (things : List (List ℕ)) (spans : List SpanPart) (hel
 
 -- the same, of counts that are the policy's
 pub image_of_parts : (x : Placement) (things : List (List ℕ)) (spans : List SpanPart) (held : List (List ℕ)) (parts : List SubjectPart) (plan : Plan) (devices : List DevicePart) (cpus : ℕ) (tau0 : Option ℕ)
-    → IsKnown x → IsFilled x things → IsPermutation (spans_of x) spans → AreSpans spans → IsHeld x things spans held → AreParts x parts → IsPlanOf (source_of x.expanded.lawful) plan
+    → IsPlaced x → AreNamed x.expanded.lawful → IsFilled x things → IsPermutation (spans_of x) spans → AreSpans spans → IsHeld x things spans held → AreParts x parts → IsPlanOf (source_of x.expanded.lawful) plan
     → AreDevices x.expanded.lawful (length x.expanded.regions) x.expanded.lawful.devices devices → cpus ≡ x.expanded.lawful.processor.logical_cpus → tau0 ≡ choice_of x.expanded.lawful
     → IsImageOf x things (counted cpus tau0 spans parts plan devices held)
-image_of_parts x things spans held parts plan devices cpus tau0 known filled numbered are h p plans are_devices same chosen =
+image_of_parts x things spans held parts plan devices cpus tau0 known named filled numbered are h p plans are_devices same chosen =
     subst (λ n. IsImageOf x things (counted n tau0 spans parts plan devices held)) (sym same)
     (subst (λ t. IsImageOf x things (counted x.expanded.lawful.processor.logical_cpus t spans parts plan devices held)) (sym chosen)
-    (image_made x things spans held parts plan devices known filled numbered are h p plans are_devices))
+    (image_made x things spans held parts plan devices known named filled numbered are h p plans are_devices))
 
 -- it keeps the conditions of an image
 pub parts_fit : (x : Placement) (things : List (List ℕ)) (i : Image) → IsImageOf x things i → IsParts i

@@ -10,8 +10,7 @@ pub mod EventsKept
 pub mod FewKnown
 pub mod GroupsKept
 pub mod ImageMade
-pub mod KeptPorts
-pub mod KeptVectors
+pub mod NamesDiffer
 pub mod NumberedSpans
 pub mod PagesMade
 pub mod PartsMade

@@ -27,7 +27,8 @@ use Rattle.policy_types.specs.declared.source.Device.{Device as SourceDevice}
 use Rattle.policy_types.specs.declared.source.DeviceMemory.{DeviceMemory}
 use Rattle.policy_types.specs.declared.source.Irq.{Irq}
 use Rattle.record_text.specs.Bench.{Bench, BenchDevice}
-use Rattle.span_emit.proofs.KeptDevices.{IsPhysical, devices_physical}
+use Rattle.policy_lawful.proofs.KeptAddresses.{IsPhysical}
+use Rattle.span_emit.proofs.KeptDevices.{devices_physical}
 use Rattle.span_emit.specs.Spans.{device_span, device_spans, memories_of, region_spans, spans_of}
 use Rattle.image_soundness.specs.Bench.{bench_device as device_of, devices_of}
 

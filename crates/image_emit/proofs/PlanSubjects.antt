@@ -16,7 +16,7 @@ use Rattle.image_emit.specs.Made.{IsMade, Made, group_at, image_of, policy_of, s
 use Rattle.image_soundness.specs.Named.{raised, reached, target}
 use Rattle.image_soundness.specs.Sound.{ForEachSubject, IsSubjectOf}
 use Rattle.image_pack.specs.declared.parts.EventPart.{EventPart}
-use Rattle.image_pack.specs.declared.parts.IrqTarget.{IrqTarget}
+use Rattle.muen_num.specs.declared.devices.IrqTarget.{IrqTarget}
 use Rattle.image_pack.specs.declared.parts.SubjectPart.{SubjectPart}
 use Rattle.muen_num.proofs.Lists.{list_any-map, passes_at, position-map}
 use Rattle.policy_lawful.proofs.KeptMembers.{members_kept}

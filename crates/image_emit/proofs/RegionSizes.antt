@@ -8,7 +8,8 @@ use Rattle.std.proofs.lemmas.List.Sums.{sum_by-cons}
 use Rattle.std.proofs.lemmas.Option.{get_or_from_slice_get, slice_get-map}
 use Rattle.ept_emit.specs.Pages.{ept_pages}
 use Rattle.expand_grants.specs.declared.granted.Grants.{Grants}
-use Rattle.expand_kernel.specs.ByIndex.{brought_at, kernel_for, kernel_for_each, mapped_views, provided_at}
+use Rattle.expand_kernel.specs.ByIndex.{brought_at, kernel_for, kernel_for_each, view_ranges}
+use Rattle.policy_lawful.specs.ByIndex.{provided_at}
 use Rattle.expand_kernel.specs.Regions.{channel_region, own_region, provided_region}
 use Rattle.expand_kernel.specs.declared.region.Region.{Region}
 use Rattle.expand_kernel.proofs.Numbering.{regions_by_index}
@@ -65,7 +66,7 @@ kernel_sizes x n (e ∷ es) [] h = absurd h
 kernel_sizes x n (e ∷ es) (q ∷ qs) h =
     let p = h.0 in
     let state : length q.state ≡ PAGE = ap length p.state ∙ length-page e.0.entry in
-    let tables : length q.tables ≡ ept_pages (mapped_views e.1.views) * PAGE = p.tables.len ∙ ap (λ k. PAGE * k) (pages_same x n e.1) ∙ omega arith in
+    let tables : length q.tables ≡ ept_pages (view_ranges e.1.views) * PAGE = p.tables.len ∙ ap (λ k. PAGE * k) (pages_same x n e.1) ∙ omega arith in
     let entries = area_of e.1.msrs in
     let area : length q.area ≡ PAGE = ap length p.area ∙ length-padded PAGE (area_bytes entries) (omega (arith, length-area entries, length-area_of e.1.msrs, p.few)) in
     let rest = kernel_sizes x (n + 1) es qs h.1 in

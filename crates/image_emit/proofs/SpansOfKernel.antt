@@ -8,7 +8,7 @@ use Rattle.std.proofs.lemmas.Option.{get_or_from_slice_get, slice_get_within}
 use Rattle.ept_emit.specs.Pages.{ept_pages}
 use Rattle.event_emit.specs.declared.event_tables.EventTables.{EventTables}
 use Rattle.expand_grants.specs.declared.granted.Grants.{Grants}
-use Rattle.expand_kernel.specs.ByIndex.{mapped_views}
+use Rattle.expand_kernel.specs.ByIndex.{view_ranges}
 use Rattle.expand_kernel.specs.Regions.{anywhere, kernel_regions}
 use Rattle.expand_kernel.specs.declared.region.RegionKind.TheVariants.{Kernel}
 use Rattle.image_emit.specs.Made.{IsMade, Made, content_at, image_of, kernel_bytes, policy_of, region_bytes}
@@ -21,9 +21,9 @@ use Rattle.muen_num.proofs.Lists.{get_right}
 use Rattle.muen_num.specs.declared.tag.TagPart.{TagPart}
 use Rattle.machine_layout.specs.PageFields.{padded}
 use Rattle.policy_lawful.specs.declared.resolved.Subject.{Subject}
+use Rattle.region_alloc.specs.Placed.{IsPlaced}
 use Rattle.span_emit.specs.Spans.{region_span, spans_of}
 use Rattle.subject_emit.specs.Mapped.{kernel_first}
-use Rattle.subject_emit.specs.Sound.{IsSound}
 use Rattle.subject_emit.specs.declared.subject_pages.SubjectPages.{SubjectPages}
 use Rattle.subject_emit.proofs.Numbered.{kernel_at_index}
 use Rattle.subject_emit.proofs.Pieces.{at_piece}
@@ -33,13 +33,14 @@ pub padded_length : (size : ℕ) (bytes : List ℕ) → length bytes ≤ size �
 unfolding padded
 padded_length size bytes l = omega (arith, l, length-append bytes (replicate (size - length bytes) 0), length-replicate {A = ℕ} (size - length bytes) 0)
 
-pub sound_of : (m : Made) → IsMade m → IsSound m.placed
-sound_of m h = record {
+pub placed_of : (m : Made) → IsMade m → IsPlaced m.placed
+placed_of m h = record {
   resolved = h.resolved;
   lawful = h.lawful;
-  grants = h.expansion.grants;
-  regions = h.expansion.regions;
-  addresses = h.placement;
+  expansion = h.expansion;
+  placement = h.placement;
+  inside = h.inside;
+  disjoint = h.disjoint;
 }
 
 -- ---- what they hold
@@ -67,18 +68,18 @@ module _ (m : Made) (h : IsMade m) (k : ℕ) (s : Subject) (g : Grants) (t : Eve
   kernel_span c size part = region_span (kernel_first (policy_of m) k + c, (anywhere Kernel s.name part size, get_or m.placed.addresses (kernel_first (policy_of m) k + c) 0))
 
   -- the span of this number among those of the kernel for the subject
-  pub kernel_numbered : (c size : ℕ) (part : TagPart) → slice_get (kernel_regions s.name (ept_pages (mapped_views g.views))) c ≡ Some (anywhere Kernel s.name part size)
+  pub kernel_numbered : (c size : ℕ) (part : TagPart) → slice_get (kernel_regions s.name (ept_pages (view_ranges g.views))) c ≡ Some (anywhere Kernel s.name part size)
       → slice_get (spans_of m.placed) (kernel_first (policy_of m) k + c) ≡ Some (kernel_span c size part)
   kernel_numbered c size part e =
       region_at m h (kernel_first (policy_of m) k + c) (anywhere Kernel s.name part size)
-      (kernel_at_index m.placed (sound_of m h) k c s g (anywhere Kernel s.name part size) at.subject at.granted e)
+      (kernel_at_index m.placed (placed_of m h) k c s g (anywhere Kernel s.name part size) at.subject at.granted e)
 
   -- has these bytes in the image
   pub kernel_content : (c size : ℕ) (part : TagPart) (bytes : List ℕ) → slice_get (kernel_bytes q) c ≡ Some bytes → bytes_of (kernel_span c size part, content_at m (kernel_span c size part)) ≡ bytes
   kernel_content c size part bytes e =
       get_or_from_slice_get (region_bytes m) (kernel_first (policy_of m) k + c) bytes [] (kernel_held m h k c q bytes at.kept e)
 
-  pub kernel_bytes_at : (c size : ℕ) (part : TagPart) (bytes : List ℕ) → slice_get (kernel_regions s.name (ept_pages (mapped_views g.views))) c ≡ Some (anywhere Kernel s.name part size) → slice_get (kernel_bytes q) c ≡ Some bytes
+  pub kernel_bytes_at : (c size : ℕ) (part : TagPart) (bytes : List ℕ) → slice_get (kernel_regions s.name (ept_pages (view_ranges g.views))) c ≡ Some (anywhere Kernel s.name part size) → slice_get (kernel_bytes q) c ≡ Some bytes
       → bytes_at (image_of m) (kernel_first (policy_of m) k + c) ≡ bytes
   kernel_bytes_at c size part bytes e b =
       ap (λ (o : Option Span). option_map_or bytes_of o []) (span_numbered m h (kernel_first (policy_of m) k + c) (kernel_span c size part) (kernel_numbered c size part e))

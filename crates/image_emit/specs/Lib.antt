@@ -1,6 +1,6 @@
 pub mod Fitting
 pub mod Gathered
-pub mod Known
 pub mod Made
+pub mod Named
 pub mod Parting
 pub mod Taking

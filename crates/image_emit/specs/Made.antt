@@ -1,5 +1,5 @@
 -- What the image of a placed policy is made of, and the image that it makes (this project's own format).
-use Rattle.std.specs.Prelude.{◌≡◌, ℕ, ◌+◌, ◌==◌, ◌&&◌, true, List, [], ◌∷◌, ◌++◌, length, map, zip, take, replicate, position, slice_index_or, Option, option_and_then, unwrap_or}
+use Rattle.std.specs.Prelude.{◌≡◌, ℕ, ◌==◌, ◌&&◌, true, List, [], ◌∷◌, ◌++◌, length, map, zip, take, replicate, position, slice_index_or, Option, option_and_then, unwrap_or}
 use Rattle.std.specs.Str.{bytes_eq}
 use Rattle.std.specs.List.{AllZip, enumerate_from, flat_map, list_all, list_any}
 use Rattle.std.specs.List.Sorted.{IsPermutation}
@@ -7,8 +7,10 @@ use Rattle.ept_emit.specs.Emitted.{eptp_of}
 use Rattle.event_emit.specs.Tables.{AreDevices, AreTables}
 use Rattle.event_emit.specs.declared.event_tables.EventTables.{EventTables}
 use Rattle.expand_grants.specs.declared.granted.Grants.{Grants}
-use Rattle.expand_kernel.specs.ByIndex.{provided_at}
+use Rattle.policy_lawful.specs.ByIndex.{provided_at}
 use Rattle.expand_kernel.specs.Expansion.{IsExpansion}
+use Rattle.expand_kernel.specs.Regions.{kernel_number}
+use Rattle.expand_kernel.specs.declared.kernel.KernelRegion.TheVariants.{IoBitmaps, MsrArea, MsrBitmap, State}
 use Rattle.image_pack.specs.Parts.{counted}
 use Rattle.image_pack.specs.SpanConditions.{AreSpans}
 use Rattle.image_pack.specs.declared.parts.DevicePart.{DevicePart}
@@ -69,10 +71,10 @@ subject_part x (index, (s, (g, t))) = record {
   cpu = s.cpu;
   group = group_at x.expanded.lawful index;
   msrs = count_of g.msrs;
-  state = kernel_first x.expanded.lawful index;
-  iobm = kernel_first x.expanded.lawful index + 2;
-  msrbm = kernel_first x.expanded.lawful index + 3;
-  area = kernel_first x.expanded.lawful index + 4;
+  state = kernel_number State (kernel_first x.expanded.lawful index);
+  iobm = kernel_number IoBitmaps (kernel_first x.expanded.lawful index);
+  msrbm = kernel_number MsrBitmap (kernel_first x.expanded.lawful index);
+  area = kernel_number MsrArea (kernel_first x.expanded.lawful index);
   eptp = eptp_of (tables_at x index);
   name = s.name;
   calls = t.calls;

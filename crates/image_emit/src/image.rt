@@ -5,7 +5,7 @@ ghost use Rattle.image_emit.specs.Gathered.{AreAllPages, AreParts, AreReadable, 
 ghost use Rattle.image_emit.specs.Made.{IsFilled, IsImageOf};
 ghost use Rattle.image_pack.specs.SpanConditions.{HaveDifferentNumbers};
 
-use crate::promises::known;
+use crate::names::named;
 use crate::span_bytes::{contents, region_bytes};
 use crate::subjects::{choice_of, grants_of, subject_parts, subjects_of};
 use event_emit::{devices, tables};
@@ -93,13 +93,14 @@ pub fn emit(alloc: Global, placed: &Placed, things: Seq<Seq<u8>>) -> Result<Part
     requires readable { AreReadable placed.now }
     ensures { IfOk result (IsImageOf placed.now things) }
 {
-    known(placed);
     let expanded = placed.expanded();
+    let policy = policy_of(placed);
+    named(policy);
     let spans = spans(alloc, placed)?;
     let held = held(alloc, placed, things, spans.items())?;
     let subjects = subjects(alloc, placed)?;
     let plan = plan(alloc, expanded.lawful())?;
     let devices = devices(alloc, expanded, first_device(placed))?;
-    let tau0 = choice_of(policy_of(placed));
+    let tau0 = choice_of(policy);
     Ok(Parts::make(cpus(placed), tau0, spans, subjects, plan, devices, held))
 }

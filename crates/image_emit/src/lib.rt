@@ -2,7 +2,7 @@
 #![tactic(auto)]
 
 mod image;
-mod promises;
+mod names;
 mod span_bytes;
 mod subjects;
 

@@ -1,7 +1,8 @@
 //! The subjects of an image.
-ghost use Rattle.std.specs.Prelude.{◌≡◌, ◌==◌, ◌<◌, ◌≤◌, ◌^◌, map, zip, length, position, IfOk, unwrap_or};
+ghost use Rattle.std.specs.Prelude.{◌≡◌, ◌+◌, ◌==◌, ◌<◌, ◌≤◌, ◌^◌, map, zip, length, position, IfOk, unwrap_or};
 ghost use Rattle.std.specs.List.{enumerate_from, list_any};
 ghost use Rattle.std.specs.Str.{bytes_eq};
+ghost use Rattle.expand_kernel.specs.Regions.{kernel_number};
 ghost use Rattle.image_emit.specs.Fitting.{AreFew};
 ghost use Rattle.image_emit.specs.Made.{choice_of, subject_part};
 ghost use Rattle.msrbm_emit.specs.Area.{count_of, size_of};
@@ -9,8 +10,9 @@ ghost use Rattle.msrbm_emit.specs.Area.{count_of, size_of};
 use ept_emit::eptp;
 use event_emit::EventTables;
 use expand_grants::Grants;
+use expand_kernel::KernelRegion;
 use image_pack::SubjectPart;
-use muen_num::limits::{MOST_MSRS, MOST_REGIONS};
+use muen_num::limits::{KERNEL_REGIONS, MOST_MSRS, MOST_REGIONS};
 use muen_num::{Name, NoMemory, Seq};
 use policy_lawful::Resolved;
 use policy_lawful::resolved::{Group, Subject};
@@ -64,6 +66,14 @@ fn count_of(msrs: &[MsrGrant]) -> u64
     count
 }
 
+// The number of a region of the kernel, by that of its subject's first.
+fn number_of(region: KernelRegion, first: usize) -> u16
+    requires { first + KERNEL_REGIONS ≤ MOST_REGIONS }
+    ensures { result ≡ kernel_number region first }
+{
+    region.number(first) as u16
+}
+
 // The subject at an index, which is granted this and raises these events.
 fn subject_part(
     placed: &Placed,
@@ -79,16 +89,16 @@ fn subject_part(
     ensures { result ≡ subject_part placed.now (index, (subject.now, (granted.now, events))) }
 {
     let policy = placed.expanded().lawful().resolved();
-    let first = kernel_first(policy, index) as u16;
+    let first = kernel_first(policy, index);
     let EventTables { calls, traps } = events;
     SubjectPart {
         cpu: subject.cpu as u8,
         group: group_at(policy.scheduling().groups.items(), index),
         msrs: count_of(granted.msrs.items()) as u8,
-        state: first,
-        iobm: first + 2,
-        msrbm: first + 3,
-        area: first + 4,
+        state: number_of(KernelRegion::State, first),
+        iobm: number_of(KernelRegion::IoBitmaps, first),
+        msrbm: number_of(KernelRegion::MsrBitmap, first),
+        area: number_of(KernelRegion::MsrArea, first),
         eptp: eptp(tables_at(placed, index)),
         name: subject.name,
         calls,

@@ -9,7 +9,7 @@ use Rattle.binary_form.proofs.Forms.{both_true}
 use Rattle.image_pack.specs.declared.parts.DevicePart.{DevicePart}
 use Rattle.image_pack.specs.declared.parts.Image.{Image}
 use Rattle.image_pack.specs.declared.parts.IrqPart.{IrqPart}
-use Rattle.image_pack.specs.declared.parts.IrqTarget.{IrqTarget}
+use Rattle.muen_num.specs.declared.devices.IrqTarget.{IrqTarget}
 use Rattle.image_pack.specs.declared.parts.SpanPart.{SpanPart}
 use Rattle.kernel_core.specs.Ticks.{CanRun, IsLow}
 use Rattle.record_text.specs.Bench.{BenchDevice, bench_device, bench_of}
@@ -22,12 +22,12 @@ use Rattle.record_text.specs.declared.devices.RecordDevice.{RecordDevice}
 use Rattle.record_text.specs.declared.devices.Devices.{Devices}
 use Rattle.record_text.specs.declared.devices.RecordIrq.{RecordIrq}
 use Rattle.record_text.specs.declared.devices.RecordMemory.{RecordMemory}
-use Rattle.record_text.specs.declared.devices.PortSpan.{PortSpan as RecordPorts}
+use Rattle.muen_num.specs.declared.devices.PortSpan.{PortSpan}
 use Rattle.record_text.specs.declared.fault.RecordFault.{RecordFault}
 use Rattle.record_text.specs.declared.record.Input.{Input}
 use Rattle.record_text.specs.declared.record.Input.TheVariants.{Port, Mem, Irq, Idle, Dma}
 use Rattle.record_text.specs.declared.record.Record.{Record}
-use Rattle.image_load.specs.RecordDevices.{HasDevices, IsRecordDevice, named_memory, record_irq, record_ports, record_target}
+use Rattle.image_load.specs.RecordDevices.{HasDevices, IsRecordDevice, named_memory, record_irq}
 use Rattle.image_load.specs.Resolving.{bench_device_of, bytes_into, image_bench, image_record, input_of, irq_input_of, memories_of, memory_input_of, port_input_of, raised, tick_input_of}
 
 -- ---- lists side by side
@@ -80,10 +80,6 @@ find-map f p (x ∷ xs) =
       | false ↦ find-map f p xs
     ]
 
-any-map : {X Y : Type 0} (f : X → Y) (p : Y → Bool) (xs : List X) → list_any p (map f xs) ≡ list_any (λ x. p (f x)) xs
-any-map f p [] = refl
-any-map f p (x ∷ xs) = ap (λ b. p (f x) || b) (any-map f p xs)
-
 map-map : {X Y Z : Type 0} (f : X → Y) (g : Y → Z) (xs : List X) → map g (map f xs) ≡ map (λ x. g (f x)) xs
 map-map f g [] = refl
 map-map f g (x ∷ xs) = ap (λ zs. g (f x) ∷ zs) (map-map f g xs)
@@ -96,7 +92,7 @@ map_same f g same (x ∷ xs) = ap₂ (λ z zs. z ∷ zs) (same x) (map_same f g 
 
 ports_same : (spans : List SpanPart) (port value : ℕ) (d : DevicePart) (p : RecordDevice) → IsRecordDevice spans d p → port_of port value p ≡ port_input_of port value d
 ports_same spans port value d p h =
-    ap (λ b. if b then Some (Port port value) else None) (ap (list_any (is_in_span port)) h.ports ∙ any-map record_ports (is_in_span port) d.ports)
+    ap (λ b. if b then Some (Port port value) else None) (ap (list_any (is_in_span port)) h.ports)
 
 bytes_same : (offset : ℕ) (bytes : List ℕ) (o : Option RecordMemory) → option_and_then (bytes_in offset bytes) o ≡ option_and_then (bytes_into offset bytes) (option_map named_memory o)
 bytes_same offset bytes None = refl
@@ -107,7 +103,7 @@ memories_same spans memory offset bytes d p h =
     bytes_same offset bytes (find (λ m. bytes_eq m.name memory) p.memories)
     ∙ ap (option_and_then (bytes_into offset bytes)) (sym (find-map named_memory (λ m. bytes_eq m.name memory) p.memories) ∙ ap (find (λ m. bytes_eq m.name memory)) h.memories)
 
-raised_same : (target : Option IrqTarget) → record_raised (option_map record_target target) ≡ raised target
+raised_same : (target : Option IrqTarget) → record_raised target ≡ raised target
 raised_same None = refl
 raised_same (Some t) = refl
 
@@ -130,7 +126,7 @@ made_same n p m q = cc
 
 bench_same : (spans : List SpanPart) (d : DevicePart) (p : RecordDevice) → IsRecordDevice spans d p → bench_device p ≡ bench_device_of spans d
 bench_same spans d p h =
-    let ports : map (λ (r : RecordPorts). (r.start, r.end)) p.ports ≡ map (λ r. (r.start, r.end)) d.ports = ap (map (λ r. (r.start, r.end))) h.ports ∙ map-map record_ports (λ r. (r.start, r.end)) d.ports in
+    let ports : map (λ (r : PortSpan). (r.start, r.end)) p.ports ≡ map (λ r. (r.start, r.end)) d.ports = ap (map (λ r. (r.start, r.end))) h.ports in
     let memories : map (λ (m : RecordMemory). (m.name, m.bytes)) p.memories ≡ map (λ m. (m.name, m.bytes)) (memories_of spans d) =
     sym (map-map named_memory (λ m. (m.name, m.bytes)) p.memories) ∙ ap (map (λ m. (m.name, m.bytes))) h.memories in
     let irqs : map (λ (q : RecordIrq). q.name) p.irqs ≡ map (λ q. q.name) d.irqs = ap (map (λ q. q.name)) h.irqs ∙ map-map record_irq (λ q. q.name) d.irqs in

@@ -1,28 +1,18 @@
 -- The devices that a record may name, as an image has them.
-use Rattle.std.specs.Prelude.{◌≡◌, List, map, option_map}
+use Rattle.std.specs.Prelude.{◌≡◌, List, map}
 use Rattle.std.specs.List.{AllZip}
 use Rattle.image_pack.specs.declared.parts.DevicePart.{DevicePart}
 use Rattle.image_pack.specs.declared.parts.Image.{Image}
 use Rattle.image_pack.specs.declared.parts.IrqPart.{IrqPart}
-use Rattle.image_pack.specs.declared.parts.IrqTarget.{IrqTarget}
-use Rattle.image_pack.specs.declared.parts.PortSpan.{PortSpan}
 use Rattle.image_pack.specs.declared.parts.SpanPart.{SpanPart}
 use Rattle.record_text.specs.declared.devices.RecordDevice.{RecordDevice}
 use Rattle.record_text.specs.declared.devices.Devices.{Devices}
 use Rattle.record_text.specs.declared.devices.RecordIrq.{RecordIrq}
-use Rattle.record_text.specs.declared.devices.IrqTarget.{IrqTarget as RecordTarget}
 use Rattle.record_text.specs.declared.devices.RecordMemory.{RecordMemory}
-use Rattle.record_text.specs.declared.devices.PortSpan.{PortSpan as RecordPorts}
 use Rattle.image_load.specs.Resolving.{NamedMemory, memories_of}
 
-abbrev pub record_ports : PortSpan → RecordPorts
-record_ports r = record { start = r.start; end = r.end }
-
-abbrev pub record_target : IrqTarget → RecordTarget
-record_target t = record { subject = t.subject; vector = t.vector }
-
 abbrev pub record_irq : IrqPart → RecordIrq
-record_irq q = record { name = q.name; target = option_map record_target q.target }
+record_irq q = record { name = q.name; target = q.target }
 
 abbrev pub named_memory : RecordMemory → NamedMemory
 named_memory m = record { name = m.name; address = m.address; bytes = m.bytes }
@@ -30,7 +20,7 @@ named_memory m = record { name = m.name; address = m.address; bytes = m.bytes }
 -- a device that a record may name is that of its parts
 pub record IsRecordDevice (spans : List SpanPart) (d : DevicePart) (p : RecordDevice) : Type 0 where
   pub name : p.name ≡ d.name
-  pub ports : p.ports ≡ map record_ports d.ports
+  pub ports : p.ports ≡ d.ports
   pub memories : map named_memory p.memories ≡ memories_of spans d
   pub irqs : p.irqs ≡ map record_irq d.irqs
 

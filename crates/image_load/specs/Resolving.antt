@@ -6,8 +6,8 @@ use Rattle.muen_num.specs.declared.limits.TheConstants.{PAGE}
 use Rattle.image_pack.specs.Image.{device_name}
 use Rattle.image_pack.specs.declared.parts.DevicePart.{DevicePart}
 use Rattle.image_pack.specs.declared.parts.Image.{Image}
-use Rattle.image_pack.specs.declared.parts.IrqTarget.{IrqTarget}
-use Rattle.image_pack.specs.declared.parts.PortSpan.{PortSpan}
+use Rattle.muen_num.specs.declared.devices.IrqTarget.{IrqTarget}
+use Rattle.muen_num.specs.declared.devices.PortSpan.{PortSpan}
 use Rattle.image_pack.specs.declared.parts.SpanPart.{SpanPart}
 use Rattle.image_pack.specs.declared.parts.WindowPart.{WindowPart}
 use Rattle.record_text.specs.Bench.{Bench, BenchDevice}

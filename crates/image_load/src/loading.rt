@@ -12,7 +12,7 @@ use phys_mem::RegionMem;
 use std::alloc::Global;
 
 /// What an image gives a machine.
-#[derive(Drop)]
+#[derive(Debug, Drop)]
 pub struct Loaded {
     /// How many logical CPUs there are, numbered from 0.
     pub cpus: u8,

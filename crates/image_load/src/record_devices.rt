@@ -3,32 +3,15 @@ ghost use Rattle.std.specs.Prelude.{◌≡◌, ◌++◌, ◌≤◌, IfOk, OnOk, 
 ghost use Rattle.std.specs.List.{AllZip, flat_map};
 ghost use Rattle.muen_num.specs.declared.limits.TheConstants.{MOST_DEVICES};
 ghost use Rattle.image_load.specs.Loading.{AreLow, IsLow};
-ghost use Rattle.image_load.specs.RecordDevices.{HasDevices, IsRecordDevice, named_memory, record_irq, record_ports};
+ghost use Rattle.image_load.specs.RecordDevices.{HasDevices, IsRecordDevice, named_memory, record_irq};
 ghost use Rattle.image_load.specs.Resolving.{memory_of_span, memory_of_window};
 
 use crate::spans::span_numbered;
 use image_pack::{DevicePart, Image, IrqPart, SpanPart, WindowPart};
 use muen_num::limits::PAGE;
 use muen_num::{NoMemory, Seq, TagPart};
-use record_text::{Devices, IrqTarget, PortSpan, RecordDevice, RecordIrq, RecordMemory};
+use record_text::{Devices, RecordDevice, RecordIrq, RecordMemory};
 use std::alloc::{AllocError, Global};
-
-// A range of ports.
-fn record_ports(range: &image_pack::PortSpan) -> PortSpan
-    ensures { result ≡ record_ports range.now }
-{
-    PortSpan {
-        start: range.start,
-        end: range.end,
-    }
-}
-
-// The ranges of ports.
-fn ports_of(alloc: Global, ranges: &[image_pack::PortSpan]) -> Result<Vec<PortSpan>, AllocError>
-    ensures { IfOk result (λ v. v.items ≡ map record_ports ranges.now) }
-{
-    ranges.iter().map(record_ports).collect(alloc)
-}
 
 // An interrupt, and where it goes.
 fn record_irq(irq: &IrqPart) -> RecordIrq
@@ -36,10 +19,7 @@ fn record_irq(irq: &IrqPart) -> RecordIrq
 {
     RecordIrq {
         name: irq.name,
-        target: irq.target.map(|target| IrqTarget {
-            subject: target.subject,
-            vector: target.vector,
-        }),
+        target: irq.target,
     }
 }
 
@@ -119,7 +99,7 @@ fn record_device(
 {
     Ok(RecordDevice {
         name: device.name,
-        ports: Seq::of(ports_of(alloc, device.ports.items())?),
+        ports: Seq::of(device.ports.items().to_vec(alloc)?),
         memories: Seq::of(memories_of(alloc, spans, device.windows.items())?),
         irqs: Seq::of(irqs_of(alloc, device.irqs.items())?),
     })

@@ -9,7 +9,7 @@ use Rattle.muen_num.specs.declared.tag.TagPart.TheVariants.{Whole, Named, State,
 use Rattle.image_pack.specs.declared.parts.SpanKind.{SpanKind}
 use Rattle.image_pack.specs.declared.parts.SpanKind.TheVariants.{Own, Channel, Provided, Kernel, Device}
 use Rattle.image_pack.specs.declared.parts.EventPart.{EventPart}
-use Rattle.image_pack.specs.declared.parts.IrqTarget.{IrqTarget}
+use Rattle.muen_num.specs.declared.devices.IrqTarget.{IrqTarget}
 
 -- ---- the version: whether the span of tau0 is named
 

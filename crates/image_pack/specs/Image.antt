@@ -21,7 +21,7 @@ use Rattle.image_pack.specs.declared.parts.SpanKind.{SpanKind}
 use Rattle.image_pack.specs.declared.parts.SpanPart.{SpanPart}
 use Rattle.image_pack.specs.declared.parts.EventPart.{EventPart}
 use Rattle.image_pack.specs.declared.parts.SubjectPart.{SubjectPart}
-use Rattle.image_pack.specs.declared.parts.PortSpan.{PortSpan}
+use Rattle.muen_num.specs.declared.devices.PortSpan.{PortSpan}
 use Rattle.image_pack.specs.declared.parts.WindowPart.{WindowPart}
 use Rattle.image_pack.specs.declared.parts.IrqPart.{IrqPart}
 use Rattle.image_pack.specs.declared.parts.DevicePart.{DevicePart}

@@ -5,11 +5,11 @@ ghost use Rattle.image_pack.specs.Codes.{mark_bytes, kind_of, kind_code, is_devi
 ghost use Rattle.image_pack.specs.Image.{mark, kind_byte, event};
 
 use crate::outline::Header;
-use crate::parts::{EventPart, IrqTarget, SpanKind};
+use crate::parts::{EventPart, SpanKind};
 use binary_form::reading::{bad, short};
 use binary_form::{Field, FormError};
 use muen_num::limits::FIRST_VECTOR;
-use muen_num::{EventMode, Name, TagPart};
+use muen_num::{EventMode, IrqTarget, Name, TagPart};
 
 /// The number in place of a subject's that stands for nobody.
 const NOBODY: u8 = 255;
@@ -238,10 +238,7 @@ fn event_in(subjects: u8, mode: u8, target: u8, vector: u8, zero: u8) -> Option<
             None
         };
     }
-    match mode_of(mode) {
-        None => None,
-        Some(mode) => event_of(subjects, target, vector, mode),
-    }
+    event_of(subjects, target, vector, mode_of(mode)?)
 }
 
 /// What an event of four bytes says.

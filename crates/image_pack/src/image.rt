@@ -20,7 +20,7 @@ use std::alloc::{AllocError, Global};
 use std::marker::Model;
 
 /// The parts of an image, which keep its conditions.
-#[derive(Drop)]
+#[derive(Debug, Drop)]
 pub struct Parts {
     image: Image,
 }

@@ -18,6 +18,5 @@ pub use image::{Parts, conditions, first_fault, one_to_one, pack, unpack};
 pub use items::{Item, items_of, put_items};
 pub use outline::{Header, Outline};
 pub use parts::{
-    DevicePart, EventPart, Image, IrqPart, IrqTarget, PortSpan, SpanKind, SpanPart, SubjectPart,
-    WindowPart,
+    DevicePart, EventPart, Image, IrqPart, SpanKind, SpanPart, SubjectPart, WindowPart,
 };

@@ -1,7 +1,7 @@
 //! The parts of an image.
 use crate::outline::Header;
 use frame_clock::Plan;
-use muen_num::{EventMode, Name, Seq, Tag};
+use muen_num::{EventMode, IrqTarget, Name, PortSpan, Seq, Tag};
 
 /// What a span of memory is.
 #[derive(Clone, Copy, Debug, PartialEq, Eq)]
@@ -68,27 +68,11 @@ pub struct SubjectPart {
     pub traps: Seq<Option<EventPart>>,
 }
 
-/// A range of I/O ports, both ends in it.
-#[derive(Clone, Copy, Debug, PartialEq, Eq)]
-pub struct PortSpan {
-    pub start: u16,
-    pub end: u16,
-}
-
 /// A device's memory.
 #[derive(Clone, Copy, Debug, PartialEq, Eq)]
 pub struct WindowPart {
     /// The number of its span.
     pub span: u16,
-}
-
-/// Whom an IRQ reaches.
-#[derive(Clone, Copy, Debug, PartialEq, Eq)]
-pub struct IrqTarget {
-    /// The number of the subject.
-    pub subject: u8,
-    /// The interrupt vector there, 32 to 255.
-    pub vector: u8,
 }
 
 /// An IRQ of a device.

@@ -14,14 +14,12 @@ ghost use Rattle.image_pack.specs.declared.reading.majors.CpuTicks.{CpuTicks};
 use crate::codes::{irq_vector_code, mark, part_code, subject_code};
 use crate::items::put_items;
 use crate::outline::Header;
-use crate::parts::{
-    DevicePart, EventPart, Image, IrqPart, PortSpan, SpanPart, SubjectPart, WindowPart,
-};
+use crate::parts::{DevicePart, EventPart, Image, IrqPart, SpanPart, SubjectPart, WindowPart};
 use binary_form::writing::{
     as_u8, as_u16, put_bytes, put_name, put_tag, put_u8, put_u16, put_u32, put_u64, put_zeros,
 };
 use frame_clock::{GroupPart, Major, Minor};
-use muen_num::{Seq, TagPart};
+use muen_num::{PortSpan, Seq, TagPart};
 use std::alloc::AllocError;
 
 #[tactic(auto, using(binary_form::proofs::Puts::appended), unfolding(binary_form::specs::Form::field, binary_form::specs::Form::only, binary_form::specs::Form::gap, binary_form::specs::Form::done, binary_form::specs::Form::either, binary_form::specs::Form::present, binary_form::specs::Form::absent, crate::specs::Image::tau0_at))]

@@ -1,14 +1,14 @@
 -- The memory that an image gives a machine (this project's own format and machine).
-use Rattle.std.specs.Prelude.{ℕ, ◌*◌, ◌==◌, List, [], map, zip, take, drop, length, replicate, Option, if◌then◌else◌}
+use Rattle.std.specs.Prelude.{◌≡◌, ℕ, ◌+◌, ◌*◌, ◌/◌, ◌<◌, ◌==◌, List, [], map, zip, take, drop, length, replicate, slice_get, Option, Some, if◌then◌else◌}
 use Rattle.std.specs.Option.{option_map_or}
 use Rattle.std.specs.List.{filter_map, find}
 use Rattle.image_pack.specs.Codes.{is_device}
 use Rattle.image_pack.specs.declared.parts.Image.{Image}
 use Rattle.image_pack.specs.declared.parts.SpanPart.{SpanPart}
-use Rattle.machine_layout.specs.Memory.{Page}
+use Rattle.machine_layout.specs.Memory.{Page, page_of}
 use Rattle.muen_num.specs.Range.{numbers_below}
 use Rattle.muen_num.specs.declared.limits.TheConstants.{PAGE}
-use Rattle.phys_mem.specs.Spans.{pages_of_spans}
+use Rattle.phys_mem.specs.Spans.{AreSpans, pages_of_spans}
 use Rattle.phys_mem.specs.declared.spans.MemorySpan.{MemorySpan}
 
 -- a span, with what it has in the image
@@ -28,6 +28,12 @@ memory_span e = record { address = e.0.address; bytes = bytes_of e }
 -- the pages of a machine's memory at the start: those of the spans, and no others
 unfoldable pub memory_of : Image → List Page
 memory_of i = pages_of_spans (map memory_span (spans_in i))
+
+-- each page of each span stands in the memory that spans give
+abbrev pub SpansAreInMemory : Type 0
+SpansAreInMemory =
+    (ss : List MemorySpan) → AreSpans ss → (i : ℕ) (s : MemorySpan) → slice_get ss i ≡ Some s → (j : ℕ) → j < length s.bytes / PAGE
+    → page_of (pages_of_spans ss) (s.address / PAGE + j) ≡ Some (take PAGE (drop (PAGE * j) s.bytes))
 
 -- ---- spans by number
 

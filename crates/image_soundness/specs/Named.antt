@@ -6,7 +6,7 @@ use Rattle.image_pack.specs.Codes.{part_name}
 use Rattle.image_pack.specs.declared.parts.DevicePart.{DevicePart}
 use Rattle.image_pack.specs.declared.parts.EventPart.{EventPart}
 use Rattle.image_pack.specs.declared.parts.Image.{Image}
-use Rattle.image_pack.specs.declared.parts.IrqTarget.{IrqTarget}
+use Rattle.muen_num.specs.declared.devices.IrqTarget.{IrqTarget}
 use Rattle.image_pack.specs.declared.parts.WindowPart.{WindowPart}
 use Rattle.muen_num.specs.declared.limits.TheConstants.{PAGE}
 use Rattle.muen_num.specs.declared.tag.Tag.{Tag}

@@ -3,26 +3,22 @@ ghost use Rattle.std.specs.Prelude.{◌≡◌, ℕ, ◌+◌, ◌-◌, ◌<◌, m
 ghost use Rattle.machine_layout.specs.Exits.{is_set, port_exits};
 ghost use Rattle.iobm_emit.specs.Ports.{is_granted, is_granted_access};
 
-use machine_layout::{clear_bits, set_all};
+use machine_layout::{BITMAP_PORTS, clear_bits, set_all};
 use muen_num::limits::PAGE;
 use policy_types::PortRange;
-
-/// How many ports a bitmap covers, and the first port of bitmap B (Intel SDM volume 3, I/O-bitmap
-/// addresses).
-const COVERED: usize = 0x8000;
 
 // The bit of a port in the bitmap of the ports from `base` on; of a port outside them the nearest
 // end of the bitmap.
 fn bit_of(port: usize, base: usize) -> usize
-    ensures { result ≡ min (port - base) COVERED }
+    ensures { result ≡ min (port - base) BITMAP_PORTS }
 {
-    port.saturating_sub(base).min(COVERED)
+    port.saturating_sub(base).min(BITMAP_PORTS)
 }
 
 // Writes the bitmap of the ports from `base` on.
 fn write_bitmap(ports: &[PortRange], base: usize, bitmap: &mut [u8])
     requires { length bitmap.old ≡ PAGE }
-    ensures { (bit : ℕ) → bit < COVERED → is_set bitmap.new bit ≡ not (is_granted ports.now (base + bit)) }
+    ensures { (bit : ℕ) → bit < BITMAP_PORTS → is_set bitmap.new bit ≡ not (is_granted ports.now (base + bit)) }
 {
     set_all(bitmap);
     for range in ports {
@@ -41,5 +37,5 @@ pub fn emit(ports: &[PortRange], a: &mut [u8], b: &mut [u8])
     ensures { (port size : ℕ) → port_exits a.new b.new port size ≡ not (is_granted_access ports.now port size) }
 {
     write_bitmap(ports, 0, a);
-    write_bitmap(ports, COVERED, b);
+    write_bitmap(ports, BITMAP_PORTS, b);
 }

@@ -1,2 +1,1 @@
 mod Orders
-mod NamedTurn

@@ -19,7 +19,7 @@ use Rattle.view_text.specs.declared.ExitEnd.{ExitEnd}
 use Rattle.view_text.specs.declared.ExitEnd.TheVariants.{On, Halt, Trap, Stop}
 use Rattle.view_text.specs.declared.TurnLine.{TurnLine}
 use Rattle.view_text.specs.declared.TurnAction.{TurnAction}
-use Rattle.view_text.specs.declared.TurnAction.TheVariants.{Ran, Set, Stored, Out, WroteMsr, Inject, Exit}
+use Rattle.view_text.specs.declared.TurnAction.TheVariants.{Ran, Inject, Exit}
 use Rattle.vmx_machine.specs.Machine.{MachineState, Stepped, state_on, entered, left, vector_injected, exit_finished, machine_step}
 use Rattle.vmx_machine.specs.declared.control.Control.{Control}
 use Rattle.kernel_core.specs.declared.setup.Setup.{Setup}
@@ -90,11 +90,7 @@ exit_handled t reason qualification addr event k =
 
 -- after a step that ended so
 abbrev pub handled : Turn → SubjectPart → StepEnd → Live → Turned Live TurnLine
-handled t part ends.Plain k = told t Ran k
-handled t part (ends.Set reg value) k = told t (Set reg value) k
-handled t part (ends.Stored size addr value) k = told t (Stored size addr value) k
-handled t part (ends.Out size port value) k = told t (Out size port value) k
-handled t part (ends.WroteMsr index value) k = told t (WroteMsr index value) k
+handled t part (ends.Ran change) k = told t (Ran change) k
 handled t part (ends.Exit reason qualification addr call) k =
     exit_handled t reason qualification addr (event_of part reason call) k
 

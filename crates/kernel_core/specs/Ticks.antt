@@ -88,6 +88,10 @@ pub record KernelState : Type 0 where
   -- the tick that comes or is open
   pub tick : ℕ
 
+-- the kernel where its system has come to this
+abbrev pub with_live : KernelState → Live → KernelState
+with_live k live = record k { live = live }
+
 abbrev pub kernel_started : Setup → Record → ℕ → List Page → KernelState
 kernel_started setup run cpus pages = record { setup = setup; cpus = cpus; run = run; live = live_started setup cpus pages; tick = 0 }
 

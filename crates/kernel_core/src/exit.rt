@@ -10,10 +10,7 @@ use view_text::ExitEnd;
 fn entry(events: &[Option<EventPart>], n: usize) -> Option<EventPart>
     ensures { result ≡ entry events.now n }
 {
-    match events.get(n) {
-        None => None,
-        Some(event) => *event,
-    }
+    events.get(n).copied().flatten()
 }
 
 /// The event that an exit of a subject raises, if it raises one: by the number of its call, or by the

@@ -4,8 +4,8 @@ ghost use Rattle.image_pack.specs.declared.parts.SubjectPart.{SubjectPart};
 ghost use Rattle.muen_num.specs.ListChange.{change_at};
 ghost use Rattle.event_router.specs.Router.{deliverable, taken};
 ghost use Rattle.vmx_machine.specs.Machine.{entered, left, state_on};
-ghost use Rattle.kernel_core.specs.Kernel.{turn_of, turn_in_slot, turn_of_member, turn_of_subject, switched, goes_on, acts_on, acts, delivers, injects, goes_further, handled, exit_handled, raised_by, event_of, vector_for};
-ghost use Rattle.kernel_core.specs.Ticks.{CanRun, kernel_started};
+ghost use Rattle.kernel_core.specs.Kernel.{acts, event_of, exit_handled, raised_by, switched, turn_of, vector_for};
+ghost use Rattle.kernel_core.specs.Ticks.{CanRun, kernel_started, with_live};
 
 use crate::exit::{event_of, exit_end_of};
 use crate::on_cpus::{nobody, on_cpu, put_on};
@@ -17,7 +17,7 @@ use event_router::Router;
 use frame_clock::{FrameAt, slot};
 use guest_isa::{Finish, StepEnd};
 use image_pack::{EventPart, SubjectPart};
-use muen_num::{Name, NoMemory};
+use muen_num::NoMemory;
 use phys_mem::PhysMem;
 use record_text::Record;
 use state_page::SubjectState;
@@ -104,20 +104,101 @@ impl<M: PhysMem, T: Translate> Kernel<M, T> {
         self.machine.mem()
     }
 
-    // ---- an exit
+    /// The turn of a CPU in the tick, and its line, if it has one: that of the active member of the
+    /// group that has the CPU. A CPU that isn't there takes no turn.
+    pub fn turn(&mut self, cpu: u8) -> Option<TurnLine>
+        ensures state { self.new ≡ record self.old { live = (turn_of self.old.setup cpu self.old.tick self.old.live).state } }
+        ensures line { result ≡ (turn_of self.old.setup cpu self.old.tick self.old.live).line }
+    {
+        let on = on_cpu(&self.on, cpu as usize)?;
+        let slot = slot(&self.setup.plan, self.frame, cpu, self.tick)?;
+        let subject = self.router.active(slot.group)?;
+        let name = part_at(self.setup.subjects.items(), subject as usize)?.name;
+        let control = control_at(self.setup.controls.items(), subject as usize)?;
+        self.switch_to(cpu, subject, control, on);
+        let state = self.machine.state(cpu as usize)?;
+        let turn = Turn {
+            tick: self.tick,
+            cpu,
+            subject: name,
+            pc: state.pc,
+        };
+        self.deliver_or_step(turn, subject, slot.first, &state)
+    }
+
+    // A subject goes onto a CPU where it isn't there already, and who was there leaves it before.
+    fn switch_to(&mut self, cpu: u8, subject: u8, control: Control, on: Option<u8>)
+        requires { cpu < length self.old.live.machine.cpus }
+        ensures state { self.new ≡ with_live self.old (switched cpu subject control on self.old.live) }
+        ensures cpus { length self.new.live.machine.cpus ≡ length self.old.live.machine.cpus }
+    {
+        if on != Some(subject) {
+            self.machine.leave(cpu as usize);
+            self.machine.enter(cpu as usize, control);
+            put_on(&mut self.on, cpu as usize, subject);
+        }
+    }
+
+    // The turn of the subject that is on the CPU: the first that applies of these: it is stopped; an
+    // event is delivered; it is halted; it takes a step.
+    fn deliver_or_step(
+        &mut self,
+        turn: Turn,
+        subject: u8,
+        first: bool,
+        state: &SubjectState,
+    ) -> Option<TurnLine>
+        requires { turn.cpu < length self.old.live.machine.cpus }
+        ensures state { (part : SubjectPart) → slice_get self.old.setup.subjects subject ≡ Some part → self.new ≡ with_live self.old (acts turn subject part first state.now self.old.live).state }
+        ensures line { (part : SubjectPart) → slice_get self.old.setup.subjects subject ≡ Some part → result ≡ (acts turn subject part first state.now self.old.live).line }
+    {
+        if state.stopped {
+            return None;
+        }
+        if let Some(vector) = self.take_vector(subject, first, state) {
+            self.machine.inject(turn.cpu as usize, vector);
+            return Some(turn.line(TurnAction::Inject { vector }));
+        }
+        if state.halted {
+            return None;
+        }
+        match self.machine.step(turn.cpu as usize, turn.tick, &self.bench) {
+            StepEnd::Ran(change) => Some(turn.line(TurnAction::Ran(change))),
+            StepEnd::Exit {
+                reason,
+                qualification,
+                addr,
+                call,
+            } => {
+                let event = self.event_of(subject, reason, call);
+                Some(self.finish_exit(turn, reason, qualification, addr, event))
+            }
+        }
+    }
+
+    // The vector that is delivered, if one is. It isn't pending any more.
+    fn take_vector(&mut self, subject: u8, first: bool, state: &SubjectState) -> Option<u8>
+        ensures vector { result ≡ vector_for subject first state.now self.old.live.router }
+        ensures state { self.new ≡ with_live self.old (record self.old.live { router = taken subject result self.old.live.router }) }
+        ensures none { result ≡ None → self.new ≡ self.old }
+    {
+        if state.interrupts {
+            self.router.deliver(subject, first || state.exited)
+        } else {
+            None
+        }
+    }
 
     // The event that an exit of a subject raises, if it raises one.
     fn event_of(&self, subject: u8, reason: u8, call: u64) -> Option<EventPart>
         ensures { (part : SubjectPart) → slice_get self.now.setup.subjects subject ≡ Some part → result ≡ event_of part reason call }
     {
-        match part_at(self.setup.subjects.items(), subject as usize) {
-            None => None,
-            Some(part) => event_of(part, reason, call),
-        }
+        let part = part_at(self.setup.subjects.items(), subject as usize)?;
+        event_of(part, reason, call)
     }
 
     // The kernel acts on an exit, which raises this event, if one.
-    fn handle_exit(
+    fn finish_exit(
         &mut self,
         turn: Turn,
         reason: u8,
@@ -126,7 +207,7 @@ impl<M: PhysMem, T: Translate> Kernel<M, T> {
         event: Option<EventPart>,
     ) -> TurnLine
         requires { turn.cpu < length self.old.live.machine.cpus }
-        ensures state { self.new ≡ record self.old { live = (exit_handled turn reason qualification addr event self.old.live).state } }
+        ensures state { self.new ≡ with_live self.old (exit_handled turn reason qualification addr event self.old.live).state }
         ensures line { Some result ≡ (exit_handled turn reason qualification addr event self.old.live).line }
     {
         let raises = event.is_some();
@@ -139,184 +220,6 @@ impl<M: PhysMem, T: Translate> Kernel<M, T> {
             addr,
             end: exit_end_of(reason, raises),
         })
-    }
-
-    // After a step of a subject that ended so.
-    fn handle(&mut self, turn: Turn, subject: u8, end: StepEnd) -> TurnLine
-        requires { turn.cpu < length self.old.live.machine.cpus }
-        ensures state { (part : SubjectPart) → slice_get self.old.setup.subjects subject ≡ Some part → self.new ≡ record self.old { live = (handled turn part end self.old.live).state } }
-        ensures line { (part : SubjectPart) → slice_get self.old.setup.subjects subject ≡ Some part → Some result ≡ (handled turn part end self.old.live).line }
-    {
-        match end {
-            StepEnd::Plain => turn.line(TurnAction::Ran),
-            StepEnd::Set { reg, value } => turn.line(TurnAction::Set { reg, value }),
-            StepEnd::Stored { size, addr, value } => turn.line(TurnAction::Stored {
-                size,
-                addr,
-                value,
-            }),
-            StepEnd::Out { size, port, value } => turn.line(TurnAction::Out { size, port, value }),
-            StepEnd::WroteMsr { index, value } => turn.line(TurnAction::WroteMsr { index, value }),
-            StepEnd::Exit {
-                reason,
-                qualification,
-                addr,
-                call,
-            } => {
-                let event = self.event_of(subject, reason, call);
-                self.handle_exit(turn, reason, qualification, addr, event)
-            }
-        }
-    }
-
-    // ---- the cases of a turn, of the subject that is on the CPU
-
-    // Where nothing is delivered.
-    fn go_further(&mut self, turn: Turn, subject: u8, state: &SubjectState) -> Option<TurnLine>
-        requires { turn.cpu < length self.old.live.machine.cpus }
-        ensures state { (part : SubjectPart) → slice_get self.old.setup.subjects subject ≡ Some part → self.new ≡ record self.old { live = (goes_further turn part state.now self.old.live).state } }
-        ensures line { (part : SubjectPart) → slice_get self.old.setup.subjects subject ≡ Some part → result ≡ (goes_further turn part state.now self.old.live).line }
-    {
-        if state.halted {
-            return None;
-        }
-        let end = self.machine.step(turn.cpu as usize, turn.tick, &self.bench);
-        Some(self.handle(turn, subject, end))
-    }
-
-    // The vector that is delivered, if one is. It isn't pending any more.
-    fn take_vector(&mut self, subject: u8, first: bool, state: &SubjectState) -> Option<u8>
-        ensures vector { result ≡ vector_for subject first state.now self.old.live.router }
-        ensures state { self.new ≡ record self.old { live = record self.old.live { router = taken subject result self.old.live.router } } }
-        ensures none { result ≡ None → self.new ≡ self.old }
-    {
-        if state.interrupts {
-            self.router.deliver(subject, first || state.exited)
-        } else {
-            None
-        }
-    }
-
-    fn act(
-        &mut self,
-        turn: Turn,
-        subject: u8,
-        first: bool,
-        state: &SubjectState,
-    ) -> Option<TurnLine>
-        requires { turn.cpu < length self.old.live.machine.cpus }
-        ensures state { (part : SubjectPart) → slice_get self.old.setup.subjects subject ≡ Some part → self.new ≡ record self.old { live = (acts turn subject part first state.now self.old.live).state } }
-        ensures line { (part : SubjectPart) → slice_get self.old.setup.subjects subject ≡ Some part → result ≡ (acts turn subject part first state.now self.old.live).line }
-    {
-        if state.stopped {
-            return None;
-        }
-        match self.take_vector(subject, first, state) {
-            Some(vector) => {
-                self.machine.inject(turn.cpu as usize, vector);
-                Some(turn.line(TurnAction::Inject { vector }))
-            }
-            None => self.go_further(turn, subject, state),
-        }
-    }
-
-    fn act_on(&mut self, cpu: u8, subject: u8, name: Name, first: bool) -> Option<TurnLine>
-        requires { cpu < length self.old.live.machine.cpus }
-        ensures state { (part : SubjectPart) → slice_get self.old.setup.subjects subject ≡ Some part → name ≡ part.name → self.new ≡ record self.old { live = (acts_on cpu self.old.tick subject part first self.old.live).state } }
-        ensures line { (part : SubjectPart) → slice_get self.old.setup.subjects subject ≡ Some part → name ≡ part.name → result ≡ (acts_on cpu self.old.tick subject part first self.old.live).line }
-    {
-        match self.machine.state(cpu as usize) {
-            None => None,
-            Some(state) => {
-                let turn = Turn {
-                    tick: self.tick,
-                    cpu,
-                    subject: name,
-                    pc: state.pc,
-                };
-                self.act(turn, subject, first, &state)
-            }
-        }
-    }
-
-    // ---- whose turn it is
-
-    // A subject goes onto a CPU, and who was there leaves it before.
-    fn go_on(&mut self, cpu: u8, subject: u8, control: Control)
-        requires { cpu < length self.old.live.machine.cpus }
-        ensures state { self.new ≡ record self.old { live = goes_on cpu subject control self.old.live } }
-        ensures cpus { length self.new.live.machine.cpus ≡ length self.old.live.machine.cpus }
-    {
-        self.machine.leave(cpu as usize);
-        self.machine.enter(cpu as usize, control);
-        put_on(&mut self.on, cpu as usize, subject);
-    }
-
-    // A subject goes onto a CPU where it isn't there already.
-    fn switch(&mut self, cpu: u8, subject: u8, control: Control, on: Option<u8>)
-        requires { cpu < length self.old.live.machine.cpus }
-        ensures state { self.new ≡ record self.old { live = switched cpu subject control on self.old.live } }
-        ensures cpus { length self.new.live.machine.cpus ≡ length self.old.live.machine.cpus }
-    {
-        match on {
-            None => self.go_on(cpu, subject, control),
-            Some(there) => {
-                if there != subject {
-                    self.go_on(cpu, subject, control);
-                }
-            }
-        }
-    }
-
-    // The turn of a subject of this name.
-    fn turn_of_named(
-        &mut self,
-        cpu: u8,
-        subject: u8,
-        name: Name,
-        first: bool,
-        on: Option<u8>,
-    ) -> Option<TurnLine>
-        requires { cpu < length self.old.live.machine.cpus }
-        ensures state { (part : SubjectPart) → slice_get self.old.setup.subjects subject ≡ Some part → name ≡ part.name → self.new ≡ record self.old { live = (turn_of_subject cpu self.old.tick subject first on (Some part) (slice_get self.old.setup.controls subject) self.old.live).state } }
-        ensures line { (part : SubjectPart) → slice_get self.old.setup.subjects subject ≡ Some part → name ≡ part.name → result ≡ (turn_of_subject cpu self.old.tick subject first on (Some part) (slice_get self.old.setup.controls subject) self.old.live).line }
-    {
-        let control = control_at(self.setup.controls.items(), subject as usize)?;
-        self.switch(cpu, subject, control, on);
-        self.act_on(cpu, subject, name, first)
-    }
-
-    // The turn of a subject, by its number.
-    fn turn_of_subject(
-        &mut self,
-        cpu: u8,
-        subject: u8,
-        first: bool,
-        on: Option<u8>,
-    ) -> Option<TurnLine>
-        requires { cpu < length self.old.live.machine.cpus }
-        ensures state { self.new ≡ record self.old { live = (turn_of_subject cpu self.old.tick subject first on (slice_get self.old.setup.subjects subject) (slice_get self.old.setup.controls subject) self.old.live).state } }
-        ensures line { result ≡ (turn_of_subject cpu self.old.tick subject first on (slice_get self.old.setup.subjects subject) (slice_get self.old.setup.controls subject) self.old.live).line }
-    {
-        match part_at(self.setup.subjects.items(), subject as usize) {
-            None => None,
-            Some(part) => {
-                let name = part.name;
-                self.turn_of_named(cpu, subject, name, first, on)
-            }
-        }
-    }
-
-    /// The turn of a CPU in the tick, and its line, if it has one: that of the active member of the
-    /// group that has the CPU. A CPU that isn't there takes no turn.
-    pub fn turn(&mut self, cpu: u8) -> Option<TurnLine>
-        ensures state { self.new ≡ record self.old { live = (turn_of self.old.setup cpu self.old.tick self.old.live).state } }
-        ensures line { result ≡ (turn_of self.old.setup cpu self.old.tick self.old.live).line }
-    {
-        let on = on_cpu(&self.on, cpu as usize)?;
-        let slot = slot(&self.setup.plan, self.frame, cpu, self.tick)?;
-        let subject = self.router.active(slot.group)?;
-        self.turn_of_subject(cpu, subject, slot.first, on)
     }
 }
 

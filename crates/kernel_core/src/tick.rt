@@ -10,7 +10,6 @@ ghost use Rattle.kernel_core.specs.Ticks.{all_left, begins, ended, kernel, pick_
 use crate::kernel::{Kernel, control_at};
 use ept_walk::Translate;
 use frame_clock::advance;
-use muen_num::limits::PAGE;
 use phys_mem::PhysMem;
 use record_text::{Input, TickInput};
 use state_page::SubjectState;
@@ -20,20 +19,14 @@ use vmx_machine::Machine;
 fn first_byte<M: PhysMem>(mem: &M, page: u32) -> Option<u8>
     ensures { result ≡ slice_get (page_at (M.pages mem.now) page) 0 }
 {
-    match mem.page(PAGE * u64::from(page)) {
-        None => None,
-        Some(bytes) => bytes.first().copied(),
-    }
+    mem.page(u64::from(page))?.first().copied()
 }
 
 // The byte that chooses the next major frame, if one does.
 fn pick<M: PhysMem>(mem: &M, tau0: Option<u32>) -> Option<u8>
     ensures { result ≡ pick_of tau0 (M.pages mem.now) }
 {
-    match tau0 {
-        None => None,
-        Some(page) => first_byte(mem, page),
-    }
+    first_byte(mem, tau0?)
 }
 
 // The CPU of this index in the order by number.
@@ -140,10 +133,8 @@ impl<M: PhysMem, T: Translate> Kernel<M, T> {
     pub fn state(&self, subject: usize) -> Option<SubjectState>
         ensures { result ≡ option_map (λ c. state_in (page_at self.now.live.machine.pages c.state)) (slice_get self.now.setup.controls subject) }
     {
-        match control_at(self.setup.controls.items(), subject) {
-            None => None,
-            Some(control) => Some(self.machine.state_in(control.state)),
-        }
+        let control = control_at(self.setup.controls.items(), subject)?;
+        Some(self.machine.state_in(control.state))
     }
 }
 
@@ -162,8 +153,5 @@ fn leave_all<M: PhysMem, T: Translate>(machine: &mut Machine<M, T>, cpus: usize)
 fn input_at(inputs: &[TickInput], index: usize) -> Option<&Input>
     ensures { option_map (λ i. i.now) result ≡ slice_get (map (λ i. i.input) inputs.now) index }
 {
-    match inputs.get(index) {
-        None => None,
-        Some(found) => Some(&found.input),
-    }
+    Some(&inputs.get(index)?.input)
 }

@@ -8,8 +8,9 @@ ghost use Rattle.machine_layout.specs.Exits.{is_set, port_is_set, port_exits, ms
 use muen_num::AccessSize;
 use muen_num::limits::{HIGH_MSR_FIRST, HIGH_MSR_LAST, LAST_PORT, LOW_MSR_LAST};
 
-/// The first port of bitmap B (Intel SDM volume 3, I/O-bitmap addresses).
-const B_FIRST: usize = 0x8000;
+/// How many ports an I/O bitmap covers, and so the first port of bitmap B (Intel SDM volume 3,
+/// I/O-bitmap addresses).
+pub const BITMAP_PORTS: usize = 0x8000;
 
 /// Bits of a byte.
 const BITS: usize = 8;
@@ -40,10 +41,10 @@ fn is_set(bitmap: &[u8], bit: usize) -> bool
 fn port_is_set(a: &[u8], b: &[u8], port: usize) -> bool
     ensures { result ≡ port_is_set a.now b.now port }
 {
-    if port < B_FIRST {
+    if port < BITMAP_PORTS {
         is_set(a, port)
     } else {
-        is_set(b, port - B_FIRST)
+        is_set(b, port - BITMAP_PORTS)
     }
 }
 
@@ -68,8 +69,8 @@ pub fn port_exits(a: &[u8], b: &[u8], port: u16, size: AccessSize) -> bool
     wraps || one_is_set(a, b, port, size.bytes())
 }
 
-// The bit of an MSR for reads or for writes. None of an MSR outside both ranges.
-fn msr_bit(index: u32, write: bool) -> Option<usize>
+/// The bit that an MSR bitmap has for reads or for writes of an MSR. None of an MSR outside both ranges.
+pub fn msr_bit(index: u32, write: bool) -> Option<usize>
     ensures { result ≡ msr_bit index write }
 {
     let low = if write { LOW_WRITES } else { LOW_READS };

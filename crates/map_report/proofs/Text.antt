@@ -20,11 +20,11 @@ use Rattle.policy_lawful.specs.declared.resolved.Subject.{Subject}
 use Rattle.policy_lawful.proofs.SourceElements.{parts_in_range}
 use Rattle.policy_lawful.specs.Thing.{Thing}
 use Rattle.policy_lawful.specs.Windows.{Window}
-use Rattle.policy_views.specs.Views.{thing_shown, view_window, views_of}
-use Rattle.policy_views.specs.declared.view.Shown.{Shown}
-use Rattle.policy_views.specs.declared.view.Shown.TheVariants.{Memory, Channel, Provided, Device, State}
-use Rattle.policy_views.specs.declared.view.View.{View}
-use Rattle.policy_views.proofs.WindowsByIndex.{name_there, windows_by_index}
+use Rattle.policy_lawful.specs.Views.{thing_shown, view_window, views_of}
+use Rattle.policy_lawful.specs.declared.view.Shown.{Shown}
+use Rattle.policy_lawful.specs.declared.view.Shown.TheVariants.{Memory, Channel, Provided, Device, State}
+use Rattle.policy_lawful.specs.declared.view.View.{View}
+use Rattle.policy_lawful.proofs.WindowsByIndex.{name_there, windows_by_index}
 use Rattle.region_alloc.specs.Placement.{in_a_block, placement_of}
 use Rattle.region_alloc.specs.Placed.{AreInside}
 use Rattle.map_report.specs.MapText.{device_lines, map_text_at, map_text_of, region_lines, tag, text_where, thing_tag, window_line, window_lines}

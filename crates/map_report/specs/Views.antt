@@ -9,9 +9,9 @@ use Rattle.muen_num.specs.declared.tag.TagPart.TheVariants.{Named, State as Stat
 use Rattle.muen_num.specs.declared.tag.Tag.{Tag}
 use Rattle.policy_lawful.specs.Resolution.{Resolution}
 use Rattle.policy_lawful.specs.declared.resolved.Subject.{Subject}
-use Rattle.policy_views.specs.declared.view.Shown.{Shown}
-use Rattle.policy_views.specs.declared.view.Shown.TheVariants.{Memory, Channel, Provided, Device, State}
-use Rattle.policy_views.specs.declared.view.View.{View}
+use Rattle.policy_lawful.specs.declared.view.Shown.{Shown}
+use Rattle.policy_lawful.specs.declared.view.Shown.TheVariants.{Memory, Channel, Provided, Device, State}
+use Rattle.policy_lawful.specs.declared.view.View.{View}
 
 -- the printed name of what a view shows to the subject of this name, where that is there
 abbrev pub shown_tag : Resolution → List ℕ → List ℕ → Shown → Option Tag

@@ -1,7 +1,7 @@
 //! The map of a policy.
 ghost use Rattle.std.specs.Prelude.{◌≡◌, ◌≤◌, [], length};
 ghost use Rattle.std.specs.List.{flat_map};
-ghost use Rattle.muen_outside.specs.Buffered.{Gives, behind};
+ghost use Rattle.muen_outside.specs.Prints.{Prints};
 ghost use Rattle.muen_outside.specs.Puts.{Puts};
 ghost use Rattle.policy_lawful.specs.Resolution.{IsResolved, source_of};
 ghost use Rattle.map_report.specs.MapText.{device_lines, map_text_of, memory_line, region_lines};
@@ -12,35 +12,21 @@ use crate::shown::tag;
 use expand_grants::Grants;
 use expand_kernel::Region;
 use muen_num::{Name, Tag, TagPart};
-use muen_outside::{Buffer, PrintedLine, Sink, SinkFault};
-use policy_lawful::Resolved;
+use muen_outside::{Buffer, BufferedSink, Sink, SinkFault};
 use policy_lawful::resolved::Subject;
+use policy_lawful::{Resolved, View};
 use policy_types::source::{Device, DeviceMemory};
-use policy_views::View;
 use region_alloc::Placed;
-
-fn put_line<L: PrintedLine, S: Sink>(
-    line: &L,
-    buffer: &mut Buffer,
-    out: &mut S,
-) -> Result<(), SinkFault>
-    ensures { Gives (L.text line.now) (behind (S.state out.old) buffer.old) (behind (S.state out.new) buffer.new) result }
-{
-    let mut space = [0u8; 256];
-    let n = line.write(&mut space);
-    buffer.put(&space[..n], out)
-}
 
 // The regions at these addresses.
 #[tactic(auto, using(muen_outside::proofs::Buffered::items))]
 fn put_regions<S: Sink>(
     addresses: &[u64],
     regions: &[Region],
-    buffer: &mut Buffer,
-    out: &mut S,
+    out: &mut BufferedSink<'_, S>,
 ) -> Result<(), SinkFault>
     requires { length regions.now ≤ length addresses.now }
-    ensures { Gives (region_lines addresses.now regions.now) (behind (S.state out.old) buffer.old) (behind (S.state out.new) buffer.new) result }
+    ensures { Prints S.state (region_lines addresses.now regions.now) out.old out.new result }
 {
     for (number, region) in regions.iter().enumerate() {
         let line = RegionLine {
@@ -49,7 +35,7 @@ fn put_regions<S: Sink>(
             size: region.size,
             tag: region.tag,
         };
-        put_line(&line, buffer, out)?;
+        out.put_line(&line)?;
     }
     Ok(())
 }
@@ -58,10 +44,9 @@ fn put_regions<S: Sink>(
 fn put_memory<S: Sink>(
     device: Name,
     memory: &DeviceMemory,
-    buffer: &mut Buffer,
-    out: &mut S,
+    out: &mut BufferedSink<'_, S>,
 ) -> Result<(), SinkFault>
-    ensures { Gives (memory_line device memory.now) (behind (S.state out.old) buffer.old) (behind (S.state out.new) buffer.new) result }
+    ensures { Prints S.state (memory_line device memory.now) out.old out.new result }
 {
     let line = RegionLine {
         laid: Laid::Device,
@@ -72,30 +57,26 @@ fn put_memory<S: Sink>(
             part: TagPart::Named(memory.name),
         },
     };
-    put_line(&line, buffer, out)
+    out.put_line(&line)
 }
 
 // All memory of a device.
 #[tactic(auto, using(muen_outside::proofs::Buffered::items))]
-fn put_device<S: Sink>(device: &Device, buffer: &mut Buffer, out: &mut S) -> Result<(), SinkFault>
-    ensures { Gives (flat_map (memory_line device.now.name) device.now.memory) (behind (S.state out.old) buffer.old) (behind (S.state out.new) buffer.new) result }
+fn put_device<S: Sink>(device: &Device, out: &mut BufferedSink<'_, S>) -> Result<(), SinkFault>
+    ensures { Prints S.state (flat_map (memory_line device.now.name) device.now.memory) out.old out.new result }
 {
     for memory in device.memory.items() {
-        put_memory(device.name, memory, buffer, out)?;
+        put_memory(device.name, memory, out)?;
     }
     Ok(())
 }
 
 #[tactic(auto, using(muen_outside::proofs::Buffered::items))]
-fn put_devices<S: Sink>(
-    devices: &[Device],
-    buffer: &mut Buffer,
-    out: &mut S,
-) -> Result<(), SinkFault>
-    ensures { Gives (device_lines devices.now) (behind (S.state out.old) buffer.old) (behind (S.state out.new) buffer.new) result }
+fn put_devices<S: Sink>(devices: &[Device], out: &mut BufferedSink<'_, S>) -> Result<(), SinkFault>
+    ensures { Prints S.state (device_lines devices.now) out.old out.new result }
 {
     for device in devices {
-        put_device(device, buffer, out)?;
+        put_device(device, out)?;
     }
     Ok(())
 }
@@ -106,10 +87,9 @@ fn put_view<S: Sink>(
     policy: &Resolved,
     subject: Name,
     view: &View,
-    buffer: &mut Buffer,
-    out: &mut S,
+    out: &mut BufferedSink<'_, S>,
 ) -> Result<(), SinkFault>
-    ensures { Gives (view_line policy.now subject view.now) (behind (S.state out.old) buffer.old) (behind (S.state out.new) buffer.new) result }
+    ensures { Prints S.state (view_line policy.now subject view.now) out.old out.new result }
 {
     let Some(tag) = tag(policy, subject, view) else {
         return Ok(());
@@ -121,7 +101,7 @@ fn put_view<S: Sink>(
         rights: view.rights,
         tag,
     };
-    put_line(&line, buffer, out)
+    out.put_line(&line)
 }
 
 // The windows of the subject of this name.
@@ -130,13 +110,12 @@ fn put_views<S: Sink>(
     policy: &Resolved,
     subject: Name,
     views: &[View],
-    buffer: &mut Buffer,
-    out: &mut S,
+    out: &mut BufferedSink<'_, S>,
 ) -> Result<(), SinkFault>
-    ensures { Gives (view_lines policy.now subject views.now) (behind (S.state out.old) buffer.old) (behind (S.state out.new) buffer.new) result }
+    ensures { Prints S.state (view_lines policy.now subject views.now) out.old out.new result }
 {
     for view in views {
-        put_view(policy, subject, view, buffer, out)?;
+        put_view(policy, subject, view, out)?;
     }
     Ok(())
 }
@@ -157,13 +136,12 @@ fn put_windows<S: Sink>(
     policy: &Resolved,
     subjects: &[Subject],
     grants: &[Grants],
-    buffer: &mut Buffer,
-    out: &mut S,
+    out: &mut BufferedSink<'_, S>,
 ) -> Result<(), SinkFault>
-    ensures { Gives (all_view_lines policy.now grants.now 0 subjects.now) (behind (S.state out.old) buffer.old) (behind (S.state out.new) buffer.new) result }
+    ensures { Prints S.state (all_view_lines policy.now grants.now 0 subjects.now) out.old out.new result }
 {
     for (index, subject) in subjects.iter().enumerate() {
-        put_views(policy, subject.name, views_at(grants, index), buffer, out)?;
+        put_views(policy, subject.name, views_at(grants, index), out)?;
     }
     Ok(())
 }
@@ -175,17 +153,36 @@ fn put_map<S: Sink>(
     addresses: &[u64],
     regions: &[Region],
     grants: &[Grants],
-    buffer: &mut Buffer,
-    out: &mut S,
+    out: &mut BufferedSink<'_, S>,
 ) -> Result<(), SinkFault>
     requires { length regions.now ≤ length addresses.now }
-    ensures text { Gives (map_lines policy.now addresses.now regions.now grants.now) (behind (S.state out.old) buffer.old) (behind (S.state out.new) buffer.new) result }
+    ensures text { Prints S.state (map_lines policy.now addresses.now regions.now grants.now) out.old out.new result }
     ensures resolved { IsResolved policy.now }
 {
     let subjects = policy.subjects();
-    put_regions(addresses, regions, buffer, out)?;
-    put_devices(policy.devices(), buffer, out)?;
-    put_windows(policy, subjects, grants, buffer, out)
+    put_regions(addresses, regions, out)?;
+    put_devices(policy.devices(), out)?;
+    put_windows(policy, subjects, grants, out)
+}
+
+// The same through a buffer in which nothing waits before, and to its end.
+#[tactic(auto, using(muen_outside::proofs::Buffered::gives))]
+fn print_map<S: Sink>(
+    policy: &Resolved,
+    addresses: &[u64],
+    regions: &[Region],
+    grants: &[Grants],
+    buffer: &mut Buffer,
+    out: &mut S,
+) -> Result<(), SinkFault>
+    requires long { length regions.now ≤ length addresses.now }
+    requires empty { buffer.old ≡ [] }
+    ensures text { Puts (map_lines policy.now addresses.now regions.now grants.now) (S.state out.old) (S.state out.new) result }
+    ensures resolved { IsResolved policy.now }
+{
+    let mut out = BufferedSink { buffer, sink: out };
+    put_map(policy, addresses, regions, grants, &mut out)?;
+    out.flush()
 }
 
 /// Puts the map of a policy: `region ADDRESS SIZE NAME` for each region by number, `device ADDRESS
@@ -193,20 +190,18 @@ fn put_map<S: Sink>(
 /// GUEST SIZE RIGHTS NAME`. Addresses and sizes have sixteen hexadecimal digits. The text goes
 /// through the buffer, in which nothing may wait before, and takes no memory. Where the sink fails
 /// it has a front of the text.
-#[tactic(auto, using(muen_outside::proofs::Buffered::gives))]
 pub fn map_text<S: Sink>(placed: &Placed, buffer: &mut Buffer, out: &mut S) -> Result<(), SinkFault>
     requires { buffer.old ≡ [] }
     ensures { Puts (map_text_of (source_of placed.now.expanded.lawful)) (S.state out.old) (S.state out.new) result }
 {
     let expanded = placed.expanded();
     let policy = expanded.lawful().resolved();
-    put_map(
+    print_map(
         policy,
         placed.addresses(),
         expanded.regions(),
         expanded.grants(),
         buffer,
         out,
-    )?;
-    buffer.flush(out)
+    )
 }

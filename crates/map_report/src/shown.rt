@@ -4,8 +4,7 @@ ghost use Rattle.map_report.specs.MapText.{tag};
 ghost use Rattle.map_report.specs.Views.{shown_tag};
 
 use muen_num::{Name, Tag, TagPart};
-use policy_lawful::Resolved;
-use policy_views::{Shown, View};
+use policy_lawful::{Resolved, Shown, View};
 
 fn part_of(owner: Name, part: TagPart) -> Tag
     ensures { result ≡ tag owner part }

@@ -27,6 +27,14 @@ bit_tells index write bit e = grind (arith, nat_tests)
 none_tells : (index : ℕ) (write : Bool) → msr_bit index write ≡ None → (LOW_MSR_LAST < index) × ((index < HIGH_MSR_FIRST) ⊎ (HIGH_MSR_LAST < index))
 none_tells index write e = grind (arith, nat_tests)
 
+-- where a grant begins, there is a bit
+lies_somewhere : (start end : ℕ) → Lies start end → (LOW_MSR_LAST < start) × ((start < HIGH_MSR_FIRST) ⊎ (HIGH_MSR_LAST < start)) → ⊥
+lies_somewhere start end h n = grind (arith, nat_tests)
+
+pub covered_has_bit : (m : MsrGrant) (write : Bool) → is_covered m ≡ true → msr_bit m.start write ≡ None → ⊥
+covered_has_bit m write covered none =
+    lies_somewhere m.start m.end (covered_tells m covered) (none_tells m.start write none)
+
 -- a bit of a grant's run is one of its MSRs
 in_run : (start end index first bit : ℕ) (write : Bool) → Lies start end → Stands start write first → Stands index write bit → is_between first (first + (end - start + 1)) bit ≡ (nat_le start index && nat_le index end)
 in_run start end index first bit true h f b = grind (arith, nat_tests)

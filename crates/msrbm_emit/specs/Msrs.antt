@@ -1,12 +1,8 @@
 -- The MSRs that are granted.
-use Rattle.std.specs.Prelude.{ℕ, ◌&&◌, ◌||◌, ◌⊎◌, ◌≤◌, Bool, nat_le, List, if◌then◌else◌}
+use Rattle.std.specs.Prelude.{ℕ, ◌&&◌, ◌||◌, Bool, nat_le, List, if◌then◌else◌}
 use Rattle.std.specs.List.{list_any}
 use Rattle.muen_num.specs.declared.limits.TheConstants.{LOW_MSR_LAST, HIGH_MSR_FIRST, HIGH_MSR_LAST}
 use Rattle.policy_types.specs.declared.resources.MsrGrant.{MsrGrant}
-
--- an MSR of the low or of the high range of an MSR bitmap
-abbrev pub IsMsr : ℕ → Type 0
-IsMsr index = (index ≤ LOW_MSR_LAST) ⊎ ((HIGH_MSR_FIRST ≤ index) × (index ≤ HIGH_MSR_LAST))
 
 -- the grant has some MSR, and both of its ends are in one of the two ranges
 abbrev pub is_covered : MsrGrant → Bool

@@ -4,15 +4,9 @@ ghost use Rattle.machine_layout.specs.Exits.{area_bytes, entry_bytes, entry_size
 ghost use Rattle.machine_layout.specs.PageFields.{padded};
 ghost use Rattle.msrbm_emit.specs.Area.{area_of, count_of, entries_of, entry_of, size_of};
 
-use machine_layout::{clear_all, put_word};
+use machine_layout::{AREA_ENTRY, AREA_VALUE, clear_all, put_word};
 use muen_num::limits::{MOST_MSRS, PAGE};
 use policy_types::MsrGrant;
-
-/// The bytes of an entry (Intel SDM volume 3, format of an MSR entry).
-const ENTRY: usize = 16;
-
-/// Where the value stands in an entry.
-const VALUE: usize = 8;
 
 // Puts an entry behind those that are there.
 fn put_entry(area: &mut [u8], at: usize, index: u32)
@@ -21,7 +15,7 @@ fn put_entry(area: &mut [u8], at: usize, index: u32)
         → area.new ≡ padded (length area.old) (front ++ entry_bytes (entry_of index)) }
 {
     put_word(area, at, u64::from(index));
-    put_word(area, at + VALUE, 0);
+    put_word(area, at + AREA_VALUE as usize, 0);
 }
 
 // Puts the entries of a grant behind those that are there, and tells where they end.
@@ -34,7 +28,7 @@ fn put_entries(area: &mut [u8], at: usize, grant: &MsrGrant) -> usize
     let mut end = at;
     for index in grant.start..=grant.end {
         put_entry(area, end, index);
-        end += ENTRY;
+        end += AREA_ENTRY as usize;
     }
     end
 }

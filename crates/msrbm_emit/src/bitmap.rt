@@ -1,52 +1,12 @@
 //! The MSR bitmap.
-ghost use Rattle.std.specs.Prelude.{◌≡◌, ◌&&◌, ◌⊎◌, ℕ, ◌+◌, ◌*◌, ◌≤◌, Bool, not, IsTrue, length, if◌then◌else◌};
+ghost use Rattle.std.specs.Prelude.{◌≡◌, ◌&&◌, ℕ, Bool, not, IsTrue, length};
 ghost use Rattle.std.specs.List.{list_all};
-ghost use Rattle.machine_layout.specs.Exits.{low_part, high_part, msr_bit, msr_exits};
-ghost use Rattle.msrbm_emit.specs.Msrs.{allows, has_msr, is_covered, is_granted, IsMsr};
+ghost use Rattle.machine_layout.specs.Exits.{msr_exits};
+ghost use Rattle.msrbm_emit.specs.Msrs.{allows, has_msr, is_covered, is_granted};
 
-use machine_layout::{clear_bits, set_all};
-use muen_num::limits::{HIGH_MSR_FIRST, HIGH_MSR_LAST, LOW_MSR_LAST, PAGE};
+use machine_layout::{clear_bits, msr_bit, set_all};
+use muen_num::limits::PAGE;
 use policy_types::MsrGrant;
-
-/// The byte at which the bits for reads of the low MSRs begin (Intel SDM volume 3, MSR-bitmap
-/// address).
-const LOW_READS: usize = 0;
-
-/// The byte at which those for reads of the high MSRs begin.
-const HIGH_READS: usize = 1024;
-
-/// The byte at which those for writes of the low MSRs begin.
-const LOW_WRITES: usize = 2048;
-
-/// The byte at which those for writes of the high MSRs begin.
-const HIGH_WRITES: usize = 3072;
-
-/// Bits of a byte.
-const BITS: usize = 8;
-
-// The byte at which a part of the bitmap begins.
-fn part(is_high: bool, write: bool) -> usize
-    ensures { result ≡ (if is_high then high_part write else low_part write) }
-{
-    match (is_high, write) {
-        (false, false) => LOW_READS,
-        (true, false) => HIGH_READS,
-        (false, true) => LOW_WRITES,
-        (true, true) => HIGH_WRITES,
-    }
-}
-
-// The bit of an MSR.
-fn bit_of(index: u32, write: bool) -> usize
-    requires { IsMsr index }
-    ensures { msr_bit index write ≡ Some result }
-{
-    let index = u64::from(index);
-    if index <= LOW_MSR_LAST {
-        return BITS * part(false, write) + index as usize;
-    }
-    BITS * part(true, write) + (index - HIGH_MSR_FIRST) as usize
-}
 
 // What a grant allows.
 fn is_allowed(grant: &MsrGrant, write: bool) -> bool
@@ -66,7 +26,9 @@ fn allow(bitmap: &mut [u8], grant: &MsrGrant, write: bool)
     if !is_allowed(grant, write) {
         return;
     }
-    let first = bit_of(grant.start, write);
+    let Some(first) = msr_bit(grant.start, write) else {
+        return;
+    };
     let count = (grant.end - grant.start) as usize + 1;
     clear_bits(bitmap, first, first + count);
 }

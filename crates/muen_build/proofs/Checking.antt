@@ -10,7 +10,7 @@ use Rattle.muen_outside.specs.Store.{Store}
 use Rattle.policy_types.specs.declared.refusal.Refusal.{Refusal}
 use Rattle.policy_types.specs.declared.source.Content.TheVariants.{File, Fill, Inline, Zero}
 use Rattle.muen_build.specs.Accepting.{FailsWith, Files, Grows, Known, NotFound, Passes, Refuses, Why, looks_of, of_all, of_brought, of_filled, part_length}
-use Rattle.expand_kernel.specs.ByIndex.{provided_at}
+use Rattle.policy_lawful.specs.ByIndex.{provided_at}
 use Rattle.muen_build.specs.Filling.{brought_at, filled_provided, filled_region}
 use Rattle.muen_build.specs.Looks.{Follows, Look, ShowAll}
 use Rattle.muen_build.specs.Refusals.{Filled, content_refused, filled_of, filled_refused, too_long_for}

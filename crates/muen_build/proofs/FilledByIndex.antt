@@ -12,7 +12,7 @@ use Rattle.policy_lawful.proofs.SourceElements.{parts_in_range}
 use Rattle.policy_lawful.proofs.UniqueNames.{unique}
 use Rattle.policy_lawful.specs.Thing.{component_by}
 use Rattle.policy_types.specs.declared.source.Component.{Component}
-use Rattle.expand_kernel.specs.ByIndex.{provided_at}
+use Rattle.policy_lawful.specs.ByIndex.{provided_at}
 use Rattle.muen_build.specs.Filling.{brought_at, filled_at, filled_provided, filled_region}
 use Rattle.muen_build.specs.Refusals.{filled_by, filled_of}
 

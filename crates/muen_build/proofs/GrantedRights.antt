@@ -22,8 +22,8 @@ use Rattle.policy_lawful.specs.declared.resolved.Monitor.{Monitor}
 use Rattle.policy_lawful.specs.declared.resolved.Subject.{Subject}
 use Rattle.policy_lawful.specs.declared.resolved.Wanted.{Wanted}
 use Rattle.policy_lawful.specs.declared.resolved.Wanted.TheVariants.{Memory as WantedMemory, Channel as WantedChannel}
-use Rattle.policy_views.specs.Views.{channel_view, component_channel_view, component_views, device_view, entry_for, monitor_view, provided_view, region_view, required_view, use_views, views_of}
-use Rattle.policy_views.specs.declared.view.View.{View}
+use Rattle.policy_lawful.specs.Views.{channel_view, component_channel_view, component_views, device_view, entry_for, monitor_view, provided_view, region_view, required_view, use_views, views_of}
+use Rattle.policy_lawful.specs.declared.view.View.{View}
 use Rattle.expand_grants.specs.Grants.{AreGrants, AreGrantsOf, is_lower}
 use Rattle.expand_grants.specs.Ordered.{in_order}
 use Rattle.expand_grants.specs.declared.granted.Grants.{Grants}

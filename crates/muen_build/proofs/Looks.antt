@@ -105,8 +105,8 @@ told_all m (l ∷ ls) seen = (seen.0, told_all m ls seen.3)
 -- some files explain what was seen
 pub explained : (held : Option Store) (ls : List Look) → Seen held ls → Explained held ls
 explained None ls seen =
-    record { files = stored (entries_of ls); told = tt; shows = shown None (entries_of ls) ls seen (hold_all None ls seen) }
-explained (Some m) ls seen = record { files = m; told = refl; shows = told_all m ls seen }
+    record { files = stored (entries_of ls); told = tt; holds = shown None (entries_of ls) ls seen (hold_all None ls seen) }
+explained (Some m) ls seen = record { files = m; told = refl; holds = told_all m ls seen }
 
 -- ---- one look more
 

@@ -1,7 +1,7 @@
 -- The regions of a resolved policy that have a content, by indexes.
 use Rattle.std.specs.Prelude.{ℕ, List, ◌++◌, map}
 use Rattle.std.specs.List.{flat_map}
-use Rattle.expand_kernel.specs.ByIndex.{provided_at}
+use Rattle.policy_lawful.specs.ByIndex.{provided_at}
 use Rattle.muen_num.specs.declared.tag.TagPart.TheVariants.{Named, Whole}
 use Rattle.policy_lawful.specs.Resolution.{Resolution}
 use Rattle.policy_lawful.specs.declared.resolved.Subject.{Subject}

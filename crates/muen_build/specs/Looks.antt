@@ -55,11 +55,15 @@ abbrev pub Seen : Option Store → List Look → Type 0
 Seen held [] = Unit {0}
 Seen held (l ∷ ls) = IfSome held (λ m. Shows m l) × IsPossible l.most l.reading × AreOthers ls l.name × Seen held ls
 
--- files that hold what is told and show all these looks
-pub record Explained (held : Option Store) (looks : List Look) : Type 0 where
+-- over some files that hold what is told, this holds
+pub record OverFiles (held : Option Store) (Holds : Store → Type 0) : Type 0 where
   pub files : Store
   pub told : IfSome held (λ m. files ≡ m)
-  pub shows : ShowAll files looks
+  pub holds : Holds files
+
+-- files that hold what is told show all these looks
+abbrev pub Explained : Option Store → List Look → Type 0
+Explained held looks = OverFiles held (λ files. ShowAll files looks)
 
 -- ---- the files of a policy
 

@@ -2,7 +2,7 @@
 use Rattle.std.specs.Prelude.{ℕ, List, [], ◌++◌, map, replicate, take, unwrap_or, if◌then◌else◌}
 use Rattle.std.specs.List.{flat_map}
 use Rattle.std.specs.Str.{bytes_eq}
-use Rattle.expand_kernel.specs.ByIndex.{provided_at}
+use Rattle.policy_lawful.specs.ByIndex.{provided_at}
 use Rattle.muen_build.specs.Accepting.{Files}
 use Rattle.muen_outside.specs.Store.{find_bytes}
 use Rattle.policy_lawful.specs.Resolution.{Resolution}

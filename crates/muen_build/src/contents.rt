@@ -4,7 +4,6 @@ ghost use Rattle.muen_num.specs.Search.{as_refusal};
 ghost use Rattle.muen_outside.specs.Store.{find_bytes, whole};
 ghost use Rattle.policy_lawful.specs.Resolution.{source_of};
 ghost use Rattle.muen_build.specs.Accepting.{FailsWith, Grows, IsAdded, Known, NotFound, NotRead, Passes, Refuses, looks_of, of_all, of_brought, of_filled, part_length};
-ghost use Rattle.expand_kernel.specs.ByIndex.{provided_at};
 ghost use Rattle.muen_build.specs.Filling.{brought_at, filled, filled_provided, filled_region};
 ghost use Rattle.muen_build.specs.Looks.{Follows, Saw};
 ghost use Rattle.muen_build.specs.Refusals.{filled_of, too_long_for};
@@ -14,9 +13,9 @@ use muen_num::limits::COMPONENT_FILE_MOST;
 use muen_num::{Name, Seq, Tag, TagPart};
 use muen_outside::{FileError, Files, Found};
 use policy_lawful::Resolved;
-use policy_lawful::resolved::{ComponentUse, Subject};
+use policy_lawful::resolved::Subject;
 use policy_types::Refusal;
-use policy_types::source::{Component, Content, Provided, Region};
+use policy_types::source::{Content, Provided, Region};
 use std::alloc::Global;
 
 // That so many bytes have room in a region.
@@ -189,39 +188,23 @@ fn check_provided<F: Files>(
     Ok(())
 }
 
-// The regions that a subject's component brings along.
-pub(crate) fn provided_by<'a>(
-    components: &'a [Component],
-    used: &Option<ComponentUse>,
-) -> &'a [Provided]
-    ensures { result.now ≡ provided_at components.now used.now }
-{
-    match used {
-        None => &[],
-        Some(used) => match components.get(used.used) {
-            None => &[],
-            Some(component) => component.provides.items(),
-        },
-    }
-}
-
 // Those of all subjects, in order.
 fn check_subjects<F: Files>(
     alloc: Global,
     name: &str,
     document: &[u8],
-    components: &[Component],
+    policy: &Resolved,
     subjects: &[Subject],
     found: &mut ComponentFiles,
     files: &mut F,
 ) -> Result<(), BuildError>
     ensures grows { IfOk result (λ _. Grows (F.state files.old).held (looks_of name.now document.now found.old) (looks_of name.now document.now found.new)) }
-    ensures passes { IfOk result (λ _. Passes (looks_of name.now document.now found.new) (of_brought components.now subjects.now)) }
-    ensures err { IfErr result (FailsWith (looks_of name.now document.now found.old) (Refuses (of_brought components.now subjects.now)) (F.state files.old) (F.state files.new)) }
+    ensures passes { IfOk result (λ _. Passes (looks_of name.now document.now found.new) (of_brought policy.now.components subjects.now)) }
+    ensures err { IfErr result (FailsWith (looks_of name.now document.now found.old) (Refuses (of_brought policy.now.components subjects.now)) (F.state files.old) (F.state files.new)) }
     ensures follows { Follows (F.state files.old) (F.state files.new) }
 {
     for subject in subjects {
-        let provided = provided_by(components, &subject.component);
+        let provided = policy.provided_by(subject);
         check_provided(alloc, name, document, subject.name, provided, found, files)?;
     }
     Ok(())
@@ -247,7 +230,7 @@ pub(crate) fn check_all<F: Files>(
         alloc,
         name,
         document,
-        policy.components(),
+        policy,
         policy.subjects(),
         found,
         files,

@@ -36,9 +36,6 @@ fn parts(
 {
     let expanded = placed.expanded();
     let policy = expanded.lawful().resolved();
-    let _memory = policy.memory();
-    let _regions = expanded.regions();
-    let _grants = expanded.grants();
     let things = things(alloc, name, document, found, policy)?;
     emit(alloc, placed, things)
 }

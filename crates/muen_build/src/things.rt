@@ -1,16 +1,15 @@
 //! What a policy's regions hold, made of the files that were read.
 ghost use Rattle.std.specs.Prelude.{◌≡◌, ◌++◌, IfOk, OnOk, map, replicate};
 ghost use Rattle.std.specs.List.{flat_map};
-ghost use Rattle.expand_kernel.specs.ByIndex.{provided_at};
+ghost use Rattle.policy_lawful.specs.ByIndex.{provided_at};
 ghost use Rattle.muen_build.specs.Reading.{content_read, read_bytes, sized, things_read};
 ghost use Rattle.policy_lawful.specs.Contents.{file_part};
 
 use crate::accepted::ComponentFiles;
-use crate::contents::provided_by;
 use muen_num::{Name, NoMemory, Seq};
 use policy_lawful::Resolved;
 use policy_lawful::resolved::Subject;
-use policy_types::source::{Channel, Component, Content, Provided, Region};
+use policy_types::source::{Channel, Content, Provided, Region};
 use std::alloc::{AllocError, Global};
 
 // So many bytes of this value.
@@ -136,14 +135,14 @@ fn put_subjects(
     name: &str,
     document: &[u8],
     found: &ComponentFiles,
-    components: &[Component],
+    policy: &Resolved,
     subjects: &[Subject],
     things: &mut Vec<Seq<u8>>,
 ) -> Result<(), AllocError>
-    ensures { OnOk result (things.new.items ≡ things.old.items ++ flat_map (λ s. map (λ x. content_read name.now document.now found.now x.size x.content) (provided_at components.now s.component)) subjects.now) }
+    ensures { OnOk result (things.new.items ≡ things.old.items ++ flat_map (λ s. map (λ x. content_read name.now document.now found.now x.size x.content) (provided_at policy.now.components s.component)) subjects.now) }
 {
     for subject in subjects {
-        let provided = provided_by(components, &subject.component);
+        let provided = policy.provided_by(subject);
         put_provided(alloc, name, document, found, provided, things)?;
     }
     Ok(())
@@ -169,7 +168,7 @@ pub(crate) fn things(
         name,
         document,
         found,
-        policy.components(),
+        policy,
         policy.subjects(),
         &mut things,
     )?;

@@ -1,9 +1,10 @@
 //! What every other crate stands on: names, lists that contracts see as their items, the limits,
-//! sizes of access, searches in order, lists of which one element is changed, and texts in pieces and
-//! in fixed buffers.
+//! sizes of access, ranges of ports and targets of interrupts, searches in order, lists of which one
+//! element is changed, and texts in pieces and in fixed buffers.
 #![tactic(auto)]
 
 pub mod access;
+pub mod devices;
 pub mod limits;
 pub mod list_change;
 pub mod mode;
@@ -15,6 +16,7 @@ pub mod tag;
 pub mod text;
 
 pub use access::{AccessKind, AccessSize};
+pub use devices::{IrqTarget, PortSpan};
 pub use list_change::a_change_is_found;
 pub use mode::EventMode;
 pub use name::Name;

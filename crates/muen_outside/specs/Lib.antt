@@ -4,6 +4,7 @@ pub mod States
 pub mod Found
 pub mod Puts
 pub mod Pieces
+pub mod Prints
 pub mod Buffered
 pub mod Entries
 pub mod MemFiles

@@ -3,6 +3,7 @@
 #![tactic(auto)]
 
 mod buffer;
+mod buffered_sink;
 mod files;
 mod folder_files;
 mod lines;
@@ -13,9 +14,10 @@ mod sink;
 mod writer_sink;
 
 pub use buffer::Buffer;
+pub use buffered_sink::BufferedSink;
 pub use files::{FileError, Files, Found};
 pub use folder_files::FolderFiles;
-pub use lines::{PrintedLine, put_lines};
+pub use lines::PrintedLine;
 pub use mem_files::MemFiles;
 pub use mem_sink::MemSink;
 pub use pieces::put_pieces;

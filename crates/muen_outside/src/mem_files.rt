@@ -94,10 +94,7 @@ impl MemFiles {
         ensures entries { option_map (λ s. s.now) result ≡ find_bytes name.now self.now.entries }
         ensures held { IfSome (files_of self.now).held (λ m. option_map (λ s. s.now) result ≡ map.get m name.now) }
     {
-        match find_file(&self.held, name) {
-            Some(bytes) => Some(bytes),
-            None => None,
-        }
+        Some(find_file(&self.held, name)?)
     }
 
     // Whether this call is to fail; counts it.

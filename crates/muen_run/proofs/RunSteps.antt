@@ -10,8 +10,8 @@ use Rattle.view_text.specs.ViewText.{turn_text}
 use Rattle.view_text.specs.declared.TurnLine.{TurnLine}
 use Rattle.frame_clock.specs.Run.{Turned, Ran}
 use Rattle.kernel_core.specs.Kernel.{Live}
-use Rattle.kernel_core.specs.Ticks.{KernelState}
-use Rattle.muen_run.specs.Turns.{at_tick, order_of, tick_in, ticks_in, turn_at, turns_in, with_live}
+use Rattle.kernel_core.specs.Ticks.{KernelState, with_live}
+use Rattle.muen_run.specs.Turns.{at_tick, order_of, tick_in, ticks_in, turn_at, turns_in}
 
 -- the text of a line, if there is one
 abbrev line_text : Option TurnLine → List ℕ

@@ -26,9 +26,5 @@ tick_in k = tick_ran (kernel k.setup) k.tick (tick_inputs k.run k.tick) (order_o
 abbrev pub ticks_in : KernelState → ℕ → Ran Live TurnLine
 ticks_in k n = run_to (kernel k.setup) (tick_inputs k.run) (tick_order k.run k.cpus) n k.live
 
--- the kernel where its system has come to this
-abbrev pub with_live : KernelState → Live → KernelState
-with_live k live = record k { live = live }
-
 abbrev pub at_tick : KernelState → Live → ℕ → KernelState
 at_tick k live tick = record k { live = live; tick = tick }

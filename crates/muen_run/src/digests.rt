@@ -2,7 +2,7 @@
 ghost use Rattle.std.specs.Prelude.{◌≡◌, ◌+◌, ◌/◌, ◌^◌, ◌<◌, ◌≤◌, ◌==◌, option_map};
 ghost use Rattle.std.specs.List.{find};
 ghost use Rattle.sha2.specs.Sha256.{sha256};
-ghost use Rattle.muen_outside.specs.Buffered.{Gives, behind};
+ghost use Rattle.muen_outside.specs.Prints.{Prints};
 ghost use Rattle.kernel_core.specs.Machine.{page_at};
 ghost use Rattle.view_text.specs.ViewText.{region_text};
 ghost use Rattle.image_load.specs.Loading.{AreLow, IsLow};
@@ -10,17 +10,16 @@ ghost use Rattle.muen_run.specs.RunText.{bytes_from, digest_in, numbered_span_te
 
 use image_pack::{SpanKind, SpanPart};
 use muen_num::limits::PAGE;
-use muen_outside::{Buffer, Sink, SinkFault};
+use muen_outside::{BufferedSink, Sink, SinkFault};
 use phys_mem::PhysMem;
 use sha2::{Digest, Sha256};
 use view_text::region_line;
 
 // The bytes of a page. None where it isn't there.
 fn bytes_of_page<M: PhysMem>(mem: &M, page: u64) -> &[u8]
-    requires { page < 2 ^ 52 }
     ensures { result.now ≡ page_at (M.pages mem.now) page }
 {
-    match mem.page(PAGE * page) {
+    match mem.page(page) {
         None => &[],
         Some(bytes) => bytes,
     }
@@ -44,16 +43,15 @@ fn put_span<S: Sink, M: PhysMem>(
     mem: &M,
     span: &SpanPart,
     device: bool,
-    buffer: &mut Buffer,
-    out: &mut S,
+    out: &mut BufferedSink<'_, S>,
 ) -> Result<(), SinkFault>
     requires { IsLow span.now }
-    ensures { Gives (region_text span.now.tag device (digest_in (M.pages mem.now) span.now)) (behind (S.state out.old) buffer.old) (behind (S.state out.new) buffer.new) result }
+    ensures { Prints S.state (region_text span.now.tag device (digest_in (M.pages mem.now) span.now)) out.old out.new result }
 {
     let mut space = [0u8; 256];
     let digest = digest_of(mem, span.address / PAGE, span.pages);
     let n = region_line(&span.tag, device, &digest, &mut space);
-    buffer.put(&space[..n], out)
+    out.put(&space[..n])
 }
 
 // Whether a span of this kind is printed, as a device's memory or as a region.
@@ -81,17 +79,16 @@ fn put_numbered<S: Sink, M: PhysMem>(
     spans: &[SpanPart],
     n: usize,
     device: bool,
-    buffer: &mut Buffer,
-    out: &mut S,
+    out: &mut BufferedSink<'_, S>,
 ) -> Result<(), SinkFault>
     requires { AreLow spans.now }
-    ensures { Gives (numbered_span_text device spans.now (M.pages mem.now) n) (behind (S.state out.old) buffer.old) (behind (S.state out.new) buffer.new) result }
+    ensures { Prints S.state (numbered_span_text device spans.now (M.pages mem.now) n) out.old out.new result }
 {
     match span_numbered(spans, n) {
         None => Ok(()),
         Some(span) => {
             if prints_as(device, span.kind) {
-                put_span(mem, span, device, buffer, out)
+                put_span(mem, span, device, out)
             } else {
                 Ok(())
             }
@@ -105,14 +102,13 @@ pub(crate) fn put_spans<S: Sink, M: PhysMem>(
     mem: &M,
     spans: &[SpanPart],
     device: bool,
-    buffer: &mut Buffer,
-    out: &mut S,
+    out: &mut BufferedSink<'_, S>,
 ) -> Result<(), SinkFault>
     requires { AreLow spans.now }
-    ensures { Gives (spans_text device spans.now (M.pages mem.now)) (behind (S.state out.old) buffer.old) (behind (S.state out.new) buffer.new) result }
+    ensures { Prints S.state (spans_text device spans.now (M.pages mem.now)) out.old out.new result }
 {
     for n in 0..spans.len() {
-        put_numbered(mem, spans, n, device, buffer, out)?;
+        put_numbered(mem, spans, n, device, out)?;
     }
     Ok(())
 }

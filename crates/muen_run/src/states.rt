@@ -1,7 +1,7 @@
 // The final lines of subjects.
 ghost use Rattle.std.specs.Prelude.{◌≡◌, ◌≤◌, option_map, slice_get};
 ghost use Rattle.std.specs.List.{flat_map};
-ghost use Rattle.muen_outside.specs.Buffered.{Gives, behind};
+ghost use Rattle.muen_outside.specs.Prints.{Prints};
 ghost use Rattle.view_text.specs.ViewText.{rows_text};
 ghost use Rattle.muen_run.specs.RunText.{numbered_subject_text, states_text};
 
@@ -9,7 +9,7 @@ use ept_walk::Translate;
 use image_pack::SubjectPart;
 use kernel_core::Kernel;
 use muen_num::Name;
-use muen_outside::{Buffer, PrintedLine, Sink, SinkFault, put_lines};
+use muen_outside::{BufferedSink, PrintedLine, Sink, SinkFault};
 use phys_mem::PhysMem;
 use state_page::SubjectState;
 use view_text::state_line;
@@ -29,10 +29,7 @@ impl PrintedLine for StateRow {
     ghost text = { λ r. state_text r.subject r.state r.row };
 
     fn write(&self, space: &mut [u8; 256]) -> usize {
-        let mut line = [0u8; 160];
-        let n = state_line(&self.subject, &self.state, self.row, &mut line);
-        space[..n].copy_from_slice(&line[..n]);
-        n
+        state_line(&self.subject, &self.state, self.row, space)
     }
 }
 
@@ -54,23 +51,19 @@ fn state_row(subject: &Name, state: &SubjectState, row: u8) -> StateRow
 fn put_state<S: Sink>(
     subject: &Name,
     state: &SubjectState,
-    buffer: &mut Buffer,
-    out: &mut S,
+    out: &mut BufferedSink<'_, S>,
 ) -> Result<(), SinkFault>
-    ensures { Gives (rows_text subject.now state.now) (behind (S.state out.old) buffer.old) (behind (S.state out.new) buffer.new) result }
+    ensures { Prints S.state (rows_text subject.now state.now) out.old out.new result }
 {
     let row = |row| state_row(subject, state, row);
-    put_lines(&[row(0), row(1), row(2), row(3), row(4)], buffer, out)
+    out.put_lines(&[row(0), row(1), row(2), row(3), row(4)])
 }
 
 // The name of a subject.
 fn name_of(subjects: &[SubjectPart], n: usize) -> Option<Name>
     ensures { result ≡ option_map (λ s. s.name) (slice_get subjects.now n) }
 {
-    match subjects.get(n) {
-        None => None,
-        Some(subject) => Some(subject.name),
-    }
+    Some(subjects.get(n)?.name)
 }
 
 // The lines of the subject with this number.
@@ -78,31 +71,29 @@ fn name_of(subjects: &[SubjectPart], n: usize) -> Option<Name>
 fn put_numbered<S: Sink, M: PhysMem, T: Translate>(
     kernel: &Kernel<M, T>,
     n: usize,
-    buffer: &mut Buffer,
-    out: &mut S,
+    out: &mut BufferedSink<'_, S>,
 ) -> Result<(), SinkFault>
-    ensures { Gives (numbered_subject_text kernel.now.setup kernel.now.live.machine.pages n) (behind (S.state out.old) buffer.old) (behind (S.state out.new) buffer.new) result }
+    ensures { Prints S.state (numbered_subject_text kernel.now.setup kernel.now.live.machine.pages n) out.old out.new result }
 {
-    match name_of(kernel.setup().subjects.items(), n) {
-        None => Ok(()),
-        Some(name) => match kernel.state(n) {
-            None => Ok(()),
-            Some(state) => put_state(&name, &state, buffer, out),
-        },
-    }
+    let Some(name) = name_of(kernel.setup().subjects.items(), n) else {
+        return Ok(());
+    };
+    let Some(state) = kernel.state(n) else {
+        return Ok(());
+    };
+    put_state(&name, &state, out)
 }
 
 /// The lines of all subjects, by their numbers.
 #[tactic(auto, using(crate::proofs::Numbered::numbered))]
 pub(crate) fn put_states<S: Sink, M: PhysMem, T: Translate>(
     kernel: &Kernel<M, T>,
-    buffer: &mut Buffer,
-    out: &mut S,
+    out: &mut BufferedSink<'_, S>,
 ) -> Result<(), SinkFault>
-    ensures { Gives (states_text kernel.now.setup kernel.now.live.machine.pages) (behind (S.state out.old) buffer.old) (behind (S.state out.new) buffer.new) result }
+    ensures { Prints S.state (states_text kernel.now.setup kernel.now.live.machine.pages) out.old out.new result }
 {
     for n in 0..kernel.setup().subjects.len() {
-        put_numbered(kernel, n, buffer, out)?;
+        put_numbered(kernel, n, out)?;
     }
     Ok(())
 }

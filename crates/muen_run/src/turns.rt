@@ -1,31 +1,28 @@
 // The lines of all turns.
 ghost use Rattle.std.specs.Prelude.{◌≡◌, ◌+◌, ◌<◌, ◌^◌, option_to_list, slice_get, OnOk};
 ghost use Rattle.std.specs.List.{flat_map};
-ghost use Rattle.muen_outside.specs.Buffered.{Gives, behind};
+ghost use Rattle.muen_outside.specs.Prints.{Prints};
 ghost use Rattle.view_text.specs.ViewText.{turn_text};
-ghost use Rattle.muen_run.specs.Turns.{at_tick, order_of, tick_in, ticks_in, turn_at, turns_in, with_live};
+ghost use Rattle.kernel_core.specs.Ticks.{with_live};
+ghost use Rattle.muen_run.specs.Turns.{at_tick, order_of, tick_in, ticks_in, turn_at, turns_in};
 
 use ept_walk::Translate;
 use kernel_core::Kernel;
-use muen_outside::{Buffer, Sink, SinkFault};
+use muen_outside::{BufferedSink, Sink, SinkFault};
 use phys_mem::PhysMem;
 use view_text::{TurnLine, turn_line};
 
 // The line of a turn, if it has one.
 #[tactic(auto, using(muen_outside::proofs::Buffered::gives))]
-fn put_line<S: Sink>(
-    line: Option<TurnLine>,
-    buffer: &mut Buffer,
-    out: &mut S,
-) -> Result<(), SinkFault>
-    ensures { Gives (flat_map turn_text (option_to_list line)) (behind (S.state out.old) buffer.old) (behind (S.state out.new) buffer.new) result }
+fn put_line<S: Sink>(line: Option<TurnLine>, out: &mut BufferedSink<'_, S>) -> Result<(), SinkFault>
+    ensures { Prints S.state (flat_map turn_text (option_to_list line)) out.old out.new result }
 {
     match line {
         None => Ok(()),
         Some(line) => {
-            let mut space = [0u8; 160];
+            let mut space = [0u8; 256];
             let n = turn_line(&line, &mut space);
-            buffer.put(&space[..n], out)
+            out.put(&space[..n])
         }
     }
 }
@@ -35,25 +32,22 @@ fn turn_at<M: PhysMem, T: Translate>(kernel: &mut Kernel<M, T>, index: usize) ->
     ensures state { kernel.new ≡ with_live kernel.old (turn_at kernel.old (slice_get (order_of kernel.old) index)).state }
     ensures line { result ≡ (turn_at kernel.old (slice_get (order_of kernel.old) index)).line }
 {
-    match kernel.cpu_at(index) {
-        None => None,
-        Some(cpu) => kernel.turn(cpu),
-    }
+    let cpu = kernel.cpu_at(index)?;
+    kernel.turn(cpu)
 }
 
 // The turns of the tick, in their order.
 #[tactic(auto, using(crate::proofs::RunSteps::turn_lines))]
 fn put_turns<S: Sink, M: PhysMem, T: Translate>(
     kernel: &mut Kernel<M, T>,
-    buffer: &mut Buffer,
-    out: &mut S,
+    out: &mut BufferedSink<'_, S>,
 ) -> Result<(), SinkFault>
-    ensures lines { Gives (flat_map turn_text (turns_in kernel.old (order_of kernel.old)).lines) (behind (S.state out.old) buffer.old) (behind (S.state out.new) buffer.new) result }
+    ensures lines { Prints S.state (flat_map turn_text (turns_in kernel.old (order_of kernel.old)).lines) out.old out.new result }
     ensures state { OnOk result (kernel.new ≡ with_live kernel.old (turns_in kernel.old (order_of kernel.old)).state) }
 {
     for index in 0..kernel.turns() {
         let line = turn_at(kernel, index);
-        put_line(line, buffer, out)?;
+        put_line(line, out)?;
     }
     Ok(())
 }
@@ -61,15 +55,14 @@ fn put_turns<S: Sink, M: PhysMem, T: Translate>(
 // The tick: its inputs, and then its turns.
 fn put_tick<S: Sink, M: PhysMem, T: Translate>(
     kernel: &mut Kernel<M, T>,
-    buffer: &mut Buffer,
-    out: &mut S,
+    out: &mut BufferedSink<'_, S>,
 ) -> Result<(), SinkFault>
     requires { kernel.old.tick + 1 < 2 ^ 32 }
-    ensures lines { Gives (flat_map turn_text (tick_in kernel.old).lines) (behind (S.state out.old) buffer.old) (behind (S.state out.new) buffer.new) result }
+    ensures lines { Prints S.state (flat_map turn_text (tick_in kernel.old).lines) out.old out.new result }
     ensures state { OnOk result (kernel.new ≡ at_tick kernel.old (tick_in kernel.old).state (kernel.old.tick + 1)) }
 {
     kernel.begin_tick();
-    put_turns(kernel, buffer, out)?;
+    put_turns(kernel, out)?;
     kernel.end_tick();
     Ok(())
 }
@@ -79,15 +72,14 @@ fn put_tick<S: Sink, M: PhysMem, T: Translate>(
 pub(crate) fn put_ticks<S: Sink, M: PhysMem, T: Translate>(
     kernel: &mut Kernel<M, T>,
     end: u32,
-    buffer: &mut Buffer,
-    out: &mut S,
+    out: &mut BufferedSink<'_, S>,
 ) -> Result<(), SinkFault>
     requires { kernel.old.tick ≡ 0 }
-    ensures lines { Gives (flat_map turn_text (ticks_in kernel.old end).lines) (behind (S.state out.old) buffer.old) (behind (S.state out.new) buffer.new) result }
+    ensures lines { Prints S.state (flat_map turn_text (ticks_in kernel.old end).lines) out.old out.new result }
     ensures state { OnOk result (kernel.new ≡ at_tick kernel.old (ticks_in kernel.old end).state end) }
 {
     for _tick in 0..end {
-        put_tick(kernel, buffer, out)?;
+        put_tick(kernel, out)?;
     }
     Ok(())
 }

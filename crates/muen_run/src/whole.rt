@@ -1,6 +1,6 @@
 // A whole run.
 ghost use Rattle.std.specs.Prelude.{◌≡◌, ◌++◌, [], false, true};
-ghost use Rattle.muen_outside.specs.Buffered.{Gives, behind};
+ghost use Rattle.muen_outside.specs.Prints.{Prints};
 ghost use Rattle.muen_outside.specs.Puts.{Puts};
 ghost use Rattle.image_load.specs.Loading.{AreLow};
 ghost use Rattle.muen_run.specs.RunText.{final_text, ran_text, spans_text};
@@ -12,7 +12,7 @@ use crate::turns::put_ticks;
 use ept_walk::Translate;
 use image_pack::SpanPart;
 use kernel_core::Kernel;
-use muen_outside::{Buffer, Sink, SinkFault};
+use muen_outside::{Buffer, BufferedSink, Sink, SinkFault};
 use phys_mem::PhysMem;
 
 // The digests of all regions, and of all devices' memories.
@@ -20,14 +20,13 @@ use phys_mem::PhysMem;
 fn put_digests<S: Sink, M: PhysMem>(
     mem: &M,
     spans: &[SpanPart],
-    buffer: &mut Buffer,
-    out: &mut S,
+    out: &mut BufferedSink<'_, S>,
 ) -> Result<(), SinkFault>
     requires { AreLow spans.now }
-    ensures { Gives (spans_text false spans.now (M.pages mem.now) ++ spans_text true spans.now (M.pages mem.now)) (behind (S.state out.old) buffer.old) (behind (S.state out.new) buffer.new) result }
+    ensures { Prints S.state (spans_text false spans.now (M.pages mem.now) ++ spans_text true spans.now (M.pages mem.now)) out.old out.new result }
 {
-    put_spans(mem, spans, false, buffer, out)?;
-    put_spans(mem, spans, true, buffer, out)
+    put_spans(mem, spans, false, out)?;
+    put_spans(mem, spans, true, out)
 }
 
 // The final lines.
@@ -35,14 +34,13 @@ fn put_digests<S: Sink, M: PhysMem>(
 fn put_final<S: Sink, M: PhysMem, T: Translate>(
     kernel: &Kernel<M, T>,
     spans: &[SpanPart],
-    buffer: &mut Buffer,
-    out: &mut S,
+    out: &mut BufferedSink<'_, S>,
 ) -> Result<(), SinkFault>
     requires { AreLow spans.now }
-    ensures { Gives (final_text kernel.now.setup spans.now kernel.now.live.machine.pages) (behind (S.state out.old) buffer.old) (behind (S.state out.new) buffer.new) result }
+    ensures { Prints S.state (final_text kernel.now.setup spans.now kernel.now.live.machine.pages) out.old out.new result }
 {
-    put_states(kernel, buffer, out)?;
-    put_digests(kernel.mem(), spans, buffer, out)
+    put_states(kernel, out)?;
+    put_digests(kernel.mem(), spans, out)
 }
 
 // The lines of all turns, and then the final lines.
@@ -51,16 +49,15 @@ fn put_all<S: Sink, M: PhysMem, T: Translate>(
     kernel: &mut Kernel<M, T>,
     spans: &[SpanPart],
     end: u32,
-    buffer: &mut Buffer,
-    out: &mut S,
+    out: &mut BufferedSink<'_, S>,
 ) -> Result<(), SinkFault>
     requires begin { kernel.old.tick ≡ 0 }
     requires low { AreLow spans.now }
-    ensures { Gives (ran_text kernel.old.setup spans.now kernel.old.cpus (ticks_in kernel.old end)) (behind (S.state out.old) buffer.old) (behind (S.state out.new) buffer.new) result }
+    ensures { Prints S.state (ran_text kernel.old.setup spans.now kernel.old.cpus (ticks_in kernel.old end)) out.old out.new result }
 {
-    put_ticks(kernel, end, buffer, out)?;
+    put_ticks(kernel, end, out)?;
     kernel.finish();
-    put_final(kernel, spans, buffer, out)
+    put_final(kernel, spans, out)
 }
 
 /// The run of a kernel over so many ticks, from the first on.
@@ -77,6 +74,7 @@ pub(crate) fn put_run<S: Sink, M: PhysMem, T: Translate>(
     requires none { buffer.old ≡ [] }
     ensures { Puts (ran_text kernel.old.setup spans.now kernel.old.cpus (ticks_in kernel.old end)) (S.state out.old) (S.state out.new) result }
 {
-    put_all(kernel, spans, end, buffer, out)?;
-    buffer.flush(out)
+    let mut out = BufferedSink { buffer, sink: out };
+    put_all(kernel, spans, end, &mut out)?;
+    out.flush()
 }

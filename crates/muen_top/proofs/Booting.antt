@@ -36,7 +36,7 @@ use Rattle.muen_top.specs.Answers.{Answer, prints, stops, missing, too_long, rec
 use Rattle.muen_top.specs.Commands.{boot}
 use Rattle.muen_top.specs.FilesSeen.{SawAfter, ShownAfter}
 use Rattle.muen_top.specs.Loads.{IsReadBack, IsReadOf, NotMade, refused, unmade, NotRead, NotReadAfter}
-use Rattle.muen_top.specs.PolicyCommands.{Gives, Stops}
+use Rattle.muen_top.specs.PolicyCommands.{IsAnswered, StopsCommand}
 use Rattle.muen_top.specs.Runs.{OnlyMemory}
 use Rattle.muen_top.specs.CommandErrors.{error_of_build, error_of_image_fault, error_of_record_fault, error_of_refusal}
 use Rattle.muen_top.specs.declared.outcome.CommandError.{CommandError}
@@ -86,41 +86,41 @@ by_document files policy name bytes answer is eq =
 -- ---- the policy's file
 
 module _ (policy name : List ℕ) (old new : FilesState) where
-  pub policy_not_read : (error : CommandError) → NotRead policy POLICY_MOST old new error → Stops (boot policy name) old new error
+  pub policy_not_read : (error : CommandError) → NotRead policy POLICY_MOST old new error → StopsCommand (boot policy name) old new error
   policy_not_read error h = not_read POLICY_MOST policy (boot_next name) (boot policy name) (rests policy name) old new error h
 
-  no_memory : Stops (boot policy name) old new NoMemory
+  no_memory : StopsCommand (boot policy name) old new NoMemory
   no_memory = out_of_memory POLICY_MOST policy (boot_next name) (boot policy name) (rests policy name) old new
 
-  file_fault : Rose old.faults new.faults → Stops (boot policy name) old new FileFault
-  file_fault h = let s = some_files old.held in record { files = s.files; told = s.told; stops = h }
+  file_fault : Rose old.faults new.faults → StopsCommand (boot policy name) old new FileFault
+  file_fault h = let s = some_files old.held in record { files = s.files; told = s.told; holds = h }
 
-  refusal_of : (r : Refusal) → Stops (boot policy name) old new (Refused r) → Stops (boot policy name) old new (error_of_refusal r)
+  refusal_of : (r : Refusal) → StopsCommand (boot policy name) old new (Refused r) → StopsCommand (boot policy name) old new (error_of_refusal r)
   refusal_of r h = of_refusal POLICY_MOST policy (boot_next name) (boot policy name) (rests policy name) old new r h
 
 -- ---- the policy
 
 module _ (policy name : List ℕ) (old between : FilesState) (bytes : List ℕ) (saw : Saw policy POLICY_MOST (whole bytes) old between) (follows : Follows old between) where
-  refused_so : (new : FilesState) (r : Refusal) → RefusedFor (document_look policy bytes ∷ []) (RefusesDocument bytes) between new r → Stops (boot policy name) old new (Refused r)
+  refused_so : (new : FilesState) (r : Refusal) → RefusedFor (document_look policy bytes ∷ []) (RefusesDocument bytes) between new r → StopsCommand (boot policy name) old new (Refused r)
   refused_so new r h =
       let s = explained_after policy bytes old between saw follows h.after h.grows in
       record {
         files = s.files;
         told = s.told;
-        stops = (
-          by_document s.files policy name bytes (Err r) (h.grows.shows s.files s.shows).0 (h.refuses s.files s.shows),
+        holds = (
+          by_document s.files policy name bytes (Err r) (h.grows.shows s.files s.holds).0 (h.refuses s.files s.holds),
           λ three. let rose = h.missed (for_a_file r three) in omega (arith, rose, follows.misses),
         );
       }
 
-  policy_refused : (new : FilesState) (build_error : BuildError) (error : CommandError) → FailsWith (document_look policy bytes ∷ []) (RefusesDocument bytes) between new build_error → error ≡ error_of_build build_error → Stops (boot policy name) old new error
+  policy_refused : (new : FilesState) (build_error : BuildError) (error : CommandError) → FailsWith (document_look policy bytes ∷ []) (RefusesDocument bytes) between new build_error → error ≡ error_of_build build_error → StopsCommand (boot policy name) old new error
   policy_refused new (RefusedPolicy r) error (inl is) made =
       let out : error ≡ NoMemory = made ∙ ap error_of_refusal is in
-      subst (Stops (boot policy name) old new) (sym out) (no_memory policy name old new)
+      subst (StopsCommand (boot policy name) old new) (sym out) (no_memory policy name old new)
   policy_refused new (RefusedPolicy r) error (inr h) made =
-      subst (Stops (boot policy name) old new) (sym made) (refusal_of policy name old new r (refused_so new r h))
+      subst (StopsCommand (boot policy name) old new) (sym made) (refusal_of policy name old new r (refused_so new r h))
   policy_refused new FaultOfFiles error rose made =
-      subst (Stops (boot policy name) old new) (sym made) (file_fault policy name old new (omega (arith, rose, follows.faults)))
+      subst (StopsCommand (boot policy name) old new) (sym made) (file_fault policy name old new (omega (arith, rose, follows.faults)))
 
   -- ---- an accepted policy
 
@@ -135,10 +135,10 @@ module _ (policy name : List ℕ) (old between : FilesState) (bytes : List ℕ) 
     follows_mid = record { held = on.held ∙ follows.held; faults = omega (arith, follows.faults, on.faults); misses = omega (arith, follows.misses, on.misses) }
 
     -- its image is written and read again, unless memory was refused
-    parts_refused : (error : CommandError) → ((files : Store) → ShowAll files (looks_of policy bytes found) → OnlyMemory error) → Stops (boot policy name) old mid error
-    parts_refused error h = only error (h accepting.files accepting.shows)
+    parts_refused : (error : CommandError) → ((files : Store) → ShowAll files (looks_of policy bytes found) → OnlyMemory error) → StopsCommand (boot policy name) old mid error
+    parts_refused error h = only error (h accepting.files accepting.holds)
       where
-        only : (error : CommandError) → OnlyMemory error → Stops (boot policy name) old mid error
+        only : (error : CommandError) → OnlyMemory error → StopsCommand (boot policy name) old mid error
         only NoMemory h = no_memory policy name old mid
         only Usage h = absurd h
         only (Missing n) h = absurd h
@@ -157,18 +157,18 @@ module _ (policy name : List ℕ) (old between : FilesState) (bytes : List ℕ) 
 
       after : (reading : Reading) (s : Shown reading) → boot_answer s.files policy name ≡ of_file name (λ text. trace_answer s.files p (record_of text (devices_of p))) reading
       after reading s =
-          by_document s.files policy name bytes (Ok p) s.shows.0 (accepts s.files s.shows)
-          ∙ ap (of_file name (λ text. trace_answer s.files p (record_of text (devices_of p)))) s.shows'
+          by_document s.files policy name bytes (Ok p) s.holds.0.0 (accepts s.files s.holds.0)
+          ∙ ap (of_file name (λ text. trace_answer s.files p (record_of text (devices_of p)))) s.holds.1
 
       -- the record's file isn't read
 
-      pub record_not_read : (error : CommandError) → NotReadAfter (looks_of policy bytes found) name RECORD_MOST mid new error → Stops (boot policy name) old new error
+      pub record_not_read : (error : CommandError) → NotReadAfter (looks_of policy bytes found) name RECORD_MOST mid new error → StopsCommand (boot policy name) old new error
       record_not_read (Missing n) h =
           let s = shown absent h.1 in
-          record { files = s.files; told = s.told; stops = (after absent s ∙ ap (λ x. stops (missing x)) (sym h.0), omega (arith, follows_mid.misses, h.2)) }
+          record { files = s.files; told = s.told; holds = (after absent s ∙ ap (λ x. stops (missing x)) (sym h.0), omega (arith, follows_mid.misses, h.2)) }
       record_not_read (TooLong n k) h =
           let s = shown (long k) h.1 in
-          record { files = s.files; told = s.told; stops = (after (long k) s ∙ ap (λ x. stops (too_long x k)) (sym h.0), omega (arith, follows_mid.misses, h.2)) }
+          record { files = s.files; told = s.told; holds = (after (long k) s ∙ ap (λ x. stops (too_long x k)) (sym h.0), omega (arith, follows_mid.misses, h.2)) }
       record_not_read FileFault h = file_fault policy name old new (omega (arith, follows_mid.faults, h))
       record_not_read NoMemory h = no_memory policy name old new
       record_not_read Usage h = absurd h
@@ -181,33 +181,33 @@ module _ (policy name : List ℕ) (old between : FilesState) (bytes : List ℕ) 
       same_bench : (files : Store) → ShowAll files (looks_of policy bytes found) → image_bench i ≡ devices_of p
       same_bench files s = let b = back files s in image_bench_is p files b.bytes i b.image b.sound
 
-      of_fault : {reading : Reading} (s : Shown reading) (fault : RecordFault) → boot_answer s.files policy name ≡ stops (record_refused fault) → (error : CommandError) → error ≡ error_of_record_fault fault → Stops (boot policy name) old new error
-      of_fault s NoMemoryForRecord answer error made = subst (Stops (boot policy name) old new) (sym made) (no_memory policy name old new)
+      of_fault : {reading : Reading} (s : Shown reading) (fault : RecordFault) → boot_answer s.files policy name ≡ stops (record_refused fault) → (error : CommandError) → error ≡ error_of_record_fault fault → StopsCommand (boot policy name) old new error
+      of_fault s NoMemoryForRecord answer error made = subst (StopsCommand (boot policy name) old new) (sym made) (no_memory policy name old new)
       of_fault s fault answer error made =
-          subst (Stops (boot policy name) old new) (sym made) (record { files = s.files; told = s.told; stops = answer })
+          subst (StopsCommand (boot policy name) old new) (sym made) (record { files = s.files; told = s.told; holds = answer })
 
-      pub record_refused_so : (text : List ℕ) (fault : RecordFault) (error : CommandError) → SawAfter (looks_of policy bytes found) name RECORD_MOST (whole text) mid new → Answers NoMemoryForRecord (mapped (image_record i) (record_of text (image_bench i))) (Err fault) → error ≡ error_of_record_fault fault → Stops (boot policy name) old new error
+      pub record_refused_so : (text : List ℕ) (fault : RecordFault) (error : CommandError) → SawAfter (looks_of policy bytes found) name RECORD_MOST (whole text) mid new → Answers NoMemoryForRecord (mapped (image_record i) (record_of text (image_bench i))) (Err fault) → error ≡ error_of_record_fault fault → StopsCommand (boot policy name) old new error
       record_refused_so text fault error too (inl is) made =
-          subst (Stops (boot policy name) old new) (sym (made ∙ ap error_of_record_fault is)) (no_memory policy name old new)
+          subst (StopsCommand (boot policy name) old new) (sym (made ∙ ap error_of_record_fault is)) (no_memory policy name old new)
       record_refused_so text fault error too (inr read) made =
           let s = shown (whole text) too in
           let named = mapped_err (image_record i) (record_of text (image_bench i)) fault read in
-          let says : record_of text (devices_of p) ≡ Err fault = ap (record_of text) (sym (same_bench s.files s.shows)) ∙ named in
+          let says : record_of text (devices_of p) ≡ Err fault = ap (record_of text) (sym (same_bench s.files s.holds.0)) ∙ named in
           let answer : boot_answer s.files policy name ≡ stops (record_refused fault) = after (whole text) s ∙ ap (trace_answer s.files p) says in
           of_fault s fault answer error made
 
       -- both are read
 
-      pub record_read : (text : List ℕ) (input : Record) → SawAfter (looks_of policy bytes found) name RECORD_MOST (whole text) mid new → mapped (image_record i) (record_of text (image_bench i)) ≡ Ok input → Gives (boot policy name) old (prints (image_text i input))
+      pub record_read : (text : List ℕ) (input : Record) → SawAfter (looks_of policy bytes found) name RECORD_MOST (whole text) mid new → mapped (image_record i) (record_of text (image_bench i)) ≡ Ok input → IsAnswered (boot policy name) old (prints (image_text i input))
       record_read text input too read =
           let s = shown (whole text) too in
-          let b = back s.files s.shows in
+          let b = back s.files s.holds.0 in
           let named = mapped_ok (image_record i) (record_of text (image_bench i)) input read in
-          let says : record_of text (devices_of p) ≡ Ok named.0 = ap (record_of text) (sym (same_bench s.files s.shows)) ∙ named.1 in
+          let says : record_of text (devices_of p) ≡ Ok named.0 = ap (record_of text) (sym (same_bench s.files s.holds.0)) ∙ named.1 in
           record {
             files = s.files;
             told = s.told;
-            is =
+            holds =
                 after (whole text) s
                 ∙ (ap (trace_answer s.files p) says
                 ∙ (ap prints (sym (image_runs p s.files b.bytes i text named.0 b.all_bytes b.image b.sound says))
@@ -216,6 +216,6 @@ module _ (policy name : List ℕ) (old between : FilesState) (bytes : List ℕ) 
 
   -- ---- the document gives no image
 
-  pub not_made : (mid : FilesState) (on : Follows between mid) (error : CommandError) → NotMade policy bytes between mid error → Stops (boot policy name) old mid error
+  pub not_made : (mid : FilesState) (on : Follows between mid) (error : CommandError) → NotMade policy bytes between mid error → StopsCommand (boot policy name) old mid error
   not_made mid on error (refused build_error ends made) = policy_refused mid build_error error ends made
   not_made mid on error (unmade found grows only) = parts_refused mid found grows on error only

@@ -1,5 +1,5 @@
 -- The clauses of a whole call, from what came of its command.
-use Rattle.std.proofs.Common.{◌≡◌, inl, inr, ◌⊎◌, ◌≢◌, ℕ, List, Option, Some, None, IfSome, Result, Ok, Err, refl, sym, ap, subst, ◌∙◌, arith}
+use Rattle.std.proofs.Common.{◌≡◌, inl, inr, ◌⊎◌, ◌≢◌, ℕ, List, Option, Some, None, IfSome, Result, Ok, Err, refl, sym, ap, subst, ◌∙◌}
 use Rattle.std.specs.FinMap.{get}
 use Rattle.binary_form.specs.Faults.{unpacked}
 use Rattle.binary_form.specs.declared.fault.ImageFault.{ImageFault}
@@ -12,7 +12,6 @@ use Rattle.muen_outside.specs.Puts.{Failed}
 use Rattle.muen_outside.specs.Store.{Store, Reading, whole, absent, long, reading_of}
 use Rattle.policy_types.specs.declared.source.Source.{Source}
 use Rattle.policy_types.specs.declared.refusal.Refusal.{Refusal}
-use Rattle.policy_types.specs.declared.refusal.Refusal.TheVariants.{NotJson, Shape, Rule, Missing as MissingFile, TooLong as TooLongFile, FileFit, NoRoom, NoMemory as NoMemoryFor}
 use Rattle.record_text.specs.DeviceRecord.{DeviceRecord}
 use Rattle.record_text.specs.Reading.{record_of}
 use Rattle.image_soundness.specs.Bench.{devices_of}
@@ -20,7 +19,7 @@ use Rattle.muen_build.specs.Refusals.{accepted_policy_of, laid_policy_of, lawful
 use Rattle.record_text.specs.declared.fault.RecordFault.{RecordFault}
 use Rattle.muen_top.specs.Answers.{Reason, usage, missing, too_long, refused, image_refused, record_refused, Answer, prints, writes, stops, of_file, image_answer, build_answer, trace_answer, policy_answer, boot_answer, named_answer, unpacked_answer, run_answer, map_answer, map_policy_answer, flows_answer, flows_policy_answer, answer_of}
 use Rattle.muen_num.specs.declared.limits.TheConstants.{RECORD_MOST}
-use Rattle.muen_top.specs.Calls.{IsDone, Prints, StopsFor, ComesOf, Ran, IsFault, Answered, RefusesPolicy, LacksFile, RefusesImage, RefusesRecord}
+use Rattle.muen_top.specs.Calls.{IsDone, Prints, StopsFor, ComesOf, IsCallOf, IsFault, Answered, RefusesPolicy, LacksFile, RefusesImage, RefusesRecord}
 use Rattle.muen_top.specs.Commands.{Command, build, boot, run, map, flows, command_of}
 use Rattle.muen_top.specs.Headline.{PrintsText}
 use Rattle.muen_top.specs.Reports.{refusal_status, reason_status, reason_text, status_of, error_status, error_text, Told, Reported, Ends}
@@ -28,28 +27,31 @@ use Rattle.muen_top.specs.declared.outcome.Outcome.{Outcome}
 use Rattle.muen_top.specs.declared.outcome.Outcome.TheVariants.{Done, Stopped, OutputFault}
 use Rattle.muen_top.specs.declared.outcome.CommandError.{CommandError}
 use Rattle.muen_top.specs.declared.outcome.CommandError.TheVariants.{Usage, Missing, TooLong, Refused, ImageRefused, RecordRefused, FileFault, NoMemory}
+use Rattle.muen_top.specs.declared.status.Status.{Status}
+use Rattle.muen_top.specs.declared.status.Status.TheVariants as statuses
+use Rattle.muen_top.proofs.Statuses.{is_of_reason, is_of_refusal}
 
 -- ---- what came of a command
 
 -- its answer was given, or a call failed, or memory was refused
-data Comes (answer : Answer) (old new : FilesState) (out out' err err' : SinkState) (status : ℕ) : Type 0 where
-  done : status ≡ 0 → IsDone answer old new out out' → err' ≡ err → Comes answer old new out out' err err' status
-  cut_off : (text : List ℕ) → status ≡ 7 → answer ≡ prints text → Failed text out out' → Comes answer old new out out' err err' status
-  stopped : (reason : Reason) → status ≡ reason_status reason → answer ≡ stops reason → out' ≡ out → Told (reason_text reason) err err' → (reason_status reason ≡ 3 → Rose old.misses new.misses) → Comes answer old new out out' err err' status
-  failed : status ≡ 4 → Rose old.faults new.faults → out' ≡ out → Comes answer old new out out' err err' status
-  no_memory : status ≡ 8 → out' ≡ out → Comes answer old new out out' err err' status
+data Comes (answer : Answer) (old new : FilesState) (out out' err err' : SinkState) (status : Status) : Type 0 where
+  done : status ≡ statuses.Done → IsDone answer old new out out' → err' ≡ err → Comes answer old new out out' err err' status
+  cut_off : (text : List ℕ) → status ≡ statuses.OutputFault → answer ≡ prints text → Failed text out out' → Comes answer old new out out' err err' status
+  stopped : (reason : Reason) → status ≡ reason_status reason → answer ≡ stops reason → out' ≡ out → Told (reason_text reason) err err' → (reason_status reason ≡ statuses.FileMissing → Rose old.misses new.misses) → Comes answer old new out out' err err' status
+  failed : status ≡ statuses.FileFault → Rose old.faults new.faults → out' ≡ out → Comes answer old new out out' err err' status
+  no_memory : status ≡ statuses.NoMemory → out' ≡ out → Comes answer old new out out' err err' status
 
-module _ (old new : FilesState) (out out' err err' : SinkState) (status : ℕ) where
+module _ (old new : FilesState) (out out' err err' : SinkState) (status : Status) where
   abbrev Of : Answer → Type 0
   Of answer = Comes answer old new out out' err err' status
 
   of_error : (answer : Answer) (error : CommandError) → status ≡ error_status error → StopsFor answer old new error → out' ≡ out → Told (error_text error) err err' → Of answer
-  of_error answer Usage is for quiet told = stopped usage is for quiet told (λ h. absurd (omega arith))
+  of_error answer Usage is for quiet told = stopped usage is for quiet told (λ h. absurd (cc))
   of_error answer (Missing name) is for quiet told = stopped (missing name.now) is for.0 quiet told (λ h. for.1)
   of_error answer (TooLong name n) is for quiet told = stopped (too_long name.now n) is for.0 quiet told (λ h. for.1)
   of_error answer (Refused refusal) is for quiet told = stopped (refused refusal) is for.0 quiet told for.1
-  of_error answer (ImageRefused fault) is for quiet told = stopped (image_refused fault) is for quiet told (λ h. absurd (omega arith))
-  of_error answer (RecordRefused fault) is for quiet told = stopped (record_refused fault) is for quiet told (λ h. absurd (omega arith))
+  of_error answer (ImageRefused fault) is for quiet told = stopped (image_refused fault) is for quiet told (λ h. absurd (cc))
+  of_error answer (RecordRefused fault) is for quiet told = stopped (record_refused fault) is for quiet told (λ h. absurd (cc))
   of_error answer FileFault is for quiet told = failed is for quiet
   of_error answer NoMemory is for quiet told = no_memory is quiet
 
@@ -60,91 +62,48 @@ module _ (old new : FilesState) (out out' err err' : SinkState) (status : ℕ) w
   of_outcome (stops reason) OutputFault is came told = absurd came
   of_outcome answer (Stopped error) is came told = of_error answer error is came.0 came.1 told
 
--- ---- which statuses a reason has
-
-refusal_statuses : (r : Refusal) → (refusal_status r ≡ 2) ⊎ ((refusal_status r ≡ 3) ⊎ (refusal_status r ≡ 8))
-refusal_statuses NotJson = inl refl
-refusal_statuses (Shape place want) = inl refl
-refusal_statuses (Rule number first second) = inl refl
-refusal_statuses (MissingFile file) = inr (inl refl)
-refusal_statuses (TooLongFile file n) = inr (inl refl)
-refusal_statuses (FileFit region room n) = inl refl
-refusal_statuses (NoRoom region size) = inl refl
-refusal_statuses NoMemoryFor = inr (inr refl)
-
-abbrev OfReason : ℕ → Type 0
-OfReason n = (n ≡ 1) ⊎ ((n ≡ 5) ⊎ ((n ≡ 6) ⊎ ((n ≡ 2) ⊎ ((n ≡ 3) ⊎ (n ≡ 8)))))
-
-reason_statuses : (reason : Reason) → OfReason (reason_status reason)
-reason_statuses usage = inl refl
-reason_statuses (missing name) = inr (inr (inr (inr (inl refl))))
-reason_statuses (too_long name n) = inr (inr (inr (inr (inl refl))))
-reason_statuses (refused refusal) = inr (inr (inr (refusal_statuses refusal)))
-reason_statuses (image_refused fault) = inr (inl refl)
-reason_statuses (record_refused fault) = inr (inr (inl refl))
-
--- a status that no reason has
-no_reason : (reason : Reason) (n : ℕ) → (OfReason n → ⊥) → n ≡ reason_status reason → ⊥
-no_reason reason n not is = not (subst OfReason (sym is) (reason_statuses reason))
-
-not_zero : OfReason 0 → ⊥
-not_zero h = elim h [ inl a ↦ omega arith | inr b ↦ elim b [ inl a ↦ omega arith | inr c ↦ elim c [ inl a ↦ omega arith | inr d ↦ elim d [ inl a ↦ omega arith | inr e ↦ elim e [ inl a ↦ omega arith | inr f ↦ omega arith ] ] ] ] ]
-
-not_four : OfReason 4 → ⊥
-not_four h = elim h [ inl a ↦ omega arith | inr b ↦ elim b [ inl a ↦ omega arith | inr c ↦ elim c [ inl a ↦ omega arith | inr d ↦ elim d [ inl a ↦ omega arith | inr e ↦ elim e [ inl a ↦ omega arith | inr f ↦ omega arith ] ] ] ] ]
-
-not_seven : OfReason 7 → ⊥
-not_seven h = elim h [ inl a ↦ omega arith | inr b ↦ elim b [ inl a ↦ omega arith | inr c ↦ elim c [ inl a ↦ omega arith | inr d ↦ elim d [ inl a ↦ omega arith | inr e ↦ elim e [ inl a ↦ omega arith | inr f ↦ omega arith ] ] ] ] ]
-
-refusal_not : (r : Refusal) (n : ℕ) → n ≡ 1 ⊎ (n ≡ 5 ⊎ n ≡ 6) → refusal_status r ≡ n → ⊥
-refusal_not r n which is =
-    elim which [
-      | inl a ↦ elim (refusal_statuses r) [ inl b ↦ omega arith | inr b ↦ elim b [ inl c ↦ omega arith | inr c ↦ omega arith ] ]
-      | inr a ↦ elim a [ inl d ↦ elim (refusal_statuses r) [ inl b ↦ omega arith | inr b ↦ elim b [ inl c ↦ omega arith | inr c ↦ omega arith ] ] | inr d ↦ elim (refusal_statuses r) [ inl b ↦ omega arith | inr b ↦ elim b [ inl c ↦ omega arith | inr c ↦ omega arith ] ] ]
-    ]
-
 -- ---- of the reasons with a status, those of a kind
 
 module _ (err err' : SinkState) where
-  policy_reason : (reason : Reason) → reason_status reason ≡ 2 → Told (reason_text reason) err err' → RefusesPolicy err err' (stops reason)
-  policy_reason usage is told = absurd (omega arith)
-  policy_reason (missing name) is told = absurd (omega arith)
-  policy_reason (too_long name n) is told = absurd (omega arith)
+  policy_reason : (reason : Reason) → reason_status reason ≡ statuses.PolicyRefused → Told (reason_text reason) err err' → RefusesPolicy err err' (stops reason)
+  policy_reason usage is told = absurd (cc)
+  policy_reason (missing name) is told = absurd (cc)
+  policy_reason (too_long name n) is told = absurd (cc)
   policy_reason (refused refusal) is told = (is, told)
-  policy_reason (image_refused fault) is told = absurd (omega arith)
-  policy_reason (record_refused fault) is told = absurd (omega arith)
+  policy_reason (image_refused fault) is told = absurd (cc)
+  policy_reason (record_refused fault) is told = absurd (cc)
 
-  file_reason : (reason : Reason) → reason_status reason ≡ 3 → Told (reason_text reason) err err' → LacksFile err err' (stops reason)
-  file_reason usage is told = absurd (omega arith)
+  file_reason : (reason : Reason) → reason_status reason ≡ statuses.FileMissing → Told (reason_text reason) err err' → LacksFile err err' (stops reason)
+  file_reason usage is told = absurd (cc)
   file_reason (missing name) is told = told
   file_reason (too_long name n) is told = told
   file_reason (refused refusal) is told = (is, told)
-  file_reason (image_refused fault) is told = absurd (omega arith)
-  file_reason (record_refused fault) is told = absurd (omega arith)
+  file_reason (image_refused fault) is told = absurd (cc)
+  file_reason (record_refused fault) is told = absurd (cc)
 
-  image_reason : (reason : Reason) → reason_status reason ≡ 5 → Told (reason_text reason) err err' → RefusesImage err err' (stops reason)
-  image_reason usage is told = absurd (omega arith)
-  image_reason (missing name) is told = absurd (omega arith)
-  image_reason (too_long name n) is told = absurd (omega arith)
-  image_reason (refused refusal) is told = absurd (refusal_not refusal 5 (inr (inl refl)) is)
+  image_reason : (reason : Reason) → reason_status reason ≡ statuses.ImageRefused → Told (reason_text reason) err err' → RefusesImage err err' (stops reason)
+  image_reason usage is told = absurd (cc)
+  image_reason (missing name) is told = absurd (cc)
+  image_reason (too_long name n) is told = absurd (cc)
+  image_reason (refused refusal) is told = absurd (is_of_refusal refusal statuses.ImageRefused is)
   image_reason (image_refused fault) is told = told
-  image_reason (record_refused fault) is told = absurd (omega arith)
+  image_reason (record_refused fault) is told = absurd (cc)
 
-  record_reason : (reason : Reason) → reason_status reason ≡ 6 → Told (reason_text reason) err err' → RefusesRecord err err' (stops reason)
-  record_reason usage is told = absurd (omega arith)
-  record_reason (missing name) is told = absurd (omega arith)
-  record_reason (too_long name n) is told = absurd (omega arith)
-  record_reason (refused refusal) is told = absurd (refusal_not refusal 6 (inr (inr refl)) is)
-  record_reason (image_refused fault) is told = absurd (omega arith)
+  record_reason : (reason : Reason) → reason_status reason ≡ statuses.RecordRefused → Told (reason_text reason) err err' → RefusesRecord err err' (stops reason)
+  record_reason usage is told = absurd (cc)
+  record_reason (missing name) is told = absurd (cc)
+  record_reason (too_long name n) is told = absurd (cc)
+  record_reason (refused refusal) is told = absurd (is_of_refusal refusal statuses.RecordRefused is)
+  record_reason (image_refused fault) is told = absurd (cc)
   record_reason (record_refused fault) is told = told
 
-is_usage : (reason : Reason) → reason_status reason ≡ 1 → reason ≡ usage
+is_usage : (reason : Reason) → reason_status reason ≡ statuses.Usage → reason ≡ usage
 is_usage usage is = refl
-is_usage (missing name) is = absurd (omega arith)
-is_usage (too_long name n) is = absurd (omega arith)
-is_usage (refused refusal) is = absurd (refusal_not refusal 1 (inl refl) is)
-is_usage (image_refused fault) is = absurd (omega arith)
-is_usage (record_refused fault) is = absurd (omega arith)
+is_usage (missing name) is = absurd (cc)
+is_usage (too_long name n) is = absurd (cc)
+is_usage (refused refusal) is = absurd (is_of_refusal refusal statuses.Usage is)
+is_usage (image_refused fault) is = absurd (cc)
+is_usage (record_refused fault) is = absurd (cc)
 
 -- ---- only words with no command's form are answered so
 
@@ -211,7 +170,7 @@ prints_not_stops text reason e = cc
 
 -- ---- a whole call
 
-module _ (words : List (List ℕ)) (old new : FilesState) (out out' err err' : SinkState) (status : ℕ) (ran : Ran words old new out out' err err' status) where
+module _ (words : List (List ℕ)) (old new : FilesState) (out out' err err' : SinkState) (status : Status) (ran : IsCallOf words old new out out' err err' status) where
   -- the words' answer over the files that explain the call
   given : Answer
   given = answer_of ran.came.files (command_of words)
@@ -221,70 +180,70 @@ module _ (words : List (List ℕ)) (old new : FilesState) (out out' err err' : S
 
   came : CameTo
   unfolding given
-  came = of_outcome old new out out' err err' status given ran.outcome ran.status_is ran.came.comes ran.report
+  came = of_outcome old new out out' err err' status given ran.outcome ran.status_is ran.came.holds ran.report
 
   answered : (Such : Answer → Type 0) → Such given → Answered words old.held Such
   unfolding given
-  answered Such h = record { files = ran.came.files; told = ran.came.told; such = h }
+  answered Such h = record { files = ran.came.files; told = ran.came.told; holds = h }
 
-  pub done_clause : status ≡ 0 → Answered words old.held (λ answer. IsDone answer old new out out')
+  pub done_clause : status ≡ statuses.Done → Answered words old.held (λ answer. IsDone answer old new out out')
   done_clause zero =
       elim came [
-        | done is did quiet ↦ answered _ did
-        | cut_off text is eq put ↦ absurd (omega arith)
-        | stopped reason is eq quiet told rose ↦ absurd (no_reason reason 0 not_zero (sym zero ∙ is))
-        | failed is rose quiet ↦ absurd (omega arith)
-        | no_memory is quiet ↦ absurd (omega arith)
+        | done is did quiet ↦ answered (λ answer. IsDone answer old new out out') did
+        | cut_off text is eq put ↦ absurd (cc)
+        | stopped reason is eq quiet told rose ↦ absurd (is_of_reason reason statuses.Done (sym zero ∙ is))
+        | failed is rose quiet ↦ absurd (cc)
+        | no_memory is quiet ↦ absurd (cc)
       ]
 
-  pub prefix_clause : status ≡ 7 → Answered words old.held (λ answer. Prints answer (λ text. Failed text out out'))
+  pub prefix_clause : status ≡ statuses.OutputFault → Answered words old.held (λ answer. Prints answer (λ text. Failed text out out'))
   prefix_clause seven =
       elim came [
-        | done is did quiet ↦ absurd (omega arith)
-        | cut_off text is eq put ↦ answered _ (subst (λ a. Prints a (λ text. Failed text out out')) (sym eq) put)
-        | stopped reason is eq quiet told rose ↦ absurd (no_reason reason 7 not_seven (sym seven ∙ is))
-        | failed is rose quiet ↦ absurd (omega arith)
-        | no_memory is quiet ↦ absurd (omega arith)
+        | done is did quiet ↦ absurd (cc)
+        | cut_off text is eq put ↦ answered (λ answer. Prints answer (λ text. Failed text out out')) (subst (λ a. Prints a (λ text. Failed text out out')) (sym eq) put)
+        | stopped reason is eq quiet told rose ↦ absurd (is_of_reason reason statuses.OutputFault (sym seven ∙ is))
+        | failed is rose quiet ↦ absurd (cc)
+        | no_memory is quiet ↦ absurd (cc)
       ]
 
-  pub policy_clause : status ≡ 2 → Answered words old.held (RefusesPolicy err err')
+  pub policy_clause : status ≡ statuses.PolicyRefused → Answered words old.held (RefusesPolicy err err')
   policy_clause two =
       elim came [
-        | done is did quiet ↦ absurd (omega arith)
-        | cut_off text is eq put ↦ absurd (omega arith)
-        | stopped reason is eq quiet told rose ↦ answered _ (subst (RefusesPolicy err err') (sym eq) (policy_reason err err' reason (sym is ∙ two) told))
-        | failed is rose quiet ↦ absurd (omega arith)
-        | no_memory is quiet ↦ absurd (omega arith)
+        | done is did quiet ↦ absurd (cc)
+        | cut_off text is eq put ↦ absurd (cc)
+        | stopped reason is eq quiet told rose ↦ answered (RefusesPolicy err err') (subst (RefusesPolicy err err') (sym eq) (policy_reason err err' reason (sym is ∙ two) told))
+        | failed is rose quiet ↦ absurd (cc)
+        | no_memory is quiet ↦ absurd (cc)
       ]
 
-  pub file_clause : status ≡ 3 → Answered words old.held (LacksFile err err')
+  pub file_clause : status ≡ statuses.FileMissing → Answered words old.held (LacksFile err err')
   file_clause three =
       elim came [
-        | done is did quiet ↦ absurd (omega arith)
-        | cut_off text is eq put ↦ absurd (omega arith)
-        | stopped reason is eq quiet told rose ↦ answered _ (subst (LacksFile err err') (sym eq) (file_reason err err' reason (sym is ∙ three) told))
-        | failed is rose quiet ↦ absurd (omega arith)
-        | no_memory is quiet ↦ absurd (omega arith)
+        | done is did quiet ↦ absurd (cc)
+        | cut_off text is eq put ↦ absurd (cc)
+        | stopped reason is eq quiet told rose ↦ answered (LacksFile err err') (subst (LacksFile err err') (sym eq) (file_reason err err' reason (sym is ∙ three) told))
+        | failed is rose quiet ↦ absurd (cc)
+        | no_memory is quiet ↦ absurd (cc)
       ]
 
-  pub image_clause : status ≡ 5 → Answered words old.held (RefusesImage err err')
+  pub image_clause : status ≡ statuses.ImageRefused → Answered words old.held (RefusesImage err err')
   image_clause five =
       elim came [
-        | done is did quiet ↦ absurd (omega arith)
-        | cut_off text is eq put ↦ absurd (omega arith)
-        | stopped reason is eq quiet told rose ↦ answered _ (subst (RefusesImage err err') (sym eq) (image_reason err err' reason (sym is ∙ five) told))
-        | failed is rose quiet ↦ absurd (omega arith)
-        | no_memory is quiet ↦ absurd (omega arith)
+        | done is did quiet ↦ absurd (cc)
+        | cut_off text is eq put ↦ absurd (cc)
+        | stopped reason is eq quiet told rose ↦ answered (RefusesImage err err') (subst (RefusesImage err err') (sym eq) (image_reason err err' reason (sym is ∙ five) told))
+        | failed is rose quiet ↦ absurd (cc)
+        | no_memory is quiet ↦ absurd (cc)
       ]
 
-  pub record_clause : status ≡ 6 → Answered words old.held (RefusesRecord err err')
+  pub record_clause : status ≡ statuses.RecordRefused → Answered words old.held (RefusesRecord err err')
   record_clause six =
       elim came [
-        | done is did quiet ↦ absurd (omega arith)
-        | cut_off text is eq put ↦ absurd (omega arith)
-        | stopped reason is eq quiet told rose ↦ answered _ (subst (RefusesRecord err err') (sym eq) (record_reason err err' reason (sym is ∙ six) told))
-        | failed is rose quiet ↦ absurd (omega arith)
-        | no_memory is quiet ↦ absurd (omega arith)
+        | done is did quiet ↦ absurd (cc)
+        | cut_off text is eq put ↦ absurd (cc)
+        | stopped reason is eq quiet told rose ↦ answered (RefusesRecord err err') (subst (RefusesRecord err err') (sym eq) (record_reason err err' reason (sym is ∙ six) told))
+        | failed is rose quiet ↦ absurd (cc)
+        | no_memory is quiet ↦ absurd (cc)
       ]
 
   over_told : (P : Answer → Type 0) → P given → IfSome old.held (λ m. P (answer_of m (command_of words)))
@@ -293,7 +252,7 @@ module _ (words : List (List ℕ)) (old new : FilesState) (out out' err err' : S
       from_some old.held (λ m. P (answer_of m (command_of words)))
       (λ m e. subst (λ f. P (answer_of f (command_of words))) (at_some old.held (λ m. ran.came.files ≡ m) m e ran.came.told) h)
 
-  ends_done : (answer : Answer) → IsDone answer old new out out' → status ≡ 0 → err' ≡ err → Ends answer err err' status
+  ends_done : (answer : Answer) → IsDone answer old new out out' → status ≡ statuses.Done → err' ≡ err → Ends answer err err' status
   ends_done (prints text) did is quiet = (is, quiet)
   ends_done (writes image p files) did is quiet = (is, quiet)
   ends_done (stops reason) did is quiet = absurd did
@@ -308,48 +267,48 @@ module _ (words : List (List ℕ)) (old new : FilesState) (out out' err err' : S
         | no_memory is quiet ↦ inl (inr (inr is))
       ]
 
-  pub usage_clause : status ≡ 1 → command_of words ≡ None
+  pub usage_clause : status ≡ statuses.Usage → command_of words ≡ None
   unfolding given
   usage_clause one =
       elim came [
-        | done is did quiet ↦ absurd (omega arith)
-        | cut_off text is eq put ↦ absurd (omega arith)
+        | done is did quiet ↦ absurd (cc)
+        | cut_off text is eq put ↦ absurd (cc)
         | stopped reason is eq quiet told rose ↦ no_usage ran.came.files (command_of words) (eq ∙ ap stops (is_usage reason (sym is ∙ one)))
-        | failed is rose quiet ↦ absurd (omega arith)
-        | no_memory is quiet ↦ absurd (omega arith)
+        | failed is rose quiet ↦ absurd (cc)
+        | no_memory is quiet ↦ absurd (cc)
       ]
 
-  pub missed_clause : status ≡ 3 → Rose old.misses new.misses
+  pub missed_clause : status ≡ statuses.FileMissing → Rose old.misses new.misses
   missed_clause three =
       elim came [
-        | done is did quiet ↦ absurd (omega arith)
-        | cut_off text is eq put ↦ absurd (omega arith)
+        | done is did quiet ↦ absurd (cc)
+        | cut_off text is eq put ↦ absurd (cc)
         | stopped reason is eq quiet told rose ↦ rose (sym is ∙ three)
-        | failed is rose quiet ↦ absurd (omega arith)
-        | no_memory is quiet ↦ absurd (omega arith)
+        | failed is rose quiet ↦ absurd (cc)
+        | no_memory is quiet ↦ absurd (cc)
       ]
 
-  pub failed_clause : status ≡ 4 → Rose old.faults new.faults
+  pub failed_clause : status ≡ statuses.FileFault → Rose old.faults new.faults
   failed_clause four =
       elim came [
-        | done is did quiet ↦ absurd (omega arith)
-        | cut_off text is eq put ↦ absurd (omega arith)
-        | stopped reason is eq quiet told rose ↦ absurd (no_reason reason 4 not_four (sym four ∙ is))
+        | done is did quiet ↦ absurd (cc)
+        | cut_off text is eq put ↦ absurd (cc)
+        | stopped reason is eq quiet told rose ↦ absurd (is_of_reason reason statuses.FileFault (sym four ∙ is))
         | failed is rose quiet ↦ rose
-        | no_memory is quiet ↦ absurd (omega arith)
+        | no_memory is quiet ↦ absurd (cc)
       ]
 
-  pub out_rose_clause : status ≡ 7 → Rose out.faults out'.faults
+  pub out_rose_clause : status ≡ statuses.OutputFault → Rose out.faults out'.faults
   out_rose_clause seven =
       elim came [
-        | done is did quiet ↦ absurd (omega arith)
+        | done is did quiet ↦ absurd (cc)
         | cut_off text is eq put ↦ put.rose
-        | stopped reason is eq quiet told rose ↦ absurd (no_reason reason 7 not_seven (sym seven ∙ is))
-        | failed is rose quiet ↦ absurd (omega arith)
-        | no_memory is quiet ↦ absurd (omega arith)
+        | stopped reason is eq quiet told rose ↦ absurd (is_of_reason reason statuses.OutputFault (sym seven ∙ is))
+        | failed is rose quiet ↦ absurd (cc)
+        | no_memory is quiet ↦ absurd (cc)
       ]
 
-  pub quiet_out_clause : status ≢ 0 → status ≢ 7 → out' ≡ out
+  pub quiet_out_clause : status ≢ statuses.Done → status ≢ statuses.OutputFault → out' ≡ out
   quiet_out_clause zero seven =
       elim came [
         | done is did quiet ↦ absurd (zero is)
@@ -359,14 +318,14 @@ module _ (words : List (List ℕ)) (old new : FilesState) (out out' err err' : S
         | no_memory is quiet ↦ quiet
       ]
 
-  pub quiet_err_clause : status ≡ 0 → err' ≡ err
+  pub quiet_err_clause : status ≡ statuses.Done → err' ≡ err
   quiet_err_clause zero =
       elim came [
         | done is did quiet ↦ quiet
-        | cut_off text is eq put ↦ absurd (omega arith)
-        | stopped reason is eq quiet told rose ↦ absurd (no_reason reason 0 not_zero (sym zero ∙ is))
-        | failed is rose quiet ↦ absurd (omega arith)
-        | no_memory is quiet ↦ absurd (omega arith)
+        | cut_off text is eq put ↦ absurd (cc)
+        | stopped reason is eq quiet told rose ↦ absurd (is_of_reason reason statuses.Done (sym zero ∙ is))
+        | failed is rose quiet ↦ absurd (cc)
+        | no_memory is quiet ↦ absurd (cc)
       ]
 
   -- ---- where the answer is a text

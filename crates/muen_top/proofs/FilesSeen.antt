@@ -37,7 +37,7 @@ explained_after policy bytes old between saw follows after grows =
 pub shown_after : (looks : List Look) (name : List ℕ) (most : ℕ) (reading : Reading) (old mid new : FilesState) → Seen old.held looks → Follows old mid → SawAfter looks name most reading mid new → ShownAfter old.held looks name most reading
 shown_after looks name most reading old mid new seen follows (known content is eq) =
     let files = explained old.held looks seen in
-    record { files = files.files; told = files.told; shows = files.shows; shows' = ap (λ c. reading_of c most) (is files.files files.shows) ∙ sym eq }
+    record { files = files.files; told = files.told; holds = (files.holds, ap (λ c. reading_of c most) (is files.files files.holds) ∙ sym eq) }
 shown_after looks name most reading old mid new seen follows (unknown others also) =
     let first : Seen mid.held looks = subst (λ held. Seen held looks) (sym follows.held) seen in
     let all : Seen old.held (looks ++ look name most reading ∷ []) =
@@ -46,8 +46,10 @@ shown_after looks name most reading old mid new seen follows (unknown others als
     record {
       files = files.files;
       told = files.told;
-      shows = show_before files.files looks (look name most reading) files.shows;
-      shows' = show_last files.files looks (look name most reading) files.shows;
+      holds = (
+        show_before files.files looks (look name most reading) files.holds,
+        show_last files.files looks (look name most reading) files.holds,
+      );
     }
 
 -- the same bytes

@@ -25,7 +25,7 @@ use Rattle.muen_top.specs.Answers.{Answer, prints, stops, missing, too_long, rec
 use Rattle.muen_top.specs.Commands.{run}
 use Rattle.muen_top.specs.FilesSeen.{SawAfter, ShownAfter}
 use Rattle.muen_top.specs.Loads.{NotRead, NotReadAfter}
-use Rattle.muen_top.specs.PolicyCommands.{Gives, Stops}
+use Rattle.muen_top.specs.PolicyCommands.{IsAnswered, StopsCommand}
 use Rattle.muen_top.specs.CommandErrors.{error_of_image_fault, error_of_record_fault}
 use Rattle.muen_top.specs.declared.outcome.CommandError.{CommandError}
 use Rattle.muen_top.specs.declared.outcome.CommandError.TheVariants.{Usage, Missing, TooLong, Refused, ImageRefused, RecordRefused, FileFault, NoMemory}
@@ -50,31 +50,31 @@ by_image files image name bytes answer is eq =
 -- ---- the image's file
 
 module _ (image name : List ℕ) (old new : FilesState) where
-  pub image_not_read : (error : CommandError) → NotRead image IMAGE_MOST old new error → Stops (run image name) old new error
+  pub image_not_read : (error : CommandError) → NotRead image IMAGE_MOST old new error → StopsCommand (run image name) old new error
   image_not_read error h = not_read IMAGE_MOST image (run_next name) (run image name) (rests image name) old new error h
 
-  no_memory : Stops (run image name) old new NoMemory
+  no_memory : StopsCommand (run image name) old new NoMemory
   no_memory = out_of_memory IMAGE_MOST image (run_next name) (run image name) (rests image name) old new
 
-  file_fault : Rose old.faults new.faults → Stops (run image name) old new FileFault
-  file_fault h = let s = some_files old.held in record { files = s.files; told = s.told; stops = h }
+  file_fault : Rose old.faults new.faults → StopsCommand (run image name) old new FileFault
+  file_fault h = let s = some_files old.held in record { files = s.files; told = s.told; holds = h }
 
 -- ---- the image
 
 module _ (image name : List ℕ) (old mid : FilesState) (bytes : List ℕ) (saw : Saw image IMAGE_MOST (whole bytes) old mid) where
-  refused_so : (fault : ImageFault) → unpacked image_form bytes ≡ Err fault → Stops (run image name) old mid (ImageRefused fault)
+  refused_so : (fault : ImageFault) → unpacked image_form bytes ≡ Err fault → StopsCommand (run image name) old mid (ImageRefused fault)
   refused_so fault is =
       let s = explained old.held (look image IMAGE_MOST (whole bytes) ∷ []) (seen_first image IMAGE_MOST (whole bytes) old mid saw) in
-      record { files = s.files; told = s.told; stops = by_image s.files image name bytes (Err fault) s.shows.0 is }
+      record { files = s.files; told = s.told; holds = by_image s.files image name bytes (Err fault) s.holds.0 is }
 
-  of_image_fault : (fault : ImageFault) → Tells (unpacked image_form bytes) (Err fault) → Stops (run image name) old mid (error_of_image_fault fault)
+  of_image_fault : (fault : ImageFault) → Tells (unpacked image_form bytes) (Err fault) → StopsCommand (run image name) old mid (error_of_image_fault fault)
   of_image_fault NoMemoryForImage h = no_memory image name old mid
   of_image_fault (Short at) h = refused_so (Short at) h
   of_image_fault (Bad at field) h = refused_so (Bad at field) h
   of_image_fault (Trailing at) h = refused_so (Trailing at) h
 
-  pub image_refused_so : (fault : ImageFault) (error : CommandError) → Tells (unpacked image_form bytes) (Err fault) → error ≡ error_of_image_fault fault → Stops (run image name) old mid error
-  image_refused_so fault error h made = subst (Stops (run image name) old mid) (sym made) (of_image_fault fault h)
+  pub image_refused_so : (fault : ImageFault) (error : CommandError) → Tells (unpacked image_form bytes) (Err fault) → error ≡ error_of_image_fault fault → StopsCommand (run image name) old mid error
+  image_refused_so fault error h made = subst (StopsCommand (run image name) old mid) (sym made) (of_image_fault fault h)
 
   -- ---- the record's file, where the image is one
 
@@ -90,23 +90,23 @@ module _ (image name : List ℕ) (old mid : FilesState) (bytes : List ℕ) (saw 
 
     after_both : (reading : Reading) (s : Both reading) → run_answer s.files image name ≡ of_file name (λ found. named_answer i (record_of found (image_bench i))) reading
     after_both reading s =
-        by_image s.files image name bytes (Ok i) s.shows.0 is
-        ∙ ap (of_file name (λ found. named_answer i (record_of found (image_bench i)))) s.shows'
+        by_image s.files image name bytes (Ok i) s.holds.0.0 is
+        ∙ ap (of_file name (λ found. named_answer i (record_of found (image_bench i)))) s.holds.1
 
-    pub input_not_read : (error : CommandError) → NotReadAfter seen name RECORD_MOST mid new error → Stops (run image name) old new error
+    pub input_not_read : (error : CommandError) → NotReadAfter seen name RECORD_MOST mid new error → StopsCommand (run image name) old new error
     input_not_read (Missing n) h =
         let s = both absent h.1 in
         record {
           files = s.files;
           told = s.told;
-          stops = (after_both absent s ∙ ap (λ x. stops (missing x)) (sym h.0), omega (arith, follows.misses, h.2));
+          holds = (after_both absent s ∙ ap (λ x. stops (missing x)) (sym h.0), omega (arith, follows.misses, h.2));
         }
     input_not_read (TooLong n k) h =
         let s = both (long k) h.1 in
         record {
           files = s.files;
           told = s.told;
-          stops = (after_both (long k) s ∙ ap (λ x. stops (too_long x k)) (sym h.0), omega (arith, follows.misses, h.2));
+          holds = (after_both (long k) s ∙ ap (λ x. stops (too_long x k)) (sym h.0), omega (arith, follows.misses, h.2));
         }
     input_not_read FileFault h = file_fault image name old new (omega (arith, follows.faults, h))
     input_not_read NoMemory h = no_memory image name old new
@@ -117,26 +117,26 @@ module _ (image name : List ℕ) (old mid : FilesState) (bytes : List ℕ) (saw 
 
     -- ---- the record
 
-    of_fault : {reading : Reading} (s : Both reading) (fault : RecordFault) → run_answer s.files image name ≡ stops (record_refused fault) → (error : CommandError) → error ≡ error_of_record_fault fault → Stops (run image name) old new error
-    of_fault s NoMemoryForRecord answer error made = subst (Stops (run image name) old new) (sym made) (no_memory image name old new)
+    of_fault : {reading : Reading} (s : Both reading) (fault : RecordFault) → run_answer s.files image name ≡ stops (record_refused fault) → (error : CommandError) → error ≡ error_of_record_fault fault → StopsCommand (run image name) old new error
+    of_fault s NoMemoryForRecord answer error made = subst (StopsCommand (run image name) old new) (sym made) (no_memory image name old new)
     of_fault s fault answer error made =
-        subst (Stops (run image name) old new) (sym made) (record { files = s.files; told = s.told; stops = answer })
+        subst (StopsCommand (run image name) old new) (sym made) (record { files = s.files; told = s.told; holds = answer })
 
-    pub input_refused_so : (text : List ℕ) (fault : RecordFault) (error : CommandError) → SawAfter seen name RECORD_MOST (whole text) mid new → Answers NoMemoryForRecord (mapped (image_record i) (record_of text (image_bench i))) (Err fault) → error ≡ error_of_record_fault fault → Stops (run image name) old new error
+    pub input_refused_so : (text : List ℕ) (fault : RecordFault) (error : CommandError) → SawAfter seen name RECORD_MOST (whole text) mid new → Answers NoMemoryForRecord (mapped (image_record i) (record_of text (image_bench i))) (Err fault) → error ≡ error_of_record_fault fault → StopsCommand (run image name) old new error
     input_refused_so text fault error after (inl is) made =
-        subst (Stops (run image name) old new) (sym (made ∙ ap error_of_record_fault is)) (no_memory image name old new)
+        subst (StopsCommand (run image name) old new) (sym (made ∙ ap error_of_record_fault is)) (no_memory image name old new)
     input_refused_so text fault error after (inr read) made =
         let s = both (whole text) after in
         let named = mapped_err (image_record i) (record_of text (image_bench i)) fault read in
         let answer : run_answer s.files image name ≡ stops (record_refused fault) = after_both (whole text) s ∙ ap (named_answer i) named in
         of_fault s fault answer error made
 
-    pub input_read : (text : List ℕ) (input : Record) → SawAfter seen name RECORD_MOST (whole text) mid new → mapped (image_record i) (record_of text (image_bench i)) ≡ Ok input → Gives (run image name) old (prints (image_text i input))
+    pub input_read : (text : List ℕ) (input : Record) → SawAfter seen name RECORD_MOST (whole text) mid new → mapped (image_record i) (record_of text (image_bench i)) ≡ Ok input → IsAnswered (run image name) old (prints (image_text i input))
     input_read text input after read =
         let s = both (whole text) after in
         let named = mapped_ok (image_record i) (record_of text (image_bench i)) input read in
         record {
           files = s.files;
           told = s.told;
-          is = after_both (whole text) s ∙ ap (named_answer i) named.1 ∙ ap (λ r. prints (image_text i r)) named.2;
+          holds = after_both (whole text) s ∙ ap (named_answer i) named.1 ∙ ap (λ r. prints (image_text i r)) named.2;
         }

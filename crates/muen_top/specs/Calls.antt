@@ -1,5 +1,6 @@
 -- How a command has ended, and why; and what is promised of a whole call.
-use Rattle.std.specs.Prelude.{◌≡◌, ℕ, List, Option, IfSome, ◌⊎◌}
+use Rattle.std.specs.Prelude.{◌≡◌, ℕ, List, Option, ◌⊎◌}
+use Rattle.muen_build.specs.Looks.{OverFiles}
 use Rattle.muen_outside.specs.Counts.{Rose}
 use Rattle.muen_outside.specs.States.{FilesState, SinkState}
 use Rattle.muen_outside.specs.Puts.{Appended, Failed}
@@ -12,6 +13,8 @@ use Rattle.muen_top.specs.declared.outcome.Outcome.{Outcome}
 use Rattle.muen_top.specs.declared.outcome.Outcome.TheVariants.{Done, Stopped, OutputFault}
 use Rattle.muen_top.specs.declared.outcome.CommandError.{CommandError}
 use Rattle.muen_top.specs.declared.outcome.CommandError.TheVariants.{Usage, Missing, TooLong, Refused, ImageRefused, RecordRefused, FileFault, NoMemory}
+use Rattle.muen_top.specs.declared.status.Status.{Status}
+use Rattle.muen_top.specs.declared.status.Status.TheVariants as statuses
 
 -- ---- the outcome of a command whose answer is this
 
@@ -33,7 +36,7 @@ StopsFor answer old new Usage = answer ≡ stops usage
 StopsFor answer old new (Missing name) = (answer ≡ stops (missing name.now)) × Rose old.misses new.misses
 StopsFor answer old new (TooLong name n) = (answer ≡ stops (too_long name.now n)) × Rose old.misses new.misses
 StopsFor answer old new (Refused refusal) =
-    (answer ≡ stops (refused refusal)) × (refusal_status refusal ≡ 3 → Rose old.misses new.misses)
+    (answer ≡ stops (refused refusal)) × (refusal_status refusal ≡ statuses.FileMissing → Rose old.misses new.misses)
 StopsFor answer old new (ImageRefused fault) = answer ≡ stops (image_refused fault)
 StopsFor answer old new (RecordRefused fault) = answer ≡ stops (record_refused fault)
 StopsFor answer old new FileFault = Rose old.faults new.faults
@@ -45,40 +48,44 @@ ComesOf answer old new out out' (Stopped error) = StopsFor answer old new error 
 ComesOf answer old new out out' OutputFault = Prints answer (λ text. Failed text out out')
 
 -- over some files that hold what is told, the outcome comes of the command's answer
-pub record Came (command : Option Command) (old new : FilesState) (out out' : SinkState) (outcome : Outcome) : Type 0 where
-  pub files : Store
-  pub told : IfSome old.held (λ m. files ≡ m)
-  pub comes : ComesOf (answer_of files command) old new out out' outcome
+abbrev pub ComesOfCommand : Option Command → FilesState → FilesState → SinkState → SinkState → Outcome → Type 0
+ComesOfCommand command old new out out' outcome = OverFiles old.held (λ files. ComesOf (answer_of files command) old new out out' outcome)
 
 -- ---- a whole call
 
 -- the outcome of the words' command, its status, and what was reported
-pub record Ran (words : List (List ℕ)) (old new : FilesState) (out out' err err' : SinkState) (status : ℕ) : Type 0 where
+pub record IsCallOf (words : List (List ℕ)) (old new : FilesState) (out out' err err' : SinkState) (status : Status) : Type 0 where
   pub outcome : Outcome
   pub status_is : status ≡ status_of outcome
-  pub came : Came (command_of words) old new out out' outcome
+  pub came : ComesOfCommand (command_of words) old new out out' outcome
   pub report : Reported err err' outcome
 
 -- a fault of files or of the output, or want of memory
-abbrev pub IsFault : ℕ → Type 0
-IsFault status = (status ≡ 4) ⊎ ((status ≡ 7) ⊎ (status ≡ 8))
+abbrev pub IsFault : Status → Type 0
+IsFault status = (status ≡ statuses.FileFault) ⊎ ((status ≡ statuses.OutputFault) ⊎ (status ≡ statuses.NoMemory))
 
 -- the answer to the words' command, over some files that hold what is told, is such
-pub record Answered (words : List (List ℕ)) (held : Option Store) (Such : Answer → Type 0) : Type 0 where
-  pub files : Store
-  pub told : IfSome held (λ m. files ≡ m)
-  pub such : Such (answer_of files (command_of words))
+abbrev pub Answered : List (List ℕ) → Option Store → (Answer → Type 0) → Type 0
+Answered words held Such = OverFiles held (λ files. Such (answer_of files (command_of words)))
+
+-- the call does what the words are answered: the text is put, or an image is written
+abbrev pub DoesAnswer : List (List ℕ) → FilesState → FilesState → SinkState → SinkState → Type 0
+DoesAnswer words old new out out' = Answered words old.held (λ answer. IsDone answer old new out out')
+
+-- a front of the text that the words are answered is put, and the sink has failed
+abbrev pub PrintsFront : List (List ℕ) → Option Store → SinkState → SinkState → Type 0
+PrintsFront words held out out' = Answered words held (λ answer. Prints answer (λ text. Failed text out out'))
 
 -- of the answers that print nothing, those on a policy, on a missing or too long file, on an image, and on a record. A
 -- refusal of the policy may be for a file that it names: which of the two it is, its status says
 abbrev pub RefusesPolicy : SinkState → SinkState → Answer → Type 0
-RefusesPolicy err err' (stops (refused refusal)) = (refusal_status refusal ≡ 2) × Told (reason_text (refused refusal)) err err'
+RefusesPolicy err err' (stops (refused refusal)) = (refusal_status refusal ≡ statuses.PolicyRefused) × Told (reason_text (refused refusal)) err err'
 RefusesPolicy err err' _ = ⊥
 
 abbrev pub LacksFile : SinkState → SinkState → Answer → Type 0
 LacksFile err err' (stops (missing name)) = Told (reason_text (missing name)) err err'
 LacksFile err err' (stops (too_long name n)) = Told (reason_text (too_long name n)) err err'
-LacksFile err err' (stops (refused refusal)) = (refusal_status refusal ≡ 3) × Told (reason_text (refused refusal)) err err'
+LacksFile err err' (stops (refused refusal)) = (refusal_status refusal ≡ statuses.FileMissing) × Told (reason_text (refused refusal)) err err'
 LacksFile err err' _ = ⊥
 
 abbrev pub RefusesImage : SinkState → SinkState → Answer → Type 0

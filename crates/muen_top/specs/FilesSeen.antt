@@ -1,7 +1,7 @@
 -- What a command has seen of files that it reads one after another.
-use Rattle.std.specs.Prelude.{◌≡◌, ℕ, List, Option, Some, IfSome}
+use Rattle.std.specs.Prelude.{◌≡◌, ℕ, List, Option, Some}
 use Rattle.std.specs.FinMap.{get}
-use Rattle.muen_build.specs.Looks.{AreOthers, Look, Saw, ShowAll}
+use Rattle.muen_build.specs.Looks.{AreOthers, Look, OverFiles, Saw, ShowAll}
 use Rattle.muen_outside.specs.States.{FilesState}
 use Rattle.muen_outside.specs.Store.{Store, Reading, reading_of}
 
@@ -12,8 +12,5 @@ pub data SawAfter (looks : List Look) (name : List ℕ) (most : ℕ) (reading : 
   unknown : AreOthers looks name → Saw name most reading old new → SawAfter looks name most reading old new
 
 -- files that hold what is told show these looks, and this under a name
-pub record ShownAfter (held : Option Store) (looks : List Look) (name : List ℕ) (most : ℕ) (reading : Reading) : Type 0 where
-  pub files : Store
-  pub told : IfSome held (λ m. files ≡ m)
-  pub shows : ShowAll files looks
-  pub shows' : reading_of (get files name) most ≡ reading
+abbrev pub ShownAfter : Option Store → List Look → List ℕ → ℕ → Reading → Type 0
+ShownAfter held looks name most reading = OverFiles held (λ files. ShowAll files looks × (reading_of (get files name) most ≡ reading))

@@ -1,5 +1,5 @@
--- What the headline speaks of: what a store holds, and how a call ends that prints a text.
-use Rattle.std.specs.Prelude.{◌≡◌, ◌⊎◌, ℕ, List, Ok}
+-- The headline, and what it speaks of: what a store holds, and how a call ends that prints a text.
+use Rattle.std.specs.Prelude.{◌≡◌, ◌⊎◌, ℕ, List, Option, Some, Ok}
 use Rattle.std.specs.FinMap.{get}
 use Rattle.binary_form.specs.Form.{IsBytes}
 use Rattle.image_soundness.specs.Bench.{devices_of}
@@ -16,7 +16,11 @@ use Rattle.policy_lawful.specs.Contents.{Held}
 use Rattle.policy_types.specs.declared.source.Source.{Source}
 use Rattle.record_text.specs.DeviceRecord.{DeviceRecord}
 use Rattle.record_text.specs.Reading.{record_of}
+use Rattle.subject_model.specs.Trace.{trace_of}
 use Rattle.muen_top.specs.Calls.{IsFault}
+use Rattle.muen_top.specs.Commands.{boot, run, command_of}
+use Rattle.muen_top.specs.declared.status.Status.{Status}
+use Rattle.muen_top.specs.declared.status.Status.TheVariants as statuses
 
 -- under this name the store holds a policy's document, which is accepted over it as this policy
 pub record HoldsPolicy (m : Store) (name : List ℕ) (p : Source) : Type 0 where
@@ -47,5 +51,25 @@ pub record HoldsRecord (m : Store) (name : List ℕ) (p : Source) (r : DeviceRec
   pub says : record_of text (devices_of p) ≡ Ok r
 
 -- a text is put, and the status is 0, but for a fault of files or of the output, or want of memory
-abbrev pub PrintsText : List ℕ → SinkState → SinkState → ℕ → Type 0
-PrintsText text out out' status = IsFault status ⊎ ((status ≡ 0) × Appended text out out')
+abbrev pub PrintsText : List ℕ → SinkState → SinkState → Status → Type 0
+PrintsText text out out' status = IsFault status ⊎ ((status ≡ statuses.Done) × Appended text out out')
+
+-- ---- the headline
+
+-- `boot`, where the store holds a policy that is accepted and a record of its devices: the text of the policy's system is put
+abbrev pub BootPrintsSystem : List (List ℕ) → Option Store → SinkState → SinkState → Status → Type 0
+BootPrintsSystem words held out out' status =
+    (m : Store) (policy inputs : List ℕ) (p : Source) (r : DeviceRecord) → held ≡ Some m → command_of words ≡ Some (boot policy inputs)
+    → HoldsPolicy m policy p → HoldsRecord m inputs p r → PrintsText (trace_of p m r) out out' status
+
+-- `run`, where it holds an image that is sound for a policy over these or other files
+abbrev pub RunOfSoundPrintsSystem : List (List ℕ) → Option Store → SinkState → SinkState → Status → Type 0
+RunOfSoundPrintsSystem words held out out' status =
+    (m : Store) (image inputs : List ℕ) (p : Source) (built_of : Held) (r : DeviceRecord) → held ≡ Some m → command_of words ≡ Some (run image inputs)
+    → HoldsSound m image p built_of → HoldsRecord m inputs p r → PrintsText (trace_of p built_of r) out out' status
+
+-- .. and where it holds the image that `build` has written for it
+abbrev pub RunOfBuiltPrintsSystem : List (List ℕ) → Option Store → SinkState → SinkState → Status → Type 0
+RunOfBuiltPrintsSystem words held out out' status =
+    (m : Store) (image inputs : List ℕ) (p : Source) (built_of : Held) (r : DeviceRecord) → held ≡ Some m → command_of words ≡ Some (run image inputs)
+    → HoldsBuilt m image p built_of → HoldsRecord m inputs p r → PrintsText (trace_of p built_of r) out out' status

@@ -2,6 +2,7 @@
 use Rattle.std.specs.Prelude.{◌≡◌, ℕ, List, IfSome}
 use Rattle.binary_form.specs.Form.{IsBytes}
 use Rattle.muen_build.specs.Building.{IsImageFor}
+use Rattle.muen_build.specs.Looks.{OverFiles}
 use Rattle.muen_outside.specs.States.{FilesState}
 use Rattle.muen_outside.specs.Store.{Store, insert_known}
 use Rattle.policy_types.specs.declared.source.Source.{Source}
@@ -14,10 +15,12 @@ pub record Wrote (image : List ℕ) (p : Source) (files : Store) (old new : File
   pub is : IsImageFor p files bytes
   pub held : new.held ≡ insert_known old.held image bytes
 
--- over some files that hold what is told, the answer is an image for this policy, under whatever name, and the bytes are one
-pub record IsMade (policy : List ℕ) (old : FilesState) (bytes : List ℕ) : Type 0 where
-  pub files : Store
-  pub told : IfSome old.held (λ m. files ≡ m)
+-- these bytes are an image for the policy that the answer names, under whatever name it is written
+pub record AnswersImage (policy : List ℕ) (bytes : List ℕ) (files : Store) : Type 0 where
   pub p : Source
   pub answer : (image : List ℕ) → build_answer files policy image ≡ writes image p files
   pub is : IsImageFor p files bytes
+
+-- .. over some files that hold what is told
+abbrev pub IsBuilt : List ℕ → FilesState → List ℕ → Type 0
+IsBuilt policy old bytes = OverFiles old.held (AnswersImage policy bytes)

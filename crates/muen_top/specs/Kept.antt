@@ -7,18 +7,20 @@ use Rattle.muen_top.specs.Commands.{Command, build}
 use Rattle.muen_top.specs.declared.outcome.Outcome.{Outcome}
 use Rattle.muen_top.specs.declared.outcome.Outcome.TheVariants.{Done, Stopped}
 use Rattle.muen_top.specs.declared.outcome.CommandError.TheVariants.{FileFault, NoMemory}
+use Rattle.muen_top.specs.declared.status.Status.{Status}
+use Rattle.muen_top.specs.declared.status.Status.TheVariants as statuses
 
 -- the statuses on which `build` may have written: the image stands there, a write failed, or memory was refused
-abbrev pub MayWrite : ℕ → Type 0
-MayWrite status = (status ≡ 0) ⊎ ((status ≡ 4) ⊎ (status ≡ 8))
+abbrev pub MayWrite : Status → Type 0
+MayWrite status = (status ≡ statuses.Done) ⊎ ((status ≡ statuses.FileFault) ⊎ (status ≡ statuses.NoMemory))
 
 -- what is held stays; but what stands under the image's name may change where `build` may have written
-abbrev pub KeepsHeld : Option Command → ℕ → Option Store → Option Store → Type 0
+abbrev pub KeepsHeld : Option Command → Status → Option Store → Option Store → Type 0
 KeepsHeld (Some (build policy image)) status old new = (new ≡ old) ⊎ (MayWrite status × KeepsOthers image old new)
 KeepsHeld command status old new = new ≡ old
 
 -- no count falls
-pub record KeepsFiles (command : Option Command) (status : ℕ) (old new : FilesState) : Type 0 where
+pub record KeepsFiles (command : Option Command) (status : Status) (old new : FilesState) : Type 0 where
   pub held : KeepsHeld command status old.held new.held
   pub faults : old.faults ≤ new.faults
   pub misses : old.misses ≤ new.misses

@@ -11,3 +11,4 @@ pub mod Parsed
 pub mod PolicyCommands
 pub mod Reports
 pub mod Runs
+pub mod Statuses

@@ -12,6 +12,8 @@ use Rattle.muen_top.specs.declared.outcome.Outcome.{Outcome}
 use Rattle.muen_top.specs.declared.outcome.Outcome.TheVariants.{Done, Stopped, OutputFault}
 use Rattle.muen_top.specs.declared.outcome.CommandError.{CommandError}
 use Rattle.muen_top.specs.declared.outcome.CommandError.TheVariants.{Usage, Missing, TooLong, Refused, ImageRefused, RecordRefused, FileFault, NoMemory}
+use Rattle.muen_top.specs.declared.status.Status.{Status}
+use Rattle.muen_top.specs.declared.status.Status.TheVariants as statuses
 
 -- ---- texts
 
@@ -34,23 +36,23 @@ reason_text (record_refused fault) = record_fault_text fault
 
 -- ---- statuses
 
-abbrev pub refusal_status : Refusal → ℕ
-refusal_status NotJson = 2
-refusal_status (Shape place want) = 2
-refusal_status (Rule number first second) = 2
-refusal_status (MissingFile file) = 3
-refusal_status (TooLongFile file length) = 3
-refusal_status (FileFit region room length) = 2
-refusal_status (NoRoom region size) = 2
-refusal_status NoMemoryFor = 8
+abbrev pub refusal_status : Refusal → Status
+refusal_status NotJson = statuses.PolicyRefused
+refusal_status (Shape place want) = statuses.PolicyRefused
+refusal_status (Rule number first second) = statuses.PolicyRefused
+refusal_status (MissingFile file) = statuses.FileMissing
+refusal_status (TooLongFile file length) = statuses.FileMissing
+refusal_status (FileFit region room length) = statuses.PolicyRefused
+refusal_status (NoRoom region size) = statuses.PolicyRefused
+refusal_status NoMemoryFor = statuses.NoMemory
 
-abbrev pub reason_status : Reason → ℕ
-reason_status usage = 1
-reason_status (missing name) = 3
-reason_status (too_long name n) = 3
+abbrev pub reason_status : Reason → Status
+reason_status usage = statuses.Usage
+reason_status (missing name) = statuses.FileMissing
+reason_status (too_long name n) = statuses.FileMissing
 reason_status (refused refusal) = refusal_status refusal
-reason_status (image_refused fault) = 5
-reason_status (record_refused fault) = 6
+reason_status (image_refused fault) = statuses.ImageRefused
+reason_status (record_refused fault) = statuses.RecordRefused
 
 -- ---- how a call has ended
 
@@ -63,9 +65,9 @@ abbrev pub Told : List ℕ → SinkState → SinkState → Type 0
 Told text old new = Appended (line_of text) old new ⊎ Failed (line_of text) old new
 
 -- a call that answers so has this status, and tells its reason, if there is one
-abbrev pub Ends : Answer → SinkState → SinkState → ℕ → Type 0
-Ends (prints text) err err' status = (status ≡ 0) × (err' ≡ err)
-Ends (writes image p files) err err' status = (status ≡ 0) × (err' ≡ err)
+abbrev pub Ends : Answer → SinkState → SinkState → Status → Type 0
+Ends (prints text) err err' status = (status ≡ statuses.Done) × (err' ≡ err)
+Ends (writes image p files) err err' status = (status ≡ statuses.Done) × (err' ≡ err)
 Ends (stops reason) err err' status = (status ≡ reason_status reason) × Told (reason_text reason) err err'
 
 -- ---- of the outcome of a command
@@ -80,20 +82,20 @@ error_text (RecordRefused fault) = record_fault_text fault
 error_text FileFault = codes "file fault"
 error_text NoMemory = codes "out of memory"
 
-abbrev pub error_status : CommandError → ℕ
-error_status Usage = 1
-error_status (Missing name) = 3
-error_status (TooLong name n) = 3
+abbrev pub error_status : CommandError → Status
+error_status Usage = statuses.Usage
+error_status (Missing name) = statuses.FileMissing
+error_status (TooLong name n) = statuses.FileMissing
 error_status (Refused refusal) = refusal_status refusal
-error_status (ImageRefused fault) = 5
-error_status (RecordRefused fault) = 6
-error_status FileFault = 4
-error_status NoMemory = 8
+error_status (ImageRefused fault) = statuses.ImageRefused
+error_status (RecordRefused fault) = statuses.RecordRefused
+error_status FileFault = statuses.FileFault
+error_status NoMemory = statuses.NoMemory
 
-abbrev pub status_of : Outcome → ℕ
-status_of Done = 0
+abbrev pub status_of : Outcome → Status
+status_of Done = statuses.Done
 status_of (Stopped error) = error_status error
-status_of OutputFault = 7
+status_of OutputFault = statuses.OutputFault
 
 abbrev pub Reported : SinkState → SinkState → Outcome → Type 0
 Reported old new Done = new ≡ old

@@ -13,11 +13,11 @@ ghost use Rattle.muen_outside.specs.Store.{Store, whole};
 ghost use Rattle.muen_run.specs.RunText.{image_text};
 ghost use Rattle.policy_lawful.specs.Resolution.{source_of};
 ghost use Rattle.muen_top.specs.Answers.{prints};
-ghost use Rattle.muen_top.specs.Calls.{Came};
+ghost use Rattle.muen_top.specs.Calls.{ComesOfCommand};
 ghost use Rattle.muen_top.specs.Commands.{boot as boot_command};
 ghost use Rattle.muen_top.specs.FilesSeen.{SawAfter};
 ghost use Rattle.muen_top.specs.Loads.{IsMade, IsReadBack, IsReadOf, NotMade, NotReadAfter};
-ghost use Rattle.muen_top.specs.PolicyCommands.{Gives, Stops};
+ghost use Rattle.muen_top.specs.PolicyCommands.{IsAnswered, StopsCommand};
 ghost use Rattle.muen_top.specs.Runs.{OnlyMemory};
 
 use crate::loading::{load, load_too, within};
@@ -124,9 +124,9 @@ fn read_both<'a, F: Files>(
     inputs: &'a str,
     files: &mut F,
 ) -> Result<Loaded, CommandError<'a>>
-    ensures ok { IfOk result (λ x. Gives (boot_command policy.now inputs.now) (F.state files.old) (prints (image_text x.parts x.input))) }
+    ensures ok { IfOk result (λ x. IsAnswered (boot_command policy.now inputs.now) (F.state files.old) (prints (image_text x.parts x.input))) }
     ensures can_run { IfOk result (λ x. CanRun x.input) }
-    ensures err { IfErr result (Stops (boot_command policy.now inputs.now) (F.state files.old) (F.state files.new)) }
+    ensures err { IfErr result (StopsCommand (boot_command policy.now inputs.now) (F.state files.old) (F.state files.new)) }
     ensures follows { Follows (F.state files.old) (F.state files.new) }
 {
     let document = load(alloc, policy, POLICY_MOST, files)?;
@@ -145,7 +145,7 @@ pub(crate) fn boot<'a, F: Files, S: Sink>(
     files: &mut F,
     out: &mut S,
 ) -> Outcome<'a>
-    ensures came { Came (Some (boot_command policy.now inputs.now)) (F.state files.old) (F.state files.new) (S.state out.old) (S.state out.new) result }
+    ensures came { ComesOfCommand (Some (boot_command policy.now inputs.now)) (F.state files.old) (F.state files.new) (S.state out.old) (S.state out.new) result }
     ensures follows { Follows (F.state files.old) (F.state files.new) }
 {
     match read_both(alloc, policy, inputs, files) {

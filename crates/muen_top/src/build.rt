@@ -3,11 +3,11 @@ ghost use Rattle.std.specs.Prelude.{ℕ, List, Some, IfOk, IfErr};
 ghost use Rattle.binary_form.specs.Form.{IsBytes};
 ghost use Rattle.muen_outside.specs.States.{SinkState};
 ghost use Rattle.muen_build.specs.Looks.{Follows};
-ghost use Rattle.muen_top.specs.Calls.{Came};
+ghost use Rattle.muen_top.specs.Calls.{ComesOfCommand};
 ghost use Rattle.muen_top.specs.Commands.{build as build_command};
-ghost use Rattle.muen_top.specs.Images.{IsMade};
+ghost use Rattle.muen_top.specs.Images.{IsBuilt};
 ghost use Rattle.muen_top.specs.Kept.{IsWriteOf, KeepsFiles};
-ghost use Rattle.muen_top.specs.PolicyCommands.{Stops};
+ghost use Rattle.muen_top.specs.PolicyCommands.{StopsCommand};
 ghost use Rattle.muen_top.specs.Reports.{status_of};
 
 use crate::loading::load;
@@ -22,8 +22,8 @@ fn image_of<'a, F: Files>(
     policy: &'a str,
     files: &mut F,
 ) -> Result<Vec<u8>, CommandError<'a>>
-    ensures ok { IfOk result (λ v. IsMade policy.now (F.state files.old) v.items) }
-    ensures err { IfErr result (λ error. (image : List ℕ) → Stops (build_command policy.now image) (F.state files.old) (F.state files.new) error) }
+    ensures ok { IfOk result (λ v. IsBuilt policy.now (F.state files.old) v.items) }
+    ensures err { IfErr result (λ error. (image : List ℕ) → StopsCommand (build_command policy.now image) (F.state files.old) (F.state files.new) error) }
     ensures follows { Follows (F.state files.old) (F.state files.new) }
 {
     let bytes = load(alloc, policy, POLICY_MOST, files)?;
@@ -50,7 +50,7 @@ pub(crate) fn build<'a, F: Files>(
     image: &'a str,
     files: &mut F,
 ) -> Outcome<'a>
-    ensures came { (out : SinkState) → Came (Some (build_command policy.now image.now)) (F.state files.old) (F.state files.new) out out result }
+    ensures came { (out : SinkState) → ComesOfCommand (Some (build_command policy.now image.now)) (F.state files.old) (F.state files.new) out out result }
     ensures keeps { KeepsFiles (Some (build_command policy.now image.now)) (status_of result) (F.state files.old) (F.state files.new) }
 {
     match image_of(alloc, policy, files) {

@@ -1,6 +1,6 @@
 // The whole call: the words are parsed, their command is done, and its end is reported.
 ghost use Rattle.std.specs.Prelude.{◌≡◌, None, map, string_bytes};
-ghost use Rattle.muen_top.specs.Calls.{Came, Ran};
+ghost use Rattle.muen_top.specs.Calls.{ComesOfCommand, IsCallOf};
 ghost use Rattle.muen_top.specs.Commands.{command_of};
 ghost use Rattle.muen_top.specs.Kept.{KeepsFiles};
 ghost use Rattle.muen_top.specs.Reports.{status_of};
@@ -12,6 +12,7 @@ use crate::outcome::{CommandError, Outcome};
 use crate::policy_commands;
 use crate::report::{report, status};
 use crate::run::run;
+use crate::status::Status;
 use muen_outside::{Files, Sink};
 use std::alloc::Global;
 
@@ -22,7 +23,7 @@ fn work<'a, F: Files, S: Sink>(
     files: &mut F,
     out: &mut S,
 ) -> Outcome<'a>
-    ensures came { Came (command_of (map string_bytes words.now)) (F.state files.old) (F.state files.new) (S.state out.old) (S.state out.new) result }
+    ensures came { ComesOfCommand (command_of (map string_bytes words.now)) (F.state files.old) (F.state files.new) (S.state out.old) (S.state out.new) result }
     ensures keeps { KeepsFiles (command_of (map string_bytes words.now)) (status_of result) (F.state files.old) (F.state files.new) }
     ensures no_command { command_of (map string_bytes words.now) ≡ None → (result ≡ Outcome.Stopped CommandError.Usage) × (F.state files.new ≡ F.state files.old) }
 {
@@ -43,10 +44,10 @@ pub(crate) fn call<F: Files, S: Sink, E: Sink>(
     files: &mut F,
     out: &mut S,
     err: &mut E,
-) -> u8
-    ensures ran { Ran (map string_bytes words.now) (F.state files.old) (F.state files.new) (S.state out.old) (S.state out.new) (E.state err.old) (E.state err.new) result }
+) -> Status
+    ensures ran { IsCallOf (map string_bytes words.now) (F.state files.old) (F.state files.new) (S.state out.old) (S.state out.new) (E.state err.old) (E.state err.new) result }
     ensures keeps { KeepsFiles (command_of (map string_bytes words.now)) result (F.state files.old) (F.state files.new) }
-    ensures no_command { command_of (map string_bytes words.now) ≡ None → (result ≡ 1) × (F.state files.new ≡ F.state files.old) }
+    ensures no_command { command_of (map string_bytes words.now) ≡ None → (result ≡ Status.Usage) × (F.state files.new ≡ F.state files.old) }
 {
     let outcome = work(alloc, words, files, out);
     report(&outcome, err);

@@ -1,18 +1,12 @@
 //! The commands of the program `muen`.
 #![tactic(auto)]
 
-ghost use Rattle.std.specs.Prelude.{◌≡◌, ◌≢◌, ◌⊎◌, ℕ, List, IfSome, Some, None, map, string_bytes};
+ghost use Rattle.std.specs.Prelude.{◌≡◌, ◌≢◌, ◌⊎◌, IfSome, None, map, string_bytes};
 ghost use Rattle.muen_outside.specs.Counts.{Rose};
-ghost use Rattle.muen_outside.specs.Puts.{Failed};
-ghost use Rattle.muen_outside.specs.Store.{Store};
-ghost use Rattle.policy_lawful.specs.Contents.{Held};
-ghost use Rattle.policy_types.specs.declared.source.Source.{Source};
-ghost use Rattle.record_text.specs.DeviceRecord.{DeviceRecord};
-ghost use Rattle.subject_model.specs.Trace.{trace_of};
 ghost use Rattle.muen_top.specs.Answers.{answer_of};
-ghost use Rattle.muen_top.specs.Calls.{Answered, IsDone, IsFault, LacksFile, Prints, RefusesImage, RefusesPolicy, RefusesRecord};
-ghost use Rattle.muen_top.specs.Commands.{boot, command_of, run};
-ghost use Rattle.muen_top.specs.Headline.{HoldsBuilt, HoldsPolicy, HoldsRecord, HoldsSound, PrintsText};
+ghost use Rattle.muen_top.specs.Calls.{Answered, DoesAnswer, IsFault, LacksFile, PrintsFront, RefusesImage, RefusesPolicy, RefusesRecord};
+ghost use Rattle.muen_top.specs.Commands.{command_of};
+ghost use Rattle.muen_top.specs.Headline.{BootPrintsSystem, RunOfBuiltPrintsSystem, RunOfSoundPrintsSystem};
 ghost use Rattle.muen_top.specs.Kept.{KeepsFiles};
 ghost use Rattle.muen_top.specs.Reports.{Ends, Reported, status_of};
 ghost use Rattle.muen_top.specs.declared.outcome.Outcome.{Outcome};
@@ -26,8 +20,10 @@ mod outcome;
 mod policy_commands;
 mod report;
 mod run;
+mod status;
 
 use muen_outside::{Files, Sink};
+pub use status::Status;
 use std::alloc::Global;
 
 /// Does what the words after the program's name ask for, and answers the status.
@@ -59,54 +55,48 @@ pub fn muen<F: Files, S: Sink, E: Sink>(
     files: &mut F,
     out: &mut S,
     err: &mut E,
-) -> u8
+) -> Status
     // The headline. Where files hold a policy that is accepted, and a record of its devices with any
     // order of the CPUs in each tick, `boot` prints the text of the policy's system, in which each
     // subject acts alone on its own state and what the policy lets reach it.
-    ensures boots { (m : Store) (policy inputs : List ℕ) (p : Source) (r : DeviceRecord) → (F.state files.old).held ≡ Some m
-        → command_of (map string_bytes words.now) ≡ Some (boot policy inputs) → HoldsPolicy m policy p → HoldsRecord m inputs p r
-        → PrintsText (trace_of p m r) (S.state out.old) (S.state out.new) result }
+    ensures boots { BootPrintsSystem (map string_bytes words.now) (F.state files.old).held (S.state out.old) (S.state out.new) result }
     // So does `run` where they hold an image that is sound for the policy over these or other files,
-    ensures runs_sound { (m : Store) (image inputs : List ℕ) (p : Source) (built_of : Held) (r : DeviceRecord) → (F.state files.old).held ≡ Some m
-        → command_of (map string_bytes words.now) ≡ Some (run image inputs) → HoldsSound m image p built_of → HoldsRecord m inputs p r
-        → PrintsText (trace_of p built_of r) (S.state out.old) (S.state out.new) result }
+    ensures runs_sound { RunOfSoundPrintsSystem (map string_bytes words.now) (F.state files.old).held (S.state out.old) (S.state out.new) result }
     // and where they hold the image that `build` has written for it.
-    ensures runs_built { (m : Store) (image inputs : List ℕ) (p : Source) (built_of : Held) (r : DeviceRecord) → (F.state files.old).held ≡ Some m
-        → command_of (map string_bytes words.now) ≡ Some (run image inputs) → HoldsBuilt m image p built_of → HoldsRecord m inputs p r
-        → PrintsText (trace_of p built_of r) (S.state out.old) (S.state out.new) result }
+    ensures runs_built { RunOfBuiltPrintsSystem (map string_bytes words.now) (F.state files.old).held (S.state out.old) (S.state out.new) result }
 
     // What is put or written is the words' answer, over some files that hold what is told. For `boot` it
     // is the text of the policy's system. For `run` it is the text of the image's run on the record, as
     // the record is read for this image, on a machine with its kernel. For `build` an image is written
     // that is sound for the policy and the files, as they were before: where files tell, it stands under
     // the image's name, and all else that they hold is as before; and nothing is put.
-    ensures done { result ≡ 0 → Answered (map string_bytes words.now) (F.state files.old).held (λ answer. IsDone answer (F.state files.old) (F.state files.new) (S.state out.old) (S.state out.new)) }
-    ensures prefix { result ≡ 7 → Answered (map string_bytes words.now) (F.state files.old).held (λ answer. Prints answer (λ text. Failed text (S.state out.old) (S.state out.new))) }
+    ensures done { result ≡ Status.Done → DoesAnswer (map string_bytes words.now) (F.state files.old) (F.state files.new) (S.state out.old) (S.state out.new) }
+    ensures prefix { result ≡ Status.OutputFault → PrintsFront (map string_bytes words.now) (F.state files.old).held (S.state out.old) (S.state out.new) }
 
     // On a refusal it is the reason in that answer.
-    ensures refuses_policy { result ≡ 2 → Answered (map string_bytes words.now) (F.state files.old).held (RefusesPolicy (E.state err.old) (E.state err.new)) }
-    ensures lacks_file { result ≡ 3 → Answered (map string_bytes words.now) (F.state files.old).held (LacksFile (E.state err.old) (E.state err.new)) }
-    ensures refuses_image { result ≡ 5 → Answered (map string_bytes words.now) (F.state files.old).held (RefusesImage (E.state err.old) (E.state err.new)) }
-    ensures refuses_record { result ≡ 6 → Answered (map string_bytes words.now) (F.state files.old).held (RefusesRecord (E.state err.old) (E.state err.new)) }
+    ensures refuses_policy { result ≡ Status.PolicyRefused → Answered (map string_bytes words.now) (F.state files.old).held (RefusesPolicy (E.state err.old) (E.state err.new)) }
+    ensures lacks_file { result ≡ Status.FileMissing → Answered (map string_bytes words.now) (F.state files.old).held (LacksFile (E.state err.old) (E.state err.new)) }
+    ensures refuses_image { result ≡ Status.ImageRefused → Answered (map string_bytes words.now) (F.state files.old).held (RefusesImage (E.state err.old) (E.state err.new)) }
+    ensures refuses_record { result ≡ Status.RecordRefused → Answered (map string_bytes words.now) (F.state files.old).held (RefusesRecord (E.state err.old) (E.state err.new)) }
 
     // Where files tell what they hold, the call ends as these words are answered over them, but for
     // a fault or want of memory.
     ensures told { IsFault result ⊎ IfSome (F.state files.old).held (λ m. Ends (answer_of m (command_of (map string_bytes words.now))) (E.state err.old) (E.state err.new) result) }
 
     // When each other status comes.
-    ensures usage { result ≡ 1 → command_of (map string_bytes words.now) ≡ None }
-    ensures no_command { command_of (map string_bytes words.now) ≡ None → (result ≡ 1) × (F.state files.new ≡ F.state files.old) }
-    ensures missed { result ≡ 3 → Rose (F.state files.old).misses (F.state files.new).misses }
-    ensures failed { result ≡ 4 → Rose (F.state files.old).faults (F.state files.new).faults }
-    ensures out_rose { result ≡ 7 → Rose (S.state out.old).faults (S.state out.new).faults }
+    ensures usage { result ≡ Status.Usage → command_of (map string_bytes words.now) ≡ None }
+    ensures no_command { command_of (map string_bytes words.now) ≡ None → (result ≡ Status.Usage) × (F.state files.new ≡ F.state files.old) }
+    ensures missed { result ≡ Status.FileMissing → Rose (F.state files.old).misses (F.state files.new).misses }
+    ensures failed { result ≡ Status.FileFault → Rose (F.state files.old).faults (F.state files.new).faults }
+    ensures out_rose { result ≡ Status.OutputFault → Rose (S.state out.old).faults (S.state out.new).faults }
 
     // One line is put to `err` where the status isn't 0.
     ensures reports { (outcome : Outcome) × (result ≡ status_of outcome) × Reported (E.state err.old) (E.state err.new) outcome }
 
     // Files stay, but for the image that `build` writes, and nothing is put where nothing is to be.
     ensures keeps { KeepsFiles (command_of (map string_bytes words.now)) result (F.state files.old) (F.state files.new) }
-    ensures quiet_out { result ≢ 0 → result ≢ 7 → S.state out.new ≡ S.state out.old }
-    ensures quiet_err { result ≡ 0 → E.state err.new ≡ E.state err.old }
+    ensures quiet_out { result ≢ Status.Done → result ≢ Status.OutputFault → S.state out.new ≡ S.state out.old }
+    ensures quiet_err { result ≡ Status.Done → E.state err.new ≡ E.state err.old }
 {
     call::call(alloc, words, files, out, err)
 }

@@ -5,9 +5,9 @@ ghost use Rattle.map_report.specs.MapText.{map_text_of};
 ghost use Rattle.policy_lawful.specs.Resolution.{source_of};
 ghost use Rattle.muen_build.specs.Looks.{Follows};
 ghost use Rattle.muen_top.specs.Answers.{prints};
-ghost use Rattle.muen_top.specs.Calls.{Came};
+ghost use Rattle.muen_top.specs.Calls.{ComesOfCommand};
 ghost use Rattle.muen_top.specs.Commands.{flows as flows_command, map as map_command};
-ghost use Rattle.muen_top.specs.PolicyCommands.{Gives, Stops};
+ghost use Rattle.muen_top.specs.PolicyCommands.{IsAnswered, StopsCommand};
 ghost use Rattle.muen_top.specs.Runs.{RunsTo};
 
 use crate::loading::load;
@@ -26,8 +26,8 @@ fn read_placed<'a, F: Files>(
     policy: &'a str,
     files: &mut F,
 ) -> Result<Placed, CommandError<'a>>
-    ensures ok { IfOk result (λ x. Gives (map_command policy.now) (F.state files.old) (prints (map_text_of (source_of x.expanded.lawful)))) }
-    ensures err { IfErr result (Stops (map_command policy.now) (F.state files.old) (F.state files.new)) }
+    ensures ok { IfOk result (λ x. IsAnswered (map_command policy.now) (F.state files.old) (prints (map_text_of (source_of x.expanded.lawful)))) }
+    ensures err { IfErr result (StopsCommand (map_command policy.now) (F.state files.old) (F.state files.new)) }
     ensures follows { Follows (F.state files.old) (F.state files.new) }
 {
     let bytes = load(alloc, policy, POLICY_MOST, files)?;
@@ -55,7 +55,7 @@ pub(crate) fn map<'a, F: Files, S: Sink>(
     files: &mut F,
     out: &mut S,
 ) -> Outcome<'a>
-    ensures came { Came (Some (map_command policy.now)) (F.state files.old) (F.state files.new) (S.state out.old) (S.state out.new) result }
+    ensures came { ComesOfCommand (Some (map_command policy.now)) (F.state files.old) (F.state files.new) (S.state out.old) (S.state out.new) result }
     ensures follows { Follows (F.state files.old) (F.state files.new) }
 {
     match read_placed(alloc, policy, files) {
@@ -70,8 +70,8 @@ fn read_lawful<'a, F: Files>(
     policy: &'a str,
     files: &mut F,
 ) -> Result<Lawful, CommandError<'a>>
-    ensures ok { IfOk result (λ x. Gives (flows_command policy.now) (F.state files.old) (prints (flow_text_of (source_of x)))) }
-    ensures err { IfErr result (Stops (flows_command policy.now) (F.state files.old) (F.state files.new)) }
+    ensures ok { IfOk result (λ x. IsAnswered (flows_command policy.now) (F.state files.old) (prints (flow_text_of (source_of x)))) }
+    ensures err { IfErr result (StopsCommand (flows_command policy.now) (F.state files.old) (F.state files.new)) }
     ensures follows { Follows (F.state files.old) (F.state files.new) }
 {
     let bytes = load(alloc, policy, POLICY_MOST, files)?;
@@ -103,7 +103,7 @@ pub(crate) fn flows<'a, F: Files, S: Sink>(
     files: &mut F,
     out: &mut S,
 ) -> Outcome<'a>
-    ensures came { Came (Some (flows_command policy.now)) (F.state files.old) (F.state files.new) (S.state out.old) (S.state out.new) result }
+    ensures came { ComesOfCommand (Some (flows_command policy.now)) (F.state files.old) (F.state files.new) (S.state out.old) (S.state out.new) result }
     ensures follows { Follows (F.state files.old) (F.state files.new) }
 {
     match read_lawful(alloc, policy, files) {

@@ -5,6 +5,7 @@ ghost use Rattle.muen_outside.specs.Puts.{Puts};
 ghost use Rattle.muen_top.specs.Reports.{error_text, line_of, refusal_status, status_of, usage_text, Reported};
 
 use crate::outcome::{CommandError, Outcome};
+use crate::status::Status;
 use itoa::Buffer;
 use muen_num::Pieces;
 use muen_outside::{Sink, SinkFault, put_pieces};
@@ -68,7 +69,7 @@ pub(crate) fn report<S: Sink>(outcome: &Outcome<'_>, err: &mut S)
     }
 }
 
-fn refusal_status(refusal: &Refusal) -> u8
+fn refusal_status(refusal: &Refusal) -> Status
     ensures { result ≡ refusal_status refusal.now }
 {
     match refusal {
@@ -76,25 +77,26 @@ fn refusal_status(refusal: &Refusal) -> u8
         | Refusal::Shape { .. }
         | Refusal::Rule { .. }
         | Refusal::FileFit { .. }
-        | Refusal::NoRoom { .. } => 2,
-        Refusal::Missing { .. } | Refusal::TooLong { .. } => 3,
-        Refusal::NoMemory => 8,
+        | Refusal::NoRoom { .. } => Status::PolicyRefused,
+        Refusal::Missing { .. } | Refusal::TooLong { .. } => Status::FileMissing,
+        Refusal::NoMemory => Status::NoMemory,
     }
 }
 
 /// The status of how a command ended.
-pub(crate) fn status(outcome: &Outcome<'_>) -> u8
+pub(crate) fn status(outcome: &Outcome<'_>) -> Status
     ensures { result ≡ status_of outcome.now }
 {
     match outcome {
-        Outcome::Done => 0,
-        Outcome::Stopped(CommandError::Usage) => 1,
+        Outcome::Done => Status::Done,
+        Outcome::Stopped(CommandError::Usage) => Status::Usage,
         Outcome::Stopped(CommandError::Refused(refusal)) => refusal_status(refusal),
-        Outcome::Stopped(CommandError::Missing(_) | CommandError::TooLong(_, _)) => 3,
-        Outcome::Stopped(CommandError::FileFault) => 4,
-        Outcome::Stopped(CommandError::ImageRefused(_)) => 5,
-        Outcome::Stopped(CommandError::RecordRefused(_)) => 6,
-        Outcome::OutputFault => 7,
-        Outcome::Stopped(CommandError::NoMemory) => 8,
+        Outcome::Stopped(CommandError::Missing(_) | CommandError::TooLong(_, _)) =>
+            Status::FileMissing,
+        Outcome::Stopped(CommandError::FileFault) => Status::FileFault,
+        Outcome::Stopped(CommandError::ImageRefused(_)) => Status::ImageRefused,
+        Outcome::Stopped(CommandError::RecordRefused(_)) => Status::RecordRefused,
+        Outcome::OutputFault => Status::OutputFault,
+        Outcome::Stopped(CommandError::NoMemory) => Status::NoMemory,
     }
 }

@@ -4,9 +4,9 @@ ghost use Rattle.kernel_core.specs.Ticks.{CanRun};
 ghost use Rattle.muen_run.specs.RunText.{image_text};
 ghost use Rattle.muen_build.specs.Looks.{Follows};
 ghost use Rattle.muen_top.specs.Answers.{prints};
-ghost use Rattle.muen_top.specs.Calls.{Came};
+ghost use Rattle.muen_top.specs.Calls.{ComesOfCommand};
 ghost use Rattle.muen_top.specs.Commands.{run as run_command};
-ghost use Rattle.muen_top.specs.PolicyCommands.{Gives, Stops};
+ghost use Rattle.muen_top.specs.PolicyCommands.{IsAnswered, StopsCommand};
 ghost use Rattle.muen_top.specs.Runs.{RunsTo};
 
 use crate::loading::{load, load_too};
@@ -33,9 +33,9 @@ fn read_both<'a, F: Files>(
     inputs: &'a str,
     files: &mut F,
 ) -> Result<Loaded, CommandError<'a>>
-    ensures ok { IfOk result (λ x. Gives (run_command image.now inputs.now) (F.state files.old) (prints (image_text x.parts x.input))) }
+    ensures ok { IfOk result (λ x. IsAnswered (run_command image.now inputs.now) (F.state files.old) (prints (image_text x.parts x.input))) }
     ensures can_run { IfOk result (λ x. CanRun x.input) }
-    ensures err { IfErr result (Stops (run_command image.now inputs.now) (F.state files.old) (F.state files.new)) }
+    ensures err { IfErr result (StopsCommand (run_command image.now inputs.now) (F.state files.old) (F.state files.new)) }
     ensures follows { Follows (F.state files.old) (F.state files.new) }
 {
     let bytes = load(alloc, image, IMAGE_MOST, files)?;
@@ -70,7 +70,7 @@ pub(crate) fn run<'a, F: Files, S: Sink>(
     files: &mut F,
     out: &mut S,
 ) -> Outcome<'a>
-    ensures came { Came (Some (run_command image.now inputs.now)) (F.state files.old) (F.state files.new) (S.state out.old) (S.state out.new) result }
+    ensures came { ComesOfCommand (Some (run_command image.now inputs.now)) (F.state files.old) (F.state files.new) (S.state out.old) (S.state out.new) result }
     ensures follows { Follows (F.state files.old) (F.state files.new) }
 {
     match read_both(alloc, image, inputs, files) {

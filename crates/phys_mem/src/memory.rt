@@ -27,17 +27,15 @@ pub trait PhysMem: Drop {
         ensures done { result ≡ is_there (pages self.old) (at / 4096) }
         ensures after { pages self.new ≡ store_of (pages self.old) at (bytes_of size) value };
 
-    /// The bytes of a page, lent. None where it isn't there.
-    fn page(&self, at: u64) -> Option<&[u8]>
-        requires { at % 4096 ≡ 0 }
-        ensures { option_map (λ p. p.now) result ≡ page_of (pages self.now) (at / 4096) };
+    /// The bytes of the page of this number, lent. None where it isn't there.
+    fn page(&self, number: u64) -> Option<&[u8; PAGE_BYTES]>
+        ensures { option_map (λ p. p.now) result ≡ page_of (pages self.now) number };
 
-    /// The bytes of a page, lent for writing: what is left in them is what the page has then, and
-    /// all other pages stay as they are. None where it isn't there.
-    fn page_mut(&mut self, at: u64) -> Option<&mut [u8; PAGE_BYTES]>
-        requires { at % 4096 ≡ 0 }
-        ensures value { option_map (λ p. p.now) result ≡ page_of (pages self.old) (at / 4096) }
+    /// The bytes of the page of this number, lent for writing: what is left in them is what the page
+    /// has then, and all other pages stay as they are. None where it isn't there.
+    fn page_mut(&mut self, number: u64) -> Option<&mut [u8; PAGE_BYTES]>
+        ensures value { option_map (λ p. p.now) result ≡ page_of (pages self.old) number }
         ensures* lends { sem 𝓛 (LendsSo Self.row (Array byte 4096) self.entry result
-            (λ n w. OnSome result (pages n ≡ change (pages self.old) (at / 4096) (λ _. w)))
+            (λ n w. OnSome result (pages n ≡ change (pages self.old) number (λ _. w)))
             (λ n. pages n ≡ pages self.old)) };
 }

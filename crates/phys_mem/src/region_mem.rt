@@ -10,7 +10,7 @@ use muen_num::{AccessSize, NoMemory};
 use std::alloc::Global;
 
 /// Memory that is made of spans of pages. A page is found by a binary search over the pages' numbers.
-#[derive(Drop)]
+#[derive(Debug, Drop)]
 pub struct RegionMem {
     numbers: Vec<u64>,
     frames: Vec<[u8; PAGE_BYTES]>,
@@ -70,14 +70,9 @@ impl PhysMem for RegionMem {
     ghost pages = { pages_kept };
 
     fn load(&self, at: u64, size: AccessSize) -> Option<u64> {
-        match self.find_page(at / PAGE) {
-            None => None,
-            Some(i) => {
-                let page = &self.frames[i];
-                let from = (at % PAGE) as usize;
-                Some(number_of(&page[from..from + size.bytes() as usize]))
-            }
-        }
+        let page = self.page(at / PAGE)?;
+        let from = (at % PAGE) as usize;
+        Some(number_of(&page[from..from + size.bytes() as usize]))
     }
 
     fn store(&mut self, at: u64, size: AccessSize, value: u64) -> bool {
@@ -92,15 +87,13 @@ impl PhysMem for RegionMem {
         }
     }
 
-    fn page(&self, at: u64) -> Option<&[u8]> {
-        match self.find_page(at / PAGE) {
-            None => None,
-            Some(i) => Some(self.frames[i].as_slice()),
-        }
+    fn page(&self, number: u64) -> Option<&[u8; PAGE_BYTES]> {
+        let i = self.find_page(number)?;
+        self.frames.get(i)
     }
 
-    fn page_mut(&mut self, at: u64) -> Option<&mut [u8; PAGE_BYTES]> {
-        match self.find_page(at / PAGE) {
+    fn page_mut(&mut self, number: u64) -> Option<&mut [u8; PAGE_BYTES]> {
+        match self.find_page(number) {
             None => None,
             Some(i) => self.frames.get_mut(i),
         }

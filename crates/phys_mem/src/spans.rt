@@ -6,7 +6,7 @@ use crate::memory::PAGE_BYTES;
 use muen_num::{NoMemory, Seq};
 
 /// A part of memory that is made of whole pages, and what it has at first.
-#[derive(Drop)]
+#[derive(Debug, Drop)]
 pub struct MemorySpan {
     /// The physical address of its first byte.
     pub address: u64,

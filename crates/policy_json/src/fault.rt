@@ -7,7 +7,7 @@ use policy_types::{Fault, Place, Want};
 use std::alloc::Global;
 
 /// Why a value was not read.
-#[derive(Drop)]
+#[derive(Debug, Drop)]
 pub enum ReadError {
     /// It is not as wanted, first at this place, as seen from the value.
     Fault(Fault),

@@ -105,7 +105,7 @@ impl Shape for Role {
 }
 
 /// Bytes that a text of hexadecimal digits spells. Contracts see the bytes.
-#[derive(Drop)]
+#[derive(Debug, Drop)]
 pub struct Hexadecimal {
     /// The bytes.
     pub bytes: Seq<u8>,

@@ -1,3 +1,8 @@
+pub mod ChosenEntries
+pub mod EachPasses
+pub mod EachView
+pub mod EndsByIndex
+pub mod ExtentsByIndex
 pub mod Indexes
 pub mod Keeps
 pub mod KeptAddresses
@@ -6,10 +11,20 @@ pub mod KeptCpus
 pub mod KeptLimits
 pub mod KeptMajors
 pub mod KeptMembers
+pub mod KeptMsrs
 pub mod KeptPlan
+pub mod KeptPorts
 pub mod KeptRules
+pub mod KeptVectors
+pub mod KeptViews
+pub mod Mapped
+pub mod NameSets
 pub mod Naming
 pub mod Offences
+pub mod Positions
+pub mod RegionsByIndex
 mod RuleExamples
+pub mod SeenAtIndex
 pub mod SourceElements
 pub mod UniqueNames
+pub mod WindowsByIndex

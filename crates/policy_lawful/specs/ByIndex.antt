@@ -1,10 +1,14 @@
 -- What a resolved policy says, by indexes.
-use Rattle.std.specs.Prelude.{ℕ, ◌&&◌, Bool, length, nat_le}
+use Rattle.std.specs.Prelude.{ℕ, ◌&&◌, Bool, List, [], length, nat_le, Option, Some, None, slice_get}
+use Rattle.std.specs.Option.{option_map_or}
 use Rattle.std.specs.List.{sum_by}
 use Rattle.muen_num.specs.declared.limits.TheConstants.{MOST_MINOR_FRAMES, MOST_TICKS}
 use Rattle.policy_lawful.specs.declared.offence.Extent.{Extent}
+use Rattle.policy_lawful.specs.declared.resolved.ComponentUse.{ComponentUse}
 use Rattle.policy_lawful.specs.declared.resolved.CpuFrames.{CpuFrames}
 use Rattle.policy_types.specs.declared.source.Block.{Block}
+use Rattle.policy_types.specs.declared.source.Component.{Component}
+use Rattle.policy_types.specs.declared.source.Provided.{Provided}
 
 -- a block as a named range of physical memory
 abbrev pub block_extent : Block → Extent
@@ -17,3 +21,8 @@ ticks_in c = sum_by (λ f. f.ticks) c.minor_frames
 -- an entry within the limits
 abbrev pub is_short : CpuFrames → Bool
 is_short c = nat_le (ticks_in c) MOST_TICKS && nat_le (length c.minor_frames) MOST_MINOR_FRAMES
+
+-- what the component at a use's index brings along
+abbrev pub provided_at : List Component → Option ComponentUse → List Provided
+provided_at components None = []
+provided_at components (Some used) = option_map_or (λ c. c.provides) (slice_get components used.used) []

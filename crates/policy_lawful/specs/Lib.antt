@@ -4,6 +4,7 @@ pub use Rattle.policy_meaning.specs.Frames
 pub use Rattle.policy_meaning.specs.Thing
 pub use Rattle.policy_meaning.specs.Windows
 pub mod ByIndex
+pub mod Counts
 pub mod Domains
 pub mod Keeps
 pub mod Lawful
@@ -11,3 +12,4 @@ pub mod MoreRules
 pub mod Offences
 pub mod Resolution
 pub mod Rules
+pub mod Views

@@ -4,14 +4,8 @@ use Rattle.std.specs.Option.{option_map_or}
 use Rattle.std.specs.List.{list_all}
 use Rattle.policy_lawful.specs.Rules.{offence_1, offence_2}
 use Rattle.policy_types.specs.declared.source.Source.{Source}
-use Rattle.policy_types.specs.declared.source.Processor.{Processor}
-use Rattle.policy_types.specs.declared.source.Block.{Block}
 use Rattle.policy_types.specs.declared.source.Device.{Device}
-use Rattle.policy_types.specs.declared.source.Region.{Region}
-use Rattle.policy_types.specs.declared.source.Channel.{Channel}
 use Rattle.policy_types.specs.declared.source.Component.{Component}
-use Rattle.policy_types.specs.declared.source.Event.{Event}
-use Rattle.policy_types.specs.declared.source.Domain.{Domain}
 use Rattle.policy_types.specs.declared.source.ComponentUse.{ComponentUse}
 use Rattle.policy_types.specs.declared.source.MapEntry.{MapEntry}
 use Rattle.policy_types.specs.declared.source.Mapping.{Mapping}
@@ -21,6 +15,7 @@ use Rattle.policy_types.specs.declared.source.Subject.{Subject}
 use Rattle.policy_types.specs.declared.source.Group.{Group}
 use Rattle.policy_types.specs.declared.source.MajorFrame.{MajorFrame}
 use Rattle.policy_types.specs.declared.source.CpuFrames.{CpuFrames}
+use Rattle.policy_lawful.specs.declared.resolved.Elements.{Elements}
 use Rattle.policy_lawful.specs.declared.resolved.ComponentUse.{ComponentUse as UsedComponent}
 use Rattle.policy_lawful.specs.declared.resolved.MapEntry.{MapEntry as ResolvedEntry}
 use Rattle.policy_lawful.specs.declared.resolved.Wanted.{Wanted}
@@ -29,22 +24,13 @@ use Rattle.policy_lawful.specs.declared.resolved.Mapping.{Mapping as ResolvedMap
 use Rattle.policy_lawful.specs.declared.resolved.ChannelUse.{ChannelUse as ResolvedChannel}
 use Rattle.policy_lawful.specs.declared.resolved.DeviceUse.{DeviceUse as ResolvedDevice}
 use Rattle.policy_lawful.specs.declared.resolved.Subject.{Subject as ResolvedSubject}
-use Rattle.policy_lawful.specs.declared.resolved.Scheduling.{Scheduling as ResolvedScheduling}
 use Rattle.policy_lawful.specs.declared.resolved.Group.{Group as ResolvedGroup}
 use Rattle.policy_lawful.specs.declared.resolved.MajorFrame.{MajorFrame as ResolvedMajor}
 use Rattle.policy_lawful.specs.declared.resolved.CpuFrames.{CpuFrames as ResolvedCpu}
 
-pub record Resolution : Type 0 where
-  pub processor : Processor
-  pub memory_blocks : List Block
-  pub devices : List Device
-  pub memory : List Region
-  pub channels : List Channel
-  pub components : List Component
-  pub events : List Event
-  pub subjects : List ResolvedSubject
-  pub scheduling : ResolvedScheduling
-  pub device_domains : List Domain
+-- what contracts see of a resolved policy: its elements
+abbrev pub Resolution : Type 0
+Resolution = Elements
 
 -- ---- the names that stand for indexes
 

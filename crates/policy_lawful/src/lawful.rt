@@ -7,7 +7,7 @@ use crate::resolved::Resolved;
 use std::marker::Model;
 
 /// A resolved policy that keeps every rule.
-#[derive(Drop)]
+#[derive(Debug, Drop)]
 pub struct Lawful {
     resolved: Resolved,
 }

@@ -1,119 +1,68 @@
 //! The elements of a policy whose references are resolved: where the document names a declared
 //! thing, its index in the list that declares it stands. All else is as in the document.
-ghost use Rattle.std.specs.Prelude.{◌≡◌};
+ghost use Rattle.std.specs.Prelude.{◌≡◌, map};
 ghost use Rattle.policy_lawful.specs.Resolution.{IsResolved};
+ghost use Rattle.policy_lawful.specs.Views.{seen_by};
 
+use crate::view::{IndexedEnd, Seen, View};
 use muen_num::{Name, Seq};
 use policy_types::source::{
-    Block, Channel, Component, Device, Domain, Event, Msrs, Processor, Region, SourceWay, Tau0,
+    Block, Channel, Component, Device, Domain, Event, Msrs, Processor, Provided, Region, SourceWay,
+    Tau0,
 };
 use policy_types::{Rights, Role};
 use std::marker::Model;
 
+/// The elements of a policy.
+#[derive(Debug, Drop)]
+pub struct Elements {
+    pub processor: Processor,
+    pub memory_blocks: Seq<Block>,
+    pub devices: Seq<Device>,
+    pub memory: Seq<Region>,
+    pub channels: Seq<Channel>,
+    pub components: Seq<Component>,
+    pub events: Seq<Event>,
+    pub subjects: Seq<Subject>,
+    pub scheduling: Scheduling,
+    /// The domains of devices, by names.
+    pub device_domains: Seq<Domain>,
+}
+
 /// A policy whose references are resolved: names are unique for each kind, and each reference names
-/// a declared thing.
-#[derive(Drop)]
+/// a declared thing. What its subjects see is kept with it.
+#[derive(Debug, Drop)]
 pub struct Resolved {
-    processor: Processor,
-    memory_blocks: Seq<Block>,
-    devices: Seq<Device>,
-    memory: Seq<Region>,
-    channels: Seq<Channel>,
-    components: Seq<Component>,
-    events: Seq<Event>,
-    subjects: Seq<Subject>,
-    scheduling: Scheduling,
-    device_domains: Seq<Domain>,
+    elements: Elements,
+    // For each subject, in order.
+    seen: Seq<Seen>,
 }
 
 impl Model for Resolved {
+    ghost use Rattle.std.specs.Prelude.{◌≡◌, map};
     ghost use Rattle.policy_lawful.specs.Resolution.{Resolution, IsResolved};
+    ghost use Rattle.policy_lawful.specs.Views.{seen_by};
 
     ghost Value = { Resolution };
 
-    ghost view = { λ r. record {
-      processor = r.processor;
-      memory_blocks = r.memory_blocks;
-      devices = r.devices;
-      memory = r.memory;
-      channels = r.channels;
-      components = r.components;
-      events = r.events;
-      subjects = r.subjects;
-      scheduling = r.scheduling;
-      device_domains = r.device_domains;
-    } };
+    ghost view = { λ r. r.elements };
 
-    ghost invariant = { λ r. IsResolved (record {
-      processor = r.processor;
-      memory_blocks = r.memory_blocks;
-      devices = r.devices;
-      memory = r.memory;
-      channels = r.channels;
-      components = r.components;
-      events = r.events;
-      subjects = r.subjects;
-      scheduling = r.scheduling;
-      device_domains = r.device_domains;
-    }) };
+    ghost invariant = { λ r. IsResolved r.elements × (r.seen ≡ map (seen_by r.elements) r.elements.subjects) };
 }
 
 impl Resolved {
-    /// The policy of these elements.
-    pub fn make(
-        processor: Processor,
-        memory_blocks: Seq<Block>,
-        devices: Seq<Device>,
-        memory: Seq<Region>,
-        channels: Seq<Channel>,
-        components: Seq<Component>,
-        events: Seq<Event>,
-        subjects: Seq<Subject>,
-        scheduling: Scheduling,
-        device_domains: Seq<Domain>,
-    ) -> Resolved
-        requires { IsResolved (record {
-          processor = processor;
-          memory_blocks = memory_blocks;
-          devices = devices;
-          memory = memory;
-          channels = channels;
-          components = components;
-          events = events;
-          subjects = subjects;
-          scheduling = scheduling;
-          device_domains = device_domains;
-        }) }
-        ensures { result ≡ record {
-          processor = processor;
-          memory_blocks = memory_blocks;
-          devices = devices;
-          memory = memory;
-          channels = channels;
-          components = components;
-          events = events;
-          subjects = subjects;
-          scheduling = scheduling;
-          device_domains = device_domains;
-        } }
+    /// The policy of these elements, of which each subject sees this, in order.
+    pub fn make(elements: Elements, seen: Seq<Seen>) -> Resolved
+        requires resolved { IsResolved elements }
+        requires seen { seen ≡ map (seen_by elements) elements.subjects }
+        ensures { result ≡ elements }
     {
-        Resolved {
-            processor,
-            memory_blocks,
-            devices,
-            memory,
-            channels,
-            components,
-            events,
-            subjects,
-            scheduling,
-            device_domains,
-        }
+        Resolved { elements, seen }
     }
 }
 
 /// A subject.
-#[derive(Drop)]
+#[derive(Debug, Drop)]
 pub struct Subject {
     pub name: Name,
     pub cpu: u64,
@@ -282,27 +231,29 @@ pub struct MinorFrame {
 }
 
 impl Resolved {
+    ghost use Rattle.policy_lawful.specs.ByIndex.{provided_at};
     ghost use Rattle.policy_lawful.specs.Resolution.{IsResolved};
+    ghost use Rattle.policy_lawful.specs.Views.{channel_ends_at, views_at};
 
     /// The processor.
     pub fn processor(&self) -> &Processor
         ensures { result.now ≡ self.now.processor }
     {
-        &self.processor
+        &self.elements.processor
     }
 
     /// The blocks of physical memory.
     pub fn memory_blocks(&self) -> &[Block]
         ensures { result.now ≡ self.now.memory_blocks }
     {
-        self.memory_blocks.items()
+        self.elements.memory_blocks.items()
     }
 
     /// The devices.
     pub fn devices(&self) -> &[Device]
         ensures { result.now ≡ self.now.devices }
     {
-        self.devices.items()
+        self.elements.devices.items()
     }
 
     /// The regions of memory.
@@ -310,28 +261,28 @@ impl Resolved {
         ensures value { result.now ≡ self.now.memory }
         ensures resolved { IsResolved self.now }
     {
-        self.memory.items()
+        self.elements.memory.items()
     }
 
     /// The channels.
     pub fn channels(&self) -> &[Channel]
         ensures { result.now ≡ self.now.channels }
     {
-        self.channels.items()
+        self.elements.channels.items()
     }
 
     /// The components.
     pub fn components(&self) -> &[Component]
         ensures { result.now ≡ self.now.components }
     {
-        self.components.items()
+        self.elements.components.items()
     }
 
     /// The events.
     pub fn events(&self) -> &[Event]
         ensures { result.now ≡ self.now.events }
     {
-        self.events.items()
+        self.elements.events.items()
     }
 
     /// The subjects.
@@ -339,7 +290,7 @@ impl Resolved {
         ensures value { result.now ≡ self.now.subjects }
         ensures resolved { IsResolved self.now }
     {
-        self.subjects.items()
+        self.elements.subjects.items()
     }
 
     /// The scheduling plan.
@@ -347,12 +298,48 @@ impl Resolved {
         ensures value { result.now ≡ self.now.scheduling }
         ensures resolved { IsResolved self.now }
     {
-        &self.scheduling
+        &self.elements.scheduling
     }
+
     /// The domains of devices, by names.
     pub fn device_domains(&self) -> &[Domain]
         ensures { result.now ≡ self.now.device_domains }
     {
-        self.device_domains.items()
+        self.elements.device_domains.items()
+    }
+
+    /// The windows of the subject at an index: its mappings, its channels, its devices' memory, those
+    /// of its component, the state pages that it monitors. None, where no subject is there.
+    pub fn views(&self, index: usize) -> &[View]
+        ensures { result.now ≡ views_at self.now index }
+    {
+        match self.seen.items().get(index) {
+            None => &[],
+            Some(seen) => seen.views.items(),
+        }
+    }
+
+    /// The ends of channels of the subject at an index, its own and then those of its component.
+    /// None, where no subject is there.
+    pub fn channel_ends(&self, index: usize) -> &[IndexedEnd]
+        ensures { result.now ≡ channel_ends_at self.now index }
+    {
+        match self.seen.items().get(index) {
+            None => &[],
+            Some(seen) => seen.channel_ends.items(),
+        }
+    }
+
+    /// The regions that the component of a subject brings along.
+    pub fn provided_by(&self, subject: &Subject) -> &[Provided]
+        ensures { result.now ≡ provided_at self.now.components subject.now.component }
+    {
+        match &subject.component {
+            None => &[],
+            Some(used) => match self.elements.components.items().get(used.used) {
+                None => &[],
+                Some(component) => component.provides.items(),
+            },
+        }
     }
 }

@@ -1,5 +1,5 @@
 -- A subject with indexes for its references.
-use Rattle.std.proofs.Common.{◌≡◌, ℕ, true, List, ◌++◌, length, map, refl, ap, ◌∙◌}
+use Rattle.std.proofs.Common.{◌≡◌, ℕ, true, List, ◌++◌, length, map, Option, Some, None, refl, sym, ap, ◌∙◌}
 use Rattle.std.specs.Prelude.{option_map, nat_lt}
 use Rattle.std.specs.Option.{option_or, option_map_or}
 use Rattle.std.specs.List.{flat_map, list_all}
@@ -8,18 +8,58 @@ use Rattle.std.proofs.lemmas.List.{length-map}
 use Rattle.muen_num.specs.Search.{first_in}
 use Rattle.muen_num.proofs.Lists.{map-map}
 use Rattle.muen_num.proofs.SearchLaws.{first_in-append, first_over-map, option_or_assoc}
+use Rattle.policy_lawful.specs.Offences.{broken}
 use Rattle.policy_lawful.specs.Resolution.{component_named, component_in_range, subject_named, subject_in_range, name_at}
 use Rattle.policy_lawful.specs.Rules.{component_references, device_references, refers, subject_references, undeclared}
+use Rattle.policy_lawful.specs.declared.offence.Offence.{Offence}
+use Rattle.policy_lawful.specs.declared.resolved.EventSource.{EventSource as ResolvedSource}
+use Rattle.policy_lawful.specs.declared.resolved.EventTarget.{EventTarget as ResolvedTarget}
 use Rattle.policy_lawful.specs.declared.resolved.Monitor.{Monitor as ResolvedMonitor}
 use Rattle.policy_lawful.specs.declared.resolved.Subject.{Subject as ResolvedSubject}
+use Rattle.policy_types.specs.declared.source.EventSource.{EventSource}
+use Rattle.policy_types.specs.declared.source.EventTarget.{EventTarget}
+use Rattle.policy_types.specs.declared.source.Monitor.{Monitor}
 use Rattle.policy_types.specs.declared.source.Source.{Source}
 use Rattle.policy_types.specs.declared.source.Subject.{Subject}
 use Rattle.policy_names.specs.Outline.{bare_subject, outline}
-use Rattle.policy_names.specs.Indexes.{StandsFor}
+use Rattle.policy_names.specs.Indexes.{StandsFor, all_below}
 use Rattle.policy_names.specs.SubjectParts.{SignalsStand, WindowsStand, signals_offence, windows_offence}
 use Rattle.policy_names.proofs.Refusals.{first_in-flat_map, one_behind_another}
 
 pub ruleset as_many = (length-map, one_behind_another)
+
+-- ---- its signals
+
+-- of three offences there is none
+none_of : (number : ℕ) (a b c : Option Offence) → broken number a ≡ None → broken number b ≡ None → broken number c ≡ None → broken number (option_or a (option_or b c)) ≡ None
+none_of number (Some x) b c none none_2 none_3 = absurd (cc)
+none_of number None (Some x) c none none_2 none_3 = absurd (cc)
+none_of number None None c none none_2 none_3 = none_3
+
+-- indexes among the names of these elements are below the number of the elements
+below : {X Y : Type 0} (index : X → ℕ) (f : Y → List ℕ) (ys : List Y) (xs : List X) → all_below index (length (map f ys)) xs ≡ true → all_below index (length ys) xs ≡ true
+below index f ys xs h = sym (ap (λ n. all_below index n xs) (length-map ys f)) ∙ h
+
+-- events and subjects, each list found among their names
+pub signals_resolved : (p : Source) (s : Subject) (raised : List ResolvedSource) (heard : List ResolvedTarget) (watched : List ResolvedMonitor)
+    → (broken 2 (first_in (λ e. undeclared (refers s.name (map (λ x. x.name) p.events) e.event)) s.sources) ≡ None)
+    × StandsFor {X = List ResolvedSource} {Y = List EventSource} (map (λ e. record { event = name_at (map (λ x. x.name) p.events) e.event; way = e.way })) (all_below (λ e. e.event) (length (map (λ x. x.name) p.events))) s.sources raised
+    → (broken 2 (first_in (λ e. undeclared (refers s.name (map (λ x. x.name) p.events) e.event)) s.targets) ≡ None)
+    × StandsFor {X = List ResolvedTarget} {Y = List EventTarget} (map (λ e. record { event = name_at (map (λ x. x.name) p.events) e.event; vector = e.vector })) (all_below (λ e. e.event) (length (map (λ x. x.name) p.events))) s.targets heard
+    → (broken 2 (first_in (λ m. undeclared (refers s.name (map (λ x. x.name) p.subjects) m.subject)) s.monitors) ≡ None)
+    × StandsFor {X = List ResolvedMonitor} {Y = List Monitor} (map (λ m. record { subject = name_at (map (λ x. x.name) p.subjects) m.subject; virtual_address = m.virtual_address; rights = m.rights })) (all_below (λ m. m.subject) (length (map (λ x. x.name) p.subjects))) s.monitors watched
+    → (broken 2 (signals_offence p s) ≡ None) × SignalsStand p s raised heard watched
+unfolding signals_offence
+signals_resolved p s raised heard watched sources targets monitors = (
+  none_of 2 _ _ _ sources.0 targets.0 monitors.0,
+  record {
+    sources = record { same = sources.1.same; there = below (λ e. e.event) (λ x. x.name) p.events raised sources.1.there };
+    targets = record { same = targets.1.same; there = below (λ e. e.event) (λ x. x.name) p.events heard targets.1.there };
+    monitors = record { same = monitors.1.same; there = below (λ m. m.subject) (λ x. x.name) p.subjects watched monitors.1.there };
+  },
+)
+
+-- ---- the whole subject
 
 -- rule 2, of one kind of a subject's references after another
 pub in_turn : (p : Source) (s : Subject) → first_in undeclared (subject_references p s)

@@ -1,9 +1,10 @@
 -- What a component's entry refers to, among the names of what the component wants.
-use Rattle.std.specs.Prelude.{◌≡◌, ℕ, ◌&&◌, Bool, List, length, map, nat_lt, Option, if◌then◌else◌}
+use Rattle.std.specs.Prelude.{◌≡◌, ℕ, ◌&&◌, Bool, List, length, map, nat_lt, Option, slice_get, if◌then◌else◌}
 use Rattle.std.specs.List.{list_all}
 use Rattle.std.specs.Option.{option_or}
+use Rattle.muen_num.specs.Search.{first_in}
 use Rattle.policy_lawful.specs.Resolution.{entry_in_range, entry_named, name_at}
-use Rattle.policy_lawful.specs.Rules.{is_declared, refers, undeclared}
+use Rattle.policy_lawful.specs.Rules.{entry_references, is_declared, refers, undeclared}
 use Rattle.policy_lawful.specs.declared.offence.Offence.{Offence}
 use Rattle.policy_lawful.specs.declared.resolved.ComponentUse.{ComponentUse as ResolvedUse}
 use Rattle.policy_lawful.specs.declared.resolved.MapEntry.{MapEntry as ResolvedEntry}
@@ -40,6 +41,14 @@ entry_among p names (WantedChannel index) e = record {
 abbrev pub entry_there : Source → WantedNames → Wanted → ℕ → Bool
 entry_there p names (WantedMemory index) physical = nat_lt index (length names.regions) && nat_lt physical (length p.memory)
 entry_there p names (WantedChannel index) physical = nat_lt index (length names.channels) && nat_lt physical (length p.channels)
+
+-- an entry by indexes stands for this one
+abbrev pub EntryStands : Source → WantedNames → MapEntry → ResolvedEntry → Type 0
+EntryStands p names = StandsFor (λ e. entry_among p names e.logical e) (λ e. entry_there p names e.logical e.physical)
+
+-- the first name in the entries of a use that isn't declared, in a subject that has this name
+abbrev pub entries_offence : Source → List ℕ → ℕ → ComponentUse → Option Offence
+entries_offence p by index c = first_in (λ e. first_in undeclared (entry_references p by (slice_get p.components index) e)) c.map
 
 -- the entries of a use stand for those of another, and its component stands at this index
 pub record EntriesStand (p : Source) (index : ℕ) (c : ComponentUse) (r : ResolvedUse) : Type 0 where

@@ -1,5 +1,5 @@
 -- The names of parts: what a device has, and what a component wants.
-use Rattle.std.specs.Prelude.{List, ℕ, map, not, Option}
+use Rattle.std.specs.Prelude.{◌≡◌, List, ℕ, map, not, Option}
 use Rattle.std.specs.Option.{option_or}
 use Rattle.std.specs.Str.{bytes_eq}
 use Rattle.muen_num.specs.Search.{first_in, first_after, unless}
@@ -49,3 +49,13 @@ components_repeat p = option_or (repeats (map (λ c. c.name) p.components)) (fir
 -- of events, subjects and groups
 unfoldable pub members_repeat : Source → Option Offence
 members_repeat p = option_or (repeats (map (λ e. e.name) p.events)) (option_or (repeats (map (λ s. s.name) p.subjects)) (repeats (map (λ g. g.name) p.scheduling.groups)))
+
+-- ---- these names, found
+
+-- the names of a policy's components, and of what they want
+abbrev pub AreComponentNames : Source → List (List ℕ) × List WantedNames → Type 0
+AreComponentNames p x = (x.0 ≡ map (λ c. c.name) p.components) × (x.1 ≡ map names_of_wanted p.components)
+
+-- those of its events, its subjects and its groups
+abbrev pub AreMemberNames : Source → List (List ℕ) × List (List ℕ) × List (List ℕ) → Type 0
+AreMemberNames p x = (x.0 ≡ map (λ e. e.name) p.events) × (x.1 ≡ map (λ s. s.name) p.subjects) × (x.2 ≡ map (λ g. g.name) p.scheduling.groups)

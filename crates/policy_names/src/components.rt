@@ -5,11 +5,11 @@ ghost use Rattle.policy_lawful.specs.Resolution.{component_in_range, component_n
 ghost use Rattle.policy_lawful.specs.Rules.{component_references, entry_references, undeclared};
 ghost use Rattle.policy_lawful.specs.Keeps.{Keeps};
 ghost use Rattle.policy_lawful.specs.Offences.{broken};
-ghost use Rattle.policy_names.specs.Entries.{EntriesStand, entry_among, entry_offence, entry_there};
+ghost use Rattle.policy_names.specs.Entries.{EntriesStand, EntryStands, entries_offence, entry_offence};
 ghost use Rattle.policy_names.specs.Indexes.{StandsFor};
 ghost use Rattle.policy_names.specs.Outline.{outline};
 
-use crate::name_set::not_declared;
+use crate::declared::{find, not_declared, refer};
 use crate::parts::WantedNames;
 use crate::refers::{Refers, resolve_all};
 use crate::scope::Scope;
@@ -55,18 +55,18 @@ fn resolve_entry(
     by: Name,
     entry: &source::MapEntry,
 ) -> Result<resolved::MapEntry, Refusal>
-    ensures { let p = scope.now.source.now in Keeps (broken 2 (entry_offence p names.now by entry.now)) (StandsFor (λ e. entry_among p names.now e.logical e) (λ e. entry_there p names.now e.logical e.physical) entry.now) result }
+    ensures { let p = scope.now.source.now in Keeps (broken 2 (entry_offence p names.now by entry.now)) (EntryStands p names.now entry.now) result }
 {
-    if let Some(index) = names.channels.find(entry.logical) {
+    if let Some(index) = find(&names.channels, entry.logical) {
         return Ok(resolved::MapEntry {
             logical: Wanted::Channel(index),
-            physical: scope.channels.index_of(by, entry.physical)?,
+            physical: refer(&scope.channels, by, entry.physical)?,
             rights: entry.rights,
         });
     }
     Ok(resolved::MapEntry {
-        logical: Wanted::Memory(names.regions.index_of(by, entry.logical)?),
-        physical: scope.regions.index_of(by, entry.physical)?,
+        logical: Wanted::Memory(refer(&names.regions, by, entry.logical)?),
+        physical: refer(&scope.regions, by, entry.physical)?,
         rights: entry.rights,
     })
 }
@@ -91,7 +91,7 @@ impl Refers for source::ComponentUse {
         scope: &Scope,
         by: Name,
     ) -> Result<resolved::ComponentUse, Refusal> {
-        let component = scope.components.index_of(by, self.used)?;
+        let component = refer(&scope.components, by, self.used)?;
         resolve_entries(
             alloc,
             scope,
@@ -111,7 +111,7 @@ fn resolve_entries(
     by: Use,
     used: &source::ComponentUse,
 ) -> Result<resolved::ComponentUse, Refusal>
-    ensures { let p = scope.now.source.now in Keeps (broken 2 (first_in (λ e. first_in undeclared (entry_references p by.subject (slice_get p.components by.component) e)) used.now.map)) (EntriesStand p by.component used.now) result }
+    ensures { let p = scope.now.source.now in Keeps (broken 2 (entries_offence p by.subject by.component used.now)) (EntriesStand p by.component used.now) result }
 {
     Ok(resolved::ComponentUse {
         used: by.component,

@@ -7,6 +7,7 @@ ghost use Rattle.policy_lawful.specs.Offences.{broken};
 ghost use Rattle.policy_names.specs.DeviceParts.{PartsStand, parts_offence};
 ghost use Rattle.policy_names.specs.Outline.{outline};
 
+use crate::declared::refer;
 use crate::parts::DeviceNames;
 use crate::refers::{Refers, resolve_all_in};
 use crate::scope::Scope;
@@ -33,7 +34,7 @@ impl Refers for source::DeviceUse {
         scope: &Scope,
         by: Name,
     ) -> Result<resolved::DeviceUse, Refusal> {
-        let index = scope.devices.index_of(by, self.device)?;
+        let index = refer(&scope.devices, by, self.device)?;
         resolve_parts(alloc, scope.parts_at(index), by, index, self)
     }
 }

@@ -1,12 +1,12 @@
 //! Frames, which refer to groups.
-ghost use Rattle.std.specs.List.{enumerate_from, list_all};
+ghost use Rattle.std.specs.List.{list_all};
 ghost use Rattle.std.specs.Prelude.{◌≡◌, length, map, nat_lt, true};
 ghost use Rattle.muen_num.specs.Search.{first_in};
 ghost use Rattle.policy_lawful.specs.Keeps.{Keeps};
 ghost use Rattle.policy_lawful.specs.Offences.{broken};
 ghost use Rattle.policy_lawful.specs.Resolution.{cpu_named, major_in_range, major_named};
 ghost use Rattle.policy_lawful.specs.Rules.{frame_references, refers, undeclared};
-ghost use Rattle.policy_names.specs.Outline.{outline};
+ghost use Rattle.policy_names.specs.Outline.{majors_in_range, majors_named, majors_undeclared, outline};
 ghost use Rattle.policy_names.specs.Indexes.{StandsFor};
 
 use crate::refers::{Refers, resolve_all, resolve_all_in};
@@ -78,7 +78,7 @@ pub fn resolve_majors(
     scope: &Scope,
     majors: &[source::MajorFrame],
 ) -> Result<Seq<resolved::MajorFrame>, Refusal>
-    ensures { let p = scope.now.source.now in Keeps (broken 2 (first_in (λ m. first_in undeclared (frame_references p m)) (enumerate_from 0 majors.now))) (StandsFor (map (major_named (outline p))) (list_all (major_in_range (outline p))) majors.now) result }
+    ensures { let p = scope.now.source.now in Keeps (broken 2 (majors_undeclared p majors.now)) (StandsFor (majors_named p) (majors_in_range p) majors.now) result }
 {
     let mut resolved_majors = Seq::new(alloc);
     for (index, major) in majors.iter().enumerate() {

@@ -14,11 +14,10 @@ ghost use Rattle.policy_names.specs.Indexes.{StandsFor};
 ghost use Rattle.policy_types.specs.declared.refusal.Refusal.TheVariants.{NoMemory};
 
 mod components;
+mod declared;
 mod devices;
 mod frames;
 mod groups;
-mod name_set;
-mod named;
 mod parts;
 mod references;
 mod refers;
@@ -29,9 +28,10 @@ use crate::frames::resolve_majors;
 use crate::refers::resolve_all;
 use crate::scope::Scope;
 use muen_num::Seq;
-use policy_lawful::Resolved;
 use policy_lawful::resolved::{Scheduling, Subject};
+use policy_lawful::{Elements, Resolved};
 use policy_types::{Refusal, Source};
+use policy_views::seen;
 use std::alloc::Global;
 
 // The elements that refer to names, with indexes in place of these.
@@ -64,7 +64,7 @@ fn resolve_source(alloc: Global, source: &Source) -> Result<(Seq<Subject>, Sched
     elements
 }
 
-/// Resolves the references of a policy.
+/// Resolves the references of a policy, and keeps what its subjects see.
 ///
 /// Answers `Rule` with the first offence against rule 1, that names are unique for each kind, else
 /// against rule 2, that each reference names a declared thing; and `NoMemory` where memory was
@@ -85,7 +85,7 @@ pub fn resolve(alloc: Global, source: Source) -> Result<Resolved, Refusal>
         device_domains,
         ..
     } = source;
-    Ok(Resolved::make(
+    let elements = Elements {
         processor,
         memory_blocks,
         devices,
@@ -96,5 +96,7 @@ pub fn resolve(alloc: Global, source: Source) -> Result<Resolved, Refusal>
         subjects,
         scheduling,
         device_domains,
-    ))
+    };
+    let seen = seen(alloc, &elements)?;
+    Ok(Resolved::make(elements, seen))
 }

@@ -6,9 +6,9 @@ ghost use Rattle.policy_lawful.specs.Offences.{broken};
 ghost use Rattle.policy_lawful.specs.Rules.{logical_names};
 ghost use Rattle.policy_names.specs.Parts.{component_repeats, device_repeats, names_of_device, names_of_wanted, repeats};
 
-use crate::name_set::NameSet;
-use crate::named::Named;
+use crate::declared::{declare, names_of};
 use muen_num::Seq;
+use policy_lawful::{NameSet, Named};
 use policy_types::Refusal;
 use policy_types::source::{Component, Device};
 use std::alloc::Global;
@@ -58,9 +58,9 @@ impl HasParts for Device {
     #[tactic(auto, using(crate::proofs::PartNames::in_lists))]
     fn collect(&self, alloc: Global) -> Result<DeviceNames, Refusal> {
         Ok(DeviceNames {
-            memory: NameSet::of(alloc, self.memory.items())?,
-            io_ports: NameSet::of(alloc, self.io_ports.items())?,
-            irqs: NameSet::of(alloc, self.irqs.items())?,
+            memory: names_of(alloc, self.memory.items())?,
+            io_ports: names_of(alloc, self.io_ports.items())?,
+            irqs: names_of(alloc, self.irqs.items())?,
         })
     }
 }
@@ -76,8 +76,8 @@ impl HasParts for Component {
     fn collect(&self, alloc: Global) -> Result<WantedNames, Refusal> {
         collect_logical_names(alloc, self)?;
         Ok(WantedNames {
-            regions: NameSet::of(alloc, self.memory.items())?,
-            channels: NameSet::of(alloc, self.channels.items())?,
+            regions: names_of(alloc, self.memory.items())?,
+            channels: names_of(alloc, self.channels.items())?,
         })
     }
 }
@@ -87,9 +87,9 @@ impl HasParts for Component {
 fn collect_logical_names(alloc: Global, component: &Component) -> Result<NameSet, Refusal>
     ensures { Keeps (broken 1 (repeats (logical_names component.now))) (λ x. x ≡ logical_names component.now) result }
 {
-    let provides = NameSet::of(alloc, component.provides.items())?;
-    let with_regions = provides.with(component.memory.items())?;
-    with_regions.with(component.channels.items())
+    let provides = names_of(alloc, component.provides.items())?;
+    let with_regions = declare(provides, component.memory.items())?;
+    declare(with_regions, component.channels.items())
 }
 
 /// The names of the parts of all elements of a list.
@@ -119,7 +119,7 @@ pub fn collect_both<T: Named, U: Named>(
 ) -> Result<(NameSet, NameSet), Refusal>
     ensures { Keeps (broken 1 (repeats (map T.name items.now ++ map U.name more.now))) (λ both. (both.0 ≡ map T.name items.now) × (both.1 ≡ map U.name more.now)) result }
 {
-    let together = NameSet::of(alloc, items)?;
-    together.with(more)?;
-    Ok((NameSet::of(alloc, items)?, NameSet::of(alloc, more)?))
+    let together = names_of(alloc, items)?;
+    declare(together, more)?;
+    Ok((names_of(alloc, items)?, names_of(alloc, more)?))
 }

@@ -1,10 +1,10 @@
 //! Elements that refer to one name each.
 ghost use Rattle.policy_lawful.specs.Resolution.{name_at};
 
-use crate::name_set::NameSet;
+use crate::declared::refer;
 use crate::refers::Reference;
 use muen_num::Name;
-use policy_lawful::resolved;
+use policy_lawful::{NameSet, resolved};
 use policy_types::{Refusal, source};
 
 /// A mapping of a region.
@@ -19,7 +19,7 @@ impl Reference for source::Mapping {
 
     fn resolve_in(&self, names: &NameSet, by: Name) -> Result<resolved::Mapping, Refusal> {
         Ok(resolved::Mapping {
-            region: names.index_of(by, self.region)?,
+            region: refer(names, by, self.region)?,
             virtual_address: self.virtual_address,
             rights: self.rights,
         })
@@ -38,7 +38,7 @@ impl Reference for source::ChannelUse {
 
     fn resolve_in(&self, names: &NameSet, by: Name) -> Result<resolved::ChannelUse, Refusal> {
         Ok(resolved::ChannelUse {
-            channel: names.index_of(by, self.channel)?,
+            channel: refer(names, by, self.channel)?,
             role: self.role,
             virtual_address: self.virtual_address,
             call: self.call,
@@ -59,7 +59,7 @@ impl Reference for source::DeviceMapping {
 
     fn resolve_in(&self, names: &NameSet, by: Name) -> Result<resolved::DeviceMapping, Refusal> {
         Ok(resolved::DeviceMapping {
-            memory: names.index_of(by, self.memory)?,
+            memory: refer(names, by, self.memory)?,
             virtual_address: self.virtual_address,
             rights: self.rights,
         })
@@ -78,7 +78,7 @@ impl Reference for source::IrqUse {
 
     fn resolve_in(&self, names: &NameSet, by: Name) -> Result<resolved::IrqUse, Refusal> {
         Ok(resolved::IrqUse {
-            irq: names.index_of(by, self.irq)?,
+            irq: refer(names, by, self.irq)?,
             vector: self.vector,
         })
     }
@@ -96,7 +96,7 @@ impl Reference for source::EventSource {
 
     fn resolve_in(&self, names: &NameSet, by: Name) -> Result<resolved::EventSource, Refusal> {
         Ok(resolved::EventSource {
-            event: names.index_of(by, self.event)?,
+            event: refer(names, by, self.event)?,
             way: self.way,
         })
     }
@@ -114,7 +114,7 @@ impl Reference for source::EventTarget {
 
     fn resolve_in(&self, names: &NameSet, by: Name) -> Result<resolved::EventTarget, Refusal> {
         Ok(resolved::EventTarget {
-            event: names.index_of(by, self.event)?,
+            event: refer(names, by, self.event)?,
             vector: self.vector,
         })
     }
@@ -132,7 +132,7 @@ impl Reference for source::Monitor {
 
     fn resolve_in(&self, names: &NameSet, by: Name) -> Result<resolved::Monitor, Refusal> {
         Ok(resolved::Monitor {
-            subject: names.index_of(by, self.subject)?,
+            subject: refer(names, by, self.subject)?,
             virtual_address: self.virtual_address,
             rights: self.rights,
         })
@@ -151,7 +151,7 @@ impl Reference for source::MinorFrame {
 
     fn resolve_in(&self, names: &NameSet, by: Name) -> Result<resolved::MinorFrame, Refusal> {
         Ok(resolved::MinorFrame {
-            group: names.index_of(by, self.group)?,
+            group: refer(names, by, self.group)?,
             ticks: self.ticks,
         })
     }
@@ -168,6 +168,6 @@ impl Reference for Name {
     ghost index = { λ x. x };
 
     fn resolve_in(&self, names: &NameSet, by: Name) -> Result<usize, Refusal> {
-        names.index_of(by, *self)
+        refer(names, by, *self)
     }
 }

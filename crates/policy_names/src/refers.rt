@@ -5,11 +5,11 @@ ghost use Rattle.muen_num.specs.Search.{first_in};
 ghost use Rattle.policy_lawful.specs.Keeps.{Keeps};
 ghost use Rattle.policy_lawful.specs.Offences.{broken};
 ghost use Rattle.policy_lawful.specs.Rules.{refers, undeclared};
-ghost use Rattle.policy_names.specs.Indexes.{StandsFor};
+ghost use Rattle.policy_names.specs.Indexes.{StandsFor, all_below};
 
-use crate::name_set::NameSet;
 use crate::scope::Scope;
 use muen_num::{Name, Seq};
+use policy_lawful::NameSet;
 use policy_types::Refusal;
 use std::alloc::Global;
 
@@ -45,7 +45,7 @@ pub fn resolve_all_in<T: Reference>(
     by: Name,
     items: &[T],
 ) -> Result<Seq<T::Resolved>, Refusal>
-    ensures { Keeps (broken 2 (first_in (λ x. undeclared (refers by names.now (T.name x))) items.now)) (StandsFor (map (T.named names.now)) (list_all (λ x. nat_lt (T.index x) (length names.now))) items.now) result }
+    ensures { let n = names.now in Keeps (broken 2 (first_in (λ x. undeclared (refers by n (T.name x))) items.now)) (StandsFor (map (T.named n)) (all_below T.index (length n)) items.now) result }
 {
     let mut resolved = Seq::new(alloc);
     for item in items {

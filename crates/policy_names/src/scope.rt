@@ -4,11 +4,12 @@ ghost use Rattle.std.specs.Option.{option_or};
 ghost use Rattle.policy_lawful.specs.Keeps.{Keeps};
 ghost use Rattle.policy_lawful.specs.Offences.{broken};
 ghost use Rattle.policy_lawful.specs.Rules.{offence_1};
-ghost use Rattle.policy_names.specs.Parts.{components_repeat, hardware_repeats, members_repeat, names_of_device, names_of_wanted};
+ghost use Rattle.policy_names.specs.Parts.{AreComponentNames, AreMemberNames, components_repeat, hardware_repeats, members_repeat, names_of_device, names_of_wanted};
 
-use crate::name_set::NameSet;
+use crate::declared::names_of;
 use crate::parts::{DeviceNames, WantedNames, collect_all, collect_both};
 use muen_num::Seq;
+use policy_lawful::NameSet;
 use policy_types::{Refusal, Source};
 use std::alloc::Global;
 
@@ -42,8 +43,8 @@ pub struct Scope<'a> {
 fn collect_hardware(alloc: Global, source: &Source) -> Result<(NameSet, Seq<DeviceNames>), Refusal>
     ensures { let p = source.now in Keeps (broken 1 (hardware_repeats p)) (λ x. (x.0 ≡ map (λ d. d.name) p.devices) × (x.1 ≡ map names_of_device p.devices)) result }
 {
-    NameSet::of(alloc, source.memory_blocks.items())?;
-    let devices = NameSet::of(alloc, source.devices.items())?;
+    names_of(alloc, source.memory_blocks.items())?;
+    let devices = names_of(alloc, source.devices.items())?;
     let parts = collect_all(alloc, source.devices.items())?;
     Ok((devices, parts))
 }
@@ -57,9 +58,9 @@ type Members = (NameSet, NameSet, NameSet);
 // The names of the components and of what they want.
 #[tactic(auto, unfolding(crate::specs::Parts::components_repeat), using(crate::proofs::Refusals::one_behind_another))]
 fn collect_components(alloc: Global, source: &Source) -> Result<Components, Refusal>
-    ensures { let p = source.now in Keeps (broken 1 (components_repeat p)) (λ x. (x.0 ≡ map (λ c. c.name) p.components) × (x.1 ≡ map names_of_wanted p.components)) result }
+    ensures { let p = source.now in Keeps (broken 1 (components_repeat p)) (AreComponentNames p) result }
 {
-    let components = NameSet::of(alloc, source.components.items())?;
+    let components = names_of(alloc, source.components.items())?;
     let wanted = collect_all(alloc, source.components.items())?;
     Ok((components, wanted))
 }
@@ -67,11 +68,11 @@ fn collect_components(alloc: Global, source: &Source) -> Result<Components, Refu
 // The names of the events, of the subjects and of the groups.
 #[tactic(auto, unfolding(crate::specs::Parts::members_repeat), using(crate::proofs::Refusals::one_behind_another))]
 fn collect_members(alloc: Global, source: &Source) -> Result<Members, Refusal>
-    ensures { let p = source.now in Keeps (broken 1 (members_repeat p)) (λ x. (x.0 ≡ map (λ e. e.name) p.events) × (x.1 ≡ map (λ s. s.name) p.subjects) × (x.2 ≡ map (λ g. g.name) p.scheduling.groups)) result }
+    ensures { let p = source.now in Keeps (broken 1 (members_repeat p)) (AreMemberNames p) result }
 {
-    let events = NameSet::of(alloc, source.events.items())?;
-    let subjects = NameSet::of(alloc, source.subjects.items())?;
-    let groups = NameSet::of(alloc, source.scheduling.groups.items())?;
+    let events = names_of(alloc, source.events.items())?;
+    let subjects = names_of(alloc, source.subjects.items())?;
+    let groups = names_of(alloc, source.scheduling.groups.items())?;
     Ok((events, subjects, groups))
 }
 
@@ -81,7 +82,7 @@ fn collect_components_and_members(
     alloc: Global,
     source: &Source,
 ) -> Result<(Components, Members), Refusal>
-    ensures { let p = source.now in Keeps (broken 1 (option_or (components_repeat p) (members_repeat p))) (λ x. (x.0.0 ≡ map (λ c. c.name) p.components) × (x.0.1 ≡ map names_of_wanted p.components) × (x.1.0 ≡ map (λ e. e.name) p.events) × (x.1.1 ≡ map (λ s. s.name) p.subjects) × (x.1.2 ≡ map (λ g. g.name) p.scheduling.groups)) result }
+    ensures { let p = source.now in Keeps (broken 1 (option_or (components_repeat p) (members_repeat p))) (λ x. AreComponentNames p x.0 × AreMemberNames p x.1) result }
 {
     let components = collect_components(alloc, source)?;
     Ok((components, collect_members(alloc, source)?))

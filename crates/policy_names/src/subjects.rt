@@ -1,12 +1,11 @@
 //! Subjects, which refer to components, regions, channels, devices, events and each other.
-ghost use Rattle.std.specs.Prelude.{◌≡◌, option_map, true, IfOk};
-ghost use Rattle.std.specs.Option.{option_map_or};
+ghost use Rattle.std.specs.Prelude.{◌≡◌, true, IfOk};
 ghost use Rattle.muen_num.specs.Search.{first_in};
 ghost use Rattle.policy_lawful.specs.Keeps.{Keeps};
 ghost use Rattle.policy_lawful.specs.Offences.{broken};
-ghost use Rattle.policy_lawful.specs.Resolution.{component_in_range, component_named, subject_in_range, subject_named};
+ghost use Rattle.policy_lawful.specs.Resolution.{subject_in_range, subject_named};
 ghost use Rattle.policy_lawful.specs.Rules.{component_references, subject_references, undeclared};
-ghost use Rattle.policy_names.specs.Outline.{outline};
+ghost use Rattle.policy_names.specs.Outline.{outline, use_in_range, use_named};
 ghost use Rattle.policy_names.specs.Indexes.{StandsFor};
 ghost use Rattle.policy_names.specs.SubjectParts.{SignalsStand, WindowsStand, signals_offence, windows_offence};
 
@@ -57,7 +56,7 @@ fn resolve_component(
     by: Name,
     component: &Option<source::ComponentUse>,
 ) -> Result<Option<resolved::ComponentUse>, Refusal>
-    ensures { let p = scope.now.source.now in Keeps (broken 2 (first_in undeclared (component_references p by component.now))) (StandsFor (option_map (component_named (outline p))) (λ c. option_map_or (component_in_range (outline p)) c true) component.now) result }
+    ensures { let p = scope.now.source.now in Keeps (broken 2 (first_in undeclared (component_references p by component.now))) (StandsFor (use_named p) (use_in_range p) component.now) result }
 {
     match component {
         Some(used) => Ok(Some(used.resolve(alloc, scope, by)?)),

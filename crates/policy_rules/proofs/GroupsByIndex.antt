@@ -11,6 +11,7 @@ use Rattle.std.proofs.lemmas.Option.{slice_get_within, get_or_from_slice_get}
 use Rattle.muen_num.specs.Search.{first_in, unless}
 use Rattle.muen_num.proofs.Lists.{find-map, option_map-option_map, sum_by-map}
 use Rattle.muen_num.proofs.SearchLaws.{first_over-map, option_or-None}
+use Rattle.policy_lawful.specs.Counts.{times_among}
 use Rattle.policy_lawful.specs.Offences.{alone}
 use Rattle.policy_lawful.specs.Rules as rules
 use Rattle.policy_lawful.specs.Rules.{repeated, subject_cpu, is_on, times_listed, offence_17}
@@ -20,7 +21,7 @@ use Rattle.policy_lawful.specs.declared.resolved.Group.{Group as ResolvedGroup}
 use Rattle.policy_lawful.proofs.Indexes.{found_at_index, same_name}
 use Rattle.policy_lawful.proofs.SourceElements.{parts_in_range}
 use Rattle.policy_lawful.proofs.UniqueNames.{subject_names, subjects_unique}
-use Rattle.policy_rules.specs.Groups.{cpu_of_subject, is_member, is_group, group_offence, times_among, times_in, member_offence, AreTimes, groups_offence, counted_offence}
+use Rattle.policy_rules.specs.Groups.{cpu_of_subject, is_member, is_group, group_offence, times_in, member_offence, AreTimes, groups_offence, counted_offence}
 use Rattle.muen_num.proofs.SameAnswers.{first_in-map, first_numbered_same, both_numbered, list_all_same, some_items, sum_by_same}
 
 subject_at_index : (r : Resolution) (index : ℕ) → repeated (subject_names r) ≡ None → index < length r.subjects

@@ -6,5 +6,6 @@ pub mod MajorsByIndex
 pub mod NamesAdded
 pub mod RangesByIndex
 pub mod RulesJoined
+pub mod SubjectsInTurn
 pub mod Tau0ByIndex
 pub mod WritersByIndex

@@ -10,7 +10,7 @@ use Rattle.muen_num.proofs.SameAnswers.{both_named, first_in-map, first_in_same,
 use Rattle.muen_num.proofs.SearchLaws.{option_or-None, option_or_assoc}
 use Rattle.muen_num.specs.declared.limits.TheConstants.{KERNEL_REGIONS, MOST_LOGICAL_NAMES, MOST_MINOR_FRAMES, MOST_MSRS, MOST_TICKS, MOST_WINDOWS}
 use Rattle.muen_num.specs.Search.{unless}
-use Rattle.policy_lawful.specs.ByIndex.{is_short}
+use Rattle.policy_lawful.specs.ByIndex.{is_short, provided_at}
 use Rattle.policy_lawful.specs.Offences.{alone}
 use Rattle.policy_lawful.specs.Resolution.{IsResolved, Resolution, component_named, component_in_range, cpu_named, major_named, source_of, subject_named, subject_in_range}
 use Rattle.policy_lawful.specs.Rules as rules
@@ -24,10 +24,10 @@ use Rattle.policy_lawful.specs.Thing.{component_by}
 use Rattle.policy_types.specs.declared.source.Component.{Component}
 use Rattle.policy_types.specs.declared.source.Device.{Device}
 use Rattle.policy_types.specs.declared.source.MinorFrame.{MinorFrame}
-use Rattle.policy_views.specs.Views.{view_extent, views_of}
-use Rattle.policy_views.proofs.ExtentsByIndex.{extents_by_index}
-use Rattle.policy_views.proofs.WindowsByIndex.{component_at, component_there, subject_parts}
-use Rattle.policy_rules.specs.Limits.{device_memory_limit, limits_offence, major_limit, msrs_in, name_limit, provided_by_use, regions_of_subject, subject_limit_at}
+use Rattle.policy_lawful.specs.Views.{view_extent, views_of}
+use Rattle.policy_lawful.proofs.ExtentsByIndex.{extents_by_index}
+use Rattle.policy_lawful.proofs.WindowsByIndex.{component_at, component_there, subject_parts}
+use Rattle.policy_rules.specs.Limits.{device_memory_limit, limits_offence, major_limit, msrs_in, name_limit, regions_of_subject, subject_limit_at}
 use Rattle.policy_rules.specs.Windows.{device_extent, device_extents}
 
 -- ---- the memory of all devices
@@ -74,12 +74,12 @@ subject_named_limit r q s in_range =
     ap (λ n. unless (nat_le n MOST_WINDOWS && nat_le (sum_by msrs_in s.msrs) MOST_MSRS) (alone s.name)) many
 
 provided_named : (r : Resolution) → IsResolved r → (o : Option ComponentUse) → option_map_or (component_in_range r) o true ≡ true
-    → option_map_or (λ c. length c.provides) (component_by (source_of r) (option_map (component_named r) o)) 0 ≡ provided_by_use r o
+    → option_map_or (λ c. length c.provides) (component_by (source_of r) (option_map (component_named r) o)) 0 ≡ length (provided_at r.components o)
 provided_named r q None h = refl
 provided_named r q (Some used) h =
     let c = component_there r used h in
     ap (λ o. option_map_or (λ (c : Component). length c.provides) o 0) (component_at r q used c.0 c.1)
-    ∙ ap (λ o. option_map_or (λ (c : Component). length c.provides) o 0) (sym c.1)
+    ∙ ap (λ o. length (option_map_or (λ (c : Component). c.provides) o [])) (sym c.1)
 
 regions_named : (r : Resolution) → IsResolved r → (s : Subject) → subject_in_range r s ≡ true → regions_for (source_of r) (subject_named r s) ≡ regions_of_subject r s
 regions_named r q s in_range = ap (λ n. n + KERNEL_REGIONS) (provided_named r q s.component (subject_parts r s in_range).component)

@@ -8,6 +8,7 @@ use Rattle.std.proofs.lemmas.List.Folds.{list_any-append, list_any_more}
 use Rattle.std.proofs.lemmas.Slice.Eq.{bytes_eq-Decides}
 use Rattle.indexmap.specs.IndexSet.{insert_key}
 use Rattle.policy_lawful.specs.Rules.{is_declared}
+use Rattle.policy_lawful.proofs.NameSets.{declared_is}
 use Rattle.policy_rules.specs.Names.{HasAll}
 
 or_true : (b : Bool) → (b || true) ≡ true
@@ -18,8 +19,12 @@ or_false : (b : Bool) → (b || false) ≡ b
 or_false true = refl
 or_false false = refl
 
-pub all_more : (all names : List (List ℕ)) (i : ℕ) (name : List ℕ) → HasAll all (take i names) → i < length names → name ≡ get_or names i name → HasAll (insert_key bytes_eq all name) (take (i + 1) names)
-all_more all names i name h l is n =
+-- the first list, searched for a name as a set of names searches, has just the names of the second
+abbrev FindsAll : List (List ℕ) → List (List ℕ) → Type 0
+FindsAll all names = (n : List ℕ) → list_any (bytes_eq n) all ≡ is_declared names n
+
+found_more : (all names : List (List ℕ)) (i : ℕ) (name : List ℕ) → FindsAll all (take i names) → i < length names → name ≡ get_or names i name → FindsAll (insert_key bytes_eq all name) (take (i + 1) names)
+found_more all names i name h l is n =
     let had = is_declared (take i names) n in
     let more : is_declared (take (i + 1) names) n ≡ (had || bytes_eq name n) =
     list_any_more (λ m. bytes_eq m n) names i name l ∙ ap (λ m. had || bytes_eq m n) (sym is) in
@@ -37,3 +42,7 @@ all_more all names i name h l is n =
           list_any-append (bytes_eq n) all (name ∷ [])
           ∙ ((λ j. h n j || or_false (bytes_eq n name) j) ∙ (ap (λ b. had || b) (nat_list_eq_equiv.symm n name) ∙ sym more))
     ] refl
+
+pub all_more : (all names : List (List ℕ)) (i : ℕ) (name : List ℕ) → HasAll all (take i names) → i < length names → name ≡ get_or names i name → HasAll (insert_key bytes_eq all name) (take (i + 1) names)
+all_more all names i name h l is n =
+    sym (declared_is (insert_key bytes_eq all name) n) ∙ found_more all names i name (λ m. declared_is all m ∙ h m) l is n

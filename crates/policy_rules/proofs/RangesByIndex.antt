@@ -18,9 +18,10 @@ use Rattle.policy_lawful.proofs.SourceElements.{parts_in_range}
 use Rattle.policy_types.specs.declared.source.Block.{Block}
 use Rattle.policy_types.specs.declared.source.Component.{Component}
 use Rattle.policy_types.specs.declared.source.Device.{Device}
-use Rattle.policy_views.specs.Views.{view_extent, views_of}
-use Rattle.policy_views.proofs.ExtentsByIndex.{extents_by_index}
-use Rattle.policy_rules.specs.Windows.{addresses_offence, component_ranges, device_extent, device_extents, device_offence, elements_offence, outside_in, overlap_in, physical_extents}
+use Rattle.policy_lawful.specs.Views.{view_extent, views_of}
+use Rattle.policy_lawful.specs.declared.view.View.{View}
+use Rattle.policy_lawful.proofs.ExtentsByIndex.{extents_by_index}
+use Rattle.policy_rules.specs.Windows.{addresses_offence, component_ranges, device_extent, device_extents, device_offence, elements_offence, outside, outside_in, overlap_in, physical_extents}
 
 -- ---- rule 4
 
@@ -85,11 +86,11 @@ physical_sized r h =
     ∙ and_from (list_all has_size (map block_extent r.memory_blocks)) (list_all has_size (device_extents r.devices)) sizes (devices_sized r.devices devices.0)
 
 -- windows that do
-pub windows_sized : (r : Resolution) (s : Subject) → outside_in r s ≡ None → list_all (λ e. nat_lt 0 e.size) (map view_extent (views_of r s)) ≡ true
-windows_sized r s h =
-    list_all-map has_size view_extent (views_of r s)
-    ∙ each_from (λ v. is_guest v.guest v.size) (λ v. nat_lt 0 v.size) (λ v. sized (is_page_aligned v.guest) v.size _) (views_of r s)
-    (all_pass (λ v. is_guest v.guest v.size) (λ v. two s.name v.name) (views_of r s) h)
+pub windows_sized : (name : List ℕ) (vs : List View) → first_in (outside name) vs ≡ None → list_all (λ e. nat_lt 0 e.size) (map view_extent vs) ≡ true
+windows_sized name vs h =
+    list_all-map has_size view_extent vs
+    ∙ each_from (λ v. is_guest v.guest v.size) (λ v. nat_lt 0 v.size) (λ v. sized (is_page_aligned v.guest) v.size _) vs
+    (all_pass (λ v. is_guest v.guest v.size) (λ v. two name v.name) vs h)
 
 -- ---- rule 5
 

@@ -17,12 +17,12 @@ use Rattle.policy_lawful.specs.Thing.{region, same_thing}
 use Rattle.policy_types.specs.Rights.{allows}
 use Rattle.policy_types.specs.declared.source.Subject.{Subject as NamedSubject}
 use Rattle.policy_types.specs.declared.source.Tau0.{Tau0}
-use Rattle.policy_views.specs.Views.{thing_shown, view_window, views_of}
-use Rattle.policy_views.specs.declared.view.Shown.{Shown}
-use Rattle.policy_views.specs.declared.view.Shown.TheVariants.{Memory, Channel, Provided, Device, State}
-use Rattle.policy_views.specs.declared.view.View.{View}
-use Rattle.policy_views.proofs.RegionsByIndex.{any_same}
-use Rattle.policy_views.proofs.WindowsByIndex.{windows_by_index}
+use Rattle.policy_lawful.specs.Views.{thing_shown, view_window, views_of}
+use Rattle.policy_lawful.specs.declared.view.Shown.{Shown}
+use Rattle.policy_lawful.specs.declared.view.Shown.TheVariants.{Memory, Channel, Provided, Device, State}
+use Rattle.policy_lawful.specs.declared.view.View.{View}
+use Rattle.policy_lawful.proofs.RegionsByIndex.{any_same}
+use Rattle.policy_lawful.proofs.WindowsByIndex.{windows_by_index}
 use Rattle.policy_rules.specs.Tau0.{chooser_offence, is_chooser, is_on_named, is_own_region, may_write}
 
 same_named : (r : Resolution) (name by : List ℕ) (v : View) (shows : Shown) → same_thing (thing_shown r by v shows) (region name) ≡ is_on_named name v shows

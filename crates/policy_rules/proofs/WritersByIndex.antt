@@ -24,9 +24,10 @@ use Rattle.policy_lawful.proofs.SourceElements.{parts_in_range}
 use Rattle.policy_types.specs.Rights.{allows}
 use Rattle.policy_types.specs.declared.source.Region.{Region}
 use Rattle.policy_types.specs.declared.source.Subject.{Subject as NamedSubject}
-use Rattle.policy_views.specs.Views.{is_on_region, views_of}
-use Rattle.policy_views.specs.declared.view.View.{View}
-use Rattle.policy_views.proofs.RegionsByIndex.{any_same, maps_at, writes_at}
+use Rattle.policy_lawful.specs.Views.{is_on_region, views_of}
+use Rattle.policy_lawful.specs.declared.view.View.{View}
+use Rattle.policy_lawful.proofs.RegionsByIndex.{any_same, maps_at, writes_at}
+use Rattle.policy_lawful.proofs.NameSets.{declared_is}
 use Rattle.policy_rules.specs.Names.{HasAll}
 use Rattle.policy_rules.specs.Writers.{HasUsers, added, fault_at, not_shared, other_among, sharing_fault, stranger_among, user_of, users_fault, users_of, uses_of, with_user}
 use Rattle.policy_rules.specs.declared.writers.User.{User}
@@ -69,14 +70,10 @@ and_turned false false = refl
 
 -- ---- names that are looked up
 
-declared_is : (names : List (List ℕ)) (name : List ℕ) → list_any (bytes_eq name) names ≡ is_declared names name
-declared_is [] name = refl
-declared_is (n ∷ ns) name = λ i. nat_list_eq_equiv.symm name n i || declared_is ns name i
-
 stranger_is : (names list : List (List ℕ)) (region : List ℕ) (users : List User) → HasAll names list
     → stranger_among names region users ≡ option_map (λ u. two region u.name) (find (λ u. not (is_declared list u.name)) users)
 stranger_is names list region users all =
-    ap (option_map (λ u. two region u.name)) (every_find (λ u. not (list_any (bytes_eq u.name) names)) (λ u. not (is_declared list u.name)) (λ u. ap not (all u.name)) users)
+    ap (option_map (λ u. two region u.name)) (every_find (λ u. not (is_declared names u.name)) (λ u. not (is_declared list u.name)) (λ u. ap not (all u.name)) users)
 
 not_shared_is : (using names : List (List ℕ)) (region : List ℕ) (list : List (List ℕ)) → HasAll names using
     → first_after (not_shared names region) [] list ≡ first_after (λ before name. unless (not (is_declared before name) && is_declared using name) (two region name)) [] list

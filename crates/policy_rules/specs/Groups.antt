@@ -1,8 +1,9 @@
 -- Rule 17 of a resolved policy: groups and their members, with the subjects by their indexes.
-use Rattle.std.specs.Prelude.{◌≡◌, ◌+◌, ◌<◌, min, ℕ, ◌==◌, ◌&&◌, not, Bool, List, length, slice_get, slice_index, Option, option_map}
+use Rattle.std.specs.Prelude.{◌≡◌, ◌<◌, min, ℕ, ◌==◌, ◌&&◌, not, Bool, List, length, slice_get, slice_index, Option, option_map}
 use Rattle.std.specs.Option.{option_or}
-use Rattle.std.specs.List.{list_all, sum_by, count_by, enumerate_from}
+use Rattle.std.specs.List.{list_all, sum_by, enumerate_from}
 use Rattle.muen_num.specs.Search.{first_in, unless}
+use Rattle.policy_lawful.specs.Counts.{times_among}
 use Rattle.policy_lawful.specs.Offences.{alone}
 use Rattle.policy_lawful.specs.Rules.{is_on}
 use Rattle.policy_lawful.specs.declared.offence.Offence.{Offence}
@@ -22,20 +23,13 @@ is_group subjects g = not (length g.subjects == 0) && list_all (is_member subjec
 abbrev pub group_offence : List Subject → Group → Option Offence
 group_offence subjects g = unless (is_group subjects g) (alone g.name)
 
--- how often an index stands among these, and among the members of these groups
-abbrev pub times_among : List ℕ → ℕ → ℕ
-times_among indexes index = count_by (λ i. i == index) indexes
-
+-- how often an index stands among the members of these groups
 abbrev pub times_in : List Group → ℕ → ℕ
 times_in groups index = sum_by (λ g. times_among g.subjects index) groups
 
 -- a subject with its index, that isn't listed once
 abbrev pub member_offence : List Group → ℕ × Subject → Option Offence
 member_offence groups (index, s) = unless (times_in groups index == 1) (alone s.name)
-
--- new counts are the old ones and so much more at each index; counts of 2 and more are alike
-abbrev pub Adds : List ℕ → List ℕ → (ℕ → ℕ) → Type 0
-Adds old new more = (k : ℕ) → k < length old → min 2 (slice_index new k) ≡ min 2 (slice_index old k + more k)
 
 -- so many counts are of the members of these groups; counts of 2 and more are alike
 abbrev pub AreTimes : List ℕ → ℕ → List Group → Type 0

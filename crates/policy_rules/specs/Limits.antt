@@ -1,15 +1,14 @@
 -- Rule 20 of a resolved policy: the limits, with windows and provided regions by indexes.
-use Rattle.std.specs.Prelude.{ℕ, ◌+◌, ◌-◌, ◌&&◌, List, length, nat_le, codes, slice_get, is_some, Option, Some, None}
-use Rattle.std.specs.Option.{option_map_or, option_or}
+use Rattle.std.specs.Prelude.{ℕ, ◌+◌, ◌-◌, ◌&&◌, List, length, nat_le, codes, is_some, Option}
+use Rattle.std.specs.Option.{option_or}
 use Rattle.std.specs.List.{count_by, enumerate_from, list_all, sum_by}
 use Rattle.muen_num.specs.declared.limits.TheConstants.{KERNEL_REGIONS, MOST_BLOCK_BYTES, MOST_BLOCKS, MOST_CHANNELS, MOST_COMPONENTS, MOST_DEVICE_BYTES, MOST_DEVICE_WINDOWS, MOST_DEVICES, MOST_EVENTS, MOST_LOGICAL_NAMES, MOST_MAJOR_FRAMES, MOST_MSRS, MOST_REGIONS, MOST_SUBJECTS, MOST_WINDOWS}
 use Rattle.muen_num.specs.Search.{first_in, unless}
-use Rattle.policy_lawful.specs.ByIndex.{is_short}
+use Rattle.policy_lawful.specs.ByIndex.{is_short, provided_at}
 use Rattle.policy_lawful.specs.Offences.{alone}
 use Rattle.policy_lawful.specs.Resolution.{Resolution}
 use Rattle.policy_lawful.specs.Rules.{at_most, device_limit, major_name}
 use Rattle.policy_lawful.specs.declared.offence.Offence.{Offence}
-use Rattle.policy_lawful.specs.declared.resolved.ComponentUse.{ComponentUse}
 use Rattle.policy_lawful.specs.declared.resolved.MajorFrame.{MajorFrame}
 use Rattle.policy_lawful.specs.declared.resolved.Subject.{Subject}
 use Rattle.policy_types.specs.declared.source.Block.{Block}
@@ -18,7 +17,8 @@ use Rattle.policy_types.specs.declared.source.Component.{Component}
 use Rattle.policy_types.specs.declared.source.Device.{Device}
 use Rattle.policy_types.specs.declared.source.Event.{Event}
 use Rattle.policy_types.specs.declared.source.Msrs.{Msrs}
-use Rattle.policy_views.specs.Views.{views_of}
+use Rattle.policy_lawful.specs.Views.{views_of}
+use Rattle.policy_lawful.specs.declared.view.View.{View}
 
 -- the limits on blocks
 abbrev pub blocks_limit : List Block → Option Offence
@@ -47,20 +47,19 @@ names_limit channels components events =
 abbrev pub msrs_in : Msrs → ℕ
 msrs_in x = (x.end + 1) - x.start
 
--- on a subject's windows and MSRs
+-- on a subject's windows and MSRs, where these are its views
+abbrev pub subject_limit_with : List View → Subject → Option Offence
+subject_limit_with views s = unless (nat_le (length views) MOST_WINDOWS && nat_le (sum_by msrs_in s.msrs) MOST_MSRS) (alone s.name)
+
 abbrev pub subject_limit_at : Resolution → Subject → Option Offence
-subject_limit_at r s = unless (nat_le (length (views_of r s)) MOST_WINDOWS && nat_le (sum_by msrs_in s.msrs) MOST_MSRS) (alone s.name)
+subject_limit_at r s = subject_limit_with (views_of r s) s
 
 abbrev pub count_limit : List Subject → Option Offence
 count_limit subjects = unless (nat_le 1 (length subjects) && nat_le (length subjects) MOST_SUBJECTS) (alone (codes "subjects"))
 
 -- the regions that a subject adds
-abbrev pub provided_by_use : Resolution → Option ComponentUse → ℕ
-provided_by_use r None = 0
-provided_by_use r (Some used) = option_map_or (λ c. length c.provides) (slice_get r.components used.used) 0
-
 abbrev pub regions_of_subject : Resolution → Subject → ℕ
-regions_of_subject r s = provided_by_use r s.component + KERNEL_REGIONS
+regions_of_subject r s = length (provided_at r.components s.component) + KERNEL_REGIONS
 
 -- on all regions
 abbrev pub regions_limit : Resolution → Option Offence

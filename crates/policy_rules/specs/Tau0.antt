@@ -12,10 +12,10 @@ use Rattle.policy_lawful.specs.declared.resolved.Subject.{Subject}
 use Rattle.policy_types.specs.Rights.{allows}
 use Rattle.policy_types.specs.declared.source.Region.{Region}
 use Rattle.policy_types.specs.declared.source.Tau0.{Tau0}
-use Rattle.policy_views.specs.Views.{views_of}
-use Rattle.policy_views.specs.declared.view.Shown.{Shown}
-use Rattle.policy_views.specs.declared.view.Shown.TheVariants.{Memory}
-use Rattle.policy_views.specs.declared.view.View.{View}
+use Rattle.policy_lawful.specs.Views.{views_of}
+use Rattle.policy_lawful.specs.declared.view.Shown.{Shown}
+use Rattle.policy_lawful.specs.declared.view.Shown.TheVariants.{Memory}
+use Rattle.policy_lawful.specs.declared.view.View.{View}
 
 -- it shows a region of this name
 abbrev pub is_on_named : List ℕ → View → Shown → Bool
@@ -30,9 +30,13 @@ may_write name v = is_on_named name v v.shows && allows v.rights Write
 abbrev pub is_own_region : List ℕ → Region → Bool
 is_own_region name r = bytes_eq r.name name && (length r.shared_memory == 0)
 
--- the subject that chooses, where it may write the region
+-- the subject that chooses, where it may write the region by one of these views
+abbrev pub is_chooser_with : Tau0 → List View → Subject → Bool
+is_chooser_with t views s = bytes_eq s.name t.subject && list_any (may_write t.region) views
+
+-- where it may write it
 abbrev pub is_chooser : Resolution → Tau0 → Subject → Bool
-is_chooser r t s = bytes_eq s.name t.subject && list_any (may_write t.region) (views_of r s)
+is_chooser r t s = is_chooser_with t (views_of r s) s
 
 abbrev pub chooser_offence : Resolution → Tau0 → Option Offence
 chooser_offence r t =

@@ -17,8 +17,8 @@ use Rattle.policy_types.specs.declared.source.Provided.{Provided}
 use Rattle.policy_types.specs.declared.source.Required.{Required}
 use Rattle.policy_types.specs.declared.source.Device.{Device}
 use Rattle.policy_types.specs.declared.source.DeviceMemory.{DeviceMemory}
-use Rattle.policy_views.specs.Views.{view_extent, views_of}
-use Rattle.policy_views.specs.declared.view.View.{View}
+use Rattle.policy_lawful.specs.Views.{view_extent, views_of}
+use Rattle.policy_lawful.specs.declared.view.View.{View}
 
 -- ---- windows
 

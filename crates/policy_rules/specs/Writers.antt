@@ -12,8 +12,8 @@ use Rattle.policy_lawful.specs.declared.offence.Offence.{Offence}
 use Rattle.policy_lawful.specs.declared.resolved.Subject.{Subject}
 use Rattle.policy_types.specs.Rights.{allows}
 use Rattle.policy_types.specs.declared.source.Region.{Region}
-use Rattle.policy_views.specs.Views.{is_on_region, views_of}
-use Rattle.policy_views.specs.declared.view.View.{View}
+use Rattle.policy_lawful.specs.Views.{is_on_region, views_of}
+use Rattle.policy_lawful.specs.declared.view.View.{View}
 use Rattle.policy_rules.specs.declared.writers.User.{User}
 
 -- ---- users of a region
@@ -56,12 +56,12 @@ other_among users region writer =
 -- the first that isn't among these names
 abbrev pub stranger_among : List (List ℕ) → List ℕ → List User → Option Offence
 stranger_among names region users =
-    option_map (λ u. two region u.name) (find (λ u. not (list_any (bytes_eq u.name) names)) users)
+    option_map (λ u. two region u.name) (find (λ u. not (is_declared names u.name)) users)
 
 -- a name of a region's list that stood before, or that isn't among these names
 abbrev pub not_shared : List (List ℕ) → List ℕ → List (List ℕ) → List ℕ → Option Offence
 not_shared names region before name =
-    unless (not (list_any (bytes_eq name) before) && list_any (bytes_eq name) names) (two region name)
+    unless (not (list_any (bytes_eq name) before) && is_declared names name) (two region name)
 
 -- of a region with a list: the first user that it doesn't name, else the first name that stood before or is no user's
 abbrev pub sharing_fault : List User → Region → Option Offence

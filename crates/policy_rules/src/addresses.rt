@@ -1,5 +1,5 @@
 // Rule 4: addresses and sizes.
-ghost use Rattle.std.specs.Prelude.{◌≡◌, ◌+◌, true, IfOk};
+ghost use Rattle.std.specs.Prelude.{◌≡◌, ◌+◌, true};
 ghost use Rattle.muen_num.specs.Search.{first_in, unless};
 ghost use Rattle.policy_lawful.specs.Offences.{alone, two};
 ghost use Rattle.policy_lawful.specs.Rules.{is_page_aligned, is_page_size, is_physical, is_guest, is_alignment, is_fixed, is_laid, offence_4};
@@ -8,13 +8,12 @@ ghost use Rattle.policy_rules.specs.Windows.{addresses_offence, component_channe
 
 use crate::windows::outside;
 use muen_num::limits::{GUEST_END, LARGE_PAGE, PAGE, PHYSICAL_END};
-use muen_num::{Name, NoMemory, first};
+use muen_num::{Name, first};
 use policy_lawful::Offence;
 use policy_lawful::resolved::Resolved;
 use policy_types::source::{
     Block, Channel, Component, ComponentChannel, Device, Provided, Region, Required,
 };
-use std::alloc::Global;
 
 fn is_page_aligned(n: u64) -> bool
     ensures { result ≡ is_page_aligned n }
@@ -169,33 +168,29 @@ fn components(components: &[Component]) -> Option<Offence>
 
 // The first element that offends, windows aside.
 fn of_elements(policy: &Resolved) -> Option<Offence>
-    ensures { result ≡ elements_offence policy.now }
+    ensures value { result ≡ elements_offence policy.now }
+    ensures resolved { IsResolved policy.now }
 {
+    let memory = policy.memory();
     blocks(policy.memory_blocks())
         .or_else(|| devices(policy.devices()))
-        .or_else(|| regions(policy.memory()))
+        .or_else(|| regions(memory))
         .or_else(|| channels(policy.channels()))
         .or_else(|| components(policy.components()))
 }
 
 // The first element or window that offends.
-fn of_all(alloc: Global, policy: &Resolved) -> Result<Option<Offence>, NoMemory>
-    ensures value { IfOk result (λ o. o ≡ addresses_offence policy.now) }
+fn of_all(policy: &Resolved) -> Option<Offence>
+    ensures value { result ≡ addresses_offence policy.now }
     ensures resolved { IsResolved policy.now }
 {
-    let subjects = policy.subjects();
-    if let Some(offence) = of_elements(policy) {
-        return Ok(Some(offence));
-    }
-    outside(alloc, policy, subjects)
+    of_elements(policy).or_else(|| outside(policy))
 }
 
 /// Rule 4: the first address or size that isn't one.
-///
-/// Answers `NoMemory` where memory was refused.
 #[tactic(auto, using(crate::proofs::RangesByIndex::addresses_by_index))]
-pub(crate) fn addresses(alloc: Global, policy: &Resolved) -> Result<Option<Offence>, NoMemory>
-    ensures { IfOk result (λ o. o ≡ offence_4 (source_of policy.now)) }
+pub(crate) fn addresses(policy: &Resolved) -> Option<Offence>
+    ensures { result ≡ offence_4 (source_of policy.now) }
 {
-    of_all(alloc, policy)
+    of_all(policy)
 }

@@ -4,13 +4,14 @@ ghost use Rattle.std.specs.List.{flat_map};
 ghost use Rattle.muen_num.specs.Search.{first_in};
 ghost use Rattle.policy_lawful.specs.ByIndex.{block_extent};
 ghost use Rattle.policy_lawful.specs.Resolution.{source_of};
-ghost use Rattle.policy_lawful.specs.Rules.{offence_4, offence_5, offence_18};
-ghost use Rattle.policy_rules.specs.Windows.{device_extent, device_extents, outside_in, overlap_in, physical_extents};
+ghost use Rattle.policy_lawful.specs.Rules.{first_overlap, offence_4, offence_5, offence_18};
+ghost use Rattle.policy_lawful.specs.Views.{view_extent};
+ghost use Rattle.policy_rules.specs.Windows.{device_extent, device_extents, outside, physical_extents};
 
-use crate::windows::extents;
+use crate::windows::view_extents;
 use muen_num::NoMemory;
-use policy_lawful::resolved::{Resolved, Subject};
-use policy_lawful::{Extent, Offence};
+use policy_lawful::resolved::Subject;
+use policy_lawful::{Extent, Offence, Resolved, View};
 use policy_types::source::{Block, Device, DeviceMemory};
 use rules_extents::first_overlap;
 use std::alloc::{AllocError, Global};
@@ -84,44 +85,27 @@ pub(crate) fn blocks_apart(alloc: Global, policy: &Resolved) -> Result<Option<Of
     first_overlap(alloc, &extents)
 }
 
-// The first two windows of a subject that share an address.
+// The first two of a subject's windows that share an address.
 #[tactic(auto, using(crate::proofs::RangesByIndex::windows_sized))]
-fn of_subject(
-    alloc: Global,
-    policy: &Resolved,
-    subject: &Subject,
-) -> Result<Option<Offence>, NoMemory>
-    requires { outside_in policy.now subject.now ≡ None }
-    ensures { IfOk result (λ o. o ≡ overlap_in policy.now subject.now) }
+fn of_subject(alloc: Global, subject: &Subject, views: &[View]) -> Result<Option<Offence>, NoMemory>
+    requires { first_in (outside subject.now.name) views.now ≡ None }
+    ensures { IfOk result (λ o. o ≡ first_overlap (map view_extent views.now)) }
 {
-    let extents = extents(alloc, policy, subject)?;
+    let extents = view_extents(alloc, views)?;
     first_overlap(alloc, &extents)
-}
-
-// The first such windows of these subjects.
-fn of_subjects(
-    alloc: Global,
-    policy: &Resolved,
-    subjects: &[Subject],
-) -> Result<Option<Offence>, NoMemory>
-    requires { first_in (outside_in policy.now) subjects.now ≡ None }
-    ensures { IfOk result (λ o. o ≡ first_in (overlap_in policy.now) subjects.now) }
-{
-    for subject in subjects {
-        if let Some(offence) = of_subject(alloc, policy, subject)? {
-            return Ok(Some(offence));
-        }
-    }
-    Ok(None)
 }
 
 /// Rule 5: the first two windows of a subject that share an address.
 ///
 /// Answers `NoMemory` where memory was refused.
-#[tactic(auto, using(crate::proofs::RangesByIndex::none_outside, crate::proofs::RangesByIndex::windows_apart))]
 pub(crate) fn windows_apart(alloc: Global, policy: &Resolved) -> Result<Option<Offence>, NoMemory>
     requires { offence_4 (source_of policy.now) ≡ None }
     ensures { IfOk result (λ o. o ≡ offence_5 (source_of policy.now)) }
 {
-    of_subjects(alloc, policy, policy.subjects())
+    for (index, subject) in policy.subjects().iter().enumerate() {
+        if let Some(offence) = of_subject(alloc, subject, policy.views(index))? {
+            return Ok(Some(offence));
+        }
+    }
+    Ok(None)
 }

@@ -1,14 +1,15 @@
 //! Rule 17: each group has members, all on its CPU, and each subject is a member once.
-ghost use Rattle.std.specs.Prelude.{◌≡◌, ◌==◌, IfOk, slice_index, if◌then◌else◌};
+ghost use Rattle.std.specs.Prelude.{◌≡◌, length, IfOk};
 ghost use Rattle.std.specs.List.{list_all, enumerate_from};
 ghost use Rattle.muen_num.specs.Search.{first_in};
 ghost use Rattle.policy_lawful.specs.Rules.{offence_17};
 ghost use Rattle.policy_lawful.specs.Resolution.{source_of};
-ghost use Rattle.policy_rules.specs.Groups.{is_member, is_group, group_offence, times_among, times_in, Adds, AreTimes, groups_offence, counted_offence};
+ghost use Rattle.policy_lawful.specs.Counts.{Adds};
+ghost use Rattle.policy_rules.specs.Groups.{is_member, is_group, group_offence, times_in, AreTimes, groups_offence, counted_offence};
 
 use muen_num::{NoMemory, first, first_numbered};
 use policy_lawful::resolved::{Group, Subject};
-use policy_lawful::{Offence, Resolved};
+use policy_lawful::{Counts, Offence, Resolved};
 use std::alloc::{AllocError, Global};
 
 // Whether the subject at an index is on this CPU.
@@ -43,49 +44,31 @@ fn first_group(subjects: &[Subject], groups: &[Group]) -> Option<Offence>
     )
 }
 
-// Counts this index on. Counts of 2 and more are alike.
-fn count_index(index: usize, times: &mut [u8])
-    ensures { Adds times.old times.new (λ k. if index == k then 1 else 0) }
-{
-    if index < times.len() {
-        times[index] = times[index].saturating_add(1);
-    }
-}
-
-// Counts each index on by how often it stands here.
-fn count_indexes(indexes: &[usize], times: &mut [u8])
-    ensures { Adds times.old times.new (times_among indexes.now) }
-{
-    for index in indexes {
-        count_index(*index, times);
-    }
-}
-
 // Counts each index on by how often it stands among the members of the groups.
-fn count_members(groups: &[Group], times: &mut [u8])
-    ensures { Adds times.old times.new (times_in groups.now) }
+fn count_members(groups: &[Group], counts: &mut Counts)
+    ensures room { length counts.new ≡ length counts.old }
+    ensures adds { Adds counts.old counts.new (times_in groups.now) }
 {
     for group in groups {
-        count_indexes(group.subjects.items(), times);
+        counts.count(group.subjects.items());
     }
 }
 
-// How often each of so many indexes stands among the members of the groups; counts of 2 and more are
-// alike.
-fn times_of(alloc: Global, groups: &[Group], count: usize) -> Result<Vec<u8>, AllocError>
-    ensures { IfOk result (λ times. AreTimes times.items count groups.now) }
+// How often each of so many indexes stands among the members of the groups.
+fn times_of(alloc: Global, groups: &[Group], count: usize) -> Result<Counts, AllocError>
+    ensures { IfOk result (λ counts. AreTimes counts count groups.now) }
 {
-    let mut times = vec![in alloc; 0u8; count]?;
-    count_members(groups, &mut times);
-    Ok(times)
+    let mut counts = Counts::zeros(alloc, count)?;
+    count_members(groups, &mut counts);
+    Ok(counts)
 }
 
 // The first subject that wasn't met once.
-fn first_counted(subjects: &[Subject], times: &[u8]) -> Option<Offence>
-    ensures { result ≡ first_in (counted_offence times.now) (enumerate_from 0 subjects.now) }
+fn first_counted(subjects: &[Subject], counts: &Counts) -> Option<Offence>
+    ensures { result ≡ first_in (counted_offence counts.now) (enumerate_from 0 subjects.now) }
 {
     first_numbered(subjects, |index, subject| {
-        Offence::alone(subject.name).unless(times.get(index).copied().unwrap_or(0) == 1)
+        Offence::alone(subject.name).unless(counts.times(index) == 1)
     })
 }
 
@@ -101,8 +84,8 @@ fn of_groups(
     if let Some(offence) = first_group(subjects, groups) {
         return Ok(Some(offence));
     }
-    let times = times_of(alloc, groups, subjects.len())?;
-    Ok(first_counted(subjects, &times))
+    let counts = times_of(alloc, groups, subjects.len())?;
+    Ok(first_counted(subjects, &counts))
 }
 
 /// The first offence against rule 17, if any.

@@ -9,7 +9,6 @@ mod groups;
 mod keys;
 mod limits;
 mod major_frames;
-mod names;
 mod rules;
 mod tau0;
 mod windows;

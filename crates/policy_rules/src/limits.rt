@@ -5,7 +5,7 @@ ghost use Rattle.muen_num.specs.Search.{first_in};
 ghost use Rattle.policy_lawful.specs.Resolution.{source_of};
 ghost use Rattle.policy_lawful.specs.Rules.{device_limit, offence_20};
 ghost use Rattle.policy_lawful.specs.ByIndex.{is_short};
-ghost use Rattle.policy_rules.specs.Limits.{blocks_limit, count_limit, declared_limit, device_memory_limit, devices_limit, limits_offence, major_limit, majors_limit, msrs_in, name_limit, names_limit, provided_by_use, regions_limit, regions_of_subject, subject_limit_at, subjects_limit};
+ghost use Rattle.policy_rules.specs.Limits.{blocks_limit, count_limit, declared_limit, device_memory_limit, devices_limit, limits_offence, major_limit, majors_limit, msrs_in, name_limit, names_limit, regions_limit, regions_of_subject, subject_limit_at, subject_limit_with, subjects_limit};
 
 use crate::apart::device_extents;
 use crate::keys::Key;
@@ -17,10 +17,9 @@ use muen_num::limits::{
 };
 use muen_num::{NoMemory, first, first_numbered};
 use policy_lawful::frame_names::major_name;
-use policy_lawful::resolved::{ComponentUse, CpuFrames, MajorFrame, Resolved, Subject};
-use policy_lawful::{Extent, Offence};
+use policy_lawful::resolved::{CpuFrames, MajorFrame, Subject};
+use policy_lawful::{Extent, Offence, Resolved, View};
 use policy_types::source::{Block, Channel, Component, Device, Event, Msrs};
-use policy_views::views;
 use std::alloc::Global;
 
 // ---- what is declared before the subjects
@@ -157,65 +156,39 @@ fn msrs(ranges: &[Msrs]) -> u128
     total
 }
 
-// The limits on a subject.
-fn of_subject(
-    alloc: Global,
-    policy: &Resolved,
-    subject: &Subject,
-) -> Result<Option<Offence>, NoMemory>
-    ensures { IfOk result (λ o. o ≡ subject_limit_at policy.now subject.now) }
+// The limits on a subject with these windows.
+fn of_subject(subject: &Subject, views: &[View]) -> Option<Offence>
+    ensures { result ≡ subject_limit_with views.now subject.now }
 {
-    let windows = views(alloc, policy, subject)?.len();
     let msrs = msrs(subject.msrs.items());
-    Ok(Offence::alone(subject.name).unless(windows <= MOST_WINDOWS && msrs <= MOST_MSRS as u128))
+    Offence::alone(subject.name).unless(views.len() <= MOST_WINDOWS && msrs <= MOST_MSRS as u128)
 }
 
-fn each_subject(
-    alloc: Global,
-    policy: &Resolved,
-    subjects: &[Subject],
-) -> Result<Option<Offence>, NoMemory>
-    ensures { IfOk result (λ o. o ≡ first_in (subject_limit_at policy.now) subjects.now) }
+fn each_subject(policy: &Resolved) -> Option<Offence>
+    ensures { result ≡ first_in (subject_limit_at policy.now) policy.now.subjects }
 {
-    for subject in subjects {
-        if let Some(offence) = of_subject(alloc, policy, subject)? {
-            return Ok(Some(offence));
-        }
-    }
-    Ok(None)
+    first_numbered(policy.subjects(), |index, subject| {
+        of_subject(subject, policy.views(index))
+    })
 }
 
 // The limits on subjects, and on each.
-fn of_subjects(alloc: Global, policy: &Resolved) -> Result<Option<Offence>, NoMemory>
-    ensures { IfOk result (λ o. o ≡ subjects_limit policy.now) }
+fn of_subjects(policy: &Resolved) -> Option<Offence>
+    ensures { result ≡ subjects_limit policy.now }
 {
-    let subjects = policy.subjects();
-    match Key::Subjects.unless(1 <= subjects.len() && subjects.len() <= MOST_SUBJECTS) {
-        Some(offence) => Ok(Some(offence)),
-        None => each_subject(alloc, policy, subjects),
-    }
+    let subjects = policy.subjects().len();
+    Key::Subjects
+        .unless(1 <= subjects && subjects <= MOST_SUBJECTS)
+        .or_else(|| each_subject(policy))
 }
 
 // ---- regions
-
-// How many regions a subject's component provides.
-fn provided(policy: &Resolved, used: &Option<ComponentUse>) -> usize
-    ensures { result ≡ provided_by_use policy.now used.now }
-{
-    match used {
-        None => 0,
-        Some(used) => match policy.components().get(used.used) {
-            None => 0,
-            Some(component) => component.provides.len(),
-        },
-    }
-}
 
 fn regions_of(policy: &Resolved, subject: &Subject) -> u128
     ensures value { result ≡ regions_of_subject policy.now subject.now }
     ensures room { result ≤ 2 ^ 65 }
 {
-    provided(policy, &subject.component) as u128 + KERNEL_REGIONS as u128
+    policy.provided_by(subject).len() as u128 + KERNEL_REGIONS as u128
 }
 
 fn regions_of_subjects(policy: &Resolved, subjects: &[Subject]) -> u128
@@ -278,8 +251,9 @@ pub(crate) fn limits(alloc: Global, policy: &Resolved) -> Result<Option<Offence>
     if let Some(offence) = of_declared(alloc, policy)? {
         return Ok(Some(offence));
     }
-    if let Some(offence) = of_subjects(alloc, policy)? {
-        return Ok(Some(offence));
-    }
-    Ok(of_regions(policy).or_else(|| of_frames(majors)))
+    Ok(
+        of_subjects(policy)
+            .or_else(|| of_regions(policy))
+            .or_else(|| of_frames(majors)),
+    )
 }

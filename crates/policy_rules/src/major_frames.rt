@@ -1,21 +1,20 @@
 //! Rule 16: in each major frame every CPU is listed once, with minor frames of its own groups that
 //! have ticks, and the ticks of all CPUs are the same.
-ghost use Rattle.std.specs.Prelude.{◌≡◌, [], IfOk};
+ghost use Rattle.std.specs.Prelude.{◌≡◌, []};
 ghost use Rattle.std.specs.Option.{option_or};
 ghost use Rattle.std.specs.List.{list_all, enumerate_from};
 ghost use Rattle.muen_num.specs.Range.{numbers_below};
 ghost use Rattle.muen_num.specs.Search.{first_in, first_after};
 ghost use Rattle.policy_lawful.specs.Offences.{two};
-ghost use Rattle.policy_lawful.specs.Rules.{major_name, cpu_name, is_on, offence_16};
+ghost use Rattle.policy_lawful.specs.Rules.{major_name, cpu_name, is_on, offence_16, tau0_offence};
 ghost use Rattle.policy_lawful.specs.Resolution.{IsResolved, source_of};
 ghost use Rattle.policy_rules.specs.Majors.{cpu_of_group, is_frame, has_first_ticks, is_listed, is_entry, entry_offence, missing_offence, major_offence};
 
 use crate::tau0::tau0;
-use muen_num::{NoMemory, first_numbered};
+use muen_num::first_numbered;
 use policy_lawful::frame_names::{cpu_name, major_name};
 use policy_lawful::resolved::{CpuFrames, Group, MajorFrame, MinorFrame};
 use policy_lawful::{Offence, Resolved};
-use std::alloc::Global;
 
 // Whether the group at an index is on this CPU.
 fn is_on(groups: &[Group], index: usize, cpu: u64) -> bool
@@ -133,14 +132,18 @@ fn of_frames(policy: &Resolved) -> Option<Offence>
     )
 }
 
-/// The first offence against rule 16, if any: of a major frame, else of who chooses them.
-///
-/// Answers `NoMemory` where memory was refused.
-pub(crate) fn major_frames(alloc: Global, policy: &Resolved) -> Result<Option<Offence>, NoMemory>
-    ensures { IfOk result (λ o. o ≡ offence_16 (source_of policy.now)) }
+// The first offence of a major frame, else of who chooses them.
+fn of_all(policy: &Resolved) -> Option<Offence>
+    ensures value { result ≡ option_or (first_in (major_offence policy.now.scheduling.groups policy.now.processor.logical_cpus) (enumerate_from 0 policy.now.scheduling.major_frames)) (tau0_offence (source_of policy.now) policy.now.scheduling.tau0) }
+    ensures resolved { IsResolved policy.now }
 {
-    match of_frames(policy) {
-        Some(offence) => Ok(Some(offence)),
-        None => tau0(alloc, policy),
-    }
+    of_frames(policy).or_else(|| tau0(policy))
+}
+
+/// The first offence against rule 16, if any: of a major frame, else of who chooses them.
+#[tactic(auto, using(crate::proofs::MajorsByIndex::majors_by_index))]
+pub(crate) fn major_frames(policy: &Resolved) -> Option<Offence>
+    ensures { result ≡ offence_16 (source_of policy.now) }
+{
+    of_all(policy)
 }

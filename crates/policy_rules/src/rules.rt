@@ -46,7 +46,7 @@ fn memory_rules(alloc: Global, policy: &Resolved) -> Result<(), Refusal>
     ensures { Keeps (memory_broken (source_of policy.now)) (λ _. offence_4 (source_of policy.now) ≡ None) result }
 {
     keep(3, cpus(policy))?;
-    keep(4, addresses(alloc, policy)?)?;
+    keep(4, addresses(policy))?;
     keep(5, windows_apart(alloc, policy)?)?;
     keep(6, connected(alloc, policy)?)?;
     keep(7, mapped(alloc, policy)?)?;
@@ -71,7 +71,7 @@ fn plan_rules(alloc: Global, policy: &Resolved) -> Result<(), Refusal>
     requires { offence_4 (source_of policy.now) ≡ None }
     ensures { Keeps (plan_broken (source_of policy.now)) (λ _. ⊤) result }
 {
-    keep(16, major_frames(alloc, policy)?)?;
+    keep(16, major_frames(policy))?;
     keep(17, groups(alloc, policy)?)?;
     keep(18, blocks_apart(alloc, policy)?)?;
     keep(19, fixed_regions(alloc, policy)?)?;

@@ -1,19 +1,16 @@
 // Rule 16, its end: the subject that chooses the major frames, and the region by which it does.
-ghost use Rattle.std.specs.Prelude.{◌≡◌, ◌&&◌, ◌==◌, length, IfOk};
+ghost use Rattle.std.specs.Prelude.{◌≡◌, ◌&&◌, ◌==◌, length};
 ghost use Rattle.std.specs.List.{list_any};
 ghost use Rattle.std.specs.Str.{bytes_eq};
 ghost use Rattle.policy_lawful.specs.Resolution.{source_of};
 ghost use Rattle.policy_lawful.specs.Rules.{tau0_offence};
-ghost use Rattle.policy_rules.specs.Tau0.{chooser_offence, is_chooser, is_on_named, is_own_region, may_write};
-ghost use Rattle.policy_views.specs.Views.{views_of};
+ghost use Rattle.policy_rules.specs.Tau0.{chooser_offence, is_chooser, is_chooser_with, is_on_named, is_own_region, may_write};
 
 use crate::keys::Key;
-use muen_num::{AccessKind, Name, NoMemory};
+use muen_num::{AccessKind, Name};
 use policy_lawful::resolved::Subject;
-use policy_lawful::{Offence, Resolved};
+use policy_lawful::{Offence, Resolved, Shown, View};
 use policy_types::source::{Region, Tau0};
-use policy_views::{Shown, View, views};
-use std::alloc::Global;
 
 // Whether it shows a region of this name.
 fn is_on_named(name: Name, view: &View) -> bool
@@ -31,36 +28,22 @@ fn may_write(name: Name, views: &[View]) -> bool
     views.iter().any(|view| is_on_named(name, view) && view.rights.allows(AccessKind::Write))
 }
 
-// Whether this subject is the one that chooses, and may write the region.
-fn is_chooser(
-    alloc: Global,
-    policy: &Resolved,
-    chooser: &Tau0,
-    subject: &Subject,
-) -> Result<bool, NoMemory>
-    ensures { IfOk result (λ b. b ≡ is_chooser policy.now chooser.now subject.now) }
+// Whether this subject is the one that chooses, and may write the region by one of these windows.
+fn is_chooser(chooser: &Tau0, subject: &Subject, views: &[View]) -> bool
+    ensures { result ≡ is_chooser_with chooser.now views.now subject.now }
 {
-    if subject.name != chooser.subject {
-        return Ok(false);
-    }
-    let views = views(alloc, policy, subject)?;
-    Ok(may_write(chooser.region, &views))
+    subject.name == chooser.subject && may_write(chooser.region, views)
 }
 
-fn some_chooser(
-    alloc: Global,
-    policy: &Resolved,
-    chooser: &Tau0,
-    subjects: &[Subject],
-) -> Result<bool, NoMemory>
-    ensures { IfOk result (λ b. b ≡ list_any (is_chooser policy.now chooser.now) subjects.now) }
+fn some_chooser(policy: &Resolved, chooser: &Tau0) -> bool
+    ensures { result ≡ list_any (is_chooser policy.now chooser.now) policy.now.subjects }
 {
-    for subject in subjects {
-        if is_chooser(alloc, policy, chooser, subject)? {
-            return Ok(true);
+    for (index, subject) in policy.subjects().iter().enumerate() {
+        if is_chooser(chooser, subject, policy.views(index)) {
+            return true;
         }
     }
-    Ok(false)
+    false
 }
 
 fn is_declared(subjects: &[Subject], name: Name) -> bool
@@ -75,29 +58,27 @@ fn has_own_region(memory: &[Region], name: Name) -> bool
     memory.iter().any(|region| region.name == name && region.shared_memory.is_empty())
 }
 
-fn of_chooser(alloc: Global, policy: &Resolved, chooser: &Tau0) -> Result<Option<Offence>, NoMemory>
-    ensures { IfOk result (λ o. o ≡ chooser_offence policy.now chooser.now) }
+fn of_chooser(policy: &Resolved, chooser: &Tau0) -> Option<Offence>
+    ensures { result ≡ chooser_offence policy.now chooser.now }
 {
     if !is_declared(policy.subjects(), chooser.subject) {
-        return Ok(Some(Key::Tau0.with(chooser.subject)));
+        return Some(Key::Tau0.with(chooser.subject));
     }
     if !has_own_region(policy.memory(), chooser.region) {
-        return Ok(Some(Key::Tau0.with(chooser.region)));
+        return Some(Key::Tau0.with(chooser.region));
     }
-    let may = some_chooser(alloc, policy, chooser, policy.subjects())?;
-    Ok(Key::Tau0.with(chooser.region).unless(may))
+    let may = some_chooser(policy, chooser);
+    Key::Tau0.with(chooser.region).unless(may)
 }
 
 /// The offence of the subject that chooses the major frames, if one does: it isn't declared, or its
 /// region isn't or is shared, or it may not write that.
-///
-/// Answers `NoMemory` where memory was refused.
 #[tactic(auto, using(crate::proofs::Tau0ByIndex::chooser_by_index, crate::proofs::Tau0ByIndex::no_chooser))]
-pub(crate) fn tau0(alloc: Global, policy: &Resolved) -> Result<Option<Offence>, NoMemory>
-    ensures { IfOk result (λ o. o ≡ tau0_offence (source_of policy.now) policy.now.scheduling.tau0) }
+pub(crate) fn tau0(policy: &Resolved) -> Option<Offence>
+    ensures { result ≡ tau0_offence (source_of policy.now) policy.now.scheduling.tau0 }
 {
     match &policy.scheduling().tau0 {
-        None => Ok(None),
-        Some(chooser) => of_chooser(alloc, policy, chooser),
+        None => None,
+        Some(chooser) => of_chooser(policy, chooser),
     }
 }

@@ -6,14 +6,12 @@ ghost use Rattle.policy_lawful.specs.Resolution.{IsResolved, source_of};
 ghost use Rattle.std.specs.Str.{bytes_eq};
 ghost use Rattle.policy_lawful.specs.Offences.{two};
 ghost use Rattle.policy_lawful.specs.Rules.{offence_8};
+ghost use Rattle.policy_rules.specs.Names.{HasAll};
 ghost use Rattle.policy_rules.specs.Writers.{HasUsers, added, fault_at, not_shared, other_among, sharing_fault, stranger_among, user_of, users_fault, with_user};
 
-use crate::names::Names;
 use muen_num::{AccessKind, Name, NoMemory, Seq};
-use policy_lawful::resolved::Subject;
-use policy_lawful::{Offence, Resolved};
+use policy_lawful::{NameSet, Offence, Resolved, Shown, View};
 use policy_types::source::Region;
-use policy_views::{Shown, View, views};
 use std::alloc::{AllocError, Global};
 
 // A subject that has a window on a region, and whether it may write by that.
@@ -71,19 +69,15 @@ fn no_users(alloc: Global, regions: usize) -> Result<Vec<Seq<User>>, NoMemory>
     Ok(users)
 }
 
-// The users of each region, among these subjects.
-#[tactic(auto, using(crate::proofs::WritersByIndex::none_yet, crate::proofs::WritersByIndex::users_more))]
-fn users_of(
-    alloc: Global,
-    policy: &Resolved,
-    subjects: &[Subject],
-) -> Result<Vec<Seq<User>>, NoMemory>
-    ensures { IfOk result (λ v. HasUsers policy.now v.items subjects.now) }
+// The users of each region.
+#[tactic(auto, using(crate::proofs::WritersByIndex::none_yet))]
+fn users_of(alloc: Global, policy: &Resolved) -> Result<Vec<Seq<User>>, NoMemory>
+    ensures users { IfOk result (λ v. HasUsers policy.now v.items policy.now.subjects) }
+    ensures resolved { IsResolved policy.now }
 {
     let mut users = no_users(alloc, policy.memory().len())?;
-    for subject in subjects {
-        let views = views(alloc, policy, subject)?;
-        note_views(&mut users, subject.name, &views)?;
+    for (index, subject) in policy.subjects().iter().enumerate() {
+        note_views(&mut users, subject.name, policy.views(index))?;
     }
     Ok(users)
 }
@@ -116,11 +110,23 @@ fn other(users: &[User], region: &Name) -> Option<Offence>
     other_than(users, region, writer)
 }
 
+// The names of a list, each once.
+#[tactic(auto, using(crate::proofs::NamesAdded::all_more))]
+fn set_of(alloc: Global, names: &[Name]) -> Result<NameSet, NoMemory>
+    ensures { IfOk result (λ all. HasAll all names.now) }
+{
+    let mut all = NameSet::new(alloc);
+    for name in names {
+        all.add(*name)?;
+    }
+    Ok(all)
+}
+
 // The first user that isn't among these names.
-fn stranger(names: &Names, region: &Name, users: &[User]) -> Option<Offence>
+fn stranger(names: &NameSet, region: &Name, users: &[User]) -> Option<Offence>
     ensures { result ≡ stranger_among names.now region.now users.now }
 {
-    let user = users.iter().find(|user| !names.has(&user.name))?;
+    let user = users.iter().find(|user| !names.contains(&user.name))?;
     Some(Offence {
         first: *region,
         second: user.name,
@@ -130,16 +136,16 @@ fn stranger(names: &Names, region: &Name, users: &[User]) -> Option<Offence>
 // The first name of a region's list that stood before, or that isn't among these names.
 fn first_not_shared(
     alloc: Global,
-    names: &Names,
+    names: &NameSet,
     region: &Name,
     list: &[Name],
 ) -> Result<Option<Offence>, NoMemory>
     ensures { IfOk result (λ o. o ≡ first_after (not_shared names.now region.now) [] list.now) }
 {
-    let mut before = Names::new(alloc);
+    let mut before = NameSet::new(alloc);
     for name in list {
         let is_new = before.add(*name)?;
-        if !(is_new && names.has(name)) {
+        if !(is_new && names.contains(name)) {
             return Ok(Some(Offence {
                 first: *region,
                 second: *name,
@@ -161,12 +167,12 @@ fn of_shared(alloc: Global, region: &Region, users: &[User]) -> Result<Option<Of
     ensures { IfOk result (λ o. o ≡ sharing_fault users.now region.now) }
 {
     let list = region.shared_memory.items();
-    let listed = Names::of(alloc, list)?;
+    let listed = set_of(alloc, list)?;
     if let Some(offence) = stranger(&listed, &region.name, users) {
         return Ok(Some(offence));
     }
     let names = names_of(alloc, users)?;
-    let using = Names::of(alloc, &names)?;
+    let using = set_of(alloc, &names)?;
     first_not_shared(alloc, &using, &region.name, list)
 }
 
@@ -208,6 +214,6 @@ fn of_regions(
 pub(crate) fn writers(alloc: Global, policy: &Resolved) -> Result<Option<Offence>, NoMemory>
     ensures { IfOk result (λ o. o ≡ offence_8 (source_of policy.now)) }
 {
-    let users = users_of(alloc, policy, policy.subjects())?;
+    let users = users_of(alloc, policy)?;
     of_regions(alloc, policy.memory(), &users)
 }

@@ -4,7 +4,7 @@ use crate::rights::{Caching, MsrRights, Rights, Role};
 use muen_num::{EventMode, Name, Seq};
 
 /// What a policy document says of a system: the elements of a Muen system policy, in this project's profile. Numbers are as in the document, and nothing is resolved or checked.
-#[derive(Drop)]
+#[derive(Debug, Drop)]
 pub struct Source {
     pub processor: Processor,
     pub memory_blocks: Seq<Block>,
@@ -19,14 +19,14 @@ pub struct Source {
 }
 
 /// The processor.
-#[derive(Drop)]
+#[derive(Debug, Drop)]
 pub struct Processor {
     /// How many logical CPUs there are.
     pub logical_cpus: u64,
 }
 
 /// A block of physical memory.
-#[derive(Drop)]
+#[derive(Debug, Drop)]
 pub struct Block {
     pub name: Name,
     pub physical_address: u64,
@@ -35,7 +35,7 @@ pub struct Block {
 }
 
 /// A device with its resources.
-#[derive(Drop)]
+#[derive(Debug, Drop)]
 pub struct Device {
     pub name: Name,
     pub memory: Seq<DeviceMemory>,
@@ -54,7 +54,7 @@ pub struct Bdf {
 }
 
 /// Memory of a device.
-#[derive(Drop)]
+#[derive(Debug, Drop)]
 pub struct DeviceMemory {
     pub name: Name,
     pub physical_address: u64,
@@ -63,7 +63,7 @@ pub struct DeviceMemory {
 }
 
 /// A range of I/O ports, both ends included.
-#[derive(Drop)]
+#[derive(Debug, Drop)]
 pub struct Ports {
     pub name: Name,
     pub start: u64,
@@ -71,13 +71,13 @@ pub struct Ports {
 }
 
 /// An interrupt line of a device.
-#[derive(Drop)]
+#[derive(Debug, Drop)]
 pub struct Irq {
     pub name: Name,
 }
 
 /// A region of memory.
-#[derive(Drop)]
+#[derive(Debug, Drop)]
 pub struct Region {
     pub name: Name,
     /// In bytes.
@@ -93,7 +93,7 @@ pub struct Region {
 }
 
 /// What a region holds at the start; what it says less than the size is followed by zeros.
-#[derive(Drop)]
+#[derive(Debug, Drop)]
 pub enum Content {
     /// Zeros.
     Zero,
@@ -110,7 +110,7 @@ pub enum Content {
 }
 
 /// A one-way channel.
-#[derive(Drop)]
+#[derive(Debug, Drop)]
 pub struct Channel {
     pub name: Name,
     /// In bytes.
@@ -119,7 +119,7 @@ pub struct Channel {
 }
 
 /// A component that subjects may use.
-#[derive(Drop)]
+#[derive(Debug, Drop)]
 pub struct Component {
     pub name: Name,
     pub provides: Seq<Provided>,
@@ -128,7 +128,7 @@ pub struct Component {
 }
 
 /// A region that a component brings along, one for each of its subjects.
-#[derive(Drop)]
+#[derive(Debug, Drop)]
 pub struct Provided {
     pub logical: Name,
     pub virtual_address: u64,
@@ -139,7 +139,7 @@ pub struct Provided {
 }
 
 /// A region that a component asks for.
-#[derive(Drop)]
+#[derive(Debug, Drop)]
 pub struct Required {
     pub logical: Name,
     pub virtual_address: u64,
@@ -149,7 +149,7 @@ pub struct Required {
 }
 
 /// A channel that a component asks for.
-#[derive(Drop)]
+#[derive(Debug, Drop)]
 pub struct ComponentChannel {
     pub logical: Name,
     pub role: Role,
@@ -161,14 +161,14 @@ pub struct ComponentChannel {
 }
 
 /// An event.
-#[derive(Drop)]
+#[derive(Debug, Drop)]
 pub struct Event {
     pub name: Name,
     pub mode: EventMode,
 }
 
 /// A subject.
-#[derive(Drop)]
+#[derive(Debug, Drop)]
 pub struct Subject {
     pub name: Name,
     pub cpu: u64,
@@ -185,7 +185,7 @@ pub struct Subject {
 }
 
 /// The component of a subject.
-#[derive(Drop)]
+#[derive(Debug, Drop)]
 pub struct ComponentUse {
     /// The component's name.
     pub used: Name,
@@ -193,7 +193,7 @@ pub struct ComponentUse {
 }
 
 /// What a component's logical name stands for.
-#[derive(Drop)]
+#[derive(Debug, Drop)]
 pub struct MapEntry {
     pub logical: Name,
     pub physical: Name,
@@ -201,7 +201,7 @@ pub struct MapEntry {
 }
 
 /// A window of a subject, or of a domain of devices, on a region of memory.
-#[derive(Drop)]
+#[derive(Debug, Drop)]
 pub struct Mapping {
     pub region: Name,
     /// The address of its first byte, as the subject or the devices see it.
@@ -210,7 +210,7 @@ pub struct Mapping {
 }
 
 /// A subject's end of a channel.
-#[derive(Drop)]
+#[derive(Debug, Drop)]
 pub struct ChannelUse {
     pub channel: Name,
     pub role: Role,
@@ -220,7 +220,7 @@ pub struct ChannelUse {
 }
 
 /// What a subject is granted of a device.
-#[derive(Drop)]
+#[derive(Debug, Drop)]
 pub struct DeviceUse {
     pub device: Name,
     pub memory: Seq<DeviceMapping>,
@@ -229,7 +229,7 @@ pub struct DeviceUse {
 }
 
 /// A window of a subject on a device's memory.
-#[derive(Drop)]
+#[derive(Debug, Drop)]
 pub struct DeviceMapping {
     pub memory: Name,
     pub virtual_address: u64,
@@ -237,14 +237,14 @@ pub struct DeviceMapping {
 }
 
 /// An interrupt line that is granted to a subject.
-#[derive(Drop)]
+#[derive(Debug, Drop)]
 pub struct IrqUse {
     pub irq: Name,
     pub vector: u64,
 }
 
 /// A range of MSRs that is granted to a subject, both ends included.
-#[derive(Drop)]
+#[derive(Debug, Drop)]
 pub struct Msrs {
     pub start: u64,
     pub end: u64,
@@ -252,7 +252,7 @@ pub struct Msrs {
 }
 
 /// How a subject raises an event.
-#[derive(Drop)]
+#[derive(Debug, Drop)]
 pub struct EventSource {
     pub event: Name,
     pub way: SourceWay,
@@ -268,14 +268,14 @@ pub enum SourceWay {
 }
 
 /// An event that reaches a subject.
-#[derive(Drop)]
+#[derive(Debug, Drop)]
 pub struct EventTarget {
     pub event: Name,
     pub vector: Option<u64>,
 }
 
 /// A window of a subject on the state of another, which it monitors.
-#[derive(Drop)]
+#[derive(Debug, Drop)]
 pub struct Monitor {
     /// The monitored subject.
     pub subject: Name,
@@ -285,7 +285,7 @@ pub struct Monitor {
 }
 
 /// The scheduling plan.
-#[derive(Drop)]
+#[derive(Debug, Drop)]
 pub struct Scheduling {
     pub groups: Seq<Group>,
     pub major_frames: Seq<MajorFrame>,
@@ -301,7 +301,7 @@ pub struct Tau0 {
 }
 
 /// A scheduling group.
-#[derive(Drop)]
+#[derive(Debug, Drop)]
 pub struct Group {
     pub name: Name,
     pub cpu: u64,
@@ -310,27 +310,27 @@ pub struct Group {
 }
 
 /// A major frame.
-#[derive(Drop)]
+#[derive(Debug, Drop)]
 pub struct MajorFrame {
     pub cpus: Seq<CpuFrames>,
 }
 
 /// The minor frames of a CPU in a major frame.
-#[derive(Drop)]
+#[derive(Debug, Drop)]
 pub struct CpuFrames {
     pub cpu: u64,
     pub minor_frames: Seq<MinorFrame>,
 }
 
 /// A minor frame.
-#[derive(Drop)]
+#[derive(Debug, Drop)]
 pub struct MinorFrame {
     pub group: Name,
     pub ticks: u64,
 }
 
 /// A domain of devices, which confines what these may reach in memory by themselves (DMA).
-#[derive(Drop)]
+#[derive(Debug, Drop)]
 pub struct Domain {
     pub name: Name,
     /// Its devices.

@@ -12,11 +12,11 @@ use Rattle.policy_lawful.specs.declared.resolved.Wanted.TheVariants.{Memory as W
 use Rattle.policy_types.specs.declared.source.ComponentChannel.{ComponentChannel}
 use Rattle.policy_types.specs.declared.source.Required.{Required}
 use Rattle.policy_views.specs.Entries.{HasChoices, choice_of, chosen_channel, chosen_end, chosen_region, index_among, noted, wanted_at}
-use Rattle.policy_views.specs.Views.{channel_view, component_channel_view, component_end, entry_for, region_view, required_view, same_wanted}
+use Rattle.policy_lawful.specs.Views.{channel_view, component_channel_view, component_end, entry_for, region_view, required_view, same_wanted}
 use Rattle.policy_views.specs.declared.entries.Choice.{Choice}
 use Rattle.policy_views.specs.declared.entries.Wants.{Wants}
 use Rattle.policy_views.specs.declared.entries.Wants.TheVariants.{Memory as WantsMemory, Channel as WantsChannel}
-use Rattle.policy_views.specs.declared.view.IndexedEnd.{IndexedEnd}
+use Rattle.policy_lawful.specs.declared.view.IndexedEnd.{IndexedEnd}
 
 -- ---- one entry more
 

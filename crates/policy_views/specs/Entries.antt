@@ -7,12 +7,12 @@ use Rattle.policy_lawful.specs.declared.resolved.Wanted.{Wanted}
 use Rattle.policy_lawful.specs.declared.resolved.Wanted.TheVariants.{Memory as WantedMemory, Channel as WantedChannel}
 use Rattle.policy_types.specs.declared.source.ComponentChannel.{ComponentChannel}
 use Rattle.policy_types.specs.declared.source.Required.{Required}
-use Rattle.policy_views.specs.Views.{channel_view, entry_for, region_view}
+use Rattle.policy_lawful.specs.Views.{channel_view, entry_for, region_view}
 use Rattle.policy_views.specs.declared.entries.Choice.{Choice}
 use Rattle.policy_views.specs.declared.entries.Wants.{Wants}
 use Rattle.policy_views.specs.declared.entries.Wants.TheVariants.{Memory as WantsMemory, Channel as WantsChannel}
-use Rattle.policy_views.specs.declared.view.IndexedEnd.{IndexedEnd}
-use Rattle.policy_views.specs.declared.view.View.{View}
+use Rattle.policy_lawful.specs.declared.view.IndexedEnd.{IndexedEnd}
+use Rattle.policy_lawful.specs.declared.view.View.{View}
 
 -- what an entry chooses
 abbrev pub choice_of : MapEntry → Choice

@@ -2,13 +2,12 @@
 ghost use Rattle.std.specs.Prelude.{◌≡◌, map, IfOk};
 ghost use Rattle.std.specs.List.{filter_map, enumerate_from};
 ghost use Rattle.policy_views.specs.Entries.{chosen_end};
-ghost use Rattle.policy_views.specs.Views.{component_end, channel_ends_of, use_ends};
+ghost use Rattle.policy_lawful.specs.Views.{component_end, channel_ends_of, use_ends};
 
 use crate::entries::{Choice, Wants, choices};
-use crate::view::IndexedEnd;
 use muen_num::NoMemory;
-use policy_lawful::Resolved;
 use policy_lawful::resolved::{ChannelUse, ComponentUse, MapEntry, Subject};
+use policy_lawful::{Elements, IndexedEnd};
 use policy_types::source::ComponentChannel;
 use std::alloc::{AllocError, Global};
 
@@ -73,14 +72,14 @@ fn of_component(
 
 fn of_use(
     alloc: Global,
-    policy: &Resolved,
+    policy: &Elements,
     used: &Option<ComponentUse>,
 ) -> Result<Vec<IndexedEnd>, NoMemory>
     ensures { IfOk result (λ v. v.items ≡ use_ends policy.now used.now) }
 {
     match used {
         None => Ok(Vec::new(alloc)),
-        Some(used) => match policy.components().get(used.used) {
+        Some(used) => match policy.components.items().get(used.used) {
             None => Ok(Vec::new(alloc)),
             Some(component) => of_component(alloc, used.map.items(), component.channels.items()),
         },
@@ -90,10 +89,10 @@ fn of_use(
 /// The ends of channels of a subject, its own and then those of its component.
 ///
 /// Answers `NoMemory` where memory was refused.
-#[tactic(auto, unfolding(crate::specs::Views::channel_ends_of))]
-pub fn channel_ends(
+#[tactic(auto, unfolding(policy_lawful::specs::Views::channel_ends_of))]
+pub(crate) fn channel_ends(
     alloc: Global,
-    policy: &Resolved,
+    policy: &Elements,
     subject: &Subject,
 ) -> Result<Vec<IndexedEnd>, NoMemory>
     ensures { IfOk result (λ v. v.items ≡ channel_ends_of policy.now subject.now) }

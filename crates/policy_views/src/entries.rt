@@ -1,7 +1,7 @@
 //! What stands for a component's logical names at a subject.
 ghost use Rattle.std.specs.Prelude.{◌≡◌, ℕ, ◌<◌, ◌==◌, [], None, length, slice_index_or, IfOk};
 ghost use Rattle.policy_views.specs.Entries.{HasChoices, choice_of, index_among, noted, wanted_at};
-ghost use Rattle.policy_views.specs.Views.{same_wanted};
+ghost use Rattle.policy_lawful.specs.Views.{same_wanted};
 
 use muen_num::NoMemory;
 use policy_lawful::resolved::{MapEntry, Wanted};

@@ -3,16 +3,15 @@ ghost use Rattle.std.specs.Prelude.{◌≡◌, map, IfOk, option_copied};
 ghost use Rattle.std.specs.List.{filter_map, flat_map, enumerate_from};
 ghost use Rattle.policy_lawful.specs.Windows.{role_rights};
 ghost use Rattle.policy_views.specs.Entries.{chosen_channel, chosen_region};
-ghost use Rattle.policy_views.specs.Views.{channel_view, component_channel_view, component_views, device_view, monitor_view, provided_view, region_view, required_view, use_views, views_of};
+ghost use Rattle.policy_lawful.specs.Views.{channel_view, component_channel_view, component_views, device_view, monitor_view, provided_view, region_view, required_view, use_views, views_of};
 
 use crate::entries::{Choice, Wants, choices};
-use crate::view::{Shown, View};
 use muen_num::NoMemory;
 use muen_num::limits::PAGE;
-use policy_lawful::Resolved;
 use policy_lawful::resolved::{
     ChannelUse, ComponentUse, DeviceMapping, DeviceUse, MapEntry, Mapping, Monitor, Subject,
 };
+use policy_lawful::{Elements, Shown, View};
 use policy_types::source::{Component, ComponentChannel, Provided, Required};
 use policy_types::{Rights, Role};
 use std::alloc::{AllocError, Global};
@@ -27,10 +26,10 @@ fn role_rights(role: Role) -> Rights
     }
 }
 
-fn region_view(policy: &Resolved, index: usize, guest: u64, rights: Rights) -> Option<View>
+fn region_view(policy: &Elements, index: usize, guest: u64, rights: Rights) -> Option<View>
     ensures { result ≡ region_view policy.now index guest rights }
 {
-    let region = policy.memory().get(index)?;
+    let region = policy.memory.items().get(index)?;
     Some(View {
         name: region.name,
         guest,
@@ -40,10 +39,10 @@ fn region_view(policy: &Resolved, index: usize, guest: u64, rights: Rights) -> O
     })
 }
 
-fn channel_view(policy: &Resolved, index: usize, guest: u64, role: Role) -> Option<View>
+fn channel_view(policy: &Elements, index: usize, guest: u64, role: Role) -> Option<View>
     ensures { result ≡ channel_view policy.now index guest role }
 {
-    let channel = policy.channels().get(index)?;
+    let channel = policy.channels.items().get(index)?;
     Some(View {
         name: channel.name,
         guest,
@@ -54,11 +53,12 @@ fn channel_view(policy: &Resolved, index: usize, guest: u64, role: Role) -> Opti
 }
 
 // Of memory of the device at an index.
-fn device_view(policy: &Resolved, device: usize, mapping: &DeviceMapping) -> Option<View>
+fn device_view(policy: &Elements, device: usize, mapping: &DeviceMapping) -> Option<View>
     ensures { result ≡ device_view policy.now device mapping.now }
 {
     let memory = policy
-        .devices()
+        .devices
+        .items()
         .get(device)?
         .memory
         .items()
@@ -73,10 +73,10 @@ fn device_view(policy: &Resolved, device: usize, mapping: &DeviceMapping) -> Opt
 }
 
 // Of the state page of the subject that is monitored.
-fn monitor_view(policy: &Resolved, monitor: &Monitor) -> Option<View>
+fn monitor_view(policy: &Elements, monitor: &Monitor) -> Option<View>
     ensures { result ≡ monitor_view policy.now monitor.now }
 {
-    let subject = policy.subjects().get(monitor.subject)?;
+    let subject = policy.subjects.items().get(monitor.subject)?;
     Some(View {
         name: subject.name,
         guest: monitor.virtual_address,
@@ -99,7 +99,7 @@ fn provided_view(index: usize, provided: &Provided) -> View
 }
 
 fn required_view(
-    policy: &Resolved,
+    policy: &Elements,
     choices: &[Option<Choice>],
     index: usize,
     required: &Required,
@@ -118,7 +118,7 @@ fn required_view(
 }
 
 fn component_channel_view(
-    policy: &Resolved,
+    policy: &Elements,
     choices: &[Option<Choice>],
     index: usize,
     channel: &ComponentChannel,
@@ -140,7 +140,7 @@ fn component_channel_view(
 
 fn of_mappings(
     alloc: Global,
-    policy: &Resolved,
+    policy: &Elements,
     mappings: &[Mapping],
 ) -> Result<Vec<View>, AllocError>
     ensures { IfOk result (λ v. v.items ≡ filter_map (λ m. region_view policy.now m.region m.virtual_address m.rights) mappings.now) }
@@ -153,7 +153,7 @@ fn of_mappings(
 
 fn of_channels(
     alloc: Global,
-    policy: &Resolved,
+    policy: &Elements,
     channels: &[ChannelUse],
 ) -> Result<Vec<View>, AllocError>
     ensures { IfOk result (λ v. v.items ≡ filter_map (λ c. channel_view policy.now c.channel c.virtual_address c.role) channels.now) }
@@ -164,7 +164,7 @@ fn of_channels(
         .collect(alloc)
 }
 
-fn of_device(alloc: Global, policy: &Resolved, device: &DeviceUse) -> Result<Vec<View>, AllocError>
+fn of_device(alloc: Global, policy: &Elements, device: &DeviceUse) -> Result<Vec<View>, AllocError>
     ensures { IfOk result (λ v. v.items ≡ filter_map (device_view policy.now device.now.device) device.now.memory) }
 {
     let mappings = device.memory.items();
@@ -176,7 +176,7 @@ fn of_device(alloc: Global, policy: &Resolved, device: &DeviceUse) -> Result<Vec
 
 fn of_devices(
     alloc: Global,
-    policy: &Resolved,
+    policy: &Elements,
     devices: &[DeviceUse],
 ) -> Result<Vec<View>, NoMemory>
     ensures { IfOk result (λ v. v.items ≡ flat_map (λ d. filter_map (device_view policy.now d.device) d.memory) devices.now) }
@@ -201,7 +201,7 @@ fn of_provided(alloc: Global, provides: &[Provided]) -> Result<Vec<View>, AllocE
 
 fn chosen_regions(
     alloc: Global,
-    policy: &Resolved,
+    policy: &Elements,
     choices: &[Option<Choice>],
     memory: &[Required],
 ) -> Result<Vec<View>, AllocError>
@@ -217,7 +217,7 @@ fn chosen_regions(
 #[tactic(auto, using(crate::proofs::EntriesNoted::regions_chosen))]
 fn of_required(
     alloc: Global,
-    policy: &Resolved,
+    policy: &Elements,
     entries: &[MapEntry],
     memory: &[Required],
 ) -> Result<Vec<View>, NoMemory>
@@ -230,7 +230,7 @@ fn of_required(
 
 fn chosen_channels(
     alloc: Global,
-    policy: &Resolved,
+    policy: &Elements,
     choices: &[Option<Choice>],
     channels: &[ComponentChannel],
 ) -> Result<Vec<View>, AllocError>
@@ -246,7 +246,7 @@ fn chosen_channels(
 #[tactic(auto, using(crate::proofs::EntriesNoted::channels_chosen))]
 fn of_component_channels(
     alloc: Global,
-    policy: &Resolved,
+    policy: &Elements,
     entries: &[MapEntry],
     channels: &[ComponentChannel],
 ) -> Result<Vec<View>, NoMemory>
@@ -259,7 +259,7 @@ fn of_component_channels(
 
 fn of_component(
     alloc: Global,
-    policy: &Resolved,
+    policy: &Elements,
     entries: &[MapEntry],
     component: &Component,
 ) -> Result<Vec<View>, NoMemory>
@@ -275,14 +275,14 @@ fn of_component(
 
 fn of_use(
     alloc: Global,
-    policy: &Resolved,
+    policy: &Elements,
     used: &Option<ComponentUse>,
 ) -> Result<Vec<View>, NoMemory>
     ensures { IfOk result (λ v. v.items ≡ use_views policy.now used.now) }
 {
     match used {
         None => Ok(Vec::new(alloc)),
-        Some(used) => match policy.components().get(used.used) {
+        Some(used) => match policy.components.items().get(used.used) {
             None => Ok(Vec::new(alloc)),
             Some(component) => of_component(alloc, policy, used.map.items(), component),
         },
@@ -291,7 +291,7 @@ fn of_use(
 
 fn of_monitors(
     alloc: Global,
-    policy: &Resolved,
+    policy: &Elements,
     monitors: &[Monitor],
 ) -> Result<Vec<View>, AllocError>
     ensures { IfOk result (λ v. v.items ≡ filter_map (monitor_view policy.now) monitors.now) }
@@ -306,8 +306,12 @@ fn of_monitors(
 /// component, the state pages that it monitors.
 ///
 /// Answers `NoMemory` where memory was refused.
-#[tactic(auto, unfolding(crate::specs::Views::views_of))]
-pub fn views(alloc: Global, policy: &Resolved, subject: &Subject) -> Result<Vec<View>, NoMemory>
+#[tactic(auto, unfolding(policy_lawful::specs::Views::views_of))]
+pub(crate) fn views(
+    alloc: Global,
+    policy: &Elements,
+    subject: &Subject,
+) -> Result<Vec<View>, NoMemory>
     ensures { IfOk result (λ v. v.items ≡ views_of policy.now subject.now) }
 {
     let mut views = of_mappings(alloc, policy, subject.memory.items())?;

@@ -10,14 +10,14 @@ use Rattle.ept_emit.specs.declared.window.Window.{Window}
 use Rattle.ept_emit.specs.Emitted.{HasAddresses}
 use Rattle.expand_grants.specs.Grants.{AreGrantsOf}
 use Rattle.expand_grants.specs.declared.granted.Grants.{Grants}
-use Rattle.expand_kernel.specs.ByIndex.{provided_at}
+use Rattle.policy_lawful.specs.ByIndex.{provided_at}
 use Rattle.expand_kernel.specs.Regions.{anywhere, channel_region, own_region, provided_region}
 use Rattle.expand_kernel.specs.declared.region.Region.{Region}
 use Rattle.expand_kernel.specs.declared.region.RegionKind.TheVariants.{Kernel}
 use Rattle.image_emit.specs.Made.{IsMade, Made, image_of, policy_of}
 use Rattle.image_emit.proofs.ByNumber.{region_spans_length}
 use Rattle.proof_build.proofs.PagesThere.{page_there}
-use Rattle.image_emit.proofs.SpansOfKernel.{sound_of}
+use Rattle.image_emit.proofs.SpansOfKernel.{placed_of}
 use Rattle.image_emit.proofs.SpansAt.{at_number, region_at}
 use Rattle.image_soundness.specs.Memory.{memory_of}
 use Rattle.image_pack.specs.declared.parts.SpanPart.{SpanPart}
@@ -29,8 +29,8 @@ use Rattle.policy_lawful.specs.Rules.{is_guest, is_page_aligned, is_page_size}
 use Rattle.policy_lawful.specs.declared.resolved.Subject.{Subject}
 use Rattle.policy_types.specs.declared.source.Device.{Device as SomeDevice}
 use Rattle.policy_types.specs.declared.source.DeviceMemory.{DeviceMemory}
-use Rattle.policy_views.specs.declared.view.Shown.{Shown}
-use Rattle.policy_views.specs.declared.view.Shown.TheVariants.{Memory, Channel, Provided, Device, State}
+use Rattle.policy_lawful.specs.declared.view.Shown.{Shown}
+use Rattle.policy_lawful.specs.declared.view.Shown.TheVariants.{Memory, Channel, Provided, Device, State}
 use Rattle.span_emit.specs.Spans.{device_span, device_spans, memories_of, region_span, region_spans, spans_of}
 use Rattle.subject_emit.specs.Mapped.{brought_before, kernel_first, mapped, mapped_windows, shown_address}
 use Rattle.subject_emit.specs.Shows.{shown_size}
@@ -90,7 +90,7 @@ module _ (m : Made) (h : IsMade m) where
       let p = from_some (λ p. p.size) (slice_get (provided_at (policy_of m).components s.component) n) size e in
       let number : ℕ = length (policy_of m).memory + length (policy_of m).channels + brought_before (policy_of m) k + n in
       subst (AreThere m (shown_address m.placed k (Provided n))) p.2
-      (region_there number (provided_region s.name p.0) (provided_at_index m.placed (sound_of m h) k n s p.0 at p.1) (ap (λ n. n % 4096) p.2 ∙ whole) aligned)
+      (region_there number (provided_region s.name p.0) (provided_at_index m.placed (placed_of m h) k n s p.0 at p.1) (ap (λ n. n % 4096) p.2 ∙ whole) aligned)
 
   device_there : (device memory k size : ℕ) (o : Option SomeDevice) → slice_get (policy_of m).devices device ≡ o
       → option_and_then (λ (d : SomeDevice). option_map (λ m. m.size) (slice_get d.memory memory)) o ≡ Some size
@@ -112,18 +112,18 @@ module _ (m : Made) (h : IsMade m) where
       let n : kernel_first (policy_of m) other + 0 ≡ kernel_first (policy_of m) other = omega arith in
       let page = anywhere Kernel s.name StatePart PAGE in
       let here : slice_get m.placed.expanded.regions (kernel_first (policy_of m) other) ≡ Some page =
-      ap (slice_get m.placed.expanded.regions) (sym n) ∙ kernel_at_index m.placed (sound_of m h) other 0 s g.0 page at g.1 refl in
+      ap (slice_get m.placed.expanded.regions) (sym n) ∙ kernel_at_index m.placed (placed_of m h) other 0 s g.0 page at g.1 refl in
       subst (AreThere m (shown_address m.placed k (State other))) e (region_there (kernel_first (policy_of m) other) page here refl aligned)
 
   shown_there : (k size : ℕ) (shows : Shown) → shown_size (policy_of m) k shows ≡ Some size → size % 4096 ≡ 0 → shown_address m.placed k shows % 4096 ≡ 0 → AreThere m (shown_address m.placed k shows) size
   shown_there k size (Memory n) e whole aligned =
       let x = from_some (λ m. m.size) (slice_get (policy_of m).memory n) size e in
       subst (AreThere m (shown_address m.placed k (Memory n))) x.2
-      (region_there n (own_region x.0) (memory_at m.placed (sound_of m h) n x.0 x.1) (ap (λ n. n % 4096) x.2 ∙ whole) aligned)
+      (region_there n (own_region x.0) (memory_at m.placed (placed_of m h) n x.0 x.1) (ap (λ n. n % 4096) x.2 ∙ whole) aligned)
   shown_there k size (Channel n) e whole aligned =
       let x = from_some (λ c. c.size) (slice_get (policy_of m).channels n) size e in
       subst (AreThere m (shown_address m.placed k (Channel n))) x.2
-      (region_there (length (policy_of m).memory + n) (channel_region x.0) (channel_at m.placed (sound_of m h) n x.0 x.1) (ap (λ n. n % 4096) x.2 ∙ whole) aligned)
+      (region_there (length (policy_of m).memory + n) (channel_region x.0) (channel_at m.placed (placed_of m h) n x.0 x.1) (ap (λ n. n % 4096) x.2 ∙ whole) aligned)
   shown_there k size (Provided n) e whole aligned = provided_there k n size (slice_get (policy_of m).subjects k) refl e whole aligned
   shown_there k size (Device device memory) e whole aligned = device_there device memory k size (slice_get (policy_of m).devices device) refl e whole aligned
   shown_there k size (State other) e whole aligned =
@@ -145,4 +145,4 @@ module _ (m : Made) (h : IsMade m) where
       All-map (λ (w : Window). (j : ℕ) → w.address ≤ 4096 * j → 4096 * j < w.address + w.size → is_there (memory_of (image_of m)) j ≡ true) (mapped m.placed k) g.views
       (λ i d l.
       let v = get_or g.views i d in
-      shown_there k v.size v.shows (shown i d l) (whole_guest v.guest v.size (guests i d l)) (shown_at m.placed (sound_of m h) k v.size v.shows (shown i d l)).whole)
+      shown_there k v.size v.shows (shown i d l) (whole_guest v.guest v.size (guests i d l)) (shown_at m.placed (placed_of m h) k v.size v.shows (shown i d l)).whole)

@@ -9,7 +9,7 @@ use Rattle.std.proofs.lemmas.Option.{slice_get-get_or, slice_get-map}
 use Rattle.std.proofs.lemmas.Slice.Zip.{AllZip-long}
 use Rattle.event_emit.specs.Tables.{AreTables}
 use Rattle.expand_grants.specs.Grants.{AreGrantsOf}
-use Rattle.expand_kernel.specs.ByIndex.{provided_at}
+use Rattle.policy_lawful.specs.ByIndex.{provided_at}
 use Rattle.expand_kernel.specs.declared.region.Region.{Region}
 use Rattle.image_emit.specs.Made.{IsMade, Made, image_of, policy_of, subject_part, subject_parts}
 use Rattle.proof_build.proofs.Contents.{IsRegionOf, addresses_enough, regions_of_things, spans_of_memory, spans_of_regions, thing_spans_are, with_content}
@@ -17,7 +17,7 @@ use Rattle.proof_build.proofs.FirstIndexes.{IsFirstAt, at_left, beside_first, fi
 use Rattle.proof_build.proofs.NamedViews.{shown_name, view_called}
 use Rattle.proof_build.proofs.PiecesOfLists.{zip_joined}
 use Rattle.proof_build.proofs.AddressesKept.{lies_at}
-use Rattle.image_emit.proofs.SpansOfKernel.{sound_of}
+use Rattle.image_emit.proofs.SpansOfKernel.{placed_of}
 use Rattle.image_emit.proofs.RegionSizes.{first_regions}
 use Rattle.image_emit.proofs.SpansAt.{at_number, zip_at}
 use Rattle.proof_build.proofs.ThingBytes.{provided_unique}
@@ -39,11 +39,11 @@ use Rattle.policy_types.specs.declared.source.Device.{Device as SourceDevice}
 use Rattle.policy_types.specs.declared.source.DeviceMemory.{DeviceMemory}
 use Rattle.policy_types.specs.declared.source.Provided.{Provided as Brought}
 use Rattle.policy_types.specs.declared.source.Subject.{Subject as NamedSubject}
-use Rattle.policy_views.specs.Views.{thing_shown, views_of}
-use Rattle.policy_views.specs.declared.view.Shown.{Shown}
-use Rattle.policy_views.specs.declared.view.Shown.TheVariants.{Memory, Channel, Provided, Device, State}
-use Rattle.policy_views.specs.declared.view.View.{View}
-use Rattle.policy_views.proofs.WindowsByIndex.{name_there}
+use Rattle.policy_lawful.specs.Views.{thing_shown, views_of}
+use Rattle.policy_lawful.specs.declared.view.Shown.{Shown}
+use Rattle.policy_lawful.specs.declared.view.Shown.TheVariants.{Memory, Channel, Provided, Device, State}
+use Rattle.policy_lawful.specs.declared.view.View.{View}
+use Rattle.policy_lawful.proofs.WindowsByIndex.{name_there}
 use Rattle.span_emit.specs.Spans.{device_span, memories_of, region_span}
 use Rattle.subject_emit.specs.Mapped.{brought_before, kernel_first, shown_address}
 use Rattle.subject_emit.specs.Shows.{brought_to}
@@ -278,7 +278,7 @@ module _ (m : Made) (h : IsMade m) where
   state_address other s at =
       let g = other_at (AreGrantsOf r) r.subjects m.placed.expanded.grants other s h.expansion.grants at in
       let behind : kernel_first r other + 0 ≡ kernel_first r other = omega arith in
-      lies_at m h (kernel_first r other) _ (ap (slice_get m.placed.expanded.regions) (sym behind) ∙ kernel_at_index m.placed (sound_of m h) other 0 s g.0 _ at g.1 refl)
+      lies_at m h (kernel_first r other) _ (ap (slice_get m.placed.expanded.regions) (sym behind) ∙ kernel_at_index m.placed (placed_of m h) other 0 s g.0 _ at g.1 refl)
 
   state_at : (other : ℕ) (s : Subject) → slice_get r.subjects other ≡ Some s → slice_get (state_addresses m) other ≡ Some (slice_index m.placed.addresses (kernel_first r other))
   state_at other s at =

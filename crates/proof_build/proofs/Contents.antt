@@ -5,7 +5,8 @@ use Rattle.std.specs.List.{AllZip, enumerate_from, filter, flat_map, zip}
 use Rattle.std.proofs.lemmas.List.{length-replicate, map-append}
 use Rattle.std.proofs.lemmas.List.Elements.{All-append, All-cons, All-from_recursion, All-head, All-map, All-nil, All-tail, filter-append}
 use Rattle.std.proofs.lemmas.Option.{get_or_from_slice_get, slice_get_within}
-use Rattle.expand_kernel.specs.ByIndex.{brought_at, kernel_for, kernel_for_each, provided_at}
+use Rattle.expand_kernel.specs.ByIndex.{brought_at, kernel_for, kernel_for_each}
+use Rattle.policy_lawful.specs.ByIndex.{provided_at}
 use Rattle.expand_kernel.specs.Regions.{channel_region, own_region, provided_region}
 use Rattle.expand_kernel.specs.declared.region.Region.{Region}
 use Rattle.image_emit.specs.Made.{IsMade, Made, content_at, image_of, kernel_bytes, policy_of, region_bytes, thing_bytes}
@@ -26,7 +27,8 @@ use Rattle.policy_lawful.specs.Thing.{Thing, channel, region, thing_tag}
 use Rattle.policy_types.specs.declared.source.DeviceMemory.{DeviceMemory}
 use Rattle.policy_types.specs.declared.source.Source.{Source}
 use Rattle.span_emit.specs.Spans.{device_span, memories_of, region_span, region_spans, span_kind, spans_of}
-use Rattle.span_emit.proofs.KeptDevices.{IsPhysical, devices_physical}
+use Rattle.policy_lawful.proofs.KeptAddresses.{IsPhysical}
+use Rattle.span_emit.proofs.KeptDevices.{devices_physical}
 use Rattle.span_emit.proofs.KeptRegions.{IsWhole}
 
 all_front : {X : Type 0} (P : X → Type 0) (xs ys : List X) → All P (xs ++ ys) → All P xs

@@ -11,7 +11,7 @@ use Rattle.muen_num.proofs.Lists.{get_left, list_any-map, position-map}
 use Rattle.policy_lawful.specs.Resolution.{name_at}
 use Rattle.policy_lawful.specs.Rules.{repeated}
 use Rattle.policy_lawful.proofs.Indexes.{position_is, same_name}
-use Rattle.policy_views.proofs.WindowsByIndex.{name_there, within_names}
+use Rattle.policy_lawful.proofs.WindowsByIndex.{name_there, within_names}
 
 -- the first element that passes stands at this index
 pub record IsFirstAt {X : Type 0} (test : X → Bool) (xs : List X) (k : ℕ) : Type 0 where

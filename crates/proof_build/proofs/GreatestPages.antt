@@ -18,7 +18,7 @@ use Rattle.expand_grants.proofs.Ordered.{in_order_permutes}
 use Rattle.proof_build.specs.Built.{HasGreatestPages, IsGreatestPage}
 use Rattle.image_emit.specs.Made.{IsMade, Made, image_of, policy_of, subject_part}
 use Rattle.image_emit.proofs.BySubject.{IsAtIndex, each_subject}
-use Rattle.image_emit.proofs.SpansOfKernel.{sound_of}
+use Rattle.image_emit.proofs.SpansOfKernel.{placed_of}
 use Rattle.proof_build.proofs.AddressesShown.{address_shown}
 use Rattle.proof_build.proofs.Tables.{has_tables}
 use Rattle.proof_build.proofs.Walks.{granted_at, mapped_at, on_view}
@@ -30,8 +30,8 @@ use Rattle.muen_num.specs.declared.limits.TheConstants.{GUEST_END}
 use Rattle.policy_lawful.specs.Resolution.{source_of, subject_named}
 use Rattle.policy_lawful.specs.Rules.{is_guest, is_page_aligned, is_page_size}
 use Rattle.policy_lawful.specs.declared.resolved.Subject.{Subject}
-use Rattle.policy_views.specs.Views.{view_window, views_of}
-use Rattle.policy_views.specs.declared.view.View.{View}
+use Rattle.policy_lawful.specs.Views.{view_window, views_of}
+use Rattle.policy_lawful.specs.declared.view.View.{View}
 use Rattle.subject_emit.specs.Mapped.{leaf_for, mapped, shown_address}
 use Rattle.subject_emit.specs.Pages.{tables_at}
 use Rattle.subject_emit.specs.Shows.{IsShown}
@@ -84,7 +84,7 @@ module _ (m : Made) (h : IsMade m) (k : ℕ) (s : Subject) (g : Grants) (t : Eve
       let both = and_parts (is_page_aligned v.guest && is_page_size v.size) (nat_le (v.guest + v.size) GUEST_END) guest in
       let range = and_parts (is_page_aligned v.guest) (is_page_size v.size) both.0 in (
         eqb-true (v.guest % 4096) 0 range.0,
-        (shown_at m.placed (sound_of m h) k v.size v.shows shown).whole,
+        (shown_at m.placed (placed_of m h) k v.size v.shows shown).whole,
       )
 
   -- of the window that tables map, and so of the window that the policy grants

@@ -10,14 +10,14 @@ use Rattle.ept_emit.specs.Pages.{ept_pages}
 use Rattle.ept_emit.specs.Emitted.{Reads, eptp_of}
 use Rattle.event_emit.specs.declared.event_tables.EventTables.{EventTables}
 use Rattle.expand_grants.specs.declared.granted.Grants.{Grants}
-use Rattle.expand_kernel.specs.ByIndex.{mapped_views}
+use Rattle.expand_kernel.specs.ByIndex.{view_ranges}
 use Rattle.expand_kernel.specs.Regions.{anywhere}
 use Rattle.expand_kernel.specs.declared.region.RegionKind.TheVariants.{Kernel}
 use Rattle.proof_build.specs.Built.{HasOnePathPerTable}
 use Rattle.image_emit.specs.Made.{IsMade, Made, image_of, policy_of}
 use Rattle.image_emit.proofs.ByNumber.{as_many_addresses}
 use Rattle.image_emit.proofs.BySubject.{IsAtIndex, SubjectAt, subject_at}
-use Rattle.image_emit.proofs.SpansOfKernel.{kernel_numbered, kernel_span, sound_of}
+use Rattle.image_emit.proofs.SpansOfKernel.{kernel_numbered, kernel_span, placed_of}
 use Rattle.proof_build.proofs.Tables.{has_tables, tables_long}
 use Rattle.image_soundness.specs.Memory.{memory_of}
 use Rattle.image_pack.specs.SpanConditions.{IsSpan}
@@ -46,7 +46,7 @@ record IsReadAt (m : Made) (k long page : ℕ) : Type 0 where
 
 module _ (m : Made) (h : IsMade m) (k : ℕ) (s : Subject) (g : Grants) (t : EventTables) (q : SubjectPages) (at : IsAtIndex m k s g t q) where
   abbrev many : ℕ
-  many = ept_pages (mapped_views g.views)
+  many = ept_pages (view_ranges g.views)
 
   whole : tables_at m.placed k % 4096 ≡ 0
   whole =
@@ -65,14 +65,14 @@ module _ (m : Made) (h : IsMade m) (k : ℕ) (s : Subject) (g : Grants) (t : Eve
 -- tables of two subjects share no page
 module _ (m : Made) (h : IsMade m) (j k page : ℕ) (p : SubjectPart) (o : SubjectPart) (a : SubjectAt m j p) (b : SubjectAt m k o) where
   abbrev long_of : Grants → ℕ
-  long_of g = ept_pages (mapped_views g.views) * 4096
+  long_of g = ept_pages (view_ranges g.views) * 4096
 
   apart : j < k → IsReadAt m j (long_of a.granted) page → IsReadAt m k (long_of b.granted) page → ⊥
   apart l x y =
       let first = kernel_first (policy_of m) j + 1 in
       let second = kernel_first (policy_of m) k + 1 in
-      let one = kernel_at_index m.placed (sound_of m h) j 1 a.subject a.granted (anywhere Kernel a.subject.name Ept (long_of a.granted)) a.is.subject a.is.granted refl in
-      let other = kernel_at_index m.placed (sound_of m h) k 1 b.subject b.granted (anywhere Kernel b.subject.name Ept (long_of b.granted)) b.is.subject b.is.granted refl in
+      let one = kernel_at_index m.placed (placed_of m h) j 1 a.subject a.granted (anywhere Kernel a.subject.name Ept (long_of a.granted)) a.is.subject a.is.granted refl in
+      let other = kernel_at_index m.placed (placed_of m h) k 1 b.subject b.granted (anywhere Kernel b.subject.name Ept (long_of b.granted)) b.is.subject b.is.granted refl in
       let as_many = as_many_addresses m h in
       let there = slice_get_within m.placed.expanded.regions second _ other in
       let before = whole m h j a.subject a.granted a.raising a.kept a.is in

@@ -8,7 +8,7 @@ use Rattle.std.proofs.lemmas.List.Elements.{All-append, All-nil}
 use Rattle.std.proofs.lemmas.Option.{slice_get_within}
 use Rattle.policy_lawful.specs.Rules.{repeated}
 use Rattle.policy_lawful.proofs.Indexes.{found_at_index}
-use Rattle.policy_views.proofs.WindowsByIndex.{name_there}
+use Rattle.policy_lawful.proofs.WindowsByIndex.{name_there}
 
 -- ---- mapped
 

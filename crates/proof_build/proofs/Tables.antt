@@ -6,7 +6,7 @@ use Rattle.ept_emit.specs.Pages.{ept_pages}
 use Rattle.ept_emit.specs.Emitted.{HasTables}
 use Rattle.event_emit.specs.declared.event_tables.EventTables.{EventTables}
 use Rattle.expand_grants.specs.declared.granted.Grants.{Grants}
-use Rattle.expand_kernel.specs.ByIndex.{mapped_views}
+use Rattle.expand_kernel.specs.ByIndex.{view_ranges}
 use Rattle.image_emit.specs.Made.{IsMade, Made, image_of, policy_of}
 use Rattle.proof_build.proofs.PagesThere.{page_there}
 use Rattle.image_emit.proofs.BySubject.{IsAtIndex, each_subject}
@@ -26,7 +26,7 @@ use Rattle.subject_emit.proofs.SamePages.{pages_same}
 
 module _ (m : Made) (h : IsMade m) (k : ℕ) (s : Subject) (g : Grants) (t : EventTables) (q : SubjectPages) (at : IsAtIndex m k s g t q) where
   abbrev many : ℕ
-  many = ept_pages (mapped_views g.views)
+  many = ept_pages (view_ranges g.views)
 
   -- the span of the subject's tables
   abbrev tables_span : SpanPart

@@ -5,7 +5,7 @@ use Rattle.std.specs.Option.{option_map_or}
 use Rattle.std.specs.List.{find, flat_map}
 use Rattle.std.specs.Str.{bytes_eq}
 use Rattle.std.proofs.lemmas.List.{map-append}
-use Rattle.expand_kernel.specs.ByIndex.{provided_at}
+use Rattle.policy_lawful.specs.ByIndex.{provided_at}
 use Rattle.image_emit.specs.Made.{thing_bytes}
 use Rattle.proof_build.proofs.PiecesOfLists.{flat_map_at, found_by_name, map_at, map_pieces}
 use Rattle.proof_build.proofs.ThingsInOrder.{component_is, memory_thing, memory_things, provided_things, region_things, used_component}

@@ -5,7 +5,7 @@ use Rattle.std.specs.Option.{option_map_or}
 use Rattle.std.specs.List.{flat_map}
 use Rattle.std.proofs.lemmas.Bool.{and_parts, ltb-true}
 use Rattle.std.proofs.lemmas.List.Folds.{flat_map-map}
-use Rattle.expand_kernel.specs.ByIndex.{provided_at}
+use Rattle.policy_lawful.specs.ByIndex.{provided_at}
 use Rattle.proof_build.proofs.PiecesOfLists.{map_pieces, flat_map_at}
 use Rattle.muen_num.proofs.Lists.{map-map, passes_at}
 use Rattle.policy_lawful.specs.Resolution.{IsResolved, Resolution, component_named, component_in_range, source_of, subject_named, subject_in_range}
@@ -19,7 +19,7 @@ use Rattle.policy_types.specs.declared.source.Component.{Component}
 use Rattle.policy_types.specs.declared.source.Device.{Device}
 use Rattle.policy_types.specs.declared.source.DeviceMemory.{DeviceMemory}
 use Rattle.policy_types.specs.declared.source.Subject.{Subject as NamedSubject}
-use Rattle.policy_views.proofs.WindowsByIndex.{subject_parts}
+use Rattle.policy_lawful.proofs.WindowsByIndex.{subject_parts}
 use Rattle.span_emit.specs.Spans.{memories_of}
 
 -- ---- in the order of their numbers

@@ -30,9 +30,9 @@ use Rattle.policy_lawful.specs.Thing.{Thing}
 use Rattle.policy_lawful.specs.Windows.{access_by, access_of, byte, holds, violation, windows_of}
 use Rattle.policy_types.specs.Rights.{allows}
 use Rattle.policy_types.specs.declared.rights.Rights.{Rights}
-use Rattle.policy_views.specs.Views.{thing_shown, view_window, views_of}
-use Rattle.policy_views.specs.declared.view.View.{View}
-use Rattle.policy_views.proofs.WindowsByIndex.{windows_by_index}
+use Rattle.policy_lawful.specs.Views.{thing_shown, view_window, views_of}
+use Rattle.policy_lawful.specs.declared.view.View.{View}
+use Rattle.policy_lawful.proofs.WindowsByIndex.{windows_by_index}
 use Rattle.subject_emit.specs.Mapped.{mapped, mapped_windows, shown_address}
 use Rattle.subject_emit.proofs.SamePages.{apart_mapped}
 

@@ -19,8 +19,8 @@ use Rattle.image_pack.specs.declared.outline.Outline.{Outline}
 use Rattle.image_pack.specs.declared.parts.DevicePart.{DevicePart}
 use Rattle.image_pack.specs.declared.parts.Image.{Image}
 use Rattle.image_pack.specs.declared.parts.IrqPart.{IrqPart}
-use Rattle.image_pack.specs.declared.parts.IrqTarget.{IrqTarget}
-use Rattle.image_pack.specs.declared.parts.PortSpan.{PortSpan}
+use Rattle.muen_num.specs.declared.devices.IrqTarget.{IrqTarget}
+use Rattle.muen_num.specs.declared.devices.PortSpan.{PortSpan}
 use Rattle.image_pack.specs.declared.parts.WindowPart.{WindowPart}
 use Rattle.proof_runs.proofs.SpansKeep.{name_kept}
 use Rattle.proof_runs.proofs.SubjectsKeep.{each_kept}

@@ -23,8 +23,8 @@ use Rattle.image_pack.specs.ImageConditions.{IsContent, IsDevice, IsIrq, IsReach
 use Rattle.image_pack.specs.declared.parts.DevicePart.{DevicePart}
 use Rattle.image_pack.specs.declared.parts.Image.{Image}
 use Rattle.image_pack.specs.declared.parts.IrqPart.{IrqPart}
-use Rattle.image_pack.specs.declared.parts.IrqTarget.{IrqTarget}
-use Rattle.image_pack.specs.declared.parts.PortSpan.{PortSpan}
+use Rattle.muen_num.specs.declared.devices.IrqTarget.{IrqTarget}
+use Rattle.muen_num.specs.declared.devices.PortSpan.{PortSpan}
 use Rattle.image_pack.specs.declared.parts.SpanPart.{SpanPart}
 use Rattle.image_pack.specs.declared.parts.SubjectPart.{SubjectPart}
 use Rattle.image_pack.specs.declared.parts.WindowPart.{WindowPart}

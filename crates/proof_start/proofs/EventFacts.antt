@@ -8,7 +8,8 @@ use Rattle.std.proofs.lemmas.Bool.{and_parts, eqb-true, ltb-true}
 use Rattle.std.proofs.lemmas.List.{length-map}
 use Rattle.std.proofs.lemmas.List.Folds.{list_all-append}
 use Rattle.std.proofs.lemmas.Slice.Eq.{bytes_eq-Decides}
-use Rattle.expand_grants.proofs.Elements.{all_some, first_there, lengths_same, none_there, some-map}
+use Rattle.expand_grants.proofs.Elements.{first_there, lengths_same, none_there, some-map}
+use Rattle.policy_lawful.proofs.EachPasses.{all_some}
 use Rattle.muen_num.proofs.Lists.{found_among, list_any-map, passes_at}
 use Rattle.muen_num.proofs.SearchLaws.{all_pass, none_append, unless_none}
 use Rattle.muen_num.specs.Search.{first_in}

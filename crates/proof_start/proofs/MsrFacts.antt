@@ -7,7 +7,7 @@ use Rattle.std.proofs.lemmas.Bool.Decides.{nat_tests}
 use Rattle.std.proofs.lemmas.List.{map-append}
 use Rattle.std.proofs.lemmas.List.Folds.{list_all-append, list_all-map, list_any-append}
 use Rattle.subject_model.specs.Alone.{is_in}
-use Rattle.expand_grants.proofs.Elements.{all_flat}
+use Rattle.policy_lawful.proofs.EachPasses.{all_flat}
 use Rattle.expand_grants.specs.Resources.{Msr, is_granted, msrs_in, msrs_of}
 use Rattle.muen_num.proofs.Lists.{each_from, found, map-map, passes_at}
 use Rattle.muen_num.proofs.SearchLaws.{all_pass}

@@ -36,7 +36,7 @@ use Rattle.frame_clock.specs.Run.{Turned}
 use Rattle.frame_clock.specs.Alike.{AreAlikeTurns}
 use Rattle.view_text.specs.declared.TurnLine.{TurnLine}
 use Rattle.view_text.specs.declared.TurnAction.{TurnAction}
-use Rattle.view_text.specs.declared.TurnAction.TheVariants.{Ran, Set, Stored as Wrote, Out, WroteMsr, Inject, Exit}
+use Rattle.view_text.specs.declared.TurnAction.TheVariants.{Ran, Inject, Exit}
 use Rattle.vmx_machine.specs.Machine.{CpuStepped, Stepped, answered as cpu_answered, cpu_step, exit_finished, machine_step, machine_world, ports_exit, state_on, step_by, step_on, vector_injected, with_state, with_store as with_page, with_write as with_file}
 use Rattle.vmx_machine.specs.declared.control.Control.{Control}
 use Rattle.vmx_machine.specs.declared.cpu.Cpu.{Cpu}
@@ -292,11 +292,7 @@ module _ (g : Ground) (fixed : IsFixed g) where
 
       -- by how the step ended
       ended_alike : FitsState a.state → (step_end : StepEnd) → Alike (handled (record { tick = tick; cpu = cpu; subject = q.name; pc = st.pc }) q step_end (then_live a.state)) (turn_answered g.policy cpu tick n st.pc (record { state = state_after (traps_of n) step_end a.state; what = Some (what_of (traps_of n) step_end); stored = a.stored; msr = a.msr; taken = None; raised = way_after (traps_of n) step_end }) y)
-      ended_alike f ends.Plain = plain_alike f Ran
-      ended_alike f (ends.Set reg value) = plain_alike f (Set reg value)
-      ended_alike f (ends.Stored size addr value) = plain_alike f (Wrote size addr value)
-      ended_alike f (ends.Out size port value) = plain_alike f (Out size port value)
-      ended_alike f (ends.WroteMsr index value) = plain_alike f (WroteMsr index value)
+      ended_alike f (ends.Ran change) = plain_alike f (Ran change)
       ended_alike f (ends.Exit reason qualification addr call) = exit_alike reason qualification addr call f
 
     -- ---- the world's numbers are words

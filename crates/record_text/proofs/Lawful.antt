@@ -21,7 +21,7 @@ use Rattle.record_text.specs.Words.{lines_of}
 use Rattle.record_text.specs.declared.devices.RecordDevice.{RecordDevice}
 use Rattle.record_text.specs.declared.devices.Devices.{Devices}
 use Rattle.record_text.specs.declared.devices.RecordIrq.{RecordIrq}
-use Rattle.record_text.specs.declared.devices.IrqTarget.{IrqTarget}
+use Rattle.muen_num.specs.declared.devices.IrqTarget.{IrqTarget}
 use Rattle.record_text.specs.declared.devices.RecordMemory.{RecordMemory}
 use Rattle.record_text.specs.declared.fault.RecordFault.{RecordFault}
 use Rattle.record_text.specs.declared.fault.RecordFault.TheVariants.{NoEnd}

@@ -19,7 +19,7 @@ use Rattle.record_text.specs.declared.devices.RecordDevice.{RecordDevice}
 use Rattle.record_text.specs.declared.devices.Devices.{Devices}
 use Rattle.record_text.specs.declared.devices.RecordIrq.{RecordIrq}
 use Rattle.record_text.specs.declared.devices.RecordMemory.{RecordMemory}
-use Rattle.record_text.specs.declared.devices.PortSpan.{PortSpan}
+use Rattle.muen_num.specs.declared.devices.PortSpan.{PortSpan}
 use Rattle.record_text.specs.declared.fault.LineWant.{LineWant}
 use Rattle.record_text.specs.declared.fault.LineWant.TheVariants.{Order as OrderWant}
 use Rattle.record_text.specs.declared.fault.RecordFault.{RecordFault}

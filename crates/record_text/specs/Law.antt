@@ -6,7 +6,7 @@ use Rattle.muen_num.specs.declared.limits.TheConstants.{GUEST_END, MOST_TICKS}
 use Rattle.record_text.specs.Resolving.{is_in_span}
 use Rattle.record_text.specs.Reading.{are_distinct}
 use Rattle.record_text.specs.declared.devices.Devices.{Devices}
-use Rattle.record_text.specs.declared.devices.IrqTarget.{IrqTarget}
+use Rattle.muen_num.specs.declared.devices.IrqTarget.{IrqTarget}
 use Rattle.record_text.specs.declared.record.TheConstants.{INPUT_MOST}
 use Rattle.record_text.specs.declared.record.Input.{Input}
 use Rattle.record_text.specs.declared.record.Input.TheVariants.{Port, Mem, Irq, Idle, Dma}

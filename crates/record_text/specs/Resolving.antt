@@ -5,9 +5,9 @@ use Rattle.std.specs.Str.{bytes_eq}
 use Rattle.record_text.specs.DeviceRecord.{NamedInput, port_input, memory_input, irq_input, dma_input, DeviceRecord}
 use Rattle.record_text.specs.declared.devices.RecordDevice.{RecordDevice}
 use Rattle.record_text.specs.declared.devices.Devices.{Devices}
-use Rattle.record_text.specs.declared.devices.IrqTarget.{IrqTarget}
+use Rattle.muen_num.specs.declared.devices.IrqTarget.{IrqTarget}
 use Rattle.record_text.specs.declared.devices.RecordMemory.{RecordMemory}
-use Rattle.record_text.specs.declared.devices.PortSpan.{PortSpan}
+use Rattle.muen_num.specs.declared.devices.PortSpan.{PortSpan}
 use Rattle.record_text.specs.declared.record.Input.{Input}
 use Rattle.record_text.specs.declared.record.Input.TheVariants.{Port, Mem, Irq, Idle, Dma}
 use Rattle.record_text.specs.declared.record.Record.{Record}

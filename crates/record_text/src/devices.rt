@@ -2,7 +2,7 @@
 ghost use Rattle.std.specs.Prelude.{◌+◌, ◌^◌, ◌<◌, ◌≤◌, length};
 ghost use Rattle.muen_num.specs.declared.limits.TheConstants.{MOST_DEVICES};
 
-use muen_num::{Name, Seq};
+use muen_num::{IrqTarget, Name, PortSpan, Seq};
 
 /// The CPUs and the devices of a system. Where two devices have one name, the first counts.
 #[derive(Debug, Drop)]
@@ -27,15 +27,6 @@ pub struct RecordDevice {
     pub irqs: Seq<RecordIrq>,
 }
 
-/// A range of I/O ports.
-#[derive(Clone, Copy, Debug, PartialEq, Eq)]
-pub struct PortSpan {
-    /// The first port.
-    pub start: u16,
-    /// The last port.
-    pub end: u16,
-}
-
 /// A memory of a device.
 #[derive(Debug, Drop)]
 pub struct RecordMemory {
@@ -53,13 +44,4 @@ pub struct RecordIrq {
     pub name: Name,
     /// Where it goes; `None` where nobody has it.
     pub target: Option<IrqTarget>,
-}
-
-/// Where an interrupt goes.
-#[derive(Clone, Copy, Debug, PartialEq, Eq)]
-pub struct IrqTarget {
-    /// The number of the subject.
-    pub subject: u8,
-    /// The interrupt vector.
-    pub vector: u8,
 }

@@ -13,7 +13,7 @@ mod reading;
 pub mod record;
 mod resolving;
 
-pub use devices::{Devices, IrqTarget, PortSpan, RecordDevice, RecordIrq, RecordMemory};
+pub use devices::{Devices, RecordDevice, RecordIrq, RecordMemory};
 pub use fault::{LineWant, RecordFault};
 pub use reading::read;
 pub use record::{INPUT_MOST, Input, Record, TickInput, TickOrder};

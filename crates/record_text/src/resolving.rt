@@ -5,9 +5,9 @@ ghost use Rattle.std.specs.Str.{bytes_eq};
 ghost use Rattle.record_text.specs.DeviceRecord.{dma_input, irq_input, memory_input, port_input};
 ghost use Rattle.record_text.specs.Resolving.{bytes_in, irq_of, is_in_span, memory_of, resolved_input, port_of, raised};
 
-use crate::devices::{Devices, IrqTarget, PortSpan, RecordDevice, RecordIrq, RecordMemory};
+use crate::devices::{Devices, RecordDevice, RecordIrq, RecordMemory};
 use crate::record::Input;
-use muen_num::Seq;
+use muen_num::{IrqTarget, PortSpan, Seq};
 
 fn device_named<'a>(devices: &'a Devices, name: &[u8]) -> Option<&'a RecordDevice>
     ensures { option_map (λ d. d.now) result ≡ find (λ d. bytes_eq d.name name.now) devices.now.devices }

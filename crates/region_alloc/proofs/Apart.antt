@@ -8,6 +8,7 @@ use Rattle.std.proofs.Math.Seq.{get_or-append_seam}
 use Rattle.std.proofs.lemmas.Bool.{cases_lt, eqb-true}
 use Rattle.std.proofs.lemmas.List.{length-map, map_push}
 use Rattle.std.proofs.lemmas.List.Elements.{All-nil}
+use Rattle.expand_kernel.specs.Expansion.{Expansion, IsExpanded}
 use Rattle.expand_kernel.specs.Regions.{regions_of}
 use Rattle.expand_kernel.specs.declared.region.Region.{Region}
 use Rattle.muen_num.proofs.Lists.{found}
@@ -15,7 +16,7 @@ use Rattle.muen_num.proofs.NumbersBelow.{length_numbers}
 use Rattle.muen_num.specs.Range.{numbers_below}
 use Rattle.policy_lawful.specs.Resolution.{Resolution, source_of}
 use Rattle.policy_types.specs.declared.source.Block.{Block}
-use Rattle.region_alloc.specs.Placed.{AreDisjoint, AreInside}
+use Rattle.region_alloc.specs.Placed.{AreDisjoint, AreInside, IsPlaced}
 use Rattle.region_alloc.specs.Placement.{address_in, by_number, in_a_block, in_turn, placed_after, placement_in, placement_of}
 use Rattle.region_alloc.specs.declared.spot.Spot.{Spot}
 use Rattle.region_alloc.proofs.EachInTurn.{each_from_turns, each_in_turn, each_numbered, numbered_at}
@@ -153,3 +154,14 @@ module _ (r : Resolution) (regions : List Region) (addresses : List ℕ) (all : 
 
   pub policy_disjoint : AreDisjoint regions addresses
   policy_disjoint = are_disjoint r.memory_blocks regions addresses placement
+
+-- a policy that is expanded, at its addresses
+pub placed_so : (x : Expansion) (addresses : List ℕ) → IsExpanded x → placement_of (source_of x.lawful) ≡ Ok addresses → IsPlaced (record { expanded = x; addresses = addresses })
+placed_so x addresses h e = record {
+  resolved = h.resolved;
+  lawful = h.lawful;
+  expansion = h.expansion;
+  placement = e;
+  inside = policy_inside x.lawful x.regions addresses h.expansion.regions e;
+  disjoint = policy_disjoint x.lawful x.regions addresses h.expansion.regions e;
+}

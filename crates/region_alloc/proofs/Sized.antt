@@ -6,7 +6,7 @@ use Rattle.std.specs.Str.{bytes_eq}
 use Rattle.std.proofs.lemmas.Bool.{and_parts, eqb-true, leb-true, ltb-true, or_cases}
 use Rattle.std.proofs.lemmas.List.Elements.{All-append, All-cons, All-from_recursion, All-map, All-nil}
 use Rattle.ept_emit.specs.Pages.{ept_pages}
-use Rattle.expand_kernel.specs.Regions.{channel_region, kernel_regions, kernel_regions_of, mapped_window, own_region, provided_region, provided_regions, regions_of}
+use Rattle.expand_kernel.specs.Regions.{channel_region, kernel_regions, kernel_regions_of, window_range, own_region, provided_region, provided_regions, regions_of}
 use Rattle.muen_num.proofs.Lists.{found_among}
 use Rattle.muen_num.proofs.SearchLaws.{all_none, all_pass, none_both}
 use Rattle.muen_num.specs.Search.{first_in, unless}
@@ -93,7 +93,7 @@ kernel_sized subject pages some =
     ((omega arith, omega arith), ((omega arith, omega arith), ((omega arith, omega arith), ((omega arith, omega arith), ((omega arith, omega arith), tt)))))
 
 kernel_sized_of : (p : Source) (s : Subject) → All IsSized (kernel_regions_of p s)
-kernel_sized_of p s = kernel_sized s.name (ept_pages (map mapped_window (windows_of p s))) (omega arith)
+kernel_sized_of p s = kernel_sized s.name (ept_pages (map window_range (windows_of p s))) (omega arith)
 
 -- ---- all
 

@@ -1,9 +1,10 @@
 -- A policy whose regions are placed.
 use Rattle.std.specs.Prelude.{◌≡◌, ◌⊎◌, ◌+◌, ◌≤◌, ℕ, ◌<◌, List, length, slice_get, slice_index, Some, Ok, true}
 use Rattle.std.specs.List.{AllZip}
-use Rattle.expand_kernel.specs.Expansion.{Expansion}
+use Rattle.expand_kernel.specs.Expansion.{Expansion, IsExpansion}
 use Rattle.expand_kernel.specs.declared.region.Region.{Region}
-use Rattle.policy_lawful.specs.Resolution.{source_of}
+use Rattle.policy_lawful.specs.Lawful.{IsLawful}
+use Rattle.policy_lawful.specs.Resolution.{IsResolved, source_of}
 use Rattle.policy_types.specs.declared.source.Block.{Block}
 use Rattle.region_alloc.specs.Placement.{in_a_block, placement_of}
 
@@ -24,3 +25,12 @@ abbrev pub AreDisjoint : List Region → List ℕ → Type 0
 AreDisjoint regions addresses =
     (i j : ℕ) (a b : Region) → i < j → j < length addresses → slice_get regions i ≡ Some a → slice_get regions j ≡ Some b
     → (slice_index addresses i + a.size ≤ slice_index addresses j) ⊎ (slice_index addresses j + b.size ≤ slice_index addresses i)
+
+-- what its type promises
+pub record IsPlaced (x : Placement) : Type 0 where
+  pub resolved : IsResolved x.expanded.lawful
+  pub lawful : IsLawful (source_of x.expanded.lawful)
+  pub expansion : IsExpansion x.expanded
+  pub placement : IsPlacement x
+  pub inside : AreInside x.expanded.lawful.memory_blocks x.expanded.regions x.addresses
+  pub disjoint : AreDisjoint x.expanded.regions x.addresses

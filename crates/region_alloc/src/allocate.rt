@@ -6,6 +6,7 @@ ghost use Rattle.muen_num.specs.Answers.{Explains};
 ghost use Rattle.muen_num.specs.Range.{numbers_below};
 ghost use Rattle.muen_num.specs.declared.limits.TheConstants.{PHYSICAL_END};
 ghost use Rattle.policy_lawful.specs.Resolution.{source_of};
+ghost use Rattle.region_alloc.specs.Placed.{IsPlaced};
 ghost use Rattle.region_alloc.specs.Placement.{address_in, no_room, no_room_for, placed_after, placement_in, placement_of};
 
 use crate::gaps::{gaps_of, lowest, remaining_of};
@@ -99,6 +100,7 @@ fn addresses_in(alloc: Global, blocks: &[Block], regions: &[Region]) -> Result<S
 // The addresses of a policy's regions, by number.
 fn addresses_of(alloc: Global, expanded: &Expanded) -> Result<Seq<u64>, Refusal>
     ensures ok { IfOk result (λ addresses. placement_of (source_of expanded.now.lawful) ≡ Ok addresses) }
+    ensures placed { IfOk result (λ addresses. IsPlaced (record { expanded = expanded.now; addresses = addresses })) }
     ensures err { IfErr result (Explains Refusal.NoMemory (no_room (source_of expanded.now.lawful))) }
 {
     let policy = expanded.lawful().resolved();

@@ -1,7 +1,7 @@
 //! Policies whose regions are placed.
 ghost use Rattle.std.specs.Prelude.{◌≡◌, Ok};
 ghost use Rattle.policy_lawful.specs.Resolution.{source_of};
-ghost use Rattle.region_alloc.specs.Placed.{AreDisjoint, AreInside};
+ghost use Rattle.region_alloc.specs.Placed.{AreDisjoint, AreInside, IsPlaced};
 ghost use Rattle.region_alloc.specs.Placement.{placement_of};
 
 use expand_kernel::Expanded;
@@ -9,26 +9,26 @@ use muen_num::Seq;
 use std::marker::Model;
 
 /// A lawful policy with all that follows from it, and the address of each region.
-#[derive(Drop)]
+#[derive(Debug, Drop)]
 pub struct Placed {
     expanded: Expanded,
     addresses: Seq<u64>,
 }
 
 impl Model for Placed {
-    ghost use Rattle.region_alloc.specs.Placed.{IsPlacement, Placement};
+    ghost use Rattle.region_alloc.specs.Placed.{IsPlaced, Placement};
 
     ghost Value = { Placement };
 
     ghost view = { λ p. record { expanded = p.expanded; addresses = p.addresses } };
 
-    ghost invariant = { λ p. IsPlacement (record { expanded = p.expanded; addresses = p.addresses }) };
+    ghost invariant = { λ p. IsPlaced (record { expanded = p.expanded; addresses = p.addresses }) };
 }
 
 impl Placed {
     // The policy with all that follows from it but addresses, and the address of each region.
     pub(crate) fn of(expanded: Expanded, addresses: Seq<u64>) -> Placed
-        requires { placement_of (source_of expanded.lawful) ≡ Ok addresses }
+        requires { IsPlaced (record { expanded = expanded; addresses = addresses }) }
         ensures { result.expanded ≡ expanded }
     {
         Placed {
@@ -39,7 +39,8 @@ impl Placed {
 
     /// The policy with all that follows from it but addresses.
     pub fn expanded(&self) -> &Expanded
-        ensures { result.now ≡ self.now.expanded }
+        ensures value { result.now ≡ self.now.expanded }
+        ensures placed { IsPlaced self.now }
     {
         &self.expanded
     }
@@ -52,7 +53,6 @@ impl Placed {
         ensures inside { AreInside self.now.expanded.lawful.memory_blocks self.now.expanded.regions result.now }
         ensures disjoint { AreDisjoint self.now.expanded.regions result.now }
     {
-        let _regions = self.expanded.regions();
         self.addresses.items()
     }
 }

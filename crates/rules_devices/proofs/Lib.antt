@@ -5,5 +5,4 @@ pub mod GrantsByIndex
 pub mod MsrsByExtent
 pub mod Names
 pub mod PortsByExtent
-pub mod Positions
 pub mod WindowsByExtent

@@ -1,5 +1,4 @@
--- Names in a list, and what stands under them. A set of names compares the name that is sought with those of the list, the
--- rules compare these with it.
+-- Names that are listed in domains, and one domain more.
 use Rattle.std.proofs.Common.{◌≡◌, ℕ, ◌+◌, ◌<◌, Bool, true, false, cond, List, [], ◌∷◌, ◌++◌, length, map, get_or, take, Option, Some, None, refl, sym, ap, ◌∙◌}
 use Rattle.std.specs.Prelude.{if◌then◌else◌, not, ◌||◌, nat_lt, position, slice_get}
 use Rattle.std.specs.List.{find, flat_map, list_any, position_or_len}
@@ -20,83 +19,15 @@ use Rattle.policy_types.specs.declared.source.Domain.{Domain}
 use Rattle.policy_types.specs.declared.source.Region.{Region}
 use Rattle.rules_devices.specs.Domains.{first_repeat}
 use Rattle.rules_devices.specs.declared.listed.Listed.{Listed}
-use Rattle.rules_devices.proofs.Positions.{position_found, position_none, position_same}
-
--- ---- a name that is sought
-
-pub declared_is : (names : List (List ℕ)) (name : List ℕ) → list_any (bytes_eq name) names ≡ is_declared names name
-declared_is [] name = refl
-declared_is (n ∷ ns) name = rw (nat_list_eq_equiv.symm n name, ← declared_is ns name) refl
-
-pub position_is : (names : List (List ℕ)) (name : List ℕ) → position (bytes_eq name) names ≡ position (λ n. bytes_eq n name) names
-position_is names name =
-    ap (λ k. cond (nat_lt k (length names)) (Some k) None) (position_same (bytes_eq name) (λ n. bytes_eq n name) (λ n. nat_list_eq_equiv.symm name n) names)
-
--- the element of a name that stands at an index
-stands_at : {X : Type 0} (f : X → List ℕ) (xs : List X) (name : List ℕ) → find (λ x. bytes_eq (f x) name) xs ≡ slice_get xs (position_or_len (λ n. bytes_eq n name) (map f xs))
-stands_at f xs name =
-    find_at (λ x. bytes_eq (f x) name) xs ∙ ap (slice_get xs) (sym (position-map (λ n. bytes_eq n name) f xs))
-
-pub found_by_index : {X : Type 0} (f : X → List ℕ) (xs : List X) (name : List ℕ) (k : ℕ) → position (λ n. bytes_eq n name) (map f xs) ≡ Some k → slice_get xs k ≡ find (λ x. bytes_eq (f x) name) xs
-found_by_index f xs name k e =
-    ap (slice_get xs) (sym (position_found (λ n. bytes_eq n name) (map f xs) k e)) ∙ sym (stands_at f xs name)
-
-pub not_found : {X : Type 0} (f : X → List ℕ) (xs : List X) (name : List ℕ) → position (λ n. bytes_eq n name) (map f xs) ≡ None → None ≡ find (λ x. bytes_eq (f x) name) xs
-not_found f xs name e =
-    sym (
-    stands_at f xs name
-    ∙ ap (slice_get xs) (position_none (λ n. bytes_eq n name) (map f xs) e ∙ length-map xs f)
-    ∙ none_there xs
-    )
-  where
-    none_there : {X : Type 0} (xs : List X) → slice_get xs (length xs) ≡ None
-    none_there [] = refl
-    none_there (x ∷ xs) = none_there xs
-
-pub device_found : (ds : List Device) (name : List ℕ) (k : ℕ) → position (λ n. bytes_eq n name) (map (λ d. d.name) ds) ≡ Some k → slice_get ds k ≡ find (λ d. bytes_eq d.name name) ds
-device_found ds name k e = found_by_index (λ (d : Device). d.name) ds name k e
-
-pub device_missing : (ds : List Device) (name : List ℕ) → position (λ n. bytes_eq n name) (map (λ d. d.name) ds) ≡ None → None ≡ find (λ d. bytes_eq d.name name) ds
-device_missing ds name e = not_found (λ (d : Device). d.name) ds name e
-
-pub region_found : (rs : List Region) (name : List ℕ) (k : ℕ) → position (λ n. bytes_eq n name) (map (λ r. r.name) rs) ≡ Some k → slice_get rs k ≡ find (λ r. bytes_eq r.name name) rs
-region_found rs name k e = found_by_index (λ (r : Region). r.name) rs name k e
-
-pub region_missing : (rs : List Region) (name : List ℕ) → position (λ n. bytes_eq n name) (map (λ r. r.name) rs) ≡ None → None ≡ find (λ r. bytes_eq r.name name) rs
-region_missing rs name e = not_found (λ (r : Region). r.name) rs name e
+use Rattle.policy_lawful.proofs.NameSets.{declared_is}
 
 -- ---- names that stood before
-
-stood_before : (before : List (List ℕ)) (name : List ℕ) → first_in (λ a. unless (not (bytes_eq a name)) (alone name)) before ≡ cond (list_any (bytes_eq name) before) (Some (alone name)) None
-stood_before [] name = refl
-stood_before (n ∷ ns) name =
-    rw (nat_list_eq_equiv.symm n name, stood_before ns name)
-    (elim (bytes_eq name n) as (λ t. option_or (unless (not t) (alone name)) (cond (list_any (bytes_eq name) ns) (Some (alone name)) None) ≡ cond (t || list_any (bytes_eq name) ns) (Some (alone name)) None) [
-      | true ↦ refl
-      | false ↦ refl
-    ])
-
-cond_or : {O : Type 0} (t : Bool) (o : O) (rest : Option O) → option_or (cond t (Some o) None) rest ≡ cond t (Some o) rest
-cond_or true o rest = refl
-cond_or false o rest = refl
 
 unless_or : {O : Type 0} (t : Bool) (o : O) (rest : Option O) → option_or (unless (not t) o) rest ≡ cond t (Some o) rest
 unless_or true o rest = refl
 unless_or false o rest = refl
 
--- the first of these names that stood before, where they come after those
-abbrev pub repeated_after : List (List ℕ) → List (List ℕ) → Option Offence
-repeated_after before [] = None
-repeated_after before (n ∷ ns) = if list_any (bytes_eq n) before then Some (alone n) else repeated_after (before ++ n ∷ []) ns
-
-after_is : (before names : List (List ℕ)) → repeated_after before names ≡ first_after (λ before b. first_in (λ a. unless (not (bytes_eq a b)) (alone b)) before) before names
-after_is before [] = refl
-after_is before (n ∷ ns) = rw (stood_before before n, ← after_is (before ++ n ∷ []) ns, cond_or) refl
-
-pub repeated_from_start : (names : List (List ℕ)) → repeated_after [] names ≡ repeated names
-repeated_from_start names = after_is [] names
-
--- the same of names in domains
+-- the first of these that is listed under a name that stood before
 abbrev pub repeat_after : List (List ℕ) → List Listed → Option Listed
 repeat_after before [] = None
 repeat_after before (x ∷ xs) = if list_any (bytes_eq x.name) before then Some x else repeat_after (before ++ x.name ∷ []) xs

@@ -22,7 +22,7 @@ use Rattle.policy_lawful.specs.declared.offence.Extent.{Extent}
 use Rattle.policy_lawful.specs.declared.offence.Offence.{Offence}
 use Rattle.policy_types.specs.declared.source.Device.{Device}
 use Rattle.policy_types.specs.declared.source.Ports.{Ports}
-use Rattle.rules_devices.proofs.Positions.{position_same}
+use Rattle.policy_lawful.proofs.Positions.{position_same}
 use Rattle.rules_devices.specs.Ranges.{is_port_range, port_extent}
 
 -- one more device

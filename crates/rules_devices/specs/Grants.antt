@@ -1,8 +1,9 @@
 -- Rule 9 of a resolved policy: how often the parts of devices are granted, with devices and parts by their indexes.
-use Rattle.std.specs.Prelude.{◌≡◌, ℕ, ◌+◌, ◌<◌, min, ◌==◌, List, [], length, map, nat_le, slice_get, slice_index, slice_index_or, Option, Some, if◌then◌else◌}
+use Rattle.std.specs.Prelude.{◌≡◌, ℕ, ◌<◌, min, ◌==◌, List, [], length, map, nat_le, slice_get, slice_index, slice_index_or, Option, Some, if◌then◌else◌}
 use Rattle.std.specs.Option.{option_or}
-use Rattle.std.specs.List.{All, count_by, enumerate_from, sum_by}
+use Rattle.std.specs.List.{All, enumerate_from, sum_by}
 use Rattle.muen_num.specs.Search.{first_in, unless}
+use Rattle.policy_lawful.specs.Counts.{Adds, times_among}
 use Rattle.policy_lawful.specs.Offences.{two}
 use Rattle.policy_lawful.specs.declared.offence.Offence.{Offence}
 use Rattle.policy_lawful.specs.declared.resolved.DeviceUse.{DeviceUse}
@@ -23,10 +24,6 @@ indexes_granted Memory u = map (λ m. m.memory) u.memory
 indexes_granted IoPorts u = u.io_ports
 indexes_granted Irqs u = map (λ i. i.irq) u.irqs
 
--- how often an index stands among these
-abbrev pub times_among : List ℕ → ℕ → ℕ
-times_among indexes index = count_by (λ i. i == index) indexes
-
 -- how often a use, a subject, or all subjects are granted the part j of the device k
 abbrev pub times_by_use : Resource → ℕ → ℕ → DeviceUse → ℕ
 times_by_use resource k j u = if u.device == k then times_among (indexes_granted resource u) j else 0
@@ -42,10 +39,6 @@ abbrev pub IsOnDevices : ℕ → Subject → Type 0
 IsOnDevices devices s = All (λ u. u.device < devices) s.devices
 
 -- ---- counts: those of 2 and more are alike
-
--- new counts are the old ones and so much more at each index
-abbrev pub Adds : List ℕ → List ℕ → (ℕ → ℕ) → Type 0
-Adds old new more = (k : ℕ) → k < length old → min 2 (slice_index new k) ≡ min 2 (slice_index old k + more k)
 
 -- the counts at an index
 abbrev pub counts_at : List (List ℕ) → ℕ → List ℕ

@@ -43,19 +43,15 @@ fn source_id(bdf: &Bdf) -> u64
 fn bus_extent(device: &Device) -> Option<Extent>
     ensures { result ≡ bus_extent device.now.name device.now.bdf }
 {
-    match &device.bdf {
-        None => None,
-        Some(bdf) => {
-            if !is_possible(bdf) {
-                return None;
-            }
-            Some(Extent {
-                name: device.name,
-                address: source_id(bdf),
-                size: 1,
-            })
-        }
+    let bdf = device.bdf.as_ref()?;
+    if !is_possible(bdf) {
+        return None;
     }
+    Some(Extent {
+        name: device.name,
+        address: source_id(bdf),
+        size: 1,
+    })
 }
 
 fn bus_extents(alloc: Global, devices: &[Device]) -> Result<Vec<Extent>, AllocError>

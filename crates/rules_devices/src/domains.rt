@@ -10,7 +10,7 @@ ghost use Rattle.policy_lawful.specs.Rules.{at_most, is_declared, repeated};
 ghost use Rattle.rules_devices.specs.Domains.{domain_devices, first_repeat, has_bdf, names_offence, listed_offence, domains_offence};
 
 use crate::bus::bus_offence;
-use crate::declared::Devices;
+use crate::declared::Declared;
 use crate::listed::{Listed, devices_of, first_repeat, names_of};
 use muen_num::limits::MOST_DOMAINS;
 use muen_num::{Name, NoMemory, first};
@@ -62,14 +62,14 @@ fn of_names(alloc: Global, domains: &[Domain]) -> Result<Option<Offence>, NoMemo
 }
 
 // The first name of no device.
-fn undeclared(devices: &Devices, listed: &[Listed]) -> Option<Offence>
+fn undeclared(devices: &Declared<'_, Device>, listed: &[Listed]) -> Option<Offence>
     ensures { result ≡ first_in (λ x. unless (is_declared (map (λ d. d.name) devices.now.items.now) x.name) (two x.domain x.name)) listed.now }
 {
     first(listed, |x| x.offence().unless(devices.contains(&x.name)))
 }
 
 // The first name of a device that has no bus, device and function number.
-fn nowhere(devices: &Devices, listed: &[Listed]) -> Option<Offence>
+fn nowhere(devices: &Declared<'_, Device>, listed: &[Listed]) -> Option<Offence>
     ensures { result ≡ first_in (λ x. unless (has_bdf devices.now.items.now x.name) (two x.domain x.name)) listed.now }
 {
     first(listed, |x| x.offence().unless(devices.has_bdf(&x.name)))
@@ -79,7 +79,7 @@ fn nowhere(devices: &Devices, listed: &[Listed]) -> Option<Offence>
 // number.
 fn of_listed(
     alloc: Global,
-    devices: &Devices,
+    devices: &Declared<'_, Device>,
     listed: &[Listed],
 ) -> Result<Option<Offence>, NoMemory>
     ensures { IfOk result (λ o. o ≡ listed_offence devices.now.items.now listed.now) }
@@ -102,7 +102,7 @@ fn of_devices(
     requires { repeated (map (λ d. d.name) devices.now) ≡ None }
     ensures { IfOk result (λ o. o ≡ listed_offence devices.now (flat_map domain_devices domains.now)) }
 {
-    let devices = Devices::of(alloc, devices)?;
+    let devices = Declared::of(alloc, devices)?;
     let listed = devices_of(alloc, domains)?;
     of_listed(alloc, &devices, &listed)
 }

@@ -9,11 +9,10 @@ ghost use Rattle.policy_lawful.specs.Resolution.{source_of};
 ghost use Rattle.rules_devices.specs.Grants.{TableAdds, AreTimes, IsOnDevices, part_names, times_by_use, times_by_subject, memory_counted, ports_counted, irqs_counted, device_counted};
 ghost use Rattle.rules_devices.specs.declared.resource.Resource.TheVariants.{Memory, IoPorts, Irqs};
 
-use crate::counts::Counts;
 use crate::resource::Resource;
 use muen_num::{Name, NoMemory, first_numbered};
 use policy_lawful::resolved::{DeviceUse, Subject};
-use policy_lawful::{Offence, Resolved};
+use policy_lawful::{Counts, Offence, Resolved};
 use policy_types::source::Device;
 use std::alloc::{AllocError, Global};
 

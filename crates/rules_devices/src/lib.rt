@@ -3,13 +3,11 @@
 #![tactic(auto)]
 
 mod bus;
-mod counts;
 mod declared;
 mod domains;
 mod grants;
 mod listed;
 mod msrs;
-mod name_set;
 mod ports;
 mod regions;
 mod resource;

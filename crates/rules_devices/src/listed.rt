@@ -4,9 +4,8 @@ ghost use Rattle.std.specs.List.{flat_map};
 ghost use Rattle.policy_lawful.specs.Offences.{two};
 ghost use Rattle.rules_devices.specs.Domains.{domain_devices, domain_regions, domain_itself, first_repeat};
 
-use indexmap::IndexSet;
 use muen_num::{Name, NoMemory};
-use policy_lawful::Offence;
+use policy_lawful::{NameSet, Offence};
 use policy_types::source::Domain;
 use std::alloc::{AllocError, Global};
 
@@ -101,10 +100,9 @@ pub(crate) fn regions_of(alloc: Global, domains: &[Domain]) -> Result<Vec<Listed
 pub(crate) fn first_repeat(alloc: Global, listed: &[Listed]) -> Result<Option<Listed>, NoMemory>
     ensures { IfOk result (λ o. o ≡ first_repeat listed.now) }
 {
-    let mut names = IndexSet::new(alloc);
+    let mut names = NameSet::new(alloc);
     for x in listed {
-        let (_, is_new) = names.insert_full(x.name)?;
-        if !is_new {
+        if !names.add(x.name)? {
             return Ok(Some(*x));
         }
     }

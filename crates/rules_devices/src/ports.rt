@@ -65,7 +65,7 @@ fn first_empty(extents: &[Extent]) -> Option<usize>
 }
 
 // How many of the first ranges aren't empty, where the next one is.
-#[tactic(auto, using(crate::proofs::Positions::position_found, crate::proofs::Positions::position_none))]
+#[tactic(auto, using(policy_lawful::proofs::Positions::position_found, policy_lawful::proofs::Positions::position_none))]
 fn count_sound(extents: &[Extent]) -> usize
     ensures { result ≡ position_or_len (λ e. e.size == 0) extents.now }
 {

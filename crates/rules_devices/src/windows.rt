@@ -9,12 +9,12 @@ ghost use Rattle.policy_lawful.specs.Resolution.{source_of};
 ghost use Rattle.policy_lawful.specs.Rules.{first_overlap, is_laid, offence_4};
 ghost use Rattle.rules_devices.specs.Windows.{undeclared_in, unaligned_in, outside_in, executable_in, window_extent, overlap_in, windows_offence};
 
-use crate::declared::Regions;
+use crate::declared::Declared;
 use muen_num::limits::{GUEST_END, PAGE};
 use muen_num::{Name, NoMemory, first};
 use policy_lawful::{Extent, Offence, Resolved};
 use policy_types::Rights;
-use policy_types::source::{Domain, Mapping};
+use policy_types::source::{Domain, Mapping, Region};
 use rules_extents::first_overlap;
 use std::alloc::{AllocError, Global};
 
@@ -29,7 +29,7 @@ fn at_window(domain: Name, window: &Mapping) -> Offence
 }
 
 // The first window of a domain on no region.
-fn undeclared_in(regions: &Regions, domain: &Domain) -> Option<Offence>
+fn undeclared_in(regions: &Declared<'_, Region>, domain: &Domain) -> Option<Offence>
     ensures { result ≡ undeclared_in regions.now.items.now domain.now }
 {
     first(domain.memory.items(), |window| {
@@ -47,7 +47,7 @@ fn unaligned_in(domain: &Domain) -> Option<Offence>
 }
 
 // The first that ends behind the guest addresses.
-fn outside_in(regions: &Regions, domain: &Domain) -> Option<Offence>
+fn outside_in(regions: &Declared<'_, Region>, domain: &Domain) -> Option<Offence>
     ensures { result ≡ outside_in regions.now.items.now domain.now }
 {
     first(domain.memory.items(), |window| {
@@ -73,7 +73,7 @@ fn executable_in(domain: &Domain) -> Option<Offence>
 }
 
 // A window as a range of the devices' addresses.
-fn extent(regions: &Regions, window: &Mapping) -> Extent
+fn extent(regions: &Declared<'_, Region>, window: &Mapping) -> Extent
     ensures { result ≡ window_extent regions.now.items.now window.now }
 {
     Extent {
@@ -83,7 +83,11 @@ fn extent(regions: &Regions, window: &Mapping) -> Extent
     }
 }
 
-fn extents(alloc: Global, regions: &Regions, windows: &[Mapping]) -> Result<Vec<Extent>, AllocError>
+fn extents(
+    alloc: Global,
+    regions: &Declared<'_, Region>,
+    windows: &[Mapping],
+) -> Result<Vec<Extent>, AllocError>
     ensures { IfOk result (λ v. v.items ≡ map (window_extent regions.now.items.now) windows.now) }
 {
     windows
@@ -104,7 +108,11 @@ fn second_of(domain: Name, overlap: Option<Offence>) -> Option<Offence>
 
 // The first two windows of a domain that share an address, where each is on a region.
 #[tactic(auto, using(crate::proofs::WindowsByExtent::windows_sized))]
-fn overlap(alloc: Global, regions: &Regions, domain: &Domain) -> Result<Option<Offence>, NoMemory>
+fn overlap(
+    alloc: Global,
+    regions: &Declared<'_, Region>,
+    domain: &Domain,
+) -> Result<Option<Offence>, NoMemory>
     requires sizes { list_all is_laid regions.now.items.now ≡ true }
     requires on_regions { undeclared_in regions.now.items.now domain.now ≡ None }
     ensures { IfOk result (λ o. o ≡ first_overlap (map (window_extent regions.now.items.now) domain.now.memory)) }
@@ -116,7 +124,7 @@ fn overlap(alloc: Global, regions: &Regions, domain: &Domain) -> Result<Option<O
 // The same, told by the domain and the later one.
 fn overlap_in(
     alloc: Global,
-    regions: &Regions,
+    regions: &Declared<'_, Region>,
     domain: &Domain,
 ) -> Result<Option<Offence>, NoMemory>
     requires sizes { list_all is_laid regions.now.items.now ≡ true }
@@ -130,7 +138,7 @@ fn overlap_in(
 // The first such windows of all domains.
 fn overlap_of(
     alloc: Global,
-    regions: &Regions,
+    regions: &Declared<'_, Region>,
     domains: &[Domain],
 ) -> Result<Option<Offence>, NoMemory>
     requires sizes { list_all is_laid regions.now.items.now ≡ true }
@@ -153,7 +161,7 @@ fn unaligned_of(domains: &[Domain]) -> Option<Offence>
 }
 
 // The first that ends behind the guest addresses.
-fn outside_of(regions: &Regions, domains: &[Domain]) -> Option<Offence>
+fn outside_of(regions: &Declared<'_, Region>, domains: &[Domain]) -> Option<Offence>
     ensures { result ≡ first_in (outside_in regions.now.items.now) domains.now }
 {
     first(domains, |domain| outside_in(regions, domain))
@@ -167,7 +175,7 @@ fn executable_of(domains: &[Domain]) -> Option<Offence>
 }
 
 // The first window of all domains on no region.
-fn undeclared_of(regions: &Regions, domains: &[Domain]) -> Option<Offence>
+fn undeclared_of(regions: &Declared<'_, Region>, domains: &[Domain]) -> Option<Offence>
     ensures { result ≡ first_in (undeclared_in regions.now.items.now) domains.now }
 {
     first(domains, |domain| undeclared_in(regions, domain))
@@ -176,7 +184,7 @@ fn undeclared_of(regions: &Regions, domains: &[Domain]) -> Option<Offence>
 // The conditions in turn.
 fn of_windows(
     alloc: Global,
-    regions: &Regions,
+    regions: &Declared<'_, Region>,
     domains: &[Domain],
 ) -> Result<Option<Offence>, NoMemory>
     requires { list_all is_laid regions.now.items.now ≡ true }
@@ -208,6 +216,6 @@ pub fn domain_windows(alloc: Global, policy: &Resolved) -> Result<Option<Offence
     requires { offence_4 (source_of policy.now) ≡ None }
     ensures { IfOk result (λ o. o ≡ offence_22 (source_of policy.now)) }
 {
-    let regions = Regions::of(alloc, policy.memory())?;
+    let regions = Declared::of(alloc, policy.memory())?;
     of_windows(alloc, &regions, policy.device_domains())
 }

@@ -28,9 +28,9 @@ use Rattle.policy_types.specs.declared.source.MapEntry.{MapEntry as NamedEntry}
 use Rattle.policy_types.specs.declared.source.Channel.{Channel}
 use Rattle.policy_types.specs.declared.source.Region.{Region}
 use Rattle.policy_types.specs.declared.source.Required.{Required}
-use Rattle.policy_views.specs.Views.{same_wanted}
-use Rattle.policy_views.proofs.ChosenEntries.{entry_found}
-use Rattle.policy_views.proofs.WindowsByIndex.{component_at, component_there, name_there, subject_parts, within_names}
+use Rattle.policy_lawful.specs.Views.{same_wanted}
+use Rattle.policy_lawful.proofs.ChosenEntries.{entry_found}
+use Rattle.policy_lawful.proofs.WindowsByIndex.{component_at, component_there, name_there, subject_parts, within_names}
 use Rattle.rules_events.specs.ByIndex.{AreItems, items_at}
 use Rattle.rules_events.specs.Components.{channel_fault, channel_given, channel_grant, channel_offence, component_offence, gives_channel, gives_region, grant, is_channel_mapped, is_memory_mapped, memory_fault, memory_given, memory_grant, memory_offence, subject_offence, use_offence}
 use Rattle.rules_events.specs.declared.components.Grant.{Grant}

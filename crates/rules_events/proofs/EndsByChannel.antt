@@ -13,9 +13,9 @@ use Rattle.policy_lawful.proofs.Indexes.{same_name}
 use Rattle.policy_lawful.proofs.SourceElements.{parts_in_range}
 use Rattle.policy_lawful.proofs.UniqueNames.{unique}
 use Rattle.policy_lawful.specs.Events.{ChannelEnd, channel_ends}
-use Rattle.policy_views.specs.Views.{channel_end_named, channel_ends_of}
-use Rattle.policy_views.specs.declared.view.IndexedEnd.{IndexedEnd}
-use Rattle.policy_views.proofs.EndsByIndex.{ends_by_index, ends_in_range}
+use Rattle.policy_lawful.specs.Views.{channel_end_named, channel_ends_of}
+use Rattle.policy_lawful.specs.declared.view.IndexedEnd.{IndexedEnd}
+use Rattle.policy_lawful.proofs.EndsByIndex.{ends_by_index, ends_in_range}
 use Rattle.rules_events.specs.ByIndex.{items_at}
 use Rattle.rules_events.specs.ChannelEnds.{met, met_channel_ends, all_channel_ends, all_readers, all_writers, reads, writes}
 use Rattle.rules_events.specs.Parties.{party}

@@ -11,3 +11,4 @@ pub mod MonitorsByIndex
 pub mod NotedItems
 pub mod NumbersByIndex
 pub mod Rising
+pub mod SeenSearch

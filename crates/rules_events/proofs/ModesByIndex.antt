@@ -28,7 +28,7 @@ use Rattle.policy_lawful.proofs.SourceElements.{parts_in_range}
 use Rattle.policy_lawful.proofs.UniqueNames.{subject_names, subjects_unique}
 use Rattle.policy_types.specs.declared.source.Channel.{Channel}
 use Rattle.policy_types.specs.declared.source.Event.{Event}
-use Rattle.policy_views.specs.Views.{channel_ends_of}
+use Rattle.policy_lawful.specs.Views.{channel_ends_of}
 use Rattle.rules_events.specs.ByIndex.{AreItems, items_at}
 use Rattle.rules_events.specs.Listings.{all_memberships, memberships, share, stands_in}
 use Rattle.rules_events.specs.Directions.{channel_fault, channel_mode, channels_fault, event_fault, events_fault, fits_mode, mode_fault, parties_of, source_fault}

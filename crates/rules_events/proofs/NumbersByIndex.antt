@@ -26,8 +26,8 @@ use Rattle.policy_lawful.proofs.UniqueNames.{unique}
 use Rattle.policy_lawful.specs.Events.{channel_ends}
 use Rattle.policy_types.specs.declared.source.EventSource.{EventSource}
 use Rattle.policy_types.specs.declared.source.EventTarget.{EventTarget}
-use Rattle.policy_views.specs.Views.{channel_end_named, channel_ends_of}
-use Rattle.policy_views.proofs.EndsByIndex.{ends_by_index}
+use Rattle.policy_lawful.specs.Views.{channel_end_named, channel_ends_of}
+use Rattle.policy_lawful.proofs.EndsByIndex.{ends_by_index}
 use Rattle.rules_events.specs.Calls.{calls_at, traps_at, call_offence}
 use Rattle.rules_events.specs.Numbers.{are_distinct_in}
 use Rattle.rules_events.specs.Vectors.{has_vector, switches, irq_vectors, vectors_at, vector_offence}

@@ -4,8 +4,8 @@ use Rattle.std.specs.List.{enumerate_from, flat_map}
 use Rattle.policy_lawful.specs.MoreRules.{is_writer}
 use Rattle.policy_lawful.specs.Resolution.{Resolution}
 use Rattle.policy_lawful.specs.declared.resolved.Subject.{Subject}
-use Rattle.policy_views.specs.Views.{channel_ends_of}
-use Rattle.policy_views.specs.declared.view.IndexedEnd.{IndexedEnd}
+use Rattle.policy_lawful.specs.Views.{channel_ends_of}
+use Rattle.policy_lawful.specs.declared.view.IndexedEnd.{IndexedEnd}
 use Rattle.rules_events.specs.Parties.{party}
 use Rattle.rules_events.specs.declared.channel_ends.Met.{Met}
 use Rattle.rules_events.specs.declared.parties.Party.{Party}

@@ -10,10 +10,9 @@ ghost use Rattle.rules_events.specs.Parties.{party};
 use crate::by_index::by_index;
 use crate::parties::Party;
 use muen_num::{NoMemory, Seq};
-use policy_lawful::Resolved;
 use policy_lawful::resolved::Subject;
+use policy_lawful::{IndexedEnd, Resolved};
 use policy_types::Role;
-use policy_views::{IndexedEnd, channel_ends};
 use std::alloc::{AllocError, Global};
 
 /// An end of a channel with its subject.
@@ -49,8 +48,7 @@ fn all_channel_ends(alloc: Global, policy: &Resolved) -> Result<Vec<(usize, Met)
 {
     let mut noted = Vec::new(alloc);
     for (index, subject) in policy.subjects().iter().enumerate() {
-        let ends = channel_ends(alloc, policy, subject)?;
-        note_channel_ends(&mut noted, index, subject, &ends)?;
+        note_channel_ends(&mut noted, index, subject, policy.channel_ends(index))?;
     }
     Ok(noted)
 }

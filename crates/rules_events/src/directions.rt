@@ -82,10 +82,7 @@ fn channel_mode(
 ) -> Option<Offence>
     ensures { result ≡ channel_mode groups.now channel.now channel.now.has_event writers.now readers.now }
 {
-    match channel.has_event {
-        None => None,
-        Some(mode) => mode_fault(groups, mode, &channel.name, writers, readers),
-    }
+    mode_fault(groups, channel.has_event?, &channel.name, writers, readers)
 }
 
 fn first_channel(

@@ -1,18 +1,17 @@
 //! Rule 14: the numbers of a subject's calls, those of its channels among them, and of its traps.
 ghost use Rattle.std.specs.Prelude.{◌≡◌, ◌&&◌, ◌++◌, IfOk, map};
 ghost use Rattle.std.specs.List.{filter_map};
-ghost use Rattle.muen_num.specs.Search.{first_in, unless};
+ghost use Rattle.muen_num.specs.Search.{first_in};
 ghost use Rattle.policy_lawful.specs.MoreRules.{call_number, trap_reason, are_numbers, offence_14};
-ghost use Rattle.policy_lawful.specs.Resolution.{source_of};
-ghost use Rattle.rules_events.specs.Calls.{calls_at, traps_at, has_numbers, call_offence};
+ghost use Rattle.policy_lawful.specs.Resolution.{IsResolved, source_of};
+ghost use Rattle.rules_events.specs.Calls.{call_offence, calls_with, has_numbers_with, traps_at};
 
 use crate::numbers::are_distinct_in;
 use muen_num::NoMemory;
 use muen_num::limits::MOST_CALLS;
 use policy_lawful::resolved::{EventSource, Subject};
-use policy_lawful::{Offence, Resolved};
+use policy_lawful::{IndexedEnd, Offence, Resolved};
 use policy_types::source::SourceWay;
-use policy_views::{IndexedEnd, channel_ends};
 use std::alloc::{AllocError, Global};
 
 fn call_number(way: SourceWay) -> Option<u64>
@@ -65,34 +64,31 @@ fn are_numbers(numbers: &[u64]) -> bool
     are_distinct_in(numbers, 0, MOST_CALLS - 1)
 }
 
-// The numbers of a subject's calls, those of its ends of channels behind those of its sources.
-fn calls_at(alloc: Global, policy: &Resolved, subject: &Subject) -> Result<Vec<u64>, NoMemory>
-    ensures { IfOk result (λ v. v.items ≡ calls_at policy.now subject.now) }
+// The numbers of a subject's calls, those of these ends of channels behind those of its sources.
+fn calls_with(alloc: Global, subject: &Subject, ends: &[IndexedEnd]) -> Result<Vec<u64>, NoMemory>
+    ensures { IfOk result (λ v. v.items ≡ calls_with ends.now subject.now) }
 {
     let mut calls = calls_of(alloc, subject.sources.items())?;
-    let ends = channel_ends(alloc, policy, subject)?;
-    let more = calls_of_channel_ends(alloc, &ends)?;
+    let more = calls_of_channel_ends(alloc, ends)?;
     calls.extend_from_slice(&more)?;
     Ok(calls)
 }
 
-fn has_numbers(alloc: Global, policy: &Resolved, subject: &Subject) -> Result<bool, NoMemory>
-    ensures { IfOk result (λ b. b ≡ has_numbers policy.now subject.now) }
+fn has_numbers(alloc: Global, subject: &Subject, ends: &[IndexedEnd]) -> Result<bool, NoMemory>
+    ensures { IfOk result (λ b. b ≡ has_numbers_with ends.now subject.now) }
 {
-    let calls = calls_at(alloc, policy, subject)?;
+    let calls = calls_with(alloc, subject, ends)?;
     let traps = traps_of(alloc, subject.sources.items())?;
     Ok(are_numbers(&calls) && are_numbers(&traps))
 }
 
-fn first_call(
-    alloc: Global,
-    policy: &Resolved,
-    subjects: &[Subject],
-) -> Result<Option<Offence>, NoMemory>
-    ensures { IfOk result (λ o. o ≡ first_in (call_offence policy.now) subjects.now) }
+// The first subject with a number that offends.
+fn first_call(alloc: Global, policy: &Resolved) -> Result<Option<Offence>, NoMemory>
+    ensures value { IfOk result (λ o. o ≡ first_in (call_offence policy.now) policy.now.subjects) }
+    ensures resolved { IsResolved policy.now }
 {
-    for subject in subjects {
-        if !has_numbers(alloc, policy, subject)? {
+    for (index, subject) in policy.subjects().iter().enumerate() {
+        if !has_numbers(alloc, subject, policy.channel_ends(index))? {
             return Ok(Some(Offence::alone(subject.name)));
         }
     }
@@ -107,5 +103,5 @@ fn first_call(
 pub fn calls(alloc: Global, policy: &Resolved) -> Result<Option<Offence>, NoMemory>
     ensures { IfOk result (λ o. o ≡ offence_14 (source_of policy.now)) }
 {
-    first_call(alloc, policy, policy.subjects())
+    first_call(alloc, policy)
 }

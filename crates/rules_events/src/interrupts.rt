@@ -1,18 +1,17 @@
 //! Rule 15: the vectors of a subject's targets, of its channels and of its devices' interrupts.
 ghost use Rattle.std.specs.Prelude.{◌≡◌, ◌&&◌, ◌++◌, IfOk, map};
 ghost use Rattle.std.specs.List.{filter_map, flat_map, list_all};
-ghost use Rattle.muen_num.specs.Search.{first_in, unless};
+ghost use Rattle.muen_num.specs.Search.{first_in};
 ghost use Rattle.policy_lawful.specs.MoreRules.{is_switch, are_vectors, offence_15};
-ghost use Rattle.policy_lawful.specs.Resolution.{source_of};
-ghost use Rattle.rules_events.specs.Vectors.{switches, has_vector, irq_vectors, vectors_at, has_vectors, vector_offence};
+ghost use Rattle.policy_lawful.specs.Resolution.{IsResolved, source_of};
+ghost use Rattle.rules_events.specs.Vectors.{has_vector, has_vectors_with, irq_vectors, switches, vector_offence, vectors_with};
 
 use crate::numbers::are_distinct_in;
 use muen_num::limits::{FIRST_VECTOR, LAST_VECTOR};
 use muen_num::{EventMode, NoMemory};
 use policy_lawful::resolved::{DeviceUse, EventTarget, IrqUse, Subject};
-use policy_lawful::{Offence, Resolved};
+use policy_lawful::{IndexedEnd, Offence, Resolved};
 use policy_types::source::Event;
-use policy_views::{IndexedEnd, channel_ends};
 use std::alloc::{AllocError, Global};
 
 /// Whether the target also becomes active.
@@ -80,14 +79,13 @@ fn add_devices(vectors: &mut Vec<u64>, devices: &[DeviceUse]) -> Result<(), NoMe
     Ok(())
 }
 
-// The vectors of a subject.
+// The vectors of a subject with these ends of channels.
 #[tactic(auto, using(std::proofs::lemmas::List::append_assoc))]
-fn vectors_at(alloc: Global, policy: &Resolved, subject: &Subject) -> Result<Vec<u64>, NoMemory>
-    ensures { IfOk result (λ v. v.items ≡ vectors_at policy.now subject.now) }
+fn vectors_with(alloc: Global, subject: &Subject, ends: &[IndexedEnd]) -> Result<Vec<u64>, NoMemory>
+    ensures { IfOk result (λ v. v.items ≡ vectors_with ends.now subject.now) }
 {
     let mut vectors = vectors_of_targets(alloc, subject.targets.items())?;
-    let ends = channel_ends(alloc, policy, subject)?;
-    let more = vectors_of_channel_ends(alloc, &ends)?;
+    let more = vectors_of_channel_ends(alloc, ends)?;
     vectors.extend_from_slice(&more)?;
     add_devices(&mut vectors, subject.devices.items())?;
     Ok(vectors)
@@ -100,22 +98,25 @@ fn are_vectors(numbers: &[u64]) -> bool
     are_distinct_in(numbers, FIRST_VECTOR, LAST_VECTOR)
 }
 
-fn has_vectors(alloc: Global, policy: &Resolved, subject: &Subject) -> Result<bool, NoMemory>
-    ensures { IfOk result (λ b. b ≡ has_vectors policy.now subject.now) }
+fn has_vectors(
+    alloc: Global,
+    events: &[Event],
+    subject: &Subject,
+    ends: &[IndexedEnd],
+) -> Result<bool, NoMemory>
+    ensures { IfOk result (λ b. b ≡ has_vectors_with events.now ends.now subject.now) }
 {
-    let vectors = vectors_at(alloc, policy, subject)?;
-    Ok(have_vectors(policy.events(), subject.targets.items()) && are_vectors(&vectors))
+    let vectors = vectors_with(alloc, subject, ends)?;
+    Ok(have_vectors(events, subject.targets.items()) && are_vectors(&vectors))
 }
 
-fn first_vector(
-    alloc: Global,
-    policy: &Resolved,
-    subjects: &[Subject],
-) -> Result<Option<Offence>, NoMemory>
-    ensures { IfOk result (λ o. o ≡ first_in (vector_offence policy.now) subjects.now) }
+// The first subject with a vector that offends.
+fn first_vector(alloc: Global, policy: &Resolved) -> Result<Option<Offence>, NoMemory>
+    ensures value { IfOk result (λ o. o ≡ first_in (vector_offence policy.now) policy.now.subjects) }
+    ensures resolved { IsResolved policy.now }
 {
-    for subject in subjects {
-        if !has_vectors(alloc, policy, subject)? {
+    for (index, subject) in policy.subjects().iter().enumerate() {
+        if !has_vectors(alloc, policy.events(), subject, policy.channel_ends(index))? {
             return Ok(Some(Offence::alone(subject.name)));
         }
     }
@@ -130,5 +131,5 @@ fn first_vector(
 pub fn vectors(alloc: Global, policy: &Resolved) -> Result<Option<Offence>, NoMemory>
     ensures { IfOk result (λ o. o ≡ offence_15 (source_of policy.now)) }
 {
-    first_vector(alloc, policy, policy.subjects())
+    first_vector(alloc, policy)
 }

@@ -14,7 +14,8 @@ use Rattle.policy_types.specs.declared.source.Block.{Block}
 use Rattle.policy_types.specs.declared.source.DeviceMemory.{DeviceMemory}
 use Rattle.region_alloc.specs.Placement.{in_a_block}
 use Rattle.span_emit.specs.Spans.{device_span}
-use Rattle.span_emit.proofs.KeptDevices.{AreTwo, IsPhysical}
+use Rattle.policy_lawful.proofs.KeptAddresses.{IsPhysical}
+use Rattle.span_emit.proofs.KeptDevices.{AreTwo}
 use Rattle.span_emit.proofs.PairLaws.{pairs_head, pairs_nil, pairs_tail}
 use Rattle.span_emit.proofs.RegionSpans.{AreApart, IsRegionSpan, less_pages}
 

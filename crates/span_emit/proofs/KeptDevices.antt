@@ -1,18 +1,16 @@
 -- Rules 4 and 18: the memory of devices is whole pages of physical memory, and shares no address with a block or with
 -- other memory of a device.
-use Rattle.std.proofs.Common.{◌≡◌, ℕ, ◌+◌, ◌%◌, ◌<◌, ◌≤◌, ◌⊎◌, inl, inr, Bool, true, All, List, [], ◌∷◌, ◌++◌, get_or, map, None, refl, sym, ap, ◌∙◌}
-use Rattle.std.specs.Prelude.{◌&&◌, nat_le, nat_lt}
+use Rattle.std.proofs.Common.{◌≡◌, ℕ, ◌+◌, ◌≤◌, ◌⊎◌, inl, inr, true, All, List, [], ◌∷◌, ◌++◌, get_or, map, None, refl, sym, ap, ◌∙◌}
+use Rattle.std.specs.Prelude.{nat_le}
 use Rattle.std.specs.List.{AllPairs, flat_map, list_all}
-use Rattle.std.proofs.lemmas.Bool.{and_parts, eqb-true, leb-true, ltb-true, or_cases}
+use Rattle.std.proofs.lemmas.Bool.{and_parts, leb-true, or_cases}
 use Rattle.std.proofs.lemmas.List.{map-append}
 use Rattle.std.proofs.lemmas.List.Elements.{All-append, All-map, All-nil}
 use Rattle.muen_num.proofs.FirstPair.{pairs_at}
 use Rattle.muen_num.proofs.Lists.{map-map}
-use Rattle.muen_num.proofs.SearchLaws.{all_none, all_pass, none_both, unless_none}
-use Rattle.muen_num.specs.Search.{first_in, unless}
-use Rattle.muen_num.specs.declared.limits.TheConstants.{PAGE, PHYSICAL_END}
-use Rattle.policy_lawful.specs.Offences.{alone, two}
-use Rattle.policy_lawful.specs.Rules.{are_apart, first_overlap, is_page_aligned, is_page_size, is_physical, offence_4, offence_18, overlapping}
+use Rattle.muen_num.proofs.SearchLaws.{unless_none}
+use Rattle.policy_lawful.specs.Offences.{two}
+use Rattle.policy_lawful.specs.Rules.{are_apart, first_overlap, offence_4, offence_18, overlapping}
 use Rattle.policy_lawful.specs.declared.offence.Extent.{Extent}
 use Rattle.policy_types.specs.declared.source.Block.{Block}
 use Rattle.policy_types.specs.declared.source.Device.{Device}
@@ -20,29 +18,9 @@ use Rattle.policy_types.specs.declared.source.DeviceMemory.{DeviceMemory}
 use Rattle.policy_types.specs.declared.source.Source.{Source}
 use Rattle.span_emit.specs.Spans.{memories_of}
 use Rattle.span_emit.proofs.PairLaws.{all_from, all_unmapped, pairs_across, pairs_second, pairs_unmapped, pairs_weaker}
+use Rattle.policy_lawful.proofs.KeptAddresses.{IsPhysical, addresses_kept, is_memory, physical}
 
 -- ---- rule 4
-
-pub record IsPhysical (m : DeviceMemory) : Type 0 where
-  pub aligned : m.physical_address % PAGE ≡ 0
-  pub pages : m.size % PAGE ≡ 0
-  pub some : 0 < m.size
-  pub low : m.physical_address + m.size ≤ PHYSICAL_END
-
-abbrev is_memory : DeviceMemory → Bool
-is_memory m = is_physical m.physical_address m.size
-
-physical : (m : DeviceMemory) → is_memory m ≡ true → IsPhysical m
-physical m h =
-    let both = and_parts (is_page_aligned m.physical_address && is_page_size m.size) (nat_le (m.physical_address + m.size) PHYSICAL_END) h in
-    let parts = and_parts (is_page_aligned m.physical_address) (is_page_size m.size) both.0 in
-    let size = and_parts (is_page_aligned m.size) (nat_lt 0 m.size) parts.1 in
-    record {
-      aligned = eqb-true (m.physical_address % PAGE) 0 parts.0;
-      pages = eqb-true (m.size % PAGE) 0 size.0;
-      some = ltb-true 0 m.size size.1;
-      low = leb-true _ _ both.1;
-    }
 
 each_device : (ds : List Device) → list_all (λ d. list_all is_memory d.memory) ds ≡ true → All (λ x. IsPhysical x.1) (memories_of ds)
 each_device [] h = All-nil (λ (x : List ℕ × DeviceMemory). IsPhysical x.1)
@@ -53,13 +31,7 @@ each_device (d ∷ ds) h =
     (each_device ds both.1)
 
 pub devices_physical : (p : Source) → offence_4 p ≡ None → All (λ x. IsPhysical x.1) (memories_of p.devices)
-unfolding offence_4
-devices_physical p h =
-    let blocks = none_both (first_in (λ b. unless (is_physical b.physical_address b.size) (alone b.name)) p.memory_blocks) _ h in
-    let devices = none_both (first_in (λ d. first_in (λ m. unless (is_physical m.physical_address m.size) (two d.name m.name)) d.memory) p.devices) _ blocks.1 in
-    each_device p.devices
-    (all_none (λ d. list_all is_memory d.memory) (λ d. first_in (λ m. unless (is_physical m.physical_address m.size) (two d.name m.name)) d.memory)
-    (λ d none. all_pass is_memory (λ m. two d.name m.name) d.memory none) p.devices devices.0)
+devices_physical p h = each_device p.devices (addresses_kept p h).devices
 
 -- ---- rule 18
 

@@ -1,25 +1,19 @@
 -- Rule 4: the regions of a lawful policy are whole pages, and may be only where pages begin.
-use Rattle.std.proofs.Common.{◌≡◌, ℕ, ◌%◌, inl, inr, Bool, true, All, List, [], ◌∷◌, map, Option, Some, None, refl, sym, ap, ◌∙◌, arith}
+use Rattle.std.proofs.Common.{◌≡◌, ℕ, ◌%◌, inl, inr, true, All, List, [], ◌∷◌, map, Option, Some, None, refl, sym, ap, ◌∙◌, arith}
 use Rattle.std.specs.Prelude.{◌&&◌, ◌==◌, nat_lt}
-use Rattle.std.specs.List.{flat_map, list_all}
-use Rattle.std.specs.Str.{bytes_eq}
+use Rattle.std.specs.List.{flat_map}
 use Rattle.std.proofs.lemmas.Bool.{and_parts, eqb-true, or_cases}
 use Rattle.std.proofs.lemmas.List.Elements.{All-append, All-from_recursion, All-map, All-nil}
 use Rattle.ept_emit.specs.Pages.{ept_pages}
-use Rattle.expand_kernel.specs.Regions.{channel_region, kernel_regions, kernel_regions_of, mapped_window, own_region, provided_region, provided_regions, regions_of}
+use Rattle.expand_kernel.specs.Regions.{channel_region, kernel_regions, kernel_regions_of, window_range, own_region, provided_region, provided_regions, regions_of}
 use Rattle.expand_kernel.specs.declared.region.Region.{Region}
 use Rattle.image_pack.specs.Codes.{is_part, part_code}
-use Rattle.muen_num.proofs.Lists.{found_among}
-use Rattle.muen_num.proofs.SearchLaws.{all_none, all_pass, none_both}
-use Rattle.muen_num.specs.Search.{first_in, unless}
 use Rattle.muen_num.specs.declared.limits.TheConstants.{LARGE_PAGE, PAGE}
-use Rattle.policy_lawful.specs.Offences.{alone, two}
-use Rattle.policy_lawful.specs.Rules.{component_offence, is_alignment, is_fixed, is_guest, is_laid, is_page_aligned, is_page_size, is_physical, offence_4}
+use Rattle.policy_lawful.specs.Rules.{is_alignment, is_fixed, is_guest, is_laid, is_page_aligned, is_page_size, is_physical, offence_4}
 use Rattle.policy_lawful.specs.Thing.{component_by}
 use Rattle.policy_lawful.specs.Windows.{windows_of}
 use Rattle.policy_types.specs.declared.source.Channel.{Channel}
 use Rattle.policy_types.specs.declared.source.Component.{Component}
-use Rattle.policy_types.specs.declared.source.ComponentUse.{ComponentUse}
 use Rattle.policy_types.specs.declared.source.Provided.{Provided}
 use Rattle.policy_types.specs.declared.source.Region.{Region as SourceRegion}
 use Rattle.policy_types.specs.declared.source.Source.{Source}
@@ -27,6 +21,7 @@ use Rattle.policy_types.specs.declared.source.Subject.{Subject}
 use Rattle.region_alloc.specs.Placement.{suits}
 use Rattle.span_emit.specs.Spans.{span_kind}
 use Rattle.span_emit.proofs.PairLaws.{all_from}
+use Rattle.policy_lawful.proofs.KeptAddresses.{addresses_kept, brings, used_brings}
 
 -- a region of whole pages, that is a part which a region of its kind may be, and that may be only where a page begins
 pub record IsWhole (r : Region) : Type 0 where
@@ -73,23 +68,11 @@ whole_provided subject x h =
       placed = λ a s. eqb-true (a % PAGE) 0 s;
     }
 
-abbrev brings : Component → Bool
-brings c = list_all (λ x. is_guest x.virtual_address x.size) c.provides
-
-component_brings : (c : Component) → component_offence c ≡ None → brings c ≡ true
-component_brings c h =
-    all_pass (λ x. is_guest x.virtual_address x.size) (λ x. two c.name x.logical) c.provides
-    (none_both (first_in (λ x. unless (is_guest x.virtual_address x.size) (two c.name x.logical)) c.provides) _ h).0
-
 provided_whole : (subject : List ℕ) (c : Option Component) → ((x : Component) → c ≡ Some x → brings x ≡ true) → All IsWhole (provided_regions subject c)
 provided_whole subject None h = All-nil IsWhole
 provided_whole subject (Some c) h =
     All-map IsWhole (provided_region subject) c.provides
     (all_from (λ x. is_guest x.virtual_address x.size) (λ x. IsWhole (provided_region subject x)) (whole_provided subject) c.provides (h c refl))
-
-used_brings : (p : Source) (used : Option ComponentUse) → list_all brings p.components ≡ true → (x : Component) → component_by p used ≡ Some x → brings x ≡ true
-used_brings p None all x e = absurd (cc)
-used_brings p (Some used) all x e = found_among (λ c. bytes_eq c.name used.used) brings p.components x e all
 
 kernel_whole : (subject : List ℕ) (pages : ℕ) → All IsWhole (kernel_regions subject pages)
 kernel_whole subject pages =
@@ -111,22 +94,17 @@ kernel_whole subject pages =
     )
 
 kernel_whole_of : (p : Source) (s : Subject) → All IsWhole (kernel_regions_of p s)
-kernel_whole_of p s = kernel_whole s.name (ept_pages (map mapped_window (windows_of p s)))
+kernel_whole_of p s = kernel_whole s.name (ept_pages (map window_range (windows_of p s)))
 
 -- ---- all
 
 pub regions_whole : (p : Source) → offence_4 p ≡ None → All IsWhole (regions_of p)
-unfolding offence_4 regions_of
+unfolding regions_of
 regions_whole p h =
-    let blocks = none_both (first_in (λ b. unless (is_physical b.physical_address b.size) (alone b.name)) p.memory_blocks) _ h in
-    let devices = none_both (first_in (λ d. first_in (λ m. unless (is_physical m.physical_address m.size) (two d.name m.name)) d.memory) p.devices) _ blocks.1 in
-    let memory = none_both (first_in (λ r. unless (is_laid r) (alone r.name)) p.memory) _ devices.1 in
-    let channels = none_both (first_in (λ c. unless (is_page_size c.size) (alone c.name)) p.channels) _ memory.1 in
-    let components = none_both (first_in component_offence p.components) _ channels.1 in
-    let brought = all_none brings component_offence component_brings p.components components.0 in
-    let own = All-map IsWhole own_region p.memory (all_from is_laid (λ r. IsWhole (own_region r)) whole_laid p.memory (all_pass is_laid (λ r. alone r.name) p.memory memory.0)) in
-    let ends = All-map IsWhole channel_region p.channels (all_from (λ c. is_page_size c.size) (λ c. IsWhole (channel_region c)) whole_channel p.channels (all_pass (λ c. is_page_size c.size) (λ c. alone c.name) p.channels channels.0)) in
-    let provided = all_flat IsWhole (λ s. provided_regions s.name (component_by p s.component)) (λ s. provided_whole s.name (component_by p s.component) (used_brings p s.component brought)) p.subjects in
+    let kept = addresses_kept p h in
+    let own = All-map IsWhole own_region p.memory (all_from is_laid (λ r. IsWhole (own_region r)) whole_laid p.memory kept.regions) in
+    let ends = All-map IsWhole channel_region p.channels (all_from (λ c. is_page_size c.size) (λ c. IsWhole (channel_region c)) whole_channel p.channels kept.channels) in
+    let provided = all_flat IsWhole (λ s. provided_regions s.name (component_by p s.component)) (λ s. provided_whole s.name (component_by p s.component) (used_brings p s.component kept.components)) p.subjects in
     let kernel = all_flat IsWhole (kernel_regions_of p) (kernel_whole_of p) p.subjects in
     All-append IsWhole _ (flat_map (kernel_regions_of p) p.subjects)
     (All-append IsWhole _ (flat_map (λ s. provided_regions s.name (component_by p s.component)) p.subjects)

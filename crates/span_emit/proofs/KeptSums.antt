@@ -1,19 +1,14 @@
 -- Rule 20: how many regions and how much memory of devices there is, and how much they take.
 use Rattle.std.proofs.Common.{◌≡◌, ℕ, ◌+◌, ◌≤◌, List, [], ◌∷◌, ◌++◌, length, map, Option, Some, None, refl, sym, ap, ◌∙◌, arith, length-append}
-use Rattle.std.specs.Prelude.{◌&&◌, nat_le, codes, is_some}
-use Rattle.std.specs.List.{count_by, flat_map, sum_by}
+use Rattle.std.specs.List.{flat_map, sum_by}
 use Rattle.std.specs.Option.{option_map_or}
-use Rattle.std.proofs.lemmas.Bool.{leb-true}
 use Rattle.std.proofs.lemmas.List.{length-map}
 use Rattle.std.proofs.lemmas.List.Concat.{length-flat_map}
 use Rattle.std.proofs.lemmas.List.Sums.{sum_by-append, sum_by-cons}
 use Rattle.expand_kernel.specs.Regions.{channel_region, kernel_regions_of, own_region, provided_region, provided_regions, regions_of}
 use Rattle.muen_num.proofs.Lists.{sum_by-map}
-use Rattle.muen_num.proofs.SearchLaws.{none_both, unless_none}
-use Rattle.muen_num.specs.Search.{first_in, unless}
-use Rattle.muen_num.specs.declared.limits.TheConstants.{KERNEL_REGIONS, MOST_BLOCK_BYTES, MOST_BLOCKS, MOST_CHANNELS, MOST_COMPONENTS, MOST_DEVICE_BYTES, MOST_DEVICE_WINDOWS, MOST_DEVICES, MOST_EVENTS, MOST_LOGICAL_NAMES, MOST_REGIONS, MOST_SUBJECTS}
-use Rattle.policy_lawful.specs.Offences.{alone}
-use Rattle.policy_lawful.specs.Rules.{at_most, device_limit, logical_names, offence_20, regions_for, subject_limit}
+use Rattle.muen_num.specs.declared.limits.TheConstants.{KERNEL_REGIONS, MOST_BLOCK_BYTES, MOST_DEVICE_BYTES, MOST_DEVICE_WINDOWS, MOST_REGIONS}
+use Rattle.policy_lawful.specs.Rules.{offence_20, regions_for}
 use Rattle.policy_lawful.specs.Thing.{component_by}
 use Rattle.policy_types.specs.declared.source.Component.{Component}
 use Rattle.policy_types.specs.declared.source.Device.{Device}
@@ -21,6 +16,7 @@ use Rattle.policy_types.specs.declared.source.DeviceMemory.{DeviceMemory}
 use Rattle.policy_types.specs.declared.source.Source.{Source}
 use Rattle.policy_types.specs.declared.source.Subject.{Subject}
 use Rattle.span_emit.specs.Spans.{memories_of}
+use Rattle.policy_lawful.proofs.KeptLimits.{limits_kept}
 
 -- ---- how many regions
 
@@ -93,34 +89,18 @@ pub record SumsKept (p : Source) : Type 0 where
   pub windows : length (memories_of p.devices) ≤ MOST_DEVICE_WINDOWS
   pub device_bytes : sum_by (λ x. x.1.size) (memories_of p.devices) ≤ MOST_DEVICE_BYTES
 
-at_most_none : (n most : ℕ) (name : List ℕ) → at_most n most name ≡ None → n ≤ most
-at_most_none n most name h = leb-true n most (unless_none (nat_le n most) (alone name) h)
-
 pub sums_kept : (p : Source) → offence_20 p ≡ None → SumsKept p
-unfolding offence_20
 sums_kept p h =
-    let blocks = none_both (at_most (length p.memory_blocks) MOST_BLOCKS (codes "memoryBlocks")) _ h in
-    let bytes = none_both (at_most (sum_by (λ b. b.size) p.memory_blocks) MOST_BLOCK_BYTES (codes "memoryBlocks")) _ blocks.1 in
-    let devices = none_both (at_most (length p.devices) MOST_DEVICES (codes "devices")) _ bytes.1 in
-    let device = none_both (first_in device_limit p.devices) _ devices.1 in
-    let memories = none_both (at_most (sum_by (λ d. length d.memory) p.devices) MOST_DEVICE_WINDOWS (codes "devices")) _ device.1 in
-    let sizes = none_both (at_most (sum_by (λ d. sum_by (λ m. m.size) d.memory) p.devices) MOST_DEVICE_BYTES (codes "devices")) _ memories.1 in
-    let channels = none_both (at_most (length p.channels) MOST_CHANNELS (codes "channels")) _ sizes.1 in
-    let components = none_both (at_most (length p.components) MOST_COMPONENTS (codes "components")) _ channels.1 in
-    let logical = none_both (first_in (λ c. at_most (length (logical_names c)) MOST_LOGICAL_NAMES c.name) p.components) _ components.1 in
-    let events = none_both (at_most (length p.events + count_by (λ c. is_some c.has_event) p.channels) MOST_EVENTS (codes "events")) _ logical.1 in
-    let subjects = none_both (unless (nat_le 1 (length p.subjects) && nat_le (length p.subjects) MOST_SUBJECTS) (alone (codes "subjects"))) _ events.1 in
-    let subject = none_both (first_in (subject_limit p) p.subjects) _ subjects.1 in
-    let regions = none_both (at_most (length p.memory + length p.channels + sum_by (regions_for p) p.subjects) MOST_REGIONS (codes "memory")) _ subject.1 in
-    let few = at_most_none _ MOST_REGIONS _ regions.0 in
+    let kept = limits_kept p h in
+    let few = kept.regions in
     let many = regions_length p in
-    let windows = at_most_none _ MOST_DEVICE_WINDOWS _ memories.0 in
+    let windows = kept.device_windows in
     let windows_are = windows_length p.devices in
-    let bytes_of = at_most_none _ MOST_DEVICE_BYTES _ sizes.0 in
+    let bytes_of = kept.device_bytes in
     let bytes_are = windows_size p.devices in
     record {
       regions = omega arith;
-      block_bytes = at_most_none _ MOST_BLOCK_BYTES _ bytes.0;
+      block_bytes = kept.block_bytes;
       windows = omega arith;
       device_bytes = omega arith;
     }

@@ -20,7 +20,8 @@ use Rattle.region_alloc.specs.Placed.{AreDisjoint, AreInside, Placement}
 use Rattle.region_alloc.specs.Placement.{placement_of}
 use Rattle.span_emit.specs.Spans.{device_spans, memories_of, region_spans, spans_of}
 use Rattle.span_emit.proofs.DeviceSpans.{some_block}
-use Rattle.span_emit.proofs.KeptDevices.{AreApart, IsPhysical, devices_apart, devices_physical}
+use Rattle.policy_lawful.proofs.KeptAddresses.{IsPhysical}
+use Rattle.span_emit.proofs.KeptDevices.{AreApart, devices_apart, devices_physical}
 use Rattle.span_emit.proofs.KeptRegions.{IsWhole, regions_whole}
 use Rattle.span_emit.proofs.KeptSums.{sums_kept}
 use Rattle.span_emit.proofs.AddressesAligned.{addresses_aligned}

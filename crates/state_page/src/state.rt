@@ -1,5 +1,6 @@
 //! The state of a subject.
-ghost use Rattle.std.specs.Prelude.{◌≡◌};
+ghost use Rattle.std.specs.Prelude.{◌≡◌, []};
+ghost use Rattle.state_page.specs.StatePage.{state_in};
 ghost use Rattle.state_page.specs.States.{started};
 
 /// What a subject's processor holds (this project's own machine; on a state page of its kernel it
@@ -25,6 +26,23 @@ pub struct SubjectState {
 }
 
 impl SubjectState {
+    /// The state that is kept nowhere: all zero, as on a page that has no bytes.
+    #[tactic(auto, unfolding(crate::specs::StatePage::state_in, crate::specs::StatePage::registers_in, machine_layout::specs::PageFields::number_at))]
+    pub fn zero() -> SubjectState
+        ensures { result ≡ state_in [] }
+    {
+        SubjectState {
+            regs: [0; 16],
+            pc: 0,
+            epc: 0,
+            vbase: 0,
+            interrupts: false,
+            halted: false,
+            stopped: false,
+            exited: false,
+        }
+    }
+
     /// The state in which a subject with this entry begins: all zero, and exited.
     #[tactic(auto, unfolding(crate::specs::States::started))]
     pub fn start(entry: u64) -> SubjectState

@@ -8,7 +8,8 @@ use Rattle.std.proofs.lemmas.Option.{get_or_from_slice_get}
 use Rattle.ept_emit.specs.Pages.{ept_pages}
 use Rattle.expand_grants.specs.Grants.{AreGrantsOf}
 use Rattle.expand_grants.specs.declared.granted.Grants.{Grants}
-use Rattle.expand_kernel.specs.ByIndex.{mapped_views, provided_at}
+use Rattle.expand_kernel.specs.ByIndex.{view_ranges}
+use Rattle.policy_lawful.specs.ByIndex.{provided_at}
 use Rattle.expand_kernel.specs.Regions.{anywhere, channel_region, own_region, provided_region}
 use Rattle.expand_kernel.specs.declared.region.Region.{Region}
 use Rattle.expand_kernel.specs.declared.region.RegionKind.TheVariants.{Kernel}
@@ -20,9 +21,9 @@ use Rattle.policy_types.specs.declared.source.Block.{Block}
 use Rattle.policy_types.specs.declared.source.Device.{Device as SomeDevice}
 use Rattle.policy_types.specs.declared.source.DeviceMemory.{DeviceMemory}
 use Rattle.policy_types.specs.declared.source.Region.{Region as SourceRegion}
-use Rattle.policy_views.specs.declared.view.Shown.{Shown}
-use Rattle.policy_views.specs.declared.view.Shown.TheVariants.{Memory, Channel, Provided, Device, State}
-use Rattle.region_alloc.specs.Placed.{Placement}
+use Rattle.policy_lawful.specs.declared.view.Shown.{Shown}
+use Rattle.policy_lawful.specs.declared.view.Shown.TheVariants.{Memory, Channel, Provided, Device, State}
+use Rattle.region_alloc.specs.Placed.{IsPlaced, Placement}
 use Rattle.region_alloc.specs.Placement.{in_a_block, suits}
 use Rattle.region_alloc.proofs.Apart.{policy_inside}
 use Rattle.region_alloc.proofs.Lowest.{ends_well}
@@ -30,8 +31,7 @@ use Rattle.region_alloc.proofs.Sized.{blocks_end}
 use Rattle.subject_emit.specs.Mapped.{brought_before, kernel_first, shown_address}
 use Rattle.subject_emit.specs.Pages.{tables_at}
 use Rattle.subject_emit.specs.Shows.{shown_size}
-use Rattle.subject_emit.specs.Sound.{IsSound}
-use Rattle.subject_emit.proofs.KeptSizes.{laid_at, physical_at}
+use Rattle.policy_lawful.proofs.KeptViews.{laid_at, physical_at}
 use Rattle.subject_emit.proofs.Numbered.{channel_at, kernel_at_index, memory_at, provided_at_index}
 use Rattle.subject_emit.proofs.Pieces.{from_some, other_at}
 use Rattle.subject_emit.proofs.Suited.{suits_there}
@@ -78,12 +78,12 @@ whole_own m a (Some own) h k e =
     let physical = (and_parts (is_physical own m.size) (own % m.alignment == 0) k).0 in
     ap (λ n. n % 4096) (eqb-true a own e) ∙ (whole_physical own m.size physical).whole
 
-module _ (x : Placement) (sound : IsSound x) where
+module _ (x : Placement) (placed : IsPlaced x) where
   ends : (i : ℕ) (r : Region) → slice_get x.expanded.regions i ≡ Some r → get_or x.addresses i 0 + r.size ≤ 2 ^ 40
   ends i r at =
       let blocks = x.expanded.lawful.memory_blocks in
-      let address = other_at (λ (r : Region) address. in_a_block blocks address r.size ≡ true) x.expanded.regions x.addresses i r (policy_inside x.expanded.lawful x.expanded.regions x.addresses sound.regions sound.addresses) at in
-      let end = block_end blocks address.0 r.size (blocks_end x.expanded.lawful sound.lawful) address.2 in
+      let address = other_at (λ (r : Region) address. in_a_block blocks address r.size ≡ true) x.expanded.regions x.addresses i r (policy_inside x.expanded.lawful x.expanded.regions x.addresses placed.expansion.regions placed.placement) at in
+      let end = block_end blocks address.0 r.size (blocks_end x.expanded.lawful placed.lawful) address.2 in
       let is = get_or_from_slice_get x.addresses i address.0 0 address.1 in
       omega (arith, end, is)
 
@@ -91,7 +91,7 @@ module _ (x : Placement) (sound : IsSound x) where
   pub any_page : (i : ℕ) (r : Region) → slice_get x.expanded.regions i ≡ Some r → r.fixed ≡ None → r.alignment ≡ 4096 → AreAt (get_or x.addresses i 0) r.size
   any_page i r at free aligned =
       let address = get_or x.addresses i 0 in
-      let h : suits r None address ≡ true = sym (ap (λ o. suits r o address) free) ∙ suits_there x sound i r at in
+      let h : suits r None address ≡ true = sym (ap (λ o. suits r o address) free) ∙ suits_there x placed i r at in
       record {
         whole = subst (λ n. address % n ≡ 0) aligned (eqb-true (address % r.alignment) 0 h);
         end = ends i r at;
@@ -101,7 +101,7 @@ module _ (x : Placement) (sound : IsSound x) where
   own_page i m at laid =
       let both = and_parts (is_page_size m.size && is_alignment m.alignment) (is_fixed m m.physical_address) laid in
       record {
-        whole = whole_own m (get_or x.addresses i 0) m.physical_address (and_parts (is_page_size m.size) (is_alignment m.alignment) both.0).1 both.1 (suits_there x sound i (own_region m) at);
+        whole = whole_own m (get_or x.addresses i 0) m.physical_address (and_parts (is_page_size m.size) (is_alignment m.alignment) both.0).1 both.1 (suits_there x placed i (own_region m) at);
         end = ends i (own_region m) at;
       }
 
@@ -114,7 +114,7 @@ module _ (x : Placement) (sound : IsSound x) where
   provided_page k n size (Some s) at e =
       let p = from_some (λ p. p.size) (slice_get (provided_at x.expanded.lawful.components s.component) n) size e in
       let number : ℕ = length x.expanded.lawful.memory + length x.expanded.lawful.channels + brought_before x.expanded.lawful k + n in
-      subst (AreAt (shown_address x k (Provided n))) p.2 (any_page number (provided_region s.name p.0) (provided_at_index x sound k n s p.0 at p.1) refl refl)
+      subst (AreAt (shown_address x k (Provided n))) p.2 (any_page number (provided_region s.name p.0) (provided_at_index x placed k n s p.0 at p.1) refl refl)
 
   device_page : (device memory k size : ℕ) (o : Option SomeDevice) → slice_get x.expanded.lawful.devices device ≡ o
       → option_and_then (λ (d : SomeDevice). option_map (λ m. m.size) (slice_get d.memory memory)) o ≡ Some size
@@ -122,7 +122,7 @@ module _ (x : Placement) (sound : IsSound x) where
   device_page device memory k size None at e = absurd (cc)
   device_page device memory k size (Some d) at e =
       let m = from_some (λ m. m.size) (slice_get d.memory memory) size e in
-      let fits = whole_physical m.0.physical_address m.0.size (physical_at x.expanded.lawful sound.lawful device memory d m.0 at m.1) in
+      let fits = whole_physical m.0.physical_address m.0.size (physical_at x.expanded.lawful placed.lawful device memory d m.0 at m.1) in
       let address : shown_address x k (Device device memory) ≡ m.0.physical_address =
       ap (λ o. option_map_or (λ (m : DeviceMemory). m.physical_address) (option_and_then (λ (d : SomeDevice). slice_get d.memory memory) o) 0) at
       ∙ ap (λ o. option_map_or (λ (m : DeviceMemory). m.physical_address) o 0) m.1 in
@@ -130,20 +130,20 @@ module _ (x : Placement) (sound : IsSound x) where
 
   state_page : (other size k : ℕ) (s : Subject) → slice_get x.expanded.lawful.subjects other ≡ Some s → 4096 ≡ size → AreAt (shown_address x k (State other)) size
   state_page other size k s at e =
-      let g = other_at (AreGrantsOf x.expanded.lawful) x.expanded.lawful.subjects x.expanded.grants other s sound.grants at in
+      let g = other_at (AreGrantsOf x.expanded.lawful) x.expanded.lawful.subjects x.expanded.grants other s placed.expansion.grants at in
       let n : kernel_first x.expanded.lawful other + 0 ≡ kernel_first x.expanded.lawful other = omega arith in
       let page = anywhere Kernel s.name StatePart PAGE in
       subst (AreAt (shown_address x k (State other))) e
       (subst (λ n. AreAt (get_or x.addresses n 0) 4096) n
-      (any_page (kernel_first x.expanded.lawful other + 0) page (kernel_at_index x sound other 0 s g.0 page at g.1 refl) refl refl))
+      (any_page (kernel_first x.expanded.lawful other + 0) page (kernel_at_index x placed other 0 s g.0 page at g.1 refl) refl refl))
 
   pub shown_at : (k size : ℕ) (shows : Shown) → shown_size x.expanded.lawful k shows ≡ Some size → AreAt (shown_address x k shows) size
   shown_at k size (Memory n) e =
       let m = from_some (λ m. m.size) (slice_get x.expanded.lawful.memory n) size e in
-      subst (AreAt (get_or x.addresses n 0)) m.2 (own_page n m.0 (memory_at x sound n m.0 m.1) (laid_at x.expanded.lawful sound.lawful n m.0 m.1))
+      subst (AreAt (get_or x.addresses n 0)) m.2 (own_page n m.0 (memory_at x placed n m.0 m.1) (laid_at x.expanded.lawful placed.lawful n m.0 m.1))
   shown_at k size (Channel n) e =
       let c = from_some (λ c. c.size) (slice_get x.expanded.lawful.channels n) size e in
-      subst (AreAt (shown_address x k (Channel n))) c.2 (any_page (length x.expanded.lawful.memory + n) (channel_region c.0) (channel_at x sound n c.0 c.1) refl refl)
+      subst (AreAt (shown_address x k (Channel n))) c.2 (any_page (length x.expanded.lawful.memory + n) (channel_region c.0) (channel_at x placed n c.0 c.1) refl refl)
   shown_at k size (Provided n) e = provided_page k n size (slice_get x.expanded.lawful.subjects k) refl e
   shown_at k size (Device device memory) e = device_page device memory k size (slice_get x.expanded.lawful.devices device) refl e
   shown_at k size (State other) e =
@@ -152,7 +152,7 @@ module _ (x : Placement) (sound : IsSound x) where
 
   -- the tables of the subject at an index
   pub tables_there : (k : ℕ) (s : Subject) (g : Grants) → slice_get x.expanded.lawful.subjects k ≡ Some s → slice_get x.expanded.grants k ≡ Some g
-      → AreAt (tables_at x k) (ept_pages (mapped_views g.views) * 4096)
+      → AreAt (tables_at x k) (ept_pages (view_ranges g.views) * 4096)
   tables_there k s g at granted =
-      any_page (kernel_first x.expanded.lawful k + 1) (anywhere Kernel s.name Ept (ept_pages (mapped_views g.views) * PAGE))
-      (kernel_at_index x sound k 1 s g (anywhere Kernel s.name Ept (ept_pages (mapped_views g.views) * PAGE)) at granted refl) refl refl
+      any_page (kernel_first x.expanded.lawful k + 1) (anywhere Kernel s.name Ept (ept_pages (view_ranges g.views) * PAGE))
+      (kernel_at_index x placed k 1 s g (anywhere Kernel s.name Ept (ept_pages (view_ranges g.views) * PAGE)) at granted refl) refl refl

@@ -9,7 +9,7 @@ use Rattle.ept_emit.specs.Entries.{IsEmittable, level_of}
 use Rattle.expand_grants.specs.declared.granted.Grants.{Grants}
 use Rattle.machine_layout.specs.Walks.{entry_size}
 use Rattle.policy_lawful.specs.Rules.{is_guest, is_page_aligned, is_page_size}
-use Rattle.policy_views.specs.declared.view.View.{View}
+use Rattle.policy_lawful.specs.declared.view.View.{View}
 use Rattle.region_alloc.specs.Placed.{Placement}
 use Rattle.subject_emit.specs.Mapped.{leaf_for, mapped, mapped_windows, shown_address}
 use Rattle.subject_emit.specs.Shows.{IsReadable, IsShown}

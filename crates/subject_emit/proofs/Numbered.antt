@@ -8,7 +8,8 @@ use Rattle.std.proofs.lemmas.Slice.Zip.{AllZip-long}
 use Rattle.ept_emit.specs.Pages.{ept_pages}
 use Rattle.expand_grants.specs.Grants.{AreGrantsOf}
 use Rattle.expand_grants.specs.declared.granted.Grants.{Grants}
-use Rattle.expand_kernel.specs.ByIndex.{brought_at, kernel_for, kernel_for_each, mapped_views, provided_at}
+use Rattle.expand_kernel.specs.ByIndex.{brought_at, kernel_for, kernel_for_each, view_ranges}
+use Rattle.policy_lawful.specs.ByIndex.{provided_at}
 use Rattle.expand_kernel.specs.Regions.{channel_region, kernel_regions, own_region, provided_region}
 use Rattle.expand_kernel.specs.declared.region.Region.{Region}
 use Rattle.expand_kernel.proofs.Numbering.{regions_by_index}
@@ -18,11 +19,10 @@ use Rattle.policy_types.specs.declared.source.Channel.{Channel}
 use Rattle.policy_types.specs.declared.source.Component.{Component}
 use Rattle.policy_types.specs.declared.source.Provided.{Provided}
 use Rattle.policy_types.specs.declared.source.Region.{Region as SourceRegion}
-use Rattle.region_alloc.specs.Placed.{Placement}
+use Rattle.region_alloc.specs.Placed.{IsPlaced, Placement}
 use Rattle.region_alloc.proofs.Apart.{policy_inside}
 use Rattle.subject_emit.specs.Mapped.{brought_before, kernel_first}
 use Rattle.subject_emit.specs.Shows.{HasAddresses}
-use Rattle.subject_emit.specs.Sound.{IsSound}
 use Rattle.subject_emit.proofs.Pieces.{at_piece}
 
 -- ---- of components
@@ -75,7 +75,7 @@ kernel_many R (s ∷ ss) (g ∷ gs) h =
 
 -- ---- of all
 
-module _ (x : Placement) (sound : IsSound x) where
+module _ (x : Placement) (placed : IsPlaced x) where
   memory : List Region
   memory = map own_region x.expanded.lawful.memory
 
@@ -90,7 +90,7 @@ module _ (x : Placement) (sound : IsSound x) where
 
   all : x.expanded.regions ≡ memory ++ channels ++ provided ++ kernel
   unfolding memory channels provided kernel
-  all = sound.regions ∙ sym (regions_by_index x.expanded.lawful x.expanded.grants sound.resolved sound.grants)
+  all = placed.expansion.regions ∙ sym (regions_by_index x.expanded.lawful x.expanded.grants placed.resolved placed.expansion.grants)
 
   memory_many : length memory ≡ length x.expanded.lawful.memory
   unfolding memory
@@ -110,11 +110,11 @@ module _ (x : Placement) (sound : IsSound x) where
   pub has_addresses : HasAddresses x
   unfolding kernel
   has_addresses =
-      let addresses = AllZip-long _ x.expanded.regions x.addresses (policy_inside x.expanded.lawful x.expanded.regions x.addresses sound.regions sound.addresses) in
+      let addresses = AllZip-long _ x.expanded.regions x.addresses (policy_inside x.expanded.lawful x.expanded.regions x.addresses placed.expansion.regions placed.placement) in
       let a = length-append (memory ++ channels ++ provided) kernel in
       let b = length-append (memory ++ channels) provided in
       let c = length-append memory channels in
-      let d = kernel_many (AreGrantsOf x.expanded.lawful) x.expanded.lawful.subjects x.expanded.grants sound.grants in
+      let d = kernel_many (AreGrantsOf x.expanded.lawful) x.expanded.lawful.subjects x.expanded.grants placed.expansion.grants in
       let l = ap length all in
       let m = memory_many in
       let n = channels_many in
@@ -168,7 +168,7 @@ module _ (x : Placement) (sound : IsSound x) where
       ∙ here
 
   pub kernel_at_index : (k j : ℕ) (s : Subject) (g : Grants) (y : Region) → slice_get x.expanded.lawful.subjects k ≡ Some s → slice_get x.expanded.grants k ≡ Some g
-      → slice_get (kernel_regions s.name (ept_pages (mapped_views g.views))) j ≡ Some y → slice_get x.expanded.regions (kernel_first x.expanded.lawful k + j) ≡ Some y
+      → slice_get (kernel_regions s.name (ept_pages (view_ranges g.views))) j ≡ Some y → slice_get x.expanded.regions (kernel_first x.expanded.lawful k + j) ≡ Some y
   unfolding kernel
   kernel_at_index k j s g y at granted e =
       let a = length-append (memory ++ channels) provided in

@@ -6,13 +6,13 @@ use Rattle.std.specs.List.{flat_map}
 use Rattle.std.proofs.lemmas.List.{take_all}
 use Rattle.std.proofs.lemmas.List.Folds.{length-flat_map-take}
 use Rattle.std.proofs.lemmas.Option.{get_or_from_slice_get, slice_get_within}
-use Rattle.expand_kernel.specs.ByIndex.{provided_at}
+use Rattle.policy_lawful.specs.ByIndex.{provided_at}
 use Rattle.policy_lawful.specs.Resolution.{Resolution}
 use Rattle.policy_lawful.specs.declared.resolved.Subject.{Subject}
 use Rattle.policy_types.specs.declared.source.Component.{Component}
 use Rattle.policy_types.specs.declared.source.Provided.{Provided as Provides}
-use Rattle.policy_views.specs.declared.view.Shown.{Shown}
-use Rattle.policy_views.specs.declared.view.Shown.TheVariants.{Memory, Channel, Provided, Device, State}
+use Rattle.policy_lawful.specs.declared.view.Shown.{Shown}
+use Rattle.policy_lawful.specs.declared.view.Shown.TheVariants.{Memory, Channel, Provided, Device, State}
 use Rattle.region_alloc.specs.Placed.{Placement}
 use Rattle.subject_emit.specs.Mapped.{brought_before}
 use Rattle.subject_emit.specs.Shows.{HasAddresses, IsNumbered, shown_size}
@@ -41,17 +41,17 @@ brought_next r k s l is =
     omega (arith, h, own, all_before r)
 
 -- while the first so many subjects are gone through, there is room for what the next adds
-pub brought_fits : (r : Resolution) (many k count : ℕ) (s : Subject) (cs : List Component) (ss : List Subject) (brought : List Provides) → cs ≡ r.components → ss ≡ r.subjects
-    → k < length (take many ss) → s ≡ get_or (take many ss) k s → brought ≡ provided_at cs s.component
+pub brought_fits : (r : Resolution) (many k count : ℕ) (s : Subject) (ss : List Subject) (brought : List Provides) → ss ≡ r.subjects
+    → k < length (take many ss) → s ≡ get_or (take many ss) k s → brought ≡ provided_at r.components s.component
     → count ≡ length (flat_map (λ s. provided_at r.components s.component) (take k r.subjects)) → brought_before r (length r.subjects) < 2 ^ 64 → count + length brought < 2 ^ 64
-brought_fits r many k count s cs ss brought components subjects l is own so_far room =
+brought_fits r many k count s ss brought subjects l is own so_far room =
     let within : k < length (take many r.subjects) = subst (λ ss. k < length (take many ss)) subjects l in
     let cut = length-take many r.subjects in
     let below : k < many = omega (arith, within, cut) in
     let there : k < length r.subjects = omega (arith, within, cut) in
     let at : s ≡ get_or r.subjects k s = is ∙ ap (λ ss. get_or (take many ss) k s) subjects ∙ get_or-take many r.subjects k s below in
     let next = brought_next r k s there at in
-    let a : length brought ≡ length (provided_at r.components s.component) = ap length own ∙ ap (λ cs. length (provided_at cs s.component)) components in
+    let a : length brought ≡ length (provided_at r.components s.component) = ap length own in
     omega (arith, next, a, so_far, room)
 
 pub brought_most : (r : Resolution) (k : ℕ) → brought_before r k ≤ brought_before r (length r.subjects)

@@ -15,12 +15,11 @@ use Rattle.muen_num.proofs.NumbersBelow.{length_numbers}
 use Rattle.muen_num.specs.Range.{numbers_below}
 use Rattle.muen_num.specs.declared.limits.TheConstants.{PHYSICAL_END}
 use Rattle.policy_types.specs.declared.source.Block.{Block}
-use Rattle.region_alloc.specs.Placed.{Placement}
+use Rattle.region_alloc.specs.Placed.{IsPlaced, Placement}
 use Rattle.region_alloc.specs.Placement.{address_in, by_number, if_placed, in_turn, is_room, least_below, lowest, placed_after, placement_in, spot, suits}
 use Rattle.region_alloc.proofs.EachInTurn.{each_from_turns, each_in_turn, each_numbered, numbered_at}
 use Rattle.region_alloc.proofs.Sized.{placement_is}
 use Rattle.region_alloc.proofs.Spots.{all_found, each_after}
-use Rattle.subject_emit.specs.Sound.{IsSound}
 
 -- ---- the least number that passes
 
@@ -144,7 +143,7 @@ suits_in blocks regions addresses e i r at =
     })
     parts.0 parts.1 (each_after blocks (λ n size. Unit {0}) (in_turn regions) [] parts.0 parts.1) addresses parts.2 i r at
 
-pub suits_there : (x : Placement) → IsSound x → (i : ℕ) (r : Region) → slice_get x.expanded.regions i ≡ Some r → suits r r.fixed (get_or x.addresses i 0) ≡ true
-suits_there x sound i r at =
+pub suits_there : (x : Placement) → IsPlaced x → (i : ℕ) (r : Region) → slice_get x.expanded.regions i ≡ Some r → suits r r.fixed (get_or x.addresses i 0) ≡ true
+suits_there x placed i r at =
     suits_in x.expanded.lawful.memory_blocks x.expanded.regions x.addresses
-    (ap (placement_in x.expanded.lawful.memory_blocks) sound.regions ∙ sym (placement_is x.expanded.lawful) ∙ sound.addresses) i r at
+    (ap (placement_in x.expanded.lawful.memory_blocks) placed.expansion.regions ∙ sym (placement_is x.expanded.lawful) ∙ placed.placement) i r at

@@ -2,4 +2,3 @@ pub mod Mapped
 pub mod Pages
 pub mod Ready
 pub mod Shows
-pub mod Sound

@@ -1,7 +1,7 @@
 -- What the tables of a subject need.
 use Rattle.std.specs.Prelude.{◌≡◌, ℕ, ◌+◌, ◌*◌, ◌%◌, ◌<◌, ◌≤◌, length}
 use Rattle.std.specs.List.{All}
-use Rattle.ept_emit.specs.Pages.{AreApart, IsMapped, ept_pages}
+use Rattle.ept_emit.specs.Pages.{AreApart, ept_pages, ranges_of}
 use Rattle.ept_emit.specs.Entries.{IsEmittable}
 use Rattle.expand_grants.specs.declared.granted.Grants.{Grants}
 use Rattle.muen_num.specs.declared.limits.TheConstants.{PAGE, PHYSICAL_END}
@@ -16,8 +16,7 @@ pub record IsReady (x : Placement) (subject : ℕ) (g : Grants) : Type 0 where
   pub there : subject < length x.expanded.lawful.subjects
   pub addresses : HasAddresses x
   pub shown : All (IsShown x.expanded.lawful subject) g.views
-  pub mapped : All IsMapped (mapped_windows x subject g)
   pub emittable : All IsEmittable (mapped_windows x subject g)
-  pub apart : AreApart (mapped_windows x subject g)
+  pub apart : AreApart (ranges_of (mapped_windows x subject g))
   pub at : tables_at x subject % PAGE ≡ 0
-  pub end : tables_at x subject + PAGE * ept_pages (mapped_windows x subject g) ≤ PHYSICAL_END
+  pub end : tables_at x subject + PAGE * ept_pages (ranges_of (mapped_windows x subject g)) ≤ PHYSICAL_END

@@ -3,13 +3,11 @@
 #![tactic(auto)]
 
 mod bitmaps;
-mod known;
 mod mapped;
 mod numbers;
 mod subject_pages;
 mod tables;
 
-pub use known::sound;
 pub use numbers::kernel_first;
 pub use subject_pages::{SubjectPages, pages};
 pub use tables::tables_at;

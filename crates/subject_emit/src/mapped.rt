@@ -6,16 +6,14 @@ ghost use Rattle.subject_emit.specs.Shows.{HasAddresses, IsNumbered, IsShown};
 
 use crate::numbers::{channel_first, kernel_first, provided_first};
 use ept_emit::{Leaf, Window};
+use machine_layout::entries::HUGE_PAGE;
 use muen_num::NoMemory;
 use muen_num::limits::LARGE_PAGE;
+use policy_lawful::{Shown, View};
 use policy_types::Caching;
 use policy_types::source::{Device, Region};
-use policy_views::{Shown, View};
 use region_alloc::Placed;
 use std::alloc::Global;
-
-/// The bytes of a page that an entry of a page directory pointer table maps (Intel SDM volume 3, EPT).
-const HUGE_PAGE: u64 = 512 * LARGE_PAGE;
 
 // The greatest page that can map a guest address to a physical address.
 fn leaf_for(guest: u64, address: u64) -> Leaf

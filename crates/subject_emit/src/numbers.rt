@@ -1,26 +1,10 @@
 //! The numbers of regions: those of memory, the channels, those that each subject's component brings
 //! along, then the kernel's for each subject.
 ghost use Rattle.std.specs.Prelude.{◌≡◌, ◌+◌, ◌≤◌, ◌<◌, ◌^◌, length};
-ghost use Rattle.expand_kernel.specs.ByIndex.{provided_at};
 ghost use Rattle.subject_emit.specs.Mapped.{brought_before, kernel_first};
 
 use muen_num::limits::KERNEL_REGIONS;
 use policy_lawful::Resolved;
-use policy_lawful::resolved::ComponentUse;
-use policy_types::source::{Component, Provided};
-
-// What the component of a use brings along.
-fn provided_by<'a>(components: &'a [Component], used: &Option<ComponentUse>) -> &'a [Provided]
-    ensures { result.now ≡ provided_at components.now used.now }
-{
-    match used {
-        None => &[],
-        Some(used) => match components.get(used.used) {
-            None => &[],
-            Some(component) => component.provides.items(),
-        },
-    }
-}
 
 // How many regions the components of the first so many subjects bring along.
 fn brought_before(policy: &Resolved, subject: usize) -> usize
@@ -28,10 +12,9 @@ fn brought_before(policy: &Resolved, subject: usize) -> usize
     requires room { brought_before policy.now (length policy.now.subjects) < 2 ^ 64 }
     ensures { result ≡ brought_before policy.now subject }
 {
-    let components = policy.components();
     let mut count = 0;
     for subject in &policy.subjects()[..subject] {
-        count += provided_by(components, &subject.component).len();
+        count += policy.provided_by(subject).len();
     }
     count
 }

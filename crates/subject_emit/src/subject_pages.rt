@@ -4,7 +4,6 @@ ghost use Rattle.subject_emit.specs.Pages.{ArePages};
 ghost use Rattle.subject_emit.specs.Shows.{IsReadable};
 
 use crate::bitmaps::{first_state, msr_area, msr_bitmap, port_bitmaps};
-use crate::known::sound;
 use crate::tables::tables;
 use expand_grants::Grants;
 use muen_num::{NoMemory, Seq};
@@ -44,7 +43,6 @@ pub fn pages(
     requires readable { All (λ v. IsReadable v.rights) granted.now.views }
     ensures { IfOk result (ArePages placed.now index subject.now granted.now) }
 {
-    sound(placed);
     Ok(SubjectPages {
         state: first_state(alloc, subject.entry)?,
         tables: tables(alloc, placed, index, granted)?,

@@ -1,15 +1,18 @@
 //! The EPT tables of a subject.
-ghost use Rattle.std.specs.Prelude.{◌≡◌, ◌<◌, length, IfOk};
+ghost use Rattle.std.specs.Prelude.{◌≡◌, ◌*◌, ◌<◌, All, IfOk, Some, length, slice_get};
+ghost use Rattle.region_alloc.specs.Placed.{IsPlaced};
 ghost use Rattle.subject_emit.specs.Mapped.{mapped_windows};
-ghost use Rattle.subject_emit.specs.Pages.{AreTablesOf, tables_at};
+ghost use Rattle.ept_emit.specs.Pages.{ept_pages, ranges_of};
+ghost use Rattle.muen_num.specs.declared.limits.TheConstants.{PAGE};
 ghost use Rattle.subject_emit.specs.Ready.{IsReady};
-ghost use Rattle.subject_emit.specs.Shows.{HasAddresses};
+ghost use Rattle.subject_emit.specs.Pages.{AreTablesOf, tables_at};
+ghost use Rattle.subject_emit.specs.Shows.{HasAddresses, IsReadable};
 
 use crate::mapped::mapped_windows;
 use crate::numbers::kernel_first;
-use ept_emit::{emit, pages};
+use ept_emit::emit;
 use expand_grants::Grants;
-use muen_num::limits::PAGE;
+use expand_kernel::KernelRegion;
 use muen_num::{NoMemory, Seq};
 use region_alloc::Placed;
 use std::alloc::Global;
@@ -21,10 +24,28 @@ pub fn tables_at(placed: &Placed, subject: usize) -> u64
     ensures { result ≡ tables_at placed.now subject }
 {
     let policy = placed.expanded().lawful().resolved();
-    placed.addresses()[kernel_first(policy, subject) + 1]
+    placed.addresses()[KernelRegion::Tables.number(kernel_first(policy, subject))]
 }
 
-/// The EPT tables of the subject at an index, which is granted this.
+// The tables of the subject at an index, which is granted this and whose tables have so many bytes.
+fn emitted(
+    alloc: Global,
+    placed: &Placed,
+    subject: usize,
+    granted: &Grants,
+    bytes: u64,
+) -> Result<Seq<u8>, NoMemory>
+    requires ready { IsReady placed.now subject granted.now }
+    requires bytes { bytes ≡ PAGE * ept_pages (ranges_of (mapped_windows placed.now subject granted.now)) }
+    ensures { IfOk result (AreTablesOf (mapped_windows placed.now subject granted.now) (tables_at placed.now subject)) }
+{
+    let windows = mapped_windows(alloc, placed, subject, granted.views.items())?;
+    let mut tables = vec![in alloc; 0u8; bytes as usize]?;
+    emit(&windows, tables_at(placed, subject), tables.as_mut_slice());
+    Ok(Seq::of(tables))
+}
+
+/// The EPT tables of the subject at an index, which is granted this: as many bytes as their region has.
 ///
 /// Answers `NoMemory` where memory was refused.
 pub(crate) fn tables(
@@ -33,12 +54,14 @@ pub(crate) fn tables(
     subject: usize,
     granted: &Grants,
 ) -> Result<Seq<u8>, NoMemory>
-    requires { IsReady placed.now subject granted.now }
-    ensures { IfOk result (AreTablesOf (mapped_windows placed.now subject granted.now) (tables_at placed.now subject)) }
+    requires granted { slice_get placed.now.expanded.grants subject ≡ Some granted.now }
+    requires readable { All (λ v. IsReadable v.rights) granted.now.views }
+    ensures tables { IfOk result (AreTablesOf (mapped_windows placed.now subject granted.now) (tables_at placed.now subject)) }
+    ensures placed { IsPlaced placed.now }
 {
-    let windows = mapped_windows(alloc, placed, subject, granted.views.items())?;
-    let bytes = PAGE * pages(&windows);
-    let mut tables = vec![in alloc; 0u8; bytes as usize]?;
-    emit(&windows, tables_at(placed, subject), tables.as_mut_slice());
-    Ok(Seq::of(tables))
+    let expanded = placed.expanded();
+    let regions = expanded.regions();
+    let first = kernel_first(expanded.lawful().resolved(), subject);
+    let region = &regions[KernelRegion::Tables.number(first)];
+    emitted(alloc, placed, subject, granted, region.size)
 }

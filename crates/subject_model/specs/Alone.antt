@@ -26,7 +26,7 @@ use Rattle.state_page.specs.declared.state.SubjectState.{SubjectState}
 use Rattle.view_text.specs.declared.ExitEnd.{ExitEnd}
 use Rattle.view_text.specs.declared.ExitEnd.TheVariants.{On, Halt, Trap as Trapped, Stop}
 use Rattle.view_text.specs.declared.TurnAction.{TurnAction}
-use Rattle.view_text.specs.declared.TurnAction.TheVariants.{Ran, Set, Stored as Wrote, Out, WroteMsr, Inject, Exit}
+use Rattle.view_text.specs.declared.TurnAction.TheVariants.{Ran, Inject, Exit}
 use Rattle.subject_model.specs.ByKey.{value_of}
 
 -- ---- what a subject is given for itself
@@ -158,28 +158,16 @@ way_of traps reason call =
 -- ---- after a step, by how it ended
 
 abbrev pub what_of : List ℕ → StepEnd → TurnAction
-what_of traps ends.Plain = Ran
-what_of traps (ends.Set reg value) = Set reg value
-what_of traps (ends.Stored size addr value) = Wrote size addr value
-what_of traps (ends.Out size port value) = Out size port value
-what_of traps (ends.WroteMsr index value) = WroteMsr index value
+what_of traps (ends.Ran change) = Ran change
 what_of traps (ends.Exit reason qualification addr call) = Exit reason qualification addr (exit_end_of reason (has_trap traps reason))
 
 abbrev pub state_after : List ℕ → StepEnd → SubjectState → SubjectState
 state_after traps (ends.Exit reason qualification addr call) s = finished (finish_of reason (has_trap traps reason)) s
-state_after traps ends.Plain s = s
-state_after traps (ends.Set reg value) s = s
-state_after traps (ends.Stored size addr value) s = s
-state_after traps (ends.Out size port value) s = s
-state_after traps (ends.WroteMsr index value) s = s
+state_after traps (ends.Ran change) s = s
 
 abbrev pub way_after : List ℕ → StepEnd → Option SourceWay
 way_after traps (ends.Exit reason qualification addr call) = way_of traps reason call
-way_after traps ends.Plain = None
-way_after traps (ends.Set reg value) = None
-way_after traps (ends.Stored size addr value) = None
-way_after traps (ends.Out size port value) = None
-way_after traps (ends.WroteMsr index value) = None
+way_after traps (ends.Ran change) = None
 
 abbrev pub stepped : List ℕ → Answer Thing → TurnAnswer
 stepped traps a = record {

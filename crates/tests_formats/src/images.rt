@@ -1,6 +1,6 @@
 //! Images that are spelled here byte by byte, and what unpacking says of them and of damaged ones.
-use image_pack::{EventPart, Image, IrqTarget, Parts, PortSpan, pack, unpack};
-use muen_num::EventMode;
+use image_pack::{EventPart, Image, Parts, pack, unpack};
+use muen_num::{EventMode, IrqTarget, PortSpan};
 use std::alloc::Global;
 use std::test::Fail;
 

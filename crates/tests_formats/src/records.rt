@@ -1,6 +1,6 @@
 //! Records with their faults, and with their values.
-use muen_num::{Name, Seq};
-use record_text::{Devices, IrqTarget, PortSpan, RecordDevice, RecordIrq, RecordMemory, read};
+use muen_num::{IrqTarget, Name, PortSpan, Seq};
+use record_text::{Devices, RecordDevice, RecordIrq, RecordMemory, read};
 use std::alloc::Global;
 use std::test::Fail;
 

@@ -1,7 +1,7 @@
 //! A run that is made by hand.
 use device_bench::Bench;
-use muen_num::{AccessSize, Name, Seq};
-use record_text::{Devices, Input, PortSpan, RecordDevice, TickInput, read};
+use muen_num::{AccessSize, Name, PortSpan, Seq};
+use record_text::{Devices, Input, RecordDevice, TickInput, read};
 use std::alloc::Global;
 use std::test::Fail;
 

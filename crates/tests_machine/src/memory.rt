@@ -41,7 +41,7 @@ fn no_page_is_elsewhere(rt: HostRuntime) -> Result<(), Fail> {
     assert_eq!(rt; mem.load(0xf_fff8, AccessSize::Eight), None);
     assert_eq!(rt; mem.load(0x10_2000, AccessSize::One), None);
     assert!(rt; !mem.store(0x8000_1000, AccessSize::Eight, 1));
-    assert!(rt; mem.page(0x10_2000).is_none());
+    assert!(rt; mem.page(0x102).is_none());
     assert!(rt; mem.page_mut(0).is_none());
     Ok(())
 }
@@ -49,12 +49,12 @@ fn no_page_is_elsewhere(rt: HostRuntime) -> Result<(), Fail> {
 #[test]
 fn a_page_is_lent(rt: HostRuntime) -> Result<(), Fail> {
     let mut mem = memory(rt.alloc())?;
-    if let Some(page) = mem.page_mut(0x10_1000) {
+    if let Some(page) = mem.page_mut(0x101) {
         page[0xfff] = 9;
     }
     assert_eq!(rt; mem.load(0x10_1fff, AccessSize::One), Some(9));
     assert_eq!(rt; mem.load(0x10_0fff, AccessSize::One), Some(0));
-    let lent = mem.page(0x10_1000).map_or(0, |page| page.len());
+    let lent = mem.page(0x101).map_or(0, |page| page.len());
     assert_eq!(rt; lent, 0x1000);
     Ok(())
 }

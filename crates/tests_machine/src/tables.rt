@@ -1,11 +1,11 @@
 //! Tables that were worked by hand.
-ghost use Rattle.std.specs.Prelude.{◌≡◌, All, IsTrue};
-ghost use Rattle.ept_emit.specs.Pages.{AreApart, IsMapped};
+ghost use Rattle.std.specs.Prelude.{◌≡◌, All, IfOk, IsTrue};
+ghost use Rattle.ept_emit.specs.Pages.{AreApart, IsMapped, range_of, ranges_of};
 ghost use Rattle.ept_emit.specs.Entries.{IsEmittable, level_of};
 ghost use Rattle.machine_layout.specs.Walks.{entry_size};
 
 use bitflags::Flags;
-use ept_emit::{Leaf, Window, emit, eptp, pages};
+use ept_emit::{GuestRange, Leaf, Window, emit, eptp, pages};
 use muen_num::limits::{GUEST_END, LARGE_PAGE, PAGE, PHYSICAL_END};
 use policy_types::{Caching, Rights};
 use std::alloc::{AllocError, Global};
@@ -44,16 +44,30 @@ fn is_emittable(window: Window) -> bool
 }
 
 fn are_emittable(windows: &[Window]) -> bool
-    ensures emittable { IsTrue result → All IsEmittable windows.now }
-    ensures mapped { IsTrue result → All IsMapped windows.now }
-    ensures apart { IsTrue result → AreApart windows.now }
+    ensures { IsTrue result → All IsEmittable windows.now }
 {
-    let mut end = 0;
     for window in windows {
-        if !is_emittable(*window) || window.guest < end {
+        if !is_emittable(*window) {
             return false;
         }
-        end = window.guest + window.size;
+    }
+    true
+}
+
+// Whether they ascend, share no address, aren't empty, and end where guest addresses do.
+fn are_apart(ranges: &[GuestRange]) -> bool
+    ensures mapped { IsTrue result → All IsMapped ranges.now }
+    ensures apart { IsTrue result → AreApart ranges.now }
+{
+    let mut end = 0;
+    for range in ranges {
+        if range.size == 0 || range.size > GUEST_END {
+            return false;
+        }
+        if range.guest < end || range.guest > GUEST_END - range.size {
+            return false;
+        }
+        end = range.guest + range.size;
     }
     true
 }
@@ -84,6 +98,21 @@ fn entries_set(out: &[u8]) -> usize {
     count
 }
 
+fn range_of(window: &Window) -> GuestRange
+    ensures { result ≡ range_of window.now }
+{
+    GuestRange {
+        guest: window.guest,
+        size: window.size,
+    }
+}
+
+fn ranges_of(alloc: Global, windows: &[Window]) -> Result<Vec<GuestRange>, AllocError>
+    ensures { IfOk result (λ v. v.items ≡ ranges_of windows.now) }
+{
+    windows.iter().map(|window| range_of(window)).collect(alloc)
+}
+
 // Whether emitting gives these entries, each with its table and its index in the table, and all
 // others are 0.
 fn emits(
@@ -91,10 +120,11 @@ fn emits(
     windows: &[Window],
     expected: &[(usize, usize, u64)],
 ) -> Result<bool, AllocError> {
-    if !are_emittable(windows) {
+    let ranges = ranges_of(alloc, windows)?;
+    if !are_emittable(windows) || !are_apart(&ranges) {
         return Ok(false);
     }
-    let count = pages(windows);
+    let count = pages(&ranges);
     if count > 1024 {
         return Ok(false);
     }

@@ -79,7 +79,7 @@ pub fn call(
     let mut err = MemSink::make(alloc, 200, Vec::new(alloc), 0)?;
     let status = muen(alloc, &list, files, out, &mut err);
     Ok(Ended {
-        status,
+        status: u8::from(status),
         out: text_of(alloc, out.text())?,
         err: text_of(alloc, err.text())?,
     })

@@ -1,6 +1,8 @@
 -- The lines that a run prints (this project's own).
 use Rattle.std.specs.Prelude.{ℕ, ◌+◌, ◌-◌, ◌*◌, ◌==◌, Bool, true, false, List, [], ◌∷◌, ◌++◌, slice_index, codes, decimal, if◌then◌else◌}
 use Rattle.std.specs.List.{flat_map}
+use Rattle.guest_isa.specs.declared.end.Change.{Change}
+use Rattle.guest_isa.specs.declared.end.Change.TheVariants.{Plain, Set, Stored, Out, WroteMsr}
 use Rattle.hex.specs.Hex.{encode_lower}
 use Rattle.muen_num.specs.Fixed.{hex4, hex8, hex16}
 use Rattle.muen_num.specs.AccessSize.{bytes_of}
@@ -9,7 +11,7 @@ use Rattle.muen_num.specs.declared.tag.Tag.{Tag}
 use Rattle.state_page.specs.declared.state.SubjectState.{SubjectState}
 use Rattle.view_text.specs.declared.TurnLine.{TurnLine}
 use Rattle.view_text.specs.declared.TurnAction.{TurnAction}
-use Rattle.view_text.specs.declared.TurnAction.TheVariants.{Ran, Set, Stored, Out, WroteMsr, Inject, Exit}
+use Rattle.view_text.specs.declared.TurnAction.TheVariants.{Ran, Inject, Exit}
 use Rattle.view_text.specs.declared.ExitEnd.{ExitEnd}
 use Rattle.view_text.specs.declared.ExitEnd.TheVariants.{On, Halt, Trap, Stop}
 
@@ -19,12 +21,15 @@ exit_end_text Halt = codes "halt"
 exit_end_text Trap = codes "trap"
 exit_end_text Stop = codes "stop"
 
+abbrev pub change_text : Change → List ℕ
+change_text Plain = codes "-"
+change_text (Set reg value) = codes "r" ++ decimal reg ++ codes "=" ++ hex16 value
+change_text (Stored size addr value) = codes "store " ++ decimal (bytes_of size) ++ codes " " ++ hex16 addr ++ codes " " ++ hex16 value
+change_text (Out size port value) = codes "out " ++ decimal (bytes_of size) ++ codes " " ++ hex4 port ++ codes " " ++ hex8 value
+change_text (WroteMsr index value) = codes "wrmsr " ++ hex8 index ++ codes " " ++ hex16 value
+
 abbrev pub what_text : TurnAction → List ℕ
-what_text Ran = codes "-"
-what_text (Set reg value) = codes "r" ++ decimal reg ++ codes "=" ++ hex16 value
-what_text (Stored size addr value) = codes "store " ++ decimal (bytes_of size) ++ codes " " ++ hex16 addr ++ codes " " ++ hex16 value
-what_text (Out size port value) = codes "out " ++ decimal (bytes_of size) ++ codes " " ++ hex4 port ++ codes " " ++ hex8 value
-what_text (WroteMsr index value) = codes "wrmsr " ++ hex8 index ++ codes " " ++ hex16 value
+what_text (Ran change) = change_text change
 what_text (Inject vector) = codes "inject " ++ decimal vector
 what_text (Exit reason qualification addr end) =
     codes "exit " ++ decimal reason ++ codes " " ++ hex16 qualification ++ codes " " ++ hex16 addr ++ codes " " ++ exit_end_text end

@@ -2,8 +2,9 @@
 #![tactic(auto)]
 
 ghost use Rattle.std.specs.Prelude.{◌≡◌, ◌+◌, ◌≤◌, ◌++◌, length, take};
-ghost use Rattle.view_text.specs.ViewText.{turn_text, what_text, exit_end_text, flags_of, state_text, end_line_text, registers_text, region_text, kind_word};
+ghost use Rattle.view_text.specs.ViewText.{turn_text, what_text, change_text, exit_end_text, flags_of, state_text, end_line_text, registers_text, region_text, kind_word};
 
+use guest_isa::Change;
 use muen_num::text::{
     append, append_decimal8, append_decimal32, append_hex4, append_hex8, append_hex16, append_hex32,
 };
@@ -24,30 +25,8 @@ pub struct TurnLine {
 /// What happened in a turn.
 #[derive(Clone, Copy, Debug, PartialEq, Eq)]
 pub enum TurnAction {
-    /// An instruction ran that is none of the next four.
-    Ran,
-    /// A register was written.
-    Set {
-        reg: u8,
-        value: u64,
-    },
-    /// Memory was written at a guest address.
-    Stored {
-        size: AccessSize,
-        addr: u64,
-        value: u64,
-    },
-    /// A port was written.
-    Out {
-        size: AccessSize,
-        port: u16,
-        value: u32,
-    },
-    /// An MSR was written.
-    WroteMsr {
-        index: u32,
-        value: u64,
-    },
+    /// An instruction ran, with this change.
+    Ran(Change),
     /// An event was delivered.
     Inject {
         vector: u8,
@@ -112,7 +91,7 @@ fn append_exit(
 fn append_set(out: &mut [u8], at: usize, reg: u8, value: u64) -> usize
     requires { at + 21 ≤ length out.old }
     ensures end { result ≤ at + 21 }
-    ensures text { take result out.new ≡ take at out.old ++ what_text (TurnAction.Set reg value) }
+    ensures text { take result out.new ≡ take at out.old ++ change_text (Change.Set reg value) }
 {
     let at = append(out, at, b"r");
     let at = append_decimal8(out, at, reg);
@@ -123,7 +102,7 @@ fn append_set(out: &mut [u8], at: usize, reg: u8, value: u64) -> usize
 fn append_stored(out: &mut [u8], at: usize, size: AccessSize, addr: u64, value: u64) -> usize
     requires { at + 43 ≤ length out.old }
     ensures end { result ≤ at + 43 }
-    ensures text { take result out.new ≡ take at out.old ++ what_text (TurnAction.Stored size addr value) }
+    ensures text { take result out.new ≡ take at out.old ++ change_text (Change.Stored size addr value) }
 {
     let at = append(out, at, b"store ");
     let at = append_decimal8(out, at, size.bytes());
@@ -136,7 +115,7 @@ fn append_stored(out: &mut [u8], at: usize, size: AccessSize, addr: u64, value: 
 fn append_out(out: &mut [u8], at: usize, size: AccessSize, port: u16, value: u32) -> usize
     requires { at + 21 ≤ length out.old }
     ensures end { result ≤ at + 21 }
-    ensures text { take result out.new ≡ take at out.old ++ what_text (TurnAction.Out size port value) }
+    ensures text { take result out.new ≡ take at out.old ++ change_text (Change.Out size port value) }
 {
     let at = append(out, at, b"out ");
     let at = append_decimal8(out, at, size.bytes());
@@ -149,12 +128,26 @@ fn append_out(out: &mut [u8], at: usize, size: AccessSize, port: u16, value: u32
 fn append_wrote_msr(out: &mut [u8], at: usize, index: u32, value: u64) -> usize
     requires { at + 31 ≤ length out.old }
     ensures end { result ≤ at + 31 }
-    ensures text { take result out.new ≡ take at out.old ++ what_text (TurnAction.WroteMsr index value) }
+    ensures text { take result out.new ≡ take at out.old ++ change_text (Change.WroteMsr index value) }
 {
     let at = append(out, at, b"wrmsr ");
     let at = append_hex8(out, at, index);
     let at = append(out, at, b" ");
     append_hex16(out, at, value)
+}
+
+fn append_change(out: &mut [u8], at: usize, change: Change) -> usize
+    requires { at + 43 ≤ length out.old }
+    ensures end { result ≤ at + 43 }
+    ensures text { take result out.new ≡ take at out.old ++ change_text change }
+{
+    match change {
+        Change::Plain => append(out, at, b"-"),
+        Change::Set { reg, value } => append_set(out, at, reg, value),
+        Change::Stored { size, addr, value } => append_stored(out, at, size, addr, value),
+        Change::Out { size, port, value } => append_out(out, at, size, port, value),
+        Change::WroteMsr { index, value } => append_wrote_msr(out, at, index, value),
+    }
 }
 
 fn append_inject(out: &mut [u8], at: usize, vector: u8) -> usize
@@ -172,11 +165,7 @@ fn append_what(out: &mut [u8], at: usize, what: TurnAction) -> usize
     ensures text { take result out.new ≡ take at out.old ++ what_text what }
 {
     match what {
-        TurnAction::Ran => append(out, at, b"-"),
-        TurnAction::Set { reg, value } => append_set(out, at, reg, value),
-        TurnAction::Stored { size, addr, value } => append_stored(out, at, size, addr, value),
-        TurnAction::Out { size, port, value } => append_out(out, at, size, port, value),
-        TurnAction::WroteMsr { index, value } => append_wrote_msr(out, at, index, value),
+        TurnAction::Ran(change) => append_change(out, at, change),
         TurnAction::Inject { vector } => append_inject(out, at, vector),
         TurnAction::Exit {
             reason,
@@ -190,7 +179,7 @@ fn append_what(out: &mut [u8], at: usize, what: TurnAction) -> usize
 /// Writes the line of a turn: tick, CPU, subject, `pc` before the turn, and what happened. Answers
 /// its length.
 #[tactic(auto, unfolding(crate::specs::ViewText::turn_text))]
-pub fn turn_line(l: &TurnLine, out: &mut [u8; 160]) -> usize
+pub fn turn_line(l: &TurnLine, out: &mut [u8; 256]) -> usize
     ensures within { result ≤ 160 }
     ensures text { take result out.new ≡ turn_text l.now }
 {
@@ -218,7 +207,7 @@ fn flags(s: &SubjectState) -> u8
 }
 
 #[tactic(auto, unfolding(crate::specs::ViewText::end_line_text))]
-fn end_line(subject: &Name, s: &SubjectState, out: &mut [u8; 160]) -> usize
+fn end_line(subject: &Name, s: &SubjectState, out: &mut [u8; 256]) -> usize
     ensures within { result ≤ 160 }
     ensures text { take result out.new ≡ end_line_text subject.now s.now }
 {
@@ -236,7 +225,7 @@ fn end_line(subject: &Name, s: &SubjectState, out: &mut [u8; 160]) -> usize
 }
 
 #[tactic(auto, unfolding(crate::specs::ViewText::registers_text))]
-fn registers_line(subject: &Name, regs: &[u64; 16], first: u8, out: &mut [u8; 160]) -> usize
+fn registers_line(subject: &Name, regs: &[u64; 16], first: u8, out: &mut [u8; 256]) -> usize
     requires { first + 4 ≤ 16 }
     ensures within { result ≤ 160 }
     ensures text { take result out.new ≡ registers_text subject.now regs.now first }
@@ -258,7 +247,7 @@ fn registers_line(subject: &Name, regs: &[u64; 16], first: u8, out: &mut [u8; 16
 
 /// Writes a row of a subject's final state: row 0 has `pc`, `epc`, `vbase` and the flags, rows 1 to
 /// 4 four registers each. Answers its length.
-pub fn state_line(subject: &Name, s: &SubjectState, row: u8, out: &mut [u8; 160]) -> usize
+pub fn state_line(subject: &Name, s: &SubjectState, row: u8, out: &mut [u8; 256]) -> usize
     requires { row ≤ 4 }
     ensures within { result ≤ 160 }
     ensures text { take result out.new ≡ state_text subject.now s.now row }

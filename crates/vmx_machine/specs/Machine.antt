@@ -3,7 +3,10 @@
 use Rattle.std.specs.Prelude.{ℕ, ◌+◌, ◌*◌, ◌/◌, ◌%◌, Bool, not, true, false, if◌then◌else◌, List, [], ◌∷◌, map, replicate, slice_get, Option, Some, None, option_map, option_and_then, unwrap_or}
 use Rattle.muen_num.specs.Access.{kind_bit}
 use Rattle.muen_num.specs.Range.{numbers_below}
+use Rattle.muen_num.specs.AccessSize.{bytes_of}
 use Rattle.muen_num.specs.declared.access.AccessKind.{AccessKind}
+use Rattle.muen_num.specs.declared.access.AccessKind.TheVariants.{Read, Write}
+use Rattle.muen_num.specs.declared.access.AccessSize.{AccessSize}
 use Rattle.muen_num.specs.declared.limits.TheConstants.{EXIT_EPT_VIOLATION, EXIT_EPT_MISCONFIGURATION}
 use Rattle.machine_layout.specs.Exits.{port_exits, msr_exits, AreaEntry, area_index, area_value}
 use Rattle.machine_layout.specs.Memory.{Page, page_of, change, over, store_of}
@@ -14,9 +17,11 @@ use Rattle.state_page.specs.StatePage.{state_in, page_bytes}
 use Rattle.state_page.specs.declared.state.SubjectState.{SubjectState}
 use Rattle.device_bench.specs.Devices.{value_of_ports}
 use Rattle.guest_isa.specs.Finish.{injected, finished}
-use Rattle.guest_isa.specs.Step.{World, Stored, MsrWrite, Answer, step}
+use Rattle.guest_isa.specs.Step.{World, Stored, MsrWrite, Answer, reach_of, loaded, stored_to, performed, step}
+use Rattle.guest_isa.specs.declared.instr.Asked.{Asked}
+use Rattle.guest_isa.specs.declared.end.Change.TheVariants.{Plain}
 use Rattle.guest_isa.specs.declared.end.StepEnd.{StepEnd}
-use Rattle.guest_isa.specs.declared.end.StepEnd.TheVariants.{Plain}
+use Rattle.guest_isa.specs.declared.end.StepEnd.TheVariants.{Ran}
 use Rattle.guest_isa.specs.declared.finish.Finish.{Finish}
 use Rattle.guest_isa.specs.declared.reach.Reach.{Reach}
 use Rattle.guest_isa.specs.declared.reach.Reach.TheVariants.{Reached, Refused}
@@ -70,6 +75,24 @@ machine_world pages c file ports tick = record {
   sets_msr = λ index. not (msr_exits_in pages c index true);
   tick = tick;
 }
+
+-- ---- what a step answers, for who is on a CPU
+
+abbrev pub load_answer : List Page → Entered → SubjectState → ℕ → ℕ → AccessSize → Answer ℕ
+load_answer pages e after reg addr size =
+    loaded (page_at pages) e.state after reg (bytes_of size) (reach_of (look_in pages e.control.eptp) Read (bytes_of size) addr)
+
+abbrev pub store_answer : List Page → Entered → SubjectState → ℕ → AccessSize → ℕ → Answer ℕ
+store_answer pages e after addr size value =
+    stored_to e.state after addr size value (reach_of (look_in pages e.control.eptp) Write (bytes_of size) addr)
+
+-- by what an instruction asks for
+abbrev pub performed_on : List Page → List ℕ → List ℕ → ℕ → Entered → Asked → Answer ℕ
+performed_on pages file ports tick e asked =
+    performed (machine_world pages e.control file ports tick) e.state asked.after asked.wish
+
+abbrev pub step_answer : List Page → List ℕ → List ℕ → ℕ → Entered → Answer ℕ
+step_answer pages file ports tick e = step (machine_world pages e.control file ports tick) e.state
 
 -- ---- what a step leaves
 
@@ -174,7 +197,7 @@ answered c file pages a = record {
 }
 
 abbrev pub step_by : List ℕ → ℕ → List Page → Cpu → Option Entered → CpuStepped
-step_by ports tick pages u None = record { pages = pages; cpu = u; end = Plain }
+step_by ports tick pages u None = record { pages = pages; cpu = u; end = Ran Plain }
 step_by ports tick pages u (Some e) =
     answered e.control u.file pages (step (machine_world pages e.control u.file ports tick) e.state)
 
@@ -187,7 +210,7 @@ pub record Stepped : Type 0 where
   pub end : StepEnd
 
 abbrev pub step_on : ℕ → List ℕ → ℕ → List Page → List Cpu → Option Cpu → Stepped
-step_on cpu ports tick pages cpus None = record { machine = record { pages = pages; cpus = cpus }; end = Plain }
+step_on cpu ports tick pages cpus None = record { machine = record { pages = pages; cpus = cpus }; end = Ran Plain }
 step_on cpu ports tick pages cpus (Some u) = record {
   machine = record {
     pages = (cpu_step ports tick pages u).pages;

@@ -5,9 +5,9 @@ ghost use Rattle.guest_isa.specs.Step.{reach_of};
 ghost use Rattle.vmx_machine.specs.Machine.{look_in, ports_exit, ports_input, msr_exits_in, msr_input};
 ghost use Rattle.vmx_machine.specs.Within.{LeadsWithin};
 
+use crate::bus::Bus;
 use crate::control::Control;
 use crate::msr_file::MsrFile;
-use crate::pages::{bytes_of_page, number_of};
 use device_bench::Bench;
 use ept_walk::Translate;
 use guest_isa::Reach;
@@ -33,124 +33,100 @@ fn in_page(address: u64, size: AccessSize) -> Reach<u64>
     }
 }
 
-// Where the walk leads for a guest address.
-fn look<M: PhysMem, T: Translate>(
-    mem: &M,
-    walk: &mut T,
-    eptp: u64,
-    kind: AccessKind,
-    addr: u64,
-    size: AccessSize,
-) -> Reach<u64>
-    requires fits { T.fits walk.old (M.pages mem.now) }
-    requires addr { addr < GUEST_END }
-    requires aligned { addr % bytes_of size ≡ 0 }
-    ensures reached { result ≡ look_in (M.pages mem.now) eptp kind addr }
-    ensures within { LeadsWithin (bytes_of size) result }
-    ensures fits { T.fits walk.new (M.pages mem.now) }
-{
-    match walk.walk(mem, eptp, addr, kind) {
-        Walk::At(address) => in_page(address, size),
-        Walk::Violation(rights) => Reach::Refused {
-            reason: EXIT_EPT_VIOLATION,
-            qualification: u64::from(kind.bit()) + FOUND * rights,
-            addr,
-        },
-        Walk::Misconfigured => Reach::Refused {
-            reason: EXIT_EPT_MISCONFIGURATION,
-            qualification: 0,
-            addr,
-        },
+impl<M: PhysMem, T: Translate> Bus<M, T> {
+    // Where the walk leads for a guest address.
+    fn translate(&mut self, eptp: u64, kind: AccessKind, addr: u64, size: AccessSize) -> Reach<u64>
+        requires addr { addr < GUEST_END }
+        requires aligned { addr % bytes_of size ≡ 0 }
+        ensures reached { result ≡ look_in self.old eptp kind addr }
+        ensures within { LeadsWithin (bytes_of size) result }
+        ensures same { self.new ≡ self.old }
+    {
+        match self.walker.walk(&self.memory, eptp, addr, kind) {
+            Walk::At(address) => in_page(address, size),
+            Walk::Violation(rights) => Reach::Refused {
+                reason: EXIT_EPT_VIOLATION,
+                qualification: u64::from(kind.bit()) + FOUND * rights,
+                addr,
+            },
+            Walk::Misconfigured => Reach::Refused {
+                reason: EXIT_EPT_MISCONFIGURATION,
+                qualification: 0,
+                addr,
+            },
+        }
     }
-}
 
-/// Where an access of memory leads, by its faults in their order.
-pub(crate) fn reach<M: PhysMem, T: Translate>(
-    mem: &M,
-    walk: &mut T,
-    eptp: u64,
-    kind: AccessKind,
-    addr: u64,
-    size: AccessSize,
-) -> Reach<u64>
-    requires { T.fits walk.old (M.pages mem.now) }
-    ensures reached { result ≡ reach_of (look_in (M.pages mem.now) eptp) kind (bytes_of size) addr }
-    ensures within { LeadsWithin (bytes_of size) result }
-    ensures fits { T.fits walk.new (M.pages mem.now) }
-{
-    if addr % u64::from(size.bytes()) != 0 {
-        return Reach::Refused {
-            reason: EXIT_EXCEPTION,
-            qualification: 0,
-            addr: 0,
-        };
+    /// Where an access of memory leads, by its faults in their order.
+    pub(crate) fn reach(
+        &mut self,
+        eptp: u64,
+        kind: AccessKind,
+        addr: u64,
+        size: AccessSize,
+    ) -> Reach<u64>
+        ensures reached { result ≡ reach_of (look_in self.old eptp) kind (bytes_of size) addr }
+        ensures within { LeadsWithin (bytes_of size) result }
+        ensures same { self.new ≡ self.old }
+    {
+        if addr % u64::from(size.bytes()) != 0 {
+            return Reach::Refused {
+                reason: EXIT_EXCEPTION,
+                qualification: 0,
+                addr: 0,
+            };
+        }
+        if addr >= GUEST_END {
+            return Reach::Refused {
+                reason: EXIT_EPT_VIOLATION,
+                qualification: u64::from(kind.bit()),
+                addr,
+            };
+        }
+        self.translate(eptp, kind, addr, size)
     }
-    if addr >= GUEST_END {
-        return Reach::Refused {
-            reason: EXIT_EPT_VIOLATION,
-            qualification: u64::from(kind.bit()),
-            addr,
-        };
+
+    /// Whether an access of ports exits, by the I/O bitmaps as they are in memory now.
+    pub(crate) fn ports_exit(&self, control: &Control, port: u16, size: AccessSize) -> bool
+        ensures { result ≡ ports_exit self.now control.now port (bytes_of size) }
+    {
+        let first = u64::from(control.io_bitmaps);
+        port_exits(self.page(first), self.page(first + 1), port, size)
     }
-    look(mem, walk, eptp, kind, addr, size)
-}
 
-/// Whether an access of ports exits, by the I/O bitmaps as they are in memory now.
-pub(crate) fn ports_exit<M: PhysMem>(
-    mem: &M,
-    control: &Control,
-    port: u16,
-    size: AccessSize,
-) -> bool
-    ensures { result ≡ ports_exit (M.pages mem.now) control.now port (bytes_of size) }
-{
-    let page = number_of(control.io_bitmaps);
-    let a = bytes_of_page(mem, page);
-    let b = bytes_of_page(mem, page + 1);
-    port_exits(a, b, port, size)
-}
-
-/// What is read of ports, unless that exits.
-pub(crate) fn ports_input<M: PhysMem>(
-    mem: &M,
-    control: &Control,
-    bench: &Bench,
-    port: u16,
-    size: AccessSize,
-) -> Option<u64>
-    requires { bytes_of size ≤ 4 }
-    ensures { result ≡ ports_input (M.pages mem.now) control.now bench.now.ports port (bytes_of size) }
-{
-    if ports_exit(mem, control, port, size) {
-        None
-    } else {
-        Some(u64::from(bench.port_in(port, size)))
+    /// What is read of ports, unless that exits.
+    pub(crate) fn ports_input(
+        &self,
+        control: &Control,
+        bench: &Bench,
+        port: u16,
+        size: AccessSize,
+    ) -> Option<u64>
+        requires { bytes_of size ≤ 4 }
+        ensures { result ≡ ports_input self.now control.now bench.now.ports port (bytes_of size) }
+    {
+        if self.ports_exit(control, port, size) {
+            None
+        } else {
+            Some(u64::from(bench.port_in(port, size)))
+        }
     }
-}
 
-/// Whether an access of an MSR exits, by the MSR bitmap as it is in memory now.
-pub(crate) fn msr_exits_in<M: PhysMem>(mem: &M, control: &Control, index: u32, write: bool) -> bool
-    ensures { result ≡ msr_exits_in (M.pages mem.now) control.now index write }
-{
-    msr_exits(
-        bytes_of_page(mem, number_of(control.msr_bitmap)),
-        index,
-        write,
-    )
-}
+    /// Whether an access of an MSR exits, by the MSR bitmap as it is in memory now.
+    pub(crate) fn msr_exits(&self, control: &Control, index: u32, write: bool) -> bool
+        ensures { result ≡ msr_exits_in self.now control.now index write }
+    {
+        msr_exits(self.page(u64::from(control.msr_bitmap)), index, write)
+    }
 
-/// The value of an MSR, unless reading it exits.
-pub(crate) fn msr_input<M: PhysMem>(
-    mem: &M,
-    control: &Control,
-    file: &MsrFile,
-    index: u32,
-) -> Option<u64>
-    ensures { result ≡ msr_input (M.pages mem.now) control.now file.now index }
-{
-    if msr_exits_in(mem, control, index, false) {
-        None
-    } else {
-        file.get(u64::from(index))
+    /// The value of an MSR, unless reading it exits.
+    pub(crate) fn msr_input(&self, control: &Control, file: &MsrFile, index: u32) -> Option<u64>
+        ensures { result ≡ msr_input self.now control.now file.now index }
+    {
+        if self.msr_exits(control, index, false) {
+            None
+        } else {
+            file.get(u64::from(index))
+        }
     }
 }

@@ -1,7 +1,17 @@
 //! Logical CPUs.
+ghost use Rattle.std.specs.Prelude.{◌≡◌, IfOk};
+ghost use Rattle.guest_isa.specs.Finish.{injected, finished};
+ghost use Rattle.vmx_machine.specs.Machine.{fresh, put_on, put_off_by, with_state};
+
+use crate::bus::Bus;
 use crate::control::Control;
 use crate::msr_file::MsrFile;
+use ept_walk::Translate;
+use guest_isa::{Finish, inject};
+use muen_num::NoMemory;
+use phys_mem::PhysMem;
 use state_page::SubjectState;
+use std::alloc::Global;
 
 /// The subject that is on a CPU.
 #[derive(Clone, Copy, Debug, PartialEq, Eq)]
@@ -17,4 +27,63 @@ pub struct Cpu {
     pub entered: Option<Entered>,
     /// The machine-specific registers that it has.
     pub file: MsrFile,
+}
+
+impl Cpu {
+    /// A CPU on which nobody is, with all MSRs 0.
+    ///
+    /// # Errors
+    /// Memory is refused.
+    pub(crate) fn start(alloc: Global) -> Result<Cpu, NoMemory>
+        ensures { IfOk result (λ cpu. cpu ≡ fresh) }
+    {
+        Ok(Cpu {
+            entered: None,
+            file: MsrFile::start(alloc)?,
+        })
+    }
+
+    /// A subject goes onto the CPU.
+    pub(crate) fn enter<M: PhysMem, T: Translate>(&mut self, bus: &Bus<M, T>, control: Control)
+        ensures { self.new ≡ put_on bus.now control self.old }
+    {
+        let state = bus.state_in(control.state);
+        self.entered = Some(Entered { control, state });
+        bus.fill(control.msr_area, control.msrs, &mut self.file);
+    }
+
+    /// Who is on the CPU leaves it.
+    pub(crate) fn leave<M: PhysMem, T: Translate>(&mut self, bus: &mut Bus<M, T>)
+        ensures pages { bus.new ≡ (put_off_by bus.old self.old self.old.entered).pages }
+        ensures cpu { self.new ≡ (put_off_by bus.old self.old self.old.entered).cpu }
+    {
+        if let Some(on) = self.entered {
+            bus.put_off(&on, &self.file);
+            self.entered = None;
+        }
+    }
+
+    /// A vector is delivered to who is on the CPU.
+    pub(crate) fn inject(&mut self, vector: u8)
+        ensures { self.new ≡ with_state (injected vector) self.old }
+    {
+        if let Some(on) = self.entered {
+            self.entered = Some(Entered {
+                control: on.control,
+                state: inject(&on.state, vector),
+            });
+        }
+    }
+
+    /// Who is on the CPU goes on after an exit.
+    pub(crate) fn finish(&mut self, how: Finish)
+        ensures { self.new ≡ with_state (finished how) self.old }
+    {
+        if let Some(on) = self.entered {
+            self.entered = Some(Entered {
+                control: on.control,
+                state: how.of(&on.state),
+            });
+        }
+    }
 }

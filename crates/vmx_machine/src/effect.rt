@@ -1,15 +1,14 @@
-//! What an instruction does once it is known where its access leads.
+//! What an instruction does to a subject, and how the step ends by it.
 ghost use Rattle.std.specs.Prelude.{◌≡◌, ◌<◌, ℕ, true, false};
-ghost use Rattle.muen_num.specs.AccessSize.{bytes_of};
-ghost use Rattle.guest_isa.specs.Step.{sets, loaded, stored_to, port_qualification, port_read, msr_read};
-ghost use Rattle.vmx_machine.specs.Machine.{page_at, with_store};
-ghost use Rattle.vmx_machine.specs.Within.{LeadsWithin};
+ghost use Rattle.guest_isa.specs.Step.{sets, port_qualification, port_read, msr_read};
+ghost use Rattle.vmx_machine.specs.Machine.{load_answer, store_answer, with_store};
 
-use crate::pages::{number_in, put};
+use crate::bus::Bus;
+use crate::cpu::Entered;
 use ept_walk::Translate;
-use guest_isa::{Asked, Reach, StepEnd, with_register};
-use muen_num::AccessSize;
-use muen_num::limits::{EXIT_IO, EXIT_RDMSR, PAGE};
+use guest_isa::{Change, Reach, StepEnd, with_register};
+use muen_num::limits::{EXIT_IO, EXIT_RDMSR};
+use muen_num::{AccessKind, AccessSize};
 use phys_mem::PhysMem;
 use state_page::SubjectState;
 
@@ -26,22 +25,17 @@ pub(crate) struct Done {
     pub end: StepEnd,
 }
 
-/// A value that is to be stored at a guest address.
-#[derive(Clone, Copy, Debug)]
-pub(crate) struct Storing {
-    pub addr: u64,
-    pub size: AccessSize,
-    pub value: u64,
-}
-
 // Without an exit.
-pub(crate) fn went_on(after: &SubjectState, end: StepEnd) -> Done
+pub(crate) fn went_on(after: &SubjectState, change: Change) -> Done
     ensures state { result.state ≡ record after.now { exited = false } }
-    ensures end { result.end ≡ end }
+    ensures end { result.end ≡ StepEnd.Ran change }
 {
     let mut state = *after;
     state.exited = false;
-    Done { state, end }
+    Done {
+        state,
+        end: StepEnd::Ran(change),
+    }
 }
 
 // With an exit: the kernel acts, and `call` is the number of a call of it.
@@ -78,68 +72,57 @@ pub(crate) fn sets(after: &SubjectState, reg: u8, value: u64) -> Done
 {
     went_on(
         &with_register(after, reg, value),
-        StepEnd::Set { reg, value },
+        Change::Set { reg, value },
     )
 }
 
-// A register is loaded from memory.
-pub(crate) fn loaded<M: PhysMem>(
-    mem: &M,
-    s: &SubjectState,
+// A register is loaded from memory, unless the access exits.
+pub(crate) fn load<M: PhysMem, T: Translate>(
+    bus: &mut Bus<M, T>,
+    on: &Entered,
     after: &SubjectState,
     reg: u8,
+    addr: u64,
     size: AccessSize,
-    reach: Reach<u64>,
 ) -> Done
-    requires reg { reg < 16 }
-    requires within { LeadsWithin (bytes_of size) reach }
-    ensures state { result.state ≡ (loaded (page_at (M.pages mem.now)) s.now after.now reg (bytes_of size) reach).state }
-    ensures end { result.end ≡ (loaded (page_at (M.pages mem.now)) s.now after.now reg (bytes_of size) reach).end }
+    requires { reg < 16 }
+    ensures pages { bus.new ≡ bus.old }
+    ensures state { result.state ≡ (load_answer bus.old on.now after.now reg addr size).state }
+    ensures end { result.end ≡ (load_answer bus.old on.now after.now reg addr size).end }
 {
-    match reach {
-        Reach::Reached { target, offset } => sets(after, reg, number_in(mem, target, offset, size)),
+    match bus.reach(on.control.eptp, AccessKind::Read, addr, size) {
+        Reach::Reached { target, offset } => sets(after, reg, bus.load(target, offset, size)),
         Reach::Refused {
             reason,
             qualification,
             addr,
-        } => faulted(s, reason, qualification, addr),
+        } => faulted(&on.state, reason, qualification, addr),
     }
 }
 
-// A value of so many bytes is stored in memory.
-#[tactic(auto, using(crate::proofs::StoreWithin::stored_within))]
-pub(crate) fn stored<M: PhysMem, T: Translate>(
-    mem: &mut M,
-    walk: &mut T,
-    s: &SubjectState,
-    asked: &Asked,
-    value: Storing,
-    reach: Reach<u64>,
+// A value is stored in memory, unless the access exits.
+pub(crate) fn store<M: PhysMem, T: Translate>(
+    bus: &mut Bus<M, T>,
+    on: &Entered,
+    after: &SubjectState,
+    addr: u64,
+    size: AccessSize,
+    value: u64,
 ) -> Done
-    requires fits { T.fits walk.old (M.pages mem.old) }
-    requires within { LeadsWithin (bytes_of value.size) reach }
-    ensures pages { M.pages mem.new ≡ with_store (stored_to s.now asked.now.after value.addr value.size value.value reach).stored (M.pages mem.old) }
-    ensures state { result.state ≡ (stored_to s.now asked.now.after value.addr value.size value.value reach).state }
-    ensures end { result.end ≡ (stored_to s.now asked.now.after value.addr value.size value.value reach).end }
-    ensures fits { T.fits walk.new (M.pages mem.new) }
+    ensures pages { bus.new ≡ with_store (store_answer bus.old on.now after.now addr size value).stored bus.old }
+    ensures state { result.state ≡ (store_answer bus.old on.now after.now addr size value).state }
+    ensures end { result.end ≡ (store_answer bus.old on.now after.now addr size value).end }
 {
-    match reach {
+    match bus.reach(on.control.eptp, AccessKind::Write, addr, size) {
         Reach::Reached { target, offset } => {
-            put(mem, walk, PAGE * target + offset, value.size, value.value);
-            went_on(
-                &asked.after,
-                StepEnd::Stored {
-                    size: value.size,
-                    addr: value.addr,
-                    value: value.value,
-                },
-            )
+            bus.store_in(target, offset, size, value);
+            went_on(after, Change::Stored { size, addr, value })
         }
         Reach::Refused {
             reason,
             qualification,
             addr,
-        } => faulted(s, reason, qualification, addr),
+        } => faulted(&on.state, reason, qualification, addr),
     }
 }
 

@@ -7,12 +7,12 @@
 #![tactic(auto)]
 
 mod access;
+mod bus;
 mod control;
 mod cpu;
 mod effect;
 mod machine;
 mod msr_file;
-mod pages;
 mod step;
 
 pub use control::Control;

@@ -11,12 +11,12 @@ ghost use Rattle.image_pack.specs.Image.{is_listed, range, device_name, window_n
 use crate::codes::{is_target, part_name, target_of};
 use crate::items::{Item, items_of};
 use crate::outline::{Header, Outline};
-use crate::parts::{DevicePart, IrqPart, PortSpan, SpanPart, WindowPart};
+use crate::parts::{DevicePart, IrqPart, SpanPart, WindowPart};
 use crate::writing::{put_device, put_irq, put_range, put_window};
 use binary_form::reading::{bad, byte_of, gap_of, name_of, u16_of};
 use binary_form::{Field, FormError};
 use muen_num::limits::MOST_PER_DEVICE;
-use muen_num::{Name, Seq};
+use muen_num::{Name, PortSpan, Seq};
 use std::alloc::{AllocError, Global};
 
 fn is_listed(names: &[Name], name: &Name) -> bool
@@ -105,10 +105,7 @@ fn span_numbered(spans: &[SpanPart], number: u16) -> Option<&SpanPart>
 fn window_name(spans: &[SpanPart], number: u16) -> Option<Name>
     ensures { result ≡ window_name spans.now number }
 {
-    match span_numbered(spans, number) {
-        Some(span) => device_name(span),
-        None => None,
-    }
+    device_name(span_numbered(spans, number)?)
 }
 
 impl Item for WindowPart {

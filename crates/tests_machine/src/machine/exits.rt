@@ -1,6 +1,6 @@
 //! How steps end: every fault, and what comes of steps without one.
 use super::world::{PC, bench, exit, machine, set_register, subject_at};
-use guest_isa::StepEnd;
+use guest_isa::{Change, StepEnd};
 use muen_num::AccessSize;
 use std::test::Fail;
 
@@ -72,13 +72,13 @@ fn ends_without_a_fault(rt: HostRuntime) -> Result<(), Fail> {
         addr: 0,
         call: 0x3fc,
     };
-    let out = StepEnd::Out {
+    let out = StepEnd::Ran(Change::Out {
         size: AccessSize::Two,
         port: 0x3fc,
         value: 7,
-    };
+    });
     let table = [
-        (0, StepEnd::Plain),
+        (0, StepEnd::Ran(Change::Plain)),
         (0x0116, call),
         (0x2015, set_register(2, 7)),
         (0x02_2111, set_register(2, 0x0403_0201)),

@@ -6,7 +6,7 @@ use super::world::{
     subject_at, word,
 };
 use ept_walk::PlainWalk;
-use guest_isa::{Finish, StepEnd};
+use guest_isa::{Change, Finish, StepEnd};
 use muen_num::AccessSize;
 use phys_mem::{PhysMem, RegionMem};
 use std::alloc::Global;
@@ -91,19 +91,19 @@ fn msrs_of_two_on_one_cpu(rt: HostRuntime) -> Result<(), Fail> {
     let mut machine = machine(rt.alloc(), start)?;
     machine.device_write(CODE + 8, &word(0x13, 0x31, 0, 0).to_le_bytes());
     machine.device_write(STATE + 0x5010, &[2]);
-    let wrote = |value| StepEnd::WroteMsr {
+    let wrote = |value| Change::WroteMsr {
         index: 0xC000_0082,
         value,
     };
-    let read = |value| StepEnd::Set { reg: 3, value };
-    for (control, end) in [
+    let read = |value| Change::Set { reg: 3, value };
+    for (control, change) in [
         (CONTROL, wrote(1)),
         (OTHER, wrote(2)),
         (CONTROL, read(1)),
         (OTHER, read(2)),
     ] {
         machine.enter(0, control);
-        assert_eq!(rt; machine.step(0, 7, &bench), end);
+        assert_eq!(rt; machine.step(0, 7, &bench), StepEnd::Ran(change));
         machine.leave(0);
     }
     Ok(())

@@ -5,7 +5,7 @@ ghost use Rattle.std.specs.Prelude.{◌≡◌, ◌<◌, ◌^◌, length, IfOk};
 
 use device_bench::Bench;
 use ept_walk::PlainWalk;
-use guest_isa::StepEnd;
+use guest_isa::{Change, StepEnd};
 use muen_num::{AccessSize, Seq};
 use phys_mem::{MemorySpan, PhysMem, RegionMem};
 use record_text::Record;
@@ -183,5 +183,5 @@ pub(super) fn exit(reason: u8, qualification: u64, addr: u64) -> StepEnd {
 }
 
 pub(super) fn set_register(reg: u8, value: u64) -> StepEnd {
-    StepEnd::Set { reg, value }
+    StepEnd::Ran(Change::Set { reg, value })
 }

@@ -1,7 +1,7 @@
-use Rattle.std.proofs.Common.{◌∙◌}
+use Rattle.std.proofs.Common.{◌++◌, ap, ◌∙◌}
 use Rattle.std.proofs.lemmas.Slice.Zip.{either_empty_from_Zip}
 use Rattle.ept_emit.specs.Pages.{ept_pages}
-use Rattle.expand_kernel.specs.ByIndex.{mapped_views}
+use Rattle.expand_kernel.specs.ByIndex.{view_ranges}
 use Rattle.expand_kernel.proofs.InTurn.{at_first, at_last, can_next, next_made}
 use Rattle.expand_kernel.proofs.kernel.of_kernel.Goals as goal
 
@@ -14,10 +14,10 @@ table_pages-requires c =
 
 pub loop-subject-preserved : goal.loop-subject-preserved
 loop-subject-preserved c =
-    next_made c.args.subjects.now c.args.grants.now _ _ c.loop-subject.regions.items c.in-Some.subject.now _ c.in-Some.granted.now _ c.in_ok-pages.pages c.kernel_regions.result c.extend_from_slice.new.self.items
+    next_made c.args.subjects.now c.args.grants.now _ _ c.loop-subject.regions.items c.in-Some.subject.now _ c.in-Some.granted.now _ c.in_ok-pages.pages c.in_ok-more.more.items c.extend_from_slice.new.self.items
     c.loop-subject.invariant c.in-Some.ensures.steps.0 c.in-Some.ensures.steps.1
-    (c.in_ok-pages.ensures.value ∙ (λ i. ept_pages (mapped_views (c.items.ensures i))))
-    c.kernel_regions.ensures c.in_ok-extend_from_slice.ensures.items
+    (c.in_ok-pages.ensures.value ∙ (λ i. ept_pages (view_ranges (c.items.ensures i))))
+    c.in_ok-more.ensures (c.in_ok-extend_from_slice.ensures.items ∙ ap (λ xs. c.loop-subject.regions.items ++ xs) c.deref.ensures.value)
 
 pub returns : goal.returns
 returns c =

@@ -5,4 +5,4 @@ use Rattle.expand_kernel.specs.ByIndex.{brought_at}
 use Rattle.expand_kernel.proofs.numbered.of_subjects.Given as goal
 
 abbrev pub invariant-loop-subject : goal.invariant-loop-subject
-invariant-loop-subject l = l.regions.items ≡ flat_map (brought_at l.components) (take l.subject-index l.subjects)
+invariant-loop-subject l = l.regions.items ≡ flat_map (brought_at l.policy.components) (take l.subject-index l.policy.subjects)

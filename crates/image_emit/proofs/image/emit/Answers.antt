@@ -5,6 +5,7 @@ use Rattle.image_emit.proofs.ImageMade.{image_of_parts, parts_fit}
 use Rattle.event_emit.specs.Tables.{AreDevices}
 use Rattle.image_emit.specs.Gathered.{IsHeld}
 use Rattle.image_emit.specs.Made.{IsImageOf, choice_of}
+use Rattle.image_emit.specs.Named.{AreNamed}
 use Rattle.image_pack.specs.Parts.{counted}
 use Rattle.plan_emit.specs.PlanOf.{IsPlanOf}
 use Rattle.policy_lawful.specs.Resolution.{source_of}
@@ -12,42 +13,42 @@ use Rattle.image_emit.proofs.image.emit.Goals.{After-cpus}
 use Rattle.image_emit.proofs.image.emit.Goals as goal
 
 pub held-requires-clause-as_many : goal.held-requires-clause-as_many
-held-requires-clause-as_many c = (are_few c.args.placed.now c.known.ensures).grants
+held-requires-clause-as_many c = (are_few c.args.placed.now c.expanded-expanded.ensures.placed).grants
 
 pub subjects-requires : goal.subjects-requires
-subjects-requires c = are_few c.args.placed.now c.known.ensures
+subjects-requires c = are_few c.args.placed.now c.expanded-expanded.ensures.placed
 
 pub first_device-requires : goal.first_device-requires
-first_device-requires c = let few = regions_few c.args.placed.now c.known.ensures in omega (arith, few)
+first_device-requires c = let few = regions_few c.args.placed.now c.expanded-expanded.ensures.placed in omega (arith, few)
 
 pub devices-requires : goal.devices-requires
 devices-requires c =
-    let few = spans_few c.args.placed.now c.known.ensures in
+    let few = spans_few c.args.placed.now c.expanded-expanded.ensures.placed in
     let first = c.first_device.ensures in
-    let same = ap (λ p. sum_by (λ d. length d.memory) p.lawful.devices) c.expanded-expanded.ensures in
+    let same = ap (λ p. sum_by (λ d. length d.memory) p.lawful.devices) c.expanded-expanded.ensures.value in
     omega (arith, few, first, same)
 
 pub choice_of-tau0-requires : goal.choice_of-tau0-requires
 choice_of-tau0-requires c =
-    let few = (are_few c.args.placed.now c.known.ensures).regions in
-    let same = ap (λ r. length r.memory) c.policy_of.ensures in
+    let few = (are_few c.args.placed.now c.expanded-expanded.ensures.placed).regions in
+    let same = ap (λ r. length r.memory) c.policy_of-policy.ensures in
     omega (arith, few, same)
 
 pub cpus-requires : goal.cpus-requires
-cpus-requires c = let few = cpus_few c.args.placed.now c.known.ensures in omega (arith, few)
+cpus-requires c = let few = cpus_few c.args.placed.now c.expanded-expanded.ensures.placed in omega (arith, few)
 
 -- what was made comes to an image
 made : (c : goal.After-cpus) → IsImageOf c.args.placed.now c.args.things (counted c.cpus.result c.choice_of-tau0.result c.in_ok-spans.spans c.in_ok-subjects.subjects c.in_ok-plan.plan c.in_ok-devices.devices c.in_ok-held.held)
 made c =
     image_of_parts c.args.placed.now c.args.things c.in_ok-spans.spans c.in_ok-held.held c.in_ok-subjects.subjects c.in_ok-plan.plan c.in_ok-devices.devices c.cpus.result c.choice_of-tau0.result
-    c.known.ensures c.requires.filled c.in_ok-spans.ensures.numbered c.in_ok-spans.ensures.spans
+    c.expanded-expanded.ensures.placed (subst AreNamed c.policy_of-policy.ensures c.named.ensures) c.requires.filled c.in_ok-spans.ensures.numbered c.in_ok-spans.ensures.spans
     (subst (λ ss. IsHeld c.args.placed.now c.args.things ss c.in_ok-held.held) c.items.ensures c.in_ok-held.ensures)
     c.in_ok-subjects.ensures
-    (subst (λ r. IsPlanOf (source_of r) c.in_ok-plan.plan) (c.lawful.ensures ∙ ap (λ p. p.lawful) c.expanded-expanded.ensures) c.in_ok-plan.ensures)
+    (subst (λ r. IsPlanOf (source_of r) c.in_ok-plan.plan) (c.lawful.ensures ∙ ap (λ p. p.lawful) c.expanded-expanded.ensures.value) c.in_ok-plan.ensures)
     (subst (λ n. AreDevices c.args.placed.now.expanded.lawful n c.args.placed.now.expanded.lawful.devices c.in_ok-devices.devices) c.first_device.ensures
-    (subst (λ p. AreDevices p.lawful c.first_device.result p.lawful.devices c.in_ok-devices.devices) c.expanded-expanded.ensures c.in_ok-devices.ensures))
+    (subst (λ p. AreDevices p.lawful c.first_device.result p.lawful.devices c.in_ok-devices.devices) c.expanded-expanded.ensures.value c.in_ok-devices.ensures))
     c.cpus.ensures
-    (c.choice_of-tau0.ensures ∙ ap choice_of c.policy_of.ensures)
+    (c.choice_of-tau0.ensures ∙ ap choice_of c.policy_of-policy.ensures)
 
 pub make-requires : goal.make-requires
 make-requires c = parts_fit c.args.placed.now c.args.things _ (made c)

@@ -1,9 +1,9 @@
 use Rattle.std.proofs.Common.{take}
 use Rattle.std.specs.List.{enumerate_from, flat_map}
-use Rattle.muen_outside.specs.Buffered.{Given, behind}
+use Rattle.muen_outside.specs.Prints.{Printed}
 use Rattle.map_report.specs.Views.{view_lines, views_at}
 use Rattle.map_report.proofs.report.put_windows.Given as goal
 
 abbrev pub invariant-loop-index : goal.invariant-loop-index
 invariant-loop-index g l =
-    Given (flat_map (λ x. view_lines l.policy x.1.name (views_at l.grants x.0)) (take l.index (enumerate_from 0 l.subjects))) (behind (g.S.Sink.state l.initial.out) l.initial.buffer) (behind (g.S.Sink.state l.out) l.buffer)
+    Printed g.S.Sink.state (flat_map (λ x. view_lines l.policy x.1.name (views_at l.grants x.0)) (take l.index (enumerate_from 0 l.subjects))) l.initial.out l.out

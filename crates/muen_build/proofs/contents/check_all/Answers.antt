@@ -14,11 +14,11 @@ returns-clause-passes g c =
     IfOk-weaker c.check_subjects.result _ _
     (λ x both.
     both_pass c.args.policy.now c.memory.ensures.resolved c.args.name.now c.args.document.now c.args.found.now c.check_memory.new.found (g.F.Files.state c.args.files.now) (g.F.Files.state c.check_memory.new.files) c.in_ok-check_memory.ensures.grows (rw c.memory.ensures.value at c.in_ok-check_memory.ensures.passes) c.check_memory.ensures.follows _ c.check_subjects.new.found both.0 both.1)
-    (ok_both c.check_subjects.result _ _ c.check_subjects.ensures.grows (rw (c.components.ensures, c.subjects.ensures.value) at c.check_subjects.ensures.passes))
+    (ok_both c.check_subjects.result _ _ c.check_subjects.ensures.grows (rw (c.subjects.ensures.value) at c.check_subjects.ensures.passes))
 
 pub returns-clause-err : goal.returns-clause-err
 returns-clause-err g c =
     IfErr-weaker c.check_subjects.result _ _
     (λ error e.
     brought_fails c.args.policy.now c.memory.ensures.resolved c.args.name.now c.args.document.now c.args.found.now c.check_memory.new.found (g.F.Files.state c.args.files.now) (g.F.Files.state c.check_memory.new.files) c.in_ok-check_memory.ensures.grows (rw c.memory.ensures.value at c.in_ok-check_memory.ensures.passes) c.check_memory.ensures.follows _ error e)
-    (rw (c.components.ensures, c.subjects.ensures.value) at c.check_subjects.ensures.err)
+    (rw (c.subjects.ensures.value) at c.check_subjects.ensures.err)

@@ -6,4 +6,4 @@ use Rattle.muen_build.proofs.Checking.{Passing}
 use Rattle.muen_build.proofs.contents.check_subjects.Given as goal
 
 abbrev pub invariant-loop-subject : goal.invariant-loop-subject
-invariant-loop-subject g l = Passing Subject (λ s. of_all (brought_at l.components s)) l.name l.document l.subjects l.fn.found (g.F.Files.state l.fn.files) (g.F.Files.state l.files) l.found l.subject-index
+invariant-loop-subject g l = Passing Subject (λ s. of_all (brought_at l.policy.components s)) l.name l.document l.subjects l.fn.found (g.F.Files.state l.fn.files) (g.F.Files.state l.files) l.found l.subject-index

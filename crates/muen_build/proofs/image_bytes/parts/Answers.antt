@@ -5,17 +5,15 @@ use Rattle.muen_build.proofs.image_bytes.parts.Goals as goal
 
 pub emit-requires-clause-filled : goal.emit-requires-clause-filled
 emit-requires-clause-filled c =
-    filled_so c.args.placed.now c.expanded-expanded.result.now c.expanded-expanded.ensures c.lawful.result.now c.resolved-policy.result.now c.lawful.ensures c.resolved-policy.ensures.value c.memory-memory.ensures.resolved
+    filled_so c.args.placed.now c.expanded-expanded.ensures.placed c.expanded-expanded.result.now c.expanded-expanded.ensures.value c.lawful.result.now c.resolved-policy.result.now c.lawful.ensures c.resolved-policy.ensures.value
     c.args.name.now c.args.document.now c.args.found.now c.in_ok-things.things c.in_ok-things.ensures
-    c.regions-regions.result.now c.grants-grants.result.now c.regions-regions.ensures.value c.regions-regions.ensures.regions c.grants-grants.ensures.value c.grants-grants.ensures.grants
 
 pub emit-requires-clause-readable : goal.emit-requires-clause-readable
-emit-requires-clause-readable c =
-    readable_so c.args.placed.now c.expanded-expanded.result.now c.expanded-expanded.ensures c.args.document.now c.grants-grants.result.now c.requires.lawful c.grants-grants.ensures.value c.grants-grants.ensures.grants
+emit-requires-clause-readable c = readable_so c.args.placed.now c.expanded-expanded.ensures.placed c.args.document.now c.requires.lawful
 
 pub returns-clause-sound : goal.returns-clause-sound
 returns-clause-sound c =
-    sound_so c.args.placed.now c.expanded-expanded.result.now c.expanded-expanded.ensures c.lawful.result.now c.resolved-policy.result.now c.lawful.ensures c.resolved-policy.ensures.value c.memory-memory.ensures.resolved
+    sound_so c.args.placed.now c.expanded-expanded.ensures.placed c.expanded-expanded.result.now c.expanded-expanded.ensures.value c.lawful.result.now c.resolved-policy.result.now c.lawful.ensures c.resolved-policy.ensures.value
     c.args.name.now c.args.document.now c.args.found.now c.in_ok-things.things c.in_ok-things.ensures c.emit.result c.requires.accepts (IfOk-weaker c.emit.result _ _ (λ i made files e. is_sound c.args.placed.now c.in_ok-things.things i made files e) c.emit.ensures)
 
 pub returns-clause-placed : goal.returns-clause-placed

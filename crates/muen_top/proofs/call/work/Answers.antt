@@ -3,7 +3,7 @@ use Rattle.muen_top.proofs.Told.{unasked}
 use Rattle.muen_top.proofs.call.work.Goals as goal
 
 pub returns-in-Usage-clause-came : goal.returns-in-Usage-clause-came
-returns-in-Usage-clause-came g c = rw (← c.parse.ensures, c.in-Usage.is) (unasked None _ _ _ refl)
+returns-in-Usage-clause-came g c = rw (← c.parse.ensures, c.in-Usage.is) (unasked None (g.F.Files.state c.args.files.now) (g.F.Files.state c.args.files.now) _ refl)
 
 pub returns-in-Build-clause-came : goal.returns-in-Build-clause-came
 returns-in-Build-clause-came g c = rw (← c.parse.ensures, c.in-Build.is) (c.build.ensures.came _)

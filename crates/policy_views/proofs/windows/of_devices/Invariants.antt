@@ -1,6 +1,6 @@
 use Rattle.std.proofs.Common.{◌≡◌, take}
 use Rattle.std.specs.List.{filter_map, flat_map}
-use Rattle.policy_views.specs.Views.{device_view}
+use Rattle.policy_lawful.specs.Views.{device_view}
 use Rattle.policy_views.proofs.windows.of_devices.Given as goal
 
 abbrev pub invariant-loop-device : goal.invariant-loop-device

@@ -1,6 +1,8 @@
 use Rattle.std.proofs.Common.{subst}
+use Rattle.std.proofs.lemmas.Result.{IfOk-weaker}
 use Rattle.policy_lawful.specs.Lawful.{IsLawful}
 use Rattle.policy_lawful.specs.Resolution.{source_of}
+use Rattle.region_alloc.proofs.Apart.{placed_so}
 use Rattle.region_alloc.proofs.Sized.{blocks_end, no_room_is, placement_is, regions_sized}
 use Rattle.region_alloc.proofs.allocate.addresses_of.Goals as goal
 
@@ -17,6 +19,12 @@ pub returns-clause-ok : goal.returns-clause-ok
 returns-clause-ok c =
     rw placement_is
     (rw (c.memory_blocks.ensures, c.resolved-policy.ensures.value, c.lawful.ensures, c.regions.ensures.regions) at c.addresses_in.ensures.ok)
+
+pub returns-clause-placed : goal.returns-clause-placed
+returns-clause-placed c =
+    IfOk-weaker c.addresses_in.result _ _ (λ addresses is. placed_so c.args.expanded.now addresses c.regions.ensures.expanded is)
+    (rw placement_is
+    (rw (c.memory_blocks.ensures, c.resolved-policy.ensures.value, c.lawful.ensures, c.regions.ensures.regions) at c.addresses_in.ensures.ok))
 
 pub returns-clause-err : goal.returns-clause-err
 returns-clause-err c =

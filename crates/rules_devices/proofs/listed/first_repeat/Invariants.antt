@@ -6,6 +6,6 @@ use Rattle.rules_devices.proofs.listed.first_repeat.Given as goal
 
 abbrev pub invariant-loop-x : goal.invariant-loop-x
 invariant-loop-x l = record {
-  same : l.names.keys ≡ map (λ x. x.name) (take l.x-index l.listed);
-  rest : repeat_after l.names.keys (drop l.x-index l.listed) ≡ first_repeat l.listed;
+  same : l.names ≡ map (λ x. x.name) (take l.x-index l.listed);
+  rest : repeat_after l.names (drop l.x-index l.listed) ≡ first_repeat l.listed;
 }

@@ -1,20 +1,52 @@
-use Rattle.std.proofs.Common.{◌≡◌, length, drop, ◌*◌, map, sym, ap, subst, ◌∙◌}
-use Rattle.ept_emit.specs.Pages.{ept_pages}
-use Rattle.subject_emit.specs.Mapped.{mapped, mapped_windows}
-use Rattle.subject_emit.specs.Pages.{AreTablesOf, tables_at}
-use Rattle.subject_emit.proofs.Joined.{written}
+use Rattle.std.proofs.Common.{◌+◌, ◌∙◌, ap, arith, length, get_or}
+use Rattle.subject_emit.specs.Mapped.{kernel_first}
+use Rattle.subject_emit.proofs.TablesReady.{all_there, ready, region_size, region_there, subject_there}
 use Rattle.subject_emit.proofs.tables.tables.Goals as goal
 
-pub returns : goal.returns
-returns c =
-    let are = c.deref-2.ensures.value ∙ c.in_ok-windows.ensures ∙ ap (map (mapped c.args.placed.now c.args.subject)) c.items.ensures in
-    let bytes = c.in_ok-tables.tables in
-    let out = c.emit.new.out in
-    let is = c.of.ensures ∙ written bytes.len out (drop (length out) bytes.items) (c.emit.auto.out ∙ c.as_mut_slice.ensures.len) in
-    let many : length out ≡ 4096 * ept_pages c.deref-2.result.now =
-    c.emit.auto.out ∙ c.as_mut_slice.ensures.len ∙ c.in_ok-tables.ensures.len
-    ∙ ap (λ n. 4096 * n) (c.pages-bytes.ensures ∙ ap ept_pages (c.deref.ensures.value ∙ sym c.deref-2.ensures.value)) in
-    subst (AreTablesOf (mapped_windows c.args.placed.now c.args.subject c.args.granted.now) (tables_at c.args.placed.now c.args.subject)) (sym is)
-    (subst (λ at. AreTablesOf (mapped_windows c.args.placed.now c.args.subject c.args.granted.now) at out) c.tables_at.ensures
-    (subst (λ ws. AreTablesOf ws c.tables_at.result out) are
-    (record { len = many; walk = c.emit.ensures.walk; alone = c.emit.ensures.alone; paths = c.emit.ensures.paths; leaves = c.emit.ensures.leaves })))
+pub kernel_first-first-requires-clause-there : goal.kernel_first-first-requires-clause-there
+kernel_first-first-requires-clause-there c =
+    let same = c.resolved.ensures.value ∙ c.lawful.ensures ∙ ap (λ e. e.lawful) c.expanded-expanded.ensures.value in
+    rw same (omega (arith, subject_there c.args.placed.now c.args.subject c.args.granted.now c.expanded-expanded.ensures.placed c.requires.granted))
+
+pub kernel_first-first-requires-clause-room : goal.kernel_first-first-requires-clause-room
+kernel_first-first-requires-clause-room c =
+    let same = c.resolved.ensures.value ∙ c.lawful.ensures ∙ ap (λ e. e.lawful) c.expanded-expanded.ensures.value in
+    let regions = c.regions-regions.ensures.value ∙ ap (λ e. e.regions) c.expanded-expanded.ensures.value in
+    let many = all_there c.args.placed.now c.args.subject c.args.granted.now c.expanded-expanded.ensures.placed c.requires.granted in
+    rw same (omega (arith, many, ap length regions))
+
+pub number-requires : goal.number-requires
+number-requires c =
+    let same = c.resolved.ensures.value ∙ c.lawful.ensures ∙ ap (λ e. e.lawful) c.expanded-expanded.ensures.value in
+    let regions = c.regions-regions.ensures.value ∙ ap (λ e. e.regions) c.expanded-expanded.ensures.value in
+    let first = c.kernel_first-first.ensures ∙ ap (λ r. kernel_first r c.args.subject) same in
+    let there = region_there c.args.placed.now c.args.subject c.args.granted.now c.expanded-expanded.ensures.placed c.requires.granted in
+    omega (arith, first, there, ap length regions)
+
+pub bounds-regions-number : goal.bounds-regions-number
+bounds-regions-number c =
+    let same = c.resolved.ensures.value ∙ c.lawful.ensures ∙ ap (λ e. e.lawful) c.expanded-expanded.ensures.value in
+    let regions = c.regions-regions.ensures.value ∙ ap (λ e. e.regions) c.expanded-expanded.ensures.value in
+    let first = c.kernel_first-first.ensures ∙ ap (λ r. kernel_first r c.args.subject) same in
+    let there = region_there c.args.placed.now c.args.subject c.args.granted.now c.expanded-expanded.ensures.placed c.requires.granted in
+    omega (arith, c.number.ensures, first, there, ap length regions)
+
+pub offset_bounds-regions-number : goal.offset_bounds-regions-number
+offset_bounds-regions-number c =
+    let same = c.resolved.ensures.value ∙ c.lawful.ensures ∙ ap (λ e. e.lawful) c.expanded-expanded.ensures.value in
+    let regions = c.regions-regions.ensures.value ∙ ap (λ e. e.regions) c.expanded-expanded.ensures.value in
+    let first = c.kernel_first-first.ensures ∙ ap (λ r. kernel_first r c.args.subject) same in
+    let there = region_there c.args.placed.now c.args.subject c.args.granted.now c.expanded-expanded.ensures.placed c.requires.granted in
+    omega (arith, c.number.ensures, first, there, ap length regions)
+
+pub emitted-requires-clause-ready : goal.emitted-requires-clause-ready
+emitted-requires-clause-ready c = ready c.args.placed.now c.args.subject c.args.granted.now c.expanded-expanded.ensures.placed c.requires.granted c.requires.readable
+
+pub emitted-requires-clause-bytes : goal.emitted-requires-clause-bytes
+emitted-requires-clause-bytes c =
+    let same = c.resolved.ensures.value ∙ c.lawful.ensures ∙ ap (λ e. e.lawful) c.expanded-expanded.ensures.value in
+    let regions = c.regions-regions.ensures.value ∙ ap (λ e. e.regions) c.expanded-expanded.ensures.value in
+    let first = c.kernel_first-first.ensures ∙ ap (λ r. kernel_first r c.args.subject) same in
+    let number = c.number.ensures ∙ ap (λ n. n + 1) first in
+    ap (λ r. r.size) (c.index-regions-number.is ∙ (λ i. get_or (regions i) (number i) c.index-regions-number.result))
+    ∙ region_size c.args.placed.now c.args.subject c.args.granted.now c.expanded-expanded.ensures.placed c.requires.granted c.index-regions-number.result
