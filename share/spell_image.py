@@ -451,13 +451,16 @@ def runs_of(content):
     return [(len(list(run)), byte) for byte, run in itertools.groupby(content)]
 
 
-def main():
-    if len(sys.argv) not in (2, 3):
-        sys.exit(__doc__)
-    system = System(json.loads(pathlib.Path(sys.argv[1]).read_text(encoding="utf-8")))
-    parts = list(parts_of(system))
-    if len(sys.argv) == 3:
-        pathlib.Path(sys.argv[2]).write_bytes(b"".join(part for _, part in parts))
+def main(words):
+    if len(words) not in (1, 2) or words[0] in ("-h", "--help"):
+        sys.exit(__doc__.strip())
+    try:
+        policy = json.loads(pathlib.Path(words[0]).read_text(encoding="utf-8"))
+    except (OSError, ValueError) as error:
+        sys.exit(f"spell_image: {words[0]}: {error}")
+    parts = list(parts_of(System(policy)))
+    if len(words) == 2:
+        pathlib.Path(words[1]).write_bytes(b"".join(part for _, part in parts))
         return
     at = 0
     for what, part in parts:
@@ -469,4 +472,4 @@ def main():
 
 
 if __name__ == "__main__":
-    main()
+    main(sys.argv[1:])
