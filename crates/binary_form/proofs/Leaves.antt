@@ -207,16 +207,18 @@ pub byte_laws : Laws byte
 unfolding byte
 byte_laws = record { takes = byte_takes; again = byte_again; within = byte_within; stays = byte_stays }
 
-bytes_takes : (n : ℕ) (bytes t rest : List ℕ) → IsBytes bytes → bytes_at n bytes ≡ Ok (t, rest) → Takes bytes t rest × (length t ≡ n)
+bytes_takes : (n : ℕ) (bytes t rest : List ℕ) → IsBytes bytes → bytes_at n bytes ≡ Ok (t, rest) → Takes bytes t rest × ((length t ≡ n) × IsBytes t)
 unfolding bytes_at
 bytes_takes n bytes t rest fits e =
     let g = guard_ok (ltb (length bytes) n) (Short (length bytes)) (take n bytes, drop n bytes) (t, rest) e in
     let long : n ≤ length bytes = ltb-false _ _ g.0 in
-    subst (λ (p : List ℕ × List ℕ). Takes bytes p.0 p.1 × (length p.0 ≡ n)) g.1 (record { parts = sym (take-append-drop n bytes); rest_fits = IsBytes-drop n bytes fits }, omega (arith, length-take n bytes))
+    subst (λ (p : List ℕ × List ℕ). Takes bytes p.0 p.1 × ((length p.0 ≡ n) × IsBytes p.0)) g.1
+    (record { parts = sym (take-append-drop n bytes); rest_fits = IsBytes-drop n bytes fits }, (omega (arith, length-take n bytes), IsBytes-take n bytes fits))
 
-bytes_again : (n : ℕ) (t rest : List ℕ) → length t ≡ n → bytes_at n (t ++ rest) ≡ Ok (t, rest)
+bytes_again : (n : ℕ) (t rest : List ℕ) → (length t ≡ n) × IsBytes t → bytes_at n (t ++ rest) ≡ Ok (t, rest)
 unfolding bytes_at
-bytes_again n t rest len =
+bytes_again n t rest fits =
+    let len = fits.0 in
     let long : ltb (length (t ++ rest)) n ≡ false = le-ltb _ _ (omega (arith, length-append t rest)) in
     rw (long, take_at t rest n len, drop_at t rest n len) refl
 

@@ -53,9 +53,22 @@ pub name_laws : Laws name
 unfolding name
 name_laws = coded_laws 64 name_in name_bytes at.Name name_code
 
-name_short : (text : List ℕ) → is_name text ≡ true → length text ≤ 63
+pub name_short : (text : List ℕ) → is_name text ≡ true → length text ≤ 63
 unfolding is_name
 name_short text h = grind (arith, common_steps)
+
+passed : (b : Bool) (t text : List ℕ) → cond b (found t) None ≡ found text → (b ≡ true) × (t ≡ text)
+passed true t text e = (refl, cc)
+passed false t text e = absurd cc
+
+-- a text that has a spelling as a name is one
+pub name_kept : (text : List ℕ) → name.fits text → is_name text ≡ true
+unfolding name coded
+name_kept text h =
+    let room = name_room text in
+    let read : name_of (take (length text) room) ≡ found text = (tested _ _ text h).1 in
+    let p = passed _ _ text read in
+    subst (λ t. is_name t ≡ true) p.1 p.0
 
 -- each name has a spelling
 pub name_fits : (text : List ℕ) → is_name text ≡ true → name.fits text

@@ -82,7 +82,7 @@ bytes_at n bytes = if nat_lt (length bytes) n then Err (Short (length bytes)) el
 
 -- so many bytes, as they are
 unfoldable pub bytes_of : ℕ → Form (List ℕ)
-bytes_of n = record { read = bytes_at n; spell = λ t. t; fits = λ t. length t ≡ n }
+bytes_of n = record { read = bytes_at n; spell = λ t. t; fits = λ t. (length t ≡ n) × IsBytes t }
 
 abbrev pub coded_in : {A : Type 0} → Field → ℕ → List ℕ → Option A → Result (A × List ℕ) FormFault
 coded_in field left rest (Some x) = Ok (x, rest)

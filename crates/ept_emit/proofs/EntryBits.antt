@@ -22,7 +22,7 @@ pub maps_rights : (l x t r : ℕ) → x % 4096 ≡ 0 → r < 8 → bits_of (maps
 maps_rights zero x t r a b = omega arith
 maps_rights (suc l) x t r a b = omega arith
 
-maps_type : (l x t r : ℕ) → x % 4096 ≡ 0 → t < 8 → r < 8 → bits_of (maps l x t r) 3 5 ≡ t
+pub maps_type : (l x t r : ℕ) → x % 4096 ≡ 0 → t < 8 → r < 8 → bits_of (maps l x t r) 3 5 ≡ t
 maps_type zero x t r a b c = omega arith
 maps_type (suc l) x t r a b c = omega arith
 

@@ -1,24 +1,24 @@
 -- A memory that has the tables.
 use Rattle.std.proofs.Common.{◌≡◌, ◌⊎◌, inl, inr, ℕ, suc, ◌+◌, ◌-◌, ◌*◌, ◌/◌, ◌%◌, ◌^◌, ◌<◌, ◌≤◌, ◌==◌, List, length, get_or, take, drop, Option, Some, None, refl, ap, sym, ◌∙◌, arith, All, subst}
-use Rattle.std.specs.Prelude.{IfSome, bit_and, if◌then◌else◌}
+use Rattle.std.specs.Prelude.{IfSome, bit_and, if◌then◌else◌, option_map}
 use Rattle.std.proofs.lemmas.Bool.{cases_eq, cases_lt}
 use Rattle.std.proofs.lemmas.List.{drop-take, drop-drop, take-take}
 use Rattle.ept_emit.specs.declared.window.Window.{Window}
 use Rattle.ept_emit.specs.Pages.{AreApart, ranges_of}
 use Rattle.machine_layout.specs.declared.walk.Walk.TheVariants.{At, Violation}
 use Rattle.machine_layout.specs.Memory.{Page, page_of, is_there, le_number, load_of}
-use Rattle.machine_layout.specs.Walks.{entry_size, entry_of, root_of, walk_of, walk_from, addresses_read, addresses_from, leaf_size, end_entry_size}
+use Rattle.machine_layout.specs.Walks.{bits_of, entry_size, entry_of, root_of, walk_of, walk_from, addresses_read, addresses_from, leaf_size, leaf_type, end_entry_size, end_entry}
 use Rattle.muen_num.specs.Access.{kind_bit}
 use Rattle.muen_num.specs.declared.access.AccessKind.{AccessKind}
 use Rattle.muen_num.specs.declared.access.AccessKind.TheVariants.{Read, Write, Fetch}
 use Rattle.policy_types.specs.Rights.{allows, has}
-use Rattle.ept_emit.specs.Entries.{IsEmittable, word_at}
+use Rattle.ept_emit.specs.Entries.{IsEmittable, type_of, word_at}
 use Rattle.ept_emit.specs.Emitted.{HasAddresses, HasTables, IsGreatestSize, IsReadBy, Reads, eptp_of, translation, translation_in, window_at}
 use Rattle.ept_emit.specs.Tables.{AreNumbered, Below}
 use Rattle.ept_emit.proofs.Numbered.{InTable}
 use Rattle.ept_emit.proofs.Addresses.{IsRead, met, read}
-use Rattle.ept_emit.proofs.Walked.{Has, leads, level_low, walk_written, size_written}
-use Rattle.ept_emit.proofs.Written.{Meets, below_within}
+use Rattle.ept_emit.proofs.Walked.{Has, leads, level_low, walk_written, size_written, type_written}
+use Rattle.ept_emit.proofs.Written.{Meets, below_lower, below_within}
 
 part_of : (xs : List ℕ) (a b w n : ℕ) → a + w ≤ n → take w (drop a (take n (drop b xs))) ≡ take w (drop (b + a) xs)
 part_of xs a b w n h =
@@ -83,6 +83,12 @@ module _ (m : List Page) (at n total : ℕ) (out : List ℕ) (ws : List Window) 
       let size = size_written (entry_of m) (word_at out) (at / 4096) 1 n ws addr w bounded entries ok apart is 3 0 some (numbered.written addr (in_all addr lt)) (λ h allowed inside. let low = level_low w.leaf in omega arith) in
       subst (λ (t : ℕ). IsGreatestSize w addr (end_entry_size (entry_of m) addr 3 t)) (sym (root_is at page)) size
 
+  pub type_held : (addr : ℕ) (o : Option Window) → window_at ws addr ≡ o → addr < 2 ^ 48 → IfSome o (λ w. leaf_type m (eptp_of at) addr ≡ Some (type_of w.caching))
+  type_held addr None is lt = tt
+  type_held addr (Some w) is lt =
+      let mapped = type_written (entry_of m) (word_at out) (at / 4096) 1 n ws addr w bounded entries ok is 3 0 some (numbered.written addr (in_all addr lt)) in
+      subst (λ (t : ℕ). option_map (λ e. bits_of e 3 5) (end_entry (entry_of m) addr 3 t) ≡ Some (type_of w.caching)) (sym (root_is at page)) mapped
+
   -- a table that is read
   record Tells (addr level pg : ℕ) : Type 0 where
     table : ℕ
@@ -145,6 +151,19 @@ module _ (m : List Page) (at n total : ℕ) (out : List ℕ) (ws : List Window) 
       let y = tells b other pg lb rb in
       let same : y.table ≡ x.table = omega (arith, x.is, y.is) in
       paths_of a b level other x.table la lb x.meets (rw same at y.meets)
+
+  ascending_of : (addr level k lower j : ℕ) → addr < 2 ^ 48 → Meets (word_at out) (at / 4096) ws 3 0 addr level k → Meets (word_at out) (at / 4096) ws 3 0 addr lower j → lower < level → k < j
+  ascending_of addr level k lower j lt (inl x) (inl y) less = absurd (omega (arith, x.0, y.0, less))
+  ascending_of addr level k lower j lt (inl x) (inr y) less = let p = table_in addr lower j lt y in omega (arith, x.1, p.0)
+  ascending_of addr level k lower j lt (inr x) (inl y) less = let low = below_lower (word_at out) (at / 4096) ws 3 0 addr level k x in absurd (omega (arith, y.0, low, less))
+  ascending_of addr level k lower j lt (inr x) (inr y) less = numbered.ascending addr level k lower j (in_all addr lt) x y less
+
+  pub ascending_held : (addr level pg lower low : ℕ) → addr < 2 ^ 48 → Reads m (eptp_of at) addr level pg → Reads m (eptp_of at) addr lower low → lower < level → pg < low
+  ascending_held addr level pg lower low lt r q less =
+      let x = tells addr level pg lt r in
+      let y = tells addr lower low lt q in
+      let up = ascending_of addr level x.table lower y.table lt x.meets y.meets less in
+      omega (arith, x.is, y.is, up)
 
   -- the PML4 table
   root_read : (addr pg : ℕ) → addr < 2 ^ 48 → pg ≡ at / 4096 → IsReadBy m (eptp_of at) addr pg

@@ -7,7 +7,7 @@ use Rattle.machine_layout.specs.Walks.{entry_size}
 use Rattle.ept_emit.specs.Entries.{is_whole, leaf_entry, table_entry, window_on}
 use Rattle.ept_emit.specs.Tables.{IsWritten, Below, IsReference, IsReached, AreNumbered, child}
 use Rattle.ept_emit.proofs.Found.{span_some, around}
-use Rattle.ept_emit.proofs.Written.{Under, Meets, word_of, window_of, written_from, below_parts, below_from, below_lowest, stands_none, stands_leaf, stands_table, leads_none, leads_leaf, leads_to, leads_from, keeps, below_keeps, below_within}
+use Rattle.ept_emit.proofs.Written.{Under, Meets, word_of, window_of, written_from, below_parts, below_from, below_lowest, below_lower, stands_none, stands_leaf, stands_table, leads_none, leads_leaf, leads_to, leads_from, keeps, below_keeps, below_within}
 
 -- ---- entries that reference no table
 
@@ -40,6 +40,7 @@ none_below out base used ws l k P written none =
       paths = λ g h l2 j k2 a b c d. absurd (none g l2 k2 a c);
       reached = λ k2 a b. absurd (omega arith);
       order = λ h l2 j k2 a b c d. absurd (none h l2 k2 a b);
+      ascending = λ g l2 k2 j i a b c d. absurd (none g l2 k2 a b);
     }
 
 pub numbered_free : (out : ℕ → ℕ) (base used : ℕ) (ws : List Window) (l k e : ℕ) → out (512 * k + e % 512) ≡ 0 → window_on ws (entry_size l * e) (entry_size l) ≡ None → AreNumbered out base used used ws l k (InEntry l e)
@@ -146,6 +147,19 @@ module _ (out : ℕ → ℕ) (base used top : ℕ) (ws : List Window) (l k e : �
         ]
       ]
 
+  table_ascending : (g l2 k2 j i : ℕ) → InEntry (suc l) e g → Below out base ws (suc l) k g l2 k2 → Below out base ws (suc l) k g j i → j < l2 → k2 < i
+  table_ascending g l2 k2 j i a b c lt =
+      elim (down g l2 k2 a b) [
+        | inl e1 ↦ elim (down g j i a c) [
+          | inl e2 ↦ absurd (omega (arith, e1.0, e2.0, lt))
+          | inr d2 ↦ let up = within_below g j i a d2 in omega (arith, e1.1, up)
+        ]
+        | inr d1 ↦ elim (down g j i a c) [
+          | inl e2 ↦ let low = below_lower out base ws l used g l2 k2 d1 in absurd (omega (arith, e2.0, low, lt))
+          | inr d2 ↦ below.ascending g l2 k2 j i (entry_table l e g a) d1 d2 lt
+        ]
+      ]
+
   pub numbered_table : AreNumbered out base used top ws (suc l) k (InEntry (suc l) e)
   numbered_table =
       record {
@@ -153,6 +167,7 @@ module _ (out : ℕ → ℕ) (base used top : ℕ) (ws : List Window) (l k e : �
         paths = table_paths;
         reached = table_reached;
         order = table_order;
+        ascending = table_ascending;
       }
 
 -- ---- one entry after others
@@ -220,6 +235,13 @@ module _ (out new : ℕ → ℕ) (base used top result : ℕ) (ws : List Window)
         ]
       ]
 
+  both_ascending : (g l2 k2 j i : ℕ) → R g → Below new base ws l k g l2 k2 → Below new base ws l k g j i → j < l2 → k2 < i
+  both_ascending g l2 k2 j i a b c lt =
+      elim (split g a) [
+        | inl p ↦ old.ascending g l2 k2 j i p (old_below g l2 k2 p b) (old_below g j i p c) lt
+        | inr q ↦ next.ascending g l2 k2 j i q b c lt
+      ]
+
   pub numbered_both : AreNumbered new base used result ws l k R
   numbered_both =
       record {
@@ -227,6 +249,7 @@ module _ (out new : ℕ → ℕ) (base used top result : ℕ) (ws : List Window)
         paths = both_paths;
         reached = both_reached;
         order = both_order;
+        ascending = both_ascending;
       }
 
 -- ---- sets of addresses
@@ -238,6 +261,7 @@ numbered_same out base used top ws l k P Q to from old =
       paths = λ g h l2 j k2 a b c d. old.paths g h l2 j k2 (from g a) (from h b) c d;
       reached = λ k2 a b. let r = old.reached k2 a b in record { addr = r.addr; depth = r.depth; within = to r.addr r.within; below = r.below };
       order = λ h l2 j k2 a b c d. let r = old.order h l2 j k2 (from h a) b c d in record { addr = r.addr; depth = r.depth; within = (to r.addr r.within.0, r.within.1); below = r.below };
+      ascending = λ g l2 k2 j i a b c lt. old.ascending g l2 k2 j i (from g a) b c lt;
     }
 
 earlier : (l g h e : ℕ) → g / entry_size l < e → h / entry_size l ≡ e → g ≤ h

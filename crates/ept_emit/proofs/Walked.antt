@@ -1,6 +1,6 @@
 -- Walks over what is written go where the windows lead.
 use Rattle.std.proofs.Common.{◌≡◌, inl, inr, ℕ, zero, suc, ◌+◌, ◌-◌, ◌*◌, ◌/◌, ◌%◌, ◌^◌, ◌<◌, ◌≤◌, ◌==◌, true, false, Bool, List, Option, Some, None, refl, ap, sym, ◌∙◌, arith, All, subst}
-use Rattle.std.specs.Prelude.{bit_and, if◌then◌else◌}
+use Rattle.std.specs.Prelude.{bit_and, if◌then◌else◌, option_map}
 use Rattle.std.proofs.lemmas.Bool.{and_from, or_right, le-leb, cases_eq, true≢false}
 use Rattle.std.proofs.Math.Nat.{mod-eq-sub-mul-div}
 use Rattle.ept_emit.specs.declared.window.Leaf.{Leaf}
@@ -9,11 +9,11 @@ use Rattle.ept_emit.specs.declared.window.Window.{Window}
 use Rattle.ept_emit.specs.Pages.{AreApart, ranges_of}
 use Rattle.machine_layout.specs.declared.walk.Walk.{Walk}
 use Rattle.machine_layout.specs.declared.walk.Walk.TheVariants.{At, Violation, Misconfigured}
-use Rattle.machine_layout.specs.Walks.{entry_size, index_at, reads, leaf_end, walk_from, is_present, is_misconfigured, is_leaf, end_entry_size, goes_on}
+use Rattle.machine_layout.specs.Walks.{bits_of, entry_size, index_at, reads, leaf_end, walk_from, is_present, is_misconfigured, is_leaf, end_entry_size, end_entry, goes_on}
 use Rattle.ept_emit.specs.Entries.{IsEmittable, is_whole, leaf_entry, level_of, type_of, window_on}
 use Rattle.ept_emit.specs.Tables.{IsWritten, child}
 use Rattle.ept_emit.specs.Emitted.{window_at, IsInside, IsGreatestSize}
-use Rattle.ept_emit.proofs.EntryBits.{maps_rights, maps_address, maps_leaf, maps_present, maps_fine, type_small, reads_free, reads_page, reads_table, goes_page, goes_table}
+use Rattle.ept_emit.proofs.EntryBits.{maps_rights, maps_type, maps_address, maps_leaf, maps_present, maps_fine, type_small, reads_free, reads_page, reads_table, goes_page, goes_table}
 use Rattle.ept_emit.proofs.Found.{All_on, All_at, around, first_held, first_touched, none_within, not_lowest, not_whole, whole_parts, whole_within}
 use Rattle.ept_emit.proofs.Written.{Under, Free, Whole, Part, kind_of, word_of, window_of, written_parts, none_of, leaf_of, child_of}
 
@@ -265,4 +265,58 @@ module _ (entry : ℕ → ℕ → Option ℕ) (out : ℕ → ℕ) (base lo hi : 
               | inr ne ↦ let le = up d a b in omega arith
             ]) in
             subst (IsGreatestSize t addr) (sym size) below
+      ]
+
+-- ---- the memory type of the page
+
+module _ (entry : ℕ → ℕ → Option ℕ) (out : ℕ → ℕ) (base lo hi : ℕ) (ws : List Window) (addr : ℕ) (t : Window) (small : base + hi ≤ 2 ^ 28) (has : Has entry out base hi) (ok : All IsEmittable ws) (held : window_at ws addr ≡ Some t) where
+  -- of an entry that maps a page around the address
+  type_mapped : (l : ℕ) (w : Window) → window_of ws l addr ≡ Some w → is_whole w l (addr / entry_size l) ≡ true → bits_of (leaf_entry w l (addr / entry_size l)) 3 5 ≡ type_of t.caching
+  type_mapped l w some whole =
+      let e = addr / entry_size l in
+      let a = around l addr in
+      let f = fits ws l e w ok some whole in
+      let m = mapped_on ws l addr w ok some whole in
+      let fine = All_on IsEmittable ws (entry_size l * e) (entry_size l) w ok some in
+      let here = whole_within ws (entry_size l * e) (entry_size l) addr w some a.0 a.1 f.begins f.ends in
+      let both : Some w ≡ Some t = sym here ∙ held in
+      let same : w ≡ t = cc in
+      maps_type l (address_at w l e) (type_of w.caching) w.rights.0 m.pages (type_small w.caching) fine.known
+      ∙ ap (λ (y : Window). type_of y.caching) same
+
+  never_free : (l : ℕ) → window_of ws l addr ≡ None → ⊥
+  never_free l none =
+      let a = around l addr in
+      let no_window = none_within ws (entry_size l * (addr / entry_size l)) (entry_size l) addr none a.0 a.1 in
+      let bad : Some t ≡ None = sym held ∙ no_window in
+      absurd cc
+
+  -- from any table on
+  pub type_written : (l k : ℕ) → k < hi → IsWritten out base lo hi ws l k addr → option_map (λ e. bits_of e 3 5) (end_entry entry addr l (base + k)) ≡ Some (type_of t.caching)
+  type_written zero k lt h =
+      let read = has k (index_at zero addr) lt (omega arith) in
+      elim (kind_of ws zero addr) [
+        | Free none ↦ absurd (never_free zero none)
+        | Whole w some whole ↦
+            let is : word_of out zero k addr ≡ leaf_entry w zero (addr / entry_size zero) = leaf_of (Under out base lo hi ws zero addr) base lo hi zero (addr / entry_size zero) (word_of out zero k addr) (window_of ws zero addr) w some whole (written_parts out base lo hi ws zero k addr h) in
+            ap (option_map (λ e. bits_of e 3 5)) read ∙ (ap (λ q. Some (bits_of q 3 5)) is ∙ ap Some (type_mapped zero w some whole))
+        | Part w some part ↦ absurd (not_lowest w zero (addr / entry_size zero) part refl)
+      ]
+  type_written (suc l) k lt h =
+      let e = addr / entry_size (suc l) in
+      let word = word_of out (suc l) k addr in
+      let deeper : ℕ → Option ℕ = λ c. end_entry entry addr l c in
+      let read = has k (index_at (suc l) addr) lt (omega arith) in
+      elim (kind_of ws (suc l) addr) [
+        | Free none ↦ absurd (never_free (suc l) none)
+        | Whole w some whole ↦
+            let m = mapped_on ws (suc l) addr w ok some whole in
+            let is : word ≡ leaf_entry w (suc l) e = leaf_of (Under out base lo hi ws (suc l) addr) base lo hi (suc l) e word (window_of ws (suc l) addr) w some whole (written_parts out base lo hi ws (suc l) k addr h) in
+            let last : end_entry entry addr (suc l) (base + k) ≡ Some (leaf_entry w (suc l) e) = ap (λ o. goes_on (suc l) o o deeper) read ∙ (ap (λ q. goes_on (suc l) (Some q) (Some q) deeper) is ∙ goes_page (suc l) (leaf_entry w (suc l) e) (Some (leaf_entry w (suc l) e)) deeper m.present m.fine m.leaf) in
+            ap (option_map (λ e. bits_of e 3 5)) last ∙ ap Some (type_mapped (suc l) w some whole)
+        | Part w some part ↦
+            let q = child_of out base lo hi ws l k addr w some part h in
+            let c = child base word in
+            let last : end_entry entry addr (suc l) (base + k) ≡ end_entry entry addr l (base + c) = ap (λ o. goes_on (suc l) o o deeper) read ∙ goes_table l word (base + c) (Some word) deeper q.0.is (omega (arith, q.0.high)) in
+            ap (option_map (λ e. bits_of e 3 5)) last ∙ type_written l c q.0.high q.1
       ]

@@ -140,6 +140,22 @@ below_within out base lo hi ws (suc l) k g l2 k2 h b =
           ]
     ]
 
+-- of lower levels
+pub below_lower : (out : ℕ → ℕ) (base : ℕ) (ws : List Window) (l k g l2 k2 : ℕ) → Below out base ws l k g l2 k2 → l2 < l
+below_lower out base ws zero k g l2 k2 b = absurd (below_lowest out base ws k g l2 k2 b)
+below_lower out base ws (suc l) k g l2 k2 b =
+    let p = below_parts out base ws l k g l2 k2 b in
+    let deeper : ℕ → Type 0 = λ c. Meets out base ws l c g l2 k2 in
+    let c = child base (word_of out (suc l) k g) in
+    elim (kind_of ws (suc l) g) [
+      | Free none ↦ absurd (leads_none deeper c (suc l) (g / entry_size (suc l)) (window_of ws (suc l) g) none p)
+      | Whole w some t ↦ absurd (leads_leaf deeper c (suc l) (g / entry_size (suc l)) (window_of ws (suc l) g) w some t p)
+      | Part w some f ↦ elim (leads_to deeper c (suc l) (g / entry_size (suc l)) (window_of ws (suc l) g) w some f p) [
+        | inl e ↦ omega (arith, e.0)
+        | inr d ↦ let low = below_lower out base ws l c g l2 k2 d in omega (arith, low)
+      ]
+    ]
+
 -- and stay the same where nothing changed
 pub below_keeps : (out new : ℕ → ℕ) (base lo hi : ℕ) (ws : List Window) → ((j : ℕ) → 512 * lo ≤ j → j < 512 * hi → new j ≡ out j) → (l k g l2 k2 : ℕ) → word_of new l k g ≡ word_of out l k g → IsWritten out base lo hi ws l k g → Below out base ws l k g l2 k2 → Below new base ws l k g l2 k2
 below_keeps out new base lo hi ws same zero k g l2 k2 at h b = absurd (below_lowest out base ws k g l2 k2 b)

@@ -5,10 +5,10 @@ use Rattle.ept_emit.specs.declared.window.Window.{Window}
 use Rattle.machine_layout.specs.declared.walk.Walk.{Walk}
 use Rattle.machine_layout.specs.declared.walk.Walk.TheVariants.{At, Violation}
 use Rattle.machine_layout.specs.Memory.{Page, is_there, page_of}
-use Rattle.machine_layout.specs.Walks.{addresses_read, entry_size, leaf_size, walk_of}
+use Rattle.machine_layout.specs.Walks.{addresses_read, entry_size, leaf_size, leaf_type, walk_of}
 use Rattle.muen_num.specs.declared.access.AccessKind.{AccessKind}
 use Rattle.policy_types.specs.Rights.{allows}
-use Rattle.ept_emit.specs.Entries.{level_of, word_at}
+use Rattle.ept_emit.specs.Entries.{level_of, type_of, word_at}
 
 -- the extended-page-table pointer of tables whose PML4 table is at `at`: write back in bits 2:0, the length of walks minus
 -- one in bits 5:3, no flags of accesses in bit 6
@@ -97,6 +97,18 @@ abbrev pub HaveGreatestPages : List Window → ℕ → List ℕ → Type 0
 HaveGreatestPages ws at tables =
     (m : List Page) (addr : ℕ) → HasTables m at tables → addr < 2 ^ 48
     → IfSome (window_at ws addr) (λ w. IsGreatestSize w addr (leaf_size m (eptp_of at) addr))
+
+-- each address of a window is mapped with the window's memory type
+abbrev pub HaveMemoryTypes : List Window → ℕ → List ℕ → Type 0
+HaveMemoryTypes ws at tables =
+    (m : List Page) (addr : ℕ) → HasTables m at tables → addr < 2 ^ 48
+    → IfSome (window_at ws addr) (λ w. leaf_type m (eptp_of at) addr ≡ Some (type_of w.caching))
+
+-- along one walk the pages of tables ascend
+abbrev pub AreAscending : ℕ → List ℕ → Type 0
+AreAscending at tables =
+    (m : List Page) (addr level page lower lower_page : ℕ) → HasTables m at tables → addr < 2 ^ 48
+    → Reads m (eptp_of at) addr level page → Reads m (eptp_of at) addr lower lower_page → lower < level → page < lower_page
 
 -- tables lie in the order in which ascending addresses read them
 abbrev pub AreInOrder : ℕ → List ℕ → Type 0

@@ -53,10 +53,11 @@ pub record IsReached (word : ℕ → ℕ) (base : ℕ) (ws : List Window) (level
   pub below : Below word base ws level table addr depth k
 
 -- below table `table`, for the addresses of a set: the entries are as they must be; each of the tables `used` to top - 1 is
--- at one path, which its level and the address bits above it are; each is reached; and they are numbered in the order in
--- which ascending addresses reach them
+-- at one path, which its level and the address bits above it are; each is reached; they are numbered in the order in which
+-- ascending addresses reach them; and a walk comes to a table after those of lower numbers
 pub record AreNumbered (word : ℕ → ℕ) (base used top : ℕ) (ws : List Window) (level table : ℕ) (Within : ℕ → Type 0) : Type 0 where
   pub written : (g : ℕ) → Within g → IsWritten word base used top ws level table g
   pub paths : (g h l j k : ℕ) → Within g → Within h → Below word base ws level table g l k → Below word base ws level table h j k → (l ≡ j) × (g / entry_size (suc l) ≡ h / entry_size (suc l))
   pub reached : (k : ℕ) → used ≤ k → k < top → IsReached word base ws level table Within k
   pub order : (h l j k : ℕ) → Within h → Below word base ws level table h l k → used ≤ j → j ≤ k → IsReached word base ws level table (λ g. Within g × (g ≤ h)) j
+  pub ascending : (g l k j i : ℕ) → Within g → Below word base ws level table g l k → Below word base ws level table g j i → j < l → k < i

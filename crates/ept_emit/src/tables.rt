@@ -1,7 +1,7 @@
 //! Tables, entry by entry.
 ghost use Rattle.std.specs.Prelude.{◌≡◌, ◌≢◌, ℕ, suc, ◌+◌, ◌*◌, ◌/◌, ◌%◌, ◌^◌, ◌<◌, ◌≤◌, length, All};
 ghost use Rattle.ept_emit.specs.Pages.{AreApart, ept_pages, ranges_of};
-ghost use Rattle.ept_emit.specs.Emitted.{AreInOrder, AreReadAlone, AreReadOrZero, AreTranslating, HaveGreatestPages, HaveOnePath, eptp_of};
+ghost use Rattle.ept_emit.specs.Emitted.{AreAscending, AreInOrder, AreReadAlone, AreReadOrZero, AreTranslating, HaveGreatestPages, HaveMemoryTypes, HaveOnePath, eptp_of};
 ghost use Rattle.ept_emit.specs.Entries.{IsEmittable, word_at};
 ghost use Rattle.ept_emit.specs.Needs.{needs};
 ghost use Rattle.ept_emit.specs.Tables.{AreNumbered, IsWritten};
@@ -110,6 +110,8 @@ pub fn emit(windows: &[Window], at: u64, out: &mut [u8])
     ensures alone { AreReadAlone at out.new }
     ensures paths { HaveOnePath at out.new }
     ensures leaves { HaveGreatestPages windows.now at out.new }
+    ensures types { HaveMemoryTypes windows.now at out.new }
+    ensures ascending { AreAscending at out.new }
     ensures order { AreInOrder at out.new }
     ensures rest { AreReadOrZero (ept_pages (ranges_of windows.now)) at out.new }
     ensures entries { (addr : ℕ) → addr < 2 ^ 48 → IsWritten (word_at out.new) (at / 4096) 1 (ept_pages (ranges_of windows.now)) windows.now 3 0 addr }
@@ -120,10 +122,13 @@ pub fn emit(windows: &[Window], at: u64, out: &mut [u8])
 }
 
 /// The extended-page-table pointer of tables whose PML4 table is at `at`: memory type write back, walks
-/// of four levels, and no accessed and dirty flags (Intel SDM volume 3, format of the EPTP).
+/// of four levels, and no accessed and dirty flags: bits 11:0 are 1EH (Intel SDM volume 3, format of the
+/// EPTP).
 pub fn eptp(at: u64) -> u64
-    requires { at ≤ 2 ^ 40 }
-    ensures { result ≡ eptp_of at }
+    requires aligned { at % 4096 ≡ 0 }
+    requires end { at ≤ 2 ^ 40 }
+    ensures pointer { result ≡ eptp_of at }
+    ensures low { result % 4096 ≡ 30 }
 {
     const WRITE_BACK: u64 = 6;
     const WALK_LENGTH: u64 = 4;

@@ -23,7 +23,7 @@ module _ (r : Resolution) (names : list_all has_name r.subjects ≡ true) (lawfu
     irq_is index i at = record {
       name = refl;
       granted = route_found r names lawful routes device index d i are is at;
-      target = option_map-option_map (irq_named r) irq_target (route_for routes device index) ∙ are device index d i is at;
+      target = option_map-option_map (irq_named r) irq_target (route_for routes device index) ∙ are.each device index d i is at;
     }
 
     irqs_are : (from : ℕ) (irqs : List Irq) → ((k : ℕ) (i : Irq) → slice_get irqs k ≡ Some i → slice_get d.irqs (from + k) ≡ Some i)

@@ -76,4 +76,4 @@ module _ (r : Resolution) (names : list_all has_name r.subjects ≡ true) (lawfu
       elim (route_for routes device irq) as (λ o. option_map_or is_routed (option_map (λ (t : Route). target_named r t.subject (Some t.vector)) o) true ≡ true → IsIrqTarget (length r.subjects) (option_map irq_target o)) [
         | None ↦ λ _. tt
         | Some t ↦ λ h. route_reaches t h
-      ] (ap (λ o. option_map_or is_routed o true) (are device irq d i is in_it) ∙ irq_reaches (source_of r) source_names lawful.rule_6 lawful.rule_15 d.name i.name)
+      ] (ap (λ o. option_map_or is_routed o true) (are.each device irq d i is in_it) ∙ irq_reaches (source_of r) source_names lawful.rule_6 lawful.rule_15 d.name i.name)

@@ -1,7 +1,7 @@
 -- Whom the events and interrupts of a policy reach, where its rules are kept: a subject with a name, under a vector that
 -- isn't kept for exceptions.
 use Rattle.std.proofs.Common.{◌≡◌, ℕ, Bool, true, false, cond, List, [], ◌∷◌, map, Option, Some, None, refl, sym, ap, ◌∙◌}
-use Rattle.std.specs.Prelude.{◌==◌, ◌&&◌, ◌||◌, not, filter, is_some, nat_le, option_and_then, option_map, slice_get}
+use Rattle.std.specs.Prelude.{◌==◌, ◌&&◌, ◌||◌, not, filter, is_some, option_and_then, option_map, slice_get}
 use Rattle.std.specs.Option.{option_map_or, option_or}
 use Rattle.std.specs.List.{find, flat_map, list_all}
 use Rattle.std.specs.Str.{bytes_eq}
@@ -13,7 +13,6 @@ use Rattle.policy_lawful.proofs.EachPasses.{all_filter, all_flat}
 use Rattle.image_pack.specs.Codes.{is_switch as switches, is_vector, vector_code}
 use Rattle.muen_num.proofs.Lists.{each_of, found_among}
 use Rattle.muen_num.proofs.SearchLaws.{all_pass}
-use Rattle.muen_num.specs.declared.limits.TheConstants.{FIRST_VECTOR, LAST_VECTOR}
 use Rattle.muen_num.specs.declared.mode.EventMode.{EventMode}
 use Rattle.muen_num.specs.declared.mode.EventMode.TheVariants.{Asap, Async, Own, Switch}
 use Rattle.policy_lawful.specs.MoreRules.{fits_event, has_vector, is_connected, is_switch, is_writer, offence_15, offence_6, readers_of, writers_of}
@@ -46,7 +45,7 @@ abbrev pub is_routed : Target → Bool
 is_routed t = has_letters t.subject && option_map_or is_free t.vector false
 
 allowed : (mode : EventMode) (v : Option ℕ) → is_free_if_any v ≡ true → (is_some v || is_switch mode) ≡ true → is_vector mode (vector_code v) ≡ true
-allowed mode (Some n) h k = ap (λ b. b || (n == 0 && switches mode)) (and_parts (nat_le FIRST_VECTOR n) (nat_le n LAST_VECTOR) h).0
+allowed mode (Some n) h k = ap (λ b. b || (n == 0 && switches mode)) h
 allowed Switch None h k = refl
 allowed Asap None h k = absurd (cc)
 allowed Async None h k = absurd (cc)

@@ -37,7 +37,7 @@ turned : (m n : ℕ) → (m == n) ≡ (n == m)
 turned m n = grind (arith, nat_tests)
 
 -- an entry has the way of its source
-way_same : (way of : SourceWay) → is_way way (way_of of) ≡ same_way of way
+pub way_same : (way of : SourceWay) → is_way way (way_of of) ≡ same_way of way
 way_same (SourceCall m) (SourceCall n) = turned m n
 way_same (SourceCall m) (SourceTrap n) = refl
 way_same (SourceTrap m) (SourceCall n) = refl
@@ -54,7 +54,7 @@ module _ (way : SourceWay) where
   abbrev of_way : EventEntry → Bool
   of_way e = is_way way e.way
 
-  entry_way : (w : Way) (b : Bool) → is_way way w ≡ b → (e : Option Event) (x : Option Reached) → option_map_or of_way (option_and_then (λ e. option_map (entry w e.mode) x) e) b ≡ b
+  pub entry_way : (w : Way) (b : Bool) → is_way way w ≡ b → (e : Option Event) (x : Option Reached) → option_map_or of_way (option_and_then (λ e. option_map (entry w e.mode) x) e) b ≡ b
   entry_way w b same None x = refl
   entry_way w b same (Some e) None = refl
   entry_way w b same (Some e) (Some x) = same
@@ -104,7 +104,7 @@ module _ (way : SourceWay) where
         by_mode None h = absurd (cc)
         by_mode (Some m) h = by_reader m (first_reached (all_readers r) channel) h
 
-    channel_end_way : (e : IndexedEnd) (role : Role) (call : Option ℕ) → (b : Bool) → b ≡ writes_by (record { channel = name_at (channel_names r) e.channel; role = role; call = call; vector = e.vector }) role way
+    pub channel_end_way : (e : IndexedEnd) (role : Role) (call : Option ℕ) → (b : Bool) → b ≡ writes_by (record { channel = name_at (channel_names r) e.channel; role = role; call = call; vector = e.vector }) role way
         → option_map_or of_way (option_and_then (call_entry r.channels (all_readers r) e.channel) (writer_call (record { channel = e.channel; role = role; call = call; vector = e.vector }) role)) b ≡ b
     channel_end_way e Reader call b is = refl
     channel_end_way e Writer None b is = refl

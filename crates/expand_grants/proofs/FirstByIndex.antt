@@ -114,10 +114,16 @@ numbered_filtered {X} by n test items f ok from (x ∷ xs) same all =
     ∙ filter_both test f (items (from, x)) (flat_map items (enumerate_from (from + 1) xs))
     ∙ ap (λ ys. map f (filter test ys)) (sym (flat_map-cons items (from, x) (enumerate_from (from + 1) xs)))
 
--- the first of what these elements name is the first item that passes
+-- what these elements name is what the items that pass are
+pub all_by_index : {X Y P N : Type 0} (by : Y → List N) (n : X → Y) (test : P → Bool) (items : ℕ × X → List P) (f : P → N) (ok : X → Bool) (xs : List X)
+    → ((k : ℕ) (x : X) → slice_get xs k ≡ Some x → ok x ≡ true → by (n x) ≡ map f (filter test (items (k, x))))
+    → list_all ok xs ≡ true → flat_map by (map n xs) ≡ map f (filter test (flat_map items (enumerate_from 0 xs)))
+all_by_index by n test items f ok xs same all =
+    numbered_filtered by n test items f ok 0 xs (λ k x e h. same k x e h ∙ ap (λ m. map f (filter test (items (m, x)))) (omega arith)) all
+
+-- the first of what they name is the first item that passes
 pub first_by_index : {X Y P N : Type 0} (by : Y → List N) (n : X → Y) (test : P → Bool) (items : ℕ × X → List P) (f : P → N) (ok : X → Bool) (xs : List X)
     → ((k : ℕ) (x : X) → slice_get xs k ≡ Some x → ok x ≡ true → by (n x) ≡ map f (filter test (items (k, x))))
     → list_all ok xs ≡ true → slice_get (flat_map by (map n xs)) 0 ≡ option_map f (find test (flat_map items (enumerate_from 0 xs)))
 first_by_index by n test items f ok xs same all =
-    ap (λ ys. slice_get ys 0) (numbered_filtered by n test items f ok 0 xs (λ k x e h. same k x e h ∙ ap (λ m. map f (filter test (items (m, x)))) (omega arith)) all)
-    ∙ first_found test f (flat_map items (enumerate_from 0 xs))
+    ap (λ ys. slice_get ys 0) (all_by_index by n test items f ok xs same all) ∙ first_found test f (flat_map items (enumerate_from 0 xs))

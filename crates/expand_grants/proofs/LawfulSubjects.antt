@@ -1,4 +1,4 @@
--- What a lawful policy has of its subjects: numbers that fit, windows that differ, and what is granted by indexes.
+-- What a lawful policy has of its subjects: numbers that fit, windows and ways that differ, and what is granted by indexes.
 use Rattle.std.proofs.Common.{◌≡◌, ℕ, ◌+◌, ◌<◌, true, List, [], ◌∷◌, ◌++◌, length, get_or, take, Some, refl, sym, ap, subst, ◌∙◌}
 use Rattle.std.specs.Prelude.{slice_get}
 use Rattle.std.specs.List.{AllZip, list_all}
@@ -13,6 +13,7 @@ use Rattle.expand_grants.specs.ByIndex.{fits_device, fits_msrs, fits_uses}
 use Rattle.expand_grants.specs.Kept.{IsKept}
 use Rattle.expand_grants.specs.Raising.{fits_channel_ends, fits_sources, fits_targets}
 use Rattle.expand_grants.proofs.EntriesByIndex.{events_by_index}
+use Rattle.expand_grants.proofs.EntriesOnce.{entries_once}
 use Rattle.expand_grants.proofs.MsrsFit.{msrs_fit}
 use Rattle.expand_grants.proofs.NumbersFit.{all_channel_ends_fit, all_sources_fit, all_targets_fit, all_uses_fit}
 use Rattle.expand_grants.proofs.PortsByIndex.{ports_by_index, ports_fit}
@@ -42,6 +43,7 @@ module _ (r : Resolution) (q : IsResolved r) (lawful : IsLawful (source_of r)) w
         sources = passes_at fits_sources r.subjects k s (all_sources_fit r q lawful.rule_14 lawful.rule_15) at;
         ends = passes_at (fits_channel_ends r) r.subjects k s channel_ends_fit at;
         events = events_by_index r k s q lawful.rule_6 lawful.rule_12 at in_range;
+        once = entries_once r k s q lawful.rule_14 lawful.rule_15 at in_range;
       }
 
   -- of one that is read off the list of them

@@ -1,6 +1,9 @@
+pub mod Counted
 pub mod Elements
 pub mod EntriesByIndex
+pub mod EntriesOnce
 pub mod FirstByIndex
+pub mod GrantedOnce
 pub mod LawfulSubjects
 pub mod Mapped
 pub mod MsrsFit

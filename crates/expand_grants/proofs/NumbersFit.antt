@@ -55,7 +55,7 @@ way_in : (way : SourceWay) → option_map_or is_call_number (call_number way) tr
 way_in (Call n) h k = call_fits n h
 way_in (Trap n) h k = call_fits n k
 
-abbrev source_named : Resolution → EventSource → NamedSource
+abbrev pub source_named : Resolution → EventSource → NamedSource
 source_named r e = record { event = name_at (map (λ x. x.name) r.events) e.event; way = e.way }
 
 abbrev target_as : Resolution → EventTarget → NamedTarget
@@ -66,7 +66,7 @@ irq_named r device i = record { irq = name_at (device_part r (λ x. map (λ m. m
 
 -- ---- what the rules say of a subject
 
-abbrev keeps_14 : Resolution → NamedSubject → Bool
+abbrev pub keeps_14 : Resolution → NamedSubject → Bool
 keeps_14 r s = are_numbers (calls_of (source_of r) s) && are_numbers (filter_map (λ e. trap_reason e.way) s.sources)
 
 abbrev keeps_15 : Resolution → NamedSubject → Bool
@@ -140,7 +140,7 @@ module _ (r : Resolution) (q : IsResolved r) (s : Subject) (in_range : subject_i
 -- ---- of all subjects
 
 module _ (r : Resolution) (q : IsResolved r) (lawful_14 : offence_14 (source_of r) ≡ None) (lawful_15 : offence_15 (source_of r) ≡ None) where
-  all_14 : list_all (λ s. keeps_14 r (subject_named r s)) r.subjects ≡ true
+  pub all_14 : list_all (λ s. keeps_14 r (subject_named r s)) r.subjects ≡ true
   unfolding offence_14 source_of
   all_14 = sym (list_all-map (keeps_14 r) (subject_named r) r.subjects) ∙ all_pass (keeps_14 r) (λ s. alone s.name) (source_of r).subjects lawful_14
 

@@ -1,6 +1,7 @@
 -- What is granted to a subject, by indexes, and where the interrupts of devices go.
-use Rattle.std.specs.Prelude.{◌≡◌, ℕ, ◌==◌, ◌&&◌, Bool, false, List, map, nat_le, slice_get, Option, Some, option_map}
-use Rattle.std.specs.List.{AllZip, find}
+use Rattle.std.specs.Prelude.{◌≡◌, ℕ, ◌≤◌, ◌==◌, ◌&&◌, Bool, true, false, List, length, map, nat_le, nat_lt, slice_get, Option, Some, option_map}
+use Rattle.std.specs.Option.{option_map_or}
+use Rattle.std.specs.List.{AllZip, count_by, find, list_all}
 use Rattle.expand_grants.specs.Ordered.{in_order}
 use Rattle.expand_grants.specs.Resources.{msr_grant, port_ranges_of}
 use Rattle.expand_grants.specs.declared.granted.EventEntry.{EventEntry}
@@ -51,6 +52,8 @@ pub record AreGrantsOf (r : Resolution) (s : Subject) (g : Grants) : Type 0 wher
   pub msrs : g.msrs ≡ map msr_grant s.msrs
   -- for each way the event that the policy has for it
   pub events : (way : SourceWay) → entry_raised r g.events way ≡ event_of (source_of r) (subject_named r s) way
+  -- by one entry at most
+  pub once : (way : SourceWay) → count_by (λ e. is_way way e.way) g.events ≤ 1
 
 -- the grants of each subject
 abbrev pub AreGrants : Resolution → List Grants → Type 0
@@ -58,15 +61,27 @@ AreGrants r grants = AllZip (AreGrantsOf r) r.subjects grants
 
 -- ---- interrupts
 
+-- a route of the interrupt at an index of the device at an index
+abbrev pub is_route_of : ℕ → ℕ → Route → Bool
+is_route_of device irq t = (t.device == device) && (t.irq == irq)
+
 abbrev pub route_for : List Route → ℕ → ℕ → Option Route
-route_for routes device irq = find (λ t. (t.device == device) && (t.irq == irq)) routes
+route_for routes device irq = find (λ t. is_route_of device irq t) routes
 
 -- the subject and vector to which an interrupt goes by these routes
 abbrev pub routed : Resolution → List Route → ℕ → ℕ → Option Target
 routed r routes device irq = option_map (λ t. target_named r t.subject (Some t.vector)) (route_for routes device irq)
 
--- each interrupt of each device goes where the policy grants it
-abbrev pub AreRoutes : Resolution → List Route → Type 0
-AreRoutes r routes =
-    (device irq : ℕ) (d : Device) (i : Irq) → slice_get r.devices device ≡ Some d → slice_get d.irqs irq ≡ Some i
-    → routed r routes device irq ≡ irq_of (source_of r) d.name i.name
+-- the device at an index has an interrupt at an index
+abbrev pub is_interrupt : Resolution → ℕ → ℕ → Bool
+is_interrupt r device irq = option_map_or (λ d. nat_lt irq (length d.irqs)) (slice_get r.devices device) false
+
+-- the routes of the interrupts that are granted
+pub record AreRoutes (r : Resolution) (routes : List Route) : Type 0 where
+  -- each interrupt of each device goes where the policy grants it
+  pub each : (device irq : ℕ) (d : Device) (i : Irq) → slice_get r.devices device ≡ Some d → slice_get d.irqs irq ≡ Some i
+      → routed r routes device irq ≡ irq_of (source_of r) d.name i.name
+  -- by one route at most
+  pub once : (device irq : ℕ) → count_by (λ t. is_route_of device irq t) routes ≤ 1
+  -- each route is of an interrupt that there is
+  pub there : list_all (λ t. is_interrupt r t.device t.irq) routes ≡ true

@@ -1,8 +1,8 @@
 -- What a lawful policy has of each subject, by indexes.
-use Rattle.std.specs.Prelude.{◌≡◌, ◌==◌, Bool, true}
-use Rattle.std.specs.List.{IsDistinct, flat_map, list_all}
+use Rattle.std.specs.Prelude.{◌≡◌, ◌≤◌, ◌==◌, Bool, true}
+use Rattle.std.specs.List.{IsDistinct, count_by, flat_map, list_all}
 use Rattle.expand_grants.specs.ByIndex.{fits_msrs, ranges_at}
-use Rattle.expand_grants.specs.Grants.{entry_raised}
+use Rattle.expand_grants.specs.Grants.{entry_raised, is_way}
 use Rattle.expand_grants.specs.Raising.{entries_of, fits_channel_ends, fits_sources}
 use Rattle.expand_grants.specs.Resources.{port_ranges_of}
 use Rattle.policy_lawful.specs.Resolution.{Resolution, source_of, subject_named}
@@ -15,7 +15,7 @@ use Rattle.policy_lawful.specs.declared.view.View.{View}
 abbrev pub same_guest : View → View → Bool
 same_guest a b = a.guest == b.guest
 
--- its numbers fit, its windows differ, and what is granted by indexes is what the policy grants
+-- its numbers fit, its windows and its entries' ways differ, and what is granted by indexes is what the policy grants
 pub record IsKept (r : Resolution) (s : Subject) : Type 0 where
   pub guests : IsDistinct same_guest (views_of r s)
   pub ports : port_ranges_of (source_of r) (subject_named r s) ≡ flat_map (ranges_at r.devices) s.devices
@@ -23,3 +23,4 @@ pub record IsKept (r : Resolution) (s : Subject) : Type 0 where
   pub sources : fits_sources s ≡ true
   pub ends : fits_channel_ends r s ≡ true
   pub events : (way : SourceWay) → entry_raised r (entries_of r s) way ≡ event_of (source_of r) (subject_named r s) way
+  pub once : (way : SourceWay) → count_by (λ e. is_way way e.way) (entries_of r s) ≤ 1

@@ -10,6 +10,7 @@ use Rattle.expand_grants.specs.declared.granted.Grants.{Grants}
 use Rattle.image_emit.specs.Made.{IsMade, Made, image_of, policy_of, subject_part, subject_parts}
 use Rattle.image_emit.proofs.AtIndexes.{mapped_there, zipped_there}
 use Rattle.image_emit.proofs.SpansAt.{at_number, zip_at}
+use Rattle.image_soundness.proofs.SubjectsOfBoth.{for_each}
 use Rattle.image_soundness.specs.Sound.{ForEachSubject}
 use Rattle.image_pack.specs.declared.parts.SubjectPart.{SubjectPart}
 use Rattle.policy_lawful.specs.Resolution.{source_of, subject_named}
@@ -74,13 +75,14 @@ unfolding source_of image_of
 each_subject m h Holds each =
     let ss = (policy_of m).subjects in
     let gs = m.placed.expanded.grants in
-    each_zipped (subject_named (policy_of m)) (subject_part m.placed) Holds 0 ss gs m.events
+    for_each (source_of (policy_of m)) (image_of m) Holds
+    (each_zipped (subject_named (policy_of m)) (subject_part m.placed) Holds 0 ss gs m.events
     (AllZip-long (AreGrantsOf (policy_of m)) ss gs h.expansion.grants)
     (AllZip-long (AreTables (policy_of m)) ss m.events h.events)
     (λ k s g t a b c.
     let first : 0 + k ≡ k = omega arith in
     let found = at_index_there m h k s g t a b c in
-    subst (λ j. Holds (subject_named (policy_of m) s) (subject_part m.placed (j, (s, (g, t))))) (sym first) (each k s g t found.0 found.1))
+    subst (λ j. Holds (subject_named (policy_of m) s) (subject_part m.placed (j, (s, (g, t))))) (sym first) (each k s g t found.0 found.1)))
 
 -- ---- by its part of the image
 

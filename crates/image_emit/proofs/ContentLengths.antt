@@ -5,13 +5,14 @@ use Rattle.std.specs.List.{AllZip}
 use Rattle.std.proofs.lemmas.List.Elements.{All-head, All-tail}
 use Rattle.std.proofs.lemmas.List.Sorted.{All-permutation}
 use Rattle.std.proofs.lemmas.Option.{get_or_from_slice_get, slice_get-get_or, slice_get_past, slice_get_within, unwrap_or-slice_get}
+use Rattle.binary_form.specs.Form.{IsBytes}
 use Rattle.expand_kernel.specs.declared.region.RegionKind.{RegionKind}
 use Rattle.expand_kernel.specs.declared.region.RegionKind.TheVariants.{Own, Channel, Provided, Kernel}
 use Rattle.image_emit.specs.Made.{IsMade, Made, content_at, policy_of, region_bytes}
 use Rattle.image_emit.proofs.RegionSizes.{bytes_many, bytes_sized}
 use Rattle.image_emit.proofs.NumberedSpans.{IsMemoryAt, IsRegionAt, span_is}
 use Rattle.image_pack.specs.Codes.{is_device}
-use Rattle.image_pack.specs.ImageConditions.{IsContent}
+use Rattle.image_pack.specs.ImageConditions.{FillsSpan, IsContent}
 use Rattle.image_pack.specs.declared.parts.SpanPart.{SpanPart}
 use Rattle.muen_num.specs.declared.limits.TheConstants.{PAGE}
 use Rattle.policy_lawful.specs.Resolution.{source_of}
@@ -36,28 +37,28 @@ region_kind Channel = refl
 region_kind Provided = refl
 region_kind Kernel = refl
 
--- what holds of each and its image holds of a list beside its images
-beside : {X Y : Type 0} (R : X → Y → Type 0) (f : X → Y) (xs : List X) → All (λ x. R x (f x)) xs → AllZip R xs (map f xs)
-beside R f [] h = tt
-beside R f (x ∷ xs) h = (All-head (λ x. R x (f x)) x xs h, beside R f xs (All-tail (λ x. R x (f x)) x xs h))
+-- what holds of each and its image, and what holds of each image, holds of a list beside its images
+beside : {X Y : Type 0} (R : X → Y → Type 0) (Q : Y → Type 0) (f : X → Y) (xs : List X) → All (λ x. R x (f x)) xs → All Q (map f xs) → AllZip (λ x y. R x y × Q y) xs (map f xs)
+beside R Q f [] h g = tt
+beside R Q f (x ∷ xs) h g = ((All-head (λ x. R x (f x)) x xs h, All-head Q (f x) (map f xs) g), beside R Q f xs (All-tail (λ x. R x (f x)) x xs h) (All-tail Q (f x) (map f xs) g))
 
 -- ---- each span
 
 module _ (m : Made) (h : IsMade m) where
-  of_region : (n : ℕ) (s : SpanPart) → IsRegionAt m n s → IsContent s (content_at m s)
+  of_region : (n : ℕ) (s : SpanPart) → IsRegionAt m n s → FillsSpan s (content_at m s)
   of_region n s a =
       let size : PAGE * (a.region.size / PAGE) ≡ a.region.size = whole_size a.region.size (all_at IsWhole m.placed.expanded.regions n a.region (whole_regions m h) a.there).pages in
-      subst (λ s. IsContent s (content_at m s)) (sym a.is)
+      subst (λ s. FillsSpan s (content_at m s)) (sym a.is)
       (bytes_sized m h n a.region a.there
       ∙ sym size
       ∙ ap (λ b. if b then 0 else PAGE * (a.region.size / PAGE)) (sym (region_kind a.region.kind)))
 
-  of_memory : (n : ℕ) (s : SpanPart) → IsMemoryAt m n s → IsContent s (content_at m s)
+  of_memory : (n : ℕ) (s : SpanPart) → IsMemoryAt m n s → FillsSpan s (content_at m s)
   of_memory n s a =
-      subst (λ s. IsContent s (content_at m s)) (sym a.is)
+      subst (λ s. FillsSpan s (content_at m s)) (sym a.is)
       (ap length (sym (unwrap_or-slice_get (region_bytes m) n []) ∙ ap (λ o. unwrap_or o []) (slice_get_past (region_bytes m) n (omega (arith, bytes_many m h, a.behind)))))
 
-  of_either : (n : ℕ) (s : SpanPart) → IsRegionAt m n s ⊎ IsMemoryAt m n s → IsContent s (content_at m s)
+  of_either : (n : ℕ) (s : SpanPart) → IsRegionAt m n s ⊎ IsMemoryAt m n s → FillsSpan s (content_at m s)
   of_either n s (inl a) = of_region n s a
   of_either n s (inr a) = of_memory n s a
 
@@ -65,10 +66,10 @@ module _ (m : Made) (h : IsMade m) where
   pub content_lengths : (n : ℕ) (s : SpanPart) → slice_get (spans_of m.placed) n ≡ Some s → length (content_at m s) ≡ (if is_device s.kind then 0 else PAGE * s.pages)
   content_lengths n s at = of_either n s (span_is m h n s at)
 
-  pub each_content : All (λ s. IsContent s (content_at m s)) m.spans
+  pub each_content : All (λ s. FillsSpan s (content_at m s)) m.spans
   each_content =
-      All-permutation (λ s. IsContent s (content_at m s)) (spans_of m.placed) m.spans h.numbered
+      All-permutation (λ s. FillsSpan s (content_at m s)) (spans_of m.placed) m.spans h.numbered
       (λ k d l. content_lengths k (get_or (spans_of m.placed) k d) (slice_get-get_or (spans_of m.placed) k d l))
 
-  pub contents_kept : AllZip IsContent m.spans (map (content_at m) m.spans)
-  contents_kept = beside IsContent (content_at m) m.spans each_content
+  pub contents_kept : All IsBytes (map (content_at m) m.spans) → AllZip IsContent m.spans (map (content_at m) m.spans)
+  contents_kept bytes = beside FillsSpan IsBytes (content_at m) m.spans each_content bytes

@@ -18,7 +18,7 @@ use Rattle.policy_types.specs.declared.source.SourceWay.{SourceWay}
 
 vector_kept : (mode : EventMode) (v : Option ℕ) → is_vector mode (vector_code v) ≡ true → is_free_if_any v ≡ true → IsVector mode v
 vector_kept mode None h free = h
-vector_kept mode (Some n) h free = leb-true FIRST_VECTOR n (and_parts (nat_le FIRST_VECTOR n) (nat_le n LAST_VECTOR) free).0
+vector_kept mode (Some n) h free = let parts = and_parts (nat_le FIRST_VECTOR n) (nat_le n LAST_VECTOR) free in (leb-true FIRST_VECTOR n parts.0, leb-true n LAST_VECTOR parts.1)
 
 entry_kept : (r : Resolution) (o : Option EventPart) → IsEntry (length r.subjects) o → option_map_or raised_free (option_map (part_raised r) o) true ≡ true → IsEvent (length r.subjects) o
 entry_kept r None h free = tt

@@ -1,5 +1,5 @@
 -- Numbers of placed policies fit.
-use Rattle.std.proofs.Common.{◌≡◌, ◌∙◌, refl, sym, ap, arith, ℕ, suc, ◌+◌, ◌<◌, ◌≤◌, true, List, [], ◌∷◌, length, nat_le, nat_lt, le-leb, Some, None}
+use Rattle.std.proofs.Common.{◌≡◌, ◌∙◌, refl, sym, ap, arith, ℕ, suc, ◌+◌, ◌%◌, ◌^◌, ◌<◌, ◌≤◌, true, List, [], ◌∷◌, length, nat_le, nat_lt, le-leb, Some, None}
 use Rattle.std.specs.Prelude.{slice_get}
 use Rattle.std.specs.List.{AllZip, list_all, sum_by}
 use Rattle.std.proofs.lemmas.Bool.{ltb-true, lt-ltb}
@@ -22,6 +22,7 @@ use Rattle.subject_emit.proofs.KeptMsrs.{msrs_few}
 use Rattle.subject_emit.proofs.Numbered.{has_addresses}
 use Rattle.subject_emit.proofs.Pieces.{other_at}
 use Rattle.subject_emit.proofs.AddressesFit.{tables_there}
+use Rattle.subject_emit.specs.Pages.{tables_at}
 
 -- each subject's MSRs, from any index on
 msrs_from : (r : Resolution) → offence_20 (source_of r) ≡ None → (ss : List Subject) (gs : List Grants) → ((j : ℕ) (s : Subject) → slice_get ss j ≡ Some s → (k : ℕ) × (slice_get r.subjects k ≡ Some s)) → AllZip (AreGrantsOf r) ss gs → list_all (λ g. nat_le (count_of g.msrs) 64) gs ≡ true
@@ -47,6 +48,16 @@ subjects_many : (r : Resolution) → length (source_of r).subjects ≡ length r.
 unfolding source_of
 subjects_many r = length-map r.subjects (subject_named r)
 
+-- the tables of the subject at an index lie at a page, and end at a physical address that there is
+tables_placed : (x : Placement) → IsPlaced x → (n : ℕ) → n < length x.expanded.lawful.subjects → (tables_at x n % 4096 ≡ 0) × (tables_at x n ≤ 2 ^ 40)
+tables_placed x k n low =
+    let r = x.expanded.lawful in
+    let s = there r.subjects n low in
+    let g = other_at (AreGrantsOf r) r.subjects x.expanded.grants n s.0 k.expansion.grants s.1 in
+    let at = tables_there x k n s.0 g.0 s.1 g.1 in
+    let end = at.end in
+    (at.whole, omega (arith, end))
+
 pub are_few : (x : Placement) → IsPlaced x → AreFew x
 are_few x k =
     let r = x.expanded.lawful in
@@ -66,12 +77,8 @@ are_few x k =
       regions = omega (arith, addresses, as_many, regions, few_regions);
       groups = omega (arith, groups, subjects, few_groups, most);
       subjects = omega (arith, subjects, most);
-      tables = λ n low.
-          let s = there r.subjects n low in
-          let g = other_at (AreGrantsOf r) r.subjects x.expanded.grants n s.0 k.expansion.grants s.1 in
-          let at = tables_there x k n s.0 g.0 s.1 g.1 in
-          let end = at.end in
-          omega (arith, end);
+      tables = λ n low. (tables_placed x k n low).1;
+      whole = λ n low. (tables_placed x k n low).0;
       cpus = cpus_small r plan;
       msrs = msrs_from r k.lawful.rule_20 r.subjects x.expanded.grants (λ j s e. (j, e)) k.expansion.grants;
       grants = grants;

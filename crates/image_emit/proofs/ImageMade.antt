@@ -1,11 +1,13 @@
 -- What the parts that were made one after another come to.
-use Rattle.std.proofs.Common.{◌≡◌, refl, sym, ap, ap₂, subst, ℕ, List, length, Option}
+use Rattle.std.proofs.Common.{◌≡◌, refl, sym, ap, ap₂, subst, ℕ, List, length, map, Option}
+use Rattle.std.specs.List.{All}
 use Rattle.std.specs.List.Sorted.{IsPermutation}
+use Rattle.binary_form.specs.Form.{IsBytes}
 use Rattle.event_emit.specs.Tables.{AreDevices}
 use Rattle.image_emit.proofs.Conditions.{keeps}
 use Rattle.image_emit.proofs.ContentLengths.{contents_kept}
 use Rattle.image_emit.specs.Gathered.{AreParts, IsHeld}
-use Rattle.image_emit.specs.Made.{IsFilled, IsImageOf, IsMade, Made, choice_of, image_of}
+use Rattle.image_emit.specs.Made.{IsFilled, IsImageOf, IsMade, Made, choice_of, content_at, image_of}
 use Rattle.image_emit.specs.Named.{AreNamed}
 use Rattle.image_pack.proofs.ConditionsFit.{conditions_fit}
 use Rattle.image_pack.specs.Parts.{IsParts, counted}
@@ -67,6 +69,9 @@ image_of_parts x things spans held parts plan devices cpus tau0 known named fill
     (subst (λ t. IsImageOf x things (counted x.expanded.lawful.processor.logical_cpus t spans parts plan devices held)) (sym chosen)
     (image_made x things spans held parts plan devices known named filled numbered are h p plans are_devices))
 
--- it keeps the conditions of an image
-pub parts_fit : (x : Placement) (things : List (List ℕ)) (i : Image) → IsImageOf x things i → IsParts i
-parts_fit x things i m = subst (λ j. IsParts j) (sym m.image) (conditions_fit (image_of m.made) (keeps m.made m.is (contents_kept m.made m.is)))
+-- it keeps the conditions of an image, where what its spans hold are bytes
+pub parts_fit : (x : Placement) (things : List (List ℕ)) (i : Image) → IsImageOf x things i → All IsBytes i.contents → IsParts i
+unfolding image_of
+parts_fit x things i m bytes =
+    let same : i.contents ≡ map (content_at m.made) m.made.spans = ap (λ (j : Image). j.contents) m.image in
+    subst (λ j. IsParts j) (sym m.image) (conditions_fit (image_of m.made) (keeps m.made m.is (contents_kept m.made m.is (subst (All IsBytes) same bytes))))

@@ -11,8 +11,9 @@ use Rattle.image_emit.proofs.PlanSubjects.{same_reached}
 use Rattle.image_emit.proofs.SpansAt.{at_number}
 use Rattle.image_emit.specs.Made.{IsMade, Made, content_at, image_of, policy_of}
 use Rattle.image_soundness.specs.Memory.{span_at}
-use Rattle.image_soundness.specs.Named.{bench_device, bench_of, tag_at, window_memory}
+use Rattle.image_soundness.specs.Named.{bench_device, tag_at, window_memory}
 use Rattle.image_soundness.specs.Sound.{IsDeviceOf, IsIrqOf}
+use Rattle.image_soundness.specs.Targets.{target_index}
 use Rattle.image_pack.specs.Codes.{part_name}
 use Rattle.image_pack.specs.declared.parts.DevicePart.{DevicePart}
 use Rattle.image_pack.specs.declared.parts.Image.{Image}
@@ -26,11 +27,10 @@ use Rattle.policy_lawful.specs.Thing.{device_memory, thing_tag}
 use Rattle.policy_types.specs.declared.source.Device.{Device as SourceDevice}
 use Rattle.policy_types.specs.declared.source.DeviceMemory.{DeviceMemory}
 use Rattle.policy_types.specs.declared.source.Irq.{Irq}
-use Rattle.record_text.specs.Bench.{Bench, BenchDevice}
 use Rattle.policy_lawful.proofs.KeptAddresses.{IsPhysical}
 use Rattle.span_emit.proofs.KeptDevices.{devices_physical}
 use Rattle.span_emit.specs.Spans.{device_span, device_spans, memories_of, region_spans, spans_of}
-use Rattle.image_soundness.specs.Bench.{bench_device as device_of, devices_of}
+use Rattle.image_soundness.specs.Bench.{bench_device as device_of}
 
 -- ---- memory
 
@@ -138,20 +138,12 @@ other_memory i first d ds has k x at =
     let n : first + (length (named_memory d) + k) ≡ first + length d.memory + k = omega (arith, many) in
     subst (λ n. HasMemory i n x) n (has (length (named_memory d) + k) x (get_right (named_memory d) (memories_of ds) k ∙ at))
 
-bench_devices_are : (i : Image) (r : Resolution) (first : ℕ) (ds : List SourceDevice) (qs : List DevicePart) → AreDevices r first ds qs → HasMemories i first (memories_of ds) → map (bench_device i) qs ≡ map device_of ds
-unfolding AreDevices
-bench_devices_are i r first [] [] are has = refl
-bench_devices_are i r first [] (q ∷ qs) are has = absurd are
-bench_devices_are i r first (d ∷ ds) [] are has = absurd are
-bench_devices_are i r first (d ∷ ds) (q ∷ qs) are has =
-    ap (λ b. b ∷ map (bench_device i) qs) (bench_device_is i first d q r are.0 (first_memory i first d ds has))
-    ∙ ap (λ bs. device_of d ∷ bs) (bench_devices_are i r (first + length d.memory) ds qs are.1 (other_memory i first d ds has))
-
-irqs_reach : (m : Made) → IsMade m → (d : SourceDevice) (irqs : List Irq) (parts : List IrqPart) → AllZip (IsIrq (policy_of m) d) irqs parts → AllZip (IsIrqOf (source_of (policy_of m)) (image_of m) d) irqs parts
+irqs_reach : (m : Made) → IsMade m → (d : SourceDevice) (irqs : List Irq) (parts : List IrqPart) → AllZip (IsIrq (policy_of m) d) irqs parts → AllZip (IsIrqOf (source_of (policy_of m)) d) irqs parts
 irqs_reach m h d [] [] are = tt
 irqs_reach m h d [] (q ∷ qs) are = absurd are
 irqs_reach m h d (j ∷ js) [] are = absurd are
-irqs_reach m h d (j ∷ js) (q ∷ qs) are = (same_reached m h q.target ∙ are.0.target, irqs_reach m h d js qs are.1)
+irqs_reach m h d (j ∷ js) (q ∷ qs) are =
+    (same_reached m h q.target are.0.granted ∙ ap (option_map (target_index (source_of (policy_of m)))) are.0.target, irqs_reach m h d js qs are.1)
 
 devices_are : (m : Made) → IsMade m → (first : ℕ) (ds : List SourceDevice) (qs : List DevicePart) → AreDevices (policy_of m) first ds qs → HasMemories (image_of m) first (memories_of ds)
     → AllZip (IsDeviceOf (source_of (policy_of m)) (image_of m)) ds qs
@@ -161,6 +153,7 @@ devices_are m h first [] (q ∷ qs) are has = absurd are
 devices_are m h first (d ∷ ds) [] are has = absurd are
 devices_are m h first (d ∷ ds) (q ∷ qs) are has = (
   record {
+    may = bench_device_is (image_of m) first d q (policy_of m) are.0 (first_memory (image_of m) first d ds has);
     windows = windows_are (image_of m) first d q (policy_of m) are.0 (first_memory (image_of m) first d ds has);
     irqs = irqs_reach m h d d.irqs q.irqs are.0.irqs;
   },
@@ -168,14 +161,6 @@ devices_are m h first (d ∷ ds) (q ∷ qs) are has = (
 )
 
 -- ---- of the policy
-
--- **the bench** of the image is the policy's
-pub bench_of_policy : (m : Made) → IsMade m → bench_of (image_of m) ≡ devices_of (source_of (policy_of m))
-unfolding bench_of image_of source_of
-bench_of_policy m h =
-    let r = policy_of m in
-    let whole : List BenchDevice → Bench = λ devices. record { cpus = r.processor.logical_cpus; devices = devices } in
-    ap whole (bench_devices_are (image_of m) r (length m.placed.expanded.regions) r.devices m.devices h.devices (has_memories m h))
 
 -- **the devices** of the image are the policy's
 pub devices_of_policy : (m : Made) → IsMade m → AllZip (IsDeviceOf (source_of (policy_of m)) (image_of m)) (source_of (policy_of m)).devices (image_of m).devices

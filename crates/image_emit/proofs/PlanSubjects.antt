@@ -8,27 +8,31 @@ use Rattle.std.proofs.lemmas.List.{get_or-map, length-map}
 use Rattle.std.proofs.lemmas.List.Sums.{sum_by-cons}
 use Rattle.std.proofs.lemmas.Option.{get_or_from_slice_get, slice_get-map, slice_get_within}
 use Rattle.std.proofs.lemmas.Slice.Zip.{AllZip-long}
-use Rattle.event_emit.specs.Tables.{AreTables, irq_named, part_raised}
+use Rattle.event_emit.specs.Tables.{AreTables, IsEntry, IsIrqTarget, IsTable, irq_named, part_raised}
 use Rattle.event_emit.specs.declared.event_tables.EventTables.{EventTables}
+use Rattle.expand_grants.proofs.Counted.{uncounted}
 use Rattle.expand_grants.specs.Grants.{AreGrantsOf, target_named}
 use Rattle.expand_grants.specs.declared.granted.Grants.{Grants}
 use Rattle.image_emit.specs.Made.{IsMade, Made, group_at, image_of, policy_of, subject_part}
-use Rattle.image_soundness.specs.Named.{raised, reached, target}
-use Rattle.image_soundness.specs.Sound.{ForEachSubject, IsSubjectOf}
+use Rattle.image_soundness.specs.Sound.{IsSubjectOf}
+use Rattle.image_soundness.specs.Targets.{IndexedEvent, IndexedTarget, at_index, entry_event, event_index, irq_target, subject_index, target_index}
 use Rattle.image_pack.specs.declared.parts.EventPart.{EventPart}
 use Rattle.muen_num.specs.declared.devices.IrqTarget.{IrqTarget}
 use Rattle.image_pack.specs.declared.parts.SubjectPart.{SubjectPart}
 use Rattle.muen_num.proofs.Lists.{list_any-map, passes_at, position-map}
+use Rattle.muen_num.specs.declared.limits.TheConstants.{MOST_CALLS}
 use Rattle.policy_lawful.proofs.KeptMembers.{members_kept}
-use Rattle.policy_lawful.proofs.Indexes.{same_name}
+use Rattle.policy_lawful.proofs.Indexes.{position_is, same_name}
 use Rattle.policy_lawful.proofs.SourceElements.{parts_in_range}
 use Rattle.policy_lawful.proofs.UniqueNames.{subject_names, subjects_unique}
 use Rattle.policy_lawful.specs.Resolution.{Resolution, group_named, group_in_range, name_at, source_of, subject_named}
 use Rattle.policy_lawful.specs.Rules.{repeated, times_listed}
 use Rattle.policy_lawful.specs.declared.resolved.Group.{Group as ResolvedGroup}
 use Rattle.policy_lawful.specs.declared.resolved.Subject.{Subject}
-use Rattle.policy_lawful.specs.Events.{Raised, Target}
+use Rattle.policy_lawful.specs.Events.{event_of}
 use Rattle.policy_types.specs.declared.source.Group.{Group}
+use Rattle.policy_types.specs.declared.source.SourceWay.{SourceWay}
+use Rattle.policy_types.specs.declared.source.SourceWay.TheVariants.{Call, Trap}
 use Rattle.region_alloc.specs.Placed.{Placement}
 use Rattle.policy_lawful.specs.Frames.{group_of}
 
@@ -63,15 +67,6 @@ some_passes test f none (x ∷ xs) l =
           let later : position_or_len test xs < length xs = some_passes test f none xs (omega (arith, l, sum, zero)) in
           omega (arith, later)
     ] refl
-
-uncounted : {X : Type 0} (test : X → Bool) (xs : List X) → list_any test xs ≡ false → count_by test xs ≡ 0
-uncounted test [] h = refl
-uncounted test (x ∷ xs) h =
-    let sum : count_by test (x ∷ xs) ≡ cond (test x) 1 0 + count_by test xs = sum_by-cons (λ y. cond (test y) 1 0) x xs in
-    elim (test x) as (λ b. (b || list_any test xs) ≡ false → count_by test (x ∷ xs) ≡ cond b 1 0 + count_by test xs → count_by test (x ∷ xs) ≡ 0) [
-      | true ↦ λ k _. absurd (cc)
-      | false ↦ λ k e. let later : count_by test xs ≡ 0 = uncounted test xs k in omega (arith, e, later)
-    ] h sum
 
 -- ---- groups
 
@@ -133,37 +128,61 @@ names_in_image m h =
     names_are m.placed 0 r.subjects m.placed.expanded.grants m.events (AllZip-long (AreGrantsOf r) r.subjects m.placed.expanded.grants h.expansion.grants)
     (AllZip-long (AreTables r) r.subjects m.events h.events)
 
-same_target : (m : Made) → IsMade m → (subject : ℕ) (vector : Option ℕ) → target (image_of m) subject vector ≡ target_named (policy_of m) subject vector
-same_target m h subject vector =
-    let by : List (List ℕ) → Target = λ names. record { subject = slice_index_or names subject []; vector = vector } in
-    ap by (names_in_image m h)
+-- the index of a subject, by its name
+index_of_name : (r : Resolution) (k : ℕ) → repeated (subject_names r) ≡ None → k < length r.subjects → subject_index (source_of r) (name_at (subject_names r) k) ≡ Some k
+unfolding source_of
+index_of_name r k unique within =
+    let name = name_at (subject_names r) k in
+    let subjects = map (subject_named r) r.subjects in
+    let many : length subjects ≡ length r.subjects = length-map r.subjects (subject_named r) in
+    let names : length (subject_names r) ≡ length r.subjects = length-map r.subjects (λ s. s.name) in
+    let at : position_or_len (λ s. bytes_eq s.name name) subjects ≡ k =
+    position-map (λ s. bytes_eq s.name name) (subject_named r) r.subjects
+    ∙ sym (position-map (λ m. bytes_eq m name) (λ s. s.name) r.subjects)
+    ∙ position_is (subject_names r) k unique (omega (arith, names, within)) in
+    position_there (λ s. bytes_eq s.name name) subjects (omega (arith, at, many, within)) ∙ ap Some at
 
-same_raised : (m : Made) → IsMade m → (o : Option EventPart) → option_map (raised (image_of m)) o ≡ option_map (part_raised (policy_of m)) o
-same_raised m h None = refl
-same_raised m h (Some e) =
-    let by : Target → Raised = λ t. record { mode = e.mode; target = t } in
-    ap (λ t. Some (by t)) (same_target m h e.target e.vector)
+-- the target at an index is that of its name
+same_target : (m : Made) → IsMade m → (subject : ℕ) (vector : Option ℕ) → subject < length (policy_of m).subjects → at_index subject vector ≡ target_index (source_of (policy_of m)) (target_named (policy_of m) subject vector)
+same_target m h subject vector within =
+    let by : Option ℕ → IndexedTarget = λ n. record { subject = n; vector = vector } in
+    ap by (sym (index_of_name (policy_of m) subject (subjects_unique (policy_of m) h.resolved.names) within))
 
-pub same_reached : (m : Made) → IsMade m → (o : Option IrqTarget) → option_map (reached (image_of m)) o ≡ option_map (irq_named (policy_of m)) o
-same_reached m h None = refl
-same_reached m h (Some t) = ap Some (same_target m h t.subject (Some t.vector))
+same_event : (m : Made) → IsMade m → (o : Option EventPart) → IsEntry (length (policy_of m).subjects) o
+    → option_map entry_event o ≡ option_map (event_index (source_of (policy_of m))) (option_map (part_raised (policy_of m)) o)
+same_event m h None is = refl
+same_event m h (Some e) is =
+    let by : IndexedTarget → IndexedEvent = λ t. record { mode = e.mode; target = t } in
+    ap (λ t. Some (by t)) (same_target m h e.target e.vector is.0)
+
+pub same_reached : (m : Made) → IsMade m → (o : Option IrqTarget) → IsIrqTarget (length (policy_of m).subjects) o
+    → option_map irq_target o ≡ option_map (target_index (source_of (policy_of m))) (option_map (irq_named (policy_of m)) o)
+same_reached m h None is = refl
+same_reached m h (Some t) is = ap Some (same_target m h t.subject (Some t.vector) is.0)
 
 -- ---- subjects
 
 module _ (m : Made) (h : IsMade m) where
+  -- what a table has at a number is the policy's event
+  events_are : (s : Subject) (way : ℕ → SourceWay) (table : List (Option EventPart)) → IsTable (policy_of m) s way table → (n : ℕ) → n < MOST_CALLS
+      → option_map entry_event (slice_index_or table n None) ≡ option_map (event_index (source_of (policy_of m))) (event_of (source_of (policy_of m)) (subject_named (policy_of m) s) (way n))
+  events_are s way table is n l =
+      let many = is.many in
+      same_event m h (slice_index_or table n None) (is.entries n None (omega (arith, many, l))) ∙ ap (option_map (event_index (source_of (policy_of m)))) (is.raises n l)
+
   is_subject : (k : ℕ) (s : Subject) (g : Grants) (t : EventTables) → slice_get (policy_of m).subjects k ≡ Some s → AreTables (policy_of m) s t
-      → IsSubjectOf (source_of (policy_of m)) (image_of m) (subject_named (policy_of m) s) (subject_part m.placed (k, (s, (g, t))))
+      → IsSubjectOf (source_of (policy_of m)) (subject_named (policy_of m) s) (subject_part m.placed (k, (s, (g, t))))
   is_subject k s g t at are = record {
     name = refl;
     cpu = refl;
     in_group = in_group m h k s at;
-    calls = λ n l. same_raised m h (slice_index_or t.calls n None) ∙ are.calls.raises n l;
-    traps = λ n l. same_raised m h (slice_index_or t.traps n None) ∙ are.traps.raises n l;
+    calls = events_are s Call t.calls are.calls;
+    traps = events_are s Trap t.traps are.traps;
   }
 
   each_subject : (from : ℕ) (ss : List Subject) (gs : List Grants) (ts : List EventTables) → length gs ≡ length ss → AllZip (AreTables (policy_of m)) ss ts
       → ((k : ℕ) (s : Subject) → slice_get ss k ≡ Some s → slice_get (policy_of m).subjects (from + k) ≡ Some s)
-      → AllZip (IsSubjectOf (source_of (policy_of m)) (image_of m)) (map (subject_named (policy_of m)) ss) (map (subject_part m.placed) (enumerate_from from (zip ss (zip gs ts))))
+      → AllZip (IsSubjectOf (source_of (policy_of m))) (map (subject_named (policy_of m)) ss) (map (subject_part m.placed) (enumerate_from from (zip ss (zip gs ts))))
   each_subject from [] gs ts a are at = tt
   each_subject from (s ∷ ss) [] ts a are at = absurd (omega (arith, a))
   each_subject from (s ∷ ss) (g ∷ gs) [] a are at = absurd are
@@ -174,7 +193,7 @@ module _ (m : Made) (h : IsMade m) where
       )
 
   -- **the subjects** of the image are the policy's
-  pub subjects_of_policy : ForEachSubject (source_of (policy_of m)) (image_of m) (IsSubjectOf (source_of (policy_of m)) (image_of m))
+  pub subjects_of_policy : AllZip (IsSubjectOf (source_of (policy_of m))) (source_of (policy_of m)).subjects (image_of m).subjects
   unfolding source_of image_of
   subjects_of_policy =
       let r = policy_of m in

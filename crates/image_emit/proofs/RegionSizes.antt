@@ -113,7 +113,7 @@ first_many m =
     omega (arith, a, b, c, d, e, whole)
 
 -- the things have the sizes of the first regions
-pub things_sized : (m : Made) → IsMade m → map (λ b. length b) m.things ≡ map (λ r. r.size) (first_regions m)
+things_sized : (m : Made) → IsMade m → map (λ b. length b) m.things ≡ map (λ r. r.size) (first_regions m)
 things_sized m h =
     let many : length m.things ≡ length (first_regions m) = h.filled.many ∙ sym (first_many m) in
     let taken : take (length m.things) m.placed.expanded.regions ≡ first_regions m = (λ i. take (many i) (regions_are m h i)) ∙ take-append_seam (first_regions m) (last_regions m) in

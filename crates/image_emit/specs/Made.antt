@@ -11,7 +11,7 @@ use Rattle.policy_lawful.specs.ByIndex.{provided_at}
 use Rattle.expand_kernel.specs.Expansion.{IsExpansion}
 use Rattle.expand_kernel.specs.Regions.{kernel_number}
 use Rattle.expand_kernel.specs.declared.kernel.KernelRegion.TheVariants.{IoBitmaps, MsrArea, MsrBitmap, State}
-use Rattle.image_pack.specs.Parts.{counted}
+use Rattle.image_pack.specs.Parts.{IsParts, counted}
 use Rattle.image_pack.specs.SpanConditions.{AreSpans}
 use Rattle.image_pack.specs.declared.parts.DevicePart.{DevicePart}
 use Rattle.image_pack.specs.declared.parts.Image.{Image}
@@ -132,3 +132,8 @@ pub record IsImageOf (x : Placement) (things : List (List ℕ)) (i : Image) : Ty
   pub placed : made.placed ≡ x
   pub held : made.things ≡ things
   pub image : i ≡ image_of made
+
+-- .. which keeps the conditions of its format
+pub record IsEmitted (x : Placement) (things : List (List ℕ)) (i : Image) : Type 0 where
+  pub made : IsImageOf x things i
+  pub parts : IsParts i

@@ -2,10 +2,10 @@
 ghost use Rattle.std.specs.Prelude.{◌≡◌, ◌<◌, ◌^◌, length, IfOk};
 ghost use Rattle.image_emit.specs.Fitting.{AreFew};
 ghost use Rattle.image_emit.specs.Gathered.{AreAllPages, AreParts, AreReadable, IsHeld};
-ghost use Rattle.image_emit.specs.Made.{IsFilled, IsImageOf};
+ghost use Rattle.image_emit.specs.Made.{IsEmitted, IsFilled};
 ghost use Rattle.image_pack.specs.SpanConditions.{HaveDifferentNumbers};
 
-use crate::names::named;
+use crate::names::are_named;
 use crate::span_bytes::{contents, region_bytes};
 use crate::subjects::{choice_of, grants_of, subject_parts, subjects_of};
 use event_emit::{devices, tables};
@@ -91,11 +91,11 @@ fn first_device(placed: &Placed) -> u16
 pub fn emit(alloc: Global, placed: &Placed, things: Seq<Seq<u8>>) -> Result<Parts, NoMemory>
     requires filled { IsFilled placed.now things }
     requires readable { AreReadable placed.now }
-    ensures { IfOk result (IsImageOf placed.now things) }
+    ensures { IfOk result (IsEmitted placed.now things) }
 {
     let expanded = placed.expanded();
     let policy = policy_of(placed);
-    named(policy);
+    prove!(are_named(policy));
     let spans = spans(alloc, placed)?;
     let held = held(alloc, placed, things, spans.items())?;
     let subjects = subjects(alloc, placed)?;

@@ -8,39 +8,53 @@ use policy_lawful::Resolved;
 use policy_lawful::resolved::Subject;
 use policy_types::source::{Device, Irq};
 
-// The names of subjects are names.
-fn subjects_named(subjects: &[Subject])
-    ensures { list_all (λ s. is_name s.name) subjects.now ≡ true }
+// Whether the names of subjects are some: they are, since their type says so. So for what follows.
+#[tactic(auto, unfolding(muen_num::specs::Naming::is_name))]
+fn subjects_are_named(subjects: &[Subject]) -> bool
+    ensures named { list_all (λ s. is_name s.name) subjects.now ≡ true }
+    ensures holds { result ≡ true }
 {
     for subject in subjects {
-        let _name = subject.name.bytes();
+        if subject.name.bytes().is_empty() {
+            return false;
+        }
     }
+    true
 }
 
-// So are those of interrupts.
-fn irqs_named(irqs: &[Irq])
-    ensures { list_all (λ i. is_name i.name) irqs.now ≡ true }
+// Of interrupts.
+#[tactic(auto, unfolding(muen_num::specs::Naming::is_name))]
+fn irqs_are_named(irqs: &[Irq]) -> bool
+    ensures named { list_all (λ i. is_name i.name) irqs.now ≡ true }
+    ensures holds { result ≡ true }
 {
     for irq in irqs {
-        let _name = irq.name.bytes();
+        if irq.name.bytes().is_empty() {
+            return false;
+        }
     }
+    true
 }
 
-// And of devices.
-fn devices_named(devices: &[Device])
-    ensures { list_all (λ d. is_name d.name && list_all (λ i. is_name i.name) d.irqs) devices.now ≡ true }
+// Of devices, with their interrupts.
+#[tactic(auto, unfolding(muen_num::specs::Naming::is_name))]
+fn devices_are_named(devices: &[Device]) -> bool
+    ensures named { list_all (λ d. is_name d.name && list_all (λ i. is_name i.name) d.irqs) devices.now ≡ true }
+    ensures holds { result ≡ true }
 {
     for device in devices {
-        let _name = device.name.bytes();
-        irqs_named(device.irqs.items());
+        if device.name.bytes().is_empty() || !irqs_are_named(device.irqs.items()) {
+            return false;
+        }
     }
+    true
 }
 
-/// Reads the names of a policy's subjects, of its devices and of their interrupts, which are names since
-/// their type says so.
-pub(crate) fn named(policy: &Resolved)
-    ensures { AreNamed policy.now }
+/// Whether a policy's subjects, its devices and their interrupts have names: each has, as no name is
+/// empty.
+pub(crate) fn are_named(policy: &Resolved) -> bool
+    ensures named { AreNamed policy.now }
+    ensures holds { result ≡ true }
 {
-    subjects_named(policy.subjects());
-    devices_named(policy.devices());
+    subjects_are_named(policy.subjects()) && devices_are_named(policy.devices())
 }

@@ -1,5 +1,7 @@
 //! What the spans of an image hold.
 ghost use Rattle.std.specs.Prelude.{◌≡◌, ◌++◌, [], flat_map, map, slice_index_or, slice_set, IfOk, OnOk};
+ghost use Rattle.std.specs.List.{All};
+ghost use Rattle.binary_form.specs.Form.{IsBytes};
 ghost use Rattle.image_emit.specs.Made.{kernel_bytes};
 ghost use Rattle.image_pack.specs.SpanConditions.{HaveDifferentNumbers};
 
@@ -43,15 +45,16 @@ pub(crate) fn region_bytes(
 }
 
 // What the region of this number holds, which is taken away; nothing, where there is none.
-fn take(alloc: Global, bytes: &mut Vec<Seq<u8>>, number: u16) -> Seq<u8>
-    ensures taken { result ≡ slice_index_or bytes.old.items number [] }
+fn take(alloc: Global, bytes: &mut Vec<Seq<u8>>, number: u16) -> Vec<u8>
+    ensures taken { result.items ≡ slice_index_or bytes.old.items number [] }
     ensures rest { bytes.new.items ≡ slice_set bytes.old.items number [] }
+    ensures all_bytes { IsBytes result.items }
 {
     let at = usize::from(number);
     if at >= bytes.len() {
-        return Seq::new(alloc);
+        return Vec::new(alloc);
     }
-    mem::replace(&mut bytes[at], Seq::new(alloc))
+    mem::replace(&mut bytes[at], Seq::new(alloc)).into_vec()
 }
 
 /// What the spans hold, in their order, of what the regions hold by number. Each number is one span's.
@@ -61,12 +64,13 @@ pub(crate) fn contents(
     bytes: Vec<Seq<u8>>,
 ) -> Result<Seq<Seq<u8>>, NoMemory>
     requires { HaveDifferentNumbers spans.now }
-    ensures { IfOk result (λ held. held ≡ map (λ s. slice_index_or bytes.items s.number []) spans.now) }
+    ensures held { IfOk result (λ held. held ≡ map (λ s. slice_index_or bytes.items s.number []) spans.now) }
+    ensures all_bytes { IfOk result (λ held. All IsBytes held) }
 {
     let mut bytes = bytes;
     let mut held = Seq::new(alloc);
     for span in spans {
-        held.push(take(alloc, &mut bytes, span.number))?;
+        held.push(Seq::of(take(alloc, &mut bytes, span.number)))?;
     }
     Ok(held)
 }

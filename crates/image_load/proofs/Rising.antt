@@ -67,11 +67,11 @@ parts_few i fits =
 
 contents_length : (s : SpanPart) (bytes : List ℕ) → (content s).fits bytes → length (loaded_span s bytes).bytes ≡ PAGE * s.pages
 unfolding content bytes_of zero_bytes
-contents_length s bytes =
+contents_length s bytes fits =
     elim (is_device s.kind) as (λ b. length bytes ≡ (if b then 0 else PAGE * s.pages) → length (if b then zero_bytes (PAGE * s.pages) else bytes) ≡ PAGE * s.pages) [
-      | true ↦ λ h. length-replicate (PAGE * s.pages) 0
-      | false ↦ λ h. h
-    ]
+      | true ↦ λ long. length-replicate (PAGE * s.pages) 0
+      | false ↦ λ long. long
+    ] fits.0
 
 abbrev Follow : ℕ → List MemorySpan → Type 0
 Follow end [] = Unit {0}

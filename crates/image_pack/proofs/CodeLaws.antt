@@ -10,7 +10,7 @@ use Rattle.muen_num.specs.declared.tag.TagPart.TheVariants.{Whole, State, Ept, I
 use Rattle.binary_form.specs.declared.fault.Field.TheVariants as at
 use Rattle.binary_form.specs.Form.{either, fits_either, present, fits_there, absent}
 use Rattle.binary_form.specs.Name.{name}
-use Rattle.binary_form.proofs.Leaves.{Laws, coded_laws}
+use Rattle.binary_form.proofs.Leaves.{IsCode, Laws, coded_laws}
 use Rattle.binary_form.proofs.Forms.{both_true}
 use Rattle.image_pack.specs.Codes.{mark_in, mark_bytes, kind_of, kind_code, kind_in, kind_bytes, part_code, part_name, plain_part, part_of, is_part, mode_of, mode_code, vector_of, vector_code, event_of, if_mode, event_in, event_bytes, target_of, subject_code, irq_vector_code, is_target}
 use Rattle.image_pack.specs.Image.{mark, kind_byte, event, title, tau0_at}
@@ -57,8 +57,11 @@ unfolding mark_bytes
 mark_size true = refl
 mark_size false = refl
 
+pub mark_is_code : IsCode 8 mark_in mark_bytes
+mark_is_code = record { back = λ bytes x fits size e. mark_back bytes x e; size = λ x fits. mark_size x }
+
 pub mark_laws : Laws mark
-mark_laws = coded_laws 8 mark_in mark_bytes at.Magic (record { back = λ bytes x fits size e. mark_back bytes x e; size = λ x fits. mark_size x })
+mark_laws = coded_laws 8 mark_in mark_bytes at.Magic mark_is_code
 
 pub has_tau0 : (has : Bool) (spans : ℕ) (o : Option ℕ) → (tau0_at has spans).fits o → is_some o ≡ has
 unfolding tau0_at either present absent
@@ -88,8 +91,11 @@ kind_bytes_back [] k e = absurd cc
 kind_bytes_back (n ∷ []) k e = ap (λ (m : ℕ). m ∷ []) (kind_back n k e)
 kind_bytes_back (n ∷ m ∷ ms) k e = absurd cc
 
+pub kind_is_code : IsCode 1 kind_in kind_bytes
+kind_is_code = record { back = λ bytes k fits size e. kind_bytes_back bytes k e; size = λ k fits. refl }
+
 pub kind_laws : Laws kind_byte
-kind_laws = coded_laws 1 kind_in kind_bytes at.Kind (record { back = λ bytes k fits size e. kind_bytes_back bytes k e; size = λ k fits. refl })
+kind_laws = coded_laws 1 kind_in kind_bytes at.Kind kind_is_code
 
 -- ---- parts of an owner
 
@@ -221,10 +227,12 @@ event_size : (x : Option EventPart) → length (event_bytes x) ≡ 4
 event_size None = refl
 event_size (Some e) = refl
 
+pub event_is_code : (subjects : ℕ) → IsCode 4 (event_in subjects) event_bytes
+event_is_code subjects = record { back = λ bytes x fits size e. event_bytes_back subjects bytes x size e; size = λ x fits. event_size x }
+
 pub event_laws : (h : Header) (b : ℕ) → Laws (event h b)
 unfolding event
-event_laws h b =
-    coded_laws 4 (event_in h.subjects) event_bytes at.Event (record { back = λ bytes x fits size e. event_bytes_back h.subjects bytes x size e; size = λ x fits. event_size x })
+event_laws h b = coded_laws 4 (event_in h.subjects) event_bytes at.Event (event_is_code h.subjects)
 
 -- ---- whom an IRQ reaches
 

@@ -1,14 +1,13 @@
 -- Parts that keep the conditions of an image in plain words are parts of an image.
-use Rattle.std.proofs.Common.{◌≡◌, refl, sym, subst, zero-add, arith, ◌==◌, ℕ, zero, suc, ◌+◌, ◌*◌, ◌<◌, ◌≤◌, ◌^◌, not, Bool, true, false, List, [], ◌∷◌, length, get_or, replicate, inl, inr, le-leb, lt-ltb, nat_le, Option, Some, None}
+use Rattle.std.proofs.Common.{◌≡◌, refl, sym, subst, zero-add, arith, ◌==◌, ℕ, zero, suc, ◌+◌, ◌*◌, ◌<◌, ◌≤◌, ◌^◌, not, Bool, true, false, List, [], ◌∷◌, length, get_or, replicate, inl, inr, le-leb, lt-ltb, Option, Some, None}
 use Rattle.std.specs.Prelude.{is_some}
 use Rattle.std.specs.List.{All, AllZip, sum_by}
 use Rattle.std.proofs.lemmas.List.{length-replicate}
-use Rattle.std.proofs.lemmas.Bool.{cases_eq, ne_eqb, leb-true}
+use Rattle.std.proofs.lemmas.Bool.{cases_eq, ne_eqb}
 use Rattle.muen_num.specs.declared.limits.TheConstants.{MOST_BLOCK_BYTES, MOST_DEVICE_BYTES, PAGE}
 use Rattle.binary_form.specs.Form.{each_fit, each, bytes_of, field, only, gap, done, number, byte, coded, either, present, absent, items}
-use Rattle.binary_form.proofs.Forms.{both_true}
 use Rattle.image_pack.specs.Codes.{is_own, mark_bytes, mark_in}
-use Rattle.image_pack.specs.Image.{content, counts, no_spans_before, header, image, is_between, suits_tau0, tau0_at}
+use Rattle.image_pack.specs.Image.{content, counts, no_spans_before, header, image, suits_tau0, tau0_at}
 use Rattle.image_pack.specs.ImageConditions.{IsChoice, IsContent, KeepsConditions}
 use Rattle.image_pack.specs.SpanConditions.{device_pages_of, pages_of}
 use Rattle.image_pack.specs.declared.parts.Image.{Image}
@@ -16,6 +15,7 @@ use Rattle.image_pack.specs.declared.parts.SpanPart.{SpanPart}
 use Rattle.image_pack.proofs.SpansFit.{GoOn, right, spans_fit}
 use Rattle.image_pack.proofs.SubjectsFit.{groups_fit, subjects_fit}
 use Rattle.image_pack.proofs.FramesFit.{majors_fit}
+use Rattle.image_pack.proofs.FramesKeep.{high_end}
 use Rattle.image_pack.proofs.DevicesFit.{devices_fit}
 
 -- ---- the header
@@ -24,9 +24,6 @@ mark_decodes : (has : Bool) → mark_in (mark_bytes has) ≡ Some has
 unfolding mark_in mark_bytes
 mark_decodes true = refl
 mark_decodes false = refl
-
-up_to : (low high n : ℕ) → is_between low high n ≡ true → n ≤ high
-up_to low high n h = leb-true n high (both_true (nat_le low n) (nat_le n high) h).1
 
 choice_fits : (spans : List SpanPart) (t : Option ℕ) (n : ℕ) → length spans ≡ n → n ≤ 1152 → IsChoice spans t → (tau0_at (is_some t) n).fits t
 unfolding tau0_at either present absent field only gap done number
@@ -37,10 +34,10 @@ header_fits : (i : Image) → KeepsConditions i → header.fits i.header
 unfolding header counts field only gap done number byte coded
 header_fits i k =
     let c = k.counts in
-    let cpus : i.header.cpus ≤ 8 = up_to 1 8 i.header.cpus c.cpus in
-    let subjects : i.header.subjects ≤ 32 = up_to 1 32 i.header.subjects c.few_subjects in
-    let groups : i.header.groups ≤ 32 = up_to 1 32 i.header.groups c.few_groups in
-    let majors : i.header.majors ≤ 16 = up_to 1 16 i.header.majors c.few_majors in
+    let cpus : i.header.cpus ≤ 8 = high_end 1 8 i.header.cpus c.cpus in
+    let subjects : i.header.subjects ≤ 32 = high_end 1 32 i.header.subjects c.few_subjects in
+    let groups : i.header.groups ≤ 32 = high_end 1 32 i.header.groups c.few_groups in
+    let majors : i.header.majors ≤ 16 = high_end 1 16 i.header.majors c.few_majors in
     let devices : i.header.devices ≤ 32 = c.few_devices in
     let few : length i.spans ≤ 1152 = k.spans.few in
     let same = c.spans in
@@ -117,9 +114,9 @@ pub conditions_fit : (i : Image) → KeepsConditions i → image.fits i
 unfolding image field done items each
 conditions_fit i k =
     let c = k.counts in
-    let cpus : i.header.cpus ≤ 8 = up_to 1 8 i.header.cpus c.cpus in
-    let subjects : i.header.subjects ≤ 32 = up_to 1 32 i.header.subjects c.few_subjects in
-    let groups : i.header.groups ≤ 32 = up_to 1 32 i.header.groups c.few_groups in
+    let cpus : i.header.cpus ≤ 8 = high_end 1 8 i.header.cpus c.cpus in
+    let subjects : i.header.subjects ≤ 32 = high_end 1 32 i.header.subjects c.few_subjects in
+    let groups : i.header.groups ≤ 32 = high_end 1 32 i.header.groups c.few_groups in
     let many : length i.plan.groups ≡ i.header.groups = c.groups in
     let there : length i.subjects ≡ i.header.subjects = c.subjects in
     let few : length i.spans ≤ 1152 = k.spans.few in

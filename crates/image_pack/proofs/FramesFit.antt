@@ -13,7 +13,7 @@ use Rattle.image_pack.specs.Image.{add_ticks, frames, major, minor, next_cpu, no
 use Rattle.image_pack.specs.declared.outline.Outline.{Outline}
 use Rattle.image_pack.specs.declared.reading.majors.CpuTicks.{CpuTicks}
 use Rattle.image_pack.specs.declared.reading.majors.FramesBefore.{FramesBefore}
-use Rattle.image_pack.proofs.SubjectsFit.{both, group_there}
+use Rattle.image_pack.proofs.SubjectsFit.{both, group_there, next_number}
 
 record Four (a b c d : Bool) : Type 0 where
   first : a ≡ true
@@ -105,9 +105,6 @@ one_cpu o c fs few small h =
       (omega (arith, most), both _ _ (le-leb 1 (length fs) some) q.second),
       (refl, minors_fit o (no_frames_before c (length fs)) fs few (record { left = refl; each = q.third; total = λ ne. omega (arith, sum); small = small })),
     )
-
-next_number : (cpu : ℕ) → cpu < 255 → min (cpu + 1) 255 ≡ cpu + 1
-next_number cpu low = omega (arith, low)
 
 cpus_from : (o : Outline) (total cpu : ℕ) (cs : List (List Minor)) → length o.groups ≤ 32 → total < 2 ^ 32 → cpu + length cs ≤ 8
     → list_all (is_cpu o.groups total) (enumerate_from cpu cs) ≡ true → all_fit (next_cpu o) (λ c. (frames o c).fits) (record { cpu = cpu; total = total }) cs

@@ -55,11 +55,11 @@ groups_fit h gs cpus subjects all = each_fits (nothing_left h) (λ b. (group h b
 
 vector_passes : (mode : EventMode) (v : Option ℕ) → IsVector mode v → is_vector mode (vector_code v) ≡ true
 vector_passes mode None h = h
-vector_passes mode (Some v) h = rw (le-leb 32 v h) refl
+vector_passes mode (Some v) h = rw (le-leb 32 v h.0, le-leb v 255 h.1) refl
 
 vector_decodes : (mode : EventMode) (v : Option ℕ) → IsVector mode v → vector_of (vector_code v) ≡ v
 vector_decodes mode None h = refl
-vector_decodes mode (Some v) h = let some : 32 ≤ v = h in rw (ne_eqb v 0 (λ e. absurd (omega (arith, e, some)))) refl
+vector_decodes mode (Some v) h = let some : 32 ≤ v = h.0 in rw (ne_eqb v 0 (λ e. absurd (omega (arith, e, some)))) refl
 
 some_event : (n t : ℕ) (mode : EventMode) (v : Option ℕ) → t < n → IsVector mode v → event_of n t (vector_code v) mode ≡ Some (Some (record { mode = mode; target = t; vector = v }))
 unfolding event_of
@@ -163,7 +163,7 @@ one_subject i index q few k =
       ),
     )
 
-next_number : (index : ℕ) → index < 255 → min (index + 1) 255 ≡ index + 1
+pub next_number : (index : ℕ) → index < 255 → min (index + 1) 255 ≡ index + 1
 next_number index low = omega (arith, low)
 
 subjects_from : (i : Image) (index : ℕ) (qs : List SubjectPart) → FewBefore i → index + length qs ≤ 32 → All (IsSubject i) (enumerate_from index qs)

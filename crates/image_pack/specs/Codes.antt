@@ -1,7 +1,7 @@
 -- Codes of an image: which bytes stand for what (this project's own format).
 use Rattle.std.specs.Prelude.{ℕ, ◌==◌, ◌&&◌, ◌||◌, not, Bool, true, false, nat_lt, nat_le, List, [], ◌∷◌, codes, Option, Some, None, if◌then◌else◌}
 use Rattle.std.specs.Str.{bytes_eq}
-use Rattle.muen_num.specs.declared.limits.TheConstants.{FIRST_VECTOR}
+use Rattle.muen_num.specs.declared.limits.TheConstants.{FIRST_VECTOR, LAST_VECTOR}
 use Rattle.muen_num.specs.declared.mode.EventMode.{EventMode}
 use Rattle.muen_num.specs.declared.mode.EventMode.TheVariants.{Asap, Async, Own as OwnMode, Switch}
 use Rattle.muen_num.specs.declared.tag.TagPart.{TagPart}
@@ -116,9 +116,9 @@ abbrev pub vector_code : Option ℕ → ℕ
 vector_code None = 0
 vector_code (Some v) = v
 
--- a vector that isn't kept for exceptions, or none where the target becomes active
+-- a vector that isn't kept for exceptions, up to the last one, or none where the target becomes active
 abbrev pub is_vector : EventMode → ℕ → Bool
-is_vector mode n = nat_le FIRST_VECTOR n || (n == 0 && is_switch mode)
+is_vector mode n = (nat_le FIRST_VECTOR n && nat_le n LAST_VECTOR) || (n == 0 && is_switch mode)
 
 -- an event of this mode, with its target among so many subjects
 unfoldable pub event_of : ℕ → ℕ → ℕ → EventMode → Option (Option EventPart)

@@ -3,9 +3,10 @@ use Rattle.std.specs.Prelude.{◌≡◌, ℕ, ◌*◌, ◌<◌, ◌≤◌, ◌^�
 use Rattle.std.specs.List.{All, AllPairs, AllZip, enumerate_from, list_all}
 use Rattle.std.specs.Str.{bytes_eq}
 use Rattle.muen_num.specs.Naming.{is_name}
-use Rattle.muen_num.specs.declared.limits.TheConstants.{FIRST_VECTOR, MOST_CALLS, MOST_CPUS, MOST_DEVICES, MOST_MAJOR_FRAMES, MOST_MSRS, MOST_PER_DEVICE, MOST_SUBJECTS, PAGE}
+use Rattle.muen_num.specs.declared.limits.TheConstants.{FIRST_VECTOR, LAST_VECTOR, MOST_CALLS, MOST_CPUS, MOST_DEVICES, MOST_MAJOR_FRAMES, MOST_MSRS, MOST_PER_DEVICE, MOST_SUBJECTS, PAGE}
 use Rattle.muen_num.specs.declared.mode.EventMode.{EventMode}
 use Rattle.muen_num.specs.declared.tag.TagPart.TheVariants.{State, Iobm, Msrbm, Msrs}
+use Rattle.binary_form.specs.Form.{IsBytes}
 use Rattle.frame_clock.specs.Plan.{is_group_on, is_major}
 use Rattle.frame_clock.specs.declared.plan.GroupPart.{GroupPart}
 use Rattle.image_pack.specs.Codes.{is_device, is_own, is_switch, part_code}
@@ -50,10 +51,10 @@ pub record IsGroup (h : Header) (g : GroupPart) : Type 0 where
   pub cpu : g.cpu < h.cpus
   pub first : g.first < h.subjects
 
--- a vector that isn't kept for exceptions, or none where the mode needs none
+-- a vector that isn't kept for exceptions, up to the last one, or none where the mode needs none
 abbrev pub IsVector : EventMode → Option ℕ → Type 0
 IsVector mode None = is_switch mode ≡ true
-IsVector mode (Some v) = FIRST_VECTOR ≤ v
+IsVector mode (Some v) = (FIRST_VECTOR ≤ v) × (v ≤ LAST_VECTOR)
 
 -- an event reaches one of so many subjects
 abbrev pub IsEvent : ℕ → Option EventPart → Type 0
@@ -119,8 +120,12 @@ pub record IsDevice (i : Image) (d : DevicePart) : Type 0 where
 -- ---- contents
 
 -- as many bytes as the span has; a device's memory has none in the image
+abbrev pub FillsSpan : SpanPart → List ℕ → Type 0
+FillsSpan s bytes = length bytes ≡ (if is_device s.kind then 0 else PAGE * s.pages)
+
+-- each of them is a byte
 abbrev pub IsContent : SpanPart → List ℕ → Type 0
-IsContent s bytes = length bytes ≡ (if is_device s.kind then 0 else PAGE * s.pages)
+IsContent s bytes = FillsSpan s bytes × IsBytes bytes
 
 -- ---- the whole
 

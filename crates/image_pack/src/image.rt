@@ -6,7 +6,9 @@ ghost use Rattle.binary_form.specs.declared.fault.Field.{Field};
 ghost use Rattle.image_pack.specs.Image.{image};
 ghost use Rattle.image_pack.specs.ImageConditions.{KeepsConditions};
 ghost use Rattle.image_pack.specs.Parts.{IsParts, IsImage, counted};
+ghost use Rattle.image_pack.specs.Sizes.{most_image_bytes};
 ghost use Rattle.image_pack.specs.declared.parts.Image.{Image};
+ghost use Rattle.muen_num.specs.declared.limits.TheConstants.{IMAGE_MOST};
 
 use crate::outline::Header;
 use crate::parts::{DevicePart, Image, SpanPart, SubjectPart};
@@ -140,9 +142,24 @@ pub fn one_to_one()
     ensures apart { (i j : Image) → IsParts i → IsParts j → image.spell i ≡ image.spell j → i ≡ j }
 {}
 
-/// The conditions of an image in plain words: parts that keep them are parts of an image.
+/// The conditions of an image in plain words.
 pub fn conditions()
-    ensures { (i : Image) → KeepsConditions i → IsParts i }
+    // Parts that keep them are parts of an image,
+    ensures enough { (i : Image) → KeepsConditions i → IsParts i }
+    // and so do all parts of one.
+    ensures kept { (i : Image) → IsParts i → KeepsConditions i }
+{}
+
+/// What an image is made of.
+pub fn images_are_bytes()
+    // Parts are spelled in bytes,
+    ensures spelled { (i : Image) → IsParts i → IsBytes (image.spell i) }
+    // so an image is made of bytes,
+    ensures bytes { (bytes : List ℕ) (i : Image) → IsImage bytes i → IsBytes bytes }
+    // of no more than the longest image has,
+    ensures bounded { (bytes : List ℕ) (i : Image) → IsImage bytes i → length bytes ≤ most_image_bytes }
+    // which the file of an image may have.
+    ensures within { most_image_bytes ≤ IMAGE_MOST }
 {}
 
 /// The fault is the first one.

@@ -1,1 +1,4 @@
 pub mod MemoryPages
+pub mod NamesOfTargets
+pub mod SoundFacts
+pub mod SubjectsOfBoth

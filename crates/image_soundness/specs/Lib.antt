@@ -1,4 +1,6 @@
 pub mod Bench
 pub mod Memory
 pub mod Named
+pub mod Sizes
 pub mod Sound
+pub mod Targets

@@ -1,12 +1,15 @@
 -- When an image is sound for a policy and its files (this project's own; tables, bitmaps and areas as in Intel SDM volume 3).
-use Rattle.std.specs.Prelude.{◌≡◌, ℕ, ◌+◌, ◌*◌, ◌<◌, ◌==◌, ◌&&◌, not, Bool, true, false, List, [], ◌∷◌, ◌++◌, map, filter, length, nat_le, slice_index_or, zip, Some, None, option_map}
+use Rattle.std.specs.Prelude.{◌≡◌, ℕ, ◌+◌, ◌*◌, ◌<◌, ◌==◌, ◌&&◌, not, Bool, true, false, List, [], ◌∷◌, ◌++◌, map, filter, length, nat_le, slice_index_or, take, zip, Some, None, option_map}
 use Rattle.std.specs.Option.{option_map_or}
 use Rattle.std.specs.List.{All, AllPairs, AllZip, find, list_any}
 use Rattle.std.specs.List.Sorted.{IsPermutation}
 use Rattle.expand_grants.specs.Resources.{are_granted, is_granted, msrs_of, ports_of}
 use Rattle.image_soundness.specs.Memory.{Span, bytes_at, bytes_of, by_number, memory_of, page_at, address_at}
-use Rattle.image_soundness.specs.Named.{bench_of, raised, reached, tag_at}
+use Rattle.image_soundness.specs.Named.{bench_device, tag_at}
+use Rattle.image_soundness.specs.Sizes.{declared_size}
+use Rattle.image_soundness.specs.Targets.{entry_event, event_index, irq_target, target_index}
 use Rattle.image_pack.specs.Codes.{part_code}
+use Rattle.image_pack.specs.Parts.{IsParts}
 use Rattle.image_pack.specs.SpanConditions.{end_of}
 use Rattle.image_pack.specs.declared.parts.DevicePart.{DevicePart}
 use Rattle.image_pack.specs.declared.parts.Image.{Image}
@@ -35,13 +38,13 @@ use Rattle.policy_types.specs.declared.source.Source.{Source}
 use Rattle.policy_types.specs.declared.source.SourceWay.TheVariants.{Call, Trap}
 use Rattle.policy_types.specs.declared.source.Subject.{Subject}
 use Rattle.state_page.specs.StatePage.{page_bytes}
-use Rattle.image_soundness.specs.Bench.{devices_of}
+use Rattle.image_soundness.specs.Bench.{bench_device as device_of}
 use Rattle.policy_lawful.specs.Frames.{group_of}
 use Rattle.state_page.specs.States.{started}
 
--- of each subject of the policy and its part of the image, in order
+-- of each subject that both have, by its index: the policy's, and its part of the image
 abbrev pub ForEachSubject : Source → Image → (Subject → SubjectPart → Type 0) → Type 0
-ForEachSubject p i Holds = AllZip Holds p.subjects i.subjects
+ForEachSubject p i Holds = All (λ e. Holds e.0 e.1) (zip p.subjects i.subjects)
 
 -- ---- contents: which spans there are
 
@@ -60,11 +63,11 @@ is_kernel kind = false
 abbrev pub thing_spans : Image → List Span
 thing_spans i = filter (λ e. not (is_kernel e.0.kind)) (by_number i)
 
--- a span is that of a thing: it has its name, kind and size, and its bytes at the start
+-- a span is that of a thing: it has its name, its kind, the size that the policy declares, and its bytes at the start
 pub record IsSpanOf (p : Source) (files : Held) (x : Thing) (e : Span) : Type 0 where
   pub tag : e.0.tag ≡ thing_tag x
   pub kind : e.0.kind ≡ kind_of x
-  pub size : PAGE * e.0.pages ≡ length (initial_bytes p files x)
+  pub size : declared_size p x ≡ Some (PAGE * e.0.pages)
   pub bytes : bytes_of e ≡ initial_bytes p files x
 
 -- **the contents**: the spans that aren't the kernel's are the things of the policy, in their order
@@ -137,48 +140,56 @@ own_spans q = q.state ∷ q.iobm ∷ q.msrbm ∷ q.area ∷ []
 abbrev pub share_a_span : SubjectPart → SubjectPart → Bool
 share_a_span a b = list_any (λ n. list_any (λ m. m == n) (own_spans b)) (own_spans a)
 
--- **own pages**: no two subjects share one of these spans
-abbrev pub HaveOwnPages : Image → Type 0
-HaveOwnPages i = AllPairs (λ a b. share_a_span a b ≡ false) i.subjects
+-- no two of these share one of these spans
+abbrev pub ShareNoSpan : List SubjectPart → Type 0
+ShareNoSpan subjects = AllPairs (λ a b. share_a_span a b ≡ false) subjects
+
+-- **own pages**: no two of the subjects that both have share one of these spans
+abbrev pub HaveOwnPages : Source → Image → Type 0
+HaveOwnPages p i = ShareNoSpan (take (length p.subjects) i.subjects)
 
 -- ---- plan and events
 
--- a subject is that of the policy: its name, CPU and group, and what its calls and traps raise
-pub record IsSubjectOf (p : Source) (i : Image) (s : Subject) (q : SubjectPart) : Type 0 where
+-- a subject is that of the policy: its name, CPU and group, and what its calls and traps raise, by the targets' indexes
+pub record IsSubjectOf (p : Source) (s : Subject) (q : SubjectPart) : Type 0 where
   pub name : q.name ≡ s.name
   pub cpu : q.cpu ≡ s.cpu
   pub in_group : group_of p s.name ≡ Some q.group
-  pub calls : (n : ℕ) → n < MOST_CALLS → option_map (raised i) (slice_index_or q.calls n None) ≡ event_of p s (Call n)
-  pub traps : (n : ℕ) → n < MOST_CALLS → option_map (raised i) (slice_index_or q.traps n None) ≡ event_of p s (Trap n)
+  pub calls : (n : ℕ) → n < MOST_CALLS → option_map entry_event (slice_index_or q.calls n None) ≡ option_map (event_index p) (event_of p s (Call n))
+  pub traps : (n : ℕ) → n < MOST_CALLS → option_map entry_event (slice_index_or q.traps n None) ≡ option_map (event_index p) (event_of p s (Trap n))
 
 -- an interrupt goes where the policy grants it
-abbrev pub IsIrqOf : Source → Image → SourceDevice → Irq → IrqPart → Type 0
-IsIrqOf p i d irq q = option_map (reached i) q.target ≡ irq_of p d.name irq.name
+abbrev pub IsIrqOf : Source → SourceDevice → Irq → IrqPart → Type 0
+IsIrqOf p d irq q = option_map irq_target q.target ≡ option_map (target_index p) (irq_of p d.name irq.name)
 
--- a device's windows are the spans of its own memory, in order, and its interrupts are the policy's
+-- a device is that of the policy: a record may name the same of it, its windows are the spans of its own memory, in order, and
+-- its interrupts go where the policy's do
 pub record IsDeviceOf (p : Source) (i : Image) (d : SourceDevice) (q : DevicePart) : Type 0 where
+  pub may : bench_device i q ≡ device_of d
   pub windows : map (λ w. tag_at i w.span) q.windows ≡ map (λ m. Some (thing_tag (device_memory d.name m.name))) d.memory
-  pub irqs : AllZip (IsIrqOf p i d) d.irqs q.irqs
+  pub irqs : AllZip (IsIrqOf p d) d.irqs q.irqs
 
--- **plan and events**: CPUs, subjects, groups, frames, devices and the scheduler subject's region are the policy's
+-- **plan and events**: subjects, CPUs, groups, frames, the scheduler subject's region and devices are the policy's
 pub record HasPlanAndEvents (p : Source) (i : Image) : Type 0 where
+  pub many : length i.subjects ≡ length p.subjects
+  pub subjects : ForEachSubject p i (IsSubjectOf p)
+  pub cpus : i.header.cpus ≡ p.processor.logical_cpus
   pub plan : IsPlanOf p i.plan
-  pub subjects : ForEachSubject p i (IsSubjectOf p i)
-  -- the CPUs; each device's name, ports, memory and interrupts
-  pub bench : bench_of i ≡ devices_of p
-  pub devices : AllZip (IsDeviceOf p i) p.devices i.devices
   pub tau0 : option_map (tag_at i) i.header.tau0 ≡ option_map (λ t. Some (thing_tag (region t.region))) p.scheduling.tau0
+  pub devices : AllZip (IsDeviceOf p i) p.devices i.devices
 
 -- ---- the whole
 
 -- **the image is sound** for a policy and files that hold this
 pub record IsSound (p : Source) (files : Held) (i : Image) : Type 0 where
   pub lawful : IsLawful p
+  -- it keeps the conditions of its format
+  pub parts : IsParts i
   pub contents : AreContents p files i
   pub walks : ForEachSubject p i (HasWalks p i)
   pub tables : ForEachSubject p i (λ s q. ReadsTables i q)
   pub bitmaps : ForEachSubject p i (HasBitmaps p i)
   pub msr_areas : ForEachSubject p i (HasArea i)
   pub fresh_states : ForEachSubject p i (IsFresh i)
-  pub own_pages : HaveOwnPages i
+  pub own_pages : HaveOwnPages p i
   pub plan_and_events : HasPlanAndEvents p i

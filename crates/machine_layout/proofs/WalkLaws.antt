@@ -1,13 +1,13 @@
 -- A walk depends on the entries that it reads.
 use Rattle.std.proofs.Common.{◌≡◌, ℕ, zero, suc, ◌/◌, Bool, true, false, cond, List, [], ◌∷◌, Option, Some, None, refl, ap, ◌∙◌, eqb, arith}
-use Rattle.std.specs.Prelude.{bit_and, ◌&&◌, ◌||◌, not}
+use Rattle.std.specs.Prelude.{bit_and, ◌&&◌, ◌||◌, not, option_map}
 use Rattle.std.specs.List.{All}
 use Rattle.muen_num.specs.Access.{kind_bit}
 use Rattle.machine_layout.specs.Memory.{Page, is_there, load_of}
-use Rattle.machine_layout.specs.Walks.{bits_of, index_at, entry_address, entry_size, is_present, is_leaf, is_misconfigured, leaf_end, reads, walk_from, entry_of, root_of, goes_on, addresses_from, addresses_read, end_entry_size}
+use Rattle.machine_layout.specs.Walks.{bits_of, index_at, entry_address, entry_size, is_present, is_leaf, is_misconfigured, leaf_end, reads, walk_from, entry_of, root_of, goes_on, addresses_from, addresses_read, end_entry_size, end_entry}
 use Rattle.machine_layout.specs.declared.walk.Walk.{Walk}
 use Rattle.machine_layout.specs.declared.walk.Walk.TheVariants.{At, Violation, Misconfigured}
-use Rattle.machine_layout.specs.Laws.{SameWalks, SameAddresses, SameSizes, WalksElsewhereStay}
+use Rattle.machine_layout.specs.Laws.{SameWalks, SameAddresses, SameSizes, SameTypes, WalksElsewhereStay}
 
 -- ---- lists, by recursion
 
@@ -78,6 +78,12 @@ module _ (new old : List Page) (addr : ℕ) (there : (k : ℕ) → is_there new 
       ap (λ o. goes_on (suc level) o (entry_size (suc level)) (λ t. end_entry_size (entry_of new) addr level t)) h.0
       ∙ goes_on_same (suc level) (entry_of old table (index_at (suc level) addr)) (entry_size (suc level)) (λ t. end_entry_size (entry_of new) addr level t) (λ t. end_entry_size (entry_of old) addr level t) (λ e is on. size_same level (bits_of e 12 51) (each_deeper (LoadsSame new old) (suc level) (entry_of old table (index_at (suc level) addr)) (λ t. addresses_from (entry_of old) addr level t) e h.1 is on))
 
+  end_same : (level table : ℕ) → Each (LoadsSame new old) (addresses_from (entry_of old) addr level table) → end_entry (entry_of new) addr level table ≡ end_entry (entry_of old) addr level table
+  end_same zero table h = h.0
+  end_same (suc level) table h =
+      ap (λ o. goes_on (suc level) o o (λ t. end_entry (entry_of new) addr level t)) h.0
+      ∙ goes_on_same (suc level) (entry_of old table (index_at (suc level) addr)) (entry_of old table (index_at (suc level) addr)) (λ t. end_entry (entry_of new) addr level t) (λ t. end_entry (entry_of old) addr level t) (λ e is on. end_same level (bits_of e 12 51) (each_deeper (LoadsSame new old) (suc level) (entry_of old table (index_at (suc level) addr)) (λ t. addresses_from (entry_of old) addr level t) e h.1 is on))
+
 -- ---- the statements
 
 pub same_walks : SameWalks
@@ -91,6 +97,10 @@ same_addresses old new eptp addr h =
 pub same_sizes : SameSizes
 same_sizes old new eptp addr h =
     size_same new old addr h.there 3 (root_of eptp) (each_of_all (LoadsSame new old) (addresses_read old eptp addr) h.entries)
+
+pub same_types : SameTypes
+same_types old new eptp addr h =
+    ap (option_map (λ e. bits_of e 3 5)) (end_same new old addr h.there 3 (root_of eptp) (each_of_all (LoadsSame new old) (addresses_read old eptp addr) h.entries))
 
 pub walks_elsewhere_stay : WalksElsewhereStay
 walks_elsewhere_stay at n old new eptp addr same apart =

@@ -5,7 +5,7 @@ use Rattle.std.specs.List.{All}
 use Rattle.muen_num.specs.declared.access.AccessKind.{AccessKind}
 use Rattle.machine_layout.specs.Exits.{AreaEntry, entry_bytes, area_bytes, area_index, area_value}
 use Rattle.machine_layout.specs.Memory.{Page, page_of, is_there, change, load_of, store_of}
-use Rattle.machine_layout.specs.Walks.{walk_of, addresses_read, leaf_size}
+use Rattle.machine_layout.specs.Walks.{walk_of, addresses_read, leaf_size, leaf_type}
 use Rattle.machine_layout.specs.Same.{SameOutside, SameEntries}
 
 -- ---- a change of one page
@@ -79,6 +79,11 @@ SameAddresses =
 abbrev pub SameSizes : Type 0
 SameSizes =
     (old new : List Page) (eptp addr : ℕ) → SameEntries eptp addr old new → leaf_size new eptp addr ≡ leaf_size old eptp addr
+
+-- and the same memory type
+abbrev pub SameTypes : Type 0
+SameTypes =
+    (old new : List Page) (eptp addr : ℕ) → SameEntries eptp addr old new → leaf_type new eptp addr ≡ leaf_type old eptp addr
 
 -- ---- changes elsewhere
 

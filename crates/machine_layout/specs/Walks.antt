@@ -2,7 +2,7 @@
 -- EPT PML4 entry, of the PDPTE, the PDE and the PTE that map a page or reference a table; the EPTP's format is that of the
 -- VMCS's extended-page-table pointer), as this project's machine profiles it: no execute-only translations, 40 bits of
 -- physical addresses, and memory that isn't everywhere.
-use Rattle.std.specs.Prelude.{ℕ, zero, suc, ◌+◌, ◌-◌, ◌*◌, ◌/◌, ◌%◌, ◌^◌, ◌==◌, ◌&&◌, ◌||◌, not, bit_and, nat_lt, Bool, if◌then◌else◌, List, [], ◌∷◌, Option, Some, None}
+use Rattle.std.specs.Prelude.{ℕ, zero, suc, ◌+◌, ◌-◌, ◌*◌, ◌/◌, ◌%◌, ◌^◌, ◌==◌, ◌&&◌, ◌||◌, not, bit_and, nat_lt, Bool, if◌then◌else◌, List, [], ◌∷◌, Option, Some, None, option_map}
 use Rattle.muen_num.specs.Access.{kind_bit}
 use Rattle.muen_num.specs.declared.access.AccessKind.{AccessKind}
 use Rattle.machine_layout.specs.Memory.{Page, is_there, load_of}
@@ -106,7 +106,7 @@ root_of eptp = eptp / 4096
 abbrev pub walk_of : List Page → ℕ → ℕ → AccessKind → Walk
 walk_of m eptp addr kind = walk_from (entry_of m) (is_there m) addr (kind_bit kind) 3 (root_of eptp) 7
 
--- ---- what a walk reads, and the size of the page that it ends at
+-- ---- what a walk reads, and the size and the memory type of the page that it ends at
 
 -- what comes after an entry was read, where it references a table; else this
 abbrev pub goes_on : {A : Type 0} → ℕ → Option ℕ → A → (ℕ → A) → A
@@ -134,3 +134,15 @@ end_entry_size entry addr (suc level) table =
 -- the size of the page by which this address is mapped, where a walk for reading it ends at an address
 abbrev pub leaf_size : List Page → ℕ → ℕ → ℕ
 leaf_size m eptp addr = end_entry_size (entry_of m) addr 3 (root_of eptp)
+
+-- the entry that ends a walk, if memory has it
+abbrev pub end_entry : (ℕ → ℕ → Option ℕ) → ℕ → ℕ → ℕ → Option ℕ
+end_entry entry addr zero table = entry table (index_at 0 addr)
+end_entry entry addr (suc level) table =
+    goes_on (suc level) (entry table (index_at (suc level) addr)) (entry table (index_at (suc level) addr))
+    (λ t. end_entry entry addr level t)
+
+-- the memory type of the page by which this address is mapped, where a walk for reading it ends at an address: bits 5:3 of
+-- the entry that ends the walk
+abbrev pub leaf_type : List Page → ℕ → ℕ → Option ℕ
+leaf_type m eptp addr = option_map (λ e. bits_of e 3 5) (end_entry (entry_of m) addr 3 (root_of eptp))

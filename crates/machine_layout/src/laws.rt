@@ -1,5 +1,5 @@
 //! Laws of memory and of walks: functions that do nothing, whose contracts say them.
-ghost use Rattle.machine_layout.specs.Laws.{OtherPagesStay, ThePageChanges, PagesStayThere, NoPageIsMade, OtherPagesLoadTheSame, OtherBytesStay, TheStoredIsLoaded, LengthsStay, AreasAreReadBack, SameWalks, SameAddresses, SameSizes, StoresDifferInTheirBytes, ChangesDifferInTheirPage, WalksElsewhereStay};
+ghost use Rattle.machine_layout.specs.Laws.{OtherPagesStay, ThePageChanges, PagesStayThere, NoPageIsMade, OtherPagesLoadTheSame, OtherBytesStay, TheStoredIsLoaded, LengthsStay, AreasAreReadBack, SameWalks, SameAddresses, SameSizes, SameTypes, StoresDifferInTheirBytes, ChangesDifferInTheirPage, WalksElsewhereStay};
 
 /// A change of a page changes that page as it says and no other, and makes or removes none.
 pub fn pages_change_alone()
@@ -28,6 +28,7 @@ pub fn walks_depend_on_their_entries()
     ensures walks { SameWalks }
     ensures addresses { SameAddresses }
     ensures sizes { SameSizes }
+    ensures types { SameTypes }
 {}
 
 /// What is changed elsewhere changes no walk.

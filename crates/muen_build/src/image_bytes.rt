@@ -1,6 +1,6 @@
 //! The image of a document's policy.
 ghost use Rattle.std.specs.Prelude.{◌≡◌, IfErr, IfOk, Ok, [], ◌∷◌};
-ghost use Rattle.proof_build.specs.Built.{HasGreatestPages, HasOnePathPerTable, HasPlacement};
+ghost use Rattle.proof_build.specs.Built.{HasGreatestPages, HasKernelSpans, HasMemoryTypes, HasOnePathPerTable, HasSpans, TablesAscend};
 ghost use Rattle.image_soundness.specs.Sound.{ForEachSubject, IsSound};
 ghost use Rattle.muen_build.specs.Accepting.{Accepts, FailsWith, RefusesDocument, looks_of};
 ghost use Rattle.muen_build.specs.Building.{Builds, IsImageFor};
@@ -30,9 +30,12 @@ fn parts(
     requires lawful { lawful_policy_of document.now ≡ Ok (source_of placed.now.expanded.lawful) }
     requires accepts { Accepts (looks_of name.now document.now found.now) document.now (source_of placed.now.expanded.lawful) }
     ensures sound { IfOk result (λ i. (files : Store) → ShowAll files (looks_of name.now document.now found.now) → IsSound (source_of placed.now.expanded.lawful) files i) }
-    ensures placed { IfOk result (HasPlacement (source_of placed.now.expanded.lawful)) }
+    ensures spans { IfOk result (HasSpans (source_of placed.now.expanded.lawful)) }
+    ensures kernel { IfOk result (λ i. ForEachSubject (source_of placed.now.expanded.lawful) i (HasKernelSpans i)) }
     ensures paths { IfOk result HasOnePathPerTable }
+    ensures ascending { IfOk result (λ i. ForEachSubject (source_of placed.now.expanded.lawful) i (λ s q. TablesAscend i q)) }
     ensures leaves { IfOk result (λ i. ForEachSubject (source_of placed.now.expanded.lawful) i (HasGreatestPages (source_of placed.now.expanded.lawful) i)) }
+    ensures types { IfOk result (λ i. ForEachSubject (source_of placed.now.expanded.lawful) i (HasMemoryTypes (source_of placed.now.expanded.lawful) i)) }
 {
     let expanded = placed.expanded();
     let policy = expanded.lawful().resolved();

@@ -2,7 +2,6 @@
 use Rattle.std.proofs.Common.{◌≡◌, inl, inr, ℕ, List, [], ◌∷◌, Result, Ok, Err, IfErr, IfOk, refl, sym, ap, subst, ◌∙◌, arith}
 use Rattle.std.specs.FinMap.{get}
 use Rattle.binary_form.specs.Faults.{Tells}
-use Rattle.binary_form.specs.Form.{IsBytes}
 use Rattle.binary_form.specs.declared.fault.ImageFault.{ImageFault}
 use Rattle.binary_form.specs.declared.fault.ImageFault.TheVariants.{Short, Bad, Trailing, NoMemory as NoMemoryForImage}
 use Rattle.image_load.specs.Resolving.{image_bench, image_record}
@@ -56,13 +55,13 @@ unread_so i (Short at) error h made = absurd (cc (h))
 unread_so i (Bad at field) error h made = absurd (cc (h))
 unread_so i (Trailing at) error h made = absurd (cc (h))
 
-module _ (p : Source) (looks : List Look) (bytes : List ℕ) (all_bytes : IsBytes bytes) (built : (files : Store) → ShowAll files looks → IsImageFor p files bytes) where
+module _ (p : Source) (looks : List Look) (bytes : List ℕ) (built : (files : Store) → ShowAll files looks → IsImageFor p files bytes) where
   pub back_so : (result : Result Image CommandError) → ((i : Image) → IsImage bytes i → IsReadOf i result) → IfOk result (λ i. (files : Store) → ShowAll files looks → IsReadBack p files i)
   back_so (Ok j) only =
       λ files s.
       let b = built files s in
       let same = only b.parts b.image in
-      record { bytes = bytes; all_bytes = all_bytes; image = subst (IsImage bytes) same b.image; sound = subst (IsSound p files) same b.sound }
+      record { bytes = bytes; image = subst (IsImage bytes) same b.image; sound = subst (IsSound p files) same b.sound }
   back_so (Err error) only = tt
 
   pub not_back : (result : Result Image CommandError) → ((i : Image) → IsImage bytes i → IsReadOf i result) → IfErr result (λ error. (files : Store) → ShowAll files looks → OnlyMemory error)
@@ -210,7 +209,7 @@ module _ (policy name : List ℕ) (old between : FilesState) (bytes : List ℕ) 
             holds =
                 after (whole text) s
                 ∙ (ap (trace_answer s.files p) says
-                ∙ (ap prints (sym (image_runs p s.files b.bytes i text named.0 b.all_bytes b.image b.sound says))
+                ∙ (ap prints (sym (image_runs p s.files b.bytes i text named.0 b.image b.sound says))
                 ∙ ap (λ r. prints (image_text i r)) named.2));
           }
 

@@ -21,14 +21,15 @@ use Rattle.muen_top.specs.Answers.{Reason, usage, missing, too_long, refused, im
 use Rattle.muen_num.specs.declared.limits.TheConstants.{RECORD_MOST}
 use Rattle.muen_top.specs.Calls.{IsDone, Prints, StopsFor, ComesOf, IsCallOf, IsFault, Answered, RefusesPolicy, LacksFile, RefusesImage, RefusesRecord}
 use Rattle.muen_top.specs.Commands.{Command, build, boot, run, map, flows, command_of}
-use Rattle.muen_top.specs.Headline.{PrintsText}
-use Rattle.muen_top.specs.Reports.{refusal_status, reason_status, reason_text, status_of, error_status, error_text, Told, Reported, Ends}
+use Rattle.muen_top.specs.Headline.{BuildLeavesImage, PrintsText}
+use Rattle.muen_top.specs.Reports.{reason_status, reason_text, status_of, error_status, error_text, Told, Reported, Ends}
 use Rattle.muen_top.specs.declared.outcome.Outcome.{Outcome}
 use Rattle.muen_top.specs.declared.outcome.Outcome.TheVariants.{Done, Stopped, OutputFault}
 use Rattle.muen_top.specs.declared.outcome.CommandError.{CommandError}
 use Rattle.muen_top.specs.declared.outcome.CommandError.TheVariants.{Usage, Missing, TooLong, Refused, ImageRefused, RecordRefused, FileFault, NoMemory}
 use Rattle.muen_top.specs.declared.status.Status.{Status}
 use Rattle.muen_top.specs.declared.status.Status.TheVariants as statuses
+use Rattle.muen_top.proofs.Written.{build_leaves}
 use Rattle.muen_top.proofs.Statuses.{is_of_reason, is_of_refusal}
 
 -- ---- what came of a command
@@ -170,6 +171,14 @@ prints_not_stops text reason e = cc
 
 -- ---- a whole call
 
+-- the statuses of refusals
+abbrev IsRefusal : Status → Type 0
+IsRefusal statuses.PolicyRefused = Unit {0}
+IsRefusal statuses.FileMissing = Unit {0}
+IsRefusal statuses.ImageRefused = Unit {0}
+IsRefusal statuses.RecordRefused = Unit {0}
+IsRefusal _ = ⊥
+
 module _ (words : List (List ℕ)) (old new : FilesState) (out out' err err' : SinkState) (status : Status) (ran : IsCallOf words old new out out' err err' status) where
   -- the words' answer over the files that explain the call
   given : Answer
@@ -206,45 +215,28 @@ module _ (words : List (List ℕ)) (old new : FilesState) (out out' err err' : S
         | no_memory is quiet ↦ absurd (cc)
       ]
 
-  pub policy_clause : status ≡ statuses.PolicyRefused → Answered words old.held (RefusesPolicy err err')
-  policy_clause two =
+  -- a call that refuses was stopped, for a reason with this status
+  stopped_clause : (Such : Answer → Type 0) → IsRefusal status → ((reason : Reason) → status ≡ reason_status reason → Told (reason_text reason) err err' → Such (stops reason)) → Answered words old.held Such
+  stopped_clause Such refuses of_reason =
       elim came [
-        | done is did quiet ↦ absurd (cc)
-        | cut_off text is eq put ↦ absurd (cc)
-        | stopped reason is eq quiet told rose ↦ answered (RefusesPolicy err err') (subst (RefusesPolicy err err') (sym eq) (policy_reason err err' reason (sym is ∙ two) told))
-        | failed is rose quiet ↦ absurd (cc)
-        | no_memory is quiet ↦ absurd (cc)
+        | done is did quiet ↦ absurd (subst IsRefusal is refuses)
+        | cut_off text is eq put ↦ absurd (subst IsRefusal is refuses)
+        | stopped reason is eq quiet told rose ↦ answered Such (subst Such (sym eq) (of_reason reason is told))
+        | failed is rose quiet ↦ absurd (subst IsRefusal is refuses)
+        | no_memory is quiet ↦ absurd (subst IsRefusal is refuses)
       ]
+
+  pub policy_clause : status ≡ statuses.PolicyRefused → Answered words old.held (RefusesPolicy err err')
+  policy_clause two = stopped_clause (RefusesPolicy err err') (subst IsRefusal (sym two) tt) (λ reason is told. policy_reason err err' reason (sym is ∙ two) told)
 
   pub file_clause : status ≡ statuses.FileMissing → Answered words old.held (LacksFile err err')
-  file_clause three =
-      elim came [
-        | done is did quiet ↦ absurd (cc)
-        | cut_off text is eq put ↦ absurd (cc)
-        | stopped reason is eq quiet told rose ↦ answered (LacksFile err err') (subst (LacksFile err err') (sym eq) (file_reason err err' reason (sym is ∙ three) told))
-        | failed is rose quiet ↦ absurd (cc)
-        | no_memory is quiet ↦ absurd (cc)
-      ]
+  file_clause three = stopped_clause (LacksFile err err') (subst IsRefusal (sym three) tt) (λ reason is told. file_reason err err' reason (sym is ∙ three) told)
 
   pub image_clause : status ≡ statuses.ImageRefused → Answered words old.held (RefusesImage err err')
-  image_clause five =
-      elim came [
-        | done is did quiet ↦ absurd (cc)
-        | cut_off text is eq put ↦ absurd (cc)
-        | stopped reason is eq quiet told rose ↦ answered (RefusesImage err err') (subst (RefusesImage err err') (sym eq) (image_reason err err' reason (sym is ∙ five) told))
-        | failed is rose quiet ↦ absurd (cc)
-        | no_memory is quiet ↦ absurd (cc)
-      ]
+  image_clause five = stopped_clause (RefusesImage err err') (subst IsRefusal (sym five) tt) (λ reason is told. image_reason err err' reason (sym is ∙ five) told)
 
   pub record_clause : status ≡ statuses.RecordRefused → Answered words old.held (RefusesRecord err err')
-  record_clause six =
-      elim came [
-        | done is did quiet ↦ absurd (cc)
-        | cut_off text is eq put ↦ absurd (cc)
-        | stopped reason is eq quiet told rose ↦ answered (RefusesRecord err err') (subst (RefusesRecord err err') (sym eq) (record_reason err err' reason (sym is ∙ six) told))
-        | failed is rose quiet ↦ absurd (cc)
-        | no_memory is quiet ↦ absurd (cc)
-      ]
+  record_clause six = stopped_clause (RefusesRecord err err') (subst IsRefusal (sym six) tt) (λ reason is told. record_reason err err' reason (sym is ∙ six) told)
 
   over_told : (P : Answer → Type 0) → P given → IfSome old.held (λ m. P (answer_of m (command_of words)))
   unfolding given
@@ -327,6 +319,15 @@ module _ (words : List (List ℕ)) (old new : FilesState) (out out' err err' : S
         | failed is rose quiet ↦ absurd (cc)
         | no_memory is quiet ↦ absurd (cc)
       ]
+
+  -- ---- where an image is written
+
+  pub built_clause : BuildLeavesImage words old.held new.held status
+  built_clause m policy image held asked zero =
+      let did = done_clause zero in
+      let same : did.files ≡ m = at_some old.held (λ m. did.files ≡ m) m held did.told in
+      build_leaves policy image m old new out out' held
+      (subst (λ f. IsDone (answer_of f (Some (build policy image))) old new out out') same (subst (λ command. IsDone (answer_of did.files command) old new out out') asked did.holds))
 
   -- ---- where the answer is a text
 

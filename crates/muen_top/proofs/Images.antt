@@ -1,7 +1,6 @@
 -- What `build` answers, as its files are read, and what it leaves of them.
 use Rattle.std.proofs.Common.{◌≡◌, inl, inr, ℕ, List, [], ◌∷◌, Option, Some, None, Result, Ok, Err, refl, sym, ap, subst, ◌∙◌, arith}
 use Rattle.std.specs.FinMap.{get}
-use Rattle.binary_form.specs.Form.{IsBytes}
 use Rattle.muen_num.specs.declared.limits.TheConstants.{POLICY_MOST}
 use Rattle.muen_build.specs.Accepting.{FailsWith, RefusedFor, RefusesDocument}
 use Rattle.muen_build.specs.Building.{Builds}
@@ -115,10 +114,10 @@ kept_still command status old new h =
 
 -- ---- the write
 
-module _ (policy image bytes : List ℕ) (old mid new : FilesState) (follows : Follows old mid) (made : IsBuilt policy old bytes) (all_bytes : IsBytes bytes) (out : SinkState) where
+module _ (policy image bytes : List ℕ) (old mid new : FilesState) (follows : Follows old mid) (made : IsBuilt policy old bytes) (out : SinkState) where
   pub image_written : (outcome : Outcome) → IsWriteOf image bytes mid new outcome → ComesOfCommand (Some (build policy image)) old new out out outcome
   image_written Done w =
-      let wrote : Wrote image made.holds.p made.files old new = record { bytes = bytes; all_bytes = all_bytes; is = made.holds.is; held = w.ends ∙ ap (λ h. insert_known h image bytes) follows.held } in
+      let wrote : Wrote image made.holds.p made.files old new = record { bytes = bytes; is = made.holds.is; held = w.ends ∙ ap (λ h. insert_known h image bytes) follows.held } in
       record {
         files = made.files;
         told = made.told;

@@ -38,9 +38,9 @@ module _ (m : Store) (name inputs : List ℕ) (p : Source) (r : DeviceRecord) (s
         ∙ (ap (of_file inputs (λ bytes. named_answer h.parts (record_of bytes (image_bench h.parts)))) says.read
         ∙ (ap (λ b. named_answer h.parts (record_of says.text b)) (image_bench_is p files h.bytes h.parts h.image h.sound)
         ∙ (ap (named_answer h.parts) says.says
-        ∙ ap prints (image_runs p files h.bytes h.parts says.text r h.all_bytes h.image h.sound says.says)))))
+        ∙ ap prints (image_runs p files h.bytes h.parts says.text r h.image h.sound says.says)))))
 
     -- .. and of one that `build` has written
     pub built_prints : HoldsBuilt m name p files → answer_of m (Some (run name inputs)) ≡ prints (trace_of p files r)
     built_prints h =
-        sound_prints (record { bytes = h.bytes; parts = h.built.parts; read = h.read; all_bytes = h.all_bytes; image = h.built.image; sound = h.built.sound })
+        sound_prints (record { bytes = h.bytes; parts = h.built.parts; read = h.read; image = h.built.image; sound = h.built.sound })

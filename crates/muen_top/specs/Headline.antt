@@ -1,7 +1,6 @@
 -- The headline, and what it speaks of: what a store holds, and how a call ends that prints a text.
 use Rattle.std.specs.Prelude.{◌≡◌, ◌⊎◌, ℕ, List, Option, Some, Ok}
 use Rattle.std.specs.FinMap.{get}
-use Rattle.binary_form.specs.Form.{IsBytes}
 use Rattle.image_soundness.specs.Bench.{devices_of}
 use Rattle.image_soundness.specs.Sound.{IsSound}
 use Rattle.image_pack.specs.Parts.{IsImage}
@@ -18,7 +17,7 @@ use Rattle.record_text.specs.DeviceRecord.{DeviceRecord}
 use Rattle.record_text.specs.Reading.{record_of}
 use Rattle.subject_model.specs.Trace.{trace_of}
 use Rattle.muen_top.specs.Calls.{IsFault}
-use Rattle.muen_top.specs.Commands.{boot, run, command_of}
+use Rattle.muen_top.specs.Commands.{boot, build, run, command_of}
 use Rattle.muen_top.specs.declared.status.Status.{Status}
 use Rattle.muen_top.specs.declared.status.Status.TheVariants as statuses
 
@@ -33,7 +32,6 @@ pub record HoldsSound (m : Store) (name : List ℕ) (p : Source) (files : Held) 
   pub bytes : List ℕ
   pub parts : Image
   pub read : reading_of (get m name) IMAGE_MOST ≡ whole bytes
-  pub all_bytes : IsBytes bytes
   pub image : IsImage bytes parts
   pub sound : IsSound p files parts
 
@@ -41,8 +39,15 @@ pub record HoldsSound (m : Store) (name : List ℕ) (p : Source) (files : Held) 
 pub record HoldsBuilt (m : Store) (name : List ℕ) (p : Source) (files : Held) : Type 0 where
   pub bytes : List ℕ
   pub read : reading_of (get m name) IMAGE_MOST ≡ whole bytes
-  pub all_bytes : IsBytes bytes
   pub built : IsImageFor p files bytes
+
+-- now a store holds under one name the image that `build` has written for the policy that stood under the other
+pub record HoldsWritten (m : Store) (policy image : List ℕ) (now : Option Store) : Type 0 where
+  pub p : Source
+  pub new : Store
+  pub is : now ≡ Some new
+  pub accepted : HoldsPolicy m policy p
+  pub written : HoldsBuilt new image p m
 
 -- .. a record of the devices of this policy, which says this
 pub record HoldsRecord (m : Store) (name : List ℕ) (p : Source) (r : DeviceRecord) : Type 0 where
@@ -73,3 +78,10 @@ abbrev pub RunOfBuiltPrintsSystem : List (List ℕ) → Option Store → SinkSta
 RunOfBuiltPrintsSystem words held out out' status =
     (m : Store) (image inputs : List ℕ) (p : Source) (built_of : Held) (r : DeviceRecord) → held ≡ Some m → command_of words ≡ Some (run image inputs)
     → HoldsBuilt m image p built_of → HoldsRecord m inputs p r → PrintsText (trace_of p built_of r) out out' status
+
+-- such a one `build` leaves, where the store holds its policy and the status is 0: `run` of it, in files that hold this, prints
+-- the text of the policy's system
+abbrev pub BuildLeavesImage : List (List ℕ) → Option Store → Option Store → Status → Type 0
+BuildLeavesImage words held now status =
+    (m : Store) (policy image : List ℕ) → held ≡ Some m → command_of words ≡ Some (build policy image) → status ≡ statuses.Done
+    → HoldsWritten m policy image now

@@ -1,6 +1,5 @@
 -- What `build` writes.
-use Rattle.std.specs.Prelude.{◌≡◌, ℕ, List, IfSome}
-use Rattle.binary_form.specs.Form.{IsBytes}
+use Rattle.std.specs.Prelude.{◌≡◌, ℕ, List}
 use Rattle.muen_build.specs.Building.{IsImageFor}
 use Rattle.muen_build.specs.Looks.{OverFiles}
 use Rattle.muen_outside.specs.States.{FilesState}
@@ -11,7 +10,6 @@ use Rattle.muen_top.specs.Answers.{writes, build_answer}
 -- an image for this policy over these files stands under this name now, and under each other name what stood there
 pub record Wrote (image : List ℕ) (p : Source) (files : Store) (old new : FilesState) : Type 0 where
   pub bytes : List ℕ
-  pub all_bytes : IsBytes bytes
   pub is : IsImageFor p files bytes
   pub held : new.held ≡ insert_known old.held image bytes
 

@@ -1,6 +1,5 @@
 -- What reading a command's files comes to.
 use Rattle.std.specs.Prelude.{◌≡◌, ℕ, List, [], ◌∷◌, Some, Result, Ok, Err}
-use Rattle.binary_form.specs.Form.{IsBytes}
 use Rattle.image_soundness.specs.Sound.{IsSound}
 use Rattle.image_pack.specs.Parts.{IsImage}
 use Rattle.image_pack.specs.declared.parts.Image.{Image}
@@ -50,7 +49,6 @@ IsReadOf i (Err error) = OnlyMemory error
 -- the bytes of an image of these parts, which is sound for this policy over files that hold this
 pub record IsReadBack (p : Source) (files : Store) (i : Image) : Type 0 where
   pub bytes : List ℕ
-  pub all_bytes : IsBytes bytes
   pub image : IsImage bytes i
   pub sound : IsSound p files i
 

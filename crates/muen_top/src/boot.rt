@@ -1,7 +1,6 @@
 // The command `boot`: a policy and a record are read, and the run of the policy's image is printed. The
 // image is written in memory, as `build` writes it, and is read again and run as `run` does it.
 ghost use Rattle.std.specs.Prelude.{◌≡◌, Some, Ok, IfOk, IfErr};
-ghost use Rattle.binary_form.specs.Form.{IsBytes};
 ghost use Rattle.image_pack.specs.Parts.{IsImage};
 ghost use Rattle.image_pack.specs.declared.parts.Image.{Image};
 ghost use Rattle.kernel_core.specs.Ticks.{CanRun};
@@ -34,8 +33,7 @@ use std::alloc::Global;
 
 // The parts of the image of these bytes.
 fn read_back<'a>(alloc: Global, bytes: &[u8]) -> Result<Parts, CommandError<'a>>
-    ensures all_bytes { IsBytes bytes.now }
-    ensures only { (i : Image) → IsImage bytes.now i → IsReadOf i result }
+    ensures { (i : Image) → IsImage bytes.now i → IsReadOf i result }
 {
     let parts = unpack(alloc, bytes)?;
     Ok(parts)

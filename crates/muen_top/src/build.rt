@@ -1,6 +1,5 @@
 // The command `build`: a policy is read, and its image is written.
 ghost use Rattle.std.specs.Prelude.{ℕ, List, Some, IfOk, IfErr};
-ghost use Rattle.binary_form.specs.Form.{IsBytes};
 ghost use Rattle.muen_outside.specs.States.{SinkState};
 ghost use Rattle.muen_build.specs.Looks.{Follows};
 ghost use Rattle.muen_top.specs.Calls.{ComesOfCommand};
@@ -33,8 +32,7 @@ fn image_of<'a, F: Files>(
 
 // Puts the bytes under the name of the image.
 fn write_image<'a, F: Files>(alloc: Global, image: &str, bytes: &[u8], files: &mut F) -> Outcome<'a>
-    ensures writes { IsWriteOf image.now bytes.now (F.state files.old) (F.state files.new) result }
-    ensures all_bytes { IsBytes bytes.now }
+    ensures { IsWriteOf image.now bytes.now (F.state files.old) (F.state files.new) result }
 {
     match files.write(alloc, image, bytes) {
         Ok(()) => Outcome::Done,

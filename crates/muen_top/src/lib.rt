@@ -6,7 +6,7 @@ ghost use Rattle.muen_outside.specs.Counts.{Rose};
 ghost use Rattle.muen_top.specs.Answers.{answer_of};
 ghost use Rattle.muen_top.specs.Calls.{Answered, DoesAnswer, IsFault, LacksFile, PrintsFront, RefusesImage, RefusesPolicy, RefusesRecord};
 ghost use Rattle.muen_top.specs.Commands.{command_of};
-ghost use Rattle.muen_top.specs.Headline.{BootPrintsSystem, RunOfBuiltPrintsSystem, RunOfSoundPrintsSystem};
+ghost use Rattle.muen_top.specs.Headline.{BootPrintsSystem, BuildLeavesImage, RunOfBuiltPrintsSystem, RunOfSoundPrintsSystem};
 ghost use Rattle.muen_top.specs.Kept.{KeepsFiles};
 ghost use Rattle.muen_top.specs.Reports.{Ends, Reported, status_of};
 ghost use Rattle.muen_top.specs.declared.outcome.Outcome.{Outcome};
@@ -64,6 +64,8 @@ pub fn muen<F: Files, S: Sink, E: Sink>(
     ensures runs_sound { RunOfSoundPrintsSystem (map string_bytes words.now) (F.state files.old).held (S.state out.old) (S.state out.new) result }
     // and where they hold the image that `build` has written for it.
     ensures runs_built { RunOfBuiltPrintsSystem (map string_bytes words.now) (F.state files.old).held (S.state out.old) (S.state out.new) result }
+    // Such a one `build` leaves under the image's name, where files tell: the next `run` of it prints that text.
+    ensures built { BuildLeavesImage (map string_bytes words.now) (F.state files.old).held (F.state files.new).held result }
 
     // What is put or written is the words' answer, over some files that hold what is told. For `boot` it
     // is the text of the policy's system. For `run` it is the text of the image's run on the record, as

@@ -1,8 +1,8 @@
 -- What the spans hold that aren't the kernel's: the things of the policy, in their order.
-use Rattle.std.proofs.Common.{◌≡◌, ℕ, suc, ◌+◌, ◌*◌, ◌/◌, ◌≤◌, All, Bool, true, false, not, cond, List, [], ◌∷◌, ◌++◌, length, map, get_or, drop, Some, refl, sym, ap, ◌∙◌, subst, arith, length-append}
+use Rattle.std.proofs.Common.{◌≡◌, ℕ, suc, ◌+◌, ◌*◌, ◌/◌, ◌≤◌, All, Bool, true, false, not, cond, List, [], ◌∷◌, ◌++◌, length, map, get_or, drop, Option, Some, refl, sym, ap, ◌∙◌, subst, arith, length-append}
 use Rattle.std.specs.Prelude.{replicate, slice_get, slice_index_or}
 use Rattle.std.specs.List.{AllZip, enumerate_from, filter, flat_map, zip}
-use Rattle.std.proofs.lemmas.List.{length-replicate, map-append}
+use Rattle.std.proofs.lemmas.List.{map-append}
 use Rattle.std.proofs.lemmas.List.Elements.{All-append, All-cons, All-from_recursion, All-head, All-map, All-nil, All-tail, filter-append}
 use Rattle.std.proofs.lemmas.Option.{get_or_from_slice_get, slice_get_within}
 use Rattle.expand_kernel.specs.ByIndex.{brought_at, kernel_for, kernel_for_each}
@@ -12,14 +12,15 @@ use Rattle.expand_kernel.specs.declared.region.Region.{Region}
 use Rattle.image_emit.specs.Made.{IsMade, Made, content_at, image_of, kernel_bytes, policy_of, region_bytes, thing_bytes}
 use Rattle.image_emit.proofs.ByNumber.{as_many_addresses, by_number_is}
 use Rattle.image_emit.proofs.ContentLengths.{region_kind, whole_regions, whole_size}
-use Rattle.proof_build.proofs.PiecesOfLists.{all_pieces, filter_map_same, zip_append, zip_map_both, zip_pieces}
-use Rattle.image_emit.proofs.RegionSizes.{first_regions, last_regions, regions_are, things_sized}
-use Rattle.proof_build.proofs.ThingBytes.{memory_bytes_are, region_bytes_are}
+use Rattle.proof_build.proofs.PiecesOfLists.{all_pieces, filter_map_same, flat_map_at, map_pieces, zip_append, zip_map_both, zip_pieces}
+use Rattle.image_emit.proofs.RegionSizes.{first_regions, last_regions, regions_are}
+use Rattle.proof_build.proofs.ThingBytes.{memory_bytes_are, memory_sizes_are, region_bytes_are, region_sizes_are}
 use Rattle.proof_build.proofs.ThingsInOrder.{memory_thing, memory_things, provided_things, region_things, things_are}
 use Rattle.image_soundness.specs.Memory.{Span}
+use Rattle.image_soundness.specs.Sizes.{declared_size}
 use Rattle.image_soundness.specs.Sound.{AreContents, IsSpanOf, is_kernel, kind_of, thing_spans}
 use Rattle.image_pack.specs.declared.parts.SpanPart.{SpanPart}
-use Rattle.muen_num.proofs.Lists.{get_left}
+use Rattle.muen_num.proofs.Lists.{get_left, map-map}
 use Rattle.muen_num.specs.declared.limits.TheConstants.{PAGE}
 use Rattle.policy_lawful.specs.Resolution.{source_of}
 use Rattle.policy_lawful.specs.Contents.{Held, initial_bytes}
@@ -136,17 +137,17 @@ module _ (files : Held) (p : Source) where
   abbrev bytes : Thing → List ℕ
   bytes = initial_bytes p files
 
-  region_has : (n address : ℕ) (t : Thing) (y : Region) (b held : List ℕ) → IsRegionOf t y → b ≡ bytes t → length b ≡ y.size → IsWhole y → held ≡ b
+  region_has : (n address : ℕ) (t : Thing) (y : Region) (b held : List ℕ) → IsRegionOf t y → b ≡ bytes t → declared_size p t ≡ Some y.size → IsWhole y → held ≡ b
       → IsSpanOf p files t (region_span (n, (y, address)), held)
   region_has n address t y b held of is size whole has = record {
     tag = of.tag;
     kind = of.kind;
-    size = whole_size y.size whole.pages ∙ sym size ∙ ap length is;
+    size = size ∙ ap Some (sym (whole_size y.size whole.pages));
     bytes = ap (λ d. cond d (replicate (PAGE * (y.size / PAGE)) 0) held) (region_kind y.kind) ∙ has ∙ is;
   }
 
   region_spans_have : (look : ℕ → List ℕ) (n : ℕ) (ts : List Thing) (ys : List Region) (ps : List ℕ) (bs : List (List ℕ)) → AllZip IsRegionOf ts ys → length ys ≤ length ps
-      → bs ≡ map bytes ts → map (λ b. length b) bs ≡ map (λ y. y.size) ys → All IsWhole ys → ((k : ℕ) (b : List ℕ) → slice_get bs k ≡ Some b → look (n + k) ≡ b)
+      → bs ≡ map bytes ts → map (declared_size p) ts ≡ map (λ y. Some y.size) ys → All IsWhole ys → ((k : ℕ) (b : List ℕ) → slice_get bs k ≡ Some b → look (n + k) ≡ b)
       → AllZip (IsSpanOf p files) ts (map (λ s. (s, look s.number)) (map region_span (enumerate_from n (zip ys ps))))
   region_spans_have look n [] [] ps bs of long is sizes whole looks = tt
   region_spans_have look n [] (y ∷ ys) ps bs of long is sizes whole looks = absurd of
@@ -155,27 +156,31 @@ module _ (files : Held) (p : Source) where
   region_spans_have look n (t ∷ ts) (y ∷ ys) (a ∷ ps) [] of long is sizes whole looks = absurd cc
   region_spans_have look n (t ∷ ts) (y ∷ ys) (a ∷ ps) (b ∷ bs) of long is sizes whole looks =
       let first : n + 0 ≡ n = omega arith in (
-        region_has n a t y b (look n) of.0 (heads b (bytes t) bs (map bytes ts) is) (heads (length b) y.size (map (λ b. length b) bs) (map (λ y. y.size) ys) sizes) (All-head IsWhole y ys whole) (ap look (sym first) ∙ looks 0 b refl),
-        region_spans_have look (n + 1) ts ys ps bs of.1 (omega (arith, long)) (tails b (bytes t) bs (map bytes ts) is) (tails (length b) y.size (map (λ b. length b) bs) (map (λ y. y.size) ys) sizes) (All-tail IsWhole y ys whole)
+        region_has n a t y b (look n) of.0 (heads b (bytes t) bs (map bytes ts) is) (heads (declared_size p t) (Some y.size) (map (declared_size p) ts) (map (λ y. Some y.size) ys) sizes) (All-head IsWhole y ys whole) (ap look (sym first) ∙ looks 0 b refl),
+        region_spans_have look (n + 1) ts ys ps bs of.1 (omega (arith, long)) (tails b (bytes t) bs (map bytes ts) is) (tails (declared_size p t) (Some y.size) (map (declared_size p) ts) (map (λ y. Some y.size) ys) sizes) (All-tail IsWhole y ys whole)
             (λ k c at. let next : n + 1 + k ≡ n + suc k = omega arith in ap look next ∙ looks (suc k) c at),
       )
 
-  memory_has : (n : ℕ) (x : List ℕ × DeviceMemory) (held : List ℕ) → replicate x.1.size 0 ≡ bytes (memory_thing x) → IsPhysical x.1 → IsSpanOf p files (memory_thing x) (device_span (n, x), held)
-  memory_has n x held is physical =
+  memory_has : (n : ℕ) (x : List ℕ × DeviceMemory) (held : List ℕ) → replicate x.1.size 0 ≡ bytes (memory_thing x) → Some x.1.size ≡ declared_size p (memory_thing x) → IsPhysical x.1
+      → IsSpanOf p files (memory_thing x) (device_span (n, x), held)
+  memory_has n x held is sized physical =
       let size : PAGE * (x.1.size / PAGE) ≡ x.1.size = whole_size x.1.size physical.pages in
       record {
         tag = refl;
         kind = refl;
-        size = size ∙ sym (length-replicate x.1.size 0) ∙ ap length is;
+        size = sym sized ∙ ap Some (sym size);
         bytes = ap (λ k. replicate k 0) size ∙ is;
       }
 
-  memory_spans_have : (look : ℕ → List ℕ) (n : ℕ) (xs : List (List ℕ × DeviceMemory)) → map (λ x. replicate x.1.size 0) xs ≡ map bytes (map memory_thing xs) → All (λ x. IsPhysical x.1) xs
+  memory_spans_have : (look : ℕ → List ℕ) (n : ℕ) (xs : List (List ℕ × DeviceMemory)) → map (λ x. replicate x.1.size 0) xs ≡ map bytes (map memory_thing xs)
+      → map (λ x. Some x.1.size) xs ≡ map (declared_size p) (map memory_thing xs) → All (λ x. IsPhysical x.1) xs
       → AllZip (IsSpanOf p files) (map memory_thing xs) (map (λ s. (s, look s.number)) (map device_span (enumerate_from n xs)))
-  memory_spans_have look n [] is physical = tt
-  memory_spans_have look n (x ∷ xs) is physical = (
-    memory_has n x (look n) (heads _ (bytes (memory_thing x)) _ (map bytes (map memory_thing xs)) is) (All-head (λ (x : List ℕ × DeviceMemory). IsPhysical x.1) x xs physical),
-    memory_spans_have look (n + 1) xs (tails _ (bytes (memory_thing x)) _ (map bytes (map memory_thing xs)) is) (All-tail (λ (x : List ℕ × DeviceMemory). IsPhysical x.1) x xs physical),
+  memory_spans_have look n [] is sizes physical = tt
+  memory_spans_have look n (x ∷ xs) is sizes physical = (
+    memory_has n x (look n) (heads _ (bytes (memory_thing x)) _ (map bytes (map memory_thing xs)) is) (heads _ (declared_size p (memory_thing x)) _ (map (declared_size p) (map memory_thing xs)) sizes)
+        (All-head (λ (x : List ℕ × DeviceMemory). IsPhysical x.1) x xs physical),
+    memory_spans_have look (n + 1) xs (tails _ (bytes (memory_thing x)) _ (map bytes (map memory_thing xs)) is) (tails _ (declared_size p (memory_thing x)) _ (map (declared_size p) (map memory_thing xs)) sizes)
+        (All-tail (λ (x : List ℕ × DeviceMemory). IsPhysical x.1) x xs physical),
   )
 
 -- ---- all
@@ -187,6 +192,27 @@ addresses_enough m h =
     let all = ap length (regions_are m h) in
     let both = length-append (first_regions m) (last_regions m) in
     omega (arith, addresses, all, both)
+
+-- the policy declares their sizes
+region_sizes : (m : Made) → IsMade m → map (declared_size (source_of (policy_of m))) (region_things (policy_of m)) ≡ map (λ y. Some y.size) (first_regions m)
+unfolding brought_at
+region_sizes m h =
+    let r = policy_of m in
+    let size : Region → Option ℕ = λ y. Some y.size in
+    let memory = map own_region r.memory in
+    let channels = map channel_region r.channels in
+    let brought = flat_map (brought_at r.components) r.subjects in
+    let of_memory : map size memory ≡ map (λ x. Some x.size) r.memory = map-map size own_region r.memory in
+    let of_channels : map size channels ≡ map (λ c. Some c.size) r.channels = map-map size channel_region r.channels in
+    let of_brought : map size brought ≡ flat_map (λ s. map (λ x. Some x.size) (provided_at r.components s.component)) r.subjects =
+    map_pieces size (brought_at r.components) r.subjects
+    ∙ flat_map_at (λ s. map size (brought_at r.components s)) (λ s. map (λ x. Some x.size) (provided_at r.components s.component)) r.subjects
+    (λ k s at. map-map size (provided_region s.name) (provided_at r.components s.component)) in
+    region_sizes_are r h.resolved
+    ∙ sym (
+    map-append size (memory ++ channels) brought
+    ∙ ap (λ xs. xs ++ map size brought) (map-append size memory channels)
+    ∙ (λ i. of_memory i ++ of_channels i ++ of_brought i))
 
 first_whole : (m : Made) → IsMade m → All IsWhole (first_regions m)
 first_whole m h = all_front IsWhole (first_regions m) (last_regions m) (subst (All IsWhole) (regions_are m h) (whole_regions m h))
@@ -206,10 +232,10 @@ contents files m h held =
     let p = source_of r in
     let look : ℕ → List ℕ = λ n. slice_index_or (region_bytes m) n [] in
     let regions : AllZip (IsSpanOf p files) (region_things r) (map (with_content m) (spans_of_regions m)) =
-    region_spans_have files p look 0 (region_things r) (first_regions m) m.placed.addresses m.things (regions_of_things m) (addresses_enough m h) (held ∙ region_bytes_are files r h.resolved) (things_sized m h) (first_whole m h)
+    region_spans_have files p look 0 (region_things r) (first_regions m) m.placed.addresses m.things (regions_of_things m) (addresses_enough m h) (held ∙ region_bytes_are files r h.resolved) (region_sizes m h) (first_whole m h)
     (λ k b at. let number : 0 + k ≡ k = omega arith in ap look number ∙ looked m k b at) in
     let memory : AllZip (IsSpanOf p files) (memory_things r) (map (with_content m) (spans_of_memory m)) =
-    memory_spans_have files p look (length m.placed.expanded.regions) (memories_of r.devices) (memory_bytes_are files r h.resolved) (physical m h) in
+    memory_spans_have files p look (length m.placed.expanded.regions) (memories_of r.devices) (memory_bytes_are files r h.resolved) (memory_sizes_are r h.resolved) (physical m h) in
     subst (λ ts. AllZip (IsSpanOf p files) ts (thing_spans (image_of m))) (sym (things_are r h.resolved))
     (subst (AllZip (IsSpanOf p files) (region_things r ++ memory_things r)) (sym (thing_spans_are m h ∙ map-append (with_content m) (spans_of_regions m) (spans_of_memory m)))
     (zip_append (IsSpanOf p files) (region_things r) (map (with_content m) (spans_of_regions m)) (memory_things r) (map (with_content m) (spans_of_memory m)) regions memory))

@@ -2,11 +2,14 @@ pub mod AddressesKept
 pub mod AddressesOfShown
 pub mod AddressesShown
 pub mod Areas
+pub mod Ascending
 pub mod Bitmaps
 pub mod BitmapsOfPorts
 pub mod Contents
 pub mod FirstIndexes
 pub mod GreatestPages
+pub mod KernelSpans
+pub mod MemoryTypes
 pub mod NamedViews
 pub mod OwnPages
 pub mod PagesThere
@@ -14,6 +17,7 @@ pub mod Paths
 pub mod PiecesOfLists
 pub mod PlanEvents
 pub mod Sound
+pub mod SpansByNumber
 pub mod States
 pub mod Tables
 pub mod ThingBytes

@@ -1,14 +1,18 @@
 -- No two subjects of the image share a page of their own.
-use Rattle.std.proofs.Common.{◌≡◌, ℕ, ◌+◌, ◌*◌, ◌<◌, false, List, [], ◌∷◌, length, map, get_or, refl, sym, ◌∙◌, arith, ne_eqb}
+use Rattle.std.proofs.Common.{◌≡◌, ℕ, ◌+◌, ◌*◌, ◌<◌, false, List, [], ◌∷◌, length, map, get_or, refl, sym, ◌∙◌, subst, arith, ne_eqb}
 use Rattle.std.specs.Prelude.{◌==◌}
 use Rattle.std.specs.List.{enumerate_from, list_any, zip}
+use Rattle.std.proofs.lemmas.List.{take_all}
 use Rattle.std.proofs.lemmas.Option.{slice_get-get_or}
 use Rattle.event_emit.specs.declared.event_tables.EventTables.{EventTables}
 use Rattle.expand_grants.specs.declared.granted.Grants.{Grants}
 use Rattle.image_emit.proofs.AtIndexes.{mapped_there}
+use Rattle.image_emit.proofs.ConditionsOfPlan.{subjects_many}
 use Rattle.image_emit.specs.Made.{IsMade, Made, image_of, policy_of, subject_part}
-use Rattle.image_soundness.specs.Sound.{HaveOwnPages, share_a_span}
+use Rattle.image_soundness.specs.Sound.{HaveOwnPages, ShareNoSpan, share_a_span}
 use Rattle.image_pack.specs.declared.parts.SubjectPart.{SubjectPart}
+use Rattle.policy_lawful.proofs.SourceElements.{many_subjects}
+use Rattle.policy_lawful.specs.Resolution.{source_of}
 use Rattle.policy_lawful.specs.declared.resolved.Subject.{Subject}
 use Rattle.region_alloc.specs.Placed.{Placement}
 use Rattle.subject_emit.specs.Mapped.{brought_before}
@@ -48,11 +52,17 @@ part_at x n es k d l =
     (there.0, sym there.2)
 
 -- no two subjects share one of these spans
-pub own_pages : (m : Made) → IsMade m → HaveOwnPages (image_of m)
+none_shared : (m : Made) → ShareNoSpan (image_of m).subjects
 unfolding image_of own_numbers
-own_pages m h i j d l within =
+none_shared m i j d l within =
     let es = zip (policy_of m).subjects (zip m.placed.expanded.grants m.events) in
     let a = part_at m.placed 0 es i d (omega (arith, l, within)) in
     let b = part_at m.placed 0 es j d within in
     (λ t. share_a_span (a.1 t) (b.1 t))
     ∙ other_numbers (length (policy_of m).memory + length (policy_of m).channels + brought_before (policy_of m) (length (policy_of m).subjects)) (0 + i) (0 + j) (omega (arith, l))
+
+pub own_pages : (m : Made) → IsMade m → HaveOwnPages (source_of (policy_of m)) (image_of m)
+own_pages m h =
+    let parts = subjects_many m h in
+    let named = many_subjects (policy_of m) in
+    subst ShareNoSpan (sym (take_all (length (source_of (policy_of m)).subjects) (image_of m).subjects (omega (arith, parts, named)))) (none_shared m)

@@ -12,7 +12,7 @@ use Rattle.image_emit.proofs.ContentLengths.{each_content}
 use Rattle.image_soundness.specs.Memory.{bytes_of, memory_of, memory_span}
 use Rattle.image_soundness.proofs.MemoryPages.{in_spans}
 use Rattle.image_pack.specs.Codes.{is_device}
-use Rattle.image_pack.specs.ImageConditions.{IsContent}
+use Rattle.image_pack.specs.ImageConditions.{FillsSpan}
 use Rattle.image_pack.specs.SpanConditions.{IsSpan as IsImageSpan, end_of as end_of_span}
 use Rattle.image_pack.specs.declared.parts.SpanPart.{SpanPart}
 use Rattle.machine_layout.specs.Memory.{page_of}
@@ -27,7 +27,7 @@ bytes_if : (device : Bool) (pages : ℕ) (bytes : List ℕ) → length bytes ≡
 bytes_if true pages bytes h = length-replicate (PAGE * pages) 0
 bytes_if false pages bytes h = h
 
-pub bytes_long : (s : SpanPart) (bytes : List ℕ) → IsContent s bytes → length (bytes_of (s, bytes)) ≡ PAGE * s.pages
+pub bytes_long : (s : SpanPart) (bytes : List ℕ) → FillsSpan s bytes → length (bytes_of (s, bytes)) ≡ PAGE * s.pages
 bytes_long s bytes h = bytes_if (is_device s.kind) s.pages bytes h
 
 module _ (m : Made) (h : IsMade m) where

@@ -1,4 +1,5 @@
--- What things hold at the start, by number: what each name stands for is found at its index.
+-- What a policy declares of things, by number: what each name stands for is found at its index. So what they hold at the
+-- start, and how many bytes each has.
 use Rattle.std.proofs.Common.{◌≡◌, ℕ, List, [], ◌++◌, map, Option, Some, None, refl, sym, ap, ◌∙◌}
 use Rattle.std.specs.Prelude.{option_and_then, option_map, replicate, slice_get}
 use Rattle.std.specs.Option.{option_map_or}
@@ -7,6 +8,7 @@ use Rattle.std.specs.Str.{bytes_eq}
 use Rattle.std.proofs.lemmas.List.{map-append}
 use Rattle.policy_lawful.specs.ByIndex.{provided_at}
 use Rattle.image_emit.specs.Made.{thing_bytes}
+use Rattle.image_soundness.specs.Sizes.{declared_size}
 use Rattle.proof_build.proofs.PiecesOfLists.{flat_map_at, found_by_name, map_at, map_pieces}
 use Rattle.proof_build.proofs.ThingsInOrder.{component_is, memory_thing, memory_things, provided_things, region_things, used_component}
 use Rattle.muen_num.proofs.Lists.{find-map, map-map}
@@ -16,13 +18,16 @@ use Rattle.policy_lawful.specs.declared.resolved.ComponentUse.{ComponentUse}
 use Rattle.policy_lawful.specs.declared.resolved.Subject.{Subject}
 use Rattle.policy_lawful.proofs.UniqueNames.{logical_unique, parts_unique, subjects_unique, unique, unique_parts}
 use Rattle.policy_lawful.specs.Contents.{Held, content_bytes, initial_bytes}
-use Rattle.policy_lawful.specs.Thing.{Thing, channel, component_by, device_memory, provided, region}
+use Rattle.policy_lawful.specs.Thing.{Thing, channel, component_by, device_memory, provided, region, state}
 use Rattle.policy_types.specs.declared.source.Channel.{Channel}
 use Rattle.policy_types.specs.declared.source.Component.{Component}
+use Rattle.policy_types.specs.declared.source.Content.{Content}
+use Rattle.policy_types.specs.declared.source.Content.TheVariants.{Zero}
 use Rattle.policy_types.specs.declared.source.Device.{Device}
 use Rattle.policy_types.specs.declared.source.DeviceMemory.{DeviceMemory}
 use Rattle.policy_types.specs.declared.source.Provided.{Provided}
 use Rattle.policy_types.specs.declared.source.Region.{Region}
+use Rattle.policy_types.specs.declared.source.Source.{Source}
 use Rattle.policy_types.specs.declared.source.Subject.{Subject as NamedSubject}
 use Rattle.span_emit.specs.Spans.{memories_of}
 
@@ -45,23 +50,68 @@ provided_found r (Some used) names j x at =
       | Some c ↦ λ e h. found_by_name (λ (y : Provided). y.logical) c.provides (provided_unique c (names used.used c e)) j x h
     ] refl at
 
-module _ (files : Held) (r : Resolution) (q : IsResolved r) where
-  abbrev bytes : Thing → List ℕ
-  bytes = initial_bytes (source_of r) files
+-- ---- what a policy declares of a thing
 
-  memory_bytes : map bytes (map (λ x. region x.name) r.memory) ≡ map (λ m. content_bytes files m.size m.content) r.memory
-  unfolding initial_bytes source_of
-  memory_bytes =
-      map-map bytes (λ x. region x.name) r.memory
-      ∙ map_at (λ x. bytes (region x.name)) (λ m. content_bytes files m.size m.content) r.memory
-      (λ k x at. ap (λ o. option_map_or (λ (m : Region). content_bytes files m.size m.content) o []) (found_by_name (λ (m : Region). m.name) r.memory (unique (source_of r) q.names).regions k x at))
+-- what is made of its size and its content, by its names; a channel and a device's memory hold zeros
+abbrev pub declared : {A : Type 0} → (ℕ → Content → A) → A → Source → Thing → A
+declared made none p (region name) = option_map_or (λ r. made r.size r.content) (find (λ r. bytes_eq r.name name) p.memory) none
+declared made none p (channel name) = option_map_or (λ c. made c.size Zero) (find (λ c. bytes_eq c.name name) p.channels) none
+declared made none p (provided subject logical) =
+    option_map_or (λ x. made x.size x.content)
+    (option_and_then (λ s. option_and_then (λ c. find (λ x. bytes_eq x.logical logical) c.provides) (component_by p s.component))
+    (find (λ s. bytes_eq s.name subject) p.subjects))
+    none
+declared made none p (device_memory device name) =
+    option_map_or (λ m. made m.size Zero)
+    (option_and_then (λ d. find (λ m. bytes_eq m.name name) d.memory) (find (λ d. bytes_eq d.name device) p.devices))
+    none
+declared made none p (state subject) = none
 
-  channel_bytes : map bytes (map (λ c. channel c.name) r.channels) ≡ map (λ c. replicate c.size 0) r.channels
-  unfolding initial_bytes source_of
-  channel_bytes =
-      map-map bytes (λ c. channel c.name) r.channels
-      ∙ map_at (λ c. bytes (channel c.name)) (λ c. replicate c.size 0) r.channels
-      (λ k x at. ap (λ o. option_map_or (λ (c : Channel). replicate c.size 0) o []) (found_by_name (λ (c : Channel). c.name) r.channels (unique (source_of r) q.names).channels k x at))
+-- its bytes at the start are
+bytes_declared : (files : Held) (p : Source) (x : Thing) → initial_bytes p files x ≡ declared (content_bytes files) [] p x
+unfolding initial_bytes
+bytes_declared files p (region name) = refl
+bytes_declared files p (channel name) = refl
+bytes_declared files p (provided subject logical) = refl
+bytes_declared files p (device_memory device name) = refl
+bytes_declared files p (state subject) = refl
+
+mapped_or : {X : Type 0} (f : X → ℕ) (o : Option X) → option_map f o ≡ option_map_or (λ x. Some (f x)) o None
+mapped_or f None = refl
+mapped_or f (Some x) = refl
+
+-- and so is its size
+size_declared : (p : Source) (x : Thing) → declared_size p x ≡ declared (λ size content. Some size) None p x
+unfolding declared_size
+size_declared p (region name) = mapped_or (λ (r : Region). r.size) (find (λ r. bytes_eq r.name name) p.memory)
+size_declared p (channel name) = mapped_or (λ (c : Channel). c.size) (find (λ c. bytes_eq c.name name) p.channels)
+size_declared p (provided subject logical) =
+    mapped_or (λ (x : Provided). x.size)
+    (option_and_then (λ s. option_and_then (λ c. find (λ x. bytes_eq x.logical logical) c.provides) (component_by p s.component))
+    (find (λ s. bytes_eq s.name subject) p.subjects))
+size_declared p (device_memory device name) =
+    mapped_or (λ (m : DeviceMemory). m.size) (option_and_then (λ d. find (λ m. bytes_eq m.name name) d.memory) (find (λ d. bytes_eq d.name device) p.devices))
+size_declared p (state subject) = refl
+
+-- ---- of all things
+
+module _ {A : Type 0} (made : ℕ → Content → A) (none : A) (r : Resolution) (q : IsResolved r) where
+  abbrev look : Thing → A
+  look = declared made none (source_of r)
+
+  of_memory : map look (map (λ x. region x.name) r.memory) ≡ map (λ m. made m.size m.content) r.memory
+  unfolding source_of
+  of_memory =
+      map-map look (λ x. region x.name) r.memory
+      ∙ map_at (λ x. look (region x.name)) (λ m. made m.size m.content) r.memory
+      (λ k x at. ap (λ o. option_map_or (λ (m : Region). made m.size m.content) o none) (found_by_name (λ (m : Region). m.name) r.memory (unique (source_of r) q.names).regions k x at))
+
+  of_channels : map look (map (λ c. channel c.name) r.channels) ≡ map (λ c. made c.size Zero) r.channels
+  unfolding source_of
+  of_channels =
+      map-map look (λ c. channel c.name) r.channels
+      ∙ map_at (λ c. look (channel c.name)) (λ c. made c.size Zero) r.channels
+      (λ k x at. ap (λ o. option_map_or (λ (c : Channel). made c.size Zero) o none) (found_by_name (λ (c : Channel). c.name) r.channels (unique (source_of r) q.names).channels k x at))
 
   subject_found : (k : ℕ) (s : Subject) → slice_get r.subjects k ≡ Some s → find (λ t. bytes_eq t.name s.name) (source_of r).subjects ≡ Some (subject_named r s)
   unfolding source_of
@@ -73,49 +123,75 @@ module _ (files : Held) (r : Resolution) (q : IsResolved r) where
   unfolding source_of
   component_names k c at = logical_unique (source_of r) k c q.names at
 
-  provided_one : (k : ℕ) (s : Subject) → slice_get r.subjects k ≡ Some s → (j : ℕ) (x : Provided) → slice_get (provided_at r.components s.component) j ≡ Some x → bytes (provided s.name x.logical) ≡ content_bytes files x.size x.content
-  unfolding initial_bytes
+  provided_one : (k : ℕ) (s : Subject) → slice_get r.subjects k ≡ Some s → (j : ℕ) (x : Provided) → slice_get (provided_at r.components s.component) j ≡ Some x → look (provided s.name x.logical) ≡ made x.size x.content
   provided_one k s at j x here =
       let in_use : option_and_then (λ c. find (λ y. bytes_eq y.logical x.logical) c.provides) (component_by (source_of r) (subject_named r s).component) ≡ Some x =
       ap (option_and_then (λ c. find (λ y. bytes_eq y.logical x.logical) c.provides)) (component_is r q k s at)
       ∙ provided_found r s.component component_names j x here in
-      ap (λ o. option_map_or (λ (x : Provided). content_bytes files x.size x.content) (option_and_then (λ (t : NamedSubject). option_and_then (λ c. find (λ y. bytes_eq y.logical x.logical) c.provides) (component_by (source_of r) t.component)) o) []) (subject_found k s at)
-      ∙ ap (λ o. option_map_or (λ (x : Provided). content_bytes files x.size x.content) o []) in_use
+      ap (λ o. option_map_or (λ (x : Provided). made x.size x.content) (option_and_then (λ (t : NamedSubject). option_and_then (λ c. find (λ y. bytes_eq y.logical x.logical) c.provides) (component_by (source_of r) t.component)) o) none) (subject_found k s at)
+      ∙ ap (λ o. option_map_or (λ (x : Provided). made x.size x.content) o none) in_use
 
-  provided_bytes : map bytes (flat_map (provided_things r.components) r.subjects) ≡ flat_map (λ s. map (λ x. content_bytes files x.size x.content) (provided_at r.components s.component)) r.subjects
-  provided_bytes =
-      map_pieces bytes (provided_things r.components) r.subjects
-      ∙ flat_map_at (λ s. map bytes (provided_things r.components s)) (λ s. map (λ x. content_bytes files x.size x.content) (provided_at r.components s.component)) r.subjects
+  of_provided : map look (flat_map (provided_things r.components) r.subjects) ≡ flat_map (λ s. map (λ x. made x.size x.content) (provided_at r.components s.component)) r.subjects
+  of_provided =
+      map_pieces look (provided_things r.components) r.subjects
+      ∙ flat_map_at (λ s. map look (provided_things r.components s)) (λ s. map (λ x. made x.size x.content) (provided_at r.components s.component)) r.subjects
       (λ k s at.
-      map-map bytes (λ x. provided s.name x.logical) (provided_at r.components s.component)
-      ∙ map_at (λ x. bytes (provided s.name x.logical)) (λ x. content_bytes files x.size x.content) (provided_at r.components s.component) (provided_one k s at))
+      map-map look (λ x. provided s.name x.logical) (provided_at r.components s.component)
+      ∙ map_at (λ x. look (provided s.name x.logical)) (λ x. made x.size x.content) (provided_at r.components s.component) (provided_one k s at))
 
-  -- what the things that have regions hold
-  pub region_bytes_are : thing_bytes files r ≡ map bytes (region_things r)
-  region_bytes_are =
+  -- of the things that have regions
+  of_regions : map look (region_things r) ≡ map (λ m. made m.size m.content) r.memory ++ map (λ c. made c.size Zero) r.channels ++ flat_map (λ s. map (λ x. made x.size x.content) (provided_at r.components s.component)) r.subjects
+  of_regions =
       let memory = map (λ x. region x.name) r.memory in
       let channels = map (λ c. channel c.name) r.channels in
       let brought = flat_map (provided_things r.components) r.subjects in
-      sym (
-      map-append bytes (memory ++ channels) brought
-      ∙ ap (λ bs. bs ++ map bytes brought) (map-append bytes memory channels)
-      ∙ (λ i. memory_bytes i ++ channel_bytes i ++ provided_bytes i))
+      map-append look (memory ++ channels) brought
+      ∙ ap (λ bs. bs ++ map look brought) (map-append look memory channels)
+      ∙ (λ i. of_memory i ++ of_channels i ++ of_provided i)
 
-  -- ---- of devices
-
-  memory_one : (k : ℕ) (d : Device) → slice_get r.devices k ≡ Some d → (j : ℕ) (m : DeviceMemory) → slice_get d.memory j ≡ Some m → bytes (device_memory d.name m.name) ≡ replicate m.size 0
-  unfolding initial_bytes source_of
+  memory_one : (k : ℕ) (d : Device) → slice_get r.devices k ≡ Some d → (j : ℕ) (m : DeviceMemory) → slice_get d.memory j ≡ Some m → look (device_memory d.name m.name) ≡ made m.size Zero
+  unfolding source_of
   memory_one k d at j m here =
-      ap (λ o. option_map_or (λ (m : DeviceMemory). replicate m.size 0) (option_and_then (λ (d : Device). find (λ y. bytes_eq y.name m.name) d.memory) o) []) (found_by_name (λ (d : Device). d.name) r.devices (unique (source_of r) q.names).devices k d at)
-      ∙ ap (λ o. option_map_or (λ (m : DeviceMemory). replicate m.size 0) o []) (found_by_name (λ (m : DeviceMemory). m.name) d.memory (parts_unique (source_of r) k d q.names at).memory j m here)
+      ap (λ o. option_map_or (λ (m : DeviceMemory). made m.size Zero) (option_and_then (λ (d : Device). find (λ y. bytes_eq y.name m.name) d.memory) o) none) (found_by_name (λ (d : Device). d.name) r.devices (unique (source_of r) q.names).devices k d at)
+      ∙ ap (λ o. option_map_or (λ (m : DeviceMemory). made m.size Zero) o none) (found_by_name (λ (m : DeviceMemory). m.name) d.memory (parts_unique (source_of r) k d q.names at).memory j m here)
+
+  -- of the memory of devices
+  of_devices : map (λ x. made x.1.size Zero) (memories_of r.devices) ≡ map look (memory_things r)
+  of_devices =
+      map_pieces (λ (x : List ℕ × DeviceMemory). made x.1.size Zero) (λ d. map (λ m. (d.name, m)) d.memory) r.devices
+      ∙ flat_map_at (λ d. map (λ (x : List ℕ × DeviceMemory). made x.1.size Zero) (map (λ m. (d.name, m)) d.memory)) (λ d. map (λ (x : List ℕ × DeviceMemory). look (memory_thing x)) (map (λ m. (d.name, m)) d.memory)) r.devices
+      (λ k d at.
+      map-map (λ (x : List ℕ × DeviceMemory). made x.1.size Zero) (λ m. (d.name, m)) d.memory
+      ∙ map_at (λ m. made m.size Zero) (λ m. look (device_memory d.name m.name)) d.memory (λ j m here. sym (memory_one k d at j m here))
+      ∙ sym (map-map (λ (x : List ℕ × DeviceMemory). look (memory_thing x)) (λ m. (d.name, m)) d.memory))
+      ∙ sym (map_pieces (λ (x : List ℕ × DeviceMemory). look (memory_thing x)) (λ d. map (λ m. (d.name, m)) d.memory) r.devices)
+      ∙ sym (map-map look memory_thing (memories_of r.devices))
+
+-- ---- bytes
+
+module _ (files : Held) (r : Resolution) (q : IsResolved r) where
+  abbrev bytes : Thing → List ℕ
+  bytes = initial_bytes (source_of r) files
+
+  same_bytes : (xs : List Thing) → map (declared (content_bytes files) [] (source_of r)) xs ≡ map bytes xs
+  same_bytes xs = map_at (declared (content_bytes files) [] (source_of r)) bytes xs (λ k x at. sym (bytes_declared files (source_of r) x))
+
+  -- what the things that have regions hold
+  pub region_bytes_are : thing_bytes files r ≡ map bytes (region_things r)
+  region_bytes_are = sym (of_regions (content_bytes files) [] r q) ∙ same_bytes (region_things r)
 
   pub memory_bytes_are : map (λ x. replicate x.1.size 0) (memories_of r.devices) ≡ map bytes (memory_things r)
-  memory_bytes_are =
-      map_pieces (λ (x : List ℕ × DeviceMemory). replicate x.1.size 0) (λ d. map (λ m. (d.name, m)) d.memory) r.devices
-      ∙ flat_map_at (λ d. map (λ (x : List ℕ × DeviceMemory). replicate x.1.size 0) (map (λ m. (d.name, m)) d.memory)) (λ d. map (λ (x : List ℕ × DeviceMemory). bytes (memory_thing x)) (map (λ m. (d.name, m)) d.memory)) r.devices
-      (λ k d at.
-      map-map (λ (x : List ℕ × DeviceMemory). replicate x.1.size 0) (λ m. (d.name, m)) d.memory
-      ∙ map_at (λ m. replicate m.size 0) (λ m. bytes (device_memory d.name m.name)) d.memory (λ j m here. sym (memory_one k d at j m here))
-      ∙ sym (map-map (λ (x : List ℕ × DeviceMemory). bytes (memory_thing x)) (λ m. (d.name, m)) d.memory))
-      ∙ sym (map_pieces (λ (x : List ℕ × DeviceMemory). bytes (memory_thing x)) (λ d. map (λ m. (d.name, m)) d.memory) r.devices)
-      ∙ sym (map-map bytes memory_thing (memories_of r.devices))
+  memory_bytes_are = of_devices (content_bytes files) [] r q ∙ same_bytes (memory_things r)
+
+-- ---- sizes
+
+module _ (r : Resolution) (q : IsResolved r) where
+  same_sizes : (xs : List Thing) → map (declared (λ size content. Some size) None (source_of r)) xs ≡ map (declared_size (source_of r)) xs
+  same_sizes xs = map_at (declared (λ size content. Some size) None (source_of r)) (declared_size (source_of r)) xs (λ k x at. sym (size_declared (source_of r) x))
+
+  -- how many bytes the policy declares for the things that have regions
+  pub region_sizes_are : map (declared_size (source_of r)) (region_things r) ≡ map (λ m. Some m.size) r.memory ++ map (λ c. Some c.size) r.channels ++ flat_map (λ s. map (λ x. Some x.size) (provided_at r.components s.component)) r.subjects
+  region_sizes_are = sym (same_sizes (region_things r)) ∙ of_regions (λ size content. Some size) None r q
+
+  pub memory_sizes_are : map (λ x. Some x.1.size) (memories_of r.devices) ≡ map (declared_size (source_of r)) (memory_things r)
+  memory_sizes_are = of_devices (λ size content. Some size) None r q ∙ same_sizes (memory_things r)

@@ -1,28 +1,59 @@
--- What an image of a policy has beside being sound: its regions lie where the policy's placement has them, no table is read
--- at two paths, and its pages are the greatest (Intel SDM volume 3, "VMX Support for Address Translation").
-use Rattle.std.specs.Prelude.{◌≡◌, ℕ, suc, ◌+◌, ◌*◌, ◌/◌, ◌%◌, ◌<◌, ◌≤◌, List, length, slice_get, slice_index, Ok, Some}
-use Rattle.std.specs.List.{find}
-use Rattle.std.specs.Option.{IfSome}
+-- What an image of a policy has beside being sound: its spans are the policy's regions and devices, what a subject's part
+-- numbers is the subject's own, no table is read at two paths, tables ascend along a walk, and its pages are the greatest and
+-- have the memory types of what they show (Intel SDM volume 3, "VMX Support for Address Translation").
+use Rattle.std.specs.Prelude.{◌≡◌, ℕ, suc, ◌+◌, ◌*◌, ◌/◌, ◌%◌, ◌<◌, ◌≤◌, ◌&&◌, nat_le, Bool, true, List, ◌++◌, length, map, slice_get, Ok, Some}
+use Rattle.std.specs.List.{All, find, list_any}
+use Rattle.std.specs.Option.{IfSome, option_map_or}
+use Rattle.std.specs.Str.{bytes_eq}
 use Rattle.ept_emit.specs.Emitted.{Reads}
-use Rattle.image_soundness.specs.Memory.{memory_of, address_at}
-use Rattle.image_soundness.specs.Sound.{address_of}
+use Rattle.ept_emit.specs.Entries.{type_of}
+use Rattle.expand_kernel.specs.Regions.{regions_of}
+use Rattle.image_soundness.specs.Memory.{by_number, memory_of}
+use Rattle.image_soundness.specs.Named.{tag_at}
+use Rattle.image_soundness.specs.Sound.{address_of, is_tables}
+use Rattle.image_pack.specs.SpanConditions.{end_of}
 use Rattle.image_pack.specs.declared.parts.Image.{Image}
 use Rattle.image_pack.specs.declared.parts.SubjectPart.{SubjectPart}
-use Rattle.machine_layout.specs.Walks.{leaf_size, entry_size}
+use Rattle.machine_layout.specs.Walks.{addresses_read, leaf_size, leaf_type, entry_size}
 use Rattle.muen_num.specs.declared.limits.TheConstants.{GUEST_END}
-use Rattle.policy_lawful.specs.Thing.{Thing}
+use Rattle.muen_num.specs.declared.tag.Tag.{Tag}
+use Rattle.muen_num.specs.declared.tag.TagPart.{TagPart}
+use Rattle.muen_num.specs.declared.tag.TagPart.TheVariants.{State, Iobm, Msrbm, Msrs}
+use Rattle.policy_lawful.specs.Thing.{Thing, region, channel, provided, device_memory, state}
 use Rattle.policy_lawful.specs.Windows.{Window, holds, windows_of}
+use Rattle.policy_types.specs.declared.rights.Caching.{Caching}
+use Rattle.policy_types.specs.declared.rights.Caching.TheVariants.{Uc, Wb}
 use Rattle.policy_types.specs.declared.source.Source.{Source}
 use Rattle.policy_types.specs.declared.source.Subject.{Subject}
 use Rattle.region_alloc.specs.Placement.{placement_of}
+use Rattle.span_emit.specs.Spans.{device_spans, region_spans}
 
--- ---- addresses
+-- ---- spans
 
--- the span of each region, by number, lies where the policy's placement has the region
-pub record HasPlacement (p : Source) (i : Image) : Type 0 where
+-- by number, the spans are the policy's regions with their tags, kinds, pages and the addresses that the policy's placement
+-- has for them, and then the devices' memory at its physical addresses
+pub record HasSpans (p : Source) (i : Image) : Type 0 where
   pub addresses : List ℕ
   pub are : placement_of p ≡ Ok addresses
-  pub each : (n : ℕ) → n < length addresses → address_at i n ≡ slice_index addresses n
+  pub spans : map (λ e. e.0) (by_number i) ≡ region_spans (regions_of p) addresses ++ device_spans (length (regions_of p)) p.devices
+
+-- the tag of a region of the kernel for the subject of this name
+abbrev pub kernel_tag : List ℕ → TagPart → Tag
+kernel_tag subject part = record { owner = subject; part = part }
+
+-- the eight bytes from this address on lie in the span of the tables of the subject of this name
+abbrev pub is_in_tables_of : Image → List ℕ → ℕ → Bool
+is_in_tables_of i name at =
+    list_any (λ s. is_tables s && bytes_eq s.tag.owner name && nat_le s.address at && nat_le (at + 8) (end_of s)) i.spans
+
+-- what a subject's part of the image numbers are, by the tags of these spans, the kernel's regions for this subject, and the
+-- entries that its walks read lie in that of its tables
+pub record HasKernelSpans (i : Image) (s : Subject) (q : SubjectPart) : Type 0 where
+  pub state : tag_at i q.state ≡ Some (kernel_tag s.name State)
+  pub tables : (addr : ℕ) → addr < GUEST_END → All (λ at. is_in_tables_of i s.name at ≡ true) (addresses_read (memory_of i) q.eptp addr)
+  pub iobm : tag_at i q.iobm ≡ Some (kernel_tag s.name Iobm)
+  pub msrbm : tag_at i q.msrbm ≡ Some (kernel_tag s.name Msrbm)
+  pub area : tag_at i q.area ≡ Some (kernel_tag s.name Msrs)
 
 -- ---- paths
 
@@ -38,6 +69,12 @@ abbrev pub HasOnePathPerTable : Image → Type 0
 HasOnePathPerTable i =
     (j k : ℕ) (q r : SubjectPart) (a b level other page : ℕ) → slice_get i.subjects j ≡ Some q → slice_get i.subjects k ≡ Some r → a < GUEST_END → b < GUEST_END
     → Reads (memory_of i) q.eptp a level page → Reads (memory_of i) r.eptp b other page → IsOnePath j k level other a b
+
+-- along the walk for an address of a subject the pages of tables ascend
+abbrev pub TablesAscend : Image → SubjectPart → Type 0
+TablesAscend i q =
+    (addr level page lower lower_page : ℕ) → addr < GUEST_END → Reads (memory_of i) q.eptp addr level page → Reads (memory_of i) q.eptp addr lower lower_page
+    → lower < level → page < lower_page
 
 -- ---- the greatest pages
 
@@ -61,3 +98,19 @@ abbrev pub HasGreatestPages : Source → Image → Subject → SubjectPart → T
 HasGreatestPages p i s q =
     (addr : ℕ) → addr < GUEST_END
     → IfSome (find (λ w. holds w addr) (windows_of p s)) (λ w. IsGreatestPage w (address_of p i w.thing) addr (leaf_size (memory_of i) q.eptp addr))
+
+-- ---- memory types
+
+-- the memory type of a thing: a region's as the policy says, uncached of a device's memory, write-back of all else
+abbrev pub thing_caching : Source → Thing → Caching
+thing_caching p (region name) = option_map_or (λ r. r.caching) (find (λ r. bytes_eq r.name name) p.memory) Wb
+thing_caching p (channel name) = Wb
+thing_caching p (provided subject logical) = Wb
+thing_caching p (device_memory device memory) = Uc
+thing_caching p (state subject) = Wb
+
+-- each address of a window of the subject is mapped with the memory type of what the window shows
+abbrev pub HasMemoryTypes : Source → Image → Subject → SubjectPart → Type 0
+HasMemoryTypes p i s q =
+    (addr : ℕ) → addr < GUEST_END
+    → IfSome (find (λ w. holds w addr) (windows_of p s)) (λ w. leaf_type (memory_of i) q.eptp addr ≡ Some (type_of (thing_caching p w.thing)))

@@ -4,7 +4,7 @@
 //! an image stand in specs/ (`Built`).
 #![tactic(auto)]
 
-ghost use Rattle.proof_build.specs.Laws.{ImagesAreSound, PagesAreGreatest, RegionsLieWherePlaced, TablesHaveOnePath};
+ghost use Rattle.proof_build.specs.Laws.{ImagesAreSound, KernelSpansAreOwn, PagesAreGreatest, PagesHaveTheirTypes, SpansAreThePolicys, TablesHaveOnePath, WalksAscend};
 
 /// An image that is made of a placed policy, whose regions hold what the policy says over some files, is
 /// sound for the policy and these files.
@@ -12,10 +12,15 @@ pub fn images_of_policies_are_sound()
     ensures { ImagesAreSound }
 {}
 
-/// Each of its regions lies where the policy's placement has it, no table is read at two paths, and each
-/// window is mapped by the greatest pages that it allows.
+/// Its spans are the policy's regions where the policy's placement has them, and the devices' memory; the
+/// numbers of a subject's part are those of the kernel's regions for this subject; no table is read at two
+/// paths, and along a walk tables ascend; and each window is mapped by the greatest pages that it allows,
+/// with the memory type of what it shows.
 pub fn images_of_policies_are_laid_out()
-    ensures placed { RegionsLieWherePlaced }
+    ensures spans { SpansAreThePolicys }
+    ensures kernel { KernelSpansAreOwn }
     ensures paths { TablesHaveOnePath }
+    ensures ascending { WalksAscend }
     ensures leaves { PagesAreGreatest }
+    ensures types { PagesHaveTheirTypes }
 {}

@@ -1,5 +1,5 @@
 -- The memories of a sound image's devices lie where the policy's things of these names do, and are as long.
-use Rattle.std.proofs.Common.{◌≡◌, ℕ, zero, suc, ◌*◌, ◌/◌, ◌%◌, ◌<◌, Bool, true, false, not, List, [], ◌∷◌, ◌++◌, length, map, Option, Some, None, option_and_then, option_map, find, refl, sym, ap, ap₂, ◌∙◌, arith}
+use Rattle.std.proofs.Common.{◌≡◌, ℕ, zero, suc, ◌*◌, ◌/◌, ◌%◌, ◌<◌, Bool, true, false, not, List, [], ◌∷◌, ◌++◌, length, Option, Some, None, option_and_then, option_map, find, refl, sym, ap, ap₂, ◌∙◌, arith}
 use Rattle.std.specs.Prelude.{◌==◌, if◌then◌else◌, option_to_list, slice_get}
 use Rattle.std.specs.List.{flat_map}
 use Rattle.std.specs.Str.{bytes_eq}
@@ -11,7 +11,7 @@ use Rattle.muen_num.specs.Range.{numbers_below}
 use Rattle.muen_num.specs.declared.limits.TheConstants.{PAGE}
 use Rattle.image_load.specs.Resolving.{NamedMemory, memories_of, memory_of_span, memory_of_window}
 use Rattle.image_soundness.specs.Memory.{Span, by_number, span_at}
-use Rattle.image_soundness.specs.Named.{bench_device, bench_of, tag_at}
+use Rattle.image_soundness.specs.Named.{tag_at}
 use Rattle.image_soundness.specs.Sound.{IsDeviceOf, IsSound, IsSpanOf, is_kernel, kind_of, thing_spans}
 use Rattle.image_pack.specs.Codes.{is_device, part_name}
 use Rattle.image_pack.specs.ImageConditions.{KeepsConditions}
@@ -28,9 +28,8 @@ use Rattle.policy_meaning.specs.Thing.{Thing, device_memory, same_thing, things_
 use Rattle.policy_types.specs.declared.source.Device.{Device}
 use Rattle.policy_types.specs.declared.source.DeviceMemory.{DeviceMemory}
 use Rattle.policy_types.specs.declared.source.Source.{Source}
-use Rattle.record_text.specs.Bench.{Bench, BenchDevice}
+use Rattle.record_text.specs.Bench.{BenchDevice}
 use Rattle.subject_model.proofs.KeyLaws.{same_thing_self}
-use Rattle.image_soundness.specs.Bench.{bench_device as device_of}
 use Rattle.proof_start.specs.GroundOf.{ground_of}
 use Rattle.proof_start.proofs.ListFacts.{all_at, any_at, filtered_there, first_at, found_at, from_some, kept_there, same_at, same_some}
 use Rattle.proof_start.proofs.MemoryFacts.{by_its_number, span_with}
@@ -136,18 +135,10 @@ record DeviceAt (p : Source) (i : Image) (device : List ℕ) (d : DevicePart) : 
   named : one.name ≡ device
 
 device_at : (p : Source) (files : Held) (i : Image) → IsSound p files i → (device : List ℕ) (d : DevicePart) → find (λ d. bytes_eq d.name device) i.devices ≡ Some d → DeviceAt p i device d
-unfolding bench_of
 device_at p files i sound device d found =
     let f = found_at (λ (d : DevicePart). bytes_eq d.name device) i.devices d found in
     let x = first_at (IsDeviceOf p i) p.devices i.devices f.index d sound.plan_and_events.devices f.here in
-    let bench : map (bench_device i) i.devices ≡ map device_of p.devices = ap (λ (b : Bench). b.devices) sound.plan_and_events.bench in
-    let same : Some (bench_device i d) ≡ Some (device_of x.0) =
-    sym (ap (option_map (bench_device i)) f.here)
-    ∙ sym (slice_get-map (bench_device i) i.devices f.index)
-    ∙ ap (λ bs. slice_get bs f.index) bench
-    ∙ slice_get-map device_of p.devices f.index
-    ∙ ap (option_map device_of) x.1 in
-    let name : d.name ≡ x.0.name = ap (λ (b : BenchDevice). b.name) (same_some (bench_device i d) (device_of x.0) same) in
+    let name : d.name ≡ x.0.name = ap (λ (b : BenchDevice). b.name) x.2.may in
     record { one = x.0; is = x.2; named = sym name ∙ (bytes_eq-Decides d.name device).0 f.passes }
 
 -- ---- the memory of the policy

@@ -1,10 +1,11 @@
--- What an image has for contents are bytes where the image's own bytes are, and so its run is its system's.
-use Rattle.std.proofs.Common.{◌≡◌, ◌∙◌, ℕ, zero, suc, arith, List, [], ◌∷◌, ◌++◌, Ok, subst}
+-- What an image has for contents are bytes, and so its run is its system's.
+use Rattle.std.proofs.Common.{◌≡◌, ◌∙◌, ℕ, zero, suc, arith, List, [], ◌∷◌, Ok}
 use Rattle.std.specs.List.{All}
-use Rattle.std.proofs.lemmas.List.{append_assoc}
-use Rattle.binary_form.specs.Form.{IsBytes, bytes_of, done, each, each_fit, each_spelled, field, items}
-use Rattle.image_pack.specs.Image.{after, after_device, content, device, group, header, image, major, next_index, no_spans_before, nothing_left, outline, span, subject}
+use Rattle.std.proofs.lemmas.List.Elements.{All-cons, All-nil}
+use Rattle.binary_form.specs.Form.{IsBytes, bytes_of, each, each_fit, field}
+use Rattle.image_pack.specs.Image.{content, image}
 use Rattle.image_load.specs.Resolving.{image_bench, image_record}
+use Rattle.image_soundness.proofs.SoundFacts.{bench_is}
 use Rattle.image_soundness.specs.Bench.{devices_of}
 use Rattle.image_soundness.specs.Sound.{IsSound}
 use Rattle.image_pack.specs.Parts.{IsImage, IsParts}
@@ -17,55 +18,30 @@ use Rattle.record_text.specs.DeviceRecord.{DeviceRecord}
 use Rattle.record_text.specs.Reading.{record_of}
 use Rattle.guest_isa.specs.Words.{IsByte}
 use Rattle.subject_model.specs.Trace.{trace_of}
-use Rattle.proof_runs.proofs.PartsKeep.{parts_keep}
+use Rattle.image_pack.proofs.PartsKeep.{parts_keep}
 use Rattle.proof_runs.proofs.SameInputs.{same_bench}
 use Rattle.proof_runs.proofs.Traces.{traces_are}
 
-front_bytes : (a b : List ℕ) → IsBytes (a ++ b) → All IsByte a
-front_bytes [] b h k d l = absurd (omega (arith, l))
-front_bytes (x ∷ a) b h zero d l = h zero
-front_bytes (x ∷ a) b h (suc k) d l = front_bytes a b (λ i. h (suc i)) k d (omega (arith, l))
+small_bytes : (bytes : List ℕ) → IsBytes bytes → All IsByte bytes
+small_bytes [] h k d l = absurd (omega (arith, l))
+small_bytes (x ∷ bytes) h zero d l = h zero
+small_bytes (x ∷ bytes) h (suc k) d l = small_bytes bytes (λ i. h (suc i)) k d (omega (arith, l))
 
-behind_bytes : (a b : List ℕ) → IsBytes (a ++ b) → IsBytes b
-behind_bytes [] b h = h
-behind_bytes (x ∷ a) b h = behind_bytes a b (λ i. h (suc i))
+each_small : (spans : List SpanPart) (contents : List (List ℕ)) → each_fit (λ s. (content s).fits) spans contents → All (All IsByte) contents
+unfolding each_fit content bytes_of
+each_small [] [] f = All-nil (All IsByte)
+each_small [] (b ∷ bs) f = absurd f
+each_small (s ∷ ss) [] f = absurd f
+each_small (s ∷ ss) (b ∷ bs) f = All-cons (All IsByte) b bs (small_bytes b f.0.1) (each_small ss bs f.1)
 
-abbrev spelled_contents : List SpanPart → List (List ℕ) → List ℕ
-spelled_contents = each_spelled (λ s. (content s).spell)
-
-each_of_bytes : (spans : List SpanPart) (contents : List (List ℕ)) (more : List ℕ) → each_fit (λ s. (content s).fits) spans contents → IsBytes (spelled_contents spans contents ++ more) → All (All IsByte) contents
-unfolding each_fit each_spelled content bytes_of
-each_of_bytes [] [] more f h k d l = absurd (omega (arith, l))
-each_of_bytes [] (b ∷ bs) more f h k d l = absurd f
-each_of_bytes (s ∷ ss) [] more f h k d l = absurd f
-each_of_bytes (s ∷ ss) (b ∷ bs) more f h zero d l =
-    front_bytes b (spelled_contents ss bs ++ more) (subst IsBytes (append_assoc b (spelled_contents ss bs) more) h)
-each_of_bytes (s ∷ ss) (b ∷ bs) more f h (suc k) d l =
-    each_of_bytes ss bs more f.1 (behind_bytes b (spelled_contents ss bs ++ more) (subst IsBytes (append_assoc b (spelled_contents ss bs) more) h)) k d (omega (arith, l))
-
-pub contents_of_bytes : (i : Image) → IsParts i → IsBytes (image.spell i) → All (All IsByte) i.contents
-unfolding image field done each
-contents_of_bytes i f h =
-    let o = outline i.header i.spans i.plan.groups in
-    let contents = spelled_contents i.spans i.contents ++ [] in
-    let devices = (items (after_device o) (device o) [] i.header.devices).spell i.devices in
-    let majors = (items (nothing_left o) (major o) 0 i.header.majors).spell i.plan.majors in
-    let subjects = (items (next_index o) (subject o) 0 i.header.subjects).spell i.subjects in
-    let groups = (items (nothing_left i.header) (group i.header) 0 i.header.groups).spell i.plan.groups in
-    let spans = (items (after i.header) (span i.header) (no_spans_before i.header) i.header.spans).spell i.spans in
-    each_of_bytes i.spans i.contents [] f.1.1.1.1.1.1.0
-    (behind_bytes devices contents
-    (behind_bytes majors (devices ++ contents)
-    (behind_bytes subjects (majors ++ (devices ++ contents))
-    (behind_bytes groups (subjects ++ (majors ++ (devices ++ contents)))
-    (behind_bytes spans (groups ++ (subjects ++ (majors ++ (devices ++ contents))))
-    (behind_bytes (header.spell i.header) (spans ++ (groups ++ (subjects ++ (majors ++ (devices ++ contents))))) h))))))
+pub contents_small : (i : Image) → IsParts i → All (All IsByte) i.contents
+unfolding image field each
+contents_small i f = each_small i.spans i.contents f.1.1.1.1.1.1.0
 
 -- ---- so the image of these bytes runs as its system
 
-pub image_runs : (p : Source) (files : Held) (bytes : List ℕ) (i : Image) (text : List ℕ) (r : DeviceRecord) → IsBytes bytes → IsImage bytes i → IsSound p files i → record_of text (devices_of p) ≡ Ok r → image_text i (image_record i r) ≡ trace_of p files r
-image_runs p files bytes i text r all_bytes is sound named =
-    traces_are p files i text r (parts_keep i is.parts) sound (contents_of_bytes i is.parts (subst IsBytes is.bytes_are all_bytes)) named
+pub image_runs : (p : Source) (files : Held) (bytes : List ℕ) (i : Image) (text : List ℕ) (r : DeviceRecord) → IsImage bytes i → IsSound p files i → record_of text (devices_of p) ≡ Ok r → image_text i (image_record i r) ≡ trace_of p files r
+image_runs p files bytes i text r is sound named = traces_are p files i text r (parts_keep i is.parts) sound (contents_small i is.parts) named
 
 pub image_bench_is : (p : Source) (files : Held) (bytes : List ℕ) (i : Image) → IsImage bytes i → IsSound p files i → image_bench i ≡ devices_of p
-image_bench_is p files bytes i is sound = same_bench i (parts_keep i is.parts) ∙ sound.plan_and_events.bench
+image_bench_is p files bytes i is sound = same_bench i (parts_keep i is.parts) ∙ bench_is p files i sound

@@ -1,12 +1,7 @@
 pub mod DeviceMemories
-pub mod DevicesKeep
 pub mod FinalTexts
 pub mod FlatLists
-pub mod FramesKeep
 pub mod ImageRuns
-pub mod PartsKeep
 pub mod RecordFacts
 pub mod SameInputs
-pub mod SpansKeep
-pub mod SubjectsKeep
 pub mod Traces

@@ -1,22 +1,22 @@
 -- A record that is read for a sound image gives the machine the inputs and the orders that it gives the system.
 use Rattle.std.proofs.Common.{◌≡◌, ℕ, ◌+◌, ◌*◌, ◌<◌, Bool, true, false, cond, not, List, [], ◌∷◌, ◌++◌, length, map, filter, zip, Option, Some, None, is_some, find, position, option_and_then, option_map, unwrap_or, nat_lt, nat_le, refl, sym, ap, ap₂, ◌∙◌, subst, arith}
-use Rattle.std.specs.Prelude.{◌==◌, ◌&&◌, if◌then◌else◌, option_to_list, slice_get}
+use Rattle.std.specs.Prelude.{◌==◌, ◌&&◌, if◌then◌else◌, option_to_list, slice_index_or}
 use Rattle.std.specs.List.{All, AllZip, cons_option, filter_map, flat_map, list_any, position_or_len}
 use Rattle.std.specs.Option.{option_map_or}
 use Rattle.std.specs.Str.{bytes_eq}
 use Rattle.std.proofs.lemmas.Bool.{leb-true}
 use Rattle.std.proofs.lemmas.Bool.Decides.{nat_tests}
 use Rattle.std.proofs.lemmas.List.Elements.{All-head, All-tail}
-use Rattle.std.proofs.lemmas.Option.{unwrap_or-slice_get, slice_get-map}
 use Rattle.std.proofs.lemmas.Slice.Eq.{bytes_eq-Decides}
 use Rattle.muen_num.proofs.Lists.{find-map, list_any-map}
 use Rattle.muen_num.specs.Range.{numbers_below}
 use Rattle.muen_num.specs.declared.limits.TheConstants.{PAGE}
 use Rattle.subject_model.specs.Clock.{inputs_at, order_at}
 use Rattle.image_load.specs.Resolving.{NamedMemory, bench_device_of, bytes_into, device_called, image_bench, image_record, input_of, irq_input_of, is_in_range, memories_of, memory_input_of, memory_of_span, memory_of_window, port_input_of, raised, tick_input_of}
+use Rattle.image_soundness.proofs.NamesOfTargets.{reached_by_name}
 use Rattle.image_soundness.specs.Memory.{Span}
 use Rattle.image_soundness.specs.Named.{bench_device, bench_of, reached, subject_name, window_memory}
-use Rattle.image_soundness.specs.Sound.{ForEachSubject, IsDeviceOf, IsIrqOf, IsSubjectOf}
+use Rattle.image_soundness.specs.Sound.{IsDeviceOf, IsIrqOf}
 use Rattle.image_pack.specs.Codes.{is_device, part_name}
 use Rattle.image_pack.specs.Image.{device_name, window_name}
 use Rattle.image_pack.specs.ImageConditions.{IsContent, IsDevice, IsIrq, IsReached, IsWindow, KeepsConditions}
@@ -31,7 +31,6 @@ use Rattle.image_pack.specs.declared.parts.WindowPart.{WindowPart}
 use Rattle.kernel_core.specs.Ticks.{tick_inputs, tick_order}
 use Rattle.policy_meaning.specs.Events.{irq_of}
 use Rattle.policy_meaning.specs.Thing.{device_memory}
-use Rattle.policy_types.specs.declared.source.Device.{Device as SourceDevice}
 use Rattle.policy_types.specs.declared.source.Irq.{Irq}
 use Rattle.policy_types.specs.declared.source.Source.{Source}
 use Rattle.policy_types.specs.declared.source.Subject.{Subject}
@@ -39,11 +38,12 @@ use Rattle.record_text.specs.Bench.{BenchDevice, has_bytes, has_irq, has_port, i
 use Rattle.record_text.specs.DeviceRecord.{DeviceRecord, NamedInput, port_input, memory_input, irq_input, dma_input}
 use Rattle.record_text.specs.Resolving.{order_at as order_of}
 use Rattle.record_text.specs.declared.record.Input.TheVariants.{Port, Mem, Idle, Dma}
+use Rattle.proof_start.proofs.StartSets.{name_by}
 use Rattle.proof_start.specs.GroundOf.{ground_of}
 use Rattle.proof_turns.specs.Ground.{Ground, IsSubject, name_at}
 use Rattle.guest_isa.specs.Words.{IsByte}
 use Rattle.proof_turns.specs.Inputs.{SameInput, SameIrq}
-use Rattle.image_soundness.specs.Bench.{devices_of, bench_device as device_of}
+use Rattle.image_soundness.specs.Bench.{devices_of}
 use Rattle.proof_runs.proofs.RecordFacts.{IsReadFor, IsSmall}
 
 -- ---- the bench of an image
@@ -322,24 +322,19 @@ irqs_of b = b.irqs
 abbrev name_of : BenchDevice → List ℕ
 name_of b = b.name
 
-subjects_named : (p : Source) (i : Image) (ss : List Subject) (qs : List SubjectPart) → AllZip (IsSubjectOf p i) ss qs → map (λ q. q.name) qs ≡ map (λ s. s.name) ss
-subjects_named p i [] [] h = refl
-subjects_named p i [] (q ∷ qs) h = absurd h
-subjects_named p i (s ∷ ss) [] h = absurd h
-subjects_named p i (s ∷ ss) (q ∷ qs) h = ap₂ (λ n ns. n ∷ ns) h.0.name (subjects_named p i ss qs h.1)
+-- an image's subjects have the policy's names
+abbrev pub HaveNames : Ground → Image → Type 0
+HaveNames g i = map (λ (q : SubjectPart). q.name) i.subjects ≡ map (λ (n : Subject). n.name) g.policy.subjects
 
 -- a number is of a subject of one name
-pub name_same : (g : Ground) (i : Image) (s : ℕ) → ForEachSubject g.policy i (IsSubjectOf g.policy i) → subject_name i s ≡ name_at g s
-name_same g i s subjects =
-    sym (unwrap_or-slice_get (map (λ (q : SubjectPart). q.name) i.subjects) s [])
-    ∙ ap (λ ns. unwrap_or (slice_get ns s) []) (subjects_named g.policy i g.policy.subjects i.subjects subjects)
-    ∙ ap (λ o. unwrap_or o []) (slice_get-map (λ (n : Subject). n.name) g.policy.subjects s)
+pub name_same : (g : Ground) (i : Image) (s : ℕ) → HaveNames g i → subject_name i s ≡ name_at g s
+name_same g i s named = ap (λ ns. slice_index_or ns s []) named ∙ name_by g.policy.subjects s
 
-reached_by : (g : Ground) (i : Image) (device irq : List ℕ) (target : Option IrqTarget) → ForEachSubject g.policy i (IsSubjectOf g.policy i)
+reached_by : (g : Ground) (i : Image) (device irq : List ℕ) (target : Option IrqTarget) → HaveNames g i
     → ((t : IrqTarget) → target ≡ Some t → IsSubject g t.subject) → option_map (reached i) target ≡ irq_of g.policy device irq → IsRaised g device irq target
-reached_by g i device irq None subjects are e = sym e
-reached_by g i device irq (Some t) subjects are e =
-    let named : reached i t ≡ record { subject = name_at g t.subject; vector = Some t.vector } = ap (λ n. record { subject = n; vector = Some t.vector }) (name_same g i t.subject subjects) in
+reached_by g i device irq None names are e = sym e
+reached_by g i device irq (Some t) names are e =
+    let named : reached i t ≡ record { subject = name_at g t.subject; vector = Some t.vector } = ap (λ n. record { subject = n; vector = Some t.vector }) (name_same g i t.subject names) in
     record { is = are t refl; granted = sym e ∙ ap (λ t. Some t) named }
 
 -- what holds of each holds of what is found
@@ -356,25 +351,22 @@ reached_within subjects None t h e = cc
 reached_within subjects (Some x) t h e = let same : x ≡ t = cc in subst (λ x. x.subject < subjects) same h.0
 
 -- the interrupts of an image that is sound reach whom the policy grants them
-pub has_targets : (g : Ground) (i : Image) → KeepsConditions i → bench_of i ≡ devices_of g.policy → AllZip (IsDeviceOf g.policy i) g.policy.devices i.devices
-    → ForEachSubject g.policy i (IsSubjectOf g.policy i) → ((s : ℕ) → s < length i.subjects → IsSubject g s) → HasTargets g i
-unfolding bench_of
-has_targets g i keeps bench devices subjects are device irq d q found found_irq =
-    let R : SourceDevice → DevicePart → Type 0 = λ x y. IsDeviceOf g.policy i x y × (bench_device i y ≡ device_of x) in
-    let pairs : AllZip R g.policy.devices i.devices = both_mapped (IsDeviceOf g.policy i) device_of (bench_device i) g.policy.devices i.devices devices (ap (λ b. b.devices) bench) in
-    let x = beside R (λ d. bytes_eq d.name device) g.policy.devices i.devices d pairs found in
-    let is = x.related.0 in
-    let Q : Irq → IrqPart → Type 0 = λ a b. IsIrqOf g.policy i x.other a b × (b.name ≡ a.name) in
-    let irqs : AllZip Q x.other.irqs d.irqs = both_mapped (IsIrqOf g.policy i x.other) (λ a. a.name) (λ b. b.name) x.other.irqs d.irqs is.irqs (ap irqs_of x.related.1) in
+pub has_targets : (g : Ground) (i : Image) → KeepsConditions i → AllZip (IsDeviceOf g.policy i) g.policy.devices i.devices
+    → HaveNames g i → ((s : ℕ) → s < length i.subjects → IsSubject g s) → HasTargets g i
+has_targets g i keeps devices names are device irq d q found found_irq =
+    let x = beside (IsDeviceOf g.policy i) (λ d. bytes_eq d.name device) g.policy.devices i.devices d devices found in
+    let is = x.related in
+    let Q : Irq → IrqPart → Type 0 = λ a b. IsIrqOf g.policy x.other a b × (b.name ≡ a.name) in
+    let irqs : AllZip Q x.other.irqs d.irqs = both_mapped (IsIrqOf g.policy x.other) (λ a. a.name) (λ b. b.name) x.other.irqs d.irqs is.irqs (ap irqs_of is.may) in
     let y = beside Q (λ q. bytes_eq q.name irq) x.other.irqs d.irqs q irqs found_irq in
-    let device_name : x.other.name ≡ device = sym (ap name_of x.related.1) ∙ same_name d.name device x.passes in
+    let device_name : x.other.name ≡ device = sym (ap name_of is.may) ∙ same_name d.name device x.passes in
     let irq_name : y.other.name ≡ irq = sym y.related.1 ∙ same_name q.name irq y.passes in
     let of_device = all_found (IsDevice i) (λ d. bytes_eq d.name device) i.devices d keeps.devices found in
     let of_irq = all_found (IsIrq i.header.subjects) (λ q. bytes_eq q.name irq) d.irqs q of_device.irqs found_irq in
     let count = keeps.counts.subjects in
-    reached_by g i device irq q.target subjects
+    reached_by g i device irq q.target names
     (λ t e. let within = reached_within i.header.subjects q.target t of_irq.reached e in are t.subject (omega (arith, within, count)))
-    (y.related.0 ∙ ap₂ (irq_of g.policy) device_name irq_name)
+    (reached_by_name g.policy i names q.target (irq_of g.policy x.other.name y.other.name) y.related.0 ∙ ap₂ (irq_of g.policy) device_name irq_name)
 
 -- ---- the whole
 
@@ -389,10 +381,10 @@ pub inputs_alike : (p : Source) (i : Image) → KeepsConditions i → bench_of i
 unfolding ground_of
 inputs_alike p i keeps bench memories targets r tick read = inputs_alike_of (ground_of p i) i keeps bench memories targets r tick read
 
-pub targets_of : (p : Source) (i : Image) → KeepsConditions i → bench_of i ≡ devices_of p → AllZip (IsDeviceOf p i) p.devices i.devices
-    → ForEachSubject p i (IsSubjectOf p i) → ((s : ℕ) → s < length i.subjects → IsSubject (ground_of p i) s) → HasTargets (ground_of p i) i
+pub targets_of : (p : Source) (i : Image) → KeepsConditions i → AllZip (IsDeviceOf p i) p.devices i.devices
+    → HaveNames (ground_of p i) i → ((s : ℕ) → s < length i.subjects → IsSubject (ground_of p i) s) → HasTargets (ground_of p i) i
 unfolding ground_of
-targets_of p i keeps bench devices subjects are = has_targets (ground_of p i) i keeps bench devices subjects are
+targets_of p i keeps devices names are = has_targets (ground_of p i) i keeps devices names are
 
 ordered_by : (cpus n : ℕ) (o : Option (ℕ × List ℕ)) → cpus ≡ n → unwrap_or (option_map (λ x. x.cpus) (option_map order_of o)) (numbers_below cpus) ≡ option_map_or (λ e. e.1) o (numbers_below n)
 ordered_by cpus n None e = ap numbers_below e

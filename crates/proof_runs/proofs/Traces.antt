@@ -1,5 +1,4 @@
 -- The text of a run of a sound image is that of its policy's system.
-use Rattle.std.proofs.lemmas.Slice.Zip.{AllZip-long}
 use Rattle.std.proofs.Common.{◌≡◌, ℕ, zero, suc, ◌∷◌, ◌*◌, ◌/◌, ◌<◌, true, false, Option, Some, None, List, [], ◌++◌, length, map, refl, sym, ap, ◌∙◌, subst, arith}
 use Rattle.std.specs.Prelude.{option_map, slice_get, Ok}
 use Rattle.std.specs.List.{flat_map, list_any}
@@ -7,8 +6,9 @@ use Rattle.std.specs.Option.{option_map_or}
 use Rattle.std.proofs.lemmas.Bool.{true≢false}
 use Rattle.image_load.specs.Loaded.{memory_of, setup_of}
 use Rattle.image_load.specs.Resolving.{image_record}
+use Rattle.image_soundness.proofs.SoundFacts.{bench_is, names_of}
 use Rattle.image_soundness.specs.Memory.{Span}
-use Rattle.image_soundness.specs.Sound.{IsSound, IsSubjectOf, is_kernel, kind_of, thing_spans}
+use Rattle.image_soundness.specs.Sound.{IsSound, is_kernel, kind_of, thing_spans}
 use Rattle.image_pack.specs.ImageConditions.{KeepsConditions}
 use Rattle.image_pack.specs.declared.parts.Image.{Image}
 use Rattle.image_pack.specs.declared.parts.SubjectPart.{SubjectPart}
@@ -108,7 +108,7 @@ module _ (p : Source) (files : Held) (i : Image) (keeps : KeepsConditions i) (so
   runs =
       runs_stand g fixed (turn_stands g fixed) (tick_inputs record_at) (inputs_at r) (tick_order record_at i.header.cpus) (order_at p r)
       (record {
-        taken = λ tick _. inputs_alike p i keeps sound.plan_and_events.bench memories (targets_of p i keeps sound.plan_and_events.bench sound.plan_and_events.devices sound.plan_and_events.subjects numbered) r tick read;
+        taken = λ tick _. inputs_alike p i keeps (bench_is p files i sound) memories (targets_of p i keeps sound.plan_and_events.devices (names_of p files i sound) numbered) r tick read;
         orders = λ tick _. orders_alike p i i.header.cpus r tick cpus_same;
       })
       r.end (omega (arith, read.ticks)) (live_started (setup_of i) i.header.cpus (memory_of i)) (start_of p files) start
@@ -151,7 +151,7 @@ module _ (p : Source) (files : Held) (i : Image) (keeps : KeepsConditions i) (so
       ∙ sym (ap (λ o. option_map_or (λ bs. bs) o []) bytes.1)))
 
   same_final : final_text (setup_of i) i.spans pages_then ≡ system_text p system_ran.state
-  same_final = final_text_is p files i (setup_of i) pages_then system_ran.state keeps sound.contents (AllZip-long (IsSubjectOf p i) p.subjects i.subjects sound.plan_and_events.subjects) its_states its_bytes
+  same_final = final_text_is p files i (setup_of i) pages_then system_ran.state keeps sound.contents sound.plan_and_events.many its_states its_bytes
 
   pub same_text : image_text i (image_record i r) ≡ trace_of p files r
   unfolding image_text trace_of run_of

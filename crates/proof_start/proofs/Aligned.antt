@@ -10,6 +10,7 @@ use Rattle.expand_grants.specs.Resources.{are_granted, is_granted, msrs_of, port
 use Rattle.guest_isa.specs.Named.{renamed_reach}
 use Rattle.guest_isa.specs.declared.reach.Reach.TheVariants.{Reached}
 use Rattle.image_load.specs.Loaded.{memory_of}
+use Rattle.image_soundness.proofs.SoundFacts.{bitmaps_of, walks_of}
 use Rattle.image_soundness.specs.Memory.{Span, by_number, page_at as image_page, address_at, span_at}
 use Rattle.image_soundness.specs.Sound.{HasBitmaps, HasWalks, IsSound, is_kernel, led, address_of, thing_spans}
 use Rattle.image_pack.specs.ImageConditions.{KeepsConditions}
@@ -102,7 +103,7 @@ led_alike address aligned kind addr (violation found) = refl
 pub walks_alike : (p : Source) (files : Held) (i : Image) → KeepsConditions i → IsSound p files i → (n : Subject) (q : SubjectPart) (kind : AccessKind) (addr : ℕ) → addr < GUEST_END → (s : ℕ) → slice_get p.subjects s ≡ Some n → slice_get i.subjects s ≡ Some q
     → look_in (memory_of i) q.eptp kind addr ≡ renamed_reach (page_and_offset (λ x. address_of p i x / PAGE)) (reach_by kind addr (access_of (windows_of p n) addr kind))
 walks_alike p files i keeps sound n q kind addr low s named at =
-    let walks = both_at (HasWalks p i) p.subjects i.subjects s n q sound.walks named at in
+    let walks = both_at (HasWalks p i) p.subjects i.subjects s n q (walks_of p files i sound) named at in
     ap (λ m. reach_by_walk kind addr (walk_of m q.eptp addr kind)) (same_memory i)
     ∙ ap (reach_by_walk kind addr) (walks addr kind low)
     ∙ led_alike (address_of p i) (address_aligned p i keeps) kind addr (access_of (windows_of p n) addr kind)
@@ -113,7 +114,7 @@ walks_alike p files i keeps sound n q kind addr low s named at =
 pub bitmaps_alike : (p : Source) (files : Held) (i : Image) → KeepsConditions i → IsSound p files i → (n : Subject) (q : SubjectPart) (c : Control) (s : ℕ) → slice_get p.subjects s ≡ Some n → slice_get i.subjects s ≡ Some q → slice_get (ground_of p i).setup.controls s ≡ Some c
     → ((port size : ℕ) → ports_exit (memory_of i) c port size ≡ not (are_granted (ports_of p n) port size)) × ((index : ℕ) (write : Bool) → msr_exits_in (memory_of i) c index write ≡ not (is_granted (msrs_of n) index write))
 bitmaps_alike p files i keeps sound n q c s named here at =
-    let has = both_at (HasBitmaps p i) p.subjects i.subjects s n q sound.bitmaps named here in
+    let has = both_at (HasBitmaps p i) p.subjects i.subjects s n q (bitmaps_of p files i sound) named here in
     let first = io_page_there p i keeps s q c here at in
     let second = second_io_page_there p i keeps s q c here at in
     let msrs = msr_page_there p i keeps s q c here at in (

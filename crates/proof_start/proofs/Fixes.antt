@@ -1,6 +1,6 @@
 -- What holds of a policy and a sound image for it as long as the machine runs.
-use Rattle.std.proofs.Common.{◌≡◌, ◌⊎◌, ℕ, zero, suc, ◌*◌, ◌/◌, ◌<◌, ◌≤◌, Option, Some, None, List, [], ◌∷◌, length, map, refl, sym, ap, ◌∙◌, subst, inl, inr, arith}
-use Rattle.std.specs.Prelude.{is_some, option_map, option_and_then, slice_get, slice_index_or, unwrap_or}
+use Rattle.std.proofs.Common.{◌≡◌, ◌⊎◌, ℕ, zero, suc, ◌*◌, ◌/◌, ◌<◌, ◌≤◌, Option, Some, None, List, [], ◌∷◌, length, refl, sym, ap, ◌∙◌, subst, inl, inr, arith}
+use Rattle.std.specs.Prelude.{is_some, option_map, option_and_then, slice_get, slice_index_or}
 use Rattle.std.specs.List.{All, AllZip}
 use Rattle.std.proofs.lemmas.Bool.{cases_lt}
 use Rattle.image_pack.specs.ImageConditions.{IsEvent, IsSubject as KeepsSubject, KeepsConditions}
@@ -8,8 +8,11 @@ use Rattle.image_pack.specs.declared.parts.EventPart.{EventPart}
 use Rattle.image_pack.specs.declared.parts.Image.{Image}
 use Rattle.image_pack.specs.declared.parts.SubjectPart.{SubjectPart}
 use Rattle.image_load.specs.Loaded.{control_of}
+use Rattle.image_soundness.proofs.NamesOfTargets.{raised_by_name}
+use Rattle.image_soundness.proofs.SoundFacts.{names_of, subjects_of}
 use Rattle.image_soundness.specs.Named.{raised, subject_name}
 use Rattle.image_soundness.specs.Sound.{IsSound, IsSubjectOf}
+use Rattle.image_soundness.specs.Targets.{entry_event, event_index}
 use Rattle.kernel_core.specs.Kernel.{entry}
 use Rattle.muen_num.specs.declared.access.AccessKind.{AccessKind}
 use Rattle.muen_num.specs.declared.limits.TheConstants.{MOST_CALLS}
@@ -37,6 +40,7 @@ use Rattle.proof_start.proofs.RegionFacts.{same_tau0_page}
 use Rattle.proof_start.proofs.Slots.{majors, planned, same_cpus, slots}
 use Rattle.proof_start.proofs.SpansOfThings.{listed_pages}
 use Rattle.proof_start.proofs.SpotFacts.{apart, aside}
+use Rattle.proof_start.proofs.StartSets.{name_by}
 use Rattle.proof_start.proofs.SubjectFacts.{Controlled, control_at, controlled, subject_kept}
 use Rattle.proof_start.proofs.WindowFacts.{IsByteOf, IsSeen, IsWatched, sees}
 
@@ -69,26 +73,21 @@ event_below {m = m} events k e all h = by_there (slice_get events k) refl h
     by_there (Some None) at f = absurd (cc (f))
     by_there (Some (Some x)) at f = let same : x ≡ e = cc (f) in subst (λ (y : EventPart). y.target < m) same (all_at (IsEvent m) events k (Some x) all at).0
 
--- ---- names by number
-
-first_names : (p : Source) (i : Image) (n : ℕ) (ns : List Subject) (qs : List SubjectPart) → AllZip (IsSubjectOf p i) ns qs → slice_index_or (map (λ (q : SubjectPart). q.name) qs) n [] ≡ unwrap_or (option_map (λ (s : Subject). s.name) (slice_get ns n)) []
-first_names p i n [] [] h = refl
-first_names p i n [] (q ∷ qs) h = absurd h
-first_names p i n (s ∷ ns) [] h = absurd h
-first_names p i zero (s ∷ ns) (q ∷ qs) h = h.0.name
-first_names p i (suc n) (s ∷ ns) (q ∷ qs) h = first_names p i n ns qs h.1
-
 module _ (p : Source) (files : Held) (i : Image) (keeps : KeepsConditions i) (sound : IsSound p files i) where
   abbrev g : Ground
   g = ground_of p i
 
-  subjects : AllZip (IsSubjectOf p i) p.subjects i.subjects
-  subjects = sound.plan_and_events.subjects
+  subjects : AllZip (IsSubjectOf p) p.subjects i.subjects
+  subjects = subjects_of p files i sound
 
   -- a number names the same subject in both
   same_name : (t : ℕ) → subject_name i t ≡ name_at g t
   unfolding ground_of
-  same_name t = first_names p i t p.subjects i.subjects subjects
+  same_name t = ap (λ ns. slice_index_or ns t []) (names_of p files i sound) ∙ name_by p.subjects t
+
+  -- what is raised by the target's index is raised by its name
+  by_name : (o : Option EventPart) (r : Option Raised) → option_map entry_event o ≡ option_map (event_index p) r → option_map (raised i) o ≡ r
+  by_name o r h = raised_by_name p i (names_of p files i sound) o r h
 
   raised_same : (e : EventPart) → raised_of g e ≡ raised i e
   raised_same e = ap (λ name. record { mode = e.mode; target = record { subject = name; vector = e.vector } }) (sym (same_name e.target))
@@ -105,7 +104,7 @@ module _ (p : Source) (files : Held) (i : Image) (keeps : KeepsConditions i) (so
       ]
 
   -- ---- a subject in both
-  module _ (s : ℕ) (n : Subject) (q : SubjectPart) (at : slice_get p.subjects s ≡ Some n) (there : slice_get i.subjects s ≡ Some q) (is : IsSubjectOf p i n q) where
+  module _ (s : ℕ) (n : Subject) (q : SubjectPart) (at : slice_get p.subjects s ≡ Some n) (there : slice_get i.subjects s ≡ Some q) (is : IsSubjectOf p n q) where
     kept : (m : ℕ) × KeepsSubject i (m, q)
     kept = subject_kept i keeps s q there
 
@@ -113,7 +112,7 @@ module _ (p : Source) (files : Held) (i : Image) (keeps : KeepsConditions i) (so
     control = control_at p i s q there
 
     its_traps : (k : ℕ) → option_map (raised_of g) (entry q.traps k) ≡ event_of p n (Trap k)
-    its_traps k = event_at q.traps k kept.1.traps.many (event_of p n (Trap k)) (is.traps k) (λ h. few_traps p sound.lawful s n k at h)
+    its_traps k = event_at q.traps k kept.1.traps.many (event_of p n (Trap k)) (λ l. by_name (slice_index_or q.traps k None) (event_of p n (Trap k)) (is.traps k l)) (λ h. few_traps p sound.lawful s n k at h)
 
     joined_at : Joined g s n q (control_of i.spans q)
     unfolding ground_of
@@ -125,7 +124,7 @@ module _ (p : Source) (files : Held) (i : Image) (keeps : KeepsConditions i) (so
       name = is.name;
       cpu = is.cpu;
       in_group = is.in_group;
-      calls = λ k. event_at q.calls k kept.1.calls.many (event_of p n (Call k)) (is.calls k) (λ h. few_calls p sound.lawful s n k at h);
+      calls = λ k. event_at q.calls k kept.1.calls.many (event_of p n (Call k)) (λ l. by_name (slice_index_or q.calls k None) (event_of p n (Call k)) (is.calls k l)) (λ h. few_calls p sound.lawful s n k at h);
       traps = its_traps;
       trapped = λ k. some_same (raised_of g) (entry q.traps k) ∙ (ap is_some (its_traps k) ∙ traps_are_events p sound.lawful s n k at);
       ports = (bitmaps_alike p files i keeps sound n q (control_of i.spans q) s at there control).0;
@@ -137,10 +136,10 @@ module _ (p : Source) (files : Held) (i : Image) (keeps : KeepsConditions i) (so
     is_subject = record { subject = n; part = q; control = control_of i.spans q; joined = joined_at }
 
   by_subject : (s : ℕ) (n : Subject) → slice_get p.subjects s ≡ Some n → IsSubject g s
-  by_subject s n at = let o = other_at (IsSubjectOf p i) p.subjects i.subjects s n subjects at in is_subject s n o.0 at o.1 o.2
+  by_subject s n at = let o = other_at (IsSubjectOf p) p.subjects i.subjects s n subjects at in is_subject s n o.0 at o.1 o.2
 
   by_part : (s : ℕ) (q : SubjectPart) → slice_get i.subjects s ≡ Some q → IsSubject g s
-  by_part s q at = let o = first_at (IsSubjectOf p i) p.subjects i.subjects s q subjects at in is_subject s o.0 q o.1 at o.2
+  by_part s q at = let o = first_at (IsSubjectOf p) p.subjects i.subjects s q subjects at in is_subject s o.0 q o.1 at o.2
 
   by_control : (s : ℕ) (c : Control) → slice_get g.setup.controls s ≡ Some c → IsSubject g s
   by_control s c at = let o : Controlled i s c = controlled p i s c at in by_part s o.part o.here

@@ -3,6 +3,7 @@ pub mod MsrFacts
 pub mod ThingFacts
 pub mod PlanFacts
 pub mod WindowFacts
+pub mod KernelRegions
 pub mod ListFacts
 pub mod MemoryFacts
 pub mod NumberFacts

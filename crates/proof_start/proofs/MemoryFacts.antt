@@ -47,11 +47,11 @@ pub record SpanIn (i : Image) (e : Span) : Type 0 where
   pub long : length (bytes_of e) ≡ 4096 * e.0.pages
 
 long_by : (s : SpanPart) (bytes : List ℕ) → IsContent s bytes → length (bytes_of (s, bytes)) ≡ 4096 * s.pages
-long_by s bytes =
+long_by s bytes h =
     elim (is_device s.kind) as (λ b. length bytes ≡ (if b then 0 else 4096 * s.pages) → length (if b then replicate (4096 * s.pages) 0 else bytes) ≡ 4096 * s.pages) [
-      | true ↦ λ h. length-replicate (4096 * s.pages) 0
-      | false ↦ λ h. h
-    ]
+      | true ↦ λ long. length-replicate (4096 * s.pages) 0
+      | false ↦ λ long. long
+    ] h.0
 
 pub span_with : (i : Image) → KeepsConditions i → (a : ℕ) (s : SpanPart) → slice_get i.spans a ≡ Some s → (bytes : List ℕ) × SpanIn i (s, bytes)
 span_with i keeps a s at =

@@ -5,6 +5,7 @@ use Rattle.std.specs.List.{All}
 use Rattle.std.proofs.lemmas.Bool.{and_from, and_parts, leb-true, or_left, or_right}
 use Rattle.std.proofs.lemmas.List.Elements.{All-weaker}
 use Rattle.image_load.specs.Loaded.{control_of, memory_of as loaded_memory, page_of_span}
+use Rattle.image_soundness.proofs.SoundFacts.{states_of, tables_of}
 use Rattle.image_soundness.specs.Memory.{memory_of, page_at}
 use Rattle.image_soundness.specs.Sound.{IsSound, IsFresh, ReadsTables, is_in_tables, is_kernel, is_tables}
 use Rattle.image_pack.specs.Codes.{part_code}
@@ -60,7 +61,7 @@ pub tables_kept : (p : Source) (files : Held) (i : Image) → KeepsConditions i 
 unfolding ground_of
 tables_kept p files i keeps sound s c addr at low =
     let k = controlled p i s c at in
-    let n = first_at (λ s q. ReadsTables i q) p.subjects i.subjects s k.part sound.tables k.here in
+    let n = first_at (λ s q. ReadsTables i q) p.subjects i.subjects s k.part (tables_of p files i sound) k.here in
     let reads = n.2 addr low in
     let eptp : k.part.eptp ≡ c.eptp = ap (λ d. d.eptp) k.is in
     subst (λ e. All (λ at. (ground_of p i).kept (at / 4096) ≡ true) (addresses_read (loaded_memory i) e addr)) eptp
@@ -125,7 +126,7 @@ state_page_at p i keeps s q c here at =
 
 pub state_page_there : (p : Source) (files : Held) (i : Image) → KeepsConditions i → IsSound p files i → (s : ℕ) (n : Subject) (c : Control) → slice_get p.subjects s ≡ Some n → slice_get (ground_of p i).setup.controls s ≡ Some c → page_of (loaded_memory i) c.state ≡ Some (page_bytes (started n.entry))
 state_page_there p files i keeps sound s n c named at =
-    let o = other_at (IsFresh i) p.subjects i.subjects s n sound.fresh_states named in
+    let o = other_at (IsFresh i) p.subjects i.subjects s n (states_of p files i sound) named in
     state_page_at p i keeps s o.0 c o.1 at ∙ ap Some o.2
 
 -- the area of a subject is there, as a whole page

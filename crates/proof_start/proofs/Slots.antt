@@ -9,7 +9,6 @@ use Rattle.std.proofs.lemmas.Option.{slice_get-map}
 use Rattle.subject_model.specs.Clock.{ticks_of_majors}
 use Rattle.frame_clock.specs.Frames.{slot_in, ticks_of_majors as ticks_in_plan}
 use Rattle.frame_clock.specs.declared.frame_at.FrameAt.{FrameAt}
-use Rattle.image_soundness.specs.Named.{bench_of}
 use Rattle.image_soundness.specs.Sound.{IsSound}
 use Rattle.image_pack.specs.ImageConditions.{KeepsConditions}
 use Rattle.image_pack.specs.declared.parts.Image.{Image}
@@ -34,8 +33,7 @@ use Rattle.proof_start.proofs.SubjectFacts.{subject_kept}
 
 -- an image has as many CPUs as its policy
 pub same_cpus : (p : Source) (files : Held) (i : Image) → IsSound p files i → i.header.cpus ≡ p.processor.logical_cpus
-unfolding bench_of
-same_cpus p files i sound = ap (λ b. b.cpus) sound.plan_and_events.bench
+same_cpus p files i sound = sound.plan_and_events.cpus
 
 -- a CPU that is there has the slots of the policy
 pub slots : (p : Source) (files : Held) (i : Image) → IsSound p files i → (cpu : ℕ) (frame : FrameAt) (tick : ℕ) → cpu < p.processor.logical_cpus → slot_in (frames_in i.plan cpu) frame tick ≡ slot_in (frames_of p cpu) frame tick

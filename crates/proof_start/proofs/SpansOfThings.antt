@@ -1,5 +1,5 @@
 -- The things of a policy and their spans in an image for it.
-use Rattle.std.proofs.Common.{◌≡◌, ℕ, ◌*◌, ◌/◌, ◌<◌, Bool, true, false, List, [], ◌∷◌, ◌++◌, length, cond, map, Option, Some, None, refl, ap, ◌∙◌, arith}
+use Rattle.std.proofs.Common.{◌≡◌, ℕ, ◌*◌, ◌/◌, ◌<◌, Bool, true, false, List, [], ◌∷◌, ◌++◌, length, cond, map, Option, Some, None, refl, sym, ap, ◌∙◌, arith}
 use Rattle.std.specs.Prelude.{not, option_map, slice_get}
 use Rattle.std.specs.List.{find, list_any, zip}
 use Rattle.std.specs.Option.{option_map_or}
@@ -137,4 +137,4 @@ listed_span p files i keeps sound x h =
 pub listed_pages : (p : Source) (files : Held) (i : Image) → KeepsConditions i → IsSound p files i → (x : Thing) → list_any (λ y. same_thing y x) (things_of p) ≡ true → 4096 * (ground_of p i).pages x ≡ length (initial_bytes p files x)
 listed_pages p files i keeps sound x h =
     let t = listed_span p files i keeps sound x h in
-    ap (λ n. 4096 * n) t.pages ∙ t.is.size
+    ap (λ n. 4096 * n) t.pages ∙ sym t.within.long ∙ ap length t.is.bytes

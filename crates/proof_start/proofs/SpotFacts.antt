@@ -2,6 +2,7 @@
 use Rattle.std.proofs.Common.{◌≡◌, ℕ, ◌+◌, ◌/◌, ◌<◌, ◌≤◌, true, false, Some, refl, sym, ap, subst, ◌∙◌, arith}
 use Rattle.std.specs.Prelude.{◌==◌, slice_get}
 use Rattle.std.proofs.lemmas.Bool.{and_left, and_right, or_from, true≢false, ne_eqb}
+use Rattle.image_soundness.proofs.SoundFacts.{own_spans_of}
 use Rattle.image_soundness.specs.Sound.{IsSound, is_kernel}
 use Rattle.image_pack.specs.Codes.{part_code}
 use Rattle.image_pack.specs.ImageConditions.{KeepsConditions}
@@ -102,12 +103,12 @@ apart p files i keeps sound a b j k at to ne e = on_one a b j at (subst (IsAt (g
         let a = state_spot p i keeps s k at in
         let b = state_spot p i keeps t k to in
         let n = (one_kernel i keeps (part_code State) a.part.state (part_code State) b.part.state k a.at b.at).1 in
-        ne (ap state_at (own_apart i sound.own_pages s t a.part b.part 0 0 a.part.state a.here b.here refl (ap Some (sym n))))
+        ne (ap state_at (own_apart i (own_spans_of p files i sound) s t a.part b.part 0 0 a.part.state a.here b.here refl (ap Some (sym n))))
     on_one (area_at s) (area_at t) k at to ne =
         let a = area_spot p i keeps s k at in
         let b = area_spot p i keeps t k to in
         let n = (one_kernel i keeps (part_code Msrs) a.part.area (part_code Msrs) b.part.area k a.at b.at).1 in
-        ne (ap area_at (own_apart i sound.own_pages s t a.part b.part 3 3 a.part.area a.here b.here refl (ap Some (sym n))))
+        ne (ap area_at (own_apart i (own_spans_of p files i sound) s t a.part b.part 3 3 a.part.area a.here b.here refl (ap Some (sym n))))
     on_one (state_at s) (area_at t) k at to ne =
         let a = state_spot p i keeps s k at in
         let b = area_spot p i keeps t k to in

@@ -9,7 +9,6 @@ use Rattle.std.proofs.lemmas.Option.{slice_get-map, unwrap_or-slice_get}
 use Rattle.subject_model.specs.System.{named, start_of, subject_named}
 use Rattle.event_router.specs.Router.{started as router_started}
 use Rattle.event_router.specs.Vectors.{no_marks, no_vectors}
-use Rattle.image_soundness.specs.Named.{bench_of}
 use Rattle.image_soundness.specs.Sound.{IsSound}
 use Rattle.image_pack.specs.ImageConditions.{IsGroup, KeepsConditions, IsSubject as IsImageSubject}
 use Rattle.image_pack.specs.declared.parts.Image.{Image}
@@ -50,7 +49,7 @@ empty_sets p subjects s n q at found =
 -- ---- active members
 
 -- a name by number, in a list of names and in one of subjects
-name_by : (subjects : List Subject) (s : ℕ) → get_or (map (λ n. n.name) subjects) s [] ≡ unwrap_or (option_map (λ n. n.name) (slice_get subjects s)) []
+pub name_by : (subjects : List Subject) (s : ℕ) → get_or (map (λ n. n.name) subjects) s [] ≡ unwrap_or (option_map (λ n. n.name) (slice_get subjects s)) []
 name_by subjects s =
     sym (unwrap_or-slice_get (map (λ (n : Subject). n.name) subjects) s [])
     ∙ ap (λ o. unwrap_or o []) (slice_get-map (λ (n : Subject). n.name) subjects s)
@@ -126,5 +125,5 @@ cpus_stand g cpus many = record {
 
 -- the image has as many as the policy
 pub same_cpus : (p : Source) (files : Held) (i : Image) → IsSound p files i → i.header.cpus ≡ (ground_of p i).policy.processor.logical_cpus
-unfolding ground_of bench_of
-same_cpus p files i sound = ap (λ b. b.cpus) sound.plan_and_events.bench
+unfolding ground_of
+same_cpus p files i sound = sound.plan_and_events.cpus

@@ -10,6 +10,7 @@ use Rattle.subject_model.specs.System.{Named, first_inputs, first_page, named, s
 use Rattle.kernel_core.specs.Devices.{no_inputs, zeros}
 use Rattle.expand_grants.specs.Resources.{msrs_of}
 use Rattle.image_load.specs.Loaded.{memory_of as loaded_memory, setup_of}
+use Rattle.image_soundness.proofs.SoundFacts.{areas_of}
 use Rattle.image_soundness.specs.Memory.{bytes_at, page_at}
 use Rattle.image_soundness.specs.Sound.{HasArea, IsSound, is_kernel}
 use Rattle.image_pack.specs.ImageConditions.{KeepsConditions, IsSubject as IsImageSubject}
@@ -126,7 +127,7 @@ module _ (p : Source) (files : HeldFiles) (i : Image) (keeps : KeepsConditions i
         omega (arith, kept)
 
     its_area : HasArea i n q
-    its_area = both_at (HasArea i) p.subjects i.subjects s n q sound.msr_areas named_n here
+    its_area = both_at (HasArea i) p.subjects i.subjects s n q (areas_of p files i sound) named_n here
 
     pages_there : HasPages (loaded_memory i) n c
     pages_there =

@@ -63,7 +63,7 @@ state_found p i once s n q at to =
     let o = from_some (λ (s : Subject). state s.name) (slice_get p.subjects m) e.0 (sym (slice_get-map (λ (s : Subject). state s.name) p.subjects m) ∙ both.0) in
     once m s o.0 n o.1 at (state_names o.0.name n.name (o.2 ∙ same_things e.0 (state n.name) passes)))
 
-state_at_address : (p : Source) (files : Held) (i : Image) → KeepsConditions i → IsSound p files i → NamedOnce p → (s : ℕ) (n : Subject) (q : SubjectPart) → slice_get p.subjects s ≡ Some n → slice_get i.subjects s ≡ Some q → address_of p i (state n.name) ≡ address_at i q.state
+pub state_at_address : (p : Source) (files : Held) (i : Image) → KeepsConditions i → IsSound p files i → NamedOnce p → (s : ℕ) (n : Subject) (q : SubjectPart) → slice_get p.subjects s ≡ Some n → slice_get i.subjects s ≡ Some q → address_of p i (state n.name) ≡ address_at i q.state
 unfolding address_of
 state_at_address p files i keeps sound once s n q at to =
     let front = found_changed (λ y. same_thing y (state n.name)) (λ (e : Span). e.0.address) (things_of p) (thing_spans i) ∙ ap (option_map (λ (e : Listed). (e.0, e.1.0.address))) (no_state p files i keeps sound n.name) in

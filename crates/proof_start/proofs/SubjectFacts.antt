@@ -5,7 +5,7 @@ use Rattle.std.specs.List.{list_any}
 use Rattle.std.proofs.lemmas.Bool.{cases_lt, eq-eqb, true≢false}
 use Rattle.std.proofs.lemmas.Option.{slice_get-map}
 use Rattle.image_load.specs.Loaded.{control_of, memory_of}
-use Rattle.image_soundness.specs.Sound.{HaveOwnPages, own_spans, share_a_span}
+use Rattle.image_soundness.specs.Sound.{ShareNoSpan, own_spans, share_a_span}
 use Rattle.image_pack.specs.Codes.{part_code}
 use Rattle.image_pack.specs.ImageConditions.{IsSubject, KeepsConditions}
 use Rattle.image_pack.specs.declared.parts.Image.{Image}
@@ -76,7 +76,7 @@ shares a b k l n at to =
     any_at (λ n. list_any (λ m. m == n) (own_spans b)) (own_spans a) k n at (any_at (λ m. m == n) (own_spans b) l n to (eq-eqb n n refl))
 
 -- no two subjects have a span in common
-pub own_apart : (i : Image) → HaveOwnPages i → (s t : ℕ) (q r : SubjectPart) (k l n : ℕ) → slice_get i.subjects s ≡ Some q → slice_get i.subjects t ≡ Some r → slice_get (own_spans q) k ≡ Some n → slice_get (own_spans r) l ≡ Some n → s ≡ t
+pub own_apart : (i : Image) → ShareNoSpan i.subjects → (s t : ℕ) (q r : SubjectPart) (k l n : ℕ) → slice_get i.subjects s ≡ Some q → slice_get i.subjects t ≡ Some r → slice_get (own_spans q) k ≡ Some n → slice_get (own_spans r) l ≡ Some n → s ≡ t
 own_apart i own s t q r k l n at to here there =
     elim (cases_lt s t) [
       | inl less ↦ absurd (true≢false (sym (shares q r k l n here there) ∙ pairs_at (λ a b. share_a_span a b ≡ false) i.subjects s t q r own less at to))

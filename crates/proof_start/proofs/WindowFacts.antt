@@ -74,11 +74,12 @@ pub record IsOnThing (p : Source) (w : Window Thing) : Type 0 where
   pub declared : list_any (λ x. same_thing x w.thing) (things_of p) ≡ true
   pub bytes : (files : Held) → w.size ≤ length (initial_bytes p files w.thing)
 
--- a window on the state page of another subject on the CPU of this one
+-- a window on the state page of another subject on the CPU of this one, which may monitor it
 pub record IsOnState (p : Source) (s : ℕ) (n : Subject) (w : Window Thing) : Type 0 where
   pub number : ℕ
   pub subject : Subject
   pub at : slice_get p.subjects number ≡ Some subject
+  pub monitored : list_any (λ m. bytes_eq m.subject subject.name) n.monitors ≡ true
   pub page : state subject.name ≡ w.thing
   pub cpu : subject.cpu ≡ n.cpu
   pub other : number ≡ s → ⊥
@@ -206,8 +207,8 @@ module _ (p : Source) (lawful : IsLawful p) (s : ℕ) (n : Subject) (at : slice_
       }
 
   -- a monitor's subject is another one on the same CPU
-  watched : (m : Monitor) (front : List Monitor) → is_monitor p n front m ≡ true → IsOnState p s n (monitor_window m)
-  watched m front h =
+  watched : (j : ℕ) (m : Monitor) (front : List Monitor) → slice_get n.monitors j ≡ Some m → is_monitor p n front m ≡ true → IsOnState p s n (monitor_window m)
+  watched j m front in_it h =
       let other = not (bytes_eq m.subject n.name) in
       let same_cpu = is_on (subject_cpu p m.subject) n.cpu in
       let first = not (list_any (λ b. bytes_eq b.subject m.subject) front) in
@@ -222,6 +223,7 @@ module _ (p : Source) (lawful : IsLawful p) (s : ℕ) (n : Subject) (at : slice_
               number = index.0;
               subject = t;
               at = index.1;
+              monitored = passes_any (λ (x : Monitor). bytes_eq x.subject t.name) n.monitors j m in_it (ap (bytes_eq m.subject) named ∙ same_self m.subject);
               page = ap state named;
               cpu = eqb-true t.cpu n.cpu k;
               other = λ e.
@@ -245,7 +247,7 @@ module _ (p : Source) (lawful : IsLawful p) (s : ℕ) (n : Subject) (at : slice_
   on_state : (j : ℕ) (m : Monitor) → slice_get n.monitors j ≡ Some m → IsOn p s n (monitor_window m)
   on_state j m in_it =
       let kept = none_after (λ before m. unless (is_monitor p n before m) (two n.name m.subject)) [] n.monitors j m monitors_kept in_it in
-      inr (watched m kept.0 (unless_none (is_monitor p n kept.0 m) (two n.name m.subject) kept.1))
+      inr (watched j m kept.0 in_it (unless_none (is_monitor p n kept.0 m) (two n.name m.subject) kept.1))
 
   component_each : (o : Option Component) → component_by p n.component ≡ o → AllByRecursion (IsOn p s n) (component_windows p n o)
   component_each None used = tt
@@ -297,11 +299,12 @@ pub record IsByteOf (p : Source) (x : Thing) (offset : ℕ) : Type 0 where
   pub declared : list_any (λ y. same_thing y x) (things_of p) ≡ true
   pub within : (files : Held) → offset < length (initial_bytes p files x)
 
--- a byte of the state page of another subject on the CPU of this one
+-- a byte of the state page of another subject on the CPU of this one, which may monitor it
 pub record IsWatched (p : Source) (s : ℕ) (n : Subject) (x : Thing) (offset : ℕ) : Type 0 where
   pub number : ℕ
   pub subject : Subject
   pub at : slice_get p.subjects number ≡ Some subject
+  pub monitored : list_any (λ m. bytes_eq m.subject subject.name) n.monitors ≡ true
   pub page : state subject.name ≡ x
   pub cpu : subject.cpu ≡ n.cpu
   pub other : number ≡ s → ⊥
@@ -353,6 +356,7 @@ module _ (p : Source) (s : ℕ) (n : Subject) (addr offset : ℕ) (w : Window Th
         number = page.number;
         subject = page.subject;
         at = page.at;
+        monitored = page.monitored;
         page = page.page;
         cpu = page.cpu;
         other = page.other;

@@ -1,1 +1,2 @@
 pub mod GroundOf
+pub mod Reaching

@@ -1,5 +1,5 @@
 //! The spans of a placed policy by their numbers.
-ghost use Rattle.std.specs.Prelude.{◌≡◌, ℕ, List, [], ◌∷◌, ◌+◌, ◌/◌, ◌<◌, ◌≤◌, ◌^◌, ◌++◌, length, map, All, IfOk, OnOk};
+ghost use Rattle.std.specs.Prelude.{◌≡◌, ℕ, List, [], ◌∷◌, ◌+◌, ◌/◌, ◌<◌, ◌≤◌, ◌^◌, ◌++◌, length, map, true, All, IfOk, OnOk};
 ghost use Rattle.std.specs.List.{enumerate_from};
 ghost use Rattle.muen_num.specs.declared.limits.TheConstants.{PAGE};
 ghost use Rattle.span_emit.specs.ByAddress.{AreSpansByAddress, HasNames, memory_tag};
@@ -13,13 +13,18 @@ use policy_types::source::{Device, DeviceMemory};
 use region_alloc::Placed;
 use std::alloc::{AllocError, Global};
 
-// Reads the names of a tag, which are names since their type says so.
-fn read_names(tag: &Tag)
-    ensures { HasNames tag.now }
+// Whether the names of a tag are some: they are, since their type says so.
+#[tactic(auto, unfolding(muen_num::specs::Naming::is_name))]
+fn has_names(tag: &Tag) -> bool
+    ensures named { HasNames tag.now }
+    ensures holds { result ≡ true }
 {
-    let _owner = tag.owner.bytes();
-    if let TagPart::Named(name) = &tag.part {
-        let _name = name.bytes();
+    if tag.owner.bytes().is_empty() {
+        return false;
+    }
+    match &tag.part {
+        TagPart::Named(name) => !name.bytes().is_empty(),
+        _ => true,
     }
 }
 
@@ -40,7 +45,7 @@ fn region_span(number: u16, region: &Region, address: u64) -> SpanPart
     ensures span { result ≡ region_span (number, (region.now, address)) }
     ensures named { HasNames result.tag }
 {
-    read_names(&region.tag);
+    prove!(has_names(&region.tag));
     SpanPart {
         address,
         pages: (region.size / PAGE) as u32,
@@ -56,7 +61,7 @@ fn device_span(number: u16, tag: Tag, memory: &DeviceMemory) -> SpanPart
     ensures span { (device : List ℕ) → tag ≡ memory_tag device memory.now → result ≡ device_span (number, (device, memory.now)) }
     ensures named { HasNames result.tag }
 {
-    read_names(&tag);
+    prove!(has_names(&tag));
     SpanPart {
         address: memory.physical_address,
         pages: (memory.size / PAGE) as u32,

@@ -2,7 +2,7 @@
 use Rattle.std.specs.Prelude.{◌≡◌, ℕ, ◌*◌, ◌≤◌, not, Bool, List, length, take, drop, slice_index}
 use Rattle.ept_emit.specs.Pages.{ept_pages, ranges_of}
 use Rattle.ept_emit.specs.declared.window.Window.{Window}
-use Rattle.ept_emit.specs.Emitted.{AreReadAlone, AreTranslating, HaveGreatestPages, HaveOnePath}
+use Rattle.ept_emit.specs.Emitted.{AreAscending, AreReadAlone, AreTranslating, HaveGreatestPages, HaveMemoryTypes, HaveOnePath}
 use Rattle.expand_grants.specs.declared.granted.Grants.{Grants}
 use Rattle.expand_kernel.specs.Regions.{kernel_number}
 use Rattle.expand_kernel.specs.declared.kernel.KernelRegion.TheVariants.{Tables}
@@ -30,6 +30,8 @@ pub record AreTablesOf (windows : List Window) (at : ℕ) (tables : List ℕ) : 
   pub alone : AreReadAlone at tables
   pub paths : HaveOnePath at tables
   pub leaves : HaveGreatestPages windows at tables
+  pub types : HaveMemoryTypes windows at tables
+  pub ascending : AreAscending at tables
 
 -- the pages of the subject at an index, which is granted this
 pub record ArePages (x : Placement) (subject : ℕ) (s : Subject) (g : Grants) (q : SubjectPages) : Type 0 where

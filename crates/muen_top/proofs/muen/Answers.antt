@@ -1,6 +1,6 @@
 use Rattle.std.proofs.Common.{◌∙◌, ap}
 use Rattle.subject_model.specs.Trace.{trace_of}
-use Rattle.muen_top.proofs.Clauses.{done_clause, prefix_clause, policy_clause, file_clause, image_clause, record_clause, told_clause, usage_clause, missed_clause, failed_clause, out_rose_clause, quiet_out_clause, quiet_err_clause, prints_clause}
+use Rattle.muen_top.proofs.Clauses.{done_clause, prefix_clause, policy_clause, file_clause, image_clause, record_clause, told_clause, usage_clause, missed_clause, failed_clause, out_rose_clause, quiet_out_clause, quiet_err_clause, prints_clause, built_clause}
 use Rattle.muen_top.proofs.SoundRuns.{boot_prints, built_prints, sound_prints}
 use Rattle.muen_top.specs.Answers.{answer_of}
 use Rattle.muen_top.proofs.muen.Goals as goal
@@ -55,3 +55,6 @@ returns-clause-runs_sound g c = λ m image inputs p built_of r held asked there 
 pub returns-clause-runs_built : goal.returns-clause-runs_built
 returns-clause-runs_built g c = λ m image inputs p built_of r held asked there says.
     prints_clause _ _ _ _ _ _ _ _ c.call.ensures.ran m (trace_of p built_of r) held (ap (answer_of m) asked ∙ built_prints m image inputs p r says built_of there)
+
+pub returns-clause-built : goal.returns-clause-built
+returns-clause-built g c = built_clause _ _ _ _ _ _ _ _ c.call.ensures.ran

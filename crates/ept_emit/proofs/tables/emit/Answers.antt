@@ -4,7 +4,7 @@ use Rattle.ept_emit.specs.Emitted.{window_at}
 use Rattle.ept_emit.specs.Entries.{word_at}
 use Rattle.ept_emit.proofs.Bytes.{zero_word}
 use Rattle.ept_emit.proofs.Counts.{pages_are}
-use Rattle.ept_emit.proofs.Held.{alone_held, in_all, order_held, paths_held, rest_held, size_held, walk_held}
+use Rattle.ept_emit.proofs.Held.{alone_held, ascending_held, in_all, order_held, paths_held, rest_held, size_held, type_held, walk_held}
 use Rattle.ept_emit.proofs.Written.{keeps}
 use Rattle.ept_emit.proofs.tables.emit.Goals as goal
 
@@ -22,6 +22,12 @@ returns-clause-paths c = λ m a b level other page held la lb ra rb. paths_held 
 
 pub returns-clause-leaves : goal.returns-clause-leaves
 returns-clause-leaves c = λ m addr held lt. size_held m c.args.at c.write_table.result (ept_pages (ranges_of c.args.windows.now)) c.write_table.new.out c.args.windows.now c.requires.at c.write_table.ensures.more (omega (arith, c.write_table.ensures.few, pages_are c.args.windows.now)) c.requires.end (omega (arith, c.write_table.auto.out, c.fill.ensures.len, c.requires.room)) c.requires.emittable c.write_table.ensures.numbered held addr (window_at c.args.windows.now addr) refl lt c.requires.apart
+
+pub returns-clause-types : goal.returns-clause-types
+returns-clause-types c = λ m addr held lt. type_held m c.args.at c.write_table.result (ept_pages (ranges_of c.args.windows.now)) c.write_table.new.out c.args.windows.now c.requires.at c.write_table.ensures.more (omega (arith, c.write_table.ensures.few, pages_are c.args.windows.now)) c.requires.end (omega (arith, c.write_table.auto.out, c.fill.ensures.len, c.requires.room)) c.requires.emittable c.write_table.ensures.numbered held addr (window_at c.args.windows.now addr) refl lt
+
+pub returns-clause-ascending : goal.returns-clause-ascending
+returns-clause-ascending c = λ m addr level page lower lower_page held lt r q less. ascending_held m c.args.at c.write_table.result (ept_pages (ranges_of c.args.windows.now)) c.write_table.new.out c.args.windows.now c.requires.at c.write_table.ensures.more (omega (arith, c.write_table.ensures.few, pages_are c.args.windows.now)) c.requires.end (omega (arith, c.write_table.auto.out, c.fill.ensures.len, c.requires.room)) c.requires.emittable c.write_table.ensures.numbered held addr level page lower lower_page lt r q less
 
 pub returns-clause-order : goal.returns-clause-order
 returns-clause-order c = λ m addr level page k held lt r low high. order_held m c.args.at c.write_table.result (ept_pages (ranges_of c.args.windows.now)) c.write_table.new.out c.args.windows.now c.requires.at c.write_table.ensures.more (omega (arith, c.write_table.ensures.few, pages_are c.args.windows.now)) c.requires.end (omega (arith, c.write_table.auto.out, c.fill.ensures.len, c.requires.room)) c.requires.emittable c.write_table.ensures.numbered held addr level page k lt r low high

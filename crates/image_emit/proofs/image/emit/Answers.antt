@@ -4,7 +4,7 @@ use Rattle.image_emit.proofs.FewKnown.{are_few, cpus_few, regions_few, spans_few
 use Rattle.image_emit.proofs.ImageMade.{image_of_parts, parts_fit}
 use Rattle.event_emit.specs.Tables.{AreDevices}
 use Rattle.image_emit.specs.Gathered.{IsHeld}
-use Rattle.image_emit.specs.Made.{IsImageOf, choice_of}
+use Rattle.image_emit.specs.Made.{IsEmitted, IsImageOf, choice_of}
 use Rattle.image_emit.specs.Named.{AreNamed}
 use Rattle.image_pack.specs.Parts.{counted}
 use Rattle.plan_emit.specs.PlanOf.{IsPlanOf}
@@ -41,7 +41,7 @@ cpus-requires c = let few = cpus_few c.args.placed.now c.expanded-expanded.ensur
 made : (c : goal.After-cpus) → IsImageOf c.args.placed.now c.args.things (counted c.cpus.result c.choice_of-tau0.result c.in_ok-spans.spans c.in_ok-subjects.subjects c.in_ok-plan.plan c.in_ok-devices.devices c.in_ok-held.held)
 made c =
     image_of_parts c.args.placed.now c.args.things c.in_ok-spans.spans c.in_ok-held.held c.in_ok-subjects.subjects c.in_ok-plan.plan c.in_ok-devices.devices c.cpus.result c.choice_of-tau0.result
-    c.expanded-expanded.ensures.placed (subst AreNamed c.policy_of-policy.ensures c.named.ensures) c.requires.filled c.in_ok-spans.ensures.numbered c.in_ok-spans.ensures.spans
+    c.expanded-expanded.ensures.placed (subst AreNamed c.policy_of-policy.ensures c.are_named.ensures.named) c.requires.filled c.in_ok-spans.ensures.numbered c.in_ok-spans.ensures.spans
     (subst (λ ss. IsHeld c.args.placed.now c.args.things ss c.in_ok-held.held) c.items.ensures c.in_ok-held.ensures)
     c.in_ok-subjects.ensures
     (subst (λ r. IsPlanOf (source_of r) c.in_ok-plan.plan) (c.lawful.ensures ∙ ap (λ p. p.lawful) c.expanded-expanded.ensures.value) c.in_ok-plan.ensures)
@@ -51,7 +51,9 @@ made c =
     (c.choice_of-tau0.ensures ∙ ap choice_of c.policy_of-policy.ensures)
 
 pub make-requires : goal.make-requires
-make-requires c = parts_fit c.args.placed.now c.args.things _ (made c)
+make-requires c = parts_fit c.args.placed.now c.args.things _ (made c) c.in_ok-held.ensures.bytes
 
 pub returns : goal.returns
-returns c = subst (IsImageOf c.args.placed.now c.args.things) (sym c.make.ensures) (made ((goal.at.returns c).After-cpus))
+returns c =
+    let image = made ((goal.at.returns c).After-cpus) in
+    subst (IsEmitted c.args.placed.now c.args.things) (sym c.make.ensures) (record { made = image; parts = parts_fit c.args.placed.now c.args.things _ image c.in_ok-held.ensures.bytes })

@@ -5,7 +5,10 @@ returns c = λ files s. record {
   parts = c.in_ok-parts.parts;
   image = c.in_ok-image.ensures;
   sound = c.in_ok-parts.ensures.sound files s;
-  placed = c.in_ok-parts.ensures.placed;
+  spans = c.in_ok-parts.ensures.spans;
+  kernel_spans = c.in_ok-parts.ensures.kernel;
   paths = c.in_ok-parts.ensures.paths;
+  ascending = c.in_ok-parts.ensures.ascending;
   leaves = c.in_ok-parts.ensures.leaves;
+  types = c.in_ok-parts.ensures.types;
 }

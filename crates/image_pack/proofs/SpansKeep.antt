@@ -1,6 +1,6 @@
 -- Spans that fit the form of an image keep its conditions.
-use Rattle.std.proofs.Common.{◌≡◌, ◌≢◌, ◌∙◌, refl, sym, subst, ap, arith, ℕ, suc, ◌+◌, ◌*◌, ◌%◌, ◌<◌, ◌≤◌, ◌&&◌, ◌||◌, not, cond, Bool, true, false, true≢false, List, [], ◌∷◌, length, length-set, get_or, get_or-set_other, eqb, eq-eqb, nat_le, nat_lt, ◌==◌, Option, Some, None, IfSome}
-use Rattle.std.specs.Prelude.{slice_index_or, slice_set, take}
+use Rattle.std.proofs.Common.{◌≡◌, ◌≢◌, ◌∙◌, sym, subst, ap, arith, ℕ, suc, ◌+◌, ◌*◌, ◌%◌, ◌<◌, ◌≤◌, ◌&&◌, ◌||◌, not, cond, Bool, true, false, true≢false, List, [], ◌∷◌, length, length-set, get_or, get_or-set_other, eqb, eq-eqb, nat_le, nat_lt, ◌==◌, IfSome}
+use Rattle.std.specs.Prelude.{slice_index_or, slice_set}
 use Rattle.std.specs.List.{All, sum_by}
 use Rattle.std.proofs.lemmas.Bool.{eqb-true, leb-true, ltb-true, not-true}
 use Rattle.std.proofs.lemmas.List.{get_or-set_same}
@@ -8,9 +8,9 @@ use Rattle.std.proofs.lemmas.List.Elements.{All-cons, All-nil}
 use Rattle.std.proofs.lemmas.List.Kept.{AllPairs-cons}
 use Rattle.std.proofs.lemmas.List.Sums.{sum_by-cons}
 use Rattle.binary_form.specs.Form.{all_fit, field, only, gap, done, number, byte, coded, either, present, absent}
-use Rattle.binary_form.specs.Name.{name}
 use Rattle.binary_form.proofs.Forms.{both_true}
-use Rattle.muen_num.specs.Naming.{is_name, name_of, name_room}
+use Rattle.binary_form.proofs.NameLaws.{name_kept}
+use Rattle.muen_num.specs.Naming.{is_name}
 use Rattle.muen_num.specs.declared.limits.TheConstants.{PAGE, PHYSICAL_END, MOST_BLOCK_BYTES, MOST_DEVICE_BYTES}
 use Rattle.muen_num.specs.declared.tag.TagPart.{TagPart}
 use Rattle.muen_num.specs.declared.tag.TagPart.TheVariants.{Whole, Named, State, Ept, Iobm, Msrbm, Msrs}
@@ -21,24 +21,7 @@ use Rattle.image_pack.specs.declared.outline.Header.{Header}
 use Rattle.image_pack.specs.declared.parts.SpanPart.{SpanPart}
 use Rattle.image_pack.specs.declared.reading.spans.SpansBefore.{SpansBefore}
 
--- ---- names
-
-tested : (b : Bool) (o : Option (List ℕ)) (text : List ℕ) → cond b o None ≡ Some text → o ≡ Some text
-tested true o text e = e
-tested false o text e = absurd cc
-
-passed : (b : Bool) (t text : List ℕ) → cond b (Some t) None ≡ Some text → (b ≡ true) × (t ≡ text)
-passed true t text e = (refl, cc (e))
-passed false t text e = absurd cc
-
--- a text that has a spelling as a name is one
-pub name_kept : (text : List ℕ) → name.fits text → is_name text ≡ true
-unfolding name coded
-name_kept text h =
-    let room = name_room text in
-    let found : name_of (take (length text) room) ≡ Some text = tested _ _ text h in
-    let p = passed _ _ text found in
-    subst (λ t. is_name t ≡ true) p.1 p.0
+-- ---- parts
 
 title_kept : (q : TagPart) → (title (part_code q)).fits (part_name q) → IfSome (part_name q) (λ text. is_name text ≡ true)
 unfolding title either present absent

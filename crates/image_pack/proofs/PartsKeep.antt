@@ -14,24 +14,24 @@ use Rattle.image_pack.specs.SpanConditions.{AreSpans, device_pages_of, pages_of}
 use Rattle.image_pack.specs.declared.outline.Header.{Header}
 use Rattle.image_pack.specs.declared.parts.Image.{Image}
 use Rattle.image_pack.specs.declared.parts.SpanPart.{SpanPart}
-use Rattle.proof_runs.proofs.SpansKeep.{Follow, spans_follow}
-use Rattle.proof_runs.proofs.SubjectsKeep.{groups_kept, subjects_kept}
-use Rattle.proof_runs.proofs.FramesKeep.{high_end, majors_kept}
-use Rattle.proof_runs.proofs.DevicesKeep.{devices_kept}
+use Rattle.image_pack.proofs.SpansKeep.{Follow, spans_follow}
+use Rattle.image_pack.proofs.SubjectsKeep.{groups_kept, subjects_kept}
+use Rattle.image_pack.proofs.FramesKeep.{high_end, majors_kept}
+use Rattle.image_pack.proofs.DevicesKeep.{devices_kept}
 
 -- ---- the header
 
 -- the counts of a header that fits
-record Counts (h : Header) : Type 0 where
-  cpus : is_between 1 MOST_CPUS h.cpus ≡ true
-  subjects : is_between 1 MOST_SUBJECTS h.subjects ≡ true
-  groups : is_between 1 MOST_SUBJECTS h.groups ≡ true
-  majors : is_between 1 MOST_MAJOR_FRAMES h.majors ≡ true
-  devices : h.devices ≤ MOST_DEVICES
-  spans : h.spans ≤ MOST_REGIONS + MOST_DEVICE_WINDOWS
-  tau0 : (tau0_at (is_some h.tau0) h.spans).fits h.tau0
+pub record Counts (h : Header) : Type 0 where
+  pub cpus : is_between 1 MOST_CPUS h.cpus ≡ true
+  pub subjects : is_between 1 MOST_SUBJECTS h.subjects ≡ true
+  pub groups : is_between 1 MOST_SUBJECTS h.groups ≡ true
+  pub majors : is_between 1 MOST_MAJOR_FRAMES h.majors ≡ true
+  pub devices : h.devices ≤ MOST_DEVICES
+  pub spans : h.spans ≤ MOST_REGIONS + MOST_DEVICE_WINDOWS
+  pub tau0 : (tau0_at (is_some h.tau0) h.spans).fits h.tau0
 
-header_counts : (h : Header) → header.fits h → Counts h
+pub header_counts : (h : Header) → header.fits h → Counts h
 unfolding header counts field only gap done byte number
 header_counts h f = record {
   cpus = f.1.0.1;
@@ -62,7 +62,8 @@ choice_kept spans (Some t) n same f all =
 from_zero : (p a m : ℕ) → p * (0 + a) ≤ m → p * a ≤ m
 from_zero p a m h = subst (λ n. p * n ≤ m) (zero-add a) h
 
-no_room_needed : (f : SpanPart → ℕ) (p m : ℕ) (spans : List SpanPart) → (0 < length spans → p * (0 + sum_by f spans) ≤ m) → p * sum_by f spans ≤ m
+-- no spans need no room
+pub no_room_needed : (f : SpanPart → ℕ) (p m : ℕ) (spans : List SpanPart) → (0 < length spans → p * (0 + sum_by f spans) ≤ m) → p * sum_by f spans ≤ m
 no_room_needed f p m [] h = omega arith
 no_room_needed f p m (s ∷ ss) h = from_zero p (sum_by f (s ∷ ss)) m (h (omega arith))
 

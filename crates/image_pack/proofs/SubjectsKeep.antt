@@ -1,11 +1,12 @@
 -- Groups and subjects that fit the form of an image keep its conditions.
-use Rattle.std.proofs.Common.{◌≡◌, ◌∙◌, refl, sym, subst, ap, arith, ℕ, zero, suc, ◌+◌, ◌<◌, ◌≤◌, ◌&&◌, ◌||◌, cond, min, Bool, true, false, true≢false, List, [], ◌∷◌, length, eqb, nat_le, nat_lt, ◌==◌, Option, Some, None}
+use Rattle.std.proofs.Common.{◌≡◌, ◌∙◌, refl, sym, subst, ap, arith, ℕ, zero, suc, ◌+◌, ◌<◌, ◌≤◌, ◌&&◌, ◌||◌, cond, Bool, true, false, true≢false, List, [], ◌∷◌, length, eqb, nat_le, nat_lt, ◌==◌, Option, Some, None}
 use Rattle.std.specs.List.{All, enumerate_from}
 use Rattle.std.proofs.lemmas.Bool.{leb-true, ltb-true, ne_eqb}
 use Rattle.std.proofs.lemmas.List.Elements.{All-cons, All-nil}
 use Rattle.binary_form.specs.Form.{all_fit, field, only, gap, done, number, byte, coded, items}
 use Rattle.binary_form.proofs.Forms.{both_true}
-use Rattle.muen_num.specs.declared.limits.TheConstants.{FIRST_VECTOR, MOST_MSRS}
+use Rattle.binary_form.proofs.NameLaws.{name_kept}
+use Rattle.muen_num.specs.declared.limits.TheConstants.{FIRST_VECTOR, LAST_VECTOR, MOST_MSRS}
 use Rattle.muen_num.specs.declared.mode.EventMode.{EventMode}
 use Rattle.muen_num.specs.declared.mode.EventMode.TheVariants.{Asap, Async, Own, Switch}
 use Rattle.frame_clock.specs.Plan.{is_group_on}
@@ -17,7 +18,7 @@ use Rattle.image_pack.specs.declared.outline.Header.{Header}
 use Rattle.image_pack.specs.declared.parts.EventPart.{EventPart}
 use Rattle.image_pack.specs.declared.parts.Image.{Image}
 use Rattle.image_pack.specs.declared.parts.SubjectPart.{SubjectPart}
-use Rattle.proof_runs.proofs.SpansKeep.{name_kept}
+use Rattle.image_pack.proofs.SubjectsFit.{next_number}
 
 -- items that keep a condition whatever stands before them
 pub each_kept : {A C : Type 0} (next : C → A → C) (fits : C → A → Type 0) (P : A → Type 0) → ((c : C) (x : A) → fits c x → P x) → (c : C) (xs : List A) → all_fit next fits c xs → All P xs
@@ -50,8 +51,10 @@ high_vector false b c e h = absurd (true≢false (sym (both_true b c h).0 ∙ e)
 
 -- a vector that is read as it was written
 vector_kept : (mode : EventMode) (v : Option ℕ) → is_vector mode (vector_code v) ≡ true → vector_of (vector_code v) ≡ v → IsVector mode v
-vector_kept mode None h back = low_vector (nat_le FIRST_VECTOR 0) (0 == 0) (is_switch mode) refl h
-vector_kept mode (Some v) h back = leb-true FIRST_VECTOR v (high_vector (nat_le FIRST_VECTOR v) (v == 0) (is_switch mode) (some_vector v back) h)
+vector_kept mode None h back = low_vector (nat_le FIRST_VECTOR 0 && nat_le 0 LAST_VECTOR) (0 == 0) (is_switch mode) refl h
+vector_kept mode (Some v) h back =
+    let two = both_true (nat_le FIRST_VECTOR v) (nat_le v LAST_VECTOR) (high_vector (nat_le FIRST_VECTOR v && nat_le v LAST_VECTOR) (v == 0) (is_switch mode) (some_vector v back) h) in
+    (leb-true FIRST_VECTOR v two.0, leb-true v LAST_VECTOR two.1)
 
 chosen : (b : Bool) (x y : Option EventPart) → cond b (Some x) None ≡ Some y → (b ≡ true) × (x ≡ y)
 chosen true x y e = (refl, cc (e))
@@ -79,7 +82,7 @@ event_read n t v Async o h = h
 event_read n t v Own o h = h
 event_read n t v Switch o h = h
 
-one_event : (h : Header) (b : ℕ) (o : Option EventPart) → (event h b).fits o → IsEvent h.subjects o
+pub one_event : (h : Header) (b : ℕ) (o : Option EventPart) → (event h b).fits o → IsEvent h.subjects o
 unfolding event coded
 one_event h b None f = tt
 one_event h b (Some e) f = some_event h.subjects e (event_read h.subjects e.target (vector_code e.vector) e.mode (Some (Some e)) f)
@@ -108,9 +111,6 @@ one_subject i index q f =
       calls = events_kept i.header q.calls f.1.1.1.1.1.1.1.1.1.0;
       traps = events_kept i.header q.traps f.1.1.1.1.1.1.1.1.1.1.0;
     }
-
-next_number : (index : ℕ) → index < 255 → min (index + 1) 255 ≡ index + 1
-next_number index low = omega (arith, low)
 
 subjects_from : (i : Image) (index : ℕ) (qs : List SubjectPart) → index + length qs ≤ 32 → all_fit (next_index (outline i.header i.spans i.plan.groups)) (λ b. (subject (outline i.header i.spans i.plan.groups) b).fits) index qs
     → All (IsSubject i) (enumerate_from index qs)

@@ -13,6 +13,7 @@ use Rattle.image_pack.specs.Image.{add_ticks, frames, major, minor, next_cpu, no
 use Rattle.image_pack.specs.declared.outline.Outline.{Outline}
 use Rattle.image_pack.specs.declared.reading.majors.CpuTicks.{CpuTicks}
 use Rattle.image_pack.specs.declared.reading.majors.FramesBefore.{FramesBefore}
+use Rattle.image_pack.proofs.SubjectsFit.{next_number}
 
 -- ---- one truth and another
 
@@ -80,9 +81,6 @@ one_cpu o c fs few h =
     let sum : 0 + sum_by (λ (f : Minor). f.ticks) fs ≡ c.total = g.total (omega (arith, some)) in
     four (nat_lt 0 (length fs)) (nat_le (length fs) MOST_MINOR_FRAMES) (list_all (is_minor o.groups c.cpu) fs) (sum_by (λ (f : Minor). f.ticks) fs == c.total)
     (lt-ltb 0 (length fs) (omega (arith, some))) (le-leb (length fs) MOST_MINOR_FRAMES most) g.each (eq-eqb (sum_by (λ (f : Minor). f.ticks) fs) c.total (omega (arith, sum)))
-
-next_number : (cpu : ℕ) → cpu < 255 → min (cpu + 1) 255 ≡ cpu + 1
-next_number cpu low = omega (arith, low)
 
 abbrev counted : ℕ → ℕ → CpuTicks
 counted cpu total = record { cpu = cpu; total = total }

@@ -10,6 +10,7 @@ use Rattle.std.proofs.lemmas.List.Kept.{AllPairs-cons}
 use Rattle.std.proofs.lemmas.List.Folds.{list_any-append}
 use Rattle.binary_form.specs.Form.{all_fit, field, only, gap, done, number, byte, items}
 use Rattle.binary_form.proofs.Forms.{both_true}
+use Rattle.binary_form.proofs.NameLaws.{name_kept}
 use Rattle.muen_num.specs.declared.limits.TheConstants.{FIRST_VECTOR, MOST_PER_DEVICE}
 use Rattle.image_pack.specs.Codes.{irq_vector_code, is_target, nobody, subject_code, target_of}
 use Rattle.image_pack.specs.Image.{after_device, after_irq, after_window, device, irq, is_listed, is_window, nothing_left, outline, range, window, window_name}
@@ -22,8 +23,7 @@ use Rattle.image_pack.specs.declared.parts.IrqPart.{IrqPart}
 use Rattle.muen_num.specs.declared.devices.IrqTarget.{IrqTarget}
 use Rattle.muen_num.specs.declared.devices.PortSpan.{PortSpan}
 use Rattle.image_pack.specs.declared.parts.WindowPart.{WindowPart}
-use Rattle.proof_runs.proofs.SpansKeep.{name_kept}
-use Rattle.proof_runs.proofs.SubjectsKeep.{each_kept}
+use Rattle.image_pack.proofs.SubjectsKeep.{each_kept}
 
 -- ---- names that differ
 
