@@ -3,22 +3,17 @@
 //! placed. Each component file is read once. Then its image is made.
 #![tactic(auto)]
 
-ghost use Rattle.std.specs.Prelude.{◌≡◌, ℕ, IfOk, IfErr, List, [], ◌∷◌, None, Ok};
+ghost use Rattle.std.specs.Prelude.{◌≡◌, ℕ, IfOk, IfErr, List, [], None, Some, Ok};
+ghost use Rattle.std.specs.FinMap as map;
 ghost use Rattle.std.specs.List.{All};
-ghost use Rattle.expand_grants.specs.Grants.{AreGrants};
-ghost use Rattle.expand_grants.specs.declared.granted.Grants.{Grants};
 ghost use Rattle.muen_num.specs.Answers.{Answers, Explains};
-ghost use Rattle.policy_json.specs.Document.{policy_of};
+ghost use Rattle.muen_outside.specs.Store.{Store};
 ghost use Rattle.policy_lawful.specs.Lawful.{kept_source};
-ghost use Rattle.policy_lawful.specs.Resolution.{Resolution, source_of};
-ghost use Rattle.policy_lawful.specs.Contents.{Held};
-ghost use Rattle.muen_build.specs.Accepting.{Accepts, FailsWith, Grows, Passes, Refuses, RefusesDocument, looks_of, of_all};
-ghost use Rattle.muen_build.specs.Looks.{Follows, document_look};
-ghost use Rattle.muen_build.specs.Refusals.{accepted_policy_of, filled_of, laid_policy_of, lawful_policy_of, placed_source};
-ghost use Rattle.muen_build.specs.WindowRights.{RightsKept};
-ghost use Rattle.policy_types.specs.declared.source.Source.{Source};
+ghost use Rattle.policy_lawful.specs.Resolution.{source_of};
+ghost use Rattle.muen_build.specs.Accepting.{Accepts, FailsWith, Grows, Passes, Refuses, Stops, looks_of, of_all};
+ghost use Rattle.muen_build.specs.Looks.{IsAsked, Looked, names_file};
+ghost use Rattle.muen_build.specs.Refusals.{filled_of, laid_policy_of, lawful_policy_of, placed_source};
 ghost use Rattle.region_alloc.specs.Placement.{no_room};
-ghost use Rattle.subject_emit.specs.Shows.{IsReadable};
 
 mod accepted;
 mod contents;
@@ -77,10 +72,10 @@ fn read_contents<F: Files>(
     policy: &Lawful,
     files: &mut F,
 ) -> Result<ComponentFiles, BuildError>
-    ensures grows { IfOk result (λ found. Grows (F.state files.old).held (document_look name.now document.now ∷ []) (looks_of name.now document.now found)) }
-    ensures passes { IfOk result (λ found. Passes (looks_of name.now document.now found) (of_all (filled_of (source_of policy.now)))) }
-    ensures err { IfErr result (FailsWith (document_look name.now document.now ∷ []) (Refuses (of_all (filled_of (source_of policy.now)))) (F.state files.old) (F.state files.new)) }
-    ensures follows { Follows (F.state files.old) (F.state files.new) }
+    ensures grows { IfOk result (λ found. Grows name.now (names_file (source_of policy.now)) (F.held files.old) (F.history files.old) (F.history files.new) [] (looks_of found)) }
+    ensures passes { IfOk result (λ found. Passes name.now document.now (looks_of found) (of_all (filled_of (source_of policy.now)))) }
+    ensures err { IfErr result (Stops name.now document.now (names_file (source_of policy.now)) (F.held files.old) (F.history files.old) (F.history files.new) [] (Refuses (of_all (filled_of (source_of policy.now))))) }
+    ensures held { F.held files.new ≡ F.held files.old }
 {
     let mut found = ComponentFiles::new(alloc);
     check_all(alloc, name, document, policy.resolved(), &mut found, files)?;
@@ -88,25 +83,31 @@ fn read_contents<F: Files>(
 }
 
 /// The policy of a document with the addresses of its regions, where it keeps every rule, its
-/// contents fit and there is room for it, and the component files that the contents name. The document was read under this name: where a content names it, these
-/// bytes stand for it. Each other file is read once, where the first content names it.
+/// contents fit and there is room for it, and the component files that the contents name. These
+/// bytes stand for the policy's name: where a content names that, they are its file. Each other
+/// file is looked at once, where the first content names it, and nothing else is.
 ///
 /// Answers as `lawful` does where it is refused for less; else for the first region by number:
 /// `Missing` where there is no file of a content's name, `TooLong` where it is longer than
 /// `COMPONENT_FILE_MOST`, `FileFit` where what a content takes is longer than its region; else
-/// `NoRoom` with the first region that has no room. A fault of files comes only where their count of faults rose, `Missing` and `TooLong` only where that of
-/// misses did.
+/// `NoRoom` with the first region that has no room. It answers `FileFault` where its last look at
+/// files failed.
 pub fn accept<F: Files>(
     alloc: Global,
     name: &str,
     document: &[u8],
     files: &mut F,
 ) -> Result<Accepted, BuildError>
-    ensures grows { IfOk result (λ a. Grows (F.state files.old).held (document_look name.now document.now ∷ []) (looks_of name.now document.now a.files)) }
-    ensures accepts { IfOk result (λ a. Accepts (looks_of name.now document.now a.files) document.now (source_of a.placed.expanded.lawful)) }
+    // It made the looks that read these files and no others, each at a name that a content has.
+    ensures looked { IfOk result (λ a. Looked name.now (F.held files.old) (F.history files.old) (F.history files.new) (looks_of a.files)) }
+    ensures asked { IfOk result (λ a. All (IsAsked document.now) (looks_of a.files)) }
+    // In whatever files agree with its looks, with these bytes under the policy's name, the
+    // document is accepted as this policy.
+    ensures accepts { IfOk result (λ a. Accepts name.now (looks_of a.files) document.now (source_of a.placed.expanded.lawful)) }
     ensures lawful { IfOk result (λ a. lawful_policy_of document.now ≡ Ok (source_of a.placed.expanded.lawful)) }
-    ensures err { IfErr result (FailsWith (document_look name.now document.now ∷ []) (RefusesDocument document.now) (F.state files.old) (F.state files.new)) }
-    ensures follows { Follows (F.state files.old) (F.state files.new) }
+    // In all of them it is refused so; or memory was refused, or the last look failed.
+    ensures err { IfErr result (FailsWith name.now document.now (F.held files.old) (F.history files.old) (F.history files.new)) }
+    ensures held { F.held files.new ≡ F.held files.old }
 {
     let policy = lawful(alloc, document)?;
     let files = read_contents(alloc, name, document, &policy, files)?;
@@ -114,12 +115,8 @@ pub fn accept<F: Files>(
     Ok(Accepted { placed, files })
 }
 
-/// A window's rights are r, rw, rx or rwx, since a document can give no others.
-pub fn windows_are_readable()
-    // Wherever the policy that a document says gives rights of windows.
-    ensures given { (bytes : List ℕ) (p : Source) → policy_of bytes ≡ Ok p → RightsKept p }
-    // Where it is accepted over files that hold this.
-    ensures accepted { (files : Held) (bytes : List ℕ) (p : Source) → accepted_policy_of files bytes ≡ Ok p → RightsKept p }
-    // So are those of each window that such a policy grants.
-    ensures granted { (r : Resolution) (grants : List Grants) → RightsKept (source_of r) → AreGrants r grants → All (λ g. All (λ v. IsReadable v.rights) g.views) grants }
+/// Files in which these bytes stand under this name are the same with them put there. So what is
+/// said of a document in its name's place is said of the files that hold it.
+pub fn shown_document()
+    ensures { (files : Store) (name document : List ℕ) → map.get files name ≡ Some document → map.insert files name document ≡ files }
 {}
