@@ -178,7 +178,7 @@ module _ (policy name : List ℕ) (old between : FilesState) (bytes : List ℕ) 
       -- the record is refused
 
       same_bench : (files : Store) → ShowAll files (looks_of policy bytes found) → image_bench i ≡ devices_of p
-      same_bench files s = let b = back files s in image_bench_is p files b.bytes i b.image b.sound
+      same_bench files s = let b = back files s in image_bench_is p files i b.sound
 
       of_fault : {reading : Reading} (s : Shown reading) (fault : RecordFault) → boot_answer s.files policy name ≡ stops (record_refused fault) → (error : CommandError) → error ≡ error_of_record_fault fault → StopsCommand (boot policy name) old new error
       of_fault s NoMemoryForRecord answer error made = subst (StopsCommand (boot policy name) old new) (sym made) (no_memory policy name old new)
@@ -209,7 +209,7 @@ module _ (policy name : List ℕ) (old between : FilesState) (bytes : List ℕ) 
             holds =
                 after (whole text) s
                 ∙ (ap (trace_answer s.files p) says
-                ∙ (ap prints (sym (image_runs p s.files b.bytes i text named.0 b.image b.sound says))
+                ∙ (ap prints (sym (image_runs p s.files i text named.0 b.sound says))
                 ∙ ap (λ r. prints (image_text i r)) named.2));
           }
 
