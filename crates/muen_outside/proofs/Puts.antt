@@ -1,5 +1,5 @@
 -- One put after another.
-use Rattle.std.proofs.Common.{◌≡◌, ℕ, ◌+◌, ◌≤◌, ◌<◌, suc, List, [], ◌++◌, length, get_or, take, drop, Result, Ok, Err, IsErr, sym, ap, subst, ◌∙◌, append_assoc, append-nil, arith, length-append}
+use Rattle.std.proofs.Common.{◌≡◌, ℕ, ◌+◌, ◌<◌, suc, List, [], ◌++◌, length, get_or, take, drop, Result, Ok, Err, IsErr, sym, ap, subst, ◌∙◌, append_assoc, append-nil, arith, length-append}
 use Rattle.std.proofs.lemmas.Bool.{false≢true}
 use Rattle.std.specs.List.{flat_map}
 use Rattle.std.proofs.lemmas.List.{take-append-drop, take-append-le}
@@ -27,8 +27,8 @@ failed_then a b c s t u p q =
       front = length a + q.front;
       fits = omega (arith, q.fits, length-append a (b ++ c), length-append b c);
       state = q.state
-      ∙ ap (λ x. record { given = x.given ++ take q.front b; faults = x.faults + 1 }) p.state
-      ∙ ap (λ x. record { given = x; faults = s.faults + 1 }) (append_assoc s.given a (take q.front b) ∙ ap (λ x. s.given ++ x) (sym cut));
+          ∙ ap (λ x. record { given = x.given ++ take q.front b; faults = x.faults + 1 }) p.state
+          ∙ ap (λ x. record { given = x; faults = s.faults + 1 }) (append_assoc s.given a (take q.front b) ∙ ap (λ x. s.given ++ x) (sym cut));
     }
 
 pub failed_as : (a b : List ℕ) (s u : SinkState) → a ≡ b → Failed a s u → Failed b s u
@@ -66,4 +66,3 @@ failed_line f xs i d b s t u p q h is =
     (failed_then (flat_map f (take i xs)) b (flat_map f (drop (suc i) xs)) s t u p q)
 
 pub ruleset puts = (appended_none, appended_then, failed_first, failed_after, puts_then, puts_exit)
-

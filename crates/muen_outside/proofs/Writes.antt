@@ -1,5 +1,5 @@
 -- One write after another.
-use Rattle.std.proofs.Common.{◌≡◌, ℕ, ◌+◌, List, ◌++◌, take, drop, Option, Some, None, refl, sym, ap, subst, ◌∙◌, append_assoc, Result, Ok, Err}
+use Rattle.std.proofs.Common.{◌≡◌, ℕ, ◌+◌, List, ◌++◌, take, drop, Option, Some, None, refl, sym, ap, subst, ◌∙◌, append_assoc, Result, Ok}
 use Rattle.std.proofs.Math.Seq.{take-add}
 use Rattle.std.specs.Io.KnownBytes.{Appends, Keeps}
 use Rattle.muen_outside.specs.Devices.{CountsFailed, NoneFailed}
@@ -24,10 +24,14 @@ pub none_failed : (k : Option ℕ) → NoneFailed k k
 none_failed None = tt
 none_failed (Some n) = refl
 
+counts_none : {X E : Type 0} (k m : Option ℕ) (r : Result X E) (x : X) → CountsFailed k m r → r ≡ Ok x → NoneFailed k m
+counts_none None m r x p is = tt
+counts_none {X} {E} (Some n) m r x p is = subst (λ z. CountsFailed {X = X} {E = E} (Some n) m z) is p
+
 -- one call more, which went well
-pub none_failed_more : {X E : Type 0} (k l m : Option ℕ) (x : X) → NoneFailed k l → CountsFailed {X} {E} l m (Ok x) → NoneFailed k m
-none_failed_more None l m x p q = tt
-none_failed_more (Some n) None m x p q = absurd (cc)
-none_failed_more (Some n) (Some k) m x p q = q ∙ p
+pub none_failed_more : {X E : Type 0} (k l m : Option ℕ) (r : Result X E) (x : X) → NoneFailed k l → CountsFailed l m r → r ≡ Ok x → NoneFailed k m
+none_failed_more None l m r x p q is = tt
+none_failed_more (Some n) l m r x p q is =
+    subst (λ z. NoneFailed z m) p (counts_none l m r x q is)
 
 pub ruleset writes = (appends_kept, appends_more, none_failed, none_failed_more)

@@ -181,7 +181,8 @@ impl Files for MemFiles {
     #[tactic(auto, using(crate::proofs::HeldMap::held_map))]
     fn write(&mut self, alloc: Global, name: &str, bytes: &[u8]) -> Result<(), FileError>
         ensures history { self.new.history ≡ written self.old.history (write_of name.now bytes.now result ∷ []) }
-        ensures ok { OnOk result (store_of self.new ≡ map.insert (store_of self.old) name.now bytes.now) }
+        ensures ok { OnOk result (Some (store_of self.new) ≡ insert_known (Some (store_of self.old)) name.now bytes.now) }
+        ensures others { KeepsOthers name.now (Some (store_of self.old)) (Some (store_of self.new)) }
 
         // Which calls fail, what is counted, and what stays.
         ensures fails { (result ≡ Err FileError.Failed) ↔ IsTrue (fails_next self.old) }

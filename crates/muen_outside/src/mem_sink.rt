@@ -122,7 +122,6 @@ fn append_front(text: &mut Vec<u8>, room: usize, bytes: &[u8], most: usize) -> u
 impl Sink for MemSink {
     ghost state = { sink_of };
 
-    #[tactic(auto, using(crate::proofs::Puts::writes))]
     fn put(&mut self, bytes: &[u8]) -> Result<(), SinkFault>
         ensures puts { Puts bytes.now (sink_of self.old) (sink_of self.new) result }
 

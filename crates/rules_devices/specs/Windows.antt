@@ -1,5 +1,5 @@
 -- The windows of a domain of devices, with sizes of regions by their names.
-use Rattle.std.specs.Prelude.{ℕ, ◌+◌, List, map, nat_le, Option}
+use Rattle.std.specs.Prelude.{ℕ, ◌+◌, List, map, nat_le, Option, not}
 use Rattle.std.specs.Option.{option_map_or, option_or}
 use Rattle.std.specs.List.{find}
 use Rattle.std.specs.Str.{bytes_eq}
@@ -10,6 +10,7 @@ use Rattle.policy_lawful.specs.Offences.{two}
 use Rattle.policy_lawful.specs.Rules.{is_declared, is_page_aligned}
 use Rattle.policy_lawful.specs.declared.offence.Extent.{Extent}
 use Rattle.policy_lawful.specs.declared.offence.Offence.{Offence}
+use Rattle.policy_types.specs.Rights.{may_execute}
 use Rattle.policy_types.specs.declared.source.Domain.{Domain}
 use Rattle.policy_types.specs.declared.source.Mapping.{Mapping}
 use Rattle.policy_types.specs.declared.source.Region.{Region}

@@ -3,7 +3,12 @@ use policy_types::Rights;
 
 #[test]
 fn has_the_bits_of_an_ept_entry(rt: HostRuntime) {
-    let cases = [(Rights::R, 1), (Rights::Rw, 3), (Rights::Rx, 5), (Rights::Rwx, 7)];
+    let cases = [
+        (Rights::R, 1),
+        (Rights::Rw, 3),
+        (Rights::Rx, 5),
+        (Rights::Rwx, 7),
+    ];
     for (rights, bits) in cases {
         assert_eq!(rt; rights.bits(), bits);
         assert_eq!(rt; rights.may_write(), bits & 2 != 0);
