@@ -3,6 +3,7 @@ pub mod Checking
 pub mod Emitting
 pub mod FilledByIndex
 pub mod Held
+pub mod LimitExamples
 pub mod Looks
 pub mod Placing
 pub mod Refusing
