@@ -6,8 +6,9 @@ use Rattle.muen_build.proofs.image_bytes.build.Goals as goal
 pub returns-clause-builds : goal.returns-clause-builds
 returns-clause-builds g c =
     record {
-      after = looks_of c.args.name.now c.args.document.now c.in_ok-placed.field-0.files;
-      grows = c.in_ok-placed.ensures.grows;
+      looks = looks_of c.in_ok-placed.field-0.files;
+      looked = c.in_ok-placed.ensures.looked;
+      asked = c.in_ok-placed.ensures.asked;
       built = λ files shows. record {
         policy = source_of c.in_ok-placed.field-0.placed.expanded.lawful;
         accepted = c.in_ok-placed.ensures.accepts files shows;
