@@ -41,11 +41,14 @@ zeros (suc n) (b ∷ bs) long none =
     ap₂ (λ y ys. y ∷ ys) first (zeros n bs (omega (arith, long)) rest)
 
 -- some that do, and those behind them
-spelt_together : (k n : ℕ) (bytes : List ℕ) → le_number (take k bytes) ≡ 0 → le_number (take n (drop k bytes)) ≡ 0 → le_number (take (k + n) bytes) ≡ 0
-spelt_together zero n bytes here behind = behind
-spelt_together (suc k) n [] here behind = refl
-spelt_together (suc k) n (b ∷ bs) here behind =
-    let more = spelt_together k n bs (omega (arith, here)) behind in
+spelt_together : (k n many : ℕ) (bytes : List ℕ) → many ≡ k + n → le_number (take k bytes) ≡ 0 → le_number (take n (drop k bytes)) ≡ 0 → le_number (take many bytes) ≡ 0
+spelt_together zero n many bytes is here behind =
+    let same : many ≡ n = omega (arith, is) in
+    ap (λ j. le_number (take j bytes)) same ∙ behind
+spelt_together (suc k) n zero bytes is here behind = absurd (omega (arith, is))
+spelt_together (suc k) n (suc many) [] is here behind = refl
+spelt_together (suc k) n (suc many) (b ∷ bs) is here behind =
+    let more = spelt_together k n many bs (omega (arith, is)) (omega (arith, here)) behind in
     omega (arith, here, more)
 
 -- words that are all 0 spell 0 together
@@ -54,11 +57,10 @@ words_together zero first bytes none = refl
 words_together (suc n) first bytes none =
     let at : first ≡ first + 0 = omega arith in
     let next : 8 * first + 8 ≡ 8 * (first + 1) = omega arith in
-    let many : 8 * suc n ≡ 8 + 8 * n = omega arith in
     let here : word_at bytes first ≡ 0 = ap (word_at bytes) at ∙ none 0 (omega arith) in
     let rest = words_together n (first + 1) bytes (λ i l. let e : first + 1 + i ≡ first + suc i = omega arith in ap (word_at bytes) e ∙ none (suc i) (omega (arith, l))) in
     let behind = ap (λ ys. le_number (take (8 * n) ys)) (drop-drop 8 (8 * first) bytes ∙ ap (λ j. drop j bytes) next) ∙ rest in
-    ap (λ j. le_number (take j (drop (8 * first) bytes))) many ∙ spelt_together 8 (8 * n) (drop (8 * first) bytes) here behind
+    spelt_together 8 (8 * n) (8 * suc n) (drop (8 * first) bytes) (omega arith) here behind
 
 -- a page of such words is zero
 page_of_zeros : (tables : List ℕ) (k size : ℕ) → size ≡ 8 * 512 → size * k + size ≤ length tables → ((i : ℕ) → i < 512 → word_at tables (512 * k + i) ≡ 0) → take size (drop (size * k) tables) ≡ replicate size 0
