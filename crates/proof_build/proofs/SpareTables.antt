@@ -1,5 +1,5 @@
 -- Each page of the span of a subject's tables is read by a walk for the subject, or is zero.
-use Rattle.std.proofs.Common.{◌≡◌, ◌⊎◌, inl, inr, ℕ, zero, suc, ◌+◌, ◌-◌, ◌*◌, ◌/◌, ◌%◌, ◌^◌, ◌<◌, ◌≤◌, List, [], ◌∷◌, length, take, drop, Some, refl, ap, ap₂, sym, ◌∙◌, arith}
+use Rattle.std.proofs.Common.{◌≡◌, ◌⊎◌, inl, inr, ℕ, zero, suc, ◌+◌, ◌-◌, ◌*◌, ◌/◌, ◌^◌, ◌<◌, ◌≤◌, List, [], ◌∷◌, length, take, drop, Some, refl, ap, ap₂, ◌∙◌, arith}
 use Rattle.std.specs.Prelude.{replicate}
 use Rattle.std.proofs.lemmas.List.{drop-drop, length-drop, length-take-le}
 use Rattle.ept_emit.specs.Emitted.{IsReadBy, eptp_of}
@@ -15,7 +15,6 @@ use Rattle.image_emit.proofs.SpansOfKernel.{kernel_numbered, kernel_span}
 use Rattle.image_soundness.specs.Memory.{memory_of}
 use Rattle.image_soundness.specs.Sound.{ForEachSubject}
 use Rattle.machine_layout.specs.Memory.{le_number, page_of}
-use Rattle.machine_layout.specs.Walks.{root_of}
 use Rattle.muen_num.specs.declared.limits.TheConstants.{PAGE}
 use Rattle.muen_num.specs.declared.tag.TagPart.TheVariants.{Ept}
 use Rattle.policy_lawful.specs.Resolution.{source_of, subject_named}
