@@ -10,7 +10,7 @@ use Rattle.image_soundness.specs.Sound.{IsSound}
 use Rattle.image_pack.specs.Parts.{IsImage}
 use Rattle.image_pack.specs.declared.parts.Image.{Image}
 use Rattle.muen_build.specs.Accepting.{Accepts, FailsWith, Files, Grows, RefusedFor, RefusesDocument, looks_of}
-use Rattle.muen_build.specs.Building.{IsImageFor}
+use Rattle.muen_build.specs.ImageFor.{IsImageFor}
 use Rattle.muen_build.specs.Looks.{Explained, Follows, Look, Saw, Seen, ShowAll, document_look}
 use Rattle.muen_build.specs.Refusals.{accepted_policy_of}
 use Rattle.muen_build.specs.declared.accepted.BuildError.{BuildError}

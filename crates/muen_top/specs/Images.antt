@@ -1,6 +1,6 @@
 -- What `build` writes.
 use Rattle.std.specs.Prelude.{◌≡◌, ℕ, List}
-use Rattle.muen_build.specs.Building.{IsImageFor}
+use Rattle.muen_build.specs.ImageFor.{IsImageFor}
 use Rattle.muen_build.specs.Looks.{OverFiles}
 use Rattle.muen_outside.specs.States.{FilesState}
 use Rattle.muen_outside.specs.Store.{Store, insert_known}
