@@ -229,7 +229,7 @@ module _ (policy name : List ℕ) (held held' : Option Store) (old between : His
         refused_says fault (inr read) error made looks goes =
             stops_record (λ m. boot_answer m policy name) looks fault error
             (inr (λ m shows. let b = goes m shows in
-              b.1 ∙ ap (trace_answer m p) (ap (record_of text) (sym (same_bench m b.0)) ∙ mapped_err (image_record i) (record_of text (image_bench i)) fault read))) made
+            b.1 ∙ ap (trace_answer m p) (ap (record_of text) (sym (same_bench m b.0)) ∙ mapped_err (image_record i) (record_of text (image_bench i)) fault read))) made
 
         -- it is refused
         pub record_refused_so : (fault : RecordFault) (error : CommandError) → Answers NoMemoryForRecord (mapped (image_record i) (record_of text (image_bench i))) (Err fault) → error ≡ error_of_record_fault fault → StopsCommand (boot policy name) held old new error
