@@ -452,7 +452,10 @@ def runs_of(content):
 
 
 def main(words):
-    if len(words) not in (1, 2) or words[0] in ("-h", "--help"):
+    if words in (["-h"], ["--help"]):
+        print(__doc__.strip())
+        return
+    if len(words) not in (1, 2):
         sys.exit(__doc__.strip())
     try:
         policy = json.loads(pathlib.Path(words[0]).read_text(encoding="utf-8"))

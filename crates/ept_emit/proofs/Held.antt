@@ -11,9 +11,12 @@ use Rattle.machine_layout.specs.Walks.{bits_of, entry_size, entry_of, root_of, w
 use Rattle.muen_num.specs.Access.{kind_bit}
 use Rattle.muen_num.specs.declared.access.AccessKind.{AccessKind}
 use Rattle.muen_num.specs.declared.access.AccessKind.TheVariants.{Read, Write, Fetch}
-use Rattle.policy_types.specs.Rights.{allows, has}
+use Rattle.policy_types.specs.Rights.{allows, rights_bits}
+use Rattle.policy_types.specs.declared.rights.Rights.{Rights}
+use Rattle.policy_types.specs.declared.rights.Rights.TheVariants.{R, Rw, Rx, Rwx}
 use Rattle.ept_emit.specs.Entries.{IsEmittable, type_of, word_at}
-use Rattle.ept_emit.specs.Emitted.{HasAddresses, HasTables, IsGreatestSize, IsReadBy, Reads, eptp_of, translation, translation_in, window_at}
+use Rattle.ept_emit.specs.Emitted.{HasAddresses, HasTables, IsGreatestSize, IsReadBy, eptp_of, translation, translation_in, window_at}
+use Rattle.ept_emit.specs.Reads.{Reads}
 use Rattle.ept_emit.specs.Tables.{AreNumbered, Below}
 use Rattle.ept_emit.proofs.Numbered.{InTable}
 use Rattle.ept_emit.proofs.Addresses.{IsRead, met, read}
@@ -41,15 +44,23 @@ has_entries m at n out room h k i lt small =
     ∙ (ap (λ bytes. Some (le_number bytes)) (part_of out (8 * i) (4096 * k) 8 4096 (omega arith))
     ∙ ap (λ j. Some (le_number (take 8 (drop j out)))) e)
 
-allowed_is : (w : Window) (kind : AccessKind) → allows w.rights kind ≡ (bit_and w.rights.0 (kind_bit kind) == kind_bit kind)
-unfolding has
-allowed_is w Read = refl
-allowed_is w Write = refl
-allowed_is w Fetch = refl
+allowed_is : (rights : Rights) (kind : AccessKind) → allows rights kind ≡ (bit_and (rights_bits rights) (kind_bit kind) == kind_bit kind)
+allowed_is R Read = refl
+allowed_is R Write = refl
+allowed_is R Fetch = refl
+allowed_is Rw Read = refl
+allowed_is Rw Write = refl
+allowed_is Rw Fetch = refl
+allowed_is Rx Read = refl
+allowed_is Rx Write = refl
+allowed_is Rx Fetch = refl
+allowed_is Rwx Read = refl
+allowed_is Rwx Write = refl
+allowed_is Rwx Fetch = refl
 
 leads_is : (o : Option Window) (addr : ℕ) (kind : AccessKind) → leads o addr (kind_bit kind) ≡ translation_in o addr kind
 leads_is None addr kind = refl
-leads_is (Some w) addr kind = ap (λ b. if b then At (w.address + (addr - w.guest)) else Violation w.rights.0) (sym (allowed_is w kind))
+leads_is (Some w) addr kind = ap (λ b. if b then At (w.address + (addr - w.guest)) else Violation (rights_bits w.rights)) (sym (allowed_is w.rights kind))
 
 root_is : (at : ℕ) → at % 4096 ≡ 0 → root_of (eptp_of at) ≡ at / 4096 + 0
 root_is at h = omega arith

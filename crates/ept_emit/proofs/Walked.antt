@@ -10,10 +10,11 @@ use Rattle.ept_emit.specs.Pages.{AreApart, ranges_of}
 use Rattle.machine_layout.specs.declared.walk.Walk.{Walk}
 use Rattle.machine_layout.specs.declared.walk.Walk.TheVariants.{At, Violation, Misconfigured}
 use Rattle.machine_layout.specs.Walks.{bits_of, entry_size, index_at, reads, leaf_end, walk_from, is_present, is_misconfigured, is_leaf, end_entry_size, end_entry, goes_on}
+use Rattle.policy_types.specs.Rights.{rights_bits}
 use Rattle.ept_emit.specs.Entries.{IsEmittable, is_whole, leaf_entry, level_of, type_of, window_on}
 use Rattle.ept_emit.specs.Tables.{IsWritten, child}
 use Rattle.ept_emit.specs.Emitted.{window_at, IsInside, IsGreatestSize}
-use Rattle.ept_emit.proofs.EntryBits.{maps_rights, maps_type, maps_address, maps_leaf, maps_present, maps_fine, type_small, reads_free, reads_page, reads_table, goes_page, goes_table}
+use Rattle.ept_emit.proofs.EntryBits.{maps_rights, maps_type, maps_address, maps_leaf, maps_present, maps_fine, rights_odd, rights_small, type_small, reads_free, reads_page, reads_table, goes_page, goes_table}
 use Rattle.ept_emit.proofs.Found.{All_on, All_at, around, first_held, first_touched, none_within, not_lowest, not_whole, whole_parts, whole_within}
 use Rattle.ept_emit.proofs.Written.{Under, Free, Whole, Part, kind_of, word_of, window_of, written_parts, none_of, leaf_of, child_of}
 
@@ -110,9 +111,9 @@ mapped w l e ok f some =
       aligned = aligned;
       pages = pages;
       small = small;
-      present = maps_present l x (type_of w.caching) w.rights.0 pages ok.known ok.read;
-      fine = maps_fine l x w.rights.0 w.caching below pages aligned small ok.known ok.read;
-      leaf = maps_leaf l x (type_of w.caching) w.rights.0 below pages t ok.known;
+      present = maps_present l x (type_of w.caching) (rights_bits w.rights) pages (rights_small w.rights) (rights_odd w.rights);
+      fine = maps_fine l x (rights_bits w.rights) w.caching below pages aligned small (rights_small w.rights) (rights_odd w.rights);
+      leaf = maps_leaf l x (type_of w.caching) (rights_bits w.rights) below pages t (rights_small w.rights);
     }
 
 pub mapped_on : (ws : List Window) (l g : ℕ) (w : Window) → All IsEmittable ws → window_of ws l g ≡ Some w → is_whole w l (g / entry_size l) ≡ true → Mapped w l (g / entry_size l)
@@ -125,7 +126,7 @@ mapped_on ws l g w all some whole =
 abbrev pub leads : Option Window → ℕ → ℕ → Walk
 leads None addr want = Violation 0
 leads (Some w) addr want =
-    if bit_and w.rights.0 want == want then At (w.address + (addr - w.guest)) else Violation w.rights.0
+    if bit_and (rights_bits w.rights) want == want then At (w.address + (addr - w.guest)) else Violation (rights_bits w.rights)
 
 ends_there : (there : ℕ → Bool) (addr want r address : ℕ) → there (address / 4096) ≡ true → leaf_end there addr want r address ≡ (if bit_and r want == want then At address else Violation r)
 ends_there there addr want r address h = rw h refl
@@ -143,9 +144,9 @@ page_walk there l addr want word w new ok f m addresses is =
     let low : w.address ≤ 4096 * ((w.address + (addr - w.guest)) / 4096) = omega (arith, ok.address) in
     let there_it : there ((w.address + (addr - w.guest)) / 4096) ≡ true = addresses ((w.address + (addr - w.guest)) / 4096) low (omega arith) in
     ap (λ q. reads there l addr want 7 (Some q) new) is
-    ∙ (reads_page there l addr want (leaf_entry w l e) w.rights.0 x new m.present m.fine m.leaf (maps_rights l x t w.rights.0 m.pages ok.known) ok.known (maps_address l x t w.rights.0 m.pages m.small (type_small w.caching) ok.known)
-    ∙ (ap (leaf_end there addr want w.rights.0) address
-    ∙ ends_there there addr want w.rights.0 (w.address + (addr - w.guest)) there_it))
+    ∙ (reads_page there l addr want (leaf_entry w l e) (rights_bits w.rights) x new m.present m.fine m.leaf (maps_rights l x t (rights_bits w.rights) m.pages (rights_small w.rights)) (rights_small w.rights) (maps_address l x t (rights_bits w.rights) m.pages m.small (type_small w.caching) (rights_small w.rights))
+    ∙ (ap (leaf_end there addr want (rights_bits w.rights)) address
+    ∙ ends_there there addr want (rights_bits w.rights) (w.address + (addr - w.guest)) there_it))
 
 abbrev pub deeper_walk : (ℕ → ℕ → Option ℕ) → (ℕ → Bool) → ℕ → ℕ → ℕ → ℕ → ℕ → Walk
 deeper_walk entry there addr want zero t r = Misconfigured
@@ -281,7 +282,7 @@ module _ (entry : ℕ → ℕ → Option ℕ) (out : ℕ → ℕ) (base lo hi : 
       let here = whole_within ws (entry_size l * e) (entry_size l) addr w some a.0 a.1 f.begins f.ends in
       let both : Some w ≡ Some t = sym here ∙ held in
       let same : w ≡ t = cc in
-      maps_type l (address_at w l e) (type_of w.caching) w.rights.0 m.pages (type_small w.caching) fine.known
+      maps_type l (address_at w l e) (type_of w.caching) (rights_bits w.rights) m.pages (type_small w.caching) (rights_small w.rights)
       ∙ ap (λ (y : Window). type_of y.caching) same
 
   never_free : (l : ℕ) → window_of ws l addr ≡ None → ⊥

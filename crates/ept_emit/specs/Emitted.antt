@@ -7,8 +7,9 @@ use Rattle.machine_layout.specs.declared.walk.Walk.TheVariants.{At, Violation}
 use Rattle.machine_layout.specs.Memory.{Page, is_there, page_of}
 use Rattle.machine_layout.specs.Walks.{addresses_read, entry_size, leaf_size, leaf_type, walk_of}
 use Rattle.muen_num.specs.declared.access.AccessKind.{AccessKind}
-use Rattle.policy_types.specs.Rights.{allows}
+use Rattle.policy_types.specs.Rights.{allows, rights_bits}
 use Rattle.ept_emit.specs.Entries.{level_of, type_of, word_at}
+use Rattle.ept_emit.specs.Reads.{Reads}
 
 -- the extended-page-table pointer of tables whose PML4 table is at `at`: write back in bits 2:0, the length of walks minus
 -- one in bits 5:3, no flags of accesses in bit 6
@@ -28,7 +29,7 @@ window_at ws addr = find (holds addr) ws
 abbrev pub translation_in : Option Window → ℕ → AccessKind → Walk
 translation_in None addr kind = Violation 0
 translation_in (Some w) addr kind =
-    if allows w.rights kind then At (w.address + (addr - w.guest)) else Violation w.rights.0
+    if allows w.rights kind then At (w.address + (addr - w.guest)) else Violation (rights_bits w.rights)
 
 -- where a window leads an access: to its physical address, where the window has the right for it
 abbrev pub translation : List Window → ℕ → AccessKind → Walk
@@ -56,13 +57,6 @@ HasTables m at bytes = (k : ℕ) → 4096 * k < length bytes → page_of m (at /
 -- each page that a window leads to is there
 abbrev pub HasAddresses : List Page → List Window → Type 0
 HasAddresses m ws = All (λ w. (k : ℕ) → w.address ≤ 4096 * k → 4096 * k < w.address + w.size → is_there m k ≡ true) ws
-
--- the walk for an address reads an entry of the table of this level in this page: entries are read from the PML4 table, of
--- level 3, on down
-pub record Reads (m : List Page) (eptp addr level page : ℕ) : Type 0 where
-  pub depth : level ≤ 3
-  pub within : 3 - level < length (addresses_read m eptp addr)
-  pub here : slice_index (addresses_read m eptp addr) (3 - level) / 4096 ≡ page
 
 -- some walk for an address up to a last one reads the table in this page
 pub record IsReadBy (m : List Page) (eptp last page : ℕ) : Type 0 where

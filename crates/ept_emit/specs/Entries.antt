@@ -8,6 +8,7 @@ use Rattle.ept_emit.specs.declared.window.Window.{Window}
 use Rattle.ept_emit.specs.Pages.{range_of, touches}
 use Rattle.machine_layout.specs.Memory.{le_number}
 use Rattle.machine_layout.specs.Walks.{entry_size}
+use Rattle.policy_types.specs.Rights.{rights_bits}
 use Rattle.policy_types.specs.declared.rights.Caching.{Caching}
 use Rattle.policy_types.specs.declared.rights.Caching.TheVariants.{Uc, Wc, Wt, Wp, Wb}
 
@@ -40,7 +41,7 @@ is_whole w level e =
 
 -- an entry that maps a page of the window
 abbrev pub leaf_entry : Window → ℕ → ℕ → ℕ
-leaf_entry w level e = w.address + (entry_size level * e - w.guest) + size_bit level + 8 * type_of w.caching + w.rights.0
+leaf_entry w level e = w.address + (entry_size level * e - w.guest) + size_bit level + 8 * type_of w.caching + rights_bits w.rights
 
 -- an entry that references the table in a page: it takes no right away
 abbrev pub table_entry : ℕ → ℕ
@@ -54,8 +55,7 @@ window_on ws lo n = find (λ w. touches (range_of w) lo n) ws
 abbrev pub word_at : List ℕ → ℕ → ℕ
 word_at bytes j = le_number (take 8 (drop (8 * j) bytes))
 
--- what tables can be emitted for: whole pages, of addresses that there are, that may be read, and that pages of the wanted
--- size can map
+-- what tables can be emitted for: whole pages, of addresses that there are, and that pages of the wanted size can map
 pub record IsEmittable (w : Window) : Type 0 where
   pub some : 0 < w.size
   pub guest : w.guest % 4096 ≡ 0
@@ -63,6 +63,4 @@ pub record IsEmittable (w : Window) : Type 0 where
   pub address : w.address % 4096 ≡ 0
   pub end : w.guest + w.size ≤ 2 ^ 48
   pub address_end : w.address + w.size ≤ 2 ^ 40
-  pub known : w.rights.0 < 8
-  pub read : w.rights.0 % 2 ≡ 1
   pub aligned : w.address % entry_size (level_of w.leaf) ≡ w.guest % entry_size (level_of w.leaf)

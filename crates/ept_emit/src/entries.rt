@@ -4,7 +4,6 @@ ghost use Rattle.ept_emit.specs.Entries.{IsEmittable, is_whole, leaf_entry, leve
 ghost use Rattle.machine_layout.specs.Walks.{entry_size};
 
 use crate::{Leaf, Window};
-use bitflags::Flags;
 use machine_layout::entries::{ALL_RIGHTS, ENTRY_BYTES, MAPS_PAGE, TYPE_UNIT, entry_size};
 use muen_num::limits::PAGE;
 use policy_types::Caching;

@@ -7,10 +7,10 @@ use Rattle.std.proofs.lemmas.Bool.{and_parts}
 use Rattle.std.proofs.lemmas.List.Sums.{sum_by-append, sum_by-le-sum_by}
 use Rattle.muen_num.proofs.Lists.{all_true, passes_at}
 use Rattle.muen_num.proofs.SameAnswers.{sum_by_same}
-use Rattle.policy_lawful.specs.MoreRules.{are_distinct, are_numbers, call_number, calls_of, offence_14, offence_15, trap_reason}
+use Rattle.policy_lawful.specs.MoreRules.{are_distinct, are_numbers, call_number, calls_of, offence_14, offence_15}
 use Rattle.policy_lawful.specs.Resolution.{IsResolved, Resolution, source_of, subject_named, subject_in_range}
 use Rattle.policy_lawful.specs.declared.resolved.Subject.{Subject}
-use Rattle.policy_lawful.specs.Events.{ChannelEnd, channel_ends, is_call, same_way, writes_by}
+use Rattle.policy_lawful.specs.Events.{ChannelEnd, channel_ends, is_call, same_way, writes_by, trap_number}
 use Rattle.policy_types.specs.declared.rights.Role.{Role}
 use Rattle.policy_types.specs.declared.rights.Role.TheVariants.{Reader, Writer}
 use Rattle.policy_types.specs.declared.source.EventSource.{EventSource as NamedSource}
@@ -36,7 +36,7 @@ calls_by : (n : ℕ) (way : SourceWay) → option_map_or (is_number n) (call_num
 calls_by n (Call m) = refl
 calls_by n (Trap m) = refl
 
-traps_by : (n : ℕ) (way : SourceWay) → option_map_or (is_number n) (trap_reason way) false ≡ same_way way (Trap n)
+traps_by : (n : ℕ) (way : SourceWay) → option_map_or (is_number n) (trap_number way) false ≡ same_way way (Trap n)
 traps_by n (Call m) = refl
 traps_by n (Trap m) = refl
 
@@ -68,10 +68,10 @@ writes_not n e Writer = no_trap n e.call
 distinct_numbers : (ns : List ℕ) → are_numbers ns ≡ true → are_distinct ns ≡ true
 distinct_numbers ns h = (and_parts _ _ h).1
 
-module _ (p : Source) (s : NamedSubject) (keeps : (are_numbers (calls_of p s) && are_numbers (filter_map (λ (e : NamedSource). trap_reason e.way) s.sources)) ≡ true) where
+module _ (p : Source) (s : NamedSubject) (keeps : (are_numbers (calls_of p s) && are_numbers (filter_map (λ (e : NamedSource). trap_number e.way) s.sources)) ≡ true) where
   call_once : (n : ℕ) → count_by (λ e. same_way e.way (Call n)) s.sources + count_by (λ e. writes_by e e.role (Call n)) (channel_ends p s) ≤ 1
   call_once n =
-      let both = and_parts (are_numbers (calls_of p s)) (are_numbers (filter_map (λ (e : NamedSource). trap_reason e.way) s.sources)) keeps in
+      let both = and_parts (are_numbers (calls_of p s)) (are_numbers (filter_map (λ (e : NamedSource). trap_number e.way) s.sources)) keeps in
       let own = filter_map (λ (e : NamedSource). call_number e.way) s.sources in
       let theirs = filter_map (λ (e : ChannelEnd). e.call) (channel_ends p s) in
       let few : count_by (is_number n) (own ++ theirs) ≤ 1 = distinct_once n (calls_of p s) (distinct_numbers (calls_of p s) both.0) in
@@ -88,12 +88,12 @@ module _ (p : Source) (s : NamedSubject) (keeps : (are_numbers (calls_of p s) &&
 
   trap_once : (n : ℕ) → count_by (λ e. same_way e.way (Trap n)) s.sources + count_by (λ e. writes_by e e.role (Trap n)) (channel_ends p s) ≤ 1
   trap_once n =
-      let both = and_parts (are_numbers (calls_of p s)) (are_numbers (filter_map (λ (e : NamedSource). trap_reason e.way) s.sources)) keeps in
-      let own = filter_map (λ (e : NamedSource). trap_reason e.way) s.sources in
+      let both = and_parts (are_numbers (calls_of p s)) (are_numbers (filter_map (λ (e : NamedSource). trap_number e.way) s.sources)) keeps in
+      let own = filter_map (λ (e : NamedSource). trap_number e.way) s.sources in
       let few : count_by (is_number n) own ≤ 1 = distinct_once n own (distinct_numbers own both.1) in
       let by_source : count_by (is_number n) own ≡ count_by (λ (e : NamedSource). same_way e.way (Trap n)) s.sources =
-      counted_some (is_number n) (λ (e : NamedSource). trap_reason e.way) s.sources
-      ∙ sum_by_same (λ (e : NamedSource). cond (option_map_or (is_number n) (trap_reason e.way) false) 1 0) (λ e. cond (same_way e.way (Trap n)) 1 0) (λ _. true)
+      counted_some (is_number n) (λ (e : NamedSource). trap_number e.way) s.sources
+      ∙ sum_by_same (λ (e : NamedSource). cond (option_map_or (is_number n) (trap_number e.way) false) 1 0) (λ e. cond (same_way e.way (Trap n)) 1 0) (λ _. true)
       (λ e _. ap (λ b. cond b 1 0) (traps_by n e.way)) s.sources (all_true s.sources) in
       let by_end : count_by (λ (e : ChannelEnd). writes_by e e.role (Trap n)) (channel_ends p s) ≡ 0 =
       uncounted (λ (e : ChannelEnd). writes_by e e.role (Trap n)) (channel_ends p s)

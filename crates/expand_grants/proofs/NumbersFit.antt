@@ -9,7 +9,7 @@ use Rattle.std.proofs.lemmas.List.Folds.{list_all-append, list_all-map}
 use Rattle.muen_num.proofs.Lists.{each_from, each_of}
 use Rattle.muen_num.proofs.SearchLaws.{all_pass}
 use Rattle.muen_num.specs.declared.limits.TheConstants.{FIRST_VECTOR, LAST_VECTOR, MOST_CALLS}
-use Rattle.policy_lawful.specs.MoreRules.{are_distinct, are_numbers, are_vectors, call_number, calls_of, has_vector, offence_14, offence_15, trap_reason, vectors_of}
+use Rattle.policy_lawful.specs.MoreRules.{are_distinct, are_numbers, are_vectors, call_number, calls_of, has_vector, offence_14, offence_15, vectors_of}
 use Rattle.policy_lawful.specs.Offences.{alone}
 use Rattle.policy_lawful.specs.Resolution.{IsResolved, Resolution, device_named, device_part, name_at, source_of, subject_named, subject_in_range}
 use Rattle.policy_lawful.specs.declared.resolved.DeviceUse.{DeviceUse}
@@ -18,7 +18,7 @@ use Rattle.policy_lawful.specs.declared.resolved.EventTarget.{EventTarget}
 use Rattle.policy_lawful.specs.declared.resolved.IrqUse.{IrqUse}
 use Rattle.policy_lawful.specs.declared.resolved.Subject.{Subject}
 use Rattle.policy_lawful.proofs.SourceElements.{parts_in_range}
-use Rattle.policy_lawful.specs.Events.{channel_ends}
+use Rattle.policy_lawful.specs.Events.{channel_ends, trap_number}
 use Rattle.policy_types.specs.declared.source.EventSource.{EventSource as NamedSource}
 use Rattle.policy_types.specs.declared.source.EventTarget.{EventTarget as NamedTarget}
 use Rattle.policy_types.specs.declared.source.IrqUse.{IrqUse as NamedIrq}
@@ -51,7 +51,7 @@ vector_in : (o : Option ℕ) → option_map_or is_vector o true ≡ true → fit
 vector_in None h = refl
 vector_in (Some n) h = vector_fits n h
 
-way_in : (way : SourceWay) → option_map_or is_call_number (call_number way) true ≡ true → option_map_or is_call_number (trap_reason way) true ≡ true → fits_way way ≡ true
+way_in : (way : SourceWay) → option_map_or is_call_number (call_number way) true ≡ true → option_map_or is_call_number (trap_number way) true ≡ true → fits_way way ≡ true
 way_in (Call n) h k = call_fits n h
 way_in (Trap n) h k = call_fits n k
 
@@ -67,7 +67,7 @@ irq_named r device i = record { irq = name_at (device_part r (λ x. map (λ m. m
 -- ---- what the rules say of a subject
 
 abbrev pub keeps_14 : Resolution → NamedSubject → Bool
-keeps_14 r s = are_numbers (calls_of (source_of r) s) && are_numbers (filter_map (λ e. trap_reason e.way) s.sources)
+keeps_14 r s = are_numbers (calls_of (source_of r) s) && are_numbers (filter_map (λ e. trap_number e.way) s.sources)
 
 abbrev keeps_15 : Resolution → NamedSubject → Bool
 keeps_15 r s = list_all (has_vector (source_of r)) s.targets && are_vectors (vectors_of (source_of r) s)
@@ -75,20 +75,20 @@ keeps_15 r s = list_all (has_vector (source_of r)) s.targets && are_vectors (vec
 module _ (r : Resolution) (q : IsResolved r) (s : Subject) (in_range : subject_in_range r s ≡ true) where
   sources_fit : keeps_14 r (subject_named r s) ≡ true → fits_sources s ≡ true
   sources_fit h =
-      let both = and_parts (are_numbers (calls_of (source_of r) (subject_named r s))) (are_numbers (filter_map (λ e. trap_reason e.way) (subject_named r s).sources)) h in
+      let both = and_parts (are_numbers (calls_of (source_of r) (subject_named r s))) (are_numbers (filter_map (λ e. trap_number e.way) (subject_named r s).sources)) h in
       let calls = (and_parts (list_all is_call_number (calls_of (source_of r) (subject_named r s))) (are_distinct (calls_of (source_of r) (subject_named r s))) both.0).0 in
-      let traps = (and_parts (list_all is_call_number (filter_map (λ e. trap_reason e.way) (subject_named r s).sources)) (are_distinct (filter_map (λ e. trap_reason e.way) (subject_named r s).sources)) both.1).0 in
+      let traps = (and_parts (list_all is_call_number (filter_map (λ e. trap_number e.way) (subject_named r s).sources)) (are_distinct (filter_map (λ e. trap_number e.way) (subject_named r s).sources)) both.1).0 in
       let own = (and_parts (list_all is_call_number (filter_map (λ e. call_number e.way) (subject_named r s).sources)) (list_all is_call_number (filter_map (λ e. e.call) (channel_ends (source_of r) (subject_named r s))))
       (sym (list_all-append is_call_number (filter_map (λ e. call_number e.way) (subject_named r s).sources) (filter_map (λ e. e.call) (channel_ends (source_of r) (subject_named r s)))) ∙ calls)).0 in
       let by_call : list_all (λ e. option_map_or is_call_number (call_number e.way) true) s.sources ≡ true =
       sym (all_some is_call_number (λ e. call_number e.way) (subject_named r s).sources ∙ list_all-map (λ e. option_map_or is_call_number (call_number e.way) true) (source_named r) s.sources) ∙ own in
-      let by_trap : list_all (λ e. option_map_or is_call_number (trap_reason e.way) true) s.sources ≡ true =
-      sym (all_some is_call_number (λ e. trap_reason e.way) (subject_named r s).sources ∙ list_all-map (λ e. option_map_or is_call_number (trap_reason e.way) true) (source_named r) s.sources) ∙ traps in
-      each_of (λ e. option_map_or is_call_number (call_number e.way) true) (λ e. option_map_or is_call_number (trap_reason e.way) true) fits_source (λ e a b. way_in e.way a b) s.sources by_call by_trap
+      let by_trap : list_all (λ e. option_map_or is_call_number (trap_number e.way) true) s.sources ≡ true =
+      sym (all_some is_call_number (λ e. trap_number e.way) (subject_named r s).sources ∙ list_all-map (λ e. option_map_or is_call_number (trap_number e.way) true) (source_named r) s.sources) ∙ traps in
+      each_of (λ e. option_map_or is_call_number (call_number e.way) true) (λ e. option_map_or is_call_number (trap_number e.way) true) fits_source (λ e a b. way_in e.way a b) s.sources by_call by_trap
 
   channel_end_calls : keeps_14 r (subject_named r s) ≡ true → list_all (λ e. option_map_or is_call_number e.call true) (channel_ends_of r s) ≡ true
   channel_end_calls h =
-      let both = and_parts (are_numbers (calls_of (source_of r) (subject_named r s))) (are_numbers (filter_map (λ e. trap_reason e.way) (subject_named r s).sources)) h in
+      let both = and_parts (are_numbers (calls_of (source_of r) (subject_named r s))) (are_numbers (filter_map (λ e. trap_number e.way) (subject_named r s).sources)) h in
       let calls = (and_parts (list_all is_call_number (calls_of (source_of r) (subject_named r s))) (are_distinct (calls_of (source_of r) (subject_named r s))) both.0).0 in
       let of_ends = (and_parts (list_all is_call_number (filter_map (λ e. call_number e.way) (subject_named r s).sources)) (list_all is_call_number (filter_map (λ e. e.call) (channel_ends (source_of r) (subject_named r s))))
       (sym (list_all-append is_call_number (filter_map (λ e. call_number e.way) (subject_named r s).sources) (filter_map (λ e. e.call) (channel_ends (source_of r) (subject_named r s)))) ∙ calls)).1 in

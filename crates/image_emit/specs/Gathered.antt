@@ -9,12 +9,7 @@ use Rattle.image_pack.specs.declared.parts.SpanPart.{SpanPart}
 use Rattle.image_pack.specs.declared.parts.SubjectPart.{SubjectPart}
 use Rattle.region_alloc.specs.Placed.{Placement}
 use Rattle.subject_emit.specs.Pages.{ArePages}
-use Rattle.subject_emit.specs.Shows.{IsReadable}
 use Rattle.subject_emit.specs.declared.subject_pages.SubjectPages.{SubjectPages}
-
--- all windows may be read
-abbrev pub AreReadable : Placement → Type 0
-AreReadable x = All (λ g. All (λ v. IsReadable v.rights) g.views) x.expanded.grants
 
 -- the pages of each subject
 abbrev pub AreAllPages : Placement → List SubjectPages → Type 0

@@ -1,7 +1,7 @@
 //! The image as a whole.
 ghost use Rattle.std.specs.Prelude.{◌≡◌, ◌<◌, ◌^◌, length, IfOk};
 ghost use Rattle.image_emit.specs.Fitting.{AreFew};
-ghost use Rattle.image_emit.specs.Gathered.{AreAllPages, AreParts, AreReadable, IsHeld};
+ghost use Rattle.image_emit.specs.Gathered.{AreAllPages, AreParts, IsHeld};
 ghost use Rattle.image_emit.specs.Made.{IsEmitted, IsFilled};
 ghost use Rattle.image_pack.specs.SpanConditions.{HaveDifferentNumbers};
 
@@ -20,7 +20,6 @@ use subject_emit::{SubjectPages, pages};
 
 // The pages of each subject.
 fn all_pages(alloc: Global, placed: &Placed) -> Result<Seq<SubjectPages>, NoMemory>
-    requires readable { AreReadable placed.now }
     requires as_many { length placed.now.expanded.grants ≡ length placed.now.expanded.lawful.subjects }
     ensures { IfOk result (AreAllPages placed.now) }
 {
@@ -41,7 +40,6 @@ fn held(
     things: Seq<Seq<u8>>,
     spans: &[SpanPart],
 ) -> Result<Seq<Seq<u8>>, NoMemory>
-    requires readable { AreReadable placed.now }
     requires as_many { length placed.now.expanded.grants ≡ length placed.now.expanded.lawful.subjects }
     requires numbers { HaveDifferentNumbers spans.now }
     ensures { IfOk result (IsHeld placed.now things spans.now) }
@@ -86,11 +84,9 @@ fn first_device(placed: &Placed) -> u16
 /// lies where the policy's placement has it, no table is read at two paths, and each window is mapped by
 /// the greatest pages that it allows.
 ///
-/// Each region has as many bytes as its size says, and all windows may be read. Answers `NoMemory`
-/// where memory was refused.
+/// Each region has as many bytes as its size says. Answers `NoMemory` where memory was refused.
 pub fn emit(alloc: Global, placed: &Placed, things: Seq<Seq<u8>>) -> Result<Parts, NoMemory>
     requires filled { IsFilled placed.now things }
-    requires readable { AreReadable placed.now }
     ensures { IfOk result (IsEmitted placed.now things) }
 {
     let expanded = placed.expanded();

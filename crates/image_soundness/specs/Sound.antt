@@ -32,6 +32,7 @@ use Rattle.policy_lawful.specs.Contents.{Held, initial_bytes}
 use Rattle.policy_lawful.specs.Events.{event_of, irq_of}
 use Rattle.policy_lawful.specs.Thing.{Thing, region, channel, provided, device_memory, state, same_thing, things_of, thing_tag}
 use Rattle.policy_lawful.specs.Windows.{Access, access_of, byte, violation, windows_of}
+use Rattle.policy_types.specs.Rights.{found_bits}
 use Rattle.policy_types.specs.declared.source.Device.{Device as SourceDevice}
 use Rattle.policy_types.specs.declared.source.Irq.{Irq}
 use Rattle.policy_types.specs.declared.source.Source.{Source}
@@ -88,7 +89,7 @@ address_of p i x = option_map_or (λ e. e.1) (find (λ e. same_thing e.0 x) (add
 -- where an access is led: to the byte's address, or to a violation with the rights that were found
 abbrev pub led : (Thing → ℕ) → Access Thing → Walk
 led address (byte x offset) = At (address x + offset)
-led address (violation found) = Violation found.0
+led address (violation found) = Violation (found_bits found)
 
 -- **the walks** for a subject's guest addresses go exactly where its windows lead
 abbrev pub HasWalks : Source → Image → Subject → SubjectPart → Type 0

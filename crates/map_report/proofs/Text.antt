@@ -27,7 +27,7 @@ use Rattle.policy_lawful.specs.declared.view.View.{View}
 use Rattle.policy_lawful.proofs.WindowsByIndex.{name_there, windows_by_index}
 use Rattle.region_alloc.specs.Placement.{in_a_block, placement_of}
 use Rattle.region_alloc.specs.Placed.{AreInside}
-use Rattle.map_report.specs.MapText.{device_lines, map_text_at, map_text_of, region_lines, tag, text_where, thing_tag, window_line, window_lines}
+use Rattle.map_report.specs.MapText.{device_lines, map_text_at, map_text_of, region_lines, tag, text_where, window_line, window_lines}
 use Rattle.map_report.specs.Views.{all_view_lines, is_there, map_lines, shown_tag, shows_what_is_there, tagged_line, view_line, view_lines, views_at}
 use Rattle.map_report.proofs.Views.{views_there}
 

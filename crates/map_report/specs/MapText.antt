@@ -9,11 +9,10 @@ use Rattle.muen_num.specs.Tag.{tag_text}
 use Rattle.muen_num.specs.declared.tag.TagPart.{TagPart}
 use Rattle.muen_num.specs.declared.tag.TagPart.TheVariants.{Named, State, Whole}
 use Rattle.muen_num.specs.declared.tag.Tag.{Tag}
-use Rattle.policy_lawful.specs.Thing.{Thing, region, channel, provided, device_memory, state}
+use Rattle.policy_lawful.specs.Thing.{thing_tag}
 use Rattle.policy_lawful.specs.Windows.{windows_of}
-use Rattle.policy_types.specs.Rights.{has}
 use Rattle.policy_types.specs.declared.rights.Rights.{Rights}
-use Rattle.policy_types.specs.declared.rights.TheConstants.Rights.{READ, WRITE, EXECUTE}
+use Rattle.policy_types.specs.declared.rights.Rights.TheVariants.{R, Rw, Rx, Rwx}
 use Rattle.policy_types.specs.declared.source.Device.{Device}
 use Rattle.policy_types.specs.declared.source.DeviceMemory.{DeviceMemory}
 use Rattle.policy_types.specs.declared.source.Source.{Source}
@@ -25,20 +24,11 @@ use Rattle.region_alloc.specs.Placement.{placement_of}
 abbrev pub tag : List ℕ → TagPart → Tag
 tag owner part = record { owner = owner; part = part }
 
--- the printed name of a thing
-abbrev pub thing_tag : Thing → Tag
-thing_tag (region name) = tag name Whole
-thing_tag (channel name) = tag name Whole
-thing_tag (provided subject logical) = tag subject (Named logical)
-thing_tag (device_memory device name) = tag device (Named name)
-thing_tag (state subject) = tag subject State
-
-abbrev pub letter : Rights → Rights → List ℕ → List ℕ
-letter rights right text = if has rights right then text else []
-
--- `r`, `w` and `x`, as the rights are there
 abbrev pub rights_text : Rights → List ℕ
-rights_text rights = letter rights READ (codes "r") ++ letter rights WRITE (codes "w") ++ letter rights EXECUTE (codes "x")
+rights_text R = codes "r"
+rights_text Rw = codes "rw"
+rights_text Rx = codes "rx"
+rights_text Rwx = codes "rwx"
 
 -- ---- lines
 

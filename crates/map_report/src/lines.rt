@@ -1,34 +1,23 @@
 //! The lines of a map.
 ghost use Rattle.std.specs.Prelude.{◌≡◌, ◌+◌, ◌≤◌, ◌++◌, length, take};
 ghost use Rattle.map_report.specs.Lines.{laid_word};
-ghost use Rattle.map_report.specs.MapText.{letter, rights_text};
+ghost use Rattle.map_report.specs.MapText.{rights_text};
 
 use muen_num::text::{append, append_hex16};
 use muen_num::{Name, Tag};
 use muen_outside::PrintedLine;
 use policy_types::Rights;
 
-// Writes the letter of a right, if it is there.
-fn append_letter(out: &mut [u8], at: usize, rights: Rights, right: Rights, text: &[u8]) -> usize
-    requires { at + length text.now ≤ length out.old }
-    ensures end { result ≤ at + length text.now }
-    ensures text { take result out.new ≡ take at out.old ++ letter rights right text.now }
+fn rights_text(rights: Rights) -> &'static [u8]
+    ensures value { result.now ≡ rights_text rights }
+    ensures within { length result.now ≤ 3 }
 {
-    if rights.has(right) {
-        append(out, at, text)
-    } else {
-        at
+    match rights {
+        Rights::R => b"r",
+        Rights::Rw => b"rw",
+        Rights::Rx => b"rx",
+        Rights::Rwx => b"rwx",
     }
-}
-
-fn append_rights(out: &mut [u8], at: usize, rights: Rights) -> usize
-    requires { at + 3 ≤ length out.old }
-    ensures end { result ≤ at + 3 }
-    ensures text { take result out.new ≡ take at out.old ++ rights_text rights }
-{
-    let at = append_letter(out, at, rights, Rights::READ, b"r");
-    let at = append_letter(out, at, rights, Rights::WRITE, b"w");
-    append_letter(out, at, rights, Rights::EXECUTE, b"x")
 }
 
 /// What lies at an address in physical memory.

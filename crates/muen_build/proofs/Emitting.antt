@@ -1,9 +1,8 @@
--- What an image is made of: its regions are filled, its windows may be read, and it is sound for what was seen.
+-- What an image is made of: its regions are filled, and it is sound for what was seen.
 use Rattle.std.proofs.Common.{◌≡◌, ℕ, List, Ok, sym, ap, subst, ◌∙◌}
 use Rattle.std.specs.Prelude.{IfOk, Result}
 use Rattle.std.proofs.lemmas.Result.{IfOk-weaker}
 use Rattle.expand_kernel.specs.Expansion.{Expansion}
-use Rattle.image_emit.specs.Gathered.{AreReadable}
 use Rattle.image_emit.specs.Made.{IsFilled, thing_bytes}
 use Rattle.image_soundness.specs.Sound.{IsSound}
 use Rattle.image_pack.specs.declared.parts.Image.{Image}
@@ -13,16 +12,10 @@ use Rattle.region_alloc.specs.Placed.{IsPlaced, Placement}
 use Rattle.muen_build.specs.Accepting.{Accepts, Files, looks_of}
 use Rattle.muen_build.specs.Looks.{ShowAll}
 use Rattle.muen_build.specs.Reading.{things_read}
-use Rattle.muen_build.specs.Refusals.{lawful_policy_of}
-use Rattle.muen_build.proofs.DocumentRights.{readable_lawful}
-use Rattle.muen_build.proofs.GrantedRights.{readable_views}
 use Rattle.muen_build.proofs.Held.{things_held}
 use Rattle.muen_build.proofs.Rooms.{things_filled}
 
 module _ (x : Placement) (placed : IsPlaced x) where
-  pub readable_so : (document : List ℕ) → lawful_policy_of document ≡ Ok (source_of x.expanded.lawful) → AreReadable x
-  readable_so document lawful = readable_views x.expanded.lawful x.expanded.grants (readable_lawful document (source_of x.expanded.lawful) lawful) placed.expansion.grants
-
   -- of its policy, as it is reached
   module _ (expanded : Expansion) (of_placed : expanded ≡ x.expanded) (lawful r : Resolution) (of_expanded : lawful ≡ expanded.lawful) (of_lawful : r ≡ lawful)
       (name document : List ℕ) (found : Files) (things : List (List ℕ)) (are_things : things ≡ things_read name document found r) where

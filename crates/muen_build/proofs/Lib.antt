@@ -1,13 +1,10 @@
 pub mod Accepting
 pub mod Checking
-pub mod DocumentRights
 pub mod Emitting
 pub mod FilledByIndex
-pub mod GrantedRights
 pub mod Held
 pub mod Looks
 pub mod Placing
-pub mod ReadTables
 pub mod Refusing
 pub mod Rooms
 pub mod Steps

@@ -4,4 +4,3 @@ pub mod Filling
 pub mod Looks
 pub mod Reading
 pub mod Refusals
-pub mod WindowRights

@@ -3,22 +3,13 @@
 //! placed. Each component file is read once. Then its image is made.
 #![tactic(auto)]
 
-ghost use Rattle.std.specs.Prelude.{◌≡◌, ℕ, IfOk, IfErr, List, [], ◌∷◌, None, Ok};
-ghost use Rattle.std.specs.List.{All};
-ghost use Rattle.expand_grants.specs.Grants.{AreGrants};
-ghost use Rattle.expand_grants.specs.declared.granted.Grants.{Grants};
+ghost use Rattle.std.specs.Prelude.{◌≡◌, IfOk, IfErr, [], ◌∷◌, None, Ok};
 ghost use Rattle.muen_num.specs.Answers.{Answers, Explains};
-ghost use Rattle.policy_json.specs.Document.{policy_of};
-ghost use Rattle.policy_lawful.specs.Lawful.{kept_source};
-ghost use Rattle.policy_lawful.specs.Resolution.{Resolution, source_of};
-ghost use Rattle.policy_lawful.specs.Contents.{Held};
+ghost use Rattle.policy_lawful.specs.Resolution.{kept_source, source_of};
 ghost use Rattle.muen_build.specs.Accepting.{Accepts, FailsWith, Grows, Passes, Refuses, RefusesDocument, looks_of, of_all};
 ghost use Rattle.muen_build.specs.Looks.{Follows, document_look};
-ghost use Rattle.muen_build.specs.Refusals.{accepted_policy_of, filled_of, laid_policy_of, lawful_policy_of, placed_source};
-ghost use Rattle.muen_build.specs.WindowRights.{RightsKept};
-ghost use Rattle.policy_types.specs.declared.source.Source.{Source};
+ghost use Rattle.muen_build.specs.Refusals.{filled_of, laid_policy_of, lawful_policy_of, placed_source};
 ghost use Rattle.region_alloc.specs.Placement.{no_room};
-ghost use Rattle.subject_emit.specs.Shows.{IsReadable};
 
 mod accepted;
 mod contents;
@@ -113,13 +104,3 @@ pub fn accept<F: Files>(
     let placed = place(alloc, policy)?;
     Ok(Accepted { placed, files })
 }
-
-/// A window's rights are r, rw, rx or rwx, since a document can give no others.
-pub fn windows_are_readable()
-    // Wherever the policy that a document says gives rights of windows.
-    ensures given { (bytes : List ℕ) (p : Source) → policy_of bytes ≡ Ok p → RightsKept p }
-    // Where it is accepted over files that hold this.
-    ensures accepted { (files : Held) (bytes : List ℕ) (p : Source) → accepted_policy_of files bytes ≡ Ok p → RightsKept p }
-    // So are those of each window that such a policy grants.
-    ensures granted { (r : Resolution) (grants : List Grants) → RightsKept (source_of r) → AreGrants r grants → All (λ g. All (λ v. IsReadable v.rights) g.views) grants }
-{}

@@ -1,5 +1,7 @@
 pub mod Buffered
+pub mod Explained
 pub mod HeldMap
 pub mod PutEntry
 pub mod Puts
 pub mod ReadSteps
+pub mod Writes

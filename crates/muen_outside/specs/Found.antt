@@ -1,7 +1,8 @@
 -- What a read has found.
-use Rattle.std.specs.Prelude.{ℕ, ◌<◌, ◌≤◌, length}
+use Rattle.std.specs.Prelude.{ℕ, ◌<◌, ◌≤◌, length, Result, Ok, Err}
 use Rattle.muen_outside.specs.declared.files.Found.{Found}
 use Rattle.muen_outside.specs.declared.files.Found.TheVariants.{Bytes, Missing, TooLong}
+use Rattle.muen_outside.specs.declared.files.FileError.{FileError}
 use Rattle.muen_outside.specs.Store.{Reading, whole, absent, long}
 
 abbrev pub seen : Found → Reading
@@ -9,19 +10,13 @@ seen (Bytes bytes) = whole bytes
 seen Missing = absent
 seen (TooLong n) = long n
 
--- no file, or too long a one
-abbrev pub IsMiss : Found → Type 0
-IsMiss (Bytes bytes) = ⊥
-IsMiss Missing = Unit {0}
-IsMiss (TooLong n) = Unit {0}
-
-abbrev pub IsMissed : Reading → Type 0
-IsMissed (whole bytes) = ⊥
-IsMissed absent = Unit {0}
-IsMissed (long n) = Unit {0}
+-- what a read has answered
+abbrev pub answered : Result Found FileError → Result Reading FileError
+answered (Ok found) = Ok (seen found)
+answered (Err e) = Err e
 
 -- no more bytes than these, and too long only where there are more
-abbrev pub IsWithin : ℕ → Found → Type 0
-IsWithin most (Bytes bytes) = length bytes ≤ most
-IsWithin most Missing = Unit {0}
-IsWithin most (TooLong n) = most < n
+abbrev pub IsPossible : ℕ → Reading → Type 0
+IsPossible most (whole bytes) = length bytes ≤ most
+IsPossible most absent = Unit {0}
+IsPossible most (long n) = most < n

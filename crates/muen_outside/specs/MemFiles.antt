@@ -1,22 +1,26 @@
 -- Files in memory as their callers see them.
-use Rattle.std.specs.Prelude.{ℕ, ◌==◌, Bool, List, Some}
+use Rattle.std.specs.Prelude.{ℕ, ◌+◌, ◌-◌, ◌^◌, ◌==◌, Bool, List, min}
 use Rattle.std.specs.List.{list_any}
 use Rattle.std.specs.FinMap.{from_entries}
-use Rattle.muen_outside.specs.States.{FilesState}
+use Rattle.muen_outside.specs.Store.{Store}
+use Rattle.muen_outside.specs.States.{History}
 
 pub record Shelf : Type 0 where
   -- names and their bytes; of two with one name the first counts
   pub entries : List (List ℕ × List ℕ)
   -- the numbers of the calls that fail
   pub fails : List ℕ
-  -- how many calls there were
+  -- how many calls there were, up to 2 ^ 64 - 1
   pub calls : ℕ
-  pub faults : ℕ
-  pub misses : ℕ
+  pub history : History
 
 -- the next call's number is listed
 abbrev pub fails_next : Shelf → Bool
 fails_next s = list_any (λ n. n == s.calls) s.fails
 
-abbrev pub files_of : Shelf → FilesState
-files_of s = record { held = Some (from_entries s.entries); faults = s.faults; misses = s.misses }
+-- the count after one more call
+abbrev pub counted : ℕ → ℕ
+counted n = min (n + 1) (2 ^ 64 - 1)
+
+abbrev pub store_of : Shelf → Store
+store_of s = from_entries s.entries

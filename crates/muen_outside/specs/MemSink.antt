@@ -1,5 +1,5 @@
 -- A sink in memory as its callers see it.
-use Rattle.std.specs.Prelude.{ℕ, ◌-◌, List, length, Bool, ◌||◌, min, nat_lt, ◌==◌, if◌then◌else◌, Some}
+use Rattle.std.specs.Prelude.{ℕ, ◌-◌, List, length, Bool, ◌||◌, min, nat_lt, ◌==◌, if◌then◌else◌}
 use Rattle.std.specs.List.{list_any}
 use Rattle.muen_outside.specs.States.{SinkState}
 
@@ -11,8 +11,9 @@ pub record Filling : Type 0 where
   pub fails : List ℕ
   -- how many bytes such a call appends at most
   pub keep : ℕ
-  -- how many calls there were
+  -- how many calls there were, up to 2 ^ 64 - 1
   pub calls : ℕ
+  -- how many calls have failed
   pub faults : ℕ
 
 -- the next call's number is listed
@@ -28,4 +29,4 @@ abbrev pub fails_at : Filling → ℕ → Bool
 fails_at s n = fails_next s || nat_lt (taken s n) n
 
 abbrev pub sink_of : Filling → SinkState
-sink_of s = record { written = Some s.text; faults = s.faults }
+sink_of s = record { given = s.text; faults = s.faults }

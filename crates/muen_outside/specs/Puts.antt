@@ -1,23 +1,19 @@
 -- What a put does to a sink.
-use Rattle.std.specs.Prelude.{ℕ, ◌≤◌, List, Option, Result, Ok, Err, length, take}
-use Rattle.std.specs.Io.KnownBytes.{Appends}
-use Rattle.muen_outside.specs.Counts.{Rose}
+use Rattle.std.specs.Prelude.{◌≡◌, ℕ, ◌+◌, ◌≤◌, List, ◌++◌, Result, Ok, Err, length, take}
 use Rattle.muen_outside.specs.States.{SinkState}
 
--- a front of the bytes was appended, where it is told what the sink holds
-abbrev pub AppendedFront : Option (List ℕ) → Option (List ℕ) → List ℕ → Type 0
-AppendedFront old new bytes = (n : ℕ) × (n ≤ length bytes) × Appends old new (take n bytes)
+abbrev pub gave : SinkState → List ℕ → SinkState
+gave s bytes = record { given = s.given ++ bytes; faults = s.faults }
 
--- all the bytes were appended
+-- all the bytes were handed on
 pub record Appended (bytes : List ℕ) (old new : SinkState) : Type 0 where
-  pub text : Appends old.written new.written bytes
-  pub count : old.faults ≤ new.faults
+  pub state : new ≡ gave old bytes
 
--- a front of the bytes was appended, and the sink has counted a fault
+-- a front of the bytes was handed on, and the call has failed
 pub record Failed (bytes : List ℕ) (old new : SinkState) : Type 0 where
-  pub front : AppendedFront old.written new.written bytes
-  pub count : old.faults ≤ new.faults
-  pub rose : Rose old.faults new.faults
+  pub front : ℕ
+  pub fits : front ≤ length bytes
+  pub state : new ≡ record { given = old.given ++ take front bytes; faults = old.faults + 1 }
 
 -- the bytes were put, or only a front of them where it has failed
 abbrev pub Puts : {E : Type 0} → List ℕ → SinkState → SinkState → Result (Unit {0}) E → Type 0

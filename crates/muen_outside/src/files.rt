@@ -1,11 +1,10 @@
-ghost use Rattle.std.specs.Prelude.{◌≡◌, ◌≤◌, ℕ, Option, Some, Err, OnOk, IfOk, IfSome};
+ghost use Rattle.std.specs.Prelude.{◌≡◌, ◌∷◌, [], Option, None, Some, OnOk, IfOk, IfSome};
 ghost use Rattle.std.specs.FinMap as map;
 ghost use Rattle.muen_outside.specs.declared.files.FileError.TheVariants.{NoMemory};
-ghost use Rattle.muen_outside.specs.Counts.{Rose};
-ghost use Rattle.muen_outside.specs.Store.{reading_of, KeepsOthers, insert_known};
-ghost use Rattle.muen_outside.specs.States.{FilesState};
+ghost use Rattle.muen_outside.specs.Store.{Store, reading_of, KeepsOthers, insert_known};
+ghost use Rattle.muen_outside.specs.States.{History, look, looked, write as write_of, written};
 ghost use Rattle.muen_outside.specs.ErrorTexts.{file_error_text};
-ghost use Rattle.muen_outside.specs.Found.{seen, IsMiss, IsWithin};
+ghost use Rattle.muen_outside.specs.Found.{seen, answered, IsPossible};
 
 use muen_num::Seq;
 use std::alloc::{AllocError, Global};
@@ -60,29 +59,27 @@ impl From<AllocError> for FileError {
     }
 }
 
-/// Files under names. Each keeps two counts that never fall and stop at 2^64 - 1: its faults, and
-/// its misses, which are reads that found no file or too long a one.
+/// Files under names. Clauses see each call that was made on them: a look or a write, in a history
+/// that is for them alone, and that code which is generic over files can change by these calls only.
 pub trait Files {
-    /// What they hold, where it is told, and the counts.
-    ghost state: { Self → FilesState };
+    /// The looks and the writes so far.
+    ghost history: { Self → History };
 
-    /// The bytes under the name, if there are no more than `most`. `FileError::Failed` comes only
-    /// where the faults rose, `Missing` and `TooLong` only where the misses rose.
+    /// What they hold, where they tell it.
+    ghost held: { Self → Option Store } = { λ _. None };
+
+    /// The bytes under the name, if there are no more than `most`. It is one look, whatever it
+    /// answers.
     fn read(&mut self, alloc: Global, name: &str, most: usize) -> Result<Found, FileError>
-        ensures held { (state self.new).held ≡ (state self.old).held }
-        ensures faults { (state self.old).faults ≤ (state self.new).faults }
-        ensures misses { (state self.old).misses ≤ (state self.new).misses }
-        ensures told { IfOk result (λ found. IfSome (state self.old).held (λ m. seen found ≡ reading_of (map.get m name.now) most)) }
-        ensures within { IfOk result (IsWithin most) }
-        ensures miss { IfOk result (λ found. IsMiss found → Rose (state self.old).misses (state self.new).misses) }
-        ensures failed { result ≡ Err FileError.Failed → Rose (state self.old).faults (state self.new).faults };
+        ensures history { history self.new ≡ looked (history self.old) (look name.now most (answered result) ∷ []) }
+        ensures possible { IfOk result (λ found. IsPossible most (seen found)) }
+        ensures held { held self.new ≡ held self.old }
+        ensures told { IfOk result (λ found. IfSome (held self.old) (λ m. reading_of (map.get m name.now) most ≡ seen found)) };
 
-    /// Puts the bytes under the name, in place of what stood there. On an error only what stands
-    /// under this name may have changed. `FileError::Failed` comes only where the faults rose.
+    /// Puts the bytes under the name, in place of what stood there. It is one write, however it ends.
+    /// On an error only what stands under this name may have changed.
     fn write(&mut self, alloc: Global, name: &str, bytes: &[u8]) -> Result<(), FileError>
-        ensures faults { (state self.old).faults ≤ (state self.new).faults }
-        ensures misses { (state self.old).misses ≤ (state self.new).misses }
-        ensures ok { OnOk result ((state self.new).held ≡ insert_known (state self.old).held name.now bytes.now) }
-        ensures others { KeepsOthers name.now (state self.old).held (state self.new).held }
-        ensures failed { result ≡ Err FileError.Failed → Rose (state self.old).faults (state self.new).faults };
+        ensures history { history self.new ≡ written (history self.old) (write_of name.now bytes.now result ∷ []) }
+        ensures ok { OnOk result (held self.new ≡ insert_known (held self.old) name.now bytes.now) }
+        ensures others { KeepsOthers name.now (held self.old) (held self.new) };
 }

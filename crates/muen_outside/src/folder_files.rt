@@ -1,57 +1,60 @@
-ghost use Rattle.std.specs.Prelude.{◌≡◌, ◌≢◌, ◌≤◌, ◌+◌, ◌↔◌, Ok, Err, OnOk, IfOk, IfErr, IfSome, IsErrAnd};
-ghost use Rattle.std.specs.FinMap as map;
-ghost use Rattle.std.specs.IoError.{error_kind};
-ghost use Rattle.muen_outside.specs.Counts.{Rose};
-ghost use Rattle.muen_outside.specs.Store.{reading_of, KeepsOthers, insert_known};
-ghost use Rattle.muen_outside.specs.Found.{seen, IsMiss, IsWithin};
-ghost use Rattle.muen_outside.specs.FileCounts.{misses_after, faults_after};
-ghost use Rattle.muen_outside.specs.FolderFiles.{files_of, capped, TakesAtMost, MadeAppends};
+ghost use Rattle.std.specs.Prelude.{◌≡◌, ◌≢◌, ◌+◌, ◌∷◌, [], Ok, Err, IfOk, IfSome};
+ghost use Rattle.muen_outside.specs.Devices.{MakesCall, opening, making};
+ghost use Rattle.muen_outside.specs.Found.{seen, answered, IsPossible};
+ghost use Rattle.muen_outside.specs.States.{look, looked, no_history, write as write_of, written};
+ghost use Rattle.muen_outside.specs.FolderFiles.{capped, TakesAtMost, IsReadOf, IsWriteTo, Reads, Writes};
 
+use crate::device::Device;
+use crate::disk::{Disk, SystemDisk};
 use crate::files::{FileError, Files, Found};
-use crate::sink::SinkFault;
+use crate::history::{Calls, Looked, Start, Wrote};
 use crate::writer_sink::write_through;
 use muen_num::Seq;
 use std::alloc::Global;
-use std::fs::{File, Files as SystemFiles};
+use std::fs::Files as SystemFiles;
 use std::io;
-use std::io::{ErrorKind, Read, Write};
-use std::marker::Model;
+use std::io::{ErrorKind, Read};
+use told::Told;
 
-/// The files of the system: a name is a path from the current folder. It tells nothing of what they
-/// hold. Every error of the system is a fault, also an interrupted call and a folder in place of a
-/// file, but for a file that a read does not find.
+/// The files of a disk. It tells nothing of what they hold. Every error of the system is a fault,
+/// also a folder in place of a file and a write that a signal interrupts, but for a file that a read
+/// does not find, and for a read that a signal interrupts, which is made again.
+///
+/// The history is for clauses alone. That it is what was done is said by each call, which names what
+/// the disk was asked for and what came of it.
 #[derive(Drop)]
-pub struct FolderFiles<R: SystemFiles> {
-    rt: R,
-    faults: u64,
-    misses: u64,
+pub struct FolderFiles<D: Disk> {
+    disk: D,
+    history: Told<Calls>,
 }
 
-impl<R: SystemFiles> Model for FolderFiles<R> {
-    ghost use Rattle.muen_outside.specs.FolderFiles.{FolderCounts};
-
-    ghost Value = { FolderCounts };
-
-    ghost view = { λ s. record { faults = s.faults; misses = s.misses } };
-}
-
-impl<R: SystemFiles> FolderFiles<R> {
-    /// Over this runtime, and counts of 0.
-    pub fn new(rt: R) -> FolderFiles<R>
-        ensures { result ≡ record { faults = 0; misses = 0 } }
+impl<D: Disk> FolderFiles<D> {
+    /// Over this disk; nothing was done.
+    pub fn new(disk: D) -> FolderFiles<D>
+        ensures history { result.history.value ≡ no_history }
+        ensures disk { result.disk ≡ disk }
     {
         FolderFiles {
-            rt,
-            faults: 0,
-            misses: 0,
+            disk,
+            history: Told::of(&Start),
         }
     }
 }
 
-// All the bytes, if there are no more than `most`. It takes one more at most from the reader.
+impl<R: SystemFiles> FolderFiles<SystemDisk<R>> {
+    /// Over the system; nothing was done.
+    pub fn system(rt: R) -> FolderFiles<SystemDisk<R>>
+        ensures { result.history.value ≡ no_history }
+    {
+        FolderFiles::new(SystemDisk::new(rt))
+    }
+}
+
+// All the bytes, if there are no more than `most`. It takes one more at most from the reader, which
+// may give them in any number of pieces.
 #[tactic(auto, using(crate::proofs::ReadSteps::reads))]
 fn read_all<I: Read>(alloc: Global, from: &mut I, most: usize) -> Result<Found, FileError>
-    ensures within { IfOk result (IsWithin most) }
+    ensures possible { IfOk result (λ found. IsPossible most (seen found)) }
     ensures told { IfOk result (λ found. IfSome (I.remaining from.old) (λ all. seen found ≡ capped all most)) }
     ensures opened { result ≢ Ok Found.Missing }
     ensures taken { TakesAtMost (most + 1) (I.remaining from.old) (I.remaining from.new) }
@@ -70,7 +73,11 @@ fn read_all<I: Read>(alloc: Global, from: &mut I, most: usize) -> Result<Found, 
                 }
                 bytes.extend_from_slice(&window[..n])?;
             }
-            Err(_) => return Err(FileError::Failed),
+            Err(e) => {
+                if e.kind() != ErrorKind::Interrupted {
+                    return Err(FileError::Failed);
+                }
+            }
         }
     }
     Err(FileError::Failed)
@@ -82,74 +89,70 @@ fn read_opened<I: Read + Drop>(
     opened: io::Result<I>,
     most: usize,
 ) -> Result<Found, FileError>
-    ensures within { IfOk result (IsWithin most) }
-    ensures told { IfOk opened (λ file. IfOk result (λ found. IfSome (I.remaining file) (λ all. seen found ≡ capped all most))) }
-    ensures missing { (result ≡ Ok Found.Missing) ↔ IsErrAnd opened (λ e. error_kind e ≡ ErrorKind.NotFound) }
-    ensures unopened { IfErr opened (λ e. error_kind e ≢ ErrorKind.NotFound → result ≡ Err FileError.Failed) }
+    ensures possible { IfOk result (λ found. IsPossible most (seen found)) }
+    ensures read { IsReadOf I.remaining opened most result }
 {
     match opened {
         Ok(mut file) => read_all(alloc, &mut file, most),
-        Err(e) => match e.kind() {
-            ErrorKind::NotFound => Ok(Found::Missing),
-            _ => Err(FileError::Failed),
-        },
+        Err(e) => {
+            if e.kind() == ErrorKind::NotFound {
+                return Ok(Found::Missing);
+            }
+            Err(FileError::Failed)
+        }
     }
 }
 
 // Writes the bytes into the file, if it was made.
-fn write_made<W: Write>(made: &mut io::Result<W>, bytes: &[u8]) -> Result<(), SinkFault>
-    ensures { OnOk result (MadeAppends W.contents made.old made.new bytes.now) }
+fn write_made<D: Device>(made: &mut io::Result<D>, bytes: &[u8]) -> Result<(), FileError>
+    ensures { IsWriteTo D.contents D.failed D.is_flushed made.old made.new bytes.now result }
 {
     match made {
-        Ok(file) => write_through(file, bytes),
-        Err(_) => Err(SinkFault),
+        Ok(file) => match write_through(file, bytes) {
+            (_, true) => Ok(()),
+            (_, false) => Err(FileError::Failed),
+        },
+        Err(_) => Err(FileError::Failed),
     }
 }
 
-impl<R: SystemFiles> Files for FolderFiles<R> {
-    ghost state = { files_of };
+impl<D: Disk> Files for FolderFiles<D> {
+    ghost history = { λ s. s.history.value };
 
     fn read(&mut self, alloc: Global, name: &str, most: usize) -> Result<Found, FileError>
-        ensures held { (files_of self.new).held ≡ (files_of self.old).held }
-        ensures faults { self.old.faults ≤ self.new.faults }
-        ensures misses { self.old.misses ≤ self.new.misses }
-        ensures told { IfOk result (λ found. IfSome (files_of self.old).held (λ m. seen found ≡ reading_of (map.get m name.now) most)) }
-        ensures within { IfOk result (IsWithin most) }
-        ensures miss { IfOk result (λ found. IsMiss found → Rose self.old.misses self.new.misses) }
-        ensures failed { result ≡ Err FileError.Failed → Rose self.old.faults self.new.faults }
+        ensures history { self.new.history.value ≡ looked self.old.history.value (look name.now most (answered result) ∷ []) }
+        ensures possible { IfOk result (λ found. IsPossible most (seen found)) }
 
-        // What is counted.
-        ensures missed { self.new.misses ≡ misses_after self.old.misses result }
-        ensures fault { self.new.faults ≡ faults_after self.old.faults result }
+        // What was looked at, by one call on the disk.
+        ensures reads { Reads D.opens D.Opened.remaining self.old.disk name.now most result }
+        ensures call { MakesCall (D.calls self.old.disk) (D.calls self.new.disk) (opening name.now) }
     {
-        let got = read_opened(alloc, File::open(&self.rt, name), most);
-        match &got {
-            Ok(Found::Bytes(_)) | Err(FileError::NoMemory) => {}
-            Ok(_) => self.misses = self.misses.saturating_add(1),
-            Err(FileError::Failed) => self.faults = self.faults.saturating_add(1),
-        }
+        let got = read_opened(alloc, self.disk.open(name), most);
+        self.history = Told::of(&Looked {
+            before: &self.history,
+            name,
+            most,
+            got: &got,
+        });
         got
     }
 
     fn write(&mut self, _alloc: Global, name: &str, bytes: &[u8]) -> Result<(), FileError>
-        ensures faults { self.old.faults ≤ self.new.faults }
-        ensures misses { self.old.misses ≤ self.new.misses }
-        ensures ok { OnOk result ((files_of self.new).held ≡ insert_known (files_of self.old).held name.now bytes.now) }
-        ensures others { KeepsOthers name.now (files_of self.old).held (files_of self.new).held }
-        ensures failed { result ≡ Err FileError.Failed → Rose self.old.faults self.new.faults }
+        ensures history { self.new.history.value ≡ written self.old.history.value (write_of name.now bytes.now result ∷ []) }
 
-        // What is counted. It takes no memory.
-        ensures missed { self.new.misses ≡ self.old.misses }
-        ensures fault { self.new.faults ≡ faults_after self.old.faults result }
+        // What was written to, by one call on the disk. It takes no memory.
+        ensures writes { Writes D.makes D.Made.contents D.Made.failed D.Made.is_flushed self.old.disk name.now bytes.now result }
+        ensures call { MakesCall (D.calls self.old.disk) (D.calls self.new.disk) (making name.now) }
         ensures err { result ≢ Err FileError.NoMemory }
     {
-        let mut made = File::create(&self.rt, name);
-        match write_made(&mut made, bytes) {
-            Ok(()) => Ok(()),
-            Err(SinkFault) => {
-                self.faults = self.faults.saturating_add(1);
-                Err(FileError::Failed)
-            }
-        }
+        let mut made = self.disk.create(name);
+        let end = write_made(&mut made, bytes);
+        self.history = Told::of(&Wrote {
+            before: &self.history,
+            name,
+            bytes,
+            end: &end,
+        });
+        end
     }
 }

@@ -1,27 +1,28 @@
-ghost use Rattle.std.specs.Prelude.{◌≡◌, ◌≤◌, ◌==◌, ◌↔◌, ℕ, List, Err, false, Option, OnOk, OnErr, IfOk, IfSome, IsTrue, string_bytes};
+ghost use Rattle.std.specs.Prelude.{◌≡◌, ◌≢◌, ◌∷◌, [], ◌==◌, ◌↔◌, ℕ, List, Err, Option, Some, OnOk, OnErr, IfOk, IfSome, IsTrue, string_bytes};
 ghost use Rattle.std.specs.List.{list_any};
 ghost use Rattle.std.specs.Option.{option_map};
 ghost use Rattle.std.specs.FinMap as map;
-ghost use Rattle.muen_outside.specs.Counts.{Rose, counted};
 ghost use Rattle.muen_outside.specs.Store.{reading_of, KeepsOthers, insert_known, find_bytes, put_entry};
-ghost use Rattle.muen_outside.specs.Found.{seen, IsMiss, IsWithin};
+ghost use Rattle.muen_outside.specs.Found.{seen, answered, IsPossible};
+ghost use Rattle.muen_outside.specs.States.{look, looked, no_history, write as write_of, written};
 ghost use Rattle.muen_outside.specs.Entries.{entry_list};
-ghost use Rattle.muen_outside.specs.MemFiles.{files_of, fails_next};
-ghost use Rattle.muen_outside.specs.FileCounts.{misses_after};
+ghost use Rattle.muen_outside.specs.MemFiles.{counted, fails_next, store_of};
 
 use crate::files::{FileError, Files, Found};
+use crate::history::{Calls, Looked, Start, Wrote};
 use muen_num::Seq;
 use std::alloc::{AllocError, Global};
 use std::marker::Model;
+use told::Told;
 
-/// Files in memory. They fail at the calls whose numbers are listed, and only there.
-#[derive(Debug, Drop)]
+/// Files in memory, which tell what they hold. They fail at the calls whose numbers are listed, and
+/// only there.
+#[derive(Drop)]
 pub struct MemFiles {
     held: Vec<(String, Vec<u8>)>,
     fails: Vec<u64>,
     calls: u64,
-    faults: u64,
-    misses: u64,
+    history: Told<Calls>,
 }
 
 impl Model for MemFiles {
@@ -31,7 +32,7 @@ impl Model for MemFiles {
 
     ghost use Rattle.muen_outside.specs.Entries.{entry_list};
 
-    ghost view = { λ s. record { entries = entry_list s.held.items; fails = s.fails.items; calls = s.calls; faults = s.faults; misses = s.misses } };
+    ghost view = { λ s. record { entries = entry_list s.held.items; fails = s.fails.items; calls = s.calls; history = s.history.value } };
 }
 
 // Whether the number is in the list.
@@ -72,18 +73,56 @@ fn put_file(
     Ok(())
 }
 
+// A look at the files.
+fn look_up(
+    alloc: Global,
+    files: &[(String, Vec<u8>)],
+    name: &str,
+    most: usize,
+) -> Result<Found, FileError>
+    ensures possible { IfOk result (λ found. IsPossible most (seen found)) }
+    ensures told { IfOk result (λ found. reading_of (find_bytes name.now (entry_list files.now)) most ≡ seen found) }
+    ensures err { result ≢ Err FileError.Failed }
+{
+    match find_file(files, name) {
+        None => Ok(Found::Missing),
+        Some(bytes) => {
+            if bytes.len() > most {
+                return Ok(Found::TooLong(bytes.len() as u64));
+            }
+            Ok(Found::Bytes(Seq::of(Vec::from_slice(alloc, bytes)?)))
+        }
+    }
+}
+
+// Keeps copies of both.
+fn keep(
+    alloc: Global,
+    files: &mut Vec<(String, Vec<u8>)>,
+    name: &str,
+    bytes: &[u8],
+) -> Result<(), FileError>
+    ensures ok { OnOk result (entry_list files.new.items ≡ put_entry name.now bytes.now (entry_list files.old.items)) }
+    ensures err { OnErr result (files.new.items ≡ files.old.items) }
+    ensures memory { result ≢ Err FileError.Failed }
+{
+    let key = String::from_str(alloc, name)?;
+    let bytes = Vec::from_slice(alloc, bytes)?;
+    put_file(files, key, bytes)?;
+    Ok(())
+}
+
 impl MemFiles {
-    /// These files, of which the first counts where two have one name, and counts of 0. The calls
+    /// These files, of which the first counts where two have one name; no call was made. The calls
     /// whose numbers, from 0, are in `fails` fail.
     pub fn make(held: Vec<(String, Vec<u8>)>, fails: Vec<u64>) -> MemFiles
-        ensures { result ≡ record { entries = entry_list held.items; fails = fails.items; calls = 0; faults = 0; misses = 0 } }
+        ensures { result ≡ record { entries = entry_list held.items; fails = fails.items; calls = 0; history = no_history } }
     {
         MemFiles {
             held,
             fails,
             calls: 0,
-            faults: 0,
-            misses: 0,
+            history: Told::of(&Start),
         }
     }
 
@@ -92,7 +131,7 @@ impl MemFiles {
     #[tactic(auto, using(crate::proofs::HeldMap::held_map))]
     pub fn get(&self, name: &str) -> Option<&[u8]>
         ensures entries { option_map (λ s. s.now) result ≡ find_bytes name.now self.now.entries }
-        ensures held { IfSome (files_of self.now).held (λ m. option_map (λ s. s.now) result ≡ map.get m name.now) }
+        ensures held { option_map (λ s. s.now) result ≡ map.get (store_of self.now) name.now }
     {
         Some(find_file(&self.held, name)?)
     }
@@ -100,85 +139,68 @@ impl MemFiles {
     // Whether this call is to fail; counts it.
     fn begin(&mut self) -> bool
         ensures listed { result ≡ fails_next self.old }
-        ensures entries { self.new.entries ≡ self.old.entries }
-        ensures fails { self.new.fails ≡ self.old.fails }
         ensures calls { self.new.calls ≡ counted self.old.calls }
-        ensures misses { self.new.misses ≡ self.old.misses }
-        ensures quiet { result ≡ false → self.new.faults ≡ self.old.faults }
-        ensures fault { IsTrue result → self.new.faults ≡ counted self.old.faults }
-        ensures count { self.old.faults ≤ self.new.faults }
+        ensures same { (self.new.entries ≡ self.old.entries) × (self.new.fails ≡ self.old.fails) × (self.new.history ≡ self.old.history) }
     {
         let listed = is_listed(&self.fails, self.calls);
         self.calls = self.calls.saturating_add(1);
-        if listed {
-            self.faults = self.faults.saturating_add(1);
-        }
         listed
     }
 }
 
 impl Files for MemFiles {
-    ghost state = { files_of };
+    ghost history = { λ s. s.history };
+
+    ghost held = { λ s. Some (store_of s) };
 
     #[tactic(auto, using(crate::proofs::HeldMap::held_map))]
     fn read(&mut self, alloc: Global, name: &str, most: usize) -> Result<Found, FileError>
-        ensures held { (files_of self.new).held ≡ (files_of self.old).held }
-        ensures faults { self.old.faults ≤ self.new.faults }
-        ensures misses { self.old.misses ≤ self.new.misses }
-        ensures told { IfOk result (λ found. IfSome (files_of self.old).held (λ m. seen found ≡ reading_of (map.get m name.now) most)) }
-        ensures within { IfOk result (IsWithin most) }
-        ensures miss { IfOk result (λ found. IsMiss found → Rose self.old.misses self.new.misses) }
-        ensures failed { result ≡ Err FileError.Failed → Rose self.old.faults self.new.faults }
+        ensures history { self.new.history ≡ looked self.old.history (look name.now most (answered result) ∷ []) }
+        ensures possible { IfOk result (λ found. IsPossible most (seen found)) }
+        ensures told { IfOk result (λ found. reading_of (map.get (store_of self.old) name.now) most ≡ seen found) }
 
         // Which calls fail, what is counted, and what stays.
         ensures fails { (result ≡ Err FileError.Failed) ↔ IsTrue (fails_next self.old) }
-        ensures fault { IsTrue (fails_next self.old) → self.new.faults ≡ counted self.old.faults }
-        ensures quiet { fails_next self.old ≡ false → self.new.faults ≡ self.old.faults }
-        ensures missed { self.new.misses ≡ misses_after self.old.misses result }
         ensures calls { self.new.calls ≡ counted self.old.calls }
         ensures same { (self.new.entries ≡ self.old.entries) × (self.new.fails ≡ self.old.fails) }
     {
-        if self.begin() {
-            return Err(FileError::Failed);
-        }
-        match find_file(&self.held, name) {
-            None => {
-                self.misses = self.misses.saturating_add(1);
-                Ok(Found::Missing)
-            }
-            Some(bytes) => {
-                if bytes.len() > most {
-                    let len = bytes.len() as u64;
-                    self.misses = self.misses.saturating_add(1);
-                    return Ok(Found::TooLong(len));
-                }
-                Ok(Found::Bytes(Seq::of(Vec::from_slice(alloc, bytes)?)))
-            }
-        }
+        let got = if self.begin() {
+            Err(FileError::Failed)
+        } else {
+            look_up(alloc, &self.held, name, most)
+        };
+        self.history = Told::of(&Looked {
+            before: &self.history,
+            name,
+            most,
+            got: &got,
+        });
+        got
     }
 
     #[tactic(auto, using(crate::proofs::HeldMap::held_map))]
     fn write(&mut self, alloc: Global, name: &str, bytes: &[u8]) -> Result<(), FileError>
-        ensures faults { self.old.faults ≤ self.new.faults }
-        ensures misses { self.old.misses ≤ self.new.misses }
-        ensures ok { OnOk result ((files_of self.new).held ≡ insert_known (files_of self.old).held name.now bytes.now) }
-        ensures others { KeepsOthers name.now (files_of self.old).held (files_of self.new).held }
-        ensures failed { result ≡ Err FileError.Failed → Rose self.old.faults self.new.faults }
+        ensures history { self.new.history ≡ written self.old.history (write_of name.now bytes.now result ∷ []) }
+        ensures ok { OnOk result (Some (store_of self.new) ≡ insert_known (Some (store_of self.old)) name.now bytes.now) }
+        ensures others { KeepsOthers name.now (Some (store_of self.old)) (Some (store_of self.new)) }
 
         // Which calls fail, what is counted, and what stays.
         ensures fails { (result ≡ Err FileError.Failed) ↔ IsTrue (fails_next self.old) }
-        ensures fault { IsTrue (fails_next self.old) → self.new.faults ≡ counted self.old.faults }
-        ensures quiet { fails_next self.old ≡ false → self.new.faults ≡ self.old.faults }
         ensures err { OnErr result (self.new.entries ≡ self.old.entries) }
         ensures calls { self.new.calls ≡ counted self.old.calls }
-        ensures same { (self.new.misses ≡ self.old.misses) × (self.new.fails ≡ self.old.fails) }
+        ensures same { self.new.fails ≡ self.old.fails }
     {
-        if self.begin() {
-            return Err(FileError::Failed);
-        }
-        let key = String::from_str(alloc, name)?;
-        let bytes = Vec::from_slice(alloc, bytes)?;
-        put_file(&mut self.held, key, bytes)?;
-        Ok(())
+        let end = if self.begin() {
+            Err(FileError::Failed)
+        } else {
+            keep(alloc, &mut self.held, name, bytes)
+        };
+        self.history = Told::of(&Wrote {
+            before: &self.history,
+            name,
+            bytes,
+            end: &end,
+        });
+        end
     }
 }

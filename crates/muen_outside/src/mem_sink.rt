@@ -1,5 +1,5 @@
 ghost use Rattle.std.specs.Prelude.{◌≡◌, ◌+◌, ◌≤◌, ◌<◌, ◌++◌, ◌-◌, ◌↔◌, [], take, length, false, OnOk, OnErr, IfOk, IsErr, IsTrue, vec_len, vec_capacity, min};
-ghost use Rattle.muen_outside.specs.Counts.{counted};
+ghost use Rattle.muen_outside.specs.MemFiles.{counted};
 ghost use Rattle.muen_outside.specs.Puts.{Puts};
 ghost use Rattle.muen_outside.specs.MemSink.{taken, fails_at, fails_next, sink_of};
 
@@ -8,17 +8,51 @@ use crate::sink::{Sink, SinkFault};
 use muen_num::NoMemory;
 use std::alloc::Global;
 use std::marker::Model;
+use told::{Tells, Told};
+
+// A count, in clauses alone: no value of this type is made.
+struct Count {
+    none: (),
+}
+
+impl Model for Count {
+    ghost use Rattle.std.specs.Prelude.{ℕ};
+
+    ghost Value = { ℕ };
+
+    ghost view = { λ _. 0 };
+}
+
+// None was counted.
+#[derive(Drop)]
+struct Start;
+
+impl Tells<Count> for Start {
+    ghost tells = { λ _. 0 };
+}
+
+// One more was counted.
+#[derive(Drop)]
+struct OneMore<'a> {
+    before: &'a Told<Count>,
+}
+
+impl Tells<Count> for OneMore<'_> {
+    ghost use Rattle.std.specs.Prelude.{◌+◌};
+
+    ghost tells = { λ m. m.before.now.value + 1 };
+}
 
 /// A sink in memory, whose room is made before. It fails at the calls whose numbers are listed, and
 /// at those whose bytes don't fit.
-#[derive(Debug, Drop)]
+#[derive(Drop)]
 pub struct MemSink {
     text: Vec<u8>,
     room: usize,
     fails: Vec<u64>,
     keep: usize,
     calls: u64,
-    faults: u64,
+    faults: Told<Count>,
 }
 
 impl Model for MemSink {
@@ -27,13 +61,13 @@ impl Model for MemSink {
 
     ghost Value = { Filling };
 
-    ghost view = { λ s. record { text = s.text.items; room = s.room; fails = s.fails.items; keep = s.keep; calls = s.calls; faults = s.faults } };
+    ghost view = { λ s. record { text = s.text.items; room = s.room; fails = s.fails.items; keep = s.keep; calls = s.calls; faults = s.faults.value } };
 
     ghost invariant = { λ s. (s.room ≤ vec_capacity s.text) × (vec_len s.text ≤ s.room) };
 }
 
 impl MemSink {
-    /// Empty, with room for `room` bytes made, and a count of 0. The calls whose numbers, from 0, are
+    /// Empty, with room for `room` bytes made; no call was made. The calls whose numbers, from 0, are
     /// in `fails` fail, and append the first `keep` of their bytes, as far as there are so many and
     /// they fit. A call that is not listed and whose bytes don't fit fails and fills the room.
     pub fn make(
@@ -51,7 +85,7 @@ impl MemSink {
             fails,
             keep,
             calls: 0,
-            faults: 0,
+            faults: Told::of(&Start),
         })
     }
 
@@ -88,7 +122,6 @@ fn append_front(text: &mut Vec<u8>, room: usize, bytes: &[u8], most: usize) -> u
 impl Sink for MemSink {
     ghost state = { sink_of };
 
-    #[tactic(auto, using(crate::proofs::Puts::writes))]
     fn put(&mut self, bytes: &[u8]) -> Result<(), SinkFault>
         ensures puts { Puts bytes.now (sink_of self.old) (sink_of self.new) result }
 
@@ -99,7 +132,7 @@ impl Sink for MemSink {
 
         // What it counts, and what stays.
         ensures calls { self.new.calls ≡ counted self.old.calls }
-        ensures fault { OnErr result (self.new.faults ≡ counted self.old.faults) }
+        ensures fault { OnErr result (self.new.faults ≡ self.old.faults + 1) }
         ensures quiet { OnOk result (self.new.faults ≡ self.old.faults) }
         ensures same { (self.new.room ≡ self.old.room) × (self.new.fails ≡ self.old.fails) × (self.new.keep ≡ self.old.keep) }
     {
@@ -108,7 +141,9 @@ impl Sink for MemSink {
         let most = if listed { self.keep } else { bytes.len() };
         let n = append_front(&mut self.text, self.room, bytes, most);
         if listed || n < bytes.len() {
-            self.faults = self.faults.saturating_add(1);
+            self.faults = Told::of(&OneMore {
+                before: &self.faults,
+            });
             return Err(SinkFault);
         }
         Ok(())

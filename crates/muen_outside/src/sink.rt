@@ -29,14 +29,14 @@ impl fmt::Display for SinkFault {
     }
 }
 
-/// Takes bytes, each after the other. It keeps a count of its faults, which never falls and stops
-/// at 2^64 - 1.
+/// Takes bytes, each after the other. Clauses see what it has handed on; its value is for them
+/// alone, and code that is generic over a sink can change it by puts only.
 pub trait Sink {
-    /// What it has taken, where it is told, and the count.
+    /// The bytes that it has handed on, and how many calls have failed.
     ghost state: { Self → SinkState };
 
-    /// Appends the bytes. Where it fails it has appended a front of them, maybe all or none, and
-    /// its count rose. No call takes memory.
+    /// Hands on the bytes. Where it fails it has handed on a front of them, maybe all or none. No
+    /// call takes memory.
     fn put(&mut self, bytes: &[u8]) -> Result<(), SinkFault>
         ensures { Puts bytes.now (state self.old) (state self.new) result };
 }

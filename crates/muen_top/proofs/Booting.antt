@@ -40,7 +40,7 @@ use Rattle.muen_top.specs.Asked.{Asks, AsksBoth, AsksInputs, IsAtMost}
 use Rattle.muen_top.specs.Calls.{StopsFor}
 use Rattle.muen_top.specs.Commands.{boot}
 use Rattle.muen_top.specs.FilesSeen.{OverLooks, Saw, SawAfter}
-use Rattle.muen_top.specs.Loads.{IsReadBack, IsReadOf, NotMade, refused, unmade, NotRead, NotReadAfter, policy_looks}
+use Rattle.muen_top.specs.Loads.{IsReadOf, NotMade, refused, unmade, NotRead, NotReadAfter, policy_looks}
 use Rattle.muen_top.specs.PolicyCommands.{HasRead, IsAnswered, StopsCommand}
 use Rattle.muen_top.specs.Runs.{OnlyMemory}
 use Rattle.muen_top.specs.CommandErrors.{error_of_build, error_of_image_fault, error_of_record_fault}
@@ -61,12 +61,12 @@ unread_so i (Bad at field) error h made = absurd (cc (h))
 unread_so i (Trailing at) error h made = absurd (cc (h))
 
 module _ (policy document : List ℕ) (p : Source) (looks : List Look) (bytes : List ℕ) (built : WithDocument policy document looks (λ files. IsImageFor p files bytes)) where
-  pub back_so : (result : Result Image CommandError) → ((i : Image) → IsImage bytes i → IsReadOf i result) → IfOk result (λ i. WithDocument policy document looks (λ files. IsReadBack p files i))
+  pub back_so : (result : Result Image CommandError) → ((i : Image) → IsImage bytes i → IsReadOf i result) → IfOk result (λ i. WithDocument policy document looks (λ files. IsSound p files i))
   back_so (Ok j) only =
       λ files s.
       let b = built files s in
       let same = only b.parts b.image in
-      record { bytes = bytes; image = subst (IsImage bytes) same b.image; sound = subst (IsSound p (insert files policy document)) same b.sound }
+      subst (IsSound p (insert files policy document)) same b.sound
   back_so (Err error) only = tt
 
   pub not_back : (result : Result Image CommandError) → ((i : Image) → IsImage bytes i → IsReadOf i result) → IfErr result (λ error. WithDocument policy document looks (λ files. OnlyMemory error))
@@ -158,12 +158,12 @@ module _ (policy name : List ℕ) (held held' : Option Store) (old between : His
         let there = explained (looks_of found) looked.single in
         record { looks = both; saw = saw_both; asked = asks_all (looks_of found) asked; says = only_memory error (h there.0 there.1) }
 
-    module _ (p : Source) (accepts : Accepts policy (looks_of found) document p) (i : Image) (back : WithDocument policy document (looks_of found) (λ files. IsReadBack p files i)) (held'' : Option Store) (same_mid : held'' ≡ held') (new : History) where
+    module _ (p : Source) (accepts : Accepts policy (looks_of found) document p) (i : Image) (back : WithDocument policy document (looks_of found) (λ files. IsSound p files i)) (held'' : Option Store) (same_mid : held'' ≡ held') (new : History) where
       accepted : OverLooks both (λ m. accepted_policy_of m document ≡ Ok p)
       accepted = shown_so (looks_of found) (Ok p) accepts
 
-      back_so_far : OverLooks both (λ m. IsReadBack p m i)
-      back_so_far m s = subst (λ k. IsReadBack p k i) (with_document m policy document s.0) (back m s.1)
+      back_so_far : OverLooks both (λ m. IsSound p m i)
+      back_so_far m s = subst (λ k. IsSound p k i) (with_document m policy document s.0) (back m s.1)
 
       next : Store → List ℕ → Answer
       next m text = trace_answer m p (record_of text (devices_of p))
@@ -209,7 +209,7 @@ module _ (policy name : List ℕ) (held held' : Option Store) (old between : His
 
       module _ (text : List ℕ) (after : After (Ok (whole text))) where
         -- what comes of it
-        by_record : (Says : List Look → Type 0) → ((looks : List Look) → OverLooks looks (λ m. IsReadBack p m i × (boot_answer m policy name ≡ trace_answer m p (record_of text (devices_of p)))) → Says looks) → HasRead (boot policy name) held old new Says
+        by_record : (Says : List Look → Type 0) → ((looks : List Look) → OverLooks looks (λ m. IsSound p m i × (boot_answer m policy name ≡ trace_answer m p (record_of text (devices_of p)))) → Says looks) → HasRead (boot policy name) held old new Says
         unfolding next
         by_record Says makes =
             let s = seen (Ok (whole text)) after in
@@ -220,11 +220,11 @@ module _ (policy name : List ℕ) (held held' : Option Store) (old between : His
               says = makes (both ++ s.more) (λ m shows. (back_so_far m (s.shows m shows).0, by_both m (whole text) (s.shows m shows).0 (s.shows m shows).1));
             }
 
-        same_bench : (m : Store) → IsReadBack p m i → image_bench i ≡ devices_of p
-        same_bench m b = image_bench_is p m b.bytes i b.image b.sound
+        same_bench : (m : Store) → IsSound p m i → image_bench i ≡ devices_of p
+        same_bench m b = image_bench_is p m i b
 
         refused_says : (fault : RecordFault) → Answers NoMemoryForRecord (mapped (image_record i) (record_of text (image_bench i))) (Err fault) → (error : CommandError) → error ≡ error_of_record_fault fault → (looks : List Look)
-            → OverLooks looks (λ m. IsReadBack p m i × (boot_answer m policy name ≡ trace_answer m p (record_of text (devices_of p)))) → StopsFor (λ m. boot_answer m policy name) looks [] error
+            → OverLooks looks (λ m. IsSound p m i × (boot_answer m policy name ≡ trace_answer m p (record_of text (devices_of p)))) → StopsFor (λ m. boot_answer m policy name) looks [] error
         refused_says fault (inl is) error made looks goes = stops_record (λ m. boot_answer m policy name) looks fault error (inl is) made
         refused_says fault (inr read) error made looks goes =
             stops_record (λ m. boot_answer m policy name) looks fault error
@@ -235,13 +235,13 @@ module _ (policy name : List ℕ) (held held' : Option Store) (old between : His
         pub record_refused_so : (fault : RecordFault) (error : CommandError) → Answers NoMemoryForRecord (mapped (image_record i) (record_of text (image_bench i))) (Err fault) → error ≡ error_of_record_fault fault → StopsCommand (boot policy name) held old new error
         record_refused_so fault error h made = by_record (λ looks. StopsFor (λ m. boot_answer m policy name) looks [] error) (refused_says fault h error made)
 
-        printed_so : (input : Record) → mapped (image_record i) (record_of text (image_bench i)) ≡ Ok input → (m : Store) → IsReadBack p m i → boot_answer m policy name ≡ trace_answer m p (record_of text (devices_of p)) → boot_answer m policy name ≡ prints (image_text i input)
+        printed_so : (input : Record) → mapped (image_record i) (record_of text (image_bench i)) ≡ Ok input → (m : Store) → IsSound p m i → boot_answer m policy name ≡ trace_answer m p (record_of text (devices_of p)) → boot_answer m policy name ≡ prints (image_text i input)
         printed_so input read m b goes =
             let named = mapped_ok (image_record i) (record_of text (image_bench i)) input read in
             let says : record_of text (devices_of p) ≡ Ok named.0 = ap (record_of text) (sym (same_bench m b)) ∙ named.1 in
             goes
             ∙ (ap (trace_answer m p) says
-            ∙ (ap prints (sym (image_runs p m b.bytes i text named.0 b.image b.sound says))
+            ∙ (ap prints (sym (image_runs p m i text named.0 b says))
             ∙ ap (λ r. prints (image_text i r)) named.2))
 
         -- both are read

@@ -36,9 +36,9 @@ module _ (m : Store) (name inputs : List ℕ) (p : Source) (r : DeviceRecord) (s
         ap (of_file name (λ bytes. unpacked_answer m inputs (unpacked image_form bytes))) h.read
         ∙ (ap (unpacked_answer m inputs) (ap (unpacked image_form) h.image.bytes_are ∙ back image_form image_laws h.parts h.image.parts)
         ∙ (ap (of_file inputs (λ bytes. named_answer h.parts (record_of bytes (image_bench h.parts)))) says.read
-        ∙ (ap (λ b. named_answer h.parts (record_of says.text b)) (image_bench_is p files h.bytes h.parts h.image h.sound)
+        ∙ (ap (λ b. named_answer h.parts (record_of says.text b)) (image_bench_is p files h.parts h.sound)
         ∙ (ap (named_answer h.parts) says.says
-        ∙ ap prints (image_runs p files h.bytes h.parts says.text r h.image h.sound says.says)))))
+        ∙ ap prints (image_runs p files h.parts says.text r h.sound says.says)))))
 
     -- .. and of one that `build` has written
     pub built_prints : HoldsBuilt m name p files → answer_of m (Some (run name inputs)) ≡ prints (trace_of p files r)

@@ -3,7 +3,6 @@ use Rattle.std.specs.Prelude.{◌≡◌, ℕ, List, [], ◌∷◌, Option, Some,
 use Rattle.std.specs.List.{All}
 use Rattle.std.specs.FinMap.{insert}
 use Rattle.image_soundness.specs.Sound.{IsSound}
-use Rattle.image_pack.specs.Parts.{IsImage}
 use Rattle.image_pack.specs.declared.parts.Image.{Image}
 use Rattle.muen_build.specs.Accepting.{Accepts, FailsWith, Files, WithDocument, looks_of}
 use Rattle.muen_build.specs.Looks.{IsAsked, Looked, document_look}
@@ -49,25 +48,19 @@ abbrev pub IsReadOf : Image → Result Image CommandError → Type 0
 IsReadOf i (Ok j) = i ≡ j
 IsReadOf i (Err error) = OnlyMemory error
 
--- the bytes of an image of these parts, which is sound for this policy over files that hold this
-pub record IsReadBack (p : Source) (files : Store) (i : Image) : Type 0 where
-  pub bytes : List ℕ
-  pub image : IsImage bytes i
-  pub sound : IsSound p files i
-
 -- ---- what a policy's document gives, after the look at it
 
 -- the looks that read a document and these component files
 abbrev pub policy_looks : List ℕ → List ℕ → Files → List Look
 policy_looks policy document found = document_look policy document ∷ looks_of found
 
--- the files that its contents name, and its image, read again
+-- the files that its contents name, and the parts of its image, which are sound over whatever files agree with the looks
 pub record IsMade (policy document : List ℕ) (held : Option Store) (old new : History) (found : Files) (i : Image) : Type 0 where
   pub source : Source
   pub looked : Looked policy held old new (looks_of found)
   pub asked : All (IsAsked document) (looks_of found)
   pub accepts : Accepts policy (looks_of found) document source
-  pub back : WithDocument policy document (looks_of found) (λ files. IsReadBack source files i)
+  pub back : WithDocument policy document (looks_of found) (λ files. IsSound source files i)
 
 -- why it gives none: the policy isn't accepted, or memory was refused for the image
 pub data NotMade (policy document : List ℕ) (held : Option Store) (old new : History) (error : CommandError) : Type 0 where

@@ -1,6 +1,7 @@
 // The command `boot`: a policy and a record are read, and the run of the policy's image is printed. The
 // image is written in memory, as `build` writes it, and is read again and run as `run` does it.
 ghost use Rattle.std.specs.Prelude.{◌≡◌, Some, Ok, IfOk, IfErr};
+ghost use Rattle.image_soundness.specs.Sound.{IsSound};
 ghost use Rattle.image_pack.specs.Parts.{IsImage};
 ghost use Rattle.image_pack.specs.declared.parts.Image.{Image};
 ghost use Rattle.kernel_core.specs.Ticks.{CanRun};
@@ -14,7 +15,7 @@ ghost use Rattle.muen_top.specs.Answers.{prints};
 ghost use Rattle.muen_top.specs.Calls.{ComesOfCommand};
 ghost use Rattle.muen_top.specs.Commands.{boot as boot_command};
 ghost use Rattle.muen_top.specs.FilesSeen.{SawAfter};
-ghost use Rattle.muen_top.specs.Loads.{IsMade, IsReadBack, IsReadOf, NotMade, NotReadAfter, policy_looks};
+ghost use Rattle.muen_top.specs.Loads.{IsMade, IsReadOf, NotMade, NotReadAfter, policy_looks};
 ghost use Rattle.muen_top.specs.PolicyCommands.{IsAnswered, StopsCommand};
 ghost use Rattle.muen_top.specs.Runs.{OnlyMemory};
 
@@ -48,7 +49,7 @@ fn parts_of<'a>(
 ) -> Result<Parts, CommandError<'a>>
     requires lawful { lawful_policy_of document.now ≡ Ok (source_of placed.now.expanded.lawful) }
     requires accepts { Accepts name.now (looks_of found.now) document.now (source_of placed.now.expanded.lawful) }
-    ensures ok { IfOk result (λ i. WithDocument name.now document.now (looks_of found.now) (λ files. IsReadBack (source_of placed.now.expanded.lawful) files i)) }
+    ensures ok { IfOk result (λ i. WithDocument name.now document.now (looks_of found.now) (λ files. IsSound (source_of placed.now.expanded.lawful) files i)) }
     ensures err { IfErr result (λ error. WithDocument name.now document.now (looks_of found.now) (λ files. OnlyMemory error)) }
 {
     let bytes = image(alloc, name, document, placed, found)?;

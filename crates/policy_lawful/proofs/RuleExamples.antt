@@ -8,7 +8,8 @@ use Rattle.policy_lawful.specs.Offences.{alone, two}
 use Rattle.policy_lawful.specs.Rules.{offence_1, offence_5, offence_8, offence_16, offence_17, first_overlap, window_extents}
 use Rattle.policy_lawful.specs.MoreRules.{offence_6, offence_9, offence_10, offence_11, offence_12, offence_13, offence_14, offence_15, offence_19}
 use Rattle.policy_meaning.specs.Windows.{windows_of}
-use Rattle.policy_types.specs.Rights.{has}
+use Rattle.policy_types.specs.declared.rights.Rights.{Rights}
+use Rattle.policy_types.specs.declared.rights.Rights.TheVariants.{R, Rw}
 use Rattle.policy_types.specs.declared.rights.Role.{Role}
 use Rattle.policy_types.specs.declared.rights.Role.TheVariants.{Writer, Reader}
 use Rattle.policy_types.specs.declared.rights.Caching.TheVariants.{Wb}
@@ -55,8 +56,8 @@ subject name = record {
   monitors = [];
 }
 
-abbrev maps : List ℕ → ℕ → ℕ → Mapping
-maps region address rights = record { region = region; virtual_address = address; rights = record { 0 = rights } }
+abbrev maps : List ℕ → ℕ → Rights → Mapping
+maps region address rights = record { region = region; virtual_address = address; rights = rights }
 
 abbrev region : List ℕ → Option ℕ → Region
 region name address =
@@ -72,13 +73,13 @@ unfolding offence_1
 repeated_block = refl
 
 -- of the pairs with the least later window, the one with the least earlier
-first_two_windows : offence_5 (record nothing { memory = region (codes "r") None ∷ region (codes "s") None ∷ []; subjects = record (subject (codes "one")) { memory = maps (codes "r") 8192 1 ∷ maps (codes "s") 4096 1 ∷ maps (codes "r") 4097 1 ∷ maps (codes "s") 8192 1 ∷ [] } ∷ [] }) ≡ Some (two (codes "r") (codes "r"))
+first_two_windows : offence_5 (record nothing { memory = region (codes "r") None ∷ region (codes "s") None ∷ []; subjects = record (subject (codes "one")) { memory = maps (codes "r") 8192 R ∷ maps (codes "s") 4096 R ∷ maps (codes "r") 4097 R ∷ maps (codes "s") 8192 R ∷ [] } ∷ [] }) ≡ Some (two (codes "r") (codes "r"))
 unfolding offence_5 first_overlap window_extents windows_of
 first_two_windows = refl
 
 -- the first subject other than the writer stands before it
-reader_before_writer : offence_8 (record nothing { memory = region (codes "r") None ∷ []; subjects = record (subject (codes "a")) { memory = maps (codes "r") 0 1 ∷ [] } ∷ record (subject (codes "b")) { memory = maps (codes "r") 0 3 ∷ [] } ∷ [] }) ≡ Some (two (codes "r") (codes "a"))
-unfolding offence_8 has windows_of
+reader_before_writer : offence_8 (record nothing { memory = region (codes "r") None ∷ []; subjects = record (subject (codes "a")) { memory = maps (codes "r") 0 R ∷ [] } ∷ record (subject (codes "b")) { memory = maps (codes "r") 0 Rw ∷ [] } ∷ [] }) ≡ Some (two (codes "r") (codes "a"))
+unfolding offence_8 windows_of
 reader_before_writer = refl
 
 -- ---- channels and events

@@ -10,9 +10,7 @@ use Rattle.policy_lawful.specs.Offences.{alone, two}
 use Rattle.policy_lawful.specs.Rules.{are_apart, at_most, is_declared, is_page_aligned, repeated, subject_cpu, is_on}
 use Rattle.policy_lawful.specs.declared.offence.Extent.{Extent}
 use Rattle.policy_lawful.specs.declared.offence.Offence.{Offence}
-use Rattle.policy_types.specs.Rights.{has}
-use Rattle.policy_types.specs.declared.rights.Rights.{Rights}
-use Rattle.policy_types.specs.declared.rights.TheConstants.Rights.{EXECUTE}
+use Rattle.policy_types.specs.Rights.{may_execute}
 use Rattle.policy_types.specs.declared.source.Bdf.{Bdf}
 use Rattle.policy_types.specs.declared.source.Mapping.{Mapping}
 use Rattle.policy_types.specs.declared.source.Monitor.{Monitor}
@@ -82,17 +80,13 @@ domain_extent p m = record { name = m.region; address = m.virtual_address; size 
 abbrev pub domain_overlap : List ℕ → Extent → Extent → Option Offence
 domain_overlap by a b = unless (are_apart a b) (two by b.name)
 
--- no right to execute: devices read and write
-abbrev pub is_dma_right : Rights → Bool
-is_dma_right rights = not (has rights EXECUTE)
-
 unfoldable pub offence_22 : Source → Option Offence
 offence_22 p =
     first_of (
     each_window p (λ by m. unless (is_declared (map (λ r. r.name) p.memory) m.region) (two by m.region))
     ∷ each_window p (λ by m. unless (is_page_aligned m.virtual_address) (two by m.region))
     ∷ each_window p (λ by m. unless (nat_le (m.virtual_address + region_size p m.region) GUEST_END) (two by m.region))
-    ∷ each_window p (λ by m. unless (is_dma_right m.rights) (two by m.region))
+    ∷ each_window p (λ by m. unless (not (may_execute m.rights)) (two by m.region))
     ∷ first_in (λ d. first_pair (domain_overlap d.name) (map (domain_extent p) d.memory)) p.device_domains
     ∷ []
     )
@@ -112,7 +106,7 @@ is_monitor p s before m =
     not (bytes_eq m.subject s.name)
     && is_on (subject_cpu p m.subject) s.cpu
     && not (list_any (λ b. bytes_eq b.subject m.subject) before)
-    && not (has m.rights EXECUTE)
+    && not (may_execute m.rights)
 
 abbrev pub monitor_offence : Source → Subject → Option Offence
 monitor_offence p s = first_after (λ before m. unless (is_monitor p s before m) (two s.name m.subject)) [] s.monitors

@@ -5,7 +5,6 @@ use Rattle.policy_lawful.specs.MoreRules.{offence_6, offence_7, offence_9, offen
 use Rattle.policy_lawful.specs.Rules.{offence_1, offence_2, offence_3, offence_4, offence_5, offence_8, offence_16, offence_17, offence_18, offence_20}
 use Rattle.muen_num.specs.Search.{first_of}
 use Rattle.policy_lawful.specs.Offences.{broken}
-use Rattle.policy_lawful.specs.Resolution.{Resolution, source_of}
 use Rattle.policy_types.specs.declared.refusal.Refusal.{Refusal}
 use Rattle.policy_types.specs.declared.source.Source.{Source}
 
@@ -73,8 +72,3 @@ pub record IsLawful (p : Source) : Type 0 where
 abbrev pub kept_or : Source → Option Refusal → Result Source Refusal
 kept_or p None = Ok p
 kept_or p (Some refusal) = Err refusal
-
--- what a call that resolves or checks has kept, as a source policy
-abbrev pub kept_source : Result Resolution Refusal → Result Source Refusal
-kept_source (Ok r) = Ok (source_of r)
-kept_source (Err refusal) = Err refusal

@@ -11,10 +11,10 @@ use Rattle.muen_num.specs.Search.{first_of, first_in, first_after, unless}
 use Rattle.policy_lawful.specs.Offences.{alone, two}
 use Rattle.policy_lawful.specs.Rules.{are_apart}
 use Rattle.policy_meaning.specs.Thing.{component_by}
-use Rattle.policy_meaning.specs.Events.{ChannelEnd, channel_ends}
+use Rattle.policy_meaning.specs.Events.{ChannelEnd, channel_ends, traps_of}
 use Rattle.policy_lawful.specs.declared.offence.Extent.{Extent}
 use Rattle.policy_lawful.specs.declared.offence.Offence.{Offence}
-use Rattle.policy_types.specs.Rights.{has}
+use Rattle.policy_types.specs.Rights.{includes}
 use Rattle.policy_types.specs.declared.rights.Rights.{Rights}
 use Rattle.policy_types.specs.declared.rights.Role.{Role}
 use Rattle.policy_types.specs.declared.rights.Role.TheVariants.{Writer, Reader}
@@ -88,7 +88,7 @@ entries_for used logical = filter (λ e. bytes_eq e.logical logical) used.map
 -- no more rights than these
 abbrev pub are_within : Rights → Option Rights → Bool
 are_within most None = true
-are_within most (Some rights) = has most rights
+are_within most (Some rights) = includes most rights
 
 abbrev pub is_memory_mapped : Source → ComponentUse → Required → Bool
 is_memory_mapped p used x =
@@ -205,10 +205,6 @@ abbrev pub call_number : SourceWay → Option ℕ
 call_number (Call n) = Some n
 call_number (Trap n) = None
 
-abbrev pub trap_reason : SourceWay → Option ℕ
-trap_reason (Call n) = None
-trap_reason (Trap n) = Some n
-
 abbrev pub calls_of : Source → Subject → List ℕ
 calls_of p s = filter_map (λ e. call_number e.way) s.sources ++ filter_map (λ e. e.call) (channel_ends p s)
 
@@ -217,7 +213,7 @@ are_numbers ns = list_all (λ n. nat_lt n MOST_CALLS) ns && are_distinct ns
 
 unfoldable pub offence_14 : Source → Option Offence
 offence_14 p =
-    first_in (λ s. unless (are_numbers (calls_of p s) && are_numbers (filter_map (λ e. trap_reason e.way) s.sources)) (alone s.name)) p.subjects
+    first_in (λ s. unless (are_numbers (calls_of p s) && are_numbers (traps_of s)) (alone s.name)) p.subjects
 
 -- ---- rule 15: vectors
 

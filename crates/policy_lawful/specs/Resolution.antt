@@ -1,8 +1,9 @@
 -- A policy whose references are resolved, and the source policy that it resolves.
-use Rattle.std.specs.Prelude.{◌≡◌, ℕ, ◌&&◌, Bool, true, List, [], length, map, slice_get, slice_index_or, nat_lt, None, option_map}
+use Rattle.std.specs.Prelude.{◌≡◌, ℕ, ◌&&◌, Bool, true, List, [], length, map, slice_get, slice_index_or, nat_lt, None, option_map, Result, Ok, Err}
 use Rattle.std.specs.Option.{option_map_or}
 use Rattle.std.specs.List.{list_all}
 use Rattle.policy_lawful.specs.Rules.{offence_1, offence_2}
+use Rattle.policy_types.specs.declared.refusal.Refusal.{Refusal}
 use Rattle.policy_types.specs.declared.source.Source.{Source}
 use Rattle.policy_types.specs.declared.source.Device.{Device}
 use Rattle.policy_types.specs.declared.source.Component.{Component}
@@ -192,3 +193,8 @@ pub record IsResolved (r : Resolution) : Type 0 where
   pub names : offence_1 (source_of r) ≡ None
   pub references : offence_2 (source_of r) ≡ None
   pub in_range : are_in_range r ≡ true
+
+-- what a call that resolves or checks has kept, as a source policy
+abbrev pub kept_source : Result Resolution Refusal → Result Source Refusal
+kept_source (Ok r) = Ok (source_of r)
+kept_source (Err refusal) = Err refusal

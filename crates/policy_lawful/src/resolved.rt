@@ -251,7 +251,8 @@ impl Resolved {
 
     /// The devices.
     pub fn devices(&self) -> &[Device]
-        ensures { result.now ≡ self.now.devices }
+        ensures value { result.now ≡ self.now.devices }
+        ensures resolved { IsResolved self.now }
     {
         self.elements.devices.items()
     }

@@ -9,8 +9,7 @@ use Rattle.policy_meaning.specs.Events.{event_of, irq_of, traps_of}
 use Rattle.policy_meaning.specs.Frames.{frames_of}
 use Rattle.policy_meaning.specs.Thing.{Thing, region, channel, provided, device_memory, things_of}
 use Rattle.policy_meaning.specs.Windows.{Window, window, windows_of, access_of, byte, violation}
-use Rattle.policy_types.specs.Rights.{has, union}
-use Rattle.policy_types.specs.declared.rights.Rights.{Rights}
+use Rattle.policy_types.specs.declared.rights.Rights.TheVariants.{R, Rw, Rx}
 use Rattle.policy_types.specs.declared.rights.Caching.TheVariants.{Wb}
 use Rattle.policy_types.specs.declared.rights.Role.TheVariants.{Writer, Reader}
 use Rattle.policy_types.specs.declared.source.Source.{Source}
@@ -23,9 +22,6 @@ use Rattle.policy_types.specs.declared.source.Content.TheVariants.{Zero, Fill, I
 use Rattle.policy_types.specs.declared.source.Scheduling.{Scheduling}
 use Rattle.policy_types.specs.declared.source.SourceWay.TheVariants.{Call, Trap}
 use Rattle.policy_types.specs.declared.source.Subject.{Subject}
-
-abbrev rights : ℕ → Rights
-rights bits = record { 0 = bits }
 
 abbrev memory : List ℕ → ℕ → Content → Region
 memory name size content =
@@ -47,11 +43,11 @@ net = record {
 abbrev crypt : Component
 crypt = record {
   name = codes "crypt";
-  provides = record { logical = codes "text"; virtual_address = 200; size = 4; rights = rights 5; content = Inline (9 ∷ []) } ∷ [];
+  provides = record { logical = codes "text"; virtual_address = 200; size = 4; rights = Rx; content = Inline (9 ∷ []) } ∷ [];
   memory =
-      record { logical = codes "table"; virtual_address = 300; size = 4; rights = rights 3 }
-      ∷ record { logical = codes "seed"; virtual_address = 400; size = 4; rights = rights 3 }
-      ∷ record { logical = codes "unmapped"; virtual_address = 500; size = 4; rights = rights 3 } ∷ [];
+      record { logical = codes "table"; virtual_address = 300; size = 4; rights = Rw }
+      ∷ record { logical = codes "seed"; virtual_address = 400; size = 4; rights = Rw }
+      ∷ record { logical = codes "unmapped"; virtual_address = 500; size = 4; rights = Rw } ∷ [];
   channels = record { logical = codes "out"; role = Writer; virtual_address = 600; size = 8; call = Some 7; vector = None } ∷ [];
 }
 
@@ -63,15 +59,15 @@ black = record {
   component = Some (record {
     used = codes "crypt";
     map =
-        record { logical = codes "table"; physical = codes "fill"; rights = Some (rights 1) }
+        record { logical = codes "table"; physical = codes "fill"; rights = Some R }
         ∷ record { logical = codes "seed"; physical = codes "file"; rights = None }
         ∷ record { logical = codes "out"; physical = codes "job"; rights = None } ∷ [];
   });
-  memory = record { region = codes "code"; virtual_address = 16; rights = rights 5 } ∷ [];
+  memory = record { region = codes "code"; virtual_address = 16; rights = Rx } ∷ [];
   channels = record { channel = codes "key"; role = Writer; virtual_address = 100; call = Some 1; vector = None } ∷ [];
   devices = record {
     device = codes "net";
-    memory = record { memory = codes "ring"; virtual_address = 150; rights = rights 3 } ∷ [];
+    memory = record { memory = codes "ring"; virtual_address = 150; rights = Rw } ∷ [];
     io_ports = [];
     irqs = record { irq = codes "rx"; vector = 43 } ∷ [];
   } ∷ [];
@@ -146,44 +142,38 @@ things = refl
 -- the entry of `table` has rights of its own, that of `seed` has none, and `unmapped` has no entry
 abbrev windows : List (Window Thing)
 windows =
-    window 16 8 (rights 5) (region (codes "code"))
-    ∷ window 100 8 (rights 3) (channel (codes "key"))
-    ∷ window 150 4 (rights 3) (device_memory (codes "net") (codes "ring"))
-    ∷ window 200 4 (rights 5) (provided (codes "black") (codes "text"))
-    ∷ window 300 4 (rights 1) (region (codes "fill"))
-    ∷ window 400 4 (rights 3) (region (codes "file"))
-    ∷ window 600 8 (rights 3) (channel (codes "job")) ∷ []
+    window 16 8 Rx (region (codes "code"))
+    ∷ window 100 8 Rw (channel (codes "key"))
+    ∷ window 150 4 Rw (device_memory (codes "net") (codes "ring"))
+    ∷ window 200 4 Rx (provided (codes "black") (codes "text"))
+    ∷ window 300 4 R (region (codes "fill"))
+    ∷ window 400 4 Rw (region (codes "file"))
+    ∷ window 600 8 Rw (channel (codes "job")) ∷ []
 
 windows_of_black : windows_of system black ≡ windows
-unfolding windows_of union
+unfolding windows_of
 windows_of_black = refl
 
-windows_of_red : windows_of system red ≡ window 0 8 (rights 1) (channel (codes "job")) ∷ window 8 8 (rights 1) (channel (codes "key")) ∷ []
-unfolding windows_of union
+windows_of_red : windows_of system red ≡ window 0 8 R (channel (codes "job")) ∷ window 8 8 R (channel (codes "key")) ∷ []
+unfolding windows_of
 windows_of_red = refl
 
 first_byte : access_of windows 16 Fetch ≡ byte (region (codes "code")) 0
-unfolding has
 first_byte = refl
 
 last_byte : access_of windows 23 Read ≡ byte (region (codes "code")) 7
-unfolding has
 last_byte = refl
 
-behind_last : access_of windows 24 Read ≡ violation (rights 0)
-unfolding has
+behind_last : access_of windows 24 Read ≡ violation None
 behind_last = refl
 
-before_first : access_of windows 15 Read ≡ violation (rights 0)
-unfolding has
+before_first : access_of windows 15 Read ≡ violation None
 before_first = refl
 
-no_right : access_of windows 20 Write ≡ violation (rights 5)
-unfolding has
+no_right : access_of windows 20 Write ≡ violation (Some Rx)
 no_right = refl
 
 written_device : access_of windows 151 Write ≡ byte (device_memory (codes "net") (codes "ring")) 1
-unfolding has
 written_device = refl
 
 -- ---- contents

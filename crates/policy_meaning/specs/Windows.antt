@@ -6,9 +6,9 @@ use Rattle.std.specs.Str.{bytes_eq}
 use Rattle.muen_num.specs.declared.access.AccessKind.{AccessKind}
 use Rattle.muen_num.specs.declared.limits.TheConstants.{PAGE}
 use Rattle.policy_meaning.specs.Thing.{Thing, region, channel, provided, device_memory, state, component_by}
-use Rattle.policy_types.specs.Rights.{allows, no_rights, union}
+use Rattle.policy_types.specs.Rights.{allows}
 use Rattle.policy_types.specs.declared.rights.Rights.{Rights}
-use Rattle.policy_types.specs.declared.rights.TheConstants.Rights.{READ, WRITE}
+use Rattle.policy_types.specs.declared.rights.Rights.TheVariants.{R, Rw}
 use Rattle.policy_types.specs.declared.rights.Role.{Role}
 use Rattle.policy_types.specs.declared.rights.Role.TheVariants.{Writer, Reader}
 use Rattle.policy_types.specs.declared.source.Source.{Source}
@@ -33,8 +33,8 @@ window guest size rights thing = record { guest = guest; size = size; rights = r
 
 -- a writer may read and write its channel, a reader may read it
 abbrev pub role_rights : Role → Rights
-role_rights Writer = union READ WRITE
-role_rights Reader = READ
+role_rights Writer = Rw
+role_rights Reader = R
 
 abbrev pub region_window : Source → List ℕ → ℕ → Rights → Option (Window Thing)
 region_window p name guest rights =
@@ -92,15 +92,15 @@ pub data Access (X : Type 0) : Type 0 where
   -- the byte of a thing at this offset
   byte : X → ℕ → Access X
   -- no such right; the rights that were found, none where no window holds the address
-  violation : Rights → Access X
+  violation : Option Rights → Access X
 
 abbrev pub holds : {X : Type 0} → Window X → ℕ → Bool
 holds w address = nat_le w.guest address && nat_lt address (w.guest + w.size)
 
 abbrev pub access_by : {X : Type 0} → Option (Window X) → ℕ → AccessKind → Access X
-access_by None address kind = violation no_rights
+access_by None address kind = violation None
 access_by (Some w) address kind =
-    if allows w.rights kind then byte w.thing (address - w.guest) else violation w.rights
+    if allows w.rights kind then byte w.thing (address - w.guest) else violation (Some w.rights)
 
 -- what an access at a guest address below 2^48 may touch
 abbrev pub access_of : {X : Type 0} → List (Window X) → ℕ → AccessKind → Access X

@@ -5,9 +5,9 @@
 ghost use Rattle.std.specs.Prelude.{◌≡◌};
 ghost use Rattle.muen_num.specs.Answers.{Answers};
 ghost use Rattle.policy_lawful.specs.Keeps.{Keeps};
-ghost use Rattle.policy_lawful.specs.Lawful.{names_broken, kept_or, kept_source};
+ghost use Rattle.policy_lawful.specs.Lawful.{names_broken, kept_or};
 ghost use Rattle.policy_lawful.specs.Offences.{broken};
-ghost use Rattle.policy_lawful.specs.Resolution.{IsResolved, source_of, are_in_range};
+ghost use Rattle.policy_lawful.specs.Resolution.{IsResolved, are_in_range, kept_source, source_of};
 ghost use Rattle.policy_lawful.specs.Rules.{offence_2};
 ghost use Rattle.policy_names.specs.Outline.{with_resolved};
 ghost use Rattle.policy_names.specs.Indexes.{StandsFor};

@@ -5,9 +5,9 @@ ghost use Rattle.muen_num.specs.Answers.{Answers};
 ghost use Rattle.muen_num.specs.Search.{as_refusal};
 ghost use Rattle.policy_types.specs.declared.refusal.Refusal.TheVariants.{NoMemory as OutOfMemory};
 ghost use Rattle.policy_lawful.specs.Keeps.{Keeps};
-ghost use Rattle.policy_lawful.specs.Lawful.{kept_or, kept_source, rules_broken};
+ghost use Rattle.policy_lawful.specs.Lawful.{kept_or, rules_broken};
 ghost use Rattle.policy_lawful.specs.Offences.{broken};
-ghost use Rattle.policy_lawful.specs.Resolution.{source_of};
+ghost use Rattle.policy_lawful.specs.Resolution.{kept_source, source_of};
 ghost use Rattle.policy_lawful.specs.Rules.{offence_4};
 ghost use Rattle.policy_rules.specs.InTurn.{domains_broken, grants_broken, memory_broken, plan_broken};
 

@@ -1,81 +1,71 @@
-ghost use Rattle.std.specs.Prelude.{⊤, ◌≡◌, ◌==◌, [], ◌∷◌, codes};
-ghost use Rattle.policy_types.specs.Rights.{has, union, right_for, allows};
+ghost use Rattle.std.specs.Prelude.{◌≡◌};
+ghost use Rattle.policy_types.specs.Rights.{allows, includes, may_execute, may_write, rights_bits};
 
-use bitflags::{Flag, Flags, bitflag_items};
 use muen_num::AccessKind;
 
-/// What may be done with a window of memory: a set of reading, writing and executing, the low three
-/// bits of an EPT entry (Intel SDM volume 3, EPT).
+/// What may be done with a window of memory. Each may be read.
 #[derive(Clone, Copy, PartialEq, Eq, Debug)]
-pub struct Rights(u8);
-
-bitflag_items! {
-    impl Rights: u8 {
-        const READ = 1;
-        const WRITE = 2;
-        const EXECUTE = 4;
-    }
-}
-
-impl Flags for Rights {
-    type Bits = u8;
-
-    ghost exact = { ⊤ };
-
-    ghost table = { (codes "READ", 1) ∷ (codes "WRITE", 2) ∷ (codes "EXECUTE", 4) ∷ [] };
-
-    ghost set_of = { λ r. r.0 };
-
-    fn flags<'a>() -> &'a [Flag<Rights>] {
-        Rights::FLAGS
-    }
-
-    fn bits(&self) -> u8
-        ensures { result ≡ self.now.0 }
-    {
-        self.0
-    }
-
-    fn from_bits_retain(bits: u8) -> Rights
-        ensures { result.0 ≡ bits }
-    {
-        Rights(bits)
-    }
+pub enum Rights {
+    /// To read.
+    R,
+    /// To read and to write.
+    Rw,
+    /// To read and to execute.
+    Rx,
+    /// To read, to write and to execute.
+    Rwx,
 }
 
 impl Rights {
-    /// Whether each right of the other set is in this one.
-    #[tactic(auto, unfolding(crate::specs::Rights::has))]
-    pub fn has(self, other: Rights) -> bool
-        ensures { result ≡ has self other }
+    /// The low three bits of an EPT entry: 1 to read, 2 to write, 4 to execute (Intel SDM volume 3,
+    /// EPT).
+    pub fn bits(self) -> u8
+        ensures { result ≡ rights_bits self }
     {
-        self.contains(other)
-    }
-
-    /// The rights of both sets.
-    #[tactic(auto, unfolding(crate::specs::Rights::union))]
-    pub fn union(self, other: Rights) -> Rights
-        ensures { result ≡ union self other }
-    {
-        Flags::union(self, other)
-    }
-
-    /// The right that a kind of access needs.
-    pub fn for_access(kind: AccessKind) -> Rights
-        ensures { result ≡ right_for kind }
-    {
-        match kind {
-            AccessKind::Read => Rights::READ,
-            AccessKind::Write => Rights::WRITE,
-            AccessKind::Fetch => Rights::EXECUTE,
+        match self {
+            Rights::R => 1,
+            Rights::Rw => 3,
+            Rights::Rx => 5,
+            Rights::Rwx => 7,
         }
     }
 
-    /// Whether the right that a kind of access needs is among these.
+    /// Whether writing is among them.
+    pub fn may_write(self) -> bool
+        ensures { result ≡ may_write self }
+    {
+        match self {
+            Rights::R | Rights::Rx => false,
+            Rights::Rw | Rights::Rwx => true,
+        }
+    }
+
+    /// Whether executing is among them.
+    pub fn may_execute(self) -> bool
+        ensures { result ≡ may_execute self }
+    {
+        match self {
+            Rights::R | Rights::Rw => false,
+            Rights::Rx | Rights::Rwx => true,
+        }
+    }
+
+    /// Whether each right of the others is among them.
+    pub fn includes(self, others: Rights) -> bool
+        ensures { result ≡ includes self others }
+    {
+        (self.may_write() || !others.may_write()) && (self.may_execute() || !others.may_execute())
+    }
+
+    /// Whether the right that a kind of access needs is among them.
     pub fn allows(self, kind: AccessKind) -> bool
         ensures { result ≡ allows self kind }
     {
-        self.has(Rights::for_access(kind))
+        match kind {
+            AccessKind::Read => true,
+            AccessKind::Write => self.may_write(),
+            AccessKind::Fetch => self.may_execute(),
+        }
     }
 }
 

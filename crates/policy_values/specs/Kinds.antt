@@ -1,6 +1,6 @@
 -- What a JSON value of each kind stands for, if it is one of the kind.
 -- This project's own spelling of the elements of a Muen system policy.
-use Rattle.std.specs.Prelude.{ℕ, List, Bool, true, false, codes, Option, Some, None, option_and_then, nat_lt, if◌then◌else◌}
+use Rattle.std.specs.Prelude.{ℕ, List, [], ◌∷◌, Bool, true, false, codes, Option, Some, None, option_and_then, nat_lt, if◌then◌else◌}
 use Rattle.std.specs.Str.{bytes_eq}
 use Rattle.std.specs.Result.{result_ok}
 use Rattle.serde_json.specs.Data.{Data, null, boolean, number, string, array, object}
@@ -9,9 +9,8 @@ use Rattle.hex.specs.Hex.{decode_of}
 use Rattle.muen_num.specs.Naming.{name_of}
 use Rattle.muen_num.specs.declared.mode.EventMode.{EventMode}
 use Rattle.muen_num.specs.declared.mode.EventMode.TheVariants.{Asap, Async, Own, Switch}
-use Rattle.policy_types.specs.Rights.{union}
 use Rattle.policy_types.specs.declared.rights.Rights.{Rights}
-use Rattle.policy_types.specs.declared.rights.TheConstants.Rights.{READ, WRITE, EXECUTE}
+use Rattle.policy_types.specs.declared.rights.Rights.TheVariants.{R, Rw, Rx, Rwx}
 use Rattle.policy_types.specs.declared.rights.MsrRights.{MsrRights}
 use Rattle.policy_types.specs.declared.rights.Caching.{Caching}
 use Rattle.policy_types.specs.declared.rights.Caching.TheVariants.{Uc, Wc, Wt, Wp, Wb}
@@ -39,13 +38,13 @@ byte_of d = option_and_then byte_from (number_of d)
 abbrev pub named : Data → Option (List ℕ)
 named d = option_and_then name_of (as_str d)
 
+-- what the first of these words stands for that is the text
+abbrev pub meant : {X : Type 0} → List (List ℕ × X) → List ℕ → Option X
+meant [] text = None
+meant (w ∷ ws) text = if bytes_eq text w.0 then Some w.1 else meant ws text
+
 abbrev pub rights_from : List ℕ → Option Rights
-rights_from text =
-    if bytes_eq text (codes "r") then Some READ
-    else if bytes_eq text (codes "rw") then Some (union READ WRITE)
-    else if bytes_eq text (codes "rx") then Some (union READ EXECUTE)
-    else if bytes_eq text (codes "rwx") then Some (union (union READ WRITE) EXECUTE)
-    else None
+rights_from = meant ((codes "r", R) ∷ (codes "rw", Rw) ∷ (codes "rx", Rx) ∷ (codes "rwx", Rwx) ∷ [])
 
 -- one of the texts r, rw, rx and rwx
 abbrev pub rights_of : Data → Option Rights
@@ -55,46 +54,28 @@ abbrev pub msr_rights : Bool → Bool → MsrRights
 msr_rights read write = record { read = read; write = write }
 
 abbrev pub msr_rights_from : List ℕ → Option MsrRights
-msr_rights_from text =
-    if bytes_eq text (codes "r") then Some (msr_rights true false)
-    else if bytes_eq text (codes "w") then Some (msr_rights false true)
-    else if bytes_eq text (codes "rw") then Some (msr_rights true true)
-    else None
+msr_rights_from = meant ((codes "r", msr_rights true false) ∷ (codes "w", msr_rights false true) ∷ (codes "rw", msr_rights true true) ∷ [])
 
 -- one of the texts r, w and rw
 abbrev pub msr_rights_of : Data → Option MsrRights
 msr_rights_of d = option_and_then msr_rights_from (as_str d)
 
 abbrev pub caching_from : List ℕ → Option Caching
-caching_from text =
-    if bytes_eq text (codes "UC") then Some Uc
-    else if bytes_eq text (codes "WC") then Some Wc
-    else if bytes_eq text (codes "WT") then Some Wt
-    else if bytes_eq text (codes "WP") then Some Wp
-    else if bytes_eq text (codes "WB") then Some Wb
-    else None
+caching_from = meant ((codes "UC", Uc) ∷ (codes "WC", Wc) ∷ (codes "WT", Wt) ∷ (codes "WP", Wp) ∷ (codes "WB", Wb) ∷ [])
 
 -- one of the texts UC, WC, WT, WP and WB
 abbrev pub caching_of : Data → Option Caching
 caching_of d = option_and_then caching_from (as_str d)
 
 abbrev pub mode_from : List ℕ → Option EventMode
-mode_from text =
-    if bytes_eq text (codes "asap") then Some Asap
-    else if bytes_eq text (codes "async") then Some Async
-    else if bytes_eq text (codes "self") then Some Own
-    else if bytes_eq text (codes "switch") then Some Switch
-    else None
+mode_from = meant ((codes "asap", Asap) ∷ (codes "async", Async) ∷ (codes "self", Own) ∷ (codes "switch", Switch) ∷ [])
 
 -- one of the texts asap, async, self and switch
 abbrev pub mode_of : Data → Option EventMode
 mode_of d = option_and_then mode_from (as_str d)
 
 abbrev pub role_from : List ℕ → Option Role
-role_from text =
-    if bytes_eq text (codes "writer") then Some Writer
-    else if bytes_eq text (codes "reader") then Some Reader
-    else None
+role_from = meant ((codes "writer", Writer) ∷ (codes "reader", Reader) ∷ [])
 
 -- one of the texts writer and reader
 abbrev pub role_of : Data → Option Role

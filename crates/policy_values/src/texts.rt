@@ -20,10 +20,10 @@ fn rights_from(text: &str) -> Option<Rights>
     ensures { result ≡ rights_from text.now }
 {
     match text {
-        "r" => Some(Rights::READ),
-        "rw" => Some(Rights::READ.union(Rights::WRITE)),
-        "rx" => Some(Rights::READ.union(Rights::EXECUTE)),
-        "rwx" => Some(Rights::READ.union(Rights::WRITE).union(Rights::EXECUTE)),
+        "r" => Some(Rights::R),
+        "rw" => Some(Rights::Rw),
+        "rx" => Some(Rights::Rx),
+        "rwx" => Some(Rights::Rwx),
         _ => None,
     }
 }

@@ -21,8 +21,8 @@ fn role_rights(role: Role) -> Rights
     ensures { result ≡ role_rights role }
 {
     match role {
-        Role::Writer => Rights::READ.union(Rights::WRITE),
-        Role::Reader => Rights::READ,
+        Role::Writer => Rights::Rw,
+        Role::Reader => Rights::R,
     }
 }
 

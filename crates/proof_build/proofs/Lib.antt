@@ -6,6 +6,7 @@ pub mod Ascending
 pub mod Bitmaps
 pub mod BitmapsOfPorts
 pub mod Contents
+pub mod Examples
 pub mod FirstIndexes
 pub mod GreatestPages
 pub mod KernelSpans

@@ -7,7 +7,8 @@ use Rattle.std.proofs.lemmas.List.Elements.{All-contains}
 use Rattle.std.proofs.lemmas.List.Sorted.{Contains-permutation}
 use Rattle.std.proofs.lemmas.Option.{get_or_from_slice_get, slice_get_within}
 use Rattle.ept_emit.specs.Pages.{ept_pages}
-use Rattle.ept_emit.specs.Emitted.{Reads, eptp_of}
+use Rattle.ept_emit.specs.Emitted.{eptp_of}
+use Rattle.ept_emit.specs.Reads.{Reads}
 use Rattle.event_emit.specs.declared.event_tables.EventTables.{EventTables}
 use Rattle.expand_grants.specs.declared.granted.Grants.{Grants}
 use Rattle.expand_kernel.specs.ByIndex.{view_ranges}

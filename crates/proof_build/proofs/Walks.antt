@@ -28,7 +28,7 @@ use Rattle.policy_lawful.specs.declared.resolved.Subject.{Subject}
 use Rattle.policy_lawful.proofs.SourceElements.{parts_in_range}
 use Rattle.policy_lawful.specs.Thing.{Thing}
 use Rattle.policy_lawful.specs.Windows.{access_by, access_of, byte, holds, violation, windows_of}
-use Rattle.policy_types.specs.Rights.{allows}
+use Rattle.policy_types.specs.Rights.{allows, rights_bits}
 use Rattle.policy_types.specs.declared.rights.Rights.{Rights}
 use Rattle.policy_lawful.specs.Views.{thing_shown, view_window, views_of}
 use Rattle.policy_lawful.specs.declared.view.View.{View}
@@ -47,7 +47,7 @@ not_both addr a m b n apart p q =
     omega (arith, apart, high, low)
 
 -- a byte where there is the right, and the rights that were found where there isn't
-by_rights : (address : Thing → ℕ) (b : Bool) (x : Thing) (to offset : ℕ) (rights : Rights) → address x ≡ to → (if b then At (to + offset) else Violation rights.0) ≡ led address (if b then byte x offset else violation rights)
+by_rights : (address : Thing → ℕ) (b : Bool) (x : Thing) (to offset : ℕ) (rights : Rights) → address x ≡ to → (if b then At (to + offset) else Violation (rights_bits rights)) ≡ led address (if b then byte x offset else violation (Some rights))
 by_rights address true x to offset rights e = ap (λ n. At (n + offset)) (sym e)
 by_rights address false x to offset rights e = refl
 

@@ -5,7 +5,7 @@ use Rattle.std.specs.Prelude.{◌≡◌, ℕ, suc, ◌+◌, ◌*◌, ◌/◌, �
 use Rattle.std.specs.List.{All, find, list_any}
 use Rattle.std.specs.Option.{IfSome, option_map_or}
 use Rattle.std.specs.Str.{bytes_eq}
-use Rattle.ept_emit.specs.Emitted.{Reads}
+use Rattle.ept_emit.specs.Reads.{Reads}
 use Rattle.ept_emit.specs.Entries.{type_of}
 use Rattle.expand_kernel.specs.Regions.{regions_of}
 use Rattle.image_soundness.specs.Memory.{by_number, memory_of}

@@ -15,7 +15,7 @@ use Rattle.policy_lawful.specs.Offences.{alone, two}
 use Rattle.policy_lawful.specs.Events.{ChannelEnd, channel_ends, reads_from}
 use Rattle.policy_lawful.specs.Thing.{Thing, channel, device_memory, provided, region, same_thing, state}
 use Rattle.policy_lawful.specs.Windows.{Window, role_rights, windows_of}
-use Rattle.policy_types.specs.Rights.{allows, has}
+use Rattle.policy_types.specs.Rights.{allows}
 use Rattle.policy_types.specs.declared.rights.Rights.{Rights}
 use Rattle.policy_types.specs.declared.rights.Role.{Role}
 use Rattle.policy_types.specs.declared.rights.Role.TheVariants.{Reader, Writer}
@@ -77,7 +77,6 @@ writer_in p u in_u name e its of by =
     (ap writes_it by)
 
 readers_not : allows (role_rights Reader) Write ≡ false
-unfolding has
 readers_not = refl
 
 -- who may write a channel is at its end as a writer

@@ -21,8 +21,7 @@ use Rattle.policy_lawful.specs.Rules.{is_on, subject_cpu}
 use Rattle.policy_lawful.specs.Events.{event_of}
 use Rattle.policy_lawful.specs.Thing.{Thing, same_thing, state}
 use Rattle.policy_lawful.specs.Windows.{windows_of}
-use Rattle.policy_types.specs.Rights.{allows, has}
-use Rattle.policy_types.specs.declared.rights.TheConstants.Rights.{EXECUTE}
+use Rattle.policy_types.specs.Rights.{allows, may_execute}
 use Rattle.policy_types.specs.declared.source.Group.{Group}
 use Rattle.policy_types.specs.declared.source.Source.{Source}
 use Rattle.policy_types.specs.declared.source.SourceWay.{SourceWay}
@@ -65,7 +64,7 @@ watched p lawful s in_s name seen =
     let m = any_some (λ m. bytes_eq m.subject name) s.monitors seen in
     let kept = after_in (λ before m. unless (is_monitor p s before m) (two s.name m.subject)) [] s.monitors own m.one m.within in
     let all = unless_none (is_monitor p s kept.0 m.one) (two s.name m.one.subject) kept.1 in
-    let first = and_parts (not (bytes_eq m.one.subject s.name) && is_on (subject_cpu p m.one.subject) s.cpu && not (list_any (λ b. bytes_eq b.subject m.one.subject) kept.0)) (not (has m.one.rights EXECUTE)) all in
+    let first = and_parts (not (bytes_eq m.one.subject s.name) && is_on (subject_cpu p m.one.subject) s.cpu && not (list_any (λ b. bytes_eq b.subject m.one.subject) kept.0)) (not (may_execute m.one.rights)) all in
     let second = and_parts (not (bytes_eq m.one.subject s.name) && is_on (subject_cpu p m.one.subject) s.cpu) (not (list_any (λ b. bytes_eq b.subject m.one.subject) kept.0)) first.0 in
     let on = (and_parts (not (bytes_eq m.one.subject s.name)) (is_on (subject_cpu p m.one.subject) s.cpu) second.0).1 in
     by_cpu p name s.cpu (subject_named p name) refl (subst (λ n. is_on (subject_cpu p n) s.cpu ≡ true) ((bytes_eq-Decides m.one.subject name).0 m.passes) on)

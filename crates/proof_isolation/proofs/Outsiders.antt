@@ -182,7 +182,7 @@ module _ (own : Own) (mine : OwnState) (inbox : Inbox) where
   by_window : (addr offset : ℕ) (x : Thing) (o : Option (Window Thing)) → find (λ w. holds w addr) own.windows ≡ o → reach_by Write addr (access_by o addr Write) ≡ Reached x offset → IsWritable own.windows x
   by_window addr offset x None is h = absurd (cc (h))
   by_window addr offset x (Some w) is h =
-      elim (allows w.rights Write) as (λ b. allows w.rights Write ≡ b → reach_by Write addr (cond b (byte w.thing (addr - w.guest)) (violation w.rights)) ≡ Reached x offset → IsWritable own.windows x) [
+      elim (allows w.rights Write) as (λ b. allows w.rights Write ≡ b → reach_by Write addr (cond b (byte w.thing (addr - w.guest)) (violation (Some w.rights))) ≡ Reached x offset → IsWritable own.windows x) [
         | true ↦ λ e k. record { window = w; its = (find_in (λ w. holds w addr) own.windows w is).0; writes = e; shows = cc (k) }
         | false ↦ λ _ k. absurd (cc (k))
       ] refl h

@@ -7,7 +7,6 @@ ghost use Rattle.std.specs.Prelude.{◌≡◌, ℕ, List, Ok};
 ghost use Rattle.subject_model.specs.Trace.{trace_of};
 ghost use Rattle.image_load.specs.Resolving.{image_bench, image_record};
 ghost use Rattle.image_soundness.specs.Sound.{IsSound};
-ghost use Rattle.image_pack.specs.Parts.{IsImage};
 ghost use Rattle.image_pack.specs.declared.parts.Image.{Image};
 ghost use Rattle.muen_run.specs.RunText.{image_text};
 ghost use Rattle.policy_meaning.specs.Contents.{Held};
@@ -21,7 +20,7 @@ ghost use Rattle.image_soundness.specs.Bench.{devices_of};
 /// abstract system's run, in which each subject acts alone on its own state and what reaches it. And
 /// a record may name of the image what it may name of the policy.
 pub fn sound_images_run_as_their_systems()
-    ensures trace { (p : Source) (files : Held) (bytes : List ℕ) (i : Image) (text : List ℕ) (r : DeviceRecord) → IsImage bytes i
-        → IsSound p files i → record_of text (devices_of p) ≡ Ok r → image_text i (image_record i r) ≡ trace_of p files r }
-    ensures bench { (p : Source) (files : Held) (bytes : List ℕ) (i : Image) → IsImage bytes i → IsSound p files i → image_bench i ≡ devices_of p }
+    ensures trace { (p : Source) (files : Held) (i : Image) (text : List ℕ) (r : DeviceRecord) → IsSound p files i
+        → record_of text (devices_of p) ≡ Ok r → image_text i (image_record i r) ≡ trace_of p files r }
+    ensures bench { (p : Source) (files : Held) (i : Image) → IsSound p files i → image_bench i ≡ devices_of p }
 {}

@@ -16,7 +16,7 @@ use Rattle.muen_num.specs.Search.{first_in}
 use Rattle.muen_num.specs.declared.limits.TheConstants.{MOST_CALLS}
 use Rattle.subject_model.specs.Alone.{has_trap}
 use Rattle.policy_lawful.specs.Lawful.{IsLawful}
-use Rattle.policy_lawful.specs.MoreRules.{are_distinct, are_numbers, call_number, calls_of, offence_12, offence_14, sources_of, targets_of, trap_reason}
+use Rattle.policy_lawful.specs.MoreRules.{are_distinct, are_numbers, call_number, calls_of, offence_12, offence_14, sources_of, targets_of}
 use Rattle.policy_lawful.specs.Offences.{alone, two}
 use Rattle.policy_lawful.specs.Rules.{Reference, component_references, device_references, frame_references, group_references, is_declared, majors_of, offence_2, refers, subject_references, undeclared}
 use Rattle.policy_lawful.specs.Events.{ChannelEnd, Raised, Target, channel_ends, channel_event, event_of, event_targets, is_call, named_event, same_way, trap_number, traps_of, writes_by}
@@ -52,7 +52,7 @@ great_call (Call m) i l same small =
     omega (arith, e, b, l)
 great_call (Trap m) i l same small = absurd (cc)
 
-great_trap : (w : SourceWay) (i : ℕ) → MOST_CALLS ≤ i → same_way w (Trap i) ≡ true → is_small (trap_reason w) ≡ true → ⊥
+great_trap : (w : SourceWay) (i : ℕ) → MOST_CALLS ≤ i → same_way w (Trap i) ≡ true → is_small (trap_number w) ≡ true → ⊥
 unfolding is_small
 great_trap (Call m) i l same small = absurd (cc)
 great_trap (Trap m) i l same small =
@@ -107,23 +107,23 @@ module _ (p : Source) (lawful : IsLawful p) where
   record Small (n : Subject) : Type 0 where
     calls : list_all (λ e. is_small (call_number e.way)) n.sources ≡ true
     channel_calls : list_all (λ e. is_small e.call) (channel_ends p n) ≡ true
-    traps : list_all (λ e. is_small (trap_reason e.way)) n.sources ≡ true
+    traps : list_all (λ e. is_small (trap_number e.way)) n.sources ≡ true
 
   -- rule 14 of a subject
   small_of : (s : ℕ) (n : Subject) → slice_get p.subjects s ≡ Some n → Small n
   unfolding offence_14 is_small
   small_of s n at =
-      let keeps : Subject → Bool = λ s. are_numbers (calls_of p s) && are_numbers (filter_map (λ e. trap_reason e.way) s.sources) in
-      let both = and_parts (are_numbers (calls_of p n)) (are_numbers (filter_map (λ e. trap_reason e.way) n.sources)) (passes_at keeps p.subjects s n (all_pass keeps (λ s. alone s.name) p.subjects lawful.rule_14) at) in
+      let keeps : Subject → Bool = λ s. are_numbers (calls_of p s) && are_numbers (filter_map (λ e. trap_number e.way) s.sources) in
+      let both = and_parts (are_numbers (calls_of p n)) (are_numbers (filter_map (λ e. trap_number e.way) n.sources)) (passes_at keeps p.subjects s n (all_pass keeps (λ s. alone s.name) p.subjects lawful.rule_14) at) in
       let low : ℕ → Bool = λ k. nat_lt k MOST_CALLS in
       let a = filter_map (λ e. call_number e.way) n.sources in
       let b = filter_map (λ e. e.call) (channel_ends p n) in
       let calls = and_parts (list_all low a) (list_all low b) (sym (list_all-append low a b) ∙ (and_parts (list_all low (a ++ b)) (are_distinct (a ++ b)) both.0).0) in
-      let traps = (and_parts (list_all low (filter_map (λ e. trap_reason e.way) n.sources)) (are_distinct (filter_map (λ e. trap_reason e.way) n.sources)) both.1).0 in
+      let traps = (and_parts (list_all low (filter_map (λ e. trap_number e.way) n.sources)) (are_distinct (filter_map (λ e. trap_number e.way) n.sources)) both.1).0 in
       record {
         calls = sym (all_some low (λ e. call_number e.way) n.sources) ∙ calls.0;
         channel_calls = sym (all_some low (λ e. e.call) (channel_ends p n)) ∙ calls.1;
-        traps = sym (all_some low (λ e. trap_reason e.way) n.sources) ∙ traps;
+        traps = sym (all_some low (λ e. trap_number e.way) n.sources) ∙ traps;
       }
 
   -- no call has a greater number
@@ -146,7 +146,7 @@ module _ (p : Source) (lawful : IsLawful p) where
       let small = small_of s n at in
       let by_source : find (λ e. same_way e.way (Trap i)) n.sources ≡ None =
       none_found (λ e. same_way e.way (Trap i)) n.sources (λ e is.
-      great_trap e.way i l (found_passes (λ e. same_way e.way (Trap i)) n.sources e is) (found_among (λ e. same_way e.way (Trap i)) (λ e. is_small (trap_reason e.way)) n.sources e is small.traps)) in
+      great_trap e.way i l (found_passes (λ e. same_way e.way (Trap i)) n.sources e is) (found_among (λ e. same_way e.way (Trap i)) (λ e. is_small (trap_number e.way)) n.sources e is small.traps)) in
       rw (by_source, no_channel_ends i (channel_ends p n)) refl
 
   -- ---- the events of traps

@@ -16,6 +16,7 @@ pub mod SpotFacts
 pub mod SubjectFacts
 pub mod Slots
 pub mod Aligned
+pub mod ContentBytes
 pub mod Fixes
 pub mod StartAreas
 pub mod StartSets

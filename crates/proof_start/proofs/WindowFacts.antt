@@ -24,10 +24,9 @@ use Rattle.policy_lawful.specs.declared.offence.Offence.{Offence}
 use Rattle.policy_lawful.specs.Contents.{Held, initial_bytes}
 use Rattle.policy_lawful.specs.Thing.{Thing, channel, component_by, device_memory, provided, region, same_thing, state, things_of}
 use Rattle.policy_lawful.specs.Windows.{Window, access_by, access_of, byte, channel_window, component_channel_window, component_windows, device_window, entry_of, holds, monitor_window, region_window, required_window, role_rights, violation, window, windows_of}
-use Rattle.policy_types.specs.Rights.{allows, has}
+use Rattle.policy_types.specs.Rights.{allows, may_execute}
 use Rattle.policy_types.specs.declared.rights.Rights.{Rights}
 use Rattle.policy_types.specs.declared.rights.Role.{Role}
-use Rattle.policy_types.specs.declared.rights.TheConstants.Rights.{EXECUTE}
 use Rattle.policy_types.specs.declared.source.Channel.{Channel}
 use Rattle.policy_types.specs.declared.source.ChannelUse.{ChannelUse}
 use Rattle.policy_types.specs.declared.source.Component.{Component}
@@ -212,7 +211,7 @@ module _ (p : Source) (lawful : IsLawful p) (s : ℕ) (n : Subject) (at : slice_
       let other = not (bytes_eq m.subject n.name) in
       let same_cpu = is_on (subject_cpu p m.subject) n.cpu in
       let first = not (list_any (λ b. bytes_eq b.subject m.subject) front) in
-      let both = and_parts other same_cpu (and_parts (other && same_cpu) first (and_parts (other && same_cpu && first) (not (has m.rights EXECUTE)) h).0).0 in
+      let both = and_parts other same_cpu (and_parts (other && same_cpu) first (and_parts (other && same_cpu && first) (not (may_execute m.rights)) h).0).0 in
       elim (find (λ s. bytes_eq s.name m.subject) p.subjects)
       as (λ o. find (λ s. bytes_eq s.name m.subject) p.subjects ≡ o → is_on (option_map (λ (s : Subject). s.cpu) o) n.cpu ≡ true → IsOnState p s n (monitor_window m)) [
         | None ↦ λ _ k. absurd (cc)
@@ -335,7 +334,7 @@ reached windows kind addr x offset h =
     elim (find (λ w. holds w addr) windows) as (λ o. find (λ w. holds w addr) windows ≡ o → access_by o addr kind ≡ byte x offset → IsReached windows addr x offset) [
       | None ↦ λ _ k. absurd (cc)
       | Some w ↦ λ is k.
-          elim (allows w.rights kind) as (λ b. cond b (byte w.thing (addr - w.guest)) (violation w.rights) ≡ byte x offset → IsReached windows addr x offset) [
+          elim (allows w.rights kind) as (λ b. cond b (byte w.thing (addr - w.guest)) (violation (Some w.rights)) ≡ byte x offset → IsReached windows addr x offset) [
             | true ↦ λ e.
                 let thing : w.thing ≡ x = cc in
                 let start : addr - w.guest ≡ offset = cc in

@@ -171,7 +171,7 @@ module _ (s : Subject) where
   by_window : (o : Option (Window Thing)) (addr : ℕ) → IfSome o (SparesPage s.name) → Spared s.name (access_by o addr Write)
   by_window None addr h = tt
   by_window (Some w) addr h =
-      elim (allows w.rights Write) as (λ b. allows w.rights Write ≡ b → Spared s.name (cond b (byte w.thing (addr - w.guest)) (violation w.rights))) [ true ↦ λ e. h e | false ↦ λ _. tt ] refl
+      elim (allows w.rights Write) as (λ b. allows w.rights Write ≡ b → Spared s.name (cond b (byte w.thing (addr - w.guest)) (violation (Some w.rights)))) [ true ↦ λ e. h e | false ↦ λ _. tt ] refl
 
   reached : (addr : ℕ) (a : Access Thing) (x : Thing) (offset : ℕ) → Spared s.name a → reach_by Write addr a ≡ Reached x offset → x ≡ state s.name → ⊥
   reached addr (byte z o) x offset h e = let same : z ≡ x = cc (e) in subst (λ z. z ≡ state s.name → ⊥) same h

@@ -1,15 +1,16 @@
 -- The windows of a domain of devices, with sizes of regions by their names.
-use Rattle.std.specs.Prelude.{ℕ, ◌+◌, List, map, nat_le, Option}
+use Rattle.std.specs.Prelude.{ℕ, ◌+◌, List, map, nat_le, Option, not}
 use Rattle.std.specs.Option.{option_map_or, option_or}
 use Rattle.std.specs.List.{find}
 use Rattle.std.specs.Str.{bytes_eq}
 use Rattle.muen_num.specs.declared.limits.TheConstants.{GUEST_END}
 use Rattle.muen_num.specs.Search.{first_in, first_pair, unless}
-use Rattle.policy_lawful.specs.Domains.{domain_overlap, is_dma_right}
+use Rattle.policy_lawful.specs.Domains.{domain_overlap}
 use Rattle.policy_lawful.specs.Offences.{two}
 use Rattle.policy_lawful.specs.Rules.{is_declared, is_page_aligned}
 use Rattle.policy_lawful.specs.declared.offence.Extent.{Extent}
 use Rattle.policy_lawful.specs.declared.offence.Offence.{Offence}
+use Rattle.policy_types.specs.Rights.{may_execute}
 use Rattle.policy_types.specs.declared.source.Domain.{Domain}
 use Rattle.policy_types.specs.declared.source.Mapping.{Mapping}
 use Rattle.policy_types.specs.declared.source.Region.{Region}
@@ -30,7 +31,7 @@ outside_in regions d =
     first_in (λ m. unless (nat_le (m.virtual_address + size_among regions m.region) GUEST_END) (two d.name m.region)) d.memory
 
 abbrev pub executable_in : Domain → Option Offence
-executable_in d = first_in (λ m. unless (is_dma_right m.rights) (two d.name m.region)) d.memory
+executable_in d = first_in (λ m. unless (not (may_execute m.rights)) (two d.name m.region)) d.memory
 
 -- a window as a range of the devices' addresses
 abbrev pub window_extent : List Region → Mapping → Extent

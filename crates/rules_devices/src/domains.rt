@@ -131,8 +131,6 @@ fn unique_devices(policy: &Resolved) -> &[Device]
     ensures value { result.now ≡ policy.now.devices }
     ensures unique { repeated (map (λ d. d.name) result.now) ≡ None }
 {
-    // The subjects stand in a policy that is resolved, and so do the devices.
-    let _ = policy.subjects();
     policy.devices()
 }
 

@@ -3,7 +3,7 @@
 ghost use Rattle.std.specs.Prelude.{◌≡◌, None, map, true, option_map, IfOk};
 ghost use Rattle.std.specs.List.{list_all};
 ghost use Rattle.muen_num.specs.Search.{first_in};
-ghost use Rattle.policy_lawful.specs.Domains.{is_dma_right, offence_22};
+ghost use Rattle.policy_lawful.specs.Domains.{offence_22};
 ghost use Rattle.policy_lawful.specs.Offences.{two};
 ghost use Rattle.policy_lawful.specs.Resolution.{source_of};
 ghost use Rattle.policy_lawful.specs.Rules.{first_overlap, is_laid, offence_4};
@@ -13,7 +13,6 @@ use crate::declared::Declared;
 use muen_num::limits::{GUEST_END, PAGE};
 use muen_num::{Name, NoMemory, first};
 use policy_lawful::{Extent, Offence, Resolved};
-use policy_types::Rights;
 use policy_types::source::{Domain, Mapping, Region};
 use rules_extents::first_overlap;
 use std::alloc::{AllocError, Global};
@@ -56,19 +55,12 @@ fn outside_in(regions: &Declared<'_, Region>, domain: &Domain) -> Option<Offence
     })
 }
 
-// Without a right to execute.
-fn is_dma_right(rights: Rights) -> bool
-    ensures { result ≡ is_dma_right rights }
-{
-    !rights.has(Rights::EXECUTE)
-}
-
 // The first with a right to execute.
 fn executable_in(domain: &Domain) -> Option<Offence>
     ensures { result ≡ executable_in domain.now }
 {
     first(domain.memory.items(), |window| {
-        at_window(domain.name, window).unless(is_dma_right(window.rights))
+        at_window(domain.name, window).unless(!window.rights.may_execute())
     })
 }
 

@@ -12,7 +12,7 @@ use Rattle.muen_num.specs.declared.limits.TheConstants.{MOST_CALLS}
 use Rattle.muen_num.proofs.Lists.{all_true, map-map}
 use Rattle.muen_num.proofs.SameAnswers.{first_in-map, list_all_same}
 use Rattle.policy_lawful.specs.MoreRules as rules
-use Rattle.policy_lawful.specs.MoreRules.{are_distinct, are_numbers, are_vectors, call_number, calls_of, is_switch, offence_14, offence_15, trap_reason, vectors_of}
+use Rattle.policy_lawful.specs.MoreRules.{are_distinct, are_numbers, are_vectors, call_number, calls_of, is_switch, offence_14, offence_15, vectors_of}
 use Rattle.policy_lawful.specs.Offences.{alone}
 use Rattle.policy_lawful.specs.Resolution.{Resolution, IsResolved, device_named, device_part, name_at, source_of, subject_named, subject_in_range}
 use Rattle.policy_lawful.specs.declared.resolved.IrqUse.{IrqUse as ResolvedIrq}
@@ -23,7 +23,7 @@ use Rattle.policy_lawful.specs.declared.resolved.Subject.{Subject as ResolvedSub
 use Rattle.policy_lawful.proofs.Indexes.{found_at_index}
 use Rattle.policy_lawful.proofs.SourceElements.{parts_in_range}
 use Rattle.policy_lawful.proofs.UniqueNames.{unique}
-use Rattle.policy_lawful.specs.Events.{channel_ends}
+use Rattle.policy_lawful.specs.Events.{channel_ends, trap_number}
 use Rattle.policy_types.specs.declared.source.EventSource.{EventSource}
 use Rattle.policy_types.specs.declared.source.EventTarget.{EventTarget}
 use Rattle.policy_lawful.specs.Views.{channel_end_named, channel_ends_of}
@@ -71,20 +71,20 @@ calls_same r s resolved in_range =
     ap (filter_map (λ e. e.call)) (ends_by_index r s resolved in_range) ∙ filter_map_both (λ e. e.call) (channel_end_named r) (λ e. e.call) (λ e. refl) (channel_ends_of r s) in
     ap (λ xs. xs ++ filter_map (λ e. e.call) (channel_ends (source_of r) (subject_named r s))) own ∙ ap (λ xs. filter_map (λ e. call_number e.way) s.sources ++ xs) of_ends
 
-traps_same : (r : Resolution) (s : ResolvedSubject) → filter_map (λ e. trap_reason e.way) (subject_named r s).sources ≡ traps_at s
-traps_same r s = filter_map_both (λ e. trap_reason e.way) (source_named r) (λ e. trap_reason e.way) (λ e. refl) s.sources
+traps_same : (r : Resolution) (s : ResolvedSubject) → filter_map (λ e. trap_number e.way) (subject_named r s).sources ≡ traps_at s
+traps_same r s = filter_map_both (λ e. trap_number e.way) (source_named r) (λ e. trap_number e.way) (λ e. refl) s.sources
 
 call_same : (r : Resolution) (s : ResolvedSubject) → IsResolved r → subject_in_range r s ≡ true
-    → unless (are_numbers (calls_of (source_of r) (subject_named r s)) && are_numbers (filter_map (λ e. trap_reason e.way) (subject_named r s).sources)) (alone s.name) ≡ call_offence r s
+    → unless (are_numbers (calls_of (source_of r) (subject_named r s)) && are_numbers (filter_map (λ e. trap_number e.way) (subject_named r s).sources)) (alone s.name) ≡ call_offence r s
 call_same r s resolved in_range =
-    ap (λ ns. unless (are_numbers ns && are_numbers (filter_map (λ e. trap_reason e.way) (subject_named r s).sources)) (alone s.name)) (calls_same r s resolved in_range)
+    ap (λ ns. unless (are_numbers ns && are_numbers (filter_map (λ e. trap_number e.way) (subject_named r s).sources)) (alone s.name)) (calls_same r s resolved in_range)
     ∙ ap (λ ns. unless (are_numbers (calls_at r s) && are_numbers ns) (alone s.name)) (traps_same r s)
 
 pub calls_by_index : (r : Resolution) → IsResolved r → first_in (call_offence r) r.subjects ≡ offence_14 (source_of r)
 unfolding offence_14 source_of
 calls_by_index r resolved =
     sym (first_in-map (subject_named r)
-    (λ s. unless (are_numbers (calls_of (source_of r) s) && are_numbers (filter_map (λ e. trap_reason e.way) s.sources)) (alone s.name))
+    (λ s. unless (are_numbers (calls_of (source_of r) s) && are_numbers (filter_map (λ e. trap_number e.way) s.sources)) (alone s.name))
     (call_offence r) (subject_in_range r) (λ s ok. call_same r s resolved ok) r.subjects (parts_in_range r resolved.in_range).subjects)
 
 -- ---- rule 15

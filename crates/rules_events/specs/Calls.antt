@@ -2,7 +2,8 @@
 use Rattle.std.specs.Prelude.{ℕ, ◌&&◌, Bool, List, ◌++◌, Option}
 use Rattle.std.specs.List.{filter_map}
 use Rattle.muen_num.specs.Search.{unless}
-use Rattle.policy_lawful.specs.MoreRules.{call_number, trap_reason, are_numbers}
+use Rattle.policy_lawful.specs.Events.{trap_number}
+use Rattle.policy_lawful.specs.MoreRules.{call_number, are_numbers}
 use Rattle.policy_lawful.specs.Offences.{alone}
 use Rattle.policy_lawful.specs.Resolution.{Resolution}
 use Rattle.policy_lawful.specs.declared.offence.Offence.{Offence}
@@ -15,7 +16,7 @@ abbrev pub calls_with : List IndexedEnd → Subject → List ℕ
 calls_with ends s = filter_map (λ e. call_number e.way) s.sources ++ filter_map (λ e. e.call) ends
 
 abbrev pub traps_at : Subject → List ℕ
-traps_at s = filter_map (λ e. trap_reason e.way) s.sources
+traps_at s = filter_map (λ e. trap_number e.way) s.sources
 
 abbrev pub has_numbers_with : List IndexedEnd → Subject → Bool
 has_numbers_with ends s = are_numbers (calls_with ends s) && are_numbers (traps_at s)

@@ -7,13 +7,12 @@ use Rattle.policy_lawful.specs.Offences.{two}
 use Rattle.policy_lawful.specs.declared.offence.Offence.{Offence}
 use Rattle.policy_lawful.specs.declared.resolved.Monitor.{Monitor}
 use Rattle.policy_lawful.specs.declared.resolved.Subject.{Subject}
-use Rattle.policy_types.specs.Rights.{has}
-use Rattle.policy_types.specs.declared.rights.TheConstants.Rights.{EXECUTE}
+use Rattle.policy_types.specs.Rights.{may_execute}
 
 -- the other subject is another one on the same CPU, that wasn't monitored before, and there is no right to execute
 abbrev pub is_monitor_of : Subject → Subject → Monitor → Bool → Bool
 is_monitor_of other s m is_new =
-    not (bytes_eq other.name s.name) && (other.cpu == s.cpu) && is_new && not (has m.rights EXECUTE)
+    not (bytes_eq other.name s.name) && (other.cpu == s.cpu) && is_new && not (may_execute m.rights)
 
 -- a monitor that may not be
 abbrev pub monitor_fault : List Subject → Subject → Bool → Monitor → Option Offence

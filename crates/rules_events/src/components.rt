@@ -74,7 +74,7 @@ fn are_within(most: Rights, rights: Option<Rights>) -> bool
 {
     match rights {
         None => true,
-        Some(rights) => most.has(rights),
+        Some(rights) => most.includes(rights),
     }
 }
 

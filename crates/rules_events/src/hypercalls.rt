@@ -2,7 +2,8 @@
 ghost use Rattle.std.specs.Prelude.{◌≡◌, ◌&&◌, ◌++◌, IfOk, map};
 ghost use Rattle.std.specs.List.{filter_map};
 ghost use Rattle.muen_num.specs.Search.{first_in};
-ghost use Rattle.policy_lawful.specs.MoreRules.{call_number, trap_reason, are_numbers, offence_14};
+ghost use Rattle.policy_lawful.specs.Events.{trap_number};
+ghost use Rattle.policy_lawful.specs.MoreRules.{call_number, are_numbers, offence_14};
 ghost use Rattle.policy_lawful.specs.Resolution.{IsResolved, source_of};
 ghost use Rattle.rules_events.specs.Calls.{call_offence, calls_with, has_numbers_with, traps_at};
 
@@ -23,8 +24,8 @@ fn call_number(way: SourceWay) -> Option<u64>
     }
 }
 
-fn trap_reason(way: SourceWay) -> Option<u64>
-    ensures { result ≡ trap_reason way }
+fn trap_number(way: SourceWay) -> Option<u64>
+    ensures { result ≡ trap_number way }
 {
     match way {
         SourceWay::Call(_) => None,
@@ -42,11 +43,11 @@ fn calls_of(alloc: Global, sources: &[EventSource]) -> Result<Vec<u64>, AllocErr
 }
 
 fn traps_of(alloc: Global, sources: &[EventSource]) -> Result<Vec<u64>, AllocError>
-    ensures { IfOk result (λ v. v.items ≡ filter_map (λ e. trap_reason e.way) sources.now) }
+    ensures { IfOk result (λ v. v.items ≡ filter_map (λ e. trap_number e.way) sources.now) }
 {
     sources
         .iter()
-        .filter_map(|e| trap_reason(e.way))
+        .filter_map(|e| trap_number(e.way))
         .collect(alloc)
 }
 

@@ -11,7 +11,6 @@ use crate::marks::{is_marked, mark, no_marks};
 use muen_num::NoMemory;
 use policy_lawful::resolved::{Monitor, Subject};
 use policy_lawful::{Offence, Resolved};
-use policy_types::Rights;
 use std::alloc::Global;
 
 // Whether a subject may have this monitor of another one, which it may not have monitored before.
@@ -21,7 +20,7 @@ fn is_monitor_of(other: &Subject, subject: &Subject, monitor: &Monitor, is_new: 
     other.name != subject.name
         && other.cpu == subject.cpu
         && is_new
-        && !monitor.rights.has(Rights::EXECUTE)
+        && !monitor.rights.may_execute()
 }
 
 // A monitor that may not be.

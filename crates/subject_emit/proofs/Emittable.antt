@@ -12,7 +12,7 @@ use Rattle.policy_lawful.specs.Rules.{is_guest, is_page_aligned, is_page_size}
 use Rattle.policy_lawful.specs.declared.view.View.{View}
 use Rattle.region_alloc.specs.Placed.{Placement}
 use Rattle.subject_emit.specs.Mapped.{leaf_for, mapped, mapped_windows, shown_address}
-use Rattle.subject_emit.specs.Shows.{IsReadable, IsShown}
+use Rattle.subject_emit.specs.Shows.{IsShown}
 use Rattle.subject_emit.proofs.AddressesFit.{AreAt}
 
 -- ---- the greatest page
@@ -36,8 +36,8 @@ fits_leaf guest address p g =
 
 -- ---- one window
 
-emittable : (x : Placement) (k : ℕ) (v : View) → is_guest v.guest v.size ≡ true → AreAt (shown_address x k v.shows) v.size → IsReadable v.rights → IsEmittable (mapped x k v)
-emittable x k v guest at readable =
+emittable : (x : Placement) (k : ℕ) (v : View) → is_guest v.guest v.size ≡ true → AreAt (shown_address x k v.shows) v.size → IsEmittable (mapped x k v)
+emittable x k v guest at =
     let both = and_parts (is_page_aligned v.guest && is_page_size v.size) (nat_le (v.guest + v.size) (2 ^ 48)) guest in
     let range = and_parts (is_page_aligned v.guest) (is_page_size v.size) both.0 in
     let size = and_parts (is_page_aligned v.size) _ range.1 in
@@ -49,16 +49,14 @@ emittable x k v guest at readable =
       address = at.whole;
       end = leb-true (v.guest + v.size) (2 ^ 48) both.1;
       address_end = at.end;
-      known = readable.known;
-      read = readable.read;
       aligned = fits_leaf v.guest (shown_address x k v.shows) at.whole aligned;
     }
 
 -- ---- all
 
-pub all_emittable : (x : Placement) (k : ℕ) (g : Grants) → All (λ v. is_guest v.guest v.size ≡ true) g.views → All (IsShown x.expanded.lawful k) g.views → All (λ v. IsReadable v.rights) g.views
+pub all_emittable : (x : Placement) (k : ℕ) (g : Grants) → All (λ v. is_guest v.guest v.size ≡ true) g.views → All (IsShown x.expanded.lawful k) g.views
     → ((v : View) → IsShown x.expanded.lawful k v → AreAt (shown_address x k v.shows) v.size)
     → All IsEmittable (mapped_windows x k g)
-all_emittable x k g guests shown readable at =
+all_emittable x k g guests shown at =
     All-map IsEmittable (mapped x k) g.views
-    (λ i d l. emittable x k (get_or g.views i d) (guests i d l) (at (get_or g.views i d) (shown i d l)) (readable i d l))
+    (λ i d l. emittable x k (get_or g.views i d) (guests i d l) (at (get_or g.views i d) (shown i d l)))

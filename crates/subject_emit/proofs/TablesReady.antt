@@ -16,7 +16,6 @@ use Rattle.muen_num.specs.declared.tag.TagPart.TheVariants.{Ept}
 use Rattle.region_alloc.specs.Placed.{IsPlaced, Placement}
 use Rattle.subject_emit.specs.Mapped.{kernel_first, mapped_windows}
 use Rattle.subject_emit.specs.Ready.{IsReady}
-use Rattle.subject_emit.specs.Shows.{IsReadable}
 use Rattle.subject_emit.proofs.Emittable.{all_emittable}
 use Rattle.subject_emit.proofs.KeptSizes.{guests_granted}
 use Rattle.subject_emit.proofs.Numbered.{has_addresses, kernel_at_index}
@@ -25,12 +24,12 @@ use Rattle.subject_emit.proofs.AddressesFit.{shown_at, tables_there}
 use Rattle.subject_emit.proofs.SamePages.{pages_same, ranges_same}
 use Rattle.subject_emit.proofs.ShownViews.{granted_shown}
 
-pub ready : (x : Placement) (k : ℕ) (g : Grants) → IsPlaced x → slice_get x.expanded.grants k ≡ Some g → All (λ v. IsReadable v.rights) g.views → IsReady x k g
-ready x k g placed at readable =
+pub ready : (x : Placement) (k : ℕ) (g : Grants) → IsPlaced x → slice_get x.expanded.grants k ≡ Some g → IsReady x k g
+ready x k g placed at =
     let s = first_at (AreGrantsOf x.expanded.lawful) x.expanded.lawful.subjects x.expanded.grants k g placed.expansion.grants at in
     let shown = granted_shown x.expanded.lawful k s.0 g s.1 s.2 in
     let guests = guests_granted x.expanded.lawful placed.lawful placed.resolved k s.0 g s.1 s.2 in
-    let emittable = all_emittable x k g guests shown readable (λ v h. shown_at x placed k v.size v.shows h) in
+    let emittable = all_emittable x k g guests shown (λ v h. shown_at x placed k v.size v.shows h) in
     let can : CanMap g.views =
     subst (λ g. CanMap g.views) (get_or_from_slice_get x.expanded.grants k g g at)
     (can_map_granted x.expanded.lawful x.expanded.grants placed.resolved placed.lawful placed.expansion.grants k g (slice_get_within x.expanded.grants k g at)) in

@@ -1,21 +1,15 @@
--- What windows show is there, and windows may be read.
+-- What windows show is there.
 use Rattle.std.specs.Prelude.{◌≡◌, ℕ, ◌+◌, ◌%◌, ◌<◌, ◌≤◌, List, [], length, slice_get, Option, Some, option_and_then, option_map}
 use Rattle.std.specs.Option.{option_map_or}
 use Rattle.policy_lawful.specs.ByIndex.{provided_at}
 use Rattle.muen_num.specs.declared.limits.TheConstants.{PAGE}
 use Rattle.policy_lawful.specs.Resolution.{Resolution}
-use Rattle.policy_types.specs.declared.rights.Rights.{Rights}
 use Rattle.policy_types.specs.declared.source.Provided.{Provided as Brought}
 use Rattle.policy_lawful.specs.declared.view.Shown.{Shown}
 use Rattle.policy_lawful.specs.declared.view.Shown.TheVariants.{Memory, Channel, Provided, Device, State}
 use Rattle.policy_lawful.specs.declared.view.View.{View}
 use Rattle.region_alloc.specs.Placed.{Placement}
 use Rattle.subject_emit.specs.Mapped.{brought_before, kernel_first}
-
--- reading is among the rights, and they are some of reading, writing and executing
-pub record IsReadable (rights : Rights) : Type 0 where
-  pub known : rights.0 < 8
-  pub read : rights.0 % 2 ≡ 1
 
 -- what the component of the subject at an index brings along
 abbrev pub brought_to : Resolution → ℕ → List Brought

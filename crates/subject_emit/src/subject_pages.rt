@@ -1,7 +1,6 @@
 //! What the kernel keeps for a subject.
-ghost use Rattle.std.specs.Prelude.{◌≡◌, Some, IfOk, All, slice_get};
+ghost use Rattle.std.specs.Prelude.{◌≡◌, Some, IfOk, slice_get};
 ghost use Rattle.subject_emit.specs.Pages.{ArePages};
-ghost use Rattle.subject_emit.specs.Shows.{IsReadable};
 
 use crate::bitmaps::{first_state, msr_area, msr_bitmap, port_bitmaps};
 use crate::tables::tables;
@@ -30,7 +29,7 @@ pub struct SubjectPages {
 /// which it begins, tables of its windows at the addresses of what they show, bitmaps of the ports and
 /// MSRs that are granted to it, and the area of these MSRs.
 ///
-/// Its windows may all be read. Answers `NoMemory` where memory was refused.
+/// Answers `NoMemory` where memory was refused.
 pub fn pages(
     alloc: Global,
     placed: &Placed,
@@ -40,7 +39,6 @@ pub fn pages(
 ) -> Result<SubjectPages, NoMemory>
     requires subject { slice_get placed.now.expanded.lawful.subjects index ≡ Some subject.now }
     requires granted { slice_get placed.now.expanded.grants index ≡ Some granted.now }
-    requires readable { All (λ v. IsReadable v.rights) granted.now.views }
     ensures { IfOk result (ArePages placed.now index subject.now granted.now) }
 {
     Ok(SubjectPages {

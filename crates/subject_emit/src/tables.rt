@@ -6,7 +6,7 @@ ghost use Rattle.ept_emit.specs.Pages.{ept_pages, ranges_of};
 ghost use Rattle.muen_num.specs.declared.limits.TheConstants.{PAGE};
 ghost use Rattle.subject_emit.specs.Ready.{IsReady};
 ghost use Rattle.subject_emit.specs.Pages.{AreTablesOf, tables_at};
-ghost use Rattle.subject_emit.specs.Shows.{HasAddresses, IsReadable};
+ghost use Rattle.subject_emit.specs.Shows.{HasAddresses};
 
 use crate::mapped::mapped_windows;
 use crate::numbers::kernel_first;
@@ -55,7 +55,6 @@ pub(crate) fn tables(
     granted: &Grants,
 ) -> Result<Seq<u8>, NoMemory>
     requires granted { slice_get placed.now.expanded.grants subject ≡ Some granted.now }
-    requires readable { All (λ v. IsReadable v.rights) granted.now.views }
     ensures tables { IfOk result (AreTablesOf (mapped_windows placed.now subject granted.now) (tables_at placed.now subject)) }
     ensures placed { IsPlaced placed.now }
 {

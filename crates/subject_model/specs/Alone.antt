@@ -18,6 +18,7 @@ use Rattle.muen_num.specs.declared.limits.TheConstants.{EXIT_EPT_VIOLATION, EXIT
 use Rattle.policy_lawful.specs.Events.{traps_of}
 use Rattle.policy_lawful.specs.Thing.{Thing, same_thing}
 use Rattle.policy_lawful.specs.Windows.{Window, Access, byte, violation, access_of, windows_of}
+use Rattle.policy_types.specs.Rights.{found_bits}
 use Rattle.policy_types.specs.declared.source.Source.{Source}
 use Rattle.policy_types.specs.declared.source.SourceWay.{SourceWay}
 use Rattle.policy_types.specs.declared.source.SourceWay.TheVariants.{Call, Trap}
@@ -91,7 +92,7 @@ pub record Inbox : Type 0 where
 -- were found in bits 5:3
 abbrev pub reach_by : AccessKind → ℕ → Access Thing → Reach Thing
 reach_by kind addr (byte x offset) = Reached x offset
-reach_by kind addr (violation found) = Refused EXIT_EPT_VIOLATION (kind_bit kind + 8 * found.0) addr
+reach_by kind addr (violation found) = Refused EXIT_EPT_VIOLATION (kind_bit kind + 8 * found_bits found) addr
 
 abbrev pub input_byte : List (ℕ × ℕ) → ℕ → ℕ
 input_byte ports port = option_map_or (λ b. b) (value_of (λ a b. a == b) ports port) 0

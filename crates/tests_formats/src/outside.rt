@@ -34,7 +34,7 @@ fn files_in_memory(rt: HostRuntime) -> Result<(), Fail> {
 fn files_in_a_folder(rt: HostRuntime) -> Result<(), Fail> {
     let alloc = rt.alloc();
     let name = "muen_outside_test";
-    let mut files = FolderFiles::new(rt);
+    let mut files = FolderFiles::system(rt);
     assert_eq!(rt; files.write(alloc, name, b"lost"), Ok(()));
     assert_eq!(rt; files.write(alloc, name, b"xyz"), Ok(()));
     let whole = bytes_found(alloc, b"xyz")?;

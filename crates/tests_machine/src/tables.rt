@@ -4,7 +4,6 @@ ghost use Rattle.ept_emit.specs.Pages.{AreApart, IsMapped, range_of, ranges_of};
 ghost use Rattle.ept_emit.specs.Entries.{IsEmittable, level_of};
 ghost use Rattle.machine_layout.specs.Walks.{entry_size};
 
-use bitflags::Flags;
 use ept_emit::{GuestRange, Leaf, Window, emit, eptp, pages};
 use muen_num::limits::{GUEST_END, LARGE_PAGE, PAGE, PHYSICAL_END};
 use policy_types::{Caching, Rights};
@@ -27,8 +26,7 @@ fn page_of(leaf: Leaf) -> u64
 fn is_emittable(window: Window) -> bool
     ensures { IsTrue result → IsEmittable window }
 {
-    let rights = window.rights.bits();
-    if rights >= 8 || rights % 2 == 0 || window.size == 0 {
+    if window.size == 0 {
         return false;
     }
     if window.guest % PAGE != 0 || window.size % PAGE != 0 || window.address % PAGE != 0 {
@@ -151,13 +149,13 @@ fn small(guest: u64, address: u64, rights: Rights, caching: Caching) -> Window {
 
 #[test]
 fn a_large_page_beside_a_small_one(rt: HostRuntime) -> Result<(), Fail> {
-    let rights = Rights::READ.union(Rights::EXECUTE);
+    let rights = Rights::Rx;
     let code = small(0x40_0000, 0x10_7000, rights, Caching::Wb);
     let data = Window {
         guest: 0x80_0000,
         size: LARGE_PAGE,
         address: 0x20_0000,
-        rights: Rights::READ.union(Rights::WRITE),
+        rights: Rights::Rw,
         caching: Caching::Wb,
         leaf: Leaf::Large,
     };
@@ -179,7 +177,7 @@ fn a_page_of_a_gigabyte(rt: HostRuntime) -> Result<(), Fail> {
         guest: 0x4000_0000,
         size: 0x4000_0000,
         address: 0x8000_0000,
-        rights: Rights::READ.union(Rights::WRITE),
+        rights: Rights::Rw,
         caching: Caching::Wb,
         leaf: Leaf::Huge,
     };
@@ -190,7 +188,7 @@ fn a_page_of_a_gigabyte(rt: HostRuntime) -> Result<(), Fail> {
 
 #[test]
 fn the_highest_page(rt: HostRuntime) -> Result<(), Fail> {
-    let window = small(0xffff_ffff_f000, 0x10_6000, Rights::READ, Caching::Uc);
+    let window = small(0xffff_ffff_f000, 0x10_6000, Rights::R, Caching::Uc);
     let expected = [
         (0, 511, 0x10_1007),
         (1, 511, 0x10_2007),

@@ -14,12 +14,12 @@ pub device_parts-requires-clause-ports : goal.device_parts-requires-clause-ports
 device_parts-requires-clause-ports c =
     let same = c.resolved-policy.ensures.value ∙ c.lawful.ensures in
     let lawful = subst (λ (r : Resolution). IsLawful (source_of r)) c.lawful.ensures c.resolved-policy.ensures.lawful in
-    ap (list_all fits_device) (c.devices.ensures ∙ ap (λ (r : Resolution). r.devices) same) ∙ ports_fit c.args.expanded.now.lawful lawful.rule_10
+    ap (list_all fits_device) (c.devices.ensures.value ∙ ap (λ (r : Resolution). r.devices) same) ∙ ports_fit c.args.expanded.now.lawful lawful.rule_10
 
 pub device_parts-requires-clause-routes : goal.device_parts-requires-clause-routes
 device_parts-requires-clause-routes c =
     let same = c.resolved-policy.ensures.value ∙ c.lawful.ensures in
-    subst (AreFew c.routes.result.now) (sym (c.devices.ensures ∙ ap (λ (r : Resolution). r.devices) same))
+    subst (AreFew c.routes.result.now) (sym (c.devices.ensures.value ∙ ap (λ (r : Resolution). r.devices) same))
     (are_few c.args.expanded.now.lawful
     (sym (ap (list_all has_name) (c.subjects.ensures.value ∙ ap (λ (r : Resolution). r.subjects) same)) ∙ c.are_named.ensures.named)
     (subst (λ (r : Resolution). IsLawful (source_of r)) c.lawful.ensures c.resolved-policy.ensures.lawful)
@@ -33,5 +33,5 @@ returns c =
     (sym (ap (list_all has_name) (c.subjects.ensures.value ∙ ap (λ (r : Resolution). r.subjects) same)) ∙ c.are_named.ensures.named)
     (subst (λ (r : Resolution). IsLawful (source_of r)) c.lawful.ensures c.resolved-policy.ensures.lawful)
     c.routes.result.now c.routes.ensures.routes c.args.first ps
-    (is ∙ ap (device_parts c.routes.result.now 0 c.args.first) (c.devices.ensures ∙ ap (λ (r : Resolution). r.devices) same)))
+    (is ∙ ap (device_parts c.routes.result.now 0 c.args.first) (c.devices.ensures.value ∙ ap (λ (r : Resolution). r.devices) same)))
     c.device_parts.ensures

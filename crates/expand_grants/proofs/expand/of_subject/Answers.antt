@@ -15,7 +15,7 @@ returns c =
     let entries = c.in_ok-entries_of.ensures in
     record {
       views = c.in_ok-in_order.ensures ∙ ap (in_order is_lower) (c.views.ensures ∙ ap (λ o. option_map_or (views_of r) o []) c.requires.at);
-      ports = c.in_ok-port_ranges.ensures ∙ (λ k. flat_map (ranges_at (c.devices.ensures k)) (c.items.ensures k)) ∙ sym kept.ports;
+      ports = c.in_ok-port_ranges.ensures ∙ (λ k. flat_map (ranges_at (c.devices.ensures.value k)) (c.items.ensures k)) ∙ sym kept.ports;
       msrs = c.in_ok-msr_grants.ensures ∙ ap (map msr_grant) c.items-2.ensures;
       events = λ way. ap (λ es. entry_raised r es way) entries ∙ kept.events way;
       once = λ way. subst (λ es. count_by (λ e. is_way way e.way) es ≤ 1) (sym entries) (kept.once way);

@@ -12,7 +12,7 @@ returns-in_err-put_devices-clause-text g c =
       search rules,
       gives_exit _ _ _ _ c.from_residual-in_err-put_devices.ensures.0
           (lost_first (a ++ b) (all_view_lines c.args.policy.now c.args.grants.now 0 c.args.policy.now.subjects) _ _
-          (lost_after a b _ _ _ c.in_ok-put_regions.ensures.1 (rw c.devices.ensures at c.in_err-put_devices.ensures.1))),
+          (lost_after a b _ _ _ c.in_ok-put_regions.ensures.1 (rw c.devices.ensures.value at c.in_err-put_devices.ensures.1))),
     )
 
 pub returns-clause-text : goal.returns-clause-text
@@ -21,6 +21,6 @@ returns-clause-text g c =
     let b = device_lines c.args.policy.now.devices in (
       search rules,
       gives_then (a ++ b) (all_view_lines c.args.policy.now c.args.grants.now 0 c.args.policy.now.subjects) _ _ _ _
-          (given_then a b _ _ _ c.in_ok-put_regions.ensures.1 (rw c.devices.ensures at c.in_ok-put_devices.ensures.1))
+          (given_then a b _ _ _ c.in_ok-put_regions.ensures.1 (rw c.devices.ensures.value at c.in_ok-put_devices.ensures.1))
           (rw c.subjects-subjects.ensures.value at c.put_windows.ensures.1),
     )

@@ -40,7 +40,7 @@ offset_bounds-regions-number c =
     omega (arith, c.number.ensures, first, there, ap length regions)
 
 pub emitted-requires-clause-ready : goal.emitted-requires-clause-ready
-emitted-requires-clause-ready c = ready c.args.placed.now c.args.subject c.args.granted.now c.expanded-expanded.ensures.placed c.requires.granted c.requires.readable
+emitted-requires-clause-ready c = ready c.args.placed.now c.args.subject c.args.granted.now c.expanded-expanded.ensures.placed c.requires.granted
 
 pub emitted-requires-clause-bytes : goal.emitted-requires-clause-bytes
 emitted-requires-clause-bytes c =
