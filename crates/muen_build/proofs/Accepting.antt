@@ -1,62 +1,95 @@
 -- From a lawful policy whose contents are held against files to one that is accepted.
-use Rattle.std.proofs.Common.{◌≡◌, ℕ, inl, inr, false, List, [], ◌∷◌, Some, None, Result, Ok, Err, sym, ap, ◌∙◌}
-use Rattle.std.proofs.lemmas.Bool.{false≢true}
-use Rattle.expand_kernel.specs.declared.region.Region.{Region}
+use Rattle.std.proofs.Common.{◌≡◌, inl, inr, ℕ, true, List, [], ◌∷◌, ◌++◌, Option, Some, None, IfSome, Ok, Err, refl, sym, ap, subst, ◌∙◌}
+use Rattle.std.specs.List.{All}
+use Rattle.std.specs.FinMap.{insert}
+use Rattle.std.proofs.lemmas.List.Elements.{All-nil, All-weaker}
 use Rattle.muen_num.specs.Answers.{Answers, Explains}
-use Rattle.muen_outside.specs.States.{FilesState}
+use Rattle.muen_outside.specs.Looks.{ShowAll}
+use Rattle.muen_outside.specs.States.{History, Look, looked}
+use Rattle.muen_outside.specs.Store.{Store}
 use Rattle.policy_types.specs.declared.refusal.Refusal.{Refusal}
-use Rattle.policy_types.specs.declared.refusal.Refusal.TheVariants.{NoMemory, NoRoom}
+use Rattle.policy_types.specs.declared.refusal.Refusal.TheVariants.{NoMemory}
 use Rattle.policy_types.specs.declared.source.Source.{Source}
-use Rattle.muen_build.specs.Accepting.{Accepts, FailsWith, Files, Grows, Passes, Refuses, RefusesDocument, looks_of, of_all}
-use Rattle.muen_build.specs.Looks.{Follows, document_look}
-use Rattle.muen_build.specs.Refusals.{contents_refused, filled_of, is_for_a_file, lawful_policy_of}
+use Rattle.muen_build.specs.Accepting.{Accepts, FailsWith, Files, Grows, IsAskedBy, Names, Passes, Refuses, RefusesDocument, Stops, looks_of, of_all}
+use Rattle.muen_build.specs.Looks.{IsAsked, Looked, names_file}
+use Rattle.muen_build.specs.Refusals.{contents_refused, filled_of, lawful_policy_of}
 use Rattle.muen_build.specs.declared.accepted.BuildError.{BuildError}
 use Rattle.muen_build.specs.declared.accepted.BuildError.TheVariants.{Refused}
-use Rattle.region_alloc.specs.Placement.{no_room, no_room_for, placement_of}
-use Rattle.muen_build.proofs.Refusing.{built_so, contents_first, for_no_file, not_lawful, room_last}
-use Rattle.muen_build.proofs.Steps.{fails_here, fails_so}
+use Rattle.region_alloc.specs.Placement.{no_room}
+use Rattle.muen_build.proofs.Looks.{grows_not, stops_so}
+use Rattle.muen_build.proofs.Refusing.{built_so, contents_first, not_lawful, room_last}
+
+-- ---- all looks of a call
+
+module _ (name : List ℕ) (held : Option Store) (old new : History) (looks : List Look) where
+  pub all_looked : (names : Names) → Grows name names held old new [] looks → Looked name held old new looks
+  all_looked names g = record {
+    history = g.history ∙ ap (looked old) (sym g.grown);
+    single = g.single tt;
+    others = g.others tt;
+    told = subst (λ ls. IfSome held (λ m. ShowAll m ls)) (sym g.grown) g.told;
+  }
+
+  pub all_asked : (document : List ℕ) (p : Source) → lawful_policy_of document ≡ Ok p → Grows name (names_file p) held old new [] looks → All (IsAsked document) looks
+  all_asked document p is g =
+      subst (All (IsAsked document)) (sym g.grown)
+      (All-weaker (IsAskedBy (names_file p)) (IsAsked document) (λ l asked. record { policy = p; lawful = is; names = asked.0; most = asked.1 }) g.more g.asked)
+
+-- ---- how it ends
 
 -- it isn't lawful
-pub unlawful_fails : (name document : List ℕ) (old new : FilesState) (r : Refusal) → Answers NoMemory (lawful_policy_of document) (Err r) → FailsWith (document_look name document ∷ []) (RefusesDocument document) old new (Refused r)
-unlawful_fails name document old new r h =
-    elim h [
-      | inl is ↦ inl is
-      | inr e ↦ fails_here (document_look name document ∷ []) (RefusesDocument document) old new r (for_no_file document r e) (λ files s. not_lawful files document r e)
-    ]
+pub unlawful_fails : (name document : List ℕ) (held : Option Store) (h : History) (r : Refusal) → Answers NoMemory (lawful_policy_of document) (Err r) → FailsWith name document held h h (Refused r)
+unlawful_fails name document held h r answer =
+    let none = grows_not name (λ file. true) held h [] in
+    record {
+      looks = [];
+      looked = all_looked name held h h [] (λ file. true) none;
+      asked = All-nil (IsAsked document);
+      says = elim answer [
+        | inl is ↦ inl is
+        | inr e ↦ inr (λ files s. not_lawful (insert files name document) document r e)
+      ];
+    }
 
--- a refusal for want of room is for no file
-room_for_no_file : (answer : Result (List ℕ) Region) (r : Refusal) → no_room_for answer ≡ Some r → is_for_a_file r ≡ false
-room_for_no_file (Ok addresses) r h = absurd (cc)
-room_for_no_file (Err x) r h = let same : NoRoom x.tag x.size ≡ r = cc in ap is_for_a_file (sym same)
+module _ (name document : List ℕ) (p : Source) (is : lawful_policy_of document ≡ Ok p) (held : Option Store) (old new : History) where
+  -- of its contents, or of its room
+  stops_fails : (error : BuildError) → Stops name document (names_file p) held old new [] (RefusesDocument document) error → FailsWith name document held old new error
+  stops_fails error e = record {
+    looks = e.after;
+    looked = all_looked name held old new e.after (names_file p) e.grows;
+    asked = all_asked name held old new e.after document p is e.grows;
+    says = e.says;
+  }
 
-pub no_room_for_no_file : (p : Source) (r : Refusal) → no_room p ≡ Some r → is_for_a_file r ≡ false
-unfolding no_room
-no_room_for_no_file p r h = room_for_no_file (placement_of p) r h
-
-module _ (name document : List ℕ) (p : Source) (is : lawful_policy_of document ≡ Ok p) where
   -- its contents are refused
-  pub contents_fails : (old new : FilesState) (error : BuildError) → FailsWith (document_look name document ∷ []) (Refuses (of_all (filled_of p))) old new error → FailsWith (document_look name document ∷ []) (RefusesDocument document) old new error
+  pub contents_fail : (error : BuildError) → Stops name document (names_file p) held old new [] (Refuses (of_all (filled_of p))) error → FailsWith name document held old new error
   unfolding contents_refused
-  contents_fails old new error e =
-      fails_so (document_look name document ∷ []) (Refuses (of_all (filled_of p))) (RefusesDocument document) old new error
-      (λ files r s h. contents_first files document p r is h) e
+  contents_fail error e =
+      stops_fails error
+      (stops_so name document (names_file p) (names_file p) held old new [] (Refuses (of_all (filled_of p))) (RefusesDocument document) error (λ file h. h)
+      (λ r after shows h files s. contents_first (insert files name document) document p r is (h files s)) e)
 
   -- there is no room
-  module _ (found : Files) (passes : Passes (looks_of name document found) (of_all (filled_of p))) where
-    pub room_fails : (old new : FilesState) (r : Refusal) → Grows old.held (document_look name document ∷ []) (looks_of name document found) → Follows old new → Explains NoMemory (no_room p) r → FailsWith (document_look name document ∷ []) (RefusesDocument document) old new (Refused r)
+  module _ (found : Files) (passes : Passes name document (looks_of found) (of_all (filled_of p))) where
+    pub room_fails : (r : Refusal) → Grows name (names_file p) held old new [] (looks_of found) → Explains NoMemory (no_room p) r → FailsWith name document held old new (Refused r)
     unfolding contents_refused
-    room_fails old new r grows follows h =
-        elim h [
-          | inl m ↦ inl m
-          | inr e ↦ inr (record {
-            after = looks_of name document found;
-            grows = grows;
-            refuses = λ files s. room_last files document p r is (passes files s) e;
-            missed = λ yes. absurd (false≢true (sym (no_room_for_no_file p r e) ∙ yes));
-          })
-        ]
+    room_fails r grows h = record {
+      looks = looks_of found;
+      looked = all_looked name held old new (looks_of found) (names_file p) grows;
+      asked = all_asked name held old new (looks_of found) document p is grows;
+      says = elim h [
+        | inl m ↦ inl m
+        | inr e ↦ inr (λ files s. room_last (insert files name document) document p r is (passes files s) e)
+      ];
+    }
 
     -- nothing is refused
-    pub accepts : no_room p ≡ None → Accepts (looks_of name document found) document p
+    pub accepts : no_room p ≡ None → Accepts name (looks_of found) document p
     unfolding contents_refused
-    accepts room files s = built_so files document p is (passes files s) room
+    accepts room files s = built_so (insert files name document) document p is (passes files s) room
+
+-- ---- the image
+
+-- memory for it was refused
+pub image_fails : (name document : List ℕ) (held : Option Store) (old new : History) (looks : List Look) → Looked name held old new looks → All (IsAsked document) looks → FailsWith name document held old new (Refused NoMemory)
+image_fails name document held old new looks looked asked = record { looks = looks; looked = looked; asked = asked; says = inl refl }

@@ -1,18 +1,22 @@
 -- What holding one content, and all of them, comes to.
-use Rattle.std.proofs.Common.{◌≡◌, ℕ, ◌+◌, ◌<◌, List, [], ◌∷◌, length, map, drop, get_or, Option, Some, None, Result, Ok, Err, IfOk, refl, sym, ap, subst, ◌∙◌, arith}
+use Rattle.std.proofs.Common.{◌≡◌, ℕ, ◌+◌, ◌<◌, Bool, true, false, ◌||◌, List, [], ◌∷◌, ◌++◌, length, map, drop, get_or, Option, Some, None, Result, Ok, Err, IfOk, inr, refl, sym, ap, ap₂, subst, ◌∙◌}
+use Rattle.std.specs.Str.{bytes_eq}
+use Rattle.std.specs.FinMap.{insert}
 use Rattle.std.specs.Option.{option_or}
-use Rattle.std.specs.List.{flat_map}
+use Rattle.std.specs.List.{flat_map, list_any}
+use Rattle.std.proofs.lemmas.List.Folds.{list_any-append, list_any_at}
 use Rattle.muen_num.specs.Search.{as_refusal, first_in}
 use Rattle.muen_num.proofs.FirstSteps.{first_step}
 use Rattle.muen_num.proofs.SearchLaws.{first_in-append, first_over-map}
-use Rattle.muen_outside.specs.States.{FilesState}
+use Rattle.muen_outside.specs.Looks.{ShowAll}
+use Rattle.muen_outside.specs.States.{History, Look}
 use Rattle.muen_outside.specs.Store.{Store}
 use Rattle.policy_types.specs.declared.refusal.Refusal.{Refusal}
 use Rattle.policy_types.specs.declared.source.Content.TheVariants.{File, Fill, Inline, Zero}
-use Rattle.muen_build.specs.Accepting.{FailsWith, Files, Grows, Known, NotFound, Passes, Refuses, Why, looks_of, of_all, of_brought, of_filled, part_length}
+use Rattle.muen_build.specs.Accepting.{Files, Grows, Known, Names, NotFound, Passes, Refuses, Stops, Why, all_names, brought_names, filled_names, looks_of, of_all, of_brought, of_filled, part_length}
 use Rattle.policy_lawful.specs.ByIndex.{provided_at}
 use Rattle.muen_build.specs.Filling.{brought_at, filled_provided, filled_region}
-use Rattle.muen_build.specs.Looks.{Follows, Look, ShowAll}
+use Rattle.muen_build.specs.Looks.{is_of_file, names_file}
 use Rattle.muen_build.specs.Refusals.{Filled, content_refused, filled_of, filled_refused, too_long_for}
 use Rattle.muen_build.specs.declared.accepted.BuildError.{BuildError}
 use Rattle.muen_build.specs.declared.accepted.BuildError.TheVariants.{Refused}
@@ -20,7 +24,8 @@ use Rattle.policy_lawful.specs.declared.resolved.Subject.{Subject}
 use Rattle.policy_types.specs.declared.source.Component.{Component}
 use Rattle.policy_lawful.specs.Resolution.{IsResolved, Resolution, source_of}
 use Rattle.muen_build.proofs.FilledByIndex.{filled_by_index}
-use Rattle.muen_build.proofs.Steps.{fails_from, fails_here, fails_so, file_fails, fit_for_none, grows_not, grows_on, part_refused}
+use Rattle.muen_build.proofs.Looks.{grows_among, grows_not, grows_on, grows_shows, stops_from, stops_here, stops_so}
+use Rattle.muen_build.proofs.Steps.{file_fails, part_refused}
 
 -- ---- one content
 
@@ -32,90 +37,133 @@ none_is : (o : Option Refusal) → Ok tt ≡ as_refusal o → o ≡ None
 none_is None h = refl
 none_is (Some x) h = absurd (cc)
 
-module _ (looks : List Look) (f : Filled) where
-  pub zero_passes : f.content ≡ Zero → Passes looks (of_filled f)
-  zero_passes is files s = ap (content_refused files f) is
+module _ (name document : List ℕ) (f : Filled) where
+  pub zero_passes : (looks : List Look) → f.content ≡ Zero → Passes name document looks (of_filled f)
+  zero_passes looks is files s = ap (content_refused (insert files name document) f) is
 
-  pub fill_passes : (b : ℕ) → f.content ≡ Fill b → Passes looks (of_filled f)
-  fill_passes b is files s = ap (content_refused files f) is
+  pub fill_passes : (looks : List Look) (b : ℕ) → f.content ≡ Fill b → Passes name document looks (of_filled f)
+  fill_passes looks b is files s = ap (content_refused (insert files name document) f) is
 
-  pub inline_fails : (bytes : List ℕ) (old new : FilesState) (r : Refusal) → f.content ≡ Inline bytes → Err r ≡ as_refusal (too_long_for f (length bytes)) → FailsWith looks (Refuses (of_filled f)) old new (Refused r)
-  inline_fails bytes old new r is h =
-      let long = refused_is (too_long_for f (length bytes)) r h in
-      fails_here looks (Refuses (of_filled f)) old new r (fit_for_none f (length bytes) r long) (λ files s. ap (content_refused files f) is ∙ long)
+  pub inline_stops : (bytes : List ℕ) (held : Option Store) (h : History) (looks : List Look) (r : Refusal) → f.content ≡ Inline bytes → Err r ≡ as_refusal (too_long_for f (length bytes))
+      → Stops name document (filled_names f) held h h looks (Refuses (of_filled f)) (Refused r)
+  inline_stops bytes held h looks r is e =
+      let long = refused_is (too_long_for f (length bytes)) r e in
+      stops_here name document (filled_names f) held h looks (Refuses (of_filled f)) r (λ files s. ap (content_refused (insert files name document) f) is ∙ long)
 
-  pub inline_passes : (bytes : List ℕ) → f.content ≡ Inline bytes → Ok tt ≡ as_refusal (too_long_for f (length bytes)) → Passes looks (of_filled f)
-  inline_passes bytes is h files s = ap (content_refused files f) is ∙ none_is (too_long_for f (length bytes)) h
+  pub inline_passes : (bytes : List ℕ) (looks : List Look) → f.content ≡ Inline bytes → Ok tt ≡ as_refusal (too_long_for f (length bytes)) → Passes name document looks (of_filled f)
+  inline_passes bytes looks is h files s = ap (content_refused (insert files name document) f) is ∙ none_is (too_long_for f (length bytes)) h
 
   module _ (file : List ℕ) (offset : ℕ) (most : Option ℕ) (is : f.content ≡ File file offset most) where
-    pub missing_fails : (old new : FilesState) (error : BuildError) → FailsWith looks (NotFound file) old new error → FailsWith looks (Refuses (of_filled f)) old new error
-    missing_fails old new error e =
-        fails_so looks (NotFound file) (Refuses (of_filled f)) old new error (λ files r s n. ap (content_refused files f) is ∙ file_fails f file offset most files r n) e
+    named : (n : List ℕ) → bytes_eq file n ≡ true → filled_names f n ≡ true
+    named n h = ap (is_of_file n) is ∙ h
 
-    pub file_passes : (count : ℕ) → Known looks file count → Ok tt ≡ as_refusal (too_long_for f (part_length count offset most)) → Passes looks (of_filled f)
-    file_passes count known h files s =
-        ap (content_refused files f) is ∙ part_refused looks f file offset most count known files s ∙ none_is (too_long_for f (part_length count offset most)) h
+    pub file_grows : (held : Option Store) (old new : History) (a b : List Look) → Grows name (bytes_eq file) held old new a b → Grows name (filled_names f) held old new a b
+    file_grows held old new a b g = grows_among name (bytes_eq file) (filled_names f) held old new a b named g
 
-    pub long_fails : (before : List Look) (old mid : FilesState) (count : ℕ) (r : Refusal) → Grows old.held before looks → Follows old mid → Known looks file count → Err r ≡ as_refusal (too_long_for f (part_length count offset most)) → FailsWith before (Refuses (of_filled f)) old mid (Refused r)
-    long_fails before old mid count r grows follows known h =
-        let long = refused_is (too_long_for f (part_length count offset most)) r h in
-        fails_from before looks (Refuses (of_filled f)) old mid mid (Refused r) grows follows
-        (fails_here looks (Refuses (of_filled f)) mid mid r (fit_for_none f (part_length count offset most) r long)
-        (λ files s. ap (content_refused files f) is ∙ part_refused looks f file offset most count known files s ∙ long))
+    pub missing_stops : (held : Option Store) (old new : History) (looks : List Look) (error : BuildError) → Stops name document (bytes_eq file) held old new looks (NotFound file) error
+        → Stops name document (filled_names f) held old new looks (Refuses (of_filled f)) error
+    missing_stops held old new looks error e =
+        stops_so name document (bytes_eq file) (filled_names f) held old new looks (NotFound file) (Refuses (of_filled f)) error named
+        (λ r after shows n files s. ap (content_refused (insert files name document) f) is ∙ file_fails f file offset most (insert files name document) r (n files s)) e
+
+    refused_as : (looks : List Look) (count : ℕ) → Known name document looks file count → (files : Store) → ShowAll files looks → content_refused (insert files name document) f f.content ≡ too_long_for f (part_length count offset most)
+    refused_as looks count known files s = ap (content_refused (insert files name document) f) is ∙ part_refused f file offset most count (insert files name document) (known files s)
+
+    pub file_passes : (count : ℕ) (looks : List Look) → Known name document looks file count → Ok tt ≡ as_refusal (too_long_for f (part_length count offset most)) → Passes name document looks (of_filled f)
+    file_passes count looks known h files s = refused_as looks count known files s ∙ none_is (too_long_for f (part_length count offset most)) h
+
+    pub long_stops : (before looks : List Look) (held : Option Store) (old new : History) (count : ℕ) (r : Refusal) → Grows name (bytes_eq file) held old new before looks → Known name document looks file count
+        → Err r ≡ as_refusal (too_long_for f (part_length count offset most)) → Stops name document (filled_names f) held old new before (Refuses (of_filled f)) (Refused r)
+    long_stops before looks held old new count r grows known h = record {
+      after = looks;
+      grows = file_grows held old new before looks grows;
+      says = inr (λ files s. refused_as looks count known files s ∙ refused_is (too_long_for f (part_length count offset most)) r h);
+    }
 
 -- ---- several
 
--- what is known while they are gone through: which looks were added, and that those passed aren't refused
-pub record Passing (X : Type 0) (why : X → Why) (name document : List ℕ) (all : List X) (before : Files) (old now : FilesState) (found : Files) (i : ℕ) : Type 0 where
-  pub grows : Grows old.held (looks_of name document before) (looks_of name document found)
-  pub rest : (files : Store) → ShowAll files (looks_of name document found) → first_in (λ x. why x files) (drop i all) ≡ first_in (λ x. why x files) all
-  pub follows : Follows old now
+-- the names that any of these asks for
+abbrev pub any_names : {X : Type 0} → (X → Names) → List X → Names
+any_names asks all n = list_any (λ x. asks x n) all
 
-pub follows_self : (old : FilesState) → Follows old old
-follows_self old = record { held = refl; faults = omega arith; misses = omega arith }
+-- what is known while they are gone through: which looks were made, and that those passed aren't refused
+pub record Passing (X : Type 0) (why : X → Why) (asks : X → Names) (name document : List ℕ) (all : List X) (before : Files) (held now_held : Option Store) (old now : History) (found : Files) (i : ℕ) : Type 0 where
+  pub grows : Grows name (any_names asks all) held old now (looks_of before) (looks_of found)
+  pub rest : (files : Store) → ShowAll files (looks_of found) → first_in (λ x. why x (insert files name document)) (drop i all) ≡ first_in (λ x. why x (insert files name document)) all
+  pub same : now_held ≡ held
 
-module _ {X : Type 0} (why : X → Why) (name document : List ℕ) (all : List X) (before : Files) (old : FilesState) where
-  pub passing_first : Passing X why name document all before old old before 0
-  passing_first = record { grows = grows_not old.held (looks_of name document before); rest = λ files s. refl; follows = follows_self old }
+module _ {X : Type 0} (why : X → Why) (asks : X → Names) (name document : List ℕ) (all : List X) (before : Files) (held : Option Store) (old : History) where
+  pub passing_first : Passing X why asks name document all before held held old old before 0
+  passing_first = record { grows = grows_not name (any_names asks all) held old (looks_of before); rest = λ files s. refl; same = refl }
 
-  pub passing_all : (now : FilesState) (found : Files) (i : ℕ) → Passing X why name document all before old now found i → drop i all ≡ [] → Passes (looks_of name document found) (λ files. first_in (λ x. why x files) all)
-  passing_all now found i p end files s = sym (p.rest files s) ∙ ap (first_in (λ x. why x files)) end
+  module _ (now_held : Option Store) (now : History) (found : Files) (i : ℕ) (p : Passing X why asks name document all before held now_held old now found i) where
+    pub passing_all : drop i all ≡ [] → Passes name document (looks_of found) (λ files. first_in (λ x. why x files) all)
+    passing_all end files s = sym (p.rest files s) ∙ ap (first_in (λ x. why x (insert files name document))) end
 
-  module _ (now : FilesState) (found : Files) (i : ℕ) (x : X) (p : Passing X why name document all before old now found i) (within : i < length all) (is : x ≡ get_or all i x) where
-    pub follows_on : (new : FilesState) → Follows now new → Follows old new
-    follows_on new h = record { held = h.held ∙ p.follows.held; faults = omega (arith, p.follows.faults, h.faults); misses = omega (arith, p.follows.misses, h.misses) }
+    module _ (x : X) (within : i < length all) (is : x ≡ get_or all i x) where
+      asked : (n : List ℕ) → asks x n ≡ true → any_names asks all n ≡ true
+      asked n h = list_any_at (λ y. asks y n) all i x within (ap (λ y. asks y n) (sym is) ∙ h)
 
-    pub passing_on : (new : FilesState) (after : Files) → Grows now.held (looks_of name document found) (looks_of name document after) → Passes (looks_of name document after) (why x) → Follows now new → Passing X why name document all before old new after (i + 1)
-    passing_on new after grows passes h = record {
-      grows = grows_on old.held (looks_of name document before) (looks_of name document found) (looks_of name document after) p.grows (subst (λ held. Grows held (looks_of name document found) (looks_of name document after)) p.follows.held grows);
-      rest = λ files s.
-          sym (first_step (λ x. why x files) all i x None within is (sym (passes files s))) ∙ p.rest files (grows.shows files s);
-      follows = follows_on new h;
-    }
+      pub passing_on : (new_held : Option Store) (new : History) (after : Files) → Grows name (asks x) now_held now new (looks_of found) (looks_of after) → Passes name document (looks_of after) (why x) → new_held ≡ now_held
+          → Passing X why asks name document all before held new_held old new after (i + 1)
+      passing_on new_held new after grows passes stays =
+          let more = grows_among name (asks x) (any_names asks all) now_held now new (looks_of found) (looks_of after) asked grows in
+          record {
+            grows = grows_on name (any_names asks all) held now_held old now new (looks_of before) (looks_of found) (looks_of after) p.same p.grows more;
+            rest = λ files s.
+                sym (first_step (λ x. why x (insert files name document)) all i x None within is (sym (passes files s)))
+                ∙ p.rest files (grows_shows name (asks x) now_held now new (looks_of found) (looks_of after) grows files s);
+            same = stays ∙ p.same;
+          }
 
-    pub passing_fails : (new : FilesState) (error : BuildError) → FailsWith (looks_of name document found) (Refuses (why x)) now new error → FailsWith (looks_of name document before) (Refuses (λ files. first_in (λ x. why x files) all)) old new error
-    passing_fails new error e =
-        fails_from (looks_of name document before) (looks_of name document found) (Refuses (λ files. first_in (λ x. why x files) all)) old now new error p.grows p.follows
-        (fails_so (looks_of name document found) (Refuses (why x)) (Refuses (λ files. first_in (λ x. why x files) all)) now new error
-        (λ files r s h. sym (p.rest files s) ∙ first_step (λ x. why x files) all i x (Some r) within is (sym h)) e)
+      pub passing_stops : (new : History) (error : BuildError) → Stops name document (asks x) now_held now new (looks_of found) (Refuses (why x)) error
+          → Stops name document (any_names asks all) held old new (looks_of before) (Refuses (λ files. first_in (λ x. why x files) all)) error
+      passing_stops new error e =
+          stops_from name document (any_names asks all) held now_held old now new (looks_of before) (looks_of found) (Refuses (λ files. first_in (λ x. why x files) all)) error p.same p.grows
+          (stops_so name document (asks x) (any_names asks all) now_held now new (looks_of found) (Refuses (why x)) (Refuses (λ files. first_in (λ x. why x files) all)) error asked
+          (λ r after shows h files s. sym (p.rest files (shows files s)) ∙ first_step (λ x. why x (insert files name document)) all i x (Some r) within is (sym (h files s))) e)
 
--- of elements that are filled each for itself
-module _ {X : Type 0} (f : X → Filled) (xs : List X) where
-  pub mapped_fails : (looks : List Look) (old new : FilesState) (error : BuildError) → FailsWith looks (Refuses (λ files. first_in (λ x. of_filled (f x) files) xs)) old new error → FailsWith looks (Refuses (of_all (map f xs))) old new error
-  mapped_fails looks old new error e =
-      fails_so looks (Refuses (λ files. first_in (λ x. of_filled (f x) files) xs)) (Refuses (of_all (map f xs))) old new error
-      (λ files r s h. first_over-map f (filled_refused files) xs ∙ h) e
+-- ---- elements that are filled each for itself
 
-  pub mapped_passes : (looks : List Look) → Passes looks (λ files. first_in (λ x. of_filled (f x) files) xs) → Passes looks (of_all (map f xs))
-  mapped_passes looks p files s = first_over-map f (filled_refused files) xs ∙ p files s
+list_any-map : {X Y : Type 0} (test : Y → Bool) (f : X → Y) (xs : List X) → list_any test (map f xs) ≡ list_any (λ x. test (f x)) xs
+list_any-map test f [] = refl
+list_any-map test f (x ∷ xs) = ap (λ b. test (f x) || b) (list_any-map test f xs)
 
--- of what a subject's component brings along
-module _ (components : List Component) (s : Subject) where
-  pub brought_by_fails : (looks : List Look) (old new : FilesState) (error : BuildError) → FailsWith looks (Refuses (of_all (map (filled_provided s.name) (provided_at components s.component)))) old new error → FailsWith looks (Refuses (of_all (brought_at components s))) old new error
+module _ {X : Type 0} (f : X → Filled) (xs : List X) (name document : List ℕ) where
+  abbrev each_names : Names
+  each_names = any_names (λ x. filled_names (f x)) xs
+
+  mapped_names : (n : List ℕ) → each_names n ≡ true → all_names (map f xs) n ≡ true
+  mapped_names n h = list_any-map (λ y. filled_names y n) f xs ∙ h
+
+  pub mapped_grows : (held : Option Store) (old new : History) (a b : List Look) → Grows name each_names held old new a b → Grows name (all_names (map f xs)) held old new a b
+  mapped_grows held old new a b g = grows_among name each_names (all_names (map f xs)) held old new a b mapped_names g
+
+  pub mapped_stops : (held : Option Store) (old new : History) (looks : List Look) (error : BuildError) → Stops name document each_names held old new looks (Refuses (λ files. first_in (λ x. of_filled (f x) files) xs)) error
+      → Stops name document (all_names (map f xs)) held old new looks (Refuses (of_all (map f xs))) error
+  mapped_stops held old new looks error e =
+      stops_so name document each_names (all_names (map f xs)) held old new looks (Refuses (λ files. first_in (λ x. of_filled (f x) files) xs)) (Refuses (of_all (map f xs))) error mapped_names
+      (λ r after shows h files s. first_over-map f (filled_refused (insert files name document)) xs ∙ h files s) e
+
+  pub mapped_passes : (looks : List Look) → Passes name document looks (λ files. first_in (λ x. of_filled (f x) files) xs) → Passes name document looks (of_all (map f xs))
+  mapped_passes looks p files s = first_over-map f (filled_refused (insert files name document)) xs ∙ p files s
+
+-- ---- what a subject's component brings along
+
+module _ (components : List Component) (s : Subject) (name document : List ℕ) where
+  abbrev provided_all : List Filled
+  provided_all = map (filled_provided s.name) (provided_at components s.component)
+
+  pub brought_by_grows : (held : Option Store) (old new : History) (a b : List Look) → Grows name (all_names provided_all) held old new a b → Grows name (all_names (brought_at components s)) held old new a b
   unfolding brought_at
-  brought_by_fails looks old new error e = e
+  brought_by_grows held old new a b g = g
 
-  pub brought_by_passes : (looks : List Look) → Passes looks (of_all (map (filled_provided s.name) (provided_at components s.component))) → Passes looks (of_all (brought_at components s))
+  pub brought_by_stops : (held : Option Store) (old new : History) (looks : List Look) (error : BuildError) → Stops name document (all_names provided_all) held old new looks (Refuses (of_all provided_all)) error
+      → Stops name document (all_names (brought_at components s)) held old new looks (Refuses (of_all (brought_at components s))) error
+  unfolding brought_at
+  brought_by_stops held old new looks error e = e
+
+  pub brought_by_passes : (looks : List Look) → Passes name document looks (of_all provided_all) → Passes name document looks (of_all (brought_at components s))
   unfolding brought_at
   brought_by_passes looks p = p
 
@@ -131,31 +179,64 @@ first_in-flat_map : {X Y O : Type 0} (at : Y → Option O) (f : X → List Y) (x
 first_in-flat_map at f [] = refl
 first_in-flat_map at f (x ∷ xs) = first_in-append at (f x) (flat_map f xs) ∙ ap (option_or (first_in at (f x))) (first_in-flat_map at f xs)
 
-all_is : (r : Resolution) → IsResolved r → (files : Store) → of_all (filled_of (source_of r)) files ≡ option_or (of_all (map filled_region r.memory) files) (of_brought r.components r.subjects files)
-all_is r h files =
-    ap (first_in (filled_refused files)) (sym (filled_by_index r h))
-    ∙ first_in-append (filled_refused files) (map filled_region r.memory) (flat_map (brought_at r.components) r.subjects)
-    ∙ ap (option_or (of_all (map filled_region r.memory) files)) (first_in-flat_map (filled_refused files) (brought_at r.components) r.subjects)
+list_any-flat_map : {X Y : Type 0} (test : Y → Bool) (f : X → List Y) (xs : List X) → list_any test (flat_map f xs) ≡ list_any (λ x. list_any test (f x)) xs
+list_any-flat_map test f [] = refl
+list_any-flat_map test f (x ∷ xs) = list_any-append test (f x) (flat_map f xs) ∙ ap (λ b. list_any test (f x) || b) (list_any-flat_map test f xs)
 
-module _ (r : Resolution) (h : IsResolved r) (name document : List ℕ) (before between : Files) (old mid : FilesState) where
-  pub memory_fails : (new : FilesState) (error : BuildError) → FailsWith (looks_of name document before) (Refuses (of_all (map filled_region r.memory))) old new error → FailsWith (looks_of name document before) (Refuses (of_all (filled_of (source_of r)))) old new error
-  memory_fails new error e =
-      fails_so (looks_of name document before) (Refuses (of_all (map filled_region r.memory))) (Refuses (of_all (filled_of (source_of r)))) old new error
-      (λ files x s is. all_is r h files ∙ ap (λ o. option_or o (of_brought r.components r.subjects files)) is) e
+or_left : (a b : Bool) → a ≡ true → (a || b) ≡ true
+or_left a b h = ap (λ x. x || b) h
 
-  module _ (grows : Grows old.held (looks_of name document before) (looks_of name document between)) (passes : Passes (looks_of name document between) (of_all (map filled_region r.memory))) (follows : Follows old mid) where
-    pub brought_fails : (new : FilesState) (error : BuildError) → FailsWith (looks_of name document between) (Refuses (of_brought r.components r.subjects)) mid new error → FailsWith (looks_of name document before) (Refuses (of_all (filled_of (source_of r)))) old new error
-    brought_fails new error e =
-        fails_from (looks_of name document before) (looks_of name document between) (Refuses (of_all (filled_of (source_of r)))) old mid new error grows follows
-        (fails_so (looks_of name document between) (Refuses (of_brought r.components r.subjects)) (Refuses (of_all (filled_of (source_of r)))) mid new error
-        (λ files x s is. all_is r h files ∙ ap (λ o. option_or o (of_brought r.components r.subjects files)) (passes files s) ∙ is) e)
+or_right : (a b : Bool) → b ≡ true → (a || b) ≡ true
+or_right true b h = refl
+or_right false b h = h
 
-    pub both_grow : (after : Files) → Grows mid.held (looks_of name document between) (looks_of name document after) → Grows old.held (looks_of name document before) (looks_of name document after)
-    both_grow after g = grows_on old.held (looks_of name document before) (looks_of name document between) (looks_of name document after) grows (subst (λ held. Grows held (looks_of name document between) (looks_of name document after)) follows.held g)
+module _ (r : Resolution) (h : IsResolved r) where
+  all_is : (files : Store) → of_all (filled_of (source_of r)) files ≡ option_or (of_all (map filled_region r.memory) files) (of_brought r.components r.subjects files)
+  all_is files =
+      ap (first_in (filled_refused files)) (sym (filled_by_index r h))
+      ∙ first_in-append (filled_refused files) (map filled_region r.memory) (flat_map (brought_at r.components) r.subjects)
+      ∙ ap (option_or (of_all (map filled_region r.memory) files)) (first_in-flat_map (filled_refused files) (brought_at r.components) r.subjects)
 
-    pub both_pass : (held : Option Store) (after : Files) → Grows held (looks_of name document between) (looks_of name document after) → Passes (looks_of name document after) (of_brought r.components r.subjects) → Passes (looks_of name document after) (of_all (filled_of (source_of r)))
-    both_pass held after g brought files s =
-        all_is r h files ∙ ap (λ o. option_or o (of_brought r.components r.subjects files)) (passes files (g.shows files s)) ∙ brought files s
+  names_are : (n : List ℕ) → names_file (source_of r) n ≡ (all_names (map filled_region r.memory) n || brought_names r.components r.subjects n)
+  names_are n =
+      ap (list_any (λ f. filled_names f n)) (sym (filled_by_index r h))
+      ∙ list_any-append (λ f. filled_names f n) (map filled_region r.memory) (flat_map (brought_at r.components) r.subjects)
+      ∙ ap (λ b. all_names (map filled_region r.memory) n || b) (list_any-flat_map (λ f. filled_names f n) (brought_at r.components) r.subjects)
 
-    pub both_follow : (new : FilesState) → Follows mid new → Follows old new
-    both_follow new f = record { held = f.held ∙ follows.held; faults = omega (arith, follows.faults, f.faults); misses = omega (arith, follows.misses, f.misses) }
+  of_memory : (n : List ℕ) → all_names (map filled_region r.memory) n ≡ true → names_file (source_of r) n ≡ true
+  of_memory n is = names_are n ∙ or_left (all_names (map filled_region r.memory) n) (brought_names r.components r.subjects n) is
+
+  of_components : (n : List ℕ) → brought_names r.components r.subjects n ≡ true → names_file (source_of r) n ≡ true
+  of_components n is = names_are n ∙ or_right (all_names (map filled_region r.memory) n) (brought_names r.components r.subjects n) is
+
+  module _ (name document : List ℕ) (before between : Files) (held mid_held : Option Store) (old mid : History) where
+    pub memory_stops : (error : BuildError) → Stops name document (all_names (map filled_region r.memory)) held old mid (looks_of before) (Refuses (of_all (map filled_region r.memory))) error
+        → Stops name document (names_file (source_of r)) held old mid (looks_of before) (Refuses (of_all (filled_of (source_of r)))) error
+    memory_stops error e =
+        stops_so name document (all_names (map filled_region r.memory)) (names_file (source_of r)) held old mid (looks_of before) (Refuses (of_all (map filled_region r.memory))) (Refuses (of_all (filled_of (source_of r)))) error of_memory
+        (λ x after shows is files s. all_is (insert files name document) ∙ ap (λ o. option_or o (of_brought r.components r.subjects (insert files name document))) (is files s)) e
+
+    module _ (grows : Grows name (all_names (map filled_region r.memory)) held old mid (looks_of before) (looks_of between)) (passes : Passes name document (looks_of between) (of_all (map filled_region r.memory))) (same : mid_held ≡ held) where
+      memory_grows : Grows name (names_file (source_of r)) held old mid (looks_of before) (looks_of between)
+      memory_grows = grows_among name (all_names (map filled_region r.memory)) (names_file (source_of r)) held old mid (looks_of before) (looks_of between) of_memory grows
+
+      pub brought_stops : (new : History) (error : BuildError) → Stops name document (brought_names r.components r.subjects) mid_held mid new (looks_of between) (Refuses (of_brought r.components r.subjects)) error
+          → Stops name document (names_file (source_of r)) held old new (looks_of before) (Refuses (of_all (filled_of (source_of r)))) error
+      brought_stops new error e =
+          stops_from name document (names_file (source_of r)) held mid_held old mid new (looks_of before) (looks_of between) (Refuses (of_all (filled_of (source_of r)))) error same memory_grows
+          (stops_so name document (brought_names r.components r.subjects) (names_file (source_of r)) mid_held mid new (looks_of between) (Refuses (of_brought r.components r.subjects)) (Refuses (of_all (filled_of (source_of r)))) error of_components
+          (λ x after shows is files s.
+          all_is (insert files name document) ∙ ap (λ o. option_or o (of_brought r.components r.subjects (insert files name document))) (passes files (shows files s)) ∙ is files s) e)
+
+      pub both_grow : (new : History) (after : Files) → Grows name (brought_names r.components r.subjects) mid_held mid new (looks_of between) (looks_of after)
+          → Grows name (names_file (source_of r)) held old new (looks_of before) (looks_of after)
+      both_grow new after g =
+          grows_on name (names_file (source_of r)) held mid_held old mid new (looks_of before) (looks_of between) (looks_of after) same memory_grows
+          (grows_among name (brought_names r.components r.subjects) (names_file (source_of r)) mid_held mid new (looks_of between) (looks_of after) of_components g)
+
+      pub both_pass : (new : History) (after : Files) → Grows name (brought_names r.components r.subjects) mid_held mid new (looks_of between) (looks_of after) → Passes name document (looks_of after) (of_brought r.components r.subjects)
+          → Passes name document (looks_of after) (of_all (filled_of (source_of r)))
+      both_pass new after g brought files s =
+          all_is (insert files name document)
+          ∙ ap (λ o. option_or o (of_brought r.components r.subjects (insert files name document))) (passes files (grows_shows name (brought_names r.components r.subjects) mid_held mid new (looks_of between) (looks_of after) g files s))
+          ∙ brought files s

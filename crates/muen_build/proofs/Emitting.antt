@@ -1,16 +1,17 @@
 -- What an image is made of: its regions are filled, and it is sound for what was seen.
-use Rattle.std.proofs.Common.{◌≡◌, ℕ, List, Ok, sym, ap, subst, ◌∙◌}
+use Rattle.std.proofs.Common.{◌≡◌, ℕ, List, sym, ap, subst, ◌∙◌}
+use Rattle.std.specs.FinMap.{insert}
 use Rattle.std.specs.Prelude.{IfOk, Result}
 use Rattle.std.proofs.lemmas.Result.{IfOk-weaker}
 use Rattle.expand_kernel.specs.Expansion.{Expansion}
 use Rattle.image_emit.specs.Made.{IsFilled, thing_bytes}
 use Rattle.image_soundness.specs.Sound.{IsSound}
 use Rattle.image_pack.specs.declared.parts.Image.{Image}
+use Rattle.muen_outside.specs.Looks.{ShowAll}
 use Rattle.muen_outside.specs.Store.{Store}
 use Rattle.policy_lawful.specs.Resolution.{Resolution, source_of}
 use Rattle.region_alloc.specs.Placed.{IsPlaced, Placement}
 use Rattle.muen_build.specs.Accepting.{Accepts, Files, looks_of}
-use Rattle.muen_build.specs.Looks.{ShowAll}
 use Rattle.muen_build.specs.Reading.{things_read}
 use Rattle.muen_build.proofs.Held.{things_held}
 use Rattle.muen_build.proofs.Rooms.{things_filled}
@@ -25,9 +26,9 @@ module _ (x : Placement) (placed : IsPlaced x) where
     pub filled_so : IsFilled x things
     filled_so = subst (IsFilled x) (sym things_are) (things_filled name document found x placed.resolved placed.expansion.regions placed.expansion.grants)
 
-    pub sound_so : {E : Type 0} (result : Result Image E) → Accepts (looks_of name document found) document (source_of x.expanded.lawful)
+    pub sound_so : {E : Type 0} (result : Result Image E) → Accepts name (looks_of found) document (source_of x.expanded.lawful)
         → IfOk result (λ i. (files : Store) → things ≡ thing_bytes files x.expanded.lawful → IsSound (source_of x.expanded.lawful) files i)
-        → IfOk result (λ i. (files : Store) → ShowAll files (looks_of name document found) → IsSound (source_of x.expanded.lawful) files i)
+        → IfOk result (λ i. (files : Store) → ShowAll files (looks_of found) → IsSound (source_of x.expanded.lawful) (insert files name document) i)
     sound_so result accepts sound =
         IfOk-weaker result _ _
-        (λ i h files s. h files (things_are ∙ things_held name document found x.expanded.lawful placed.resolved accepts files s)) sound
+        (λ i h files s. h (insert files name document) (things_are ∙ things_held name document found x.expanded.lawful placed.resolved accepts files s)) sound

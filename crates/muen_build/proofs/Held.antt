@@ -1,10 +1,10 @@
--- What regions hold of the files that were read is what the policy says they hold, in all files that show what was seen.
-use Rattle.std.proofs.Common.{◌≡◌, ℕ, ◌≤◌, true, false, cond, List, [], ◌∷◌, ◌++◌, length, map, Option, Some, None, refl, sym, ap, ap₂, ◌∙◌, arith}
+-- What regions hold of the files that were read is what the policy says they hold, in all files that agree with the looks.
+use Rattle.std.proofs.Common.{◌≡◌, ℕ, ◌≤◌, true, false, cond, List, [], ◌∷◌, ◌++◌, length, map, Option, Some, None, refl, sym, ap, ap₂, subst, ◌∙◌, arith}
 use Rattle.std.specs.Prelude.{nat_le, nat_lt, replicate, unwrap_or, if◌then◌else◌}
 use Rattle.std.specs.Option.{option_map_or}
 use Rattle.std.specs.List.{flat_map}
 use Rattle.std.specs.Str.{bytes_eq}
-use Rattle.std.specs.FinMap.{get, get-remove, remove}
+use Rattle.std.specs.FinMap.{get, get-remove, insert, remove}
 use Rattle.std.specs.Cmp.Lexicographic.{nat_list_cmp_total, texts_ties}
 use Rattle.std.proofs.lemmas.List.{take_all}
 use Rattle.std.proofs.lemmas.Bool.Decides.{nat_tests}
@@ -13,10 +13,11 @@ use Rattle.image_emit.specs.Made.{thing_bytes}
 use Rattle.muen_num.specs.Search.{first_in}
 use Rattle.muen_num.specs.declared.limits.TheConstants.{COMPONENT_FILE_MOST}
 use Rattle.muen_num.proofs.SearchLaws.{none_append, none_both}
+use Rattle.muen_outside.specs.Looks.{AreOthers, ShowAll, ShowsAnswer}
+use Rattle.muen_outside.specs.States.{Look}
 use Rattle.muen_outside.specs.Store.{Store, whole, long, reading_of, find_bytes}
-use Rattle.muen_build.specs.Accepting.{Accepts, Files, Passes, looks_of, of_all}
+use Rattle.muen_build.specs.Accepting.{Accepts, Files, WithDocument, looks_of, of_all}
 use Rattle.muen_build.specs.Filling.{brought_at, filled_at, filled_provided, filled_region}
-use Rattle.muen_build.specs.Looks.{AreOthers, Look, ShowAll}
 use Rattle.muen_build.specs.Reading.{content_read, read_bytes, sized, things_read}
 use Rattle.muen_build.specs.Refusals.{Filled, content_refused, contents_refused, file_refused, filled_refused, too_long_for}
 use Rattle.policy_lawful.specs.Resolution.{IsResolved, Resolution, source_of}
@@ -28,9 +29,10 @@ use Rattle.policy_types.specs.declared.source.Component.{Component}
 use Rattle.policy_types.specs.declared.source.Content.{Content}
 use Rattle.policy_types.specs.declared.source.Content.TheVariants.{Zero, Fill, Inline, File}
 use Rattle.muen_build.proofs.FilledByIndex.{filled_by_index}
+use Rattle.muen_build.proofs.Documents.{other_bytes, own_bytes, whole_found}
 use Rattle.muen_build.proofs.Looks.{other_way, same_self}
 use Rattle.muen_build.proofs.Refusing.{accepted_so}
-use Rattle.muen_build.proofs.Steps.{document_reads, others_found, shown_among}
+use Rattle.muen_build.proofs.Steps.{found_reads, others_found}
 
 -- ---- without a file
 
@@ -41,16 +43,17 @@ get-remove_bytes m k q = get-remove nat_list_cmp_total m k q ∙ ap (λ t. cond 
 still_shown : (files : Store) (file : List ℕ) (ls : List Look) → AreOthers ls file → ShowAll files ls → ShowAll (remove files file) ls
 still_shown files file [] others s = tt
 still_shown files file (l ∷ ls) others s =
-    (ap (λ o. reading_of o l.most) (get-remove_bytes files file l.name ∙ ap (λ t. cond t None (get files l.name)) (other_way file l.name others.0)) ∙ s.0, still_shown files file ls others.1 s.1)
+    let same : get (remove files file) l.name ≡ get files l.name = get-remove_bytes files file l.name ∙ ap (λ t. cond t None (get files l.name)) (other_way file l.name others.0) in
+    (subst (λ o. ShowsAnswer o l.most l.got) (sym same) s.0, still_shown files file ls others.1 s.1)
 
 -- ---- one content
 
-some_found : (bytes : List ℕ) (o : Option (List ℕ)) → reading_of o COMPONENT_FILE_MOST ≡ whole bytes → o ≡ Some bytes
-some_found bytes None h = absurd (cc)
-some_found bytes (Some found) h =
-    (elim (nat_lt COMPONENT_FILE_MOST (length found)) as (λ b. (if b then long (length found) else whole found) ≡ whole bytes → Some found ≡ Some bytes) [
+-- a document that isn't refused is no longer than a component file may be
+own_whole : (f : Filled) (file : List ℕ) (offset : ℕ) (most : Option ℕ) (document : List ℕ) → file_refused f file offset most (reading_of (Some document) COMPONENT_FILE_MOST) ≡ None → reading_of (Some document) COMPONENT_FILE_MOST ≡ whole document
+own_whole f file offset most document h =
+    (elim (nat_lt COMPONENT_FILE_MOST (length document)) as (λ b. file_refused f file offset most (if b then long (length document) else whole document) ≡ None → (if b then long (length document) else whole document) ≡ whole document) [
       | true ↦ λ is. absurd (cc)
-      | false ↦ λ is. cc
+      | false ↦ λ is. refl
     ]) h
 
 -- what isn't too long has room
@@ -64,69 +67,76 @@ fitting f bytes h =
     ]) refl h
 
 module _ (name document : List ℕ) (found : Files) where
+  -- so it is of all files that agree with the looks, with the document under its name
+  abbrev Over : (Store → Type 0) → Type 0
+  Over Such = WithDocument name document (looks_of found) Such
+
   -- a file that is named was read
-  file_read : (f : Filled) (file : List ℕ) (offset : ℕ) (most : Option ℕ) → Passes (looks_of name document found) (λ files. content_refused files f (File file offset most))
-      → (files : Store) → ShowAll files (looks_of name document found) → reading_of (get files file) COMPONENT_FILE_MOST ≡ whole (read_bytes name document found file)
+  file_read : (f : Filled) (file : List ℕ) (offset : ℕ) (most : Option ℕ) → Over (λ files. content_refused files f (File file offset most) ≡ None)
+      → Over (λ files. reading_of (get files file) COMPONENT_FILE_MOST ≡ whole (read_bytes name document found file))
   file_read f file offset most passes files s =
-      elim (bytes_eq file name) as (λ b. bytes_eq file name ≡ b → reading_of (get files file) COMPONENT_FILE_MOST ≡ whole (if b then document else unwrap_or (find_bytes file found) [])) [
-        | true ↦ λ same. document_reads name document found file same files s
+      elim (bytes_eq file name) as (λ b. bytes_eq file name ≡ b → reading_of (get (insert files name document) file) COMPONENT_FILE_MOST ≡ whole (if b then document else unwrap_or (find_bytes file found) [])) [
+        | true ↦ λ same.
+            let there = own_bytes files name document file same in
+            ap (λ o. reading_of o COMPONENT_FILE_MOST) there
+            ∙ own_whole f file offset most document (ap (λ o. file_refused f file offset most (reading_of o COMPONENT_FILE_MOST)) (sym there) ∙ passes files s)
         | false ↦ λ other.
-            elim (find_bytes file found) as (λ o. find_bytes file found ≡ o → reading_of (get files file) COMPONENT_FILE_MOST ≡ whole (unwrap_or o [])) [
-              | Some bytes ↦ λ is. shown_among files found file bytes s.1 is
+            elim (find_bytes file found) as (λ o. find_bytes file found ≡ o → reading_of (get (insert files name document) file) COMPONENT_FILE_MOST ≡ whole (unwrap_or o [])) [
+              | Some bytes ↦ λ is. found_reads name document found file other bytes is files s
               | None ↦ λ is.
-                  let without = still_shown files file (looks_of name document found) (other, others_found found file is) s in
-                  let gone : get (remove files file) file ≡ None = get-remove_bytes files file file ∙ ap (λ t. cond t None (get files file)) (same_self file) in
-                  let refused : content_refused (remove files file) f (File file offset most) ≡ Some (Missing file) = ap (λ o. file_refused f file offset most (reading_of o COMPONENT_FILE_MOST)) gone in
+                  let without = still_shown files file (looks_of found) (others_found found file is) s in
+                  let gone : get (insert (remove files file) name document) file ≡ None =
+                  other_bytes (remove files file) name document file other ∙ get-remove_bytes files file file ∙ ap (λ t. cond t None (get files file)) (same_self file) in
+                  let refused : content_refused (insert (remove files file) name document) f (File file offset most) ≡ Some (Missing file) = ap (λ o. file_refused f file offset most (reading_of o COMPONENT_FILE_MOST)) gone in
                   let none = passes (remove files file) without in
                   absurd (cc)
             ] refl
       ] refl
 
-  content_same : (f : Filled) (c : Content) → Passes (looks_of name document found) (λ files. content_refused files f c)
-      → (files : Store) → ShowAll files (looks_of name document found) → content_read name document found f.size c ≡ content_bytes files f.size c
+  content_same : (f : Filled) (c : Content) → Over (λ files. content_refused files f c ≡ None) → Over (λ files. content_read name document found f.size c ≡ content_bytes files f.size c)
   content_same f Zero passes files s = refl
   content_same f (Fill b) passes files s = refl
   content_same f (Inline bytes) passes files s = fitting f bytes (passes files s)
   content_same f (File file offset most) passes files s =
       let bytes = read_bytes name document found file in
       let reads = file_read f file offset most passes files s in
-      let there : get files file ≡ Some bytes = some_found bytes (get files file) reads in
+      let there : get (insert files name document) file ≡ Some bytes = whole_found COMPONENT_FILE_MOST bytes (get (insert files name document) file) reads in
       let fits : too_long_for f (length (file_part offset most bytes)) ≡ None = ap (file_refused f file offset most) (sym reads) ∙ passes files s in
       fitting f (file_part offset most bytes) fits ∙ ap (λ o. padded f.size (file_part offset most (option_map_or (λ b. b) o []))) (sym there)
 
   -- ---- all of them
 
-  each_same : {X : Type 0} (g : X → Filled) (xs : List X) → Passes (looks_of name document found) (of_all (map g xs))
-      → (files : Store) → ShowAll files (looks_of name document found) → map (λ x. content_read name document found (g x).size (g x).content) xs ≡ map (λ x. content_bytes files (g x).size (g x).content) xs
+  each_same : {X : Type 0} (g : X → Filled) (xs : List X) → Over (λ files. of_all (map g xs) files ≡ None)
+      → Over (λ files. map (λ x. content_read name document found (g x).size (g x).content) xs ≡ map (λ x. content_bytes files (g x).size (g x).content) xs)
   each_same g [] passes files s = refl
   each_same g (x ∷ xs) passes files s =
-      ap₂ (λ y ys. y ∷ ys)
-      (content_same (g x) (g x).content (λ files s. (none_both (filled_refused files (g x)) (of_all (map g xs) files) (passes files s)).0) files s)
-      (each_same g xs (λ files s. (none_both (filled_refused files (g x)) (of_all (map g xs) files) (passes files s)).1) files s)
+      let both = λ (files : Store) (s : ShowAll files (looks_of found)).
+      none_both (filled_refused (insert files name document) (g x)) (of_all (map g xs) (insert files name document)) (passes files s) in
+      ap₂ (λ y ys. y ∷ ys) (content_same (g x) (g x).content (λ files s. (both files s).0) files s) (each_same g xs (λ files s. (both files s).1) files s)
 
-  brought_same : (cs : List Component) (ss : List Subject) → Passes (looks_of name document found) (of_all (flat_map (brought_at cs) ss))
-      → (files : Store) → ShowAll files (looks_of name document found)
-      → flat_map (λ t. map (λ x. content_read name document found x.size x.content) (provided_at cs t.component)) ss
-      ≡ flat_map (λ t. map (λ x. content_bytes files x.size x.content) (provided_at cs t.component)) ss
+  brought_same : (cs : List Component) (ss : List Subject) → Over (λ files. of_all (flat_map (brought_at cs) ss) files ≡ None)
+      → Over (λ files. flat_map (λ t. map (λ x. content_read name document found x.size x.content) (provided_at cs t.component)) ss
+      ≡ flat_map (λ t. map (λ x. content_bytes files x.size x.content) (provided_at cs t.component)) ss)
   unfolding brought_at
   brought_same cs [] passes files s = refl
   brought_same cs (t ∷ ts) passes files s =
-      let both = λ (files : Store) (s : ShowAll files (looks_of name document found)). none_append (filled_refused files) (brought_at cs t) (flat_map (brought_at cs) ts) (passes files s) in
+      let both = λ (files : Store) (s : ShowAll files (looks_of found)).
+      none_append (filled_refused (insert files name document)) (brought_at cs t) (flat_map (brought_at cs) ts) (passes files s) in
       ap₂ (λ ys zs. ys ++ zs)
       (each_same (filled_provided t.name) (provided_at cs t.component) (λ files s. (both files s).0) files s)
       (brought_same cs ts (λ files s. (both files s).1) files s)
 
-  things_same : (r : Resolution) → Passes (looks_of name document found) (of_all (filled_at r))
-      → (files : Store) → ShowAll files (looks_of name document found) → things_read name document found r ≡ thing_bytes files r
+  things_same : (r : Resolution) → Over (λ files. of_all (filled_at r) files ≡ None) → Over (λ files. things_read name document found r ≡ thing_bytes files r)
   things_same r passes files s =
-      let both = λ (files : Store) (s : ShowAll files (looks_of name document found)). none_append (filled_refused files) (map filled_region r.memory) (flat_map (brought_at r.components) r.subjects) (passes files s) in
+      let both = λ (files : Store) (s : ShowAll files (looks_of found)).
+      none_append (filled_refused (insert files name document)) (map filled_region r.memory) (flat_map (brought_at r.components) r.subjects) (passes files s) in
       ap₂ (λ ys zs. ys ++ map (λ (c : Channel). replicate c.size 0) r.channels ++ zs)
       (each_same filled_region r.memory (λ files s. (both files s).0) files s)
       (brought_same r.components r.subjects (λ files s. (both files s).1) files s)
 
-  -- in all files that show what was seen, where the document is accepted
-  pub things_held : (r : Resolution) → IsResolved r → Accepts (looks_of name document found) document (source_of r)
-      → (files : Store) → ShowAll files (looks_of name document found) → things_read name document found r ≡ thing_bytes files r
+  -- where the document is accepted
+  pub things_held : (r : Resolution) → IsResolved r → Accepts name (looks_of found) document (source_of r) → Over (λ files. things_read name document found r ≡ thing_bytes files r)
   unfolding contents_refused
   things_held r resolved accepts files s =
-      things_same r (λ files s. ap (first_in (filled_refused files)) (filled_by_index r resolved) ∙ (accepted_so files document (source_of r) (accepts files s)).contents) files s
+      things_same r
+      (λ files s. ap (first_in (filled_refused (insert files name document))) (filled_by_index r resolved) ∙ (accepted_so (insert files name document) document (source_of r) (accepts files s)).contents) files s

@@ -1,5 +1,6 @@
 pub mod Accepting
 pub mod Checking
+pub mod Documents
 pub mod Emitting
 pub mod FilledByIndex
 pub mod Held

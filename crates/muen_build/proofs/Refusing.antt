@@ -1,24 +1,17 @@
 -- What a document is refused for, step by step.
-use Rattle.std.proofs.Common.{◌≡◌, inl, inr, ℕ, false, List, [], ◌∷◌, Option, Some, None, Result, Ok, Err, IfSome, refl, sym, ap, ◌∙◌}
+use Rattle.std.proofs.Common.{◌≡◌, inl, inr, ℕ, List, [], ◌∷◌, Option, Some, None, Result, Ok, Err, refl, sym, ap, ◌∙◌}
 use Rattle.std.specs.Option.{option_or}
-use Rattle.serde_json.specs.Data.{Data}
 use Rattle.muen_num.specs.Answers.{Answers}
 use Rattle.muen_num.specs.Search.{first_of}
 use Rattle.muen_num.proofs.SearchLaws.{none_both, option_or-None}
-use Rattle.policy_json.specs.Document.{json_of, policy_from, policy_of, read_system, shape_refused}
+use Rattle.policy_json.specs.Document.{policy_of}
 use Rattle.policy_lawful.specs.Lawful.{kept_or, names_broken, rules_broken}
-use Rattle.policy_lawful.specs.Domains.{offence_21, offence_22, offence_23, offence_24}
-use Rattle.policy_lawful.specs.MoreRules.{offence_6, offence_7, offence_9, offence_10, offence_11, offence_12, offence_13, offence_14, offence_15, offence_19}
-use Rattle.policy_lawful.specs.Offences.{broken}
-use Rattle.policy_lawful.specs.Rules.{offence_1, offence_2, offence_3, offence_4, offence_5, offence_8, offence_16, offence_17, offence_18, offence_20}
-use Rattle.policy_lawful.specs.declared.offence.Offence.{Offence}
 use Rattle.policy_lawful.specs.Contents.{Held}
-use Rattle.policy_types.specs.declared.refusal.Fault.{Fault}
 use Rattle.policy_types.specs.declared.refusal.Refusal.{Refusal}
-use Rattle.policy_types.specs.declared.refusal.Refusal.TheVariants.{NotJson, Shape, NoMemory}
+use Rattle.policy_types.specs.declared.refusal.Refusal.TheVariants.{NoMemory}
 use Rattle.policy_types.specs.declared.source.Source.{Source}
 use Rattle.region_alloc.specs.Placement.{no_room}
-use Rattle.muen_build.specs.Refusals.{accepted, accepted_policy_of, build_refused, contents_refused, is_for_a_file, laid, laid_policy_of, lawful_alone, lawful_policy_of, refusal_of, unlawful}
+use Rattle.muen_build.specs.Refusals.{accepted, accepted_policy_of, build_refused, contents_refused, laid, laid_policy_of, lawful_alone, lawful_policy_of, refusal_of, unlawful}
 
 -- ---- one reason after another
 
@@ -144,53 +137,3 @@ not_laid bytes r h = refused_for (lawful_policy_of bytes) (laid_policy_of bytes)
 pub room_decides : (bytes : List ℕ) (q : Source) → lawful_policy_of bytes ≡ Ok q → laid_policy_of bytes ≡ kept_or q (no_room q)
 unfolding lawful_policy_of laid_policy_of
 room_decides bytes q e = laid_then (policy_of bytes) q e
-
--- ---- a document whose policy isn't lawful is refused for no file
-
--- a refusal, if there is one, is for no file
-abbrev ForNone : Option Refusal → Type 0
-ForNone o = IfSome o (λ r. is_for_a_file r ≡ false)
-
-either : (a b : Option Refusal) → ForNone a → ForNone b → ForNone (option_or a b)
-either None b h k = k
-either (Some r) b h k = h
-
--- a rule, and what comes after it
-rule : (n : ℕ) (o : Option Offence) (rest : Option Refusal) → ForNone rest → ForNone (option_or (broken n o) rest)
-rule n None rest h = h
-rule n (Some x) rest h = refl
-
-of_names : (p : Source) → ForNone (names_broken p)
-unfolding names_broken
-of_names p = rule 1 (offence_1 p) _ (rule 2 (offence_2 p) _ tt)
-
-of_rules : (p : Source) → ForNone (rules_broken p)
-unfolding rules_broken
-of_rules p =
-    rule 3 (offence_3 p) _ (rule 4 (offence_4 p) _ (rule 5 (offence_5 p) _ (rule 6 (offence_6 p) _
-    (rule 7 (offence_7 p) _ (rule 8 (offence_8 p) _ (rule 9 (offence_9 p) _ (rule 10 (offence_10 p) _
-    (rule 11 (offence_11 p) _ (rule 12 (offence_12 p) _ (rule 13 (offence_13 p) _ (rule 14 (offence_14 p) _
-    (rule 15 (offence_15 p) _ (rule 16 (offence_16 p) _ (rule 17 (offence_17 p) _ (rule 18 (offence_18 p) _
-    (rule 19 (offence_19 p) _ (rule 20 (offence_20 p) _ (rule 21 (offence_21 p) _ (rule 22 (offence_22 p) _
-    (rule 23 (offence_23 p) _ (rule 24 (offence_24 p) _ tt)))))))))))))))))))))
-
-kept_err : (p : Source) (o : Option Refusal) (r : Refusal) → ForNone o → kept_or p o ≡ Err r → is_for_a_file r ≡ false
-kept_err p None r h e = absurd (cc)
-kept_err p (Some x) r h e = let f : x ≡ r = cc in ap is_for_a_file (sym f) ∙ h
-
--- a document that isn't read
-of_shape : (answer : Result Source Fault) (r : Refusal) → shape_refused answer ≡ Err r → is_for_a_file r ≡ false
-of_shape (Ok q) r e = absurd (cc)
-of_shape (Err f) r e = let g : Shape f.place f.want ≡ r = cc in ap is_for_a_file (sym g)
-
-of_json : (document : Option Data) (r : Refusal) → policy_from document ≡ Err r → is_for_a_file r ≡ false
-of_json None r e = let f : NotJson ≡ r = cc in ap is_for_a_file (sym f)
-of_json (Some d) r e = of_shape (read_system d) r e
-
-of_document : (document : Option Data) (answer : Result Source Refusal) (r : Refusal) → policy_from document ≡ answer → lawful_alone answer ≡ Err r → is_for_a_file r ≡ false
-of_document document (Ok p) r is e = kept_err p (unlawful p) r (either (names_broken p) _ (of_names p) (either (rules_broken p) None (of_rules p) tt)) e
-of_document document (Err x) r is e = let f : x ≡ r = cc in ap is_for_a_file (sym f) ∙ of_json document x is
-
-pub for_no_file : (bytes : List ℕ) (r : Refusal) → lawful_policy_of bytes ≡ Err r → is_for_a_file r ≡ false
-unfolding lawful_policy_of policy_of
-for_no_file bytes r e = of_document (json_of bytes) (policy_of bytes) r refl e

@@ -1,19 +1,22 @@
 -- What accepting a policy has seen of files, and what it comes to.
-use Rattle.std.specs.Prelude.{◌≡◌, ◌⊎◌, ℕ, true, List, [], ◌∷◌, ◌++◌, ◌-◌, min, length, map, Option, Some, None, Ok, Err}
-use Rattle.std.specs.FinMap.{get}
+use Rattle.std.specs.Prelude.{◌≡◌, ◌⊎◌, ℕ, Bool, true, List, ◌∷◌, [], ◌++◌, ◌-◌, min, length, map, Option, Some, None, IfSome, Result, Ok, Err}
+use Rattle.std.specs.List.{All, list_any}
+use Rattle.std.specs.FinMap.{get, insert}
 use Rattle.muen_num.specs.Search.{first_in}
 use Rattle.muen_num.specs.declared.limits.TheConstants.{COMPONENT_FILE_MOST}
-use Rattle.muen_outside.specs.Counts.{Rose}
-use Rattle.muen_outside.specs.States.{FilesState}
-use Rattle.muen_outside.specs.Store.{Store, whole, absent, long, reading_of}
+use Rattle.muen_outside.specs.Looks.{AreOthers, AreSingle, EndsInFault, IsPossibleEnd, ShowAll, Shows}
+use Rattle.muen_outside.specs.States.{History, Look, look, looked}
+use Rattle.muen_outside.specs.Store.{Store, Reading, whole, absent, long, reading_of}
+use Rattle.muen_outside.specs.declared.files.FileError.{FileError}
+use Rattle.muen_outside.specs.declared.files.FileError.TheVariants.{Failed}
 use Rattle.policy_types.specs.declared.refusal.Refusal.{Refusal}
 use Rattle.policy_types.specs.declared.refusal.Refusal.TheVariants.{Missing, TooLong, NoMemory}
 use Rattle.policy_lawful.specs.declared.resolved.Subject.{Subject}
 use Rattle.policy_types.specs.declared.source.Component.{Component}
 use Rattle.policy_types.specs.declared.source.Source.{Source}
 use Rattle.muen_build.specs.Filling.{brought_at}
-use Rattle.muen_build.specs.Looks.{Look, Saw, Seen, ShowAll, document_look, file_look}
-use Rattle.muen_build.specs.Refusals.{Filled, accepted_policy_of, filled_refused, is_for_a_file}
+use Rattle.muen_build.specs.Looks.{IsAsked, Looked, file_look, is_of_file}
+use Rattle.muen_build.specs.Refusals.{Filled, accepted_policy_of, filled_refused}
 use Rattle.muen_build.specs.declared.accepted.BuildError.{BuildError}
 use Rattle.muen_build.specs.declared.accepted.BuildError.TheVariants.{FileFault, Refused}
 
@@ -21,27 +24,61 @@ use Rattle.muen_build.specs.declared.accepted.BuildError.TheVariants.{FileFault,
 abbrev pub Files : Type 0
 Files = List (List ℕ × List ℕ)
 
--- all looks: at the document under this name, then at component files
-abbrev pub looks_of : List ℕ → List ℕ → Files → List Look
-looks_of name document found = document_look name document ∷ map file_look found
+-- the looks that read them
+abbrev pub looks_of : Files → List Look
+looks_of found = map file_look found
 
--- looks are added, and what they show is known still
-pub record Grows (held : Option Store) (before after : List Look) : Type 0 where
-  pub seen : Seen held before → Seen held after
-  pub shows : (files : Store) → ShowAll files after → ShowAll files before
+-- ---- the document stands for its name
 
--- ---- why it fails
+-- so it is of all files that agree with these looks, with the document under this name
+abbrev pub WithDocument : List ℕ → List ℕ → List Look → (Store → Type 0) → Type 0
+WithDocument name document looks Such = (files : Store) → ShowAll files looks → Such (insert files name document)
 
--- looks were added, and in files that show them all this refusal comes of it
-pub record RefusedFor (looks : List Look) (Refuses : Store → Refusal → Type 0) (old new : FilesState) (r : Refusal) : Type 0 where
+-- the document is accepted as this policy
+abbrev pub Accepts : List ℕ → List Look → List ℕ → Source → Type 0
+Accepts name looks document p = WithDocument name document looks (λ files. accepted_policy_of files document ≡ Ok p)
+
+abbrev pub RefusesDocument : List ℕ → Store → Refusal → Type 0
+RefusesDocument document files r = accepted_policy_of files document ≡ Err r
+
+-- what an error says of these looks: in files that agree with them there is this refusal, or memory was refused; or the last of
+-- them failed
+abbrev pub ErrorSays : List ℕ → List ℕ → (Store → Refusal → Type 0) → List Look → BuildError → Type 0
+ErrorSays name document Refuses looks (Refused r) = (r ≡ NoMemory) ⊎ WithDocument name document looks (λ files. Refuses files r)
+ErrorSays name document Refuses looks FileFault = EndsInFault looks
+
+-- looks were made, and this is why the document isn't accepted
+pub record FailsWith (name document : List ℕ) (held : Option Store) (old new : History) (error : BuildError) : Type 0 where
+  pub looks : List Look
+  pub looked : Looked name held old new looks
+  pub asked : All (IsAsked document) looks
+  pub says : ErrorSays name document (RefusesDocument document) looks error
+
+-- ---- looks that grow
+
+-- which names are asked for
+abbrev pub Names : Type 0
+Names = List ℕ → Bool
+
+abbrev pub IsAskedBy : Names → Look → Type 0
+IsAskedBy names l = (names l.name ≡ true) × (l.most ≡ COMPONENT_FILE_MOST)
+
+-- looks were made after these, at component files that are asked for; all are each at another name and none at this one, where
+-- these are so
+pub record Grows (name : List ℕ) (names : Names) (held : Option Store) (old new : History) (before after : List Look) : Type 0 where
+  pub more : List Look
+  pub grown : after ≡ before ++ more
+  pub history : new ≡ looked old more
+  pub told : IfSome held (λ m. ShowAll m more)
+  pub asked : All (IsAskedBy names) more
+  pub single : AreSingle before → AreSingle after
+  pub others : AreOthers before name → AreOthers after name
+
+-- looks were made after these, and this is what comes of them all
+pub record Stops (name document : List ℕ) (names : Names) (held : Option Store) (old new : History) (before : List Look) (Refuses : Store → Refusal → Type 0) (error : BuildError) : Type 0 where
   pub after : List Look
-  pub grows : Grows old.held looks after
-  pub refuses : (files : Store) → ShowAll files after → Refuses files r
-  pub missed : is_for_a_file r ≡ true → Rose old.misses new.misses
-
-abbrev pub FailsWith : List Look → (Store → Refusal → Type 0) → FilesState → FilesState → BuildError → Type 0
-FailsWith looks Refuses old new (Refused r) = (r ≡ NoMemory) ⊎ RefusedFor looks Refuses old new r
-FailsWith looks Refuses old new FileFault = Rose old.faults new.faults
+  pub grows : Grows name names held old new before after
+  pub says : ErrorSays name document Refuses after error
 
 -- ---- one file
 
@@ -51,24 +88,36 @@ pub record Has (files : Store) (name : List ℕ) (count : ℕ) : Type 0 where
   pub reads : reading_of (get files name) COMPONENT_FILE_MOST ≡ whole bytes
   pub many : count ≡ length bytes
 
--- the file is known to have so many bytes, in files that show these looks
-abbrev pub Known : List Look → List ℕ → ℕ → Type 0
-Known looks name count = (files : Store) → ShowAll files looks → Has files name count
+-- the file is known to have so many bytes
+abbrev pub Known : List ℕ → List ℕ → List Look → List ℕ → ℕ → Type 0
+Known name document looks file count = WithDocument name document looks (λ files. Has files file count)
 
--- a read of this component file gives no bytes
-abbrev pub NotRead : List ℕ → FilesState → FilesState → BuildError → Type 0
-NotRead name old new (Refused (Missing n)) = (n ≡ name) × Saw name COMPONENT_FILE_MOST absent old new
-NotRead name old new (Refused (TooLong n k)) = (n ≡ name) × Saw name COMPONENT_FILE_MOST (long k) old new
-NotRead name old new (Refused NoMemory) = Unit {0}
-NotRead name old new FileFault = Rose old.faults new.faults
-NotRead name old new _ = ⊥
+-- one look at this component file, with what it came to
+pub record LooksAt (file : List ℕ) (got : Result Reading FileError) (held : Option Store) (old new : History) : Type 0 where
+  pub history : new ≡ looked old (look file COMPONENT_FILE_MOST got ∷ [])
+  pub possible : IsPossibleEnd COMPONENT_FILE_MOST got
+  pub told : IfSome held (λ m. Shows m (look file COMPONENT_FILE_MOST got))
+
+-- what an error says of what the look came to
+abbrev pub GotSays : List ℕ → Result Reading FileError → BuildError → Type 0
+GotSays file got (Refused (Missing n)) = (n ≡ file) × (got ≡ Ok absent)
+GotSays file got (Refused (TooLong n k)) = (n ≡ file) × (got ≡ Ok (long k))
+GotSays file got (Refused NoMemory) = Unit {0}
+GotSays file got FileFault = got ≡ Err Failed
+GotSays file got _ = ⊥
+
+-- a look at this component file gives no bytes, or memory for them was refused
+pub record NotRead (file : List ℕ) (held : Option Store) (old new : History) (error : BuildError) : Type 0 where
+  pub got : Result Reading FileError
+  pub looks : LooksAt file got held old new
+  pub says : GotSays file got error
 
 -- the file is added behind those that were read, and has so many bytes
-pub record IsAdded (name : List ℕ) (before after : Files) (count : ℕ) (old new : FilesState) : Type 0 where
+pub record IsAdded (file : List ℕ) (before after : Files) (count : ℕ) (held : Option Store) (old new : History) : Type 0 where
   pub bytes : List ℕ
-  pub added : after ≡ before ++ (name, bytes) ∷ []
+  pub added : after ≡ before ++ (file, bytes) ∷ []
   pub many : count ≡ length bytes
-  pub saw : Saw name COMPONENT_FILE_MOST (whole bytes) old new
+  pub looks : LooksAt file (Ok (whole bytes)) held old new
 
 -- so many of so many bytes: those from an offset on, at most so many
 abbrev pub part_length : ℕ → ℕ → Option ℕ → ℕ
@@ -90,9 +139,9 @@ Why = Store → Option Refusal
 abbrev pub Refuses : Why → Store → Refusal → Type 0
 Refuses why files r = why files ≡ Some r
 
--- in files that show these looks nothing is
-abbrev pub Passes : List Look → Why → Type 0
-Passes looks why = (files : Store) → ShowAll files looks → why files ≡ None
+-- nothing is
+abbrev pub Passes : List ℕ → List ℕ → List Look → Why → Type 0
+Passes name document looks why = WithDocument name document looks (λ files. why files ≡ None)
 
 -- why one content is refused, and the first of several
 abbrev pub of_filled : Filled → Why
@@ -105,11 +154,12 @@ of_all all files = first_in (filled_refused files) all
 abbrev pub of_brought : List Component → List Subject → Why
 of_brought components subjects files = first_in (λ s. first_in (filled_refused files) (brought_at components s)) subjects
 
--- ---- the policy
+-- the names of files that contents have
+abbrev pub filled_names : Filled → Names
+filled_names f name = is_of_file name f.content
 
-abbrev pub RefusesDocument : List ℕ → Store → Refusal → Type 0
-RefusesDocument document files r = accepted_policy_of files document ≡ Err r
+abbrev pub all_names : List Filled → Names
+all_names all name = list_any (λ f. filled_names f name) all
 
--- in files that show these looks the document is accepted as this policy
-abbrev pub Accepts : List Look → List ℕ → Source → Type 0
-Accepts looks document p = (files : Store) → ShowAll files looks → accepted_policy_of files document ≡ Ok p
+abbrev pub brought_names : List Component → List Subject → Names
+brought_names components subjects name = list_any (λ s. all_names (brought_at components s) name) subjects

@@ -1,12 +1,14 @@
 -- What building an image has seen of files, and what it comes to.
 use Rattle.std.specs.Prelude.{◌≡◌, ℕ, List, Option, Ok}
+use Rattle.std.specs.List.{All}
 use Rattle.proof_build.specs.Built.{HasGreatestPages, HasKernelSpans, HasMemoryTypes, HasOnePathPerTable, HasSpans, TablesAscend}
 use Rattle.image_soundness.specs.Sound.{ForEachSubject, IsSound}
 use Rattle.image_pack.specs.Parts.{IsImage}
 use Rattle.image_pack.specs.declared.parts.Image.{Image}
-use Rattle.muen_build.specs.Accepting.{Grows}
-use Rattle.muen_build.specs.Looks.{Look, ShowAll}
+use Rattle.muen_build.specs.Accepting.{WithDocument}
+use Rattle.muen_build.specs.Looks.{IsAsked, Looked}
 use Rattle.muen_build.specs.Refusals.{accepted_policy_of}
+use Rattle.muen_outside.specs.States.{History, Look}
 use Rattle.muen_outside.specs.Store.{Store}
 use Rattle.policy_types.specs.declared.source.Source.{Source}
 
@@ -31,8 +33,9 @@ pub record IsBuilt (document : List ℕ) (files : Store) (bytes : List ℕ) : Ty
   pub accepted : accepted_policy_of files document ≡ Ok policy
   pub is : IsImageFor policy files bytes
 
--- looks were added, and in files that show them all the bytes are built of the document
-pub record Builds (held : Option Store) (looks : List Look) (document bytes : List ℕ) : Type 0 where
-  pub after : List Look
-  pub grows : Grows held looks after
-  pub built : (files : Store) → ShowAll files after → IsBuilt document files bytes
+-- looks were made, and in files that agree with them, with the document under this name, the bytes are built of it
+pub record Builds (name : List ℕ) (held : Option Store) (old new : History) (document bytes : List ℕ) : Type 0 where
+  pub looks : List Look
+  pub looked : Looked name held old new looks
+  pub asked : All (IsAsked document) looks
+  pub built : WithDocument name document looks (λ files. IsBuilt document files bytes)

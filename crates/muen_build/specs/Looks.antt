@@ -1,76 +1,47 @@
--- What a command has seen of files, and files that explain it.
-use Rattle.std.specs.Prelude.{◌≡◌, ℕ, ◌<◌, ◌≤◌, false, List, [], ◌∷◌, length, Option, IfSome}
+-- What a call has looked at.
+use Rattle.std.specs.Prelude.{◌≡◌, ℕ, Bool, true, false, List, Option, IfSome, Ok}
+use Rattle.std.specs.List.{list_any}
 use Rattle.std.specs.Str.{bytes_eq}
-use Rattle.std.specs.FinMap.{get}
 use Rattle.muen_num.specs.declared.limits.TheConstants.{COMPONENT_FILE_MOST, POLICY_MOST}
-use Rattle.muen_outside.specs.Counts.{Rose}
-use Rattle.muen_outside.specs.Found.{IsMissed}
-use Rattle.muen_outside.specs.States.{FilesState}
-use Rattle.muen_outside.specs.Store.{Store, Reading, whole, absent, long, reading_of}
+use Rattle.muen_outside.specs.Looks.{AreOthers, AreSingle, ShowAll}
+use Rattle.muen_outside.specs.States.{History, Look, look, looked}
+use Rattle.muen_outside.specs.Store.{Store, whole}
+use Rattle.muen_build.specs.Refusals.{filled_of, lawful_policy_of}
+use Rattle.policy_types.specs.declared.source.Content.{Content}
+use Rattle.policy_types.specs.declared.source.Content.TheVariants.{Zero, Fill, Inline, File}
+use Rattle.policy_types.specs.declared.source.Source.{Source}
 
--- a call that reads leaves what files hold, and no count falls
-pub record Follows (old new : FilesState) : Type 0 where
-  pub held : new.held ≡ old.held
-  pub faults : old.faults ≤ new.faults
-  pub misses : old.misses ≤ new.misses
-
--- no more bytes than the limit, and too long only where there are more
-abbrev pub IsPossible : ℕ → Reading → Type 0
-IsPossible most (whole bytes) = length bytes ≤ most
-IsPossible most absent = Unit {0}
-IsPossible most (long n) = most < n
-
--- what one read of this name with this limit has seen, between these states
-pub record Saw (name : List ℕ) (most : ℕ) (reading : Reading) (old new : FilesState) : Type 0 where
-  pub told : IfSome old.held (λ m. reading ≡ reading_of (get m name) most)
-  pub possible : IsPossible most reading
-  pub missed : IsMissed reading → Rose old.misses new.misses
-
--- ---- several looks
-
--- a look at a file: its name, the limit, what was found
-pub record Look : Type 0 where
-  pub name : List ℕ
-  pub most : ℕ
-  pub reading : Reading
-
-abbrev pub look : List ℕ → ℕ → Reading → Look
-look name most reading = record { name = name; most = most; reading = reading }
-
--- files in which a look shows this
-abbrev pub Shows : Store → Look → Type 0
-Shows files l = reading_of (get files l.name) l.most ≡ l.reading
-
-abbrev pub ShowAll : Store → List Look → Type 0
-ShowAll files [] = Unit {0}
-ShowAll files (l ∷ ls) = Shows files l × ShowAll files ls
-
--- no look is at a file of this name
-abbrev pub AreOthers : List Look → List ℕ → Type 0
-AreOthers [] name = Unit {0}
-AreOthers (l ∷ ls) name = (bytes_eq name l.name ≡ false) × AreOthers ls name
-
--- looks at files that hold this, each at another name
-abbrev pub Seen : Option Store → List Look → Type 0
-Seen held [] = Unit {0}
-Seen held (l ∷ ls) = IfSome held (λ m. Shows m l) × IsPossible l.most l.reading × AreOthers ls l.name × Seen held ls
-
--- over some files that hold what is told, this holds
-pub record OverFiles (held : Option Store) (Holds : Store → Type 0) : Type 0 where
-  pub files : Store
-  pub told : IfSome held (λ m. files ≡ m)
-  pub holds : Holds files
-
--- files that hold what is told show all these looks
-abbrev pub Explained : Option Store → List Look → Type 0
-Explained held looks = OverFiles held (λ files. ShowAll files looks)
+-- these looks were made, each at another name and none at this one, and nothing was written; files that tell show them
+pub record Looked (name : List ℕ) (held : Option Store) (old new : History) (looks : List Look) : Type 0 where
+  pub history : new ≡ looked old looks
+  pub single : AreSingle looks
+  pub others : AreOthers looks name
+  pub told : IfSome held (λ m. ShowAll m looks)
 
 -- ---- the files of a policy
 
--- the document of a policy, read under this name
+-- the document of a policy, looked at under this name
 abbrev pub document_look : List ℕ → List ℕ → Look
-document_look name document = look name POLICY_MOST (whole document)
+document_look name document = look name POLICY_MOST (Ok (whole document))
 
 -- a component file that was read
 abbrev pub file_look : List ℕ × List ℕ → Look
-file_look e = look e.0 COMPONENT_FILE_MOST (whole e.1)
+file_look e = look e.0 COMPONENT_FILE_MOST (Ok (whole e.1))
+
+-- whether a content is of the file of this name
+abbrev pub is_of_file : List ℕ → Content → Bool
+is_of_file name Zero = false
+is_of_file name (Fill byte) = false
+is_of_file name (Inline bytes) = false
+is_of_file name (File file offset most) = bytes_eq file name
+
+-- whether a content of the policy is
+abbrev pub names_file : Source → List ℕ → Bool
+names_file p name = list_any (λ f. is_of_file name f.content) (filled_of p)
+
+-- this look is at a component file that the policy of the document names
+pub record IsAsked (document : List ℕ) (l : Look) : Type 0 where
+  pub policy : Source
+  pub lawful : lawful_policy_of document ≡ Ok policy
+  pub names : names_file policy l.name ≡ true
+  pub most : l.most ≡ COMPONENT_FILE_MOST

@@ -1,6 +1,6 @@
 -- What a policy with its files is refused for (this project's own order): it is no JSON text, it breaks the schema, it
 -- breaks a rule, then contents are missing or don't fit, then there is no room for a region.
-use Rattle.std.specs.Prelude.{ℕ, Bool, true, false, List, [], ◌∷◌, ◌++◌, length, map, nat_le, Option, Some, None, Result, Ok, Err, if◌then◌else◌}
+use Rattle.std.specs.Prelude.{ℕ, List, [], ◌∷◌, ◌++◌, length, map, nat_le, Option, Some, None, Result, Ok, Err, if◌then◌else◌}
 use Rattle.std.specs.List.{flat_map}
 use Rattle.std.specs.FinMap.{get}
 use Rattle.muen_num.specs.Search.{first_in, first_of}
@@ -116,11 +116,3 @@ laid_policy_of bytes = laid (policy_of bytes)
 abbrev pub placed_source : Result Placement Refusal → Result Source Refusal
 placed_source (Ok x) = Ok (source_of x.expanded.lawful)
 placed_source (Err refusal) = Err refusal
-
--- ---- files
-
--- a refusal for a file that isn't there or is too long
-abbrev pub is_for_a_file : Refusal → Bool
-is_for_a_file (Missing name) = true
-is_for_a_file (TooLong name n) = true
-is_for_a_file _ = false

@@ -1,12 +1,15 @@
 //! Contents, held against the room for them.
-ghost use Rattle.std.specs.Prelude.{◌≡◌, IfOk, IfErr, None, map, option_map};
+ghost use Rattle.std.specs.Prelude.{◌≡◌, ◌<◌, ◌≤◌, IfOk, IfErr, None, Ok, length, map, option_map};
+ghost use Rattle.std.specs.Str.{bytes_eq};
 ghost use Rattle.muen_num.specs.Search.{as_refusal};
 ghost use Rattle.muen_outside.specs.Store.{find_bytes, whole};
 ghost use Rattle.policy_lawful.specs.Resolution.{source_of};
-ghost use Rattle.muen_build.specs.Accepting.{FailsWith, Grows, IsAdded, Known, NotFound, NotRead, Passes, Refuses, looks_of, of_all, of_brought, of_filled, part_length};
+ghost use Rattle.muen_build.specs.Accepting.{Grows, IsAdded, Known, LooksAt, NotFound, NotRead, Passes, Refuses, Stops, all_names, brought_names, filled_names, looks_of, of_all, of_brought, of_filled, part_length};
 ghost use Rattle.muen_build.specs.Filling.{brought_at, filled, filled_provided, filled_region};
-ghost use Rattle.muen_build.specs.Looks.{Follows, Saw};
+ghost use Rattle.muen_build.specs.Looks.{names_file};
 ghost use Rattle.muen_build.specs.Refusals.{filled_of, too_long_for};
+ghost use Rattle.muen_build.specs.declared.accepted.BuildError.TheVariants.{Refused};
+ghost use Rattle.policy_types.specs.declared.refusal.Refusal.TheVariants.{TooLong};
 
 use crate::accepted::{BuildError, ComponentFiles};
 use muen_num::limits::COMPONENT_FILE_MOST;
@@ -45,9 +48,9 @@ fn part_length(count: u64, offset: u64, most: Option<u64>) -> u64
 
 // The bytes of a component file.
 fn read<F: Files>(alloc: Global, file: Name, files: &mut F) -> Result<Seq<u8>, BuildError>
-    ensures ok { IfOk result (λ bytes. Saw file COMPONENT_FILE_MOST (whole bytes) (F.state files.old) (F.state files.new)) }
-    ensures err { IfErr result (NotRead file (F.state files.old) (F.state files.new)) }
-    ensures follows { Follows (F.state files.old) (F.state files.new) }
+    ensures ok { IfOk result (λ bytes. LooksAt file (Ok (whole bytes)) (F.held files.old) (F.history files.old) (F.history files.new)) }
+    ensures err { IfErr result (NotRead file (F.held files.old) (F.history files.old) (F.history files.new)) }
+    ensures held { F.held files.new ≡ F.held files.old }
 {
     match files.read(alloc, file.as_str(), COMPONENT_FILE_MOST) {
         Ok(Found::Bytes(bytes)) => Ok(bytes),
@@ -66,9 +69,9 @@ fn read_new<F: Files>(
     files: &mut F,
 ) -> Result<u64, BuildError>
     requires { find_bytes file found.old ≡ None }
-    ensures ok { IfOk result (λ count. IsAdded file found.old found.new count (F.state files.old) (F.state files.new)) }
-    ensures err { IfErr result (NotRead file (F.state files.old) (F.state files.new)) }
-    ensures follows { Follows (F.state files.old) (F.state files.new) }
+    ensures ok { IfOk result (λ count. IsAdded file found.old found.new count (F.held files.old) (F.history files.old) (F.history files.new)) }
+    ensures err { IfErr result (NotRead file (F.held files.old) (F.history files.old) (F.history files.new)) }
+    ensures held { F.held files.new ≡ F.held files.old }
 {
     let bytes = read(alloc, file, files)?;
     let count = bytes.len() as u64;
@@ -76,8 +79,24 @@ fn read_new<F: Files>(
     Ok(count)
 }
 
+// How many bytes the document has, where it stands for a component file of this name.
+fn own_length(file: Name, document: &[u8]) -> Result<u64, BuildError>
+    ensures ok { IfOk result (λ count. (count ≡ length document.now) × (count ≤ COMPONENT_FILE_MOST)) }
+    ensures err { IfErr result (λ error. (error ≡ Refused (TooLong file (length document.now))) × (COMPONENT_FILE_MOST < length document.now)) }
+{
+    let length = document.len();
+    if length > COMPONENT_FILE_MOST {
+        return Err(BuildError::Refused(Refusal::TooLong {
+            file,
+            length: length as u64,
+        }));
+    }
+    Ok(length as u64)
+}
+
 // How many bytes the file of a content has: the document's, where the content names that, else
-// those of the file, which is read where it wasn't before.
+// those of the file, which is read where it wasn't before. A document that is longer than a
+// component file may be is none.
 fn file_length<F: Files>(
     alloc: Global,
     name: &str,
@@ -86,13 +105,13 @@ fn file_length<F: Files>(
     found: &mut ComponentFiles,
     files: &mut F,
 ) -> Result<u64, BuildError>
-    ensures grows { IfOk result (λ _. Grows (F.state files.old).held (looks_of name.now document.now found.old) (looks_of name.now document.now found.new)) }
-    ensures known { IfOk result (Known (looks_of name.now document.now found.new) file) }
-    ensures err { IfErr result (FailsWith (looks_of name.now document.now found.old) (NotFound file) (F.state files.old) (F.state files.new)) }
-    ensures follows { Follows (F.state files.old) (F.state files.new) }
+    ensures grows { IfOk result (λ _. Grows name.now (bytes_eq file) (F.held files.old) (F.history files.old) (F.history files.new) (looks_of found.old) (looks_of found.new)) }
+    ensures known { IfOk result (Known name.now document.now (looks_of found.new) file) }
+    ensures err { IfErr result (Stops name.now document.now (bytes_eq file) (F.held files.old) (F.history files.old) (F.history files.new) (looks_of found.old) (NotFound file)) }
+    ensures held { F.held files.new ≡ F.held files.old }
 {
     if file.as_str() == name {
-        return Ok(document.len() as u64);
+        return own_length(file, document);
     }
     match found.length(file) {
         Some(length) => Ok(length as u64),
@@ -111,10 +130,10 @@ fn check<F: Files>(
     found: &mut ComponentFiles,
     files: &mut F,
 ) -> Result<(), BuildError>
-    ensures grows { IfOk result (λ _. Grows (F.state files.old).held (looks_of name.now document.now found.old) (looks_of name.now document.now found.new)) }
-    ensures passes { IfOk result (λ _. Passes (looks_of name.now document.now found.new) (of_filled (filled region room content.now))) }
-    ensures err { IfErr result (FailsWith (looks_of name.now document.now found.old) (Refuses (of_filled (filled region room content.now))) (F.state files.old) (F.state files.new)) }
-    ensures follows { Follows (F.state files.old) (F.state files.new) }
+    ensures grows { IfOk result (λ _. Grows name.now (filled_names (filled region room content.now)) (F.held files.old) (F.history files.old) (F.history files.new) (looks_of found.old) (looks_of found.new)) }
+    ensures passes { IfOk result (λ _. Passes name.now document.now (looks_of found.new) (of_filled (filled region room content.now))) }
+    ensures err { IfErr result (Stops name.now document.now (filled_names (filled region room content.now)) (F.held files.old) (F.history files.old) (F.history files.new) (looks_of found.old) (Refuses (of_filled (filled region room content.now)))) }
+    ensures held { F.held files.new ≡ F.held files.old }
 {
     match content {
         Content::Zero | Content::Fill(_) => Ok(()),
@@ -139,10 +158,10 @@ fn check_memory<F: Files>(
     found: &mut ComponentFiles,
     files: &mut F,
 ) -> Result<(), BuildError>
-    ensures grows { IfOk result (λ _. Grows (F.state files.old).held (looks_of name.now document.now found.old) (looks_of name.now document.now found.new)) }
-    ensures passes { IfOk result (λ _. Passes (looks_of name.now document.now found.new) (of_all (map filled_region memory.now))) }
-    ensures err { IfErr result (FailsWith (looks_of name.now document.now found.old) (Refuses (of_all (map filled_region memory.now))) (F.state files.old) (F.state files.new)) }
-    ensures follows { Follows (F.state files.old) (F.state files.new) }
+    ensures grows { IfOk result (λ _. Grows name.now (all_names (map filled_region memory.now)) (F.held files.old) (F.history files.old) (F.history files.new) (looks_of found.old) (looks_of found.new)) }
+    ensures passes { IfOk result (λ _. Passes name.now document.now (looks_of found.new) (of_all (map filled_region memory.now))) }
+    ensures err { IfErr result (Stops name.now document.now (all_names (map filled_region memory.now)) (F.held files.old) (F.history files.old) (F.history files.new) (looks_of found.old) (Refuses (of_all (map filled_region memory.now)))) }
+    ensures held { F.held files.new ≡ F.held files.old }
 {
     for region in memory {
         let tag = Tag {
@@ -173,10 +192,10 @@ fn check_provided<F: Files>(
     found: &mut ComponentFiles,
     files: &mut F,
 ) -> Result<(), BuildError>
-    ensures grows { IfOk result (λ _. Grows (F.state files.old).held (looks_of name.now document.now found.old) (looks_of name.now document.now found.new)) }
-    ensures passes { IfOk result (λ _. Passes (looks_of name.now document.now found.new) (of_all (map (filled_provided subject) provided.now))) }
-    ensures err { IfErr result (FailsWith (looks_of name.now document.now found.old) (Refuses (of_all (map (filled_provided subject) provided.now))) (F.state files.old) (F.state files.new)) }
-    ensures follows { Follows (F.state files.old) (F.state files.new) }
+    ensures grows { IfOk result (λ _. Grows name.now (all_names (map (filled_provided subject) provided.now)) (F.held files.old) (F.history files.old) (F.history files.new) (looks_of found.old) (looks_of found.new)) }
+    ensures passes { IfOk result (λ _. Passes name.now document.now (looks_of found.new) (of_all (map (filled_provided subject) provided.now))) }
+    ensures err { IfErr result (Stops name.now document.now (all_names (map (filled_provided subject) provided.now)) (F.held files.old) (F.history files.old) (F.history files.new) (looks_of found.old) (Refuses (of_all (map (filled_provided subject) provided.now)))) }
+    ensures held { F.held files.new ≡ F.held files.old }
 {
     for x in provided {
         let tag = Tag {
@@ -198,10 +217,10 @@ fn check_subjects<F: Files>(
     found: &mut ComponentFiles,
     files: &mut F,
 ) -> Result<(), BuildError>
-    ensures grows { IfOk result (λ _. Grows (F.state files.old).held (looks_of name.now document.now found.old) (looks_of name.now document.now found.new)) }
-    ensures passes { IfOk result (λ _. Passes (looks_of name.now document.now found.new) (of_brought policy.now.components subjects.now)) }
-    ensures err { IfErr result (FailsWith (looks_of name.now document.now found.old) (Refuses (of_brought policy.now.components subjects.now)) (F.state files.old) (F.state files.new)) }
-    ensures follows { Follows (F.state files.old) (F.state files.new) }
+    ensures grows { IfOk result (λ _. Grows name.now (brought_names policy.now.components subjects.now) (F.held files.old) (F.history files.old) (F.history files.new) (looks_of found.old) (looks_of found.new)) }
+    ensures passes { IfOk result (λ _. Passes name.now document.now (looks_of found.new) (of_brought policy.now.components subjects.now)) }
+    ensures err { IfErr result (Stops name.now document.now (brought_names policy.now.components subjects.now) (F.held files.old) (F.history files.old) (F.history files.new) (looks_of found.old) (Refuses (of_brought policy.now.components subjects.now))) }
+    ensures held { F.held files.new ≡ F.held files.old }
 {
     for subject in subjects {
         let provided = policy.provided_by(subject);
@@ -220,10 +239,10 @@ pub(crate) fn check_all<F: Files>(
     found: &mut ComponentFiles,
     files: &mut F,
 ) -> Result<(), BuildError>
-    ensures grows { IfOk result (λ _. Grows (F.state files.old).held (looks_of name.now document.now found.old) (looks_of name.now document.now found.new)) }
-    ensures passes { IfOk result (λ _. Passes (looks_of name.now document.now found.new) (of_all (filled_of (source_of policy.now)))) }
-    ensures err { IfErr result (FailsWith (looks_of name.now document.now found.old) (Refuses (of_all (filled_of (source_of policy.now)))) (F.state files.old) (F.state files.new)) }
-    ensures follows { Follows (F.state files.old) (F.state files.new) }
+    ensures grows { IfOk result (λ _. Grows name.now (names_file (source_of policy.now)) (F.held files.old) (F.history files.old) (F.history files.new) (looks_of found.old) (looks_of found.new)) }
+    ensures passes { IfOk result (λ _. Passes name.now document.now (looks_of found.new) (of_all (filled_of (source_of policy.now)))) }
+    ensures err { IfErr result (Stops name.now document.now (names_file (source_of policy.now)) (F.held files.old) (F.history files.old) (F.history files.new) (looks_of found.old) (Refuses (of_all (filled_of (source_of policy.now))))) }
+    ensures held { F.held files.new ≡ F.held files.old }
 {
     check_memory(alloc, name, document, policy.memory(), found, files)?;
     check_subjects(

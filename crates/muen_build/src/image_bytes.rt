@@ -1,11 +1,12 @@
 //! The image of a document's policy.
-ghost use Rattle.std.specs.Prelude.{◌≡◌, IfErr, IfOk, Ok, [], ◌∷◌};
+ghost use Rattle.std.specs.Prelude.{◌≡◌, IfErr, IfOk, Ok};
+ghost use Rattle.std.specs.FinMap.{insert};
 ghost use Rattle.proof_build.specs.Built.{HasGreatestPages, HasKernelSpans, HasMemoryTypes, HasOnePathPerTable, HasSpans, TablesAscend};
 ghost use Rattle.image_soundness.specs.Sound.{ForEachSubject, IsSound};
-ghost use Rattle.muen_build.specs.Accepting.{Accepts, FailsWith, RefusesDocument, looks_of};
+ghost use Rattle.muen_build.specs.Accepting.{Accepts, FailsWith, looks_of};
 ghost use Rattle.muen_build.specs.Building.{Builds, IsImageFor};
-ghost use Rattle.muen_build.specs.Looks.{Follows, ShowAll, document_look};
 ghost use Rattle.muen_build.specs.Refusals.{lawful_policy_of};
+ghost use Rattle.muen_outside.specs.Looks.{ShowAll};
 ghost use Rattle.muen_outside.specs.Store.{Store};
 ghost use Rattle.policy_lawful.specs.Resolution.{source_of};
 
@@ -28,8 +29,8 @@ fn parts(
     found: &ComponentFiles,
 ) -> Result<Parts, NoMemory>
     requires lawful { lawful_policy_of document.now ≡ Ok (source_of placed.now.expanded.lawful) }
-    requires accepts { Accepts (looks_of name.now document.now found.now) document.now (source_of placed.now.expanded.lawful) }
-    ensures sound { IfOk result (λ i. (files : Store) → ShowAll files (looks_of name.now document.now found.now) → IsSound (source_of placed.now.expanded.lawful) files i) }
+    requires accepts { Accepts name.now (looks_of found.now) document.now (source_of placed.now.expanded.lawful) }
+    ensures sound { IfOk result (λ i. (files : Store) → ShowAll files (looks_of found.now) → IsSound (source_of placed.now.expanded.lawful) (insert files name.now document.now) i) }
     ensures spans { IfOk result (HasSpans (source_of placed.now.expanded.lawful)) }
     ensures kernel { IfOk result (λ i. ForEachSubject (source_of placed.now.expanded.lawful) i (HasKernelSpans i)) }
     ensures paths { IfOk result HasOnePathPerTable }
@@ -43,7 +44,8 @@ fn parts(
     emit(alloc, placed, things)
 }
 
-/// The image of a policy that is accepted with these files. Its document was read under this name.
+/// The image of a policy that is accepted with these files, where its document stands under this
+/// name.
 ///
 /// Answers `NoMemory` where memory was refused.
 pub fn image(
@@ -54,18 +56,18 @@ pub fn image(
     found: &ComponentFiles,
 ) -> Result<Vec<u8>, NoMemory>
     requires lawful { lawful_policy_of document.now ≡ Ok (source_of placed.now.expanded.lawful) }
-    requires accepts { Accepts (looks_of name.now document.now found.now) document.now (source_of placed.now.expanded.lawful) }
-    ensures { IfOk result (λ image. (files : Store) → ShowAll files (looks_of name.now document.now found.now) → IsImageFor (source_of placed.now.expanded.lawful) files image.items) }
+    requires accepts { Accepts name.now (looks_of found.now) document.now (source_of placed.now.expanded.lawful) }
+    ensures { IfOk result (λ image. (files : Store) → ShowAll files (looks_of found.now) → IsImageFor (source_of placed.now.expanded.lawful) (insert files name.now document.now) image.items) }
 {
     let parts = parts(alloc, name, document, placed, found)?;
     let image = pack(alloc, &parts)?;
     Ok(image)
 }
 
-/// The image of the policy of a document, with the component files that its contents name. The
-/// document was read under this name. Files are read as `accept` reads them.
+/// The image of the policy of a document, with the component files that its contents name. These
+/// bytes stand for the policy's name. Files are looked at as `accept` does it.
 ///
-/// Answers as `accept` does where the policy is refused or a call on files fails, and `NoMemory`
+/// Answers as `accept` does where the policy is refused or a look at files fails, and `NoMemory`
 /// where memory was refused.
 pub fn build<F: Files>(
     alloc: Global,
@@ -73,9 +75,9 @@ pub fn build<F: Files>(
     document: &[u8],
     files: &mut F,
 ) -> Result<Vec<u8>, BuildError>
-    ensures builds { IfOk result (λ image. Builds (F.state files.old).held (document_look name.now document.now ∷ []) document.now image.items) }
-    ensures err { IfErr result (FailsWith (document_look name.now document.now ∷ []) (RefusesDocument document.now) (F.state files.old) (F.state files.new)) }
-    ensures follows { Follows (F.state files.old) (F.state files.new) }
+    ensures builds { IfOk result (λ image. Builds name.now (F.held files.old) (F.history files.old) (F.history files.new) document.now image.items) }
+    ensures err { IfErr result (FailsWith name.now document.now (F.held files.old) (F.history files.old) (F.history files.new)) }
+    ensures held { F.held files.new ≡ F.held files.old }
 {
     let Accepted {
         placed,

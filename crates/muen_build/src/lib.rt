@@ -3,11 +3,14 @@
 //! placed. Each component file is read once. Then its image is made.
 #![tactic(auto)]
 
-ghost use Rattle.std.specs.Prelude.{◌≡◌, IfOk, IfErr, [], ◌∷◌, None, Ok};
+ghost use Rattle.std.specs.Prelude.{◌≡◌, ℕ, IfOk, IfErr, List, [], None, Some, Ok};
+ghost use Rattle.std.specs.FinMap as map;
+ghost use Rattle.std.specs.List.{All};
 ghost use Rattle.muen_num.specs.Answers.{Answers, Explains};
+ghost use Rattle.muen_outside.specs.Store.{Store};
 ghost use Rattle.policy_lawful.specs.Resolution.{kept_source, source_of};
-ghost use Rattle.muen_build.specs.Accepting.{Accepts, FailsWith, Grows, Passes, Refuses, RefusesDocument, looks_of, of_all};
-ghost use Rattle.muen_build.specs.Looks.{Follows, document_look};
+ghost use Rattle.muen_build.specs.Accepting.{Accepts, FailsWith, Grows, Passes, Refuses, Stops, looks_of, of_all};
+ghost use Rattle.muen_build.specs.Looks.{IsAsked, Looked, names_file};
 ghost use Rattle.muen_build.specs.Refusals.{filled_of, laid_policy_of, lawful_policy_of, placed_source};
 ghost use Rattle.region_alloc.specs.Placement.{no_room};
 
@@ -68,10 +71,10 @@ fn read_contents<F: Files>(
     policy: &Lawful,
     files: &mut F,
 ) -> Result<ComponentFiles, BuildError>
-    ensures grows { IfOk result (λ found. Grows (F.state files.old).held (document_look name.now document.now ∷ []) (looks_of name.now document.now found)) }
-    ensures passes { IfOk result (λ found. Passes (looks_of name.now document.now found) (of_all (filled_of (source_of policy.now)))) }
-    ensures err { IfErr result (FailsWith (document_look name.now document.now ∷ []) (Refuses (of_all (filled_of (source_of policy.now)))) (F.state files.old) (F.state files.new)) }
-    ensures follows { Follows (F.state files.old) (F.state files.new) }
+    ensures grows { IfOk result (λ found. Grows name.now (names_file (source_of policy.now)) (F.held files.old) (F.history files.old) (F.history files.new) [] (looks_of found)) }
+    ensures passes { IfOk result (λ found. Passes name.now document.now (looks_of found) (of_all (filled_of (source_of policy.now)))) }
+    ensures err { IfErr result (Stops name.now document.now (names_file (source_of policy.now)) (F.held files.old) (F.history files.old) (F.history files.new) [] (Refuses (of_all (filled_of (source_of policy.now))))) }
+    ensures held { F.held files.new ≡ F.held files.old }
 {
     let mut found = ComponentFiles::new(alloc);
     check_all(alloc, name, document, policy.resolved(), &mut found, files)?;
@@ -79,28 +82,40 @@ fn read_contents<F: Files>(
 }
 
 /// The policy of a document with the addresses of its regions, where it keeps every rule, its
-/// contents fit and there is room for it, and the component files that the contents name. The document was read under this name: where a content names it, these
-/// bytes stand for it. Each other file is read once, where the first content names it.
+/// contents fit and there is room for it, and the component files that the contents name. These
+/// bytes stand for the policy's name: where a content names that, they are its file. Each other
+/// file is looked at once, where the first content names it, and nothing else is.
 ///
 /// Answers as `lawful` does where it is refused for less; else for the first region by number:
 /// `Missing` where there is no file of a content's name, `TooLong` where it is longer than
 /// `COMPONENT_FILE_MOST`, `FileFit` where what a content takes is longer than its region; else
-/// `NoRoom` with the first region that has no room. A fault of files comes only where their count of faults rose, `Missing` and `TooLong` only where that of
-/// misses did.
+/// `NoRoom` with the first region that has no room. It answers `FileFault` where its last look at
+/// files failed.
 pub fn accept<F: Files>(
     alloc: Global,
     name: &str,
     document: &[u8],
     files: &mut F,
 ) -> Result<Accepted, BuildError>
-    ensures grows { IfOk result (λ a. Grows (F.state files.old).held (document_look name.now document.now ∷ []) (looks_of name.now document.now a.files)) }
-    ensures accepts { IfOk result (λ a. Accepts (looks_of name.now document.now a.files) document.now (source_of a.placed.expanded.lawful)) }
+    // It made the looks that read these files and no others, each at a name that a content has.
+    ensures looked { IfOk result (λ a. Looked name.now (F.held files.old) (F.history files.old) (F.history files.new) (looks_of a.files)) }
+    ensures asked { IfOk result (λ a. All (IsAsked document.now) (looks_of a.files)) }
+    // In whatever files agree with its looks, with these bytes under the policy's name, the
+    // document is accepted as this policy.
+    ensures accepts { IfOk result (λ a. Accepts name.now (looks_of a.files) document.now (source_of a.placed.expanded.lawful)) }
     ensures lawful { IfOk result (λ a. lawful_policy_of document.now ≡ Ok (source_of a.placed.expanded.lawful)) }
-    ensures err { IfErr result (FailsWith (document_look name.now document.now ∷ []) (RefusesDocument document.now) (F.state files.old) (F.state files.new)) }
-    ensures follows { Follows (F.state files.old) (F.state files.new) }
+    // In all of them it is refused so; or memory was refused, or the last look failed.
+    ensures err { IfErr result (FailsWith name.now document.now (F.held files.old) (F.history files.old) (F.history files.new)) }
+    ensures held { F.held files.new ≡ F.held files.old }
 {
     let policy = lawful(alloc, document)?;
     let files = read_contents(alloc, name, document, &policy, files)?;
     let placed = place(alloc, policy)?;
     Ok(Accepted { placed, files })
 }
+
+/// Files in which these bytes stand under this name are the same with them put there. So what is
+/// said of a document in its name's place is said of the files that hold it.
+pub fn shown_document()
+    ensures { (files : Store) (name document : List ℕ) → map.get files name ≡ Some document → map.insert files name document ≡ files }
+{}

@@ -150,7 +150,7 @@ fn put_subjects(
 
 /// The bytes of a policy's regions that aren't the kernel's, by number: those of memory, the
 /// channels, then those that each subject's component brings along. Each has as many bytes as its
-/// size says. The document was read under this name, and the other files were found.
+/// size says. The document stands under this name, and the other files were found.
 pub(crate) fn things(
     alloc: Global,
     name: &str,

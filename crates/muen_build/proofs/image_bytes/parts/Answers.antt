@@ -3,8 +3,8 @@ use Rattle.proof_build.proofs.Sound.{has_ascending, has_kernel_spans, has_leaves
 use Rattle.muen_build.proofs.Emitting.{filled_so, sound_so}
 use Rattle.muen_build.proofs.image_bytes.parts.Goals as goal
 
-pub emit-requires-clause-filled : goal.emit-requires-clause-filled
-emit-requires-clause-filled c =
+pub emit-requires : goal.emit-requires
+emit-requires c =
     filled_so c.args.placed.now c.expanded-expanded.ensures.placed c.expanded-expanded.result.now c.expanded-expanded.ensures.value c.lawful.result.now c.resolved-policy.result.now c.lawful.ensures c.resolved-policy.ensures.value
     c.args.name.now c.args.document.now c.args.found.now c.in_ok-things.things c.in_ok-things.ensures
 
