@@ -61,14 +61,7 @@ unread_so i (Bad at field) error h made = absurd (cc (h))
 unread_so i (Trailing at) error h made = absurd (cc (h))
 
 module _ (policy document : List ℕ) (p : Source) (looks : List Look) (bytes : List ℕ) (built : WithDocument policy document looks (λ files. IsImageFor p files bytes)) where
-  pub back_so : (result : Result Image CommandError) → ((i : Image) → IsImage bytes i → IsReadOf i result) → IfOk result (λ i. WithDocument policy document looks (λ files. IsSound p files i))
-  back_so (Ok j) only =
-      λ files s.
-      let b = built files s in
-      let same = only b.parts b.image in
-      subst (IsSound p (insert files policy document)) same b.sound
-  back_so (Err error) only = tt
-
+  -- where it can't be read again, memory was refused
   pub not_back : (result : Result Image CommandError) → ((i : Image) → IsImage bytes i → IsReadOf i result) → IfErr result (λ error. WithDocument policy document looks (λ files. OnlyMemory error))
   not_back (Ok j) only = tt
   not_back (Err error) only = λ files s. let b = built files s in only b.parts b.image

@@ -1,12 +1,12 @@
 -- What was seen of files that were looked at one after another.
-use Rattle.std.proofs.Common.{◌≡◌, inl, inr, ℕ, true, List, [], ◌∷◌, ◌++◌, Option, Some, None, IfSome, Result, Ok, Err, IfOk, refl, sym, ap, subst, ◌∙◌, append-nil}
+use Rattle.std.proofs.Common.{◌≡◌, inl, inr, ℕ, true, List, [], ◌∷◌, ◌++◌, Option, Some, None, IfSome, Result, Ok, Err, IfOk, refl, sym, ap, subst, ◌∙◌, append-nil, append_assoc}
 use Rattle.std.specs.FinMap.{get}
 use Rattle.std.specs.Str.{bytes_eq}
 use Rattle.std.proofs.lemmas.Slice.Eq.{bytes_eq-Decides}
 use Rattle.muen_build.specs.Accepting.{Files, looks_of}
 use Rattle.muen_build.specs.Looks.{Looked, document_look}
 use Rattle.muen_build.proofs.Documents.{whole_found}
-use Rattle.muen_build.proofs.Looks.{looked_both, show_front, show_last, single_push, told_both, told_none}
+use Rattle.muen_build.proofs.Looks.{show_front, show_last, single_push}
 use Rattle.muen_build.proofs.Steps.{others_found, shown_among}
 use Rattle.muen_num.specs.declared.limits.TheConstants.{COMPONENT_FILE_MOST, POLICY_MOST}
 use Rattle.muen_outside.specs.declared.files.FileError.{FileError}
@@ -21,6 +21,19 @@ use Rattle.muen_top.specs.FilesSeen.{OverLooks, Saw, SawAfter, known, not_copied
 use Rattle.muen_top.specs.Loads.{GivesNone, NotRead, NotReadAfter, NotWithin, policy_looks}
 use Rattle.muen_top.specs.declared.outcome.CommandError.{CommandError}
 use Rattle.muen_top.specs.declared.outcome.CommandError.TheVariants.{Usage, Missing, TooLong, Refused, ImageRefused, RecordRefused, FileFault, NoMemory}
+
+-- ---- looks, one after another
+
+show_both : (m : Store) (ls more : List Look) → ShowAll m ls → ShowAll m more → ShowAll m (ls ++ more)
+show_both m [] more h k = k
+show_both m (l ∷ ls) more h k = (h.0, show_both m ls more h.1 k)
+
+told_both : (held : Option Store) (ls more : List Look) → IfSome held (λ m. ShowAll m ls) → IfSome held (λ m. ShowAll m more) → IfSome held (λ m. ShowAll m (ls ++ more))
+told_both None ls more h k = tt
+told_both (Some m) ls more h k = show_both m ls more h k
+
+looked_both : (h : History) (ls more : List Look) → looked (looked h ls) more ≡ looked h (ls ++ more)
+looked_both h ls more = ap (λ looks. record { looks = looks; writes = h.writes }) (append_assoc h.looks ls more)
 
 -- ---- one look
 
@@ -119,11 +132,7 @@ module _ (looks : List Look) (name : List ℕ) (most : ℕ) (held : Option Store
   not_read_after old new error others h =
       gives_none name (λ got. Saw held old new (look name most got ∷ [])) (λ got. SawAfter looks name most got held old new) (λ got saw. unknown others saw) error h
 
-  -- of one of which the looks show what it holds, and memory for a copy was refused
-  pub no_copy : (h : History) → NotReadAfter looks name most held h h NoMemory
-  no_copy h = not_copied refl refl
-
-  -- .. or that is too many bytes
+  -- of one of which the looks show what it holds: that is too many bytes
   pub not_within : (h : History) (bytes : List ℕ) → OverLooks looks (λ m. get m name ≡ Some bytes) → (error : CommandError) → NotWithin name bytes most error → NotReadAfter looks name most held h h error
   not_within h bytes there (TooLong n k) x = (x.0, known bytes there (ap (λ r. Ok r) x.1) refl)
   not_within h bytes there (Missing n) x = absurd x

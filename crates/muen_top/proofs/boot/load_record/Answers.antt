@@ -1,16 +1,11 @@
 use Rattle.std.proofs.Common.{sym}
-use Rattle.std.proofs.lemmas.Result.{IfErr-weaker, IfOk-weaker, err_from_is_err_and}
+use Rattle.std.proofs.lemmas.Result.{IfErr-weaker, IfOk-weaker}
 use Rattle.muen_num.specs.declared.limits.TheConstants.{POLICY_MOST}
 use Rattle.muen_outside.specs.Store.{whole}
-use Rattle.muen_top.proofs.FilesSeen.{component_copied, no_component, no_copy, no_other, of_another, of_component, whole_same}
+use Rattle.muen_top.proofs.FilesSeen.{component_copied, no_component, no_other, of_another, of_component, whole_same}
 use Rattle.muen_top.proofs.boot.load_record.Goals as goal
 
 -- a component file has this name
-
-pub returns-in_err-copy-in-Some-clause-err : goal.returns-in_err-copy-in-Some-clause-err
-returns-in_err-copy-in-Some-clause-err g c =
-    let left = err_from_is_err_and c.from_residual-in_err-copy-in-Some.result c.from_residual-in_err-copy-in-Some.ensures.1 in
-    rw (left.1, left.2) (no_copy _ _ _ _ _)
 
 pub returns-in_ok-copy-in-Some-clause-ok : goal.returns-in_ok-copy-in-Some-clause-ok
 returns-in_ok-copy-in-Some-clause-ok g c =
