@@ -1,5 +1,5 @@
 -- From a lawful policy whose contents are held against files to one that is accepted.
-use Rattle.std.proofs.Common.{◌≡◌, inl, inr, ℕ, true, List, [], ◌∷◌, ◌++◌, Option, Some, None, IfSome, Ok, Err, refl, sym, ap, subst, ◌∙◌}
+use Rattle.std.proofs.Common.{◌≡◌, inl, inr, ℕ, true, List, [], Option, None, IfSome, Ok, Err, refl, sym, ap, subst, ◌∙◌}
 use Rattle.std.specs.List.{All}
 use Rattle.std.specs.FinMap.{insert}
 use Rattle.std.proofs.lemmas.List.Elements.{All-nil, All-weaker}
@@ -51,29 +51,29 @@ unlawful_fails name document held h r answer =
       ];
     }
 
-module _ (name document : List ℕ) (p : Source) (is : lawful_policy_of document ≡ Ok p) (held : Option Store) (old new : History) where
-  -- of its contents, or of its room
-  stops_fails : (error : BuildError) → Stops name document (names_file p) held old new [] (RefusesDocument document) error → FailsWith name document held old new error
-  stops_fails error e = record {
-    looks = e.after;
-    looked = all_looked name held old new e.after (names_file p) e.grows;
-    asked = all_asked name held old new e.after document p is e.grows;
-    says = e.says;
-  }
+module _ (name document : List ℕ) (p : Source) (is : lawful_policy_of document ≡ Ok p) where
+  -- its contents are refused, or a look at them failed
+  module _ (held : Option Store) (old new : History) where
+    stops_fails : (error : BuildError) → Stops name document (names_file p) held old new [] (RefusesDocument document) error → FailsWith name document held old new error
+    stops_fails error e = record {
+      looks = e.after;
+      looked = all_looked name held old new e.after (names_file p) e.grows;
+      asked = all_asked name held old new e.after document p is e.grows;
+      says = e.says;
+    }
 
-  -- its contents are refused
-  pub contents_fail : (error : BuildError) → Stops name document (names_file p) held old new [] (Refuses (of_all (filled_of p))) error → FailsWith name document held old new error
-  unfolding contents_refused
-  contents_fail error e =
-      stops_fails error
-      (stops_so name document (names_file p) (names_file p) held old new [] (Refuses (of_all (filled_of p))) (RefusesDocument document) error (λ file h. h)
-      (λ r after shows h files s. contents_first (insert files name document) document p r is (h files s)) e)
-
-  -- there is no room
-  module _ (found : Files) (passes : Passes name document (looks_of found) (of_all (filled_of p))) where
-    pub room_fails : (r : Refusal) → Grows name (names_file p) held old new [] (looks_of found) → Explains NoMemory (no_room p) r → FailsWith name document held old new (Refused r)
+    pub contents_fail : (error : BuildError) → Stops name document (names_file p) held old new [] (Refuses (of_all (filled_of p))) error → FailsWith name document held old new error
     unfolding contents_refused
-    room_fails r grows h = record {
+    contents_fail error e =
+        stops_fails error
+        (stops_so name document (names_file p) (names_file p) held old new [] (Refuses (of_all (filled_of p))) (RefusesDocument document) error (λ file h. h)
+        (λ r after shows h files s. contents_first (insert files name document) document p r is (h files s)) e)
+
+  module _ (found : Files) (passes : Passes name document (looks_of found) (of_all (filled_of p))) where
+    -- there is no room
+    pub room_fails : (held : Option Store) (old new : History) (r : Refusal) → Grows name (names_file p) held old new [] (looks_of found) → Explains NoMemory (no_room p) r → FailsWith name document held old new (Refused r)
+    unfolding contents_refused
+    room_fails held old new r grows h = record {
       looks = looks_of found;
       looked = all_looked name held old new (looks_of found) (names_file p) grows;
       asked = all_asked name held old new (looks_of found) document p is grows;

@@ -7,7 +7,6 @@ use Rattle.muen_outside.specs.Looks.{AreOthers, AreSingle, IsPossibleEnd, ShowAl
 use Rattle.muen_outside.specs.States.{History, Look, looked}
 use Rattle.muen_outside.specs.Store.{Store}
 use Rattle.policy_types.specs.declared.refusal.Refusal.{Refusal}
-use Rattle.policy_types.specs.declared.refusal.Refusal.TheVariants.{NoMemory}
 use Rattle.muen_build.specs.Accepting.{ErrorSays, Grows, IsAskedBy, Names, Stops, WithDocument}
 use Rattle.muen_build.specs.declared.accepted.BuildError.{BuildError}
 use Rattle.muen_build.specs.declared.accepted.BuildError.TheVariants.{FileFault, Refused}

@@ -1,5 +1,5 @@
 -- One file, one content.
-use Rattle.std.proofs.Common.{◌≡◌, inl, inr, ℕ, ◌≤◌, ◌<◌, min, true, false, List, [], ◌∷◌, ◌++◌, length, drop, Option, Some, None, IfSome, Result, Ok, Err, refl, sym, ap, subst, ◌∙◌, arith}
+use Rattle.std.proofs.Common.{◌≡◌, inl, inr, ℕ, ◌≤◌, ◌<◌, min, true, false, List, [], ◌∷◌, ◌++◌, length, drop, Option, Some, None, Result, Ok, refl, sym, ap, subst, ◌∙◌, arith}
 use Rattle.std.specs.Prelude.{option_map, if◌then◌else◌}
 use Rattle.std.specs.Str.{bytes_eq}
 use Rattle.std.specs.FinMap.{get, insert}
@@ -7,7 +7,7 @@ use Rattle.std.proofs.lemmas.List.{length-take, length-drop, map_push}
 use Rattle.std.proofs.lemmas.List.Elements.{All-cons, All-nil}
 use Rattle.std.proofs.lemmas.Slice.Eq.{bytes_eq-Decides}
 use Rattle.muen_num.specs.declared.limits.TheConstants.{COMPONENT_FILE_MOST}
-use Rattle.muen_outside.specs.Looks.{AreOthers, EndsInFault, ShowAll, ShowsAnswer}
+use Rattle.muen_outside.specs.Looks.{AreOthers, ShowAll, ShowsAnswer}
 use Rattle.muen_outside.specs.States.{History, Look, look}
 use Rattle.muen_outside.specs.Store.{Store, Reading, whole, absent, long, reading_of, find_bytes}
 use Rattle.muen_outside.specs.declared.files.FileError.{FileError}
@@ -20,7 +20,7 @@ use Rattle.muen_build.specs.Refusals.{Filled, file_refused, too_long_for}
 use Rattle.muen_build.specs.declared.accepted.BuildError.{BuildError}
 use Rattle.muen_build.specs.declared.accepted.BuildError.TheVariants.{FileFault, Refused}
 use Rattle.muen_build.proofs.Documents.{admitted, other_bytes, own_bytes, too_many}
-use Rattle.muen_build.proofs.Looks.{grows_not, others_push, other_way, same_self, show_last, single_push, stops_here, told_one}
+use Rattle.muen_build.proofs.Looks.{others_push, other_way, same_self, show_last, single_push, stops_here, told_one}
 
 -- ---- the document's own name
 

@@ -19,7 +19,7 @@ pub returns-in_err-placed-clause-err : goal.returns-in_err-placed-clause-err
 returns-in_err-placed-clause-err g c =
     let left = err_from_is_err_and c.from_residual-in_err-placed.result c.from_residual-in_err-placed.ensures.1 in
     rw (left.1, left.2)
-    (room_fails c.args.name.now c.args.document.now (source_of c.in_ok-policy.policy) c.in_ok-policy.ensures _ _ _ _ c.in_ok-files.ensures.passes _ c.in_ok-files.ensures.grows c.in_err-placed.ensures.err)
+    (room_fails c.args.name.now c.args.document.now (source_of c.in_ok-policy.policy) c.in_ok-policy.ensures _ c.in_ok-files.ensures.passes _ _ _ _ c.in_ok-files.ensures.grows c.in_err-placed.ensures.err)
 
 pub returns-clause-looked : goal.returns-clause-looked
 returns-clause-looked g c = all_looked c.args.name.now _ _ _ (looks_of c.in_ok-files.files) (names_file (source_of c.in_ok-policy.policy)) c.in_ok-files.ensures.grows
@@ -31,4 +31,4 @@ returns-clause-asked g c =
 pub returns-clause-accepts : goal.returns-clause-accepts
 returns-clause-accepts g c =
     rw (c.in_ok-placed.ensures.ok)
-    (accepts c.args.name.now c.args.document.now (source_of c.in_ok-policy.policy) c.in_ok-policy.ensures _ _ _ _ c.in_ok-files.ensures.passes c.in_ok-placed.ensures.room)
+    (accepts c.args.name.now c.args.document.now (source_of c.in_ok-policy.policy) c.in_ok-policy.ensures _ c.in_ok-files.ensures.passes c.in_ok-placed.ensures.room)
