@@ -18,7 +18,7 @@ use Rattle.policy_types.specs.declared.source.Block.{Block}
 use Rattle.policy_lawful.specs.Resolution.{IsResolved, Resolution, source_of, subject_named, subject_in_range}
 use Rattle.policy_lawful.specs.declared.resolved.Subject.{Subject}
 use Rattle.policy_lawful.proofs.SourceElements.{parts_in_range}
-use Rattle.policy_lawful.specs.Thing.{Thing}
+use Rattle.policy_lawful.specs.Thing.{Thing, thing_tag}
 use Rattle.policy_lawful.specs.Windows.{Window}
 use Rattle.policy_lawful.specs.Views.{thing_shown, view_window, views_of}
 use Rattle.policy_lawful.specs.declared.view.Shown.{Shown}

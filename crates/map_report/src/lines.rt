@@ -98,7 +98,7 @@ impl PrintedLine for WindowLine {
         let at = append(space, at, b" ");
         let at = append_hex16(space, at, self.size);
         let at = append(space, at, b" ");
-        let at = append_rights(space, at, self.rights);
+        let at = append(space, at, rights_text(self.rights));
         let at = append(space, at, b" ");
         let at = append(space, at, &name[..len]);
         append(space, at, b"\n")

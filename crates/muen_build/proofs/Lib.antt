@@ -4,6 +4,7 @@ pub mod Documents
 pub mod Emitting
 pub mod FilledByIndex
 pub mod Held
+pub mod LimitExamples
 pub mod Looks
 pub mod Placing
 pub mod Refusing

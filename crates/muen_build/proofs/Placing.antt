@@ -8,7 +8,8 @@ use Rattle.policy_types.specs.declared.refusal.Refusal.{Refusal}
 use Rattle.policy_types.specs.declared.refusal.Refusal.TheVariants.{NoMemory}
 use Rattle.region_alloc.specs.Placed.{Placement}
 use Rattle.region_alloc.specs.Placement.{no_room}
-use Rattle.muen_build.specs.Refusals.{laid_policy_of, lawful_policy_of, placed_source}
+use Rattle.muen_build.specs.Accepting.{placed_source}
+use Rattle.muen_build.specs.Refusals.{laid_policy_of, lawful_policy_of}
 use Rattle.muen_build.proofs.Refusing.{room_decides}
 
 pub laid_so : (bytes : List ℕ) (r : Resolution) (result : Result Placement Refusal) → lawful_policy_of bytes ≡ Ok (source_of r)

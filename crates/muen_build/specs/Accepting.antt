@@ -11,14 +11,23 @@ use Rattle.muen_outside.specs.declared.files.FileError.{FileError}
 use Rattle.muen_outside.specs.declared.files.FileError.TheVariants.{Failed}
 use Rattle.policy_types.specs.declared.refusal.Refusal.{Refusal}
 use Rattle.policy_types.specs.declared.refusal.Refusal.TheVariants.{Missing, TooLong, NoMemory}
+use Rattle.policy_lawful.specs.Resolution.{source_of}
 use Rattle.policy_lawful.specs.declared.resolved.Subject.{Subject}
 use Rattle.policy_types.specs.declared.source.Component.{Component}
 use Rattle.policy_types.specs.declared.source.Source.{Source}
+use Rattle.region_alloc.specs.Placed.{Placement}
 use Rattle.muen_build.specs.Filling.{brought_at}
 use Rattle.muen_build.specs.Looks.{IsAsked, Looked, file_look, is_of_file}
 use Rattle.muen_build.specs.Refusals.{Filled, accepted_policy_of, filled_refused}
 use Rattle.muen_build.specs.declared.accepted.BuildError.{BuildError}
 use Rattle.muen_build.specs.declared.accepted.BuildError.TheVariants.{FileFault, Refused}
+
+-- what a call that places has kept, as a source policy
+abbrev pub placed_source : Result Placement Refusal → Result Source Refusal
+placed_source (Ok x) = Ok (source_of x.expanded.lawful)
+placed_source (Err refusal) = Err refusal
+
+-- ---- what was read
 
 -- the component files that were read, with what they hold
 abbrev pub Files : Type 0

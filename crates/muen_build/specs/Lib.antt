@@ -1,6 +1,7 @@
 pub mod Accepting
 pub mod Building
 pub mod Filling
+pub mod ImageFor
 pub mod Looks
 pub mod Reading
 pub mod Refusals

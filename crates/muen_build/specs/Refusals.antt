@@ -10,7 +10,6 @@ use Rattle.muen_num.specs.declared.tag.Tag.{Tag}
 use Rattle.muen_outside.specs.Store.{Reading, whole, absent, long, reading_of}
 use Rattle.policy_json.specs.Document.{policy_of}
 use Rattle.policy_lawful.specs.Lawful.{names_broken, rules_broken, kept_or}
-use Rattle.policy_lawful.specs.Resolution.{source_of}
 use Rattle.policy_lawful.specs.Contents.{Held, file_part}
 use Rattle.policy_lawful.specs.Thing.{component_by}
 use Rattle.policy_types.specs.declared.refusal.Refusal.{Refusal}
@@ -19,7 +18,6 @@ use Rattle.policy_types.specs.declared.source.Component.{Component}
 use Rattle.policy_types.specs.declared.source.Content.{Content}
 use Rattle.policy_types.specs.declared.source.Content.TheVariants.{Zero, Fill, Inline, File}
 use Rattle.policy_types.specs.declared.source.Source.{Source}
-use Rattle.region_alloc.specs.Placed.{Placement}
 use Rattle.region_alloc.specs.Placement.{no_room}
 
 -- ---- rules
@@ -111,8 +109,3 @@ laid (Err refusal) = Err refusal
 -- not looked at
 unfoldable pub laid_policy_of : List ℕ → Result Source Refusal
 laid_policy_of bytes = laid (policy_of bytes)
-
--- what a call that places has kept, as a source policy
-abbrev pub placed_source : Result Placement Refusal → Result Source Refusal
-placed_source (Ok x) = Ok (source_of x.expanded.lawful)
-placed_source (Err refusal) = Err refusal

@@ -1,10 +1,11 @@
 //! The image of a document's policy.
 ghost use Rattle.std.specs.Prelude.{◌≡◌, IfErr, IfOk, Ok};
 ghost use Rattle.std.specs.FinMap.{insert};
-ghost use Rattle.proof_build.specs.Built.{HasGreatestPages, HasKernelSpans, HasMemoryTypes, HasOnePathPerTable, HasSpans, TablesAscend};
+ghost use Rattle.proof_build.specs.Built.{HasGreatestPages, HasKernelSpans, HasMemoryTypes, HasNoSpareTables, HasOnePathPerTable, HasSpans, TablesAscend};
 ghost use Rattle.image_soundness.specs.Sound.{ForEachSubject, IsSound};
 ghost use Rattle.muen_build.specs.Accepting.{Accepts, FailsWith, looks_of};
-ghost use Rattle.muen_build.specs.Building.{Builds, IsImageFor};
+ghost use Rattle.muen_build.specs.Building.{Builds};
+ghost use Rattle.muen_build.specs.ImageFor.{IsImageFor};
 ghost use Rattle.muen_build.specs.Refusals.{lawful_policy_of};
 ghost use Rattle.muen_outside.specs.Looks.{ShowAll};
 ghost use Rattle.muen_outside.specs.Store.{Store};
@@ -35,6 +36,7 @@ fn parts(
     ensures kernel { IfOk result (λ i. ForEachSubject (source_of placed.now.expanded.lawful) i (HasKernelSpans i)) }
     ensures paths { IfOk result HasOnePathPerTable }
     ensures ascending { IfOk result (λ i. ForEachSubject (source_of placed.now.expanded.lawful) i (λ s q. TablesAscend i q)) }
+    ensures spare { IfOk result (λ i. ForEachSubject (source_of placed.now.expanded.lawful) i (HasNoSpareTables i)) }
     ensures leaves { IfOk result (λ i. ForEachSubject (source_of placed.now.expanded.lawful) i (HasGreatestPages (source_of placed.now.expanded.lawful) i)) }
     ensures types { IfOk result (λ i. ForEachSubject (source_of placed.now.expanded.lawful) i (HasMemoryTypes (source_of placed.now.expanded.lawful) i)) }
 {

@@ -1,6 +1,8 @@
 -- What `boot` answers, as its files are read.
-use Rattle.std.proofs.Common.{◌≡◌, inl, inr, ℕ, List, [], ◌∷◌, Result, Ok, Err, IfErr, IfOk, refl, sym, ap, subst, ◌∙◌, arith}
-use Rattle.std.specs.FinMap.{get}
+use Rattle.std.proofs.Common.{◌≡◌, inl, inr, ℕ, List, [], ◌∷◌, ◌++◌, Option, Some, Result, Ok, Err, IfErr, IfOk, refl, sym, ap, subst, ◌∙◌, append-nil}
+use Rattle.std.specs.FinMap.{get, insert}
+use Rattle.std.specs.List.{All}
+use Rattle.std.proofs.lemmas.List.Elements.{All-nil}
 use Rattle.binary_form.specs.Faults.{Tells}
 use Rattle.binary_form.specs.declared.fault.ImageFault.{ImageFault}
 use Rattle.binary_form.specs.declared.fault.ImageFault.TheVariants.{Short, Bad, Trailing, NoMemory as NoMemoryForImage}
@@ -9,18 +11,25 @@ use Rattle.image_soundness.specs.Bench.{devices_of}
 use Rattle.image_soundness.specs.Sound.{IsSound}
 use Rattle.image_pack.specs.Parts.{IsImage}
 use Rattle.image_pack.specs.declared.parts.Image.{Image}
+<<<<<<< HEAD
 use Rattle.muen_build.specs.Accepting.{Accepts, FailsWith, Files, Grows, RefusedFor, RefusesDocument, looks_of}
-use Rattle.muen_build.specs.Building.{IsImageFor}
+use Rattle.muen_build.specs.ImageFor.{IsImageFor}
 use Rattle.muen_build.specs.Looks.{Explained, Follows, Look, Saw, Seen, ShowAll, document_look}
+=======
+use Rattle.muen_build.specs.Accepting.{Accepts, ErrorSays, FailsWith, Files, RefusesDocument, WithDocument, looks_of}
+use Rattle.muen_build.specs.Looks.{IsAsked, Looked, document_look}
+>>>>>>> 7303233fa031c40b9073106a9d5a2bd3c2c41f7b
 use Rattle.muen_build.specs.Refusals.{accepted_policy_of}
 use Rattle.muen_build.specs.declared.accepted.BuildError.{BuildError}
 use Rattle.muen_build.specs.declared.accepted.BuildError.TheVariants.{Refused as RefusedPolicy, FileFault as FaultOfFiles}
-use Rattle.muen_build.proofs.Looks.{seen_first}
+use Rattle.muen_build.proofs.Documents.{with_document}
 use Rattle.muen_num.specs.Answers.{Answers}
 use Rattle.muen_num.specs.declared.limits.TheConstants.{POLICY_MOST, RECORD_MOST}
-use Rattle.muen_outside.specs.Counts.{Rose}
-use Rattle.muen_outside.specs.States.{FilesState}
-use Rattle.muen_outside.specs.Store.{Store, Reading, whole, absent, long, reading_of}
+use Rattle.muen_outside.proofs.Explained.{explained}
+use Rattle.muen_outside.specs.declared.files.FileError.{FileError}
+use Rattle.muen_outside.specs.Looks.{EndsInFault, ShowAll}
+use Rattle.muen_outside.specs.States.{History, Look, look}
+use Rattle.muen_outside.specs.Store.{Store, Reading, whole, reading_of}
 use Rattle.muen_run.specs.RunText.{image_text}
 use Rattle.policy_types.specs.declared.refusal.Refusal.{Refusal}
 use Rattle.policy_types.specs.declared.source.Source.{Source}
@@ -31,18 +40,19 @@ use Rattle.record_text.specs.declared.fault.RecordFault.TheVariants.{NoMemory as
 use Rattle.record_text.specs.declared.record.Record.{Record}
 use Rattle.record_text.proofs.Mapped.{mapped_err, mapped_ok}
 use Rattle.proof_runs.proofs.ImageRuns.{image_bench_is, image_runs}
-use Rattle.muen_top.specs.Answers.{Answer, prints, stops, missing, too_long, record_refused, of_file, policy_answer, trace_answer, boot_answer}
+use Rattle.muen_top.specs.Answers.{Answer, prints, stops, refused as refused_for, record_refused, of_file, policy_answer, trace_answer, boot_answer}
+use Rattle.muen_top.specs.Asked.{Asks, AsksBoth, AsksInputs, IsAtMost}
+use Rattle.muen_top.specs.Calls.{StopsFor}
 use Rattle.muen_top.specs.Commands.{boot}
-use Rattle.muen_top.specs.FilesSeen.{SawAfter, ShownAfter}
-use Rattle.muen_top.specs.Loads.{IsReadBack, IsReadOf, NotMade, refused, unmade, NotRead, NotReadAfter}
-use Rattle.muen_top.specs.PolicyCommands.{IsAnswered, StopsCommand}
+use Rattle.muen_top.specs.FilesSeen.{OverLooks, Saw, SawAfter}
+use Rattle.muen_top.specs.Loads.{IsReadOf, NotMade, refused, unmade, NotRead, NotReadAfter, policy_looks}
+use Rattle.muen_top.specs.PolicyCommands.{HasRead, IsAnswered, StopsCommand}
 use Rattle.muen_top.specs.Runs.{OnlyMemory}
-use Rattle.muen_top.specs.CommandErrors.{error_of_build, error_of_image_fault, error_of_record_fault, error_of_refusal}
+use Rattle.muen_top.specs.CommandErrors.{error_of_build, error_of_image_fault, error_of_record_fault}
 use Rattle.muen_top.specs.declared.outcome.CommandError.{CommandError}
 use Rattle.muen_top.specs.declared.outcome.CommandError.TheVariants.{Usage, Missing, TooLong, Refused, ImageRefused, RecordRefused, FileFault, NoMemory}
-use Rattle.muen_top.proofs.FilesSeen.{explained_after, shown_after}
-use Rattle.muen_top.proofs.PolicyCommands.{RestsOn, not_read, of_refusal, out_of_memory}
-use Rattle.muen_top.proofs.Told.{for_a_file, some_files}
+use Rattle.muen_top.proofs.FilesSeen.{SeenAfter, gives_none, saw_contents, seen_after}
+use Rattle.muen_top.proofs.FirstFile.{AsksOn, RestsOn, SaysOf, fault_after, not_read, says_of, stopped_by, stops_record, stops_refused}
 
 -- ---- an image that is read again
 
@@ -55,166 +65,191 @@ unread_so i (Short at) error h made = absurd (cc (h))
 unread_so i (Bad at field) error h made = absurd (cc (h))
 unread_so i (Trailing at) error h made = absurd (cc (h))
 
-module _ (p : Source) (looks : List Look) (bytes : List ℕ) (built : (files : Store) → ShowAll files looks → IsImageFor p files bytes) where
-  pub back_so : (result : Result Image CommandError) → ((i : Image) → IsImage bytes i → IsReadOf i result) → IfOk result (λ i. (files : Store) → ShowAll files looks → IsReadBack p files i)
-  back_so (Ok j) only =
-      λ files s.
-      let b = built files s in
-      let same = only b.parts b.image in
-      record { bytes = bytes; image = subst (IsImage bytes) same b.image; sound = subst (IsSound p files) same b.sound }
-  back_so (Err error) only = tt
-
-  pub not_back : (result : Result Image CommandError) → ((i : Image) → IsImage bytes i → IsReadOf i result) → IfErr result (λ error. (files : Store) → ShowAll files looks → OnlyMemory error)
+module _ (policy document : List ℕ) (p : Source) (looks : List Look) (bytes : List ℕ) (built : WithDocument policy document looks (λ files. IsImageFor p files bytes)) where
+  -- where it can't be read again, memory was refused
+  pub not_back : (result : Result Image CommandError) → ((i : Image) → IsImage bytes i → IsReadOf i result) → IfErr result (λ error. WithDocument policy document looks (λ files. OnlyMemory error))
   not_back (Ok j) only = tt
   not_back (Err error) only = λ files s. let b = built files s in only b.parts b.image
 
 -- ---- the answer
 
 boot_next : List ℕ → Store → List ℕ → Answer
-boot_next name files bytes = policy_answer files name (accepted_policy_of files bytes)
+boot_next name m bytes = policy_answer m name (accepted_policy_of m bytes)
 
 rests : (policy name : List ℕ) → RestsOn POLICY_MOST policy (boot_next name) (boot policy name)
 unfolding boot_answer boot_next
-rests policy name files = refl
+rests policy name m = refl
 
-by_document : (files : Store) (policy name bytes : List ℕ) (answer : Result Source Refusal) → reading_of (get files policy) POLICY_MOST ≡ whole bytes → accepted_policy_of files bytes ≡ answer → boot_answer files policy name ≡ policy_answer files name answer
+asks : (policy name : List ℕ) → AsksOn POLICY_MOST policy (AsksBoth policy name) (boot policy name)
+asks policy name = record {
+  asks = λ looks a. a;
+  none = λ document. record { components = []; last = []; is = refl; contents = All-nil (IsAsked document); inputs_last = inl refl };
+}
+
+by_document : (m : Store) (policy name bytes : List ℕ) (answer : Result Source Refusal) → reading_of (get m policy) POLICY_MOST ≡ whole bytes → accepted_policy_of m bytes ≡ answer → boot_answer m policy name ≡ policy_answer m name answer
 unfolding boot_answer
-by_document files policy name bytes answer is eq =
-    ap (λ reading. of_file policy (λ bytes. policy_answer files name (accepted_policy_of files bytes)) reading) is ∙ ap (policy_answer files name) eq
+by_document m policy name bytes answer is eq =
+    ap (λ reading. of_file policy (λ bytes. policy_answer m name (accepted_policy_of m bytes)) reading) is ∙ ap (policy_answer m name) eq
 
 -- ---- the policy's file
 
-module _ (policy name : List ℕ) (old new : FilesState) where
-  pub policy_not_read : (error : CommandError) → NotRead policy POLICY_MOST old new error → StopsCommand (boot policy name) old new error
-  policy_not_read error h = not_read POLICY_MOST policy (boot_next name) (boot policy name) (rests policy name) old new error h
-
-  no_memory : StopsCommand (boot policy name) old new NoMemory
-  no_memory = out_of_memory POLICY_MOST policy (boot_next name) (boot policy name) (rests policy name) old new
-
-  file_fault : Rose old.faults new.faults → StopsCommand (boot policy name) old new FileFault
-  file_fault h = let s = some_files old.held in record { files = s.files; told = s.told; holds = h }
-
-  refusal_of : (r : Refusal) → StopsCommand (boot policy name) old new (Refused r) → StopsCommand (boot policy name) old new (error_of_refusal r)
-  refusal_of r h = of_refusal POLICY_MOST policy (boot_next name) (boot policy name) (rests policy name) old new r h
+pub policy_not_read : (policy name : List ℕ) (held : Option Store) (old new : History) (error : CommandError) → NotRead policy POLICY_MOST held old new error → StopsCommand (boot policy name) held old new error
+policy_not_read policy name held old new error h = not_read POLICY_MOST policy (boot_next name) (AsksBoth policy name) (boot policy name) (rests policy name) (asks policy name) held old new error h
 
 -- ---- the policy
 
-module _ (policy name : List ℕ) (old between : FilesState) (bytes : List ℕ) (saw : Saw policy POLICY_MOST (whole bytes) old between) (follows : Follows old between) where
-  refused_so : (new : FilesState) (r : Refusal) → RefusedFor (document_look policy bytes ∷ []) (RefusesDocument bytes) between new r → StopsCommand (boot policy name) old new (Refused r)
-  refused_so new r h =
-      let s = explained_after policy bytes old between saw follows h.after h.grows in
-      record {
-        files = s.files;
-        told = s.told;
-        holds = (
-          by_document s.files policy name bytes (Err r) (h.grows.shows s.files s.holds).0 (h.refuses s.files s.holds),
-          λ three. let rose = h.missed (for_a_file r three) in omega (arith, rose, follows.misses),
-        );
-      }
+module _ (policy name : List ℕ) (held held' : Option Store) (old between : History) (same : held' ≡ held) (document : List ℕ) (saw : Saw held old between (document_look policy document ∷ [])) where
+  -- the looks at the document and at component files
+  asks_all : (looks : List Look) → All (IsAsked document) looks → Asks (Some (boot policy name)) (document_look policy document ∷ looks)
+  asks_all looks asked = record {
+    got = Ok (whole document);
+    more = looks;
+    is = refl;
+    goes_on = record { components = looks; last = []; is = sym (append-nil looks); contents = asked; inputs_last = inl refl };
+  }
 
-  policy_refused : (new : FilesState) (build_error : BuildError) (error : CommandError) → FailsWith (document_look policy bytes ∷ []) (RefusesDocument bytes) between new build_error → error ≡ error_of_build build_error → StopsCommand (boot policy name) old new error
-  policy_refused new (RefusedPolicy r) error (inl is) made =
-      let out : error ≡ NoMemory = made ∙ ap error_of_refusal is in
-      subst (StopsCommand (boot policy name) old new) (sym out) (no_memory policy name old new)
-  policy_refused new (RefusedPolicy r) error (inr h) made =
-      subst (StopsCommand (boot policy name) old new) (sym made) (refusal_of policy name old new r (refused_so new r h))
-  policy_refused new FaultOfFiles error rose made =
-      subst (StopsCommand (boot policy name) old new) (sym made) (file_fault policy name old new (omega (arith, rose, follows.faults)))
+  -- as this policy it is accepted, or refused
+  shown_so : (looks : List Look) (answer : Result Source Refusal) → WithDocument policy document looks (λ m. accepted_policy_of m document ≡ answer) → OverLooks (document_look policy document ∷ looks) (λ m. accepted_policy_of m document ≡ answer)
+  shown_so looks answer is m s = subst (λ k. accepted_policy_of k document ≡ answer) (with_document m policy document s.0) (is m s.1)
+
+  abbrev Stops : List Look → CommandError → Type 0
+  Stops looks error = StopsFor (λ m. boot_answer m policy name) (document_look policy document ∷ looks) [] error
+
+  refused_so : (looks : List Look) (r : Refusal) → WithDocument policy document looks (λ m. RefusesDocument document m r) → OverLooks (document_look policy document ∷ looks) (λ m. boot_answer m policy name ≡ stops (refused_for r))
+  refused_so looks r refuses m s = by_document m policy name document (Err r) s.0 (shown_so looks (Err r) refuses m s)
+
+  fails_so : (looks : List Look) (build_error : BuildError) (error : CommandError) → ErrorSays policy document (RefusesDocument document) looks build_error → error ≡ error_of_build build_error → Stops looks error
+  fails_so looks (RefusedPolicy r) error (inl is) made = stops_refused (λ m. boot_answer m policy name) (document_look policy document ∷ looks) r error (inl is) made
+  fails_so looks (RefusedPolicy r) error (inr h) made = stops_refused (λ m. boot_answer m policy name) (document_look policy document ∷ looks) r error (inr (refused_so looks r h)) made
+  fails_so looks FaultOfFiles error h made = subst (Stops looks) (sym made) (inl (fault_after (document_look policy document) looks h, refl))
+
+  policy_refused : (new : History) (build_error : BuildError) (error : CommandError) → FailsWith policy document held' between new build_error → error ≡ error_of_build build_error → StopsCommand (boot policy name) held old new error
+  policy_refused new build_error error h made = record {
+    looks = document_look policy document ∷ h.looks;
+    saw = saw_contents policy document held held' old between new h.looks same saw h.looked;
+    asked = asks_all h.looks h.asked;
+    says = fails_so h.looks build_error error h.says made;
+  }
 
   -- ---- an accepted policy
 
-  module _ (mid : FilesState) (found : Files) (grows : Grows between.held (document_look policy bytes ∷ []) (looks_of policy bytes found)) (on : Follows between mid) where
-    accepting : Explained old.held (looks_of policy bytes found)
-    accepting = explained_after policy bytes old between saw follows (looks_of policy bytes found) grows
+  module _ (mid : History) (found : Files) (looked : Looked policy held' between mid (looks_of found)) (asked : All (IsAsked document) (looks_of found)) where
+    abbrev both : List Look
+    both = policy_looks policy document found
 
-    seen : Seen old.held (looks_of policy bytes found)
-    seen = (subst (λ held. Grows held (document_look policy bytes ∷ []) (looks_of policy bytes found)) follows.held grows).seen (seen_first policy POLICY_MOST (whole bytes) old between saw)
-
-    follows_mid : Follows old mid
-    follows_mid = record { held = on.held ∙ follows.held; faults = omega (arith, follows.faults, on.faults); misses = omega (arith, follows.misses, on.misses) }
+    saw_both : Saw held old mid both
+    saw_both = saw_contents policy document held held' old between mid (looks_of found) same saw looked
 
     -- its image is written and read again, unless memory was refused
-    parts_refused : (error : CommandError) → ((files : Store) → ShowAll files (looks_of policy bytes found) → OnlyMemory error) → StopsCommand (boot policy name) old mid error
-    parts_refused error h = only error (h accepting.files accepting.holds)
-      where
-        only : (error : CommandError) → OnlyMemory error → StopsCommand (boot policy name) old mid error
-        only NoMemory h = no_memory policy name old mid
-        only Usage h = absurd h
-        only (Missing n) h = absurd h
-        only (TooLong n k) h = absurd h
-        only (Refused r) h = absurd h
-        only (ImageRefused f) h = absurd h
-        only (RecordRefused r) h = absurd h
-        only FileFault h = absurd h
+    only_memory : (error : CommandError) → OnlyMemory error → Stops (looks_of found) error
+    only_memory NoMemory h = inl refl
+    only_memory Usage h = absurd h
+    only_memory (Missing n) h = absurd h
+    only_memory (TooLong n k) h = absurd h
+    only_memory (Refused r) h = absurd h
+    only_memory (ImageRefused f) h = absurd h
+    only_memory (RecordRefused r) h = absurd h
+    only_memory FileFault h = absurd h
 
-    module _ (p : Source) (accepts : Accepts (looks_of policy bytes found) bytes p) (i : Image) (back : (files : Store) → ShowAll files (looks_of policy bytes found) → IsReadBack p files i) (new : FilesState) where
-      abbrev Shown : Reading → Type 0
-      Shown reading = ShownAfter old.held (looks_of policy bytes found) name RECORD_MOST reading
+    parts_refused : (error : CommandError) → WithDocument policy document (looks_of found) (λ files. OnlyMemory error) → StopsCommand (boot policy name) held old mid error
+    parts_refused error h =
+        let there = explained (looks_of found) looked.single in
+        record { looks = both; saw = saw_both; asked = asks_all (looks_of found) asked; says = only_memory error (h there.0 there.1) }
 
-      shown : (reading : Reading) → SawAfter (looks_of policy bytes found) name RECORD_MOST reading mid new → Shown reading
-      shown reading h = shown_after (looks_of policy bytes found) name RECORD_MOST reading old mid new seen follows_mid h
+    module _ (p : Source) (accepts : Accepts policy (looks_of found) document p) (i : Image) (back : WithDocument policy document (looks_of found) (λ files. IsSound p files i)) (held'' : Option Store) (same_mid : held'' ≡ held') (new : History) where
+      accepted : OverLooks both (λ m. accepted_policy_of m document ≡ Ok p)
+      accepted = shown_so (looks_of found) (Ok p) accepts
 
-      after : (reading : Reading) (s : Shown reading) → boot_answer s.files policy name ≡ of_file name (λ text. trace_answer s.files p (record_of text (devices_of p))) reading
-      after reading s =
-          by_document s.files policy name bytes (Ok p) s.holds.0.0 (accepts s.files s.holds.0)
-          ∙ ap (of_file name (λ text. trace_answer s.files p (record_of text (devices_of p)))) s.holds.1
+      back_so_far : OverLooks both (λ m. IsSound p m i)
+      back_so_far m s = subst (λ k. IsSound p k i) (with_document m policy document s.0) (back m s.1)
+
+      next : Store → List ℕ → Answer
+      next m text = trace_answer m p (record_of text (devices_of p))
+
+      -- the answer goes on with what is read of the record's file
+      by_both : (m : Store) (reading : Reading) → ShowAll m both → reading_of (get m name) RECORD_MOST ≡ reading → boot_answer m policy name ≡ of_file name (next m) reading
+      unfolding next
+      by_both m reading s shows =
+          by_document m policy name document (Ok p) s.0 (accepted m s)
+          ∙ ap (of_file name (λ text. trace_answer m p (record_of text (devices_of p)))) shows
+
+      abbrev After : Result Reading FileError → Type 0
+      After got = SawAfter both name RECORD_MOST got held'' mid new
+
+      seen : (got : Result Reading FileError) → After got → SeenAfter both name RECORD_MOST got held old new
+      seen got after = seen_after both name RECORD_MOST got held held'' old mid new (same_mid ∙ same) saw_both after
+
+      asks_more : (more : List Look) → IsAtMost name RECORD_MOST more → Asks (Some (boot policy name)) (both ++ more)
+      asks_more more one = record {
+        got = Ok (whole document);
+        more = looks_of found ++ more;
+        is = refl;
+        goes_on = record { components = looks_of found; last = more; is = refl; contents = asked; inputs_last = inr (p, accepted, one) };
+      }
+
+      read_after : (got : Result Reading FileError) → After got → HasRead (boot policy name) held old new (SaysOf (λ m. boot_answer m policy name) name got)
+      read_after got after =
+          let s = seen got after in
+          record {
+            looks = both ++ s.more;
+            saw = s.saw;
+            asked = asks_more s.more s.one;
+            says = says_of (λ m. boot_answer m policy name) name RECORD_MOST next (both ++ s.more) (λ m reading shows is. by_both m reading (s.shows m shows).0 is) got (λ m shows. (s.shows m shows).1) s.fault;
+          }
 
       -- the record's file isn't read
+      pub record_not_read : (error : CommandError) → NotReadAfter both name RECORD_MOST held'' mid new error → StopsCommand (boot policy name) held old new error
+      record_not_read error h =
+          stopped_by (boot policy name) held old new name error
+          (gives_none name After (λ got. HasRead (boot policy name) held old new (SaysOf (λ m. boot_answer m policy name) name got)) read_after error h)
 
-      pub record_not_read : (error : CommandError) → NotReadAfter (looks_of policy bytes found) name RECORD_MOST mid new error → StopsCommand (boot policy name) old new error
-      record_not_read (Missing n) h =
-          let s = shown absent h.1 in
-          record { files = s.files; told = s.told; holds = (after absent s ∙ ap (λ x. stops (missing x)) (sym h.0), omega (arith, follows_mid.misses, h.2)) }
-      record_not_read (TooLong n k) h =
-          let s = shown (long k) h.1 in
-          record { files = s.files; told = s.told; holds = (after (long k) s ∙ ap (λ x. stops (too_long x k)) (sym h.0), omega (arith, follows_mid.misses, h.2)) }
-      record_not_read FileFault h = file_fault policy name old new (omega (arith, follows_mid.faults, h))
-      record_not_read NoMemory h = no_memory policy name old new
-      record_not_read Usage h = absurd h
-      record_not_read (Refused r) h = absurd h
-      record_not_read (ImageRefused f) h = absurd h
-      record_not_read (RecordRefused r) h = absurd h
+      -- ---- the record
 
-      -- the record is refused
+      module _ (text : List ℕ) (after : After (Ok (whole text))) where
+        -- what comes of it
+        by_record : (Says : List Look → Type 0) → ((looks : List Look) → OverLooks looks (λ m. IsSound p m i × (boot_answer m policy name ≡ trace_answer m p (record_of text (devices_of p)))) → Says looks) → HasRead (boot policy name) held old new Says
+        unfolding next
+        by_record Says makes =
+            let s = seen (Ok (whole text)) after in
+            record {
+              looks = both ++ s.more;
+              saw = s.saw;
+              asked = asks_more s.more s.one;
+              says = makes (both ++ s.more) (λ m shows. (back_so_far m (s.shows m shows).0, by_both m (whole text) (s.shows m shows).0 (s.shows m shows).1));
+            }
 
-      same_bench : (files : Store) → ShowAll files (looks_of policy bytes found) → image_bench i ≡ devices_of p
-      same_bench files s = let b = back files s in image_bench_is p files i b.sound
+        same_bench : (m : Store) → IsSound p m i → image_bench i ≡ devices_of p
+        same_bench m b = image_bench_is p m i b
 
-      of_fault : {reading : Reading} (s : Shown reading) (fault : RecordFault) → boot_answer s.files policy name ≡ stops (record_refused fault) → (error : CommandError) → error ≡ error_of_record_fault fault → StopsCommand (boot policy name) old new error
-      of_fault s NoMemoryForRecord answer error made = subst (StopsCommand (boot policy name) old new) (sym made) (no_memory policy name old new)
-      of_fault s fault answer error made =
-          subst (StopsCommand (boot policy name) old new) (sym made) (record { files = s.files; told = s.told; holds = answer })
+        refused_says : (fault : RecordFault) → Answers NoMemoryForRecord (mapped (image_record i) (record_of text (image_bench i))) (Err fault) → (error : CommandError) → error ≡ error_of_record_fault fault → (looks : List Look)
+            → OverLooks looks (λ m. IsSound p m i × (boot_answer m policy name ≡ trace_answer m p (record_of text (devices_of p)))) → StopsFor (λ m. boot_answer m policy name) looks [] error
+        refused_says fault (inl is) error made looks goes = stops_record (λ m. boot_answer m policy name) looks fault error (inl is) made
+        refused_says fault (inr read) error made looks goes =
+            stops_record (λ m. boot_answer m policy name) looks fault error
+            (inr (λ m shows. let b = goes m shows in
+            b.1 ∙ ap (trace_answer m p) (ap (record_of text) (sym (same_bench m b.0)) ∙ mapped_err (image_record i) (record_of text (image_bench i)) fault read))) made
 
-      pub record_refused_so : (text : List ℕ) (fault : RecordFault) (error : CommandError) → SawAfter (looks_of policy bytes found) name RECORD_MOST (whole text) mid new → Answers NoMemoryForRecord (mapped (image_record i) (record_of text (image_bench i))) (Err fault) → error ≡ error_of_record_fault fault → StopsCommand (boot policy name) old new error
-      record_refused_so text fault error too (inl is) made =
-          subst (StopsCommand (boot policy name) old new) (sym (made ∙ ap error_of_record_fault is)) (no_memory policy name old new)
-      record_refused_so text fault error too (inr read) made =
-          let s = shown (whole text) too in
-          let named = mapped_err (image_record i) (record_of text (image_bench i)) fault read in
-          let says : record_of text (devices_of p) ≡ Err fault = ap (record_of text) (sym (same_bench s.files s.holds.0)) ∙ named in
-          let answer : boot_answer s.files policy name ≡ stops (record_refused fault) = after (whole text) s ∙ ap (trace_answer s.files p) says in
-          of_fault s fault answer error made
+        -- it is refused
+        pub record_refused_so : (fault : RecordFault) (error : CommandError) → Answers NoMemoryForRecord (mapped (image_record i) (record_of text (image_bench i))) (Err fault) → error ≡ error_of_record_fault fault → StopsCommand (boot policy name) held old new error
+        record_refused_so fault error h made = by_record (λ looks. StopsFor (λ m. boot_answer m policy name) looks [] error) (refused_says fault h error made)
 
-      -- both are read
+        printed_so : (input : Record) → mapped (image_record i) (record_of text (image_bench i)) ≡ Ok input → (m : Store) → IsSound p m i → boot_answer m policy name ≡ trace_answer m p (record_of text (devices_of p)) → boot_answer m policy name ≡ prints (image_text i input)
+        printed_so input read m b goes =
+            let named = mapped_ok (image_record i) (record_of text (image_bench i)) input read in
+            let says : record_of text (devices_of p) ≡ Ok named.0 = ap (record_of text) (sym (same_bench m b)) ∙ named.1 in
+            goes
+            ∙ (ap (trace_answer m p) says
+            ∙ (ap prints (sym (image_runs p m i text named.0 b says))
+            ∙ ap (λ r. prints (image_text i r)) named.2))
 
-      pub record_read : (text : List ℕ) (input : Record) → SawAfter (looks_of policy bytes found) name RECORD_MOST (whole text) mid new → mapped (image_record i) (record_of text (image_bench i)) ≡ Ok input → IsAnswered (boot policy name) old (prints (image_text i input))
-      record_read text input too read =
-          let s = shown (whole text) too in
-          let b = back s.files s.holds.0 in
-          let named = mapped_ok (image_record i) (record_of text (image_bench i)) input read in
-          let says : record_of text (devices_of p) ≡ Ok named.0 = ap (record_of text) (sym (same_bench s.files s.holds.0)) ∙ named.1 in
-          record {
-            files = s.files;
-            told = s.told;
-            holds =
-                after (whole text) s
-                ∙ (ap (trace_answer s.files p) says
-                ∙ (ap prints (sym (image_runs p s.files i text named.0 b.sound says))
-                ∙ ap (λ r. prints (image_text i r)) named.2));
-          }
+        -- both are read
+        pub record_read : (input : Record) → mapped (image_record i) (record_of text (image_bench i)) ≡ Ok input → IsAnswered (boot policy name) held old new (prints (image_text i input))
+        record_read input read =
+            by_record (λ looks. OverLooks looks (λ m. boot_answer m policy name ≡ prints (image_text i input)))
+            (λ looks goes m shows. let b = goes m shows in printed_so input read m b.0 b.1)
 
   -- ---- the document gives no image
 
-  pub not_made : (mid : FilesState) (on : Follows between mid) (error : CommandError) → NotMade policy bytes between mid error → StopsCommand (boot policy name) old mid error
-  not_made mid on error (refused build_error ends made) = policy_refused mid build_error error ends made
-  not_made mid on error (unmade found grows only) = parts_refused mid found grows on error only
+  pub not_made : (mid : History) (error : CommandError) → NotMade policy document held' between mid error → StopsCommand (boot policy name) held old mid error
+  not_made mid error (refused build_error ends made) = policy_refused mid build_error error ends made
+  not_made mid error (unmade found looked asked only) = parts_refused mid found looked asked error only

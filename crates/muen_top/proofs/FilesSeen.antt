@@ -1,56 +1,169 @@
--- Files that explain what was seen of several.
-use Rattle.std.proofs.Common.{◌≡◌, ℕ, true, false, List, [], ◌∷◌, ◌++◌, length, Option, Some, None, sym, ap, subst, ◌∙◌}
-use Rattle.std.specs.Prelude.{nat_lt, if◌then◌else◌}
+-- What was seen of files that were looked at one after another.
+use Rattle.std.proofs.Common.{◌≡◌, inl, inr, ℕ, true, List, [], ◌∷◌, ◌++◌, Option, Some, None, IfSome, Result, Ok, Err, IfOk, refl, sym, ap, subst, ◌∙◌, append-nil, append_assoc}
 use Rattle.std.specs.FinMap.{get}
 use Rattle.std.specs.Str.{bytes_eq}
 use Rattle.std.proofs.lemmas.Slice.Eq.{bytes_eq-Decides}
-use Rattle.muen_build.specs.Accepting.{Files, Grows, looks_of}
-use Rattle.muen_build.specs.Looks.{AreOthers, Explained, Follows, Look, Saw, Seen, ShowAll, document_look, look}
-use Rattle.muen_build.proofs.Looks.{explained, seen_also, seen_first, show_before, show_last}
+use Rattle.muen_build.specs.Accepting.{Files, looks_of}
+use Rattle.muen_build.specs.Looks.{Looked, document_look}
+use Rattle.muen_build.proofs.Documents.{whole_found}
+use Rattle.muen_build.proofs.Looks.{show_front, show_last, single_push}
 use Rattle.muen_build.proofs.Steps.{others_found, shown_among}
 use Rattle.muen_num.specs.declared.limits.TheConstants.{COMPONENT_FILE_MOST, POLICY_MOST}
-use Rattle.muen_outside.specs.States.{FilesState}
+use Rattle.muen_outside.specs.declared.files.FileError.{FileError}
+use Rattle.muen_outside.specs.declared.files.FileError.TheVariants.{Failed as FileFailed, NoMemory as FileMemory}
+use Rattle.muen_outside.specs.declared.files.Found.{Found}
+use Rattle.muen_outside.specs.Found.{IsPossible, answered, seen}
+use Rattle.muen_outside.specs.Looks.{AreOthers, EndsInFault, IsPossibleEnd, ShowAll, ShowsAnswer}
+use Rattle.muen_outside.specs.States.{History, Look, look, looked}
 use Rattle.muen_outside.specs.Store.{Store, Reading, whole, absent, long, find_bytes, reading_of}
-use Rattle.muen_top.specs.FilesSeen.{SawAfter, known, unknown, ShownAfter}
-use Rattle.muen_top.specs.Loads.{NotReadAfter, NotWithin}
+use Rattle.muen_top.specs.Asked.{IsAtMost}
+use Rattle.muen_top.specs.FilesSeen.{OverLooks, Saw, SawAfter, known, not_copied, unknown}
+use Rattle.muen_top.specs.Loads.{GivesNone, NotRead, NotReadAfter, NotWithin, policy_looks}
 use Rattle.muen_top.specs.declared.outcome.CommandError.{CommandError}
 use Rattle.muen_top.specs.declared.outcome.CommandError.TheVariants.{Usage, Missing, TooLong, Refused, ImageRefused, RecordRefused, FileFault, NoMemory}
 
--- where all the bytes were seen, they stand there
-content_is : (most : ℕ) (bytes : List ℕ) (content : Option (List ℕ)) → reading_of content most ≡ whole bytes → content ≡ Some bytes
-content_is most bytes None e = absurd (cc)
-content_is most bytes (Some found) e =
-    (elim (nat_lt most (length found)) as (λ b. (if b then long (length found) else whole found) ≡ whole bytes → Some found ≡ Some bytes) [
-      | true ↦ λ h. absurd (cc)
-      | false ↦ λ h. cc
-    ]) e
+-- ---- looks, one after another
 
--- what was seen after a policy's document
-pub explained_after : (policy bytes : List ℕ) (old between : FilesState) → Saw policy POLICY_MOST (whole bytes) old between → Follows old between → (after : List Look) → Grows between.held (document_look policy bytes ∷ []) after → Explained old.held after
-explained_after policy bytes old between saw follows after grows =
-    explained old.held after
-    ((subst (λ held. Grows held (document_look policy bytes ∷ []) after) follows.held grows).seen (seen_first policy POLICY_MOST (whole bytes) old between saw))
+show_both : (m : Store) (ls more : List Look) → ShowAll m ls → ShowAll m more → ShowAll m (ls ++ more)
+show_both m [] more h k = k
+show_both m (l ∷ ls) more h k = (h.0, show_both m ls more h.1 k)
+
+told_both : (held : Option Store) (ls more : List Look) → IfSome held (λ m. ShowAll m ls) → IfSome held (λ m. ShowAll m more) → IfSome held (λ m. ShowAll m (ls ++ more))
+told_both None ls more h k = tt
+told_both (Some m) ls more h k = show_both m ls more h k
+
+looked_both : (h : History) (ls more : List Look) → looked (looked h ls) more ≡ looked h (ls ++ more)
+looked_both h ls more = ap (λ looks. record { looks = looks; writes = h.writes }) (append_assoc h.looks ls more)
+
+-- ---- one look
+
+possible_look : (most : ℕ) (r : Result Found FileError) → IfOk r (λ found. IsPossible most (seen found)) → IsPossibleEnd most (answered r)
+possible_look most (Ok found) h = h
+possible_look most (Err e) h = tt
+
+told_look : (held : Option Store) (name : List ℕ) (most : ℕ) (r : Result Found FileError) → IfOk r (λ found. IfSome held (λ m. reading_of (get m name) most ≡ seen found)) → IfSome held (λ m. ShowAll m (look name most (answered r) ∷ []))
+told_look None name most r h = tt
+told_look (Some m) name most (Ok found) h = (h, tt)
+told_look (Some m) name most (Err e) h = (tt, tt)
+
+-- a read that has answered this
+pub saw_one : (name : List ℕ) (most : ℕ) (r : Result Found FileError) (got : Result Reading FileError) (held : Option Store) (old new : History)
+    → new ≡ looked old (look name most (answered r) ∷ []) → IfOk r (λ found. IsPossible most (seen found)) → IfOk r (λ found. IfSome held (λ m. reading_of (get m name) most ≡ seen found))
+    → answered r ≡ got → Saw held old new (look name most got ∷ [])
+saw_one name most r got held old new history possible told is =
+    let saw : Saw held old new (look name most (answered r) ∷ []) = record { history = history; single = (possible_look most r possible, tt, tt); told = told_look held name most r told } in
+    subst (λ g. Saw held old new (look name most g ∷ [])) is saw
+
+pub ruleset one_look = (saw_one)
+
+-- ---- looks after others
+
+-- the document, and component files
+pub saw_contents : (policy document : List ℕ) (held held' : Option Store) (old mid new : History) (looks : List Look) → held' ≡ held → Saw held old mid (document_look policy document ∷ []) → Looked policy held' mid new looks → Saw held old new (document_look policy document ∷ looks)
+saw_contents policy document held held' old mid new looks same saw then_looked =
+    record {
+      history = then_looked.history ∙ ap (λ h. looked h looks) saw.history ∙ looked_both old (document_look policy document ∷ []) looks;
+      single = (saw.single.0, then_looked.others, then_looked.single);
+      told = told_both held (document_look policy document ∷ []) looks saw.told (subst (λ h. IfSome h (λ m. ShowAll m looks)) same then_looked.told);
+    }
+
+not_failed : (got : Result Reading FileError) (reading : Reading) → got ≡ Ok reading → got ≡ Err FileFailed → ⊥
+not_failed got reading is e = cc
+
+memory_not_failed : (got : Result Reading FileError) → got ≡ Err FileMemory → got ≡ Err FileFailed → ⊥
+memory_not_failed got is e = cc
+
+-- the looks, with that of one read more where it made one, and what it has come to
+pub record SeenAfter (looks : List Look) (name : List ℕ) (most : ℕ) (got : Result Reading FileError) (held : Option Store) (old new : History) : Type 0 where
+  pub more : List Look
+  pub saw : Saw held old new (looks ++ more)
+  pub one : IsAtMost name most more
+  pub shows : OverLooks (looks ++ more) (λ m. ShowAll m looks × ShowsAnswer (get m name) most got)
+  pub fault : got ≡ Err FileFailed → EndsInFault (looks ++ more)
+
+module _ (looks : List Look) (name : List ℕ) (most : ℕ) (got : Result Reading FileError) (held held' : Option Store) (old mid new : History) (same : held' ≡ held) (saw : Saw held old mid looks) where
+  no_more : new ≡ mid → OverLooks looks (λ m. ShowsAnswer (get m name) most got) → (got ≡ Err FileFailed → ⊥) → SeenAfter looks name most got held old new
+  no_more still shows never =
+      let none : looks ++ [] ≡ looks = append-nil looks in
+      record {
+        more = [];
+        saw = subst (Saw held old new) (sym none) (subst (λ h. Saw held old h looks) (sym still) saw);
+        one = inl refl;
+        shows = λ m s. (subst (ShowAll m) none s, shows m (subst (ShowAll m) none s));
+        fault = λ e. absurd (never e);
+      }
+
+  one_more : AreOthers looks name → Saw held' mid new (look name most got ∷ []) → SeenAfter looks name most got held old new
+  one_more others also =
+      record {
+        more = look name most got ∷ [];
+        saw = record {
+          history = also.history ∙ ap (λ h. looked h (look name most got ∷ [])) saw.history ∙ looked_both old looks (look name most got ∷ []);
+          single = single_push looks (look name most got) saw.single also.single.0 others;
+          told = told_both held looks (look name most got ∷ []) saw.told (subst (λ h. IfSome h (λ m. ShowAll m (look name most got ∷ []))) same also.told);
+        };
+        one = inr (got, refl);
+        shows = λ m s. (show_front m looks (look name most got ∷ []) s, show_last m looks (look name most got) s);
+        fault = λ is. record { front = looks; name = name; most = most; is = ap (λ g. looks ++ look name most g ∷ []) is };
+      }
+
+  pub seen_after : SawAfter looks name most got held' mid new → SeenAfter looks name most got held old new
+  seen_after (known content there is still) =
+      no_more still (λ m s. subst (ShowsAnswer (get m name) most) (sym is) (ap (λ c. reading_of c most) (there m s))) (not_failed got (reading_of (Some content) most) is)
+  seen_after (not_copied is still) =
+      no_more still (λ m s. subst (ShowsAnswer (get m name) most) (sym is) tt) (memory_not_failed got is)
+  seen_after (unknown others also) = one_more others also
+
+-- ---- a read that gives no bytes
+
+pub gives_none : (name : List ℕ) (P Q : Result Reading FileError → Type 0) → ((got : Result Reading FileError) → P got → Q got) → (error : CommandError) → GivesNone name P error → GivesNone name Q error
+gives_none name P Q f (Missing n) h = (h.0, f (Ok absent) h.1)
+gives_none name P Q f (TooLong n k) h = (h.0, f (Ok (long k)) h.1)
+gives_none name P Q f FileFault h = f (Err FileFailed) h
+gives_none name P Q f NoMemory h = f (Err FileMemory) h
+gives_none name P Q f Usage h = absurd h
+gives_none name P Q f (Refused r) h = absurd h
+gives_none name P Q f (ImageRefused r) h = absurd h
+gives_none name P Q f (RecordRefused r) h = absurd h
+
+module _ (looks : List Look) (name : List ℕ) (most : ℕ) (held : Option Store) where
+  -- of a name at which nothing was looked
+  pub not_read_after : (old new : History) (error : CommandError) → AreOthers looks name → NotRead name most held old new error → NotReadAfter looks name most held old new error
+  not_read_after old new error others h =
+      gives_none name (λ got. Saw held old new (look name most got ∷ [])) (λ got. SawAfter looks name most got held old new) (λ got saw. unknown others saw) error h
+
+  -- of one of which the looks show what it holds: that is too many bytes
+  pub not_within : (h : History) (bytes : List ℕ) → OverLooks looks (λ m. get m name ≡ Some bytes) → (error : CommandError) → NotWithin name bytes most error → NotReadAfter looks name most held h h error
+  not_within h bytes there (TooLong n k) x = (x.0, known bytes there (ap (λ r. Ok r) x.1) refl)
+  not_within h bytes there (Missing n) x = absurd x
+  not_within h bytes there FileFault x = absurd x
+  not_within h bytes there NoMemory x = absurd x
+  not_within h bytes there Usage x = absurd x
+  not_within h bytes there (Refused r) x = absurd x
+  not_within h bytes there (ImageRefused f) x = absurd x
+  not_within h bytes there (RecordRefused r) x = absurd x
+
+-- ---- of the name of one file that was read before
+
+module _ (before bytes name : List ℕ) (limit : ℕ) (same : bytes_eq name before ≡ true) (most : ℕ) (held : Option Store) (h : History) where
+  held_before : OverLooks (look before limit (Ok (whole bytes)) ∷ []) (λ m. get m name ≡ Some bytes)
+  held_before m s = ap (get m) ((bytes_eq-Decides name before).0 same) ∙ whole_found limit bytes (get m before) s.0
+
+  pub known_before : (reading : Reading) → reading ≡ reading_of (Some bytes) most → SawAfter (look before limit (Ok (whole bytes)) ∷ []) name most (Ok reading) held h h
+  known_before reading eq = known bytes held_before (ap (λ r. Ok r) eq) refl
+
+  pub not_before : (error : CommandError) → NotWithin name bytes most error → NotReadAfter (look before limit (Ok (whole bytes)) ∷ []) name most held h h error
+  not_before error x = not_within (look before limit (Ok (whole bytes)) ∷ []) name most held h bytes held_before error x
+
+-- ---- after one look, and so after more, at other names
+
+module _ (l : Look) (ls : List Look) (name : List ℕ) (most : ℕ) (held : Option Store) (old new : History) (others : AreOthers ls name) where
+  pub after_more : (got : Result Reading FileError) → SawAfter (l ∷ []) name most got held old new → SawAfter (l ∷ ls) name most got held old new
+  after_more got (known content there is still) = known content (λ m s. there m (s.0, tt)) is still
+  after_more got (not_copied is still) = not_copied is still
+  after_more got (unknown other also) = unknown (other.0, others) also
 
 -- ---- a read after the files of a policy
-
--- what was seen after looks, where all that they show is known
-pub shown_after : (looks : List Look) (name : List ℕ) (most : ℕ) (reading : Reading) (old mid new : FilesState) → Seen old.held looks → Follows old mid → SawAfter looks name most reading mid new → ShownAfter old.held looks name most reading
-shown_after looks name most reading old mid new seen follows (known content is eq) =
-    let files = explained old.held looks seen in
-    record { files = files.files; told = files.told; holds = (files.holds, ap (λ c. reading_of c most) (is files.files files.holds) ∙ sym eq) }
-shown_after looks name most reading old mid new seen follows (unknown others also) =
-    let first : Seen mid.held looks = subst (λ held. Seen held looks) (sym follows.held) seen in
-    let all : Seen old.held (looks ++ look name most reading ∷ []) =
-    subst (λ held. Seen held (looks ++ look name most reading ∷ [])) follows.held (seen_also looks name most reading mid new also others first) in
-    let files = explained old.held (looks ++ look name most reading ∷ []) all in
-    record {
-      files = files.files;
-      told = files.told;
-      holds = (
-        show_before files.files looks (look name most reading) files.holds,
-        show_last files.files looks (look name most reading) files.holds,
-      );
-    }
 
 -- the same bytes
 pub whole_same : (a b : List ℕ) → whole a ≡ whole b → a ≡ b
@@ -59,59 +172,22 @@ whole_same a b e = cc (e)
 pub component_copied : {copied bytes : List ℕ} {o : Option (List ℕ)} → copied ≡ bytes → Some bytes ≡ o → o ≡ Some copied
 component_copied e is = sym is ∙ ap Some (sym e)
 
-module _ (looks : List Look) (name : List ℕ) (most : ℕ) (old new : FilesState) where
-  -- a read that gives no bytes, of a name of which the looks show what it holds
-  pub not_within : (bytes : List ℕ) → ((files : Store) → ShowAll files looks → get files name ≡ Some bytes) → (error : CommandError) → NotWithin name bytes most old new error → NotReadAfter looks name most old new error
-  not_within bytes is (TooLong n k) h = (h.0, known bytes is h.1, h.2)
-  not_within bytes is FileFault h = h
-  not_within bytes is NoMemory h = tt
-  not_within bytes is (Missing n) h = absurd h
-  not_within bytes is Usage h = absurd h
-  not_within bytes is (Refused r) h = absurd h
-  not_within bytes is (ImageRefused f) h = absurd h
-  not_within bytes is (RecordRefused r) h = absurd h
-
--- of the name of one file that was read before
-module _ (before bytes name : List ℕ) (limit : ℕ) (same : bytes_eq name before ≡ true) (most : ℕ) (old new : FilesState) where
-  held_before : (files : Store) → ShowAll files (look before limit (whole bytes) ∷ []) → get files name ≡ Some bytes
-  held_before files s = ap (get files) ((bytes_eq-Decides name before).0 same) ∙ content_is limit bytes (get files before) s.0
-
-  pub known_before : (reading : Reading) → reading ≡ reading_of (Some bytes) most → SawAfter (look before limit (whole bytes) ∷ []) name most reading old new
-  known_before reading eq = known bytes held_before eq
-
-  pub not_before : (error : CommandError) → NotWithin name bytes most old new error → NotReadAfter (look before limit (whole bytes) ∷ []) name most old new error
-  not_before error h = not_within (look before limit (whole bytes) ∷ []) name most old new bytes held_before error h
-
-module _ (l : Look) (ls : List Look) (name : List ℕ) (most : ℕ) (old new : FilesState) where
-  -- after one look, and so after more, at other names
-  pub after_more : (reading : Reading) → AreOthers ls name → SawAfter (l ∷ []) name most reading old new → SawAfter (l ∷ ls) name most reading old new
-  after_more reading others (known content is eq) = known content (λ files s. is files (s.0, tt)) eq
-  after_more reading others (unknown other also) = unknown (other.0, others) also
-
-  pub not_after_more : (error : CommandError) → AreOthers ls name → NotReadAfter (l ∷ []) name most old new error → NotReadAfter (l ∷ ls) name most old new error
-  not_after_more (Missing n) others h = (h.0, after_more absent others h.1, h.2)
-  not_after_more (TooLong n k) others h = (h.0, after_more (long k) others h.1, h.2)
-  not_after_more FileFault others h = h
-  not_after_more NoMemory others h = tt
-  not_after_more Usage others h = absurd h
-  not_after_more (Refused r) others h = absurd h
-  not_after_more (ImageRefused f) others h = absurd h
-  not_after_more (RecordRefused r) others h = absurd h
-
-module _ (policy document : List ℕ) (found : Files) (name : List ℕ) (most : ℕ) (old new : FilesState) where
-  held_by_component : (bytes : List ℕ) → find_bytes name found ≡ Some bytes → (files : Store) → ShowAll files (looks_of policy document found) → get files name ≡ Some bytes
-  held_by_component bytes is files s = content_is COMPONENT_FILE_MOST bytes (get files name) (shown_among files found name bytes s.1 is)
+module _ (policy document : List ℕ) (found : Files) (name : List ℕ) (most : ℕ) (held : Option Store) where
+  held_by_component : (bytes : List ℕ) → find_bytes name found ≡ Some bytes → OverLooks (policy_looks policy document found) (λ m. get m name ≡ Some bytes)
+  held_by_component bytes is m s = whole_found COMPONENT_FILE_MOST bytes (get m name) (shown_among m found name bytes s.1 is)
 
   -- a component file that was read
-  pub of_component : (bytes : List ℕ) (reading : Reading) → find_bytes name found ≡ Some bytes → reading ≡ reading_of (Some bytes) most → SawAfter (looks_of policy document found) name most reading old new
-  of_component bytes reading is eq = known bytes (held_by_component bytes is) eq
+  pub of_component : (h : History) (bytes : List ℕ) (reading : Reading) → find_bytes name found ≡ Some bytes → reading ≡ reading_of (Some bytes) most → SawAfter (policy_looks policy document found) name most (Ok reading) held h h
+  of_component h bytes reading is eq = known bytes (held_by_component bytes is) (ap (λ r. Ok r) eq) refl
 
-  pub no_component : (bytes : List ℕ) (error : CommandError) → find_bytes name found ≡ Some bytes → NotWithin name bytes most old new error → NotReadAfter (looks_of policy document found) name most old new error
-  no_component bytes error is h = not_within (looks_of policy document found) name most old new bytes (held_by_component bytes is) error h
+  pub no_component : (h : History) (bytes : List ℕ) (error : CommandError) → find_bytes name found ≡ Some bytes → NotWithin name bytes most error → NotReadAfter (policy_looks policy document found) name most held h h error
+  no_component h bytes error is x = not_within (policy_looks policy document found) name most held h bytes (held_by_component bytes is) error x
 
   -- the policy's document, or another file
-  pub of_another : (reading : Reading) → find_bytes name found ≡ None → SawAfter (document_look policy document ∷ []) name most reading old new → SawAfter (looks_of policy document found) name most reading old new
-  of_another reading none h = after_more (document_look policy document) _ name most old new reading (others_found found name none) h
+  pub of_another : (old new : History) (reading : Reading) → find_bytes name found ≡ None → SawAfter (document_look policy document ∷ []) name most (Ok reading) held old new → SawAfter (policy_looks policy document found) name most (Ok reading) held old new
+  of_another old new reading none h = after_more (document_look policy document) (looks_of found) name most held old new (others_found found name none) (Ok reading) h
 
-  pub no_other : (error : CommandError) → find_bytes name found ≡ None → NotReadAfter (document_look policy document ∷ []) name most old new error → NotReadAfter (looks_of policy document found) name most old new error
-  no_other error none h = not_after_more (document_look policy document) _ name most old new error (others_found found name none) h
+  pub no_other : (old new : History) (error : CommandError) → find_bytes name found ≡ None → NotReadAfter (document_look policy document ∷ []) name most held old new error → NotReadAfter (policy_looks policy document found) name most held old new error
+  no_other old new error none h =
+      gives_none name (λ got. SawAfter (document_look policy document ∷ []) name most got held old new) (λ got. SawAfter (policy_looks policy document found) name most got held old new)
+      (after_more (document_look policy document) (looks_of found) name most held old new (others_found found name none)) error h

@@ -1,5 +1,5 @@
 -- What `run` answers, as its files are read.
-use Rattle.std.proofs.Common.{◌≡◌, inl, inr, ℕ, List, [], ◌∷◌, Result, Ok, Err, refl, sym, ap, subst, ◌∙◌, arith}
+use Rattle.std.proofs.Common.{◌≡◌, inl, inr, ℕ, List, [], ◌∷◌, ◌++◌, Option, Some, Result, Ok, Err, refl, sym, ap, subst, ◌∙◌}
 use Rattle.std.specs.FinMap.{get}
 use Rattle.binary_form.specs.Faults.{Tells, unpacked}
 use Rattle.binary_form.specs.declared.fault.ImageFault.{ImageFault}
@@ -7,136 +7,137 @@ use Rattle.binary_form.specs.declared.fault.ImageFault.TheVariants.{Short, Bad, 
 use Rattle.image_load.specs.Resolving.{image_bench, image_record}
 use Rattle.image_pack.specs.Image.{image as image_form}
 use Rattle.image_pack.specs.declared.parts.Image.{Image}
-use Rattle.muen_build.specs.Looks.{Follows, Look, Saw, look}
-use Rattle.muen_build.proofs.Looks.{explained, seen_first}
 use Rattle.muen_num.specs.Answers.{Answers}
 use Rattle.muen_num.specs.declared.limits.TheConstants.{IMAGE_MOST, RECORD_MOST}
-use Rattle.muen_outside.specs.Counts.{Rose}
-use Rattle.muen_outside.specs.States.{FilesState}
-use Rattle.muen_outside.specs.Store.{Store, Reading, whole, absent, long, reading_of}
+use Rattle.muen_outside.specs.declared.files.FileError.{FileError}
+use Rattle.muen_outside.specs.Looks.{ShowAll}
+use Rattle.muen_outside.specs.States.{History, Look, look}
+use Rattle.muen_outside.specs.Store.{Store, Reading, whole, reading_of}
 use Rattle.muen_run.specs.RunText.{image_text}
+use Rattle.record_text.specs.DeviceRecord.{DeviceRecord}
 use Rattle.record_text.specs.Reading.{record_of}
 use Rattle.record_text.specs.Steps.{mapped}
 use Rattle.record_text.specs.declared.fault.RecordFault.{RecordFault}
 use Rattle.record_text.specs.declared.fault.RecordFault.TheVariants.{NoMemory as NoMemoryForRecord}
 use Rattle.record_text.specs.declared.record.Record.{Record}
 use Rattle.record_text.proofs.Mapped.{mapped_err, mapped_ok}
-use Rattle.muen_top.specs.Answers.{Answer, prints, stops, missing, too_long, record_refused, of_file, named_answer, unpacked_answer, run_answer}
+use Rattle.muen_top.specs.Answers.{Answer, prints, stops, image_refused, record_refused, of_file, named_answer, unpacked_answer, run_answer}
+use Rattle.muen_top.specs.Asked.{Asks, AsksRecord, IsAtMost}
+use Rattle.muen_top.specs.Calls.{StopsFor}
 use Rattle.muen_top.specs.Commands.{run}
-use Rattle.muen_top.specs.FilesSeen.{SawAfter, ShownAfter}
+use Rattle.muen_top.specs.FilesSeen.{OverLooks, Saw, SawAfter}
 use Rattle.muen_top.specs.Loads.{NotRead, NotReadAfter}
-use Rattle.muen_top.specs.PolicyCommands.{IsAnswered, StopsCommand}
+use Rattle.muen_top.specs.PolicyCommands.{HasRead, IsAnswered, StopsCommand}
 use Rattle.muen_top.specs.CommandErrors.{error_of_image_fault, error_of_record_fault}
 use Rattle.muen_top.specs.declared.outcome.CommandError.{CommandError}
-use Rattle.muen_top.specs.declared.outcome.CommandError.TheVariants.{Usage, Missing, TooLong, Refused, ImageRefused, RecordRefused, FileFault, NoMemory}
-use Rattle.muen_top.proofs.Told.{some_files}
-use Rattle.muen_top.proofs.FilesSeen.{shown_after}
-use Rattle.muen_top.proofs.PolicyCommands.{RestsOn, not_read, out_of_memory}
+use Rattle.muen_top.specs.declared.outcome.CommandError.TheVariants.{NoMemory}
+use Rattle.muen_top.proofs.FilesSeen.{SeenAfter, gives_none, seen_after}
+use Rattle.muen_top.proofs.FirstFile.{AsksOn, RestsOn, SaysOf, not_read, says_of, stopped_by, stops_alone, stops_record}
 
 -- ---- the answer
 
 run_next : List ℕ → Store → List ℕ → Answer
-run_next name files bytes = unpacked_answer files name (unpacked image_form bytes)
+run_next name m bytes = unpacked_answer m name (unpacked image_form bytes)
 
 rests : (image name : List ℕ) → RestsOn IMAGE_MOST image (run_next name) (run image name)
 unfolding run_answer run_next
-rests image name files = refl
+rests image name m = refl
 
-by_image : (files : Store) (image name bytes : List ℕ) (answer : Result Image ImageFault) → reading_of (get files image) IMAGE_MOST ≡ whole bytes → unpacked image_form bytes ≡ answer → run_answer files image name ≡ unpacked_answer files name answer
+asks : (image name : List ℕ) → AsksOn IMAGE_MOST image (AsksRecord name) (run image name)
+asks image name = record { asks = λ looks a. a; none = λ bytes. inl refl }
+
+by_image : (m : Store) (image name bytes : List ℕ) (answer : Result Image ImageFault) → reading_of (get m image) IMAGE_MOST ≡ whole bytes → unpacked image_form bytes ≡ answer → run_answer m image name ≡ unpacked_answer m name answer
 unfolding run_answer
-by_image files image name bytes answer is eq =
-    ap (λ reading. of_file image (λ bytes. unpacked_answer files name (unpacked image_form bytes)) reading) is ∙ ap (unpacked_answer files name) eq
+by_image m image name bytes answer is eq =
+    ap (λ reading. of_file image (λ bytes. unpacked_answer m name (unpacked image_form bytes)) reading) is ∙ ap (unpacked_answer m name) eq
 
 -- ---- the image's file
 
-module _ (image name : List ℕ) (old new : FilesState) where
-  pub image_not_read : (error : CommandError) → NotRead image IMAGE_MOST old new error → StopsCommand (run image name) old new error
-  image_not_read error h = not_read IMAGE_MOST image (run_next name) (run image name) (rests image name) old new error h
-
-  no_memory : StopsCommand (run image name) old new NoMemory
-  no_memory = out_of_memory IMAGE_MOST image (run_next name) (run image name) (rests image name) old new
-
-  file_fault : Rose old.faults new.faults → StopsCommand (run image name) old new FileFault
-  file_fault h = let s = some_files old.held in record { files = s.files; told = s.told; holds = h }
+pub image_not_read : (image name : List ℕ) (held : Option Store) (old new : History) (error : CommandError) → NotRead image IMAGE_MOST held old new error → StopsCommand (run image name) held old new error
+image_not_read image name held old new error h = not_read IMAGE_MOST image (run_next name) (AsksRecord name) (run image name) (rests image name) (asks image name) held old new error h
 
 -- ---- the image
 
-module _ (image name : List ℕ) (old mid : FilesState) (bytes : List ℕ) (saw : Saw image IMAGE_MOST (whole bytes) old mid) where
-  refused_so : (fault : ImageFault) → unpacked image_form bytes ≡ Err fault → StopsCommand (run image name) old mid (ImageRefused fault)
-  refused_so fault is =
-      let s = explained old.held (look image IMAGE_MOST (whole bytes) ∷ []) (seen_first image IMAGE_MOST (whole bytes) old mid saw) in
-      record { files = s.files; told = s.told; holds = by_image s.files image name bytes (Err fault) s.holds.0 is }
+module _ (image name : List ℕ) (held : Option Store) (old mid : History) (bytes : List ℕ) (saw : Saw held old mid (look image IMAGE_MOST (Ok (whole bytes)) ∷ [])) where
+  abbrev first : List Look
+  first = look image IMAGE_MOST (Ok (whole bytes)) ∷ []
 
-  of_image_fault : (fault : ImageFault) → Tells (unpacked image_form bytes) (Err fault) → StopsCommand (run image name) old mid (error_of_image_fault fault)
-  of_image_fault NoMemoryForImage h = no_memory image name old mid
-  of_image_fault (Short at) h = refused_so (Short at) h
-  of_image_fault (Bad at field) h = refused_so (Bad at field) h
-  of_image_fault (Trailing at) h = refused_so (Trailing at) h
+  fault_says : (fault : ImageFault) → unpacked image_form bytes ≡ Err fault → OverLooks first (λ m. run_answer m image name ≡ stops (image_refused fault))
+  fault_says fault is m s = by_image m image name bytes (Err fault) s.0 is
 
-  pub image_refused_so : (fault : ImageFault) (error : CommandError) → Tells (unpacked image_form bytes) (Err fault) → error ≡ error_of_image_fault fault → StopsCommand (run image name) old mid error
-  image_refused_so fault error h made = subst (StopsCommand (run image name) old mid) (sym made) (of_image_fault fault h)
+  of_image_fault : (fault : ImageFault) → Tells (unpacked image_form bytes) (Err fault) → StopsFor (λ m. run_answer m image name) first [] (error_of_image_fault fault)
+  of_image_fault NoMemoryForImage h = inl refl
+  of_image_fault (Short at) h = (fault_says (Short at) h, refl)
+  of_image_fault (Bad at field) h = (fault_says (Bad at field) h, refl)
+  of_image_fault (Trailing at) h = (fault_says (Trailing at) h, refl)
+
+  pub image_refused_so : (fault : ImageFault) (error : CommandError) → Tells (unpacked image_form bytes) (Err fault) → error ≡ error_of_image_fault fault → StopsCommand (run image name) held old mid error
+  image_refused_so fault error h made =
+      stops_alone IMAGE_MOST image (run_next name) (AsksRecord name) (run image name) (rests image name) (asks image name) held old mid bytes saw error
+      (subst (StopsFor (λ m. run_answer m image name) first []) (sym made) (of_image_fault fault h))
 
   -- ---- the record's file, where the image is one
 
-  module _ (follows : Follows old mid) (i : Image) (is : unpacked image_form bytes ≡ Ok i) (new : FilesState) where
-    abbrev seen : List Look
-    seen = look image IMAGE_MOST (whole bytes) ∷ []
+  module _ (held' : Option Store) (same : held' ≡ held) (i : Image) (is : unpacked image_form bytes ≡ Ok i) (new : History) where
+    abbrev Both : Result Reading FileError → Type 0
+    Both got = SeenAfter first name RECORD_MOST got held old new
 
-    abbrev Both : Reading → Type 0
-    Both reading = ShownAfter old.held seen name RECORD_MOST reading
+    both : (got : Result Reading FileError) → SawAfter first name RECORD_MOST got held' mid new → Both got
+    both got after = seen_after first name RECORD_MOST got held held' old mid new same saw after
 
-    both : (reading : Reading) → SawAfter seen name RECORD_MOST reading mid new → Both reading
-    both reading after = shown_after seen name RECORD_MOST reading old mid new (seen_first image IMAGE_MOST (whole bytes) old mid saw) follows after
+    next : Store → List ℕ → Answer
+    next m text = named_answer i (record_of text (image_bench i))
 
-    after_both : (reading : Reading) (s : Both reading) → run_answer s.files image name ≡ of_file name (λ found. named_answer i (record_of found (image_bench i))) reading
-    after_both reading s =
-        by_image s.files image name bytes (Ok i) s.holds.0.0 is
-        ∙ ap (of_file name (λ found. named_answer i (record_of found (image_bench i)))) s.holds.1
+    -- the answer goes on with what is read of the record's file
+    by_both : (m : Store) (reading : Reading) → ShowAll m first → reading_of (get m name) RECORD_MOST ≡ reading → run_answer m image name ≡ of_file name (next m) reading
+    unfolding next
+    by_both m reading s shows = by_image m image name bytes (Ok i) s.0 is ∙ ap (of_file name (λ text. named_answer i (record_of text (image_bench i)))) shows
 
-    pub input_not_read : (error : CommandError) → NotReadAfter seen name RECORD_MOST mid new error → StopsCommand (run image name) old new error
-    input_not_read (Missing n) h =
-        let s = both absent h.1 in
+    asks_both : (more : List Look) → IsAtMost name RECORD_MOST more → Asks (Some (run image name)) (first ++ more)
+    asks_both more one = record { got = Ok (whole bytes); more = more; is = refl; goes_on = inr (i, is, one) }
+
+    read_so : (got : Result Reading FileError) → SawAfter first name RECORD_MOST got held' mid new → HasRead (run image name) held old new (SaysOf (λ m. run_answer m image name) name got)
+    read_so got after =
+        let s = both got after in
         record {
-          files = s.files;
-          told = s.told;
-          holds = (after_both absent s ∙ ap (λ x. stops (missing x)) (sym h.0), omega (arith, follows.misses, h.2));
+          looks = first ++ s.more;
+          saw = s.saw;
+          asked = asks_both s.more s.one;
+          says = says_of (λ m. run_answer m image name) name RECORD_MOST next (first ++ s.more) (λ m reading shows is. by_both m reading (s.shows m shows).0 is) got (λ m shows. (s.shows m shows).1) s.fault;
         }
-    input_not_read (TooLong n k) h =
-        let s = both (long k) h.1 in
-        record {
-          files = s.files;
-          told = s.told;
-          holds = (after_both (long k) s ∙ ap (λ x. stops (too_long x k)) (sym h.0), omega (arith, follows.misses, h.2));
-        }
-    input_not_read FileFault h = file_fault image name old new (omega (arith, follows.faults, h))
-    input_not_read NoMemory h = no_memory image name old new
-    input_not_read Usage h = absurd h
-    input_not_read (Refused r) h = absurd h
-    input_not_read (ImageRefused f) h = absurd h
-    input_not_read (RecordRefused r) h = absurd h
+
+    pub input_not_read : (error : CommandError) → NotReadAfter first name RECORD_MOST held' mid new error → StopsCommand (run image name) held old new error
+    input_not_read error h =
+        stopped_by (run image name) held old new name error
+        (gives_none name (λ got. SawAfter first name RECORD_MOST got held' mid new) (λ got. HasRead (run image name) held old new (SaysOf (λ m. run_answer m image name) name got)) read_so error h)
 
     -- ---- the record
 
-    of_fault : {reading : Reading} (s : Both reading) (fault : RecordFault) → run_answer s.files image name ≡ stops (record_refused fault) → (error : CommandError) → error ≡ error_of_record_fault fault → StopsCommand (run image name) old new error
-    of_fault s NoMemoryForRecord answer error made = subst (StopsCommand (run image name) old new) (sym made) (no_memory image name old new)
-    of_fault s fault answer error made =
-        subst (StopsCommand (run image name) old new) (sym made) (record { files = s.files; told = s.told; holds = answer })
+    module _ (text : List ℕ) (after : SawAfter first name RECORD_MOST (Ok (whole text)) held' mid new) where
+      -- what comes of it
+      by_record : (Says : List Look → Type 0) → ((looks : List Look) → OverLooks looks (λ m. run_answer m image name ≡ named_answer i (record_of text (image_bench i))) → Says looks) → HasRead (run image name) held old new Says
+      unfolding next
+      by_record Says makes =
+          let s = both (Ok (whole text)) after in
+          record {
+            looks = first ++ s.more;
+            saw = s.saw;
+            asked = asks_both s.more s.one;
+            says = makes (first ++ s.more) (λ m shows. by_both m (whole text) (s.shows m shows).0 (s.shows m shows).1);
+          }
 
-    pub input_refused_so : (text : List ℕ) (fault : RecordFault) (error : CommandError) → SawAfter seen name RECORD_MOST (whole text) mid new → Answers NoMemoryForRecord (mapped (image_record i) (record_of text (image_bench i))) (Err fault) → error ≡ error_of_record_fault fault → StopsCommand (run image name) old new error
-    input_refused_so text fault error after (inl is) made =
-        subst (StopsCommand (run image name) old new) (sym (made ∙ ap error_of_record_fault is)) (no_memory image name old new)
-    input_refused_so text fault error after (inr read) made =
-        let s = both (whole text) after in
-        let named = mapped_err (image_record i) (record_of text (image_bench i)) fault read in
-        let answer : run_answer s.files image name ≡ stops (record_refused fault) = after_both (whole text) s ∙ ap (named_answer i) named in
-        of_fault s fault answer error made
+      refused_says : (fault : RecordFault) → Answers NoMemoryForRecord (mapped (image_record i) (record_of text (image_bench i))) (Err fault) → (error : CommandError) → error ≡ error_of_record_fault fault → (looks : List Look)
+          → OverLooks looks (λ m. run_answer m image name ≡ named_answer i (record_of text (image_bench i))) → StopsFor (λ m. run_answer m image name) looks [] error
+      refused_says fault (inl is) error made looks goes = stops_record (λ m. run_answer m image name) looks fault error (inl is) made
+      refused_says fault (inr read) error made looks goes =
+          stops_record (λ m. run_answer m image name) looks fault error
+          (inr (λ m shows. goes m shows ∙ ap (named_answer i) (mapped_err (image_record i) (record_of text (image_bench i)) fault read))) made
 
-    pub input_read : (text : List ℕ) (input : Record) → SawAfter seen name RECORD_MOST (whole text) mid new → mapped (image_record i) (record_of text (image_bench i)) ≡ Ok input → IsAnswered (run image name) old (prints (image_text i input))
-    input_read text input after read =
-        let s = both (whole text) after in
-        let named = mapped_ok (image_record i) (record_of text (image_bench i)) input read in
-        record {
-          files = s.files;
-          told = s.told;
-          holds = after_both (whole text) s ∙ ap (named_answer i) named.1 ∙ ap (λ r. prints (image_text i r)) named.2;
-        }
+      pub input_refused_so : (fault : RecordFault) (error : CommandError) → Answers NoMemoryForRecord (mapped (image_record i) (record_of text (image_bench i))) (Err fault) → error ≡ error_of_record_fault fault → StopsCommand (run image name) held old new error
+      input_refused_so fault error h made = by_record (λ looks. StopsFor (λ m. run_answer m image name) looks [] error) (refused_says fault h error made)
+
+      pub input_read : (input : Record) → mapped (image_record i) (record_of text (image_bench i)) ≡ Ok input → IsAnswered (run image name) held old new (prints (image_text i input))
+      input_read input read =
+          let named = mapped_ok (image_record i) (record_of text (image_bench i)) input read in
+          by_record (λ looks. OverLooks looks (λ m. run_answer m image name ≡ prints (image_text i input)))
+          (λ looks goes m shows. goes m shows ∙ ap (named_answer i) named.1 ∙ ap (λ r. prints (image_text i r)) named.2)

@@ -1,14 +1,17 @@
 -- How a command has ended, and why; and what is promised of a whole call.
-use Rattle.std.specs.Prelude.{◌≡◌, ℕ, List, Option, ◌⊎◌}
-use Rattle.muen_build.specs.Looks.{OverFiles}
-use Rattle.muen_outside.specs.Counts.{Rose}
-use Rattle.muen_outside.specs.States.{FilesState, SinkState}
+use Rattle.std.specs.Prelude.{◌≡◌, ◌⊎◌, ℕ, List, [], Option, Some, IfSome, Result, Ok, Err}
+use Rattle.muen_outside.specs.Looks.{AreSingle, EndsInFault, HeldAfter, ShowAll, looks_since, writes_since}
 use Rattle.muen_outside.specs.Puts.{Appended, Failed}
+use Rattle.muen_outside.specs.States.{History, Look, SinkState, Write, went}
 use Rattle.muen_outside.specs.Store.{Store}
-use Rattle.muen_top.specs.Answers.{usage, missing, too_long, refused, image_refused, record_refused, Answer, prints, writes, stops, answer_of}
+use Rattle.muen_outside.specs.declared.files.FileError.{FileError}
+use Rattle.muen_outside.specs.declared.files.FileError.TheVariants.{Failed as FileFailed, NoMemory as FileMemory}
+use Rattle.muen_top.specs.Answers.{Reason, usage, missing, too_long, refused, image_refused, record_refused, Answer, prints, writes, stops, answer_of}
+use Rattle.muen_top.specs.Asked.{Asks}
 use Rattle.muen_top.specs.Commands.{Command, command_of}
+use Rattle.muen_top.specs.FilesSeen.{OverLooks}
 use Rattle.muen_top.specs.Images.{Wrote}
-use Rattle.muen_top.specs.Reports.{reason_text, refusal_status, status_of, Told, Reported}
+use Rattle.muen_top.specs.Reports.{Ends, reason_text, refusal_status, status_of, Told, Reported}
 use Rattle.muen_top.specs.declared.outcome.Outcome.{Outcome}
 use Rattle.muen_top.specs.declared.outcome.Outcome.TheVariants.{Done, Stopped, OutputFault}
 use Rattle.muen_top.specs.declared.outcome.CommandError.{CommandError}
@@ -16,65 +19,104 @@ use Rattle.muen_top.specs.declared.outcome.CommandError.TheVariants.{Usage, Miss
 use Rattle.muen_top.specs.declared.status.Status.{Status}
 use Rattle.muen_top.specs.declared.status.Status.TheVariants as statuses
 
--- ---- the outcome of a command whose answer is this
+-- ---- of an answer
 
 -- a text is printed, and this holds of it
 abbrev pub Prints : Answer → (List ℕ → Type 0) → Type 0
 Prints (prints text) Holds = Holds text
 Prints _ Holds = ⊥
 
--- it is done as it is answered: the text is put, or an image is written and nothing is put
-abbrev pub IsDone : Answer → FilesState → FilesState → SinkState → SinkState → Type 0
-IsDone (prints text) old new out out' = Appended text out out'
-IsDone (writes image p files) old new out out' = Wrote image p files old new × (out' ≡ out)
-IsDone (stops reason) old new out out' = ⊥
+-- it is done as it is answered: the text is put and nothing written, or an image is written and nothing put
+abbrev pub IsDone : Answer → List Write → SinkState → SinkState → Type 0
+IsDone (prints text) ws out out' = (ws ≡ []) × Appended text out out'
+IsDone (writes image p files) ws out out' = Wrote image p files (Ok tt) ws × (out' ≡ out)
+IsDone (stops reason) ws out out' = ⊥
 
--- nothing is printed: so it is answered, or a call on files failed, or memory was refused. A file that is missing or too
--- long is a miss
-abbrev pub StopsFor : Answer → FilesState → FilesState → CommandError → Type 0
-StopsFor answer old new Usage = answer ≡ stops usage
-StopsFor answer old new (Missing name) = (answer ≡ stops (missing name.now)) × Rose old.misses new.misses
-StopsFor answer old new (TooLong name n) = (answer ≡ stops (too_long name.now n)) × Rose old.misses new.misses
-StopsFor answer old new (Refused refusal) =
-    (answer ≡ stops (refused refusal)) × (refusal_status refusal ≡ statuses.FileMissing → Rose old.misses new.misses)
-StopsFor answer old new (ImageRefused fault) = answer ≡ stops (image_refused fault)
-StopsFor answer old new (RecordRefused fault) = answer ≡ stops (record_refused fault)
-StopsFor answer old new FileFault = Rose old.faults new.faults
-StopsFor answer old new NoMemory = Unit {0}
+-- the one write of an image has ended in this error
+abbrev pub Unwritten : FileError → List Write → Answer → Type 0
+Unwritten end ws (writes image p files) = Wrote image p files (Err end) ws
+Unwritten end ws _ = ⊥
 
-abbrev pub ComesOf : Answer → FilesState → FilesState → SinkState → SinkState → Outcome → Type 0
-ComesOf answer old new out out' Done = IsDone answer old new out out'
-ComesOf answer old new out out' (Stopped error) = StopsFor answer old new error × (out' ≡ out)
-ComesOf answer old new out out' OutputFault = Prints answer (λ text. Failed text out out')
+-- ---- the outcome of a command that made these looks and these writes, where this is its answer over a store
 
--- over some files that hold what is told, the outcome comes of the command's answer
-abbrev pub ComesOfCommand : Option Command → FilesState → FilesState → SinkState → SinkState → Outcome → Type 0
-ComesOfCommand command old new out out' outcome = OverFiles old.held (λ files. ComesOf (answer_of files command) old new out out' outcome)
+-- nothing was written, and every store that agrees with the looks answers so
+abbrev pub IsStopped : (Store → Answer) → List Look → List Write → Reason → Type 0
+IsStopped answer looks ws reason = OverLooks looks (λ m. answer m ≡ stops reason) × (ws ≡ [])
+
+-- the last look failed; or the one write of an image, as every store that agrees with the looks answers it
+abbrev pub FaultOfFiles : (Store → Answer) → List Look → List Write → Type 0
+FaultOfFiles answer looks ws = (EndsInFault looks × (ws ≡ [])) ⊎ OverLooks looks (λ m. Unwritten FileFailed ws (answer m))
+
+-- memory was refused, and nothing was written; or it was refused for that write
+abbrev pub WantOfMemory : (Store → Answer) → List Look → List Write → Type 0
+WantOfMemory answer looks ws = (ws ≡ []) ⊎ OverLooks looks (λ m. Unwritten FileMemory ws (answer m))
+
+abbrev pub StopsFor : (Store → Answer) → List Look → List Write → CommandError → Type 0
+StopsFor answer looks ws Usage = IsStopped answer looks ws usage
+StopsFor answer looks ws (Missing name) = IsStopped answer looks ws (missing name.now)
+StopsFor answer looks ws (TooLong name n) = IsStopped answer looks ws (too_long name.now n)
+StopsFor answer looks ws (Refused refusal) = IsStopped answer looks ws (refused refusal)
+StopsFor answer looks ws (ImageRefused fault) = IsStopped answer looks ws (image_refused fault)
+StopsFor answer looks ws (RecordRefused fault) = IsStopped answer looks ws (record_refused fault)
+StopsFor answer looks ws FileFault = FaultOfFiles answer looks ws
+StopsFor answer looks ws NoMemory = WantOfMemory answer looks ws
+
+abbrev pub OutcomeSays : (Store → Answer) → List Look → List Write → SinkState → SinkState → Outcome → Type 0
+OutcomeSays answer looks ws out out' Done = OverLooks looks (λ m. IsDone (answer m) ws out out')
+OutcomeSays answer looks ws out out' (Stopped error) = StopsFor answer looks ws error × (out' ≡ out)
+OutcomeSays answer looks ws out out' OutputFault = OverLooks looks (λ m. Prints (answer m) (λ text. Failed text out out')) × (ws ≡ [])
+
+-- a command made these looks and then these writes, and the outcome comes of its answer
+pub record ComesOfCommand (command : Option Command) (held held' : Option Store) (old new : History) (out out' : SinkState) (outcome : Outcome) : Type 0 where
+  pub looks : List Look
+  pub ws : List Write
+  pub history : new ≡ went old looks ws
+  pub single : AreSingle looks
+  pub told : IfSome held (λ m. ShowAll m looks)
+  pub asked : Asks command looks
+  pub left : HeldAfter ws held held'
+  pub says : OutcomeSays (λ m. answer_of m command) looks ws out out' outcome
 
 -- ---- a whole call
 
 -- the outcome of the words' command, its status, and what was reported
-pub record IsCallOf (words : List (List ℕ)) (old new : FilesState) (out out' err err' : SinkState) (status : Status) : Type 0 where
+pub record IsCallOf (words : List (List ℕ)) (held held' : Option Store) (old new : History) (out out' err err' : SinkState) (status : Status) : Type 0 where
   pub outcome : Outcome
   pub status_is : status ≡ status_of outcome
-  pub came : ComesOfCommand (command_of words) old new out out' outcome
+  pub came : ComesOfCommand (command_of words) held held' old new out out' outcome
   pub report : Reported err err' outcome
 
 -- a fault of files or of the output, or want of memory
 abbrev pub IsFault : Status → Type 0
 IsFault status = (status ≡ statuses.FileFault) ⊎ ((status ≡ statuses.OutputFault) ⊎ (status ≡ statuses.NoMemory))
 
--- the answer to the words' command, over some files that hold what is told, is such
-abbrev pub Answered : List (List ℕ) → Option Store → (Answer → Type 0) → Type 0
-Answered words held Such = OverFiles held (λ files. Such (answer_of files (command_of words)))
+-- the words' answer over a store
+abbrev pub answer_to : List (List ℕ) → Store → Answer
+answer_to words m = answer_of m (command_of words)
+
+-- over every store that agrees with the looks the words' answer is such
+abbrev pub Answered : List (List ℕ) → List Look → (Answer → Type 0) → Type 0
+Answered words looks Such = OverLooks looks (λ m. Such (answer_to words m))
 
 -- the call does what the words are answered: the text is put, or an image is written
-abbrev pub DoesAnswer : List (List ℕ) → FilesState → FilesState → SinkState → SinkState → Type 0
-DoesAnswer words old new out out' = Answered words old.held (λ answer. IsDone answer old new out out')
+abbrev pub DoesAnswer : List (List ℕ) → History → History → SinkState → SinkState → Type 0
+DoesAnswer words old new out out' = Answered words (looks_since old new) (λ answer. IsDone answer (writes_since old new) out out')
 
 -- a front of the text that the words are answered is put, and the sink has failed
-abbrev pub PrintsFront : List (List ℕ) → Option Store → SinkState → SinkState → Type 0
-PrintsFront words held out out' = Answered words held (λ answer. Prints answer (λ text. Failed text out out'))
+abbrev pub PrintsFront : List (List ℕ) → List Look → SinkState → SinkState → Type 0
+PrintsFront words looks out out' = Answered words looks (λ answer. Prints answer (λ text. Failed text out out'))
+
+-- the call ends as the words are answered
+abbrev pub EndsAnswered : List (List ℕ) → List Look → SinkState → SinkState → Status → Type 0
+EndsAnswered words looks err err' status = Answered words looks (λ answer. Ends answer err err' status)
+
+-- the call's last look has failed, or the one write of the image that the words are answered
+abbrev pub FilesFailed : List (List ℕ) → History → History → Type 0
+FilesFailed words old new = FaultOfFiles (answer_to words) (looks_since old new) (writes_since old new)
+
+-- memory was refused to the call: where that was for the write of the image, what stands under its name may have changed
+abbrev pub MemoryRefused : List (List ℕ) → History → History → Type 0
+MemoryRefused words old new = WantOfMemory (answer_to words) (looks_since old new) (writes_since old new)
 
 -- of the answers that print nothing, those on a policy, on a missing or too long file, on an image, and on a record. A
 -- refusal of the policy may be for a file that it names: which of the two it is, its status says

@@ -1,16 +1,25 @@
--- What a command has seen of files that it reads one after another.
-use Rattle.std.specs.Prelude.{◌≡◌, ℕ, List, Option, Some}
+-- What a command has seen of files that it looks at one after another.
+use Rattle.std.specs.Prelude.{◌≡◌, ℕ, List, [], ◌∷◌, Option, Some, IfSome, Result, Ok, Err}
 use Rattle.std.specs.FinMap.{get}
-use Rattle.muen_build.specs.Looks.{AreOthers, Look, OverFiles, Saw, ShowAll}
-use Rattle.muen_outside.specs.States.{FilesState}
+use Rattle.muen_outside.specs.Looks.{AreOthers, AreSingle, ShowAll}
+use Rattle.muen_outside.specs.States.{History, Look, look, looked}
 use Rattle.muen_outside.specs.Store.{Store, Reading, reading_of}
+use Rattle.muen_outside.specs.declared.files.FileError.{FileError}
+use Rattle.muen_outside.specs.declared.files.FileError.TheVariants.{NoMemory as FileMemory}
 
--- what a read has seen after these looks: of a name of which they show what it holds, that stands for it, with the limit of
--- this read
-pub data SawAfter (looks : List Look) (name : List ℕ) (most : ℕ) (reading : Reading) (old new : FilesState) : Type 0 where
-  known : (content : List ℕ) → ((files : Store) → ShowAll files looks → get files name ≡ Some content) → reading ≡ reading_of (Some content) most → SawAfter looks name most reading old new
-  unknown : AreOthers looks name → Saw name most reading old new → SawAfter looks name most reading old new
+-- so it is over every store that agrees with these looks
+abbrev pub OverLooks : List Look → (Store → Type 0) → Type 0
+OverLooks looks P = (m : Store) → ShowAll m looks → P m
 
--- files that hold what is told show these looks, and this under a name
-abbrev pub ShownAfter : Option Store → List Look → List ℕ → ℕ → Reading → Type 0
-ShownAfter held looks name most reading = OverFiles held (λ files. ShowAll files looks × (reading_of (get files name) most ≡ reading))
+-- these looks were made, each at a name of its own, and nothing was written; files that tell show them
+pub record Saw (held : Option Store) (old new : History) (looks : List Look) : Type 0 where
+  pub history : new ≡ looked old looks
+  pub single : AreSingle looks
+  pub told : IfSome held (λ m. ShowAll m looks)
+
+-- what a read after these looks has come to: they show what stands under its name, and that stands for it, with the limit of
+-- this read, or memory was refused for a copy; or it was looked at
+pub data SawAfter (looks : List Look) (name : List ℕ) (most : ℕ) (got : Result Reading FileError) (held : Option Store) (old new : History) : Type 0 where
+  known : (content : List ℕ) → OverLooks looks (λ m. get m name ≡ Some content) → got ≡ Ok (reading_of (Some content) most) → new ≡ old → SawAfter looks name most got held old new
+  not_copied : got ≡ Err FileMemory → new ≡ old → SawAfter looks name most got held old new
+  unknown : AreOthers looks name → Saw held old new (look name most got ∷ []) → SawAfter looks name most got held old new

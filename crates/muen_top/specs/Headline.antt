@@ -1,15 +1,16 @@
 -- The headline, and what it speaks of: what a store holds, and how a call ends that prints a text.
-use Rattle.std.specs.Prelude.{◌≡◌, ◌⊎◌, ℕ, List, Option, Some, Ok}
-use Rattle.std.specs.FinMap.{get}
+use Rattle.std.specs.Prelude.{◌≡◌, ◌⊎◌, ℕ, List, [], ◌∷◌, Option, Some, Ok}
+use Rattle.std.specs.FinMap.{get, insert}
 use Rattle.image_soundness.specs.Bench.{devices_of}
 use Rattle.image_soundness.specs.Sound.{IsSound}
 use Rattle.image_pack.specs.Parts.{IsImage}
 use Rattle.image_pack.specs.declared.parts.Image.{Image}
-use Rattle.muen_build.specs.Building.{IsImageFor}
+use Rattle.muen_build.specs.ImageFor.{IsImageFor}
 use Rattle.muen_build.specs.Refusals.{accepted_policy_of}
 use Rattle.muen_num.specs.declared.limits.TheConstants.{IMAGE_MOST, POLICY_MOST, RECORD_MOST}
+use Rattle.muen_outside.specs.Looks.{ShowAll}
 use Rattle.muen_outside.specs.Puts.{Appended}
-use Rattle.muen_outside.specs.States.{SinkState}
+use Rattle.muen_outside.specs.States.{Look, SinkState, Write, write}
 use Rattle.muen_outside.specs.Store.{Store, reading_of, whole}
 use Rattle.policy_lawful.specs.Contents.{Held}
 use Rattle.policy_types.specs.declared.source.Source.{Source}
@@ -41,6 +42,21 @@ pub record HoldsBuilt (m : Store) (name : List ℕ) (p : Source) (files : Held) 
   pub read : reading_of (get m name) IMAGE_MOST ≡ whole bytes
   pub built : IsImageFor p files bytes
 
+-- .. a record of the devices of this policy, which says this
+pub record HoldsRecord (m : Store) (name : List ℕ) (p : Source) (r : DeviceRecord) : Type 0 where
+  pub text : List ℕ
+  pub read : reading_of (get m name) RECORD_MOST ≡ whole text
+  pub says : record_of text (devices_of p) ≡ Ok r
+
+-- the store holds a policy under the one name, and the one write that was made is of an image for it, under the other: so a
+-- store with these bytes there holds an image that `build` has written
+pub record WritesBuilt (m : Store) (policy image : List ℕ) (ws : List Write) : Type 0 where
+  pub p : Source
+  pub bytes : List ℕ
+  pub accepted : HoldsPolicy m policy p
+  pub one : ws ≡ write image bytes (Ok tt) ∷ []
+  pub built : HoldsBuilt (insert m image bytes) image p m
+
 -- now a store holds under one name the image that `build` has written for the policy that stood under the other
 pub record HoldsWritten (m : Store) (policy image : List ℕ) (now : Option Store) : Type 0 where
   pub p : Source
@@ -49,38 +65,59 @@ pub record HoldsWritten (m : Store) (policy image : List ℕ) (now : Option Stor
   pub accepted : HoldsPolicy m policy p
   pub written : HoldsBuilt new image p m
 
--- .. a record of the devices of this policy, which says this
-pub record HoldsRecord (m : Store) (name : List ℕ) (p : Source) (r : DeviceRecord) : Type 0 where
-  pub text : List ℕ
-  pub read : reading_of (get m name) RECORD_MOST ≡ whole text
-  pub says : record_of text (devices_of p) ≡ Ok r
-
 -- a text is put, and the status is 0, but for a fault of files or of the output, or want of memory
 abbrev pub PrintsText : List ℕ → SinkState → SinkState → Status → Type 0
 PrintsText text out out' status = IsFault status ⊎ ((status ≡ statuses.Done) × Appended text out out')
 
--- ---- the headline
+-- ---- the headline, over stores of which something is so
 
 -- `boot`, where the store holds a policy that is accepted and a record of its devices: the text of the policy's system is put
-abbrev pub BootPrintsSystem : List (List ℕ) → Option Store → SinkState → SinkState → Status → Type 0
-BootPrintsSystem words held out out' status =
-    (m : Store) (policy inputs : List ℕ) (p : Source) (r : DeviceRecord) → held ≡ Some m → command_of words ≡ Some (boot policy inputs)
+abbrev pub BootPrintsOver : List (List ℕ) → (Store → Type 0) → SinkState → SinkState → Status → Type 0
+BootPrintsOver words Is out out' status =
+    (m : Store) (policy inputs : List ℕ) (p : Source) (r : DeviceRecord) → Is m → command_of words ≡ Some (boot policy inputs)
     → HoldsPolicy m policy p → HoldsRecord m inputs p r → PrintsText (trace_of p m r) out out' status
 
 -- `run`, where it holds an image that is sound for a policy over these or other files
-abbrev pub RunOfSoundPrintsSystem : List (List ℕ) → Option Store → SinkState → SinkState → Status → Type 0
-RunOfSoundPrintsSystem words held out out' status =
-    (m : Store) (image inputs : List ℕ) (p : Source) (built_of : Held) (r : DeviceRecord) → held ≡ Some m → command_of words ≡ Some (run image inputs)
+abbrev pub RunOfSoundPrintsOver : List (List ℕ) → (Store → Type 0) → SinkState → SinkState → Status → Type 0
+RunOfSoundPrintsOver words Is out out' status =
+    (m : Store) (image inputs : List ℕ) (p : Source) (built_of : Held) (r : DeviceRecord) → Is m → command_of words ≡ Some (run image inputs)
     → HoldsSound m image p built_of → HoldsRecord m inputs p r → PrintsText (trace_of p built_of r) out out' status
 
 -- .. and where it holds the image that `build` has written for it
-abbrev pub RunOfBuiltPrintsSystem : List (List ℕ) → Option Store → SinkState → SinkState → Status → Type 0
-RunOfBuiltPrintsSystem words held out out' status =
-    (m : Store) (image inputs : List ℕ) (p : Source) (built_of : Held) (r : DeviceRecord) → held ≡ Some m → command_of words ≡ Some (run image inputs)
+abbrev pub RunOfBuiltPrintsOver : List (List ℕ) → (Store → Type 0) → SinkState → SinkState → Status → Type 0
+RunOfBuiltPrintsOver words Is out out' status =
+    (m : Store) (image inputs : List ℕ) (p : Source) (built_of : Held) (r : DeviceRecord) → Is m → command_of words ≡ Some (run image inputs)
     → HoldsBuilt m image p built_of → HoldsRecord m inputs p r → PrintsText (trace_of p built_of r) out out' status
 
--- such a one `build` leaves, where the store holds its policy and the status is 0: `run` of it, in files that hold this, prints
--- the text of the policy's system
+-- ---- over every store that agrees with the call's looks
+
+abbrev pub BootPrintsSystem : List (List ℕ) → List Look → SinkState → SinkState → Status → Type 0
+BootPrintsSystem words looks out out' status = BootPrintsOver words (λ m. ShowAll m looks) out out' status
+
+abbrev pub RunOfSoundPrintsSystem : List (List ℕ) → List Look → SinkState → SinkState → Status → Type 0
+RunOfSoundPrintsSystem words looks out out' status = RunOfSoundPrintsOver words (λ m. ShowAll m looks) out out' status
+
+abbrev pub RunOfBuiltPrintsSystem : List (List ℕ) → List Look → SinkState → SinkState → Status → Type 0
+RunOfBuiltPrintsSystem words looks out out' status = RunOfBuiltPrintsOver words (λ m. ShowAll m looks) out out' status
+
+-- such an image `build` writes, where the status is 0
+abbrev pub BuildWritesImage : List (List ℕ) → List Look → List Write → Status → Type 0
+BuildWritesImage words looks ws status =
+    (m : Store) (policy image : List ℕ) → ShowAll m looks → command_of words ≡ Some (build policy image) → status ≡ statuses.Done
+    → WritesBuilt m policy image ws
+
+-- ---- over what files tell that they hold
+
+abbrev pub BootPrintsHeld : List (List ℕ) → Option Store → SinkState → SinkState → Status → Type 0
+BootPrintsHeld words held out out' status = BootPrintsOver words (λ m. held ≡ Some m) out out' status
+
+abbrev pub RunOfSoundPrintsHeld : List (List ℕ) → Option Store → SinkState → SinkState → Status → Type 0
+RunOfSoundPrintsHeld words held out out' status = RunOfSoundPrintsOver words (λ m. held ≡ Some m) out out' status
+
+abbrev pub RunOfBuiltPrintsHeld : List (List ℕ) → Option Store → SinkState → SinkState → Status → Type 0
+RunOfBuiltPrintsHeld words held out out' status = RunOfBuiltPrintsOver words (λ m. held ≡ Some m) out out' status
+
+-- such an image `build` leaves, where the status is 0: `run` of it, in files that hold this, prints the text of the policy's system
 abbrev pub BuildLeavesImage : List (List ℕ) → Option Store → Option Store → Status → Type 0
 BuildLeavesImage words held now status =
     (m : Store) (policy image : List ℕ) → held ≡ Some m → command_of words ≡ Some (build policy image) → status ≡ statuses.Done

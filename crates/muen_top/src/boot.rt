@@ -1,21 +1,21 @@
 // The command `boot`: a policy and a record are read, and the run of the policy's image is printed. The
 // image is written in memory, as `build` writes it, and is read again and run as `run` does it.
 ghost use Rattle.std.specs.Prelude.{◌≡◌, Some, Ok, IfOk, IfErr};
+ghost use Rattle.image_soundness.specs.Sound.{IsSound};
 ghost use Rattle.image_pack.specs.Parts.{IsImage};
 ghost use Rattle.image_pack.specs.declared.parts.Image.{Image};
 ghost use Rattle.kernel_core.specs.Ticks.{CanRun};
-ghost use Rattle.muen_build.specs.Accepting.{Accepts, looks_of};
-ghost use Rattle.muen_build.specs.Looks.{Follows, ShowAll};
+ghost use Rattle.muen_build.specs.Accepting.{Accepts, WithDocument, looks_of};
 ghost use Rattle.muen_build.specs.Refusals.{lawful_policy_of};
 ghost use Rattle.muen_num.specs.declared.limits.TheConstants.{RECORD_MOST};
-ghost use Rattle.muen_outside.specs.Store.{Store, whole};
+ghost use Rattle.muen_outside.specs.Store.{whole};
 ghost use Rattle.muen_run.specs.RunText.{image_text};
 ghost use Rattle.policy_lawful.specs.Resolution.{source_of};
 ghost use Rattle.muen_top.specs.Answers.{prints};
 ghost use Rattle.muen_top.specs.Calls.{ComesOfCommand};
 ghost use Rattle.muen_top.specs.Commands.{boot as boot_command};
 ghost use Rattle.muen_top.specs.FilesSeen.{SawAfter};
-ghost use Rattle.muen_top.specs.Loads.{IsMade, IsReadBack, IsReadOf, NotMade, NotReadAfter};
+ghost use Rattle.muen_top.specs.Loads.{IsMade, IsReadOf, NotMade, NotReadAfter, policy_looks};
 ghost use Rattle.muen_top.specs.PolicyCommands.{IsAnswered, StopsCommand};
 ghost use Rattle.muen_top.specs.Runs.{OnlyMemory};
 
@@ -48,9 +48,9 @@ fn parts_of<'a>(
     found: &ComponentFiles,
 ) -> Result<Parts, CommandError<'a>>
     requires lawful { lawful_policy_of document.now ≡ Ok (source_of placed.now.expanded.lawful) }
-    requires accepts { Accepts (looks_of name.now document.now found.now) document.now (source_of placed.now.expanded.lawful) }
-    ensures ok { IfOk result (λ i. (files : Store) → ShowAll files (looks_of name.now document.now found.now) → IsReadBack (source_of placed.now.expanded.lawful) files i) }
-    ensures err { IfErr result (λ error. (files : Store) → ShowAll files (looks_of name.now document.now found.now) → OnlyMemory error) }
+    requires accepts { Accepts name.now (looks_of found.now) document.now (source_of placed.now.expanded.lawful) }
+    ensures ok { IfOk result (λ i. WithDocument name.now document.now (looks_of found.now) (λ files. IsSound (source_of placed.now.expanded.lawful) files i)) }
+    ensures err { IfErr result (λ error. WithDocument name.now document.now (looks_of found.now) (λ files. OnlyMemory error)) }
 {
     let bytes = image(alloc, name, document, placed, found)?;
     read_back(alloc, &bytes)
@@ -75,12 +75,12 @@ fn load_record<'a, F: Files>(
     name: &'a str,
     files: &mut F,
 ) -> Result<Seq<u8>, CommandError<'a>>
-    ensures ok { IfOk result (λ bytes. SawAfter (looks_of policy.now document found.now) name.now RECORD_MOST (whole bytes) (F.state files.old) (F.state files.new)) }
-    ensures err { IfErr result (NotReadAfter (looks_of policy.now document found.now) name.now RECORD_MOST (F.state files.old) (F.state files.new)) }
-    ensures follows { Follows (F.state files.old) (F.state files.new) }
+    ensures ok { IfOk result (λ bytes. SawAfter (policy_looks policy.now document found.now) name.now RECORD_MOST (Ok (whole bytes)) (F.held files.old) (F.history files.old) (F.history files.new)) }
+    ensures err { IfErr result (NotReadAfter (policy_looks policy.now document found.now) name.now RECORD_MOST (F.held files.old) (F.history files.old) (F.history files.new)) }
+    ensures held { F.held files.new ≡ F.held files.old }
 {
     match found.bytes_named(name) {
-        Some(bytes) => within(alloc, copy(alloc, bytes)?, name, RECORD_MOST, files),
+        Some(bytes) => within(copy(alloc, bytes)?, name, RECORD_MOST),
         None => load_too(alloc, policy, document, name, RECORD_MOST, files),
     }
 }
@@ -99,9 +99,9 @@ fn make<'a, F: Files>(
     document: &[u8],
     files: &mut F,
 ) -> Result<Made, CommandError<'a>>
-    ensures ok { IfOk result (λ m. IsMade policy.now document.now (F.state files.old) m.files m.parts) }
-    ensures err { IfErr result (NotMade policy.now document.now (F.state files.old) (F.state files.new)) }
-    ensures follows { Follows (F.state files.old) (F.state files.new) }
+    ensures ok { IfOk result (λ m. IsMade policy.now document.now (F.held files.old) (F.history files.old) (F.history files.new) m.files m.parts) }
+    ensures err { IfErr result (NotMade policy.now document.now (F.held files.old) (F.history files.old) (F.history files.new)) }
+    ensures held { F.held files.new ≡ F.held files.old }
 {
     let Accepted {
         placed,
@@ -122,10 +122,10 @@ fn read_both<'a, F: Files>(
     inputs: &'a str,
     files: &mut F,
 ) -> Result<Loaded, CommandError<'a>>
-    ensures ok { IfOk result (λ x. IsAnswered (boot_command policy.now inputs.now) (F.state files.old) (prints (image_text x.parts x.input))) }
+    ensures ok { IfOk result (λ x. IsAnswered (boot_command policy.now inputs.now) (F.held files.old) (F.history files.old) (F.history files.new) (prints (image_text x.parts x.input))) }
     ensures can_run { IfOk result (λ x. CanRun x.input) }
-    ensures err { IfErr result (StopsCommand (boot_command policy.now inputs.now) (F.state files.old) (F.state files.new)) }
-    ensures follows { Follows (F.state files.old) (F.state files.new) }
+    ensures err { IfErr result (StopsCommand (boot_command policy.now inputs.now) (F.held files.old) (F.history files.old) (F.history files.new)) }
+    ensures held { F.held files.new ≡ F.held files.old }
 {
     let document = load(alloc, policy, POLICY_MOST, files)?;
     let made = make(alloc, policy, document.items(), files)?;
@@ -143,8 +143,7 @@ pub(crate) fn boot<'a, F: Files, S: Sink>(
     files: &mut F,
     out: &mut S,
 ) -> Outcome<'a>
-    ensures came { ComesOfCommand (Some (boot_command policy.now inputs.now)) (F.state files.old) (F.state files.new) (S.state out.old) (S.state out.new) result }
-    ensures follows { Follows (F.state files.old) (F.state files.new) }
+    ensures { ComesOfCommand (Some (boot_command policy.now inputs.now)) (F.held files.old) (F.held files.new) (F.history files.old) (F.history files.new) (S.state out.old) (S.state out.new) result }
 {
     match read_both(alloc, policy, inputs, files) {
         Ok(Loaded { parts, input }) => run_image(alloc, parts, input, out),

@@ -1,13 +1,11 @@
 // The command `build`: a policy is read, and its image is written.
-ghost use Rattle.std.specs.Prelude.{ℕ, List, Some, IfOk, IfErr};
+ghost use Rattle.std.specs.Prelude.{◌≡◌, ℕ, List, Some, IfOk, IfErr};
 ghost use Rattle.muen_outside.specs.States.{SinkState};
-ghost use Rattle.muen_build.specs.Looks.{Follows};
 ghost use Rattle.muen_top.specs.Calls.{ComesOfCommand};
 ghost use Rattle.muen_top.specs.Commands.{build as build_command};
 ghost use Rattle.muen_top.specs.Images.{IsBuilt};
-ghost use Rattle.muen_top.specs.Kept.{IsWriteOf, KeepsFiles};
+ghost use Rattle.muen_top.specs.Kept.{EndsWrite};
 ghost use Rattle.muen_top.specs.PolicyCommands.{StopsCommand};
-ghost use Rattle.muen_top.specs.Reports.{status_of};
 
 use crate::loading::load;
 use crate::outcome::{CommandError, Outcome};
@@ -21,9 +19,9 @@ fn image_of<'a, F: Files>(
     policy: &'a str,
     files: &mut F,
 ) -> Result<Vec<u8>, CommandError<'a>>
-    ensures ok { IfOk result (λ v. IsBuilt policy.now (F.state files.old) v.items) }
-    ensures err { IfErr result (λ error. (image : List ℕ) → StopsCommand (build_command policy.now image) (F.state files.old) (F.state files.new) error) }
-    ensures follows { Follows (F.state files.old) (F.state files.new) }
+    ensures ok { IfOk result (λ v. IsBuilt policy.now (F.held files.old) (F.history files.old) (F.history files.new) v.items) }
+    ensures err { IfErr result (λ error. (image : List ℕ) → StopsCommand (build_command policy.now image) (F.held files.old) (F.history files.old) (F.history files.new) error) }
+    ensures held { F.held files.new ≡ F.held files.old }
 {
     let bytes = load(alloc, policy, POLICY_MOST, files)?;
     let image = muen_build::build(alloc, policy, bytes.items(), files)?;
@@ -32,7 +30,7 @@ fn image_of<'a, F: Files>(
 
 // Puts the bytes under the name of the image.
 fn write_image<'a, F: Files>(alloc: Global, image: &str, bytes: &[u8], files: &mut F) -> Outcome<'a>
-    ensures { IsWriteOf image.now bytes.now (F.state files.old) (F.state files.new) result }
+    ensures { EndsWrite image.now bytes.now (F.held files.old) (F.held files.new) (F.history files.old) (F.history files.new) result }
 {
     match files.write(alloc, image, bytes) {
         Ok(()) => Outcome::Done,
@@ -48,8 +46,7 @@ pub(crate) fn build<'a, F: Files>(
     image: &'a str,
     files: &mut F,
 ) -> Outcome<'a>
-    ensures came { (out : SinkState) → ComesOfCommand (Some (build_command policy.now image.now)) (F.state files.old) (F.state files.new) out out result }
-    ensures keeps { KeepsFiles (Some (build_command policy.now image.now)) (status_of result) (F.state files.old) (F.state files.new) }
+    ensures { (out : SinkState) → ComesOfCommand (Some (build_command policy.now image.now)) (F.held files.old) (F.held files.new) (F.history files.old) (F.history files.new) out out result }
 {
     match image_of(alloc, policy, files) {
         Ok(bytes) => write_image(alloc, image, &bytes, files),

@@ -2,8 +2,6 @@
 ghost use Rattle.std.specs.Prelude.{◌≡◌, None, map, string_bytes};
 ghost use Rattle.muen_top.specs.Calls.{ComesOfCommand, IsCallOf};
 ghost use Rattle.muen_top.specs.Commands.{command_of};
-ghost use Rattle.muen_top.specs.Kept.{KeepsFiles};
-ghost use Rattle.muen_top.specs.Reports.{status_of};
 
 use crate::boot::boot;
 use crate::build::build;
@@ -17,15 +15,15 @@ use muen_outside::{Files, Sink};
 use std::alloc::Global;
 
 // Does what the words ask for.
+#[tactic(auto, using(crate::proofs::Ending::command_as))]
 fn work<'a, F: Files, S: Sink>(
     alloc: Global,
     words: &'a [String],
     files: &mut F,
     out: &mut S,
 ) -> Outcome<'a>
-    ensures came { ComesOfCommand (command_of (map string_bytes words.now)) (F.state files.old) (F.state files.new) (S.state out.old) (S.state out.new) result }
-    ensures keeps { KeepsFiles (command_of (map string_bytes words.now)) (status_of result) (F.state files.old) (F.state files.new) }
-    ensures no_command { command_of (map string_bytes words.now) ≡ None → (result ≡ Outcome.Stopped CommandError.Usage) × (F.state files.new ≡ F.state files.old) }
+    ensures came { ComesOfCommand (command_of (map string_bytes words.now)) (F.held files.old) (F.held files.new) (F.history files.old) (F.history files.new) (S.state out.old) (S.state out.new) result }
+    ensures no_command { command_of (map string_bytes words.now) ≡ None → (result ≡ Outcome.Stopped CommandError.Usage) × (F.history files.new ≡ F.history files.old) }
 {
     match Command::parse(words) {
         Command::Usage => Outcome::Stopped(CommandError::Usage),
@@ -45,9 +43,8 @@ pub(crate) fn call<F: Files, S: Sink, E: Sink>(
     out: &mut S,
     err: &mut E,
 ) -> Status
-    ensures ran { IsCallOf (map string_bytes words.now) (F.state files.old) (F.state files.new) (S.state out.old) (S.state out.new) (E.state err.old) (E.state err.new) result }
-    ensures keeps { KeepsFiles (command_of (map string_bytes words.now)) result (F.state files.old) (F.state files.new) }
-    ensures no_command { command_of (map string_bytes words.now) ≡ None → (result ≡ Status.Usage) × (F.state files.new ≡ F.state files.old) }
+    ensures ran { IsCallOf (map string_bytes words.now) (F.held files.old) (F.held files.new) (F.history files.old) (F.history files.new) (S.state out.old) (S.state out.new) (E.state err.old) (E.state err.new) result }
+    ensures no_command { command_of (map string_bytes words.now) ≡ None → (result ≡ Status.Usage) × (F.history files.new ≡ F.history files.old) }
 {
     let outcome = work(alloc, words, files, out);
     report(&outcome, err);

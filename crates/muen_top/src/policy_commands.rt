@@ -3,7 +3,6 @@ ghost use Rattle.std.specs.Prelude.{◌≡◌, Some, IfOk, IfErr};
 ghost use Rattle.flow_report.specs.FlowText.{flow_text_of};
 ghost use Rattle.map_report.specs.MapText.{map_text_of};
 ghost use Rattle.policy_lawful.specs.Resolution.{source_of};
-ghost use Rattle.muen_build.specs.Looks.{Follows};
 ghost use Rattle.muen_top.specs.Answers.{prints};
 ghost use Rattle.muen_top.specs.Calls.{ComesOfCommand};
 ghost use Rattle.muen_top.specs.Commands.{flows as flows_command, map as map_command};
@@ -26,9 +25,9 @@ fn read_placed<'a, F: Files>(
     policy: &'a str,
     files: &mut F,
 ) -> Result<Placed, CommandError<'a>>
-    ensures ok { IfOk result (λ x. IsAnswered (map_command policy.now) (F.state files.old) (prints (map_text_of (source_of x.expanded.lawful)))) }
-    ensures err { IfErr result (StopsCommand (map_command policy.now) (F.state files.old) (F.state files.new)) }
-    ensures follows { Follows (F.state files.old) (F.state files.new) }
+    ensures ok { IfOk result (λ x. IsAnswered (map_command policy.now) (F.held files.old) (F.history files.old) (F.history files.new) (prints (map_text_of (source_of x.expanded.lawful)))) }
+    ensures err { IfErr result (StopsCommand (map_command policy.now) (F.held files.old) (F.history files.old) (F.history files.new)) }
+    ensures held { F.held files.new ≡ F.held files.old }
 {
     let bytes = load(alloc, policy, POLICY_MOST, files)?;
     let placed = muen_build::lay(alloc, bytes.items())?;
@@ -55,8 +54,7 @@ pub(crate) fn map<'a, F: Files, S: Sink>(
     files: &mut F,
     out: &mut S,
 ) -> Outcome<'a>
-    ensures came { ComesOfCommand (Some (map_command policy.now)) (F.state files.old) (F.state files.new) (S.state out.old) (S.state out.new) result }
-    ensures follows { Follows (F.state files.old) (F.state files.new) }
+    ensures { ComesOfCommand (Some (map_command policy.now)) (F.held files.old) (F.held files.new) (F.history files.old) (F.history files.new) (S.state out.old) (S.state out.new) result }
 {
     match read_placed(alloc, policy, files) {
         Ok(placed) => print_map(alloc, &placed, out),
@@ -70,9 +68,9 @@ fn read_lawful<'a, F: Files>(
     policy: &'a str,
     files: &mut F,
 ) -> Result<Lawful, CommandError<'a>>
-    ensures ok { IfOk result (λ x. IsAnswered (flows_command policy.now) (F.state files.old) (prints (flow_text_of (source_of x)))) }
-    ensures err { IfErr result (StopsCommand (flows_command policy.now) (F.state files.old) (F.state files.new)) }
-    ensures follows { Follows (F.state files.old) (F.state files.new) }
+    ensures ok { IfOk result (λ x. IsAnswered (flows_command policy.now) (F.held files.old) (F.history files.old) (F.history files.new) (prints (flow_text_of (source_of x)))) }
+    ensures err { IfErr result (StopsCommand (flows_command policy.now) (F.held files.old) (F.history files.old) (F.history files.new)) }
+    ensures held { F.held files.new ≡ F.held files.old }
 {
     let bytes = load(alloc, policy, POLICY_MOST, files)?;
     let lawful = muen_build::lawful(alloc, bytes.items())?;
@@ -103,8 +101,7 @@ pub(crate) fn flows<'a, F: Files, S: Sink>(
     files: &mut F,
     out: &mut S,
 ) -> Outcome<'a>
-    ensures came { ComesOfCommand (Some (flows_command policy.now)) (F.state files.old) (F.state files.new) (S.state out.old) (S.state out.new) result }
-    ensures follows { Follows (F.state files.old) (F.state files.new) }
+    ensures { ComesOfCommand (Some (flows_command policy.now)) (F.held files.old) (F.held files.new) (F.history files.old) (F.history files.new) (S.state out.old) (S.state out.new) result }
 {
     match read_lawful(alloc, policy, files) {
         Ok(lawful) => print_flows(alloc, &lawful, out),

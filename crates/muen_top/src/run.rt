@@ -1,8 +1,7 @@
 // The command `run`: an image and a record are read, and the image's run is printed.
-ghost use Rattle.std.specs.Prelude.{Some, IfOk, IfErr};
+ghost use Rattle.std.specs.Prelude.{◌≡◌, Some, IfOk, IfErr};
 ghost use Rattle.kernel_core.specs.Ticks.{CanRun};
 ghost use Rattle.muen_run.specs.RunText.{image_text};
-ghost use Rattle.muen_build.specs.Looks.{Follows};
 ghost use Rattle.muen_top.specs.Answers.{prints};
 ghost use Rattle.muen_top.specs.Calls.{ComesOfCommand};
 ghost use Rattle.muen_top.specs.Commands.{run as run_command};
@@ -33,10 +32,10 @@ fn read_both<'a, F: Files>(
     inputs: &'a str,
     files: &mut F,
 ) -> Result<Loaded, CommandError<'a>>
-    ensures ok { IfOk result (λ x. IsAnswered (run_command image.now inputs.now) (F.state files.old) (prints (image_text x.parts x.input))) }
+    ensures ok { IfOk result (λ x. IsAnswered (run_command image.now inputs.now) (F.held files.old) (F.history files.old) (F.history files.new) (prints (image_text x.parts x.input))) }
     ensures can_run { IfOk result (λ x. CanRun x.input) }
-    ensures err { IfErr result (StopsCommand (run_command image.now inputs.now) (F.state files.old) (F.state files.new)) }
-    ensures follows { Follows (F.state files.old) (F.state files.new) }
+    ensures err { IfErr result (StopsCommand (run_command image.now inputs.now) (F.held files.old) (F.history files.old) (F.history files.new)) }
+    ensures held { F.held files.new ≡ F.held files.old }
 {
     let bytes = load(alloc, image, IMAGE_MOST, files)?;
     let parts = unpack(alloc, bytes.items())?;
@@ -70,8 +69,7 @@ pub(crate) fn run<'a, F: Files, S: Sink>(
     files: &mut F,
     out: &mut S,
 ) -> Outcome<'a>
-    ensures came { ComesOfCommand (Some (run_command image.now inputs.now)) (F.state files.old) (F.state files.new) (S.state out.old) (S.state out.new) result }
-    ensures follows { Follows (F.state files.old) (F.state files.new) }
+    ensures { ComesOfCommand (Some (run_command image.now inputs.now)) (F.held files.old) (F.held files.new) (F.history files.old) (F.history files.new) (S.state out.old) (S.state out.new) result }
 {
     match read_both(alloc, image, inputs, files) {
         Ok(Loaded { parts, input }) => run_image(alloc, parts, input, out),

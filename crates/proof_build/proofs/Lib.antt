@@ -19,6 +19,7 @@ pub mod PiecesOfLists
 pub mod PlanEvents
 pub mod Sound
 pub mod SpansByNumber
+pub mod SpareTables
 pub mod States
 pub mod Tables
 pub mod ThingBytes

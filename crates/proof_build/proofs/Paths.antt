@@ -49,7 +49,7 @@ module _ (m : Made) (h : IsMade m) (k : ℕ) (s : Subject) (g : Grants) (t : Eve
   abbrev many : ℕ
   many = ept_pages (view_ranges g.views)
 
-  whole : tables_at m.placed k % 4096 ≡ 0
+  pub whole : tables_at m.placed k % 4096 ≡ 0
   whole =
       let number = kernel_first (policy_of m) k + 1 in
       let one = kernel_span m h k s g t q at 1 (many * PAGE) Ept in

@@ -11,10 +11,11 @@ use Rattle.proof_build.proofs.OwnPages.{own_pages}
 use Rattle.proof_build.proofs.Paths.{paths}
 use Rattle.proof_build.proofs.PlanEvents.{plan_and_events}
 use Rattle.proof_build.proofs.SpansByNumber.{spans_by_number}
+use Rattle.proof_build.proofs.SpareTables.{spare_tables}
 use Rattle.proof_build.proofs.States.{states}
 use Rattle.proof_build.proofs.Tables.{tables}
 use Rattle.proof_build.proofs.Walks.{walks}
-use Rattle.proof_build.specs.Built.{HasGreatestPages, HasKernelSpans, HasMemoryTypes, HasOnePathPerTable, HasSpans, TablesAscend}
+use Rattle.proof_build.specs.Built.{HasGreatestPages, HasKernelSpans, HasMemoryTypes, HasNoSpareTables, HasOnePathPerTable, HasSpans, TablesAscend}
 use Rattle.image_emit.specs.Made.{IsEmitted, IsImageOf, IsMade, Made, image_of, policy_of, thing_bytes}
 use Rattle.image_pack.specs.Parts.{IsParts}
 use Rattle.image_pack.specs.declared.parts.Image.{Image}
@@ -67,6 +68,9 @@ module _ (x : Placement) (things : List (List ℕ)) (i : Image) (m : IsImageOf x
 
   pub has_ascending : ForEachSubject (source_of x.expanded.lawful) i (λ s q. TablesAscend i q)
   has_ascending = so (λ p j. ForEachSubject p j (λ s q. TablesAscend j q)) (ascending m.made m.is)
+
+  pub has_spare : ForEachSubject (source_of x.expanded.lawful) i (HasNoSpareTables i)
+  has_spare = so (λ p j. ForEachSubject p j (HasNoSpareTables j)) (spare_tables m.made m.is)
 
   pub has_types : ForEachSubject (source_of x.expanded.lawful) i (HasMemoryTypes (source_of x.expanded.lawful) i)
   has_types = so (λ p j. ForEachSubject p j (HasMemoryTypes p j)) (memory_types m.made m.is)

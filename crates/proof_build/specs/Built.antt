@@ -1,24 +1,25 @@
 -- What an image of a policy has beside being sound: its spans are the policy's regions and devices, what a subject's part
--- numbers is the subject's own, no table is read at two paths, tables ascend along a walk, and its pages are the greatest and
--- have the memory types of what they show (Intel SDM volume 3, "VMX Support for Address Translation").
-use Rattle.std.specs.Prelude.{◌≡◌, ℕ, suc, ◌+◌, ◌*◌, ◌/◌, ◌%◌, ◌<◌, ◌≤◌, ◌&&◌, nat_le, Bool, true, List, ◌++◌, length, map, slice_get, Ok, Some}
+-- numbers is the subject's own, no table is read at two paths, tables ascend along a walk, what no walk reads of them is zero,
+-- and its pages are the greatest and have the memory types of what they show (Intel SDM volume 3, "VMX Support for Address Translation").
+use Rattle.std.specs.Prelude.{◌≡◌, ◌⊎◌, ℕ, suc, ◌+◌, ◌*◌, ◌/◌, ◌%◌, ◌<◌, ◌≤◌, ◌&&◌, nat_le, Bool, true, List, ◌++◌, length, map, replicate, slice_get, Ok, Some}
 use Rattle.std.specs.List.{All, find, list_any}
 use Rattle.std.specs.Option.{IfSome, option_map_or}
 use Rattle.std.specs.Str.{bytes_eq}
 use Rattle.ept_emit.specs.Reads.{Reads}
 use Rattle.ept_emit.specs.Entries.{type_of}
 use Rattle.expand_kernel.specs.Regions.{regions_of}
-use Rattle.image_soundness.specs.Memory.{by_number, memory_of}
+use Rattle.image_soundness.specs.Memory.{Span, by_number, memory_of, span_at}
 use Rattle.image_soundness.specs.Named.{tag_at}
 use Rattle.image_soundness.specs.Sound.{address_of, is_tables}
 use Rattle.image_pack.specs.SpanConditions.{end_of}
 use Rattle.image_pack.specs.declared.parts.Image.{Image}
 use Rattle.image_pack.specs.declared.parts.SubjectPart.{SubjectPart}
-use Rattle.machine_layout.specs.Walks.{addresses_read, leaf_size, leaf_type, entry_size}
-use Rattle.muen_num.specs.declared.limits.TheConstants.{GUEST_END}
+use Rattle.machine_layout.specs.Memory.{page_of}
+use Rattle.machine_layout.specs.Walks.{addresses_read, leaf_size, leaf_type, entry_size, root_of}
+use Rattle.muen_num.specs.declared.limits.TheConstants.{GUEST_END, PAGE}
 use Rattle.muen_num.specs.declared.tag.Tag.{Tag}
 use Rattle.muen_num.specs.declared.tag.TagPart.{TagPart}
-use Rattle.muen_num.specs.declared.tag.TagPart.TheVariants.{State, Iobm, Msrbm, Msrs}
+use Rattle.muen_num.specs.declared.tag.TagPart.TheVariants.{State, Ept, Iobm, Msrbm, Msrs}
 use Rattle.policy_lawful.specs.Thing.{Thing, region, channel, provided, device_memory, state}
 use Rattle.policy_lawful.specs.Windows.{Window, holds, windows_of}
 use Rattle.policy_types.specs.declared.rights.Caching.{Caching}
@@ -75,6 +76,26 @@ abbrev pub TablesAscend : Image → SubjectPart → Type 0
 TablesAscend i q =
     (addr level page lower lower_page : ℕ) → addr < GUEST_END → Reads (memory_of i) q.eptp addr level page → Reads (memory_of i) q.eptp addr lower lower_page
     → lower < level → page < lower_page
+
+-- ---- pages of tables that no walk reads
+
+-- a walk for some address of the subject reads the table in this page
+pub record IsTablePage (i : Image) (q : SubjectPart) (page : ℕ) : Type 0 where
+  pub addr : ℕ
+  pub level : ℕ
+  pub small : addr < GUEST_END
+  pub reads : Reads (memory_of i) q.eptp addr level page
+
+-- the span of the subject's tables begins with the table at which its walks begin, and each page of the span either has a table
+-- that some walk for the subject reads, or has nothing but zeros
+pub record HasNoSpareTables (i : Image) (s : Subject) (q : SubjectPart) : Type 0 where
+  pub number : ℕ
+  pub span : Span
+  pub there : span_at i number ≡ Some span
+  pub tag : span.0.tag ≡ kernel_tag s.name Ept
+  pub root : span.0.address / PAGE ≡ root_of q.eptp
+  pub pages : (k : ℕ) → k < span.0.pages
+      → IsTablePage i q (span.0.address / PAGE + k) ⊎ (page_of (memory_of i) (span.0.address / PAGE + k) ≡ Some (replicate PAGE 0))
 
 -- ---- the greatest pages
 

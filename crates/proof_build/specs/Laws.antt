@@ -6,7 +6,7 @@ use Rattle.image_soundness.specs.Sound.{ForEachSubject, IsSound}
 use Rattle.policy_lawful.specs.Resolution.{source_of}
 use Rattle.policy_lawful.specs.Contents.{Held}
 use Rattle.region_alloc.specs.Placed.{Placement}
-use Rattle.proof_build.specs.Built.{HasGreatestPages, HasKernelSpans, HasMemoryTypes, HasOnePathPerTable, HasSpans, TablesAscend}
+use Rattle.proof_build.specs.Built.{HasGreatestPages, HasKernelSpans, HasMemoryTypes, HasNoSpareTables, HasOnePathPerTable, HasSpans, TablesAscend}
 
 -- where its regions hold what the policy says over some files, it is sound for the policy and these files
 abbrev pub ImagesAreSound : Type 0
@@ -31,6 +31,11 @@ TablesHaveOnePath = (x : Placement) (things : List (List ℕ)) (i : Image) → I
 abbrev pub WalksAscend : Type 0
 WalksAscend =
     (x : Placement) (things : List (List ℕ)) (i : Image) → IsImageOf x things i → ForEachSubject (source_of x.expanded.lawful) i (λ s q. TablesAscend i q)
+
+-- what no walk reads of them is zero
+abbrev pub NoTableIsSpare : Type 0
+NoTableIsSpare =
+    (x : Placement) (things : List (List ℕ)) (i : Image) → IsImageOf x things i → ForEachSubject (source_of x.expanded.lawful) i (HasNoSpareTables i)
 
 -- each window is mapped by the greatest pages that it allows
 abbrev pub PagesAreGreatest : Type 0

@@ -4,7 +4,7 @@
 //! an image stand in specs/ (`Built`).
 #![tactic(auto)]
 
-ghost use Rattle.proof_build.specs.Laws.{ImagesAreSound, KernelSpansAreOwn, PagesAreGreatest, PagesHaveTheirTypes, SpansAreThePolicys, TablesHaveOnePath, WalksAscend};
+ghost use Rattle.proof_build.specs.Laws.{ImagesAreSound, KernelSpansAreOwn, NoTableIsSpare, PagesAreGreatest, PagesHaveTheirTypes, SpansAreThePolicys, TablesHaveOnePath, WalksAscend};
 
 /// An image that is made of a placed policy, whose regions hold what the policy says over some files, is
 /// sound for the policy and these files.
@@ -14,13 +14,14 @@ pub fn images_of_policies_are_sound()
 
 /// Its spans are the policy's regions where the policy's placement has them, and the devices' memory; the
 /// numbers of a subject's part are those of the kernel's regions for this subject; no table is read at two
-/// paths, and along a walk tables ascend; and each window is mapped by the greatest pages that it allows,
-/// with the memory type of what it shows.
+/// paths, along a walk tables ascend, and what no walk reads of them is zero; and each window is mapped by
+/// the greatest pages that it allows, with the memory type of what it shows.
 pub fn images_of_policies_are_laid_out()
     ensures spans { SpansAreThePolicys }
     ensures kernel { KernelSpansAreOwn }
     ensures paths { TablesHaveOnePath }
     ensures ascending { WalksAscend }
+    ensures spare { NoTableIsSpare }
     ensures leaves { PagesAreGreatest }
     ensures types { PagesHaveTheirTypes }
 {}

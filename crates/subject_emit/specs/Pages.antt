@@ -2,7 +2,7 @@
 use Rattle.std.specs.Prelude.{◌≡◌, ℕ, ◌*◌, ◌≤◌, not, Bool, List, length, take, drop, slice_index}
 use Rattle.ept_emit.specs.Pages.{ept_pages, ranges_of}
 use Rattle.ept_emit.specs.declared.window.Window.{Window}
-use Rattle.ept_emit.specs.Emitted.{AreAscending, AreReadAlone, AreTranslating, HaveGreatestPages, HaveMemoryTypes, HaveOnePath}
+use Rattle.ept_emit.specs.Emitted.{AreAscending, AreReadAlone, AreReadOrZero, AreTranslating, HaveGreatestPages, HaveMemoryTypes, HaveOnePath}
 use Rattle.expand_grants.specs.declared.granted.Grants.{Grants}
 use Rattle.expand_kernel.specs.Regions.{kernel_number}
 use Rattle.expand_kernel.specs.declared.kernel.KernelRegion.TheVariants.{Tables}
@@ -32,6 +32,7 @@ pub record AreTablesOf (windows : List Window) (at : ℕ) (tables : List ℕ) : 
   pub leaves : HaveGreatestPages windows at tables
   pub types : HaveMemoryTypes windows at tables
   pub ascending : AreAscending at tables
+  pub rest : AreReadOrZero (ept_pages (ranges_of windows)) at tables
 
 -- the pages of the subject at an index, which is granted this
 pub record ArePages (x : Placement) (subject : ℕ) (s : Subject) (g : Grants) (q : SubjectPages) : Type 0 where

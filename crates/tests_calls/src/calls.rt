@@ -335,7 +335,8 @@ fn blocks(rt: HostRuntime) -> Result<(), Fail> {
     Ok(())
 }
 
-// The last record is a file that was read for a content: a record may have fewer bytes.
+// The last record is a file that was read for a content: a record may have fewer bytes. It isn't
+// looked at again: call 7, the next, fails.
 const LONG: &str = r#"boot long p | 3 muen: file long has 4194305 bytes
 boot p longer | 3 muen: file longer has 16777217 bytes
 boot q absent | 3 muen: file component has 67108865 bytes
@@ -360,7 +361,7 @@ fn long_files(rt: HostRuntime) -> Result<(), Fail> {
         let text = text.as_str().replacen(alloc, "FILE", name, 1)?;
         held.push(file(alloc, policy, text.as_str().as_bytes())?)?;
     }
-    let mut files = MemFiles::make(held, Vec::new(alloc));
+    let mut files = MemFiles::make(held, numbers(alloc, "7")?);
     let mut out = MemSink::make(alloc, 10, Vec::new(alloc), 0)?;
     for row in LONG.split('\n') {
         let Some((words, want)) = row.split_once(" | ") else {

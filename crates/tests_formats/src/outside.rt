@@ -1,12 +1,13 @@
-//! Runs of the traits' four implementations.
+//! Runs of the traits' implementations.
 use muen_num::Seq;
 use muen_outside::{
-    Buffer, FileError, Files, FolderFiles, Found, MemFiles, MemSink, Sink, SinkFault, WriterSink,
-    put_pieces,
+    Buffer, Device, Disk, FileError, Files, FolderFiles, Found, MemFiles, MemSink, Sink, SinkFault,
+    WriterSink, put_pieces,
 };
 use std::alloc::Global;
-use std::fs;
+use std::io::{ErrorKind, Read};
 use std::test::Fail;
+use std::{fs, io};
 
 fn bytes_found(alloc: Global, bytes: &[u8]) -> Result<Found, Fail> {
     Ok(Found::Bytes(Seq::of(Vec::from_slice(alloc, bytes)?)))
@@ -88,6 +89,102 @@ fn sink_over_a_writer(rt: HostRuntime) -> Result<(), Fail> {
     assert_eq!(rt; put_pieces(&["one", "", " two", "\n"], &mut sink), Ok(()));
     drop(sink);
     assert_eq!(rt; text.as_slice(), b"one two\n".as_slice());
+    Ok(())
+}
+
+// Takes three bytes a call at most, and keeps them back. Its first two flushes fail, and are counted.
+#[derive(Drop)]
+struct Clogged {
+    failed: u64,
+}
+
+impl Device for Clogged {
+    ghost use Rattle.std.specs.Prelude.{Some};
+
+    ghost failed = { λ d. Some d.failed };
+
+    fn take_front(&mut self, bytes: &[u8]) -> io::Result<usize> {
+        Ok(bytes.len().min(3))
+    }
+
+    fn hand_on(&mut self) -> io::Result<()> {
+        if self.failed < 2 {
+            self.failed += 1;
+            return Err(ErrorKind::BrokenPipe.into());
+        }
+        Ok(())
+    }
+}
+
+// Gives its bytes one by one, and is interrupted before each.
+#[derive(Drop)]
+struct Halting {
+    rest: u8,
+    is_ready: bool,
+}
+
+impl Read for Halting {
+    fn read(&mut self, buf: &mut [u8]) -> io::Result<usize> {
+        if !self.is_ready {
+            self.is_ready = true;
+            return Err(ErrorKind::Interrupted.into());
+        }
+        self.is_ready = false;
+        if self.rest == 0 || buf.is_empty() {
+            return Ok(0);
+        }
+        self.rest -= 1;
+        buf[0] = b'x';
+        Ok(1)
+    }
+}
+
+// Each file that is opened is a `Halting` one of three bytes, and each that is made a `Clogged` one.
+#[derive(Drop)]
+struct BadDisk;
+
+impl Disk for BadDisk {
+    type Opened = Halting;
+
+    type Made = Clogged;
+
+    ghost opens = { λ _ _ _. Unit {0} };
+
+    ghost makes = { λ _ _ _. Unit {0} };
+
+    fn open(&mut self, _name: &str) -> io::Result<Halting> {
+        Ok(Halting {
+            rest: 3,
+            is_ready: false,
+        })
+    }
+
+    fn create(&mut self, _name: &str) -> io::Result<Clogged> {
+        Ok(Clogged { failed: 0 })
+    }
+}
+
+#[test]
+fn a_flush_that_fails_is_a_fault(rt: HostRuntime) {
+    let alloc = rt.alloc();
+    let mut sink = WriterSink::new(Clogged { failed: 0 });
+    assert_eq!(rt; sink.put(b"twelve bytes"), Err(SinkFault));
+    assert_eq!(rt; sink.put(b"twelve bytes"), Err(SinkFault));
+    assert_eq!(rt; sink.put(b"twelve bytes"), Ok(()));
+    let mut files = FolderFiles::new(BadDisk);
+    assert_eq!(rt;
+        files.write(alloc, "a", b"twelve bytes"),
+        Err(FileError::Failed)
+    );
+}
+
+#[test]
+fn an_interrupted_read_is_made_again(rt: HostRuntime) -> Result<(), Fail> {
+    let alloc = rt.alloc();
+    let mut files = FolderFiles::new(BadDisk);
+    let whole = bytes_found(alloc, b"xxx")?;
+    assert_eq!(rt; files.read(alloc, "a", 3), Ok(whole));
+    assert_eq!(rt; files.read(alloc, "a", 2), Ok(Found::TooLong(3)));
     Ok(())
 }
 

@@ -9,6 +9,7 @@ returns c = λ files s. record {
   kernel_spans = c.in_ok-parts.ensures.kernel;
   paths = c.in_ok-parts.ensures.paths;
   ascending = c.in_ok-parts.ensures.ascending;
+  spare = c.in_ok-parts.ensures.spare;
   leaves = c.in_ok-parts.ensures.leaves;
   types = c.in_ok-parts.ensures.types;
 }

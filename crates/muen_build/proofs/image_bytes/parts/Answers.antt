@@ -1,5 +1,5 @@
 use Rattle.std.proofs.lemmas.Result.{IfOk-weaker}
-use Rattle.proof_build.proofs.Sound.{has_ascending, has_kernel_spans, has_leaves, has_paths, has_spans, has_types, is_sound}
+use Rattle.proof_build.proofs.Sound.{has_ascending, has_kernel_spans, has_leaves, has_paths, has_spans, has_spare, has_types, is_sound}
 use Rattle.muen_build.proofs.Emitting.{filled_so, sound_so}
 use Rattle.muen_build.proofs.image_bytes.parts.Goals as goal
 
@@ -25,6 +25,9 @@ returns-clause-paths c = IfOk-weaker c.emit.result _ _ (λ i emitted. has_paths 
 
 pub returns-clause-ascending : goal.returns-clause-ascending
 returns-clause-ascending c = IfOk-weaker c.emit.result _ _ (λ i emitted. has_ascending c.args.placed.now c.in_ok-things.things i emitted.made) c.emit.ensures
+
+pub returns-clause-spare : goal.returns-clause-spare
+returns-clause-spare c = IfOk-weaker c.emit.result _ _ (λ i emitted. has_spare c.args.placed.now c.in_ok-things.things i emitted.made) c.emit.ensures
 
 pub returns-clause-leaves : goal.returns-clause-leaves
 returns-clause-leaves c = IfOk-weaker c.emit.result _ _ (λ i emitted. has_leaves c.args.placed.now c.in_ok-things.things i emitted.made) c.emit.ensures

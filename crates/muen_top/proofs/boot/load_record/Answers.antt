@@ -20,7 +20,7 @@ returns-in_ok-copy-in-Some-clause-err g c =
 -- none has
 
 pub returns-in-None-clause-ok : goal.returns-in-None-clause-ok
-returns-in-None-clause-ok g c = IfOk-weaker c.load_too.result _ _ (λ bytes is. of_another _ _ _ _ _ _ _ (whole bytes) (sym c.in-None.ensures) is) (c.load_too.ensures.ok POLICY_MOST)
+returns-in-None-clause-ok g c = IfOk-weaker c.load_too.result _ _ (λ bytes is. of_another _ _ _ _ _ _ _ _ (whole bytes) (sym c.in-None.ensures) is) (c.load_too.ensures.ok POLICY_MOST)
 
 pub returns-in-None-clause-err : goal.returns-in-None-clause-err
-returns-in-None-clause-err g c = IfErr-weaker c.load_too.result _ _ (λ error is. no_other _ _ _ _ _ _ _ error (sym c.in-None.ensures) is) (c.load_too.ensures.err POLICY_MOST)
+returns-in-None-clause-err g c = IfErr-weaker c.load_too.result _ _ (λ error is. no_other _ _ _ _ _ _ _ _ error (sym c.in-None.ensures) is) (c.load_too.ensures.err POLICY_MOST)

@@ -13,14 +13,15 @@ returns-in_err-placed-clause-err g c =
 pub returns-in_err-parts-clause-err : goal.returns-in_err-parts-clause-err
 returns-in_err-parts-clause-err g c =
     let left = err_from_is_err_and c.from_residual-in_err-parts.result c.from_residual-in_err-parts.ensures.1 in
-    rw (left.1, left.2) (unmade c.in_ok-placed.field-0.files c.in_ok-placed.ensures.grows c.in_err-parts.ensures.err)
+    rw (left.1, left.2) (unmade c.in_ok-placed.field-0.files c.in_ok-placed.ensures.looked c.in_ok-placed.ensures.asked c.in_err-parts.ensures.err)
 
 -- it is made
 pub returns-clause-ok : goal.returns-clause-ok
 returns-clause-ok g c =
     record {
       source = source_of c.in_ok-placed.field-0.placed.expanded.lawful;
-      grows = c.in_ok-placed.ensures.grows;
+      looked = c.in_ok-placed.ensures.looked;
+      asked = c.in_ok-placed.ensures.asked;
       accepts = c.in_ok-placed.ensures.accepts;
       back = c.in_ok-parts.ensures.ok;
     }

@@ -7,14 +7,14 @@ use Rattle.muen_top.proofs.policy_commands.read_placed.Goals as goal
 pub returns-in_err-bytes-clause-err : goal.returns-in_err-bytes-clause-err
 returns-in_err-bytes-clause-err g c =
     let left = err_from_is_err_and c.from_residual.result c.from_residual.ensures.1 in
-    rw (left.1, left.2) (map_not_read _ _ _ c.in_err-bytes.field-0.0 c.in_err-bytes.ensures.err)
+    rw (left.1, left.2) (map_not_read _ _ _ _ c.in_err-bytes.field-0.0 c.in_err-bytes.ensures.err)
 
 -- the policy is refused
 pub returns-in_err-placed-clause-err : goal.returns-in_err-placed-clause-err
 returns-in_err-placed-clause-err g c =
     let left = err_from_is_err_and c.from_residual-in_err-placed.result c.from_residual-in_err-placed.ensures.1 in
-    rw (left.1) (map_refused _ _ _ c.in_ok-bytes.bytes c.in_err-placed.field-0.0 left.0 c.in_ok-bytes.ensures.ok (rw c.items.ensures at c.in_err-placed.ensures) left.2)
+    rw (left.1) (map_refused _ _ _ _ c.in_ok-bytes.bytes c.in_ok-bytes.ensures.ok c.in_err-placed.field-0.0 left.0 (rw c.items.ensures at c.in_err-placed.ensures) left.2)
 
 -- it is read
 pub returns-clause-ok : goal.returns-clause-ok
-returns-clause-ok g c = map_gives _ _ _ c.in_ok-bytes.bytes (source_of c.in_ok-placed.placed.expanded.lawful) c.in_ok-bytes.ensures.ok (rw c.items.ensures at c.in_ok-placed.ensures)
+returns-clause-ok g c = map_gives _ _ _ _ c.in_ok-bytes.bytes c.in_ok-bytes.ensures.ok (source_of c.in_ok-placed.placed.expanded.lawful) (rw c.items.ensures at c.in_ok-placed.ensures)

@@ -1,0 +1,5 @@
+use Rattle.muen_top.proofs.Booting.{not_back}
+use Rattle.muen_top.proofs.boot.parts_of.Goals as goal
+
+pub returns-clause-err : goal.returns-clause-err
+returns-clause-err c = not_back _ _ _ _ _ c.in_ok-bytes.ensures c.read_back.result (rw c.deref.ensures.value at c.read_back.ensures)

@@ -1,0 +1,6 @@
+mod Fields
+mod Fronts
+mod ImageFields
+mod LimitExamples
+mod Readers
+mod WrongFields
