@@ -1,5 +1,5 @@
 -- From a lawful policy whose contents are held against files to one that is accepted.
-use Rattle.std.proofs.Common.{◌≡◌, inl, inr, ℕ, true, List, [], Option, None, IfSome, Ok, Err, refl, sym, ap, subst, ◌∙◌}
+use Rattle.std.proofs.Common.{◌≡◌, inl, inr, ℕ, true, List, [], Option, None, IfSome, Ok, Err, sym, ap, subst, ◌∙◌}
 use Rattle.std.specs.List.{All}
 use Rattle.std.specs.FinMap.{insert}
 use Rattle.std.proofs.lemmas.List.Elements.{All-nil, All-weaker}
@@ -87,9 +87,3 @@ module _ (name document : List ℕ) (p : Source) (is : lawful_policy_of document
     pub accepts : no_room p ≡ None → Accepts name (looks_of found) document p
     unfolding contents_refused
     accepts room files s = built_so (insert files name document) document p is (passes files s) room
-
--- ---- the image
-
--- memory for it was refused
-pub image_fails : (name document : List ℕ) (held : Option Store) (old new : History) (looks : List Look) → Looked name held old new looks → All (IsAsked document) looks → FailsWith name document held old new (Refused NoMemory)
-image_fails name document held old new looks looked asked = record { looks = looks; looked = looked; asked = asked; says = inl refl }

@@ -12,7 +12,7 @@ use Rattle.muen_outside.specs.Looks.{ShowAll}
 use Rattle.muen_outside.specs.States.{History, Look}
 use Rattle.muen_outside.specs.Store.{Store}
 use Rattle.policy_types.specs.declared.refusal.Refusal.{Refusal}
-use Rattle.policy_types.specs.declared.source.Content.TheVariants.{File, Fill, Inline, Zero}
+use Rattle.policy_types.specs.declared.source.Content.TheVariants.{File, Inline}
 use Rattle.muen_build.specs.Accepting.{Files, Grows, Known, Names, NotFound, Passes, Refuses, Stops, Why, all_names, brought_names, filled_names, looks_of, of_all, of_brought, of_filled, part_length}
 use Rattle.policy_lawful.specs.ByIndex.{provided_at}
 use Rattle.muen_build.specs.Filling.{brought_at, filled_provided, filled_region}
@@ -38,12 +38,6 @@ none_is None h = refl
 none_is (Some x) h = absurd (cc)
 
 module _ (name document : List ℕ) (f : Filled) where
-  pub zero_passes : (looks : List Look) → f.content ≡ Zero → Passes name document looks (of_filled f)
-  zero_passes looks is files s = ap (content_refused (insert files name document) f) is
-
-  pub fill_passes : (looks : List Look) (b : ℕ) → f.content ≡ Fill b → Passes name document looks (of_filled f)
-  fill_passes looks b is files s = ap (content_refused (insert files name document) f) is
-
   pub inline_stops : (bytes : List ℕ) (held : Option Store) (h : History) (looks : List Look) (r : Refusal) → f.content ≡ Inline bytes → Err r ≡ as_refusal (too_long_for f (length bytes))
       → Stops name document (filled_names f) held h h looks (Refuses (of_filled f)) (Refused r)
   inline_stops bytes held h looks r is e =

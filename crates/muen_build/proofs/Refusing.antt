@@ -124,10 +124,6 @@ laid_not : (answer : Result Source Refusal) (r : Refusal) → lawful_alone answe
 laid_not (Ok p) r e = first_stays p (unlawful p) (no_room p) r e
 laid_not (Err x) r e = e
 
-pub unlawful_unlaid : (bytes : List ℕ) (r : Refusal) → lawful_policy_of bytes ≡ Err r → laid_policy_of bytes ≡ Err r
-unfolding lawful_policy_of laid_policy_of
-unlawful_unlaid bytes r h = laid_not (policy_of bytes) r h
-
 -- it isn't lawful
 pub not_laid : (bytes : List ℕ) (r : Refusal) → Answers NoMemory (lawful_policy_of bytes) (Err r) → Answers NoMemory (laid_policy_of bytes) (Err r)
 unfolding lawful_policy_of laid_policy_of

@@ -1,6 +1,5 @@
 use Rattle.policy_lawful.specs.Resolution.{source_of}
 use Rattle.muen_build.specs.Accepting.{looks_of}
-use Rattle.muen_build.proofs.Accepting.{image_fails}
 use Rattle.muen_build.proofs.image_bytes.build.Goals as goal
 
 -- the policy is accepted, and its image is written

@@ -4,9 +4,10 @@ use Rattle.muen_build.proofs.Emitting.{filled_so, sound_so}
 use Rattle.muen_build.proofs.image_bytes.parts.Goals as goal
 
 pub emit-requires : goal.emit-requires
-emit-requires c =
-    filled_so c.args.placed.now c.expanded-expanded.ensures.placed c.expanded-expanded.result.now c.expanded-expanded.ensures.value c.lawful.result.now c.resolved-policy.result.now c.lawful.ensures c.resolved-policy.ensures.value
-    c.args.name.now c.args.document.now c.args.found.now c.in_ok-things.things c.in_ok-things.ensures
+emit-requires c = record {
+  filled = filled_so c.args.placed.now c.expanded-expanded.ensures.placed c.expanded-expanded.result.now c.expanded-expanded.ensures.value c.lawful.result.now c.resolved-policy.result.now c.lawful.ensures c.resolved-policy.ensures.value
+      c.args.name.now c.args.document.now c.args.found.now c.in_ok-things.things c.in_ok-things.ensures;
+}
 
 pub returns-clause-sound : goal.returns-clause-sound
 returns-clause-sound c =
