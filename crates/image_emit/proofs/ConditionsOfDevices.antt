@@ -33,7 +33,8 @@ use Rattle.policy_types.specs.declared.source.Device.{Device}
 use Rattle.policy_types.specs.declared.source.DeviceMemory.{DeviceMemory}
 use Rattle.policy_types.specs.declared.source.Irq.{Irq}
 use Rattle.policy_types.specs.declared.source.Ports.{Ports}
-use Rattle.span_emit.specs.Spans.{device_span, memories_of, spans_of}
+use Rattle.span_emit.specs.Spans.{device_span, memories_of}
+use Rattle.span_emit.specs.SpansOf.{spans_of}
 use Rattle.subject_emit.proofs.Pieces.{from_some}
 
 -- ---- lists

@@ -36,7 +36,8 @@ use Rattle.policy_types.specs.declared.source.Region.{Region as SourceRegion}
 use Rattle.policy_types.specs.declared.source.Source.{Source}
 use Rattle.policy_types.specs.declared.source.Subject.{Subject}
 use Rattle.policy_types.specs.declared.source.Tau0.{Tau0}
-use Rattle.span_emit.specs.Spans.{region_span, spans_of}
+use Rattle.span_emit.specs.Spans.{region_span}
+use Rattle.span_emit.specs.SpansOf.{spans_of}
 
 pub between : (low high n : ℕ) → low ≤ n → n ≤ high → is_between low high n ≡ true
 between low high n a b = and_from (nat_le low n) (nat_le n high) (le-leb low n a) (le-leb n high b)

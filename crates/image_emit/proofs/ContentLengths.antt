@@ -16,7 +16,8 @@ use Rattle.image_pack.specs.ImageConditions.{FillsSpan, IsContent}
 use Rattle.image_pack.specs.declared.parts.SpanPart.{SpanPart}
 use Rattle.muen_num.specs.declared.limits.TheConstants.{PAGE}
 use Rattle.policy_lawful.specs.Resolution.{source_of}
-use Rattle.span_emit.specs.Spans.{span_kind, spans_of}
+use Rattle.span_emit.specs.Spans.{span_kind}
+use Rattle.span_emit.specs.SpansOf.{spans_of}
 use Rattle.span_emit.proofs.KeptRegions.{IsWhole, regions_whole}
 
 -- ---- regions are whole pages

@@ -20,7 +20,7 @@ use Rattle.frame_clock.specs.declared.plan.Plan.{Plan}
 use Rattle.plan_emit.specs.PlanOf.{IsPlanOf}
 use Rattle.policy_lawful.specs.Resolution.{source_of}
 use Rattle.region_alloc.specs.Placed.{IsPlaced, Placement}
-use Rattle.span_emit.specs.Spans.{spans_of}
+use Rattle.span_emit.specs.SpansOf.{spans_of}
 
 module _ (x : Placement) (things : List (List ℕ)) (spans : List SpanPart) (held : List (List ℕ)) (parts : List SubjectPart) (plan : Plan) (devices : List DevicePart)
     (known : IsPlaced x) (named : AreNamed x.expanded.lawful) (filled : IsFilled x things) (numbered : IsPermutation (spans_of x) spans) (are : AreSpans spans) (h : IsHeld x things spans held) (p : AreParts x parts)

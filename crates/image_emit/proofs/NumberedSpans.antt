@@ -11,7 +11,8 @@ use Rattle.image_emit.proofs.ByNumber.{region_spans_length}
 use Rattle.image_pack.specs.declared.parts.SpanPart.{SpanPart}
 use Rattle.muen_num.proofs.Lists.{get_left, get_right}
 use Rattle.policy_types.specs.declared.source.DeviceMemory.{DeviceMemory}
-use Rattle.span_emit.specs.Spans.{device_span, device_spans, memories_of, region_span, region_spans, spans_of}
+use Rattle.span_emit.specs.Spans.{device_span, device_spans, memories_of, region_span, region_spans}
+use Rattle.span_emit.specs.SpansOf.{spans_of}
 
 -- the span of the region of this number
 pub record IsRegionAt (m : Made) (n : ℕ) (s : SpanPart) : Type 0 where

@@ -29,7 +29,8 @@ use Rattle.policy_types.specs.declared.source.DeviceMemory.{DeviceMemory}
 use Rattle.policy_types.specs.declared.source.Irq.{Irq}
 use Rattle.policy_lawful.proofs.KeptAddresses.{IsPhysical}
 use Rattle.span_emit.proofs.KeptDevices.{devices_physical}
-use Rattle.span_emit.specs.Spans.{device_span, device_spans, memories_of, region_spans, spans_of}
+use Rattle.span_emit.specs.Spans.{device_span, device_spans, memories_of, region_spans}
+use Rattle.span_emit.specs.SpansOf.{spans_of}
 use Rattle.image_soundness.specs.Bench.{bench_device as device_of}
 
 -- ---- memory

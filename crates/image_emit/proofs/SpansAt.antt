@@ -10,7 +10,8 @@ use Rattle.image_emit.proofs.ByNumber.{as_many_addresses, region_spans_length}
 use Rattle.image_emit.specs.Made.{IsMade, Made, policy_of}
 use Rattle.image_pack.specs.declared.parts.SpanPart.{SpanPart}
 use Rattle.muen_num.proofs.Lists.{get_left}
-use Rattle.span_emit.specs.Spans.{device_spans, region_span, region_spans, spans_of}
+use Rattle.span_emit.specs.Spans.{device_spans, region_span, region_spans}
+use Rattle.span_emit.specs.SpansOf.{spans_of}
 
 pub at_number : {A : Type 0} (k : ℕ) (xs : List A) (n : ℕ) (x : A) → slice_get xs n ≡ Some x → slice_get (enumerate_from k xs) n ≡ Some (k + n, x)
 at_number k [] n x h = absurd cc

@@ -22,7 +22,8 @@ use Rattle.muen_num.specs.declared.tag.TagPart.{TagPart}
 use Rattle.machine_layout.specs.PageFields.{padded}
 use Rattle.policy_lawful.specs.declared.resolved.Subject.{Subject}
 use Rattle.region_alloc.specs.Placed.{IsPlaced}
-use Rattle.span_emit.specs.Spans.{region_span, spans_of}
+use Rattle.span_emit.specs.Spans.{region_span}
+use Rattle.span_emit.specs.SpansOf.{spans_of}
 use Rattle.subject_emit.specs.Mapped.{kernel_first}
 use Rattle.subject_emit.specs.declared.subject_pages.SubjectPages.{SubjectPages}
 use Rattle.subject_emit.proofs.Numbered.{kernel_at_index}

@@ -31,7 +31,8 @@ use Rattle.policy_types.specs.declared.source.Device.{Device as SomeDevice}
 use Rattle.policy_types.specs.declared.source.DeviceMemory.{DeviceMemory}
 use Rattle.policy_lawful.specs.declared.view.Shown.{Shown}
 use Rattle.policy_lawful.specs.declared.view.Shown.TheVariants.{Memory, Channel, Provided, Device, State}
-use Rattle.span_emit.specs.Spans.{device_span, device_spans, memories_of, region_span, region_spans, spans_of}
+use Rattle.span_emit.specs.Spans.{device_span, device_spans, memories_of, region_span, region_spans}
+use Rattle.span_emit.specs.SpansOf.{spans_of}
 use Rattle.subject_emit.specs.Mapped.{brought_before, kernel_first, mapped, mapped_windows, shown_address}
 use Rattle.subject_emit.specs.Shows.{shown_size}
 use Rattle.subject_emit.proofs.KeptSizes.{guests_granted}

@@ -27,7 +27,8 @@ use Rattle.policy_lawful.specs.Contents.{Held, initial_bytes}
 use Rattle.policy_lawful.specs.Thing.{Thing, channel, region, thing_tag}
 use Rattle.policy_types.specs.declared.source.DeviceMemory.{DeviceMemory}
 use Rattle.policy_types.specs.declared.source.Source.{Source}
-use Rattle.span_emit.specs.Spans.{device_span, memories_of, region_span, region_spans, span_kind, spans_of}
+use Rattle.span_emit.specs.Spans.{device_span, memories_of, region_span, region_spans, span_kind}
+use Rattle.span_emit.specs.SpansOf.{spans_of}
 use Rattle.policy_lawful.proofs.KeptAddresses.{IsPhysical}
 use Rattle.span_emit.proofs.KeptDevices.{devices_physical}
 use Rattle.span_emit.proofs.KeptRegions.{IsWhole}

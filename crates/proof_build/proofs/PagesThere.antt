@@ -20,7 +20,7 @@ use Rattle.muen_num.proofs.Lists.{map-map, there}
 use Rattle.muen_num.specs.declared.limits.TheConstants.{PAGE}
 use Rattle.phys_mem.specs.Spans.{AreSpans, IsSpan, pages_of_spans}
 use Rattle.phys_mem.specs.declared.spans.MemorySpan.{MemorySpan}
-use Rattle.span_emit.specs.Spans.{spans_of}
+use Rattle.span_emit.specs.SpansOf.{spans_of}
 
 -- a span has as many bytes at the start as its pages
 bytes_if : (device : Bool) (pages : ℕ) (bytes : List ℕ) → length bytes ≡ (if device then 0 else PAGE * pages) → length (if device then replicate (PAGE * pages) 0 else bytes) ≡ PAGE * pages

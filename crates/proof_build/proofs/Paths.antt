@@ -27,7 +27,7 @@ use Rattle.muen_num.proofs.Lists.{there}
 use Rattle.muen_num.specs.declared.limits.TheConstants.{PAGE}
 use Rattle.muen_num.specs.declared.tag.TagPart.TheVariants.{Ept}
 use Rattle.policy_lawful.specs.declared.resolved.Subject.{Subject}
-use Rattle.span_emit.specs.Spans.{spans_of}
+use Rattle.span_emit.specs.SpansOf.{spans_of}
 use Rattle.subject_emit.specs.Mapped.{kernel_first}
 use Rattle.subject_emit.specs.Pages.{tables_at}
 use Rattle.subject_emit.specs.declared.subject_pages.SubjectPages.{SubjectPages}

@@ -9,7 +9,8 @@ use Rattle.image_soundness.specs.Memory.{Span}
 use Rattle.muen_num.proofs.Lists.{map-map}
 use Rattle.policy_lawful.specs.Resolution.{source_of}
 use Rattle.proof_build.specs.Built.{HasSpans}
-use Rattle.span_emit.specs.Spans.{device_spans, region_spans, spans_of}
+use Rattle.span_emit.specs.Spans.{device_spans, region_spans}
+use Rattle.span_emit.specs.SpansOf.{spans_of}
 
 pub spans_by_number : (m : Made) → IsMade m → HasSpans (source_of (policy_of m)) (image_of m)
 unfolding spans_of source_of

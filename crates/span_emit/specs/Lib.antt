@@ -1,2 +1,3 @@
 pub mod ByAddress
 pub mod Spans
+pub mod SpansOf

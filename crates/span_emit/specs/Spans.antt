@@ -1,5 +1,5 @@
--- The spans of a placed policy's image (this project's own format): its regions at their addresses, and its devices' memory.
-use Rattle.std.specs.Prelude.{ℕ, ◌/◌, List, ◌++◌, length, map, zip}
+-- The spans of an image (this project's own format): regions at their addresses, and devices' memory.
+use Rattle.std.specs.Prelude.{ℕ, ◌/◌, List, map, zip}
 use Rattle.std.specs.List.{enumerate_from, flat_map}
 use Rattle.expand_kernel.specs.declared.region.Region.{Region}
 use Rattle.expand_kernel.specs.declared.region.RegionKind.{RegionKind}
@@ -11,7 +11,6 @@ use Rattle.muen_num.specs.declared.limits.TheConstants.{PAGE}
 use Rattle.muen_num.specs.declared.tag.TagPart.TheVariants.{Named}
 use Rattle.policy_types.specs.declared.source.Device.{Device as SourceDevice}
 use Rattle.policy_types.specs.declared.source.DeviceMemory.{DeviceMemory}
-use Rattle.region_alloc.specs.Placed.{Placement}
 
 abbrev pub span_kind : RegionKind → SpanKind
 span_kind OwnRegion = Own
@@ -43,7 +42,3 @@ device_span (number, (device, m)) = record {
 -- numbered from this number on
 abbrev pub device_spans : ℕ → List SourceDevice → List SpanPart
 device_spans first devices = map device_span (enumerate_from first (memories_of devices))
-
--- by number: the regions, then the devices' memory
-unfoldable pub spans_of : Placement → List SpanPart
-spans_of x = region_spans x.expanded.regions x.addresses ++ device_spans (length x.expanded.regions) x.expanded.lawful.devices

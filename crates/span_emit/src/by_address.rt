@@ -2,7 +2,7 @@
 ghost use Rattle.std.specs.Prelude.{IfOk};
 ghost use Rattle.std.specs.List.Sorted.{IsNonDecreasingBy, IsPermutation};
 ghost use Rattle.image_pack.specs.SpanConditions.{AreSpans};
-ghost use Rattle.span_emit.specs.Spans.{spans_of};
+ghost use Rattle.span_emit.specs.SpansOf.{spans_of};
 
 use crate::by_number::by_number;
 use image_pack::SpanPart;

@@ -3,7 +3,8 @@ ghost use Rattle.std.specs.Prelude.{◌≡◌, ℕ, List, [], ◌∷◌, ◌+◌
 ghost use Rattle.std.specs.List.{enumerate_from};
 ghost use Rattle.muen_num.specs.declared.limits.TheConstants.{PAGE};
 ghost use Rattle.span_emit.specs.ByAddress.{AreSpansByAddress, HasNames, memory_tag};
-ghost use Rattle.span_emit.specs.Spans.{device_span, device_spans, memories_of, region_span, region_spans, span_kind, spans_of};
+ghost use Rattle.span_emit.specs.Spans.{device_span, device_spans, memories_of, region_span, region_spans, span_kind};
+ghost use Rattle.span_emit.specs.SpansOf.{spans_of};
 
 use expand_kernel::{Region, RegionKind};
 use image_pack::{SpanKind, SpanPart};
