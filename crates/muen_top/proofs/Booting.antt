@@ -1,6 +1,6 @@
 -- What `boot` answers, as its files are read.
-use Rattle.std.proofs.Common.{◌≡◌, inl, inr, ℕ, List, [], ◌∷◌, ◌++◌, Option, Some, Result, Ok, Err, IfErr, IfOk, refl, sym, ap, subst, ◌∙◌, append-nil}
-use Rattle.std.specs.FinMap.{get, insert}
+use Rattle.std.proofs.Common.{◌≡◌, inl, inr, ℕ, List, [], ◌∷◌, ◌++◌, Option, Some, Result, Ok, Err, IfErr, refl, sym, ap, subst, ◌∙◌, append-nil}
+use Rattle.std.specs.FinMap.{get}
 use Rattle.std.specs.List.{All}
 use Rattle.std.proofs.lemmas.List.Elements.{All-nil}
 use Rattle.binary_form.specs.Faults.{Tells}
@@ -27,8 +27,8 @@ use Rattle.muen_num.specs.Answers.{Answers}
 use Rattle.muen_num.specs.declared.limits.TheConstants.{POLICY_MOST, RECORD_MOST}
 use Rattle.muen_outside.proofs.Explained.{explained}
 use Rattle.muen_outside.specs.declared.files.FileError.{FileError}
-use Rattle.muen_outside.specs.Looks.{EndsInFault, ShowAll}
-use Rattle.muen_outside.specs.States.{History, Look, look}
+use Rattle.muen_outside.specs.Looks.{ShowAll}
+use Rattle.muen_outside.specs.States.{History, Look}
 use Rattle.muen_outside.specs.Store.{Store, Reading, whole, reading_of}
 use Rattle.muen_run.specs.RunText.{image_text}
 use Rattle.policy_types.specs.declared.refusal.Refusal.{Refusal}
@@ -40,8 +40,8 @@ use Rattle.record_text.specs.declared.fault.RecordFault.TheVariants.{NoMemory as
 use Rattle.record_text.specs.declared.record.Record.{Record}
 use Rattle.record_text.proofs.Mapped.{mapped_err, mapped_ok}
 use Rattle.proof_runs.proofs.ImageRuns.{image_bench_is, image_runs}
-use Rattle.muen_top.specs.Answers.{Answer, prints, stops, refused as refused_for, record_refused, of_file, policy_answer, trace_answer, boot_answer}
-use Rattle.muen_top.specs.Asked.{Asks, AsksBoth, AsksInputs, IsAtMost}
+use Rattle.muen_top.specs.Answers.{Answer, prints, stops, refused as refused_for, of_file, policy_answer, trace_answer, boot_answer}
+use Rattle.muen_top.specs.Asked.{Asks, AsksBoth, IsAtMost}
 use Rattle.muen_top.specs.Calls.{StopsFor}
 use Rattle.muen_top.specs.Commands.{boot}
 use Rattle.muen_top.specs.FilesSeen.{OverLooks, Saw, SawAfter}

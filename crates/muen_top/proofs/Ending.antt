@@ -1,10 +1,10 @@
 -- What comes of a command whose files were read.
-use Rattle.std.proofs.Common.{◌≡◌, inl, inr, ℕ, List, [], ◌∷◌, ◌++◌, Option, Some, None, IfSome, refl, sym, ap, subst, ◌∙◌, append-nil}
+use Rattle.std.proofs.Common.{◌≡◌, inl, ℕ, List, [], ◌∷◌, ◌++◌, Option, Some, None, IfSome, refl, sym, ap, subst, ◌∙◌, append-nil}
 use Rattle.muen_outside.specs.Looks.{ShowAll}
 use Rattle.muen_outside.specs.Puts.{Failed}
 use Rattle.muen_outside.specs.States.{History, Look, SinkState, Write, looked, went, written}
 use Rattle.muen_outside.specs.Store.{Store}
-use Rattle.muen_top.specs.Answers.{Answer, prints, stops, answer_of}
+use Rattle.muen_top.specs.Answers.{Answer, prints, answer_of}
 use Rattle.muen_top.specs.Calls.{ComesOfCommand, IsDone, OutcomeSays, Prints}
 use Rattle.muen_top.specs.Commands.{Command}
 use Rattle.muen_top.specs.FilesSeen.{OverLooks}

@@ -8,7 +8,7 @@ use Rattle.muen_build.specs.Looks.{Looked, document_look}
 use Rattle.muen_build.proofs.Documents.{whole_found}
 use Rattle.muen_build.proofs.Looks.{show_front, show_last, single_push}
 use Rattle.muen_build.proofs.Steps.{others_found, shown_among}
-use Rattle.muen_num.specs.declared.limits.TheConstants.{COMPONENT_FILE_MOST, POLICY_MOST}
+use Rattle.muen_num.specs.declared.limits.TheConstants.{COMPONENT_FILE_MOST}
 use Rattle.muen_outside.specs.declared.files.FileError.{FileError}
 use Rattle.muen_outside.specs.declared.files.FileError.TheVariants.{Failed as FileFailed, NoMemory as FileMemory}
 use Rattle.muen_outside.specs.declared.files.Found.{Found}
@@ -166,11 +166,11 @@ module _ (l : Look) (ls : List Look) (name : List ℕ) (most : ℕ) (held : Opti
 -- ---- a read after the files of a policy
 
 -- the same bytes
-pub whole_same : (a b : List ℕ) → whole a ≡ whole b → a ≡ b
+whole_same : (a b : List ℕ) → whole a ≡ whole b → a ≡ b
 whole_same a b e = cc (e)
 
-pub component_copied : {copied bytes : List ℕ} {o : Option (List ℕ)} → copied ≡ bytes → Some bytes ≡ o → o ≡ Some copied
-component_copied e is = sym is ∙ ap Some (sym e)
+pub component_copied : (copied bytes : List ℕ) (o : Option (List ℕ)) → whole copied ≡ whole bytes → Some bytes ≡ o → o ≡ Some copied
+component_copied copied bytes o e is = sym is ∙ ap Some (sym (whole_same copied bytes e))
 
 module _ (policy document : List ℕ) (found : Files) (name : List ℕ) (most : ℕ) (held : Option Store) where
   held_by_component : (bytes : List ℕ) → find_bytes name found ≡ Some bytes → OverLooks (policy_looks policy document found) (λ m. get m name ≡ Some bytes)

@@ -1,6 +1,6 @@
 -- What `build` answers, as its files are read, and what comes of its write.
-use Rattle.std.proofs.Common.{◌≡◌, inl, inr, ◌⊎◌, ℕ, List, [], ◌∷◌, Option, Some, None, Result, Ok, Err, refl, sym, ap, subst, ◌∙◌}
-use Rattle.std.specs.FinMap.{get, insert}
+use Rattle.std.proofs.Common.{◌≡◌, inl, inr, ℕ, List, [], ◌∷◌, Option, Some, Result, Ok, Err, refl, sym, ap, subst, ◌∙◌}
+use Rattle.std.specs.FinMap.{get}
 use Rattle.std.specs.List.{All}
 use Rattle.std.proofs.lemmas.List.Elements.{All-nil}
 use Rattle.muen_num.specs.declared.limits.TheConstants.{POLICY_MOST}
@@ -13,13 +13,12 @@ use Rattle.muen_build.specs.declared.accepted.BuildError.TheVariants.{Refused as
 use Rattle.muen_build.proofs.Documents.{with_document}
 use Rattle.muen_outside.specs.declared.files.FileError.{FileError}
 use Rattle.muen_outside.specs.declared.files.FileError.TheVariants.{Failed as FileFailed, NoMemory as FileMemory}
-use Rattle.muen_outside.specs.Looks.{EndsInFault, HeldAfter, ShowAll, WriteLeaves}
-use Rattle.muen_outside.specs.States.{History, Look, SinkState, Write, write}
+use Rattle.muen_outside.specs.Looks.{ShowAll, WriteLeaves}
+use Rattle.muen_outside.specs.States.{History, Look, SinkState, write}
 use Rattle.muen_outside.specs.Store.{Store, whole, reading_of}
 use Rattle.policy_types.specs.declared.refusal.Refusal.{Refusal}
-use Rattle.policy_types.specs.declared.refusal.Refusal.TheVariants.{NoMemory as NoMemoryFor}
 use Rattle.policy_types.specs.declared.source.Source.{Source}
-use Rattle.muen_top.specs.Answers.{Answer, stops, refused, of_file, image_answer, build_answer, answer_of}
+use Rattle.muen_top.specs.Answers.{Answer, stops, refused, of_file, image_answer, build_answer}
 use Rattle.muen_top.specs.Asked.{Asks, AsksContents}
 use Rattle.muen_top.specs.Calls.{ComesOfCommand, IsDone, OutcomeSays, StopsFor, Unwritten}
 use Rattle.muen_top.specs.Commands.{build}

@@ -1,5 +1,5 @@
 -- What follows where files tell what they hold.
-use Rattle.std.proofs.Common.{◌≡◌, inl, inr, ◌⊎◌, List, [], ◌∷◌, Option, Some, None, IfSome, Ok, subst, sym, ap, ◌∙◌, ℕ}
+use Rattle.std.proofs.Common.{◌≡◌, inl, inr, ◌⊎◌, List, [], ◌∷◌, Option, Some, None, IfSome, Ok, subst, ap, ◌∙◌, ℕ}
 use Rattle.std.specs.FinMap.{insert}
 use Rattle.muen_outside.specs.Looks.{HeldAfter, ShowAll}
 use Rattle.muen_outside.specs.States.{Look, Write, write}

@@ -14,14 +14,13 @@ use Rattle.muen_outside.specs.Looks.{ShowAll}
 use Rattle.muen_outside.specs.States.{History, Look, look}
 use Rattle.muen_outside.specs.Store.{Store, Reading, whole, reading_of}
 use Rattle.muen_run.specs.RunText.{image_text}
-use Rattle.record_text.specs.DeviceRecord.{DeviceRecord}
 use Rattle.record_text.specs.Reading.{record_of}
 use Rattle.record_text.specs.Steps.{mapped}
 use Rattle.record_text.specs.declared.fault.RecordFault.{RecordFault}
 use Rattle.record_text.specs.declared.fault.RecordFault.TheVariants.{NoMemory as NoMemoryForRecord}
 use Rattle.record_text.specs.declared.record.Record.{Record}
 use Rattle.record_text.proofs.Mapped.{mapped_err, mapped_ok}
-use Rattle.muen_top.specs.Answers.{Answer, prints, stops, image_refused, record_refused, of_file, named_answer, unpacked_answer, run_answer}
+use Rattle.muen_top.specs.Answers.{Answer, prints, stops, image_refused, of_file, named_answer, unpacked_answer, run_answer}
 use Rattle.muen_top.specs.Asked.{Asks, AsksRecord, IsAtMost}
 use Rattle.muen_top.specs.Calls.{StopsFor}
 use Rattle.muen_top.specs.Commands.{run}
@@ -30,7 +29,6 @@ use Rattle.muen_top.specs.Loads.{NotRead, NotReadAfter}
 use Rattle.muen_top.specs.PolicyCommands.{HasRead, IsAnswered, StopsCommand}
 use Rattle.muen_top.specs.CommandErrors.{error_of_image_fault, error_of_record_fault}
 use Rattle.muen_top.specs.declared.outcome.CommandError.{CommandError}
-use Rattle.muen_top.specs.declared.outcome.CommandError.TheVariants.{NoMemory}
 use Rattle.muen_top.proofs.FilesSeen.{SeenAfter, gives_none, seen_after}
 use Rattle.muen_top.proofs.FirstFile.{AsksOn, RestsOn, SaysOf, not_read, says_of, stopped_by, stops_alone, stops_record}
 

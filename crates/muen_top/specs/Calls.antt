@@ -1,5 +1,5 @@
 -- How a command has ended, and why; and what is promised of a whole call.
-use Rattle.std.specs.Prelude.{◌≡◌, ◌⊎◌, ℕ, List, [], Option, Some, IfSome, Result, Ok, Err}
+use Rattle.std.specs.Prelude.{◌≡◌, ◌⊎◌, ℕ, List, [], Option, IfSome, Ok, Err}
 use Rattle.muen_outside.specs.Looks.{AreSingle, EndsInFault, HeldAfter, ShowAll, looks_since, writes_since}
 use Rattle.muen_outside.specs.Puts.{Appended, Failed}
 use Rattle.muen_outside.specs.States.{History, Look, SinkState, Write, went}

@@ -1,7 +1,6 @@
 -- What reading a command's files comes to.
 use Rattle.std.specs.Prelude.{◌≡◌, ℕ, List, [], ◌∷◌, Option, Some, Result, Ok, Err}
 use Rattle.std.specs.List.{All}
-use Rattle.std.specs.FinMap.{insert}
 use Rattle.image_soundness.specs.Sound.{IsSound}
 use Rattle.image_pack.specs.declared.parts.Image.{Image}
 use Rattle.muen_build.specs.Accepting.{Accepts, FailsWith, Files, WithDocument, looks_of}

@@ -2,20 +2,18 @@ use Rattle.std.proofs.Common.{sym}
 use Rattle.std.proofs.lemmas.Result.{IfErr-weaker, IfOk-weaker}
 use Rattle.muen_num.specs.declared.limits.TheConstants.{POLICY_MOST}
 use Rattle.muen_outside.specs.Store.{whole}
-use Rattle.muen_top.proofs.FilesSeen.{component_copied, no_component, no_other, of_another, of_component, whole_same}
+use Rattle.muen_top.proofs.FilesSeen.{component_copied, no_component, no_other, of_another, of_component}
 use Rattle.muen_top.proofs.boot.load_record.Goals as goal
 
 -- a component file has this name
 
 pub returns-in_ok-copy-in-Some-clause-ok : goal.returns-in_ok-copy-in-Some-clause-ok
 returns-in_ok-copy-in-Some-clause-ok g c =
-    let same = whole_same c.in_ok-copy-in-Some.field-0 c.in-Some.bytes.now c.in_ok-copy-in-Some.ensures in
-    IfOk-weaker c.within.result _ _ (λ bytes is. of_component _ _ _ _ _ _ _ c.in_ok-copy-in-Some.field-0 (whole bytes) (component_copied same c.in-Some.ensures) is) c.within.ensures.ok
+    IfOk-weaker c.within.result _ _ (λ bytes is. of_component _ _ _ _ _ _ _ c.in_ok-copy-in-Some.field-0 (whole bytes) (component_copied _ _ _ c.in_ok-copy-in-Some.ensures c.in-Some.ensures) is) c.within.ensures.ok
 
 pub returns-in_ok-copy-in-Some-clause-err : goal.returns-in_ok-copy-in-Some-clause-err
 returns-in_ok-copy-in-Some-clause-err g c =
-    let same = whole_same c.in_ok-copy-in-Some.field-0 c.in-Some.bytes.now c.in_ok-copy-in-Some.ensures in
-    IfErr-weaker c.within.result _ _ (λ error is. no_component _ _ _ _ _ _ _ c.in_ok-copy-in-Some.field-0 error (component_copied same c.in-Some.ensures) is) c.within.ensures.err
+    IfErr-weaker c.within.result _ _ (λ error is. no_component _ _ _ _ _ _ _ c.in_ok-copy-in-Some.field-0 error (component_copied _ _ _ c.in_ok-copy-in-Some.ensures c.in-Some.ensures) is) c.within.ensures.err
 
 -- none has
 

@@ -1,4 +1,3 @@
-use Rattle.std.proofs.Common.{◌∙◌}
 use Rattle.std.proofs.lemmas.Result.{err_from_is_err_and}
 use Rattle.muen_top.proofs.Booting.{not_made, policy_not_read, record_not_read, record_read, record_refused_so}
 use Rattle.muen_top.proofs.boot.read_both.Goals as goal
