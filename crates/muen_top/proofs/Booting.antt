@@ -11,14 +11,9 @@ use Rattle.image_soundness.specs.Bench.{devices_of}
 use Rattle.image_soundness.specs.Sound.{IsSound}
 use Rattle.image_pack.specs.Parts.{IsImage}
 use Rattle.image_pack.specs.declared.parts.Image.{Image}
-<<<<<<< HEAD
-use Rattle.muen_build.specs.Accepting.{Accepts, FailsWith, Files, Grows, RefusedFor, RefusesDocument, looks_of}
-use Rattle.muen_build.specs.ImageFor.{IsImageFor}
-use Rattle.muen_build.specs.Looks.{Explained, Follows, Look, Saw, Seen, ShowAll, document_look}
-=======
 use Rattle.muen_build.specs.Accepting.{Accepts, ErrorSays, FailsWith, Files, RefusesDocument, WithDocument, looks_of}
+use Rattle.muen_build.specs.ImageFor.{IsImageFor}
 use Rattle.muen_build.specs.Looks.{IsAsked, Looked, document_look}
->>>>>>> 7303233fa031c40b9073106a9d5a2bd3c2c41f7b
 use Rattle.muen_build.specs.Refusals.{accepted_policy_of}
 use Rattle.muen_build.specs.declared.accepted.BuildError.{BuildError}
 use Rattle.muen_build.specs.declared.accepted.BuildError.TheVariants.{Refused as RefusedPolicy, FileFault as FaultOfFiles}
