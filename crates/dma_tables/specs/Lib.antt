@@ -1,0 +1,6 @@
+pub mod DmaConditions
+pub mod DmaFile
+pub mod DmaWalk
+pub mod Lowered
+pub mod LoweredRecord
+pub mod Tables
