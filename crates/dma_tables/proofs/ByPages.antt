@@ -5,9 +5,10 @@ use Rattle.std.specs.List.{All, find, slice_get}
 use Rattle.std.specs.Str.{bytes_eq}
 use Rattle.std.proofs.lemmas.Bool.{cases_lt, le-ltb, lt-leb}
 use Rattle.std.proofs.lemmas.List.Elements.{All-head, All-tail}
-use Rattle.muen_num.specs.declared.limits.TheConstants.{GUEST_END, PAGE}
+use Rattle.muen_num.specs.declared.limits.TheConstants.{GUEST_END, PAGE, PHYSICAL_END}
 use Rattle.machine_layout.specs.Walks.{index_at}
 use Rattle.image_pack.specs.Parts.{IsParts}
+use Rattle.image_pack.specs.SpanConditions.{end_of}
 use Rattle.image_pack.specs.declared.parts.DevicePart.{DevicePart}
 use Rattle.image_pack.specs.declared.parts.Image.{Image}
 use Rattle.image_pack.specs.declared.parts.SpanPart.{SpanPart}
@@ -115,6 +116,9 @@ AreAligned spans = All (λ s. s.address % PAGE ≡ 0) spans
 pub parts_aligned : (i : Image) → IsParts i → AreAligned i.spans
 parts_aligned i is = λ k d l. ((parts_keep i is).spans.each k d l).aligned
 
+pub parts_low : (i : Image) → IsParts i → All (λ s. end_of s ≤ PHYSICAL_END) i.spans
+parts_low i is = λ k d l. ((parts_keep i is).spans.each k d l).low
+
 begins_same : (s n : ℕ) (r : ℕ) → s % PAGE ≡ 0 → r < PAGE → nat_le s (PAGE * n + r) ≡ nat_le s (PAGE * n)
 begins_same s n r e low = same_le (PAGE * n + r) (PAGE * n) s (λ h. omega (arith, e, low, h)) (λ h. omega (arith, h))
 
@@ -164,3 +168,19 @@ goes_is tables i device addr all =
 
 pub goes_by_page : (tables : Option DmaFile) (i : Image) (device : ℕ) → AreAligned i.spans → IsByPage (goes tables i device)
 goes_by_page tables i device all = record { page = goes_page tables i device; is = λ addr. goes_is tables i device addr all }
+
+-- ---- above all addresses
+
+none_each : {A B : Type 0} (f : A → Option B) → ((x : A) → f x ≡ None) → (o : Option A) → option_and_then f o ≡ None
+none_each f h None = refl
+none_each f h (Some x) = h x
+
+walk_high : (t : DmaFile) (device : List ℕ) (addr : ℕ) (write : Bool) → GUEST_END ≤ addr → dma_walk t device addr write ≡ None
+unfolding dma_walk device_walk
+walk_high t device addr write high = none_each (λ d. device_walk t d addr write) (λ d. rw (le-ltb addr GUEST_END high) refl) (find (λ d. bytes_eq d.name device) t.devices)
+
+pub goes_high : (tables : Option DmaFile) (i : Image) (device addr : ℕ) → GUEST_END ≤ addr → goes tables i device addr ≡ None
+unfolding goes
+goes_high tables i device addr high =
+    none_each (λ (t : DmaFile). option_and_then (λ (d : DevicePart). landing t i.spans d.name addr) (slice_get i.devices device))
+    (λ t. none_each (λ (d : DevicePart). landing t i.spans d.name addr) (λ d. ap (option_and_then (in_spans i.spans)) (walk_high t d.name addr true high)) (slice_get i.devices device)) tables

@@ -1,14 +1,16 @@
 -- The writes of a line: where its pages lead decides where each of its bytes goes.
 use Rattle.std.proofs.Common.{◌≡◌, ◌∙◌, refl, sym, ap, arith, ℕ, ◌+◌, ◌-◌, ◌*◌, ◌/◌, ◌%◌, ◌<◌, ◌≤◌, ◌&&◌, Bool, true, false, le-leb, List, [], ◌∷◌, ◌++◌, length, map, take, drop, Option, Some, None, if◌then◌else◌}
-use Rattle.std.specs.Prelude.{is_some, unwrap_or}
+use Rattle.std.specs.Prelude.{is_some, nat_le, unwrap_or}
 use Rattle.std.specs.List.{enumerate_from, list_all}
-use Rattle.std.proofs.lemmas.Bool.{lt-leb}
+use Rattle.std.proofs.lemmas.Bool.{leb-true, lt-leb}
 use Rattle.std.proofs.Math.Bool.{and-true}
 use Rattle.std.proofs.lemmas.List.{length-take, length-drop, take-append-drop}
 use Rattle.std.proofs.lemmas.List.Folds.{list_all-append}
 use Rattle.muen_num.specs.declared.limits.TheConstants.{PAGE}
+use Rattle.binary_form.proofs.Forms.{both_true}
 use Rattle.record_text.specs.declared.record.Input.TheVariants.{Mem}
-use Rattle.dma_tables.specs.Lowered.{all_go, byte_going, left_in_page, line_writes, one_write, two_writes}
+use Rattle.record_text.specs.declared.record.TheConstants.{INPUT_MOST}
+use Rattle.dma_tables.specs.Lowered.{all_go, byte_going, is_line, left_in_page, line_writes, one_write, two_writes}
 use Rattle.dma_tables.proofs.ByPages.{IsByPage, along}
 
 -- ---- bytes with their addresses
@@ -59,19 +61,36 @@ bytes_as_one go b k a p at (x ∷ bytes) e there low high =
     let rest = bytes_as_one go b k (a + 1) p (at + 1) bytes e (omega (arith, there)) (omega (arith, low)) (omega (arith, high)) in
     ap (λ n. (n, x) ∷ enumerate_from (at + 1) bytes) here ∙ ap (λ es. (unwrap_or (go a) 0, x) ∷ es) rest
 
+-- ---- which lines there are
+
+pub line_length : (bytes : List ℕ) → is_line bytes ≡ true → (1 ≤ length bytes) × (length bytes ≤ 64)
+line_length bytes line =
+    let h = both_true (nat_le 1 (length bytes)) (nat_le (length bytes) INPUT_MOST) line in
+    (leb-true 1 (length bytes) h.0, leb-true (length bytes) INPUT_MOST h.1)
+
+pub no_line : (go : ℕ → Option ℕ) (addr : ℕ) (bytes : List ℕ) → is_line bytes ≡ false → unwrap_or (line_writes go addr bytes) [] ≡ []
+unfolding line_writes
+no_line go addr bytes line = rw line refl
+
+pub line_dropped : (go : ℕ → Option ℕ) (addr : ℕ) (bytes : List ℕ) → is_line bytes ≡ true → go addr ≡ None → unwrap_or (line_writes go addr bytes) [] ≡ []
+unfolding line_writes
+line_dropped go addr [] line none = refl
+line_dropped go addr (x ∷ bytes) line none = rw (line, none) refl
+
 -- ---- a line in one page
 
 one_shown : (go : Option ℕ) (bytes : List ℕ) → unwrap_or (if is_some go then Some (Mem (unwrap_or go 0) bytes ∷ []) else None) [] ≡ one_write go bytes
 one_shown None bytes = refl
 one_shown (Some at) bytes = refl
 
-pub line_in_one : (go : ℕ → Option ℕ) (b : IsByPage go) (addr : ℕ) (bytes : List ℕ) → 1 ≤ length bytes → length bytes ≤ left_in_page addr → unwrap_or (line_writes go addr bytes) [] ≡ one_write (go addr) bytes
+pub line_in_one : (go : ℕ → Option ℕ) (b : IsByPage go) (addr : ℕ) (bytes : List ℕ) → is_line bytes ≡ true → length bytes ≤ left_in_page addr → unwrap_or (line_writes go addr bytes) [] ≡ one_write (go addr) bytes
 unfolding line_writes
-line_in_one go b addr bytes some few =
+line_in_one go b addr bytes line few =
+    let some : 1 ≤ length bytes = (line_length bytes line).0 in
     let k : ℕ = addr / PAGE in
     let all : all_go go addr bytes ≡ is_some (b.page k) = all_as_one go b k addr bytes some (omega arith) (omega (arith, few)) in
     let one : is_some (go addr) ≡ is_some (b.page k) = goes_some go b k addr (omega arith) (omega arith) in
-    rw (all ∙ sym one, le-leb (length bytes) (left_in_page addr) few) (one_shown (go addr) bytes)
+    rw (line, all ∙ sym one, le-leb (length bytes) (left_in_page addr) few) (one_shown (go addr) bytes)
 
 -- ---- a line in two pages
 
@@ -110,10 +129,11 @@ has_two go addr bytes long few =
       back_in = omega (arith, back, few);
     }
 
-pub line_in_two : (go : ℕ → Option ℕ) (b : IsByPage go) (addr : ℕ) (bytes : List ℕ) → left_in_page addr < length bytes → length bytes ≤ 64
+pub line_in_two : (go : ℕ → Option ℕ) (b : IsByPage go) (addr : ℕ) (bytes : List ℕ) → left_in_page addr < length bytes → is_line bytes ≡ true
     → unwrap_or (line_writes go addr bytes) [] ≡ two_writes (go addr) (take (left_in_page addr) bytes) (go (addr + left_in_page addr)) (drop (left_in_page addr) bytes)
 unfolding line_writes
-line_in_two go b addr bytes long few =
+line_in_two go b addr bytes long line =
+    let few : length bytes ≤ 64 = (line_length bytes line).1 in
     let n : ℕ = left_in_page addr in
     let k : ℕ = addr / PAGE in
     let two = has_two go addr bytes long few in
@@ -121,4 +141,4 @@ line_in_two go b addr bytes long few =
     all_as_one go b k addr (take n bytes) two.front (omega arith) two.front_in ∙ sym (goes_some go b k addr (omega arith) (omega arith)) in
     let back : all_go go (addr + n) (drop n bytes) ≡ is_some (go (addr + n)) =
     all_as_one go b (k + 1) (addr + n) (drop n bytes) two.back (omega arith) two.back_in ∙ sym (goes_some go b (k + 1) (addr + n) (omega arith) (omega arith)) in
-    rw (all_split go addr n bytes (omega (arith, long)), front, back, lt-leb (length bytes) n long) (two_shown (go addr) (go (addr + n)) (take n bytes) (drop n bytes))
+    rw (line, all_split go addr n bytes (omega (arith, long)), front, back, lt-leb (length bytes) n long) (two_shown (go addr) (go (addr + n)) (take n bytes) (drop n bytes))

@@ -1,14 +1,15 @@
 -- Lowered records: no line is left, order and ticks stay, and what is written lies in the spans.
-use Rattle.std.proofs.Common.{◌≡◌, ◌∙◌, ◌⊎◌, inl, inr, le-leb, ◌-◌, refl, sym, subst, ap, arith, ℕ, zero, suc, ◌+◌, ◌*◌, ◌/◌, ◌%◌, ◌<◌, ◌≤◌, ◌&&◌, ◌||◌, Bool, true, false, true≢false, List, [], ◌∷◌, ◌++◌, get_or, length, map, take, drop, Option, Some, None, if◌then◌else◌, flat_map}
-use Rattle.std.specs.Prelude.{is_some, nat_le, option_and_then, unwrap_or}
+use Rattle.std.proofs.Common.{◌≡◌, ◌∙◌, ◌⊎◌, inl, inr, le-leb, ◌-◌, refl, sym, subst, ap, arith, ℕ, zero, suc, ◌+◌, ◌*◌, ◌/◌, ◌%◌, ◌<◌, ◌≤◌, ◌^◌, ◌&&◌, ◌||◌, Bool, true, false, true≢false, List, [], ◌∷◌, ◌++◌, get_or, length, map, take, drop, Option, Some, None, if◌then◌else◌, flat_map}
+use Rattle.std.specs.Prelude.{is_some, nat_le, nat_lt, option_and_then, unwrap_or}
 use Rattle.std.specs.List.{All, enumerate_from, list_any, slice_get}
 use Rattle.std.specs.List.Sorted.{IsNonDecreasing}
-use Rattle.std.proofs.lemmas.Bool.{cases_lt, leb-true, lt-leb}
+use Rattle.std.proofs.lemmas.Bool.{cases_lt, leb-true, lt-leb, ltb-true}
 use Rattle.std.proofs.lemmas.List.{append-nil, length-drop, length-take, map-append, take-append-drop}
 use Rattle.std.proofs.lemmas.List.Elements.{All-cons, All-head, All-nil, All-tail}
-use Rattle.muen_num.specs.declared.limits.TheConstants.{PAGE}
+use Rattle.muen_num.specs.declared.limits.TheConstants.{PAGE, PHYSICAL_END}
 use Rattle.binary_form.proofs.Forms.{both_true}
 use Rattle.image_pack.specs.Parts.{IsParts}
+use Rattle.image_pack.specs.SpanConditions.{end_of}
 use Rattle.image_pack.specs.declared.parts.DevicePart.{DevicePart}
 use Rattle.image_pack.specs.declared.parts.Image.{Image}
 use Rattle.image_pack.specs.declared.parts.SpanPart.{SpanPart}
@@ -21,11 +22,11 @@ use Rattle.record_text.specs.declared.record.Input.TheVariants.{Port, Mem, Irq, 
 use Rattle.record_text.specs.declared.record.Record.{Record}
 use Rattle.record_text.specs.declared.record.TheConstants.{INPUT_MOST}
 use Rattle.record_text.specs.declared.record.TickInput.{TickInput}
-use Rattle.dma_tables.specs.Lowered.{all_go, by_pages, byte_going, bytes_written, goes, in_tick, is_in_spans, left_in_page, line_writes, lowered, lowered_at, lowered_input, one_write, two_writes, write_of}
-use Rattle.dma_tables.specs.LoweredRecord.{AreInSpans, HasLines, HasNoDma, HaveMemoriesIn, IsInputIn, IsLine, IsRecordIn, is_dma}
+use Rattle.dma_tables.specs.Lowered.{all_go, by_pages, byte_going, bytes_written, goes, in_tick, is_in_spans, is_line, left_in_page, line_writes, lowered, lowered_at, lowered_input, one_write, two_writes, write_of}
+use Rattle.dma_tables.specs.LoweredRecord.{AreInSpans, HasLowWrites, HasNoDma, HaveMemoriesIn, IsInputIn, IsLowWrite, IsRecordIn, is_dma}
 use Rattle.dma_tables.specs.declared.file.DmaFile.{DmaFile}
-use Rattle.dma_tables.proofs.ByPages.{AreAligned, IsByPage, along, goes_by_page, goes_is, goes_page, landing_page, named_page, parts_aligned, spans_page, spans_same}
-use Rattle.dma_tables.proofs.Lines.{all_as_one, all_split, bytes_as_one, has_two, line_in_one, line_in_two, numbered_append}
+use Rattle.dma_tables.proofs.ByPages.{AreAligned, IsByPage, along, goes_by_page, goes_is, goes_page, landing_page, named_page, parts_aligned, parts_low, spans_page, spans_same}
+use Rattle.dma_tables.proofs.Lines.{all_as_one, all_split, bytes_as_one, has_two, line_in_one, line_in_two, line_length, no_line, numbered_append}
 
 -- ---- what holds of each
 
@@ -68,18 +69,6 @@ pub none_left : (t : Option DmaFile) (i : Image) (r : Record) → HasNoDma (lowe
 unfolding lowered
 none_left t i r = each_of_all (λ e. Unit {0}) (λ e. is_dma e.input ≡ false) (lowered_at t i) (λ e h. none_at t i e) r.inputs (λ k d l. tt)
 
--- ---- lines of a record that is read
-
-line_of : (devices : Devices) (x : Input) → IsInputOf devices x → IsLine x
-line_of devices (Port port value) h = tt
-line_of devices (Mem at bytes) h = tt
-line_of devices (Irq subject vector) h = tt
-line_of devices Idle h = tt
-line_of devices (Dma device addr bytes) h = (h.1, h.2, h.3)
-
-pub lines_of : (devices : Devices) (r : Record) → IsRecordOf devices r → HasLines r
-lines_of devices r is = λ k d l. line_of devices (get_or r.inputs k d).input (is.inputs_fit k d l)
-
 -- ---- order and ticks
 
 abbrev AreFrom : ℕ → List ℕ → Type 0
@@ -120,7 +109,7 @@ from_lowered t i low es from =
     each_mapped (λ e. low ≤ e.tick) (λ u. low ≤ u) (λ e. e.tick) (λ e h. h) (flat_map (lowered_at t i) es)
     (each_of_all (λ e. low ≤ e.tick) (λ e. low ≤ e.tick) (lowered_at t i) (λ e h. each_mapped (λ x. Unit {0}) (λ f. low ≤ f.tick) (in_tick e.tick) (λ x u. h) (lowered_input t i e.input) (λ k d l. tt)) es (of_ticks low es from))
 
-rises_lowered : (t : Option DmaFile) (i : Image) (es : List TickInput) → IsNonDecreasing (ticks es) → IsNonDecreasing (ticks (flat_map (lowered_at t i) es))
+pub rises_lowered : (t : Option DmaFile) (i : Image) (es : List TickInput) → IsNonDecreasing (ticks es) → IsNonDecreasing (ticks (flat_map (lowered_at t i) es))
 rises_lowered t i [] rises = rises
 rises_lowered t i (e ∷ es) rises =
     (rises_before e.tick (lowered_input t i e.input) (flat_map (lowered_at t i) es) (from_lowered t i e.tick es (rises_from e.tick (ticks es) rises)) (rises_lowered t i es (rises_behind e.tick (ticks es) rises))).1
@@ -222,15 +211,23 @@ two_in t i devices device addr bytes all long few =
     (lies_in_page t i device addr (length (take n bytes)) all (omega (arith, front)))
     (lies_in_page t i device (addr + n) (length (drop n bytes)) all (omega (arith, back, few)))
 
+shown : (b : Bool) → (b ≡ true) ⊎ (b ≡ false)
+shown true = inl refl
+shown false = inr refl
+
 -- what a line writes lies in the spans
-line_in : (t : Option DmaFile) (i : Image) (devices : Devices) (device addr : ℕ) (bytes : List ℕ) → AreAligned i.spans → 1 ≤ length bytes → length bytes ≤ INPUT_MOST
-    → All (IsInputIn devices i.spans) (unwrap_or (line_writes (goes t i device) addr bytes) [])
-line_in t i devices device addr bytes all some few =
+line_in : (t : Option DmaFile) (i : Image) (devices : Devices) (device addr : ℕ) (bytes : List ℕ) → AreAligned i.spans → All (IsInputIn devices i.spans) (unwrap_or (line_writes (goes t i device) addr bytes) [])
+line_in t i devices device addr bytes all =
     let go = goes t i device in
     let b = goes_by_page t i device all in
-    elim (cases_lt (left_in_page addr) (length bytes)) [
-      | inl long ↦ subst (All (IsInputIn devices i.spans)) (sym (line_in_two go b addr bytes long few)) (two_in t i devices device addr bytes all long few)
-      | inr short ↦ subst (All (IsInputIn devices i.spans)) (sym (line_in_one go b addr bytes some short)) (one_in devices i.spans (go addr) bytes some few (lies_in_page t i device addr (length bytes) all short))
+    elim (shown (is_line bytes)) [
+      | inr none ↦ subst (All (IsInputIn devices i.spans)) (sym (no_line go addr bytes none)) (All-nil (IsInputIn devices i.spans))
+      | inl line ↦
+          let size = line_length bytes line in
+          elim (cases_lt (left_in_page addr) (length bytes)) [
+            | inl long ↦ subst (All (IsInputIn devices i.spans)) (sym (line_in_two go b addr bytes long line)) (two_in t i devices device addr bytes all long size.1)
+            | inr short ↦ subst (All (IsInputIn devices i.spans)) (sym (line_in_one go b addr bytes line short)) (one_in devices i.spans (go addr) bytes size.0 size.1 (lies_in_page t i device addr (length bytes) all short))
+          ]
     ]
 
 input_in : (t : Option DmaFile) (i : Image) (devices : Devices) (x : Input) → AreAligned i.spans → HaveMemoriesIn i.spans devices → IsInputOf devices x → All (IsInputIn devices i.spans) (lowered_input t i x)
@@ -239,7 +236,7 @@ input_in t i devices (Mem at bytes) all lie h =
     All-cons (IsInputIn devices i.spans) _ [] (devices_have i.spans at (length bytes) devices.devices lie h.0, h.1, h.2) (All-nil (IsInputIn devices i.spans))
 input_in t i devices (Irq subject vector) all lie h = All-cons (IsInputIn devices i.spans) _ [] h (All-nil (IsInputIn devices i.spans))
 input_in t i devices Idle all lie h = All-cons (IsInputIn devices i.spans) _ [] tt (All-nil (IsInputIn devices i.spans))
-input_in t i devices (Dma device addr bytes) all lie h = line_in t i devices device addr bytes all h.2 h.3
+input_in t i devices (Dma device addr bytes) all lie h = line_in t i devices device addr bytes all
 
 pub still_record : (t : Option DmaFile) (i : Image) (devices : Devices) (r : Record) → IsParts i → HaveMemoriesIn i.spans devices → IsRecordOf devices r → IsRecordIn devices i.spans (lowered t i r)
 unfolding lowered
@@ -254,6 +251,56 @@ still_record t i devices r parts lie is =
       orders_by_end = is.orders_by_end;
       orders_name_each = is.orders_name_each;
     }
+
+pub ordered : (t : Option DmaFile) (i : Image) (r : Record) → IsNonDecreasing (ticks r.inputs) → IsNonDecreasing (ticks (lowered t i r).inputs)
+unfolding lowered
+ordered t i r rises = rises_lowered t i r.inputs rises
+
+-- ---- writes end below 2 ^ 64
+
+span_low : (s : SpanPart) (place : ℕ) → end_of s ≤ PHYSICAL_END → (nat_le s.address place && nat_lt place (s.address + PAGE * s.pages)) ≡ true → place < PHYSICAL_END
+span_low s place low h =
+    let last : place < s.address + PAGE * s.pages = ltb-true place (s.address + PAGE * s.pages) (both_true (nat_le s.address place) (nat_lt place (s.address + PAGE * s.pages)) h).1 in
+    omega (arith, low, last)
+
+spans_low : (spans : List SpanPart) (place : ℕ) → All (λ s. end_of s ≤ PHYSICAL_END) spans → is_in_spans spans place ≡ true → place < PHYSICAL_END
+spans_low [] place low h = absurd (true≢false (sym h))
+spans_low (s ∷ spans) place low h =
+    elim (either (nat_le s.address place && nat_lt place (s.address + PAGE * s.pages)) (is_in_spans spans place) h) [
+      | inl here ↦ span_low s place (All-head (λ s. end_of s ≤ PHYSICAL_END) s spans low) here
+      | inr rest ↦ spans_low spans place (All-tail (λ s. end_of s ≤ PHYSICAL_END) s spans low) rest
+    ]
+
+-- bytes that lie in the spans, a few
+few_low : (spans : List SpanPart) (at count : ℕ) → All (λ s. end_of s ≤ PHYSICAL_END) spans → AreInSpans spans at count → 1 ≤ count → count ≤ 64 → at + count < 2 ^ 64
+few_low spans at count low lies some few =
+    let first : at < 1099511627776 = spans_low spans at low (lies at (omega arith) (omega (arith, some))) in
+    omega (arith, first, few)
+
+low_input : (devices : Devices) (spans : List SpanPart) (x : Input) → All (λ s. end_of s ≤ PHYSICAL_END) spans → IsInputIn devices spans x → IsLowWrite x
+low_input devices spans (Port port value) low h = tt
+low_input devices spans (Mem at bytes) low h = few_low spans at (length bytes) low h.0 h.1 h.2
+low_input devices spans (Irq subject vector) low h = tt
+low_input devices spans Idle low h = tt
+low_input devices spans (Dma device addr bytes) low h = tt
+
+-- no devices
+abbrev none_of : Devices
+none_of = record { cpus = 0; devices = []; few = omega arith }
+
+lowered_low : (t : Option DmaFile) (i : Image) (x : Input) → IsParts i → IsLowWrite x → All IsLowWrite (lowered_input t i x)
+lowered_low t i (Port port value) parts h = All-cons IsLowWrite _ [] h (All-nil IsLowWrite)
+lowered_low t i (Mem at bytes) parts h = All-cons IsLowWrite _ [] h (All-nil IsLowWrite)
+lowered_low t i (Irq subject vector) parts h = All-cons IsLowWrite _ [] h (All-nil IsLowWrite)
+lowered_low t i Idle parts h = All-cons IsLowWrite _ [] h (All-nil IsLowWrite)
+lowered_low t i (Dma device addr bytes) parts h =
+    let writes = line_in t i none_of device addr bytes (parts_aligned i parts) in
+    λ k d l. low_input none_of i.spans _ (parts_low i parts) (writes k d l)
+
+pub low : (t : Option DmaFile) (i : Image) (r : Record) → IsParts i → HasLowWrites r → HasLowWrites (lowered t i r)
+unfolding lowered
+low t i r parts all =
+    each_of_all (λ e. IsLowWrite e.input) (λ e. IsLowWrite e.input) (lowered_at t i) (λ e h. each_mapped IsLowWrite (λ f. IsLowWrite f.input) (in_tick e.tick) (λ x u. u) (lowered_input t i e.input) (lowered_low t i e.input parts h)) r.inputs all
 
 -- ---- byte by byte
 
@@ -301,10 +348,11 @@ line_written go b addr (x ∷ rest) few all =
           rw (le-leb (length bytes) n short) (append-nil (enumerate_from (unwrap_or (go addr) 0) bytes) ∙ part_written go b (addr / PAGE) addr bytes all (omega arith) (omega arith) (omega (arith, short)))
     ]
 
-pub each_byte : (t : Option DmaFile) (i : Image) (device addr : ℕ) (bytes : List ℕ) (writes : List Input) → IsParts i → length bytes ≤ INPUT_MOST → line_writes (goes t i device) addr bytes ≡ Some writes
+pub each_byte : (t : Option DmaFile) (i : Image) (device addr : ℕ) (bytes : List ℕ) (writes : List Input) → IsParts i → line_writes (goes t i device) addr bytes ≡ Some writes
     → flat_map bytes_written writes ≡ map (byte_going (goes t i device)) (enumerate_from addr bytes)
 unfolding line_writes
-each_byte t i device addr bytes writes parts few e =
+each_byte t i device addr bytes writes parts e =
     let go = goes t i device in
-    let h = some_same go writes (all_go go addr bytes) (map (write_of go) (by_pages addr bytes)) e in
-    ap (flat_map bytes_written) (sym h.1) ∙ line_written go (goes_by_page t i device (parts_aligned i parts)) addr bytes few h.0
+    let h = some_same go writes (is_line bytes && all_go go addr bytes) (map (write_of go) (by_pages addr bytes)) e in
+    let two = both_true (is_line bytes) (all_go go addr bytes) h.0 in
+    ap (flat_map bytes_written) (sym h.1) ∙ line_written go (goes_by_page t i device (parts_aligned i parts)) addr bytes (line_length bytes two.0).1 two.1

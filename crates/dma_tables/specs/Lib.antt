@@ -1,4 +1,5 @@
 pub mod DmaConditions
+pub mod DmaFaultText
 pub mod DmaFile
 pub mod DmaWalk
 pub mod Lowered

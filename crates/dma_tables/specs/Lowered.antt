@@ -8,6 +8,7 @@ use Rattle.image_pack.specs.declared.parts.SpanPart.{SpanPart}
 use Rattle.record_text.specs.declared.record.Input.{Input}
 use Rattle.record_text.specs.declared.record.Input.TheVariants.{Port, Mem, Irq, Idle, Dma}
 use Rattle.record_text.specs.declared.record.Record.{Record}
+use Rattle.record_text.specs.declared.record.TheConstants.{INPUT_MOST}
 use Rattle.record_text.specs.declared.record.TickInput.{TickInput}
 use Rattle.dma_tables.specs.DmaWalk.{dma_walk}
 use Rattle.dma_tables.specs.declared.file.DmaFile.{DmaFile}
@@ -51,9 +52,13 @@ by_pages addr bytes =
 abbrev pub write_of : (ℕ → Option ℕ) → ℕ × List ℕ → Input
 write_of go part = Mem (unwrap_or (go part.0) 0) part.1
 
+-- a line of a record has 1 to 64 bytes
+abbrev pub is_line : List ℕ → Bool
+is_line bytes = nat_le 1 (length bytes) && nat_le (length bytes) INPUT_MOST
+
 -- none, or the writes of a line, one for each page
 unfoldable pub line_writes : (ℕ → Option ℕ) → ℕ → List ℕ → Option (List Input)
-line_writes go addr bytes = if all_go go addr bytes then Some (map (write_of go) (by_pages addr bytes)) else None
+line_writes go addr bytes = if is_line bytes && all_go go addr bytes then Some (map (write_of go) (by_pages addr bytes)) else None
 
 -- the write of bytes in one page, if they go somewhere, and the writes in two, if both parts do
 abbrev pub one_write : Option ℕ → List ℕ → List Input

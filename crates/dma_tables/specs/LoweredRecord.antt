@@ -1,8 +1,8 @@
 -- Records without lines of direct memory access.
-use Rattle.std.specs.Prelude.{◌≡◌, ℕ, ◌+◌, ◌<◌, ◌≤◌, Bool, true, false, IsTrue, List, length, map}
+use Rattle.std.specs.Prelude.{◌≡◌, ℕ, ◌+◌, ◌<◌, ◌≤◌, ◌^◌, Bool, true, false, IsTrue, List, length, map}
 use Rattle.std.specs.List.{All}
 use Rattle.std.specs.List.Sorted.{IsNonDecreasing, IsStrictlyIncreasing}
-use Rattle.muen_num.specs.declared.limits.TheConstants.{GUEST_END, MOST_TICKS}
+use Rattle.muen_num.specs.declared.limits.TheConstants.{MOST_TICKS}
 use Rattle.image_pack.specs.declared.parts.SpanPart.{SpanPart}
 use Rattle.record_text.specs.Law.{NamesEachOnce, has_port_of_devices, has_target_of_devices}
 use Rattle.record_text.specs.declared.devices.Devices.{Devices}
@@ -20,17 +20,6 @@ is_dma (Mem at bytes) = false
 is_dma (Irq subject vector) = false
 is_dma Idle = false
 is_dma (Dma device addr bytes) = true
-
--- a line has 1 to 64 bytes, from an address below 2 ^ 48 on
-abbrev pub IsLine : Input → Type 0
-IsLine (Port port value) = Unit {0}
-IsLine (Mem at bytes) = Unit {0}
-IsLine (Irq subject vector) = Unit {0}
-IsLine Idle = Unit {0}
-IsLine (Dma device addr bytes) = (addr < GUEST_END) × (1 ≤ length bytes) × (length bytes ≤ INPUT_MOST)
-
-abbrev pub HasLines : Record → Type 0
-HasLines r = All (λ e. IsLine e.input) r.inputs
 
 abbrev pub HasNoDma : Record → Type 0
 HasNoDma r = All (λ e. is_dma e.input ≡ false) r.inputs
@@ -57,6 +46,17 @@ pub record IsRecordIn (devices : Devices) (spans : List SpanPart) (r : Record) :
   pub orders_rise : IsStrictlyIncreasing (map (λ o. o.tick) r.orders)
   pub orders_by_end : All (λ o. o.tick ≤ r.end) r.orders
   pub orders_name_each : All (λ o. NamesEachOnce devices.cpus o.cpus) r.orders
+
+-- what is written ends below 2 ^ 64
+abbrev pub IsLowWrite : Input → Type 0
+IsLowWrite (Port port value) = Unit {0}
+IsLowWrite (Mem at bytes) = at + length bytes < 2 ^ 64
+IsLowWrite (Irq subject vector) = Unit {0}
+IsLowWrite Idle = Unit {0}
+IsLowWrite (Dma device addr bytes) = Unit {0}
+
+abbrev pub HasLowWrites : Record → Type 0
+HasLowWrites r = All (λ e. IsLowWrite e.input) r.inputs
 
 -- the memories of the devices lie in the spans
 abbrev pub HaveMemoriesIn : List SpanPart → Devices → Type 0

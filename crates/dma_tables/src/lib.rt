@@ -6,6 +6,7 @@
 //! over whole lists (specs/Lowered.antt).
 #![tactic(auto)]
 
+mod fault;
 mod file;
 mod lowering;
 mod reading;
@@ -14,6 +15,7 @@ mod walk;
 mod writing;
 
 pub use binary_form::{Field, ImageFault};
+pub use fault::dma_fault_pieces;
 pub use file::{DmaDevice, DmaFile, MOST_DMA_PAGES};
 pub use lowering::{lower, lowered_records};
 pub use tables::{DmaTables, conditions, first_fault, one_to_one, pack, tables_are_bytes, unpack};

@@ -1,23 +1,22 @@
 //! A record with writes of memory in place of its lines of direct memory access.
 ghost use Rattle.std.specs.Prelude.{◌≡◌, ◌<◌, ◌≤◌, ◌++◌, [], ℕ, IfOk, List, OnOk, Option, Some, length, map, option_map, unwrap_or};
+ghost use Rattle.std.specs.List.Sorted.{IsNonDecreasing};
 ghost use Rattle.std.specs.List.{All, enumerate_from, flat_map};
-ghost use Rattle.muen_num.specs.declared.limits.TheConstants.{GUEST_END};
 ghost use Rattle.image_pack.specs.Parts.{IsParts};
 ghost use Rattle.image_pack.specs.declared.parts.Image.{Image};
 ghost use Rattle.record_text.specs.Law.{IsRecordOf};
 ghost use Rattle.record_text.specs.declared.devices.Devices.{Devices};
 ghost use Rattle.record_text.specs.declared.record.Input.{Input};
 ghost use Rattle.record_text.specs.declared.record.Record.{Record};
-ghost use Rattle.record_text.specs.declared.record.TheConstants.{INPUT_MOST};
-ghost use Rattle.dma_tables.specs.Lowered.{byte_going, bytes_written, goes, in_tick, is_in_spans, line_writes, lowered, lowered_at, one_write, two_writes};
-ghost use Rattle.dma_tables.specs.LoweredRecord.{HasLines, HasNoDma, HaveMemoriesIn, IsLine, IsRecordIn};
+ghost use Rattle.dma_tables.specs.Lowered.{byte_going, bytes_written, goes, in_tick, is_in_spans, is_line, line_writes, lowered, lowered_at, one_write, two_writes};
+ghost use Rattle.dma_tables.specs.LoweredRecord.{HasLowWrites, HasNoDma, HaveMemoriesIn, IsRecordIn};
 ghost use Rattle.dma_tables.specs.declared.file.DmaFile.{DmaFile};
 
 use crate::tables::DmaTables;
 use image_pack::{Image, Parts, SpanPart};
-use muen_num::limits::PAGE;
+use muen_num::limits::{GUEST_END, PAGE};
 use muen_num::{NoMemory, Seq};
-use record_text::{Input, Record, TickInput};
+use record_text::{INPUT_MOST, Input, Record, TickInput};
 use std::alloc::Global;
 
 // Whether one of the spans has the byte of this address.
@@ -84,6 +83,13 @@ fn two_writes(
     Ok(writes)
 }
 
+// Whether a line of a record may have these bytes.
+fn is_line(bytes: &[u8]) -> bool
+    ensures { result ≡ is_line bytes.now }
+{
+    !bytes.is_empty() && bytes.len() <= INPUT_MOST
+}
+
 // The writes of a line, none where it is dropped.
 fn line_writes(
     alloc: Global,
@@ -93,12 +99,15 @@ fn line_writes(
     addr: u64,
     bytes: &[u8],
 ) -> Result<Vec<Input>, NoMemory>
-    requires parts { IsParts image.now }
-    requires addr { addr < GUEST_END }
-    requires some { 1 ≤ length bytes.now }
-    requires few { length bytes.now ≤ INPUT_MOST }
+    requires { IsParts image.now }
     ensures { IfOk result (λ v. v.items ≡ unwrap_or (line_writes (goes (option_map (λ t. t.now) tables.entry) image.now device) addr bytes.now) []) }
 {
+    if !is_line(bytes) {
+        return Ok(Vec::new(alloc));
+    }
+    if addr >= GUEST_END {
+        return Ok(Vec::new(alloc));
+    }
     let left = (PAGE - addr % PAGE) as usize;
     let at = goes(tables, image, device, addr);
     if bytes.len() <= left {
@@ -127,8 +136,7 @@ fn add_lowered(
     inputs: &mut Vec<TickInput>,
     entry: TickInput,
 ) -> Result<(), NoMemory>
-    requires parts { IsParts image.now }
-    requires line { IsLine entry.input }
+    requires { IsParts image.now }
     ensures { OnOk result (inputs.new.items ≡ inputs.old.items ++ lowered_at (option_map (λ t. t.now) tables.entry) image.now entry) }
 {
     let TickInput { tick, input } = entry;
@@ -153,8 +161,7 @@ fn lowered_inputs(
     image: &Image,
     entries: Vec<TickInput>,
 ) -> Result<Vec<TickInput>, NoMemory>
-    requires parts { IsParts image.now }
-    requires lines { All (λ e. IsLine e.input) entries.items }
+    requires { IsParts image.now }
     ensures { IfOk result (λ v. v.items ≡ flat_map (lowered_at (option_map (λ t. t.now) tables.entry) image.now) entries.items) }
 {
     let mut inputs = Vec::new(alloc);
@@ -172,8 +179,7 @@ fn lowered_record(
     image: &Image,
     tables: Option<&DmaTables>,
 ) -> Result<Record, NoMemory>
-    requires parts { IsParts image.now }
-    requires lines { HasLines given }
+    requires { IsParts image.now }
     ensures { IfOk result (λ r. r ≡ lowered (option_map (λ t. t.now) tables.entry) image.now given) }
 {
     let Record {
@@ -190,9 +196,9 @@ fn lowered_record(
 }
 
 /// The record with writes of memory in place of its lines of direct memory access. A line becomes a
-/// write for each page that it touches, in their order, where the tables let its device write each
-/// byte of it into the spans of the image; otherwise, and without tables, it is dropped. All else
-/// stays. A device is found in the tables by its name.
+/// write for each page that it touches, in their order, where it has 1 to 64 bytes and the tables let
+/// its device write each of them into the spans of the image; otherwise, and without tables, it is
+/// dropped. All else stays. A device is found in the tables by its name.
 ///
 /// # Errors
 /// Memory is refused.
@@ -202,7 +208,6 @@ pub fn lower(
     parts: &Parts,
     tables: Option<&DmaTables>,
 ) -> Result<Record, NoMemory>
-    requires { HasLines given }
     // Which record it is.
     ensures exact { IfOk result (λ r. r ≡ lowered (option_map (λ t. t.now) tables.entry) parts.now given) }
     // No line is left.
@@ -217,10 +222,11 @@ pub fn lower(
 pub fn lowered_records()
     // No line is left.
     ensures none_left { (t : Option DmaFile) (i : Image) (r : Record) → HasNoDma (lowered t i r) }
-    // A record that is read has lines as they are asked for.
-    ensures lines { (devices : Devices) (r : Record) → IsRecordOf devices r → HasLines r }
     // It is a record of the same devices, whose writes lie in the spans.
     ensures records { (t : Option DmaFile) (i : Image) (devices : Devices) (r : Record) → IsParts i → HaveMemoriesIn i.spans devices → IsRecordOf devices r → IsRecordIn devices i.spans (lowered t i r) }
+    // The ticks stay in order, and no write goes past what addresses have room for.
+    ensures ordered { (t : Option DmaFile) (i : Image) (r : Record) → IsNonDecreasing (map (λ e. e.tick) r.inputs) → IsNonDecreasing (map (λ e. e.tick) (lowered t i r).inputs) }
+    ensures low { (t : Option DmaFile) (i : Image) (r : Record) → IsParts i → HasLowWrites r → HasLowWrites (lowered t i r) }
     // Each byte of a line is written where the tables lead, and no other byte is.
-    ensures each_byte { (t : Option DmaFile) (i : Image) (device addr : ℕ) (bytes : List ℕ) (writes : List Input) → IsParts i → length bytes ≤ INPUT_MOST → line_writes (goes t i device) addr bytes ≡ Some writes → flat_map bytes_written writes ≡ map (byte_going (goes t i device)) (enumerate_from addr bytes) }
+    ensures each_byte { (t : Option DmaFile) (i : Image) (device addr : ℕ) (bytes : List ℕ) (writes : List Input) → IsParts i → line_writes (goes t i device) addr bytes ≡ Some writes → flat_map bytes_written writes ≡ map (byte_going (goes t i device)) (enumerate_from addr bytes) }
 {}
