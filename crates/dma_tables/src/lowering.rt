@@ -1,5 +1,5 @@
 //! A record with writes of memory in place of its lines of direct memory access.
-ghost use Rattle.std.specs.Prelude.{◌≡◌, ◌<◌, ◌≤◌, ◌++◌, [], ℕ, IfOk, List, OnOk, Option, Some, length, map, option_map, unwrap_or};
+ghost use Rattle.std.specs.Prelude.{◌≡◌, ◌<◌, ◌++◌, [], ℕ, IfOk, List, OnOk, Option, Some, map, option_map, unwrap_or};
 ghost use Rattle.std.specs.List.Sorted.{IsNonDecreasing};
 ghost use Rattle.std.specs.List.{All, enumerate_from, flat_map};
 ghost use Rattle.image_pack.specs.Parts.{IsParts};

@@ -1,6 +1,6 @@
 //! Tables that are known to keep the conditions of a file, read from their bytes and written as them.
 ghost use Rattle.std.specs.Prelude.{◌≡◌, ◌≤◌, ◌<◌, Err, ◌++◌, ℕ, List, length, Ok, IfOk};
-ghost use Rattle.binary_form.specs.Form.{Form, IsBytes};
+ghost use Rattle.binary_form.specs.Form.{IsBytes};
 ghost use Rattle.binary_form.specs.Faults.{IsShort, Tells, unpacked};
 ghost use Rattle.binary_form.specs.declared.fault.Field.{Field};
 ghost use Rattle.dma_tables.specs.DmaConditions.{KeepsConditions};

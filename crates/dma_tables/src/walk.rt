@@ -3,11 +3,9 @@
 //!
 //! The level of a second-level table is 3 for the one that a context entry refers to, and 0 for the one
 //! whose entries refer to pages of memory.
-ghost use Rattle.std.specs.Prelude.{◌≡◌, ◌*◌, ◌<◌, ◌≤◌, ◌^◌, IfSome, option_map};
+ghost use Rattle.std.specs.Prelude.{◌≡◌, ◌*◌, ◌<◌, ◌^◌, IfSome, option_map};
 ghost use Rattle.std.specs.List.{find};
 ghost use Rattle.std.specs.Str.{bytes_eq};
-ghost use Rattle.machine_layout.specs.Walks.{index_at};
-ghost use Rattle.dma_tables.specs.DmaFile.{pages_in};
 ghost use Rattle.dma_tables.specs.DmaWalk.{context_table, device_page, device_walk, dma_walk, has_right, highest_table, is_context, is_paging, is_root, next_page, page_in, paged, root_page, word_of};
 
 use crate::file::{DmaDevice, DmaFile};
