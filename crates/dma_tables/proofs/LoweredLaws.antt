@@ -22,7 +22,7 @@ use Rattle.record_text.specs.declared.record.Input.TheVariants.{Port, Mem, Irq, 
 use Rattle.record_text.specs.declared.record.Record.{Record}
 use Rattle.record_text.specs.declared.record.TheConstants.{INPUT_MOST}
 use Rattle.record_text.specs.declared.record.TickInput.{TickInput}
-use Rattle.dma_tables.specs.Lowered.{all_go, by_pages, byte_going, bytes_written, goes, in_tick, is_in_spans, is_line, left_in_page, line_writes, lowered, lowered_at, lowered_input, one_write, two_writes, write_of}
+use Rattle.dma_tables.specs.Lowered.{IsInPage, pages_touched, all_go, by_pages, byte_going, bytes_written, goes, in_tick, is_in_spans, is_line, left_in_page, line_writes, lowered, lowered_at, lowered_input, one_write, two_writes, write_of}
 use Rattle.dma_tables.specs.LoweredRecord.{AreInSpans, HasLowWrites, HasNoDma, HaveMemoriesIn, IsInputIn, IsLowWrite, IsRecordIn, is_dma}
 use Rattle.dma_tables.specs.declared.file.DmaFile.{DmaFile}
 use Rattle.dma_tables.proofs.ByPages.{AreAligned, IsByPage, along, goes_by_page, goes_is, goes_page, landing_page, named_page, parts_aligned, parts_low, spans_page, spans_same}
@@ -356,3 +356,46 @@ each_byte t i device addr bytes writes parts e =
     let h = some_same go writes (is_line bytes && all_go go addr bytes) (map (write_of go) (by_pages addr bytes)) e in
     let two = both_true (is_line bytes) (all_go go addr bytes) h.0 in
     ap (flat_map bytes_written) (sym h.1) ∙ line_written go (goes_by_page t i device (parts_aligned i parts)) addr bytes (line_length bytes two.0).1 two.1
+
+-- ---- page by page
+
+page_start : (a : ℕ) (o : Option ℕ) → unwrap_or (along a o) 0 % PAGE ≤ a % PAGE
+page_start a None = omega arith
+page_start a (Some n) = omega arith
+
+in_its_page : (go : ℕ → Option ℕ) (b : IsByPage go) (a : ℕ) (bytes : List ℕ) → a % PAGE + length bytes ≤ PAGE → IsInPage (write_of go (a, bytes))
+in_its_page go b a bytes few =
+    let h : unwrap_or (go a) 0 % PAGE ≤ a % PAGE = subst (λ o. unwrap_or o 0 % PAGE ≤ a % PAGE) (sym (b.is a)) (page_start a (b.page (a / PAGE))) in
+    omega (arith, h, few)
+
+line_paged : (go : ℕ → Option ℕ) (b : IsByPage go) (addr : ℕ) (bytes : List ℕ) → is_line bytes ≡ true
+    → (length (map (write_of go) (by_pages addr bytes)) ≡ pages_touched addr bytes) × All IsInPage (map (write_of go) (by_pages addr bytes))
+line_paged go b addr bytes line =
+    let n : ℕ = left_in_page addr in
+    let size = line_length bytes line in
+    let some : 1 ≤ length bytes = size.0 in
+    let few : length bytes ≤ 64 = size.1 in
+    elim (cases_lt n (length bytes)) [
+      | inl long ↦
+          let front : length (take n bytes) ≡ n = omega (arith, long, length-take n bytes) in
+          let back : length (drop n bytes) ≡ length bytes - n = omega (arith, length-drop n bytes) in
+          rw (lt-leb (length bytes) n long) (
+            omega (arith, long, few),
+            All-cons IsInPage (write_of go (addr, take n bytes)) (write_of go (addr + n, drop n bytes) ∷ []) (in_its_page go b addr (take n bytes) (omega (arith, front)))
+                (All-cons IsInPage (write_of go (addr + n, drop n bytes)) [] (in_its_page go b (addr + n) (drop n bytes) (omega (arith, back, few))) (All-nil IsInPage)),
+          )
+      | inr short ↦
+          rw (le-leb (length bytes) n short) (
+            omega (arith, short, some),
+            All-cons IsInPage (write_of go (addr, bytes)) [] (in_its_page go b addr bytes (omega (arith, short))) (All-nil IsInPage),
+          )
+    ]
+
+pub each_page : (t : Option DmaFile) (i : Image) (device addr : ℕ) (bytes : List ℕ) (writes : List Input) → IsParts i → line_writes (goes t i device) addr bytes ≡ Some writes
+    → (length writes ≡ pages_touched addr bytes) × All IsInPage writes
+unfolding line_writes
+each_page t i device addr bytes writes parts e =
+    let go = goes t i device in
+    let h = some_same go writes (is_line bytes && all_go go addr bytes) (map (write_of go) (by_pages addr bytes)) e in
+    let two = both_true (is_line bytes) (all_go go addr bytes) h.0 in
+    subst (λ (ws : List Input). (length ws ≡ pages_touched addr bytes) × All IsInPage ws) h.1 (line_paged go (goes_by_page t i device (parts_aligned i parts)) addr bytes two.0)

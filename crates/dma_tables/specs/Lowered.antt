@@ -1,5 +1,5 @@
 -- What the lines of direct memory access of a record write, by tables and by the spans of an image (this project's own).
-use Rattle.std.specs.Prelude.{ℕ, ◌+◌, ◌-◌, ◌*◌, ◌%◌, ◌&&◌, Bool, true, nat_le, nat_lt, if◌then◌else◌, List, [], ◌∷◌, drop, length, map, take, Option, Some, None, is_some, option_and_then, unwrap_or}
+use Rattle.std.specs.Prelude.{ℕ, ◌+◌, ◌-◌, ◌*◌, ◌/◌, ◌%◌, ◌≤◌, ◌&&◌, Bool, true, nat_le, nat_lt, if◌then◌else◌, List, [], ◌∷◌, drop, length, map, take, Option, Some, None, is_some, option_and_then, unwrap_or}
 use Rattle.std.specs.List.{enumerate_from, flat_map, list_all, list_any, slice_get}
 use Rattle.muen_num.specs.declared.limits.TheConstants.{PAGE}
 use Rattle.image_pack.specs.declared.parts.DevicePart.{DevicePart}
@@ -78,6 +78,14 @@ bytes_written input = []
 -- a byte of a line, with where its address goes
 abbrev pub byte_going : (ℕ → Option ℕ) → ℕ × ℕ → ℕ × ℕ
 byte_going go e = (unwrap_or (go e.0) 0, e.1)
+
+-- how many pages a line touches, and that what is written stays in one page
+abbrev pub pages_touched : ℕ → List ℕ → ℕ
+pages_touched addr bytes = (addr + length bytes - 1) / PAGE - addr / PAGE + 1
+
+abbrev pub IsInPage : Input → Type 0
+IsInPage (Mem at bytes) = at % PAGE + length bytes ≤ PAGE
+IsInPage input = Unit {0}
 
 -- ---- a record
 

@@ -1,5 +1,5 @@
 //! A record with writes of memory in place of its lines of direct memory access.
-ghost use Rattle.std.specs.Prelude.{◌≡◌, ◌<◌, ◌++◌, [], ℕ, IfOk, List, OnOk, Option, Some, map, option_map, unwrap_or};
+ghost use Rattle.std.specs.Prelude.{◌≡◌, ◌<◌, ◌++◌, [], ℕ, IfOk, List, OnOk, Option, Some, length, map, option_map, unwrap_or};
 ghost use Rattle.std.specs.List.Sorted.{IsNonDecreasing};
 ghost use Rattle.std.specs.List.{All, enumerate_from, flat_map};
 ghost use Rattle.image_pack.specs.Parts.{IsParts};
@@ -8,7 +8,7 @@ ghost use Rattle.record_text.specs.Law.{IsRecordOf};
 ghost use Rattle.record_text.specs.declared.devices.Devices.{Devices};
 ghost use Rattle.record_text.specs.declared.record.Input.{Input};
 ghost use Rattle.record_text.specs.declared.record.Record.{Record};
-ghost use Rattle.dma_tables.specs.Lowered.{byte_going, bytes_written, goes, in_tick, is_in_spans, is_line, line_writes, lowered, lowered_at, one_write, two_writes};
+ghost use Rattle.dma_tables.specs.Lowered.{IsInPage, byte_going, bytes_written, goes, in_tick, is_in_spans, is_line, line_writes, lowered, lowered_at, one_write, pages_touched, two_writes};
 ghost use Rattle.dma_tables.specs.LoweredRecord.{HasLowWrites, HasNoDma, HaveMemoriesIn, IsRecordIn};
 ghost use Rattle.dma_tables.specs.declared.file.DmaFile.{DmaFile};
 
@@ -229,4 +229,6 @@ pub fn lowered_records()
     ensures low { (t : Option DmaFile) (i : Image) (r : Record) → IsParts i → HasLowWrites r → HasLowWrites (lowered t i r) }
     // Each byte of a line is written where the tables lead, and no other byte is.
     ensures each_byte { (t : Option DmaFile) (i : Image) (device addr : ℕ) (bytes : List ℕ) (writes : List Input) → IsParts i → line_writes (goes t i device) addr bytes ≡ Some writes → flat_map bytes_written writes ≡ map (byte_going (goes t i device)) (enumerate_from addr bytes) }
+    // There is a write for each page that a line touches, and each stays in one page.
+    ensures each_page { (t : Option DmaFile) (i : Image) (device addr : ℕ) (bytes : List ℕ) (writes : List Input) → IsParts i → line_writes (goes t i device) addr bytes ≡ Some writes → (length writes ≡ pages_touched addr bytes) × All IsInPage writes }
 {}
