@@ -1,0 +1,7 @@
+pub mod ByPages
+pub mod ConditionsHold
+mod Examples
+pub mod FileLaws
+pub mod FileSizes
+pub mod Lines
+pub mod LoweredLaws

@@ -1,0 +1,234 @@
+//! A record with writes of memory in place of its lines of direct memory access.
+ghost use Rattle.std.specs.Prelude.{◌≡◌, ◌<◌, ◌++◌, [], ℕ, IfOk, List, OnOk, Option, Some, length, map, option_map, unwrap_or};
+ghost use Rattle.std.specs.List.Sorted.{IsNonDecreasing};
+ghost use Rattle.std.specs.List.{All, enumerate_from, flat_map};
+ghost use Rattle.image_pack.specs.Parts.{IsParts};
+ghost use Rattle.image_pack.specs.declared.parts.Image.{Image};
+ghost use Rattle.record_text.specs.Law.{IsRecordOf};
+ghost use Rattle.record_text.specs.declared.devices.Devices.{Devices};
+ghost use Rattle.record_text.specs.declared.record.Input.{Input};
+ghost use Rattle.record_text.specs.declared.record.Record.{Record};
+ghost use Rattle.dma_tables.specs.Lowered.{IsInPage, byte_going, bytes_written, goes, in_tick, is_in_spans, is_line, line_writes, lowered, lowered_at, one_write, pages_touched, two_writes};
+ghost use Rattle.dma_tables.specs.LoweredRecord.{HasLowWrites, HasNoDma, HaveMemoriesIn, IsRecordIn};
+ghost use Rattle.dma_tables.specs.declared.file.DmaFile.{DmaFile};
+
+use crate::tables::DmaTables;
+use image_pack::{Image, Parts, SpanPart};
+use muen_num::limits::{GUEST_END, PAGE};
+use muen_num::{NoMemory, Seq};
+use record_text::{INPUT_MOST, Input, Record, TickInput};
+use std::alloc::Global;
+
+// Whether one of the spans has the byte of this address.
+fn is_in_spans(spans: &[SpanPart], place: u64) -> bool
+    ensures { result ≡ is_in_spans spans.now place }
+{
+    spans.iter().any(|span| span.address <= place
+        && (place - span.address) / PAGE < u64::from(span.pages))
+}
+
+// Where a write of a device goes by an address.
+#[tactic(auto, unfolding(crate::specs::Lowered::goes))]
+fn goes(tables: Option<&DmaTables>, image: &Image, device: u8, addr: u64) -> Option<u64>
+    ensures { result ≡ goes (option_map (λ t. t.now) tables.entry) image.now device addr }
+{
+    let tables = tables?;
+    let device = image.devices.items().get(device as usize)?;
+    let place = tables.walk(&device.name, addr, true)?;
+    if is_in_spans(image.spans.items(), place) {
+        Some(place)
+    } else {
+        None
+    }
+}
+
+// A write of these bytes from an address on.
+fn write_at(alloc: Global, at: u64, bytes: &[u8]) -> Result<Input, NoMemory>
+    ensures { IfOk result (λ w. w ≡ Input.Mem at bytes.now) }
+{
+    Ok(Input::Mem {
+        at,
+        bytes: Seq::of(Vec::from_slice(alloc, bytes)?),
+    })
+}
+
+// The write of a line in one page, if it goes somewhere.
+fn one_write(alloc: Global, at: Option<u64>, bytes: &[u8]) -> Result<Vec<Input>, NoMemory>
+    ensures { IfOk result (λ v. v.items ≡ one_write at bytes.now) }
+{
+    let mut writes = Vec::new(alloc);
+    if let Some(at) = at {
+        writes.push(write_at(alloc, at, bytes)?)?;
+    }
+    Ok(writes)
+}
+
+// The writes of a line in two pages, if both go somewhere.
+fn two_writes(
+    alloc: Global,
+    at: Option<u64>,
+    front: &[u8],
+    next: Option<u64>,
+    back: &[u8],
+) -> Result<Vec<Input>, NoMemory>
+    ensures { IfOk result (λ v. v.items ≡ two_writes at front.now next back.now) }
+{
+    let mut writes = Vec::new(alloc);
+    if let Some(at) = at {
+        if let Some(next) = next {
+            writes.push(write_at(alloc, at, front)?)?;
+            writes.push(write_at(alloc, next, back)?)?;
+        }
+    }
+    Ok(writes)
+}
+
+// Whether a line of a record may have these bytes.
+fn is_line(bytes: &[u8]) -> bool
+    ensures { result ≡ is_line bytes.now }
+{
+    !bytes.is_empty() && bytes.len() <= INPUT_MOST
+}
+
+// The writes of a line, none where it is dropped.
+fn line_writes(
+    alloc: Global,
+    tables: Option<&DmaTables>,
+    image: &Image,
+    device: u8,
+    addr: u64,
+    bytes: &[u8],
+) -> Result<Vec<Input>, NoMemory>
+    requires { IsParts image.now }
+    ensures { IfOk result (λ v. v.items ≡ unwrap_or (line_writes (goes (option_map (λ t. t.now) tables.entry) image.now device) addr bytes.now) []) }
+{
+    if !is_line(bytes) {
+        return Ok(Vec::new(alloc));
+    }
+    if addr >= GUEST_END {
+        return Ok(Vec::new(alloc));
+    }
+    let left = (PAGE - addr % PAGE) as usize;
+    let at = goes(tables, image, device, addr);
+    if bytes.len() <= left {
+        return one_write(alloc, at, bytes);
+    }
+    let (front, back) = bytes.split_at(left);
+    let next = goes(tables, image, device, addr + left as u64);
+    two_writes(alloc, at, front, next, back)
+}
+
+// Appends these inputs, all in this tick.
+fn add_all(inputs: &mut Vec<TickInput>, tick: u32, added: Vec<Input>) -> Result<(), NoMemory>
+    ensures { OnOk result (inputs.new.items ≡ inputs.old.items ++ map (in_tick tick) added.items) }
+{
+    for input in added {
+        inputs.push(TickInput { tick, input })?;
+    }
+    Ok(())
+}
+
+// Appends what stands for an input.
+fn add_lowered(
+    alloc: Global,
+    tables: Option<&DmaTables>,
+    image: &Image,
+    inputs: &mut Vec<TickInput>,
+    entry: TickInput,
+) -> Result<(), NoMemory>
+    requires { IsParts image.now }
+    ensures { OnOk result (inputs.new.items ≡ inputs.old.items ++ lowered_at (option_map (λ t. t.now) tables.entry) image.now entry) }
+{
+    let TickInput { tick, input } = entry;
+    match input {
+        Input::Dma {
+            device,
+            addr,
+            bytes,
+        } => {
+            let writes = line_writes(alloc, tables, image, device, addr, bytes.items())?;
+            add_all(inputs, tick, writes)?;
+        }
+        input => inputs.push(TickInput { tick, input })?,
+    }
+    Ok(())
+}
+
+// What stands for the inputs, in their order.
+fn lowered_inputs(
+    alloc: Global,
+    tables: Option<&DmaTables>,
+    image: &Image,
+    entries: Vec<TickInput>,
+) -> Result<Vec<TickInput>, NoMemory>
+    requires { IsParts image.now }
+    ensures { IfOk result (λ v. v.items ≡ flat_map (lowered_at (option_map (λ t. t.now) tables.entry) image.now) entries.items) }
+{
+    let mut inputs = Vec::new(alloc);
+    for entry in entries {
+        add_lowered(alloc, tables, image, &mut inputs, entry)?;
+    }
+    Ok(inputs)
+}
+
+// The record with writes in place of its lines.
+#[tactic(auto, unfolding(crate::specs::Lowered::lowered))]
+fn lowered_record(
+    alloc: Global,
+    given: Record,
+    image: &Image,
+    tables: Option<&DmaTables>,
+) -> Result<Record, NoMemory>
+    requires { IsParts image.now }
+    ensures { IfOk result (λ r. r ≡ lowered (option_map (λ t. t.now) tables.entry) image.now given) }
+{
+    let Record {
+        end,
+        inputs,
+        orders,
+    } = given;
+    let inputs = lowered_inputs(alloc, tables, image, inputs.into_vec())?;
+    Ok(Record {
+        end,
+        inputs: Seq::of(inputs),
+        orders,
+    })
+}
+
+/// The record with writes of memory in place of its lines of direct memory access. A line becomes a
+/// write for each page that it touches, in their order, where it has 1 to 64 bytes and the tables let
+/// its device write each of them into the spans of the image; otherwise, and without tables, it is
+/// dropped. All else stays. A device is found in the tables by its name.
+///
+/// # Errors
+/// Memory is refused.
+pub fn lower(
+    alloc: Global,
+    given: Record,
+    parts: &Parts,
+    tables: Option<&DmaTables>,
+) -> Result<Record, NoMemory>
+    // Which record it is.
+    ensures exact { IfOk result (λ r. r ≡ lowered (option_map (λ t. t.now) tables.entry) parts.now given) }
+    // No line is left.
+    ensures none_left { IfOk result (λ r. HasNoDma r) }
+    // A record of devices whose memories lie in the spans is one of the same devices, whose writes lie there.
+    ensures record_in { (devices : Devices) → IsRecordOf devices given → HaveMemoriesIn parts.now.spans devices → IfOk result (λ r. IsRecordIn devices parts.now.spans r) }
+{
+    lowered_record(alloc, given, parts.image(), tables)
+}
+
+/// What lowered records are.
+pub fn lowered_records()
+    // No line is left.
+    ensures none_left { (t : Option DmaFile) (i : Image) (r : Record) → HasNoDma (lowered t i r) }
+    // It is a record of the same devices, whose writes lie in the spans.
+    ensures records { (t : Option DmaFile) (i : Image) (devices : Devices) (r : Record) → IsParts i → HaveMemoriesIn i.spans devices → IsRecordOf devices r → IsRecordIn devices i.spans (lowered t i r) }
+    // The ticks stay in order, and no write goes past what addresses have room for.
+    ensures ordered { (t : Option DmaFile) (i : Image) (r : Record) → IsNonDecreasing (map (λ e. e.tick) r.inputs) → IsNonDecreasing (map (λ e. e.tick) (lowered t i r).inputs) }
+    ensures low { (t : Option DmaFile) (i : Image) (r : Record) → IsParts i → HasLowWrites r → HasLowWrites (lowered t i r) }
+    // Each byte of a line is written where the tables lead, and no other byte is.
+    ensures each_byte { (t : Option DmaFile) (i : Image) (device addr : ℕ) (bytes : List ℕ) (writes : List Input) → IsParts i → line_writes (goes t i device) addr bytes ≡ Some writes → flat_map bytes_written writes ≡ map (byte_going (goes t i device)) (enumerate_from addr bytes) }
+    // There is a write for each page that a line touches, and each stays in one page.
+    ensures each_page { (t : Option DmaFile) (i : Image) (device addr : ℕ) (bytes : List ℕ) (writes : List Input) → IsParts i → line_writes (goes t i device) addr bytes ≡ Some writes → (length writes ≡ pages_touched addr bytes) × All IsInPage writes }
+{}
