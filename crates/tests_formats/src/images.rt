@@ -4,6 +4,7 @@ use muen_num::{EventMode, IrqTarget, PortSpan};
 use std::alloc::Global;
 use std::test::Fail;
 
+mod dma;
 mod faults;
 mod spelled;
 
