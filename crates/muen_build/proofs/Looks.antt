@@ -30,15 +30,15 @@ pub show_last : (files : Store) (ls : List Look) (l : Look) → ShowAll files (l
 show_last files [] l h = h.0
 show_last files (k ∷ ks) l h = show_last files ks l h.1
 
-show_both : (files : Store) (ls more : List Look) → ShowAll files ls → ShowAll files more → ShowAll files (ls ++ more)
+pub show_both : (files : Store) (ls more : List Look) → ShowAll files ls → ShowAll files more → ShowAll files (ls ++ more)
 show_both files [] more h k = k
 show_both files (l ∷ ls) more h k = (h.0, show_both files ls more h.1 k)
 
-told_both : (held : Option Store) (ls more : List Look) → IfSome held (λ m. ShowAll m ls) → IfSome held (λ m. ShowAll m more) → IfSome held (λ m. ShowAll m (ls ++ more))
+pub told_both : (held : Option Store) (ls more : List Look) → IfSome held (λ m. ShowAll m ls) → IfSome held (λ m. ShowAll m more) → IfSome held (λ m. ShowAll m (ls ++ more))
 told_both None ls more h k = tt
 told_both (Some m) ls more h k = show_both m ls more h k
 
-told_none : (held : Option Store) → IfSome held (λ m. ShowAll m [])
+pub told_none : (held : Option Store) → IfSome held (λ m. ShowAll m [])
 told_none None = tt
 told_none (Some m) = tt
 
@@ -59,10 +59,10 @@ single_push (k ∷ ks) l single possible others =
 
 -- ---- looks that grow
 
-no_look : (h : History) → h ≡ looked h []
+pub no_look : (h : History) → h ≡ looked h []
 no_look h = ap (λ looks. record { looks = looks; writes = h.writes }) (sym (append-nil h.looks))
 
-looked_both : (h : History) (ls more : List Look) → looked (looked h ls) more ≡ looked h (ls ++ more)
+pub looked_both : (h : History) (ls more : List Look) → looked (looked h ls) more ≡ looked h (ls ++ more)
 looked_both h ls more = ap (λ looks. record { looks = looks; writes = h.writes }) (append_assoc h.looks ls more)
 
 pub grows_not : (name : List ℕ) (names : Names) (held : Option Store) (h : History) (a : List Look) → Grows name names held h h a a

@@ -1,6 +1,6 @@
 -- What comes of a command whose files were read.
-use Rattle.std.proofs.Common.{◌≡◌, inl, ℕ, List, [], ◌∷◌, ◌++◌, Option, Some, None, IfSome, refl, sym, ap, subst, ◌∙◌, append-nil}
-use Rattle.muen_outside.specs.Looks.{ShowAll}
+use Rattle.std.proofs.Common.{◌≡◌, inl, ℕ, List, [], ◌∷◌, ◌++◌, Option, Some, None, refl, sym, ap, subst, ◌∙◌, append-nil}
+use Rattle.muen_build.proofs.Looks.{no_look, told_none}
 use Rattle.muen_outside.specs.Puts.{Failed}
 use Rattle.muen_outside.specs.States.{History, Look, SinkState, Write, looked, went, written}
 use Rattle.muen_outside.specs.Store.{Store}
@@ -16,13 +16,6 @@ use Rattle.muen_top.specs.declared.outcome.CommandError.{CommandError}
 use Rattle.muen_top.specs.declared.outcome.CommandError.TheVariants.{Usage, Missing, TooLong, Refused, ImageRefused, RecordRefused, FileFault, NoMemory}
 
 -- ---- what was done with files
-
-no_look : (h : History) → h ≡ looked h []
-no_look h = ap (λ looks. record { looks = looks; writes = h.writes }) (sym (append-nil h.looks))
-
-told_none : (held : Option Store) → IfSome held (λ m. ShowAll m [])
-told_none None = tt
-told_none (Some m) = tt
 
 looked_alone : (old new : History) (looks : List Look) → new ≡ looked old looks → new ≡ went old looks []
 looked_alone old new looks is = is ∙ ap (λ ws. record { looks = old.looks ++ looks; writes = ws }) (sym (append-nil old.writes))

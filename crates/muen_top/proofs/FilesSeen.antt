@@ -1,12 +1,12 @@
 -- What was seen of files that were looked at one after another.
-use Rattle.std.proofs.Common.{◌≡◌, inl, inr, ℕ, true, List, [], ◌∷◌, ◌++◌, Option, Some, None, IfSome, Result, Ok, Err, IfOk, refl, sym, ap, subst, ◌∙◌, append-nil, append_assoc}
+use Rattle.std.proofs.Common.{◌≡◌, inl, inr, ℕ, true, List, [], ◌∷◌, ◌++◌, Option, Some, None, IfSome, Result, Ok, Err, IfOk, refl, sym, ap, subst, ◌∙◌, append-nil}
 use Rattle.std.specs.FinMap.{get}
 use Rattle.std.specs.Str.{bytes_eq}
 use Rattle.std.proofs.lemmas.Slice.Eq.{bytes_eq-Decides}
 use Rattle.muen_build.specs.Accepting.{Files, looks_of}
 use Rattle.muen_build.specs.Looks.{Looked, document_look}
 use Rattle.muen_build.proofs.Documents.{whole_found}
-use Rattle.muen_build.proofs.Looks.{show_front, show_last, single_push}
+use Rattle.muen_build.proofs.Looks.{looked_both, show_front, show_last, single_push, told_both}
 use Rattle.muen_build.proofs.Steps.{others_found, shown_among}
 use Rattle.muen_num.specs.declared.limits.TheConstants.{COMPONENT_FILE_MOST}
 use Rattle.muen_outside.specs.declared.files.FileError.{FileError}
@@ -21,19 +21,6 @@ use Rattle.muen_top.specs.FilesSeen.{OverLooks, Saw, SawAfter, known, not_copied
 use Rattle.muen_top.specs.Loads.{GivesNone, NotRead, NotReadAfter, NotWithin, policy_looks}
 use Rattle.muen_top.specs.declared.outcome.CommandError.{CommandError}
 use Rattle.muen_top.specs.declared.outcome.CommandError.TheVariants.{Usage, Missing, TooLong, Refused, ImageRefused, RecordRefused, FileFault, NoMemory}
-
--- ---- looks, one after another
-
-show_both : (m : Store) (ls more : List Look) → ShowAll m ls → ShowAll m more → ShowAll m (ls ++ more)
-show_both m [] more h k = k
-show_both m (l ∷ ls) more h k = (h.0, show_both m ls more h.1 k)
-
-told_both : (held : Option Store) (ls more : List Look) → IfSome held (λ m. ShowAll m ls) → IfSome held (λ m. ShowAll m more) → IfSome held (λ m. ShowAll m (ls ++ more))
-told_both None ls more h k = tt
-told_both (Some m) ls more h k = show_both m ls more h k
-
-looked_both : (h : History) (ls more : List Look) → looked (looked h ls) more ≡ looked h (ls ++ more)
-looked_both h ls more = ap (λ looks. record { looks = looks; writes = h.writes }) (append_assoc h.looks ls more)
 
 -- ---- one look
 
