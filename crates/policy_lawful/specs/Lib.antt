@@ -1,4 +1,5 @@
 pub use Rattle.policy_meaning.specs.Contents
+pub use Rattle.policy_meaning.specs.Dma
 pub use Rattle.policy_meaning.specs.Events
 pub use Rattle.policy_meaning.specs.Frames
 pub use Rattle.policy_meaning.specs.Thing

@@ -5,6 +5,7 @@ use Rattle.std.specs.FinMap.{get}
 use Rattle.muen_num.specs.declared.access.AccessKind.TheVariants.{Read, Write, Fetch}
 use Rattle.muen_num.specs.declared.mode.EventMode.TheVariants.{Asap, Async}
 use Rattle.policy_meaning.specs.Contents.{Held, initial_bytes}
+use Rattle.policy_meaning.specs.Dma.{dma_access}
 use Rattle.policy_meaning.specs.Events.{event_of, irq_of, traps_of}
 use Rattle.policy_meaning.specs.Frames.{frames_of}
 use Rattle.policy_meaning.specs.Thing.{Thing, region, channel, provided, device_memory, things_of}
@@ -127,7 +128,13 @@ system = record {
   events = record { name = codes "alarm"; mode = Asap } ∷ [];
   subjects = black ∷ red ∷ [];
   scheduling = plan;
-  device_domains = [];
+  device_domains = record {
+    name = codes "direct";
+    devices = codes "net" ∷ [];
+    memory =
+        record { region = codes "fill"; virtual_address = 40; rights = Rw }
+        ∷ record { region = codes "none"; virtual_address = 44; rights = R } ∷ [];
+  } ∷ [];
 }
 
 -- ---- things and windows
@@ -262,3 +269,20 @@ frames_of_cpu_1 = refl
 frames_of_no_cpu : frames_of system 2 ≡ [] ∷ []
 unfolding frames_of
 frames_of_no_cpu = refl
+
+-- ---- devices that reach memory by themselves
+
+last_byte_written : dma_access system (codes "net") 43 Write ≡ byte (region (codes "fill")) 3
+last_byte_written = refl
+
+read_alone : dma_access system (codes "net") 44 Write ≡ violation (Some R)
+read_alone = refl
+
+next_read : dma_access system (codes "net") 44 Read ≡ byte (region (codes "none")) 0
+next_read = refl
+
+behind_all : dma_access system (codes "net") 48 Read ≡ violation None
+behind_all = refl
+
+in_no_domain : dma_access system (codes "gpu") 40 Write ≡ violation None
+in_no_domain = refl

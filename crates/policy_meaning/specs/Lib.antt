@@ -1,4 +1,5 @@
 pub mod Contents
+pub mod Dma
 pub mod Events
 pub mod Frames
 pub mod Thing
