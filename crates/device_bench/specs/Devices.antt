@@ -1,28 +1,40 @@
 -- What devices do in a tick, and what their ports hold (this project's own machine).
-use Rattle.std.specs.Prelude.{◌≡◌, ℕ, ◌+◌, ◌==◌, List, map, length, filter, take, drop, replicate, Option, option_map}
-use Rattle.std.specs.List.{find}
+use Rattle.std.specs.Prelude.{◌≡◌, ℕ, ◌+◌, ◌^◌, ◌<◌, ◌==◌, List, map, length, filter, take, drop, replicate, Option, option_map}
+use Rattle.std.specs.List.{All, find}
 use Rattle.std.specs.List.Sorted.{IsNonDecreasing, IsStrictlyIncreasing}
 use Rattle.muen_num.specs.declared.limits.TheConstants.{LAST_PORT}
 use Rattle.machine_layout.specs.Memory.{le_number}
+use Rattle.device_bench.specs.declared.effect.Effect.{Effect}
+use Rattle.device_bench.specs.declared.effect.Effect.TheVariants.{Mem}
 use Rattle.record_text.specs.declared.record.Record.{Record}
 use Rattle.record_text.specs.declared.record.TickInput.{TickInput}
 
 -- a record of what devices do, and the input byte of each port
 pub record BenchState : Type 0 where
-  pub run : Record
+  pub run : Record Effect
   pub ports : List ℕ
 
 -- inputs stand by their ticks, and so do orders, of which a tick has one at most
-pub record IsInOrder (r : Record) : Type 0 where
+pub record IsInOrder (r : Record Effect) : Type 0 where
   pub inputs : IsNonDecreasing (map (λ i. i.tick) r.inputs)
   pub orders : IsStrictlyIncreasing (map (λ o. o.tick) r.orders)
 
+-- what is written into memory ends below 2 ^ 64
+abbrev pub IsLow : Effect → Type 0
+IsLow (Mem at bytes) = at + length bytes < 2 ^ 64
+IsLow _ = Unit {0}
+
+-- a record that a machine can run
+pub record CanRun (run : Record Effect) : Type 0 where
+  pub in_order : IsInOrder run
+  pub low : All (λ i. IsLow i.input) run.inputs
+
 -- the inputs of a tick, in their order
-abbrev pub inputs_at : Record → ℕ → List TickInput
+abbrev pub inputs_at : Record Effect → ℕ → List (TickInput Effect)
 inputs_at r tick = filter (λ i. i.tick == tick) r.inputs
 
 -- the order of the CPUs in a tick, if the record gives one
-abbrev pub order_at : Record → ℕ → Option (List ℕ)
+abbrev pub order_at : Record Effect → ℕ → Option (List ℕ)
 order_at r tick = option_map (λ o. o.cpus) (find (λ o. o.tick == tick) r.orders)
 
 -- so many zeros

@@ -6,6 +6,7 @@ ghost use Rattle.machine_layout.specs.Memory.{le_number};
 ghost use Rattle.muen_num.specs.AccessSize.{bytes_of};
 ghost use Rattle.device_bench.specs.Devices.{IsInOrder, inputs_at, order_at, zeros, no_inputs, value_of_ports};
 
+use crate::effect::Effect;
 use muen_num::limits::LAST_PORT;
 use muen_num::{AccessSize, NoMemory};
 use record_text::{Record, TickInput, TickOrder};
@@ -28,7 +29,7 @@ trait Ticked {
         ensures { result ≡ tick self.now };
 }
 
-impl Ticked for TickInput {
+impl Ticked for TickInput<Effect> {
     ghost tick = { λ i. i.tick };
 
     fn tick(&self) -> u32 {
@@ -48,7 +49,7 @@ impl Ticked for TickOrder {
 /// port.
 #[derive(Debug, Drop)]
 pub struct Bench {
-    run: Record,
+    run: Record<Effect>,
     ports: Vec<u8>,
 }
 
@@ -73,7 +74,7 @@ fn count_before<T: Ticked>(items: &[T], tick: u64) -> usize
 }
 
 // The inputs of a tick.
-fn inputs_of(inputs: &[TickInput], tick: u64) -> &[TickInput]
+fn inputs_of(inputs: &[TickInput<Effect>], tick: u64) -> &[TickInput<Effect>]
     requires order { IsNonDecreasingBy (λ i. i.tick) inputs.now }
     requires tick { tick < 2 ^ 32 }
     ensures { result.now ≡ filter (λ i. i.tick == tick) inputs.now }
@@ -133,7 +134,7 @@ impl Bench {
     ///
     /// # Errors
     /// Memory is refused.
-    pub fn start(alloc: Global, run: Record) -> Result<Bench, NoMemory>
+    pub fn start(alloc: Global, run: Record<Effect>) -> Result<Bench, NoMemory>
         requires { IsInOrder run }
         ensures { IfOk result (λ b. b ≡ record { run = run; ports = no_inputs }) }
     {
@@ -145,7 +146,7 @@ impl Bench {
 
     /// The inputs of a tick, in their order. It is found in time that grows with the logarithm of the
     /// record's inputs.
-    pub fn inputs(&self, tick: u32) -> &[TickInput]
+    pub fn inputs(&self, tick: u32) -> &[TickInput<Effect>]
         ensures { result.now ≡ inputs_at self.now.run tick }
     {
         inputs_of(self.run.inputs.items(), u64::from(tick))

@@ -2,5 +2,7 @@
 #![tactic(auto)]
 
 mod bench;
+mod effect;
 
 pub use bench::Bench;
+pub use effect::Effect;

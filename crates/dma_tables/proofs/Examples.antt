@@ -2,7 +2,7 @@
 -- addresses 4,096 to 8,191.
 use Rattle.std.proofs.Common.{◌≡◌, refl, ℕ, ◌+◌, ◌*◌, ◌%◌, ◌==◌, ◌&&◌, true, false, if◌then◌else◌, [], ◌∷◌, Option, Some, None, Err}
 use Rattle.std.specs.Prelude.{option_map}
-use Rattle.record_text.specs.declared.record.Input.TheVariants.{Mem}
+use Rattle.device_bench.specs.declared.effect.Effect.TheVariants.{Mem}
 use Rattle.binary_form.specs.Faults.{unpacked}
 use Rattle.binary_form.specs.Form.{tag, tag_at, whole}
 use Rattle.binary_form.specs.declared.fault.ImageFault.TheVariants.{Short}

@@ -8,9 +8,10 @@ use Rattle.std.proofs.lemmas.List.{length-take, length-drop, take-append-drop}
 use Rattle.std.proofs.lemmas.List.Folds.{list_all-append}
 use Rattle.muen_num.specs.declared.limits.TheConstants.{PAGE}
 use Rattle.binary_form.proofs.Forms.{both_true}
-use Rattle.record_text.specs.declared.record.Input.TheVariants.{Mem}
+use Rattle.device_bench.specs.declared.effect.Effect.TheVariants.{Mem}
 use Rattle.record_text.specs.declared.record.TheConstants.{INPUT_MOST}
-use Rattle.dma_tables.specs.Lowered.{all_go, byte_going, is_line, left_in_page, line_writes, one_write, two_writes}
+use Rattle.dma_tables.specs.LineWrites.{byte_going, one_write, two_writes}
+use Rattle.dma_tables.specs.Lowered.{all_go, is_line, left_in_page, line_writes}
 use Rattle.dma_tables.proofs.ByPages.{IsByPage, along}
 
 -- ---- bytes with their addresses

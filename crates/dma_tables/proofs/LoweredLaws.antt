@@ -1,4 +1,4 @@
--- Lowered records: no line is left, order and ticks stay, and what is written lies in the spans.
+-- Lowered records: order and ticks stay, and what is written lies in the spans.
 use Rattle.std.proofs.Common.{◌≡◌, ◌∙◌, ◌⊎◌, inl, inr, le-leb, ◌-◌, refl, sym, subst, ap, arith, ℕ, zero, suc, ◌+◌, ◌*◌, ◌/◌, ◌%◌, ◌<◌, ◌≤◌, ◌^◌, ◌&&◌, ◌||◌, Bool, true, false, true≢false, List, [], ◌∷◌, ◌++◌, get_or, length, map, take, drop, Option, Some, None, if◌then◌else◌, flat_map}
 use Rattle.std.specs.Prelude.{is_some, nat_le, nat_lt, option_and_then, unwrap_or}
 use Rattle.std.specs.List.{All, enumerate_from, list_any, slice_get}
@@ -13,7 +13,10 @@ use Rattle.image_pack.specs.SpanConditions.{end_of}
 use Rattle.image_pack.specs.declared.parts.DevicePart.{DevicePart}
 use Rattle.image_pack.specs.declared.parts.Image.{Image}
 use Rattle.image_pack.specs.declared.parts.SpanPart.{SpanPart}
-use Rattle.record_text.specs.Law.{IsInputOf, IsRecordOf}
+use Rattle.device_bench.specs.Devices.{CanRun, IsLow}
+use Rattle.device_bench.specs.declared.effect.Effect.{Effect}
+use Rattle.device_bench.specs.declared.effect.Effect.TheVariants.{Port as ToPort, Mem as ToMem, Irq as ToIrq}
+use Rattle.record_text.specs.Law.{IsInputOf, IsLowWrite, IsOrderly, IsRecordOf}
 use Rattle.record_text.specs.declared.devices.Devices.{Devices}
 use Rattle.record_text.specs.declared.devices.RecordDevice.{RecordDevice}
 use Rattle.record_text.specs.declared.devices.RecordMemory.{RecordMemory}
@@ -22,8 +25,9 @@ use Rattle.record_text.specs.declared.record.Input.TheVariants.{Port, Mem, Irq, 
 use Rattle.record_text.specs.declared.record.Record.{Record}
 use Rattle.record_text.specs.declared.record.TheConstants.{INPUT_MOST}
 use Rattle.record_text.specs.declared.record.TickInput.{TickInput}
-use Rattle.dma_tables.specs.Lowered.{IsInPage, pages_touched, all_go, by_pages, byte_going, bytes_written, goes, in_tick, is_in_spans, is_line, left_in_page, line_writes, lowered, lowered_at, lowered_input, one_write, two_writes, write_of}
-use Rattle.dma_tables.specs.LoweredRecord.{AreInSpans, HasLowWrites, HasNoDma, HaveMemoriesIn, IsInputIn, IsLowWrite, IsRecordIn, is_dma}
+use Rattle.dma_tables.specs.LineWrites.{IsInPage, byte_going, bytes_written, one_write, pages_touched, two_writes}
+use Rattle.dma_tables.specs.Lowered.{all_go, by_pages, goes, in_tick, is_in_spans, is_line, left_in_page, line_writes, lowered, lowered_at, lowered_input, write_of}
+use Rattle.dma_tables.specs.LoweredRecord.{AreInSpans, HaveMemoriesIn, IsEffectIn, IsRecordIn}
 use Rattle.dma_tables.specs.declared.file.DmaFile.{DmaFile}
 use Rattle.dma_tables.proofs.ByPages.{AreAligned, IsByPage, along, goes_by_page, goes_is, goes_page, landing_page, named_page, parts_aligned, parts_low, spans_page, spans_same}
 use Rattle.dma_tables.proofs.Lines.{all_as_one, all_split, bytes_as_one, has_two, line_in_one, line_in_two, line_length, no_line, numbered_append}
@@ -45,30 +49,6 @@ each_mapped P Q f h (x ∷ xs) all = All-cons Q (f x) (map f xs) (h x (All-head 
 pub anything : {A : Type 0} (P : A → Type 0) → ((x : A) → P x) → (xs : List A) → All P xs
 anything P h xs k d l = h (get_or xs k d)
 
--- ---- no line is left
-
-abbrev Stays : Input → Type 0
-Stays x = is_dma x ≡ false
-
-is_left : (go : ℕ → Option ℕ) (addr : ℕ) (bytes : List ℕ) (all : Bool) → All Stays (unwrap_or (if all then Some (map (write_of go) (by_pages addr bytes)) else None) [])
-is_left go addr bytes true = each_mapped (λ p. Unit {0}) Stays (write_of go) (λ p h. refl) (by_pages addr bytes) (λ k d l. tt)
-is_left go addr bytes false = All-nil Stays
-
-none_in : (t : Option DmaFile) (i : Image) (x : Input) → All Stays (lowered_input t i x)
-unfolding line_writes
-none_in t i (Port port value) = All-cons Stays _ [] refl (All-nil Stays)
-none_in t i (Mem at bytes) = All-cons Stays _ [] refl (All-nil Stays)
-none_in t i (Irq subject vector) = All-cons Stays _ [] refl (All-nil Stays)
-none_in t i Idle = All-cons Stays _ [] refl (All-nil Stays)
-none_in t i (Dma device addr bytes) = is_left (goes t i device) addr bytes _
-
-none_at : (t : Option DmaFile) (i : Image) (e : TickInput) → All (λ e. is_dma e.input ≡ false) (lowered_at t i e)
-none_at t i e = each_mapped Stays (λ e. is_dma e.input ≡ false) (in_tick e.tick) (λ x h. h) (lowered_input t i e.input) (none_in t i e.input)
-
-pub none_left : (t : Option DmaFile) (i : Image) (r : Record) → HasNoDma (lowered t i r)
-unfolding lowered
-none_left t i r = each_of_all (λ e. Unit {0}) (λ e. is_dma e.input ≡ false) (lowered_at t i) (λ e h. none_at t i e) r.inputs (λ k d l. tt)
-
 -- ---- order and ticks
 
 abbrev AreFrom : ℕ → List ℕ → Type 0
@@ -86,11 +66,11 @@ rises_behind t ts rises i j d le l = rises (suc i) (suc j) d (omega (arith, le))
 rises_from : (t : ℕ) (ts : List ℕ) → IsNonDecreasing (t ∷ ts) → AreFrom t ts
 rises_from t ts rises k d l = rises zero (suc k) d (omega arith) (omega (arith, l))
 
-abbrev ticks : List TickInput → List ℕ
+abbrev ticks : {I : Type 0} → List (TickInput I) → List ℕ
 ticks es = map (λ e. e.tick) es
 
 -- inputs of one tick before those of later ones
-rises_before : (t : ℕ) (xs : List Input) (es : List TickInput) → AreFrom t (ticks es) → IsNonDecreasing (ticks es) → AreFrom t (ticks (map (in_tick t) xs ++ es)) × IsNonDecreasing (ticks (map (in_tick t) xs ++ es))
+rises_before : (t : ℕ) (xs : List Effect) (es : List (TickInput Effect)) → AreFrom t (ticks es) → IsNonDecreasing (ticks es) → AreFrom t (ticks (map (in_tick t) xs ++ es)) × IsNonDecreasing (ticks (map (in_tick t) xs ++ es))
 rises_before t [] es from rises = (from, rises)
 rises_before t (x ∷ xs) es from rises =
     let rest = rises_before t xs es from rises in
@@ -99,17 +79,17 @@ rises_before t (x ∷ xs) es from rises =
 from_below : (t u : ℕ) (ts : List ℕ) → t ≤ u → AreFrom u ts → AreFrom t ts
 from_below t u ts le from k d l = let later : u ≤ get_or ts k d = from k d l in omega (arith, le, later)
 
-of_ticks : (low : ℕ) (es : List TickInput) → AreFrom low (ticks es) → All (λ e. low ≤ e.tick) es
+of_ticks : (low : ℕ) (es : List (TickInput Input)) → AreFrom low (ticks es) → All (λ e. low ≤ e.tick) es
 of_ticks low [] from = All-nil (λ e. low ≤ e.tick)
 of_ticks low (e ∷ es) from = All-cons (λ e. low ≤ e.tick) e es (All-head (λ u. low ≤ u) e.tick (ticks es) from) (of_ticks low es (All-tail (λ u. low ≤ u) e.tick (ticks es) from))
 
 -- what holds of the ticks of inputs holds of those of what stands for them
-from_lowered : (t : Option DmaFile) (i : Image) (low : ℕ) (es : List TickInput) → AreFrom low (ticks es) → AreFrom low (ticks (flat_map (lowered_at t i) es))
+from_lowered : (t : Option DmaFile) (i : Image) (low : ℕ) (es : List (TickInput Input)) → AreFrom low (ticks es) → AreFrom low (ticks (flat_map (lowered_at t i) es))
 from_lowered t i low es from =
     each_mapped (λ e. low ≤ e.tick) (λ u. low ≤ u) (λ e. e.tick) (λ e h. h) (flat_map (lowered_at t i) es)
     (each_of_all (λ e. low ≤ e.tick) (λ e. low ≤ e.tick) (lowered_at t i) (λ e h. each_mapped (λ x. Unit {0}) (λ f. low ≤ f.tick) (in_tick e.tick) (λ x u. h) (lowered_input t i e.input) (λ k d l. tt)) es (of_ticks low es from))
 
-pub rises_lowered : (t : Option DmaFile) (i : Image) (es : List TickInput) → IsNonDecreasing (ticks es) → IsNonDecreasing (ticks (flat_map (lowered_at t i) es))
+pub rises_lowered : (t : Option DmaFile) (i : Image) (es : List (TickInput Input)) → IsNonDecreasing (ticks es) → IsNonDecreasing (ticks (flat_map (lowered_at t i) es))
 rises_lowered t i [] rises = rises
 rises_lowered t i (e ∷ es) rises =
     (rises_before e.tick (lowered_input t i e.input) (flat_map (lowered_at t i) es) (from_lowered t i e.tick es (rises_from e.tick (ticks es) rises)) (rises_lowered t i es (rises_behind e.tick (ticks es) rises))).1
@@ -189,19 +169,19 @@ lies_in_page t i device addr count all few =
     subst (λ o. LiesIn i.spans o count) (sym (goes_is t i device addr all))
     (lies_if i.spans addr count (goes_page t i device (addr / PAGE)) all (goes_in_spans t i device (addr / PAGE)) few)
 
-one_in : (devices : Devices) (spans : List SpanPart) (go : Option ℕ) (bytes : List ℕ) → 1 ≤ length bytes → length bytes ≤ INPUT_MOST → LiesIn spans go (length bytes) → All (IsInputIn devices spans) (one_write go bytes)
-one_in devices spans None bytes some few lies = All-nil (IsInputIn devices spans)
-one_in devices spans (Some at) bytes some few lies = All-cons (IsInputIn devices spans) (Mem at bytes) [] (lies, some, few) (All-nil (IsInputIn devices spans))
+one_in : (devices : Devices) (spans : List SpanPart) (go : Option ℕ) (bytes : List ℕ) → 1 ≤ length bytes → length bytes ≤ INPUT_MOST → LiesIn spans go (length bytes) → All (IsEffectIn devices spans) (one_write go bytes)
+one_in devices spans None bytes some few lies = All-nil (IsEffectIn devices spans)
+one_in devices spans (Some at) bytes some few lies = All-cons (IsEffectIn devices spans) (ToMem at bytes) [] (lies, some, few) (All-nil (IsEffectIn devices spans))
 
 both_in : (devices : Devices) (spans : List SpanPart) (go next : Option ℕ) (front back : List ℕ) → 1 ≤ length front → length front ≤ INPUT_MOST → 1 ≤ length back → length back ≤ INPUT_MOST
-    → LiesIn spans go (length front) → LiesIn spans next (length back) → All (IsInputIn devices spans) (two_writes go front next back)
-both_in devices spans None next front back a b c d lies later = All-nil (IsInputIn devices spans)
-both_in devices spans (Some at) None front back a b c d lies later = All-nil (IsInputIn devices spans)
+    → LiesIn spans go (length front) → LiesIn spans next (length back) → All (IsEffectIn devices spans) (two_writes go front next back)
+both_in devices spans None next front back a b c d lies later = All-nil (IsEffectIn devices spans)
+both_in devices spans (Some at) None front back a b c d lies later = All-nil (IsEffectIn devices spans)
 both_in devices spans (Some at) (Some to) front back a b c d lies later =
-    All-cons (IsInputIn devices spans) (Mem at front) (Mem to back ∷ []) (lies, a, b) (All-cons (IsInputIn devices spans) (Mem to back) [] (later, c, d) (All-nil (IsInputIn devices spans)))
+    All-cons (IsEffectIn devices spans) (ToMem at front) (ToMem to back ∷ []) (lies, a, b) (All-cons (IsEffectIn devices spans) (ToMem to back) [] (later, c, d) (All-nil (IsEffectIn devices spans)))
 
 two_in : (t : Option DmaFile) (i : Image) (devices : Devices) (device addr : ℕ) (bytes : List ℕ) → AreAligned i.spans → left_in_page addr < length bytes → length bytes ≤ 64
-    → All (IsInputIn devices i.spans) (two_writes (goes t i device addr) (take (left_in_page addr) bytes) (goes t i device (addr + left_in_page addr)) (drop (left_in_page addr) bytes))
+    → All (IsEffectIn devices i.spans) (two_writes (goes t i device addr) (take (left_in_page addr) bytes) (goes t i device (addr + left_in_page addr)) (drop (left_in_page addr) bytes))
 two_in t i devices device addr bytes all long few =
     let n : ℕ = left_in_page addr in
     let front : length (take n bytes) ≡ n = omega (arith, long, length-take n bytes) in
@@ -216,29 +196,29 @@ shown true = inl refl
 shown false = inr refl
 
 -- what a line writes lies in the spans
-line_in : (t : Option DmaFile) (i : Image) (devices : Devices) (device addr : ℕ) (bytes : List ℕ) → AreAligned i.spans → All (IsInputIn devices i.spans) (unwrap_or (line_writes (goes t i device) addr bytes) [])
+line_in : (t : Option DmaFile) (i : Image) (devices : Devices) (device addr : ℕ) (bytes : List ℕ) → AreAligned i.spans → All (IsEffectIn devices i.spans) (unwrap_or (line_writes (goes t i device) addr bytes) [])
 line_in t i devices device addr bytes all =
     let go = goes t i device in
     let b = goes_by_page t i device all in
     elim (shown (is_line bytes)) [
-      | inr none ↦ subst (All (IsInputIn devices i.spans)) (sym (no_line go addr bytes none)) (All-nil (IsInputIn devices i.spans))
+      | inr none ↦ subst (All (IsEffectIn devices i.spans)) (sym (no_line go addr bytes none)) (All-nil (IsEffectIn devices i.spans))
       | inl line ↦
           let size = line_length bytes line in
           elim (cases_lt (left_in_page addr) (length bytes)) [
-            | inl long ↦ subst (All (IsInputIn devices i.spans)) (sym (line_in_two go b addr bytes long line)) (two_in t i devices device addr bytes all long size.1)
-            | inr short ↦ subst (All (IsInputIn devices i.spans)) (sym (line_in_one go b addr bytes line short)) (one_in devices i.spans (go addr) bytes size.0 size.1 (lies_in_page t i device addr (length bytes) all short))
+            | inl long ↦ subst (All (IsEffectIn devices i.spans)) (sym (line_in_two go b addr bytes long line)) (two_in t i devices device addr bytes all long size.1)
+            | inr short ↦ subst (All (IsEffectIn devices i.spans)) (sym (line_in_one go b addr bytes line short)) (one_in devices i.spans (go addr) bytes size.0 size.1 (lies_in_page t i device addr (length bytes) all short))
           ]
     ]
 
-input_in : (t : Option DmaFile) (i : Image) (devices : Devices) (x : Input) → AreAligned i.spans → HaveMemoriesIn i.spans devices → IsInputOf devices x → All (IsInputIn devices i.spans) (lowered_input t i x)
-input_in t i devices (Port port value) all lie h = All-cons (IsInputIn devices i.spans) _ [] h (All-nil (IsInputIn devices i.spans))
+input_in : (t : Option DmaFile) (i : Image) (devices : Devices) (x : Input) → AreAligned i.spans → HaveMemoriesIn i.spans devices → IsInputOf devices x → All (IsEffectIn devices i.spans) (lowered_input t i x)
+input_in t i devices (Port port value) all lie h = All-cons (IsEffectIn devices i.spans) _ [] h (All-nil (IsEffectIn devices i.spans))
 input_in t i devices (Mem at bytes) all lie h =
-    All-cons (IsInputIn devices i.spans) _ [] (devices_have i.spans at (length bytes) devices.devices lie h.0, h.1, h.2) (All-nil (IsInputIn devices i.spans))
-input_in t i devices (Irq subject vector) all lie h = All-cons (IsInputIn devices i.spans) _ [] h (All-nil (IsInputIn devices i.spans))
-input_in t i devices Idle all lie h = All-cons (IsInputIn devices i.spans) _ [] tt (All-nil (IsInputIn devices i.spans))
+    All-cons (IsEffectIn devices i.spans) _ [] (devices_have i.spans at (length bytes) devices.devices lie h.0, h.1, h.2) (All-nil (IsEffectIn devices i.spans))
+input_in t i devices (Irq subject vector) all lie h = All-cons (IsEffectIn devices i.spans) _ [] h (All-nil (IsEffectIn devices i.spans))
+input_in t i devices Idle all lie h = All-nil (IsEffectIn devices i.spans)
 input_in t i devices (Dma device addr bytes) all lie h = line_in t i devices device addr bytes all
 
-pub still_record : (t : Option DmaFile) (i : Image) (devices : Devices) (r : Record) → IsParts i → HaveMemoriesIn i.spans devices → IsRecordOf devices r → IsRecordIn devices i.spans (lowered t i r)
+pub still_record : (t : Option DmaFile) (i : Image) (devices : Devices) (r : Record Input) → IsParts i → HaveMemoriesIn i.spans devices → IsRecordOf devices r → IsRecordIn devices i.spans (lowered t i r)
 unfolding lowered
 still_record t i devices r parts lie is =
     let all = parts_aligned i parts in
@@ -246,15 +226,11 @@ still_record t i devices r parts lie is =
       ticks = is.ticks;
       inputs_in_order = rises_lowered t i r.inputs is.inputs_in_order;
       inputs_by_end = each_of_all (λ e. e.tick ≤ r.end) (λ e. e.tick ≤ r.end) (lowered_at t i) (λ e h. each_mapped (λ x. Unit {0}) (λ f. f.tick ≤ r.end) (in_tick e.tick) (λ x u. h) (lowered_input t i e.input) (λ k d l. tt)) r.inputs is.inputs_by_end;
-      inputs_fit = each_of_all (λ e. IsInputOf devices e.input) (λ e. IsInputIn devices i.spans e.input) (lowered_at t i) (λ e h. each_mapped (IsInputIn devices i.spans) (λ f. IsInputIn devices i.spans f.input) (in_tick e.tick) (λ x u. u) (lowered_input t i e.input) (input_in t i devices e.input all lie h)) r.inputs is.inputs_fit;
+      inputs_fit = each_of_all (λ e. IsInputOf devices e.input) (λ e. IsEffectIn devices i.spans e.input) (lowered_at t i) (λ e h. each_mapped (IsEffectIn devices i.spans) (λ f. IsEffectIn devices i.spans f.input) (in_tick e.tick) (λ x u. u) (lowered_input t i e.input) (input_in t i devices e.input all lie h)) r.inputs is.inputs_fit;
       orders_rise = is.orders_rise;
       orders_by_end = is.orders_by_end;
       orders_name_each = is.orders_name_each;
     }
-
-pub ordered : (t : Option DmaFile) (i : Image) (r : Record) → IsNonDecreasing (ticks r.inputs) → IsNonDecreasing (ticks (lowered t i r).inputs)
-unfolding lowered
-ordered t i r rises = rises_lowered t i r.inputs rises
 
 -- ---- writes end below 2 ^ 64
 
@@ -277,41 +253,43 @@ few_low spans at count low lies some few =
     let first : at < 1099511627776 = spans_low spans at low (lies at (omega arith) (omega (arith, some))) in
     omega (arith, first, few)
 
-low_input : (devices : Devices) (spans : List SpanPart) (x : Input) → All (λ s. end_of s ≤ PHYSICAL_END) spans → IsInputIn devices spans x → IsLowWrite x
-low_input devices spans (Port port value) low h = tt
-low_input devices spans (Mem at bytes) low h = few_low spans at (length bytes) low h.0 h.1 h.2
-low_input devices spans (Irq subject vector) low h = tt
-low_input devices spans Idle low h = tt
-low_input devices spans (Dma device addr bytes) low h = tt
+low_effect : (devices : Devices) (spans : List SpanPart) (x : Effect) → All (λ s. end_of s ≤ PHYSICAL_END) spans → IsEffectIn devices spans x → IsLow x
+low_effect devices spans (ToPort port value) low h = tt
+low_effect devices spans (ToMem at bytes) low h = few_low spans at (length bytes) low h.0 h.1 h.2
+low_effect devices spans (ToIrq subject vector) low h = tt
 
 -- no devices
 abbrev none_of : Devices
 none_of = record { cpus = 0; devices = []; few = omega arith }
 
-lowered_low : (t : Option DmaFile) (i : Image) (x : Input) → IsParts i → IsLowWrite x → All IsLowWrite (lowered_input t i x)
-lowered_low t i (Port port value) parts h = All-cons IsLowWrite _ [] h (All-nil IsLowWrite)
-lowered_low t i (Mem at bytes) parts h = All-cons IsLowWrite _ [] h (All-nil IsLowWrite)
-lowered_low t i (Irq subject vector) parts h = All-cons IsLowWrite _ [] h (All-nil IsLowWrite)
-lowered_low t i Idle parts h = All-cons IsLowWrite _ [] h (All-nil IsLowWrite)
+lowered_low : (t : Option DmaFile) (i : Image) (x : Input) → IsParts i → IsLowWrite x → All IsLow (lowered_input t i x)
+lowered_low t i (Port port value) parts h = All-cons IsLow _ [] h (All-nil IsLow)
+lowered_low t i (Mem at bytes) parts h = All-cons IsLow _ [] h (All-nil IsLow)
+lowered_low t i (Irq subject vector) parts h = All-cons IsLow _ [] h (All-nil IsLow)
+lowered_low t i Idle parts h = All-nil IsLow
 lowered_low t i (Dma device addr bytes) parts h =
     let writes = line_in t i none_of device addr bytes (parts_aligned i parts) in
-    λ k d l. low_input none_of i.spans _ (parts_low i parts) (writes k d l)
+    λ k d l. low_effect none_of i.spans _ (parts_low i parts) (writes k d l)
 
-pub low : (t : Option DmaFile) (i : Image) (r : Record) → IsParts i → HasLowWrites r → HasLowWrites (lowered t i r)
+-- ---- a machine can run it
+
+pub can_run : (t : Option DmaFile) (i : Image) (r : Record Input) → IsParts i → IsOrderly r → CanRun (lowered t i r)
 unfolding lowered
-low t i r parts all =
-    each_of_all (λ e. IsLowWrite e.input) (λ e. IsLowWrite e.input) (lowered_at t i) (λ e h. each_mapped IsLowWrite (λ f. IsLowWrite f.input) (in_tick e.tick) (λ x u. u) (lowered_input t i e.input) (lowered_low t i e.input parts h)) r.inputs all
+can_run t i r parts is = record {
+  in_order = record { inputs = rises_lowered t i r.inputs is.inputs; orders = is.orders };
+  low = each_of_all (λ e. IsLowWrite e.input) (λ e. IsLow e.input) (lowered_at t i) (λ e h. each_mapped IsLow (λ f. IsLow f.input) (in_tick e.tick) (λ x u. u) (lowered_input t i e.input) (lowered_low t i e.input parts h)) r.inputs is.low;
+}
 
 -- ---- byte by byte
 
-abbrev some_writes : List Input → Option (List Input)
+abbrev some_writes : List Effect → Option (List Effect)
 some_writes xs = Some xs
 
 two_written : (go next : Option ℕ) (front back : List ℕ) (es fs : List (ℕ × ℕ)) → enumerate_from (unwrap_or go 0) front ≡ es → enumerate_from (unwrap_or next 0) back ≡ fs
-    → flat_map bytes_written (Mem (unwrap_or go 0) front ∷ Mem (unwrap_or next 0) back ∷ []) ≡ es ++ fs
+    → flat_map bytes_written (ToMem (unwrap_or go 0) front ∷ ToMem (unwrap_or next 0) back ∷ []) ≡ es ++ fs
 two_written go next front back es fs a b = ap (λ x. enumerate_from (unwrap_or go 0) front ++ x) (append-nil (enumerate_from (unwrap_or next 0) back) ∙ b) ∙ ap (λ x. x ++ fs) a
 
-some_same : (go : ℕ → Option ℕ) (writes : List Input) (all : Bool) (xs : List Input) → (if all then Some xs else None) ≡ some_writes writes → (all ≡ true) × (xs ≡ writes)
+some_same : (go : ℕ → Option ℕ) (writes : List Effect) (all : Bool) (xs : List Effect) → (if all then Some xs else None) ≡ some_writes writes → (all ≡ true) × (xs ≡ writes)
 some_same go writes true xs e = (refl, cc)
 some_same go writes false xs e = absurd cc
 
@@ -348,7 +326,7 @@ line_written go b addr (x ∷ rest) few all =
           rw (le-leb (length bytes) n short) (append-nil (enumerate_from (unwrap_or (go addr) 0) bytes) ∙ part_written go b (addr / PAGE) addr bytes all (omega arith) (omega arith) (omega (arith, short)))
     ]
 
-pub each_byte : (t : Option DmaFile) (i : Image) (device addr : ℕ) (bytes : List ℕ) (writes : List Input) → IsParts i → line_writes (goes t i device) addr bytes ≡ Some writes
+pub each_byte : (t : Option DmaFile) (i : Image) (device addr : ℕ) (bytes : List ℕ) (writes : List Effect) → IsParts i → line_writes (goes t i device) addr bytes ≡ Some writes
     → flat_map bytes_written writes ≡ map (byte_going (goes t i device)) (enumerate_from addr bytes)
 unfolding line_writes
 each_byte t i device addr bytes writes parts e =
@@ -391,11 +369,11 @@ line_paged go b addr bytes line =
           )
     ]
 
-pub each_page : (t : Option DmaFile) (i : Image) (device addr : ℕ) (bytes : List ℕ) (writes : List Input) → IsParts i → line_writes (goes t i device) addr bytes ≡ Some writes
+pub each_page : (t : Option DmaFile) (i : Image) (device addr : ℕ) (bytes : List ℕ) (writes : List Effect) → IsParts i → line_writes (goes t i device) addr bytes ≡ Some writes
     → (length writes ≡ pages_touched addr bytes) × All IsInPage writes
 unfolding line_writes
 each_page t i device addr bytes writes parts e =
     let go = goes t i device in
     let h = some_same go writes (is_line bytes && all_go go addr bytes) (map (write_of go) (by_pages addr bytes)) e in
     let two = both_true (is_line bytes) (all_go go addr bytes) h.0 in
-    subst (λ (ws : List Input). (length ws ≡ pages_touched addr bytes) × All IsInPage ws) h.1 (line_paged go (goes_by_page t i device (parts_aligned i parts)) addr bytes two.0)
+    subst (λ (ws : List Effect). (length ws ≡ pages_touched addr bytes) × All IsInPage ws) h.1 (line_paged go (goes_by_page t i device (parts_aligned i parts)) addr bytes two.0)

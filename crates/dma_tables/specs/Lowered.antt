@@ -1,10 +1,12 @@
 -- What the lines of direct memory access of a record write, by tables and by the spans of an image (this project's own).
-use Rattle.std.specs.Prelude.{ℕ, ◌+◌, ◌-◌, ◌*◌, ◌/◌, ◌%◌, ◌≤◌, ◌&&◌, Bool, true, nat_le, nat_lt, if◌then◌else◌, List, [], ◌∷◌, drop, length, map, take, Option, Some, None, is_some, option_and_then, unwrap_or}
+use Rattle.std.specs.Prelude.{ℕ, ◌+◌, ◌-◌, ◌*◌, ◌%◌, ◌&&◌, Bool, true, nat_le, nat_lt, if◌then◌else◌, List, [], ◌∷◌, drop, length, map, take, Option, Some, None, is_some, option_and_then, unwrap_or}
 use Rattle.std.specs.List.{enumerate_from, flat_map, list_all, list_any, slice_get}
 use Rattle.muen_num.specs.declared.limits.TheConstants.{PAGE}
 use Rattle.image_pack.specs.declared.parts.DevicePart.{DevicePart}
 use Rattle.image_pack.specs.declared.parts.Image.{Image}
 use Rattle.image_pack.specs.declared.parts.SpanPart.{SpanPart}
+use Rattle.device_bench.specs.declared.effect.Effect.{Effect}
+use Rattle.device_bench.specs.declared.effect.Effect.TheVariants.{Port as ToPort, Mem as ToMem, Irq as ToIrq}
 use Rattle.record_text.specs.declared.record.Input.{Input}
 use Rattle.record_text.specs.declared.record.Input.TheVariants.{Port, Mem, Irq, Idle, Dma}
 use Rattle.record_text.specs.declared.record.Record.{Record}
@@ -49,61 +51,34 @@ by_pages addr bytes =
     else (addr, take (left_in_page addr) bytes) ∷ (addr + left_in_page addr, drop (left_in_page addr) bytes) ∷ []
 
 -- bytes are written from where their first address goes on
-abbrev pub write_of : (ℕ → Option ℕ) → ℕ × List ℕ → Input
-write_of go part = Mem (unwrap_or (go part.0) 0) part.1
+abbrev pub write_of : (ℕ → Option ℕ) → ℕ × List ℕ → Effect
+write_of go part = ToMem (unwrap_or (go part.0) 0) part.1
 
 -- a line of a record has 1 to 64 bytes
 abbrev pub is_line : List ℕ → Bool
 is_line bytes = nat_le 1 (length bytes) && nat_le (length bytes) INPUT_MOST
 
 -- none, or the writes of a line, one for each page
-unfoldable pub line_writes : (ℕ → Option ℕ) → ℕ → List ℕ → Option (List Input)
+unfoldable pub line_writes : (ℕ → Option ℕ) → ℕ → List ℕ → Option (List Effect)
 line_writes go addr bytes = if is_line bytes && all_go go addr bytes then Some (map (write_of go) (by_pages addr bytes)) else None
-
--- the write of bytes in one page, if they go somewhere, and the writes in two, if both parts do
-abbrev pub one_write : Option ℕ → List ℕ → List Input
-one_write None bytes = []
-one_write (Some at) bytes = Mem at bytes ∷ []
-
-abbrev pub two_writes : Option ℕ → List ℕ → Option ℕ → List ℕ → List Input
-two_writes None front next back = []
-two_writes (Some at) front None back = []
-two_writes (Some at) front (Some next) back = Mem at front ∷ Mem next back ∷ []
-
--- each byte that an input writes, with its place
-abbrev pub bytes_written : Input → List (ℕ × ℕ)
-bytes_written (Mem at bytes) = enumerate_from at bytes
-bytes_written input = []
-
--- a byte of a line, with where its address goes
-abbrev pub byte_going : (ℕ → Option ℕ) → ℕ × ℕ → ℕ × ℕ
-byte_going go e = (unwrap_or (go e.0) 0, e.1)
-
--- how many pages a line touches, and that what is written stays in one page
-abbrev pub pages_touched : ℕ → List ℕ → ℕ
-pages_touched addr bytes = (addr + length bytes - 1) / PAGE - addr / PAGE + 1
-
-abbrev pub IsInPage : Input → Type 0
-IsInPage (Mem at bytes) = at % PAGE + length bytes ≤ PAGE
-IsInPage input = Unit {0}
 
 -- ---- a record
 
--- a line is its writes, or is dropped where it has none; all else stays
-abbrev pub lowered_input : Option DmaFile → Image → Input → List Input
-lowered_input tables i (Port port value) = Port port value ∷ []
-lowered_input tables i (Mem at bytes) = Mem at bytes ∷ []
-lowered_input tables i (Irq subject vector) = Irq subject vector ∷ []
-lowered_input tables i Idle = Idle ∷ []
+-- what of an input reaches the machine: of a line its writes, none where it is dropped; of an interrupt that nobody has nothing
+abbrev pub lowered_input : Option DmaFile → Image → Input → List Effect
+lowered_input tables i (Port port value) = ToPort port value ∷ []
+lowered_input tables i (Mem at bytes) = ToMem at bytes ∷ []
+lowered_input tables i (Irq subject vector) = ToIrq subject vector ∷ []
+lowered_input tables i Idle = []
 lowered_input tables i (Dma device addr bytes) = unwrap_or (line_writes (goes tables i device) addr bytes) []
 
--- all in the tick of the line
-abbrev pub in_tick : ℕ → Input → TickInput
-in_tick tick input = record { tick = tick; input = input }
+-- all in the tick of the input
+abbrev pub in_tick : ℕ → Effect → TickInput Effect
+in_tick tick effect = record { tick = tick; input = effect }
 
-abbrev pub lowered_at : Option DmaFile → Image → TickInput → List TickInput
+abbrev pub lowered_at : Option DmaFile → Image → TickInput Input → List (TickInput Effect)
 lowered_at tables i e = map (in_tick e.tick) (lowered_input tables i e.input)
 
--- **the record with writes in place of its lines of direct memory access**
-unfoldable pub lowered : Option DmaFile → Image → Record → Record
+-- **the record as it reaches the machine**
+unfoldable pub lowered : Option DmaFile → Image → Record Input → Record Effect
 lowered tables i r = record { end = r.end; inputs = flat_map (lowered_at tables i) r.inputs; orders = r.orders }

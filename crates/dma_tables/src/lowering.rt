@@ -1,18 +1,22 @@
-//! A record with writes of memory in place of its lines of direct memory access.
-ghost use Rattle.std.specs.Prelude.{◌≡◌, ◌<◌, ◌++◌, [], ℕ, IfOk, List, OnOk, Option, Some, length, map, option_map, unwrap_or};
-ghost use Rattle.std.specs.List.Sorted.{IsNonDecreasing};
+//! A record as it reaches a machine: with writes of memory in place of its lines of direct memory
+//! access.
+ghost use Rattle.std.specs.Prelude.{◌≡◌, ◌++◌, ◌∷◌, [], ℕ, IfOk, List, OnOk, Option, Some, length, map, option_map, unwrap_or};
 ghost use Rattle.std.specs.List.{All, enumerate_from, flat_map};
 ghost use Rattle.image_pack.specs.Parts.{IsParts};
 ghost use Rattle.image_pack.specs.declared.parts.Image.{Image};
-ghost use Rattle.record_text.specs.Law.{IsRecordOf};
+ghost use Rattle.device_bench.specs.Devices.{CanRun};
+ghost use Rattle.device_bench.specs.declared.effect.Effect.{Effect};
+ghost use Rattle.record_text.specs.Law.{IsOrderly, IsRecordOf};
 ghost use Rattle.record_text.specs.declared.devices.Devices.{Devices};
 ghost use Rattle.record_text.specs.declared.record.Input.{Input};
 ghost use Rattle.record_text.specs.declared.record.Record.{Record};
-ghost use Rattle.dma_tables.specs.Lowered.{IsInPage, byte_going, bytes_written, goes, in_tick, is_in_spans, is_line, line_writes, lowered, lowered_at, one_write, pages_touched, two_writes};
-ghost use Rattle.dma_tables.specs.LoweredRecord.{HasLowWrites, HasNoDma, HaveMemoriesIn, IsRecordIn};
+ghost use Rattle.dma_tables.specs.LineWrites.{IsInPage, byte_going, bytes_written, one_write, pages_touched, two_writes};
+ghost use Rattle.dma_tables.specs.Lowered.{goes, in_tick, is_in_spans, is_line, line_writes, lowered, lowered_at};
+ghost use Rattle.dma_tables.specs.LoweredRecord.{HaveMemoriesIn, IsRecordIn};
 ghost use Rattle.dma_tables.specs.declared.file.DmaFile.{DmaFile};
 
 use crate::tables::DmaTables;
+use device_bench::Effect;
 use image_pack::{Image, Parts, SpanPart};
 use muen_num::limits::{GUEST_END, PAGE};
 use muen_num::{NoMemory, Seq};
@@ -43,17 +47,17 @@ fn goes(tables: Option<&DmaTables>, image: &Image, device: u8, addr: u64) -> Opt
 }
 
 // A write of these bytes from an address on.
-fn write_at(alloc: Global, at: u64, bytes: &[u8]) -> Result<Input, NoMemory>
-    ensures { IfOk result (λ w. w ≡ Input.Mem at bytes.now) }
+fn write_at(alloc: Global, at: u64, bytes: &[u8]) -> Result<Effect, NoMemory>
+    ensures { IfOk result (λ w. w ≡ Effect.Mem at bytes.now) }
 {
-    Ok(Input::Mem {
+    Ok(Effect::Mem {
         at,
         bytes: Seq::of(Vec::from_slice(alloc, bytes)?),
     })
 }
 
 // The write of a line in one page, if it goes somewhere.
-fn one_write(alloc: Global, at: Option<u64>, bytes: &[u8]) -> Result<Vec<Input>, NoMemory>
+fn one_write(alloc: Global, at: Option<u64>, bytes: &[u8]) -> Result<Vec<Effect>, NoMemory>
     ensures { IfOk result (λ v. v.items ≡ one_write at bytes.now) }
 {
     let mut writes = Vec::new(alloc);
@@ -70,7 +74,7 @@ fn two_writes(
     front: &[u8],
     next: Option<u64>,
     back: &[u8],
-) -> Result<Vec<Input>, NoMemory>
+) -> Result<Vec<Effect>, NoMemory>
     ensures { IfOk result (λ v. v.items ≡ two_writes at front.now next back.now) }
 {
     let mut writes = Vec::new(alloc);
@@ -98,7 +102,7 @@ fn line_writes(
     device: u8,
     addr: u64,
     bytes: &[u8],
-) -> Result<Vec<Input>, NoMemory>
+) -> Result<Vec<Effect>, NoMemory>
     requires { IsParts image.now }
     ensures { IfOk result (λ v. v.items ≡ unwrap_or (line_writes (goes (option_map (λ t. t.now) tables.entry) image.now device) addr bytes.now) []) }
 {
@@ -118,67 +122,84 @@ fn line_writes(
     two_writes(alloc, at, front, next, back)
 }
 
-// Appends these inputs, all in this tick.
-fn add_all(inputs: &mut Vec<TickInput>, tick: u32, added: Vec<Input>) -> Result<(), NoMemory>
-    ensures { OnOk result (inputs.new.items ≡ inputs.old.items ++ map (in_tick tick) added.items) }
+// Appends an effect in this tick.
+fn add(effects: &mut Vec<TickInput<Effect>>, tick: u32, effect: Effect) -> Result<(), NoMemory>
+    ensures { OnOk result (effects.new.items ≡ effects.old.items ++ in_tick tick effect ∷ []) }
 {
-    for input in added {
-        inputs.push(TickInput { tick, input })?;
+    effects.push(TickInput {
+        tick,
+        input: effect,
+    })?;
+    Ok(())
+}
+
+// Appends these effects, all in this tick.
+fn add_all(
+    effects: &mut Vec<TickInput<Effect>>,
+    tick: u32,
+    added: Vec<Effect>,
+) -> Result<(), NoMemory>
+    ensures { OnOk result (effects.new.items ≡ effects.old.items ++ map (in_tick tick) added.items) }
+{
+    for effect in added {
+        add(effects, tick, effect)?;
     }
     Ok(())
 }
 
-// Appends what stands for an input.
+// Appends what of an input reaches the machine.
 fn add_lowered(
     alloc: Global,
     tables: Option<&DmaTables>,
     image: &Image,
-    inputs: &mut Vec<TickInput>,
-    entry: TickInput,
+    effects: &mut Vec<TickInput<Effect>>,
+    entry: TickInput<Input>,
 ) -> Result<(), NoMemory>
     requires { IsParts image.now }
-    ensures { OnOk result (inputs.new.items ≡ inputs.old.items ++ lowered_at (option_map (λ t. t.now) tables.entry) image.now entry) }
+    ensures { OnOk result (effects.new.items ≡ effects.old.items ++ lowered_at (option_map (λ t. t.now) tables.entry) image.now entry) }
 {
     let TickInput { tick, input } = entry;
     match input {
+        Input::Port { port, value } => add(effects, tick, Effect::Port { port, value }),
+        Input::Mem { at, bytes } => add(effects, tick, Effect::Mem { at, bytes }),
+        Input::Irq { subject, vector } => add(effects, tick, Effect::Irq { subject, vector }),
+        Input::Idle => Ok(()),
         Input::Dma {
             device,
             addr,
             bytes,
         } => {
             let writes = line_writes(alloc, tables, image, device, addr, bytes.items())?;
-            add_all(inputs, tick, writes)?;
+            add_all(effects, tick, writes)
         }
-        input => inputs.push(TickInput { tick, input })?,
     }
-    Ok(())
 }
 
-// What stands for the inputs, in their order.
+// What of the inputs reaches the machine, in their order.
 fn lowered_inputs(
     alloc: Global,
     tables: Option<&DmaTables>,
     image: &Image,
-    entries: Vec<TickInput>,
-) -> Result<Vec<TickInput>, NoMemory>
+    entries: Vec<TickInput<Input>>,
+) -> Result<Vec<TickInput<Effect>>, NoMemory>
     requires { IsParts image.now }
     ensures { IfOk result (λ v. v.items ≡ flat_map (lowered_at (option_map (λ t. t.now) tables.entry) image.now) entries.items) }
 {
-    let mut inputs = Vec::new(alloc);
+    let mut effects = Vec::new(alloc);
     for entry in entries {
-        add_lowered(alloc, tables, image, &mut inputs, entry)?;
+        add_lowered(alloc, tables, image, &mut effects, entry)?;
     }
-    Ok(inputs)
+    Ok(effects)
 }
 
-// The record with writes in place of its lines.
+// The record as it reaches the machine.
 #[tactic(auto, unfolding(crate::specs::Lowered::lowered))]
 fn lowered_record(
     alloc: Global,
-    given: Record,
+    given: Record<Input>,
     image: &Image,
     tables: Option<&DmaTables>,
-) -> Result<Record, NoMemory>
+) -> Result<Record<Effect>, NoMemory>
     requires { IsParts image.now }
     ensures { IfOk result (λ r. r ≡ lowered (option_map (λ t. t.now) tables.entry) image.now given) }
 {
@@ -187,48 +208,46 @@ fn lowered_record(
         inputs,
         orders,
     } = given;
-    let inputs = lowered_inputs(alloc, tables, image, inputs.into_vec())?;
+    let effects = lowered_inputs(alloc, tables, image, inputs.into_vec())?;
     Ok(Record {
         end,
-        inputs: Seq::of(inputs),
+        inputs: Seq::of(effects),
         orders,
     })
 }
 
-/// The record with writes of memory in place of its lines of direct memory access. A line becomes a
-/// write for each page that it touches, in their order, where it has 1 to 64 bytes and the tables let
-/// its device write each of them into the spans of the image; otherwise, and without tables, it is
-/// dropped. All else stays. A device is found in the tables by its name.
+/// The record as it reaches the machine of an image, with writes of memory in place of its lines of
+/// direct memory access. A line becomes a write for each page that it touches, in their order, where it
+/// has 1 to 64 bytes and the tables let its device write each of them into the spans of the image;
+/// otherwise, and without tables, it is dropped. So is an interrupt that nobody has; all else stays. A
+/// device is found in the tables by its name.
 ///
 /// # Errors
 /// Memory is refused.
 pub fn lower(
     alloc: Global,
-    given: Record,
+    given: Record<Input>,
     parts: &Parts,
     tables: Option<&DmaTables>,
-) -> Result<Record, NoMemory>
+) -> Result<Record<Effect>, NoMemory>
     // Which record it is.
     ensures exact { IfOk result (λ r. r ≡ lowered (option_map (λ t. t.now) tables.entry) parts.now given) }
-    // No line is left.
-    ensures none_left { IfOk result (λ r. HasNoDma r) }
+    // A machine can run it, where the record's ticks are in order and no write of it ends too high.
+    ensures can_run { IsOrderly given → IfOk result CanRun }
     // A record of devices whose memories lie in the spans is one of the same devices, whose writes lie there.
     ensures record_in { (devices : Devices) → IsRecordOf devices given → HaveMemoriesIn parts.now.spans devices → IfOk result (λ r. IsRecordIn devices parts.now.spans r) }
 {
     lowered_record(alloc, given, parts.image(), tables)
 }
 
-/// What lowered records are.
+/// What records are that reach a machine.
 pub fn lowered_records()
-    // No line is left.
-    ensures none_left { (t : Option DmaFile) (i : Image) (r : Record) → HasNoDma (lowered t i r) }
-    // It is a record of the same devices, whose writes lie in the spans.
-    ensures records { (t : Option DmaFile) (i : Image) (devices : Devices) (r : Record) → IsParts i → HaveMemoriesIn i.spans devices → IsRecordOf devices r → IsRecordIn devices i.spans (lowered t i r) }
+    // A record of the same devices, whose writes lie in the spans.
+    ensures records { (t : Option DmaFile) (i : Image) (devices : Devices) (r : Record Input) → IsParts i → HaveMemoriesIn i.spans devices → IsRecordOf devices r → IsRecordIn devices i.spans (lowered t i r) }
     // The ticks stay in order, and no write goes past what addresses have room for.
-    ensures ordered { (t : Option DmaFile) (i : Image) (r : Record) → IsNonDecreasing (map (λ e. e.tick) r.inputs) → IsNonDecreasing (map (λ e. e.tick) (lowered t i r).inputs) }
-    ensures low { (t : Option DmaFile) (i : Image) (r : Record) → IsParts i → HasLowWrites r → HasLowWrites (lowered t i r) }
+    ensures can_run { (t : Option DmaFile) (i : Image) (r : Record Input) → IsParts i → IsOrderly r → CanRun (lowered t i r) }
     // Each byte of a line is written where the tables lead, and no other byte is.
-    ensures each_byte { (t : Option DmaFile) (i : Image) (device addr : ℕ) (bytes : List ℕ) (writes : List Input) → IsParts i → line_writes (goes t i device) addr bytes ≡ Some writes → flat_map bytes_written writes ≡ map (byte_going (goes t i device)) (enumerate_from addr bytes) }
+    ensures each_byte { (t : Option DmaFile) (i : Image) (device addr : ℕ) (bytes : List ℕ) (writes : List Effect) → IsParts i → line_writes (goes t i device) addr bytes ≡ Some writes → flat_map bytes_written writes ≡ map (byte_going (goes t i device)) (enumerate_from addr bytes) }
     // There is a write for each page that a line touches, and each stays in one page.
-    ensures each_page { (t : Option DmaFile) (i : Image) (device addr : ℕ) (bytes : List ℕ) (writes : List Input) → IsParts i → line_writes (goes t i device) addr bytes ≡ Some writes → (length writes ≡ pages_touched addr bytes) × All IsInPage writes }
+    ensures each_page { (t : Option DmaFile) (i : Image) (device addr : ℕ) (bytes : List ℕ) (writes : List Effect) → IsParts i → line_writes (goes t i device) addr bytes ≡ Some writes → (length writes ≡ pages_touched addr bytes) × All IsInPage writes }
 {}

@@ -11,10 +11,9 @@ use Rattle.image_pack.specs.declared.parts.Image.{Image}
 use Rattle.image_pack.specs.declared.parts.IrqPart.{IrqPart}
 use Rattle.muen_num.specs.declared.devices.IrqTarget.{IrqTarget}
 use Rattle.image_pack.specs.declared.parts.SpanPart.{SpanPart}
-use Rattle.kernel_core.specs.Ticks.{CanRun, IsLow}
 use Rattle.record_text.specs.Bench.{BenchDevice, bench_device, bench_of}
 use Rattle.record_text.specs.DeviceRecord.{DeviceRecord, NamedInput, port_input, memory_input, irq_input, dma_input}
-use Rattle.record_text.specs.Law.{IsInputOf, IsRecordOf}
+use Rattle.record_text.specs.Law.{IsInputOf, IsLowWrite, IsOrderly, IsRecordOf}
 use Rattle.record_text.specs.Resolving.{bytes_in, irq_of, is_in_span, memory_of, order_at, resolved, resolved_at, resolved_input, port_of, raised as record_raised}
 use Rattle.record_text.specs.Reading.{record_of}
 use Rattle.record_text.specs.Steps.{mapped}
@@ -167,7 +166,7 @@ pub same_reading : (i : Image) (ds : Devices) (bytes : List ℕ) → HasDevices 
 same_reading i ds bytes h =
     ap (λ b. mapped (resolved ds) (record_of bytes b)) (same_bench i ds h) ∙ mapped_same (resolved ds) (image_record i) (same_record i ds h) (record_of bytes (image_bench i))
 
--- ---- a kernel can run a record of such devices
+-- ---- a record of such devices is in order
 
 from_any : {X : Type 0} (P : Type 0) (p : X → Bool) (xs : List X) → ((x : X) → p x ≡ true → P) → list_any p xs ≡ true → P
 from_any P p [] gives h = absurd (cc)
@@ -183,7 +182,7 @@ memory_low at count m h =
     let fits : m.address + m.bytes < 2 ^ 64 = m.fits in
     omega (arith, within, fits)
 
-input_low : (ds : Devices) (input : Input) → IsInputOf ds input → IsLow input
+input_low : (ds : Devices) (input : Input) → IsInputOf ds input → IsLowWrite input
 input_low ds (Port port value) h = tt
 input_low ds (Mem at bytes) h =
     from_any (at + length bytes < 2 ^ 64) (λ d. list_any (λ m. nat_le m.address at && nat_le (at + length bytes) (m.address + m.bytes)) d.memories) ds.devices
@@ -193,12 +192,13 @@ input_low ds (Irq subject vector) h = tt
 input_low ds Idle h = tt
 input_low ds (Dma device addr bytes) h = tt
 
-can_run : (ds : Devices) (r : Record) → IsRecordOf ds r → CanRun r
-can_run ds r h = record {
-  in_order = record { inputs = h.inputs_in_order; orders = h.orders_rise };
+orderly : (ds : Devices) (r : Record Input) → IsRecordOf ds r → IsOrderly r
+orderly ds r h = record {
+  inputs = h.inputs_in_order;
+  orders = h.orders_rise;
   low = λ k d l. input_low ds _ (h.inputs_fit k d l);
 }
 
-pub read_can_run : (ds : Devices) (r : Result Record RecordFault) → IfOk r (IsRecordOf ds) → IfOk r CanRun
-read_can_run ds (Ok r) h = can_run ds r h
-read_can_run ds (Err e) h = tt
+pub read_orderly : (ds : Devices) (r : Result (Record Input) RecordFault) → IfOk r (IsRecordOf ds) → IfOk r IsOrderly
+read_orderly ds (Ok r) h = orderly ds r h
+read_orderly ds (Err e) h = tt

@@ -82,9 +82,9 @@ input_of i (dma_input device addr bytes) =
     option_map (λ number. Dma number addr bytes) (position (λ d. bytes_eq d.name device) i.devices)
 
 -- what isn't there does nothing; a record that is read for the image names nothing such
-abbrev pub tick_input_of : Image → ℕ × NamedInput → TickInput
+abbrev pub tick_input_of : Image → ℕ × NamedInput → TickInput Input
 tick_input_of i e = record { tick = e.0; input = unwrap_or (input_of i e.1) Idle }
 
 -- **the record** by addresses and numbers
-abbrev pub image_record : Image → DeviceRecord → Record
+abbrev pub image_record : Image → DeviceRecord → Record Input
 image_record i r = record { end = r.end; inputs = map (tick_input_of i) r.inputs; orders = map order_at r.orders }

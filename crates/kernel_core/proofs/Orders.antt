@@ -6,14 +6,14 @@ use Rattle.std.proofs.lemmas.List.Elements.{All-filter}
 use Rattle.std.proofs.lemmas.Option.{get_or_from_slice_get, none-some, slice_get-map, slice_get_past, slice_get_within}
 use Rattle.muen_num.specs.Range.{numbers_below}
 use Rattle.muen_num.proofs.NumbersBelow.{length_numbers}
-use Rattle.device_bench.specs.Devices.{inputs_at}
-use Rattle.record_text.specs.declared.record.Input.{Input}
+use Rattle.device_bench.specs.Devices.{IsLow, inputs_at}
+use Rattle.device_bench.specs.declared.effect.Effect.{Effect}
 use Rattle.record_text.specs.declared.record.Record.{Record}
 use Rattle.record_text.specs.declared.record.TickInput.{TickInput}
 use Rattle.frame_clock.specs.Run.{all_taken}
 use Rattle.vmx_machine.specs.Machine.{MachineState, left}
 use Rattle.kernel_core.specs.Kernel.{Live}
-use Rattle.kernel_core.specs.Ticks.{IsLow, KernelState, all_left, kernel, takes_any, tick_inputs}
+use Rattle.kernel_core.specs.Ticks.{KernelState, all_left, kernel, takes_any, tick_inputs}
 use Rattle.kernel_core.specs.declared.setup.Setup.{Setup}
 
 pub past_numbers : (n k : ℕ) → n ≤ k → slice_get (numbers_below n) k ≡ None
@@ -24,20 +24,20 @@ one_more n = ap numbers_below (add-one n)
 
 -- ---- inputs
 
-found_low : (ts : List TickInput) (index : ℕ) (i : Input) (o : Option TickInput) → All (λ t. IsLow t.input) ts → slice_get ts index ≡ o → option_map (λ t. t.input) o ≡ Some i → IsLow i
+found_low : (ts : List (TickInput Effect)) (index : ℕ) (i : Effect) (o : Option (TickInput Effect)) → All (λ t. IsLow t.input) ts → slice_get ts index ≡ o → option_map (λ t. t.input) o ≡ Some i → IsLow i
 found_low ts index i None low here is = absurd (none-some i is)
 found_low ts index i (Some t) low here is =
     let there : IsLow (slice_index_or ts index t).input = low index t (slice_get_within ts index t here) in
-    subst IsLow (ap (λ (u : TickInput). u.input) (get_or_from_slice_get ts index t t here) ∙ ap (λ o. unwrap_or o t.input) is) there
+    subst IsLow (ap (λ (u : TickInput Effect). u.input) (get_or_from_slice_get ts index t t here) ∙ ap (λ o. unwrap_or o t.input) is) there
 
 -- an input that comes in a tick ends below 2 ^ 64
-pub low_input : (run : Record) (tick index : ℕ) (i : Input) → All (λ t. IsLow t.input) run.inputs → Some i ≡ slice_get (tick_inputs run tick) index → IsLow i
+pub low_input : (run : Record Effect) (tick index : ℕ) (i : Effect) → All (λ t. IsLow t.input) run.inputs → Some i ≡ slice_get (tick_inputs run tick) index → IsLow i
 low_input run tick index i low is =
-    found_low (inputs_at run tick) index i (slice_get (inputs_at run tick) index) (All-filter (λ (t : TickInput). t.tick == tick) (λ (t : TickInput). IsLow t.input) run.inputs low) refl
-    (sym (slice_get-map (λ (t : TickInput). t.input) (inputs_at run tick) index) ∙ sym is)
+    found_low (inputs_at run tick) index i (slice_get (inputs_at run tick) index) (All-filter (λ (t : TickInput Effect). t.tick == tick) (λ (t : TickInput Effect). IsLow t.input) run.inputs low) refl
+    (sym (slice_get-map (λ (t : TickInput Effect). t.input) (inputs_at run tick) index) ∙ sym is)
 
 module _ (setup : Setup) where
-  taken_more : (is : List Input) (n : ℕ) (k : Live) → all_taken (kernel setup) (take (suc n) is) k ≡ takes_any (slice_get is n) (all_taken (kernel setup) (take n is) k)
+  taken_more : (is : List Effect) (n : ℕ) (k : Live) → all_taken (kernel setup) (take (suc n) is) k ≡ takes_any (slice_get is n) (all_taken (kernel setup) (take n is) k)
   taken_more [] zero k = refl
   taken_more [] (suc n) k = refl
   taken_more (i ∷ is) zero k = refl

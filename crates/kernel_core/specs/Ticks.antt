@@ -1,12 +1,11 @@
 -- The kernel over a run: how a tick begins, what inputs do, and how all ends (this project's own).
-use Rattle.std.specs.Prelude.{ℕ, ◌+◌, ◌^◌, ◌<◌, List, [], ◌∷◌, map, length, replicate, slice_get, slice_set, Option, Some, None, option_and_then, unwrap_or}
-use Rattle.std.specs.List.{All}
+use Rattle.std.specs.Prelude.{ℕ, List, [], ◌∷◌, map, replicate, slice_get, slice_set, Option, Some, None, option_and_then, unwrap_or}
 use Rattle.muen_num.specs.Range.{numbers_below}
 use Rattle.machine_layout.specs.Memory.{Page}
-use Rattle.record_text.specs.declared.record.Input.{Input}
-use Rattle.record_text.specs.declared.record.Input.TheVariants.{Port, Mem, Irq, Idle, Dma}
 use Rattle.record_text.specs.declared.record.Record.{Record}
-use Rattle.device_bench.specs.Devices.{IsInOrder, inputs_at, order_at, no_inputs}
+use Rattle.device_bench.specs.Devices.{inputs_at, order_at, no_inputs}
+use Rattle.device_bench.specs.declared.effect.Effect.{Effect}
+use Rattle.device_bench.specs.declared.effect.Effect.TheVariants.{Port, Mem, Irq}
 use Rattle.frame_clock.specs.Frames.{frame_at_tick, ticks_of_majors, first_frame}
 use Rattle.event_router.specs.Router.{started as router_started, pends_now}
 use Rattle.frame_clock.specs.Run.{Clocked, Ran, run_to}
@@ -36,35 +35,33 @@ abbrev pub begins : Setup → ℕ → Live → Live
 begins setup tick k =
     record k { frame = frame_at_tick (ticks_of_majors setup.plan) k.frame (pick_of setup.tau0 k.machine.pages) tick }
 
--- ---- inputs; no table lets a device reach memory by itself
+-- ---- inputs: what devices do
 
-abbrev pub takes : Input → Live → Live
+abbrev pub takes : Effect → Live → Live
 takes (Port port value) k = record k { ports = slice_set k.ports port value }
 takes (Mem at bytes) k = record k { machine = device_wrote at bytes k.machine }
 takes (Irq subject vector) k = record k { router = pends_now subject (Some vector) k.router }
-takes Idle k = k
-takes (Dma device addr bytes) k = k
 
 -- an input, if there is one
-abbrev pub takes_any : Option Input → Live → Live
+abbrev pub takes_any : Option Effect → Live → Live
 takes_any None k = k
 takes_any (Some i) k = takes i k
 
 -- **the kernel on the clock**
-abbrev pub kernel : Setup → Clocked Live Input TurnLine
+abbrev pub kernel : Setup → Clocked Live Effect TurnLine
 kernel setup = record { begins = begins setup; takes = takes; turn = turn_of setup }
 
 -- ---- by a record
 
-abbrev pub tick_inputs : Record → ℕ → List Input
+abbrev pub tick_inputs : Record Effect → ℕ → List Effect
 tick_inputs run tick = map (λ i. i.input) (inputs_at run tick)
 
 -- the CPUs as the record orders them, by number where it doesn't
-abbrev pub tick_order : Record → ℕ → ℕ → List ℕ
+abbrev pub tick_order : Record Effect → ℕ → ℕ → List ℕ
 tick_order run cpus tick = unwrap_or (order_at run tick) (numbers_below cpus)
 
 -- the run of a record's first n ticks
-abbrev pub kernel_run_to : Setup → Record → ℕ → List Page → ℕ → Ran Live TurnLine
+abbrev pub kernel_run_to : Setup → Record Effect → ℕ → List Page → ℕ → Ran Live TurnLine
 kernel_run_to setup run cpus pages n =
     run_to (kernel setup) (tick_inputs run) (tick_order run cpus) n (live_started setup cpus pages)
 
@@ -83,7 +80,7 @@ pub record KernelState : Type 0 where
   pub setup : Setup
   -- how many CPUs there are
   pub cpus : ℕ
-  pub run : Record
+  pub run : Record Effect
   pub live : Live
   -- the tick that comes or is open
   pub tick : ℕ
@@ -92,16 +89,5 @@ pub record KernelState : Type 0 where
 abbrev pub with_live : KernelState → Live → KernelState
 with_live k live = record k { live = live }
 
-abbrev pub kernel_started : Setup → Record → ℕ → List Page → KernelState
+abbrev pub kernel_started : Setup → Record Effect → ℕ → List Page → KernelState
 kernel_started setup run cpus pages = record { setup = setup; cpus = cpus; run = run; live = live_started setup cpus pages; tick = 0 }
-
--- ---- records that a kernel can run
-
--- what is written into memory ends below 2 ^ 64
-abbrev pub IsLow : Input → Type 0
-IsLow (Mem at bytes) = at + length bytes < 2 ^ 64
-IsLow _ = Unit {0}
-
-pub record CanRun (run : Record) : Type 0 where
-  pub in_order : IsInOrder run
-  pub low : All (λ i. IsLow i.input) run.inputs

@@ -5,13 +5,14 @@ ghost use Rattle.muen_num.specs.ListChange.{change_at};
 ghost use Rattle.event_router.specs.Router.{deliverable, taken};
 ghost use Rattle.vmx_machine.specs.Machine.{entered, left, state_on};
 ghost use Rattle.kernel_core.specs.Kernel.{acts, event_of, exit_handled, raised_by, switched, turn_of, vector_for};
-ghost use Rattle.kernel_core.specs.Ticks.{CanRun, kernel_started, with_live};
+ghost use Rattle.device_bench.specs.Devices.{CanRun};
+ghost use Rattle.kernel_core.specs.Ticks.{kernel_started, with_live};
 
 use crate::exit::{event_of, exit_end_of};
 use crate::on_cpus::{nobody, on_cpu, put_on};
 use crate::setup::Setup;
 use crate::turn::Turn;
-use device_bench::Bench;
+use device_bench::{Bench, Effect};
 use ept_walk::Translate;
 use event_router::Router;
 use frame_clock::{FrameAt, slot};
@@ -41,7 +42,8 @@ pub struct Kernel<M: PhysMem, T: Translate> {
 
 impl<M: PhysMem, T: Translate> Model for Kernel<M, T> {
     ghost use Rattle.std.specs.Prelude.{◌≡◌, length};
-    ghost use Rattle.kernel_core.specs.Ticks.{KernelState, CanRun};
+    ghost use Rattle.device_bench.specs.Devices.{CanRun};
+    ghost use Rattle.kernel_core.specs.Ticks.{KernelState};
 
     ghost Value = { KernelState };
 
@@ -66,7 +68,7 @@ impl<M: PhysMem, T: Translate> Kernel<M, T> {
         alloc: Global,
         setup: Setup,
         cpus: u8,
-        input: Record,
+        input: Record<Effect>,
         mem: M,
         walk: T,
     ) -> Result<Kernel<M, T>, NoMemory>

@@ -8,10 +8,11 @@ ghost use Rattle.vmx_machine.specs.Machine.{page_at};
 ghost use Rattle.kernel_core.specs.Ticks.{all_left, begins, ended, kernel, pick_of, takes_any, tick_inputs, tick_order};
 
 use crate::kernel::{Kernel, control_at};
+use device_bench::Effect;
 use ept_walk::Translate;
 use frame_clock::advance;
 use phys_mem::PhysMem;
-use record_text::{Input, TickInput};
+use record_text::TickInput;
 use state_page::SubjectState;
 use vmx_machine::Machine;
 
@@ -63,13 +64,12 @@ impl<M: PhysMem, T: Translate> Kernel<M, T> {
     {
         match input_at(self.bench.inputs(self.tick), index) {
             None => {}
-            Some(Input::Port { port, value }) => {
+            Some(Effect::Port { port, value }) => {
                 let (port, value) = (*port, *value);
                 self.bench.set_port(port, value);
             }
-            Some(Input::Mem { at, bytes }) => self.machine.device_write(*at, bytes.items()),
-            Some(Input::Irq { subject, vector }) => self.router.raise_irq(*subject, *vector),
-            Some(Input::Idle) | Some(Input::Dma { .. }) => {}
+            Some(Effect::Mem { at, bytes }) => self.machine.device_write(*at, bytes.items()),
+            Some(Effect::Irq { subject, vector }) => self.router.raise_irq(*subject, *vector),
         }
     }
 
@@ -150,7 +150,7 @@ fn leave_all<M: PhysMem, T: Translate>(machine: &mut Machine<M, T>, cpus: usize)
 }
 
 // The input at an index.
-fn input_at(inputs: &[TickInput], index: usize) -> Option<&Input>
+fn input_at(inputs: &[TickInput<Effect>], index: usize) -> Option<&Effect>
     ensures { option_map (λ i. i.now) result ≡ slice_get (map (λ i. i.input) inputs.now) index }
 {
     Some(&inputs.get(index)?.input)

@@ -12,6 +12,7 @@ use Rattle.image_pack.specs.declared.parts.SpanKind.{SpanKind}
 use Rattle.image_pack.specs.declared.parts.SpanKind.TheVariants.{Own, Channel, Provided, Kernel as OfKernel, Device}
 use Rattle.image_pack.specs.declared.parts.SpanPart.{SpanPart}
 use Rattle.image_pack.specs.declared.parts.SubjectPart.{SubjectPart}
+use Rattle.device_bench.specs.declared.effect.Effect.{Effect}
 use Rattle.record_text.specs.declared.record.Record.{Record}
 use Rattle.view_text.specs.ViewText.{rows_text, turn_text, region_text}
 use Rattle.view_text.specs.declared.TurnLine.{TurnLine}
@@ -75,7 +76,7 @@ final_text setup spans pages = states_text setup pages ++ (spans_text false span
 abbrev pub ran_text : Setup → List SpanPart → ℕ → Ran Live TurnLine → List ℕ
 ran_text setup spans cpus ran = flat_map turn_text ran.lines ++ final_text setup spans (ended cpus ran.state).machine.pages
 
--- **the text** of an image's run on a record: all its ticks, and then the final lines
-unfoldable pub image_text : Image → Record → List ℕ
+-- **the text** of an image's run on what reaches its machine: all ticks, and then the final lines
+unfoldable pub image_text : Image → Record Effect → List ℕ
 image_text i run =
     ran_text (setup_of i) i.spans i.header.cpus (kernel_run_to (setup_of i) run i.header.cpus (memory_of i) run.end)

@@ -26,6 +26,7 @@ use Rattle.record_text.specs.declared.devices.RecordMemory.{RecordMemory}
 use Rattle.record_text.specs.declared.fault.RecordFault.{RecordFault}
 use Rattle.record_text.specs.declared.fault.RecordFault.TheVariants.{NoEnd}
 use Rattle.record_text.specs.declared.record.Input.TheVariants.{Port, Mem, Idle, Dma}
+use Rattle.record_text.specs.declared.record.Input.{Input}
 use Rattle.record_text.specs.declared.record.Record.{Record}
 use Rattle.record_text.proofs.Lines.{known_is}
 use Rattle.record_text.proofs.Rules.{IsFew, IsInput, IsRuled, entry_at-Ok, passed, then_ok}
@@ -265,11 +266,11 @@ record_lawful devices text r h =
     let lines = passed (all_ascii 1 (lines_of text)) (record_after (bench_of devices) at_start 1 (lines_of text)) r h in
     resolved_lawful devices r (holds_after (bench_of devices) at_start 1 (lines_of text) r lines.1)
 
-from_mapped : (devices : Devices) (s : Result DeviceRecord RecordFault) (x : Record) → ((r : DeviceRecord) → s ≡ Ok r → IsRecordOf devices (resolved devices r)) → mapped (resolved devices) s ≡ Ok x → IsRecordOf devices x
+from_mapped : (devices : Devices) (s : Result DeviceRecord RecordFault) (x : Record Input) → ((r : DeviceRecord) → s ≡ Ok r → IsRecordOf devices (resolved devices r)) → mapped (resolved devices) s ≡ Ok x → IsRecordOf devices x
 from_mapped devices (Ok r) x law h = let same : resolved devices r ≡ x = cc in rw same at (law r refl)
 from_mapped devices (Err fault) x law h = cc
 
-pub read_lawful : (devices : Devices) (text : List ℕ) (x : Record) → mapped (resolved devices) (record_of text (bench_of devices)) ≡ Ok x → IsRecordOf devices x
+pub read_lawful : (devices : Devices) (text : List ℕ) (x : Record Input) → mapped (resolved devices) (record_of text (bench_of devices)) ≡ Ok x → IsRecordOf devices x
 read_lawful devices text x h = from_mapped devices (record_of text (bench_of devices)) x (λ r. record_lawful devices text r) h
 
 pub ruleset lawful = (read_lawful)

@@ -245,7 +245,7 @@ grown_none devices (Ok r) = refl
 grown_none devices (Err fault) = refl
 
 -- what the call for a line answered is what the whole call answers
-pub refused_here : (devices : Devices) (m : Made) (n : ℕ) (line : List ℕ) (lines : List (List ℕ)) (fault : RecordFault) (whole : Result Record RecordFault)
+pub refused_here : (devices : Devices) (m : Made) (n : ℕ) (line : List ℕ) (lines : List (List ℕ)) (fault : RecordFault) (whole : Result (Record Input) RecordFault)
     → (fault ≡ NoMemory) ⊎ (mapped (made_with devices m) (entry_at (bench_of devices) (standing_of m) n line) ≡ Err fault)
     → grown devices m (record_after (bench_of devices) (standing_of m) n (line ∷ lines)) ≡ whole
     → (fault ≡ NoMemory) ⊎ (whole ≡ Err fault)

@@ -1,5 +1,5 @@
 -- What holds of every record that is read.
-use Rattle.std.specs.Prelude.{◌≡◌, ℕ, ◌+◌, ◌<◌, ◌≤◌, ◌==◌, ◌&&◌, Bool, false, IsTrue, nat_le, nat_lt, List, map, length, Option, Some, None, All}
+use Rattle.std.specs.Prelude.{◌≡◌, ℕ, ◌+◌, ◌^◌, ◌<◌, ◌≤◌, ◌==◌, ◌&&◌, Bool, false, IsTrue, nat_le, nat_lt, List, map, length, Option, Some, None, All}
 use Rattle.std.specs.List.{list_all, list_any}
 use Rattle.std.specs.List.Sorted.{IsNonDecreasing, IsStrictlyIncreasing}
 use Rattle.muen_num.specs.declared.limits.TheConstants.{GUEST_END, MOST_TICKS}
@@ -46,7 +46,7 @@ pub record NamesEachOnce (cpus : ℕ) (order : List ℕ) : Type 0 where
   pub distinct : IsTrue (are_distinct order)
 
 -- a record of these devices
-pub record IsRecordOf (devices : Devices) (r : Record) : Type 0 where
+pub record IsRecordOf (devices : Devices) (r : Record Input) : Type 0 where
   pub ticks : r.end ≤ MOST_TICKS
   pub inputs_in_order : IsNonDecreasing (map (λ i. i.tick) r.inputs)
   pub inputs_by_end : All (λ i. i.tick ≤ r.end) r.inputs
@@ -54,3 +54,19 @@ pub record IsRecordOf (devices : Devices) (r : Record) : Type 0 where
   pub orders_rise : IsStrictlyIncreasing (map (λ o. o.tick) r.orders)
   pub orders_by_end : All (λ o. o.tick ≤ r.end) r.orders
   pub orders_name_each : All (λ o. NamesEachOnce devices.cpus o.cpus) r.orders
+
+-- ---- what a run needs of it
+
+-- what is written into memory ends below 2 ^ 64
+abbrev pub IsLowWrite : Input → Type 0
+IsLowWrite (Port port value) = Unit {0}
+IsLowWrite (Mem at bytes) = at + length bytes < 2 ^ 64
+IsLowWrite (Irq subject vector) = Unit {0}
+IsLowWrite Idle = Unit {0}
+IsLowWrite (Dma device addr bytes) = Unit {0}
+
+-- inputs stand by their ticks, and so do orders, of which a tick has one at most; no write ends too high
+pub record IsOrderly (r : Record Input) : Type 0 where
+  pub inputs : IsNonDecreasing (map (λ i. i.tick) r.inputs)
+  pub orders : IsStrictlyIncreasing (map (λ o. o.tick) r.orders)
+  pub low : All (λ i. IsLowWrite i.input) r.inputs

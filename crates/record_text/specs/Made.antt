@@ -68,7 +68,7 @@ made_with devices m (order_entry tick cpus) = with_order m tick cpus
 made_with devices m (end_entry tick) = with_end m tick
 
 -- what was read, and behind it what the lines that remain say
-abbrev pub grown : Devices → Made → Result DeviceRecord RecordFault → Result Record RecordFault
+abbrev pub grown : Devices → Made → Result DeviceRecord RecordFault → Result (Record Input) RecordFault
 grown devices m (Ok r) = Ok (record {
   end = r.end;
   inputs = m.inputs ++ map (resolved_at devices) r.inputs;

@@ -47,12 +47,12 @@ resolved_input devices (dma_input device addr bytes) =
     option_map (λ number. Dma number addr bytes) (position (λ d. bytes_eq d.name device) devices.devices)
 
 -- what isn't there does nothing; a record that is read names nothing such
-abbrev pub resolved_at : Devices → ℕ × NamedInput → TickInput
+abbrev pub resolved_at : Devices → ℕ × NamedInput → TickInput Input
 resolved_at devices e = record { tick = e.0; input = unwrap_or (resolved_input devices e.1) Idle }
 
 abbrev pub order_at : ℕ × List ℕ → TickOrder
 order_at e = record { tick = e.0; cpus = e.1 }
 
 -- the record by addresses and numbers
-abbrev pub resolved : Devices → DeviceRecord → Record
+abbrev pub resolved : Devices → DeviceRecord → Record Input
 resolved devices r = record { end = r.end; inputs = map (resolved_at devices) r.inputs; orders = map order_at r.orders }

@@ -18,7 +18,7 @@ pub(crate) struct Made {
     pub tick: u32,
     /// Whether a line has ended the record.
     pub ended: bool,
-    pub inputs: Seq<TickInput>,
+    pub inputs: Seq<TickInput<Input>>,
     pub orders: Seq<TickOrder>,
 }
 

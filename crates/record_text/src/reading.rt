@@ -16,7 +16,7 @@ use crate::fault::RecordFault;
 use crate::line::read_line;
 use crate::made::{Made, nothing, with_line};
 use crate::number::LineError;
-use crate::record::Record;
+use crate::record::{Input, Record};
 use std::alloc::Global;
 
 // Whether the line has a byte above 127.
@@ -67,7 +67,7 @@ fn add_line(
 }
 
 // All that the lines say.
-fn read_lines(alloc: Global, bytes: &[u8], devices: &Devices) -> Result<Record, RecordFault>
+fn read_lines(alloc: Global, bytes: &[u8], devices: &Devices) -> Result<Record<Input>, RecordFault>
     ensures { Answers RecordFault.NoMemory (mapped (resolved devices.now) (record_after (bench_of devices.now) at_start 1 (lines_of bytes.now))) result }
 {
     let mut made = nothing(alloc);
@@ -97,7 +97,7 @@ fn read_lines(alloc: Global, bytes: &[u8], devices: &Devices) -> Result<Record, 
 
 // The record, or its first fault.
 #[tactic(auto, unfolding(crate::specs::Reading::record_of))]
-fn read_text(alloc: Global, bytes: &[u8], devices: &Devices) -> Result<Record, RecordFault>
+fn read_text(alloc: Global, bytes: &[u8], devices: &Devices) -> Result<Record<Input>, RecordFault>
     ensures { Answers RecordFault.NoMemory (mapped (resolved devices.now) (record_of bytes.now (bench_of devices.now))) result }
 {
     check_ascii(bytes)?;
@@ -108,7 +108,7 @@ fn read_text(alloc: Global, bytes: &[u8], devices: &Devices) -> Result<Record, R
 /// each input goes. `NoMemory` comes only where memory was refused, and then in place of any answer.
 /// The time is linear in the number of bytes.
 #[tactic(auto, using(crate::proofs::Lawful::lawful))]
-pub fn read(alloc: Global, bytes: &[u8], devices: &Devices) -> Result<Record, RecordFault>
+pub fn read(alloc: Global, bytes: &[u8], devices: &Devices) -> Result<Record<Input>, RecordFault>
     ensures exact { Answers RecordFault.NoMemory (mapped (resolved devices.now) (record_of bytes.now (bench_of devices.now))) result }
     ensures lawful { IfOk result (IsRecordOf devices.now) }
 {

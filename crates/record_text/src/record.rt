@@ -4,7 +4,7 @@ use muen_num::Seq;
 /// The most bytes of one input into memory; there is at least one.
 pub const INPUT_MOST: usize = 64;
 
-/// What a device does.
+/// What a line of a record says that a device does.
 #[derive(Clone, Debug, PartialEq, Eq, Drop)]
 pub enum Input {
     /// The input byte of an I/O port becomes this value.
@@ -34,9 +34,9 @@ pub enum Input {
 
 /// An input with its tick.
 #[derive(Clone, Debug, PartialEq, Eq, Drop)]
-pub struct TickInput {
+pub struct TickInput<I> {
     pub tick: u32,
-    pub input: Input,
+    pub input: I,
 }
 
 /// The order in which the CPUs take their turns in a tick.
@@ -47,13 +47,14 @@ pub struct TickOrder {
     pub cpus: Seq<u8>,
 }
 
-/// The device record of a run.
+/// The device record of a run, over what it has of devices: what its lines say (`Input`), or what of
+/// it reaches a machine.
 #[derive(Clone, Debug, PartialEq, Eq, Drop)]
-pub struct Record {
+pub struct Record<I> {
     /// How many ticks the run has, at most 100,000. An input of this very tick has no effect.
     pub end: u32,
     /// The inputs, in the order in which they come.
-    pub inputs: Seq<TickInput>,
+    pub inputs: Seq<TickInput<I>>,
     /// The orders, by rising ticks; in any other tick the CPUs take their turns by number.
     pub orders: Seq<TickOrder>,
 }

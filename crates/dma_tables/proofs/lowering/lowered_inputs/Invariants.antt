@@ -6,4 +6,4 @@ use Rattle.dma_tables.proofs.lowering.lowered_inputs.Given as goal
 
 abbrev pub invariant-loop-entry : goal.invariant-loop-entry
 invariant-loop-entry l =
-    l.inputs.items ++ flat_map (lowered_at (option_map (λ t. t.now) l.tables) l.image) l.entry-iterator.rest.items ≡ flat_map (lowered_at (option_map (λ t. t.now) l.tables) l.image) l.fn.entries.items
+    l.effects.items ++ flat_map (lowered_at (option_map (λ t. t.now) l.tables) l.image) l.entry-iterator.rest.items ≡ flat_map (lowered_at (option_map (λ t. t.now) l.tables) l.image) l.fn.entries.items

@@ -5,7 +5,7 @@ use Rattle.record_text.specs.declared.fault.RecordFault.TheVariants.{NoMemory}
 use Rattle.image_pack.specs.declared.parts.Image.{Image}
 use Rattle.image_load.specs.Loading.{AreLow}
 use Rattle.image_load.specs.RecordDevices.{HasDevices}
-use Rattle.image_load.proofs.Resolved.{read_can_run, same_reading}
+use Rattle.image_load.proofs.Resolved.{read_orderly, same_reading}
 use Rattle.image_load.proofs.Rising.{parts_few, parts_low}
 use Rattle.image_load.proofs.reading.read_record.Goals as goal
 
@@ -20,5 +20,5 @@ returns-clause-exact c =
     let has = subst (λ (i : Image). HasDevices i c.in_ok-devices.devices) c.image.ensures.same c.in_ok-devices.ensures in
     subst (λ w. Answers NoMemory w c.read.result) (same_reading c.args.parts.now c.in_ok-devices.devices c.args.bytes.now has) c.read.ensures.exact
 
-pub returns-clause-can_run : goal.returns-clause-can_run
-returns-clause-can_run c = read_can_run c.in_ok-devices.devices c.read.result c.read.ensures.lawful
+pub returns-clause-orderly : goal.returns-clause-orderly
+returns-clause-orderly c = read_orderly c.in_ok-devices.devices c.read.result c.read.ensures.lawful
