@@ -2,6 +2,7 @@
 use Rattle.std.proofs.Common.{◌≡◌, inl, inr, ℕ, zero, suc, ◌+◌, ◌-◌, ◌*◌, ◌/◌, ◌^◌, ◌<◌, ◌≤◌, true, false, List, [], ◌∷◌, length, get_or, Option, Some, None, refl, ap, sym, ◌∙◌, arith, All, subst}
 use Rattle.ept_emit.specs.declared.window.Window.{Window}
 use Rattle.machine_layout.specs.Walks.{entry_size, index_at, entry_address, addresses_from, goes_on}
+use Rattle.policy_types.specs.declared.rights.Rights.TheVariants.{Rwx}
 use Rattle.ept_emit.specs.Entries.{IsEmittable, is_whole, leaf_entry}
 use Rattle.ept_emit.specs.Tables.{IsWritten, child}
 use Rattle.ept_emit.proofs.EntryBits.{goes_free, goes_page, goes_table}
@@ -45,23 +46,23 @@ module _ (entry : ℕ → ℕ → Option ℕ) (out : ℕ → ℕ) (base lo hi : 
   abbrev after : ℕ → ℕ → List ℕ
   after l k = goes_on (suc l) (entry (base + k) (index_at (suc l) addr)) [] (λ t. addresses_from entry addr l t)
 
-  after_free : (l k : ℕ) → k < hi → window_of ws (suc l) addr ≡ None → IsWritten out base lo hi ws (suc l) k addr → after l k ≡ []
+  after_free : (l k : ℕ) → k < hi → window_of ws (suc l) addr ≡ None → IsWritten Rwx out base lo hi ws (suc l) k addr → after l k ≡ []
   after_free l k lt none h =
-      let word = none_of (Under out base lo hi ws (suc l) addr) base lo hi (suc l) (addr / entry_size (suc l)) (word_of out (suc l) k addr) (window_of ws (suc l) addr) none (written_parts out base lo hi ws (suc l) k addr h) in
+      let word = none_of Rwx (Under Rwx out base lo hi ws (suc l) addr) base lo hi (suc l) (addr / entry_size (suc l)) (word_of out (suc l) k addr) (window_of ws (suc l) addr) none (written_parts Rwx out base lo hi ws (suc l) k addr h) in
       ap (λ o. goes_on (suc l) o [] (λ t. addresses_from entry addr l t)) (has k (index_at (suc l) addr) lt (omega arith)) ∙ goes_free (suc l) (word_of out (suc l) k addr) [] (λ t. addresses_from entry addr l t) word
 
-  after_page : (l k : ℕ) (w : Window) → k < hi → window_of ws (suc l) addr ≡ Some w → is_whole w (suc l) (addr / entry_size (suc l)) ≡ true → IsWritten out base lo hi ws (suc l) k addr → after l k ≡ []
+  after_page : (l k : ℕ) (w : Window) → k < hi → window_of ws (suc l) addr ≡ Some w → is_whole w (suc l) (addr / entry_size (suc l)) ≡ true → IsWritten Rwx out base lo hi ws (suc l) k addr → after l k ≡ []
   after_page l k w lt some whole h =
       let e = addr / entry_size (suc l) in
       let m = mapped_on ws (suc l) addr w ok some whole in
-      let word = leaf_of (Under out base lo hi ws (suc l) addr) base lo hi (suc l) e (word_of out (suc l) k addr) (window_of ws (suc l) addr) w some whole (written_parts out base lo hi ws (suc l) k addr h) in
+      let word = leaf_of Rwx (Under Rwx out base lo hi ws (suc l) addr) base lo hi (suc l) e (word_of out (suc l) k addr) (window_of ws (suc l) addr) w some whole (written_parts Rwx out base lo hi ws (suc l) k addr h) in
       ap (λ o. goes_on (suc l) o [] (λ t. addresses_from entry addr l t)) (has k (index_at (suc l) addr) lt (omega arith))
       ∙ (ap (λ q. goes_on (suc l) (Some q) [] (λ t. addresses_from entry addr l t)) word
       ∙ goes_page (suc l) (leaf_entry w (suc l) e) [] (λ t. addresses_from entry addr l t) m.present m.fine m.leaf)
 
-  after_table : (l k : ℕ) (w : Window) → k < hi → window_of ws (suc l) addr ≡ Some w → is_whole w (suc l) (addr / entry_size (suc l)) ≡ false → IsWritten out base lo hi ws (suc l) k addr → after l k ≡ addresses_from entry addr l (base + child base (word_of out (suc l) k addr))
+  after_table : (l k : ℕ) (w : Window) → k < hi → window_of ws (suc l) addr ≡ Some w → is_whole w (suc l) (addr / entry_size (suc l)) ≡ false → IsWritten Rwx out base lo hi ws (suc l) k addr → after l k ≡ addresses_from entry addr l (base + child base (word_of out (suc l) k addr))
   after_table l k w lt some part h =
-      let q = child_of out base lo hi ws l k addr w some part h in
+      let q = child_of Rwx out base lo hi ws l k addr w some part h in
       let c = child base (word_of out (suc l) k addr) in
       ap (λ o. goes_on (suc l) o [] (λ t. addresses_from entry addr l t)) (has k (index_at (suc l) addr) lt (omega arith))
       ∙ goes_table l (word_of out (suc l) k addr) (base + c) [] (λ t. addresses_from entry addr l t) q.0.is (omega (arith, q.0.high))
@@ -69,7 +70,7 @@ module _ (entry : ℕ → ℕ → Option ℕ) (out : ℕ → ℕ) (base lo hi : 
   none_after : (xs : List ℕ) (i : ℕ) → xs ≡ [] → i < length xs → ⊥
   none_after xs i e lt = let z = rw e at lt in omega arith
 
-  pub met : (l k i : ℕ) (d : ℕ) → k < hi → IsWritten out base lo hi ws l k addr → i < length (addresses_from entry addr l (base + k)) → IsMet out base hi ws l k addr i (get_or (addresses_from entry addr l (base + k)) i d)
+  pub met : (l k i : ℕ) (d : ℕ) → k < hi → IsWritten Rwx out base lo hi ws l k addr → i < length (addresses_from entry addr l (base + k)) → IsMet out base hi ws l k addr i (get_or (addresses_from entry addr l (base + k)) i d)
   met zero k zero d lt h within = met_first out base hi ws zero k addr
   met zero k (suc i) d lt h within = absurd (omega arith)
   met (suc l) k zero d lt h within = met_first out base hi ws (suc l) k addr
@@ -80,7 +81,7 @@ module _ (entry : ℕ → ℕ → Option ℕ) (out : ℕ → ℕ) (base lo hi : 
         | Whole w some whole ↦ absurd (none_after (after l k) i (after_page l k w lt some whole h) (omega arith))
         | Part w some part ↦
             let e = after_table l k w lt some part h in
-            let q = child_of out base lo hi ws l k addr w some part h in
+            let q = child_of Rwx out base lo hi ws l k addr w some part h in
             let inside : i < length (after l k) = omega arith in
             let r = met l c i d q.0.high q.1 (rw e at inside) in
             let same : suc l - suc i ≡ l - i = omega arith in
@@ -103,7 +104,7 @@ module _ (entry : ℕ → ℕ → Option ℕ) (out : ℕ → ℕ) (base lo hi : 
         here = rw (next, e) r.here;
       }
 
-  pub read : (l k l2 k2 : ℕ) → k < hi → IsWritten out base lo hi ws l k addr → Meets out base ws l k addr l2 k2 → IsRead (addresses_from entry addr l (base + k)) base l l2 k2
+  pub read : (l k l2 k2 : ℕ) → k < hi → IsWritten Rwx out base lo hi ws l k addr → Meets out base ws l k addr l2 k2 → IsRead (addresses_from entry addr l (base + k)) base l l2 k2
   read zero k l2 k2 lt h (inl e) = rw (e.0, e.1) (read_first base zero k (index_at zero addr) [] (omega arith))
   read zero k l2 k2 lt h (inr b) = absurd (below_lowest out base ws k addr l2 k2 b)
   read (suc l) k l2 k2 lt h (inl e) = rw (e.0, e.1) (read_first base (suc l) k (index_at (suc l) addr) (after l k) (omega arith))
@@ -115,6 +116,6 @@ module _ (entry : ℕ → ℕ → Option ℕ) (out : ℕ → ℕ) (base lo hi : 
         | Free none ↦ absurd (leads_none deeper c (suc l) (addr / entry_size (suc l)) (window_of ws (suc l) addr) none p)
         | Whole w some whole ↦ absurd (leads_leaf deeper c (suc l) (addr / entry_size (suc l)) (window_of ws (suc l) addr) w some whole p)
         | Part w some part ↦
-            let q = child_of out base lo hi ws l k addr w some part h in
+            let q = child_of Rwx out base lo hi ws l k addr w some part h in
             read_next l k l2 k2 (entry_address (base + k) (index_at (suc l) addr)) (after l k) (addresses_from entry addr l (base + c)) (after_table l k w lt some part h) (read l c l2 k2 q.0.high q.1 (leads_to deeper c (suc l) (addr / entry_size (suc l)) (window_of ws (suc l) addr) w some part p))
       ]

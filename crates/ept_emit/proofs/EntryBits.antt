@@ -102,34 +102,34 @@ maps_fine l x r c low a aligned small b odd =
 
 -- ---- an entry that references the table in a page
 
-table_rights : (p : ℕ) → bits_of (table_entry p) 0 2 ≡ 7
+table_rights : (p : ℕ) → bits_of (table_entry Rwx p) 0 2 ≡ 7
 table_rights p = omega arith
 
-pub table_present : (p : ℕ) → is_present (table_entry p) ≡ true
-table_present p = let e = table_rights p in ap not (ne_eqb (bits_of (table_entry p) 0 2) 0 (λ h. omega (arith, e, h)))
+pub table_present : (p : ℕ) → is_present (table_entry Rwx p) ≡ true
+table_present p = let e = table_rights p in ap not (ne_eqb (bits_of (table_entry Rwx p) 0 2) 0 (λ h. omega (arith, e, h)))
 
-table_page : (p : ℕ) → p < 2 ^ 28 → bits_of (table_entry p) 12 51 ≡ p
+table_page : (p : ℕ) → p < 2 ^ 28 → bits_of (table_entry Rwx p) 12 51 ≡ p
 table_page p h = omega arith
 
-pub table_leaf : (l p : ℕ) → is_leaf (suc l) (table_entry p) ≡ false
+pub table_leaf : (l p : ℕ) → is_leaf (suc l) (table_entry Rwx p) ≡ false
 table_leaf l p =
-    let bit : bits_of (table_entry p) 7 7 ≡ 0 = omega arith in
-    or_from (suc l == 0) _ (ne_eqb (suc l) 0 (λ h. omega arith)) (and_right (nat_lt (suc l) 3) _ (ne_eqb (bits_of (table_entry p) 7 7) 1 (λ h. omega (arith, bit, h))))
+    let bit : bits_of (table_entry Rwx p) 7 7 ≡ 0 = omega arith in
+    or_from (suc l == 0) _ (ne_eqb (suc l) 0 (λ h. omega arith)) (and_right (nat_lt (suc l) 3) _ (ne_eqb (bits_of (table_entry Rwx p) 7 7) 1 (λ h. omega (arith, bit, h))))
 
-table_reserved : (l p : ℕ) → has_reserved l (table_entry p) ≡ false
+table_reserved : (l p : ℕ) → has_reserved l (table_entry Rwx p) ≡ false
 table_reserved l p =
-    let high : bits_of (table_entry p) 3 7 ≡ 0 = omega arith in
-    let low : bits_of (table_entry p) 3 6 ≡ 0 = omega arith in
-    let a : not (bits_of (table_entry p) 3 7 == 0) ≡ false = not_from_true _ (eq-eqb _ _ high) in
-    let b : not (bits_of (table_entry p) 3 6 == 0) ≡ false = not_from_true _ (eq-eqb _ _ low) in
+    let high : bits_of (table_entry Rwx p) 3 7 ≡ 0 = omega arith in
+    let low : bits_of (table_entry Rwx p) 3 6 ≡ 0 = omega arith in
+    let a : not (bits_of (table_entry Rwx p) 3 7 == 0) ≡ false = not_from_true _ (eq-eqb _ _ high) in
+    let b : not (bits_of (table_entry Rwx p) 3 6 == 0) ≡ false = not_from_true _ (eq-eqb _ _ low) in
     elim (cases_Bool (l == 3)) [
       | inl t ↦ rw t a
       | inr f ↦ rw f b
     ]
 
-pub table_fine : (l p : ℕ) → p < 2 ^ 28 → is_misconfigured (suc l) (table_entry p) ≡ false
+pub table_fine : (l p : ℕ) → p < 2 ^ 28 → is_misconfigured (suc l) (table_entry Rwx p) ≡ false
 table_fine l p small =
-    let word = table_entry p in
+    let word = table_entry Rwx p in
     let high : bits_of word 40 51 ≡ 0 = omega arith in
     let a : has_lone_rights word ≡ false = ap lone (table_rights p) in
     let q : is_beyond word ≡ false = not_from_true _ (eq-eqb _ _ high) in
@@ -149,11 +149,11 @@ reads_page there l addr want word r x new a b c rights small address =
     ∙ (ap (λ q. leaf_end there addr want q (4096 * bits_of word 12 51 + addr % entry_size l)) (ap (bit_and 7) rights ∙ rights_kept r small)
     ∙ ap (λ y. leaf_end there addr want r (y + addr % entry_size l)) address)
 
-pub reads_table : (there : ℕ → Bool) (l addr want word p : ℕ) (new : ℕ → ℕ → Walk) → word ≡ table_entry p → p < 2 ^ 28 → reads there (suc l) addr want 7 (Some word) new ≡ new p 7
+pub reads_table : (there : ℕ → Bool) (l addr want word p : ℕ) (new : ℕ → ℕ → Walk) → word ≡ table_entry Rwx p → p < 2 ^ 28 → reads there (suc l) addr want 7 (Some word) new ≡ new p 7
 reads_table there l addr want word p new is small =
     ap (λ q. reads there (suc l) addr want 7 (Some q) new) is
-    ∙ (by_tests there (suc l) addr want 7 (table_entry p) new true false false (table_present p) (table_fine l p small) (table_leaf l p)
-    ∙ (ap (λ q. new q (bit_and 7 (bits_of (table_entry p) 0 2))) (table_page p small) ∙ ap (new p) (ap (bit_and 7) (table_rights p))))
+    ∙ (by_tests there (suc l) addr want 7 (table_entry Rwx p) new true false false (table_present p) (table_fine l p small) (table_leaf l p)
+    ∙ (ap (λ q. new q (bit_and 7 (bits_of (table_entry Rwx p) 0 2))) (table_page p small) ∙ ap (new p) (ap (bit_and 7) (table_rights p))))
 
 goes_by : {A : Type 0} (l word : ℕ) (end : A) (deeper : ℕ → A) (p m f : Bool) → is_present word ≡ p → is_misconfigured l word ≡ m → is_leaf l word ≡ f → goes_on l (Some word) end deeper ≡ (if p && not (m || f) then deeper (bits_of word 12 51) else end)
 goes_by l word end deeper p m f a b c = rw (sym a, sym b, sym c) refl
@@ -164,7 +164,7 @@ goes_free l word end deeper h = rw h refl
 pub goes_page : {A : Type 0} (l word : ℕ) (end : A) (deeper : ℕ → A) → is_present word ≡ true → is_misconfigured l word ≡ false → is_leaf l word ≡ true → goes_on l (Some word) end deeper ≡ end
 goes_page l word end deeper a b c = goes_by l word end deeper true false true a b c
 
-pub goes_table : {A : Type 0} (l word p : ℕ) (end : A) (deeper : ℕ → A) → word ≡ table_entry p → p < 2 ^ 28 → goes_on (suc l) (Some word) end deeper ≡ deeper p
+pub goes_table : {A : Type 0} (l word p : ℕ) (end : A) (deeper : ℕ → A) → word ≡ table_entry Rwx p → p < 2 ^ 28 → goes_on (suc l) (Some word) end deeper ≡ deeper p
 goes_table l word p end deeper is small =
     ap (λ q. goes_on (suc l) (Some q) end deeper) is
-    ∙ (goes_by (suc l) (table_entry p) end deeper true false false (table_present p) (table_fine l p small) (table_leaf l p) ∙ ap deeper (table_page p small))
+    ∙ (goes_by (suc l) (table_entry Rwx p) end deeper true false false (table_present p) (table_fine l p small) (table_leaf l p) ∙ ap deeper (table_page p small))

@@ -18,7 +18,6 @@ use Rattle.ept_emit.specs.Entries.{IsEmittable, type_of, word_at}
 use Rattle.ept_emit.specs.Emitted.{HasAddresses, HasTables, IsGreatestSize, IsReadBy, eptp_of, translation, translation_in, window_at}
 use Rattle.ept_emit.specs.Reads.{Reads}
 use Rattle.ept_emit.specs.Tables.{AreNumbered, Below}
-use Rattle.ept_emit.proofs.Numbered.{InTable}
 use Rattle.ept_emit.proofs.Addresses.{IsRead, met, read}
 use Rattle.ept_emit.proofs.Walked.{Has, leads, level_low, walk_written, size_written, type_written}
 use Rattle.ept_emit.proofs.Written.{Meets, below_lower, below_within}
@@ -67,12 +66,9 @@ root_is at h = omega arith
 
 -- all addresses
 abbrev pub InAll : ℕ → Type 0
-InAll addr = InTable 3 0 addr
+InAll addr = addr < 2 ^ 48
 
-pub in_all : (addr : ℕ) → addr < 2 ^ 48 → InAll addr
-in_all addr lt = omega arith
-
-module _ (m : List Page) (at n total : ℕ) (out : List ℕ) (ws : List Window) (page : at % 4096 ≡ 0) (some : 1 ≤ n) (few : n ≤ total) (end : at + 4096 * total ≤ 2 ^ 40) (room : length out ≡ 4096 * total) (ok : All IsEmittable ws) (numbered : AreNumbered (word_at out) (at / 4096) 1 n ws 3 0 InAll) (held : HasTables m at out) where
+module _ (m : List Page) (at n total : ℕ) (out : List ℕ) (ws : List Window) (page : at % 4096 ≡ 0) (some : 1 ≤ n) (few : n ≤ total) (end : at + 4096 * total ≤ 2 ^ 40) (room : length out ≡ 4096 * total) (ok : All IsEmittable ws) (numbered : AreNumbered Rwx (word_at out) (at / 4096) 1 n ws 3 0 InAll) (held : HasTables m at out) where
   abbrev base : ℕ
   base = at / 4096
 
@@ -85,19 +81,19 @@ module _ (m : List Page) (at n total : ℕ) (out : List ℕ) (ws : List Window) 
   pub walk_held : (addr : ℕ) (kind : AccessKind) → addr < 2 ^ 48 → HasAddresses m ws → walk_of m (eptp_of at) addr kind ≡ translation ws addr kind
   walk_held addr kind lt addresses =
       ap (λ t. walk_from (entry_of m) (is_there m) addr (kind_bit kind) 3 t 7) (root_is at page)
-      ∙ (walk_written (entry_of m) (is_there m) (word_at out) (at / 4096) 1 n ws addr (kind_bit kind) bounded entries ok addresses 3 0 some (numbered.written addr (in_all addr lt))
+      ∙ (walk_written (entry_of m) (is_there m) (word_at out) (at / 4096) 1 n ws addr (kind_bit kind) bounded entries ok addresses 3 0 some (numbered.written addr lt)
       ∙ leads_is (window_at ws addr) addr kind)
 
   pub size_held : (addr : ℕ) (o : Option Window) → window_at ws addr ≡ o → addr < 2 ^ 48 → AreApart (ranges_of ws) → IfSome o (λ w. IsGreatestSize w addr (leaf_size m (eptp_of at) addr))
   size_held addr None is lt apart = tt
   size_held addr (Some w) is lt apart =
-      let size = size_written (entry_of m) (word_at out) (at / 4096) 1 n ws addr w bounded entries ok apart is 3 0 some (numbered.written addr (in_all addr lt)) (λ h allowed inside. let low = level_low w.leaf in omega arith) in
+      let size = size_written (entry_of m) (word_at out) (at / 4096) 1 n ws addr w bounded entries ok apart is 3 0 some (numbered.written addr lt) (λ h allowed inside. let low = level_low w.leaf in omega arith) in
       subst (λ (t : ℕ). IsGreatestSize w addr (end_entry_size (entry_of m) addr 3 t)) (sym (root_is at page)) size
 
   pub type_held : (addr : ℕ) (o : Option Window) → window_at ws addr ≡ o → addr < 2 ^ 48 → IfSome o (λ w. leaf_type m (eptp_of at) addr ≡ Some (type_of w.caching))
   type_held addr None is lt = tt
   type_held addr (Some w) is lt =
-      let mapped = type_written (entry_of m) (word_at out) (at / 4096) 1 n ws addr w bounded entries ok is 3 0 some (numbered.written addr (in_all addr lt)) in
+      let mapped = type_written (entry_of m) (word_at out) (at / 4096) 1 n ws addr w bounded entries ok is 3 0 some (numbered.written addr lt) in
       subst (λ (t : ℕ). option_map (λ e. bits_of e 3 5) (end_entry (entry_of m) addr 3 t) ≡ Some (type_of w.caching)) (sym (root_is at page)) mapped
 
   -- a table that is read
@@ -108,7 +104,7 @@ module _ (m : List Page) (at n total : ℕ) (out : List ℕ) (ws : List Window) 
 
   tells_at : (addr level pg : ℕ) → addr < 2 ^ 48 → level ≤ 3 → 3 - level < length (addresses_from (entry_of m) addr 3 (at / 4096 + 0)) → get_or (addresses_from (entry_of m) addr 3 (at / 4096 + 0)) (3 - level) 0 / 4096 ≡ pg → Tells addr level pg
   tells_at addr level pg lt depth within here =
-      let r = met (entry_of m) (word_at out) (at / 4096) 1 n ws addr bounded entries ok 3 0 (3 - level) 0 some (numbered.written addr (in_all addr lt)) within in
+      let r = met (entry_of m) (word_at out) (at / 4096) 1 n ws addr bounded entries ok 3 0 (3 - level) 0 some (numbered.written addr lt) within in
       let same : 3 - (3 - level) ≡ level = omega arith in
       record {
         table = r.table;
@@ -125,7 +121,7 @@ module _ (m : List Page) (at n total : ℕ) (out : List ℕ) (ws : List Window) 
 
   told : (addr l2 k2 : ℕ) → addr < 2 ^ 48 → Meets (word_at out) (at / 4096) ws 3 0 addr l2 k2 → Reads m (eptp_of at) addr l2 (at / 4096 + k2)
   told addr l2 k2 lt meets =
-      let r = read (entry_of m) (word_at out) (at / 4096) 1 n ws addr bounded entries ok 3 0 l2 k2 some (numbered.written addr (in_all addr lt)) meets in
+      let r = read (entry_of m) (word_at out) (at / 4096) 1 n ws addr bounded entries ok 3 0 l2 k2 some (numbered.written addr lt) meets in
       let q = subst (λ (t : ℕ). IsRead (addresses_from (entry_of m) addr 3 t) (at / 4096) 3 l2 k2) (sym (root_is at page)) r in
       record {
         depth = q.level;
@@ -134,7 +130,7 @@ module _ (m : List Page) (at n total : ℕ) (out : List ℕ) (ws : List Window) 
       }
 
   table_in : (addr l2 k2 : ℕ) → addr < 2 ^ 48 → Below (word_at out) (at / 4096) ws 3 0 addr l2 k2 → (1 ≤ k2) × (k2 < n)
-  table_in addr l2 k2 lt b = below_within (word_at out) (at / 4096) 1 n ws 3 0 addr l2 k2 (numbered.written addr (in_all addr lt)) b
+  table_in addr l2 k2 lt b = below_within Rwx (word_at out) (at / 4096) 1 n ws 3 0 addr l2 k2 (numbered.written addr lt) b
 
   table_low : (addr l2 k2 : ℕ) → addr < 2 ^ 48 → Meets (word_at out) (at / 4096) ws 3 0 addr l2 k2 → k2 < n
   table_low addr l2 k2 lt (inl e) = omega (arith, e.1)
@@ -143,7 +139,7 @@ module _ (m : List Page) (at n total : ℕ) (out : List ℕ) (ws : List Window) 
   pub alone_held : (addr : ℕ) → addr < 2 ^ 48 → All (λ address. (at ≤ address) × (address + 8 ≤ at + length out)) (addresses_read m (eptp_of at) addr)
   alone_held addr lt =
       subst (λ (t : ℕ). All (λ address. (at ≤ address) × (address + 8 ≤ at + length out)) (addresses_from (entry_of m) addr 3 t)) (sym (root_is at page)) (λ i d within.
-      let r = met (entry_of m) (word_at out) (at / 4096) 1 n ws addr bounded entries ok 3 0 i d some (numbered.written addr (in_all addr lt)) within in
+      let r = met (entry_of m) (word_at out) (at / 4096) 1 n ws addr bounded entries ok 3 0 i d some (numbered.written addr lt) within in
       let low = table_low addr (3 - i) r.table lt r.meets in
       (omega (arith, r.low), omega (arith, r.high)))
 
@@ -154,7 +150,7 @@ module _ (m : List Page) (at n total : ℕ) (out : List ℕ) (ws : List Window) 
   paths_of a b level other k la lb (inl x) (inl y) = (x.0 ∙ sym y.0, root_path a level la x.0 ∙ sym (root_path b level lb x.0))
   paths_of a b level other k la lb (inl x) (inr y) = let p = table_in b other k lb y in absurd (omega (arith, x.1, p.0))
   paths_of a b level other k la lb (inr x) (inl y) = let p = table_in a level k la x in absurd (omega (arith, y.1, p.0))
-  paths_of a b level other k la lb (inr x) (inr y) = numbered.paths a b level other k (in_all a la) (in_all b lb) x y
+  paths_of a b level other k la lb (inr x) (inr y) = numbered.paths a b level other k la lb x y
 
   pub paths_held : (a b level other pg : ℕ) → a < 2 ^ 48 → b < 2 ^ 48 → Reads m (eptp_of at) a level pg → Reads m (eptp_of at) b other pg → (level ≡ other) × (a / entry_size (suc level) ≡ b / entry_size (suc level))
   paths_held a b level other pg la lb ra rb =
@@ -167,7 +163,7 @@ module _ (m : List Page) (at n total : ℕ) (out : List ℕ) (ws : List Window) 
   ascending_of addr level k lower j lt (inl x) (inl y) less = absurd (omega (arith, x.0, y.0, less))
   ascending_of addr level k lower j lt (inl x) (inr y) less = let p = table_in addr lower j lt y in omega (arith, x.1, p.0)
   ascending_of addr level k lower j lt (inr x) (inl y) less = let low = below_lower (word_at out) (at / 4096) ws 3 0 addr level k x in absurd (omega (arith, y.0, low, less))
-  ascending_of addr level k lower j lt (inr x) (inr y) less = numbered.ascending addr level k lower j (in_all addr lt) x y less
+  ascending_of addr level k lower j lt (inr x) (inr y) less = numbered.ascending addr level k lower j lt x y less
 
   pub ascending_held : (addr level pg lower low : ℕ) → addr < 2 ^ 48 → Reads m (eptp_of at) addr level pg → Reads m (eptp_of at) addr lower low → lower < level → pg < low
   ascending_held addr level pg lower low lt r q less =
@@ -190,7 +186,7 @@ module _ (m : List Page) (at n total : ℕ) (out : List ℕ) (ws : List Window) 
   order_of : (addr level j k : ℕ) → addr < 2 ^ 48 → 1 ≤ j → j ≤ k → Meets (word_at out) (at / 4096) ws 3 0 addr level k → IsReadBy m (eptp_of at) addr (at / 4096 + j)
   order_of addr level j k lt some_j le (inl x) = absurd (omega (arith, x.1))
   order_of addr level j k lt some_j le (inr b) =
-      let r = numbered.order addr level j k (in_all addr lt) b some_j le in
+      let r = numbered.order addr level j k lt b some_j le in
       record {
         addr = r.addr;
         level = r.depth;
@@ -215,8 +211,7 @@ module _ (m : List Page) (at n total : ℕ) (out : List ℕ) (ws : List Window) 
           | inl e ↦ inl (rw e (root_read (2 ^ 48 - 1) (at / 4096 + 0) (omega arith) (omega arith)))
           | inr ne ↦
               let r = numbered.reached k (omega arith) used in
-              let w : r.addr / entry_size 3 / 512 ≡ 0 = r.within in
-              let below : r.addr < 2 ^ 48 = omega arith in
+              let below : r.addr < 2 ^ 48 = r.within in
               inl (record {
                 addr = r.addr;
                 level = r.depth;

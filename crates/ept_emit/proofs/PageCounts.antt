@@ -1,6 +1,6 @@
 -- Counts over ranges that follow one another.
 use Rattle.std.proofs.Common.{◌≡◌, ℕ, zero, suc, ◌+◌, ◌<◌, ◌≤◌, Bool, true, false, refl, arith}
-use Rattle.ept_emit.specs.Pages.{count, one}
+use Rattle.ept_emit.specs.Pages.{count}
 
 count_add : (p : ℕ → Bool) (lo a b : ℕ) → count p lo (a + b) ≡ count p lo a + count p (lo + a) b
 unfolding count

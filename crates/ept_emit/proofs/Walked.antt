@@ -11,6 +11,7 @@ use Rattle.machine_layout.specs.declared.walk.Walk.{Walk}
 use Rattle.machine_layout.specs.declared.walk.Walk.TheVariants.{At, Violation, Misconfigured}
 use Rattle.machine_layout.specs.Walks.{bits_of, entry_size, index_at, reads, leaf_end, walk_from, is_present, is_misconfigured, is_leaf, end_entry_size, end_entry, goes_on}
 use Rattle.policy_types.specs.Rights.{rights_bits}
+use Rattle.policy_types.specs.declared.rights.Rights.TheVariants.{Rwx}
 use Rattle.ept_emit.specs.Entries.{IsEmittable, is_whole, leaf_entry, level_of, type_of, window_on}
 use Rattle.ept_emit.specs.Tables.{IsWritten, child}
 use Rattle.ept_emit.specs.Emitted.{window_at, IsInside, IsGreatestSize}
@@ -163,28 +164,28 @@ module _ (entry : ℕ → ℕ → Option ℕ) (there : ℕ → Bool) (out : ℕ 
       walk_is entry there addr want l (base + k) 7
       ∙ ap (λ o. reads there l addr want 7 o (deeper_walk entry there addr want l)) (has k (index_at l addr) lt (omega arith))
 
-  at_free : (l k : ℕ) → k < hi → window_of ws l addr ≡ None → IsWritten out base lo hi ws l k addr → walk_from entry there addr want l (base + k) 7 ≡ leads (window_at ws addr) addr want
+  at_free : (l k : ℕ) → k < hi → window_of ws l addr ≡ None → IsWritten Rwx out base lo hi ws l k addr → walk_from entry there addr want l (base + k) 7 ≡ leads (window_at ws addr) addr want
   at_free l k lt none h =
       let a = around l addr in
-      let word = none_of (Under out base lo hi ws l addr) base lo hi l (addr / entry_size l) (word_of out l k addr) (window_of ws l addr) none (written_parts out base lo hi ws l k addr h) in
+      let word = none_of Rwx (Under Rwx out base lo hi ws l addr) base lo hi l (addr / entry_size l) (word_of out l k addr) (window_of ws l addr) none (written_parts Rwx out base lo hi ws l k addr h) in
       at_entry l k lt
       ∙ (reads_free there l addr want (word_of out l k addr) (deeper_walk entry there addr want l) word
       ∙ sym (ap (λ o. leads o addr want) (none_within ws (entry_size l * (addr / entry_size l)) (entry_size l) addr none a.0 a.1)))
 
-  at_page : (l k : ℕ) (w : Window) → k < hi → window_of ws l addr ≡ Some w → is_whole w l (addr / entry_size l) ≡ true → IsWritten out base lo hi ws l k addr → walk_from entry there addr want l (base + k) 7 ≡ leads (window_at ws addr) addr want
+  at_page : (l k : ℕ) (w : Window) → k < hi → window_of ws l addr ≡ Some w → is_whole w l (addr / entry_size l) ≡ true → IsWritten Rwx out base lo hi ws l k addr → walk_from entry there addr want l (base + k) 7 ≡ leads (window_at ws addr) addr want
   at_page l k w lt some whole h =
       let a = around l addr in
       let e = addr / entry_size l in
       let f = fits ws l e w ok some whole in
       let m = mapped_on ws l addr w ok some whole in
-      let word = leaf_of (Under out base lo hi ws l addr) base lo hi l e (word_of out l k addr) (window_of ws l addr) w some whole (written_parts out base lo hi ws l k addr h) in
+      let word = leaf_of Rwx (Under Rwx out base lo hi ws l addr) base lo hi l e (word_of out l k addr) (window_of ws l addr) w some whole (written_parts Rwx out base lo hi ws l k addr h) in
       let here = whole_within ws (entry_size l * e) (entry_size l) addr w some a.0 a.1 f.begins f.ends in
       at_entry l k lt
       ∙ (page_walk there l addr want (word_of out l k addr) w (deeper_walk entry there addr want l) (All_on IsEmittable ws (entry_size l * e) (entry_size l) w ok some) f m (All_on (λ w. (k : ℕ) → w.address ≤ 4096 * k → 4096 * k < w.address + w.size → there k ≡ true) ws (entry_size l * e) (entry_size l) w addresses some) word
       ∙ sym (ap (λ o. leads o addr want) here))
 
   -- from any table on
-  pub walk_written : (l k : ℕ) → k < hi → IsWritten out base lo hi ws l k addr → walk_from entry there addr want l (base + k) 7 ≡ leads (window_at ws addr) addr want
+  pub walk_written : (l k : ℕ) → k < hi → IsWritten Rwx out base lo hi ws l k addr → walk_from entry there addr want l (base + k) 7 ≡ leads (window_at ws addr) addr want
   walk_written zero k lt h =
       elim (kind_of ws zero addr) [
         | Free none ↦ at_free zero k lt none h
@@ -196,7 +197,7 @@ module _ (entry : ℕ → ℕ → Option ℕ) (there : ℕ → Bool) (out : ℕ 
         | Free none ↦ at_free (suc l) k lt none h
         | Whole w some whole ↦ at_page (suc l) k w lt some whole h
         | Part w some part ↦
-            let q = child_of out base lo hi ws l k addr w some part h in
+            let q = child_of Rwx out base lo hi ws l k addr w some part h in
             let c = child base (word_of out (suc l) k addr) in
             at_entry (suc l) k lt
             ∙ (reads_table there l addr want (word_of out (suc l) k addr) (base + c) (deeper_walk entry there addr want (suc l)) q.0.is (omega (arith, q.0.high))
@@ -211,7 +212,7 @@ module _ (entry : ℕ → ℕ → Option ℕ) (out : ℕ → ℕ) (base lo hi : 
   whole_from (suc l) a h = or_right (suc l == 0) _ (and_from _ _ (le-leb _ _ a) (and_from _ _ (le-leb _ _ h.begins) (le-leb _ _ h.ends)))
 
   -- from any table on, where no greater page will do
-  pub size_written : (l k : ℕ) → k < hi → IsWritten out base lo hi ws l k addr → ((h : ℕ) → h ≤ level_of t.leaf → IsInside t h addr → h ≤ l) → IsGreatestSize t addr (end_entry_size entry addr l (base + k))
+  pub size_written : (l k : ℕ) → k < hi → IsWritten Rwx out base lo hi ws l k addr → ((h : ℕ) → h ≤ level_of t.leaf → IsInside t h addr → h ≤ l) → IsGreatestSize t addr (end_entry_size entry addr l (base + k))
   size_written zero k lt h up =
       let p = first_held ws addr t held in
       let fine = All_at IsEmittable ws addr t ok held in
@@ -243,7 +244,7 @@ module _ (entry : ℕ → ℕ → Option ℕ) (out : ℕ → ℕ) (base lo hi : 
             let here = whole_within ws (entry_size (suc l) * e) (entry_size (suc l)) addr w some a.0 a.1 f.begins f.ends in
             let both : Some w ≡ Some t = sym here ∙ held in
             let same : w ≡ t = cc in
-            let is : word ≡ leaf_entry w (suc l) e = leaf_of (Under out base lo hi ws (suc l) addr) base lo hi (suc l) e word (window_of ws (suc l) addr) w some whole (written_parts out base lo hi ws (suc l) k addr h) in
+            let is : word ≡ leaf_entry w (suc l) e = leaf_of Rwx (Under Rwx out base lo hi ws (suc l) addr) base lo hi (suc l) e word (window_of ws (suc l) addr) w some whole (written_parts Rwx out base lo hi ws (suc l) k addr h) in
             let size : end_entry_size entry addr (suc l) (base + k) ≡ entry_size (suc l) = ap (λ o. goes_on (suc l) o (entry_size (suc l)) deeper) read ∙ (ap (λ q. goes_on (suc l) (Some q) (entry_size (suc l)) deeper) is ∙ goes_page (suc l) (leaf_entry w (suc l) e) (entry_size (suc l)) deeper m.present m.fine m.leaf) in
             let ft = subst (λ (y : Window). Fits y (suc l) e) same f in
             record {
@@ -257,7 +258,7 @@ module _ (entry : ℕ → ℕ → Option ℕ) (out : ℕ → ℕ) (base lo hi : 
               greatest = up;
             }
         | Part w some part ↦
-            let q = child_of out base lo hi ws l k addr w some part h in
+            let q = child_of Rwx out base lo hi ws l k addr w some part h in
             let c = child base word in
             let less = not_whole ws (suc l) addr w t apart (λ z. omega arith) some part held in
             let size : end_entry_size entry addr (suc l) (base + k) ≡ end_entry_size entry addr l (base + c) = ap (λ o. goes_on (suc l) o (entry_size (suc l)) deeper) read ∙ goes_table l word (base + c) (entry_size (suc l)) deeper q.0.is (omega (arith, q.0.high)) in
@@ -293,13 +294,13 @@ module _ (entry : ℕ → ℕ → Option ℕ) (out : ℕ → ℕ) (base lo hi : 
       absurd cc
 
   -- from any table on
-  pub type_written : (l k : ℕ) → k < hi → IsWritten out base lo hi ws l k addr → option_map (λ e. bits_of e 3 5) (end_entry entry addr l (base + k)) ≡ Some (type_of t.caching)
+  pub type_written : (l k : ℕ) → k < hi → IsWritten Rwx out base lo hi ws l k addr → option_map (λ e. bits_of e 3 5) (end_entry entry addr l (base + k)) ≡ Some (type_of t.caching)
   type_written zero k lt h =
       let read = has k (index_at zero addr) lt (omega arith) in
       elim (kind_of ws zero addr) [
         | Free none ↦ absurd (never_free zero none)
         | Whole w some whole ↦
-            let is : word_of out zero k addr ≡ leaf_entry w zero (addr / entry_size zero) = leaf_of (Under out base lo hi ws zero addr) base lo hi zero (addr / entry_size zero) (word_of out zero k addr) (window_of ws zero addr) w some whole (written_parts out base lo hi ws zero k addr h) in
+            let is : word_of out zero k addr ≡ leaf_entry w zero (addr / entry_size zero) = leaf_of Rwx (Under Rwx out base lo hi ws zero addr) base lo hi zero (addr / entry_size zero) (word_of out zero k addr) (window_of ws zero addr) w some whole (written_parts Rwx out base lo hi ws zero k addr h) in
             ap (option_map (λ e. bits_of e 3 5)) read ∙ (ap (λ q. Some (bits_of q 3 5)) is ∙ ap Some (type_mapped zero w some whole))
         | Part w some part ↦ absurd (not_lowest w zero (addr / entry_size zero) part refl)
       ]
@@ -312,11 +313,11 @@ module _ (entry : ℕ → ℕ → Option ℕ) (out : ℕ → ℕ) (base lo hi : 
         | Free none ↦ absurd (never_free (suc l) none)
         | Whole w some whole ↦
             let m = mapped_on ws (suc l) addr w ok some whole in
-            let is : word ≡ leaf_entry w (suc l) e = leaf_of (Under out base lo hi ws (suc l) addr) base lo hi (suc l) e word (window_of ws (suc l) addr) w some whole (written_parts out base lo hi ws (suc l) k addr h) in
+            let is : word ≡ leaf_entry w (suc l) e = leaf_of Rwx (Under Rwx out base lo hi ws (suc l) addr) base lo hi (suc l) e word (window_of ws (suc l) addr) w some whole (written_parts Rwx out base lo hi ws (suc l) k addr h) in
             let last : end_entry entry addr (suc l) (base + k) ≡ Some (leaf_entry w (suc l) e) = ap (λ o. goes_on (suc l) o o deeper) read ∙ (ap (λ q. goes_on (suc l) (Some q) (Some q) deeper) is ∙ goes_page (suc l) (leaf_entry w (suc l) e) (Some (leaf_entry w (suc l) e)) deeper m.present m.fine m.leaf) in
             ap (option_map (λ e. bits_of e 3 5)) last ∙ ap Some (type_mapped (suc l) w some whole)
         | Part w some part ↦
-            let q = child_of out base lo hi ws l k addr w some part h in
+            let q = child_of Rwx out base lo hi ws l k addr w some part h in
             let c = child base word in
             let last : end_entry entry addr (suc l) (base + k) ≡ end_entry entry addr l (base + c) = ap (λ o. goes_on (suc l) o o deeper) read ∙ goes_table l word (base + c) (Some word) deeper q.0.is (omega (arith, q.0.high)) in
             ap (option_map (λ e. bits_of e 3 5)) last ∙ type_written l c q.0.high q.1

@@ -3,14 +3,15 @@ use Rattle.std.proofs.Common.{◌≡◌, ◌⊎◌, inl, inr, ℕ, zero, suc, �
 use Rattle.std.proofs.lemmas.Bool.{cases_Bool}
 use Rattle.ept_emit.specs.declared.window.Window.{Window}
 use Rattle.machine_layout.specs.Walks.{entry_size}
+use Rattle.policy_types.specs.declared.rights.Rights.{Rights}
 use Rattle.ept_emit.specs.Entries.{is_whole, leaf_entry, window_on}
 use Rattle.ept_emit.specs.Tables.{IsWritten, Below, Stands, Leads, IsReference, child}
 
 -- ---- one form for all levels
 
-abbrev pub Under : (ℕ → ℕ) → ℕ → ℕ → ℕ → List Window → ℕ → ℕ → ℕ → Type 0
-Under out base lo hi ws zero g c = ⊥
-Under out base lo hi ws (suc l) g c = IsWritten out base lo hi ws l c g
+abbrev pub Under : Rights → (ℕ → ℕ) → ℕ → ℕ → ℕ → List Window → ℕ → ℕ → ℕ → Type 0
+Under pointers out base lo hi ws zero g c = ⊥
+Under pointers out base lo hi ws (suc l) g c = IsWritten pointers out base lo hi ws l c g
 
 -- the entry, its word and its window
 abbrev pub word_of : (ℕ → ℕ) → ℕ → ℕ → ℕ → ℕ
@@ -19,15 +20,15 @@ word_of out l k g = out (512 * k + g / entry_size l % 512)
 abbrev pub window_of : List Window → ℕ → ℕ → Option Window
 window_of ws l g = window_on ws (entry_size l * (g / entry_size l)) (entry_size l)
 
-pub written_parts : (out : ℕ → ℕ) (base lo hi : ℕ) (ws : List Window) (l k g : ℕ) → IsWritten out base lo hi ws l k g → Stands (Under out base lo hi ws l g) base lo hi l (g / entry_size l) (word_of out l k g) (window_of ws l g)
+pub written_parts : (pointers : Rights) (out : ℕ → ℕ) (base lo hi : ℕ) (ws : List Window) (l k g : ℕ) → IsWritten pointers out base lo hi ws l k g → Stands pointers (Under pointers out base lo hi ws l g) base lo hi l (g / entry_size l) (word_of out l k g) (window_of ws l g)
 unfolding IsWritten
-written_parts out base lo hi ws zero k g h = h
-written_parts out base lo hi ws (suc l) k g h = h
+written_parts pointers out base lo hi ws zero k g h = h
+written_parts pointers out base lo hi ws (suc l) k g h = h
 
-pub written_from : (out : ℕ → ℕ) (base lo hi : ℕ) (ws : List Window) (l k g : ℕ) → Stands (Under out base lo hi ws l g) base lo hi l (g / entry_size l) (word_of out l k g) (window_of ws l g) → IsWritten out base lo hi ws l k g
+pub written_from : (pointers : Rights) (out : ℕ → ℕ) (base lo hi : ℕ) (ws : List Window) (l k g : ℕ) → Stands pointers (Under pointers out base lo hi ws l g) base lo hi l (g / entry_size l) (word_of out l k g) (window_of ws l g) → IsWritten pointers out base lo hi ws l k g
 unfolding IsWritten
-written_from out base lo hi ws zero k g h = h
-written_from out base lo hi ws (suc l) k g h = h
+written_from pointers out base lo hi ws zero k g h = h
+written_from pointers out base lo hi ws (suc l) k g h = h
 
 abbrev pub Meets : (ℕ → ℕ) → ℕ → List Window → ℕ → ℕ → ℕ → ℕ → ℕ → Type 0
 Meets out base ws l k g l2 k2 = ((l2 ≡ l) × (k2 ≡ k)) ⊎ Below out base ws l k g l2 k2
@@ -46,23 +47,23 @@ below_lowest out base ws k g l2 k2 h = h
 
 -- ---- by the window
 
-pub stands_none : (deeper : ℕ → Type 0) (base lo hi l e word : ℕ) (o : Option Window) → o ≡ None → word ≡ 0 → Stands deeper base lo hi l e word o
-stands_none deeper base lo hi l e word o none h = rw none h
+pub stands_none : (pointers : Rights) (deeper : ℕ → Type 0) (base lo hi l e word : ℕ) (o : Option Window) → o ≡ None → word ≡ 0 → Stands pointers deeper base lo hi l e word o
+stands_none pointers deeper base lo hi l e word o none h = rw none h
 
-pub stands_leaf : (deeper : ℕ → Type 0) (base lo hi l e word : ℕ) (o : Option Window) (w : Window) → o ≡ Some w → is_whole w l e ≡ true → word ≡ leaf_entry w l e → Stands deeper base lo hi l e word o
-stands_leaf deeper base lo hi l e word o w some whole h = rw some (rw whole h)
+pub stands_leaf : (pointers : Rights) (deeper : ℕ → Type 0) (base lo hi l e word : ℕ) (o : Option Window) (w : Window) → o ≡ Some w → is_whole w l e ≡ true → word ≡ leaf_entry w l e → Stands pointers deeper base lo hi l e word o
+stands_leaf pointers deeper base lo hi l e word o w some whole h = rw some (rw whole h)
 
-pub stands_table : (deeper : ℕ → Type 0) (base lo hi l e word : ℕ) (o : Option Window) (w : Window) → o ≡ Some w → is_whole w l e ≡ false → IsReference base lo hi word → deeper (child base word) → Stands deeper base lo hi l e word o
-stands_table deeper base lo hi l e word o w some whole r h = rw some (rw whole (r, h))
+pub stands_table : (pointers : Rights) (deeper : ℕ → Type 0) (base lo hi l e word : ℕ) (o : Option Window) (w : Window) → o ≡ Some w → is_whole w l e ≡ false → IsReference pointers base lo hi word → deeper (child base word) → Stands pointers deeper base lo hi l e word o
+stands_table pointers deeper base lo hi l e word o w some whole r h = rw some (rw whole (r, h))
 
-pub table_of : (deeper : ℕ → Type 0) (base lo hi l e word : ℕ) (o : Option Window) (w : Window) → o ≡ Some w → is_whole w l e ≡ false → Stands deeper base lo hi l e word o → IsReference base lo hi word × deeper (child base word)
-table_of deeper base lo hi l e word o w some whole h = let a = rw some at h in rw whole at a
+pub table_of : (pointers : Rights) (deeper : ℕ → Type 0) (base lo hi l e word : ℕ) (o : Option Window) (w : Window) → o ≡ Some w → is_whole w l e ≡ false → Stands pointers deeper base lo hi l e word o → IsReference pointers base lo hi word × deeper (child base word)
+table_of pointers deeper base lo hi l e word o w some whole h = let a = rw some at h in rw whole at a
 
-pub leaf_of : (deeper : ℕ → Type 0) (base lo hi l e word : ℕ) (o : Option Window) (w : Window) → o ≡ Some w → is_whole w l e ≡ true → Stands deeper base lo hi l e word o → word ≡ leaf_entry w l e
-leaf_of deeper base lo hi l e word o w some whole h = let a = rw some at h in rw whole at a
+pub leaf_of : (pointers : Rights) (deeper : ℕ → Type 0) (base lo hi l e word : ℕ) (o : Option Window) (w : Window) → o ≡ Some w → is_whole w l e ≡ true → Stands pointers deeper base lo hi l e word o → word ≡ leaf_entry w l e
+leaf_of pointers deeper base lo hi l e word o w some whole h = let a = rw some at h in rw whole at a
 
-pub none_of : (deeper : ℕ → Type 0) (base lo hi l e word : ℕ) (o : Option Window) → o ≡ None → Stands deeper base lo hi l e word o → word ≡ 0
-none_of deeper base lo hi l e word o none h = rw none at h
+pub none_of : (pointers : Rights) (deeper : ℕ → Type 0) (base lo hi l e word : ℕ) (o : Option Window) → o ≡ None → Stands pointers deeper base lo hi l e word o → word ≡ 0
+none_of pointers deeper base lo hi l e word o none h = rw none at h
 
 pub leads_none : (deeper : ℕ → Type 0) (c l e : ℕ) (o : Option Window) → o ≡ None → Leads deeper c l e o → ⊥
 leads_none deeper c l e o none h = rw none at h
@@ -95,37 +96,37 @@ kind_of ws l g = by_option ws l g _ refl
 
 -- ---- what stays
 
-pub reference_wide : (base lo hi lo2 hi2 word : ℕ) → lo2 ≤ lo → hi ≤ hi2 → IsReference base lo hi word → IsReference base lo2 hi2 word
-reference_wide base lo hi lo2 hi2 word below above r =
+pub reference_wide : (pointers : Rights) (base lo hi lo2 hi2 word : ℕ) → lo2 ≤ lo → hi ≤ hi2 → IsReference pointers base lo hi word → IsReference pointers base lo2 hi2 word
+reference_wide pointers base lo hi lo2 hi2 word below above r =
     record {
       is = r.is;
       low = omega (arith, r.low);
       high = omega (arith, r.high);
     }
 
-keeps_entry : (base lo hi lo2 hi2 l e word : ℕ) (old new : ℕ → Type 0) (o : Option Window) → lo2 ≤ lo → hi ≤ hi2 → ((c : ℕ) → lo ≤ c → c < hi → old c → new c) → Stands old base lo hi l e word o → Stands new base lo2 hi2 l e word o
-keeps_entry base lo hi lo2 hi2 l e word old new None below above deeper = λ h. h
-keeps_entry base lo hi lo2 hi2 l e word old new (Some w) below above deeper =
+keeps_entry : (pointers : Rights) (base lo hi lo2 hi2 l e word : ℕ) (old new : ℕ → Type 0) (o : Option Window) → lo2 ≤ lo → hi ≤ hi2 → ((c : ℕ) → lo ≤ c → c < hi → old c → new c) → Stands pointers old base lo hi l e word o → Stands pointers new base lo2 hi2 l e word o
+keeps_entry pointers base lo hi lo2 hi2 l e word old new None below above deeper = λ h. h
+keeps_entry pointers base lo hi lo2 hi2 l e word old new (Some w) below above deeper =
     elim (cases_Bool (is_whole w l e)) [
       | inl t ↦ rw t (λ h. h)
-      | inr f ↦ rw f (λ h. (reference_wide base lo hi lo2 hi2 word below above h.0, deeper (child base word) h.0.low h.0.high h.1))
+      | inr f ↦ rw f (λ h. (reference_wide pointers base lo hi lo2 hi2 word below above h.0, deeper (child base word) h.0.low h.0.high h.1))
     ]
 
 -- tables and an entry that nothing changed, in bounds as wide or wider
-pub keeps : (out new : ℕ → ℕ) (base lo hi lo2 hi2 : ℕ) (ws : List Window) → lo2 ≤ lo → hi ≤ hi2 → ((j : ℕ) → 512 * lo ≤ j → j < 512 * hi → new j ≡ out j) → (l k g : ℕ) → word_of new l k g ≡ word_of out l k g → IsWritten out base lo hi ws l k g → IsWritten new base lo2 hi2 ws l k g
-keeps out new base lo hi lo2 hi2 ws below above same zero k g at h =
-    written_from new base lo2 hi2 ws zero k g (rw at (keeps_entry base lo hi lo2 hi2 zero (g / entry_size zero) (word_of out zero k g) (Under out base lo hi ws zero g) (Under new base lo2 hi2 ws zero g) (window_of ws zero g) below above (λ c _ _ s. absurd s) (written_parts out base lo hi ws zero k g h)))
-keeps out new base lo hi lo2 hi2 ws below above same (suc l) k g at h =
-    written_from new base lo2 hi2 ws (suc l) k g (rw at (keeps_entry base lo hi lo2 hi2 (suc l) (g / entry_size (suc l)) (word_of out (suc l) k g) (Under out base lo hi ws (suc l) g) (Under new base lo2 hi2 ws (suc l) g) (window_of ws (suc l) g) below above (λ c a b s. keeps out new base lo hi lo2 hi2 ws below above same l c g (same _ (omega arith) (omega arith)) s) (written_parts out base lo hi ws (suc l) k g h)))
+pub keeps : (pointers : Rights) (out new : ℕ → ℕ) (base lo hi lo2 hi2 : ℕ) (ws : List Window) → lo2 ≤ lo → hi ≤ hi2 → ((j : ℕ) → 512 * lo ≤ j → j < 512 * hi → new j ≡ out j) → (l k g : ℕ) → word_of new l k g ≡ word_of out l k g → IsWritten pointers out base lo hi ws l k g → IsWritten pointers new base lo2 hi2 ws l k g
+keeps pointers out new base lo hi lo2 hi2 ws below above same zero k g at h =
+    written_from pointers new base lo2 hi2 ws zero k g (rw at (keeps_entry pointers base lo hi lo2 hi2 zero (g / entry_size zero) (word_of out zero k g) (Under pointers out base lo hi ws zero g) (Under pointers new base lo2 hi2 ws zero g) (window_of ws zero g) below above (λ c _ _ s. absurd s) (written_parts pointers out base lo hi ws zero k g h)))
+keeps pointers out new base lo hi lo2 hi2 ws below above same (suc l) k g at h =
+    written_from pointers new base lo2 hi2 ws (suc l) k g (rw at (keeps_entry pointers base lo hi lo2 hi2 (suc l) (g / entry_size (suc l)) (word_of out (suc l) k g) (Under pointers out base lo hi ws (suc l) g) (Under pointers new base lo2 hi2 ws (suc l) g) (window_of ws (suc l) g) below above (λ c a b s. keeps pointers out new base lo hi lo2 hi2 ws below above same l c g (same _ (omega arith) (omega arith)) s) (written_parts pointers out base lo hi ws (suc l) k g h)))
 
 -- the table that is referenced, with what is written below it
-pub child_of : (out : ℕ → ℕ) (base lo hi : ℕ) (ws : List Window) (l k g : ℕ) (w : Window) → window_of ws (suc l) g ≡ Some w → is_whole w (suc l) (g / entry_size (suc l)) ≡ false → IsWritten out base lo hi ws (suc l) k g → IsReference base lo hi (word_of out (suc l) k g) × IsWritten out base lo hi ws l (child base (word_of out (suc l) k g)) g
-child_of out base lo hi ws l k g w some part h = table_of (Under out base lo hi ws (suc l) g) base lo hi (suc l) (g / entry_size (suc l)) (word_of out (suc l) k g) (window_of ws (suc l) g) w some part (written_parts out base lo hi ws (suc l) k g h)
+pub child_of : (pointers : Rights) (out : ℕ → ℕ) (base lo hi : ℕ) (ws : List Window) (l k g : ℕ) (w : Window) → window_of ws (suc l) g ≡ Some w → is_whole w (suc l) (g / entry_size (suc l)) ≡ false → IsWritten pointers out base lo hi ws (suc l) k g → IsReference pointers base lo hi (word_of out (suc l) k g) × IsWritten pointers out base lo hi ws l (child base (word_of out (suc l) k g)) g
+child_of pointers out base lo hi ws l k g w some part h = table_of pointers (Under pointers out base lo hi ws (suc l) g) base lo hi (suc l) (g / entry_size (suc l)) (word_of out (suc l) k g) (window_of ws (suc l) g) w some part (written_parts pointers out base lo hi ws (suc l) k g h)
 
 -- the tables below are those
-pub below_within : (out : ℕ → ℕ) (base lo hi : ℕ) (ws : List Window) (l k g l2 k2 : ℕ) → IsWritten out base lo hi ws l k g → Below out base ws l k g l2 k2 → (lo ≤ k2) × (k2 < hi)
-below_within out base lo hi ws zero k g l2 k2 h b = absurd (below_lowest out base ws k g l2 k2 b)
-below_within out base lo hi ws (suc l) k g l2 k2 h b =
+pub below_within : (pointers : Rights) (out : ℕ → ℕ) (base lo hi : ℕ) (ws : List Window) (l k g l2 k2 : ℕ) → IsWritten pointers out base lo hi ws l k g → Below out base ws l k g l2 k2 → (lo ≤ k2) × (k2 < hi)
+below_within pointers out base lo hi ws zero k g l2 k2 h b = absurd (below_lowest out base ws k g l2 k2 b)
+below_within pointers out base lo hi ws (suc l) k g l2 k2 h b =
     let p = below_parts out base ws l k g l2 k2 b in
     let deeper : ℕ → Type 0 = λ c. Meets out base ws l c g l2 k2 in
     let c = child base (word_of out (suc l) k g) in
@@ -133,10 +134,10 @@ below_within out base lo hi ws (suc l) k g l2 k2 h b =
       | Free none ↦ absurd (leads_none deeper c (suc l) (g / entry_size (suc l)) (window_of ws (suc l) g) none p)
       | Whole w some t ↦ absurd (leads_leaf deeper c (suc l) (g / entry_size (suc l)) (window_of ws (suc l) g) w some t p)
       | Part w some f ↦
-          let q = child_of out base lo hi ws l k g w some f h in
+          let q = child_of pointers out base lo hi ws l k g w some f h in
           elim (leads_to deeper c (suc l) (g / entry_size (suc l)) (window_of ws (suc l) g) w some f p) [
             | inl e ↦ (omega (arith, q.0.low, e.1), omega (arith, q.0.high, e.1))
-            | inr d ↦ below_within out base lo hi ws l c g l2 k2 q.1 d
+            | inr d ↦ below_within pointers out base lo hi ws l c g l2 k2 q.1 d
           ]
     ]
 
@@ -157,9 +158,9 @@ below_lower out base ws (suc l) k g l2 k2 b =
     ]
 
 -- and stay the same where nothing changed
-pub below_keeps : (out new : ℕ → ℕ) (base lo hi : ℕ) (ws : List Window) → ((j : ℕ) → 512 * lo ≤ j → j < 512 * hi → new j ≡ out j) → (l k g l2 k2 : ℕ) → word_of new l k g ≡ word_of out l k g → IsWritten out base lo hi ws l k g → Below out base ws l k g l2 k2 → Below new base ws l k g l2 k2
-below_keeps out new base lo hi ws same zero k g l2 k2 at h b = absurd (below_lowest out base ws k g l2 k2 b)
-below_keeps out new base lo hi ws same (suc l) k g l2 k2 at h b =
+pub below_keeps : (pointers : Rights) (out new : ℕ → ℕ) (base lo hi : ℕ) (ws : List Window) → ((j : ℕ) → 512 * lo ≤ j → j < 512 * hi → new j ≡ out j) → (l k g l2 k2 : ℕ) → word_of new l k g ≡ word_of out l k g → IsWritten pointers out base lo hi ws l k g → Below out base ws l k g l2 k2 → Below new base ws l k g l2 k2
+below_keeps pointers out new base lo hi ws same zero k g l2 k2 at h b = absurd (below_lowest out base ws k g l2 k2 b)
+below_keeps pointers out new base lo hi ws same (suc l) k g l2 k2 at h b =
     let p = below_parts out base ws l k g l2 k2 b in
     let deeper : ℕ → Type 0 = λ c. Meets out base ws l c g l2 k2 in
     let deep : ℕ → Type 0 = λ c. Meets new base ws l c g l2 k2 in
@@ -168,10 +169,10 @@ below_keeps out new base lo hi ws same (suc l) k g l2 k2 at h b =
       | Free none ↦ absurd (leads_none deeper c (suc l) (g / entry_size (suc l)) (window_of ws (suc l) g) none p)
       | Whole w some t ↦ absurd (leads_leaf deeper c (suc l) (g / entry_size (suc l)) (window_of ws (suc l) g) w some t p)
       | Part w some f ↦
-          let q = child_of out base lo hi ws l k g w some f h in
+          let q = child_of pointers out base lo hi ws l k g w some f h in
           let there : deep c = elim (leads_to deeper c (suc l) (g / entry_size (suc l)) (window_of ws (suc l) g) w some f p) [
             | inl e ↦ inl e
-            | inr d ↦ inr (below_keeps out new base lo hi ws same l c g l2 k2 (same _ (omega (arith, q.0.low)) (omega (arith, q.0.high))) q.1 d)
+            | inr d ↦ inr (below_keeps pointers out new base lo hi ws same l c g l2 k2 (same _ (omega (arith, q.0.low)) (omega (arith, q.0.high))) q.1 d)
           ] in
           below_from new base ws l k g l2 k2 (rw at (leads_from deep c (suc l) (g / entry_size (suc l)) (window_of ws (suc l) g) w some f there))
     ]

@@ -10,6 +10,7 @@ use Rattle.machine_layout.specs.Memory.{le_number}
 use Rattle.machine_layout.specs.Walks.{entry_size}
 use Rattle.policy_types.specs.Rights.{rights_bits}
 use Rattle.policy_types.specs.declared.rights.Caching.{Caching}
+use Rattle.policy_types.specs.declared.rights.Rights.{Rights}
 use Rattle.policy_types.specs.declared.rights.Caching.TheVariants.{Uc, Wc, Wt, Wp, Wb}
 
 -- the level of the tables whose entries map pages of this size
@@ -43,9 +44,9 @@ is_whole w level e =
 abbrev pub leaf_entry : Window → ℕ → ℕ → ℕ
 leaf_entry w level e = w.address + (entry_size level * e - w.guest) + size_bit level + 8 * type_of w.caching + rights_bits w.rights
 
--- an entry that references the table in a page: it takes no right away
-abbrev pub table_entry : ℕ → ℕ
-table_entry page = 4096 * page + 7
+-- an entry that references the table in a page, and lets through what these rights allow
+abbrev pub table_entry : Rights → ℕ → ℕ
+table_entry pointers page = 4096 * page + rights_bits pointers
 
 -- the window that holds one of the n addresses from lo on, the first of them
 abbrev pub window_on : List Window → ℕ → ℕ → Option Window

@@ -1,8 +1,10 @@
 -- What stands in tables that lie one after another, and which tables lead to which. Tables are numbered from 0, and table k
--- is in page base + k. A level is that of a table, from 3 of the PML4 table down to 0 of a page table.
+-- is in page base + k. A level is that of a table, from 3 of the PML4 table down to 0 of a page table. Each entry that
+-- references a table has the same rights, `pointers`.
 use Rattle.std.specs.Prelude.{◌≡◌, ◌⊎◌, ℕ, zero, suc, ◌+◌, ◌-◌, ◌*◌, ◌/◌, ◌%◌, ◌<◌, ◌≤◌, Bool, true, false, List, Option, Some, None}
 use Rattle.ept_emit.specs.declared.window.Window.{Window}
 use Rattle.machine_layout.specs.Walks.{entry_size}
+use Rattle.policy_types.specs.declared.rights.Rights.{Rights}
 use Rattle.ept_emit.specs.Entries.{is_whole, leaf_entry, table_entry, window_on}
 
 abbrev pub Chosen : Type 0 → Type 0 → Bool → Type 0
@@ -14,25 +16,25 @@ abbrev pub child : ℕ → ℕ → ℕ
 child base word = word / 4096 - base
 
 -- it references one of the tables lo to hi - 1, and has no bit set but those for that
-pub record IsReference (base lo hi word : ℕ) : Type 0 where
-  pub is : word ≡ table_entry (base + child base word)
+pub record IsReference (pointers : Rights) (base lo hi word : ℕ) : Type 0 where
+  pub is : word ≡ table_entry pointers (base + child base word)
   pub low : lo ≤ child base word
   pub high : child base word < hi
 
 -- by the window that has an address of entry e, the first: without one the entry is 0; a page of it is mapped where that is
 -- allowed; else the entry references a table
-abbrev pub Stands : (ℕ → Type 0) → ℕ → ℕ → ℕ → ℕ → ℕ → ℕ → Option Window → Type 0
-Stands deeper base lo hi level e word None = word ≡ 0
-Stands deeper base lo hi level e word (Some w) =
-    Chosen (word ≡ leaf_entry w level e) (IsReference base lo hi word × deeper (child base word)) (is_whole w level e)
+abbrev pub Stands : Rights → (ℕ → Type 0) → ℕ → ℕ → ℕ → ℕ → ℕ → ℕ → Option Window → Type 0
+Stands pointers deeper base lo hi level e word None = word ≡ 0
+Stands pointers deeper base lo hi level e word (Some w) =
+    Chosen (word ≡ leaf_entry w level e) (IsReference pointers base lo hi word × deeper (child base word)) (is_whole w level e)
 
 -- **each entry** that a walk for an address meets, from table `table` of this level on, has exactly the bits that it must
 -- have for these windows, and all tables below lie among lo to hi - 1
-unfoldable pub IsWritten : (ℕ → ℕ) → ℕ → ℕ → ℕ → List Window → ℕ → ℕ → ℕ → Type 0
-IsWritten word base lo hi ws zero table addr =
-    Stands (λ c. ⊥) base lo hi 0 (addr / entry_size 0) (word (512 * table + addr / entry_size 0 % 512)) (window_on ws (entry_size 0 * (addr / entry_size 0)) (entry_size 0))
-IsWritten word base lo hi ws (suc level) table addr =
-    Stands (λ c. IsWritten word base lo hi ws level c addr) base lo hi (suc level) (addr / entry_size (suc level)) (word (512 * table + addr / entry_size (suc level) % 512)) (window_on ws (entry_size (suc level) * (addr / entry_size (suc level))) (entry_size (suc level)))
+unfoldable pub IsWritten : Rights → (ℕ → ℕ) → ℕ → ℕ → ℕ → List Window → ℕ → ℕ → ℕ → Type 0
+IsWritten pointers word base lo hi ws zero table addr =
+    Stands pointers (λ c. ⊥) base lo hi 0 (addr / entry_size 0) (word (512 * table + addr / entry_size 0 % 512)) (window_on ws (entry_size 0 * (addr / entry_size 0)) (entry_size 0))
+IsWritten pointers word base lo hi ws (suc level) table addr =
+    Stands pointers (λ c. IsWritten pointers word base lo hi ws level c addr) base lo hi (suc level) (addr / entry_size (suc level)) (word (512 * table + addr / entry_size (suc level) % 512)) (window_on ws (entry_size (suc level) * (addr / entry_size (suc level))) (entry_size (suc level)))
 
 -- what holds of the table c that an entry references, if it references one
 abbrev pub Leads : (ℕ → Type 0) → ℕ → ℕ → ℕ → Option Window → Type 0
@@ -55,8 +57,8 @@ pub record IsReached (word : ℕ → ℕ) (base : ℕ) (ws : List Window) (level
 -- below table `table`, for the addresses of a set: the entries are as they must be; each of the tables `used` to top - 1 is
 -- at one path, which its level and the address bits above it are; each is reached; they are numbered in the order in which
 -- ascending addresses reach them; and a walk comes to a table after those of lower numbers
-pub record AreNumbered (word : ℕ → ℕ) (base used top : ℕ) (ws : List Window) (level table : ℕ) (Within : ℕ → Type 0) : Type 0 where
-  pub written : (g : ℕ) → Within g → IsWritten word base used top ws level table g
+pub record AreNumbered (pointers : Rights) (word : ℕ → ℕ) (base used top : ℕ) (ws : List Window) (level table : ℕ) (Within : ℕ → Type 0) : Type 0 where
+  pub written : (g : ℕ) → Within g → IsWritten pointers word base used top ws level table g
   pub paths : (g h l j k : ℕ) → Within g → Within h → Below word base ws level table g l k → Below word base ws level table h j k → (l ≡ j) × (g / entry_size (suc l) ≡ h / entry_size (suc l))
   pub reached : (k : ℕ) → used ≤ k → k < top → IsReached word base ws level table Within k
   pub order : (h l j k : ℕ) → Within h → Below word base ws level table h l k → used ≤ j → j ≤ k → IsReached word base ws level table (λ g. Within g × (g ≤ h)) j

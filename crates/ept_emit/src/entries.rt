@@ -4,9 +4,9 @@ ghost use Rattle.ept_emit.specs.Entries.{IsEmittable, is_whole, leaf_entry, leve
 ghost use Rattle.machine_layout.specs.Walks.{entry_size};
 
 use crate::{Leaf, Window};
-use machine_layout::entries::{ALL_RIGHTS, ENTRY_BYTES, MAPS_PAGE, TYPE_UNIT, entry_size};
+use machine_layout::entries::{ENTRY_BYTES, MAPS_PAGE, TYPE_UNIT, entry_size};
 use muen_num::limits::PAGE;
-use policy_types::Caching;
+use policy_types::{Caching, Rights};
 
 // The level of the tables whose entries map pages of this size.
 fn level_of(leaf: Leaf) -> u32
@@ -67,11 +67,11 @@ pub(crate) fn leaf_entry(window: Window, level: u32, entry: u64) -> u64
 }
 
 /// The entry that references the table in a page.
-pub(crate) fn table_entry(page: u64) -> u64
+pub(crate) fn table_entry(pointers: Rights, page: u64) -> u64
     requires { page < 2 ^ 28 }
-    ensures { result ≡ table_entry page }
+    ensures { result ≡ table_entry pointers page }
 {
-    PAGE * page + ALL_RIGHTS
+    PAGE * page + u64::from(pointers.bits())
 }
 
 /// Writes a word of the tables: entry `i` of table `k` is word `512 * k + i`.

@@ -10,5 +10,5 @@ mod tables;
 mod window;
 
 pub use count::pages;
-pub use tables::{emit, eptp};
+pub use tables::{emit, eptp, write_tables};
 pub use window::{GuestRange, Leaf, Window};

@@ -6,21 +6,25 @@ ghost use Rattle.ept_emit.specs.Entries.{IsEmittable, word_at};
 ghost use Rattle.ept_emit.specs.Needs.{needs};
 ghost use Rattle.ept_emit.specs.Tables.{AreNumbered, IsWritten};
 ghost use Rattle.machine_layout.specs.Walks.{entry_size};
+ghost use Rattle.policy_types.specs.declared.rights.Rights.TheVariants.{Rwx};
 
 use crate::Window;
 use crate::entries::{is_whole, leaf_entry, set_word, table_entry};
 use crate::search::window_on;
 use machine_layout::entries::{PML4_LEVEL, TABLE_ENTRIES};
 use muen_num::limits::PAGE;
+use policy_types::Rights;
 
 // Writes one entry of a table, and all tables below it, which are those from `used` on. `entry` counts
-// over all tables of the level. Returns the number after the last table.
+// over all tables of the level. Entries that reference a table have the rights `pointers`. Returns the
+// number after the last table.
 #[cycle(writing)]
 fn write_entry(
     out: &mut [u8],
     base: u64,
     used: usize,
     windows: &[Window],
+    pointers: Rights,
     level: u32,
     table: usize,
     entry: u64,
@@ -34,7 +38,7 @@ fn write_entry(
     requires room { 4096 * (used + needs windows.now level entry 1) ≤ length out.old }
     ensures few { result ≤ used + needs windows.now level entry 1 }
     ensures more { used ≤ result }
-    ensures numbered { AreNumbered (word_at out.new) base used result windows.now level table (λ g. g / entry_size level ≡ entry) }
+    ensures numbered { AreNumbered pointers (word_at out.new) base used result windows.now level table (λ g. g / entry_size level ≡ entry) }
     ensures rest { (j : ℕ) → j < 512 * used → j ≢ 512 * table + entry % 512 → word_at out.new j ≡ word_at out.old j }
     ensures beyond { (j : ℕ) → 512 * result ≤ j → word_at out.new j ≡ word_at out.old j }
 {
@@ -47,8 +51,17 @@ fn write_entry(
         set_word(out, word, leaf_entry(window, level, entry));
         return used;
     }
-    set_word(out, word, table_entry(base + used as u64));
-    write_table(out, base, used + 1, windows, level - 1, used, entry)
+    set_word(out, word, table_entry(pointers, base + used as u64));
+    write_table(
+        out,
+        base,
+        used + 1,
+        windows,
+        pointers,
+        level - 1,
+        used,
+        entry,
+    )
 }
 
 // Writes a whole table, which the entry `parent` of the level above references, and all tables below
@@ -59,6 +72,7 @@ fn write_table(
     base: u64,
     used: usize,
     windows: &[Window],
+    pointers: Rights,
     level: u32,
     table: usize,
     parent: u64,
@@ -72,7 +86,7 @@ fn write_table(
     requires room { 4096 * (used + needs windows.now level (512 * parent) 512) ≤ length out.old }
     ensures few { result ≤ used + needs windows.now level (512 * parent) 512 }
     ensures more { used ≤ result }
-    ensures numbered { AreNumbered (word_at out.new) base used result windows.now level table (λ g. g / entry_size level / 512 ≡ parent) }
+    ensures numbered { AreNumbered pointers (word_at out.new) base used result windows.now level table (λ g. g / entry_size level / 512 ≡ parent) }
     ensures rest { (j : ℕ) → j < 512 * used → j / 512 ≢ table → word_at out.new j ≡ word_at out.old j }
     ensures beyond { (j : ℕ) → 512 * result ≤ j → word_at out.new j ≡ word_at out.old j }
 {
@@ -83,6 +97,7 @@ fn write_table(
             base,
             top,
             windows,
+            pointers,
             level,
             table,
             TABLE_ENTRIES * parent + i,
@@ -91,15 +106,37 @@ fn write_table(
     top
 }
 
-/// Writes the EPT tables for these windows into `out`, which is to lie at the physical address `at`:
-/// the PML4 table first, and each further table in the next page, in the order in which ascending
+/// Writes tables for these windows into `out`, which is to lie at the physical address `at`: the table
+/// of the highest level first, and each further table in the next page, in the order in which ascending
 /// guest addresses need them. An address of a window is mapped by the greatest page, up to the
 /// window's, whose aligned range around it lies wholly in the window; an entry that maps a page has
-/// the window's rights and memory type, one that references a table has all rights, and all else is 0
-/// (Intel SDM volume 3, "VMX Support for Address Translation").
+/// the window's rights and memory type, one that references a table has the rights `pointers`, and all
+/// else is 0. Returns how many pages these tables take; those behind them in `out` are zero.
 ///
 /// Windows ascend by guest address and share none. `out` has as many bytes as tables of small pages
-/// would take; pages that larger ones save are zero at the end.
+/// would take.
+pub fn write_tables(windows: &[Window], pointers: Rights, at: u64, out: &mut [u8]) -> usize
+    requires emittable { All IsEmittable windows.now }
+    requires apart { AreApart (ranges_of windows.now) }
+    requires at { at % 4096 ≡ 0 }
+    requires end { at + 4096 * ept_pages (ranges_of windows.now) ≤ 2 ^ 40 }
+    requires room { length out.old ≡ 4096 * ept_pages (ranges_of windows.now) }
+    ensures some { 1 ≤ result }
+    ensures few { result ≤ ept_pages (ranges_of windows.now) }
+    ensures numbered { AreNumbered pointers (word_at out.new) (at / 4096) 1 result windows.now 3 0 (λ addr. addr < 2 ^ 48) }
+    ensures rest { (j : ℕ) → 512 * result ≤ j → word_at out.new j ≡ 0 }
+    ensures len { length out.new ≡ length out.old }
+{
+    out.fill(0);
+    write_table(out, at / PAGE, 1, windows, pointers, PML4_LEVEL, 0, 0)
+}
+
+/// Writes the EPT tables for these windows into `out`, which is to lie at the physical address `at`
+/// (Intel SDM volume 3, "VMX Support for Address Translation"): those that `write_tables` writes, where
+/// an entry that references a table has all rights. Pages that large pages save are zero at the end.
+///
+/// Windows ascend by guest address and share none. `out` has as many bytes as tables of small pages
+/// would take.
 pub fn emit(windows: &[Window], at: u64, out: &mut [u8])
     requires emittable { All IsEmittable windows.now }
     requires apart { AreApart (ranges_of windows.now) }
@@ -114,11 +151,10 @@ pub fn emit(windows: &[Window], at: u64, out: &mut [u8])
     ensures ascending { AreAscending at out.new }
     ensures order { AreInOrder at out.new }
     ensures rest { AreReadOrZero (ept_pages (ranges_of windows.now)) at out.new }
-    ensures entries { (addr : ℕ) → addr < 2 ^ 48 → IsWritten (word_at out.new) (at / 4096) 1 (ept_pages (ranges_of windows.now)) windows.now 3 0 addr }
+    ensures entries { (addr : ℕ) → addr < 2 ^ 48 → IsWritten Rwx (word_at out.new) (at / 4096) 1 (ept_pages (ranges_of windows.now)) windows.now 3 0 addr }
     ensures len { length out.new ≡ length out.old }
 {
-    out.fill(0);
-    write_table(out, at / PAGE, 1, windows, PML4_LEVEL, 0, 0);
+    write_tables(windows, Rights::Rwx, at, out);
 }
 
 /// The extended-page-table pointer of tables whose PML4 table is at `at`: memory type write back, walks

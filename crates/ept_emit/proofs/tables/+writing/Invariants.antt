@@ -17,7 +17,7 @@ invariant-write_table-loop-i l =
     record {
       few : l.top ≤ l.used + needs l.windows l.level (512 * l.parent) l.i;
       more : l.used ≤ l.top;
-      numbered : AreNumbered (word_at l.out) l.base l.used l.top l.windows l.level l.table (InFirst l.level l.parent l.i);
+      numbered : AreNumbered l.pointers (word_at l.out) l.base l.used l.top l.windows l.level l.table (InFirst l.level l.parent l.i);
       beyond : (j : ℕ) → 512 * l.top ≤ j → word_at l.out j ≡ word_at l.fn.out j;
       rest : (j : ℕ) → j < 512 * l.used → j / 512 ≢ l.table → word_at l.out j ≡ word_at l.fn.out j;
     }

@@ -1,43 +1,39 @@
-use Rattle.std.proofs.Common.{◌∙◌, ◌/◌, ap, arith, refl, length}
+use Rattle.std.proofs.Common.{◌/◌, arith, refl}
+use Rattle.policy_types.specs.declared.rights.Rights.TheVariants.{Rwx}
 use Rattle.ept_emit.specs.Pages.{ept_pages, ranges_of}
 use Rattle.ept_emit.specs.Emitted.{window_at}
 use Rattle.ept_emit.specs.Entries.{word_at}
-use Rattle.ept_emit.proofs.Bytes.{zero_word}
-use Rattle.ept_emit.proofs.Counts.{pages_are}
-use Rattle.ept_emit.proofs.Held.{alone_held, ascending_held, in_all, order_held, paths_held, rest_held, size_held, type_held, walk_held}
+use Rattle.ept_emit.proofs.Held.{alone_held, ascending_held, order_held, paths_held, rest_held, size_held, type_held, walk_held}
 use Rattle.ept_emit.proofs.Written.{keeps}
 use Rattle.ept_emit.proofs.tables.emit.Goals as goal
 
-pub write_table-requires-clause-room : goal.write_table-requires-clause-room
-write_table-requires-clause-room c = omega (arith, pages_are c.args.windows.now, c.fill.ensures.len)
-
 pub returns-clause-walk : goal.returns-clause-walk
-returns-clause-walk c = λ m addr kind held addresses lt. walk_held m c.args.at c.write_table.result (ept_pages (ranges_of c.args.windows.now)) c.write_table.new.out c.args.windows.now c.requires.at c.write_table.ensures.more (omega (arith, c.write_table.ensures.few, pages_are c.args.windows.now)) c.requires.end (omega (arith, c.write_table.auto.out, c.fill.ensures.len, c.requires.room)) c.requires.emittable c.write_table.ensures.numbered held addr kind lt addresses
+returns-clause-walk c = λ m addr kind held addresses lt. walk_held m c.args.at c.write_tables.result (ept_pages (ranges_of c.args.windows.now)) c.write_tables.new.out c.args.windows.now c.requires.at c.write_tables.ensures.some c.write_tables.ensures.few c.requires.end (omega (arith, c.write_tables.ensures.len, c.requires.room)) c.requires.emittable c.write_tables.ensures.numbered held addr kind lt addresses
 
 pub returns-clause-alone : goal.returns-clause-alone
-returns-clause-alone c = λ m addr held lt. alone_held m c.args.at c.write_table.result (ept_pages (ranges_of c.args.windows.now)) c.write_table.new.out c.args.windows.now c.requires.at c.write_table.ensures.more (omega (arith, c.write_table.ensures.few, pages_are c.args.windows.now)) c.requires.end (omega (arith, c.write_table.auto.out, c.fill.ensures.len, c.requires.room)) c.requires.emittable c.write_table.ensures.numbered held addr lt
+returns-clause-alone c = λ m addr held lt. alone_held m c.args.at c.write_tables.result (ept_pages (ranges_of c.args.windows.now)) c.write_tables.new.out c.args.windows.now c.requires.at c.write_tables.ensures.some c.write_tables.ensures.few c.requires.end (omega (arith, c.write_tables.ensures.len, c.requires.room)) c.requires.emittable c.write_tables.ensures.numbered held addr lt
 
 pub returns-clause-paths : goal.returns-clause-paths
-returns-clause-paths c = λ m a b level other page held la lb ra rb. paths_held m c.args.at c.write_table.result (ept_pages (ranges_of c.args.windows.now)) c.write_table.new.out c.args.windows.now c.requires.at c.write_table.ensures.more (omega (arith, c.write_table.ensures.few, pages_are c.args.windows.now)) c.requires.end (omega (arith, c.write_table.auto.out, c.fill.ensures.len, c.requires.room)) c.requires.emittable c.write_table.ensures.numbered held a b level other page la lb ra rb
+returns-clause-paths c = λ m a b level other page held la lb ra rb. paths_held m c.args.at c.write_tables.result (ept_pages (ranges_of c.args.windows.now)) c.write_tables.new.out c.args.windows.now c.requires.at c.write_tables.ensures.some c.write_tables.ensures.few c.requires.end (omega (arith, c.write_tables.ensures.len, c.requires.room)) c.requires.emittable c.write_tables.ensures.numbered held a b level other page la lb ra rb
 
 pub returns-clause-leaves : goal.returns-clause-leaves
-returns-clause-leaves c = λ m addr held lt. size_held m c.args.at c.write_table.result (ept_pages (ranges_of c.args.windows.now)) c.write_table.new.out c.args.windows.now c.requires.at c.write_table.ensures.more (omega (arith, c.write_table.ensures.few, pages_are c.args.windows.now)) c.requires.end (omega (arith, c.write_table.auto.out, c.fill.ensures.len, c.requires.room)) c.requires.emittable c.write_table.ensures.numbered held addr (window_at c.args.windows.now addr) refl lt c.requires.apart
+returns-clause-leaves c = λ m addr held lt. size_held m c.args.at c.write_tables.result (ept_pages (ranges_of c.args.windows.now)) c.write_tables.new.out c.args.windows.now c.requires.at c.write_tables.ensures.some c.write_tables.ensures.few c.requires.end (omega (arith, c.write_tables.ensures.len, c.requires.room)) c.requires.emittable c.write_tables.ensures.numbered held addr (window_at c.args.windows.now addr) refl lt c.requires.apart
 
 pub returns-clause-types : goal.returns-clause-types
-returns-clause-types c = λ m addr held lt. type_held m c.args.at c.write_table.result (ept_pages (ranges_of c.args.windows.now)) c.write_table.new.out c.args.windows.now c.requires.at c.write_table.ensures.more (omega (arith, c.write_table.ensures.few, pages_are c.args.windows.now)) c.requires.end (omega (arith, c.write_table.auto.out, c.fill.ensures.len, c.requires.room)) c.requires.emittable c.write_table.ensures.numbered held addr (window_at c.args.windows.now addr) refl lt
+returns-clause-types c = λ m addr held lt. type_held m c.args.at c.write_tables.result (ept_pages (ranges_of c.args.windows.now)) c.write_tables.new.out c.args.windows.now c.requires.at c.write_tables.ensures.some c.write_tables.ensures.few c.requires.end (omega (arith, c.write_tables.ensures.len, c.requires.room)) c.requires.emittable c.write_tables.ensures.numbered held addr (window_at c.args.windows.now addr) refl lt
 
 pub returns-clause-ascending : goal.returns-clause-ascending
-returns-clause-ascending c = λ m addr level page lower lower_page held lt r q less. ascending_held m c.args.at c.write_table.result (ept_pages (ranges_of c.args.windows.now)) c.write_table.new.out c.args.windows.now c.requires.at c.write_table.ensures.more (omega (arith, c.write_table.ensures.few, pages_are c.args.windows.now)) c.requires.end (omega (arith, c.write_table.auto.out, c.fill.ensures.len, c.requires.room)) c.requires.emittable c.write_table.ensures.numbered held addr level page lower lower_page lt r q less
+returns-clause-ascending c = λ m addr level page lower lower_page held lt r q less. ascending_held m c.args.at c.write_tables.result (ept_pages (ranges_of c.args.windows.now)) c.write_tables.new.out c.args.windows.now c.requires.at c.write_tables.ensures.some c.write_tables.ensures.few c.requires.end (omega (arith, c.write_tables.ensures.len, c.requires.room)) c.requires.emittable c.write_tables.ensures.numbered held addr level page lower lower_page lt r q less
 
 pub returns-clause-order : goal.returns-clause-order
-returns-clause-order c = λ m addr level page k held lt r low high. order_held m c.args.at c.write_table.result (ept_pages (ranges_of c.args.windows.now)) c.write_table.new.out c.args.windows.now c.requires.at c.write_table.ensures.more (omega (arith, c.write_table.ensures.few, pages_are c.args.windows.now)) c.requires.end (omega (arith, c.write_table.auto.out, c.fill.ensures.len, c.requires.room)) c.requires.emittable c.write_table.ensures.numbered held addr level page k lt r low high
+returns-clause-order c = λ m addr level page k held lt r low high. order_held m c.args.at c.write_tables.result (ept_pages (ranges_of c.args.windows.now)) c.write_tables.new.out c.args.windows.now c.requires.at c.write_tables.ensures.some c.write_tables.ensures.few c.requires.end (omega (arith, c.write_tables.ensures.len, c.requires.room)) c.requires.emittable c.write_tables.ensures.numbered held addr level page k lt r low high
 
 pub returns-clause-rest : goal.returns-clause-rest
-returns-clause-rest c = λ m k held lt. rest_held m c.args.at c.write_table.result (ept_pages (ranges_of c.args.windows.now)) c.write_table.new.out c.args.windows.now c.requires.at c.write_table.ensures.more (omega (arith, c.write_table.ensures.few, pages_are c.args.windows.now)) c.requires.end (omega (arith, c.write_table.auto.out, c.fill.ensures.len, c.requires.room)) c.requires.emittable c.write_table.ensures.numbered held k lt (λ j past. c.write_table.ensures.beyond j past ∙ (ap (λ bytes. word_at bytes j) (c.fill.ensures.after (λ y h. h)) ∙ zero_word (length c.args.out.now) j))
+returns-clause-rest c = λ m k held lt. rest_held m c.args.at c.write_tables.result (ept_pages (ranges_of c.args.windows.now)) c.write_tables.new.out c.args.windows.now c.requires.at c.write_tables.ensures.some c.write_tables.ensures.few c.requires.end (omega (arith, c.write_tables.ensures.len, c.requires.room)) c.requires.emittable c.write_tables.ensures.numbered held k lt c.write_tables.ensures.rest
 
 pub returns-clause-entries : goal.returns-clause-entries
 returns-clause-entries c = λ addr lt.
-    let n = c.write_table.result in
+    let n = c.write_tables.result in
     let ws = c.args.windows.now in
-    let words = word_at c.write_table.new.out in
-    keeps words words (c.args.at / 4096) 1 n 1 _ ws (omega arith) (omega (arith, c.write_table.ensures.few, pages_are ws)) (λ _ _ _. refl) 3 0 addr refl (c.write_table.ensures.numbered.written addr (in_all addr lt))
+    let words = word_at c.write_tables.new.out in
+    keeps Rwx words words (c.args.at / 4096) 1 n 1 _ ws (omega arith) c.write_tables.ensures.few (λ _ _ _. refl) 3 0 addr refl (c.write_tables.ensures.numbered.written addr lt)
