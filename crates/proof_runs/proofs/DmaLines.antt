@@ -7,7 +7,6 @@ use Rattle.std.proofs.lemmas.Bool.{and_from, and_left, and_right, cases_lt}
 use Rattle.std.proofs.lemmas.List.{append-nil, length-drop, length-take, map-append, take-append-drop}
 use Rattle.std.proofs.lemmas.List.Elements.{All-drop, All-take}
 use Rattle.std.proofs.lemmas.List.Folds.{list_all-append}
-use Rattle.std.proofs.lemmas.Option.{get_or_from_slice_get, slice_get_within}
 use Rattle.device_bench.specs.declared.effect.Effect.{Effect}
 use Rattle.device_bench.specs.declared.effect.Effect.TheVariants.{Mem as ToMem}
 use Rattle.dma_tables.specs.LineWrites.{one_write, two_writes}
@@ -31,15 +30,13 @@ use Rattle.policy_lawful.specs.Windows.{Access, byte, violation}
 use Rattle.policy_types.specs.declared.source.Source.{Source}
 use Rattle.proof_runs.proofs.DomainWindows.{Lands, lands, next_lands}
 use Rattle.proof_runs.specs.Fit.{place_of, write_by}
+use Rattle.proof_start.proofs.ListFacts.{all_at}
 use Rattle.proof_start.specs.GroundOf.{ground_of}
 use Rattle.proof_turns.specs.Inputs.{AreLine, IsWrite, Part, dropped, each_of, written}
 use Rattle.subject_model.proofs.PolicyFacts.{passes_any}
 use Rattle.subject_model.specs.Clock.{ByteWrite, line_writes, write_to}
 
 -- ---- lists
-
-all_at : {X : Type 0} (P : X → Type 0) (xs : List X) (k : ℕ) (x : X) → All P xs → slice_get xs k ≡ Some x → P x
-all_at P xs k x all here = subst P (get_or_from_slice_get xs k x x here) (all k x (slice_get_within xs k x here))
 
 found_there : {X : Type 0} (test : X → Bool) (xs : List X) → slice_get xs (position_or_len test xs) ≡ find test xs
 found_there test [] = refl

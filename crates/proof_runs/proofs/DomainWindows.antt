@@ -54,6 +54,9 @@ module _ (p : Source) (files : Held) (i : Image) (keeps : KeepsConditions i) (so
     pub guest : w.guest % PAGE ≡ 0
     pub span : ThingSpan p files i w.thing
     pub size : w.size ≡ PAGE * span.span.0.pages
+    pub source : Region
+    pub is : w.thing ≡ region source.name
+    pub found : find (λ r. bytes_eq r.name source.name) p.memory ≡ Some source
 
   size_is : (name : List ℕ) (r : Region) (n : ℕ) → find (λ r. bytes_eq r.name name) p.memory ≡ Some r → declared_size p (region name) ≡ Some n → r.size ≡ n
   unfolding declared_size
@@ -69,7 +72,7 @@ module _ (p : Source) (files : Held) (i : Image) (keeps : KeepsConditions i) (so
             let again = region_again p name r is in
             let listed = region_is_thing p r.name (sym (found_any (λ x. bytes_eq x.name r.name) p.memory) ∙ ap is_some again) in
             let span = listed_span p files i keeps sound (region r.name) listed in
-            subst IsOnSpan same (record { guest = aligned; span = span; size = size_is r.name r (PAGE * span.span.0.pages) again span.is.size })
+            subst IsOnSpan same (record { guest = aligned; span = span; size = size_is r.name r (PAGE * span.span.0.pages) again span.is.size; source = r; is = refl; found = again })
       ] refl h
 
   abbrev window_by : Mapping → Option (Window Thing)
@@ -100,6 +103,9 @@ module _ (p : Source) (files : Held) (i : Image) (keeps : KeepsConditions i) (so
     pub span : ThingSpan p files i x
     pub within : offset < PAGE * span.span.0.pages
     pub along : offset % PAGE ≡ address % PAGE
+    pub source : Region
+    pub is : x ≡ region source.name
+    pub found : find (λ r. bytes_eq r.name source.name) p.memory ≡ Some source
 
   abbrev at : ℕ → Window Thing → Bool
   at address w = holds w address
@@ -119,7 +125,7 @@ module _ (p : Source) (files : Held) (i : Image) (keeps : KeepsConditions i) (so
       let guest : w.guest % PAGE ≡ 0 = on.guest in
       let size : w.size ≡ PAGE * on.span.span.0.pages = on.size in
       let offset_is = is.1 in
-      subst (λ x. Lands address x offset) is.0 (record { span = on.span; within = omega (arith, low, high, size, offset_is); along = omega (arith, low, guest, offset_is) })
+      subst (λ x. Lands address x offset) is.0 (record { span = on.span; within = omega (arith, low, high, size, offset_is); along = omega (arith, low, guest, offset_is); source = on.source; is = on.is; found = on.found })
 
   pub lands : (device : List ℕ) (address : ℕ) (kind : AccessKind) (x : Thing) (offset : ℕ) → access_of (dma_windows p device) address kind ≡ byte x offset → Lands address x offset
   lands device address kind x offset h = lands_in device address kind x offset (find (at address) (dma_windows p device)) refl h
