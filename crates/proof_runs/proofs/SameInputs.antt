@@ -149,7 +149,7 @@ found_index p (x ∷ xs) =
       | false ↦ let e : nat_lt (1 + position_or_len p xs) (length (x ∷ xs)) ≡ nat_lt (position_or_len p xs) (length xs) = grind (arith, nat_tests) in e ∙ found_index p xs
     ]
 
-found_number : {X : Type 0} (p : X → Bool) (xs : List X) → is_some (position p xs) ≡ is_some (find p xs)
+pub found_number : {X : Type 0} (p : X → Bool) (xs : List X) → is_some (position p xs) ≡ is_some (find p xs)
 found_number p xs = some_if (nat_lt (position_or_len p xs) (length xs)) (position_or_len p xs) ∙ found_index p xs
 
 port_known : (spans : List SpanPart) (port value : ℕ) (o : Option DevicePart) → option_map_or (has_port port) (option_map (bench_device_of spans) o) false ≡ is_some (option_and_then (port_input_of port value) o)
