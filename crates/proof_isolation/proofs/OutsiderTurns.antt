@@ -43,7 +43,8 @@ use Rattle.proof_views.proofs.Unmoved.{by_raised}
 use Rattle.proof_views.proofs.Untouched.{turn_elsewhere, windows_spare}
 use Rattle.proof_isolation.specs.Alike.{AreAlike, AreAlikeFor}
 use Rattle.proof_isolation.proofs.Conflicts.{BothPages, flows_by, met, none_in}
-use Rattle.proof_isolation.proofs.Outsiders.{IsWritable, Named, by_cpu, no_flow, other_names, raised_active, raised_pends, took_pends, turn_writes}
+use Rattle.subject_model.proofs.DeviceWrites.{IsWritable}
+use Rattle.proof_isolation.proofs.Outsiders.{Named, by_cpu, no_flow, other_names, raised_active, raised_pends, took_pends, turn_writes}
 use Rattle.proof_isolation.proofs.Stores.{by_store}
 use Rattle.proof_isolation.proofs.Windows.{IsOn, window_is}
 

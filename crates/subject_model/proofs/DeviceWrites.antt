@@ -68,8 +68,8 @@ module _ (p : Source) (device : List ℕ) where
         by_window at.one.0 at.one.1 w (find (λ w. holds w at.one.0) (dma_windows p device)) refl at.image
 
     -- no state page is written
-    pub no_page : (name : List ℕ) (w : ByteWrite) → In (Some w) (line_writes p device address bytes) → w.thing ≡ state name → ⊥
-    no_page name w within same =
+    pub no_page : (w : ByteWrite) → In (Some w) (line_writes p device address bytes) → (name : List ℕ) → w.thing ≡ state name → ⊥
+    no_page w within name same =
         let at = written w within in
         let on = window_on_region p device at.window at.its in
         let clash : region on.0 ≡ state name = sym on.1 ∙ at.shows ∙ same in
@@ -102,7 +102,7 @@ line_spares x ws y h =
 module _ (p : Source) (device : List ℕ) (address : ℕ) (bytes : List ℕ) (y : System) where
   -- so a state page stays
   pub page_stays : (name : List ℕ) → thing_in (takes p (dma_input device address bytes) y).things (state name) ≡ thing_in y.things (state name)
-  page_stays name = line_spares (state name) (line_writes p device address bytes) y (no_page p device address bytes name)
+  page_stays name = line_spares (state name) (line_writes p device address bytes) y (λ w within. no_page p device address bytes w within name)
 
   -- and all that no window with write of the device's domain shows
   pub unwritten_stays : (x : Thing) → list_any (λ w. allows w.rights Write && same_thing w.thing x) (dma_windows p device) ≡ false → thing_in (takes p (dma_input device address bytes) y).things x ≡ thing_in y.things x
