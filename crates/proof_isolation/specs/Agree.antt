@@ -73,8 +73,8 @@ is_seen p members x = list_any (λ s. is_member members s && is_shown (windows_o
 abbrev pub maps_seen : Source → List (List ℕ) → List ℕ → Bool
 maps_seen p members device = list_any (λ w. is_seen p members w.thing) (dma_windows p device)
 
--- an input reaches a member, by the first of two policies; a line of direct memory access counts where its device's domain maps, in
--- either policy, a thing that a window of a member shows
+-- an input reaches a member, by the first of two policies; for a line of direct memory access it is enough that its device's domain
+-- maps, in either policy, a thing that a window of a member shows
 abbrev pub touches : Source → Source → List (List ℕ) → NamedInput → Bool
 touches p q members (port_input device port value) = list_any (λ s. is_member members s && list_any (λ n. n == port) (ports_of p s)) p.subjects
 touches p q members (memory_input device memory offset bytes) = is_seen p members (device_memory device memory)
@@ -122,6 +122,7 @@ pub record Agree (members : List (List ℕ)) (p q : Source) (f g : Held) (r t : 
   pub back : (z : Subject) → is_member members z ≡ true → subject_named q z.name ≡ Some z → (s : Subject) × (subject_named p z.name ≡ Some s)
   pub each : (s z : Subject) → is_member members s ≡ true → subject_named p s.name ≡ Some s → subject_named q s.name ≡ Some z → AgreeFor members p q f g s z
   pub frames : AgreeOnFrames members p q ends
+  -- inputs that reach members are the same in both, and the lines of direct memory access among them do the same to what these see
   pub inputs : (tick : ℕ) → tick < ends → filter (touches p q members) (inputs_at r tick) ≡ filter (touches q p members) (inputs_at t tick)
   pub writes : (tick : ℕ) → tick < ends → All (WritesTheSame members p q) (filter (touches p q members) (inputs_at r tick))
   pub orders : (tick : ℕ) → tick < ends → filter (holds_member p members) (order_at p r tick) ≡ filter (holds_member q members) (order_at q t tick)
