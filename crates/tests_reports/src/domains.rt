@@ -6,19 +6,19 @@ use std::test::Fail;
 use tests_support::{Ended, call, file};
 
 // The device `nic` is in a domain with `buf` at its address 4096, and with `log`, to read, behind it.
-const NIC: &str = "{\"processor\":{\"logicalCpus\":1},\
-\"memoryBlocks\":[{\"name\":\"ram\",\"physicalAddress\":1048576,\"size\":1048576}],\
-\"devices\":[{\"name\":\"nic\",\"bdf\":{\"bus\":0,\"device\":3,\"function\":0}},{\"name\":\"card\"}],\
-\"memory\":[{\"name\":\"code\",\"size\":4096,\"content\":{\"hex\":\"01200000000050000b12030008000000\"}},\
-{\"name\":\"buf\",\"size\":4096},{\"name\":\"log\",\"size\":4096}],\
-\"subjects\":[{\"name\":\"one\",\"cpu\":0,\"entry\":4194304,\
-\"memory\":[{\"region\":\"code\",\"virtualAddress\":4194304,\"rights\":\"rx\"},\
-{\"region\":\"buf\",\"virtualAddress\":5242880,\"rights\":\"r\"}]}],\
-\"scheduling\":{\"groups\":[{\"name\":\"g\",\"cpu\":0,\"subjects\":[\"one\"]}],\
-\"majorFrames\":[{\"cpus\":[{\"cpu\":0,\"minorFrames\":[{\"group\":\"g\",\"ticks\":10}]}]}]},\
-\"deviceDomains\":[{\"name\":\"d\",\"devices\":[\"nic\"],\
-\"memory\":[{\"region\":\"log\",\"virtualAddress\":8192,\"rights\":\"r\"},\
-{\"region\":\"buf\",\"virtualAddress\":4096,\"rights\":\"rw\"}]}]}";
+const NIC: &str = r#"{"processor":{"logicalCpus":1},
+"memoryBlocks":[{"name":"ram","physicalAddress":1048576,"size":1048576}],
+"devices":[{"name":"nic","bdf":{"bus":0,"device":3,"function":0}},{"name":"card"}],
+"memory":[{"name":"code","size":4096,"content":{"hex":"01200000000050000b12030008000000"}},
+{"name":"buf","size":4096},{"name":"log","size":4096}],
+"subjects":[{"name":"one","cpu":0,"entry":4194304,
+"memory":[{"region":"code","virtualAddress":4194304,"rights":"rx"},
+{"region":"buf","virtualAddress":5242880,"rights":"r"}]}],
+"scheduling":{"groups":[{"name":"g","cpu":0,"subjects":["one"]}],
+"majorFrames":[{"cpus":[{"cpu":0,"minorFrames":[{"group":"g","ticks":10}]}]}]},
+"deviceDomains":[{"name":"d","devices":["nic"],
+"memory":[{"region":"log","virtualAddress":8192,"rights":"r"},
+{"region":"buf","virtualAddress":4096,"rights":"rw"}]}]}"#;
 
 // The regions with the digest of 4,096 zeros.
 const ZEROS: &str =
