@@ -43,7 +43,7 @@ found_there test [] = refl
 found_there test (x ∷ xs) =
     elim (test x) as (λ b. slice_get (x ∷ xs) (cond (not b) (1 + position_or_len test xs) 0) ≡ cond b (Some x) (find test xs)) [
       | true ↦ refl
-      | false ↦ found_there test xs
+      | false ↦ let next : 1 + position_or_len test xs ≡ suc (position_or_len test xs) = omega arith in ap (slice_get (x ∷ xs)) next ∙ found_there test xs
     ]
 
 -- what has a number is found
@@ -138,7 +138,7 @@ module _ (p : Source) (files : Held) (i : Image) (keeps : KeepsConditions i) (so
       → AreLine (ground_of p i) (two_writes (place_of (address_of p i) a) front (place_of (address_of p i) b) back) ws
   in_two addr next front back (byte x offset) (byte y behind) ws e f are some more room rest small smaller =
       written (part x offset front ∷ part y behind back ∷ [])
-      (one_write_is addr offset x front e room small, one_write_is next behind y back f rest smaller, tt)
+      (one_write_is addr offset x front e room small, (one_write_is next behind y back f rest smaller, tt))
       (ap (λ vs. each_of (part x offset front) ++ vs) (append-nil (each_of (part y behind back)) ∙ sym (part_lands back next behind y f rest))
       ∙ ap (λ vs. vs ++ writes next back) (sym (part_lands front addr offset x e room)) ∙ sym are)
   in_two addr next front back (byte x offset) (violation found) ws e f are some more room rest small smaller =

@@ -80,14 +80,13 @@ module _ (p : Source) (files : Held) (i : Image) (keeps : KeepsConditions i) (so
 
   windows_on : (ms : List Mapping) → list_all begins_page ms ≡ true → AllByRecursion IsOnSpan (filter_map window_by ms)
   windows_on [] all = tt
-  windows_on (m ∷ ms) all = by (window_by m) refl
+  windows_on (m ∷ ms) all =
+      let each = and_parts (begins_page m) (list_all begins_page ms) all in
+      by (windows_on ms each.1) each.0 (window_by m) refl
     where
-      each : (begins_page m ≡ true) × (list_all begins_page ms ≡ true)
-      each = and_parts (begins_page m) (list_all begins_page ms) all
-
-      by : (o : Option (Window Thing)) → window_by m ≡ o → AllByRecursion IsOnSpan (cons_option o (filter_map window_by ms))
-      by None e = windows_on ms each.1
-      by (Some w) e = (window_on m.region m.virtual_address m.rights w (eqb-true (m.virtual_address % PAGE) 0 each.0) e, windows_on ms each.1)
+      by : AllByRecursion IsOnSpan (filter_map window_by ms) → begins_page m ≡ true → (o : Option (Window Thing)) → window_by m ≡ o → AllByRecursion IsOnSpan (cons_option o (filter_map window_by ms))
+      by rest begins None e = rest
+      by rest begins (Some w) e = (window_on m.region m.virtual_address m.rights w (eqb-true (m.virtual_address % PAGE) 0 begins) e, rest)
 
   domain_on : (o : Option Domain) (device : List ℕ) → domain_of p device ≡ o → AllByRecursion IsOnSpan (option_map_or (domain_windows p) o [])
   domain_on None device e = tt
