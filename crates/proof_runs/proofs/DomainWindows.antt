@@ -1,6 +1,6 @@
 -- The windows of the domains of devices: whole pages of the spans of regions.
 use Rattle.std.proofs.Common.{◌≡◌, ◌∙◌, ℕ, ◌+◌, ◌-◌, ◌*◌, ◌/◌, ◌%◌, ◌<◌, ◌≤◌, Bool, true, false, cond, List, [], ◌∷◌, map, Option, Some, None, refl, sym, ap, subst, arith, is_some}
-use Rattle.std.specs.Prelude.{◌&&◌, if◌then◌else◌, nat_le, nat_lt, option_map}
+use Rattle.std.specs.Prelude.{if◌then◌else◌, nat_le, nat_lt, option_map}
 use Rattle.std.specs.Option.{IfSome, option_map_or}
 use Rattle.std.specs.List.{AllByRecursion, cons_option, filter_map, find, list_all, list_any}
 use Rattle.std.specs.Str.{bytes_eq}
@@ -21,7 +21,7 @@ use Rattle.policy_lawful.specs.Dma.{dma_windows, domain_of, domain_windows}
 use Rattle.policy_lawful.specs.Domains.{each_window, offence_22}
 use Rattle.policy_lawful.specs.Offences.{two}
 use Rattle.policy_lawful.specs.Rules.{is_declared, is_page_aligned}
-use Rattle.policy_lawful.specs.Thing.{Thing, region, same_thing, things_of}
+use Rattle.policy_lawful.specs.Thing.{Thing, region}
 use Rattle.policy_lawful.specs.Windows.{Window, access_by, access_of, byte, holds, region_window, violation, window}
 use Rattle.policy_types.specs.Rights.{allows}
 use Rattle.policy_types.specs.declared.rights.Rights.{Rights}
