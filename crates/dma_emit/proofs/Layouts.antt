@@ -1,0 +1,65 @@
+-- Which page has which table: pages ascend, and there are as many as that.
+use Rattle.std.proofs.Common.{◌≡◌, ℕ, ◌+◌, ◌<◌, ◌≤◌, true, false, List, length, get_or, map, refl, sym, ap, ◌∙◌, arith}
+use Rattle.std.specs.Prelude.{◌==◌, filter, if◌then◌else◌}
+use Rattle.std.specs.List.{sum_by}
+use Rattle.std.proofs.lemmas.Bool.{eqb-true}
+use Rattle.std.proofs.lemmas.List.{length-map}
+use Rattle.dma_emit.specs.declared.domains.Domains.{Domains}
+use Rattle.dma_emit.specs.Layout.{buses, buses_below, context_page, domain_pages, has_device, on_bus, page_count, tables_page, windows_at}
+use Rattle.dma_emit.specs.Ready.{IsReady}
+use Rattle.dma_emit.proofs.Lists.{filter_fits_numbers, numbered_at, sum_grows, sum_rises}
+use Rattle.ept_emit.specs.Pages.{ept_pages, ranges_of}
+use Rattle.muen_num.specs.Range.{numbers_below}
+use Rattle.muen_num.proofs.Members.{all_in, any_some}
+use Rattle.muen_num.proofs.NumbersBelow.{length_numbers}
+
+-- ---- buses
+
+pub buses_are : (d : Domains) (n : ℕ) → n ≡ 256 → buses d ≡ buses_below d n
+unfolding buses
+buses_are d n e = ap (buses_below d) (sym e)
+
+pub few_below : (d : Domains) (n m : ℕ) → n ≤ m → length (buses_below d n) ≤ length (buses_below d m)
+few_below d n m l = filter_fits_numbers (on_bus d) n m l
+
+-- ---- pages
+
+pub pages_grow : (d : Domains) (n m : ℕ) → n ≤ m → tables_page d n ≤ tables_page d m
+pages_grow d n m l = let more = sum_grows (domain_pages d) n m l in omega arith
+
+pub before_all : (d : Domains) (n : ℕ) → n ≤ length d.windows → tables_page d n ≤ page_count d
+before_all d n l = pages_grow d n (length d.windows) l
+
+pub pages_next : (d : Domains) (n : ℕ) → n < length d.windows → tables_page d n + domain_pages d n ≤ page_count d
+pages_next d n l = let more = sum_rises (domain_pages d) n (length d.windows) l in omega arith
+
+pub contexts_first : (d : Domains) (bus : ℕ) → bus ≤ 256 → context_page d bus ≤ tables_page d 0
+contexts_first d bus l =
+    let few = few_below d bus 256 l in
+    let all = ap length (buses_are d 256 refl) in
+    omega arith
+
+-- the pages as a list
+module _ (d : Domains) (pages : List ℕ) (are : pages ≡ map (tables_page d) (numbers_below (length d.windows + 1))) where
+  pub page_there : (n : ℕ) → n ≤ length d.windows → n < length pages
+  page_there n l =
+      let many = ap length are ∙ (length-map (numbers_below (length d.windows + 1)) (tables_page d) ∙ length_numbers (length d.windows + 1)) in
+      omega arith
+
+  pub page_at : (n : ℕ) → n ≤ length d.windows → get_or pages n 0 ≡ tables_page d n
+  page_at n l = ap (λ xs. get_or xs n 0) are ∙ numbered_at (tables_page d) (length d.windows + 1) n 0 (omega arith)
+
+-- ---- domains in which a device stands
+
+pub domain_there : (d : Domains) (n : ℕ) → IsReady d → has_device d n ≡ true → n < length d.windows
+domain_there d n ready h =
+    let v = any_some (λ v. v.domain == n) d.devices h in
+    let below = all_in (λ v. v.domain < length d.windows) d.devices ready.domains v.one v.within in
+    let same = eqb-true v.one.domain n v.passes in
+    omega arith
+
+pub pages_some : (d : Domains) (n : ℕ) → has_device d n ≡ true → domain_pages d n ≡ ept_pages (ranges_of (windows_at d n))
+pages_some d n h = ap (λ b. if b then ept_pages (ranges_of (windows_at d n)) else 0) h
+
+pub pages_none : (d : Domains) (n : ℕ) → has_device d n ≡ false → domain_pages d n ≡ 0
+pages_none d n h = ap (λ b. if b then ept_pages (ranges_of (windows_at d n)) else 0) h

@@ -1,0 +1,5 @@
+pub mod Lists
+pub mod Words
+pub mod LowestFree
+pub mod Levels
+pub mod Layouts
