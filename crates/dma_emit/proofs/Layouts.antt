@@ -1,14 +1,17 @@
 -- Which page has which table: pages ascend, and there are as many as that.
-use Rattle.std.proofs.Common.{◌≡◌, ℕ, ◌+◌, ◌<◌, ◌≤◌, true, false, List, length, get_or, map, refl, sym, ap, ◌∙◌, arith}
+use Rattle.std.proofs.Common.{◌≡◌, ℕ, suc, ◌+◌, ◌<◌, ◌≤◌, true, false, All, List, [], length, get_or, map, refl, sym, ap, ◌∙◌, arith}
 use Rattle.std.specs.Prelude.{◌==◌, filter, if◌then◌else◌}
 use Rattle.std.specs.List.{sum_by}
 use Rattle.std.proofs.lemmas.Bool.{eqb-true}
 use Rattle.std.proofs.lemmas.List.{length-map}
+use Rattle.std.proofs.lemmas.List.Elements.{All-map}
 use Rattle.dma_emit.specs.declared.domains.Domains.{Domains}
 use Rattle.dma_emit.specs.Layout.{buses, buses_below, context_page, domain_pages, has_device, on_bus, page_count, tables_page, windows_at}
-use Rattle.dma_emit.specs.Ready.{IsReady}
-use Rattle.dma_emit.proofs.Lists.{filter_fits_numbers, numbered_at, sum_grows, sum_rises}
-use Rattle.ept_emit.specs.Pages.{ept_pages, ranges_of}
+use Rattle.dma_emit.specs.Ready.{AreWindows, IsReady}
+use Rattle.dma_emit.proofs.Lists.{filter_fits_numbers, numbered_at, sum_grows, sum_next, sum_rises}
+use Rattle.ept_emit.specs.Entries.{IsEmittable}
+use Rattle.ept_emit.specs.Pages.{IsMapped, ept_pages, range_of, ranges_of}
+use Rattle.ept_emit.specs.declared.window.Window.{Window}
 use Rattle.muen_num.specs.Range.{numbers_below}
 use Rattle.muen_num.proofs.Members.{all_in, any_some}
 use Rattle.muen_num.proofs.NumbersBelow.{length_numbers}
@@ -63,3 +66,18 @@ pages_some d n h = ap (λ b. if b then ept_pages (ranges_of (windows_at d n)) el
 
 pub pages_none : (d : Domains) (n : ℕ) → has_device d n ≡ false → domain_pages d n ≡ 0
 pages_none d n h = ap (λ b. if b then ept_pages (ranges_of (windows_at d n)) else 0) h
+
+pub pages_step : (d : Domains) (n : ℕ) → tables_page d (n + 1) ≡ tables_page d n + domain_pages d n
+pages_step d n =
+    let next : n + 1 ≡ suc n = omega arith in
+    let same = ap (λ k. sum_by (domain_pages d) (numbers_below k)) next in
+    let sum = sum_next (domain_pages d) n in
+    omega (arith, same, sum)
+
+-- ---- windows
+
+pub windows_there : (d : Domains) (n : ℕ) → IsReady d → n < length d.windows → AreWindows (windows_at d n)
+windows_there d n ready l = ready.windows n [] l
+
+pub all_mapped : (ws : List Window) → All IsEmittable ws → All IsMapped (ranges_of ws)
+all_mapped ws h = All-map IsMapped range_of ws (λ k w l. let fine = h k w l in record { some = fine.some; end = fine.end })

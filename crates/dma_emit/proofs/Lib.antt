@@ -3,3 +3,6 @@ pub mod Words
 pub mod LowestFree
 pub mod Levels
 pub mod Layouts
+pub mod InOrder
+pub mod TablesOf
+pub mod PlacesThere

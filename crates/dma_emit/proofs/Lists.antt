@@ -3,7 +3,7 @@ use Rattle.std.proofs.Common.{◌≡◌, ◌⊎◌, inl, inr, ℕ, zero, suc, �
 use Rattle.std.specs.Prelude.{filter}
 use Rattle.std.specs.List.{concat, cons_option, filter_map, flat_map, sum_by}
 use Rattle.std.proofs.lemmas.Bool.{cases_Bool, cases_eq, cases_lt}
-use Rattle.std.proofs.lemmas.List.{append-nil, get_or-map, get_or_default, length-map, map_push, same_lists, take_more}
+use Rattle.std.proofs.lemmas.List.{append-nil, get_or-map, get_or_default, length-map, map_push, same_lists, take_at, take_more}
 use Rattle.std.proofs.lemmas.List.Concat.{concat_is, flat_map-append, length-flat_map}
 use Rattle.std.proofs.lemmas.List.Sums.{sum_by_push}
 use Rattle.std.proofs.lemmas.Option.{get_or_from_slice_get}
@@ -258,3 +258,14 @@ filter_fits_numbers p n (suc m) l =
 
 pub length_one_more : (xs : List ℕ) (x : ℕ) → length (xs ++ x ∷ []) ≡ length xs + 1
 length_one_more xs x = length-append xs (x ∷ [])
+
+-- what is read at an index
+pub index_is : {X : Type 0} (xs ys : List X) (n : ℕ) (x d : X) → x ≡ get_or xs n x → xs ≡ ys → n < length ys → x ≡ get_or ys n d
+index_is xs ys n x d is same l = is ∙ (ap (λ zs. get_or zs n x) same ∙ get_or_default ys n x d l)
+
+-- as many elements as were written
+pub written : (n : ℕ) (new old : List ℕ) → length new ≡ n → take n (new ++ old) ≡ new
+written n new old long = take_at new old n long
+
+pub length_pushed : {X : Type 0} (xs : List X) (x : X) → length (xs ++ x ∷ []) ≡ length xs + 1
+length_pushed xs x = length-append xs (x ∷ [])

@@ -17,6 +17,10 @@ use Rattle.policy_types.specs.declared.rights.Caching.TheVariants.{Uc}
 abbrev pub same_guest : Window → Window → Bool
 same_guest a b = a.guest == b.guest
 
+-- no two windows are at the same address
+abbrev pub HaveDifferentGuests : List Window → Type 0
+HaveDifferentGuests ws = AllPairs (λ a b. same_guest a b ≡ false) ws
+
 -- it is mapped by pages of 4 KiB, with no memory type, to read or to read and write
 pub record IsForDevices (w : Window) : Type 0 where
   pub leaf : w.leaf ≡ Small

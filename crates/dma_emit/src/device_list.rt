@@ -4,17 +4,20 @@ ghost use Rattle.dma_tables.specs.DmaConditions.{IsDmaDevice};
 
 use crate::devices::DomainDevice;
 use crate::domains::Domains;
+use crate::layout::{BUSES, DEVFNS};
 use dma_tables::DmaDevice;
 use muen_num::{NoMemory, Seq};
 use std::alloc::Global;
 
-// Whether a device has a name: it has, since its type says so.
+// Whether a device has a name, and numbers that are bytes: it has, since its type says so.
 #[tactic(auto, unfolding(muen_num::specs::Naming::is_name))]
-fn has_name(device: &DmaDevice) -> bool
+fn is_device(device: &DmaDevice) -> bool
     ensures is { IsDmaDevice device.now }
     ensures holds { result ≡ true }
 {
     !device.name.bytes().is_empty()
+        && u16::from(device.bus) < BUSES
+        && u16::from(device.devfn) < DEVFNS
 }
 
 // A device without the number of its domain.
@@ -22,7 +25,7 @@ fn device_of(device: &DomainDevice) -> DmaDevice
     ensures value { result ≡ device.now.device }
     ensures is { IsDmaDevice result }
 {
-    prove!(has_name(&device.device));
+    prove!(is_device(&device.device));
     device.device
 }
 

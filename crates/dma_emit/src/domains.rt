@@ -1,8 +1,8 @@
 //! The domains of a placed policy.
 ghost use Rattle.std.specs.Prelude.{◌≡◌, map, All, IfOk};
-ghost use Rattle.std.specs.List.{IsDistinct, filter_map};
+ghost use Rattle.std.specs.List.{filter_map};
 ghost use Rattle.dma_emit.specs.Domains.{domains_of, mapped, windows_of};
-ghost use Rattle.dma_emit.specs.Ready.{IsReady, same_guest};
+ghost use Rattle.dma_emit.specs.Ready.{HaveDifferentGuests, IsReady};
 ghost use Rattle.region_alloc.specs.Placed.{IsPlaced};
 
 use crate::devices::{DomainDevice, domain_devices};
@@ -28,7 +28,7 @@ fn windows_of_each(
     placed: &Placed,
     domains: &[Domain],
 ) -> Result<Seq<Seq<Window>>, NoMemory>
-    requires { All (λ d. IsDistinct same_guest (filter_map (mapped placed.now) d.memory)) domains.now }
+    requires { All (λ d. HaveDifferentGuests (filter_map (mapped placed.now) d.memory)) domains.now }
     ensures { IfOk result (λ windows. windows ≡ map (windows_of placed.now) domains.now) }
 {
     let mut windows = Seq::new(alloc);

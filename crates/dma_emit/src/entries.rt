@@ -8,7 +8,7 @@ ghost use Rattle.muen_num.specs.Range.{numbers_below};
 
 use crate::devices::DomainDevice;
 use crate::domains::Domains;
-use crate::layout::{BUSES, on_bus};
+use crate::layout::{BUSES, DEVFNS, on_bus};
 use muen_num::limits::PAGE;
 use std::alloc::AllocError;
 
@@ -23,9 +23,6 @@ pub(crate) struct WideEntry {
 
 /// An entry that isn't present.
 const ABSENT: WideEntry = WideEntry { low: 0, high: 0 };
-
-/// How many devices and functions there are on a bus.
-const DEVFNS: u16 = 256;
 
 /// Bit 0, which says that an entry is present.
 const PRESENT: u64 = 1;

@@ -14,6 +14,9 @@ use std::alloc::{AllocError, Global};
 /// How many buses there are.
 pub(crate) const BUSES: u16 = 256;
 
+/// How many devices and functions there are on a bus.
+pub(crate) const DEVFNS: u16 = 256;
+
 /// Whether a device of some domain is on this bus.
 pub(crate) fn on_bus(domains: &Domains, bus: u16) -> bool
     ensures { result ≡ on_bus domains.now bus }

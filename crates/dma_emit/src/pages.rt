@@ -1,5 +1,5 @@
 //! All pages of the file.
-ghost use Rattle.std.specs.Prelude.{◌≡◌, ◌+◌, ◌*◌, ◌≤◌, ◌^◌, length, map, IfOk};
+ghost use Rattle.std.specs.Prelude.{◌≡◌, ◌+◌, ◌*◌, ◌≤◌, ◌^◌, length, map, true, IfOk};
 ghost use Rattle.binary_form.specs.Form.{IsBytes};
 ghost use Rattle.dma_emit.specs.Emitted.{ArePages};
 ghost use Rattle.dma_emit.specs.Layout.{page_count, tables_page};
@@ -12,6 +12,14 @@ use crate::entries::{put_contexts, put_root};
 use crate::tables::{all_tables, put_tables};
 use muen_num::NoMemory;
 use std::alloc::Global;
+
+// Whether these are bytes: they are, since their type says so.
+fn are_bytes(bytes: &[u8]) -> bool
+    ensures are { IsBytes bytes.now }
+    ensures holds { result ≡ true }
+{
+    true
+}
 
 /// The bytes of all pages, the first of which is the page `root` of physical memory. The pages given are
 /// those of the domains' highest tables.
@@ -32,5 +40,6 @@ pub(crate) fn all_pages(
     put_root(&mut out, domains, root)?;
     put_contexts(&mut out, domains, pages, root)?;
     put_tables(&mut out, &tables)?;
+    prove!(are_bytes(&out));
     Ok(out)
 }

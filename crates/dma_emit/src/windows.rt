@@ -1,12 +1,10 @@
 //! The windows of a domain.
 ghost use Rattle.std.specs.Prelude.{◌≡◌, ◌++◌, [], IfOk, OnOk, option_map, position};
-ghost use Rattle.std.specs.List.{IsDistinct, cons_option, filter_map, find};
+ghost use Rattle.std.specs.List.{cons_option, filter_map, find};
 ghost use Rattle.std.specs.List.Sorted.{IsNonDecreasingBy, IsPermutation};
-ghost use Rattle.std.specs.Option.{option_copied};
 ghost use Rattle.std.specs.Str.{bytes_eq};
 ghost use Rattle.dma_emit.specs.Domains.{mapped, place_of, windows_of};
-ghost use Rattle.dma_emit.specs.Ready.{same_guest};
-ghost use Rattle.region_alloc.specs.Placed.{IsPlaced};
+ghost use Rattle.dma_emit.specs.Ready.{HaveDifferentGuests};
 
 use ept_emit::{Leaf, Window};
 use muen_num::{Name, NoMemory, Seq};
@@ -93,7 +91,7 @@ pub(crate) fn windows_of(
     placed: &Placed,
     domain: &Domain,
 ) -> Result<Seq<Window>, NoMemory>
-    requires { IsDistinct same_guest (filter_map (mapped placed.now) domain.now.memory) }
+    requires { HaveDifferentGuests (filter_map (mapped placed.now) domain.now.memory) }
     ensures { IfOk result (λ windows. windows ≡ windows_of placed.now domain.now) }
 {
     let windows = in_turn(alloc, placed, domain)?;
