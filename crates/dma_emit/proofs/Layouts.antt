@@ -8,7 +8,7 @@ use Rattle.std.proofs.lemmas.List.Elements.{All-map}
 use Rattle.dma_emit.specs.declared.domains.Domains.{Domains}
 use Rattle.dma_emit.specs.Layout.{buses, buses_below, context_page, domain_pages, has_device, on_bus, page_count, tables_page, windows_at}
 use Rattle.dma_emit.specs.Ready.{AreWindows, IsReady}
-use Rattle.dma_emit.proofs.Lists.{filter_fits_numbers, numbered_at, sum_grows, sum_next, sum_rises}
+use Rattle.dma_emit.proofs.Lists.{filter_fits_numbers, filter_passes_next, length_one_more, numbered_at, sum_grows, sum_next, sum_rises}
 use Rattle.ept_emit.specs.Entries.{IsEmittable}
 use Rattle.ept_emit.specs.Pages.{IsMapped, ept_pages, range_of, ranges_of}
 use Rattle.ept_emit.specs.declared.window.Window.{Window}
@@ -39,6 +39,14 @@ pages_next d n l = let more = sum_rises (domain_pages d) n (length d.windows) l 
 pub contexts_first : (d : Domains) (bus : ℕ) → bus ≤ 256 → context_page d bus ≤ tables_page d 0
 contexts_first d bus l =
     let few = few_below d bus 256 l in
+    let all = ap length (buses_are d 256 refl) in
+    omega arith
+
+-- a bus with a device has one of the pages before the domains'
+pub context_fits : (d : Domains) (bus : ℕ) → bus < 256 → on_bus d bus ≡ true → context_page d bus < tables_page d 0
+context_fits d bus l h =
+    let more = ap length (filter_passes_next (on_bus d) bus (bus + 1) refl h) ∙ length_one_more (buses_below d bus) bus in
+    let few = few_below d (bus + 1) 256 (omega arith) in
     let all = ap length (buses_are d 256 refl) in
     omega arith
 

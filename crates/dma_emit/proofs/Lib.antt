@@ -6,3 +6,8 @@ pub mod Layouts
 pub mod InOrder
 pub mod TablesOf
 pub mod PlacesThere
+pub mod OnlyOne
+pub mod Places
+pub mod Walk
+pub mod DomainRules
+pub mod TotalSize
