@@ -11,3 +11,6 @@ pub mod Places
 pub mod Walk
 pub mod DomainRules
 pub mod TotalSize
+pub mod Found
+pub mod DomainWindows
+pub mod Counts
