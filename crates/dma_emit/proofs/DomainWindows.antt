@@ -58,7 +58,7 @@ made x m w e =
     ] refl e
 
 module _ (x : Placement) (placed : IsPlaced x) where
-  laid_out : IsLaidOut x.expanded.lawful.memory_blocks x.expanded.lawful.devices x.expanded.regions x.addresses
+  pub laid_out : IsLaidOut x.expanded.lawful.memory_blocks x.expanded.lawful.devices x.expanded.regions x.addresses
   laid_out = is_placed x.expanded.lawful x.expanded.regions x.addresses placed.lawful placed.expansion.regions placed.placement placed.inside placed.disjoint
 
   -- ---- where a region lies

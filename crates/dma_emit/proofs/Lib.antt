@@ -14,3 +14,6 @@ pub mod TotalSize
 pub mod Found
 pub mod DomainWindows
 pub mod Counts
+pub mod DomainsReady
+pub mod Unordered
+pub mod Declared

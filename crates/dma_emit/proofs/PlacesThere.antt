@@ -39,7 +39,7 @@ first_regions p =
     (a ++ (b ++ c), append_assoc (own ++ a) b c ∙ append_assoc own a (b ++ c))
 
 module _ (x : Placement) (placed : IsPlaced x) where
-  regions_are : (rest : List Region) × (x.expanded.regions ≡ map own_region x.expanded.lawful.memory ++ rest)
+  pub regions_are : (rest : List Region) × (x.expanded.regions ≡ map own_region x.expanded.lawful.memory ++ rest)
   unfolding source_of
   regions_are = let first = first_regions (source_of x.expanded.lawful) in (first.0, placed.expansion.regions ∙ first.1)
 
