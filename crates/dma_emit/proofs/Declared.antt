@@ -13,7 +13,7 @@ use Rattle.dma_emit.specs.declared.devices.DomainDevice.{DomainDevice}
 use Rattle.dma_emit.specs.Domains.{device_at, domain_device, domain_devices, domain_number, domains_of, is_lower, mapped, place_of, region_mapped, windows_of}
 use Rattle.dma_emit.specs.Layout.{windows_at}
 use Rattle.dma_emit.specs.Reached.{declared_at, kind_of, placed_at}
-use Rattle.dma_emit.proofs.DomainRules.{devices_kept}
+use Rattle.dma_emit.proofs.DomainRules.{IsDomain, devices_kept}
 use Rattle.dma_emit.proofs.DomainWindows.{AreTwo, are_two, each_domain}
 use Rattle.dma_emit.proofs.DomainsReady.{ready, stands}
 use Rattle.dma_emit.proofs.Found.{found_by_position, made_from, position_found}
@@ -103,8 +103,8 @@ module _ (x : Placement) (placed : IsPlaced x) where
   domain_leads d i addr write =
       let in_turn = filter_map (mapped x) d.memory in
       let moved : IsPermutation in_turn (windows_of x d) = in_order_permutes is_lower in_turn in
-      let two = are_two x placed d (all_in _ domains (each_domain x placed) d i) in
-      ap (λ o. led o addr write) (found_moved (is_in addr) in_turn (windows_of x d) moved (λ j k w l n. not_both _ _ addr (two j k w l n)))
+      let two = are_two x placed d (all_in (IsDomain p) domains (each_domain x placed) d i) in
+      ap (λ o. led o addr write) (found_moved (is_in addr) in_turn (windows_of x d) moved (λ j k w l n. not_both (get_or (windows_of x d) j w) (get_or (windows_of x d) k w) addr (two j k w l n)))
       ∙ leads d.memory addr write
 
   -- ---- by the device

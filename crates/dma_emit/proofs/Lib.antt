@@ -17,3 +17,5 @@ pub mod Counts
 pub mod DomainsReady
 pub mod Unordered
 pub mod Declared
+pub mod Extents
+pub mod FileMade
