@@ -5,7 +5,7 @@ use Rattle.std.proofs.lemmas.List.Elements.{All-weaker}
 use Rattle.binary_form.specs.Form.{IsBytes}
 use Rattle.dma_emit.specs.declared.devices.DomainDevice.{DomainDevice}
 use Rattle.dma_emit.specs.Domains.{domains_of}
-use Rattle.dma_emit.specs.Emitted.{IsFileOf}
+use Rattle.dma_emit.specs.Emitted.{ArePages, IsFileOf}
 use Rattle.dma_emit.specs.Layout.{page_count}
 use Rattle.dma_emit.specs.Reached.{declared_at}
 use Rattle.dma_emit.specs.Ready.{IsReady}
@@ -57,3 +57,36 @@ walks_as_declared x placed t file aligned low are device addr write =
     let fine = ready x placed in
     walks (domains_of x) fine t file aligned (omega arith) (small (domains_of x) fine t file aligned low are) device addr write
     ∙ declares x placed device addr write
+
+-- ---- from what the calls tell that make its parts
+
+pub record IsMadeOf (x : Placement) (t : DmaFile) : Type 0 where
+  pub placed : IsPlaced x
+  pub file : IsFileOf (domains_of x) t
+  pub aligned : t.base % PAGE ≡ 0
+  pub low : t.base + PAGE * page_count (domains_of x) ≤ PHYSICAL_END
+  pub are : All IsDmaDevice t.devices
+  pub bytes : IsBytes t.pages
+
+pub made_of : (x : Placement) (d : Domains) (base : ℕ) (pages out : List ℕ) (devices : List DmaDevice) → IsPlaced x → d ≡ domains_of x → base % PAGE ≡ 0 → base + PAGE * page_count d ≤ PHYSICAL_END → ArePages d (base / PAGE) pages → IsBytes pages
+    → out ≡ pages → devices ≡ map (λ v. v.device) d.devices → All IsDmaDevice devices → IsMadeOf x (record { base = base; pages = out; devices = devices })
+made_of x d base pages out devices placed is aligned low parts bytes same listed are = record {
+  placed = placed;
+  file = record {
+    pages = subst (λ (e : Domains). ArePages e (base / PAGE) out) is (subst (ArePages d (base / PAGE)) (sym same) parts);
+    devices = listed ∙ ap (λ (e : Domains). map (λ v. v.device) e.devices) is;
+  };
+  aligned = aligned;
+  low = subst (λ (e : Domains). base + PAGE * page_count e ≤ PHYSICAL_END) is low;
+  are = are;
+  bytes = subst IsBytes (sym same) bytes;
+}
+
+pub conditions_of : (x : Placement) (t : DmaFile) → IsMadeOf x t → KeepsConditions t
+conditions_of x t m = conditions (domains_of x) (ready x m.placed) t m.file m.aligned m.low m.are m.bytes
+
+pub walk_of : (x : Placement) (t : DmaFile) → IsMadeOf x t → (device : List ℕ) (addr : ℕ) (write : Bool) → dma_walk t device addr write ≡ declared_at x device addr write
+walk_of x t m device addr write = walks_as_declared x m.placed t m.file m.aligned m.low m.are device addr write
+
+pub many_of : (x : Placement) (t : DmaFile) → IsMadeOf x t → length t.pages ≡ PAGE * page_count (domains_of x)
+many_of x t m = many (domains_of x) (ready x m.placed) t m.file m.aligned m.low m.are

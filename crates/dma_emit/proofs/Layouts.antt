@@ -3,7 +3,7 @@ use Rattle.std.proofs.Common.{◌≡◌, ℕ, suc, ◌+◌, ◌<◌, ◌≤◌, 
 use Rattle.std.specs.Prelude.{◌==◌, filter, if◌then◌else◌}
 use Rattle.std.specs.List.{sum_by}
 use Rattle.std.proofs.lemmas.Bool.{eqb-true}
-use Rattle.std.proofs.lemmas.List.{length-map}
+use Rattle.std.proofs.lemmas.List.{get_or_default, length-map}
 use Rattle.std.proofs.lemmas.List.Elements.{All-map}
 use Rattle.dma_emit.specs.declared.domains.Domains.{Domains}
 use Rattle.dma_emit.specs.Layout.{buses, buses_below, context_page, domain_pages, has_device, on_bus, page_count, tables_page, windows_at}
@@ -89,3 +89,9 @@ windows_there d n ready l = ready.windows n [] l
 
 pub all_mapped : (ws : List Window) → All IsEmittable ws → All IsMapped (ranges_of ws)
 all_mapped ws h = All-map IsMapped range_of ws (λ k w l. let fine = h k w l in record { some = fine.some; end = fine.end })
+
+-- what stands behind the last domain's page is the number of all
+pub count_is : (d : Domains) (pages : List ℕ) → pages ≡ map (tables_page d) (numbers_below (length d.windows + 1)) → (n count : ℕ) → n ≡ length d.windows → count ≡ get_or pages n count → count ≡ page_count d
+count_is d pages are n count last is =
+    let within : n < length pages = page_there d pages are n (omega arith) in
+    is ∙ (get_or_default pages n count 0 within ∙ (page_at d pages are n (omega arith) ∙ ap (tables_page d) last))
