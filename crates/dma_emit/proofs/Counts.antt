@@ -5,7 +5,7 @@ use Rattle.std.specs.Prelude.{◌&&◌, ◌||◌, filter, if◌then◌else◌, n
 use Rattle.std.specs.List.{AllPairs, cons_option, filter_map, find, flat_map, list_any, sum_by}
 use Rattle.std.specs.Option.{option_map_or}
 use Rattle.std.specs.Str.{bytes_eq}
-use Rattle.std.proofs.lemmas.Bool.{and_parts, cases_Bool, ltb-true}
+use Rattle.std.proofs.lemmas.Bool.{and_parts, cases_Bool, ltb-true, not-true, true≢false}
 use Rattle.std.proofs.lemmas.List.Elements.{All-filter, All-head, All-tail, filter_passes}
 use Rattle.std.proofs.lemmas.List.Filters.{sum_by-filter_both}
 use Rattle.std.proofs.lemmas.List.Kept.{AllPairs-filter}
@@ -116,13 +116,6 @@ few_tables rs =
 
 -- ---- a sum over what is found by names that differ
 
-contrary : (b : Bool) → b ≡ true → b ≡ false → ⊥
-contrary b e f = cc
-
-not_so : (b : Bool) → not b ≡ true → b ≡ false
-not_so true h = sym h
-not_so false h = refl
-
 -- what is found by a name counts once
 module _ {X Y : Type 0} (key : X → List ℕ) (name : Y → List ℕ) (weight : Y → ℕ) where
   abbrev pub Differ : X → X → Type 0
@@ -144,12 +137,12 @@ module _ {X Y : Type 0} (key : X → List ℕ) (name : Y → List ℕ) (weight :
       let second = (bytes_eq-Decides (name y) (key z)).0 (All-head (λ x. bytes_eq (name y) (key x) ≡ true) z xs (All-tail (λ x. bytes_eq (name y) (key x) ≡ true) x (z ∷ xs) here)) in
       let differ : Differ x z = All-head (Differ x) z xs (pairs_head Differ x (z ∷ xs) apart) in
       let same : bytes_eq (key x) (key z) ≡ true = ap (bytes_eq (key x)) (sym second ∙ first) ∙ same_self (key x) in
-      absurd (contrary _ same differ)
+      absurd (true≢false (sym same ∙ differ))
 
   none_here : (y : Y) (ys : List Y) (xs : List X) → All (λ x. not (bytes_eq (name y) (key x)) ≡ true) xs → sum_by (found_weight (y ∷ ys)) xs ≡ sum_by (found_weight ys) xs
   none_here y ys [] h = refl
   none_here y ys (x ∷ xs) h =
-      let fails = not_so (bytes_eq (name y) (key x)) (All-head (λ x. not (bytes_eq (name y) (key x)) ≡ true) x xs h) in
+      let fails = not-true (bytes_eq (name y) (key x)) (All-head (λ x. not (bytes_eq (name y) (key x)) ≡ true) x xs h) in
       let is : found_weight (y ∷ ys) x ≡ found_weight ys x = ap (λ b. option_map_or weight (cond b (Some y) (find (λ z. bytes_eq (name z) (key x)) ys)) 0) fails in
       let rest = none_here y ys xs (All-tail (λ x. not (bytes_eq (name y) (key x)) ≡ true) x xs h) in
       let a = sum_by-cons (found_weight (y ∷ ys)) x xs in

@@ -12,7 +12,7 @@ use Rattle.std.proofs.lemmas.Slice.Eq.{bytes_eq-Decides}
 use Rattle.dma_emit.specs.declared.devices.DomainDevice.{DomainDevice}
 use Rattle.dma_emit.specs.Domains.{device_at, domain_device, domain_devices, domain_number, domains_of, is_lower, mapped, place_of, region_mapped, windows_of}
 use Rattle.dma_emit.specs.Layout.{windows_at}
-use Rattle.dma_emit.specs.Reached.{declared_at, kind_of, placed_at}
+use Rattle.dma_emit.specs.Reached.{kind_of, placed_at}
 use Rattle.dma_emit.proofs.DomainRules.{IsDomain, devices_kept}
 use Rattle.dma_emit.proofs.DomainWindows.{AreTwo, are_two, each_domain}
 use Rattle.dma_emit.proofs.DomainsReady.{ready, stands}
@@ -24,7 +24,7 @@ use Rattle.ept_emit.specs.declared.window.Window.{Window}
 use Rattle.expand_grants.proofs.Ordered.{in_order_permutes}
 use Rattle.muen_num.proofs.Lists.{found, there}
 use Rattle.muen_num.proofs.Members.{In, all_in, any_in, any_some, filter_map_in, find_in, left_in, map_in, passes_in, right_in}
-use Rattle.policy_lawful.specs.Dma.{dma_windows, domain_of, domain_windows}
+use Rattle.policy_lawful.specs.Dma.{dma_access, dma_windows, domain_of, domain_windows}
 use Rattle.policy_lawful.specs.Domains.{Listed, device_has_bdf, listed_devices}
 use Rattle.policy_lawful.specs.Resolution.{source_of}
 use Rattle.policy_lawful.specs.Thing.{Thing, region}
@@ -38,6 +38,10 @@ use Rattle.policy_types.specs.declared.source.Mapping.{Mapping}
 use Rattle.policy_types.specs.declared.source.Region.{Region}
 use Rattle.policy_types.specs.declared.source.Source.{Source}
 use Rattle.region_alloc.specs.Placed.{IsPlaced, Placement}
+
+-- where a device reads or writes by an address, by the policy's declaration
+abbrev pub declared_at : Placement → List ℕ → ℕ → Bool → Option ℕ
+declared_at x device addr write = placed_at x (dma_access (source_of x.expanded.lawful) device addr (kind_of write))
 
 flat_in : {X Y : Type 0} (f : X → List Y) (xs : List X) (x : X) (y : Y) → In x xs → In y (f x) → In y (flat_map f xs)
 flat_in f [] x y i j = absurd i

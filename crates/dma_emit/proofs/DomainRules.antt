@@ -3,7 +3,7 @@ use Rattle.std.proofs.Common.{◌≡◌, ℕ, ◌+◌, ◌%◌, ◌≤◌, ◌<�
 use Rattle.std.specs.Prelude.{codes, nat_le}
 use Rattle.std.specs.List.{AllPairs, find, flat_map, list_all, list_any}
 use Rattle.std.specs.Str.{bytes_eq}
-use Rattle.std.proofs.lemmas.Bool.{and_parts, leb-true, or_parts}
+use Rattle.std.proofs.lemmas.Bool.{and_parts, leb-true, not-true, or_parts}
 use Rattle.std.proofs.lemmas.List.Elements.{All-cons, All-head, All-nil, All-tail}
 use Rattle.std.proofs.lemmas.List.Kept.{AllPairs-cons}
 use Rattle.muen_num.specs.Search.{first_after, first_in, first_pair, unless}
@@ -30,10 +30,6 @@ pub record DevicesKept (p : Source) : Type 0 where
   pub bdfs : list_all (λ d. is_bdf d.bdf) p.devices ≡ true
   pub differ : AllPairs (λ a b. same_bdf a.bdf b.bdf ≡ false) p.devices
 
-not_so : (b : Bool) → not b ≡ true → b ≡ false
-not_so true h = sym h
-not_so false h = refl
-
 pub devices_kept : (p : Source) → offence_21 p ≡ None → DevicesKept p
 unfolding offence_21
 devices_kept p h =
@@ -51,7 +47,7 @@ devices_kept p h =
       bdfs = all_pass (λ d. is_bdf d.bdf) (λ d. alone d.name) p.devices bdfs.0;
       differ =
           pairs_weaker (λ a b. unless (not (same_bdf a.bdf b.bdf)) (two a.name b.name) ≡ None) (λ a b. same_bdf a.bdf b.bdf ≡ false)
-          (λ a b none. not_so _ (unless_none (not (same_bdf a.bdf b.bdf)) (two a.name b.name) none)) p.devices
+          (λ a b none. not-true _ (unless_none (not (same_bdf a.bdf b.bdf)) (two a.name b.name) none)) p.devices
           (pairs_at (λ a b. unless (not (same_bdf a.bdf b.bdf)) (two a.name b.name)) p.devices differ.0);
     }
 
@@ -80,7 +76,7 @@ three_of p (m ∷ ms) a b c =
     let x = and_parts (is_page_aligned m.virtual_address) (list_all (λ m. is_page_aligned m.virtual_address) ms) a in
     let y = and_parts (nat_le (m.virtual_address + region_size p m.region) GUEST_END) (list_all (λ m. nat_le (m.virtual_address + region_size p m.region) GUEST_END) ms) b in
     let z = and_parts (not (may_execute m.rights)) (list_all (λ m. not (may_execute m.rights)) ms) c in
-    All-cons (IsWindow p) m ms (record { aligned = x.0; end = leb-true _ _ y.0; rights = not_so (may_execute m.rights) z.0 }) (three_of p ms x.1 y.1 z.1)
+    All-cons (IsWindow p) m ms (record { aligned = x.0; end = leb-true _ _ y.0; rights = not-true (may_execute m.rights) z.0 }) (three_of p ms x.1 y.1 z.1)
 
 pub domains_kept : (p : Source) → offence_22 p ≡ None → All (IsDomain p) p.device_domains
 unfolding offence_22
@@ -120,7 +116,7 @@ later_apart : (before xs : List Listed) (b : Listed) → In b before → first_a
 later_apart before [] b i h = All-nil (AreNamedApart b)
 later_apart before (x ∷ xs) b i h =
     let both = none_both (again before x) (first_after again (before ++ x ∷ []) xs) h in
-    All-cons (AreNamedApart b) x xs (none_any before b x i (not_so _ (unless_none (not (stands_before before x)) (two x.name x.domain) both.0))) (later_apart (before ++ x ∷ []) xs b (left_in before (x ∷ []) b i) both.1)
+    All-cons (AreNamedApart b) x xs (none_any before b x i (not-true _ (unless_none (not (stands_before before x)) (two x.name x.domain) both.0))) (later_apart (before ++ x ∷ []) xs b (left_in before (x ∷ []) b i) both.1)
 
 all_apart : (before xs : List Listed) → first_after again before xs ≡ None → AllPairs AreNamedApart xs
 all_apart before [] h = λ i j d l m. absurd (omega arith)

@@ -14,9 +14,9 @@ use Rattle.dma_emit.proofs.DomainRules.{IsDomain, IsWindow, domains_kept}
 use Rattle.dma_emit.proofs.Found.{all_made, beside_at, found_at, pairs_made, pairs_mapped, position_found}
 use Rattle.std.proofs.lemmas.Option.{slice_get_within}
 use Rattle.dma_emit.proofs.PlacesThere.{addresses_long, region_at}
-use Rattle.dma_emit.proofs.TotalSize.{in_order_rises}
+use Rattle.dma_emit.proofs.Ranges.{AreTwo as AreApart, ascending, two_moved}
 use Rattle.ept_emit.specs.Entries.{IsEmittable}
-use Rattle.ept_emit.specs.Pages.{AreApart, range_of, ranges_of}
+use Rattle.ept_emit.specs.Pages.{range_of, ranges_of}
 use Rattle.ept_emit.specs.declared.window.GuestRange.{GuestRange}
 use Rattle.ept_emit.specs.declared.window.Window.{Window}
 use Rattle.expand_grants.proofs.Ordered.{in_order_permutes}
@@ -37,12 +37,11 @@ use Rattle.region_alloc.specs.Placed.{IsPlaced, Placement}
 use Rattle.region_alloc.specs.Placement.{in_a_block}
 use Rattle.region_alloc.proofs.Lowest.{ends_well}
 use Rattle.span_emit.proofs.DeviceSpans.{some_block}
-use Rattle.span_emit.proofs.PairLaws.{ascend, pairs_permuted, pairs_weaker}
 use Rattle.span_emit.proofs.Placed.{IsPlaced as IsLaidOut, is_placed}
 
--- two ranges share no address
+-- two windows share no address
 abbrev pub AreTwo : Window → Window → Type 0
-AreTwo a b = (a.guest + a.size ≤ b.guest) ⊎ (b.guest + b.size ≤ a.guest)
+AreTwo a b = AreApart (λ (w : Window). w.guest) (λ (w : Window). w.size) a b
 
 -- a window with the mapping and the region that it is made of
 record IsMade (x : Placement) (m : Mapping) (w : Window) : Type 0 where
@@ -177,54 +176,24 @@ module _ (x : Placement) (placed : IsPlaced x) where
           | inr behind ↦ ne_eqb _ _ (λ e. omega arith)
         ]
 
-    abbrev clash : Window → Window → Bool
-    clash a b = not (nat_le (a.guest + a.size) b.guest || nat_le (b.guest + b.size) a.guest)
-
-    either_way : (p q : Bool) → not (p || q) ≡ not (q || p)
-    either_way true true = refl
-    either_way true false = refl
-    either_way false true = refl
-    either_way false false = refl
-
-    no_clash : (a b : Window) → AreTwo a b → clash a b ≡ false
-    no_clash a b (inl first) = ap (λ t. not (t || nat_le (b.guest + b.size) a.guest)) (le-leb (a.guest + a.size) b.guest first)
-    no_clash a b (inr behind) =
-        ap (λ t. not (nat_le (a.guest + a.size) b.guest || t)) (le-leb (b.guest + b.size) a.guest behind)
-        ∙ either_way (nat_le (a.guest + a.size) b.guest) true
-
-    so : (b : Bool) → not b ≡ false → b ≡ true
-    so true h = refl
-    so false h = sym h
-
-    two_from : (a b : Window) → clash a b ≡ false → AreTwo a b
-    two_from a b h = elim (or_cases (nat_le (a.guest + a.size) b.guest) (nat_le (b.guest + b.size) a.guest) (so _ h)) [
-      | inl first ↦ inl (leb-true _ _ first)
-      | inr behind ↦ inr (leb-true _ _ behind)
-    ]
-
     moved : IsPermutation in_turn (windows_of x d)
     unfolding windows_of
     moved = in_order_permutes is_lower in_turn
 
     pub are_two : AllPairs AreTwo (windows_of x d)
-    are_two =
-        pairs_weaker (λ a b. clash a b ≡ false) AreTwo two_from (windows_of x d)
-        (pairs_permuted clash (λ a b. either_way (nat_le (a.guest + a.size) b.guest) (nat_le (b.guest + b.size) a.guest)) in_turn (windows_of x d) moved
-        (pairs_weaker AreTwo (λ a b. clash a b ≡ false) no_clash in_turn each_two))
+    are_two = two_moved (λ (w : Window). w.guest) (λ (w : Window). w.size) in_turn (windows_of x d) moved each_two
 
     pub all_emittable : All IsEmittable (windows_of x d)
     all_emittable = All-permutation IsEmittable in_turn (windows_of x d) moved each_emittable
 
-    ascending : AllPairs (λ a b. a.guest + a.size ≤ b.guest) (windows_of x d)
+    ascend : AllPairs (λ a b. a.guest + a.size ≤ b.guest) (windows_of x d)
     unfolding windows_of
-    ascending =
-        ascend (λ (w : Window). w.guest) (λ (w : Window). w.size) (windows_of x d) (in_order_rises (λ (w : Window). w.guest) in_turn)
-        (All-weaker IsEmittable (λ w. 0 < w.size) (λ w fine. fine.some) (windows_of x d) all_emittable) are_two
+    ascend = ascending (λ (w : Window). w.guest) (λ (w : Window). w.size) in_turn (All-weaker IsEmittable (λ w. 0 < w.size) (λ w fine. fine.some) in_turn each_emittable) each_two
 
     pub are_windows : AreWindows (windows_of x d)
     are_windows = record {
       emittable = all_emittable;
-      apart = pairs_mapped range_of (λ (a b : GuestRange). a.guest + a.size ≤ b.guest) (windows_of x d) ascending;
+      apart = pairs_mapped range_of (λ (a b : GuestRange). a.guest + a.size ≤ b.guest) (windows_of x d) ascend;
       for_devices = All-permutation IsForDevices in_turn (windows_of x d) moved each_for_devices;
     }
 

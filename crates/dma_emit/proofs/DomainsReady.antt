@@ -5,7 +5,7 @@ use Rattle.std.specs.List.{AllPairs, cons_option, filter_map, find, flat_map, li
 use Rattle.std.specs.List.Sorted.{IsPermutation}
 use Rattle.std.specs.Option.{option_map_or}
 use Rattle.std.specs.Str.{bytes_eq}
-use Rattle.std.proofs.lemmas.Bool.{and_from, and_parts, cases_Bool, eq-eqb, eqb-true, ltb-true}
+use Rattle.std.proofs.lemmas.Bool.{and_from, and_parts, cases_Bool, eq-eqb, eqb-true, ltb-true, not-true, true≢false}
 use Rattle.std.proofs.lemmas.List.{length-map}
 use Rattle.std.proofs.lemmas.List.Elements.{All-map, All-weaker}
 use Rattle.std.proofs.lemmas.List.Sorted.{sum_by-IsPermutation}
@@ -88,9 +88,6 @@ same_numbers a b f g bus devfn =
     let function : a.function ≡ b.function = omega arith in
     and_from _ _ (and_from _ _ bus (eq-eqb a.device b.device device)) (eq-eqb a.function b.function function)
 
-contrary : (b : Bool) → b ≡ true → b ≡ false → ⊥
-contrary b e f = cc
-
 other_places : (p : Source) (a b : Device) (u v : DomainDevice) → AreApart a b → domain_device p a ≡ Some u → domain_device p b ≡ Some v → same_place u v ≡ false
 other_places p a b u v apart e f =
     let x = stands p a u e in
@@ -102,13 +99,9 @@ other_places p a b u v apart e f =
     ∙ elim (cases_Bool (same_place (device_at a x.bdf x.number) (device_at b y.bdf y.number))) [
       | inl same ↦
           let both = and_parts (x.bdf.bus == y.bdf.bus) (BDF_FUNCTIONS * x.bdf.device + x.bdf.function == BDF_FUNCTIONS * y.bdf.device + y.bdf.function) same in
-          absurd (contrary _ (same_numbers x.bdf y.bdf first second both.0 both.1) differ)
+          absurd (true≢false (sym (same_numbers x.bdf y.bdf first second both.0 both.1) ∙ differ))
       | inr fails ↦ fails
     ]
-
-not_so : (b : Bool) → not b ≡ true → b ≡ false
-not_so true h = sym h
-not_so false h = refl
 
 -- ---- sums
 
@@ -277,7 +270,7 @@ module _ (x : Placement) (placed : IsPlaced x) where
   unfolding source_of
   names_differ =
       pairs_unmapped (λ (d : Device). d.name) (λ a b. bytes_eq a b ≡ false) x.expanded.lawful.devices
-      (pairs_weaker (λ a b. unless (not (bytes_eq a b)) (alone b) ≡ None) (λ a b. bytes_eq a b ≡ false) (λ a b none. not_so (bytes_eq a b) (unless_none (not (bytes_eq a b)) (alone b) none)) (map (λ d. d.name) x.expanded.lawful.devices)
+      (pairs_weaker (λ a b. unless (not (bytes_eq a b)) (alone b) ≡ None) (λ a b. bytes_eq a b ≡ false) (λ a b none. not-true (bytes_eq a b) (unless_none (not (bytes_eq a b)) (alone b) none)) (map (λ d. d.name) x.expanded.lawful.devices)
       (pairs_at (λ a b. unless (not (bytes_eq a b)) (alone b)) (map (λ d. d.name) x.expanded.lawful.devices) (unique p placed.resolved.names).devices))
 
   names_apart : (a b : Device) (u v : DomainDevice) → bytes_eq a.name b.name ≡ false → domain_device p a ≡ Some u → domain_device p b ≡ Some v → bytes_eq u.device.name v.device.name ≡ false

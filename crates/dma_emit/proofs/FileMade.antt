@@ -7,10 +7,9 @@ use Rattle.dma_emit.specs.declared.devices.DomainDevice.{DomainDevice}
 use Rattle.dma_emit.specs.Domains.{domains_of}
 use Rattle.dma_emit.specs.Emitted.{ArePages, IsFileOf}
 use Rattle.dma_emit.specs.Layout.{page_count}
-use Rattle.dma_emit.specs.Reached.{declared_at}
 use Rattle.dma_emit.specs.Ready.{IsReady}
 use Rattle.dma_emit.specs.declared.domains.Domains.{Domains}
-use Rattle.dma_emit.proofs.Declared.{declares}
+use Rattle.dma_emit.proofs.Declared.{declared_at, declares}
 use Rattle.dma_emit.proofs.DomainsReady.{ready}
 use Rattle.dma_emit.proofs.Layouts.{before_all}
 use Rattle.dma_emit.proofs.Places.{pages_long}

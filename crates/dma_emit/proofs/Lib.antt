@@ -1,3 +1,4 @@
+mod Examples
 pub mod Lists
 pub mod Words
 pub mod LowestFree
@@ -19,3 +20,4 @@ pub mod Unordered
 pub mod Declared
 pub mod Extents
 pub mod FileMade
+pub mod Ranges

@@ -1,7 +1,7 @@
 -- The search for the lowest free place: from the end of one range that is in the way to that of the next.
 use Rattle.std.proofs.Common.{◌≡◌, inl, inr, ℕ, ◌+◌, ◌%◌, ◌<◌, ◌≤◌, ◌&&◌, ◌||◌, Bool, true, false, cond, not, All, List, [], ◌∷◌, Option, Some, None, refl, sym, ap, ◌∙◌, arith, if◌then◌else◌, nat_le}
 use Rattle.std.specs.List.{find, list_all, sum_by}
-use Rattle.std.proofs.lemmas.Bool.{cases_Bool, cases_lt, and_from, le-leb, leb-false, leb-true, le-ltb, or_cases, or_parts, true≢false}
+use Rattle.std.proofs.lemmas.Bool.{cases_Bool, cases_lt, and_from, le-leb, leb-false, leb-true, le-ltb, not-true, or_cases, or_parts}
 use Rattle.std.proofs.lemmas.List.Sums.{sum_by-cons, sum_by-le-sum_by}
 use Rattle.dma_emit.specs.Base.{IsLowestFree, is_free}
 use Rattle.muen_num.proofs.Members.{In, all_in, find_in}
@@ -16,15 +16,11 @@ is_beside bytes address e = nat_le (address + bytes) e.address || nat_le (e.addr
 abbrev pub passed : ℕ → ℕ → Extent → ℕ
 passed bytes base e = if nat_le (e.address + e.size) base then e.size + bytes else 0
 
-not_of : (b : Bool) → not b ≡ true → b ≡ false
-not_of true h = sym h
-not_of false h = refl
-
 -- ---- a range that is in the way
 
 in_way : (bytes base : ℕ) (e : Extent) → not (is_beside bytes base e) ≡ true → (e.address < base + bytes) × (base < e.address + e.size)
 in_way bytes base e h =
-    let none : is_beside bytes base e ≡ false = not_of (is_beside bytes base e) h in
+    let none : is_beside bytes base e ≡ false = not-true (is_beside bytes base e) h in
     let both = or_parts (nat_le (base + bytes) e.address) (nat_le (e.address + e.size) base) none in
     (leb-false _ _ both.0, leb-false _ _ both.1)
 

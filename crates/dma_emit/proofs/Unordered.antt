@@ -2,7 +2,7 @@
 use Rattle.std.proofs.Common.{◌≡◌, inl, inr, All, Bool, true, false, cond, List, [], ◌∷◌, Option, Some, None, refl, sym, ap, ◌∙◌, subst}
 use Rattle.std.specs.List.{AllPairs, find, list_any}
 use Rattle.std.specs.List.Sorted.{IsPermutation}
-use Rattle.std.proofs.lemmas.Bool.{cases_Bool}
+use Rattle.std.proofs.lemmas.Bool.{cases_Bool, true≢false}
 use Rattle.std.proofs.lemmas.List.Sorted.{All-permutation, IsPermutation-sym}
 use Rattle.muen_num.proofs.Lists.{found}
 use Rattle.muen_num.proofs.Members.{In, all_from, all_in, any_in, find_in}
@@ -11,9 +11,6 @@ use Rattle.span_emit.proofs.PairLaws.{pairs_head, pairs_tail}
 -- an element stays one in another order
 pub still_in : {X : Type 0} (xs ys : List X) → IsPermutation xs ys → (x : X) → In x xs → In x ys
 still_in xs ys moved x i = all_in (λ z. In z ys) xs (All-permutation (λ z. In z ys) ys xs (IsPermutation-sym xs ys moved) (all_from (λ z. In z ys) ys (λ z j. j))) x i
-
-contrary : (b : Bool) → b ≡ true → b ≡ false → ⊥
-contrary b e f = cc
 
 module _ {X : Type 0} (test : X → Bool) where
   abbrev pub ArePassedOnce : List X → Type 0
@@ -38,7 +35,7 @@ module _ {X : Type 0} (test : X → Bool) where
         | inr fails ↦
             ap (λ b. cond b (Some y) (find test ys)) fails
             ∙ elim i as (λ _. find test ys ≡ Some z) [
-              | inl same ↦ absurd (contrary (test z) h (ap test (sym same) ∙ fails))
+              | inl same ↦ absurd (true≢false (sym h ∙ (ap test (sym same) ∙ fails)))
               | inr later ↦ one_found ys z later h (λ w j p. all w (inr j) p)
             ]
       ]

@@ -1,10 +1,8 @@
 -- Where in physical memory an access of a device ends, by what the policy declares.
-use Rattle.std.specs.Prelude.{ℕ, ◌+◌, Bool, if◌then◌else◌, List, Option, Some, None}
+use Rattle.std.specs.Prelude.{ℕ, ◌+◌, Bool, if◌then◌else◌, Option, Some, None}
 use Rattle.dma_emit.specs.Domains.{place_of}
 use Rattle.muen_num.specs.declared.access.AccessKind.{AccessKind}
 use Rattle.muen_num.specs.declared.access.AccessKind.TheVariants.{Read, Write}
-use Rattle.policy_lawful.specs.Dma.{dma_access}
-use Rattle.policy_lawful.specs.Resolution.{source_of}
 use Rattle.policy_lawful.specs.Thing.{Thing, region, channel, provided, device_memory, state}
 use Rattle.policy_lawful.specs.Windows.{Access, byte, violation}
 use Rattle.region_alloc.specs.Placed.{Placement}
@@ -22,9 +20,6 @@ abbrev pub placed_at : Placement → Access Thing → Option ℕ
 placed_at x (byte thing offset) = byte_at x thing offset
 placed_at x (violation found) = None
 
+-- the kind of an access of a device
 abbrev pub kind_of : Bool → AccessKind
 kind_of write = if write then Write else Read
-
--- **where a device reads or writes by an address**, by the policy's declaration
-abbrev pub declared_at : Placement → List ℕ → ℕ → Bool → Option ℕ
-declared_at x device addr write = placed_at x (dma_access (source_of x.expanded.lawful) device addr (kind_of write))

@@ -4,9 +4,10 @@ ghost use Rattle.dma_emit.specs.Base.{IsBase};
 ghost use Rattle.dma_emit.specs.Domains.{domains_of};
 ghost use Rattle.dma_emit.specs.Emitted.{IsFileOf};
 ghost use Rattle.dma_emit.specs.Layout.{page_count, tables_page};
-ghost use Rattle.dma_emit.specs.Reached.{declared_at};
+ghost use Rattle.dma_emit.specs.Reached.{kind_of, placed_at};
 ghost use Rattle.dma_tables.specs.DmaWalk.{dma_walk};
 ghost use Rattle.muen_num.specs.declared.limits.TheConstants.{PAGE};
+ghost use Rattle.policy_lawful.specs.Dma.{dma_access};
 ghost use Rattle.policy_lawful.specs.Resolution.{source_of};
 
 use crate::base::{extents_of, lowest_free};
@@ -28,7 +29,7 @@ use std::alloc::Global;
 /// Memory is refused.
 pub fn emit(alloc: Global, placed: &Placed) -> Result<DmaTables, NoMemory>
     // **Each device reaches what the policy declares**, and nothing else.
-    ensures walk { IfOk result (λ t. (device : List ℕ) (addr : ℕ) (write : Bool) → dma_walk t device addr write ≡ declared_at placed.now device addr write) }
+    ensures walk { IfOk result (λ t. (device : List ℕ) (addr : ℕ) (write : Bool) → dma_walk t device addr write ≡ placed_at placed.now (dma_access (source_of placed.now.expanded.lawful) device addr (kind_of write))) }
     // Which file it is,
     ensures file { IfOk result (IsFileOf (domains_of placed.now)) }
     // of how many pages,
