@@ -57,9 +57,8 @@ fn in_the_way(extents: &[Extent], bytes: u64, address: u64) -> Option<&Extent>
     requires ends { All (λ e. e.address + e.size ≤ PHYSICAL_END) extents.now }
     ensures { option_map (λ e. e.now) result ≡ find (λ e. not (nat_le (address + bytes) e.address || nat_le (e.address + e.size) address)) extents.now }
 {
-    extents
-        .iter()
-        .find(|extent| !(address + bytes <= extent.address || extent.address + extent.size <= address))
+    extents.iter().find(|extent| !(address + bytes <= extent.address
+        || extent.address + extent.size <= address))
 }
 
 /// The lowest multiple of a page's size from which on so many bytes share none with these ranges.

@@ -66,10 +66,7 @@ fn domain_device(policy: &Resolved, device: &Device) -> Option<DomainDevice>
 }
 
 // Appends a device, if there is one.
-fn push_some(
-    devices: &mut Seq<DomainDevice>,
-    device: Option<DomainDevice>,
-) -> Result<(), NoMemory>
+fn push_some(devices: &mut Seq<DomainDevice>, device: Option<DomainDevice>) -> Result<(), NoMemory>
     ensures { OnOk result (devices.new ≡ devices.old ++ cons_option device []) }
 {
     if let Some(device) = device {

@@ -11,9 +11,9 @@ ghost use Rattle.policy_lawful.specs.Dma.{dma_access};
 ghost use Rattle.policy_lawful.specs.Resolution.{source_of};
 
 use crate::base::{extents_of, lowest_free};
+use crate::device_list::listed;
 use crate::domains::domains_of;
 use crate::layout::tables_pages;
-use crate::device_list::listed;
 use crate::pages::all_pages;
 use dma_tables::{DmaFile, DmaTables, conditions};
 use muen_num::limits::PAGE;

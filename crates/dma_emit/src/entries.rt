@@ -68,11 +68,7 @@ fn root_entry(domains: &Domains, root: u64, bus: u16, next: u64) -> WideEntry
 }
 
 /// Appends the root table, which lies in the page `root` of physical memory.
-pub(crate) fn put_root(
-    out: &mut Vec<u8>,
-    domains: &Domains,
-    root: u64,
-) -> Result<(), AllocError>
+pub(crate) fn put_root(out: &mut Vec<u8>, domains: &Domains, root: u64) -> Result<(), AllocError>
     requires { root + page_count domains.now ≤ 2 ^ 28 }
     ensures { OnOk result (out.new.items ≡ out.old.items ++ table_bytes (root_entry domains.now root)) }
 {
@@ -110,13 +106,7 @@ fn context_of(domains: &Domains, pages: &[u64], root: u64, device: &DomainDevice
 }
 
 // The context entry of a bus and devfn.
-fn context_entry(
-    domains: &Domains,
-    pages: &[u64],
-    root: u64,
-    bus: u16,
-    devfn: u16,
-) -> WideEntry
+fn context_entry(domains: &Domains, pages: &[u64], root: u64, bus: u16, devfn: u16) -> WideEntry
     requires ready { IsReady domains.now }
     requires root { root + page_count domains.now ≤ 2 ^ 28 }
     requires pages { pages.now ≡ map (tables_page domains.now) (numbers_below (length domains.now.windows + 1)) }

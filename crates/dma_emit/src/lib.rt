@@ -3,12 +3,12 @@
 #![tactic(auto)]
 
 mod base;
+mod device_list;
 mod devices;
 mod domains;
 mod emitted;
 mod entries;
 mod layout;
-mod device_list;
 mod pages;
 mod tables;
 mod windows;

@@ -16,12 +16,7 @@ use policy_types::Rights;
 use std::alloc::{AllocError, Global};
 
 // The tables of these windows, so many pages, of which the first is this one of physical memory.
-fn tables_of(
-    alloc: Global,
-    windows: &[Window],
-    page: u64,
-    count: u64,
-) -> Result<Seq<u8>, NoMemory>
+fn tables_of(alloc: Global, windows: &[Window], page: u64, count: u64) -> Result<Seq<u8>, NoMemory>
     requires windows { AreWindows windows.now }
     requires count { count ≡ ept_pages (ranges_of windows.now) }
     requires end { page + count ≤ 2 ^ 28 }
