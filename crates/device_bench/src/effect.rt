@@ -5,18 +5,9 @@ use muen_num::Seq;
 #[derive(Clone, Debug, PartialEq, Eq, Drop)]
 pub enum Effect {
     /// The input byte of an I/O port becomes this value.
-    Port {
-        port: u16,
-        value: u8,
-    },
+    Port { port: u16, value: u8 },
     /// Bytes are written from a physical address on.
-    Mem {
-        at: u64,
-        bytes: Seq<u8>,
-    },
+    Mem { at: u64, bytes: Seq<u8> },
     /// An interrupt is raised: its subject's number and its vector.
-    Irq {
-        subject: u8,
-        vector: u8,
-    },
+    Irq { subject: u8, vector: u8 },
 }

@@ -15,11 +15,7 @@ use std::alloc::Global;
 ///
 /// # Errors
 /// The first fault of the bytes; memory is refused.
-pub fn read_record(
-    alloc: Global,
-    parts: &Parts,
-    bytes: &[u8],
-) -> Result<Record<Input>, RecordFault>
+pub fn read_record(alloc: Global, parts: &Parts, bytes: &[u8]) -> Result<Record<Input>, RecordFault>
     // It is the record that the text is, by the image's addresses and numbers, or its first fault.
     ensures exact { Answers RecordFault.NoMemory (mapped (image_record parts.now) (record_of bytes.now (image_bench parts.now))) result }
     // Its ticks are in order, and no write of it ends too high for a machine.

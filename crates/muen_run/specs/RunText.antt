@@ -13,6 +13,9 @@ use Rattle.image_pack.specs.declared.parts.SpanKind.TheVariants.{Own, Channel, P
 use Rattle.image_pack.specs.declared.parts.SpanPart.{SpanPart}
 use Rattle.image_pack.specs.declared.parts.SubjectPart.{SubjectPart}
 use Rattle.device_bench.specs.declared.effect.Effect.{Effect}
+use Rattle.dma_tables.specs.Lowered.{lowered}
+use Rattle.dma_tables.specs.declared.file.DmaFile.{DmaFile}
+use Rattle.record_text.specs.declared.record.Input.{Input}
 use Rattle.record_text.specs.declared.record.Record.{Record}
 use Rattle.view_text.specs.ViewText.{rows_text, turn_text, region_text}
 use Rattle.view_text.specs.declared.TurnLine.{TurnLine}
@@ -80,3 +83,7 @@ ran_text setup spans cpus ran = flat_map turn_text ran.lines ++ final_text setup
 unfoldable pub image_text : Image → Record Effect → List ℕ
 image_text i run =
     ran_text (setup_of i) i.spans i.header.cpus (kernel_run_to (setup_of i) run i.header.cpus (memory_of i) run.end)
+
+-- .. and on a record, with these tables for direct memory access, or none
+abbrev pub run_text : Option DmaFile → Image → Record Input → List ℕ
+run_text tables i r = image_text i (lowered tables i r)

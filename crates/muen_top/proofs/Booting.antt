@@ -1,11 +1,12 @@
 -- What `boot` answers, as its files are read.
-use Rattle.std.proofs.Common.{◌≡◌, inl, inr, ℕ, List, [], ◌∷◌, ◌++◌, Option, Some, Result, Ok, Err, IfErr, refl, sym, ap, subst, ◌∙◌, append-nil}
-use Rattle.std.specs.FinMap.{get}
+use Rattle.std.proofs.Common.{◌≡◌, inl, inr, ℕ, List, [], ◌∷◌, ◌++◌, Option, Some, Result, Ok, Err, IfErr, IfOk, refl, sym, ap, subst, ◌∙◌, append-nil}
+use Rattle.std.specs.FinMap.{get, insert}
 use Rattle.std.specs.List.{All}
 use Rattle.std.proofs.lemmas.List.Elements.{All-nil}
 use Rattle.binary_form.specs.Faults.{Tells}
 use Rattle.binary_form.specs.declared.fault.ImageFault.{ImageFault}
 use Rattle.binary_form.specs.declared.fault.ImageFault.TheVariants.{Short, Bad, Trailing, NoMemory as NoMemoryForImage}
+use Rattle.dma_tables.specs.declared.file.DmaFile.{DmaFile}
 use Rattle.image_load.specs.Resolving.{image_bench, image_record}
 use Rattle.image_soundness.specs.Bench.{devices_of}
 use Rattle.image_soundness.specs.Sound.{IsSound}
@@ -25,16 +26,19 @@ use Rattle.muen_outside.specs.declared.files.FileError.{FileError}
 use Rattle.muen_outside.specs.Looks.{ShowAll}
 use Rattle.muen_outside.specs.States.{History, Look}
 use Rattle.muen_outside.specs.Store.{Store, Reading, whole, reading_of}
-use Rattle.muen_run.specs.RunText.{image_text}
+use Rattle.muen_run.specs.RunText.{run_text}
 use Rattle.policy_types.specs.declared.refusal.Refusal.{Refusal}
 use Rattle.policy_types.specs.declared.source.Source.{Source}
 use Rattle.record_text.specs.Reading.{record_of}
 use Rattle.record_text.specs.Steps.{mapped}
 use Rattle.record_text.specs.declared.fault.RecordFault.{RecordFault}
 use Rattle.record_text.specs.declared.fault.RecordFault.TheVariants.{NoMemory as NoMemoryForRecord}
+use Rattle.record_text.specs.declared.record.Input.{Input}
 use Rattle.record_text.specs.declared.record.Record.{Record}
 use Rattle.record_text.proofs.Mapped.{mapped_err, mapped_ok}
+use Rattle.proof_build.specs.Built.{HasSpans}
 use Rattle.proof_runs.proofs.ImageRuns.{image_bench_is, image_runs}
+use Rattle.proof_runs.specs.Fit.{Fit}
 use Rattle.muen_top.specs.Answers.{Answer, prints, stops, refused as refused_for, of_file, policy_answer, trace_answer, boot_answer}
 use Rattle.muen_top.specs.Asked.{Asks, AsksBoth, IsAtMost}
 use Rattle.muen_top.specs.Calls.{StopsFor}
@@ -65,6 +69,11 @@ module _ (policy document : List ℕ) (p : Source) (looks : List Look) (bytes : 
   pub not_back : (result : Result Image CommandError) → ((i : Image) → IsImage bytes i → IsReadOf i result) → IfErr result (λ error. WithDocument policy document looks (λ files. OnlyMemory error))
   not_back (Ok j) only = tt
   not_back (Err error) only = λ files s. let b = built files s in only b.parts b.image
+
+  -- .. else its parts are such
+  pub is_back : (result : Result Image CommandError) → ((i : Image) → IsImage bytes i → IsReadOf i result) → IfOk result (λ i. WithDocument policy document looks (λ files. IsSound p files i × HasSpans p i))
+  is_back (Ok j) only = λ files s. let b = built files s in subst (λ i. IsSound p (insert files policy document) i × HasSpans p i) (only b.parts b.image) (b.sound, b.spans)
+  is_back (Err error) only = tt
 
 -- ---- the answer
 
@@ -151,12 +160,12 @@ module _ (policy name : List ℕ) (held held' : Option Store) (old between : His
         let there = explained (looks_of found) looked.single in
         record { looks = both; saw = saw_both; asked = asks_all (looks_of found) asked; says = only_memory error (h there.0 there.1) }
 
-    module _ (p : Source) (accepts : Accepts policy (looks_of found) document p) (i : Image) (back : WithDocument policy document (looks_of found) (λ files. IsSound p files i)) (held'' : Option Store) (same_mid : held'' ≡ held') (new : History) where
+    module _ (p : Source) (accepts : Accepts policy (looks_of found) document p) (i : Image) (tables : DmaFile) (back : WithDocument policy document (looks_of found) (λ files. IsSound p files i × Fit p i (Some tables))) (held'' : Option Store) (same_mid : held'' ≡ held') (new : History) where
       accepted : OverLooks both (λ m. accepted_policy_of m document ≡ Ok p)
       accepted = shown_so (looks_of found) (Ok p) accepts
 
-      back_so_far : OverLooks both (λ m. IsSound p m i)
-      back_so_far m s = subst (λ k. IsSound p k i) (with_document m policy document s.0) (back m s.1)
+      back_so_far : OverLooks both (λ m. IsSound p m i × Fit p i (Some tables))
+      back_so_far m s = let b = back m s.1 in (subst (λ k. IsSound p k i) (with_document m policy document s.0) b.0, b.1)
 
       next : Store → List ℕ → Answer
       next m text = trace_answer m p (record_of text (devices_of p))
@@ -202,7 +211,7 @@ module _ (policy name : List ℕ) (held held' : Option Store) (old between : His
 
       module _ (text : List ℕ) (after : After (Ok (whole text))) where
         -- what comes of it
-        by_record : (Says : List Look → Type 0) → ((looks : List Look) → OverLooks looks (λ m. IsSound p m i × (boot_answer m policy name ≡ trace_answer m p (record_of text (devices_of p)))) → Says looks) → HasRead (boot policy name) held old new Says
+        by_record : (Says : List Look → Type 0) → ((looks : List Look) → OverLooks looks (λ m. (IsSound p m i × Fit p i (Some tables)) × (boot_answer m policy name ≡ trace_answer m p (record_of text (devices_of p)))) → Says looks) → HasRead (boot policy name) held old new Says
         unfolding next
         by_record Says makes =
             let s = seen (Ok (whole text)) after in
@@ -217,30 +226,30 @@ module _ (policy name : List ℕ) (held held' : Option Store) (old between : His
         same_bench m b = image_bench_is p m i b
 
         refused_says : (fault : RecordFault) → Answers NoMemoryForRecord (mapped (image_record i) (record_of text (image_bench i))) (Err fault) → (error : CommandError) → error ≡ error_of_record_fault fault → (looks : List Look)
-            → OverLooks looks (λ m. IsSound p m i × (boot_answer m policy name ≡ trace_answer m p (record_of text (devices_of p)))) → StopsFor (λ m. boot_answer m policy name) looks [] error
+            → OverLooks looks (λ m. (IsSound p m i × Fit p i (Some tables)) × (boot_answer m policy name ≡ trace_answer m p (record_of text (devices_of p)))) → StopsFor (λ m. boot_answer m policy name) looks [] error
         refused_says fault (inl is) error made looks goes = stops_record (λ m. boot_answer m policy name) looks fault error (inl is) made
         refused_says fault (inr read) error made looks goes =
             stops_record (λ m. boot_answer m policy name) looks fault error
             (inr (λ m shows. let b = goes m shows in
-            b.1 ∙ ap (trace_answer m p) (ap (record_of text) (sym (same_bench m b.0)) ∙ mapped_err (image_record i) (record_of text (image_bench i)) fault read))) made
+            b.1 ∙ ap (trace_answer m p) (ap (record_of text) (sym (same_bench m b.0.0)) ∙ mapped_err (image_record i) (record_of text (image_bench i)) fault read))) made
 
         -- it is refused
         pub record_refused_so : (fault : RecordFault) (error : CommandError) → Answers NoMemoryForRecord (mapped (image_record i) (record_of text (image_bench i))) (Err fault) → error ≡ error_of_record_fault fault → StopsCommand (boot policy name) held old new error
         record_refused_so fault error h made = by_record (λ looks. StopsFor (λ m. boot_answer m policy name) looks [] error) (refused_says fault h error made)
 
-        printed_so : (input : Record) → mapped (image_record i) (record_of text (image_bench i)) ≡ Ok input → (m : Store) → IsSound p m i → boot_answer m policy name ≡ trace_answer m p (record_of text (devices_of p)) → boot_answer m policy name ≡ prints (image_text i input)
+        printed_so : (input : Record Input) → mapped (image_record i) (record_of text (image_bench i)) ≡ Ok input → (m : Store) → IsSound p m i × Fit p i (Some tables) → boot_answer m policy name ≡ trace_answer m p (record_of text (devices_of p)) → boot_answer m policy name ≡ prints (run_text (Some tables) i input)
         printed_so input read m b goes =
             let named = mapped_ok (image_record i) (record_of text (image_bench i)) input read in
-            let says : record_of text (devices_of p) ≡ Ok named.0 = ap (record_of text) (sym (same_bench m b)) ∙ named.1 in
+            let says : record_of text (devices_of p) ≡ Ok named.0 = ap (record_of text) (sym (same_bench m b.0)) ∙ named.1 in
             goes
             ∙ (ap (trace_answer m p) says
-            ∙ (ap prints (sym (image_runs p m i text named.0 b says))
-            ∙ ap (λ r. prints (image_text i r)) named.2))
+            ∙ (ap prints (sym (image_runs p m i (Some tables) text named.0 b.0 b.1 says))
+            ∙ ap (λ r. prints (run_text (Some tables) i r)) named.2))
 
         -- both are read
-        pub record_read : (input : Record) → mapped (image_record i) (record_of text (image_bench i)) ≡ Ok input → IsAnswered (boot policy name) held old new (prints (image_text i input))
+        pub record_read : (input : Record Input) → mapped (image_record i) (record_of text (image_bench i)) ≡ Ok input → IsAnswered (boot policy name) held old new (prints (run_text (Some tables) i input))
         record_read input read =
-            by_record (λ looks. OverLooks looks (λ m. boot_answer m policy name ≡ prints (image_text i input)))
+            by_record (λ looks. OverLooks looks (λ m. boot_answer m policy name ≡ prints (run_text (Some tables) i input)))
             (λ looks goes m shows. let b = goes m shows in printed_so input read m b.0 b.1)
 
   -- ---- the document gives no image

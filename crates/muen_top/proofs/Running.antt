@@ -1,5 +1,5 @@
 -- What `run` answers, as its files are read.
-use Rattle.std.proofs.Common.{◌≡◌, inl, inr, ℕ, List, [], ◌∷◌, ◌++◌, Option, Some, Result, Ok, Err, refl, sym, ap, subst, ◌∙◌}
+use Rattle.std.proofs.Common.{◌≡◌, inl, inr, ℕ, List, [], ◌∷◌, ◌++◌, Option, Some, None, Result, Ok, Err, refl, sym, ap, subst, ◌∙◌}
 use Rattle.std.specs.FinMap.{get}
 use Rattle.binary_form.specs.Faults.{Tells, unpacked}
 use Rattle.binary_form.specs.declared.fault.ImageFault.{ImageFault}
@@ -13,11 +13,12 @@ use Rattle.muen_outside.specs.declared.files.FileError.{FileError}
 use Rattle.muen_outside.specs.Looks.{ShowAll}
 use Rattle.muen_outside.specs.States.{History, Look, look}
 use Rattle.muen_outside.specs.Store.{Store, Reading, whole, reading_of}
-use Rattle.muen_run.specs.RunText.{image_text}
+use Rattle.muen_run.specs.RunText.{run_text}
 use Rattle.record_text.specs.Reading.{record_of}
 use Rattle.record_text.specs.Steps.{mapped}
 use Rattle.record_text.specs.declared.fault.RecordFault.{RecordFault}
 use Rattle.record_text.specs.declared.fault.RecordFault.TheVariants.{NoMemory as NoMemoryForRecord}
+use Rattle.record_text.specs.declared.record.Input.{Input}
 use Rattle.record_text.specs.declared.record.Record.{Record}
 use Rattle.record_text.proofs.Mapped.{mapped_err, mapped_ok}
 use Rattle.muen_top.specs.Answers.{Answer, prints, stops, image_refused, of_file, named_answer, unpacked_answer, run_answer}
@@ -134,8 +135,8 @@ module _ (image name : List ℕ) (held : Option Store) (old mid : History) (byte
       pub input_refused_so : (fault : RecordFault) (error : CommandError) → Answers NoMemoryForRecord (mapped (image_record i) (record_of text (image_bench i))) (Err fault) → error ≡ error_of_record_fault fault → StopsCommand (run image name) held old new error
       input_refused_so fault error h made = by_record (λ looks. StopsFor (λ m. run_answer m image name) looks [] error) (refused_says fault h error made)
 
-      pub input_read : (input : Record) → mapped (image_record i) (record_of text (image_bench i)) ≡ Ok input → IsAnswered (run image name) held old new (prints (image_text i input))
+      pub input_read : (input : Record Input) → mapped (image_record i) (record_of text (image_bench i)) ≡ Ok input → IsAnswered (run image name) held old new (prints (run_text None i input))
       input_read input read =
           let named = mapped_ok (image_record i) (record_of text (image_bench i)) input read in
-          by_record (λ looks. OverLooks looks (λ m. run_answer m image name ≡ prints (image_text i input)))
-          (λ looks goes m shows. goes m shows ∙ ap (named_answer i) named.1 ∙ ap (λ r. prints (image_text i r)) named.2)
+          by_record (λ looks. OverLooks looks (λ m. run_answer m image name ≡ prints (run_text None i input)))
+          (λ looks goes m shows. goes m shows ∙ ap (named_answer i) named.1 ∙ ap (λ r. prints (run_text None i r)) named.2)

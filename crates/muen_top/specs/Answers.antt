@@ -14,7 +14,7 @@ use Rattle.policy_types.specs.declared.refusal.Refusal.{Refusal}
 use Rattle.policy_types.specs.declared.source.Source.{Source}
 use Rattle.record_text.specs.DeviceRecord.{DeviceRecord}
 use Rattle.subject_model.specs.Trace.{trace_of}
-use Rattle.muen_run.specs.RunText.{image_text}
+use Rattle.muen_run.specs.RunText.{run_text}
 use Rattle.muen_top.specs.Commands.{Command, build, boot, run, map, flows}
 use Rattle.record_text.specs.Reading.{record_of}
 use Rattle.image_soundness.specs.Bench.{devices_of}
@@ -79,10 +79,10 @@ unfoldable pub boot_answer : Held → List ℕ → List ℕ → Answer
 boot_answer files policy name =
     of_file policy (λ bytes. policy_answer files name (accepted_policy_of files bytes)) (reading_of (get files policy) POLICY_MOST)
 
--- ---- `run`: the image's file, the image, the record's file, the record for this image, the run
+-- ---- `run`: the image's file, the image, the record's file, the record for this image, the run, with no tables for direct memory access
 
 abbrev pub named_answer : Image → Result DeviceRecord RecordFault → Answer
-named_answer i (Ok named) = prints (image_text i (image_record i named))
+named_answer i (Ok named) = prints (run_text None i (image_record i named))
 named_answer i (Err fault) = stops (record_refused fault)
 
 abbrev pub input_answer : Held → Image → List ℕ → Answer

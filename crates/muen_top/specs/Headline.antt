@@ -1,5 +1,5 @@
 -- The headline, and what it speaks of: what a store holds, and how a call ends that prints a text.
-use Rattle.std.specs.Prelude.{◌≡◌, ◌⊎◌, ℕ, List, [], ◌∷◌, Option, Some, Ok}
+use Rattle.std.specs.Prelude.{◌≡◌, ◌⊎◌, ℕ, List, [], ◌∷◌, Option, Some, None, Ok}
 use Rattle.std.specs.FinMap.{get, insert}
 use Rattle.image_soundness.specs.Bench.{devices_of}
 use Rattle.image_soundness.specs.Sound.{IsSound}
@@ -14,6 +14,7 @@ use Rattle.muen_outside.specs.States.{Look, SinkState, Write, write}
 use Rattle.muen_outside.specs.Store.{Store, reading_of, whole}
 use Rattle.policy_lawful.specs.Contents.{Held}
 use Rattle.policy_types.specs.declared.source.Source.{Source}
+use Rattle.proof_runs.specs.Fit.{Fit}
 use Rattle.record_text.specs.DeviceRecord.{DeviceRecord}
 use Rattle.record_text.specs.Reading.{record_of}
 use Rattle.subject_model.specs.Trace.{trace_of}
@@ -77,17 +78,17 @@ BootPrintsOver words Is out out' status =
     (m : Store) (policy inputs : List ℕ) (p : Source) (r : DeviceRecord) → Is m → command_of words ≡ Some (boot policy inputs)
     → HoldsPolicy m policy p → HoldsRecord m inputs p r → PrintsText (trace_of p m r) out out' status
 
--- `run`, where it holds an image that is sound for a policy over these or other files
+-- `run`, where it holds an image that is sound for a policy over these or other files, and no domain of devices lets one write
 abbrev pub RunOfSoundPrintsOver : List (List ℕ) → (Store → Type 0) → SinkState → SinkState → Status → Type 0
 RunOfSoundPrintsOver words Is out out' status =
     (m : Store) (image inputs : List ℕ) (p : Source) (built_of : Held) (r : DeviceRecord) → Is m → command_of words ≡ Some (run image inputs)
-    → HoldsSound m image p built_of → HoldsRecord m inputs p r → PrintsText (trace_of p built_of r) out out' status
+    → (held : HoldsSound m image p built_of) → Fit p held.parts None → HoldsRecord m inputs p r → PrintsText (trace_of p built_of r) out out' status
 
 -- .. and where it holds the image that `build` has written for it
 abbrev pub RunOfBuiltPrintsOver : List (List ℕ) → (Store → Type 0) → SinkState → SinkState → Status → Type 0
 RunOfBuiltPrintsOver words Is out out' status =
     (m : Store) (image inputs : List ℕ) (p : Source) (built_of : Held) (r : DeviceRecord) → Is m → command_of words ≡ Some (run image inputs)
-    → HoldsBuilt m image p built_of → HoldsRecord m inputs p r → PrintsText (trace_of p built_of r) out out' status
+    → (held : HoldsBuilt m image p built_of) → Fit p held.built.parts None → HoldsRecord m inputs p r → PrintsText (trace_of p built_of r) out out' status
 
 -- ---- over every store that agrees with the call's looks
 

@@ -13,3 +13,4 @@ pub mod PolicyCommands
 pub mod Reports
 pub mod Runs
 pub mod Statuses
+pub mod Tables

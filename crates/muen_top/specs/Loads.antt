@@ -3,6 +3,7 @@ use Rattle.std.specs.Prelude.{◌≡◌, ℕ, List, [], ◌∷◌, Option, Some,
 use Rattle.std.specs.List.{All}
 use Rattle.image_soundness.specs.Sound.{IsSound}
 use Rattle.image_pack.specs.declared.parts.Image.{Image}
+use Rattle.dma_tables.specs.declared.file.DmaFile.{DmaFile}
 use Rattle.muen_build.specs.Accepting.{Accepts, FailsWith, Files, WithDocument, looks_of}
 use Rattle.muen_build.specs.Looks.{IsAsked, Looked, document_look}
 use Rattle.muen_build.specs.declared.accepted.BuildError.{BuildError}
@@ -11,6 +12,7 @@ use Rattle.muen_outside.specs.Store.{Store, Reading, absent, long, reading_of}
 use Rattle.muen_outside.specs.declared.files.FileError.{FileError}
 use Rattle.muen_outside.specs.declared.files.FileError.TheVariants.{Failed as FileFailed, NoMemory as FileMemory}
 use Rattle.policy_types.specs.declared.source.Source.{Source}
+use Rattle.proof_runs.specs.Fit.{Fit}
 use Rattle.muen_top.specs.FilesSeen.{Saw, SawAfter}
 use Rattle.muen_top.specs.Runs.{OnlyMemory}
 use Rattle.muen_top.specs.CommandErrors.{error_of_build}
@@ -53,15 +55,16 @@ IsReadOf i (Err error) = OnlyMemory error
 abbrev pub policy_looks : List ℕ → List ℕ → Files → List Look
 policy_looks policy document found = document_look policy document ∷ looks_of found
 
--- the files that its contents name, and the parts of its image, which are sound over whatever files agree with the looks
-pub record IsMade (policy document : List ℕ) (held : Option Store) (old new : History) (found : Files) (i : Image) : Type 0 where
+-- the files that its contents name, the parts of its image, which are sound over whatever files agree with the looks, and tables
+-- that fit it
+pub record IsMade (policy document : List ℕ) (held : Option Store) (old new : History) (found : Files) (i : Image) (tables : DmaFile) : Type 0 where
   pub source : Source
   pub looked : Looked policy held old new (looks_of found)
   pub asked : All (IsAsked document) (looks_of found)
   pub accepts : Accepts policy (looks_of found) document source
-  pub back : WithDocument policy document (looks_of found) (λ files. IsSound source files i)
+  pub back : WithDocument policy document (looks_of found) (λ files. IsSound source files i × Fit source i (Some tables))
 
--- why it gives none: the policy isn't accepted, or memory was refused for the image
+-- why it gives none: the policy isn't accepted, or memory was refused for the image or the tables
 pub data NotMade (policy document : List ℕ) (held : Option Store) (old new : History) (error : CommandError) : Type 0 where
   refused : (build_error : BuildError) → FailsWith policy document held old new build_error → error ≡ error_of_build build_error → NotMade policy document held old new error
   unmade : (found : Files) → Looked policy held old new (looks_of found) → All (IsAsked document) (looks_of found) → WithDocument policy document (looks_of found) (λ files. OnlyMemory error) → NotMade policy document held old new error

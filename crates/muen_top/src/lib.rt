@@ -33,11 +33,12 @@ use std::alloc::Global;
 /// `build POLICY IMAGE` reads a policy and the files that it names, and writes an image that is
 /// sound for them under the name IMAGE, in one call of `files` and only where everything before was
 /// accepted. `boot POLICY RECORD` reads a policy and the files that it names, and a device record,
-/// makes the same image in memory, runs it on the record, and puts the text of the run to `out`. `run
-/// IMAGE RECORD` reads an image and a device record for it, runs the image on the record, and puts the
-/// text of that run to `out`. `map POLICY` puts where the policy's regions lie and what each subject
-/// sees, `flows POLICY` on whom each subject can depend; neither reads a component file. No other
-/// command is built. On every status but 0 one line that begins with `muen: ` is put to `err`; a fault
+/// makes the same image and the tables of the policy's domains of devices in memory, runs the image on the
+/// record, with the tables, and puts the text of the run to `out`. `run IMAGE RECORD` reads an image and a
+/// device record for it, runs the image on the record, without tables, so that no device reaches memory by
+/// itself, and puts the text of that run to `out`. `map POLICY` puts where the policy's regions lie and
+/// what each subject sees, `flows POLICY` on whom each subject can depend; neither reads a component file.
+/// No other command is built. On every status but 0 one line that begins with `muen: ` is put to `err`; a fault
 /// of `err` changes no status.
 ///
 /// | Status | Comes | Line |
@@ -73,7 +74,8 @@ pub fn muen<F: Files, S: Sink, E: Sink>(
     // `boot` prints the text of the policy's system, in which each subject acts alone on its own state
     // and what the policy lets reach it.
     ensures boots { BootPrintsSystem (map string_bytes words.now) (looks_since (F.history files.old) (F.history files.new)) (S.state out.old) (S.state out.new) result }
-    // So does `run` where it holds an image that is sound for the policy over these or other files,
+    // So does `run` where it holds an image that is sound for the policy over these or other files, and no
+    // domain of devices lets one write,
     ensures runs_sound { RunOfSoundPrintsSystem (map string_bytes words.now) (looks_since (F.history files.old) (F.history files.new)) (S.state out.old) (S.state out.new) result }
     // and where it holds the image that `build` has written for it.
     ensures runs_built { RunOfBuiltPrintsSystem (map string_bytes words.now) (looks_since (F.history files.old) (F.history files.new)) (S.state out.old) (S.state out.new) result }

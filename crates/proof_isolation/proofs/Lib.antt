@@ -11,6 +11,7 @@ mod Turners
 mod BothRaise
 mod BothTurns
 mod CpuTurns
+mod SeenWrites
 mod MergedInputs
 mod MergedTurns
 mod TwoSystems

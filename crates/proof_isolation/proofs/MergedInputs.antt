@@ -1,48 +1,41 @@
 -- The inputs of a tick in both of two systems, of which those agree that reach members.
 use Rattle.std.proofs.Common.{◌≡◌, ℕ, Bool, true, false, cond, List, [], ◌∷◌, filter, Option, Some, None, refl, sym, ap, subst, ◌∙◌, inl, inr, true≢false}
 use Rattle.std.specs.Prelude.{◌==◌, ◌&&◌, ◌||◌, option_map, slice_get, slice_set}
-use Rattle.std.specs.List.{find, list_any}
+use Rattle.std.specs.List.{AllByRecursion, find, list_any}
 use Rattle.std.specs.Option.{option_map_or}
 use Rattle.std.specs.Str.{bytes_eq}
-use Rattle.std.proofs.lemmas.Bool.{and_from, and_parts, cases_eq}
+use Rattle.std.proofs.lemmas.Bool.{and_from, and_parts, cases_eq, or_parts}
 use Rattle.std.proofs.lemmas.Slice.Eq.{bytes_eq-Decides}
 use Rattle.subject_model.specs.Resources.{ports_of}
 use Rattle.muen_num.proofs.ChangeLaws.{element_changes, others_stay, set_is}
 use Rattle.muen_num.specs.ListChange.{change_at}
-use Rattle.subject_model.specs.Memory.{over}
 use Rattle.subject_model.specs.Pending.{with_vector}
 use Rattle.muen_num.proofs.Members.{In, any_in, any_some, find_in}
 use Rattle.policy_lawful.specs.Contents.{Held}
 use Rattle.policy_lawful.specs.Events.{Target, irq_of}
-use Rattle.policy_lawful.specs.Thing.{Thing, device_memory, same_thing, state}
-use Rattle.policy_lawful.specs.Windows.{windows_of}
+use Rattle.policy_lawful.specs.Thing.{device_memory}
 use Rattle.policy_types.specs.declared.source.Source.{Source}
 use Rattle.policy_types.specs.declared.source.Subject.{Subject}
 use Rattle.subject_model.specs.DeviceRecord.{DeviceRecord, NamedInput, port_input, memory_input, irq_input, dma_input}
 use Rattle.frame_clock.specs.Run.{all_taken}
 use Rattle.flow_report.specs.Flows.{is_member}
-use Rattle.subject_model.proofs.KeyLaws.{names_apart, things_apart, value_other}
+use Rattle.subject_model.proofs.KeyLaws.{names_apart, value_other}
 use Rattle.subject_model.specs.Clock.{irq_reaches, system, takes}
-use Rattle.subject_model.specs.System.{System, is_shown, subject_named}
+use Rattle.subject_model.specs.System.{System, subject_named}
 use Rattle.proof_views.proofs.OwnLines.{named_so}
-use Rattle.proof_isolation.specs.Agree.{Agree, irq_to, touches}
+use Rattle.proof_isolation.specs.Agree.{Agree, WritesTheSame, irq_to, maps_seen, touches}
 use Rattle.proof_isolation.specs.Alike.{AreAlike}
 use Rattle.proof_isolation.proofs.Alike.{alike_left, alike_right, same_member}
-use Rattle.proof_isolation.proofs.BothRaise.{change_named_alike, change_thing_alike}
+use Rattle.proof_isolation.proofs.BothRaise.{change_named_alike}
+use Rattle.proof_isolation.proofs.SeenWrites.{line_both, line_outside, write_both, write_outside}
 
 -- ---- an input that reaches no member
 
-module _ (p : Source) (members : List (List ℕ)) where
-  port_apart : (s : Subject) → is_member members s ≡ true → subject_named p s.name ≡ Some s → (device : List ℕ) (port value n : ℕ) → touches p members (port_input device port value) ≡ false → list_any (λ m. m == n) (ports_of p s) ≡ true → (n ≡ port → ⊥)
+module _ (p q : Source) (members : List (List ℕ)) where
+  port_apart : (s : Subject) → is_member members s ≡ true → subject_named p s.name ≡ Some s → (device : List ℕ) (port value n : ℕ) → touches p q members (port_input device port value) ≡ false → list_any (λ m. m == n) (ports_of p s) ≡ true → (n ≡ port → ⊥)
   port_apart s member is device port value n out its same =
       let in_s = (find_in (λ x. bytes_eq x.name s.name) p.subjects s is).0 in
       let hit = any_in (λ s. is_member members s && list_any (λ n. n == port) (ports_of p s)) p.subjects s in_s (and_from (is_member members s) (list_any (λ n. n == port) (ports_of p s)) member (subst (λ k. list_any (λ m. m == k) (ports_of p s) ≡ true) same its)) in
-      true≢false (sym hit ∙ out)
-
-  thing_unshown : (s : Subject) → is_member members s ≡ true → subject_named p s.name ≡ Some s → (device memory : List ℕ) (offset : ℕ) (bytes : List ℕ) (x : Thing) → touches p members (memory_input device memory offset bytes) ≡ false → is_shown (windows_of p s) x ≡ true → (device_memory device memory ≡ x → ⊥)
-  thing_unshown s member is device memory offset bytes x out shown same =
-      let in_s = (find_in (λ x. bytes_eq x.name s.name) p.subjects s is).0 in
-      let hit = any_in (λ s. is_member members s && is_shown (windows_of p s) (device_memory device memory)) p.subjects s in_s (and_from (is_member members s) (is_shown (windows_of p s) (device_memory device memory)) member (ap (is_shown (windows_of p s)) same ∙ shown)) in
       true≢false (sym hit ∙ out)
 
   irq_elsewhere : (s : Subject) → is_member members s ≡ true → subject_named p s.name ≡ Some s → (t : Target) → list_any (λ s. is_member members s && bytes_eq s.name t.subject) p.subjects ≡ false → (t.subject ≡ s.name → ⊥)
@@ -64,7 +57,7 @@ module _ (p : Source) (members : List (List ℕ)) where
     ports = λ n _. refl;
   }
 
-  pub input_outside : (i : NamedInput) (y : System) → touches p members i ≡ false → AreAlike p p members y (takes p i y)
+  pub input_outside : (i : NamedInput) (y : System) → touches p q members i ≡ false → AreAlike p p members y (takes p i y)
   input_outside (port_input device port value) y out = λ s member is. record {
     page = refl;
     msrs = refl;
@@ -74,17 +67,9 @@ module _ (p : Source) (members : List (List ℕ)) where
     shown = λ x _. refl;
     ports = λ n its. sym (ap (λ xs. slice_get xs n) (set_is port y.ports value) ∙ others_stay port n (λ _. value) y.ports (port_apart s member is device port value n out its));
   }
-  input_outside (memory_input device memory offset bytes) y out = λ s member is. record {
-    page = sym (value_other same_thing (device_memory device memory) (state s.name) (λ old. over old offset bytes) y.things (things_apart (device_memory device memory) (state s.name) (λ e. cc (e))));
-    msrs = refl;
-    now = refl;
-    later = refl;
-    active = refl;
-    shown = λ x shown. sym (value_other same_thing (device_memory device memory) x (λ old. over old offset bytes) y.things (things_apart (device_memory device memory) x (thing_unshown s member is device memory offset bytes x out shown)));
-    ports = λ n _. refl;
-  }
+  input_outside (memory_input device memory offset bytes) y out = write_outside p members (device_memory device memory) offset bytes y (λ name e. cc (e)) out
   input_outside (irq_input device irq) y out = by_target (irq_of p device irq) y out
-  input_outside (dma_input device addr bytes) y out = λ s member is. record { page = refl; msrs = refl; now = refl; later = refl; active = refl; shown = λ x _. refl; ports = λ n _. refl }
+  input_outside (dma_input device address bytes) y out = line_outside p members device address bytes y (or_parts (maps_seen p members device) (maps_seen q members device) out).0
 
 -- ---- one that reaches members, in both
 
@@ -137,24 +122,14 @@ module _ (p q : Source) (members : List (List ℕ)) (f g : Held) (r t : DeviceRe
       let a = h s member is in
       record { page = a.page; msrs = a.msrs; now = change_named_alike x.subject s.name (with_vector x.vector) y.now z.now a.now; later = a.later; active = a.active; shown = a.shown; ports = a.ports }
 
-  pub input_both : (i : NamedInput) (y z : System) → touches p members i ≡ true → AreAlike p q members y z → AreAlike p q members (takes p i y) (takes q i z)
-  input_both (port_input device port value) y z hit h = λ s member is.
+  pub input_both : (i : NamedInput) (y z : System) → touches p q members i ≡ true → WritesTheSame members p q i → AreAlike p q members y z → AreAlike p q members (takes p i y) (takes q i z)
+  input_both (port_input device port value) y z hit same h = λ s member is.
       let a = h s member is in
       record { page = a.page; msrs = a.msrs; now = a.now; later = a.later; active = a.active; shown = a.shown; ports = λ n its. port_both n port value y.ports z.ports (a.ports n its) }
-  input_both (memory_input device memory offset bytes) y z hit h = λ s member is.
-      let a = h s member is in
-      record {
-        page = change_thing_alike (device_memory device memory) (state s.name) (λ old. over old offset bytes) y.things z.things a.page;
-        msrs = a.msrs;
-        now = a.now;
-        later = a.later;
-        active = a.active;
-        shown = λ x shown. change_thing_alike (device_memory device memory) x (λ old. over old offset bytes) y.things z.things (a.shown x shown);
-        ports = a.ports;
-      }
-  input_both (irq_input device irq) y z hit h =
+  input_both (memory_input device memory offset bytes) y z hit same h = write_both p q members (device_memory device memory) offset bytes y z h
+  input_both (irq_input device irq) y z hit same h =
       subst (λ o. AreAlike p q members (irq_reaches (irq_of p device irq) y) (irq_reaches o z)) (sym (same_target device irq (irq_of p device irq) refl hit)) (irq_both (irq_of p device irq) y z h)
-  input_both (dma_input device addr bytes) y z hit h = absurd (cc (hit))
+  input_both (dma_input device address bytes) y z hit same h = line_both p q members f g r t ends agree device address bytes y z same h
 
   -- ---- all inputs of a tick
 
@@ -164,34 +139,36 @@ module _ (p q : Source) (members : List (List ℕ)) (f g : Held) (r t : DeviceRe
     pub here : System
     pub alike : AreAlike p q members y here
     pub same : all_taken (system q) is z ≡ all_taken (system q) remaining (takes q i here)
-    pub agrees : rest ≡ filter (touches q members) remaining
+    pub agrees : rest ≡ filter (touches q p members) remaining
 
-  skip : (y : System) (i : NamedInput) (rest is : List NamedInput) (z : System) → AreAlike p q members y z → i ∷ rest ≡ filter (touches q members) is → Skipped y i rest is z
+  skip : (y : System) (i : NamedInput) (rest is : List NamedInput) (z : System) → AreAlike p q members y z → i ∷ rest ≡ filter (touches q p members) is → Skipped y i rest is z
   skip y i rest [] z h same = absurd (cc (same))
   skip y i rest (j ∷ js) z h same =
-      elim (touches q members j) as (λ b. touches q members j ≡ b → i ∷ rest ≡ cond b (j ∷ filter (touches q members) js) (filter (touches q members) js) → Skipped y i rest (j ∷ js) z) [
+      elim (touches q p members j) as (λ b. touches q p members j ≡ b → i ∷ rest ≡ cond b (j ∷ filter (touches q p members) js) (filter (touches q p members) js) → Skipped y i rest (j ∷ js) z) [
         | true ↦ λ e k.
             let first : i ≡ j = cc (k) in
             record { remaining = js; here = z; alike = h; same = ap (λ x. all_taken (system q) js (takes q x z)) (sym first); agrees = cc (k) }
         | false ↦ λ e k.
-            let later = skip y i rest js (takes q j z) (alike_right p q members f g r t ends agree y z (takes q j z) (input_outside q members j z e) h) k in
+            let later = skip y i rest js (takes q j z) (alike_right p q members f g r t ends agree y z (takes q j z) (input_outside q p members j z e) h) k in
             record { remaining = later.remaining; here = later.here; alike = later.alike; same = later.same; agrees = later.agrees }
       ] refl same
 
-  rest_outside : (is : List NamedInput) (y z : System) → [] ≡ filter (touches q members) is → AreAlike p q members y z → AreAlike p q members y (all_taken (system q) is z)
+  rest_outside : (is : List NamedInput) (y z : System) → [] ≡ filter (touches q p members) is → AreAlike p q members y z → AreAlike p q members y (all_taken (system q) is z)
   rest_outside [] y z same h = h
   rest_outside (j ∷ js) y z same h =
-      elim (touches q members j) as (λ b. touches q members j ≡ b → [] ≡ cond b (j ∷ filter (touches q members) js) (filter (touches q members) js) → AreAlike p q members y (all_taken (system q) js (takes q j z))) [
+      elim (touches q p members j) as (λ b. touches q p members j ≡ b → [] ≡ cond b (j ∷ filter (touches q p members) js) (filter (touches q p members) js) → AreAlike p q members y (all_taken (system q) js (takes q j z))) [
         | true ↦ λ e k. absurd (cc (k))
-        | false ↦ λ e k. rest_outside js y (takes q j z) k (alike_right p q members f g r t ends agree y z (takes q j z) (input_outside q members j z e) h)
+        | false ↦ λ e k. rest_outside js y (takes q j z) k (alike_right p q members f g r t ends agree y z (takes q j z) (input_outside q p members j z e) h)
       ] refl same
 
-  pub inputs_both : (is js : List NamedInput) (y z : System) → filter (touches p members) is ≡ filter (touches q members) js → AreAlike p q members y z → AreAlike p q members (all_taken (system p) is y) (all_taken (system q) js z)
-  inputs_both [] js y z same h = rest_outside js y z same h
-  inputs_both (i ∷ is) js y z same h =
-      elim (touches p members i) as (λ b. touches p members i ≡ b → cond b (i ∷ filter (touches p members) is) (filter (touches p members) is) ≡ filter (touches q members) js → AreAlike p q members (all_taken (system p) is (takes p i y)) (all_taken (system q) js z)) [
-        | true ↦ λ e k.
-            let at = skip y i (filter (touches p members) is) js z h k in
-            subst (AreAlike p q members (all_taken (system p) is (takes p i y))) (sym at.same) (inputs_both is at.remaining (takes p i y) (takes q i at.here) at.agrees (input_both i y at.here e at.alike))
-        | false ↦ λ e k. inputs_both is js (takes p i y) z k (alike_left p q members y (takes p i y) z (input_outside p members i y e) h)
-      ] refl same
+  pub inputs_both : (is js : List NamedInput) (y z : System) → filter (touches p q members) is ≡ filter (touches q p members) js → AllByRecursion (WritesTheSame members p q) (filter (touches p q members) is) → AreAlike p q members y z
+      → AreAlike p q members (all_taken (system p) is y) (all_taken (system q) js z)
+  inputs_both [] js y z same writes h = rest_outside js y z same h
+  inputs_both (i ∷ is) js y z same writes h =
+      elim (touches p q members i) as (λ b. touches p q members i ≡ b → cond b (i ∷ filter (touches p q members) is) (filter (touches p q members) is) ≡ filter (touches q p members) js
+      → AllByRecursion (WritesTheSame members p q) (cond b (i ∷ filter (touches p q members) is) (filter (touches p q members) is)) → AreAlike p q members (all_taken (system p) is (takes p i y)) (all_taken (system q) js z)) [
+        | true ↦ λ e k each.
+            let at = skip y i (filter (touches p q members) is) js z h k in
+            subst (AreAlike p q members (all_taken (system p) is (takes p i y))) (sym at.same) (inputs_both is at.remaining (takes p i y) (takes q i at.here) at.agrees each.1 (input_both i y at.here e each.0 at.alike))
+        | false ↦ λ e k each. inputs_both is js (takes p i y) z k each (alike_left p q members y (takes p i y) z (input_outside p q members i y e) h)
+      ] refl same writes

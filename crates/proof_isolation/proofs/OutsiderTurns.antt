@@ -33,6 +33,7 @@ use Rattle.flow_report.proofs.EventWays.{way_counts}
 use Rattle.flow_report.specs.Flows.{IsClosed, by_change, by_sight, flows_to, is_member, reaches}
 use Rattle.subject_model.specs.Alone.{Inbox, MsrValues, OwnState, TurnAnswer, own_of, solo_turn, thing_in}
 use Rattle.subject_model.specs.System.{System, answered, inbox_of, is_shown, named, subject_named, system_turn, took, with_own, with_store}
+use Rattle.subject_model.proofs.DeviceWrites.{IsWritable}
 use Rattle.subject_model.proofs.KeyLaws.{same_things, things_apart, value_other}
 use Rattle.proof_views.specs.Members.{AreListed, HasTurn, lists}
 use Rattle.proof_views.proofs.Kept.{acted, turn_cases}
@@ -43,7 +44,7 @@ use Rattle.proof_views.proofs.Unmoved.{by_raised}
 use Rattle.proof_views.proofs.Untouched.{turn_elsewhere, windows_spare}
 use Rattle.proof_isolation.specs.Alike.{AreAlike, AreAlikeFor}
 use Rattle.proof_isolation.proofs.Conflicts.{BothPages, flows_by, met, none_in}
-use Rattle.proof_isolation.proofs.Outsiders.{IsWritable, Named, by_cpu, no_flow, other_names, raised_active, raised_pends, took_pends, turn_writes}
+use Rattle.proof_isolation.proofs.Outsiders.{Named, by_cpu, no_flow, other_names, raised_active, raised_pends, took_pends, turn_writes}
 use Rattle.proof_isolation.proofs.Stores.{by_store}
 use Rattle.proof_isolation.proofs.Windows.{IsOn, window_is}
 

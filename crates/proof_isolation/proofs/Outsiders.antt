@@ -29,6 +29,7 @@ use Rattle.policy_types.specs.declared.source.Source.{Source}
 use Rattle.policy_types.specs.declared.source.SourceWay.{SourceWay}
 use Rattle.policy_types.specs.declared.source.Subject.{Subject}
 use Rattle.flow_report.specs.Flows.{IsClosed, flows_to, is_member, reaches}
+use Rattle.subject_model.proofs.DeviceWrites.{IsWritable}
 use Rattle.subject_model.proofs.KeyLaws.{names_apart, value_other}
 use Rattle.subject_model.proofs.SystemLaws.{raised_alone}
 use Rattle.subject_model.specs.System.{System, happens, happens_as, named, pends_now, raised_by, took, with_active}
@@ -170,13 +171,6 @@ module _ (p : Source) (lawful : IsLawful p) (kept : MembersKept p) (u s : Subjec
   raised_active (Some way) ne z same = by_raised_event way (event_of p u way) refl (ne way) z same
 
 -- ---- what it stores
-
--- a window with the right to write shows it
-pub record IsWritable (windows : List (Window Thing)) (x : Thing) : Type 0 where
-  pub window : Window Thing
-  pub its : In window windows
-  pub writes : allows window.rights Write ≡ true
-  pub shows : window.thing ≡ x
 
 module _ (own : Own) (mine : OwnState) (inbox : Inbox) where
   by_window : (addr offset : ℕ) (x : Thing) (o : Option (Window Thing)) → find (λ w. holds w addr) own.windows ≡ o → reach_by Write addr (access_by o addr Write) ≡ Reached x offset → IsWritable own.windows x

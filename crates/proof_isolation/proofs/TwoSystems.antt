@@ -6,6 +6,7 @@ use Rattle.std.specs.Option.{option_map_or}
 use Rattle.std.specs.Str.{bytes_eq}
 use Rattle.std.proofs.lemmas.Bool.{and_from, and_parts, eq-eqb, eqb-true, true_from_ne_false}
 use Rattle.std.proofs.lemmas.List.{length-map}
+use Rattle.std.proofs.lemmas.List.Elements.{recursion_from_All}
 use Rattle.std.proofs.lemmas.Option.{slice_get-map, slice_get_within}
 use Rattle.std.proofs.lemmas.Slice.Eq.{bytes_eq-Decides}
 use Rattle.subject_model.specs.Resources.{msrs_of}
@@ -40,16 +41,17 @@ use Rattle.muen_num.specs.Search.{first_in}
 use Rattle.policy_lawful.specs.Offences.{two}
 use Rattle.proof_isolation.proofs.Conflicts.{flows_by}
 use Rattle.proof_isolation.proofs.Outsiders.{no_flow}
+use Rattle.subject_model.proofs.DeviceWrites.{line_things}
 use Rattle.subject_model.proofs.PolicyFacts.{found_by_name}
 use Rattle.subject_model.proofs.StartLists.{named_map}
 use Rattle.subject_model.specs.Alone.{own_of, thing_in}
-use Rattle.subject_model.specs.Clock.{begins, inputs_at, order_at, pick_in, system, takes, ticks_of_majors}
+use Rattle.subject_model.specs.Clock.{begins, inputs_at, line_writes, order_at, pick_in, system, takes, ticks_of_majors}
 use Rattle.subject_model.specs.System.{System, is_shown, named, start_of, subject_named, system_turn}
 use Rattle.subject_model.specs.View.{Seen, ran_through, seen_in, through, view_of}
 use Rattle.proof_views.proofs.ActiveMembers.{begun_listed}
 use Rattle.proof_views.proofs.StatePages.{first_paged}
 use Rattle.proof_views.proofs.Unmoved.{by_irq}
-use Rattle.proof_isolation.specs.Agree.{Agree, AgreeOnFrames, chosen, holds_member, is_first, own_slot, plain_frame, unchosen}
+use Rattle.proof_isolation.specs.Agree.{Agree, AgreeOnFrames, WritesTheSame, chosen, holds_member, is_first, own_slot, plain_frame, touches, unchosen}
 use Rattle.proof_isolation.specs.Alike.{AreAlike, AreSameViews, is_active}
 use Rattle.proof_isolation.proofs.Alike.{same_cpu, same_entry, same_member, same_name, same_windows}
 use Rattle.proof_isolation.proofs.CpuTurns.{SameSlots}
@@ -106,7 +108,7 @@ input_frame : (p : Source) (i : NamedInput) (y : System) → (takes p i y).frame
 input_frame p (port_input device port value) y = refl
 input_frame p (memory_input device memory offset bytes) y = refl
 input_frame p (irq_input device irq) y = (by_irq (irq_of p device irq) y).frame
-input_frame p (dma_input device addr bytes) y = refl
+input_frame p (dma_input device address bytes) y = ap (λ z. z.frame) (line_things (line_writes p device address bytes) y)
 
 inputs_frame : (p : Source) (is : List NamedInput) (y : System) → (all_taken (system p) is y).frame ≡ y.frame
 inputs_frame p [] y = refl
@@ -231,7 +233,7 @@ module _ (p q : Source) (lawful : IsLawful p) (lawful_too : IsLawful q) (members
       record {
         listed = begun_listed p f (members_kept p lawful.rule_17) (inputs_at r) (order_at p r) n;
         listed_too = begun_listed q g (members_kept q lawful_too.rule_17) (inputs_at t) (order_at q t) n;
-        alike = inputs_both p q members f g r t ends agree (inputs_at r n) (inputs_at t n) (begins p n (run_p n)) (begins q n (run_q n)) (agree.inputs n low) (begun_alike n (run_p n) (run_q n) h);
+        alike = inputs_both p q members f g r t ends agree (inputs_at r n) (inputs_at t n) (begins p n (run_p n)) (begins q n (run_q n)) (agree.inputs n low) (recursion_from_All (WritesTheSame members p q) (filter (touches p q members) (inputs_at r n)) (agree.writes n low)) (begun_alike n (run_p n) (run_q n) h);
         slots = λ s w inside is is'.
             ap (λ at. own_slot p s at n) (inputs_frame p (inputs_at r n) (begins p n (run_p n)))
             ∙ slots s w inside is is'

@@ -1,6 +1,6 @@
 -- Two policies with their files and records that agree on what reaches the members of a set of subjects (this project's own).
-use Rattle.std.specs.Prelude.{◌≡◌, ℕ, ◌<◌, ◌==◌, ◌&&◌, Bool, false, true, List, filter, Option, Some, None, if◌then◌else◌, option_and_then, slice_get}
-use Rattle.std.specs.List.{list_any}
+use Rattle.std.specs.Prelude.{◌≡◌, ℕ, ◌<◌, ◌==◌, ◌&&◌, ◌||◌, Bool, false, true, List, filter, map, Option, Some, None, if◌then◌else◌, option_and_then, option_map, slice_get}
+use Rattle.std.specs.List.{All, list_any}
 use Rattle.std.specs.Option.{option_map_or}
 use Rattle.std.specs.Str.{bytes_eq}
 use Rattle.subject_model.specs.Resources.{ports_of}
@@ -9,6 +9,7 @@ use Rattle.frame_clock.specs.Frames.{slot_in}
 use Rattle.frame_clock.specs.declared.frame_at.FrameAt.{FrameAt}
 use Rattle.policy_lawful.specs.MoreRules.{is_switch}
 use Rattle.policy_lawful.specs.Contents.{Held}
+use Rattle.policy_lawful.specs.Dma.{dma_windows}
 use Rattle.policy_lawful.specs.Events.{Raised, Target, event_of, irq_of}
 use Rattle.policy_lawful.specs.Frames.{first_member, frames_of, group_of}
 use Rattle.policy_lawful.specs.Thing.{Thing, device_memory}
@@ -19,7 +20,7 @@ use Rattle.policy_types.specs.declared.source.Subject.{Subject}
 use Rattle.policy_types.specs.declared.source.Tau0.{Tau0}
 use Rattle.subject_model.specs.DeviceRecord.{DeviceRecord, NamedInput, port_input, memory_input, irq_input, dma_input}
 use Rattle.subject_model.specs.Alone.{own_of, thing_in}
-use Rattle.subject_model.specs.Clock.{inputs_at, order_at, ticks_of_majors}
+use Rattle.subject_model.specs.Clock.{ByteWrite, inputs_at, line_writes, order_at, ticks_of_majors}
 use Rattle.subject_model.specs.Laws.{frame_after}
 use Rattle.subject_model.specs.System.{is_shown, start_of, subject_named}
 
@@ -64,14 +65,33 @@ pub record AgreeFor (members : List (List ℕ)) (p q : Source) (f g : Held) (s z
 
 -- ---- what agrees of records
 
--- an input reaches a member
-abbrev pub touches : Source → List (List ℕ) → NamedInput → Bool
-touches p members (port_input device port value) = list_any (λ s. is_member members s && list_any (λ n. n == port) (ports_of p s)) p.subjects
-touches p members (memory_input device memory offset bytes) =
-    list_any (λ s. is_member members s && is_shown (windows_of p s) (device_memory device memory)) p.subjects
-touches p members (irq_input device irq) =
+-- a window of a member shows this thing
+abbrev pub is_seen : Source → List (List ℕ) → Thing → Bool
+is_seen p members x = list_any (λ s. is_member members s && is_shown (windows_of p s) x) p.subjects
+
+-- the domain of a device maps a thing that a window of a member shows
+abbrev pub maps_seen : Source → List (List ℕ) → List ℕ → Bool
+maps_seen p members device = list_any (λ w. is_seen p members w.thing) (dma_windows p device)
+
+-- an input reaches a member, by the first of two policies; for a line of direct memory access it is enough that its device's domain
+-- maps, in either policy, a thing that a window of a member shows
+abbrev pub touches : Source → Source → List (List ℕ) → NamedInput → Bool
+touches p q members (port_input device port value) = list_any (λ s. is_member members s && list_any (λ n. n == port) (ports_of p s)) p.subjects
+touches p q members (memory_input device memory offset bytes) = is_seen p members (device_memory device memory)
+touches p q members (irq_input device irq) =
     option_map_or (λ t. list_any (λ s. is_member members s && bytes_eq s.name t.subject) p.subjects) (irq_of p device irq) false
-touches p members (dma_input device addr bytes) = false
+touches p q members (dma_input device address bytes) = maps_seen p members device || maps_seen q members device
+
+-- what members see of a byte that is written: the byte, if a window of a member shows its thing
+abbrev pub as_seen : Source → List (List ℕ) → ByteWrite → Option ByteWrite
+as_seen p members w = if is_seen p members w.thing then Some w else None
+
+-- a line of direct memory access does the same in both policies to what members see: each of its bytes goes somewhere in both or in
+-- neither, and where a window of a member shows the thing, to the same byte of it
+abbrev pub WritesTheSame : List (List ℕ) → Source → Source → NamedInput → Type 0
+WritesTheSame members p q (dma_input device address bytes) =
+    map (option_map (as_seen p members)) (line_writes p device address bytes) ≡ map (option_map (as_seen q members)) (line_writes q device address bytes)
+WritesTheSame members p q _ = Unit {0}
 
 -- a member is on this CPU
 abbrev pub holds_member : Source → List (List ℕ) → ℕ → Bool
@@ -102,5 +122,7 @@ pub record Agree (members : List (List ℕ)) (p q : Source) (f g : Held) (r t : 
   pub back : (z : Subject) → is_member members z ≡ true → subject_named q z.name ≡ Some z → (s : Subject) × (subject_named p z.name ≡ Some s)
   pub each : (s z : Subject) → is_member members s ≡ true → subject_named p s.name ≡ Some s → subject_named q s.name ≡ Some z → AgreeFor members p q f g s z
   pub frames : AgreeOnFrames members p q ends
-  pub inputs : (tick : ℕ) → tick < ends → filter (touches p members) (inputs_at r tick) ≡ filter (touches q members) (inputs_at t tick)
+  -- inputs that reach members are the same in both, and the lines of direct memory access among them do the same to what these see
+  pub inputs : (tick : ℕ) → tick < ends → filter (touches p q members) (inputs_at r tick) ≡ filter (touches q p members) (inputs_at t tick)
+  pub writes : (tick : ℕ) → tick < ends → All (WritesTheSame members p q) (filter (touches p q members) (inputs_at r tick))
   pub orders : (tick : ℕ) → tick < ends → filter (holds_member p members) (order_at p r tick) ≡ filter (holds_member q members) (order_at q t tick)

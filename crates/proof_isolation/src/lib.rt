@@ -35,7 +35,9 @@ pub fn outsiders_change_nothing()
 /// **Two systems.** Where a set of subjects is closed in two lawful policies, and these with their files and
 /// records agree on what reaches its members (`Agree`), each member has at each tick below both ends the same
 /// view in both: the same line, own state, MSRs, pending events, and bytes of all that its windows show. So it
-/// is whatever the programs, contents, devices, plans and policies of all others are, and whatever they do.
+/// is whatever the programs, contents, devices, plans and policies of all others are, and whatever they do. A
+/// device counts where its domain maps, in either policy, what a member sees: its lines of direct memory access
+/// are the same in both records, and do the same to what members see.
 pub fn members_see_the_same()
     ensures { (p q : Source) (f g : Held) (r t : DeviceRecord) (members : List (List ℕ)) → IsLawful p → IsLawful q → IsClosed p members → IsClosed q members
         → Agree members p q f g r t (min r.end t.end) → (s w : Subject) → is_member members s ≡ true → subject_named p s.name ≡ Some s → subject_named q s.name ≡ Some w

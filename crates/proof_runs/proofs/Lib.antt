@@ -1,4 +1,6 @@
 pub mod DeviceMemories
+pub mod DmaLines
+pub mod DomainWindows
 pub mod FinalTexts
 pub mod FlatLists
 pub mod ImageRuns

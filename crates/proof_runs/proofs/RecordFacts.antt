@@ -20,16 +20,16 @@ use Rattle.record_text.specs.declared.fault.LineWant.{LineWant}
 use Rattle.record_text.specs.declared.fault.LineWant.TheVariants.{Hex}
 use Rattle.record_text.specs.declared.fault.RecordFault.TheVariants.{NoEnd}
 use Rattle.record_text.specs.declared.record.TheConstants.{INPUT_MOST}
-use Rattle.record_text.proofs.Rules.{IsRuled, entry_at-Ok, number_below-Ok, passed, then_ok}
+use Rattle.record_text.proofs.Rules.{IsFew, IsRuled, entry_at-Ok, hex_bytes-Ok, number_below-Ok, passed, then_ok}
 use Rattle.guest_isa.specs.Words.{IsByte}
 
--- ---- what is read is a byte
+-- ---- what is read are bytes, and of those that a device writes by itself there are a few
 
 abbrev pub IsSmall : NamedInput → Type 0
 IsSmall (port_input device port value) = value < 256
 IsSmall (memory_input device memory offset bytes) = All IsByte bytes
 IsSmall (irq_input device irq) = Unit {0}
-IsSmall (dma_input device addr bytes) = Unit {0}
+IsSmall (dma_input device addr bytes) = All IsByte bytes × IsFew bytes
 
 abbrev IsSmallEntry : Entry → Type 0
 IsSmallEntry (input_entry tick input) = IsSmall input
@@ -104,7 +104,7 @@ dma_line_small words e h =
     let a = then_ok (number_below GUEST_END w.0.2) _ e t.2 in
     let b = then_ok (hex_bytes w.0.3) (λ bytes. Ok (input_entry t.0 (dma_input w.0.1 a.0 bytes))) e a.2 in
     let made : input_entry t.0 (dma_input w.0.1 a.0 b.0) ≡ e = cc (b.2) in
-    rw (← made) tt
+    rw (← made) (hex_small w.0.3 b.0 b.1, hex_bytes-Ok w.0.3 b.0 b.1)
 
 end_line_small : (words : List (List ℕ)) (e : Entry) → end_line words ≡ Ok e → IsSmallEntry e
 unfolding end_line

@@ -1,22 +1,22 @@
 -- A record that is read for a sound image gives the machine the inputs and the orders that it gives the system.
-use Rattle.std.proofs.Common.{◌≡◌, ℕ, ◌+◌, ◌*◌, ◌<◌, Bool, true, false, cond, not, List, [], ◌∷◌, ◌++◌, length, map, filter, zip, Option, Some, None, is_some, find, position, option_and_then, option_map, unwrap_or, nat_lt, nat_le, refl, sym, ap, ap₂, ◌∙◌, subst, arith}
-use Rattle.std.specs.Prelude.{◌==◌, ◌&&◌, if◌then◌else◌, option_to_list, slice_index_or}
+use Rattle.std.proofs.Common.{◌≡◌, ℕ, ◌+◌, ◌*◌, ◌<◌, Bool, true, false, cond, not, List, [], ◌∷◌, ◌++◌, length, map, filter, zip, Option, Some, None, is_some, find, position, option_and_then, option_map, unwrap_or, nat_lt, nat_le, refl, sym, ap, ap₂, ◌∙◌, subst, arith, inl, inr, le-leb}
+use Rattle.std.specs.Prelude.{◌==◌, ◌&&◌, ◌≤◌, if◌then◌else◌, option_to_list, slice_get, slice_index_or}
 use Rattle.std.specs.List.{All, AllZip, cons_option, filter_map, flat_map, list_any, position_or_len}
 use Rattle.std.specs.Option.{option_map_or}
 use Rattle.std.specs.Str.{bytes_eq}
-use Rattle.std.proofs.lemmas.Bool.{leb-true}
+use Rattle.std.proofs.lemmas.Bool.{and_from, cases_Bool, false≢true, leb-true}
 use Rattle.std.proofs.lemmas.Bool.Decides.{nat_tests}
 use Rattle.std.proofs.lemmas.List.Elements.{All-head, All-tail}
 use Rattle.std.proofs.lemmas.Slice.Eq.{bytes_eq-Decides}
 use Rattle.muen_num.proofs.Lists.{find-map, list_any-map}
 use Rattle.muen_num.specs.Range.{numbers_below}
 use Rattle.muen_num.specs.declared.limits.TheConstants.{PAGE}
-use Rattle.subject_model.specs.Clock.{inputs_at, order_at}
+use Rattle.subject_model.specs.Clock.{inputs_at, line_writes, order_at}
 use Rattle.image_load.specs.Resolving.{NamedMemory, bench_device_of, bytes_into, device_called, image_bench, image_record, input_of, irq_input_of, is_in_range, memories_of, memory_input_of, memory_of_span, memory_of_window, port_input_of, raised, tick_input_of}
 use Rattle.image_soundness.proofs.NamesOfTargets.{reached_by_name}
 use Rattle.image_soundness.specs.Memory.{Span}
 use Rattle.image_soundness.specs.Named.{bench_device, bench_of, reached, subject_name, window_memory}
-use Rattle.image_soundness.specs.Sound.{IsDeviceOf, IsIrqOf}
+use Rattle.image_soundness.specs.Sound.{IsDeviceOf, IsIrqOf, IsSound, address_of}
 use Rattle.image_pack.specs.Codes.{is_device, part_name}
 use Rattle.image_pack.specs.Image.{device_name, window_name}
 use Rattle.image_pack.specs.ImageConditions.{IsContent, IsDevice, IsIrq, IsReached, IsWindow, KeepsConditions}
@@ -29,22 +29,37 @@ use Rattle.image_pack.specs.declared.parts.SpanPart.{SpanPart}
 use Rattle.image_pack.specs.declared.parts.SubjectPart.{SubjectPart}
 use Rattle.image_pack.specs.declared.parts.WindowPart.{WindowPart}
 use Rattle.kernel_core.specs.Ticks.{tick_inputs, tick_order}
+use Rattle.muen_num.specs.declared.access.AccessKind.TheVariants.{Write}
+use Rattle.policy_meaning.specs.Contents.{Held}
+use Rattle.policy_meaning.specs.Dma.{dma_access}
 use Rattle.policy_meaning.specs.Events.{irq_of}
 use Rattle.policy_meaning.specs.Thing.{device_memory}
+use Rattle.policy_types.specs.declared.source.Device.{Device as SourceDevice}
 use Rattle.policy_types.specs.declared.source.Irq.{Irq}
 use Rattle.policy_types.specs.declared.source.Source.{Source}
 use Rattle.policy_types.specs.declared.source.Subject.{Subject}
 use Rattle.record_text.specs.Bench.{BenchDevice, has_bytes, has_irq, has_port, is_known}
 use Rattle.record_text.specs.DeviceRecord.{DeviceRecord, NamedInput, port_input, memory_input, irq_input, dma_input}
 use Rattle.record_text.specs.Resolving.{order_at as order_of}
+use Rattle.record_text.specs.declared.record.Input.{Input}
 use Rattle.record_text.specs.declared.record.Input.TheVariants.{Port, Mem, Idle, Dma}
+use Rattle.record_text.specs.declared.record.Record.{Record}
+use Rattle.record_text.specs.declared.record.TickInput.{TickInput}
+use Rattle.record_text.proofs.Rules.{IsFew}
+use Rattle.device_bench.specs.declared.effect.Effect.{Effect}
+use Rattle.device_bench.specs.declared.effect.Effect.TheVariants.{Mem as ToMem}
+use Rattle.dma_tables.specs.Lowered.{goes, in_tick, is_line, line_writes as machine_writes, lowered, lowered_at, lowered_input}
+use Rattle.dma_tables.specs.declared.file.DmaFile.{DmaFile}
 use Rattle.proof_start.proofs.StartSets.{name_by}
 use Rattle.proof_start.specs.GroundOf.{ground_of}
 use Rattle.proof_turns.specs.Ground.{Ground, IsSubject, name_at}
 use Rattle.guest_isa.specs.Words.{IsByte}
-use Rattle.proof_turns.specs.Inputs.{SameInput, SameIrq}
+use Rattle.proof_turns.specs.Inputs.{AreInput, AreLine, SameIrq, nobody, somebody}
+use Rattle.proof_turns.proofs.Groups.{joined}
 use Rattle.image_soundness.specs.Bench.{devices_of}
+use Rattle.proof_runs.proofs.DmaLines.{line_alike, numbered_found}
 use Rattle.proof_runs.proofs.RecordFacts.{IsReadFor, IsSmall}
+use Rattle.proof_runs.specs.Fit.{Fit, place_of, write_by}
 
 -- ---- the bench of an image
 
@@ -134,7 +149,7 @@ found_index p (x ∷ xs) =
       | false ↦ let e : nat_lt (1 + position_or_len p xs) (length (x ∷ xs)) ≡ nat_lt (position_or_len p xs) (length xs) = grind (arith, nat_tests) in e ∙ found_index p xs
     ]
 
-found_number : {X : Type 0} (p : X → Bool) (xs : List X) → is_some (position p xs) ≡ is_some (find p xs)
+pub found_number : {X : Type 0} (p : X → Bool) (xs : List X) → is_some (position p xs) ≡ is_some (find p xs)
 found_number p xs = some_if (nat_lt (position_or_len p xs) (length xs)) (position_or_len p xs) ∙ found_index p xs
 
 port_known : (spans : List SpanPart) (port value : ℕ) (o : Option DevicePart) → option_map_or (has_port port) (option_map (bench_device_of spans) o) false ≡ is_some (option_and_then (port_input_of port value) o)
@@ -199,85 +214,128 @@ abbrev pub HasTargets : Ground → Image → Type 0
 HasTargets g i =
     (device irq : List ℕ) (d : DevicePart) (q : IrqPart) → device_called device i ≡ Some d → find (λ q. bytes_eq q.name irq) d.irqs ≡ Some q → IsRaised g device irq q.target
 
+-- what tables let a device write is what the policy lets it write
+abbrev pub HasLines : Ground → Image → Option DmaFile → Type 0
+HasLines g i tables =
+    (device : List ℕ) (addr : ℕ) (bytes : List ℕ) (number : ℕ) → position (λ d. bytes_eq d.name device) i.devices ≡ Some number → All IsByte bytes → IsFew bytes
+    → AreLine g (unwrap_or (machine_writes (goes tables i number) addr bytes) []) (line_writes g.policy device addr bytes)
+
+-- ---- what reaches the machine in a tick, input by input
+
+abbrev pub groups_at : Option DmaFile → Image → Record Input → ℕ → List (List Effect)
+groups_at tables i r tick = map (λ x. lowered_input tables i x.input) (filter (λ x. x.tick == tick) r.inputs)
+
+abbrev kept_at : ℕ → List (TickInput Effect) → List Effect
+kept_at tick es = map (λ e. e.input) (filter (λ e. e.tick == tick) es)
+
+kept_all : (tick k : ℕ) (xs : List Effect) (es : List (TickInput Effect)) → (k == tick) ≡ true → kept_at tick (map (in_tick k) xs ++ es) ≡ xs ++ kept_at tick es
+kept_all tick k [] es e = refl
+kept_all tick k (x ∷ xs) es e = rw e (ap (λ ys. x ∷ ys) (kept_all tick k xs es e))
+
+kept_none : (tick k : ℕ) (xs : List Effect) (es : List (TickInput Effect)) → (k == tick) ≡ false → kept_at tick (map (in_tick k) xs ++ es) ≡ kept_at tick es
+kept_none tick k [] es e = refl
+kept_none tick k (x ∷ xs) es e = rw e (kept_none tick k xs es e)
+
+joined_by : (tables : Option DmaFile) (i : Image) (tick : ℕ) (rs : List (TickInput Input)) → joined (map (λ x. lowered_input tables i x.input) (filter (λ x. x.tick == tick) rs)) ≡ kept_at tick (flat_map (lowered_at tables i) rs)
+joined_by tables i tick [] = refl
+joined_by tables i tick (r ∷ rs) =
+    elim (cases_Bool (r.tick == tick)) [
+      | inl t ↦ rw t (ap (λ es. lowered_input tables i r.input ++ es) (joined_by tables i tick rs)) ∙ sym (kept_all tick r.tick (lowered_input tables i r.input) (flat_map (lowered_at tables i) rs) t)
+      | inr n ↦ rw n (joined_by tables i tick rs) ∙ sym (kept_none tick r.tick (lowered_input tables i r.input) (flat_map (lowered_at tables i) rs) n)
+    ]
+
+pub groups_joined : (tables : Option DmaFile) (i : Image) (r : Record Input) (tick : ℕ) → joined (groups_at tables i r tick) ≡ tick_inputs (lowered tables i r) tick
+unfolding lowered
+groups_joined tables i r tick = joined_by tables i tick r.inputs
+
 -- ---- one input
 
-module _ (g : Ground) where
+module _ (g : Ground) (i : Image) (tables : Option DmaFile) where
+  -- what of an input reaches the machine, if what it names is there
+  abbrev effects : Option Input → List Effect
+  effects o = lowered_input tables i (unwrap_or o Idle)
+
   port_alike : (device : List ℕ) (port value : ℕ) (o : Option DevicePart) → value < 256 → is_some (option_and_then (port_input_of port value) o) ≡ true
-      → SameInput g (unwrap_or (option_and_then (port_input_of port value) o) Idle) (port_input device port value)
+      → AreInput g (effects (option_and_then (port_input_of port value) o)) (port_input device port value)
   port_alike device port value None small h = cc
   port_alike device port value (Some d) small h =
-      elim (list_any (is_in_range port) d.ports) as (λ b. is_some (if b then Some (Port port value) else None) ≡ true → SameInput g (unwrap_or (if b then Some (Port port value) else None) Idle) (port_input device port value)) [
-        | true ↦ λ t. record { number = refl; byte = refl; small = small }
+      elim (list_any (is_in_range port) d.ports) as (λ b. is_some (if b then Some (Port port value) else None) ≡ true → AreInput g (effects (if b then Some (Port port value) else None)) (port_input device port value)) [
+        | true ↦ λ t. record { are = refl; small = small }
         | false ↦ λ t. cc
       ] h
 
   bytes_alike : (device memory : List ℕ) (offset : ℕ) (bytes : List ℕ) (o : Option NamedMemory) → ((m : NamedMemory) → o ≡ Some m → IsThing g device memory m) → All IsByte bytes
-      → is_some (option_and_then (bytes_into offset bytes) o) ≡ true → SameInput g (unwrap_or (option_and_then (bytes_into offset bytes) o) Idle) (memory_input device memory offset bytes)
+      → is_some (option_and_then (bytes_into offset bytes) o) ≡ true → AreInput g (effects (option_and_then (bytes_into offset bytes) o)) (memory_input device memory offset bytes)
   bytes_alike device memory offset bytes None there small h = cc
   bytes_alike device memory offset bytes (Some m) there small h =
       let is = there m refl in
       let address = is.address in
       let size = is.bytes in
       elim (nat_le (offset + length bytes) m.bytes) as (λ b. nat_le (offset + length bytes) m.bytes ≡ b → is_some (if b then Some (Mem (m.address + offset) bytes) else None) ≡ true
-      → SameInput g (unwrap_or (if b then Some (Mem (m.address + offset) bytes) else None) Idle) (memory_input device memory offset bytes)) [
+      → AreInput g (effects (if b then Some (Mem (m.address + offset) bytes) else None)) (memory_input device memory offset bytes)) [
         | true ↦ λ fits t.
             let within = leb-true (offset + length bytes) m.bytes fits in
-            record { same = refl; address = omega (arith, address); room = omega (arith, size, within); small = small }
+            record {
+              effect = ToMem (m.address + offset) bytes;
+              are = refl;
+              write = record { at = m.address + offset; is = refl; address = omega (arith, address); room = omega (arith, size, within); small = small };
+            }
         | false ↦ λ fits t. cc
       ] refl h
 
-  memory_alike : (spans : List SpanPart) (device memory : List ℕ) (offset : ℕ) (bytes : List ℕ) (o : Option DevicePart)
-      → ((d : DevicePart) (m : NamedMemory) → o ≡ Some d → find (λ m. bytes_eq m.name memory) (memories_of spans d) ≡ Some m → IsThing g device memory m) → All IsByte bytes
-      → is_some (option_and_then (memory_input_of spans memory offset bytes) o) ≡ true
-      → SameInput g (unwrap_or (option_and_then (memory_input_of spans memory offset bytes) o) Idle) (memory_input device memory offset bytes)
-  memory_alike spans device memory offset bytes None there small h = cc
-  memory_alike spans device memory offset bytes (Some d) there small h =
-      bytes_alike device memory offset bytes (find (λ m. bytes_eq m.name memory) (memories_of spans d)) (λ m e. there d m refl e) small h
+  memory_alike : (device memory : List ℕ) (offset : ℕ) (bytes : List ℕ) (o : Option DevicePart)
+      → ((d : DevicePart) (m : NamedMemory) → o ≡ Some d → find (λ m. bytes_eq m.name memory) (memories_of i.spans d) ≡ Some m → IsThing g device memory m) → All IsByte bytes
+      → is_some (option_and_then (memory_input_of i.spans memory offset bytes) o) ≡ true
+      → AreInput g (effects (option_and_then (memory_input_of i.spans memory offset bytes) o)) (memory_input device memory offset bytes)
+  memory_alike device memory offset bytes None there small h = cc
+  memory_alike device memory offset bytes (Some d) there small h =
+      bytes_alike device memory offset bytes (find (λ m. bytes_eq m.name memory) (memories_of i.spans d)) (λ m e. there d m refl e) small h
 
-  raised_alike : (device irq : List ℕ) (target : Option IrqTarget) → IsRaised g device irq target → SameInput g (raised target) (irq_input device irq)
-  raised_alike device irq None h = h
-  raised_alike device irq (Some t) h = h
+  raised_alike : (device irq : List ℕ) (target : Option IrqTarget) → IsRaised g device irq target → AreInput g (effects (Some (raised target))) (irq_input device irq)
+  raised_alike device irq None h = nobody refl h
+  raised_alike device irq (Some t) h = somebody t.subject t.vector refl h
 
   target_alike : (device irq : List ℕ) (o : Option IrqPart) → ((q : IrqPart) → o ≡ Some q → IsRaised g device irq q.target) → is_some (option_map (λ q. raised q.target) o) ≡ true
-      → SameInput g (unwrap_or (option_map (λ q. raised q.target) o) Idle) (irq_input device irq)
+      → AreInput g (effects (option_map (λ q. raised q.target) o)) (irq_input device irq)
   target_alike device irq None there h = cc
   target_alike device irq (Some q) there h = raised_alike device irq q.target (there q refl)
 
   irq_alike : (device irq : List ℕ) (o : Option DevicePart) → ((d : DevicePart) (q : IrqPart) → o ≡ Some d → find (λ q. bytes_eq q.name irq) d.irqs ≡ Some q → IsRaised g device irq q.target)
-      → is_some (option_and_then (irq_input_of irq) o) ≡ true → SameInput g (unwrap_or (option_and_then (irq_input_of irq) o) Idle) (irq_input device irq)
+      → is_some (option_and_then (irq_input_of irq) o) ≡ true → AreInput g (effects (option_and_then (irq_input_of irq) o)) (irq_input device irq)
   irq_alike device irq None there h = cc
   irq_alike device irq (Some d) there h = target_alike device irq (find (λ q. bytes_eq q.name irq) d.irqs) (λ q e. there d q refl e) h
 
-  dma_alike : (device : List ℕ) (addr : ℕ) (bytes : List ℕ) (o : Option ℕ) → is_some (option_map (λ number. Dma number addr bytes) o) ≡ true
-      → SameInput g (unwrap_or (option_map (λ number. Dma number addr bytes) o) Idle) (dma_input device addr bytes)
-  dma_alike device addr bytes None h = cc
-  dma_alike device addr bytes (Some number) h = tt
+  dma_alike : (device : List ℕ) (addr : ℕ) (bytes : List ℕ) (o : Option ℕ) → ((number : ℕ) → o ≡ Some number → AreLine g (unwrap_or (machine_writes (goes tables i number) addr bytes) []) (line_writes g.policy device addr bytes))
+      → is_some (option_map (λ number. Dma number addr bytes) o) ≡ true → AreInput g (effects (option_map (λ number. Dma number addr bytes) o)) (dma_input device addr bytes)
+  dma_alike device addr bytes None there h = cc
+  dma_alike device addr bytes (Some number) there h = there number refl
 
-  module _ (i : Image) (memories : HasMemories g i) (targets : HasTargets g i) where
-    input_alike : (input : NamedInput) → is_some (input_of i input) ≡ true → IsSmall input → SameInput g (unwrap_or (input_of i input) Idle) input
+  module _ (memories : HasMemories g i) (targets : HasTargets g i) (lines : HasLines g i tables) where
+    input_alike : (input : NamedInput) → is_some (input_of i input) ≡ true → IsSmall input → AreInput g (effects (input_of i input)) input
     input_alike (port_input device port value) h small = port_alike device port value (device_called device i) small h
-    input_alike (memory_input device memory offset bytes) h small = memory_alike i.spans device memory offset bytes (device_called device i) (memories device memory) small h
+    input_alike (memory_input device memory offset bytes) h small = memory_alike device memory offset bytes (device_called device i) (memories device memory) small h
     input_alike (irq_input device irq) h small = irq_alike device irq (device_called device i) (targets device irq) h
-    input_alike (dma_input device addr bytes) h small = dma_alike device addr bytes (position (λ d. bytes_eq d.name device) i.devices) h
+    input_alike (dma_input device addr bytes) h small =
+        dma_alike device addr bytes (position (λ d. bytes_eq d.name device) i.devices) (λ number at. lines device addr bytes number at small.0 small.1) h
 
     -- ---- the inputs of a tick
 
     inputs_by : (tick : ℕ) (es : List (ℕ × NamedInput)) → All (λ e. is_known (image_bench i) e.1 ≡ true) es → All (λ e. IsSmall e.1) es
-        → AllZip (SameInput g) (map (λ x. x.input) (filter (λ x. x.tick == tick) (map (tick_input_of i) es))) (map (λ e. e.1) (filter (λ e. e.0 == tick) es))
+        → AllZip (AreInput g) (map (λ x. lowered_input tables i x.input) (filter (λ x. x.tick == tick) (map (tick_input_of i) es))) (map (λ e. e.1) (filter (λ e. e.0 == tick) es))
     inputs_by tick [] known small = tt
     inputs_by tick (e ∷ es) known small =
         let K : ℕ × NamedInput → Type 0 = λ e. is_known (image_bench i) e.1 ≡ true in
         let S : ℕ × NamedInput → Type 0 = λ e. IsSmall e.1 in
         let first = input_alike e.1 (sym (known_is i e.1) ∙ All-head K e es known) (All-head S e es small) in
         let more = inputs_by tick es (All-tail K e es known) (All-tail S e es small) in
-        elim (e.0 == tick) as (λ b. AllZip (SameInput g) (map (λ x. x.input) (cond b (tick_input_of i e ∷ filter (λ x. x.tick == tick) (map (tick_input_of i) es)) (filter (λ x. x.tick == tick) (map (tick_input_of i) es))))
+        elim (e.0 == tick) as (λ b. AllZip (AreInput g) (map (λ x. lowered_input tables i x.input) (cond b (tick_input_of i e ∷ filter (λ x. x.tick == tick) (map (tick_input_of i) es)) (filter (λ x. x.tick == tick) (map (tick_input_of i) es))))
         (map (λ e. e.1) (cond b (e ∷ filter (λ e. e.0 == tick) es) (filter (λ e. e.0 == tick) es)))) [
           | true ↦ (first, more)
           | false ↦ more
         ]
 
     -- a record that is read for the image's bench
-    pub inputs_alike_here : (r : DeviceRecord) (tick : ℕ) → IsReadFor (image_bench i) r → AllZip (SameInput g) (tick_inputs (image_record i r) tick) (inputs_at r tick)
+    pub inputs_alike_here : (r : DeviceRecord) (tick : ℕ) → IsReadFor (image_bench i) r → AllZip (AreInput g) (groups_at tables i (image_record i r) tick) (inputs_at r tick)
     inputs_alike_here r tick read = inputs_by tick r.inputs read.known read.small
 
 -- ---- whom interrupts reach, where devices and subjects are the policy's
@@ -368,18 +426,57 @@ has_targets g i keeps devices names are device irq d q found found_irq =
     (λ t e. let within = reached_within i.header.subjects q.target t of_irq.reached e in are t.subject (omega (arith, within, count)))
     (reached_by_name g.policy i names q.target (irq_of g.policy x.other.name y.other.name) y.related.0 ∙ ap₂ (irq_of g.policy) device_name irq_name)
 
+-- ---- what tables let devices write
+
+-- of a device of the policy
+abbrev FitsDevice : Source → Image → Option DmaFile → SourceDevice → Type 0
+FitsDevice p i tables d = (addr : ℕ) → write_by tables d.name addr ≡ place_of (address_of p i) (dma_access p d.name addr Write)
+
+with_each_of : {A B : Type 0} (R : A → B → Type 0) (Q : A → Type 0) (xs : List A) (ys : List B) → AllZip R xs ys → All Q xs → AllZip (λ x y. R x y × Q x) xs ys
+with_each_of R Q [] [] zipped all = tt
+with_each_of R Q [] (y ∷ ys) zipped all = absurd zipped
+with_each_of R Q (x ∷ xs) [] zipped all = absurd zipped
+with_each_of R Q (x ∷ xs) (y ∷ ys) zipped all = ((zipped.0, All-head Q x xs all), with_each_of R Q xs ys zipped.1 (All-tail Q x xs all))
+
+is_a_line : (bytes : List ℕ) → IsFew bytes → is_line bytes ≡ true
+is_a_line bytes few =
+    let some : 1 ≤ length bytes = few.some in
+    let most : length bytes ≤ 64 = few.few in
+    and_from (nat_le 1 (length bytes)) (nat_le (length bytes) 64) (le-leb 1 (length bytes) some) (le-leb (length bytes) 64 most)
+
+module _ (p : Source) (files : Held) (i : Image) (keeps : KeepsConditions i) (sound : IsSound p files i) (tables : Option DmaFile) (fit : Fit p i tables) where
+  line_of : (device : List ℕ) (addr : ℕ) (bytes : List ℕ) (number : ℕ) (d : DevicePart) → slice_get i.devices number ≡ Some d → device_called device i ≡ Some d → All IsByte bytes → IsFew bytes
+      → AreLine (ground_of p i) (unwrap_or (machine_writes (goes tables i number) addr bytes) []) (line_writes p device addr bytes)
+  line_of device addr bytes number d here found small few =
+      let R : SourceDevice → DevicePart → Type 0 = λ a b. IsDeviceOf p i a b × FitsDevice p i tables a in
+      let x = beside R (λ d. bytes_eq d.name device) p.devices i.devices d (with_each_of (IsDeviceOf p i) (FitsDevice p i tables) p.devices i.devices sound.plan_and_events.devices fit) found in
+      let named : d.name ≡ device = same_name d.name device x.passes in
+      let other : x.other.name ≡ device = sym (ap name_of x.related.0.may) ∙ named in
+      line_alike p files i keeps sound tables device number d here named (subst (λ name. (a : ℕ) → write_by tables name a ≡ place_of (address_of p i) (dma_access p name a Write)) other x.related.1) addr bytes (is_a_line bytes few) small
+
+  pub lines_of : HasLines (ground_of p i) i tables
+  unfolding ground_of
+  lines_of device addr bytes number at small few = by (slice_get i.devices number) refl
+    where
+      found : slice_get i.devices number ≡ device_called device i
+      found = numbered_found (λ d. bytes_eq d.name device) i.devices number at
+
+      by : (o : Option DevicePart) → slice_get i.devices number ≡ o → AreLine (ground_of p i) (unwrap_or (machine_writes (goes tables i number) addr bytes) []) (line_writes p device addr bytes)
+      by (Some d) e = line_of device addr bytes number d e (sym found ∙ e) small few
+      by None e = absurd (false≢true (sym (ap is_some (sym found ∙ e)) ∙ (sym (found_number (λ d. bytes_eq d.name device) i.devices) ∙ ap is_some at)))
+
 -- ---- the whole
 
 -- a record that is read for a policy's devices gives a sound image's machine, in each tick, the inputs that it gives the system
-pub inputs_alike_of : (g : Ground) (i : Image) → KeepsConditions i → bench_of i ≡ devices_of g.policy → HasMemories g i → HasTargets g i
-    → (r : DeviceRecord) (tick : ℕ) → IsReadFor (devices_of g.policy) r → AllZip (SameInput g) (tick_inputs (image_record i r) tick) (inputs_at r tick)
-inputs_alike_of g i keeps bench memories targets r tick read =
-    inputs_alike_here g i memories targets r tick (subst (λ b. IsReadFor b r) (sym (same_bench i keeps ∙ bench)) read)
+pub inputs_alike_of : (g : Ground) (i : Image) (tables : Option DmaFile) → KeepsConditions i → bench_of i ≡ devices_of g.policy → HasMemories g i → HasTargets g i → HasLines g i tables
+    → (r : DeviceRecord) (tick : ℕ) → IsReadFor (devices_of g.policy) r → AllZip (AreInput g) (groups_at tables i (image_record i r) tick) (inputs_at r tick)
+inputs_alike_of g i tables keeps bench memories targets lines r tick read =
+    inputs_alike_here g i tables memories targets lines r tick (subst (λ b. IsReadFor b r) (sym (same_bench i keeps ∙ bench)) read)
 
-pub inputs_alike : (p : Source) (i : Image) → KeepsConditions i → bench_of i ≡ devices_of p → HasMemories (ground_of p i) i → HasTargets (ground_of p i) i
-    → (r : DeviceRecord) (tick : ℕ) → IsReadFor (devices_of p) r → AllZip (SameInput (ground_of p i)) (tick_inputs (image_record i r) tick) (inputs_at r tick)
+pub inputs_alike : (p : Source) (i : Image) (tables : Option DmaFile) → KeepsConditions i → bench_of i ≡ devices_of p → HasMemories (ground_of p i) i → HasTargets (ground_of p i) i → HasLines (ground_of p i) i tables
+    → (r : DeviceRecord) (tick : ℕ) → IsReadFor (devices_of p) r → AllZip (AreInput (ground_of p i)) (groups_at tables i (image_record i r) tick) (inputs_at r tick)
 unfolding ground_of
-inputs_alike p i keeps bench memories targets r tick read = inputs_alike_of (ground_of p i) i keeps bench memories targets r tick read
+inputs_alike p i tables keeps bench memories targets lines r tick read = inputs_alike_of (ground_of p i) i tables keeps bench memories targets lines r tick read
 
 pub targets_of : (p : Source) (i : Image) → KeepsConditions i → AllZip (IsDeviceOf p i) p.devices i.devices
     → HaveNames (ground_of p i) i → ((s : ℕ) → s < length i.subjects → IsSubject (ground_of p i) s) → HasTargets (ground_of p i) i
@@ -391,11 +488,8 @@ ordered_by cpus n None e = ap numbers_below e
 ordered_by cpus n (Some o) e = refl
 
 -- the CPUs take their turns in one order
-pub orders_alike : (p : Source) (i : Image) (cpus : ℕ) (r : DeviceRecord) (tick : ℕ) → cpus ≡ p.processor.logical_cpus → tick_order (image_record i r) cpus tick ≡ order_at p r tick
-orders_alike p i cpus r tick e =
+pub orders_alike : (p : Source) (i : Image) (tables : Option DmaFile) (cpus : ℕ) (r : DeviceRecord) (tick : ℕ) → cpus ≡ p.processor.logical_cpus → tick_order (lowered tables i (image_record i r)) cpus tick ≡ order_at p r tick
+unfolding lowered
+orders_alike p i tables cpus r tick e =
     ap (λ o. unwrap_or (option_map (λ x. x.cpus) o) (numbers_below cpus)) (find-map (λ x. x.tick == tick) order_of r.orders)
     ∙ ordered_by cpus p.processor.logical_cpus (find (λ o. o.0 == tick) r.orders) e
-
--- both end with one tick
-pub ends_alike : (i : Image) (r : DeviceRecord) → (image_record i r).end ≡ r.end
-ends_alike i r = refl

@@ -16,7 +16,10 @@ use Rattle.kernel_core.specs.Kernel.{Live}
 use Rattle.kernel_core.specs.Ticks.{ended, kernel_run_to, live_started, tick_inputs, tick_order}
 use Rattle.subject_model.specs.Memory.{Page}
 use Rattle.muen_num.specs.declared.limits.TheConstants.{PAGE}
-use Rattle.muen_run.specs.RunText.{bytes_from, final_text, image_text}
+use Rattle.device_bench.specs.declared.effect.Effect.{Effect}
+use Rattle.dma_tables.specs.Lowered.{lowered}
+use Rattle.dma_tables.specs.declared.file.DmaFile.{DmaFile}
+use Rattle.muen_run.specs.RunText.{bytes_from, final_text, image_text, run_text}
 use Rattle.policy_meaning.specs.Contents.{Held, initial_bytes}
 use Rattle.policy_meaning.specs.Thing.{Thing, same_thing, state, things_of}
 use Rattle.policy_types.specs.declared.source.Source.{Source}
@@ -53,7 +56,8 @@ use Rattle.proof_start.proofs.Slots.{same_cpus}
 use Rattle.proof_runs.proofs.DeviceMemories.{memories_of_image}
 use Rattle.proof_runs.proofs.FinalTexts.{HasBytes, HasStates, final_text_is}
 use Rattle.proof_runs.proofs.RecordFacts.{IsReadFor, record_is_read}
-use Rattle.proof_runs.proofs.SameInputs.{HasMemories, inputs_alike, orders_alike, targets_of}
+use Rattle.proof_runs.proofs.SameInputs.{HasMemories, groups_at, groups_joined, inputs_alike, lines_of, orders_alike, targets_of}
+use Rattle.proof_runs.specs.Fit.{Fit}
 
 some_below : {X : Type 0} (xs : List X) (n : ℕ) → n < length xs → slice_get xs n ≡ None → ⊥
 some_below [] n h e = omega (arith, h)
@@ -70,12 +74,12 @@ same_length None b xs e h = absurd (cc (e))
 no_state : (x : Thing) → is_kernel (kind_of x) ≡ false → IsNoState x
 no_state x h name e = absurd (true≢false (sym (ap (λ z. is_kernel (kind_of z)) e) ∙ h))
 
-module _ (p : Source) (files : Held) (i : Image) (keeps : KeepsConditions i) (sound : IsSound p files i) (small : HoldsBytes i) (r : DeviceRecord) (read : IsReadFor (devices_of p) r) where
+module _ (p : Source) (files : Held) (i : Image) (keeps : KeepsConditions i) (sound : IsSound p files i) (small : HoldsBytes i) (tables : Option DmaFile) (fit : Fit p i tables) (r : DeviceRecord) (read : IsReadFor (devices_of p) r) where
   abbrev g : Ground
   g = ground_of p i
 
-  abbrev record_at : Record
-  record_at = image_record i r
+  abbrev record_at : Record Effect
+  record_at = lowered tables i (image_record i r)
 
   fixed : IsFixed g
   fixed = fixed_of p files i keeps sound
@@ -106,10 +110,11 @@ module _ (p : Source) (files : Held) (i : Image) (keeps : KeepsConditions i) (so
   runs : AreAlikeRuns (StandsFor g) machine_ran system_ran
   unfolding ground_of
   runs =
-      runs_stand g fixed (turn_stands g fixed) (tick_inputs record_at) (inputs_at r) (tick_order record_at i.header.cpus) (order_at p r)
+      runs_stand g fixed (turn_stands g fixed) (groups_at tables i (image_record i r)) (tick_inputs record_at) (inputs_at r) (tick_order record_at i.header.cpus) (order_at p r)
+      (groups_joined tables i (image_record i r))
       (record {
-        taken = λ tick _. inputs_alike p i keeps (bench_is p files i sound) memories (targets_of p i keeps sound.plan_and_events.devices (names_of p files i sound) numbered) r tick read;
-        orders = λ tick _. orders_alike p i i.header.cpus r tick cpus_same;
+        taken = λ tick _. inputs_alike p i tables keeps (bench_is p files i sound) memories (targets_of p i keeps sound.plan_and_events.devices (names_of p files i sound) numbered) (lines_of p files i keeps sound tables fit) r tick read;
+        orders = λ tick _. orders_alike p i tables i.header.cpus r tick cpus_same;
       })
       r.end (omega (arith, read.ticks)) (live_started (setup_of i) i.header.cpus (memory_of i)) (start_of p files) start
 
@@ -153,10 +158,10 @@ module _ (p : Source) (files : Held) (i : Image) (keeps : KeepsConditions i) (so
   same_final : final_text (setup_of i) i.spans pages_then ≡ system_text p system_ran.state
   same_final = final_text_is p files i (setup_of i) pages_then system_ran.state keeps sound.contents sound.plan_and_events.many its_states its_bytes
 
-  pub same_text : image_text i (image_record i r) ≡ trace_of p files r
-  unfolding image_text trace_of run_of
+  pub same_text : run_text tables i (image_record i r) ≡ trace_of p files r
+  unfolding image_text trace_of run_of lowered
   same_text = ap (λ ls. flat_map turn_text ls ++ final_text (setup_of i) i.spans pages_then) (sym runs.lines) ∙ ap (λ t. flat_map turn_text system_ran.lines ++ t) same_final
 
 -- .. for every record that is read for the policy's devices
-pub traces_are : (p : Source) (files : Held) (i : Image) (text : List ℕ) (r : DeviceRecord) → KeepsConditions i → IsSound p files i → HoldsBytes i → record_of text (devices_of p) ≡ Ok r → image_text i (image_record i r) ≡ trace_of p files r
-traces_are p files i text r keeps sound small e = same_text p files i keeps sound small r (record_is_read (devices_of p) text r e)
+pub traces_are : (p : Source) (files : Held) (i : Image) (tables : Option DmaFile) (text : List ℕ) (r : DeviceRecord) → KeepsConditions i → IsSound p files i → HoldsBytes i → Fit p i tables → record_of text (devices_of p) ≡ Ok r → run_text tables i (image_record i r) ≡ trace_of p files r
+traces_are p files i tables text r keeps sound small fit e = same_text p files i keeps sound small tables fit r (record_is_read (devices_of p) text r e)

@@ -65,6 +65,7 @@ pub record ThingSpan (p : Source) (files : Held) (i : Image) (x : Thing) : Type 
   pub not_kernel : is_kernel span.0.kind ≡ false
   pub pages : (ground_of p i).pages x ≡ span.0.pages
   pub first : (ground_of p i).first x ≡ span.0.address / 4096
+  pub address : address_of p i x ≡ span.0.address
 
 -- a thing with its span
 abbrev pub Listed : Type 0
@@ -114,6 +115,7 @@ span_of_listed p files i keeps sound x e h =
       not_kernel = not_true (is_kernel e.1.0.kind) kept.2;
       pages = pages_by p i x ∙ ap (λ o. option_map_or (λ (e : Thing × ℕ). e.1) (option_map (λ (e : Listed). (e.0, e.1.0.pages)) o) 0) h;
       first = ap (λ n. n / 4096) (address_by p i x e h);
+      address = address_by p i x e h;
     }
 
 -- what has pages is a thing of the policy

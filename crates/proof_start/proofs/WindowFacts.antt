@@ -90,7 +90,7 @@ IsOn p s n w = IsOnThing p w ⊎ IsOnState p s n w
 
 module _ (p : Source) where
   -- what is found by a name is found by its own
-  region_again : (name : List ℕ) (r : Region) → find (λ r. bytes_eq r.name name) p.memory ≡ Some r → find (λ x. bytes_eq x.name r.name) p.memory ≡ Some r
+  pub region_again : (name : List ℕ) (r : Region) → find (λ r. bytes_eq r.name name) p.memory ≡ Some r → find (λ x. bytes_eq x.name r.name) p.memory ≡ Some r
   region_again name r is =
       ap (λ n. find (λ (x : Region). bytes_eq x.name n) p.memory) ((bytes_eq-Decides r.name name).0 (found_passes (λ (x : Region). bytes_eq x.name name) p.memory r is)) ∙ is
 

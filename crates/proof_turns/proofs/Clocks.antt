@@ -1,27 +1,29 @@
 -- How a tick begins, and what inputs do: both keep what the machine stands for.
 use Rattle.std.proofs.Common.{◌≡◌, ℕ, zero, suc, ◌+◌, ◌*◌, ◌/◌, ◌%◌, ◌<◌, ◌≤◌, Bool, Option, Some, None, List, [], ◌∷◌, length, refl, sym, ap, ◌∙◌, subst, inl, inr, arith, length-set}
-use Rattle.std.specs.Prelude.{option_map, option_and_then, slice_get, slice_set, unwrap_or}
-use Rattle.std.specs.List.{All}
+use Rattle.std.specs.Prelude.{◌++◌, ◌&&◌, is_some, option_map, option_and_then, slice_get, slice_set, true, unwrap_or}
+use Rattle.std.specs.List.{All, AllZip, flat_map, list_all}
 use Rattle.std.proofs.lemmas.Bool.{cases_Bool}
+use Rattle.std.proofs.lemmas.List.Folds.{list_all-append}
 use Rattle.std.proofs.lemmas.List.Elements.{All-nil, All-cons, All-head, All-tail, All-set}
 use Rattle.frame_clock.specs.Frames.{frame_at_tick}
 use Rattle.machine_layout.specs.Memory.{Page, page_of, change, over, store_of}
 use Rattle.policy_meaning.specs.Thing.{Thing, region, device_memory, same_thing}
 use Rattle.policy_types.specs.declared.source.Tau0.{Tau0}
 use Rattle.record_text.specs.DeviceRecord.{NamedInput, port_input, memory_input, irq_input, dma_input}
-use Rattle.record_text.specs.declared.record.Input.{Input}
-use Rattle.record_text.specs.declared.record.Input.TheVariants.{Port, Mem, Irq, Idle, Dma}
+use Rattle.device_bench.specs.declared.effect.Effect.{Effect}
+use Rattle.device_bench.specs.declared.effect.Effect.TheVariants.{Irq}
+use Rattle.frame_clock.specs.Run.{all_taken}
 use Rattle.vmx_machine.specs.Machine.{written}
 use Rattle.kernel_core.specs.Kernel.{Live}
-use Rattle.kernel_core.specs.Ticks.{pick_of, begins as kernel_begins, takes as kernel_takes}
+use Rattle.kernel_core.specs.Ticks.{kernel, pick_of, begins as kernel_begins, takes as kernel_takes}
 use Rattle.subject_model.specs.Alone.{Things, thing_in}
 use Rattle.subject_model.specs.ByKey.{change_of}
-use Rattle.subject_model.specs.Clock.{begins, pick_in, takes}
+use Rattle.subject_model.specs.Clock.{ByteWrite, begins, line_writes, pick_in, takes, with_byte, with_each, with_line}
 use Rattle.subject_model.specs.System.{System, change_thing, with_bytes}
 use Rattle.proof_turns.specs.Ground.{Ground, part}
 use Rattle.proof_turns.specs.Fixed.{IsFixed}
 use Rattle.guest_isa.specs.Words.{IsByte}
-use Rattle.proof_turns.specs.Inputs.{SameInput, SameIrq, SamePort, SameWrite}
+use Rattle.proof_turns.specs.Inputs.{AreInput, AreIrq, AreLine, IsWrite, Part, SameIrq, dropped, each_of, nobody, somebody, written as written_parts}
 use Rattle.proof_turns.specs.Stands.{StandsFor}
 use Rattle.proof_turns.proofs.Changes.{bytes_stand, with_page_of}
 use Rattle.proof_turns.proofs.Events.{name_is, pended_now}
@@ -102,16 +104,16 @@ module _ (g : Ground) (fixed : IsFixed g) where
 
   -- ---- inputs
 
-  port_stands : (k : Live) (y : System) (port value p v : ℕ) → SamePort port value p v → StandsFor g k y → StandsFor g (record k { ports = slice_set k.ports port value }) (record y { ports = slice_set y.ports p v })
-  port_stands k y port value p v same stands = record {
+  port_stands : (k : Live) (y : System) (port value : ℕ) → IsByte value → StandsFor g k y → StandsFor g (record k { ports = slice_set k.ports port value }) (record y { ports = slice_set y.ports port value })
+  port_stands k y port value small stands = record {
     shows = stands.shows;
     pages = stands.pages;
     owns = stands.owns;
     router = stands.router;
     cpus = stands.cpus;
-    ports = (λ i. slice_set (stands.ports i) (same.number i) (same.byte i));
+    ports = (λ i. slice_set (stands.ports i) port value);
     many_ports = length-set k.ports port value ∙ stands.many_ports;
-    small_ports = All-set IsByte k.ports port value same.small stands.small_ports;
+    small_ports = All-set IsByte k.ports port value small stands.small_ports;
     frame = stands.frame;
   }
 
@@ -131,35 +133,54 @@ module _ (g : Ground) (fixed : IsFixed g) where
       subst (λ pages. StandsFor g (with_all_pages (written pages (at + 1) bs) k) (with_bytes x offset (b ∷ bs) y)) (stored_byte k.machine.pages page (offset % 4096) at b (omega (arith, e)) (omega (arith, e)) (omega (arith, byte)))
       (subst (λ things. StandsFor g (with_all_pages (written (change k.machine.pages page f) (at + 1) bs) k) (record y { things = things })) (thing_next x offset b bs y.things) rest)
 
-  write_stands : (k : Live) (y : System) (at : ℕ) (bytes : List ℕ) (x : Thing) (offset : ℕ) (new : List ℕ) → SameWrite g at bytes x offset new → StandsFor g k y → StandsFor g (with_all_pages (written k.machine.pages at bytes) k) (with_bytes x offset new y)
-  write_stands k y at bytes x offset new same stands =
-      subst (λ b. StandsFor g (with_all_pages (written k.machine.pages at bytes) k) (with_bytes x offset b y)) same.same
-      (written_stands bytes x at offset k y same.address same.room same.small stands)
+  write_stands : (k : Live) (y : System) (e : Effect) (x : Part) → IsWrite g e x → StandsFor g k y → StandsFor g (kernel_takes e k) (with_bytes x.thing x.offset x.bytes y)
+  write_stands k y e x write stands = rw write.is (written_stands x.bytes x.thing write.at x.offset k y write.address write.room write.small stands)
 
   irq_stands : (k : Live) (y : System) (s v : ℕ) (device irq : List ℕ) → SameIrq g s v device irq → StandsFor g k y → StandsFor g (kernel_takes (Irq s v) k) (takes g.policy (irq_input device irq) y)
   irq_stands k y s v device irq same stands =
       let is = same.is in
       rw (same.granted, name_is g fixed s is.subject is.part is.control is.joined) (pended_now g fixed k y s is.subject is.part is.control (Some v) is.joined stands)
 
+  irqs_stand : (k : Live) (y : System) (es : List Effect) (device irq : List ℕ) → AreIrq g es device irq → StandsFor g k y → StandsFor g (all_taken (kernel g.setup) es k) (takes g.policy (irq_input device irq) y)
+  irqs_stand k y es device irq (nobody none is) stands = rw (none, is) stands
+  irqs_stand k y es device irq (somebody s v one same) stands = rw one (irq_stands k y s v device irq same stands)
+
+  -- ---- a line of direct memory access
+
+  all_some : (x : Thing) (bytes : List ℕ) (offset : ℕ) → list_all is_some (each_of (record { thing = x; offset = offset; bytes = bytes })) ≡ true
+  all_some x [] offset = refl
+  all_some x (b ∷ bs) offset = all_some x bs (offset + 1)
+
+  parts_some : (parts : List Part) → list_all is_some (flat_map each_of parts) ≡ true
+  parts_some [] = refl
+  parts_some (x ∷ parts) =
+      list_all-append is_some (each_of x) (flat_map each_of parts) ∙ ap (λ b. b && list_all is_some (flat_map each_of parts)) (all_some x.thing x.bytes x.offset) ∙ parts_some parts
+
+  each_both : (ws vs : List (Option ByteWrite)) (y : System) → with_each (ws ++ vs) y ≡ with_each vs (with_each ws y)
+  each_both [] vs y = refl
+  each_both (w ∷ ws) vs y = each_both ws vs (with_byte w y)
+
+  -- a part byte by byte is the part
+  part_written : (x : Thing) (bytes : List ℕ) (offset : ℕ) (y : System) → with_each (each_of (record { thing = x; offset = offset; bytes = bytes })) y ≡ with_bytes x offset bytes y
+  part_written x [] offset y = ap (λ things. record y { things = things }) (sym (thing_kept x offset y.things))
+  part_written x (b ∷ bs) offset y = part_written x bs (offset + 1) (with_bytes x offset (b ∷ []) y) ∙ ap (λ things. record y { things = things }) (thing_next x offset b bs y.things)
+
+  parts_stand : (es : List Effect) (parts : List Part) (k : Live) (y : System) → AllZip (IsWrite g) es parts → StandsFor g k y → StandsFor g (all_taken (kernel g.setup) es k) (with_each (flat_map each_of parts) y)
+  parts_stand [] [] k y all stands = stands
+  parts_stand [] (x ∷ parts) k y all stands = absurd all
+  parts_stand (e ∷ es) [] k y all stands = absurd all
+  parts_stand (e ∷ es) (x ∷ parts) k y all stands =
+      subst (StandsFor g (all_taken (kernel g.setup) es (kernel_takes e k))) (ap (with_each (flat_map each_of parts)) (sym (part_written x.thing x.bytes x.offset y)) ∙ sym (each_both (each_of x) (flat_map each_of parts) y))
+      (parts_stand es parts (kernel_takes e k) (with_bytes x.thing x.offset x.bytes y) all.1 (write_stands k y e x all.0 stands))
+
+  line_stands : (k : Live) (y : System) (es : List Effect) (writes : List (Option ByteWrite)) → AreLine g es writes → StandsFor g k y → StandsFor g (all_taken (kernel g.setup) es k) (with_line writes y)
+  line_stands k y es writes (dropped none not_all) stands = rw (none, not_all) stands
+  line_stands k y es writes (written_parts parts are whole) stands = rw (sym whole) (rw (parts_some parts) (parts_stand es parts k y are stands))
+
   -- an input comes
-  pub takes_stand : (i : Input) (e : NamedInput) (k : Live) (y : System) → SameInput g i e → StandsFor g k y → StandsFor g (kernel_takes i k) (takes g.policy e y)
-  takes_stand (Port port value) (port_input device p v) k y same stands = port_stands k y port value p v same stands
-  takes_stand (Mem at bytes) (memory_input device memory offset new) k y same stands = write_stands k y at bytes (device_memory device memory) offset new same stands
-  takes_stand (Irq s v) (irq_input device irq) k y same stands = irq_stands k y s v device irq same stands
-  takes_stand Idle (irq_input device irq) k y same stands = rw same stands
-  takes_stand (Dma number addr bytes) (dma_input device at new) k y same stands = stands
-  takes_stand (Port port value) (memory_input device memory offset new) k y same stands = absurd same
-  takes_stand (Port port value) (irq_input device irq) k y same stands = absurd same
-  takes_stand (Port port value) (dma_input device at new) k y same stands = absurd same
-  takes_stand (Mem at bytes) (port_input device p v) k y same stands = absurd same
-  takes_stand (Mem at bytes) (irq_input device irq) k y same stands = absurd same
-  takes_stand (Mem at bytes) (dma_input device addr new) k y same stands = absurd same
-  takes_stand (Irq s v) (port_input device p w) k y same stands = absurd same
-  takes_stand (Irq s v) (memory_input device memory offset new) k y same stands = absurd same
-  takes_stand (Irq s v) (dma_input device at new) k y same stands = absurd same
-  takes_stand Idle (port_input device p v) k y same stands = absurd same
-  takes_stand Idle (memory_input device memory offset new) k y same stands = absurd same
-  takes_stand Idle (dma_input device at new) k y same stands = absurd same
-  takes_stand (Dma number addr bytes) (port_input device p v) k y same stands = absurd same
-  takes_stand (Dma number addr bytes) (memory_input device memory offset new) k y same stands = absurd same
-  takes_stand (Dma number addr bytes) (irq_input device irq) k y same stands = absurd same
+  pub takes_stand : (es : List Effect) (i : NamedInput) (k : Live) (y : System) → AreInput g es i → StandsFor g k y → StandsFor g (all_taken (kernel g.setup) es k) (takes g.policy i y)
+  takes_stand es (port_input device port value) k y same stands = rw same.are (port_stands k y port value same.small stands)
+  takes_stand es (memory_input device memory offset bytes) k y same stands =
+      rw same.are (write_stands k y same.effect (record { thing = device_memory device memory; offset = offset; bytes = bytes }) same.write stands)
+  takes_stand es (irq_input device irq) k y same stands = irqs_stand k y es device irq same stands
+  takes_stand es (dma_input device address bytes) k y same stands = line_stands k y es (line_writes g.policy device address bytes) same stands

@@ -1,7 +1,7 @@
 -- The end of a run: all CPUs are left, and memory shows the states and the things; and a run keeps how long each thing is.
 use Rattle.std.proofs.Common.{◌≡◌, ℕ, zero, suc, ◌+◌, ◌*◌, ◌<◌, ◌≤◌, Bool, true, List, [], ◌∷◌, ◌++◌, length, take, drop, replicate, Option, Some, None, refl, sym, ap, ◌∙◌, subst, inl, inr, arith}
-use Rattle.std.specs.Prelude.{option_map, slice_get, is_some, unwrap_or, nat_lt}
-use Rattle.std.specs.List.{flat_map}
+use Rattle.std.specs.Prelude.{if◌then◌else◌, false, option_map, slice_get, is_some, unwrap_or, nat_lt}
+use Rattle.std.specs.List.{flat_map, list_all}
 use Rattle.std.proofs.lemmas.Bool.{cases_lt, lt-ltb, le-ltb, true≢false, false≢true}
 use Rattle.std.proofs.lemmas.Grind.{flat_map-append}
 use Rattle.std.proofs.lemmas.List.{append-nil, take_all}
@@ -35,7 +35,7 @@ use Rattle.kernel_core.specs.Kernel.{Live}
 use Rattle.kernel_core.specs.Ticks.{all_left, ended}
 use Rattle.subject_model.specs.Alone.{MsrValues, Things, TurnAnswer, own_of, solo_turn, thing_in}
 use Rattle.subject_model.specs.System.{System, answered, change_thing, happens, inbox_of, named, pends_now, raised_by, state_of, subject_named, system_turn, turn_from, turn_in_slot, turn_of_member, turn_of_subject, with_active, with_bytes, with_own, with_store}
-use Rattle.subject_model.specs.Clock.{begins, irq_reaches, system, takes}
+use Rattle.subject_model.specs.Clock.{ByteWrite, begins, irq_reaches, line_writes, system, takes, with_byte, with_each, with_line}
 use Rattle.proof_turns.specs.Ground.{Ground, Joined, part}
 use Rattle.proof_turns.specs.Fixed.{IsFixed}
 use Rattle.proof_turns.specs.Held.{Held, held, is_on, on_pages}
@@ -323,13 +323,28 @@ irq_things : (o : Option Target) (y : System) → (irq_reaches o y).things ≡ y
 irq_things None y = refl
 irq_things (Some t) y = refl
 
+byte_lengths : (w : Option ByteWrite) (y : System) → SameLengths y.things (with_byte w y).things
+byte_lengths None y x away = refl
+byte_lengths (Some w) y x away = bytes_lengths w.thing w.offset (w.value ∷ []) y x away
+
+each_lengths : (ws : List (Option ByteWrite)) (y : System) → SameLengths y.things (with_each ws y).things
+each_lengths [] y x away = refl
+each_lengths (w ∷ ws) y x away = byte_lengths w y x away ∙ each_lengths ws (with_byte w y) x away
+
+line_lengths : (ws : List (Option ByteWrite)) (y : System) → SameLengths y.things (with_line ws y).things
+line_lengths ws y x away =
+    elim (list_all is_some ws) as (λ b. option_map length (thing_in y.things x) ≡ option_map length (thing_in (if b then with_each ws y else y).things x)) [
+      | true ↦ each_lengths ws y x away
+      | false ↦ refl
+    ]
+
 -- and an input
 pub takes_lengths : (p : Source) (i : NamedInput) (y : System) → SameLengths y.things (takes p i y).things
 takes_lengths p (port_input device port value) y x away = refl
 takes_lengths p (memory_input device memory offset bytes) y x away = bytes_lengths (device_memory device memory) offset bytes y x away
 takes_lengths p (irq_input device irq) y x away =
     ap (λ things. option_map length (thing_in things x)) (sym (irq_things (irq_of p device irq) y))
-takes_lengths p (dma_input device addr bytes) y x away = refl
+takes_lengths p (dma_input device address bytes) y x away = line_lengths (line_writes p device address bytes) y x away
 
 -- ---- a run
 module _ (p : Source) where

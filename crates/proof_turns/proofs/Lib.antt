@@ -8,5 +8,6 @@ pub mod Changes
 pub mod Events
 pub mod Turns
 pub mod Clocks
+pub mod Groups
 pub mod Runs
 pub mod Ends

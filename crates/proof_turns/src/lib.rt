@@ -6,18 +6,19 @@
 //! stands for the system (`Stands`). The functions here carry the laws; no command calls one.
 #![tactic(auto)]
 
-ghost use Rattle.std.specs.Prelude.{◌≡◌, ℕ};
+ghost use Rattle.std.specs.Prelude.{◌≡◌, ℕ, List};
 ghost use Rattle.subject_model.specs.Clock.{begins as system_begins, takes as system_takes};
 ghost use Rattle.subject_model.specs.System.{System, system_turn};
 ghost use Rattle.kernel_core.specs.Kernel.{Live, turn_of};
-ghost use Rattle.kernel_core.specs.Ticks.{begins, ended, takes};
+ghost use Rattle.kernel_core.specs.Ticks.{begins, ended, kernel};
 ghost use Rattle.record_text.specs.DeviceRecord.{NamedInput};
-ghost use Rattle.record_text.specs.declared.record.Input.{Input};
+ghost use Rattle.device_bench.specs.declared.effect.Effect.{Effect};
 ghost use Rattle.frame_clock.specs.Alike.{AreAlikeTurns};
+ghost use Rattle.frame_clock.specs.Run.{all_taken};
 ghost use Rattle.proof_turns.specs.Fixed.{IsFixed};
 ghost use Rattle.proof_turns.specs.Ground.{Ground};
 ghost use Rattle.guest_isa.specs.Words.{IsWord};
-ghost use Rattle.proof_turns.specs.Inputs.{SameInput};
+ghost use Rattle.proof_turns.specs.Inputs.{AreInput};
 ghost use Rattle.proof_turns.specs.Stands.{StandsFor};
 
 /// A turn of any CPU, in any tick and whoever had turns before: the machine that stands for a system
@@ -34,10 +35,11 @@ pub fn ticks_keep_standing()
         → StandsFor g (begins g.setup tick k) (system_begins g.policy tick y) }
 {}
 
-/// So does an input, where it is the same by numbers and by names.
+/// So does an input, where what reaches the machine is the same by numbers: one effect, none, or, of a
+/// line of direct memory access, a write for each part of it.
 pub fn inputs_keep_standing()
-    ensures { (g : Ground) → IsFixed g → (i : Input) (e : NamedInput) (k : Live) (y : System) → SameInput g i e → StandsFor g k y
-        → StandsFor g (takes i k) (system_takes g.policy e y) }
+    ensures { (g : Ground) → IsFixed g → (es : List Effect) (i : NamedInput) (k : Live) (y : System) → AreInput g es i → StandsFor g k y
+        → StandsFor g (all_taken (kernel g.setup) es k) (system_takes g.policy i y) }
 {}
 
 /// So does the end, at which all CPUs are left.

@@ -29,7 +29,8 @@ use Rattle.proof_views.proofs.Kept.{begun_keeps, run_keeps, turn_keeps}
 use Rattle.frame_clock.specs.Run.{begun, run_to}
 use Rattle.subject_model.specs.SubjectState.{SubjectState}
 use Rattle.subject_model.specs.Alone.{MsrValues, TurnAnswer, own_of, solo_turn}
-use Rattle.subject_model.specs.Clock.{irq_reaches, system, takes}
+use Rattle.subject_model.specs.Clock.{irq_reaches, line_writes, system, takes}
+use Rattle.subject_model.proofs.DeviceWrites.{line_things}
 use Rattle.subject_model.specs.System.{System, answered, happens, happens_as, inbox_of, pends_now, raised_by, start_of, subject_named, system_turn, took, with_active, with_own, with_store}
 
 -- ---- the start
@@ -112,7 +113,7 @@ module _ (p : Source) where
   input_listed (port_input device port value) y h = h
   input_listed (memory_input device memory offset bytes) y h = h
   input_listed (irq_input device irq) y h = irq_listed (irq_of p device irq) y h
-  input_listed (dma_input device addr bytes) y h = h
+  input_listed (dma_input device address bytes) y h = subst (λ z. AreListed p z.active) (sym (line_things (line_writes p device address bytes) y)) h
 
 -- ---- a run
 

@@ -17,9 +17,10 @@ use Rattle.subject_model.specs.SubjectState.{SubjectState}
 use Rattle.frame_clock.specs.Run.{Turned, all_taken, begun}
 use Rattle.view_text.specs.declared.TurnLine.{TurnLine}
 use Rattle.subject_model.specs.Alone.{MsrValues, OwnState, TurnAnswer, own_of, solo_turn, thing_in}
-use Rattle.subject_model.specs.Clock.{begins, system, takes}
+use Rattle.subject_model.specs.Clock.{begins, line_writes, system, takes}
 use Rattle.subject_model.specs.Laws.{StoresElsewhere}
 use Rattle.subject_model.specs.System.{System, answered, inbox_of, named, state_of, subject_named, system_turn, took, with_own, with_store, with_write}
+use Rattle.subject_model.proofs.DeviceWrites.{line_things, page_stays}
 use Rattle.subject_model.proofs.KeyLaws.{names_apart, things_apart, value_changed, value_other}
 use Rattle.proof_views.specs.AloneRun.{is_altered, on_page}
 use Rattle.proof_views.specs.Members.{AreListed}
@@ -96,7 +97,8 @@ input_stays p s (memory_input device memory offset bytes) y =
 input_stays p s (irq_input device irq) y =
     let same = by_irq (irq_of p device irq) y in
     record { page = ap (λ things. thing_in things (state s.name)) same.things; msrs = ap (λ ms. named ms s.name) same.msrs }
-input_stays p s (dma_input device addr bytes) y = record { page = refl; msrs = refl }
+input_stays p s (dma_input device address bytes) y =
+    record { page = page_stays p device address bytes y s.name; msrs = ap (λ z. named z.msrs s.name) (line_things (line_writes p device address bytes) y) }
 
 inputs_stay : (p : Source) (s : Subject) (is : List NamedInput) (y : System) (mine : OwnState) → IsOwn s y mine → IsOwn s (all_taken (system p) is y) mine
 inputs_stay p s [] y mine h = h

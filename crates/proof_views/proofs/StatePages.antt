@@ -16,6 +16,7 @@ use Rattle.frame_clock.specs.Run.{run_to}
 use Rattle.subject_model.specs.Alone.{MsrValues, Things, TurnAnswer, own_of, solo_turn, thing_in}
 use Rattle.subject_model.specs.Clock.{system, takes}
 use Rattle.subject_model.specs.System.{System, answered, change_thing, first_page, inbox_of, start_of, subject_named, took, with_own, with_store}
+use Rattle.subject_model.proofs.DeviceWrites.{page_stays}
 use Rattle.subject_model.proofs.KeyLaws.{cases_thing, things_apart, value_changed, value_other}
 use Rattle.subject_model.proofs.StartLists.{made_behind, states_map}
 use Rattle.proof_views.specs.Pages.{IsStatePage}
@@ -72,7 +73,7 @@ module _ (name : List ℕ) where
   input_kept p (memory_input device memory offset bytes) y h =
       other_kept (device_memory device memory) (λ old. over old offset bytes) y.things (λ e. cc (e)) h
   input_kept p (irq_input device irq) y h = subst (Paged name) (sym (by_irq (irq_of p device irq) y).things) h
-  input_kept p (dma_input device addr bytes) y h = h
+  input_kept p (dma_input device address bytes) y h = (h.0, page_stays p device address bytes y name ∙ h.1)
 
   -- ---- a turn
 

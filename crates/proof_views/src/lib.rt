@@ -4,19 +4,23 @@
 //! one.
 #![tactic(auto)]
 
-ghost use Rattle.std.specs.Prelude.{◌≡◌, ℕ, suc, false, List, Some, All, IsTrue, map, option_map, slice_get};
-ghost use Rattle.std.specs.List.{filter_map};
+ghost use Rattle.std.specs.Prelude.{◌≡◌, ◌&&◌, ℕ, suc, false, List, Some, All, IsTrue, map, option_map, slice_get};
+ghost use Rattle.std.specs.List.{filter_map, list_any};
+ghost use Rattle.muen_num.specs.declared.access.AccessKind.TheVariants.{Write};
+ghost use Rattle.policy_lawful.specs.Dma.{dma_windows};
 ghost use Rattle.policy_lawful.specs.Lawful.{IsLawful};
 ghost use Rattle.policy_lawful.specs.Contents.{Held};
+ghost use Rattle.policy_lawful.specs.Thing.{Thing, same_thing};
+ghost use Rattle.policy_types.specs.Rights.{allows};
 ghost use Rattle.policy_types.specs.declared.source.Source.{Source};
 ghost use Rattle.policy_types.specs.declared.source.Subject.{Subject};
-ghost use Rattle.record_text.specs.DeviceRecord.{DeviceRecord, NamedInput};
+ghost use Rattle.record_text.specs.DeviceRecord.{DeviceRecord, NamedInput, dma_input};
 ghost use Rattle.record_text.specs.Law.{NamesEachOnce};
 ghost use Rattle.record_text.specs.Reading.{are_distinct};
 ghost use Rattle.frame_clock.specs.Run.{run_to};
-ghost use Rattle.subject_model.specs.Alone.{own_of};
-ghost use Rattle.subject_model.specs.Clock.{order_at, run_of, system};
-ghost use Rattle.subject_model.specs.System.{start_of, subject_named};
+ghost use Rattle.subject_model.specs.Alone.{own_of, thing_in};
+ghost use Rattle.subject_model.specs.Clock.{order_at, run_of, system, takes};
+ghost use Rattle.subject_model.specs.System.{System, start_of, subject_named};
 ghost use Rattle.subject_model.specs.View.{through, view_of};
 ghost use Rattle.proof_views.specs.AloneRun.{alone_view, is_altered, own_part, reaching_at, started_alone};
 ghost use Rattle.proof_views.specs.LastViews.{at_rest, without_line};
@@ -54,4 +58,13 @@ pub fn lines_are_those_of_the_views()
 pub fn views_are_those_of_subjects_alone()
     ensures { (p : Source) (files : Held) (r : DeviceRecord) (s : Subject) → IsLawful p → subject_named p s.name ≡ Some s → is_altered p s ≡ false
         → All (λ o. NamesEachOnce p.processor.logical_cpus o.1) r.orders → map own_part (view_of p files r s) ≡ alone_view (own_of p s) (reaching_at p files r s) (started_alone s) r.end }
+{}
+
+/// A line of direct memory access writes only into regions on which its device's domain has a window with
+/// write: it changes no other thing, and nothing of the system but things.
+pub fn devices_write_through_their_domain_alone()
+    ensures things { (p : Source) (device bytes : List ℕ) (address : ℕ) (y : System) (x : Thing) → list_any (λ w. allows w.rights Write && same_thing w.thing x) (dma_windows p device) ≡ false
+        → thing_in (takes p (dma_input device address bytes) y).things x ≡ thing_in y.things x }
+    ensures rest { (p : Source) (device bytes : List ℕ) (address : ℕ) (y : System)
+        → takes p (dma_input device address bytes) y ≡ record y { things = (takes p (dma_input device address bytes) y).things } }
 {}

@@ -4,3 +4,4 @@ mod CyclicFrames
 mod KeptTicks
 pub mod PolicyFacts
 pub mod StartLists
+pub mod DeviceWrites

@@ -1,36 +1,48 @@
 //! A run that is made by hand.
-use device_bench::Bench;
-use muen_num::{AccessSize, Name, PortSpan, Seq};
-use record_text::{Devices, Input, RecordDevice, TickInput, read};
+ghost use Rattle.std.specs.Prelude.{◌≡◌, IfOk};
+ghost use Rattle.device_bench.specs.Devices.{IsInOrder};
+
+use device_bench::{Bench, Effect};
+use muen_num::{AccessSize, Seq};
+use record_text::{Record, TickInput, TickOrder};
 use std::alloc::Global;
 use std::test::Fail;
 
-/// Inputs in the ticks 0, 3, 3, 3 and 8, and orders in 3 and 9.
-const RECORD: &[u8] =
-    b"port 0 net 1 7\nport 3 net 2 7\norder 3 1 0\nport 3 net 1 7\nport 3 net 4 7\nport 8 net 5 7\norder 9 0 1\nend 9\n";
+/// The byte of this port becomes 7.
+fn port(tick: u32, port: u16) -> TickInput<Effect>
+    ensures { result.tick ≡ tick }
+{
+    TickInput {
+        tick,
+        input: Effect::Port { port, value: 7 },
+    }
+}
 
-/// Two CPUs, and a device with the ports 0 to 15.
-fn devices(alloc: Global) -> Result<Devices, Fail> {
-    let Some(name) = Name::read(b"net") else {
-        return Err(Fail::new("not read"));
-    };
-    let net = RecordDevice {
-        name,
-        ports: Seq::of(vec![in alloc; PortSpan { start: 0, end: 15 }]?),
-        memories: Seq::new(alloc),
-        irqs: Seq::new(alloc),
-    };
-    Ok(Devices {
-        cpus: 2,
-        devices: Seq::of(Vec::from_array(alloc, [net])?),
+/// An order of two CPUs.
+fn order(alloc: Global, tick: u32, cpus: [u8; 2]) -> Result<TickOrder, Fail>
+    ensures { IfOk result (λ o. o.tick ≡ tick) }
+{
+    Ok(TickOrder {
+        tick,
+        cpus: Seq::of(Vec::from_array(alloc, cpus)?),
+    })
+}
+
+/// Inputs in the ticks 0, 3, 3, 3 and 8, and orders in 3 and 9.
+fn record(alloc: Global) -> Result<Record<Effect>, Fail>
+    ensures { IfOk result IsInOrder }
+{
+    let inputs = [port(0, 1), port(3, 2), port(3, 1), port(3, 4), port(8, 5)];
+    let orders = [order(alloc, 3, [1, 0])?, order(alloc, 9, [0, 1])?];
+    Ok(Record {
+        end: 9,
+        inputs: Seq::of(Vec::from_array(alloc, inputs)?),
+        orders: Seq::of(Vec::from_array(alloc, orders)?),
     })
 }
 
 fn bench(alloc: Global) -> Result<Bench, Fail> {
-    match read(alloc, RECORD, &devices(alloc)?) {
-        Ok(run) => Ok(Bench::start(alloc, run)?),
-        Err(_) => Err(Fail::new("not read")),
-    }
+    Ok(Bench::start(alloc, record(alloc)?)?)
 }
 
 /// The first CPU of a tick's order.
@@ -59,11 +71,7 @@ fn inputs_and_orders(rt: HostRuntime) -> Result<(), Fail> {
         assert_eq!(rt; bench.inputs(tick).len(), count, "{tick}");
         assert_eq!(rt; first_of(&bench, tick), first, "{tick}");
     }
-    let last = TickInput {
-        tick: 3,
-        input: Input::Port { port: 4, value: 7 },
-    };
-    assert_eq!(rt; bench.inputs(3).last(), Some(&last));
+    assert_eq!(rt; bench.inputs(3).last(), Some(&port(3, 4)));
     Ok(())
 }
 

@@ -16,10 +16,10 @@ returns g c =
       held = held_clause _ _ _ _ _ _ _ _ _ _ p;
       boots = λ m policy inputs q r shows asked there says.
           prints_clause _ _ _ _ _ _ _ _ _ _ p m (trace_of q m r) shows (ap (answer_of m) asked ∙ boot_prints m policy inputs q r says there);
-      runs_sound = λ m image inputs q built_of r shows asked there says.
-          prints_clause _ _ _ _ _ _ _ _ _ _ p m (trace_of q built_of r) shows (ap (answer_of m) asked ∙ sound_prints m image inputs q r says built_of there);
-      runs_built = λ m image inputs q built_of r shows asked there says.
-          prints_clause _ _ _ _ _ _ _ _ _ _ p m (trace_of q built_of r) shows (ap (answer_of m) asked ∙ built_prints m image inputs q r says built_of there);
+      runs_sound = λ m image inputs q built_of r shows asked there fit says.
+          prints_clause _ _ _ _ _ _ _ _ _ _ p m (trace_of q built_of r) shows (ap (answer_of m) asked ∙ sound_prints m image inputs q r says built_of there fit);
+      runs_built = λ m image inputs q built_of r shows asked there fit says.
+          prints_clause _ _ _ _ _ _ _ _ _ _ p m (trace_of q built_of r) shows (ap (answer_of m) asked ∙ built_prints m image inputs q r says built_of there fit);
       built = built_clause _ _ _ _ _ _ _ _ _ _ p;
       done = done_clause _ _ _ _ _ _ _ _ _ _ p;
       prefix = prefix_clause _ _ _ _ _ _ _ _ _ _ p;

@@ -1,6 +1,7 @@
 //! Files of tables for direct memory access that are spelled byte by byte: what unpacking says of them
 //! and of damaged ones, where a device reaches, and what a record's lines become.
 use super::spelled::{CHOSEN, spelled};
+use device_bench::Effect;
 use dma_tables::{DmaTables, dma_fault_pieces, lower, pack, unpack};
 use itoa::Buffer;
 use muen_num::{Name, Seq};
@@ -124,8 +125,11 @@ fn where_a_device_reaches(rt: HostRuntime) -> Result<(), Fail> {
     Ok(())
 }
 
-// The inputs that come out of two lines, inside and across the end, and of one that is no line.
-fn lowered(alloc: Global, tables: Option<&DmaTables>) -> Result<Option<Seq<TickInput>>, Fail> {
+// What reaches the machine of two lines, inside and across the end, and of an interrupt of nobody.
+fn lowered(
+    alloc: Global,
+    tables: Option<&DmaTables>,
+) -> Result<Option<Seq<TickInput<Effect>>>, Fail> {
     let line = |addr: u64, bytes: Seq<u8>| TickInput {
         tick: 1,
         input: Input::Dma {
@@ -153,10 +157,10 @@ fn lowered(alloc: Global, tables: Option<&DmaTables>) -> Result<Option<Seq<TickI
     }
 }
 
-// Whether the input writes 7 and 0 from 0x1008 on.
-fn is_written(entry: &TickInput) -> bool {
+// Whether 7 and 0 are written from 0x1008 on.
+fn is_written(entry: &TickInput<Effect>) -> bool {
     match &entry.input {
-        Input::Mem { at, bytes } => *at == 0x1008 && bytes.items() == [7, 0].as_slice(),
+        Effect::Mem { at, bytes } => *at == 0x1008 && bytes.items() == [7, 0].as_slice(),
         _ => false,
     }
 }
@@ -170,9 +174,9 @@ fn lines_of_a_record(rt: HostRuntime) -> Result<(), Fail> {
     let without = lowered(alloc, None)?;
     match (with, without) {
         (Some(with), Some(without)) => {
-            assert_eq!(rt; with.len(), 2);
-            assert!(rt; with.items().iter().take(1).all(is_written));
-            assert_eq!(rt; without.len(), 1);
+            assert_eq!(rt; with.len(), 1);
+            assert!(rt; with.items().iter().all(is_written));
+            assert!(rt; without.is_empty());
         }
         _ => assert!(rt; false),
     }

@@ -22,7 +22,7 @@ returns-in_err-bytes-clause-err g c =
     let m = rw c.items.ensures at c.in_ok-made.ensures.ok in
     rw (left.1, left.2)
     (record_not_read _ _ _ _ _ _ c.load.ensures.held c.in_ok-document.document c.in_ok-document.ensures.ok _ c.in_ok-made.made.files m.looked m.asked
-    m.source m.accepts c.in_ok-made.made.parts m.back _ c.make.ensures.held _ c.in_err-bytes.field-0.0 c.in_err-bytes.ensures.err)
+    m.source m.accepts c.in_ok-made.made.parts c.in_ok-made.made.tables m.back _ c.make.ensures.held _ c.in_err-bytes.field-0.0 c.in_err-bytes.ensures.err)
 
 -- the record is refused
 pub returns-in_err-input-clause-err : goal.returns-in_err-input-clause-err
@@ -31,11 +31,11 @@ returns-in_err-input-clause-err g c =
     let m = rw c.items.ensures at c.in_ok-made.ensures.ok in
     rw (left.1)
     (record_refused_so _ _ _ _ _ _ c.load.ensures.held c.in_ok-document.document c.in_ok-document.ensures.ok _ c.in_ok-made.made.files m.looked m.asked
-    m.source m.accepts c.in_ok-made.made.parts m.back _ c.make.ensures.held _ c.in_ok-bytes.bytes c.in_ok-bytes.ensures.ok c.in_err-input.field-0.0 left.0 (rw c.items-2.ensures at c.in_err-input.ensures.exact) left.2)
+    m.source m.accepts c.in_ok-made.made.parts c.in_ok-made.made.tables m.back _ c.make.ensures.held _ c.in_ok-bytes.bytes c.in_ok-bytes.ensures.ok c.in_err-input.field-0.0 left.0 (rw c.items-2.ensures at c.in_err-input.ensures.exact) left.2)
 
 -- both are read
 pub returns-clause-ok : goal.returns-clause-ok
 returns-clause-ok g c =
     let m = rw c.items.ensures at c.in_ok-made.ensures.ok in
     record_read _ _ _ _ _ _ c.load.ensures.held c.in_ok-document.document c.in_ok-document.ensures.ok _ c.in_ok-made.made.files m.looked m.asked
-    m.source m.accepts c.in_ok-made.made.parts m.back _ c.make.ensures.held _ c.in_ok-bytes.bytes c.in_ok-bytes.ensures.ok c.in_ok-input.input (rw c.items-2.ensures at c.in_ok-input.ensures.exact)
+    m.source m.accepts c.in_ok-made.made.parts c.in_ok-made.made.tables m.back _ c.make.ensures.held _ c.in_ok-bytes.bytes c.in_ok-bytes.ensures.ok c.in_ok-input.input (rw c.items-2.ensures at c.in_ok-input.ensures.exact)

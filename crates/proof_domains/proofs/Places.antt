@@ -1,0 +1,132 @@
+-- Where regions lie in an image whose spans are those of a placed policy.
+use Rattle.std.proofs.Common.{◌≡◌, ◌∙◌, ℕ, zero, suc, ◌+◌, ◌≤◌, ◌<◌, Bool, true, false, cond, List, [], ◌∷◌, ◌++◌, length, map, filter, zip, Option, Some, None, Ok, refl, sym, ap, subst, arith, inl, inr}
+use Rattle.std.specs.Prelude.{not, option_map, slice_get, slice_index_or}
+use Rattle.std.specs.List.{enumerate_from, flat_map}
+use Rattle.std.proofs.lemmas.Bool.{cases_Bool}
+use Rattle.std.proofs.lemmas.Option.{get_or_from_slice_get, slice_get-map}
+use Rattle.expand_kernel.specs.Regions.{channel_region, kernel_regions_of, own_region, provided_regions, regions_of}
+use Rattle.expand_kernel.specs.declared.region.Region.{Region}
+use Rattle.image_pack.specs.ImageConditions.{KeepsConditions}
+use Rattle.image_pack.specs.declared.parts.Image.{Image}
+use Rattle.image_pack.specs.declared.parts.SpanPart.{SpanPart}
+use Rattle.image_soundness.specs.Memory.{Span, by_number}
+use Rattle.image_soundness.specs.Sound.{IsSound, address_of, is_kernel, thing_spans}
+use Rattle.policy_lawful.specs.Contents.{Held}
+use Rattle.policy_lawful.specs.Resolution.{source_of}
+use Rattle.policy_lawful.specs.Thing.{channel, component_by, device_memory, provided_by, region, same_thing, things_of}
+use Rattle.policy_types.specs.declared.source.Region.{Region as SourceRegion}
+use Rattle.policy_types.specs.declared.source.Source.{Source}
+use Rattle.proof_build.specs.Built.{HasSpans}
+use Rattle.proof_start.proofs.ListFacts.{any_at, from_some, other_at, same_at, zipped_at}
+use Rattle.proof_start.proofs.OnceFacts.{thing_once}
+use Rattle.proof_start.proofs.SpansOfThings.{listed_span}
+use Rattle.region_alloc.specs.Placed.{IsPlaced, Placement}
+use Rattle.span_emit.specs.Spans.{device_spans, region_span, region_spans}
+use Rattle.subject_model.proofs.KeyLaws.{same_thing_self}
+
+-- ---- lists
+
+front_at : {X : Type 0} (xs ys : List X) (k : ℕ) (x : X) → slice_get xs k ≡ Some x → slice_get (xs ++ ys) k ≡ Some x
+front_at [] ys k x e = absurd (cc)
+front_at (y ∷ xs) ys zero x e = e
+front_at (y ∷ xs) ys (suc k) x e = front_at xs ys k x e
+
+front_of_four : {X : Type 0} (xs a b c : List X) (k : ℕ) (x : X) → slice_get xs k ≡ Some x → slice_get (xs ++ a ++ b ++ c) k ≡ Some x
+front_of_four xs a b c k x e = front_at (xs ++ a ++ b) c k x (front_at (xs ++ a) b k x (front_at xs a k x e))
+
+mapped_at : {X Y : Type 0} (f : X → Y) (xs : List X) (k : ℕ) (x : X) → slice_get xs k ≡ Some x → slice_get (map f xs) k ≡ Some (f x)
+mapped_at f xs k x e = slice_get-map f xs k ∙ ap (option_map f) e
+
+numbered_at : {X : Type 0} (n : ℕ) (xs : List X) (k : ℕ) (x : X) → slice_get xs k ≡ Some x → slice_get (enumerate_from n xs) k ≡ Some (n + k, x)
+numbered_at n [] k x e = absurd (cc)
+numbered_at n (y ∷ xs) zero x e = let same : y ≡ x = cc in let none : n ≡ n + 0 = omega arith in ap (λ z. Some (n, z)) same ∙ ap (λ m. Some (m, x)) none
+numbered_at n (y ∷ xs) (suc k) x e = let more : n + 1 + k ≡ n + suc k = omega arith in numbered_at (n + 1) xs k x e ∙ ap (λ m. Some (m, x)) more
+
+-- where an element and all before it pass, it stays where it is
+record Passes {X : Type 0} (test : X → Bool) (xs : List X) (k : ℕ) : Type 0 where
+  one : X
+  here : slice_get xs k ≡ Some one
+  passes : test one ≡ true
+
+first_passes : {X : Type 0} (test : X → Bool) (x : X) (xs : List X) → Passes test (x ∷ xs) 0 → test x ≡ true
+first_passes test x xs p = let first : x ≡ p.one = (let e = p.here in cc (e)) in ap test first ∙ p.passes
+
+kept_in_front : {X : Type 0} (test : X → Bool) (xs : List X) (k : ℕ) → ((j : ℕ) → j ≤ k → Passes test xs j) → slice_get (filter test xs) k ≡ slice_get xs k
+kept_in_front test [] k all = absurd (let e = (all 0 (omega arith)).here in cc (e))
+kept_in_front test (x ∷ xs) zero all = ap (λ b. slice_get (cond b (x ∷ filter test xs) (filter test xs)) zero) (first_passes test x xs (all 0 (omega arith)))
+kept_in_front test (x ∷ xs) (suc k) all =
+    ap (λ b. slice_get (cond b (x ∷ filter test xs) (filter test xs)) (suc k)) (first_passes test x xs (all 0 (omega arith)))
+    ∙ kept_in_front test xs k (λ j le. let p = all (suc j) (omega (arith, le)) in record { one = p.one; here = p.here; passes = p.passes })
+
+there_below : {X : Type 0} (xs : List X) (j k : ℕ) (x : X) → slice_get xs k ≡ Some x → j ≤ k → (y : X) × (slice_get xs j ≡ Some y)
+there_below [] j k x e le = absurd (cc)
+there_below (y ∷ xs) zero k x e le = (y, refl)
+there_below (y ∷ xs) (suc j) zero x e le = absurd (omega (arith, le))
+there_below (y ∷ xs) (suc j) (suc k) x e le = there_below xs j k x e (omega (arith, le))
+
+module _ (x : Placement) (placed : IsPlaced x) (files : Held) (i : Image) (keeps : KeepsConditions i) (sound : IsSound (source_of x.expanded.lawful) files i) (spans : HasSpans (source_of x.expanded.lawful) i) where
+  abbrev p : Source
+  p = source_of x.expanded.lawful
+
+  same_addresses : spans.addresses ≡ x.addresses
+  same_addresses = let e : Ok spans.addresses ≡ Ok x.addresses = sym spans.are ∙ placed.placement in cc (e)
+
+  region_at : (k : ℕ) (r : SourceRegion) → slice_get p.memory k ≡ Some r → slice_get (regions_of p) k ≡ Some (own_region r)
+  unfolding regions_of
+  region_at k r e =
+      front_of_four (map own_region p.memory) (map channel_region p.channels) (flat_map (λ s. provided_regions s.name (component_by p s.component)) p.subjects) (flat_map (kernel_regions_of p) p.subjects) k (own_region r)
+      (mapped_at own_region p.memory k r e)
+
+  -- the span of a region of memory, among those by number
+  record IsAt (k : ℕ) (r : SourceRegion) : Type 0 where
+    address : ℕ
+    placed_at : slice_get x.addresses k ≡ Some address
+    span : Span
+    here : slice_get (by_number i) k ≡ Some span
+    lies : span.0.address ≡ address
+    own : is_kernel span.0.kind ≡ false
+
+  is_at : (k : ℕ) (r : SourceRegion) → slice_get p.memory k ≡ Some r → IsAt k r
+  is_at k r e =
+      let region = region_at k r e in
+      let other = other_at _ x.expanded.regions x.addresses k (own_region r) placed.inside (ap (λ rs. slice_get rs k) placed.expansion.regions ∙ region) in
+      let address : ℕ = other.0 in
+      let among : slice_get spans.addresses k ≡ Some address = ap (λ ns. slice_get ns k) same_addresses ∙ other.1 in
+      let s : SpanPart = region_span (0 + k, (own_region r, address)) in
+      let listed : slice_get (region_spans (regions_of p) spans.addresses) k ≡ Some s =
+      mapped_at region_span (enumerate_from 0 (zip (regions_of p) spans.addresses)) k (0 + k, (own_region r, address))
+      (numbered_at 0 (zip (regions_of p) spans.addresses) k (own_region r, address) (zipped_at (regions_of p) spans.addresses k (own_region r) address region among)) in
+      let whole : slice_get (map (λ (e : Span). e.0) (by_number i)) k ≡ Some s = ap (λ ss. slice_get ss k) spans.spans ∙ front_at (region_spans (regions_of p) spans.addresses) (device_spans (length (regions_of p)) p.devices) k s listed in
+      let found = from_some (λ (e : Span). e.0) (slice_get (by_number i) k) s (sym (slice_get-map (λ (e : Span). e.0) (by_number i) k) ∙ whole) in
+      record {
+        address = address;
+        placed_at = other.1;
+        span = found.0;
+        here = found.1;
+        lies = ap (λ (s : SpanPart). s.address) found.2;
+        own = ap (λ (s : SpanPart). is_kernel s.kind) found.2;
+      }
+
+  in_front : (k : ℕ) (r : SourceRegion) → slice_get p.memory k ≡ Some r → (j : ℕ) → j ≤ k → Passes (λ (e : Span). not (is_kernel e.0.kind)) (by_number i) j
+  in_front k r e j le =
+      let q = there_below p.memory j k r e le in
+      let a = is_at j q.0 q.1 in
+      record { one = a.span; here = a.here; passes = ap not a.own }
+
+  thing_at : (k : ℕ) (r : SourceRegion) → slice_get p.memory k ≡ Some r → slice_get (things_of p) k ≡ Some (region r.name)
+  unfolding things_of
+  thing_at k r e =
+      front_of_four (map (λ (r : SourceRegion). region r.name) p.memory) (map (λ c. channel c.name) p.channels)
+      (flat_map (λ s. provided_by s.name (component_by p s.component)) p.subjects) (flat_map (λ d. map (λ m. device_memory d.name m.name) d.memory) p.devices) k (region r.name)
+      (mapped_at (λ (r : SourceRegion). region r.name) p.memory k r e)
+
+  -- a region of memory lies where it was placed
+  pub placed_there : (k : ℕ) (r : SourceRegion) → slice_get p.memory k ≡ Some r → slice_get x.addresses k ≡ Some (address_of p i (region r.name))
+  placed_there k r e =
+      let a = is_at k r e in
+      let thing = thing_at k r e in
+      let span = listed_span p files i keeps sound (region r.name) (any_at (λ y. same_thing y (region r.name)) (things_of p) k (region r.name) thing (same_thing_self (region r.name))) in
+      let number : span.number ≡ k = thing_once p placed.lawful (region r.name) span.number k span.listed thing in
+      let here : slice_get (thing_spans i) k ≡ Some a.span = kept_in_front (λ (e : Span). not (is_kernel e.0.kind)) (by_number i) k (in_front k r e) ∙ a.here in
+      let same : span.span ≡ a.span = same_at (slice_get (thing_spans i) k) span.span a.span (ap (slice_get (thing_spans i)) (sym number) ∙ span.numbered) here in
+      a.placed_at ∙ ap Some (sym (span.address ∙ ap (λ (e : Span). e.0.address) same ∙ a.lies))
