@@ -1,21 +1,20 @@
 -- The tables of all domains take far fewer pages than a file may have: a region has one window at most, and one of n bytes
 -- touches n / S + 2 ranges of S bytes at most.
-use Rattle.std.proofs.Common.{◌≡◌, inl, inr, ℕ, zero, suc, ◌+◌, ◌-◌, ◌*◌, ◌/◌, ◌^◌, ◌<◌, ◌≤◌, min, All, Bool, true, false, cond, not, List, [], ◌∷◌, ◌++◌, length, map, Option, Some, None, refl, sym, ap, ◌∙◌, arith}
-use Rattle.std.specs.Prelude.{◌&&◌, ◌||◌, filter, if◌then◌else◌, nat_lt, option_map}
-use Rattle.std.specs.List.{AllPairs, cons_option, filter_map, find, flat_map, list_any, sum_by}
+use Rattle.std.proofs.Common.{◌≡◌, inl, inr, ℕ, zero, suc, ◌+◌, ◌-◌, ◌*◌, ◌/◌, ◌^◌, ◌<◌, ◌≤◌, min, All, Bool, true, false, cond, not, List, [], ◌∷◌, Some, refl, sym, ap, ◌∙◌, arith}
+use Rattle.std.specs.Prelude.{◌||◌, filter, nat_lt}
+use Rattle.std.specs.List.{AllPairs, find, sum_by}
 use Rattle.std.specs.Option.{option_map_or}
 use Rattle.std.specs.Str.{bytes_eq}
 use Rattle.std.proofs.lemmas.Bool.{and_parts, cases_Bool, ltb-true, not-true, true≢false}
-use Rattle.std.proofs.lemmas.List.Elements.{All-filter, All-head, All-tail, filter_passes}
+use Rattle.std.proofs.lemmas.List.Elements.{All-head, All-tail, filter_passes}
 use Rattle.std.proofs.lemmas.List.Filters.{sum_by-filter_both}
 use Rattle.std.proofs.lemmas.List.Kept.{AllPairs-filter}
 use Rattle.std.proofs.lemmas.List.Sums.{sum_by-cons, sum_by-le-sum_by}
 use Rattle.std.proofs.lemmas.Slice.Eq.{bytes_eq-Decides}
-use Rattle.ept_emit.specs.Pages.{count, ept_pages, is_taken, one, range_of, ranges_of, touches}
+use Rattle.ept_emit.specs.Pages.{count, ept_pages, is_taken, one, touches}
 use Rattle.ept_emit.specs.declared.window.GuestRange.{GuestRange}
-use Rattle.ept_emit.specs.declared.window.Window.{Window}
 use Rattle.policy_lawful.proofs.Indexes.{same_self}
-use Rattle.span_emit.proofs.PairLaws.{pairs_head, pairs_tail}
+use Rattle.span_emit.proofs.PairLaws.{pairs_head}
 
 -- ---- tables of ranges
 

@@ -1,7 +1,7 @@
 -- By the domains of a placed policy a device gets where the policy declares.
-use Rattle.std.proofs.Common.{◌≡◌, inl, inr, ℕ, zero, suc, ◌+◌, ◌-◌, ◌<◌, ◌≤◌, All, Bool, true, false, cond, List, [], ◌∷◌, ◌++◌, get_or, length, map, Option, Some, None, refl, sym, ap, ◌∙◌, subst, arith}
+use Rattle.std.proofs.Common.{◌≡◌, inl, inr, ℕ, zero, suc, ◌+◌, ◌-◌, ◌<◌, Bool, true, false, cond, List, [], ◌∷◌, get_or, length, map, Option, Some, None, refl, sym, ap, ◌∙◌, subst, arith}
 use Rattle.std.specs.Prelude.{◌&&◌, if◌then◌else◌, is_some, nat_le, nat_lt, option_and_then, option_map, slice_get}
-use Rattle.std.specs.List.{AllPairs, cons_option, filter_map, find, flat_map, list_any, position_or_len}
+use Rattle.std.specs.List.{cons_option, filter_map, find, flat_map, list_any, position_or_len}
 use Rattle.std.specs.List.Sorted.{IsPermutation}
 use Rattle.std.specs.Option.{option_map_or}
 use Rattle.std.specs.Str.{bytes_eq}
@@ -24,7 +24,7 @@ use Rattle.ept_emit.specs.declared.window.Window.{Window}
 use Rattle.expand_grants.proofs.Ordered.{in_order_permutes}
 use Rattle.muen_num.proofs.Lists.{found, there}
 use Rattle.muen_num.proofs.Members.{In, all_in, any_in, any_some, filter_map_in, find_in, left_in, map_in, passes_in, right_in}
-use Rattle.policy_lawful.specs.Dma.{dma_access, dma_windows, domain_of, domain_windows}
+use Rattle.policy_lawful.specs.Dma.{dma_access, domain_of, domain_windows}
 use Rattle.policy_lawful.specs.Domains.{Listed, device_has_bdf, listed_devices}
 use Rattle.policy_lawful.specs.Resolution.{source_of}
 use Rattle.policy_lawful.specs.Thing.{Thing, region}

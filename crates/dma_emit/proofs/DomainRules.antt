@@ -1,16 +1,16 @@
 -- Rules 21 to 23: what a lawful policy keeps of its domains.
-use Rattle.std.proofs.Common.{◌≡◌, ℕ, ◌+◌, ◌%◌, ◌≤◌, ◌<◌, All, Bool, true, false, not, List, [], ◌∷◌, ◌++◌, get_or, length, map, Option, None, refl, sym, ap, ◌∙◌, subst, inl, inr, arith}
+use Rattle.std.proofs.Common.{◌≡◌, ℕ, ◌+◌, ◌≤◌, ◌<◌, All, Bool, true, false, not, List, [], ◌∷◌, ◌++◌, get_or, length, map, Option, None, refl, sym, ap, ◌∙◌, inl, inr, arith}
 use Rattle.std.specs.Prelude.{codes, nat_le}
-use Rattle.std.specs.List.{AllPairs, find, flat_map, list_all, list_any}
+use Rattle.std.specs.List.{AllPairs, list_all}
 use Rattle.std.specs.Str.{bytes_eq}
 use Rattle.std.proofs.lemmas.Bool.{and_parts, leb-true, not-true, or_parts}
-use Rattle.std.proofs.lemmas.List.Elements.{All-cons, All-head, All-nil, All-tail}
+use Rattle.std.proofs.lemmas.List.Elements.{All-cons, All-nil}
 use Rattle.std.proofs.lemmas.List.Kept.{AllPairs-cons}
 use Rattle.muen_num.specs.Search.{first_after, first_in, first_pair, unless}
 use Rattle.muen_num.specs.declared.limits.TheConstants.{GUEST_END, MOST_DOMAINS}
 use Rattle.muen_num.proofs.FirstPair.{none_at, pairs_at}
 use Rattle.muen_num.proofs.Members.{In, left_in, right_in}
-use Rattle.muen_num.proofs.SearchLaws.{all_none, all_pass, none_both, unless_none}
+use Rattle.muen_num.proofs.SearchLaws.{all_pass, none_both, unless_none}
 use Rattle.policy_lawful.specs.Domains.{Listed, device_has_bdf, domain_extent, domain_overlap, is_bdf, listed_devices, listed_regions, offence_21, offence_22, offence_23, region_size, same_bdf, stands_before}
 use Rattle.policy_lawful.specs.Offences.{alone, two}
 use Rattle.policy_lawful.specs.Rules.{are_apart, at_most, is_declared, is_page_aligned, repeated}

@@ -1,38 +1,36 @@
 -- The windows of the domains of a placed policy: tables can be emitted for them.
-use Rattle.std.proofs.Common.{◌≡◌, ◌⊎◌, inl, inr, ℕ, ◌+◌, ◌%◌, ◌<◌, ◌≤◌, ◌^◌, All, Bool, true, false, List, get_or, length, map, Option, Some, None, refl, sym, ap, ◌∙◌, subst, arith}
-use Rattle.std.specs.Prelude.{◌==◌, ◌&&◌, ◌||◌, nat_le, not, option_map, position, slice_get, slice_index}
+use Rattle.std.proofs.Common.{◌≡◌, inl, inr, ℕ, ◌+◌, ◌%◌, ◌<◌, ◌≤◌, All, true, List, get_or, length, Some, None, refl, sym, ap, ◌∙◌, subst, arith}
+use Rattle.std.specs.Prelude.{◌&&◌, nat_le, option_map, slice_get, slice_index}
 use Rattle.std.specs.List.{AllPairs, filter_map, find, list_all, position_or_len}
 use Rattle.std.specs.List.Sorted.{IsPermutation}
 use Rattle.std.specs.Option.{option_map_or}
 use Rattle.std.specs.Str.{bytes_eq}
-use Rattle.std.proofs.lemmas.Bool.{and_parts, cases_Bool, eqb-true, le-leb, leb-true, ltb-true, ne_eqb, or_cases}
+use Rattle.std.proofs.lemmas.Bool.{and_parts, eqb-true, leb-true, ltb-true, ne_eqb, or_cases}
 use Rattle.std.proofs.lemmas.List.Elements.{All-weaker}
 use Rattle.std.proofs.lemmas.List.Sorted.{All-permutation}
 use Rattle.dma_emit.specs.Domains.{is_lower, mapped, place_of, region_mapped, windows_of}
-use Rattle.dma_emit.specs.Ready.{AreWindows, HaveDifferentGuests, IsForDevices, same_guest}
+use Rattle.dma_emit.specs.Ready.{AreWindows, HaveDifferentGuests, IsForDevices}
 use Rattle.dma_emit.proofs.DomainRules.{IsDomain, IsWindow, domains_kept}
 use Rattle.dma_emit.proofs.Found.{all_made, beside_at, found_at, pairs_made, pairs_mapped, position_found}
 use Rattle.std.proofs.lemmas.Option.{slice_get_within}
 use Rattle.dma_emit.proofs.PlacesThere.{addresses_long, region_at}
 use Rattle.dma_emit.proofs.Ranges.{AreTwo as AreApart, ascending, two_moved}
 use Rattle.ept_emit.specs.Entries.{IsEmittable}
-use Rattle.ept_emit.specs.Pages.{range_of, ranges_of}
+use Rattle.ept_emit.specs.Pages.{range_of}
 use Rattle.ept_emit.specs.declared.window.GuestRange.{GuestRange}
 use Rattle.ept_emit.specs.declared.window.Window.{Window}
 use Rattle.expand_grants.proofs.Ordered.{in_order_permutes}
 use Rattle.expand_kernel.specs.Regions.{own_region}
 use Rattle.expand_kernel.specs.declared.region.Region.{Region}
-use Rattle.muen_num.specs.declared.limits.TheConstants.{GUEST_END, PAGE, PHYSICAL_END}
+use Rattle.muen_num.specs.declared.limits.TheConstants.{PAGE, PHYSICAL_END}
 use Rattle.muen_num.proofs.Lists.{found_among}
 use Rattle.policy_lawful.specs.Domains.{domain_extent, region_size}
 use Rattle.policy_lawful.specs.Resolution.{source_of}
 use Rattle.policy_lawful.specs.Rules.{are_apart, is_alignment, is_fixed, is_laid, is_page_aligned, is_page_size}
 use Rattle.policy_lawful.proofs.KeptAddresses.{addresses_kept}
-use Rattle.policy_types.specs.Rights.{may_execute}
 use Rattle.policy_types.specs.declared.source.Domain.{Domain}
 use Rattle.policy_types.specs.declared.source.Mapping.{Mapping}
 use Rattle.policy_types.specs.declared.source.Region.{Region as SourceRegion}
-use Rattle.policy_types.specs.declared.source.Source.{Source}
 use Rattle.region_alloc.specs.Placed.{IsPlaced, Placement}
 use Rattle.region_alloc.specs.Placement.{in_a_block}
 use Rattle.region_alloc.proofs.Lowest.{ends_well}

@@ -1,7 +1,7 @@
 -- The domains of a placed policy are such that tables can be emitted for them.
-use Rattle.std.proofs.Common.{◌≡◌, inl, inr, ℕ, suc, ◌+◌, ◌*◌, ◌/◌, ◌<◌, ◌≤◌, ◌^◌, All, Bool, true, false, not, List, [], ◌∷◌, ◌++◌, get_or, length, map, Option, Some, None, refl, sym, ap, ◌∙◌, subst, arith}
-use Rattle.std.specs.Prelude.{◌==◌, ◌&&◌, if◌then◌else◌, option_map, option_and_then}
-use Rattle.std.specs.List.{AllPairs, cons_option, filter_map, find, flat_map, list_all, list_any, sum_by}
+use Rattle.std.proofs.Common.{◌≡◌, inl, inr, ℕ, ◌+◌, ◌*◌, ◌/◌, ◌<◌, ◌≤◌, ◌^◌, All, true, false, not, List, [], ◌∷◌, get_or, length, map, Option, Some, None, refl, sym, ap, ◌∙◌, arith}
+use Rattle.std.specs.Prelude.{◌==◌, if◌then◌else◌, option_map, option_and_then}
+use Rattle.std.specs.List.{AllPairs, cons_option, filter_map, find, flat_map, list_any, sum_by}
 use Rattle.std.specs.List.Sorted.{IsPermutation}
 use Rattle.std.specs.Option.{option_map_or}
 use Rattle.std.specs.Str.{bytes_eq}
@@ -13,24 +13,23 @@ use Rattle.std.proofs.lemmas.List.Sums.{sum_by-append, sum_by-cons, sum_by-le-su
 use Rattle.dma_emit.specs.declared.devices.DomainDevice.{DomainDevice}
 use Rattle.dma_emit.specs.declared.domains.Domains.{Domains}
 use Rattle.dma_emit.specs.Domains.{device_at, domain_device, domain_devices, domain_number, domains_of, is_lower, mapped, region_mapped, windows_of}
-use Rattle.dma_emit.specs.Layout.{buses, buses_below, domain_pages, has_device, on_bus, page_count, windows_at}
+use Rattle.dma_emit.specs.Layout.{buses, domain_pages, has_device, on_bus, page_count, windows_at}
 use Rattle.dma_emit.specs.Ready.{AreWindows, HaveDifferentGuests, IsReady, same_place}
 use Rattle.dma_emit.proofs.Counts.{few_tables, found_weight, sum_found, tables_for}
-use Rattle.dma_emit.proofs.DomainRules.{AreNamedApart, DevicesKept, IsDomain, devices_kept, regions_once}
+use Rattle.dma_emit.proofs.DomainRules.{DevicesKept, IsDomain, devices_kept, regions_once}
 use Rattle.dma_emit.proofs.DomainWindows.{are_windows, different, each_domain, laid_out}
 use Rattle.dma_emit.proofs.Found.{all_made, fewer_made, pairs_made, pairs_mapped}
 use Rattle.dma_emit.proofs.Layouts.{buses_are}
-use Rattle.dma_emit.proofs.Lists.{listed, sum_same}
+use Rattle.dma_emit.proofs.Lists.{listed}
 use Rattle.dma_emit.proofs.PlacesThere.{position_within, regions_are}
 use Rattle.dma_emit.proofs.TotalSize.{first_bytes, regions_bytes}
-use Rattle.dma_tables.specs.DmaConditions.{AreDistinct}
 use Rattle.ept_emit.specs.Pages.{ept_pages, range_of, ranges_of}
 use Rattle.ept_emit.specs.declared.window.GuestRange.{GuestRange}
 use Rattle.ept_emit.specs.declared.window.Window.{Window}
 use Rattle.expand_grants.proofs.Ordered.{in_order_permutes}
 use Rattle.muen_num.specs.Range.{numbers_below}
 use Rattle.muen_num.specs.Search.{unless}
-use Rattle.muen_num.specs.declared.limits.TheConstants.{BDF_DEVICES, BDF_FUNCTIONS, MOST_DEVICES, MOST_DOMAINS, MOST_REGIONS, PAGE}
+use Rattle.muen_num.specs.declared.limits.TheConstants.{BDF_FUNCTIONS, MOST_DOMAINS, MOST_REGIONS, PAGE}
 use Rattle.muen_num.proofs.FirstPair.{pairs_at}
 use Rattle.muen_num.proofs.Lists.{sum_by-map}
 use Rattle.muen_num.proofs.Members.{filter_fits}

@@ -1,22 +1,21 @@
 -- A policy, worked out: its region `buf`, of a page, is placed at 0x107000, and its device `nic`, on bus 0 with devfn 24, stands in
 -- a domain that has a window on `buf` at 4096, to read and write. Its tables are six pages from address 0 on.
-use Rattle.std.proofs.Common.{◌≡◌, ℕ, ◌+◌, ◌*◌, ◌/◌, ◌^◌, ◌<◌, ◌≤◌, All, true, [], ◌∷◌, List, length, refl, ap, ◌∙◌, sym, arith}
-use Rattle.std.specs.Prelude.{Some, None, codes, option_map}
+use Rattle.std.proofs.Common.{◌≡◌, ℕ, ◌*◌, ◌/◌, ◌^◌, ◌<◌, All, true, [], ◌∷◌, List, refl, arith}
+use Rattle.std.specs.Prelude.{Some, None, codes}
 use Rattle.std.proofs.lemmas.List.Elements.{All-cons, All-nil}
 use Rattle.dma_emit.specs.declared.devices.DomainDevice.{DomainDevice}
 use Rattle.dma_emit.specs.declared.domains.Domains.{Domains}
-use Rattle.dma_emit.specs.declared.entries.WideEntry.{WideEntry}
 use Rattle.dma_emit.specs.Base.{is_free}
 use Rattle.dma_emit.specs.Domains.{domain_devices, domains_of, windows_of}
 use Rattle.dma_emit.specs.Entries.{absent, context_entry, root_entry}
-use Rattle.dma_emit.specs.Layout.{buses, page_count, tables_page}
+use Rattle.dma_emit.specs.Layout.{buses, page_count}
 use Rattle.dma_emit.specs.Reached.{placed_at}
 use Rattle.ept_emit.specs.Entries.{leaf_entry, table_entry}
-use Rattle.ept_emit.specs.Pages.{AreApart, IsMapped, count, ept_pages, is_taken, ranges_of}
+use Rattle.ept_emit.specs.Pages.{AreApart, IsMapped, count, ept_pages, is_taken}
 use Rattle.ept_emit.specs.declared.window.GuestRange.{GuestRange}
 use Rattle.ept_emit.specs.declared.window.Leaf.TheVariants.{Small}
 use Rattle.ept_emit.specs.declared.window.Window.{Window}
-use Rattle.ept_emit.proofs.Tallies.{Tallied, tally_end, tally_start, tally_step}
+use Rattle.ept_emit.proofs.Tallies.{tally_end, tally_start, tally_step}
 use Rattle.expand_grants.specs.Ordered.{in_order, inserted}
 use Rattle.muen_num.specs.declared.access.AccessKind.TheVariants.{Read, Write}
 use Rattle.policy_lawful.specs.Dma.{dma_access}
@@ -25,7 +24,6 @@ use Rattle.policy_lawful.specs.Rules.{extents_of}
 use Rattle.policy_types.specs.declared.rights.Caching.TheVariants.{Uc, Wb}
 use Rattle.policy_types.specs.declared.rights.Rights.TheVariants.{Rw}
 use Rattle.policy_types.specs.declared.source.Content.TheVariants.{Zero}
-use Rattle.policy_types.specs.declared.source.Source.{Source}
 use Rattle.region_alloc.specs.Placed.{Placement}
 
 -- ---- the policy

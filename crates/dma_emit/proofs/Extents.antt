@@ -1,5 +1,5 @@
 -- The ranges of physical memory of a lawful policy: whole pages, and few enough that there is room behind some of them.
-use Rattle.std.proofs.Common.{◌≡◌, ℕ, ◌+◌, ◌*◌, ◌%◌, ◌<◌, ◌≤◌, ◌^◌, All, Bool, true, List, [], ◌∷◌, ◌++◌, length, map, None, refl, sym, ap, ◌∙◌, arith, length-append, mul-le-mul}
+use Rattle.std.proofs.Common.{◌≡◌, ℕ, ◌+◌, ◌*◌, ◌%◌, ◌≤◌, ◌^◌, All, true, List, [], ◌∷◌, ◌++◌, length, map, None, refl, arith, length-append, mul-le-mul}
 use Rattle.std.specs.Prelude.{◌&&◌, codes, nat_le}
 use Rattle.std.specs.List.{flat_map, list_all, sum_by}
 use Rattle.std.proofs.lemmas.Bool.{and_parts, eqb-true, leb-true}
@@ -8,7 +8,7 @@ use Rattle.std.proofs.lemmas.List.Elements.{All-append, All-map, All-nil}
 use Rattle.std.proofs.lemmas.List.Sums.{sum_by-append, sum_by-cons}
 use Rattle.muen_num.proofs.Lists.{sum_by-map}
 use Rattle.muen_num.proofs.SearchLaws.{none_both, unless_none}
-use Rattle.muen_num.specs.declared.limits.TheConstants.{MOST_BLOCK_BYTES, MOST_BLOCKS, MOST_DEVICE_BYTES, MOST_DEVICE_WINDOWS, PAGE, PHYSICAL_END}
+use Rattle.muen_num.specs.declared.limits.TheConstants.{MOST_BLOCKS, PAGE, PHYSICAL_END}
 use Rattle.policy_lawful.specs.Lawful.{IsLawful}
 use Rattle.policy_lawful.specs.Offences.{alone}
 use Rattle.policy_lawful.specs.Rules.{at_most, extents_of, is_page_aligned, is_page_size, is_physical, offence_20}

@@ -1,15 +1,15 @@
 -- Walks of second-level tables go where the windows lead.
-use Rattle.std.proofs.Common.{◌≡◌, ℕ, zero, suc, ◌+◌, ◌-◌, ◌*◌, ◌/◌, ◌%◌, ◌^◌, ◌<◌, ◌≤◌, ◌==◌, ◌&&◌, true, false, Bool, List, Option, Some, None, All, refl, sym, ap, ◌∙◌, arith}
-use Rattle.std.specs.Prelude.{if◌then◌else◌, option_and_then, nat_le}
-use Rattle.std.proofs.lemmas.Bool.{and_from, and_left, and_parts, eq-eqb, leb-true, ne_eqb, or_cases}
+use Rattle.std.proofs.Common.{◌≡◌, ℕ, zero, suc, ◌+◌, ◌-◌, ◌*◌, ◌/◌, ◌%◌, ◌^◌, ◌<◌, ◌≤◌, ◌&&◌, true, false, Bool, List, Option, Some, None, All, refl, sym, ap, ◌∙◌, arith}
+use Rattle.std.specs.Prelude.{if◌then◌else◌, option_and_then}
+use Rattle.std.proofs.lemmas.Bool.{and_from, and_left, eq-eqb, ne_eqb}
 use Rattle.dma_emit.specs.Reached.{kind_of}
 use Rattle.dma_emit.specs.Ready.{IsForDevices}
 use Rattle.dma_tables.specs.DmaWalk.{are_zero, has_right, is_paging, next_page, page_in, paged}
 use Rattle.ept_emit.specs.Emitted.{window_at}
-use Rattle.ept_emit.specs.Entries.{IsEmittable, is_whole, leaf_entry, level_of, table_entry, type_of, window_on}
+use Rattle.ept_emit.specs.Entries.{IsEmittable, is_whole, leaf_entry, level_of, table_entry, type_of}
 use Rattle.ept_emit.specs.Tables.{IsWritten, child}
 use Rattle.ept_emit.specs.declared.window.Leaf.{Leaf}
-use Rattle.ept_emit.specs.declared.window.Leaf.TheVariants.{Small, Large, Huge}
+use Rattle.ept_emit.specs.declared.window.Leaf.TheVariants.{Small}
 use Rattle.ept_emit.specs.declared.window.Window.{Window}
 use Rattle.ept_emit.proofs.Found.{All_on, around, none_within, not_lowest, whole_parts, whole_within}
 use Rattle.ept_emit.proofs.Walked.{Has, fits, mapped_on}

@@ -1,7 +1,7 @@
 -- The search for the lowest free place: from the end of one range that is in the way to that of the next.
-use Rattle.std.proofs.Common.{◌≡◌, inl, inr, ℕ, ◌+◌, ◌%◌, ◌<◌, ◌≤◌, ◌&&◌, ◌||◌, Bool, true, false, cond, not, All, List, [], ◌∷◌, Option, Some, None, refl, sym, ap, ◌∙◌, arith, if◌then◌else◌, nat_le}
+use Rattle.std.proofs.Common.{◌≡◌, inl, inr, ℕ, ◌+◌, ◌%◌, ◌<◌, ◌≤◌, ◌&&◌, ◌||◌, Bool, true, false, cond, not, All, List, [], ◌∷◌, Some, None, refl, ap, ◌∙◌, arith, if◌then◌else◌, nat_le}
 use Rattle.std.specs.List.{find, list_all, sum_by}
-use Rattle.std.proofs.lemmas.Bool.{cases_Bool, cases_lt, and_from, le-leb, leb-false, leb-true, le-ltb, not-true, or_cases, or_parts}
+use Rattle.std.proofs.lemmas.Bool.{cases_Bool, cases_lt, le-leb, leb-false, leb-true, not-true, or_cases, or_parts}
 use Rattle.std.proofs.lemmas.List.Sums.{sum_by-cons, sum_by-le-sum_by}
 use Rattle.dma_emit.specs.Base.{IsLowestFree, is_free}
 use Rattle.muen_num.proofs.Members.{In, all_in, find_in}

@@ -1,7 +1,7 @@
 -- What is found where only one element passes.
-use Rattle.std.proofs.Common.{◌≡◌, inl, inr, suc, ◌&&◌, ◌==◌, Bool, true, false, cond, List, [], ◌∷◌, Some, refl, sym, ap, ◌∙◌, arith}
+use Rattle.std.proofs.Common.{◌≡◌, inl, inr, ◌&&◌, ◌==◌, Bool, true, false, cond, List, [], ◌∷◌, Some, refl, ap, ◌∙◌}
 use Rattle.std.specs.List.{AllPairs, find}
-use Rattle.std.proofs.lemmas.Bool.{and_from, and_parts, cases_Bool, eq-eqb, eqb-true, true≢false}
+use Rattle.std.proofs.lemmas.Bool.{and_from, eq-eqb}
 use Rattle.dma_emit.specs.declared.devices.DomainDevice.{DomainDevice}
 use Rattle.dma_emit.specs.Ready.{same_place}
 use Rattle.muen_num.proofs.Members.{In, all_in}

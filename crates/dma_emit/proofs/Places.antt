@@ -1,18 +1,15 @@
 -- Where in the pages of a file the words of its tables are.
-use Rattle.std.proofs.Common.{◌≡◌, inl, inr, ℕ, suc, ◌+◌, ◌*◌, ◌/◌, ◌<◌, ◌≤◌, true, false, cond, List, [], ◌++◌, length, get_or, refl, sym, ap, ◌∙◌, arith, append_assoc, length-append}
-use Rattle.std.specs.Prelude.{filter, if◌then◌else◌}
+use Rattle.std.proofs.Common.{◌≡◌, inl, inr, ℕ, ◌+◌, ◌*◌, ◌<◌, ◌≤◌, true, cond, List, [], ◌++◌, length, get_or, refl, sym, ap, ◌∙◌, arith, length-append}
 use Rattle.std.specs.List.{concat, flat_map, sum_by}
 use Rattle.std.proofs.lemmas.Bool.{cases_Bool}
 use Rattle.std.proofs.lemmas.List.Concat.{length-flat_map}
 use Rattle.dma_emit.specs.declared.domains.Domains.{Domains}
-use Rattle.dma_emit.specs.Emitted.{ArePages, AreTablesOf}
+use Rattle.dma_emit.specs.Emitted.{ArePages}
 use Rattle.dma_emit.specs.Entries.{context_entry, root_entry, table_bytes}
-use Rattle.dma_emit.specs.Layout.{buses, buses_below, context_page, domain_pages, has_device, on_bus, page_count, tables_page, windows_at}
-use Rattle.dma_emit.proofs.Layouts.{buses_are, few_below, pages_none, pages_some}
-use Rattle.dma_emit.proofs.Lists.{concat_numbered, filter_sizes, flat_filter, part_at, part_left, part_of, part_right, sum_grows, sum_rises, sum_same, sum_times, where_passes}
+use Rattle.dma_emit.specs.Layout.{buses, buses_below, context_page, domain_pages, has_device, on_bus, page_count, tables_page}
+use Rattle.dma_emit.proofs.Layouts.{buses_are, pages_none, pages_some}
+use Rattle.dma_emit.proofs.Lists.{concat_numbered, filter_sizes, flat_filter, part_at, part_left, part_right, sum_rises, sum_same, sum_times, where_passes}
 use Rattle.dma_emit.proofs.Words.{length-table, word_in}
-use Rattle.ept_emit.specs.Entries.{word_at}
-use Rattle.ept_emit.specs.Pages.{ept_pages, ranges_of}
 use Rattle.machine_layout.specs.Memory.{le_number}
 use Rattle.muen_num.specs.Range.{numbers_below}
 

@@ -1,10 +1,8 @@
 -- The regions of a placed policy's memory have no more bytes than its blocks.
-use Rattle.std.proofs.Common.{◌≡◌, ℕ, zero, suc, ◌+◌, ◌*◌, ◌/◌, ◌<◌, ◌≤◌, ◌⊎◌, inl, inr, Bool, true, false, not, All, List, [], ◌∷◌, ◌++◌, get_or, length, map, refl, sym, ap, ◌∙◌, arith}
-use Rattle.std.specs.Prelude.{◌||◌, nat_le}
+use Rattle.std.proofs.Common.{◌≡◌, ℕ, ◌+◌, ◌*◌, ◌/◌, ◌<◌, ◌≤◌, true, All, List, [], ◌∷◌, ◌++◌, length, map, refl, ap, ◌∙◌, arith}
 use Rattle.std.specs.List.{AllPairs, enumerate_from, sum_by, zip}
-use Rattle.std.specs.List.Sorted.{IsNonDecreasingBy, IsPermutation}
-use Rattle.std.proofs.lemmas.Bool.{cases_Bool, le-leb, leb-false, leb-true, or_cases}
-use Rattle.std.proofs.lemmas.List.Elements.{All-cons, All-head, All-nil, All-tail, All-weaker}
+use Rattle.std.specs.List.Sorted.{IsPermutation}
+use Rattle.std.proofs.lemmas.List.Elements.{All-weaker}
 use Rattle.std.proofs.lemmas.List.Sorted.{All-permutation, sum_by-IsPermutation}
 use Rattle.std.proofs.lemmas.List.Sums.{sum_by-append, sum_by-cons}
 use Rattle.dma_emit.proofs.Ranges.{ascending, before}
@@ -12,7 +10,6 @@ use Rattle.expand_grants.specs.Ordered.{in_order}
 use Rattle.expand_grants.proofs.Ordered.{in_order_permutes}
 use Rattle.expand_kernel.specs.Regions.{own_region}
 use Rattle.expand_kernel.specs.declared.region.Region.{Region}
-use Rattle.image_pack.specs.SpanConditions.{end_of}
 use Rattle.image_pack.specs.declared.parts.SpanPart.{SpanPart}
 use Rattle.muen_num.proofs.Lists.{sum_by-map}
 use Rattle.muen_num.specs.declared.limits.TheConstants.{MOST_BLOCK_BYTES, PAGE}

@@ -1,25 +1,24 @@
 -- The walk over the tables goes where the domains' windows lead.
-use Rattle.std.proofs.Common.{◌≡◌, inl, inr, ℕ, ◌+◌, ◌-◌, ◌*◌, ◌/◌, ◌%◌, ◌^◌, ◌<◌, ◌≤◌, ◌==◌, ◌&&◌, true, false, Bool, List, [], get_or, length, map, All, Option, Some, None, refl, sym, ap, ◌∙◌, subst, arith}
+use Rattle.std.proofs.Common.{◌≡◌, inl, inr, ℕ, ◌+◌, ◌-◌, ◌*◌, ◌/◌, ◌%◌, ◌^◌, ◌<◌, ◌≤◌, ◌==◌, ◌&&◌, true, false, Bool, List, [], get_or, length, All, Option, Some, None, refl, sym, ap, ◌∙◌, subst, arith}
 use Rattle.std.specs.Prelude.{find, if◌then◌else◌, nat_le, nat_lt, option_and_then, option_map}
-use Rattle.std.specs.List.{AllPairs}
 use Rattle.std.specs.Option.{option_map_or}
 use Rattle.std.specs.Str.{bytes_eq}
-use Rattle.std.proofs.lemmas.Bool.{and_from, cases_Bool, eq-eqb, le-leb, le-ltb, lt-ltb, ltb-true, leb-false, ltb-false}
+use Rattle.std.proofs.lemmas.Bool.{and_from, cases_Bool, eq-eqb, le-leb, lt-ltb, ltb-true, ltb-false}
 use Rattle.dma_emit.specs.declared.devices.DomainDevice.{DomainDevice}
 use Rattle.dma_emit.specs.declared.domains.Domains.{Domains}
 use Rattle.dma_emit.specs.declared.entries.WideEntry.{WideEntry}
-use Rattle.dma_emit.specs.Emitted.{ArePages, IsFileOf}
-use Rattle.dma_emit.specs.Entries.{absent, context_entry, context_of, device_on, domain_word, refers_to, root_entry, table_bytes}
-use Rattle.dma_emit.specs.Layout.{buses, context_page, domain_pages, has_device, on_bus, page_count, tables_page, windows_at}
+use Rattle.dma_emit.specs.Emitted.{IsFileOf}
+use Rattle.dma_emit.specs.Entries.{absent, context_entry, context_of, domain_word, refers_to, root_entry}
+use Rattle.dma_emit.specs.Layout.{context_page, domain_pages, has_device, on_bus, page_count, tables_page, windows_at}
 use Rattle.dma_emit.specs.Reached.{kind_of}
-use Rattle.dma_emit.specs.Ready.{AreWindows, IsReady, same_place}
-use Rattle.dma_emit.proofs.Layouts.{before_all, context_fits, contexts_first, domain_there, pages_next, pages_some, windows_there}
+use Rattle.dma_emit.specs.Ready.{IsReady}
+use Rattle.dma_emit.proofs.Layouts.{before_all, context_fits, domain_there, pages_next, pages_some, windows_there}
 use Rattle.dma_emit.proofs.Levels.{descend, descended, led_page, paged_is}
 use Rattle.dma_emit.proofs.OnlyOne.{only_found}
 use Rattle.dma_emit.proofs.Places.{context_word, pages_long, root_word, tables_word}
 use Rattle.dma_emit.proofs.Words.{high_of, low_of, word_in}
 use Rattle.dma_tables.specs.DmaFile.{pages_in}
-use Rattle.dma_tables.specs.DmaWalk.{are_zero, context_table, device_page, device_walk, dma_walk, highest_table, is_context, is_root, page_in, pair_page, paged, root_page, word_of}
+use Rattle.dma_tables.specs.DmaWalk.{context_table, device_page, device_walk, dma_walk, highest_table, is_context, is_root, page_in, pair_page, paged, root_page, word_of}
 use Rattle.dma_tables.specs.declared.file.DmaDevice.{DmaDevice}
 use Rattle.dma_tables.specs.declared.file.DmaFile.{DmaFile}
 use Rattle.ept_emit.specs.Emitted.{window_at}
@@ -27,7 +26,6 @@ use Rattle.ept_emit.specs.Entries.{IsEmittable, word_at}
 use Rattle.ept_emit.specs.declared.window.Window.{Window}
 use Rattle.ept_emit.proofs.Found.{All_at, first_held}
 use Rattle.ept_emit.proofs.Walked.{Has}
-use Rattle.machine_layout.specs.Memory.{le_number}
 use Rattle.machine_layout.specs.PageFields.{number_at}
 use Rattle.machine_layout.specs.Walks.{bits_of}
 use Rattle.muen_num.proofs.Lists.{find-map}

@@ -1,12 +1,11 @@
 -- The devices of a placed policy that stand in domains, and where the windows of domains lead (Intel VT-d specification:
 -- domains, source identifiers).
-use Rattle.std.specs.Prelude.{ℕ, ◌+◌, ◌*◌, Bool, nat_le, List, length, map, slice_index, position, Option, Some, None, option_map, option_and_then}
+use Rattle.std.specs.Prelude.{ℕ, ◌+◌, ◌*◌, Bool, nat_le, List, map, slice_index, position, Option, option_map, option_and_then}
 use Rattle.std.specs.List.{filter_map, find, list_any}
 use Rattle.std.specs.Option.{option_map_or}
 use Rattle.std.specs.Str.{bytes_eq}
 use Rattle.dma_emit.specs.declared.devices.DomainDevice.{DomainDevice}
 use Rattle.dma_emit.specs.declared.domains.Domains.{Domains}
-use Rattle.dma_tables.specs.declared.file.DmaDevice.{DmaDevice}
 use Rattle.ept_emit.specs.declared.window.Leaf.TheVariants.{Small}
 use Rattle.ept_emit.specs.declared.window.Window.{Window}
 use Rattle.expand_grants.specs.Ordered.{in_order}

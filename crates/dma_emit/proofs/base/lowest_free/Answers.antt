@@ -1,6 +1,6 @@
-use Rattle.std.proofs.Common.{◌≡◌, ◌+◌, ◌*◌, Some, None, not, sym, ap, ◌∙◌, arith, option_map}
-use Rattle.std.specs.List.{find, sum_by}
-use Rattle.dma_emit.proofs.LowestFree.{IsNext, ends_free, goes_on, is_beside, not_far, starts}
+use Rattle.std.proofs.Common.{◌≡◌, Some, not, sym, ap, ◌∙◌, arith, option_map}
+use Rattle.std.specs.List.{find}
+use Rattle.dma_emit.proofs.LowestFree.{ends_free, goes_on, is_beside, not_far}
 use Rattle.dma_emit.proofs.base.lowest_free.Goals as goal
 
 pub in_the_way-requires-clause-small : goal.in_the_way-requires-clause-small

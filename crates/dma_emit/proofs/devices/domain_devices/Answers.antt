@@ -1,4 +1,4 @@
-use Rattle.std.proofs.Common.{◌++◌, [], sym, ap, ◌∙◌, arith, take_all}
+use Rattle.std.proofs.Common.{◌++◌, [], ap, ◌∙◌, arith, take_all}
 use Rattle.std.specs.List.{cons_option, filter_map}
 use Rattle.dma_emit.specs.Domains.{domain_device, domain_devices}
 use Rattle.dma_emit.proofs.Lists.{filter_map_step}

@@ -1,6 +1,5 @@
 use Rattle.std.proofs.Common.{◌≡◌, true, All, map, sym, ap, ◌∙◌, subst}
 use Rattle.std.specs.List.{filter_map}
-use Rattle.dma_emit.specs.declared.domains.Domains.{Domains}
 use Rattle.dma_emit.specs.Domains.{domain_devices, domains_of, mapped, windows_of}
 use Rattle.dma_emit.specs.Ready.{HaveDifferentGuests, IsReady}
 use Rattle.dma_emit.proofs.DomainsReady.{all_different, bdfs, ready}

@@ -1,6 +1,5 @@
-use Rattle.std.proofs.Common.{◌+◌, ◌*◌, ap, ◌∙◌, arith}
+use Rattle.std.proofs.Common.{◌+◌, ap, ◌∙◌, arith}
 use Rattle.dma_emit.specs.Entries.{domain_word, refers_to}
-use Rattle.dma_emit.specs.declared.entries.WideEntry.{WideEntry}
 use Rattle.dma_emit.proofs.Layouts.{before_all, page_at, page_there}
 use Rattle.dma_emit.proofs.entries.context_of.Goals as goal
 

@@ -1,5 +1,4 @@
 use Rattle.std.proofs.Common.{[], sym, ◌∙◌, subst}
-use Rattle.dma_emit.specs.Layout.{windows_at}
 use Rattle.dma_emit.specs.Ready.{AreWindows}
 use Rattle.dma_emit.proofs.Layouts.{windows_there}
 use Rattle.dma_emit.proofs.Lists.{index_is}

@@ -1,7 +1,4 @@
-use Rattle.std.proofs.Common.{◌≡◌, ◌+◌, ◌-◌, [], true, not, length, get_or, sym, ap, ◌∙◌, subst, arith}
-use Rattle.std.specs.Prelude.{IfOk}
-use Rattle.dma_emit.specs.Emitted.{AreTablesOf, IsDomainsTables}
-use Rattle.dma_emit.specs.Layout.{has_device, tables_page, windows_at}
+use Rattle.std.proofs.Common.{◌+◌, [], get_or, sym, ap, ◌∙◌, subst, arith}
 use Rattle.dma_emit.specs.Ready.{AreWindows}
 use Rattle.dma_emit.proofs.Layouts.{before_all, page_at, page_there, pages_next, pages_some, pages_step, windows_there}
 use Rattle.dma_emit.proofs.Lists.{index_is}
