@@ -1,13 +1,15 @@
 -- The tables of a policy's domains of devices: they fit each image that has the policy's regions where they were placed.
-use Rattle.std.proofs.Common.{◌≡◌, ℕ, Bool, true, List, length, Some, Result, Ok, Err, IfOk, refl, sym, subst}
+use Rattle.std.proofs.Common.{◌≡◌, ◌*◌, ◌<◌, ℕ, Bool, true, List, length, Some, Result, Ok, Err, IfOk, refl, sym, subst}
 use Rattle.dma_emit.specs.Base.{IsBase}
 use Rattle.dma_emit.specs.Domains.{domains_of}
 use Rattle.dma_emit.specs.Emitted.{IsFileOf}
 use Rattle.dma_emit.specs.Reached.{declared_at}
 use Rattle.dma_tables.specs.DmaWalk.{dma_walk}
+use Rattle.dma_tables.specs.declared.file.TheConstants.{MOST_DMA_PAGES}
 use Rattle.dma_tables.specs.declared.file.DmaFile.{DmaFile}
 use Rattle.image_pack.specs.declared.parts.Image.{Image}
 use Rattle.image_soundness.specs.Sound.{IsSound}
+use Rattle.muen_num.specs.declared.limits.TheConstants.{PAGE}
 use Rattle.policy_lawful.specs.Contents.{Held}
 use Rattle.policy_lawful.specs.Resolution.{source_of}
 use Rattle.policy_types.specs.declared.source.Source.{Source}
@@ -26,7 +28,7 @@ tables_fit p t tables files i sound spans =
 -- tables that are emitted for a placed policy are those of its domains
 pub are_tables : {E : Type 0} (x : Placement) → IsPlaced x → (result : Result DmaFile E)
     → IfOk result (λ t. (device : List ℕ) (addr : ℕ) (write : Bool) → dma_walk t device addr write ≡ declared_at x device addr write)
-    → IfOk result (IsFileOf (domains_of x)) → IfOk result (λ t. IsBase (source_of x.expanded.lawful) (length t.pages) t.base)
+    → IfOk result (IsFileOf (domains_of x)) → IfOk result (λ t. length t.pages < PAGE * MOST_DMA_PAGES) → IfOk result (λ t. IsBase (source_of x.expanded.lawful) (length t.pages) t.base)
     → IfOk result (AreTablesFor (source_of x.expanded.lawful))
-are_tables x placed (Ok t) walk file base = record { placement = x; of_policy = refl; placed = placed; file = file; base = base; walk = walk }
-are_tables x placed (Err e) walk file base = tt
+are_tables x placed (Ok t) walk file few base = record { placement = x; of_policy = refl; placed = placed; file = file; few = few; base = base; walk = walk }
+are_tables x placed (Err e) walk file few base = tt

@@ -15,6 +15,7 @@ mod boot;
 mod build;
 mod call;
 mod command;
+mod limits;
 mod loading;
 mod outcome;
 mod over_held;
@@ -22,6 +23,7 @@ mod policy_commands;
 mod report;
 mod run;
 mod status;
+mod tables;
 
 use muen_outside::{Files, Sink};
 pub use over_held::muen_over_held;
