@@ -1,10 +1,10 @@
 -- Where regions lie in an image whose spans are those of a placed policy.
 use Rattle.std.proofs.Common.{◌≡◌, ◌∙◌, ℕ, zero, suc, ◌+◌, ◌≤◌, ◌<◌, Bool, true, false, cond, List, [], ◌∷◌, ◌++◌, length, map, filter, zip, Option, Some, None, Ok, refl, sym, ap, subst, arith, inl, inr}
 use Rattle.std.specs.Prelude.{not, option_map, slice_get, slice_index_or}
-use Rattle.std.specs.List.{enumerate_from}
+use Rattle.std.specs.List.{enumerate_from, flat_map}
 use Rattle.std.proofs.lemmas.Bool.{cases_Bool}
 use Rattle.std.proofs.lemmas.Option.{get_or_from_slice_get, slice_get-map}
-use Rattle.expand_kernel.specs.Regions.{own_region, regions_of}
+use Rattle.expand_kernel.specs.Regions.{channel_region, kernel_regions_of, own_region, provided_regions, regions_of}
 use Rattle.expand_kernel.specs.declared.region.Region.{Region}
 use Rattle.image_pack.specs.ImageConditions.{KeepsConditions}
 use Rattle.image_pack.specs.declared.parts.Image.{Image}
@@ -13,7 +13,7 @@ use Rattle.image_soundness.specs.Memory.{Span, by_number}
 use Rattle.image_soundness.specs.Sound.{IsSound, address_of, is_kernel, thing_spans}
 use Rattle.policy_lawful.specs.Contents.{Held}
 use Rattle.policy_lawful.specs.Resolution.{source_of}
-use Rattle.policy_lawful.specs.Thing.{Thing, region, same_thing, things_of}
+use Rattle.policy_lawful.specs.Thing.{channel, component_by, device_memory, provided_by, region, same_thing, things_of}
 use Rattle.policy_types.specs.declared.source.Region.{Region as SourceRegion}
 use Rattle.policy_types.specs.declared.source.Source.{Source}
 use Rattle.proof_build.specs.Built.{HasSpans}
@@ -31,6 +31,9 @@ front_at [] ys k x e = absurd (cc)
 front_at (y ∷ xs) ys zero x e = e
 front_at (y ∷ xs) ys (suc k) x e = front_at xs ys k x e
 
+front_of_four : {X : Type 0} (xs a b c : List X) (k : ℕ) (x : X) → slice_get xs k ≡ Some x → slice_get (xs ++ a ++ b ++ c) k ≡ Some x
+front_of_four xs a b c k x e = front_at (xs ++ a ++ b) c k x (front_at (xs ++ a) b k x (front_at xs a k x e))
+
 mapped_at : {X Y : Type 0} (f : X → Y) (xs : List X) (k : ℕ) (x : X) → slice_get xs k ≡ Some x → slice_get (map f xs) k ≡ Some (f x)
 mapped_at f xs k x e = slice_get-map f xs k ∙ ap (option_map f) e
 
@@ -45,17 +48,15 @@ record Passes {X : Type 0} (test : X → Bool) (xs : List X) (k : ℕ) : Type 0 
   here : slice_get xs k ≡ Some one
   passes : test one ≡ true
 
+first_passes : {X : Type 0} (test : X → Bool) (x : X) (xs : List X) → Passes test (x ∷ xs) 0 → test x ≡ true
+first_passes test x xs p = let first : x ≡ p.one = (let e = p.here in cc (e)) in ap test first ∙ p.passes
+
 kept_in_front : {X : Type 0} (test : X → Bool) (xs : List X) (k : ℕ) → ((j : ℕ) → j ≤ k → Passes test xs j) → slice_get (filter test xs) k ≡ slice_get xs k
-kept_in_front test [] k all = absurd (cc (let p = all 0 (omega arith) in p.here))
-kept_in_front test (x ∷ xs) k all =
-    let p = all 0 (omega arith) in
-    let first : x ≡ p.one = (let e = p.here in cc (e)) in
-    let t : test x ≡ true = ap test first ∙ p.passes in
-    ap (λ b. slice_get (cond b (x ∷ filter test xs) (filter test xs)) k) t ∙ behind k all
-  where
-    behind : (k : ℕ) → ((j : ℕ) → j ≤ k → Passes test (x ∷ xs) j) → slice_get (x ∷ filter test xs) k ≡ slice_get (x ∷ xs) k
-    behind zero all = refl
-    behind (suc k) all = kept_in_front test xs k (λ j le. let p = all (suc j) (omega (arith, le)) in record { one = p.one; here = p.here; passes = p.passes })
+kept_in_front test [] k all = absurd (let e = (all 0 (omega arith)).here in cc (e))
+kept_in_front test (x ∷ xs) zero all = ap (λ b. slice_get (cond b (x ∷ filter test xs) (filter test xs)) zero) (first_passes test x xs (all 0 (omega arith)))
+kept_in_front test (x ∷ xs) (suc k) all =
+    ap (λ b. slice_get (cond b (x ∷ filter test xs) (filter test xs)) (suc k)) (first_passes test x xs (all 0 (omega arith)))
+    ∙ kept_in_front test xs k (λ j le. let p = all (suc j) (omega (arith, le)) in record { one = p.one; here = p.here; passes = p.passes })
 
 there_below : {X : Type 0} (xs : List X) (j k : ℕ) (x : X) → slice_get xs k ≡ Some x → j ≤ k → (y : X) × (slice_get xs j ≡ Some y)
 there_below [] j k x e le = absurd (cc)
@@ -72,7 +73,9 @@ module _ (x : Placement) (placed : IsPlaced x) (files : Held) (i : Image) (keeps
 
   region_at : (k : ℕ) (r : SourceRegion) → slice_get p.memory k ≡ Some r → slice_get (regions_of p) k ≡ Some (own_region r)
   unfolding regions_of
-  region_at k r e = front_at (map own_region p.memory) _ k (own_region r) (mapped_at own_region p.memory k r e)
+  region_at k r e =
+      front_of_four (map own_region p.memory) (map channel_region p.channels) (flat_map (λ s. provided_regions s.name (component_by p s.component)) p.subjects) (flat_map (kernel_regions_of p) p.subjects) k (own_region r)
+      (mapped_at own_region p.memory k r e)
 
   -- the span of a region of memory, among those by number
   record IsAt (k : ℕ) (r : SourceRegion) : Type 0 where
@@ -110,12 +113,18 @@ module _ (x : Placement) (placed : IsPlaced x) (files : Held) (i : Image) (keeps
       let a = is_at j q.0 q.1 in
       record { one = a.span; here = a.here; passes = ap not a.own }
 
+  thing_at : (k : ℕ) (r : SourceRegion) → slice_get p.memory k ≡ Some r → slice_get (things_of p) k ≡ Some (region r.name)
+  unfolding things_of
+  thing_at k r e =
+      front_of_four (map (λ (r : SourceRegion). region r.name) p.memory) (map (λ c. channel c.name) p.channels)
+      (flat_map (λ s. provided_by s.name (component_by p s.component)) p.subjects) (flat_map (λ d. map (λ m. device_memory d.name m.name) d.memory) p.devices) k (region r.name)
+      (mapped_at (λ (r : SourceRegion). region r.name) p.memory k r e)
+
   -- a region of memory lies where it was placed
   pub placed_there : (k : ℕ) (r : SourceRegion) → slice_get p.memory k ≡ Some r → slice_get x.addresses k ≡ Some (address_of p i (region r.name))
-  unfolding things_of
   placed_there k r e =
       let a = is_at k r e in
-      let thing : slice_get (things_of p) k ≡ Some (region r.name) = front_at (map (λ (r : SourceRegion). region r.name) p.memory) _ k (region r.name) (mapped_at (λ (r : SourceRegion). region r.name) p.memory k r e) in
+      let thing = thing_at k r e in
       let span = listed_span p files i keeps sound (region r.name) (any_at (λ y. same_thing y (region r.name)) (things_of p) k (region r.name) thing (same_thing_self (region r.name))) in
       let number : span.number ≡ k = thing_once p placed.lawful (region r.name) span.number k span.listed thing in
       let here : slice_get (thing_spans i) k ≡ Some a.span = kept_in_front (λ (e : Span). not (is_kernel e.0.kind)) (by_number i) k (in_front k r e) ∙ a.here in

@@ -1,19 +1,17 @@
 -- Lines of direct memory access: where tables fit, the machine writes what the system writes.
-use Rattle.std.proofs.Common.{◌≡◌, ◌∙◌, ℕ, zero, suc, ◌+◌, ◌-◌, ◌*◌, ◌/◌, ◌%◌, ◌<◌, ◌≤◌, Bool, true, false, cond, not, List, [], ◌∷◌, ◌++◌, length, map, take, drop, Option, Some, None, find, position, is_some, unwrap_or, refl, sym, ap, ap₂, subst, arith, inl, inr, le-leb, lt-ltb, flat_map}
+use Rattle.std.proofs.Common.{◌≡◌, ◌∙◌, ℕ, suc, ◌+◌, ◌-◌, ◌*◌, ◌/◌, ◌%◌, ◌<◌, ◌≤◌, Bool, true, false, cond, not, List, [], ◌∷◌, ◌++◌, length, map, take, drop, Option, Some, None, find, position, is_some, unwrap_or, refl, sym, ap, ap₂, subst, arith, inl, inr, le-leb, lt-ltb}
 use Rattle.std.specs.Prelude.{◌&&◌, if◌then◌else◌, nat_le, nat_lt, option_and_then, slice_get}
-use Rattle.std.specs.List.{All, AllZip, enumerate_from, list_all, list_any, position_or_len}
-use Rattle.std.specs.Str.{bytes_eq}
+use Rattle.std.specs.List.{All, enumerate_from, list_all, position_or_len}
 use Rattle.std.proofs.lemmas.Bool.{and_from, and_left, and_right, cases_lt}
 use Rattle.std.proofs.lemmas.List.{append-nil, length-drop, length-take, map-append, take-append-drop}
 use Rattle.std.proofs.lemmas.List.Elements.{All-drop, All-take}
 use Rattle.std.proofs.lemmas.List.Folds.{list_all-append}
-use Rattle.device_bench.specs.declared.effect.Effect.{Effect}
 use Rattle.device_bench.specs.declared.effect.Effect.TheVariants.{Mem as ToMem}
 use Rattle.dma_tables.specs.LineWrites.{one_write, two_writes}
 use Rattle.dma_tables.specs.Lowered.{goes, in_spans, is_in_spans, is_line, landing, left_in_page, line_writes as machine_writes}
 use Rattle.dma_tables.specs.declared.file.DmaFile.{DmaFile}
 use Rattle.dma_tables.proofs.ByPages.{IsByPage, goes_by_page}
-use Rattle.dma_tables.proofs.Lines.{HasTwo, has_two, line_in_one, line_in_two, line_length, numbered_append}
+use Rattle.dma_tables.proofs.Lines.{has_two, line_in_one, line_in_two, line_length, numbered_append}
 use Rattle.guest_isa.specs.Words.{IsByte}
 use Rattle.image_pack.specs.ImageConditions.{KeepsConditions}
 use Rattle.image_pack.specs.declared.parts.DevicePart.{DevicePart}
@@ -28,7 +26,7 @@ use Rattle.policy_lawful.specs.Dma.{dma_access}
 use Rattle.policy_lawful.specs.Thing.{Thing}
 use Rattle.policy_lawful.specs.Windows.{Access, byte, violation}
 use Rattle.policy_types.specs.declared.source.Source.{Source}
-use Rattle.proof_runs.proofs.DomainWindows.{Lands, lands, next_lands}
+use Rattle.proof_runs.proofs.DomainWindows.{lands, next_lands}
 use Rattle.proof_runs.specs.Fit.{place_of, write_by}
 use Rattle.proof_start.proofs.ListFacts.{all_at}
 use Rattle.proof_start.specs.GroundOf.{ground_of}
@@ -43,7 +41,7 @@ found_there test [] = refl
 found_there test (x ∷ xs) =
     elim (test x) as (λ b. slice_get (x ∷ xs) (cond (not b) (1 + position_or_len test xs) 0) ≡ cond b (Some x) (find test xs)) [
       | true ↦ refl
-      | false ↦ found_there test xs
+      | false ↦ let next : 1 + position_or_len test xs ≡ suc (position_or_len test xs) = omega arith in ap (slice_get (x ∷ xs)) next ∙ found_there test xs
     ]
 
 -- what has a number is found
@@ -138,7 +136,7 @@ module _ (p : Source) (files : Held) (i : Image) (keeps : KeepsConditions i) (so
       → AreLine (ground_of p i) (two_writes (place_of (address_of p i) a) front (place_of (address_of p i) b) back) ws
   in_two addr next front back (byte x offset) (byte y behind) ws e f are some more room rest small smaller =
       written (part x offset front ∷ part y behind back ∷ [])
-      (one_write_is addr offset x front e room small, one_write_is next behind y back f rest smaller, tt)
+      (one_write_is addr offset x front e room small, (one_write_is next behind y back f rest smaller, tt))
       (ap (λ vs. each_of (part x offset front) ++ vs) (append-nil (each_of (part y behind back)) ∙ sym (part_lands back next behind y f rest))
       ∙ ap (λ vs. vs ++ writes next back) (sym (part_lands front addr offset x e room)) ∙ sym are)
   in_two addr next front back (byte x offset) (violation found) ws e f are some more room rest small smaller =

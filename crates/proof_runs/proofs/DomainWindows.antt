@@ -1,6 +1,6 @@
 -- The windows of the domains of devices: whole pages of the spans of regions.
 use Rattle.std.proofs.Common.{◌≡◌, ◌∙◌, ℕ, ◌+◌, ◌-◌, ◌*◌, ◌/◌, ◌%◌, ◌<◌, ◌≤◌, Bool, true, false, cond, List, [], ◌∷◌, map, Option, Some, None, refl, sym, ap, subst, arith, is_some}
-use Rattle.std.specs.Prelude.{◌&&◌, if◌then◌else◌, nat_le, nat_lt, option_map}
+use Rattle.std.specs.Prelude.{if◌then◌else◌, nat_le, nat_lt, option_map}
 use Rattle.std.specs.Option.{IfSome, option_map_or}
 use Rattle.std.specs.List.{AllByRecursion, cons_option, filter_map, find, list_all, list_any}
 use Rattle.std.specs.Str.{bytes_eq}
@@ -21,7 +21,7 @@ use Rattle.policy_lawful.specs.Dma.{dma_windows, domain_of, domain_windows}
 use Rattle.policy_lawful.specs.Domains.{each_window, offence_22}
 use Rattle.policy_lawful.specs.Offences.{two}
 use Rattle.policy_lawful.specs.Rules.{is_declared, is_page_aligned}
-use Rattle.policy_lawful.specs.Thing.{Thing, region, same_thing, things_of}
+use Rattle.policy_lawful.specs.Thing.{Thing, region}
 use Rattle.policy_lawful.specs.Windows.{Window, access_by, access_of, byte, holds, region_window, violation, window}
 use Rattle.policy_types.specs.Rights.{allows}
 use Rattle.policy_types.specs.declared.rights.Rights.{Rights}
@@ -80,14 +80,13 @@ module _ (p : Source) (files : Held) (i : Image) (keeps : KeepsConditions i) (so
 
   windows_on : (ms : List Mapping) → list_all begins_page ms ≡ true → AllByRecursion IsOnSpan (filter_map window_by ms)
   windows_on [] all = tt
-  windows_on (m ∷ ms) all = by (window_by m) refl
+  windows_on (m ∷ ms) all =
+      let each = and_parts (begins_page m) (list_all begins_page ms) all in
+      by (windows_on ms each.1) each.0 (window_by m) refl
     where
-      each : (begins_page m ≡ true) × (list_all begins_page ms ≡ true)
-      each = and_parts (begins_page m) (list_all begins_page ms) all
-
-      by : (o : Option (Window Thing)) → window_by m ≡ o → AllByRecursion IsOnSpan (cons_option o (filter_map window_by ms))
-      by None e = windows_on ms each.1
-      by (Some w) e = (window_on m.region m.virtual_address m.rights w (eqb-true (m.virtual_address % PAGE) 0 each.0) e, windows_on ms each.1)
+      by : AllByRecursion IsOnSpan (filter_map window_by ms) → begins_page m ≡ true → (o : Option (Window Thing)) → window_by m ≡ o → AllByRecursion IsOnSpan (cons_option o (filter_map window_by ms))
+      by rest begins None e = rest
+      by rest begins (Some w) e = (window_on m.region m.virtual_address m.rights w (eqb-true (m.virtual_address % PAGE) 0 begins) e, rest)
 
   domain_on : (o : Option Domain) (device : List ℕ) → domain_of p device ≡ o → AllByRecursion IsOnSpan (option_map_or (domain_windows p) o [])
   domain_on None device e = tt

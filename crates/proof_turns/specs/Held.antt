@@ -1,5 +1,5 @@
 -- What a subject has for itself in a machine, wherever it is kept: on its CPU, or on its pages.
-use Rattle.std.specs.Prelude.{◌≡◌, ℕ, ◌^◌, ◌==◌, ◌<◌, Bool, true, false, if◌then◌else◌, List, [], ◌∷◌, length, Option, Some, None, option_map, slice_get, unwrap_or}
+use Rattle.std.specs.Prelude.{◌≡◌, ℕ, ◌==◌, ◌<◌, Bool, true, false, if◌then◌else◌, List, [], ◌∷◌, length, Option, Some, None, option_map, slice_get, unwrap_or}
 use Rattle.std.specs.List.{All}
 use Rattle.guest_isa.specs.Words.{IsWord}
 use Rattle.subject_model.specs.Alone.{MsrValues, Things, is_in, msr_value, thing_in}

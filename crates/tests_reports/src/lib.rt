@@ -5,6 +5,8 @@
 #[cfg(test)]
 mod boot_and_run;
 #[cfg(test)]
+mod domains;
+#[cfg(test)]
 mod reports;
 #[cfg(test)]
 mod run_systems;

@@ -1,0 +1,88 @@
+//! A device that writes into memory by itself: `boot` holds it to the tables that it makes, and `run`
+//! without tables drops what it writes.
+use muen_outside::{MemFiles, MemSink};
+use std::alloc::Global;
+use std::test::Fail;
+use tests_support::{Ended, call, file};
+
+// The device `nic` is in a domain with `buf` at its address 4096, and with `log`, to read, behind it.
+const NIC: &str = r#"{"processor":{"logicalCpus":1},
+"memoryBlocks":[{"name":"ram","physicalAddress":1048576,"size":1048576}],
+"devices":[{"name":"nic","bdf":{"bus":0,"device":3,"function":0}},{"name":"card"}],
+"memory":[{"name":"code","size":4096,"content":{"hex":"01200000000050000b12030008000000"}},
+{"name":"buf","size":4096},{"name":"log","size":4096}],
+"subjects":[{"name":"one","cpu":0,"entry":4194304,
+"memory":[{"region":"code","virtualAddress":4194304,"rights":"rx"},
+{"region":"buf","virtualAddress":5242880,"rights":"r"}]}],
+"scheduling":{"groups":[{"name":"g","cpu":0,"subjects":["one"]}],
+"majorFrames":[{"cpus":[{"cpu":0,"minorFrames":[{"group":"g","ticks":10}]}]}]},
+"deviceDomains":[{"name":"d","devices":["nic"],
+"memory":[{"region":"log","virtualAddress":8192,"rights":"r"},
+{"region":"buf","virtualAddress":4096,"rights":"rw"}]}]}"#;
+
+// The regions with the digest of 4,096 zeros.
+const ZEROS: &str =
+    "\nregion buf ad7facb2586fc6e966c004d7d1d16b024f5805ff7cb47c7a85dabd8b48892ca7\n\
+region log ad7facb2586fc6e966c004d7d1d16b024f5805ff7cb47c7a85dabd8b48892ca7\n";
+
+const LOADED: &str = "\n1 0 one 0000000000400008 r1=0000000000000007\n";
+
+const UNTOUCHED: &str = "\n1 0 one 0000000000400008 r1=0000000000000000\n";
+
+fn held(alloc: Global, record: &str) -> Result<MemFiles, Fail> {
+    let mut held = Vec::new(alloc);
+    held.push(file(alloc, "p", NIC.as_bytes())?)?;
+    held.push(file(alloc, "r", record.as_bytes())?)?;
+    Ok(MemFiles::make(held, Vec::new(alloc)))
+}
+
+// What is put by a call that ended well.
+fn text_of(ended: Ended) -> Result<String, Fail> {
+    match ended.status {
+        0 => Ok(ended.out),
+        _ => Err(Fail::new("refused")),
+    }
+}
+
+fn booted(alloc: Global, record: &str) -> Result<String, Fail> {
+    let mut files = held(alloc, record)?;
+    let mut out = MemSink::make(alloc, 1_000_000, Vec::new(alloc), 0)?;
+    text_of(call(alloc, "boot p r", &mut files, &mut out)?)
+}
+
+fn built_and_ran(alloc: Global, record: &str) -> Result<String, Fail> {
+    let mut files = held(alloc, record)?;
+    let mut out = MemSink::make(alloc, 1_000_000, Vec::new(alloc), 0)?;
+    text_of(call(alloc, "build p i", &mut files, &mut out)?)?;
+    text_of(call(alloc, "run i r", &mut files, &mut out)?)
+}
+
+// Whether nothing was written into either region.
+fn is_dropped(text: &str) -> bool {
+    text.contains(UNTOUCHED) && text.contains(ZEROS)
+}
+
+#[test]
+fn inside_its_domain(rt: HostRuntime) -> Result<(), Fail> {
+    let alloc = rt.alloc();
+    let text = booted(alloc, "dma 0 nic 4104 0700\nend 2\n")?;
+    assert!(rt; text.contains(LOADED));
+    // A window to read, the end of a window with rights, an address before all, a device in no domain.
+    for record in [
+        "dma 0 nic 8200 0700\nend 2\n",
+        "dma 0 nic 8191 0707\nend 2\n",
+        "dma 0 nic 4095 0707\nend 2\n",
+        "dma 0 card 4104 0700\nend 2\n",
+    ] {
+        assert!(rt; is_dropped(booted(alloc, record)?.as_str()), "{record}");
+    }
+    Ok(())
+}
+
+#[test]
+fn without_tables(rt: HostRuntime) -> Result<(), Fail> {
+    let alloc = rt.alloc();
+    let text = built_and_ran(alloc, "dma 0 nic 4104 0700\nend 2\n")?;
+    assert!(rt; is_dropped(text.as_str()));
+    Ok(())
+}
