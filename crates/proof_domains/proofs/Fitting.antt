@@ -1,8 +1,9 @@
 -- Tables that lead each device where a placed policy declares it fit an image whose spans are those of the policy.
-use Rattle.std.proofs.Common.{◌≡◌, ◌∙◌, ℕ, ◌+◌, true, List, Option, Some, None, find, position, is_some, false≢true, refl, sym, ap, subst}
+use Rattle.std.proofs.Common.{◌≡◌, ◌∙◌, ℕ, ◌+◌, true, List, Option, Some, None, find, position, is_some, refl, sym, ap, subst}
 use Rattle.std.specs.Prelude.{slice_get, slice_index}
 use Rattle.std.specs.Option.{option_map_or}
 use Rattle.std.specs.Str.{bytes_eq}
+use Rattle.std.proofs.lemmas.Bool.{false≢true}
 use Rattle.std.proofs.lemmas.Option.{get_or_from_slice_get}
 use Rattle.dma_emit.specs.Domains.{place_of as region_place}
 use Rattle.dma_emit.specs.Reached.{declared_at, placed_at}
