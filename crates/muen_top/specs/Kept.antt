@@ -1,5 +1,5 @@
 -- How the writes of `build` end.
-use Rattle.std.specs.Prelude.{◌≡◌, ℕ, List, [], ◌∷◌, Option, Result, Ok, Err}
+use Rattle.std.specs.Prelude.{◌≡◌, ℕ, List, [], ◌∷◌, Option, Some, Result, Ok, Err}
 use Rattle.muen_outside.specs.Looks.{WriteLeaves}
 use Rattle.muen_outside.specs.States.{History, write, written}
 use Rattle.muen_outside.specs.Store.{Store}

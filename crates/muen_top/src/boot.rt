@@ -93,7 +93,7 @@ fn make<'a, F: Files>(
 
 // What is read before the record: a policy's document, and what it gives.
 #[derive(Drop)]
-struct Ready {
+struct BeforeRecord {
     document: Seq<u8>,
     made: Made,
 }
@@ -103,14 +103,14 @@ fn ready<'a, F: Files>(
     alloc: Global,
     policy: &'a str,
     files: &mut F,
-) -> Result<Ready, CommandError<'a>>
+) -> Result<BeforeRecord, CommandError<'a>>
     ensures ok { IfOk result (λ x. IsReady (boot_command policy.now) (F.held files.old) (F.history files.old) (F.history files.new) ((policy.now, x.document) ∷ x.made.files) x.made.parts (Some x.made.tables)) }
     ensures err { IfErr result (λ error. (inputs : List ℕ) → StopsCommand (boot_command policy.now inputs) (F.held files.old) (F.history files.old) (F.history files.new) error) }
     ensures held { F.held files.new ≡ F.held files.old }
 {
     let document = load(alloc, policy, POLICY_MOST, files)?;
     let made = make(alloc, policy, document.items(), files)?;
-    Ok(Ready { document, made })
+    Ok(BeforeRecord { document, made })
 }
 
 // What was read under this name before the record.
@@ -140,7 +140,7 @@ fn read_all<'a, F: Files>(
     ensures err { IfErr result (StopsCommand (boot_command policy.now inputs.now) (F.held files.old) (F.history files.old) (F.history files.new)) }
     ensures held { F.held files.new ≡ F.held files.old }
 {
-    let Ready { document, made } = ready(alloc, policy, files)?;
+    let BeforeRecord { document, made } = ready(alloc, policy, files)?;
     let known = known_before(policy, document.items(), &made.files, inputs);
     let bytes = load_too(alloc, known, inputs, RECORD_MOST, files)?;
     let Made { parts, tables, .. } = made;

@@ -49,7 +49,7 @@ struct TablesRead {
 
 // What is read before the record: an image, with the bytes of its file, and tables, or none.
 #[derive(Drop)]
-struct Ready {
+struct BeforeRecord {
     parts: Parts,
     bytes: Seq<u8>,
     tables: Option<TablesRead>,
@@ -117,7 +117,7 @@ fn ready<'a, F: Files>(
     image: &'a str,
     dma: Option<&'a str>,
     files: &mut F,
-) -> Result<Ready, CommandError<'a>>
+) -> Result<BeforeRecord, CommandError<'a>>
     ensures ok { IfOk result (λ x. IsReady (λ inputs. run_command image.now inputs (option_map (λ name. name.now) dma.entry)) (F.held files.old) (F.history files.old) (F.history files.new) (read_before image.now x.bytes (option_map (λ name. name.now) dma.entry) x.tables) x.parts (option_map (λ t. t.tables) x.tables)) }
     ensures err { IfErr result (λ error. (inputs : List ℕ) → StopsCommand (run_command image.now inputs (option_map (λ name. name.now) dma.entry)) (F.held files.old) (F.history files.old) (F.history files.new) error) }
     ensures held { F.held files.new ≡ F.held files.old }
@@ -125,7 +125,7 @@ fn ready<'a, F: Files>(
     let bytes = load(alloc, image, IMAGE_MOST, files)?;
     let parts = unpack(alloc, bytes.items())?;
     let tables = read_named(alloc, image, bytes.items(), dma, files)?;
-    Ok(Ready {
+    Ok(BeforeRecord {
         parts,
         bytes,
         tables,
@@ -176,7 +176,7 @@ fn read_all<'a, F: Files>(
     let ready = ready(alloc, image, dma, files)?;
     let known = known_before(image, ready.bytes.items(), dma, &ready.tables, inputs);
     let bytes = load_too(alloc, known, inputs, RECORD_MOST, files)?;
-    let Ready { parts, tables, .. } = ready;
+    let BeforeRecord { parts, tables, .. } = ready;
     let input = read_record(alloc, &parts, bytes.items())?;
     Ok(Loaded {
         parts,
