@@ -1,5 +1,5 @@
 -- What `build` answers, as its files are read, and what comes of its writes.
-use Rattle.std.proofs.Common.{◌≡◌, inl, inr, ℕ, List, [], ◌∷◌, Option, Some, None, IfSome, is_some, Result, Ok, Err, refl, sym, ap, subst, ◌∙◌, append_assoc}
+use Rattle.std.proofs.Common.{◌≡◌, inl, inr, ℕ, List, [], ◌∷◌, Option, Some, None, IfSome, is_some, option_map, Result, Ok, Err, refl, sym, ap, subst, ◌∙◌, append_assoc}
 use Rattle.std.specs.FinMap.{get, insert}
 use Rattle.std.specs.List.{All}
 use Rattle.std.proofs.lemmas.List.Elements.{All-nil}
@@ -121,6 +121,16 @@ module _ (policy : List ℕ) (held held' : Option Store) (old between new : Hist
           };
     }
 
+-- ---- what is wanted and made
+
+pub some_mapped : {X Y : Type 0} (f : X → Y) (P : Y → Type 0) (o : Option X) → IfSome o (λ x. P (f x)) → IfSome (option_map f o) P
+some_mapped f P None h = h
+some_mapped f P (Some x) h = h
+
+pub is_some_mapped : {X Y : Type 0} (f : X → Y) (o : Option X) → is_some (option_map f o) ≡ is_some o
+is_some_mapped f None = refl
+is_some_mapped f (Some x) = refl
+
 -- ---- the writes
 
 module _ (policy image bytes : List ℕ) (dma tables : Option (List ℕ)) (held held' held'' : Option Store) (old mid new : History) (same : held' ≡ held) (made : IsBuilt policy held old mid bytes tables) (out : SinkState) where
@@ -195,7 +205,7 @@ module _ (policy image bytes : List ℕ) (dma tables : Option (List ℕ)) (held 
     no_tables : (outcome : Outcome) → IsLast dma (Ok tt) → (outcome ≡ Done) × (new ≡ after) × (held'' ≡ held_between) → Comes outcome
     no_tables outcome last h =
         subst Comes (sym h.0)
-        (ended_well (write image bytes (Ok tt) ∷ []) (h.1.0 ∙ first.history) (held_between, first.left, h.1.1) (image_alone_so (Ok tt) last))
+        (ended_well (write image bytes (Ok tt) ∷ []) (h.1 ∙ first.history) (held_between, first.left, h.2) (image_alone_so (Ok tt) last))
 
     module _ (name file : List ℕ) (named : dma ≡ Some name) (there : tables ≡ Some file) where
       abbrev two : Result (Unit {0}) FileError → List Write
@@ -207,7 +217,7 @@ module _ (policy image bytes : List ℕ) (dma tables : Option (List ℕ)) (held 
           ∙ ap (λ ws. record { looks = mid.looks; writes = ws }) (append_assoc mid.writes (write image bytes (Ok tt) ∷ []) (write name file end ∷ []))
 
       two_left : (end : Result (Unit {0}) FileError) → WriteLeaves name file end held_between held'' → HeldAfter (two end) held' held''
-      two_left end left = (held_between, first.left, held'', left, refl)
+      two_left end left = (held_between, first.left, (held'', left, refl))
 
       two_so : (end : Result (Unit {0}) FileError) → Wrotes end (two end)
       two_so end p m is tables_are = tables_last bytes is name file named (subst (λ o. IfSome o (IsTablesFor p)) there tables_are) refl

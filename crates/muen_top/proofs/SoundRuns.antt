@@ -40,9 +40,9 @@ module _ (m : Store) (name inputs : List ℕ) (p : Source) (r : DeviceRecord) (s
     handed None tables is i = ap (input_answer m inputs i) (sym is)
     handed (Some dma) tables h i =
         let t : DmaFile = h.0 in
-        ap (of_file dma (λ bytes. dma_answer m inputs i (unpacked dma_file bytes))) h.1.0.read
-        ∙ (ap (dma_answer m inputs i) (tables_read h.1.0.bytes t h.1.0.file)
-        ∙ ap (input_answer m inputs i) (sym h.1.1))
+        ap (of_file dma (λ bytes. dma_answer m inputs i (unpacked dma_file bytes))) h.1.read
+        ∙ (ap (dma_answer m inputs i) (tables_read h.1.bytes t h.1.file)
+        ∙ ap (input_answer m inputs i) (sym h.2))
 
     -- `run` of an image that is sound, with tables that fit
     pub sound_prints : (dma : Option (List ℕ)) (tables : Option DmaFile) (h : HoldsSound m name p files) → HandsIn m dma tables → Fit p h.parts tables → answer_of m (Some (run name inputs dma)) ≡ prints (trace_of p files r)
