@@ -1,5 +1,5 @@
 -- What comes of a command whose files were read.
-use Rattle.std.proofs.Common.{◌≡◌, inl, ℕ, List, [], ◌∷◌, ◌++◌, Option, Some, None, refl, sym, ap, subst, ◌∙◌, append-nil}
+use Rattle.std.proofs.Common.{◌≡◌, inl, ℕ, List, [], ◌++◌, Option, Some, None, refl, sym, ap, subst, ◌∙◌, append-nil}
 use Rattle.muen_build.proofs.Looks.{no_look, told_none}
 use Rattle.muen_outside.specs.Puts.{Failed}
 use Rattle.muen_outside.specs.States.{History, Look, SinkState, Write, looked, went, written}

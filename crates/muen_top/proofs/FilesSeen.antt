@@ -3,7 +3,7 @@ use Rattle.std.proofs.Common.{◌≡◌, inl, inr, ℕ, Bool, true, false, if◌
 use Rattle.std.specs.FinMap.{get}
 use Rattle.std.specs.Str.{bytes_eq}
 use Rattle.std.proofs.lemmas.Slice.Eq.{bytes_eq-Decides}
-use Rattle.muen_build.specs.Accepting.{Files, looks_of}
+use Rattle.muen_build.specs.Accepting.{Files}
 use Rattle.muen_build.specs.Looks.{Looked, document_look}
 use Rattle.muen_build.proofs.Documents.{whole_found}
 use Rattle.muen_build.proofs.Looks.{looked_both, show_front, show_last, single_push, told_both}
@@ -169,6 +169,7 @@ known_too looks found name most bytes held old new s known_before q = by (bytes_
     by_other : (o : Option (List ℕ)) → IsKnown looks q o → bytes_eq q name ≡ false → IsKnown (looks ++ s.more) q o
     by_other (Some b) h e = λ m t. h m (s.shows m t).0
     by_other None h e = others_both looks s.more q h (others_one name most s.more q s.one e)
+
     by : (b : Bool) → bytes_eq q name ≡ b → IsKnown (looks ++ s.more) q (if b then Some bytes else find_bytes q found)
     by true e = λ m t. ap (get m) ((bytes_eq-Decides q name).0 e) ∙ whole_found most bytes (get m name) (s.shows m t).1
     by false e = by_other (find_bytes q found) (known_before q) e
@@ -180,6 +181,7 @@ policy_known policy document found q = by (bytes_eq q policy) refl
     by_component : (o : Option (List ℕ)) → find_bytes q found ≡ o → bytes_eq q policy ≡ false → IsKnown (policy_looks policy document found) q o
     by_component (Some bytes) is e = λ m s. whole_found COMPONENT_FILE_MOST bytes (get m q) (shown_among m found q bytes s.1 is)
     by_component None is e = (e, others_found found q is)
+
     by : (b : Bool) → bytes_eq q policy ≡ b → IsKnown (policy_looks policy document found) q (if b then Some document else find_bytes q found)
     by true e = λ m s. ap (get m) ((bytes_eq-Decides q policy).0 e) ∙ whole_found POLICY_MOST document (get m policy) s.0
     by false e = by_component (find_bytes q found) refl e

@@ -1,5 +1,5 @@
 -- What a command answers that has read all its files but the record.
-use Rattle.std.proofs.Common.{◌≡◌, inl, inr, ℕ, List, [], ◌∷◌, ◌++◌, Option, Some, Result, Ok, Err, ap, ◌∙◌}
+use Rattle.std.proofs.Common.{◌≡◌, inl, inr, ℕ, List, [], ◌++◌, Option, Some, Result, Ok, Err, ap, ◌∙◌}
 use Rattle.std.specs.FinMap.{get}
 use Rattle.dma_tables.specs.declared.file.DmaFile.{DmaFile}
 use Rattle.image_load.specs.Resolving.{image_bench, image_record}

@@ -11,12 +11,12 @@ use Rattle.dma_tables.specs.Tables.{IsDmaFile}
 use Rattle.dma_tables.specs.declared.file.DmaFile.{DmaFile}
 use Rattle.image_pack.specs.Image.{image as image_form}
 use Rattle.image_pack.specs.declared.parts.Image.{Image}
-use Rattle.muen_num.specs.declared.limits.TheConstants.{IMAGE_MOST, RECORD_MOST}
+use Rattle.muen_num.specs.declared.limits.TheConstants.{IMAGE_MOST}
 use Rattle.muen_outside.specs.declared.files.FileError.{FileError}
 use Rattle.muen_outside.specs.Looks.{ShowAll}
 use Rattle.muen_outside.specs.States.{History, Look, look}
 use Rattle.muen_outside.specs.Store.{Store, Reading, whole, reading_of}
-use Rattle.muen_top.specs.Answers.{Answer, stops, dma_refused, image_refused, of_file, dma_answer, input_answer, tables_answer, unpacked_answer, run_answer}
+use Rattle.muen_top.specs.Answers.{Answer, stops, dma_refused, image_refused, of_file, dma_answer, unpacked_answer, run_answer}
 use Rattle.muen_top.specs.Asked.{Asks, AsksRecord, IsAtMost}
 use Rattle.muen_top.specs.Calls.{StopsFor}
 use Rattle.muen_top.specs.Commands.{run}
@@ -24,7 +24,6 @@ use Rattle.muen_top.specs.FilesSeen.{OverLooks, Saw, SawAfter}
 use Rattle.muen_top.specs.Loads.{HasTables, IsReady, LacksTables, NotTables, unread, faulty, NotRead, NotReadAfter, read_before}
 use Rattle.muen_top.specs.PolicyCommands.{HasRead, StopsCommand}
 use Rattle.muen_top.specs.CommandErrors.{error_of_dma_fault, error_of_image_fault}
-use Rattle.muen_top.specs.Tables.{HoldsTables}
 use Rattle.muen_top.specs.declared.limits.TheConstants.{DMA_MOST}
 use Rattle.muen_top.specs.declared.outcome.CommandError.{CommandError}
 use Rattle.muen_top.specs.declared.run.TablesRead.{TablesRead}
@@ -127,7 +126,6 @@ module _ (image : List ℕ) (held : Option Store) (old mid : History) (bytes : L
 
         -- its bytes are of no tables
         module _ (file : List ℕ) (after : After (Ok (whole file))) where
-
           fault_of : (fault : ImageFault) → unpacked dma_file file ≡ Err fault → OverLooks (first ++ (seen (Ok (whole file)) after).more) (λ m. answer m ≡ stops (dma_refused fault))
           unfolding next
           fault_of fault e m shows =
@@ -166,13 +164,17 @@ module _ (image : List ℕ) (held : Option Store) (old mid : History) (bytes : L
               got = Ok (whole bytes);
               more = s.more ++ more;
               is = refl;
-              goes_on = inr (i, is, record {
-                middle = s.more;
-                last = more;
-                is = refl;
-                tables = s.one;
-                inputs_last = inr ((t.tables, λ m shows. record { bytes = t.bytes; read = (s.shows m shows).1; file = file }), one);
-              });
+              goes_on = inr (
+                i,
+                is,
+                record {
+                  middle = s.more;
+                  last = more;
+                  is = refl;
+                  tables = s.one;
+                  inputs_last = inr ((t.tables, λ m shows. record { bytes = t.bytes; read = (s.shows m shows).1; file = file }), one);
+                },
+              );
             };
             answers = λ name m shows.
                 by_image m image name (Some dma) bytes (Ok i) (s.shows m shows).0.0 is

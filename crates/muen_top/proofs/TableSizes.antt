@@ -1,18 +1,16 @@
 -- The file of a policy's tables isn't too long for a read.
-use Rattle.std.proofs.Common.{◌≡◌, ap, sym, subst, ℕ, ◌+◌, ◌*◌, ◌<◌, ◌≤◌, List, ◌++◌, length, replicate, arith, refl}
+use Rattle.std.proofs.Common.{◌≡◌, sym, subst, ℕ, ◌+◌, ◌*◌, ◌≤◌, List, length, replicate, arith, refl}
 use Rattle.std.specs.Int.{w32, w64}
 use Rattle.std.proofs.lemmas.Bool.{leb-true}
 use Rattle.std.proofs.lemmas.List.{length-append, length-replicate}
 use Rattle.muen_num.specs.declared.limits.TheConstants.{MOST_DEVICES, PAGE}
 use Rattle.binary_form.specs.declared.fault.Field.{Field}
-use Rattle.binary_form.specs.Form.{Form, tag, field, gap, done, bytes_of}
-use Rattle.binary_form.specs.Name.{name}
+use Rattle.binary_form.specs.Form.{Form, tag, field, gap, bytes_of}
 use Rattle.binary_form.proofs.Leaves.{wide32, wide64}
 use Rattle.binary_form.proofs.Sizes.{IsSized, byte_sized, condition, done_sized, field_sized, gap_sized, items_sized, name_sized, number_sized, only_sized, rows}
 use Rattle.dma_tables.proofs.ConditionsHold.{conditions_kept}
 use Rattle.dma_tables.specs.DmaFile.{after_device, device, dma_file, mark_bytes}
 use Rattle.dma_tables.specs.Tables.{device_size}
-use Rattle.dma_tables.specs.declared.file.TheConstants.{MOST_DMA_PAGES}
 use Rattle.dma_tables.specs.declared.file.DmaFile.{DmaFile}
 use Rattle.policy_types.specs.declared.source.Source.{Source}
 use Rattle.muen_top.specs.Tables.{IsTablesFor}

@@ -1,5 +1,5 @@
 -- What `build` leaves by its writes.
-use Rattle.std.proofs.Common.{◌≡◌, ◌∙◌, refl, sym, ap, subst, ℕ, ◌≤◌, Bool, true, false, List, [], ◌∷◌, if◌then◌else◌, Option, Some, None, Result, Ok, Err}
+use Rattle.std.proofs.Common.{◌≡◌, ◌∙◌, refl, sym, ap, subst, ℕ, Bool, true, false, List, [], ◌∷◌, if◌then◌else◌, Option, Some, None, Result, Ok, Err}
 use Rattle.std.specs.FinMap.{get, insert}
 use Rattle.std.specs.Prelude.{codes}
 use Rattle.std.specs.Str.{bytes_eq}
@@ -9,13 +9,13 @@ use Rattle.muen_build.proofs.Looks.{same_self}
 use Rattle.muen_build.specs.ImageFor.{IsImageFor}
 use Rattle.muen_build.specs.Refusals.{accepted_policy_of}
 use Rattle.muen_num.specs.declared.limits.TheConstants.{IMAGE_MOST, POLICY_MOST}
-use Rattle.muen_outside.specs.States.{SinkState, Write, write}
+use Rattle.muen_outside.specs.States.{SinkState, Write}
 use Rattle.muen_outside.specs.Store.{Reading, Store, absent, long, reading_of, whole}
 use Rattle.policy_types.specs.declared.refusal.Refusal.{Refusal}
 use Rattle.policy_types.specs.declared.source.Source.{Source}
 use Rattle.muen_top.specs.Answers.{answer_of, build_answer, image_answer, of_file}
 use Rattle.muen_top.specs.Calls.{IsDone}
-use Rattle.muen_top.specs.Commands.{Command, build, boot, run, map, flows, command_of}
+use Rattle.muen_top.specs.Commands.{build, boot, run, map, flows, command_of}
 use Rattle.muen_top.specs.Headline.{HoldsBuilt, HoldsPolicy, HoldsWanted, WritesBuilt, after_writes}
 use Rattle.muen_top.specs.Images.{IsLast, Wrote, image_last, tables_last}
 use Rattle.muen_top.specs.Tables.{HoldsTablesFor, IsTablesFor}

@@ -28,11 +28,7 @@ struct Built {
 }
 
 // The bytes of the tables of a policy, if they are wanted.
-fn wanted_tables(
-    alloc: Global,
-    placed: &Placed,
-    wanted: bool,
-) -> Result<Option<Vec<u8>>, NoMemory>
+fn wanted_tables(alloc: Global, placed: &Placed, wanted: bool) -> Result<Option<Vec<u8>>, NoMemory>
     ensures are { IfOk result (λ tables. IfSome tables (λ v. IsTablesFor (source_of placed.now.expanded.lawful) v.items)) }
     ensures there { IfOk result (λ tables. is_some tables ≡ wanted) }
 {

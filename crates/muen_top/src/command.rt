@@ -16,7 +16,10 @@ pub(crate) enum Command<'a> {
         tables: Option<&'a str>,
     },
     /// The system of a policy runs on a device record, both by the names of their files.
-    Boot { policy: &'a str, inputs: &'a str },
+    Boot {
+        policy: &'a str,
+        inputs: &'a str,
+    },
     /// An image runs on a device record, with tables for direct memory access if a file is named of them, all
     /// by the names of their files.
     Run {
