@@ -4,6 +4,8 @@ use Rattle.std.specs.FinMap.{get}
 use Rattle.std.proofs.Math.Seq.{drop-append_seam}
 use Rattle.binary_form.specs.Faults.{unpacked}
 use Rattle.binary_form.specs.declared.fault.ImageFault.{ImageFault}
+use Rattle.dma_tables.specs.DmaFile.{dma_file}
+use Rattle.dma_tables.specs.declared.file.DmaFile.{DmaFile}
 use Rattle.image_load.specs.Resolving.{image_bench}
 use Rattle.image_pack.specs.Image.{image as image_form}
 use Rattle.image_pack.specs.declared.parts.Image.{Image}
@@ -19,21 +21,22 @@ use Rattle.record_text.specs.Reading.{record_of}
 use Rattle.image_soundness.specs.Bench.{devices_of}
 use Rattle.muen_build.specs.Refusals.{accepted_policy_of, laid_policy_of, lawful_policy_of}
 use Rattle.record_text.specs.declared.fault.RecordFault.{RecordFault}
-use Rattle.muen_top.specs.Answers.{Reason, usage, missing, too_long, refused, image_refused, record_refused, Answer, prints, writes, stops, of_file, image_answer, build_answer, trace_answer, policy_answer, boot_answer, named_answer, unpacked_answer, run_answer, map_answer, map_policy_answer, flows_answer, flows_policy_answer, answer_of}
+use Rattle.muen_top.specs.Answers.{Reason, usage, missing, too_long, refused, image_refused, dma_refused, record_refused, Answer, prints, writes, stops, of_file, image_answer, build_answer, trace_answer, policy_answer, boot_answer, named_answer, dma_answer, tables_answer, input_answer, unpacked_answer, run_answer, map_answer, map_policy_answer, flows_answer, flows_policy_answer, answer_of}
 use Rattle.muen_top.specs.Asked.{Asks}
 use Rattle.muen_num.specs.declared.limits.TheConstants.{RECORD_MOST}
-use Rattle.muen_top.specs.Calls.{IsDone, Prints, StopsFor, OutcomeSays, FaultOfFiles, WantOfMemory, IsCallOf, IsFault, Answered, answer_to, DoesAnswer, PrintsFront, EndsAnswered, FilesFailed, MemoryRefused, RefusesPolicy, LacksFile, RefusesImage, RefusesRecord}
+use Rattle.muen_top.specs.Calls.{IsDone, Prints, StopsFor, OutcomeSays, FaultOfFiles, WantOfMemory, IsCallOf, IsFault, Answered, answer_to, DoesAnswer, PrintsFront, EndsAnswered, FilesFailed, MemoryRefused, RefusesPolicy, LacksFile, RefusesImage, RefusesDma, RefusesRecord}
 use Rattle.muen_top.specs.Commands.{Command, build, boot, run, map, flows, command_of}
 use Rattle.muen_top.specs.FilesSeen.{OverLooks}
 use Rattle.muen_top.specs.Headline.{BuildWritesImage, PrintsText}
 use Rattle.muen_top.specs.Reports.{reason_status, reason_text, status_of, error_status, error_text, Told, Reported, Ends}
+use Rattle.muen_top.specs.declared.limits.TheConstants.{DMA_MOST}
 use Rattle.muen_top.specs.declared.outcome.Outcome.{Outcome}
 use Rattle.muen_top.specs.declared.outcome.Outcome.TheVariants.{Done, Stopped, OutputFault}
 use Rattle.muen_top.specs.declared.outcome.CommandError.{CommandError}
-use Rattle.muen_top.specs.declared.outcome.CommandError.TheVariants.{Usage, Missing, TooLong, Refused, ImageRefused, RecordRefused, FileFault, NoMemory}
+use Rattle.muen_top.specs.declared.outcome.CommandError.TheVariants.{Usage, Missing, TooLong, Refused, ImageRefused, DmaRefused, RecordRefused, FileFault, NoMemory}
 use Rattle.muen_top.specs.declared.status.Status.{Status}
 use Rattle.muen_top.specs.declared.status.Status.TheVariants as statuses
-use Rattle.muen_top.proofs.Written.{build_writes}
+use Rattle.muen_top.proofs.Written.{build_writes, differ}
 use Rattle.muen_top.proofs.Statuses.{is_of_reason, is_of_refusal}
 
 -- ---- what came of a command
@@ -56,6 +59,7 @@ module _ (answer : Store → Answer) (looks : List Look) (ws : List Write) (out 
   of_error (TooLong name n) is says quiet told = stopped (too_long name.now n) is says.0 says.1 quiet told
   of_error (Refused refusal) is says quiet told = stopped (refused refusal) is says.0 says.1 quiet told
   of_error (ImageRefused fault) is says quiet told = stopped (image_refused fault) is says.0 says.1 quiet told
+  of_error (DmaRefused fault) is says quiet told = stopped (dma_refused fault) is says.0 says.1 quiet told
   of_error (RecordRefused fault) is says quiet told = stopped (record_refused fault) is says.0 says.1 quiet told
   of_error FileFault is says quiet told = failed is says quiet
   of_error NoMemory is says quiet told = no_memory is says quiet
@@ -74,6 +78,7 @@ module _ (err err' : SinkState) where
   policy_reason (too_long name n) is told = absurd (cc)
   policy_reason (refused refusal) is told = (is, told)
   policy_reason (image_refused fault) is told = absurd (cc)
+  policy_reason (dma_refused fault) is told = absurd (cc)
   policy_reason (record_refused fault) is told = absurd (cc)
 
   file_reason : (reason : Reason) → reason_status reason ≡ statuses.FileMissing → Told (reason_text reason) err err' → LacksFile err err' (stops reason)
@@ -82,6 +87,7 @@ module _ (err err' : SinkState) where
   file_reason (too_long name n) is told = told
   file_reason (refused refusal) is told = (is, told)
   file_reason (image_refused fault) is told = absurd (cc)
+  file_reason (dma_refused fault) is told = absurd (cc)
   file_reason (record_refused fault) is told = absurd (cc)
 
   image_reason : (reason : Reason) → reason_status reason ≡ statuses.ImageRefused → Told (reason_text reason) err err' → RefusesImage err err' (stops reason)
@@ -90,7 +96,17 @@ module _ (err err' : SinkState) where
   image_reason (too_long name n) is told = absurd (cc)
   image_reason (refused refusal) is told = absurd (is_of_refusal refusal statuses.ImageRefused is)
   image_reason (image_refused fault) is told = told
+  image_reason (dma_refused fault) is told = absurd (cc)
   image_reason (record_refused fault) is told = absurd (cc)
+
+  dma_reason : (reason : Reason) → reason_status reason ≡ statuses.DmaRefused → Told (reason_text reason) err err' → RefusesDma err err' (stops reason)
+  dma_reason usage is told = absurd (cc)
+  dma_reason (missing name) is told = absurd (cc)
+  dma_reason (too_long name n) is told = absurd (cc)
+  dma_reason (refused refusal) is told = absurd (is_of_refusal refusal statuses.DmaRefused is)
+  dma_reason (image_refused fault) is told = absurd (cc)
+  dma_reason (dma_refused fault) is told = told
+  dma_reason (record_refused fault) is told = absurd (cc)
 
   record_reason : (reason : Reason) → reason_status reason ≡ statuses.RecordRefused → Told (reason_text reason) err err' → RefusesRecord err err' (stops reason)
   record_reason usage is told = absurd (cc)
@@ -98,6 +114,7 @@ module _ (err err' : SinkState) where
   record_reason (too_long name n) is told = absurd (cc)
   record_reason (refused refusal) is told = absurd (is_of_refusal refusal statuses.RecordRefused is)
   record_reason (image_refused fault) is told = absurd (cc)
+  record_reason (dma_refused fault) is told = absurd (cc)
   record_reason (record_refused fault) is told = told
 
 is_usage : (reason : Reason) → reason_status reason ≡ statuses.Usage → reason ≡ usage
@@ -106,6 +123,7 @@ is_usage (missing name) is = absurd (cc)
 is_usage (too_long name n) is = absurd (cc)
 is_usage (refused refusal) is = absurd (is_of_refusal refusal statuses.Usage is)
 is_usage (image_refused fault) is = absurd (cc)
+is_usage (dma_refused fault) is = absurd (cc)
 is_usage (record_refused fault) is = absurd (cc)
 
 -- ---- only words with no command's form are answered so
@@ -124,18 +142,30 @@ no_usage_of_policy files name (Ok p) e =
     no_usage_of_file name (λ bytes. trace_answer files p (record_of bytes (devices_of p))) (reading_of (get files name) RECORD_MOST) (λ bytes h. no_usage_of_trace files p (record_of bytes (devices_of p)) h) e
 no_usage_of_policy files name (Err refusal) e = cc
 
-no_usage_of_image : (files : Store) (image : List ℕ) (r : Result Source Refusal) → image_answer files image r ≡ stops usage → ⊥
-no_usage_of_image files image (Ok p) e = cc
-no_usage_of_image files image (Err refusal) e = cc
+no_usage_of_image : (files : Store) (image : List ℕ) (dma : Option (List ℕ)) (r : Result Source Refusal) → image_answer files image dma r ≡ stops usage → ⊥
+no_usage_of_image files image dma (Ok p) e = cc
+no_usage_of_image files image dma (Err refusal) e = cc
 
-no_usage_of_named : (i : Image) (r : Result DeviceRecord RecordFault) → named_answer i r ≡ stops usage → ⊥
-no_usage_of_named i (Ok named) e = cc
-no_usage_of_named i (Err fault) e = cc
+no_usage_of_named : (tables : Option DmaFile) (i : Image) (r : Result DeviceRecord RecordFault) → named_answer tables i r ≡ stops usage → ⊥
+no_usage_of_named tables i (Ok named) e = cc
+no_usage_of_named tables i (Err fault) e = cc
 
-no_usage_of_unpacked : (files : Store) (name : List ℕ) (r : Result Image ImageFault) → unpacked_answer files name r ≡ stops usage → ⊥
-no_usage_of_unpacked files name (Ok i) e =
-    no_usage_of_file name (λ bytes. named_answer i (record_of bytes (image_bench i))) (reading_of (get files name) RECORD_MOST) (λ bytes h. no_usage_of_named i (record_of bytes (image_bench i)) h) e
-no_usage_of_unpacked files name (Err fault) e = cc
+no_usage_of_input : (files : Store) (name : List ℕ) (i : Image) (tables : Option DmaFile) → input_answer files name i tables ≡ stops usage → ⊥
+no_usage_of_input files name i tables e =
+    no_usage_of_file name (λ bytes. named_answer tables i (record_of bytes (image_bench i))) (reading_of (get files name) RECORD_MOST) (λ bytes h. no_usage_of_named tables i (record_of bytes (image_bench i)) h) e
+
+no_usage_of_dma : (files : Store) (name : List ℕ) (i : Image) (r : Result DmaFile ImageFault) → dma_answer files name i r ≡ stops usage → ⊥
+no_usage_of_dma files name i (Ok tables) e = no_usage_of_input files name i (Some tables) e
+no_usage_of_dma files name i (Err fault) e = cc
+
+no_usage_of_tables : (files : Store) (name : List ℕ) (dma : Option (List ℕ)) (i : Image) → tables_answer files name dma i ≡ stops usage → ⊥
+no_usage_of_tables files name None i e = no_usage_of_input files name i None e
+no_usage_of_tables files name (Some dma) i e =
+    no_usage_of_file dma (λ bytes. dma_answer files name i (unpacked dma_file bytes)) (reading_of (get files dma) DMA_MOST) (λ bytes h. no_usage_of_dma files name i (unpacked dma_file bytes) h) e
+
+no_usage_of_unpacked : (files : Store) (name : List ℕ) (dma : Option (List ℕ)) (r : Result Image ImageFault) → unpacked_answer files name dma r ≡ stops usage → ⊥
+no_usage_of_unpacked files name dma (Ok i) e = no_usage_of_tables files name dma i e
+no_usage_of_unpacked files name dma (Err fault) e = cc
 
 no_usage_of_map : (r : Result Source Refusal) → map_policy_answer r ≡ stops usage → ⊥
 no_usage_of_map (Ok p) e = cc
@@ -148,12 +178,12 @@ no_usage_of_flows (Err refusal) e = cc
 no_usage : (files : Store) (command : Option Command) → answer_of files command ≡ stops usage → command ≡ None
 unfolding build_answer boot_answer run_answer map_answer flows_answer
 no_usage files None e = refl
-no_usage files (Some (build policy image)) e =
-    absurd (no_usage_of_file policy _ _ (λ bytes h. no_usage_of_image files image (accepted_policy_of files bytes) h) e)
+no_usage files (Some (build policy image dma)) e =
+    absurd (no_usage_of_file policy _ _ (λ bytes h. no_usage_of_image files image dma (accepted_policy_of files bytes) h) e)
 no_usage files (Some (boot policy name)) e =
     absurd (no_usage_of_file policy _ _ (λ bytes h. no_usage_of_policy files name (accepted_policy_of files bytes) h) e)
-no_usage files (Some (run image name)) e =
-    absurd (no_usage_of_file image _ _ (λ bytes h. no_usage_of_unpacked files name (unpacked image_form bytes) h) e)
+no_usage files (Some (run image name dma)) e =
+    absurd (no_usage_of_file image _ _ (λ bytes h. no_usage_of_unpacked files name dma (unpacked image_form bytes) h) e)
 no_usage files (Some (map policy)) e =
     absurd (no_usage_of_file policy _ _ (λ bytes h. no_usage_of_map (laid_policy_of bytes) h) e)
 no_usage files (Some (flows policy)) e =
@@ -177,6 +207,7 @@ abbrev IsRefusal : Status → Type 0
 IsRefusal statuses.PolicyRefused = Unit {0}
 IsRefusal statuses.FileMissing = Unit {0}
 IsRefusal statuses.ImageRefused = Unit {0}
+IsRefusal statuses.DmaRefused = Unit {0}
 IsRefusal statuses.RecordRefused = Unit {0}
 IsRefusal _ = ⊥
 
@@ -259,12 +290,15 @@ module _ (words : List (List ℕ)) (held held' : Option Store) (old new : Histor
   pub image_clause : status ≡ statuses.ImageRefused → Answered words looks (RefusesImage err err')
   image_clause five = stopped_clause (RefusesImage err err') (subst IsRefusal (sym five) tt) (λ reason is told. image_reason err err' reason (sym is ∙ five) told)
 
+  pub dma_clause : status ≡ statuses.DmaRefused → Answered words looks (RefusesDma err err')
+  dma_clause ten = stopped_clause (RefusesDma err err') (subst IsRefusal (sym ten) tt) (λ reason is told. dma_reason err err' reason (sym is ∙ ten) told)
+
   pub record_clause : status ≡ statuses.RecordRefused → Answered words looks (RefusesRecord err err')
   record_clause six = stopped_clause (RefusesRecord err err') (subst IsRefusal (sym six) tt) (λ reason is told. record_reason err err' reason (sym is ∙ six) told)
 
   ends_done : (answer : Answer) → IsDone answer ws out out' → status ≡ statuses.Done → err' ≡ err → Ends answer err err' status
   ends_done (prints text) did is quiet = (is, quiet)
-  ends_done (writes image p files) did is quiet = (is, quiet)
+  ends_done (writes image tables p files) did is quiet = (is, quiet)
   ends_done (stops reason) did is quiet = absurd did
 
   pub ends_clause : IsFault status ⊎ EndsAnswered words looks err err' status
@@ -341,8 +375,8 @@ module _ (words : List (List ℕ)) (held held' : Option Store) (old new : Histor
   -- ---- where an image is written
 
   pub built_clause : BuildWritesImage words looks ws status
-  built_clause m policy image s asked zero =
-      build_writes policy image m ws out out' (subst (λ command. IsDone (answer_of m command) ws out out') asked (done_clause zero m s))
+  built_clause m policy image dma s asked zero =
+      build_writes policy image dma m ws out out' (λ name is. differ words policy image name (asked ∙ ap (λ d. Some (build policy image d)) is)) (subst (λ command. IsDone (answer_of m command) ws out out') asked (done_clause zero m s))
 
   -- ---- where the answer is a text
 

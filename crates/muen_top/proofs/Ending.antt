@@ -1,5 +1,5 @@
 -- What comes of a command whose files were read.
-use Rattle.std.proofs.Common.{◌≡◌, inl, ℕ, List, [], ◌∷◌, ◌++◌, Option, Some, None, refl, sym, ap, subst, ◌∙◌, append-nil}
+use Rattle.std.proofs.Common.{◌≡◌, inl, ℕ, List, [], ◌++◌, Option, Some, None, refl, sym, ap, subst, ◌∙◌, append-nil}
 use Rattle.muen_build.proofs.Looks.{no_look, told_none}
 use Rattle.muen_outside.specs.Puts.{Failed}
 use Rattle.muen_outside.specs.States.{History, Look, SinkState, Write, looked, went, written}
@@ -13,15 +13,15 @@ use Rattle.muen_top.specs.Runs.{RunsTo}
 use Rattle.muen_top.specs.declared.outcome.Outcome.{Outcome}
 use Rattle.muen_top.specs.declared.outcome.Outcome.TheVariants.{Done, Stopped, OutputFault}
 use Rattle.muen_top.specs.declared.outcome.CommandError.{CommandError}
-use Rattle.muen_top.specs.declared.outcome.CommandError.TheVariants.{Usage, Missing, TooLong, Refused, ImageRefused, RecordRefused, FileFault, NoMemory}
+use Rattle.muen_top.specs.declared.outcome.CommandError.TheVariants.{Usage, Missing, TooLong, Refused, ImageRefused, DmaRefused, RecordRefused, FileFault, NoMemory}
 
 -- ---- what was done with files
 
 looked_alone : (old new : History) (looks : List Look) → new ≡ looked old looks → new ≡ went old looks []
 looked_alone old new looks is = is ∙ ap (λ ws. record { looks = old.looks ++ looks; writes = ws }) (sym (append-nil old.writes))
 
-pub looked_written : (old mid new : History) (looks : List Look) (w : Write) → mid ≡ looked old looks → new ≡ written mid (w ∷ []) → new ≡ went old looks (w ∷ [])
-looked_written old mid new looks w is wrote = wrote ∙ ap (λ h. written h (w ∷ [])) is
+pub looked_written : (old mid new : History) (looks : List Look) (ws : List Write) → mid ≡ looked old looks → new ≡ written mid ws → new ≡ went old looks ws
+looked_written old mid new looks ws is wrote = wrote ∙ ap (λ h. written h ws) is
 
 -- ---- a text
 
@@ -34,6 +34,7 @@ of_text answer looks out out' text is (Stopped (Missing n)) put = absurd put.0
 of_text answer looks out out' text is (Stopped (TooLong n k)) put = absurd put.0
 of_text answer looks out out' text is (Stopped (Refused r)) put = absurd put.0
 of_text answer looks out out' text is (Stopped (ImageRefused f)) put = absurd put.0
+of_text answer looks out out' text is (Stopped (DmaRefused f)) put = absurd put.0
 of_text answer looks out out' text is (Stopped (RecordRefused f)) put = absurd put.0
 of_text answer looks out out' text is (Stopped FileFault) put = absurd put.0
 

@@ -1,14 +1,14 @@
 -- What was seen of files that were looked at one after another.
-use Rattle.std.proofs.Common.{◌≡◌, inl, inr, ℕ, true, List, [], ◌∷◌, ◌++◌, Option, Some, None, IfSome, Result, Ok, Err, IfOk, refl, sym, ap, subst, ◌∙◌, append-nil}
+use Rattle.std.proofs.Common.{◌≡◌, inl, inr, ℕ, Bool, true, false, if◌then◌else◌, List, [], ◌∷◌, ◌++◌, Option, Some, None, IfSome, Result, Ok, Err, IfOk, refl, sym, ap, subst, ◌∙◌, append-nil}
 use Rattle.std.specs.FinMap.{get}
 use Rattle.std.specs.Str.{bytes_eq}
 use Rattle.std.proofs.lemmas.Slice.Eq.{bytes_eq-Decides}
-use Rattle.muen_build.specs.Accepting.{Files, looks_of}
+use Rattle.muen_build.specs.Accepting.{Files}
 use Rattle.muen_build.specs.Looks.{Looked, document_look}
 use Rattle.muen_build.proofs.Documents.{whole_found}
 use Rattle.muen_build.proofs.Looks.{looked_both, show_front, show_last, single_push, told_both}
 use Rattle.muen_build.proofs.Steps.{others_found, shown_among}
-use Rattle.muen_num.specs.declared.limits.TheConstants.{COMPONENT_FILE_MOST}
+use Rattle.muen_num.specs.declared.limits.TheConstants.{COMPONENT_FILE_MOST, POLICY_MOST}
 use Rattle.muen_outside.specs.declared.files.FileError.{FileError}
 use Rattle.muen_outside.specs.declared.files.FileError.TheVariants.{Failed as FileFailed, NoMemory as FileMemory}
 use Rattle.muen_outside.specs.declared.files.Found.{Found}
@@ -18,9 +18,9 @@ use Rattle.muen_outside.specs.States.{History, Look, look, looked}
 use Rattle.muen_outside.specs.Store.{Store, Reading, whole, absent, long, find_bytes, reading_of}
 use Rattle.muen_top.specs.Asked.{IsAtMost}
 use Rattle.muen_top.specs.FilesSeen.{OverLooks, Saw, SawAfter, known, not_copied, unknown}
-use Rattle.muen_top.specs.Loads.{GivesNone, NotRead, NotReadAfter, NotWithin, policy_looks}
+use Rattle.muen_top.specs.Loads.{AreKnown, GivesNone, IsKnown, NotRead, NotReadAfter, NotWithin, policy_looks}
 use Rattle.muen_top.specs.declared.outcome.CommandError.{CommandError}
-use Rattle.muen_top.specs.declared.outcome.CommandError.TheVariants.{Usage, Missing, TooLong, Refused, ImageRefused, RecordRefused, FileFault, NoMemory}
+use Rattle.muen_top.specs.declared.outcome.CommandError.TheVariants.{Usage, Missing, TooLong, Refused, ImageRefused, DmaRefused, RecordRefused, FileFault, NoMemory}
 
 -- ---- one look
 
@@ -101,6 +101,10 @@ module _ (looks : List Look) (name : List ℕ) (most : ℕ) (got : Result Readin
       no_more still (λ m s. subst (ShowsAnswer (get m name) most) (sym is) tt) (memory_not_failed got is)
   seen_after (unknown others also) = one_more others also
 
+-- the same bytes
+whole_same : (a b : List ℕ) → whole a ≡ whole b → a ≡ b
+whole_same a b e = cc (e)
+
 -- ---- a read that gives no bytes
 
 pub gives_none : (name : List ℕ) (P Q : Result Reading FileError → Type 0) → ((got : Result Reading FileError) → P got → Q got) → (error : CommandError) → GivesNone name P error → GivesNone name Q error
@@ -111,6 +115,7 @@ gives_none name P Q f NoMemory h = f (Err FileMemory) h
 gives_none name P Q f Usage h = absurd h
 gives_none name P Q f (Refused r) h = absurd h
 gives_none name P Q f (ImageRefused r) h = absurd h
+gives_none name P Q f (DmaRefused r) h = absurd h
 gives_none name P Q f (RecordRefused r) h = absurd h
 
 module _ (looks : List Look) (name : List ℕ) (most : ℕ) (held : Option Store) where
@@ -128,53 +133,55 @@ module _ (looks : List Look) (name : List ℕ) (most : ℕ) (held : Option Store
   not_within h bytes there Usage x = absurd x
   not_within h bytes there (Refused r) x = absurd x
   not_within h bytes there (ImageRefused f) x = absurd x
+  not_within h bytes there (DmaRefused f) x = absurd x
   not_within h bytes there (RecordRefused r) x = absurd x
 
--- ---- of the name of one file that was read before
+  -- of one of which they show it: a copy of that was read
+  pub copy_known : (bytes copied : List ℕ) → whole copied ≡ whole bytes → OverLooks looks (λ m. get m name ≡ Some bytes) → OverLooks looks (λ m. get m name ≡ Some copied)
+  copy_known bytes copied same there m s = there m s ∙ ap Some (sym (whole_same copied bytes same))
 
-module _ (before bytes name : List ℕ) (limit : ℕ) (same : bytes_eq name before ≡ true) (most : ℕ) (held : Option Store) (h : History) where
-  held_before : OverLooks (look before limit (Ok (whole bytes)) ∷ []) (λ m. get m name ≡ Some bytes)
-  held_before m s = ap (get m) ((bytes_eq-Decides name before).0 same) ∙ whole_found limit bytes (get m before) s.0
+  pub known_read : (h : History) (bytes reading : List ℕ) → OverLooks looks (λ m. get m name ≡ Some bytes) → whole reading ≡ reading_of (Some bytes) most → SawAfter looks name most (Ok (whole reading)) held h h
+  known_read h bytes reading there is = known bytes there (ap (λ r. Ok r) is) refl
 
-  pub known_before : (reading : Reading) → reading ≡ reading_of (Some bytes) most → SawAfter (look before limit (Ok (whole bytes)) ∷ []) name most (Ok reading) held h h
-  known_before reading eq = known bytes held_before (ap (λ r. Ok r) eq) refl
+-- ---- what is known of names
 
-  pub not_before : (error : CommandError) → NotWithin name bytes most error → NotReadAfter (look before limit (Ok (whole bytes)) ∷ []) name most held h h error
-  not_before error x = not_within (look before limit (Ok (whole bytes)) ∷ []) name most held h bytes held_before error x
+others_both : (ls more : List Look) (name : List ℕ) → AreOthers ls name → AreOthers more name → AreOthers (ls ++ more) name
+others_both [] more name a b = b
+others_both (l ∷ ls) more name a b = (a.0, others_both ls more name a.1 b)
 
--- ---- after one look, and so after more, at other names
+others_one : (name : List ℕ) (most : ℕ) (more : List Look) (q : List ℕ) → IsAtMost name most more → bytes_eq q name ≡ false → AreOthers more q
+others_one name most more q (inl is) e = subst (λ ls. AreOthers ls q) (sym is) tt
+others_one name most more q (inr one) e = subst (λ ls. AreOthers ls q) (sym one.1) (e, tt)
 
-module _ (l : Look) (ls : List Look) (name : List ℕ) (most : ℕ) (held : Option Store) (old new : History) (others : AreOthers ls name) where
-  pub after_more : (got : Result Reading FileError) → SawAfter (l ∷ []) name most got held old new → SawAfter (l ∷ ls) name most got held old new
-  after_more got (known content there is still) = known content (λ m s. there m (s.0, tt)) is still
-  after_more got (not_copied is still) = not_copied is still
-  after_more got (unknown other also) = unknown (other.0, others) also
+-- after one file
+pub first_known : (name : List ℕ) (most : ℕ) (bytes : List ℕ) → AreKnown (look name most (Ok (whole bytes)) ∷ []) ((name, bytes) ∷ [])
+first_known name most bytes q = by (bytes_eq q name) refl
+  where
+    by : (b : Bool) → bytes_eq q name ≡ b → IsKnown (look name most (Ok (whole bytes)) ∷ []) q (if b then Some bytes else None)
+    by true e = λ m s. ap (get m) ((bytes_eq-Decides q name).0 e) ∙ whole_found most bytes (get m name) s.0
+    by false e = (e, tt)
 
--- ---- a read after the files of a policy
+-- after one more
+pub known_too : (looks : List Look) (found : Files) (name : List ℕ) (most : ℕ) (bytes : List ℕ) (held : Option Store) (old new : History) (s : SeenAfter looks name most (Ok (whole bytes)) held old new)
+    → AreKnown looks found → AreKnown (looks ++ s.more) ((name, bytes) ∷ found)
+known_too looks found name most bytes held old new s known_before q = by (bytes_eq q name) refl
+  where
+    by_other : (o : Option (List ℕ)) → IsKnown looks q o → bytes_eq q name ≡ false → IsKnown (looks ++ s.more) q o
+    by_other (Some b) h e = λ m t. h m (s.shows m t).0
+    by_other None h e = others_both looks s.more q h (others_one name most s.more q s.one e)
 
--- the same bytes
-whole_same : (a b : List ℕ) → whole a ≡ whole b → a ≡ b
-whole_same a b e = cc (e)
+    by : (b : Bool) → bytes_eq q name ≡ b → IsKnown (looks ++ s.more) q (if b then Some bytes else find_bytes q found)
+    by true e = λ m t. ap (get m) ((bytes_eq-Decides q name).0 e) ∙ whole_found most bytes (get m name) (s.shows m t).1
+    by false e = by_other (find_bytes q found) (known_before q) e
 
-pub component_copied : (copied bytes : List ℕ) (o : Option (List ℕ)) → whole copied ≡ whole bytes → Some bytes ≡ o → o ≡ Some copied
-component_copied copied bytes o e is = sym is ∙ ap Some (sym (whole_same copied bytes e))
+-- after the files of a policy
+pub policy_known : (policy document : List ℕ) (found : Files) → AreKnown (policy_looks policy document found) ((policy, document) ∷ found)
+policy_known policy document found q = by (bytes_eq q policy) refl
+  where
+    by_component : (o : Option (List ℕ)) → find_bytes q found ≡ o → bytes_eq q policy ≡ false → IsKnown (policy_looks policy document found) q o
+    by_component (Some bytes) is e = λ m s. whole_found COMPONENT_FILE_MOST bytes (get m q) (shown_among m found q bytes s.1 is)
+    by_component None is e = (e, others_found found q is)
 
-module _ (policy document : List ℕ) (found : Files) (name : List ℕ) (most : ℕ) (held : Option Store) where
-  held_by_component : (bytes : List ℕ) → find_bytes name found ≡ Some bytes → OverLooks (policy_looks policy document found) (λ m. get m name ≡ Some bytes)
-  held_by_component bytes is m s = whole_found COMPONENT_FILE_MOST bytes (get m name) (shown_among m found name bytes s.1 is)
-
-  -- a component file that was read
-  pub of_component : (h : History) (bytes : List ℕ) (reading : Reading) → find_bytes name found ≡ Some bytes → reading ≡ reading_of (Some bytes) most → SawAfter (policy_looks policy document found) name most (Ok reading) held h h
-  of_component h bytes reading is eq = known bytes (held_by_component bytes is) (ap (λ r. Ok r) eq) refl
-
-  pub no_component : (h : History) (bytes : List ℕ) (error : CommandError) → find_bytes name found ≡ Some bytes → NotWithin name bytes most error → NotReadAfter (policy_looks policy document found) name most held h h error
-  no_component h bytes error is x = not_within (policy_looks policy document found) name most held h bytes (held_by_component bytes is) error x
-
-  -- the policy's document, or another file
-  pub of_another : (old new : History) (reading : Reading) → find_bytes name found ≡ None → SawAfter (document_look policy document ∷ []) name most (Ok reading) held old new → SawAfter (policy_looks policy document found) name most (Ok reading) held old new
-  of_another old new reading none h = after_more (document_look policy document) (looks_of found) name most held old new (others_found found name none) (Ok reading) h
-
-  pub no_other : (old new : History) (error : CommandError) → find_bytes name found ≡ None → NotReadAfter (document_look policy document ∷ []) name most held old new error → NotReadAfter (policy_looks policy document found) name most held old new error
-  no_other old new error none h =
-      gives_none name (λ got. SawAfter (document_look policy document ∷ []) name most got held old new) (λ got. SawAfter (policy_looks policy document found) name most got held old new)
-      (after_more (document_look policy document) (looks_of found) name most held old new (others_found found name none)) error h
+    by : (b : Bool) → bytes_eq q policy ≡ b → IsKnown (policy_looks policy document found) q (if b then Some document else find_bytes q found)
+    by true e = λ m s. ap (get m) ((bytes_eq-Decides q policy).0 e) ∙ whole_found POLICY_MOST document (get m policy) s.0
+    by false e = by_component (find_bytes q found) refl e

@@ -21,7 +21,7 @@ use Rattle.muen_top.specs.Loads.{GivesNone, NotRead}
 use Rattle.muen_top.specs.PolicyCommands.{HasRead, IsAnswered, StopsCommand}
 use Rattle.muen_top.specs.CommandErrors.{error_of_record_fault, error_of_refusal}
 use Rattle.muen_top.specs.declared.outcome.CommandError.{CommandError}
-use Rattle.muen_top.specs.declared.outcome.CommandError.TheVariants.{Usage, Missing, TooLong, Refused, ImageRefused, RecordRefused, FileFault, NoMemory}
+use Rattle.muen_top.specs.declared.outcome.CommandError.TheVariants.{Usage, Missing, TooLong, Refused, ImageRefused, DmaRefused, RecordRefused, FileFault, NoMemory}
 use Rattle.muen_top.proofs.FilesSeen.{gives_none}
 
 -- ---- a read that gives no bytes stops a command
@@ -70,6 +70,7 @@ module _ (command : Command) (held : Option Store) (old new : History) (name : L
   stopped_by Usage h = absurd h
   stopped_by (Refused r) h = absurd h
   stopped_by (ImageRefused f) h = absurd h
+  stopped_by (DmaRefused f) h = absurd h
   stopped_by (RecordRefused r) h = absurd h
 
 -- ---- a policy that is refused stops it

@@ -1,142 +1,210 @@
--- What `run` answers, as its files are read.
-use Rattle.std.proofs.Common.{◌≡◌, inl, inr, ℕ, List, [], ◌∷◌, ◌++◌, Option, Some, None, Result, Ok, Err, refl, sym, ap, subst, ◌∙◌}
+-- What `run` answers, as its files are read before the record.
+use Rattle.std.proofs.Common.{◌≡◌, inl, inr, ℕ, List, [], ◌∷◌, ◌++◌, Option, Some, None, Result, Ok, Err, refl, sym, ap, subst, ◌∙◌, append-nil, option_map}
 use Rattle.std.specs.FinMap.{get}
+use Rattle.binary_form.proofs.Theorem.{back}
 use Rattle.binary_form.specs.Faults.{Tells, unpacked}
 use Rattle.binary_form.specs.declared.fault.ImageFault.{ImageFault}
 use Rattle.binary_form.specs.declared.fault.ImageFault.TheVariants.{Short, Bad, Trailing, NoMemory as NoMemoryForImage}
-use Rattle.image_load.specs.Resolving.{image_bench, image_record}
+use Rattle.dma_tables.proofs.FileLaws.{file_laws}
+use Rattle.dma_tables.specs.DmaFile.{dma_file}
+use Rattle.dma_tables.specs.Tables.{IsDmaFile}
+use Rattle.dma_tables.specs.declared.file.DmaFile.{DmaFile}
 use Rattle.image_pack.specs.Image.{image as image_form}
 use Rattle.image_pack.specs.declared.parts.Image.{Image}
-use Rattle.muen_num.specs.Answers.{Answers}
-use Rattle.muen_num.specs.declared.limits.TheConstants.{IMAGE_MOST, RECORD_MOST}
+use Rattle.muen_num.specs.declared.limits.TheConstants.{IMAGE_MOST}
 use Rattle.muen_outside.specs.declared.files.FileError.{FileError}
 use Rattle.muen_outside.specs.Looks.{ShowAll}
 use Rattle.muen_outside.specs.States.{History, Look, look}
 use Rattle.muen_outside.specs.Store.{Store, Reading, whole, reading_of}
-use Rattle.muen_run.specs.RunText.{run_text}
-use Rattle.record_text.specs.Reading.{record_of}
-use Rattle.record_text.specs.Steps.{mapped}
-use Rattle.record_text.specs.declared.fault.RecordFault.{RecordFault}
-use Rattle.record_text.specs.declared.fault.RecordFault.TheVariants.{NoMemory as NoMemoryForRecord}
-use Rattle.record_text.specs.declared.record.Input.{Input}
-use Rattle.record_text.specs.declared.record.Record.{Record}
-use Rattle.record_text.proofs.Mapped.{mapped_err, mapped_ok}
-use Rattle.muen_top.specs.Answers.{Answer, prints, stops, image_refused, of_file, named_answer, unpacked_answer, run_answer}
+use Rattle.muen_top.specs.Answers.{Answer, stops, dma_refused, image_refused, of_file, dma_answer, unpacked_answer, run_answer}
 use Rattle.muen_top.specs.Asked.{Asks, AsksRecord, IsAtMost}
 use Rattle.muen_top.specs.Calls.{StopsFor}
 use Rattle.muen_top.specs.Commands.{run}
 use Rattle.muen_top.specs.FilesSeen.{OverLooks, Saw, SawAfter}
-use Rattle.muen_top.specs.Loads.{NotRead, NotReadAfter}
-use Rattle.muen_top.specs.PolicyCommands.{HasRead, IsAnswered, StopsCommand}
-use Rattle.muen_top.specs.CommandErrors.{error_of_image_fault, error_of_record_fault}
+use Rattle.muen_top.specs.Loads.{HasTables, IsReady, LacksTables, NotTables, unread, faulty, NotRead, NotReadAfter, read_before}
+use Rattle.muen_top.specs.PolicyCommands.{HasRead, StopsCommand}
+use Rattle.muen_top.specs.CommandErrors.{error_of_dma_fault, error_of_image_fault}
+use Rattle.muen_top.specs.declared.limits.TheConstants.{DMA_MOST}
 use Rattle.muen_top.specs.declared.outcome.CommandError.{CommandError}
-use Rattle.muen_top.proofs.FilesSeen.{SeenAfter, gives_none, seen_after}
-use Rattle.muen_top.proofs.FirstFile.{AsksOn, RestsOn, SaysOf, not_read, says_of, stopped_by, stops_alone, stops_record}
+use Rattle.muen_top.specs.declared.run.TablesRead.{TablesRead}
+use Rattle.muen_top.proofs.FilesSeen.{SeenAfter, first_known, gives_none, known_too, seen_after}
+use Rattle.muen_top.proofs.FirstFile.{AsksOn, RestsOn, SaysOf, not_read, says_of, stopped_by, stops_alone}
 
 -- ---- the answer
 
-run_next : List ℕ → Store → List ℕ → Answer
-run_next name m bytes = unpacked_answer m name (unpacked image_form bytes)
+run_next : List ℕ → Option (List ℕ) → Store → List ℕ → Answer
+run_next name dma m bytes = unpacked_answer m name dma (unpacked image_form bytes)
 
-rests : (image name : List ℕ) → RestsOn IMAGE_MOST image (run_next name) (run image name)
+rests : (image name : List ℕ) (dma : Option (List ℕ)) → RestsOn IMAGE_MOST image (run_next name dma) (run image name dma)
 unfolding run_answer run_next
-rests image name m = refl
+rests image name dma m = refl
 
-asks : (image name : List ℕ) → AsksOn IMAGE_MOST image (AsksRecord name) (run image name)
-asks image name = record { asks = λ looks a. a; none = λ bytes. inl refl }
+asks : (image name : List ℕ) (dma : Option (List ℕ)) → AsksOn IMAGE_MOST image (AsksRecord image name dma) (run image name dma)
+asks image name dma = record { asks = λ looks a. a; none = λ bytes. inl refl }
 
-by_image : (m : Store) (image name bytes : List ℕ) (answer : Result Image ImageFault) → reading_of (get m image) IMAGE_MOST ≡ whole bytes → unpacked image_form bytes ≡ answer → run_answer m image name ≡ unpacked_answer m name answer
+by_image : (m : Store) (image name : List ℕ) (dma : Option (List ℕ)) (bytes : List ℕ) (answer : Result Image ImageFault) → reading_of (get m image) IMAGE_MOST ≡ whole bytes → unpacked image_form bytes ≡ answer
+    → run_answer m image name dma ≡ unpacked_answer m name dma answer
 unfolding run_answer
-by_image m image name bytes answer is eq =
-    ap (λ reading. of_file image (λ bytes. unpacked_answer m name (unpacked image_form bytes)) reading) is ∙ ap (unpacked_answer m name) eq
+by_image m image name dma bytes answer is eq =
+    ap (λ reading. of_file image (λ bytes. unpacked_answer m name dma (unpacked image_form bytes)) reading) is ∙ ap (unpacked_answer m name dma) eq
+
+-- the bytes of a file of tables are read as them
+pub tables_read : (bytes : List ℕ) (t : DmaFile) → IsDmaFile bytes t → unpacked dma_file bytes ≡ Ok t
+tables_read bytes t file = ap (unpacked dma_file) file.bytes_are ∙ back dma_file file_laws t file.tables
 
 -- ---- the image's file
 
-pub image_not_read : (image name : List ℕ) (held : Option Store) (old new : History) (error : CommandError) → NotRead image IMAGE_MOST held old new error → StopsCommand (run image name) held old new error
-image_not_read image name held old new error h = not_read IMAGE_MOST image (run_next name) (AsksRecord name) (run image name) (rests image name) (asks image name) held old new error h
+pub image_not_read : (image name : List ℕ) (dma : Option (List ℕ)) (held : Option Store) (old new : History) (error : CommandError) → NotRead image IMAGE_MOST held old new error → StopsCommand (run image name dma) held old new error
+image_not_read image name dma held old new error h =
+    not_read IMAGE_MOST image (run_next name dma) (AsksRecord image name dma) (run image name dma) (rests image name dma) (asks image name dma) held old new error h
 
 -- ---- the image
 
-module _ (image name : List ℕ) (held : Option Store) (old mid : History) (bytes : List ℕ) (saw : Saw held old mid (look image IMAGE_MOST (Ok (whole bytes)) ∷ [])) where
+module _ (image : List ℕ) (held : Option Store) (old mid : History) (bytes : List ℕ) (saw : Saw held old mid (look image IMAGE_MOST (Ok (whole bytes)) ∷ [])) where
   abbrev first : List Look
   first = look image IMAGE_MOST (Ok (whole bytes)) ∷ []
 
-  fault_says : (fault : ImageFault) → unpacked image_form bytes ≡ Err fault → OverLooks first (λ m. run_answer m image name ≡ stops (image_refused fault))
-  fault_says fault is m s = by_image m image name bytes (Err fault) s.0 is
+  module _ (name : List ℕ) (dma : Option (List ℕ)) where
+    fault_says : (fault : ImageFault) → unpacked image_form bytes ≡ Err fault → OverLooks first (λ m. run_answer m image name dma ≡ stops (image_refused fault))
+    fault_says fault is m s = by_image m image name dma bytes (Err fault) s.0 is
 
-  of_image_fault : (fault : ImageFault) → Tells (unpacked image_form bytes) (Err fault) → StopsFor (λ m. run_answer m image name) first [] (error_of_image_fault fault)
-  of_image_fault NoMemoryForImage h = inl refl
-  of_image_fault (Short at) h = (fault_says (Short at) h, refl)
-  of_image_fault (Bad at field) h = (fault_says (Bad at field) h, refl)
-  of_image_fault (Trailing at) h = (fault_says (Trailing at) h, refl)
+    of_image_fault : (fault : ImageFault) → Tells (unpacked image_form bytes) (Err fault) → StopsFor (λ m. run_answer m image name dma) first [] (error_of_image_fault fault)
+    of_image_fault NoMemoryForImage h = inl refl
+    of_image_fault (Short at) h = (fault_says (Short at) h, refl)
+    of_image_fault (Bad at field) h = (fault_says (Bad at field) h, refl)
+    of_image_fault (Trailing at) h = (fault_says (Trailing at) h, refl)
 
-  pub image_refused_so : (fault : ImageFault) (error : CommandError) → Tells (unpacked image_form bytes) (Err fault) → error ≡ error_of_image_fault fault → StopsCommand (run image name) held old mid error
-  image_refused_so fault error h made =
-      stops_alone IMAGE_MOST image (run_next name) (AsksRecord name) (run image name) (rests image name) (asks image name) held old mid bytes saw error
-      (subst (StopsFor (λ m. run_answer m image name) first []) (sym made) (of_image_fault fault h))
+    pub image_refused_so : (fault : ImageFault) (error : CommandError) → Tells (unpacked image_form bytes) (Err fault) → error ≡ error_of_image_fault fault → StopsCommand (run image name dma) held old mid error
+    image_refused_so fault error h made =
+        stops_alone IMAGE_MOST image (run_next name dma) (AsksRecord image name dma) (run image name dma) (rests image name dma) (asks image name dma) held old mid bytes saw error
+        (subst (StopsFor (λ m. run_answer m image name dma) first []) (sym made) (of_image_fault fault h))
 
-  -- ---- the record's file, where the image is one
+  -- ---- the tables' file, where the image is one
 
   module _ (held' : Option Store) (same : held' ≡ held) (i : Image) (is : unpacked image_form bytes ≡ Ok i) (new : History) where
-    abbrev Both : Result Reading FileError → Type 0
-    Both got = SeenAfter first name RECORD_MOST got held old new
+    module _ (dma : List ℕ) where
+      abbrev After : Result Reading FileError → Type 0
+      After got = SawAfter first dma DMA_MOST got held' mid new
 
-    both : (got : Result Reading FileError) → SawAfter first name RECORD_MOST got held' mid new → Both got
-    both got after = seen_after first name RECORD_MOST got held held' old mid new same saw after
+      seen : (got : Result Reading FileError) → After got → SeenAfter first dma DMA_MOST got held old new
+      seen got after = seen_after first dma DMA_MOST got held held' old mid new same saw after
 
-    next : Store → List ℕ → Answer
-    next m text = named_answer i (record_of text (image_bench i))
+      module _ (name : List ℕ) where
+        abbrev answer : Store → Answer
+        answer m = run_answer m image name (Some dma)
 
-    -- the answer goes on with what is read of the record's file
-    by_both : (m : Store) (reading : Reading) → ShowAll m first → reading_of (get m name) RECORD_MOST ≡ reading → run_answer m image name ≡ of_file name (next m) reading
-    unfolding next
-    by_both m reading s shows = by_image m image name bytes (Ok i) s.0 is ∙ ap (of_file name (λ text. named_answer i (record_of text (image_bench i)))) shows
+        next : Store → List ℕ → Answer
+        next m file = dma_answer m name i (unpacked dma_file file)
 
-    asks_both : (more : List Look) → IsAtMost name RECORD_MOST more → Asks (Some (run image name)) (first ++ more)
-    asks_both more one = record { got = Ok (whole bytes); more = more; is = refl; goes_on = inr (i, is, one) }
+        -- the answer goes on with what is read of it
+        by_reading : (m : Store) (reading : Reading) → ShowAll m first → reading_of (get m dma) DMA_MOST ≡ reading → answer m ≡ of_file dma (next m) reading
+        unfolding next
+        by_reading m reading s shows = by_image m image name (Some dma) bytes (Ok i) s.0 is ∙ ap (of_file dma (λ file. dma_answer m name i (unpacked dma_file file))) shows
 
-    read_so : (got : Result Reading FileError) → SawAfter first name RECORD_MOST got held' mid new → HasRead (run image name) held old new (SaysOf (λ m. run_answer m image name) name got)
-    read_so got after =
-        let s = both got after in
-        record {
-          looks = first ++ s.more;
-          saw = s.saw;
-          asked = asks_both s.more s.one;
-          says = says_of (λ m. run_answer m image name) name RECORD_MOST next (first ++ s.more) (λ m reading shows is. by_both m reading (s.shows m shows).0 is) got (λ m shows. (s.shows m shows).1) s.fault;
+        asks_tables : (more : List Look) → IsAtMost dma DMA_MOST more → Asks (Some (run image name (Some dma))) (first ++ more)
+        asks_tables more one = record {
+          got = Ok (whole bytes);
+          more = more;
+          is = refl;
+          goes_on = inr (i, is, record { middle = more; last = []; is = sym (append-nil more); tables = one; inputs_last = inl refl });
         }
 
-    pub input_not_read : (error : CommandError) → NotReadAfter first name RECORD_MOST held' mid new error → StopsCommand (run image name) held old new error
-    input_not_read error h =
-        stopped_by (run image name) held old new name error
-        (gives_none name (λ got. SawAfter first name RECORD_MOST got held' mid new) (λ got. HasRead (run image name) held old new (SaysOf (λ m. run_answer m image name) name got)) read_so error h)
+        read_so : (got : Result Reading FileError) → After got → HasRead (run image name (Some dma)) held old new (SaysOf answer dma got)
+        read_so got after =
+            let s = seen got after in
+            record {
+              looks = first ++ s.more;
+              saw = s.saw;
+              asked = asks_tables s.more s.one;
+              says = says_of answer dma DMA_MOST next (first ++ s.more) (λ m reading shows is. by_reading m reading (s.shows m shows).0 is) got (λ m shows. (s.shows m shows).1) s.fault;
+            }
 
-    -- ---- the record
+        not_tables_read : (error : CommandError) → NotReadAfter first dma DMA_MOST held' mid new error → StopsCommand (run image name (Some dma)) held old new error
+        not_tables_read error h =
+            stopped_by (run image name (Some dma)) held old new dma error
+            (gives_none dma After (λ got. HasRead (run image name (Some dma)) held old new (SaysOf answer dma got)) read_so error h)
 
-    module _ (text : List ℕ) (after : SawAfter first name RECORD_MOST (Ok (whole text)) held' mid new) where
-      -- what comes of it
-      by_record : (Says : List Look → Type 0) → ((looks : List Look) → OverLooks looks (λ m. run_answer m image name ≡ named_answer i (record_of text (image_bench i))) → Says looks) → HasRead (run image name) held old new Says
-      unfolding next
-      by_record Says makes =
-          let s = both (Ok (whole text)) after in
+        -- its bytes are of no tables
+        module _ (file : List ℕ) (after : After (Ok (whole file))) where
+          fault_of : (fault : ImageFault) → unpacked dma_file file ≡ Err fault → OverLooks (first ++ (seen (Ok (whole file)) after).more) (λ m. answer m ≡ stops (dma_refused fault))
+          unfolding next
+          fault_of fault e m shows =
+              let s = seen (Ok (whole file)) after in
+              by_reading m (whole file) (s.shows m shows).0 (s.shows m shows).1 ∙ ap (dma_answer m name i) e
+
+          of_dma_fault : (fault : ImageFault) → Tells (unpacked dma_file file) (Err fault) → StopsFor answer (first ++ (seen (Ok (whole file)) after).more) [] (error_of_dma_fault fault)
+          of_dma_fault NoMemoryForImage h = inl refl
+          of_dma_fault (Short at) h = (fault_of (Short at) h, refl)
+          of_dma_fault (Bad at field) h = (fault_of (Bad at field) h, refl)
+          of_dma_fault (Trailing at) h = (fault_of (Trailing at) h, refl)
+
+          faulty_so : (fault : ImageFault) (error : CommandError) → Tells (unpacked dma_file file) (Err fault) → error ≡ error_of_dma_fault fault → StopsCommand (run image name (Some dma)) held old new error
+          faulty_so fault error h made =
+              let s = seen (Ok (whole file)) after in
+              record {
+                looks = first ++ s.more;
+                saw = s.saw;
+                asked = asks_tables s.more s.one;
+                says = subst (StopsFor answer (first ++ s.more) []) (sym made) (of_dma_fault fault h);
+              }
+
+        not_tables : (error : CommandError) → NotTables first dma held' mid new error → StopsCommand (run image name (Some dma)) held old new error
+        not_tables error (unread h) = not_tables_read error h
+        not_tables error (faulty file fault after h made) = faulty_so file after fault error h made
+
+      -- they are such
+      tables_ready : (t : TablesRead) → After (Ok (whole t.bytes)) → IsDmaFile t.bytes t.tables → IsReady (λ name. run image name (Some dma)) held old new ((dma, t.bytes) ∷ (image, bytes) ∷ []) i (Some t.tables)
+      tables_ready t after file =
+          let s = seen (Ok (whole t.bytes)) after in
           record {
             looks = first ++ s.more;
             saw = s.saw;
-            asked = asks_both s.more s.one;
-            says = makes (first ++ s.more) (λ m shows. by_both m (whole text) (s.shows m shows).0 (s.shows m shows).1);
+            known = known_too first ((image, bytes) ∷ []) dma DMA_MOST t.bytes held old new s (first_known image IMAGE_MOST bytes);
+            asked = λ name more one. record {
+              got = Ok (whole bytes);
+              more = s.more ++ more;
+              is = refl;
+              goes_on = inr (
+                i,
+                is,
+                record {
+                  middle = s.more;
+                  last = more;
+                  is = refl;
+                  tables = s.one;
+                  inputs_last = inr ((t.tables, λ m shows. record { bytes = t.bytes; read = (s.shows m shows).1; file = file }), one);
+                },
+              );
+            };
+            answers = λ name m shows.
+                by_image m image name (Some dma) bytes (Ok i) (s.shows m shows).0.0 is
+                ∙ ap (of_file dma (λ read. dma_answer m name i (unpacked dma_file read))) (s.shows m shows).1
+                ∙ ap (dma_answer m name i) (tables_read t.bytes t.tables file);
           }
 
-      refused_says : (fault : RecordFault) → Answers NoMemoryForRecord (mapped (image_record i) (record_of text (image_bench i))) (Err fault) → (error : CommandError) → error ≡ error_of_record_fault fault → (looks : List Look)
-          → OverLooks looks (λ m. run_answer m image name ≡ named_answer i (record_of text (image_bench i))) → StopsFor (λ m. run_answer m image name) looks [] error
-      refused_says fault (inl is) error made looks goes = stops_record (λ m. run_answer m image name) looks fault error (inl is) made
-      refused_says fault (inr read) error made looks goes =
-          stops_record (λ m. run_answer m image name) looks fault error
-          (inr (λ m shows. goes m shows ∙ ap (named_answer i) (mapped_err (image_record i) (record_of text (image_bench i)) fault read))) made
+    -- the words name none
+    none_ready : new ≡ mid → IsReady (λ name. run image name None) held old new ((image, bytes) ∷ []) i None
+    none_ready still = record {
+      looks = first;
+      saw = subst (λ h. Saw held old h first) (sym still) saw;
+      known = first_known image IMAGE_MOST bytes;
+      asked = λ name more one. record {
+        got = Ok (whole bytes);
+        more = more;
+        is = refl;
+        goes_on = inr (i, is, record { middle = []; last = more; is = refl; tables = refl; inputs_last = inr (tt, one) });
+      };
+      answers = λ name m s. by_image m image name None bytes (Ok i) s.0 is;
+    }
 
-      pub input_refused_so : (fault : RecordFault) (error : CommandError) → Answers NoMemoryForRecord (mapped (image_record i) (record_of text (image_bench i))) (Err fault) → error ≡ error_of_record_fault fault → StopsCommand (run image name) held old new error
-      input_refused_so fault error h made = by_record (λ looks. StopsFor (λ m. run_answer m image name) looks [] error) (refused_says fault h error made)
+    -- ---- both forms
 
-      pub input_read : (input : Record Input) → mapped (image_record i) (record_of text (image_bench i)) ≡ Ok input → IsAnswered (run image name) held old new (prints (run_text None i input))
-      input_read input read =
-          let named = mapped_ok (image_record i) (record_of text (image_bench i)) input read in
-          by_record (λ looks. OverLooks looks (λ m. run_answer m image name ≡ prints (run_text None i input)))
-          (λ looks goes m shows. goes m shows ∙ ap (named_answer i) named.1 ∙ ap (λ r. prints (run_text None i r)) named.2)
+    pub lacks_tables : (dma : Option (List ℕ)) (error : CommandError) → LacksTables first dma held' mid new error → (name : List ℕ) → StopsCommand (run image name dma) held old new error
+    lacks_tables None error h name = absurd h
+    lacks_tables (Some dma) error h name = not_tables dma name error h
+
+    pub run_ready : (dma : Option (List ℕ)) (tables : Option TablesRead) → HasTables first dma held' mid new tables → IsReady (λ name. run image name dma) held old new (read_before image bytes dma tables) i (option_map (λ t. t.tables) tables)
+    run_ready None None still = none_ready still
+    run_ready (Some dma) (Some t) h = tables_ready dma t h.0 h.1
+    run_ready None (Some t) h = absurd h
+    run_ready (Some dma) None h = absurd h

@@ -2,10 +2,10 @@
 use Rattle.std.proofs.Common.{◌≡◌, sym, subst}
 use Rattle.policy_types.specs.declared.refusal.Refusal.{Refusal}
 use Rattle.policy_types.specs.declared.refusal.Refusal.TheVariants.{NotJson, Shape, Rule, Missing as MissingFile, TooLong as TooLongFile, FileFit, NoRoom, NoMemory as NoMemoryFor}
-use Rattle.muen_top.specs.Answers.{Reason, usage, missing, too_long, refused, image_refused, record_refused}
+use Rattle.muen_top.specs.Answers.{Reason, usage, missing, too_long, refused, image_refused, dma_refused, record_refused}
 use Rattle.muen_top.specs.Reports.{refusal_status, reason_status}
 use Rattle.muen_top.specs.declared.status.Status.{Status}
-use Rattle.muen_top.specs.declared.status.Status.TheVariants.{Done, Usage, PolicyRefused, FileMissing, FileFault, ImageRefused, RecordRefused, OutputFault, NoMemory}
+use Rattle.muen_top.specs.declared.status.Status.TheVariants.{Done, Usage, PolicyRefused, FileMissing, FileFault, ImageRefused, RecordRefused, OutputFault, NoMemory, DmaRefused}
 
 -- those of a refusal
 abbrev pub OfRefusal : Status → Type 0
@@ -44,6 +44,7 @@ of_refusal FileFault h = h
 of_refusal ImageRefused h = tt
 of_refusal RecordRefused h = tt
 of_refusal OutputFault h = h
+of_refusal DmaRefused h = tt
 
 reason_statuses : (reason : Reason) → OfReason (reason_status reason)
 reason_statuses usage = tt
@@ -51,6 +52,7 @@ reason_statuses (missing name) = tt
 reason_statuses (too_long name n) = tt
 reason_statuses (refused refusal) = of_refusal (refusal_status refusal) (refusal_statuses refusal)
 reason_statuses (image_refused fault) = tt
+reason_statuses (dma_refused fault) = tt
 reason_statuses (record_refused fault) = tt
 
 pub is_of_reason : (reason : Reason) (status : Status) → status ≡ reason_status reason → OfReason status

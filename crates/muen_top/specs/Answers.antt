@@ -3,6 +3,8 @@ use Rattle.std.specs.Prelude.{ℕ, List, Option, Some, None, Result, Ok, Err}
 use Rattle.std.specs.FinMap.{get}
 use Rattle.flow_report.specs.FlowText.{flow_text_of}
 use Rattle.binary_form.specs.Faults.{unpacked}
+use Rattle.dma_tables.specs.DmaFile.{dma_file}
+use Rattle.dma_tables.specs.declared.file.DmaFile.{DmaFile}
 use Rattle.image_load.specs.Resolving.{image_bench, image_record}
 use Rattle.image_pack.specs.Image.{image as image_form}
 use Rattle.image_pack.specs.declared.parts.Image.{Image}
@@ -21,6 +23,7 @@ use Rattle.image_soundness.specs.Bench.{devices_of}
 use Rattle.muen_build.specs.Refusals.{accepted_policy_of, laid_policy_of, lawful_policy_of}
 use Rattle.binary_form.specs.declared.fault.ImageFault.{ImageFault}
 use Rattle.record_text.specs.declared.fault.RecordFault.{RecordFault}
+use Rattle.muen_top.specs.declared.limits.TheConstants.{DMA_MOST}
 
 -- why a command prints and writes nothing
 pub data Reason : Type 0 where
@@ -34,14 +37,17 @@ pub data Reason : Type 0 where
   refused : Refusal → Reason
   -- the image is refused
   image_refused : ImageFault → Reason
+  -- the tables for direct memory access are refused
+  dma_refused : ImageFault → Reason
   -- the device record is refused
   record_refused : RecordFault → Reason
 
 pub data Answer : Type 0 where
   -- this text is printed
   prints : List ℕ → Answer
-  -- an image that is sound for this policy over these files is written under this name, and nothing is printed
-  writes : List ℕ → Source → Held → Answer
+  -- an image that is sound for this policy over these files is written under this name and, where there is another, the tables of
+  -- the policy's domains of devices under that one; nothing is printed
+  writes : List ℕ → Option (List ℕ) → Source → Held → Answer
   -- nothing is printed, for this reason
   stops : Reason → Answer
 
@@ -51,15 +57,15 @@ of_file name next (whole bytes) = next bytes
 of_file name next absent = stops (missing name)
 of_file name next (long n) = stops (too_long name n)
 
--- ---- `build`: the policy's file, the policy with its contents and its room, the image
+-- ---- `build`: the policy's file, the policy with its contents and its room, the image, the tables
 
-abbrev pub image_answer : Held → List ℕ → Result Source Refusal → Answer
-image_answer files image (Ok p) = writes image p files
-image_answer files image (Err refusal) = stops (refused refusal)
+abbrev pub image_answer : Held → List ℕ → Option (List ℕ) → Result Source Refusal → Answer
+image_answer files image tables (Ok p) = writes image tables p files
+image_answer files image tables (Err refusal) = stops (refused refusal)
 
-unfoldable pub build_answer : Held → List ℕ → List ℕ → Answer
-build_answer files policy image =
-    of_file policy (λ bytes. image_answer files image (accepted_policy_of files bytes)) (reading_of (get files policy) POLICY_MOST)
+unfoldable pub build_answer : Held → List ℕ → List ℕ → Option (List ℕ) → Answer
+build_answer files policy image tables =
+    of_file policy (λ bytes. image_answer files image tables (accepted_policy_of files bytes)) (reading_of (get files policy) POLICY_MOST)
 
 -- ---- `boot`: the policy's file, the policy with its contents and its room, the record's file, the record, the run of the policy's system
 
@@ -79,23 +85,33 @@ unfoldable pub boot_answer : Held → List ℕ → List ℕ → Answer
 boot_answer files policy name =
     of_file policy (λ bytes. policy_answer files name (accepted_policy_of files bytes)) (reading_of (get files policy) POLICY_MOST)
 
--- ---- `run`: the image's file, the image, the record's file, the record for this image, the run, with no tables for direct memory access
+-- ---- `run`: the image's file, the image, the file of tables and the tables, where the words name one, the record's file, the
+-- ---- record for this image, the run
 
-abbrev pub named_answer : Image → Result DeviceRecord RecordFault → Answer
-named_answer i (Ok named) = prints (run_text None i (image_record i named))
-named_answer i (Err fault) = stops (record_refused fault)
+-- with these tables for direct memory access, or none
+abbrev pub named_answer : Option DmaFile → Image → Result DeviceRecord RecordFault → Answer
+named_answer tables i (Ok named) = prints (run_text tables i (image_record i named))
+named_answer tables i (Err fault) = stops (record_refused fault)
 
-abbrev pub input_answer : Held → Image → List ℕ → Answer
-input_answer files i name =
-    of_file name (λ bytes. named_answer i (record_of bytes (image_bench i))) (reading_of (get files name) RECORD_MOST)
+abbrev pub input_answer : Held → List ℕ → Image → Option DmaFile → Answer
+input_answer files name i tables =
+    of_file name (λ bytes. named_answer tables i (record_of bytes (image_bench i))) (reading_of (get files name) RECORD_MOST)
 
-abbrev pub unpacked_answer : Held → List ℕ → Result Image ImageFault → Answer
-unpacked_answer files name (Ok i) = input_answer files i name
-unpacked_answer files name (Err fault) = stops (image_refused fault)
+abbrev pub dma_answer : Held → List ℕ → Image → Result DmaFile ImageFault → Answer
+dma_answer files name i (Ok tables) = input_answer files name i (Some tables)
+dma_answer files name i (Err fault) = stops (dma_refused fault)
 
-unfoldable pub run_answer : Held → List ℕ → List ℕ → Answer
-run_answer files image name =
-    of_file image (λ bytes. unpacked_answer files name (unpacked image_form bytes)) (reading_of (get files image) IMAGE_MOST)
+abbrev pub tables_answer : Held → List ℕ → Option (List ℕ) → Image → Answer
+tables_answer files name None i = input_answer files name i None
+tables_answer files name (Some dma) i = of_file dma (λ bytes. dma_answer files name i (unpacked dma_file bytes)) (reading_of (get files dma) DMA_MOST)
+
+abbrev pub unpacked_answer : Held → List ℕ → Option (List ℕ) → Result Image ImageFault → Answer
+unpacked_answer files name dma (Ok i) = tables_answer files name dma i
+unpacked_answer files name dma (Err fault) = stops (image_refused fault)
+
+unfoldable pub run_answer : Held → List ℕ → List ℕ → Option (List ℕ) → Answer
+run_answer files image name dma =
+    of_file image (λ bytes. unpacked_answer files name dma (unpacked image_form bytes)) (reading_of (get files image) IMAGE_MOST)
 
 -- ---- `map`: the policy's file, the policy and its room, the text
 
@@ -120,8 +136,8 @@ flows_answer files policy = of_file policy (λ bytes. flows_policy_answer (lawfu
 -- the answer to these words' command
 abbrev pub answer_of : Held → Option Command → Answer
 answer_of files None = stops usage
-answer_of files (Some (build policy image)) = build_answer files policy image
+answer_of files (Some (build policy image tables)) = build_answer files policy image tables
 answer_of files (Some (boot policy name)) = boot_answer files policy name
-answer_of files (Some (run image name)) = run_answer files image name
+answer_of files (Some (run image name dma)) = run_answer files image name dma
 answer_of files (Some (map policy)) = map_answer files policy
 answer_of files (Some (flows policy)) = flows_answer files policy

@@ -2,6 +2,7 @@
 use Rattle.std.specs.Prelude.{◌≡◌, ◌⊎◌, ℕ, List, [], ◌∷◌, ◌++◌, Option, Some, None, Result, Ok, Err}
 use Rattle.std.specs.List.{All}
 use Rattle.binary_form.specs.Faults.{unpacked}
+use Rattle.dma_tables.specs.declared.file.DmaFile.{DmaFile}
 use Rattle.image_pack.specs.Image.{image as image_form}
 use Rattle.image_pack.specs.declared.parts.Image.{Image}
 use Rattle.muen_build.specs.Looks.{IsAsked, document_look}
@@ -13,6 +14,8 @@ use Rattle.muen_outside.specs.declared.files.FileError.{FileError}
 use Rattle.policy_types.specs.declared.source.Source.{Source}
 use Rattle.muen_top.specs.Commands.{Command, build, boot, run, map, flows}
 use Rattle.muen_top.specs.FilesSeen.{OverLooks}
+use Rattle.muen_top.specs.Tables.{HoldsTables}
+use Rattle.muen_top.specs.declared.limits.TheConstants.{DMA_MOST}
 
 -- at most one look, at this name with this limit
 abbrev pub IsAtMost : List ℕ → ℕ → List Look → Type 0
@@ -32,9 +35,28 @@ pub record AsksFirst (name : List ℕ) (most : ℕ) (After : List ℕ → List L
   pub is : looks ≡ look name most got ∷ more
   pub goes_on : GoesOn After got more
 
--- after the bytes of an image: the record, where they are an image
-abbrev pub AsksRecord : List ℕ → List ℕ → List Look → Type 0
-AsksRecord inputs bytes more = (more ≡ []) ⊎ ((i : Image) × (unpacked image_form bytes ≡ Ok i) × IsAtMost inputs RECORD_MOST more)
+-- for tables: at most one look, at the file of this name, if the words name one
+abbrev pub AsksTables : Option (List ℕ) → List Look → Type 0
+AsksTables None looks = looks ≡ []
+AsksTables (Some dma) looks = IsAtMost dma DMA_MOST looks
+
+-- every store that agrees with these looks holds some tables under this name, if the words name one
+abbrev pub TellTables : Option (List ℕ) → List Look → Type 0
+TellTables None looks = Unit {0}
+TellTables (Some dma) looks = (tables : DmaFile) × OverLooks looks (λ m. HoldsTables m dma tables)
+
+-- after the look at an image: for tables, and then the record, where the tables' file is one
+pub record AsksRest (inputs : List ℕ) (dma : Option (List ℕ)) (first : Look) (more : List Look) : Type 0 where
+  pub middle : List Look
+  pub last : List Look
+  pub is : more ≡ middle ++ last
+  pub tables : AsksTables dma middle
+  pub inputs_last : (last ≡ []) ⊎ (TellTables dma (first ∷ middle) × IsAtMost inputs RECORD_MOST last)
+
+-- after the bytes of an image: the rest, where they are an image
+abbrev pub AsksRecord : List ℕ → List ℕ → Option (List ℕ) → List ℕ → List Look → Type 0
+AsksRecord image inputs dma bytes more =
+    (more ≡ []) ⊎ ((i : Image) × (unpacked image_form bytes ≡ Ok i) × AsksRest inputs dma (look image IMAGE_MOST (Ok (whole bytes))) more)
 
 -- after a policy's document: component files that its contents name
 abbrev pub AsksContents : List ℕ → List Look → Type 0
@@ -55,8 +77,8 @@ pub record AsksBoth (policy inputs document : List ℕ) (more : List Look) : Typ
 -- the looks of a command; those of words with no command's form are none
 abbrev pub Asks : Option Command → List Look → Type 0
 Asks None looks = looks ≡ []
-Asks (Some (build policy image)) looks = AsksFirst policy POLICY_MOST AsksContents looks
+Asks (Some (build policy image tables)) looks = AsksFirst policy POLICY_MOST AsksContents looks
 Asks (Some (boot policy inputs)) looks = AsksFirst policy POLICY_MOST (AsksBoth policy inputs) looks
-Asks (Some (run image inputs)) looks = AsksFirst image IMAGE_MOST (AsksRecord inputs) looks
+Asks (Some (run image inputs dma)) looks = AsksFirst image IMAGE_MOST (AsksRecord image inputs dma) looks
 Asks (Some (map policy)) looks = AsksFirst policy POLICY_MOST (λ document more. more ≡ []) looks
 Asks (Some (flows policy)) looks = AsksFirst policy POLICY_MOST (λ document more. more ≡ []) looks

@@ -6,7 +6,7 @@ use Rattle.muen_outside.specs.States.{History, Look, SinkState, Write, went}
 use Rattle.muen_outside.specs.Store.{Store}
 use Rattle.muen_outside.specs.declared.files.FileError.{FileError}
 use Rattle.muen_outside.specs.declared.files.FileError.TheVariants.{Failed as FileFailed, NoMemory as FileMemory}
-use Rattle.muen_top.specs.Answers.{Reason, usage, missing, too_long, refused, image_refused, record_refused, Answer, prints, writes, stops, answer_of}
+use Rattle.muen_top.specs.Answers.{Reason, usage, missing, too_long, refused, image_refused, dma_refused, record_refused, Answer, prints, writes, stops, answer_of}
 use Rattle.muen_top.specs.Asked.{Asks}
 use Rattle.muen_top.specs.Commands.{Command, command_of}
 use Rattle.muen_top.specs.FilesSeen.{OverLooks}
@@ -15,7 +15,7 @@ use Rattle.muen_top.specs.Reports.{Ends, reason_text, refusal_status, status_of,
 use Rattle.muen_top.specs.declared.outcome.Outcome.{Outcome}
 use Rattle.muen_top.specs.declared.outcome.Outcome.TheVariants.{Done, Stopped, OutputFault}
 use Rattle.muen_top.specs.declared.outcome.CommandError.{CommandError}
-use Rattle.muen_top.specs.declared.outcome.CommandError.TheVariants.{Usage, Missing, TooLong, Refused, ImageRefused, RecordRefused, FileFault, NoMemory}
+use Rattle.muen_top.specs.declared.outcome.CommandError.TheVariants.{Usage, Missing, TooLong, Refused, ImageRefused, DmaRefused, RecordRefused, FileFault, NoMemory}
 use Rattle.muen_top.specs.declared.status.Status.{Status}
 use Rattle.muen_top.specs.declared.status.Status.TheVariants as statuses
 
@@ -26,15 +26,16 @@ abbrev pub Prints : Answer → (List ℕ → Type 0) → Type 0
 Prints (prints text) Holds = Holds text
 Prints _ Holds = ⊥
 
--- it is done as it is answered: the text is put and nothing written, or an image is written and nothing put
+-- it is done as it is answered: the text is put and nothing written, or an image, and its tables where they are wanted, are
+-- written and nothing put
 abbrev pub IsDone : Answer → List Write → SinkState → SinkState → Type 0
 IsDone (prints text) ws out out' = (ws ≡ []) × Appended text out out'
-IsDone (writes image p files) ws out out' = Wrote image p files (Ok tt) ws × (out' ≡ out)
+IsDone (writes image tables p files) ws out out' = Wrote image tables p files (Ok tt) ws × (out' ≡ out)
 IsDone (stops reason) ws out out' = ⊥
 
--- the one write of an image has ended in this error
+-- the last write, of an image or of its tables, has ended in this error
 abbrev pub Unwritten : FileError → List Write → Answer → Type 0
-Unwritten end ws (writes image p files) = Wrote image p files (Err end) ws
+Unwritten end ws (writes image tables p files) = Wrote image tables p files (Err end) ws
 Unwritten end ws _ = ⊥
 
 -- ---- the outcome of a command that made these looks and these writes, where this is its answer over a store
@@ -43,7 +44,7 @@ Unwritten end ws _ = ⊥
 abbrev pub IsStopped : (Store → Answer) → List Look → List Write → Reason → Type 0
 IsStopped answer looks ws reason = OverLooks looks (λ m. answer m ≡ stops reason) × (ws ≡ [])
 
--- the last look failed; or the one write of an image, as every store that agrees with the looks answers it
+-- the last look failed; or the last write, of an image or of its tables, as every store that agrees with the looks answers them
 abbrev pub FaultOfFiles : (Store → Answer) → List Look → List Write → Type 0
 FaultOfFiles answer looks ws = (EndsInFault looks × (ws ≡ [])) ⊎ OverLooks looks (λ m. Unwritten FileFailed ws (answer m))
 
@@ -57,6 +58,7 @@ StopsFor answer looks ws (Missing name) = IsStopped answer looks ws (missing nam
 StopsFor answer looks ws (TooLong name n) = IsStopped answer looks ws (too_long name.now n)
 StopsFor answer looks ws (Refused refusal) = IsStopped answer looks ws (refused refusal)
 StopsFor answer looks ws (ImageRefused fault) = IsStopped answer looks ws (image_refused fault)
+StopsFor answer looks ws (DmaRefused fault) = IsStopped answer looks ws (dma_refused fault)
 StopsFor answer looks ws (RecordRefused fault) = IsStopped answer looks ws (record_refused fault)
 StopsFor answer looks ws FileFault = FaultOfFiles answer looks ws
 StopsFor answer looks ws NoMemory = WantOfMemory answer looks ws
@@ -98,7 +100,7 @@ answer_to words m = answer_of m (command_of words)
 abbrev pub Answered : List (List ℕ) → List Look → (Answer → Type 0) → Type 0
 Answered words looks Such = OverLooks looks (λ m. Such (answer_to words m))
 
--- the call does what the words are answered: the text is put, or an image is written
+-- the call does what the words are answered: the text is put, or an image is written, and tables where they are wanted
 abbrev pub DoesAnswer : List (List ℕ) → History → History → SinkState → SinkState → Type 0
 DoesAnswer words old new out out' = Answered words (looks_since old new) (λ answer. IsDone answer (writes_since old new) out out')
 
@@ -110,15 +112,15 @@ PrintsFront words looks out out' = Answered words looks (λ answer. Prints answe
 abbrev pub EndsAnswered : List (List ℕ) → List Look → SinkState → SinkState → Status → Type 0
 EndsAnswered words looks err err' status = Answered words looks (λ answer. Ends answer err err' status)
 
--- the call's last look has failed, or the one write of the image that the words are answered
+-- the call's last look has failed, or the last write that was made of those that the words are answered
 abbrev pub FilesFailed : List (List ℕ) → History → History → Type 0
 FilesFailed words old new = FaultOfFiles (answer_to words) (looks_since old new) (writes_since old new)
 
--- memory was refused to the call: where that was for the write of the image, what stands under its name may have changed
+-- memory was refused to the call: where that was for the last write that was made, what stands under its name may have changed
 abbrev pub MemoryRefused : List (List ℕ) → History → History → Type 0
 MemoryRefused words old new = WantOfMemory (answer_to words) (looks_since old new) (writes_since old new)
 
--- of the answers that print nothing, those on a policy, on a missing or too long file, on an image, and on a record. A
+-- of the answers that print nothing, those on a policy, on a missing or too long file, on an image, on tables, and on a record. A
 -- refusal of the policy may be for a file that it names: which of the two it is, its status says
 abbrev pub RefusesPolicy : SinkState → SinkState → Answer → Type 0
 RefusesPolicy err err' (stops (refused refusal)) = (refusal_status refusal ≡ statuses.PolicyRefused) × Told (reason_text (refused refusal)) err err'
@@ -133,6 +135,10 @@ LacksFile err err' _ = ⊥
 abbrev pub RefusesImage : SinkState → SinkState → Answer → Type 0
 RefusesImage err err' (stops (image_refused fault)) = Told (reason_text (image_refused fault)) err err'
 RefusesImage err err' _ = ⊥
+
+abbrev pub RefusesDma : SinkState → SinkState → Answer → Type 0
+RefusesDma err err' (stops (dma_refused fault)) = Told (reason_text (dma_refused fault)) err err'
+RefusesDma err err' _ = ⊥
 
 abbrev pub RefusesRecord : SinkState → SinkState → Answer → Type 0
 RefusesRecord err err' (stops (record_refused fault)) = Told (reason_text (record_refused fault)) err err'

@@ -3,12 +3,14 @@ use Rattle.std.specs.Prelude.{ℕ, List, [], ◌∷◌, Option, Some, None, code
 use Rattle.std.specs.Str.{bytes_eq}
 
 pub data Command : Type 0 where
-  -- a policy and an image, by the names of their files: the policy's image is written
-  build : List ℕ → List ℕ → Command
+  -- a policy, an image, and tables for direct memory access, or none, by the names of their files: the policy's image is
+  -- written, and the tables of its domains of devices
+  build : List ℕ → List ℕ → Option (List ℕ) → Command
   -- a policy and a device record, by the names of their files: the policy's system runs on the record
   boot : List ℕ → List ℕ → Command
-  -- an image and a device record, by the names of their files: the image runs on the record
-  run : List ℕ → List ℕ → Command
+  -- an image, a device record, and tables for direct memory access, or none, by the names of their files: the image runs on
+  -- the record, with the tables
+  run : List ℕ → List ℕ → Option (List ℕ) → Command
   -- a policy, by the name of its file: its addresses and windows are printed
   map : List ℕ → Command
   -- a policy, by the name of its file: on whom each subject can depend is printed
@@ -21,7 +23,10 @@ command_of (word ∷ []) = None
 command_of (word ∷ a ∷ []) =
     if bytes_eq word (codes "map") then Some (map a) else (if bytes_eq word (codes "flows") then Some (flows a) else None)
 command_of (word ∷ a ∷ b ∷ []) =
-    if bytes_eq word (codes "build") then Some (build a b)
+    if bytes_eq word (codes "build") then Some (build a b None)
     else (if bytes_eq word (codes "boot") then Some (boot a b)
-    else (if bytes_eq word (codes "run") then Some (run a b) else None))
-command_of (word ∷ a ∷ b ∷ c ∷ rest) = None
+    else (if bytes_eq word (codes "run") then Some (run a b None) else None))
+command_of (word ∷ a ∷ b ∷ c ∷ []) =
+    if bytes_eq word (codes "build") then (if bytes_eq b c then None else Some (build a b (Some c)))
+    else (if bytes_eq word (codes "run") then Some (run a b (Some c)) else None)
+command_of (word ∷ a ∷ b ∷ c ∷ d ∷ rest) = None

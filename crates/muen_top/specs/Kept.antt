@@ -1,5 +1,5 @@
--- How the one write of `build` ends.
-use Rattle.std.specs.Prelude.{◌≡◌, ℕ, List, [], ◌∷◌, Option, Result, Ok, Err}
+-- How the writes of `build` end.
+use Rattle.std.specs.Prelude.{◌≡◌, ℕ, List, [], ◌∷◌, Option, Some, Result, Ok, Err}
 use Rattle.muen_outside.specs.Looks.{WriteLeaves}
 use Rattle.muen_outside.specs.States.{History, write, written}
 use Rattle.muen_outside.specs.Store.{Store}
@@ -20,3 +20,17 @@ EndsWrite name bytes held held' old new Done = IsWriteOf name bytes (Ok tt) held
 EndsWrite name bytes held held' old new (Stopped FileFault) = IsWriteOf name bytes (Err FileFailed) held held' old new
 EndsWrite name bytes held held' old new (Stopped NoMemory) = IsWriteOf name bytes (Err FileMemory) held held' old new
 EndsWrite name bytes held held' old new _ = ⊥
+
+abbrev pub IsFailed : Outcome → Type 0
+IsFailed Done = ⊥
+IsFailed _ = Unit {0}
+
+-- these tables were written so under this name; without tables nothing was written, and all is well
+abbrev pub EndsTables : Option (List ℕ) → Option (List ℕ) → Option Store → Option Store → History → History → Outcome → Type 0
+EndsTables (Some name) (Some bytes) held held' old new outcome = EndsWrite name bytes held held' old new outcome
+EndsTables _ _ held held' old new outcome = (outcome ≡ Done) × (new ≡ old) × (held' ≡ held)
+
+-- the image was written, and then the tables; or its write has not ended well, and was the last
+pub data EndsWrites (image bytes : List ℕ) (dma tables : Option (List ℕ)) (held held' : Option Store) (old new : History) (outcome : Outcome) : Type 0 where
+  image_well : (held'' : Option Store) (mid : History) → IsWriteOf image bytes (Ok tt) held held'' old mid → EndsTables dma tables held'' held' mid new outcome → EndsWrites image bytes dma tables held held' old new outcome
+  image_not_well : IsFailed outcome → EndsWrite image bytes held held' old new outcome → EndsWrites image bytes dma tables held held' old new outcome

@@ -1,21 +1,33 @@
 -- What reading a command's files comes to.
-use Rattle.std.specs.Prelude.{◌≡◌, ℕ, List, [], ◌∷◌, Option, Some, Result, Ok, Err}
+use Rattle.std.specs.Prelude.{◌≡◌, ℕ, List, [], ◌∷◌, ◌++◌, Option, Some, None, Result, Ok, Err}
 use Rattle.std.specs.List.{All}
+use Rattle.std.specs.FinMap.{get}
+use Rattle.binary_form.specs.Faults.{Tells, unpacked}
+use Rattle.binary_form.specs.declared.fault.ImageFault.{ImageFault}
+use Rattle.dma_tables.specs.DmaFile.{dma_file}
+use Rattle.dma_tables.specs.Tables.{IsDmaFile}
 use Rattle.image_soundness.specs.Sound.{IsSound}
 use Rattle.image_pack.specs.declared.parts.Image.{Image}
 use Rattle.dma_tables.specs.declared.file.DmaFile.{DmaFile}
 use Rattle.muen_build.specs.Accepting.{Accepts, FailsWith, Files, WithDocument, looks_of}
 use Rattle.muen_build.specs.Looks.{IsAsked, Looked, document_look}
 use Rattle.muen_build.specs.declared.accepted.BuildError.{BuildError}
+use Rattle.muen_num.specs.declared.limits.TheConstants.{RECORD_MOST}
+use Rattle.muen_outside.specs.Looks.{AreOthers}
 use Rattle.muen_outside.specs.States.{History, Look, look}
-use Rattle.muen_outside.specs.Store.{Store, Reading, absent, long, reading_of}
+use Rattle.muen_outside.specs.Store.{Store, Reading, whole, absent, long, find_bytes, reading_of}
 use Rattle.muen_outside.specs.declared.files.FileError.{FileError}
 use Rattle.muen_outside.specs.declared.files.FileError.TheVariants.{Failed as FileFailed, NoMemory as FileMemory}
 use Rattle.policy_types.specs.declared.source.Source.{Source}
 use Rattle.proof_runs.specs.Fit.{Fit}
-use Rattle.muen_top.specs.FilesSeen.{Saw, SawAfter}
+use Rattle.muen_top.specs.Answers.{answer_of, input_answer}
+use Rattle.muen_top.specs.Asked.{Asks, IsAtMost}
+use Rattle.muen_top.specs.Commands.{Command}
+use Rattle.muen_top.specs.FilesSeen.{OverLooks, Saw, SawAfter}
 use Rattle.muen_top.specs.Runs.{OnlyMemory}
-use Rattle.muen_top.specs.CommandErrors.{error_of_build}
+use Rattle.muen_top.specs.CommandErrors.{error_of_build, error_of_dma_fault}
+use Rattle.muen_top.specs.declared.limits.TheConstants.{DMA_MOST}
+use Rattle.muen_top.specs.declared.run.TablesRead.{TablesRead}
 use Rattle.muen_top.specs.declared.outcome.CommandError.{CommandError}
 use Rattle.muen_top.specs.declared.outcome.CommandError.TheVariants.{Missing, TooLong, FileFault, NoMemory}
 
@@ -41,6 +53,52 @@ NotReadAfter looks name most held old new error = GivesNone name (λ got. SawAft
 abbrev pub NotWithin : List ℕ → List ℕ → ℕ → CommandError → Type 0
 NotWithin name bytes most (TooLong n k) = (n.now ≡ name) × (long k ≡ reading_of (Some bytes) most)
 NotWithin name bytes most _ = ⊥
+
+-- ---- what was read under a name before
+
+-- the looks show that these bytes stand under it; or none of them is at it
+abbrev pub IsKnown : List Look → List ℕ → Option (List ℕ) → Type 0
+IsKnown looks name (Some bytes) = OverLooks looks (λ m. get m name ≡ Some bytes)
+IsKnown looks name None = AreOthers looks name
+
+-- the looks show what these files hold, and none is at another
+abbrev pub AreKnown : List Look → Files → Type 0
+AreKnown looks found = (name : List ℕ) → IsKnown looks name (find_bytes name found)
+
+-- ---- tables, after these looks
+
+-- the bytes of the file of this name were read, and they are of these tables
+abbrev pub HasTables : List Look → Option (List ℕ) → Option Store → History → History → Option TablesRead → Type 0
+HasTables looks None held old new None = new ≡ old
+HasTables looks (Some dma) held old new (Some t) = SawAfter looks dma DMA_MOST (Ok (whole t.bytes)) held old new × IsDmaFile t.bytes t.tables
+HasTables looks _ held old new _ = ⊥
+
+-- why there are none: the file isn't read, or it is none of tables
+pub data NotTables (looks : List Look) (dma : List ℕ) (held : Option Store) (old new : History) (error : CommandError) : Type 0 where
+  unread : NotReadAfter looks dma DMA_MOST held old new error → NotTables looks dma held old new error
+  faulty : (bytes : List ℕ) (fault : ImageFault) → SawAfter looks dma DMA_MOST (Ok (whole bytes)) held old new → Tells (unpacked dma_file bytes) (Err fault)
+      → error ≡ error_of_dma_fault fault → NotTables looks dma held old new error
+
+-- .. of a name, if there is one
+abbrev pub LacksTables : List Look → Option (List ℕ) → Option Store → History → History → CommandError → Type 0
+LacksTables looks None held old new error = ⊥
+LacksTables looks (Some dma) held old new error = NotTables looks dma held old new error
+
+-- what was read for a `run` before the record: the image, and a file of tables, if there is one
+abbrev pub read_before : List ℕ → List ℕ → Option (List ℕ) → Option TablesRead → Files
+read_before image bytes (Some dma) (Some t) = (dma, t.bytes) ∷ (image, bytes) ∷ []
+read_before image bytes _ _ = (image, bytes) ∷ []
+
+-- ---- all but the record
+
+-- a command with a record has looked at all other files, and found these: over every store that agrees with the looks it answers
+-- what comes of this image, with these tables or none, on the record of whatever name it is given
+pub record IsReady (command : List ℕ → Command) (held : Option Store) (old new : History) (found : Files) (i : Image) (tables : Option DmaFile) : Type 0 where
+  pub looks : List Look
+  pub saw : Saw held old new looks
+  pub known : AreKnown looks found
+  pub asked : (name : List ℕ) (more : List Look) → IsAtMost name RECORD_MOST more → Asks (Some (command name)) (looks ++ more)
+  pub answers : (name : List ℕ) → OverLooks looks (λ m. answer_of m (Some (command name)) ≡ input_answer m name i tables)
 
 -- ---- the image of an accepted policy, read again
 

@@ -3,15 +3,16 @@ use Rattle.std.specs.Prelude.{◌≡◌, ℕ, List, ◌++◌, ◌⊎◌, codes, 
 use Rattle.muen_outside.specs.States.{SinkState}
 use Rattle.muen_outside.specs.Puts.{Appended, Failed}
 use Rattle.binary_form.specs.FaultText.{image_fault_text}
+use Rattle.dma_tables.specs.DmaFaultText.{dma_fault_text}
 use Rattle.policy_types.specs.Refusals.{refusal_text}
 use Rattle.policy_types.specs.declared.refusal.Refusal.{Refusal}
 use Rattle.policy_types.specs.declared.refusal.Refusal.TheVariants.{NotJson, Shape, Rule, Missing as MissingFile, TooLong as TooLongFile, FileFit, NoRoom, NoMemory as NoMemoryFor}
-use Rattle.muen_top.specs.Answers.{Reason, usage, missing, too_long, refused, image_refused, record_refused, Answer, prints, writes, stops}
+use Rattle.muen_top.specs.Answers.{Reason, usage, missing, too_long, refused, image_refused, dma_refused, record_refused, Answer, prints, writes, stops}
 use Rattle.record_text.specs.FaultTexts.{record_fault_text}
 use Rattle.muen_top.specs.declared.outcome.Outcome.{Outcome}
 use Rattle.muen_top.specs.declared.outcome.Outcome.TheVariants.{Done, Stopped, OutputFault}
 use Rattle.muen_top.specs.declared.outcome.CommandError.{CommandError}
-use Rattle.muen_top.specs.declared.outcome.CommandError.TheVariants.{Usage, Missing, TooLong, Refused, ImageRefused, RecordRefused, FileFault, NoMemory}
+use Rattle.muen_top.specs.declared.outcome.CommandError.TheVariants.{Usage, Missing, TooLong, Refused, ImageRefused, DmaRefused, RecordRefused, FileFault, NoMemory}
 use Rattle.muen_top.specs.declared.status.Status.{Status}
 use Rattle.muen_top.specs.declared.status.Status.TheVariants as statuses
 
@@ -32,6 +33,7 @@ reason_text (missing name) = missing_text name
 reason_text (too_long name n) = too_long_text name n
 reason_text (refused refusal) = refusal_text refusal
 reason_text (image_refused fault) = image_fault_text fault
+reason_text (dma_refused fault) = dma_fault_text fault
 reason_text (record_refused fault) = record_fault_text fault
 
 -- ---- statuses
@@ -52,6 +54,7 @@ reason_status (missing name) = statuses.FileMissing
 reason_status (too_long name n) = statuses.FileMissing
 reason_status (refused refusal) = refusal_status refusal
 reason_status (image_refused fault) = statuses.ImageRefused
+reason_status (dma_refused fault) = statuses.DmaRefused
 reason_status (record_refused fault) = statuses.RecordRefused
 
 -- ---- how a call has ended
@@ -67,7 +70,7 @@ Told text old new = Appended (line_of text) old new ⊎ Failed (line_of text) ol
 -- a call that answers so has this status, and tells its reason, if there is one
 abbrev pub Ends : Answer → SinkState → SinkState → Status → Type 0
 Ends (prints text) err err' status = (status ≡ statuses.Done) × (err' ≡ err)
-Ends (writes image p files) err err' status = (status ≡ statuses.Done) × (err' ≡ err)
+Ends (writes image tables p files) err err' status = (status ≡ statuses.Done) × (err' ≡ err)
 Ends (stops reason) err err' status = (status ≡ reason_status reason) × Told (reason_text reason) err err'
 
 -- ---- of the outcome of a command
@@ -78,6 +81,7 @@ error_text (Missing name) = missing_text name.now
 error_text (TooLong name n) = too_long_text name.now n
 error_text (Refused refusal) = refusal_text refusal
 error_text (ImageRefused fault) = image_fault_text fault
+error_text (DmaRefused fault) = dma_fault_text fault
 error_text (RecordRefused fault) = record_fault_text fault
 error_text FileFault = codes "file fault"
 error_text NoMemory = codes "out of memory"
@@ -88,6 +92,7 @@ error_status (Missing name) = statuses.FileMissing
 error_status (TooLong name n) = statuses.FileMissing
 error_status (Refused refusal) = refusal_status refusal
 error_status (ImageRefused fault) = statuses.ImageRefused
+error_status (DmaRefused fault) = statuses.DmaRefused
 error_status (RecordRefused fault) = statuses.RecordRefused
 error_status FileFault = statuses.FileFault
 error_status NoMemory = statuses.NoMemory

@@ -1,55 +1,125 @@
-// The command `build`: a policy is read, and its image is written.
-ghost use Rattle.std.specs.Prelude.{◌≡◌, ℕ, List, Some, IfOk, IfErr};
+// The command `build`: a policy is read, and its image is written, and the tables of its domains of devices,
+// if a file is named for them.
+ghost use Rattle.std.specs.Prelude.{◌≡◌, ℕ, Bool, List, Option, Some, IfOk, IfErr, IfSome, is_some, option_map};
 ghost use Rattle.muen_outside.specs.States.{SinkState};
+ghost use Rattle.policy_lawful.specs.Resolution.{source_of};
 ghost use Rattle.muen_top.specs.Calls.{ComesOfCommand};
 ghost use Rattle.muen_top.specs.Commands.{build as build_command};
 ghost use Rattle.muen_top.specs.Images.{IsBuilt};
-ghost use Rattle.muen_top.specs.Kept.{EndsWrite};
+ghost use Rattle.muen_top.specs.Kept.{EndsTables, EndsWrite, EndsWrites};
 ghost use Rattle.muen_top.specs.PolicyCommands.{StopsCommand};
+ghost use Rattle.muen_top.specs.Tables.{IsTablesFor};
 
 use crate::loading::load;
 use crate::outcome::{CommandError, Outcome};
+use crate::tables::tables_file;
+use muen_build::{Accepted, accept, image};
+use muen_num::NoMemory;
 use muen_num::limits::POLICY_MOST;
 use muen_outside::{FileError, Files};
+use region_alloc::Placed;
 use std::alloc::Global;
 
-// An image for the policy of this file.
-fn image_of<'a, F: Files>(
-    alloc: Global,
-    policy: &'a str,
-    files: &mut F,
-) -> Result<Vec<u8>, CommandError<'a>>
-    ensures ok { IfOk result (λ v. IsBuilt policy.now (F.held files.old) (F.history files.old) (F.history files.new) v.items) }
-    ensures err { IfErr result (λ error. (image : List ℕ) → StopsCommand (build_command policy.now image) (F.held files.old) (F.history files.old) (F.history files.new) error) }
-    ensures held { F.held files.new ≡ F.held files.old }
-{
-    let bytes = load(alloc, policy, POLICY_MOST, files)?;
-    let image = muen_build::build(alloc, policy, bytes.items(), files)?;
-    Ok(image)
+// What is written for a policy: the bytes of its image, and those of its tables, if they are wanted.
+#[derive(Drop)]
+struct Built {
+    image: Vec<u8>,
+    tables: Option<Vec<u8>>,
 }
 
-// Puts the bytes under the name of the image.
-fn write_image<'a, F: Files>(alloc: Global, image: &str, bytes: &[u8], files: &mut F) -> Outcome<'a>
-    ensures { EndsWrite image.now bytes.now (F.held files.old) (F.held files.new) (F.history files.old) (F.history files.new) result }
+// The bytes of the tables of a policy, if they are wanted.
+fn wanted_tables(alloc: Global, placed: &Placed, wanted: bool) -> Result<Option<Vec<u8>>, NoMemory>
+    ensures are { IfOk result (λ tables. IfSome tables (λ v. IsTablesFor (source_of placed.now.expanded.lawful) v.items)) }
+    ensures there { IfOk result (λ tables. is_some tables ≡ wanted) }
 {
-    match files.write(alloc, image, bytes) {
+    if wanted {
+        let bytes = tables_file(alloc, placed)?;
+        return Ok(Some(bytes));
+    }
+    Ok(None)
+}
+
+// What is to be written for the policy of this file.
+fn built_of<'a, F: Files>(
+    alloc: Global,
+    policy: &'a str,
+    wanted: bool,
+    files: &mut F,
+) -> Result<Built, CommandError<'a>>
+    ensures ok { IfOk result (λ b. IsBuilt policy.now (F.held files.old) (F.history files.old) (F.history files.new) b.image.items (option_map (λ v. v.items) b.tables)) }
+    ensures there { IfOk result (λ b. is_some b.tables ≡ wanted) }
+    ensures err { IfErr result (λ error. (image : List ℕ) (dma : Option (List ℕ)) → StopsCommand (build_command policy.now image dma) (F.held files.old) (F.history files.old) (F.history files.new) error) }
+    ensures held { F.held files.new ≡ F.held files.old }
+{
+    let document = load(alloc, policy, POLICY_MOST, files)?;
+    let Accepted {
+        placed,
+        files: found,
+    } = accept(alloc, policy, document.items(), files)?;
+    let image = image(alloc, policy, document.items(), &placed, &found);
+    let tables = wanted_tables(alloc, &placed, wanted);
+    drop(placed);
+    Ok(Built {
+        image: image?,
+        tables: tables?,
+    })
+}
+
+// Puts the bytes under this name.
+fn write_file<'a, F: Files>(alloc: Global, name: &str, bytes: &[u8], files: &mut F) -> Outcome<'a>
+    ensures { EndsWrite name.now bytes.now (F.held files.old) (F.held files.new) (F.history files.old) (F.history files.new) result }
+{
+    match files.write(alloc, name, bytes) {
         Ok(()) => Outcome::Done,
         Err(FileError::Failed) => Outcome::Stopped(CommandError::FileFault),
         Err(FileError::NoMemory) => Outcome::Stopped(CommandError::NoMemory),
     }
 }
 
-/// Reads the policy, and writes its image. Nothing is written where one isn't made.
+// Puts the bytes of tables under this name, if there are both.
+fn write_tables<'a, F: Files>(
+    alloc: Global,
+    dma: Option<&str>,
+    tables: Option<Vec<u8>>,
+    files: &mut F,
+) -> Outcome<'a>
+    ensures { EndsTables (option_map (λ name. name.now) dma.entry) (option_map (λ v. v.items) tables) (F.held files.old) (F.held files.new) (F.history files.old) (F.history files.new) result }
+{
+    match (dma, tables) {
+        (Some(name), Some(bytes)) => write_file(alloc, name, &bytes, files),
+        _ => Outcome::Done,
+    }
+}
+
+// Puts the image under its name, and then the tables under theirs.
+fn write_all<'a, F: Files>(
+    alloc: Global,
+    image: &str,
+    dma: Option<&str>,
+    built: Built,
+    files: &mut F,
+) -> Outcome<'a>
+    ensures { EndsWrites image.now built.image.items (option_map (λ name. name.now) dma.entry) (option_map (λ v. v.items) built.tables) (F.held files.old) (F.held files.new) (F.history files.old) (F.history files.new) result }
+{
+    match write_file(alloc, image, &built.image, files) {
+        Outcome::Done => write_tables(alloc, dma, built.tables, files),
+        failed => failed,
+    }
+}
+
+/// Reads the policy, and writes its image, and then its tables, if a file is named for them. Nothing is
+/// written where one isn't made.
 pub(crate) fn build<'a, F: Files>(
     alloc: Global,
     policy: &'a str,
     image: &'a str,
+    dma: Option<&'a str>,
     files: &mut F,
 ) -> Outcome<'a>
-    ensures { (out : SinkState) → ComesOfCommand (Some (build_command policy.now image.now)) (F.held files.old) (F.held files.new) (F.history files.old) (F.history files.new) out out result }
+    ensures { (out : SinkState) → ComesOfCommand (Some (build_command policy.now image.now (option_map (λ name. name.now) dma.entry))) (F.held files.old) (F.held files.new) (F.history files.old) (F.history files.new) out out result }
 {
-    match image_of(alloc, policy, files) {
-        Ok(bytes) => write_image(alloc, image, &bytes, files),
+    match built_of(alloc, policy, dma.is_some(), files) {
+        Ok(built) => write_all(alloc, image, dma, built, files),
         Err(error) => Outcome::Stopped(error),
     }
 }

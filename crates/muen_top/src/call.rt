@@ -27,9 +27,17 @@ fn work<'a, F: Files, S: Sink>(
 {
     match Command::parse(words) {
         Command::Usage => Outcome::Stopped(CommandError::Usage),
-        Command::Build { policy, image } => build(alloc, policy, image, files),
+        Command::Build {
+            policy,
+            image,
+            tables,
+        } => build(alloc, policy, image, tables, files),
         Command::Boot { policy, inputs } => boot(alloc, policy, inputs, files, out),
-        Command::Run { image, inputs } => run(alloc, image, inputs, files, out),
+        Command::Run {
+            image,
+            inputs,
+            tables,
+        } => run(alloc, image, inputs, tables, files, out),
         Command::Map(policy) => policy_commands::map(alloc, policy, files, out),
         Command::Flows(policy) => policy_commands::flows(alloc, policy, files, out),
     }

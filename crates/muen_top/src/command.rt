@@ -8,12 +8,25 @@ ghost use Rattle.muen_top.specs.Parsed.{asked};
 pub(crate) enum Command<'a> {
     /// The words have no command's form.
     Usage,
-    /// An image is written for a policy, both by the names of their files.
-    Build { policy: &'a str, image: &'a str },
+    /// An image is written for a policy, and tables for direct memory access if a file is named for them, all
+    /// by the names of their files.
+    Build {
+        policy: &'a str,
+        image: &'a str,
+        tables: Option<&'a str>,
+    },
     /// The system of a policy runs on a device record, both by the names of their files.
-    Boot { policy: &'a str, inputs: &'a str },
-    /// An image runs on a device record, both by the names of their files.
-    Run { image: &'a str, inputs: &'a str },
+    Boot {
+        policy: &'a str,
+        inputs: &'a str,
+    },
+    /// An image runs on a device record, with tables for direct memory access if a file is named of them, all
+    /// by the names of their files.
+    Run {
+        image: &'a str,
+        inputs: &'a str,
+        tables: Option<&'a str>,
+    },
     /// The addresses and windows of a policy are printed.
     Map(&'a str),
     /// On whom each subject of a policy can depend is printed.
@@ -40,6 +53,7 @@ impl<'a> Command<'a> {
                     return Command::Build {
                         policy: first.as_str(),
                         image: second.as_str(),
+                        tables: None,
                     };
                 }
                 if word.as_str() == "boot" {
@@ -52,6 +66,27 @@ impl<'a> Command<'a> {
                     return Command::Run {
                         image: first.as_str(),
                         inputs: second.as_str(),
+                        tables: None,
+                    };
+                }
+                Command::Usage
+            }
+            [word, first, second, third] => {
+                if word.as_str() == "build" {
+                    if second.as_str() == third.as_str() {
+                        return Command::Usage;
+                    }
+                    return Command::Build {
+                        policy: first.as_str(),
+                        image: second.as_str(),
+                        tables: Some(third.as_str()),
+                    };
+                }
+                if word.as_str() == "run" {
+                    return Command::Run {
+                        image: first.as_str(),
+                        inputs: second.as_str(),
+                        tables: Some(third.as_str()),
                     };
                 }
                 Command::Usage

@@ -5,7 +5,7 @@ ghost use Rattle.std.specs.Prelude.{◌≡◌, ◌≢◌, ◌⊎◌, [], IfSome,
 ghost use Rattle.muen_outside.specs.Looks.{AreSingle, HeldAfter, ShowAll, looks_since, writes_since};
 ghost use Rattle.muen_outside.specs.States.{went};
 ghost use Rattle.muen_top.specs.Asked.{Asks};
-ghost use Rattle.muen_top.specs.Calls.{Answered, DoesAnswer, EndsAnswered, FilesFailed, IsFault, LacksFile, MemoryRefused, PrintsFront, RefusesImage, RefusesPolicy, RefusesRecord};
+ghost use Rattle.muen_top.specs.Calls.{Answered, DoesAnswer, EndsAnswered, FilesFailed, IsFault, LacksFile, MemoryRefused, PrintsFront, RefusesDma, RefusesImage, RefusesPolicy, RefusesRecord};
 ghost use Rattle.muen_top.specs.Commands.{command_of};
 ghost use Rattle.muen_top.specs.Headline.{BootPrintsSystem, BuildWritesImage, RunOfBuiltPrintsSystem, RunOfSoundPrintsSystem};
 ghost use Rattle.muen_top.specs.Reports.{Reported, status_of};
@@ -15,6 +15,7 @@ mod boot;
 mod build;
 mod call;
 mod command;
+mod limits;
 mod loading;
 mod outcome;
 mod over_held;
@@ -22,6 +23,7 @@ mod policy_commands;
 mod report;
 mod run;
 mod status;
+mod tables;
 
 use muen_outside::{Files, Sink};
 pub use over_held::muen_over_held;
@@ -32,26 +34,29 @@ use std::alloc::Global;
 ///
 /// `build POLICY IMAGE` reads a policy and the files that it names, and writes an image that is
 /// sound for them under the name IMAGE, in one call of `files` and only where everything before was
-/// accepted. `boot POLICY RECORD` reads a policy and the files that it names, and a device record,
-/// makes the same image and the tables of the policy's domains of devices in memory, runs the image on the
+/// accepted. `build POLICY IMAGE DMA` writes the same image, and then the tables of the policy's domains of
+/// devices under the name DMA, which is another. `boot POLICY RECORD` reads a policy and the files that it
+/// names, and a device record, makes the same image and the same tables in memory, runs the image on the
 /// record, with the tables, and puts the text of the run to `out`. `run IMAGE RECORD` reads an image and a
-/// device record for it, runs the image on the record, without tables, so that no device reaches memory by
-/// itself, and puts the text of that run to `out`. `map POLICY` puts where the policy's regions lie and
-/// what each subject sees, `flows POLICY` on whom each subject can depend; neither reads a component file.
-/// No other command is built. On every status but 0 one line that begins with `muen: ` is put to `err`; a fault
+/// device record for it, runs the image on the record, and puts the text of that run to `out`; `run IMAGE
+/// RECORD DMA` reads a file of tables too, and runs with them. Without tables no device reaches memory by
+/// itself. `map POLICY` puts where the policy's regions lie and what each subject
+/// sees, `flows POLICY` on whom each subject can depend; neither reads a component file. No other
+/// command is built. On every status but 0 one line that begins with `muen: ` is put to `err`; a fault
 /// of `err` changes no status.
 ///
 /// | Status | Comes | Line |
 /// |---|---|---|
-/// | 0 | the text was put, or the image was written | |
+/// | 0 | the text was put, or the image was written, and the tables where they are wanted | |
 /// | 1 | the words are none of the forms | `usage: ..` |
 /// | 2 | the policy is no JSON text, breaks the schema or a rule, has more bytes for a region than there is room (`build`, `boot`), or has a region that can't be placed (`build`, `boot`, `map`) | `not JSON`, `shape at PLACE: want WANT`, `rule N: FIRST SECOND`, `REGION: LENGTH bytes in room for ROOM`, `no room for REGION of SIZE bytes` |
-/// | 3 | a file isn't there, or is longer than 4 MiB (policy), 64 MiB (a content), 96 MiB (image) or 16 MiB (record) | `missing file NAME`, `file NAME has LENGTH bytes` |
-/// | 4 | the last look at `files` failed; or the write of the image, and what stands under its name may have changed | `file fault` |
+/// | 3 | a file isn't there, or is longer than 4 MiB (policy), 64 MiB (a content, tables), 96 MiB (image) or 16 MiB (record) | `missing file NAME`, `file NAME has LENGTH bytes` |
+/// | 4 | the last look at `files` failed; or the last write, of the image or of the tables, and what stands under its name may have changed | `file fault` |
 /// | 5 | the image is refused (`run`) | `image refused at AT: FIELD` |
 /// | 6 | the record is refused (`boot`, `run`) | `record refused at line LINE: WHY` |
 /// | 7 | a call on `out` failed; a front of the text was put | `output fault` |
-/// | 8 | memory was refused, before the first turn; where that was for the write of the image, what stands under its name may have changed | `out of memory` |
+/// | 8 | memory was refused, before the first turn; where that was for the last write, of the image or of the tables, what stands under its name may have changed | `out of memory` |
+/// | 10 | the tables are refused (`run`) | `dma refused at AT: FIELD` |
 pub fn muen<F: Files, S: Sink, E: Sink>(
     alloc: Global,
     words: &[String],
@@ -74,18 +79,20 @@ pub fn muen<F: Files, S: Sink, E: Sink>(
     // `boot` prints the text of the policy's system, in which each subject acts alone on its own state
     // and what the policy lets reach it.
     ensures boots { BootPrintsSystem (map string_bytes words.now) (looks_since (F.history files.old) (F.history files.new)) (S.state out.old) (S.state out.new) result }
-    // So does `run` where it holds an image that is sound for the policy over these or other files, and no
-    // domain of devices lets one write,
+    // So does `run` where it holds an image that is sound for the policy over these or other files, and
+    // tables that fit, or without tables, where no domain of devices lets one write,
     ensures runs_sound { RunOfSoundPrintsSystem (map string_bytes words.now) (looks_since (F.history files.old) (F.history files.new)) (S.state out.old) (S.state out.new) result }
-    // and where it holds the image that `build` has written for it.
+    // and where it holds the image that `build` has written for it, and the tables, or without them as
+    // before.
     ensures runs_built { RunOfBuiltPrintsSystem (map string_bytes words.now) (looks_since (F.history files.old) (F.history files.new)) (S.state out.old) (S.state out.new) result }
-    // Such a one `build` writes under the image's name: a `run` of it prints that text.
+    // Such a one `build` writes under the image's name, and such tables under theirs: a `run` of both prints
+    // that text.
     ensures built { BuildWritesImage (map string_bytes words.now) (looks_since (F.history files.old) (F.history files.new)) (writes_since (F.history files.old) (F.history files.new)) result }
 
     // What is put or written is the words' answer, and nothing else is. For `boot` it is the text of the
     // policy's system. For `run` it is the text of the image's run on the record, as the record is read
-    // for this image, on a machine with its kernel. For `build` it is one write, of an image that is
-    // sound for the policy and the files.
+    // for this image, on a machine with its kernel. For `build` it is the write of an image that is
+    // sound for the policy and the files, and then, where the words name them, of the tables of its domains.
     ensures done { result ≡ Status.Done → DoesAnswer (map string_bytes words.now) (F.history files.old) (F.history files.new) (S.state out.old) (S.state out.new) }
     ensures prefix { result ≡ Status.OutputFault → PrintsFront (map string_bytes words.now) (looks_since (F.history files.old) (F.history files.new)) (S.state out.old) (S.state out.new) }
 
@@ -93,6 +100,7 @@ pub fn muen<F: Files, S: Sink, E: Sink>(
     ensures refuses_policy { result ≡ Status.PolicyRefused → Answered (map string_bytes words.now) (looks_since (F.history files.old) (F.history files.new)) (RefusesPolicy (E.state err.old) (E.state err.new)) }
     ensures lacks_file { result ≡ Status.FileMissing → Answered (map string_bytes words.now) (looks_since (F.history files.old) (F.history files.new)) (LacksFile (E.state err.old) (E.state err.new)) }
     ensures refuses_image { result ≡ Status.ImageRefused → Answered (map string_bytes words.now) (looks_since (F.history files.old) (F.history files.new)) (RefusesImage (E.state err.old) (E.state err.new)) }
+    ensures refuses_dma { result ≡ Status.DmaRefused → Answered (map string_bytes words.now) (looks_since (F.history files.old) (F.history files.new)) (RefusesDma (E.state err.old) (E.state err.new)) }
     ensures refuses_record { result ≡ Status.RecordRefused → Answered (map string_bytes words.now) (looks_since (F.history files.old) (F.history files.new)) (RefusesRecord (E.state err.old) (E.state err.new)) }
 
     // The call ends as the words are answered, but for a fault or want of memory.

@@ -1,12 +1,12 @@
 // How a command reads its files.
-ghost use Rattle.std.specs.Prelude.{◌≡◌, ℕ, [], ◌∷◌, Some, Ok, IfOk, IfErr};
-ghost use Rattle.muen_outside.specs.States.{look};
+ghost use Rattle.std.specs.Prelude.{◌≡◌, [], ◌∷◌, List, Some, Ok, IfOk, IfErr, option_map};
+ghost use Rattle.muen_outside.specs.States.{Look, look};
 ghost use Rattle.muen_outside.specs.Store.{reading_of, whole};
 ghost use Rattle.muen_top.specs.FilesSeen.{Saw, SawAfter};
-ghost use Rattle.muen_top.specs.Loads.{NotRead, NotReadAfter, NotWithin};
+ghost use Rattle.muen_top.specs.Loads.{IsKnown, NotRead, NotReadAfter, NotWithin};
 
 use crate::outcome::CommandError;
-use muen_num::Seq;
+use muen_num::{NoMemory, Seq};
 use muen_outside::{FileError, Files, Found};
 use std::alloc::Global;
 
@@ -46,22 +46,30 @@ pub(crate) fn within<'a>(
     Err(CommandError::TooLong(name, length as u64))
 }
 
-/// The bytes of a file, after those of the file `before`, whatever the limit was with which they were
-/// read. Where both have one name, what was read stands for it, and no second look is made.
+// The bytes of a file, copied.
+fn copy(alloc: Global, bytes: &[u8]) -> Result<Seq<u8>, NoMemory>
+    ensures { IfOk result (λ copied. whole copied ≡ whole bytes.now) }
+{
+    let mut copied = Vec::with_capacity(alloc, bytes.len())?;
+    copied.extend_from_slice(bytes)?;
+    Ok(Seq::of(copied))
+}
+
+/// The bytes of a file, after other files. What was read under its name before, whatever the limit was with
+/// which it was read, stands for it, and no second look is made.
 pub(crate) fn load_too<'a, F: Files>(
     alloc: Global,
-    before: &str,
-    bytes: Seq<u8>,
+    known: Option<&[u8]>,
     name: &'a str,
     most: usize,
     files: &mut F,
 ) -> Result<Seq<u8>, CommandError<'a>>
-    ensures ok { (limit : ℕ) → IfOk result (λ found. SawAfter (look before.now limit (Ok (whole bytes)) ∷ []) name.now most (Ok (whole found)) (F.held files.old) (F.history files.old) (F.history files.new)) }
-    ensures err { (limit : ℕ) → IfErr result (NotReadAfter (look before.now limit (Ok (whole bytes)) ∷ []) name.now most (F.held files.old) (F.history files.old) (F.history files.new)) }
+    ensures ok { (looks : List Look) → IsKnown looks name.now (option_map (λ bytes. bytes.now) known.entry) → IfOk result (λ found. SawAfter looks name.now most (Ok (whole found)) (F.held files.old) (F.history files.old) (F.history files.new)) }
+    ensures err { (looks : List Look) → IsKnown looks name.now (option_map (λ bytes. bytes.now) known.entry) → IfErr result (NotReadAfter looks name.now most (F.held files.old) (F.history files.old) (F.history files.new)) }
     ensures held { F.held files.new ≡ F.held files.old }
 {
-    if name == before {
-        return within(bytes, name, most);
+    match known {
+        Some(bytes) => within(copy(alloc, bytes)?, name, most),
+        None => load(alloc, name, most, files),
     }
-    load(alloc, name, most, files)
 }

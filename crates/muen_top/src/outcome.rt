@@ -8,7 +8,7 @@ use muen_num::NoMemory;
 use policy_types::Refusal;
 use record_text::RecordFault;
 
-/// Why nothing was printed, and no image was written whole.
+/// Why nothing was printed, and not all was written whole.
 #[derive(Debug, Drop)]
 pub(crate) enum CommandError<'a> {
     /// The words have no command's form.
@@ -21,6 +21,8 @@ pub(crate) enum CommandError<'a> {
     Refused(Refusal),
     /// The image is refused.
     ImageRefused(ImageFault),
+    /// The tables for direct memory access are refused.
+    DmaRefused(ImageFault),
     /// The device record is refused.
     RecordRefused(RecordFault),
     /// A call on files failed.
@@ -101,7 +103,7 @@ impl<'a> From<RecordFault> for CommandError<'a> {
 /// How a command comes to an end.
 #[derive(Debug, Drop)]
 pub(crate) enum Outcome<'a> {
-    /// All was printed, or the image was written.
+    /// All was printed, or all was written.
     Done,
     /// Nothing was printed.
     Stopped(CommandError<'a>),

@@ -21,7 +21,7 @@ pub fn muen_over_held<F: Files, S: Sink, E: Sink>(
     ensures boots { BootPrintsHeld (map string_bytes words.now) (F.held files.old) (S.state out.old) (S.state out.new) result }
     ensures runs_sound { RunOfSoundPrintsHeld (map string_bytes words.now) (F.held files.old) (S.state out.old) (S.state out.new) result }
     ensures runs_built { RunOfBuiltPrintsHeld (map string_bytes words.now) (F.held files.old) (S.state out.old) (S.state out.new) result }
-    // What `build` wrote stands under the image's name.
+    // What `build` wrote stands under the image's name, and under that of the tables, where the words have it.
     ensures built { BuildLeavesImage (map string_bytes words.now) (F.held files.old) (F.held files.new) result }
     // The call ends as these words are answered, but for a fault or want of memory.
     ensures told { IsFault result ⊎ IfSome (F.held files.old) (λ m. Ends (answer_to (map string_bytes words.now) m) (E.state err.old) (E.state err.new) result) }

@@ -6,6 +6,7 @@ ghost use Rattle.muen_top.specs.Reports.{error_text, line_of, refusal_status, st
 
 use crate::outcome::{CommandError, Outcome};
 use crate::status::Status;
+use dma_tables::dma_fault_pieces;
 use itoa::Buffer;
 use muen_num::Pieces;
 use muen_outside::{Sink, SinkFault, put_pieces};
@@ -32,6 +33,7 @@ fn pieces<'a>(error: &'a CommandError<'_>, one: &'a mut Buffer, two: &'a mut Buf
         }
         CommandError::Refused(refusal) => refusal.pieces(one, two),
         CommandError::ImageRefused(fault) => fault.pieces(one),
+        CommandError::DmaRefused(fault) => dma_fault_pieces(*fault, one),
         CommandError::RecordRefused(fault) => fault.pieces(one),
         CommandError::FileFault => "file fault".into(),
         CommandError::NoMemory => "out of memory".into(),
@@ -95,6 +97,7 @@ pub(crate) fn status(outcome: &Outcome<'_>) -> Status
             Status::FileMissing,
         Outcome::Stopped(CommandError::FileFault) => Status::FileFault,
         Outcome::Stopped(CommandError::ImageRefused(_)) => Status::ImageRefused,
+        Outcome::Stopped(CommandError::DmaRefused(_)) => Status::DmaRefused,
         Outcome::Stopped(CommandError::RecordRefused(_)) => Status::RecordRefused,
         Outcome::OutputFault => Status::OutputFault,
         Outcome::Stopped(CommandError::NoMemory) => Status::NoMemory,

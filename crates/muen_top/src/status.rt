@@ -22,6 +22,8 @@ pub enum Status {
     OutputFault,
     /// 8: memory was refused.
     NoMemory,
+    /// 10: the tables for direct memory access are refused.
+    DmaRefused,
 }
 
 impl From<Status> for u8 {
@@ -41,6 +43,7 @@ impl From<Status> for u8 {
             Status::RecordRefused => 6,
             Status::OutputFault => 7,
             Status::NoMemory => 8,
+            Status::DmaRefused => 10,
         }
     }
 }

@@ -1,12 +1,12 @@
 -- Tables that lead each device where a placed policy declares it fit an image whose spans are those of the policy.
 use Rattle.std.proofs.Common.{◌≡◌, ◌∙◌, ℕ, ◌+◌, true, List, Option, Some, None, find, position, is_some, refl, sym, ap, subst}
-use Rattle.std.specs.Prelude.{slice_get, slice_index}
+use Rattle.std.specs.Prelude.{slice_index}
 use Rattle.std.specs.Option.{option_map_or}
 use Rattle.std.specs.Str.{bytes_eq}
 use Rattle.std.proofs.lemmas.Bool.{false≢true}
 use Rattle.std.proofs.lemmas.Option.{get_or_from_slice_get}
 use Rattle.dma_emit.specs.Domains.{place_of as region_place}
-use Rattle.dma_emit.specs.Reached.{declared_at, placed_at}
+use Rattle.dma_emit.specs.Reached.{kind_of, placed_at}
 use Rattle.dma_tables.specs.DmaWalk.{dma_walk}
 use Rattle.dma_tables.specs.declared.file.DmaFile.{DmaFile}
 use Rattle.image_pack.proofs.PartsKeep.{parts_keep}
@@ -54,6 +54,6 @@ module _ (x : Placement) (placed : IsPlaced x) (files : Held) (i : Image) (keeps
   same_place device addr (byte (state subject) offset) e = absurd (let is = (lands p files i keeps sound device addr Write (state subject) offset e).is in cc (is))
 
 pub fits : (x : Placement) (files : Held) (i : Image) (t : DmaFile) → IsPlaced x → IsSound (source_of x.expanded.lawful) files i → HasSpans (source_of x.expanded.lawful) i
-    → ((device : List ℕ) (addr : ℕ) → dma_walk t device addr true ≡ declared_at x device addr true) → Fit (source_of x.expanded.lawful) i (Some t)
+    → ((device : List ℕ) (addr : ℕ) → dma_walk t device addr true ≡ placed_at x (dma_access (source_of x.expanded.lawful) device addr (kind_of true))) → Fit (source_of x.expanded.lawful) i (Some t)
 fits x files i t placed sound spans walk k d l addr =
     walk _ addr ∙ same_place x placed files i (parts_keep i sound.parts) sound spans _ addr (dma_access (source_of x.expanded.lawful) _ addr Write) refl

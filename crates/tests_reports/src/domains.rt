@@ -1,5 +1,5 @@
-//! A device that writes into memory by itself: `boot` holds it to the tables that it makes, and `run`
-//! without tables drops what it writes.
+//! A device that writes into memory by itself: `boot` holds it to the tables that it makes, `run` to those
+//! that it is handed, and without tables it drops what the device writes.
 use muen_outside::{MemFiles, MemSink};
 use std::alloc::Global;
 use std::test::Fail;
@@ -84,5 +84,28 @@ fn without_tables(rt: HostRuntime) -> Result<(), Fail> {
     let alloc = rt.alloc();
     let text = built_and_ran(alloc, "dma 0 nic 4104 0700\nend 2\n")?;
     assert!(rt; is_dropped(text.as_str()));
+    Ok(())
+}
+
+// `build` writes the tables too, and `run` with them prints what `boot` prints.
+#[test]
+fn with_tables(rt: HostRuntime) -> Result<(), Fail> {
+    let alloc = rt.alloc();
+    for record in [
+        "dma 0 nic 4104 0700\nend 2\n",
+        "dma 0 nic 8191 0707\nend 2\n",
+    ] {
+        let mut files = held(alloc, record)?;
+        let mut out = MemSink::make(alloc, 1_000_000, Vec::new(alloc), 0)?;
+        text_of(call(alloc, "build p i t", &mut files, &mut out)?)?;
+        let text = text_of(call(alloc, "run i r t", &mut files, &mut out)?)?;
+        assert!(rt; text == booted(alloc, record)?);
+        let ended = call(alloc, "run i r r", &mut files, &mut out)?;
+        assert_eq!(rt; ended.answer(alloc)?.as_str(), "10 muen: dma refused at 0: magic\n");
+        let ended = call(alloc, "run i t t", &mut files, &mut out)?;
+        assert_eq!(rt; ended.status, 6);
+        let ended = call(alloc, "run i r i", &mut files, &mut out)?;
+        assert_eq!(rt; ended.answer(alloc)?.as_str(), "10 muen: dma refused at 0: magic\n");
+    }
     Ok(())
 }

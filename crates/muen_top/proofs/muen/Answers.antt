@@ -1,6 +1,6 @@
 use Rattle.std.proofs.Common.{◌∙◌, ap}
 use Rattle.subject_model.specs.Trace.{trace_of}
-use Rattle.muen_top.proofs.Clauses.{history_clause, once_clause, agrees_clause, asked_clause, held_clause, done_clause, prefix_clause, policy_clause, file_clause, image_clause, record_clause, ends_clause, usage_clause, fault_clause, memory_clause, unwritten_clause, quiet_out_clause, quiet_err_clause, prints_clause, built_clause}
+use Rattle.muen_top.proofs.Clauses.{history_clause, once_clause, agrees_clause, asked_clause, held_clause, done_clause, prefix_clause, policy_clause, file_clause, image_clause, dma_clause, record_clause, ends_clause, usage_clause, fault_clause, memory_clause, unwritten_clause, quiet_out_clause, quiet_err_clause, prints_clause, built_clause}
 use Rattle.muen_top.proofs.SoundRuns.{boot_prints, built_prints, sound_prints}
 use Rattle.muen_top.specs.Answers.{answer_of}
 use Rattle.muen_top.proofs.muen.Goals as goal
@@ -16,16 +16,17 @@ returns g c =
       held = held_clause _ _ _ _ _ _ _ _ _ _ p;
       boots = λ m policy inputs q r shows asked there says.
           prints_clause _ _ _ _ _ _ _ _ _ _ p m (trace_of q m r) shows (ap (answer_of m) asked ∙ boot_prints m policy inputs q r says there);
-      runs_sound = λ m image inputs q built_of r shows asked there fit says.
-          prints_clause _ _ _ _ _ _ _ _ _ _ p m (trace_of q built_of r) shows (ap (answer_of m) asked ∙ sound_prints m image inputs q r says built_of there fit);
-      runs_built = λ m image inputs q built_of r shows asked there fit says.
-          prints_clause _ _ _ _ _ _ _ _ _ _ p m (trace_of q built_of r) shows (ap (answer_of m) asked ∙ built_prints m image inputs q r says built_of there fit);
+      runs_sound = λ m image inputs dma tables q built_of r shows asked there hands fit says.
+          prints_clause _ _ _ _ _ _ _ _ _ _ p m (trace_of q built_of r) shows (ap (answer_of m) asked ∙ sound_prints m image inputs q r says built_of dma tables there hands fit);
+      runs_built = λ m image inputs dma q built_of r shows asked there hands says.
+          prints_clause _ _ _ _ _ _ _ _ _ _ p m (trace_of q built_of r) shows (ap (answer_of m) asked ∙ built_prints m image inputs q r says built_of dma there hands);
       built = built_clause _ _ _ _ _ _ _ _ _ _ p;
       done = done_clause _ _ _ _ _ _ _ _ _ _ p;
       prefix = prefix_clause _ _ _ _ _ _ _ _ _ _ p;
       refuses_policy = policy_clause _ _ _ _ _ _ _ _ _ _ p;
       lacks_file = file_clause _ _ _ _ _ _ _ _ _ _ p;
       refuses_image = image_clause _ _ _ _ _ _ _ _ _ _ p;
+      refuses_dma = dma_clause _ _ _ _ _ _ _ _ _ _ p;
       refuses_record = record_clause _ _ _ _ _ _ _ _ _ _ p;
       ends = ends_clause _ _ _ _ _ _ _ _ _ _ p;
       usage = usage_clause _ _ _ _ _ _ _ _ _ _ p;
