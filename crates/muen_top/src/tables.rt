@@ -13,7 +13,7 @@ use std::alloc::Global;
 pub(crate) fn tables_of(alloc: Global, placed: &Placed) -> Result<DmaTables, NoMemory>
     ensures { IfOk result (AreTablesFor (source_of placed.now.expanded.lawful)) }
 {
-    let _ = placed.expanded();
+    prove!(placed.expanded());
     emit(alloc, placed)
 }
 
