@@ -1,6 +1,7 @@
 // The tables by which the devices of a policy access memory, of its domains.
-ghost use Rattle.std.specs.Prelude.{IfOk};
+ghost use Rattle.std.specs.Prelude.{◌≡◌, IfOk, true};
 ghost use Rattle.policy_lawful.specs.Resolution.{source_of};
+ghost use Rattle.region_alloc.specs.Placed.{IsPlaced};
 ghost use Rattle.muen_top.specs.Tables.{AreTablesFor, IsTablesFor};
 
 use dma_emit::emit;
@@ -9,11 +10,20 @@ use muen_num::NoMemory;
 use region_alloc::Placed;
 use std::alloc::Global;
 
+// Whether the policy is placed: it is, since its type says so.
+fn is_placed(placed: &Placed) -> bool
+    ensures is { IsPlaced placed.now }
+    ensures holds { result ≡ true }
+{
+    let _ = placed.expanded();
+    true
+}
+
 /// The tables of a policy's domains of devices.
 pub(crate) fn tables_of(alloc: Global, placed: &Placed) -> Result<DmaTables, NoMemory>
     ensures { IfOk result (AreTablesFor (source_of placed.now.expanded.lawful)) }
 {
-    prove!(placed.expanded());
+    prove!(is_placed(placed));
     emit(alloc, placed)
 }
 
