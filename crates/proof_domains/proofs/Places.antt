@@ -93,7 +93,7 @@ module _ (x : Placement) (placed : IsPlaced x) (files : Held) (i : Image) (keeps
       let s : SpanPart = region_span (0 + k, (own_region r, address)) in
       let listed : slice_get (region_spans (regions_of p) spans.addresses) k ≡ Some s =
       mapped_at region_span (enumerate_from 0 (zip (regions_of p) spans.addresses)) k (0 + k, (own_region r, address))
-          (numbered_at 0 (zip (regions_of p) spans.addresses) k (own_region r, address) (zipped_at (regions_of p) spans.addresses k (own_region r) address region among)) in
+      (numbered_at 0 (zip (regions_of p) spans.addresses) k (own_region r, address) (zipped_at (regions_of p) spans.addresses k (own_region r) address region among)) in
       let whole : slice_get (map (λ (e : Span). e.0) (by_number i)) k ≡ Some s = ap (λ ss. slice_get ss k) spans.spans ∙ front_at (region_spans (regions_of p) spans.addresses) (device_spans (length (regions_of p)) p.devices) k s listed in
       let found = from_some (λ (e : Span). e.0) (slice_get (by_number i) k) s (sym (slice_get-map (λ (e : Span). e.0) (by_number i) k) ∙ whole) in
       record {

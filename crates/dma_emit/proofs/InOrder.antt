@@ -1,0 +1,26 @@
+-- Windows of which no two are at the same address, in the order of their addresses.
+use Rattle.std.proofs.Common.{◌≡◌, ℕ, ◌≤◌, true, false, List, get_or, sym, arith}
+use Rattle.std.specs.Prelude.{◌==◌, nat_le}
+use Rattle.std.specs.List.Sorted.{IsNonDecreasingBy, IsPermutation}
+use Rattle.std.proofs.lemmas.Bool.Decides.{nat_tests}
+use Rattle.dma_emit.specs.Domains.{is_lower}
+use Rattle.dma_emit.specs.Ready.{HaveDifferentGuests, same_guest}
+use Rattle.ept_emit.specs.declared.window.Window.{Window}
+use Rattle.expand_grants.specs.Ordered.{in_order}
+use Rattle.expand_grants.proofs.Ordered.{ordered_is}
+use Rattle.span_emit.proofs.PairLaws.{pairs_permuted}
+
+pub flips : (a b : ℕ) → (a == b) ≡ (b == a)
+flips a b = grind (arith, nat_tests)
+
+lower : (a b : ℕ) → a ≤ b → (a == b) ≡ false → (nat_le a b ≡ true) × (nat_le b a ≡ false)
+lower a b l h = (grind (arith, nat_tests, l), grind (arith, nat_tests, l, h))
+
+pub still_different : (xs ys : List Window) → IsPermutation xs ys → HaveDifferentGuests xs → HaveDifferentGuests ys
+still_different xs ys moved different = pairs_permuted same_guest (λ a b. flips a.guest b.guest) xs ys moved different
+
+-- what is sorted by addresses that differ is in their order
+pub sorted_is : (xs ys : List Window) → HaveDifferentGuests xs → IsPermutation xs ys → IsNonDecreasingBy (λ w. w.guest) ys → ys ≡ in_order is_lower xs
+sorted_is xs ys different moved rising =
+    let apart = still_different xs ys moved different in
+    sym (ordered_is is_lower xs ys moved (λ i j d l m. lower (get_or ys i d).guest (get_or ys j d).guest (rising i j d (omega (arith, l)) m) (apart i j d l m)))

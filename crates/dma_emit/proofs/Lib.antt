@@ -1,0 +1,23 @@
+mod Examples
+pub mod Lists
+pub mod Words
+pub mod LowestFree
+pub mod Levels
+pub mod Layouts
+pub mod InOrder
+pub mod TablesOf
+pub mod PlacesThere
+pub mod OnlyOne
+pub mod Places
+pub mod Walk
+pub mod DomainRules
+pub mod TotalSize
+pub mod Found
+pub mod DomainWindows
+pub mod Counts
+pub mod DomainsReady
+pub mod Unordered
+pub mod Declared
+pub mod Extents
+pub mod FileMade
+pub mod Ranges

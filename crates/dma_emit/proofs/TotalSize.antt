@@ -1,0 +1,69 @@
+-- The regions of a placed policy's memory have no more bytes than its blocks.
+use Rattle.std.proofs.Common.{◌≡◌, ℕ, ◌+◌, ◌*◌, ◌/◌, ◌<◌, ◌≤◌, true, All, List, [], ◌∷◌, ◌++◌, length, map, refl, ap, ◌∙◌, arith}
+use Rattle.std.specs.List.{AllPairs, enumerate_from, sum_by, zip}
+use Rattle.std.specs.List.Sorted.{IsPermutation}
+use Rattle.std.proofs.lemmas.List.Elements.{All-weaker}
+use Rattle.std.proofs.lemmas.List.Sorted.{All-permutation, sum_by-IsPermutation}
+use Rattle.std.proofs.lemmas.List.Sums.{sum_by-append, sum_by-cons}
+use Rattle.dma_emit.proofs.Ranges.{ascending, before}
+use Rattle.expand_grants.specs.Ordered.{in_order}
+use Rattle.expand_grants.proofs.Ordered.{in_order_permutes}
+use Rattle.expand_kernel.specs.Regions.{own_region}
+use Rattle.expand_kernel.specs.declared.region.Region.{Region}
+use Rattle.image_pack.specs.declared.parts.SpanPart.{SpanPart}
+use Rattle.muen_num.proofs.Lists.{sum_by-map}
+use Rattle.muen_num.specs.declared.limits.TheConstants.{MOST_BLOCK_BYTES, PAGE}
+use Rattle.policy_types.specs.declared.source.Block.{Block}
+use Rattle.policy_types.specs.declared.source.Device.{Device}
+use Rattle.policy_types.specs.declared.source.Region.{Region as SourceRegion}
+use Rattle.region_alloc.specs.Placement.{in_a_block}
+use Rattle.span_emit.specs.Spans.{region_span, region_spans}
+use Rattle.span_emit.proofs.Placed.{IsPlaced}
+use Rattle.span_emit.proofs.RegionSpans.{AreApart, IsRegionSpan, as_many, region_spans_apart, region_spans_are}
+use Rattle.span_emit.proofs.Room.{in_blocks}
+
+-- ---- spans that are apart
+
+abbrev bytes_of : SpanPart → ℕ
+bytes_of s = PAGE * s.pages
+
+few_bytes : (blocks : List Block) (rs : List SpanPart) → All (IsRegionSpan blocks) rs → AllPairs AreApart rs → sum_by bytes_of rs ≤ sum_by (λ b. b.size) blocks
+few_bytes blocks rs are apart =
+    let ys = in_order (before (λ (s : SpanPart). s.address)) rs in
+    let moved : IsPermutation rs ys = in_order_permutes (before (λ (s : SpanPart). s.address)) rs in
+    let still = All-permutation (IsRegionSpan blocks) rs ys moved are in
+    let up = ascending (λ (s : SpanPart). s.address) bytes_of rs (All-weaker (IsRegionSpan blocks) (λ s. 0 < bytes_of s) (λ s is. let some = is.some in omega arith) rs are) apart in
+    let room = in_blocks (λ (s : SpanPart). s.address) bytes_of blocks ys up (All-weaker (IsRegionSpan blocks) (λ s. in_a_block blocks s.address (bytes_of s) ≡ true) (λ s is. is.inside) ys still) in
+    let same = sum_by-IsPermutation bytes_of rs ys moved in
+    omega arith
+
+-- ---- regions
+
+abbrev pub whole_bytes : Region → ℕ
+whole_bytes r = PAGE * (r.size / PAGE)
+
+spans_bytes : (k : ℕ) (rs : List Region) (ps : List ℕ) → length rs ≡ length ps → sum_by bytes_of (map region_span (enumerate_from k (zip rs ps))) ≡ sum_by whole_bytes rs
+spans_bytes k [] [] e = refl
+spans_bytes k [] (p ∷ ps) e = absurd (omega arith)
+spans_bytes k (r ∷ rs) [] e = absurd (omega arith)
+spans_bytes k (r ∷ rs) (p ∷ ps) e =
+    let rest = spans_bytes (k + 1) rs ps (omega arith) in
+    let a = sum_by-cons bytes_of (region_span (k, (r, p))) (map region_span (enumerate_from (k + 1) (zip rs ps))) in
+    let b = sum_by-cons whole_bytes r rs in
+    omega arith
+
+-- of all regions
+pub regions_bytes : (blocks : List Block) (devices : List Device) (rs : List Region) (ps : List ℕ) → IsPlaced blocks devices rs ps → sum_by whole_bytes rs ≤ MOST_BLOCK_BYTES
+regions_bytes blocks devices rs ps h =
+    let spans = region_spans rs ps in
+    let few = few_bytes blocks spans (region_spans_are blocks rs ps h.whole h.sized h.aligned h.inside) (region_spans_apart rs ps h.disjoint) in
+    let same = spans_bytes 0 rs ps (as_many blocks rs ps h.inside) in
+    let most = h.block_bytes in
+    omega arith
+
+-- of those that stand first
+pub first_bytes : (ms : List SourceRegion) (rest rs : List Region) → rs ≡ map own_region ms ++ rest → sum_by whole_bytes rs ≤ MOST_BLOCK_BYTES → sum_by (λ m. PAGE * (m.size / PAGE)) ms ≤ MOST_BLOCK_BYTES
+first_bytes ms rest rs is few =
+    let all = ap (sum_by whole_bytes) is ∙ sum_by-append whole_bytes (map own_region ms) rest in
+    let own = sum_by-map whole_bytes own_region ms in
+    omega arith

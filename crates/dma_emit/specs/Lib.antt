@@ -1,0 +1,7 @@
+pub mod Base
+pub mod Domains
+pub mod Emitted
+pub mod Entries
+pub mod Layout
+pub mod Reached
+pub mod Ready

@@ -1,0 +1,25 @@
+-- Where in physical memory an access of a device ends, by what the policy declares.
+use Rattle.std.specs.Prelude.{ℕ, ◌+◌, Bool, if◌then◌else◌, Option, Some, None}
+use Rattle.dma_emit.specs.Domains.{place_of}
+use Rattle.muen_num.specs.declared.access.AccessKind.{AccessKind}
+use Rattle.muen_num.specs.declared.access.AccessKind.TheVariants.{Read, Write}
+use Rattle.policy_lawful.specs.Thing.{Thing, region, channel, provided, device_memory, state}
+use Rattle.policy_lawful.specs.Windows.{Access, byte, violation}
+use Rattle.region_alloc.specs.Placed.{Placement}
+
+-- the address of a byte of a thing, which is a region: domains have windows on nothing else
+abbrev pub byte_at : Placement → Thing → ℕ → Option ℕ
+byte_at x (region name) offset = Some (place_of x name + offset)
+byte_at x (channel name) offset = None
+byte_at x (provided subject logical) offset = None
+byte_at x (device_memory device memory) offset = None
+byte_at x (state subject) offset = None
+
+-- the address of what an access touches
+abbrev pub placed_at : Placement → Access Thing → Option ℕ
+placed_at x (byte thing offset) = byte_at x thing offset
+placed_at x (violation found) = None
+
+-- the kind of an access of a device
+abbrev pub kind_of : Bool → AccessKind
+kind_of write = if write then Write else Read

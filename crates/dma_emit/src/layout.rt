@@ -1,0 +1,103 @@
+//! Which page of the file has which table. Pages are numbered from 0, the root table's.
+ghost use Rattle.std.specs.Prelude.{◌≡◌, ◌+◌, ◌==◌, ◌<◌, ◌≤◌, length, map, IfOk};
+ghost use Rattle.std.specs.List.{list_any};
+ghost use Rattle.dma_emit.specs.Layout.{buses, domain_pages, has_device, on_bus, page_count, tables_page, windows_at};
+ghost use Rattle.dma_emit.specs.Ready.{AreWindows, IsReady};
+ghost use Rattle.ept_emit.specs.Pages.{ept_pages, range_of, ranges_of};
+ghost use Rattle.muen_num.specs.Range.{numbers_below};
+
+use crate::domains::Domains;
+use ept_emit::{GuestRange, Window, pages};
+use muen_num::NoMemory;
+use std::alloc::{AllocError, Global};
+
+/// How many buses there are.
+pub(crate) const BUSES: u16 = 256;
+
+/// How many devices and functions there are on a bus.
+pub(crate) const DEVFNS: u16 = 256;
+
+/// Whether a device of some domain is on this bus.
+pub(crate) fn on_bus(domains: &Domains, bus: u16) -> bool
+    ensures { result ≡ on_bus domains.now bus }
+{
+    domains
+        .devices
+        .items()
+        .iter()
+        .any(|device| u16::from(device.device.bus) == bus)
+}
+
+/// Whether some device stands in the domain of this number.
+pub(crate) fn has_device(domains: &Domains, number: usize) -> bool
+    ensures { result ≡ has_device domains.now number }
+{
+    domains
+        .devices
+        .items()
+        .iter()
+        .any(|device| device.domain == number)
+}
+
+// How many buses have a context table.
+fn bus_count(domains: &Domains) -> u64
+    ensures value { result ≡ length (buses domains.now) }
+    ensures few { result ≤ 256 }
+{
+    let mut count = 0;
+    for bus in 0..BUSES {
+        if on_bus(domains, bus) {
+            count += 1;
+        }
+    }
+    count
+}
+
+// The addresses of windows.
+fn ranges_of(alloc: Global, windows: &[Window]) -> Result<Vec<GuestRange>, AllocError>
+    ensures { IfOk result (λ v. v.items ≡ ranges_of windows.now) }
+{
+    windows
+        .iter()
+        .map(|window| GuestRange {
+            guest: window.guest,
+            size: window.size,
+        })
+        .collect(alloc)
+}
+
+// How many pages the tables of these windows take.
+fn table_pages(alloc: Global, windows: &[Window]) -> Result<u64, NoMemory>
+    requires { AreWindows windows.now }
+    ensures { IfOk result (λ n. n ≡ ept_pages (ranges_of windows.now)) }
+{
+    let ranges = ranges_of(alloc, windows)?;
+    Ok(pages(&ranges))
+}
+
+// How many pages the tables of the domain of this number take.
+fn domain_pages(alloc: Global, domains: &Domains, number: usize) -> Result<u64, NoMemory>
+    requires ready { IsReady domains.now }
+    requires there { number < length domains.now.windows }
+    ensures { IfOk result (λ n. n ≡ domain_pages domains.now number) }
+{
+    if !has_device(domains, number) {
+        return Ok(0);
+    }
+    table_pages(alloc, domains.windows.items()[number].items())
+}
+
+/// The page of the highest table of each domain, and then the number of all pages.
+pub(crate) fn tables_pages(alloc: Global, domains: &Domains) -> Result<Vec<u64>, NoMemory>
+    requires { IsReady domains.now }
+    ensures { IfOk result (λ v. v.items ≡ map (tables_page domains.now) (numbers_below (length domains.now.windows + 1))) }
+{
+    let mut next = 1 + bus_count(domains);
+    let mut pages = Vec::new(alloc);
+    pages.push(next)?;
+    for number in 0..domains.windows.len() {
+        next += domain_pages(alloc, domains, number)?;
+        pages.push(next)?;
+    }
+    Ok(pages)
+}
