@@ -36,7 +36,7 @@ module _ (d : Domains) (is_ready : IsReady d) (t : DmaFile) (file : IsFileOf d t
         pages = page_count d;
         many = many;
         some = omega arith;
-        few = is_ready.pages;
+        few = omega (arith, is_ready.pages);
         low = low;
         bytes = bytes;
         few_devices = omega (arith, is_ready.few_devices);

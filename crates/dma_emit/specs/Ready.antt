@@ -44,4 +44,4 @@ pub record IsReady (d : Domains) : Type 0 where
   pub names : AreDistinct (map (λ v. v.device.name) d.devices)
   pub places : AllPairs (λ a b. same_place a b ≡ false) d.devices
   pub windows : All AreWindows d.windows
-  pub pages : page_count d ≤ MOST_DMA_PAGES
+  pub pages : page_count d < MOST_DMA_PAGES

@@ -1,11 +1,12 @@
 //! The tables of a placed policy.
-ghost use Rattle.std.specs.Prelude.{◌≡◌, ◌*◌, ℕ, Bool, List, length, map, slice_index, All, IfOk, OnOk};
+ghost use Rattle.std.specs.Prelude.{◌≡◌, ◌*◌, ◌<◌, ℕ, Bool, List, length, map, slice_index, All, IfOk, OnOk};
 ghost use Rattle.dma_emit.specs.Base.{IsBase};
 ghost use Rattle.dma_emit.specs.Domains.{domains_of};
 ghost use Rattle.dma_emit.specs.Emitted.{IsFileOf};
 ghost use Rattle.dma_emit.specs.Layout.{page_count, tables_page};
 ghost use Rattle.dma_emit.specs.Reached.{kind_of, placed_at};
 ghost use Rattle.dma_tables.specs.DmaWalk.{dma_walk};
+ghost use Rattle.dma_tables.specs.declared.file.TheConstants.{MOST_DMA_PAGES};
 ghost use Rattle.muen_num.specs.declared.limits.TheConstants.{PAGE};
 ghost use Rattle.policy_lawful.specs.Dma.{dma_access};
 ghost use Rattle.policy_lawful.specs.Resolution.{source_of};
@@ -34,6 +35,8 @@ pub fn emit(alloc: Global, placed: &Placed) -> Result<DmaTables, NoMemory>
     ensures file { IfOk result (IsFileOf (domains_of placed.now)) }
     // of how many pages,
     ensures many { IfOk result (λ t. length t.pages ≡ PAGE * page_count (domains_of placed.now)) }
+    // fewer than a file may have,
+    ensures few { IfOk result (λ t. length t.pages < PAGE * MOST_DMA_PAGES) }
     // and where.
     ensures base { IfOk result (λ t. IsBase (source_of placed.now.expanded.lawful) (length t.pages) t.base) }
 {

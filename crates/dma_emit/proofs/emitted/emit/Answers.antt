@@ -102,6 +102,21 @@ returns-clause-many c =
     c.in_ok-pages.ensures.pages c.in_ok-pages.ensures.all_bytes c.of.ensures c.in_ok-listed.ensures.value c.in_ok-listed.ensures.are in
     ap (λ (t : DmaFile). length t.pages) c.make.ensures ∙ many_of x t made
 
+pub returns-clause-few : goal.returns-clause-few
+returns-clause-few c =
+    let x = c.args.placed.now in
+    let d = c.in_ok-domains.domains in
+    let base = c.lowest_free-base.result in
+    let count = count_is d c.in_ok-numbers.numbers.items c.in_ok-numbers.ensures c.len.result c.index-count.result.now c.len.ensures c.index-count.ensures in
+    let low : base + PAGE * page_count d ≤ PHYSICAL_END = omega (arith, c.lowest_free-base.ensures.low) in
+    let t : DmaFile = record { base = base; pages = c.of.result; devices = c.in_ok-listed.field-0 } in
+    let made =
+    made_of x d base c.in_ok-pages.pages.items c.of.result c.in_ok-listed.field-0 c.in_ok-domains.ensures.placed c.in_ok-domains.ensures.domains c.lowest_free-base.ensures.lowest.aligned low
+    c.in_ok-pages.ensures.pages c.in_ok-pages.ensures.all_bytes c.of.ensures c.in_ok-listed.ensures.value c.in_ok-listed.ensures.are in
+    let many = ap (λ (t : DmaFile). length t.pages) c.make.ensures ∙ many_of x t made ∙ ap (λ d. PAGE * page_count d) (sym c.in_ok-domains.ensures.domains) in
+    let few = c.in_ok-domains.ensures.ready.pages in
+    omega (arith, many, few)
+
 pub returns-clause-base : goal.returns-clause-base
 returns-clause-base c =
     let x = c.args.placed.now in
