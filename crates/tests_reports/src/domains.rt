@@ -101,11 +101,17 @@ fn with_tables(rt: HostRuntime) -> Result<(), Fail> {
         let text = text_of(call(alloc, "run i r t", &mut files, &mut out)?)?;
         assert!(rt; text == booted(alloc, record)?);
         let ended = call(alloc, "run i r r", &mut files, &mut out)?;
-        assert_eq!(rt; ended.answer(alloc)?.as_str(), "10 muen: dma refused at 0: magic\n");
+        assert_eq!(rt;
+            ended.answer(alloc)?.as_str(),
+            "10 muen: dma refused at 0: magic\n"
+        );
         let ended = call(alloc, "run i t t", &mut files, &mut out)?;
         assert_eq!(rt; ended.status, 6);
         let ended = call(alloc, "run i r i", &mut files, &mut out)?;
-        assert_eq!(rt; ended.answer(alloc)?.as_str(), "10 muen: dma refused at 0: magic\n");
+        assert_eq!(rt;
+            ended.answer(alloc)?.as_str(),
+            "10 muen: dma refused at 0: magic\n"
+        );
     }
     Ok(())
 }
