@@ -1,5 +1,5 @@
 // What the words after the program's name ask for.
-ghost use Rattle.std.specs.Prelude.{◌≡◌, map, string_bytes};
+ghost use Rattle.std.specs.Prelude.{◌≡◌, [], ◌∷◌, map, string_bytes};
 ghost use Rattle.muen_top.specs.Commands.{command_of};
 ghost use Rattle.muen_top.specs.Parsed.{asked};
 
@@ -34,63 +34,85 @@ pub(crate) enum Command<'a> {
 }
 
 impl<'a> Command<'a> {
+    // The command of a word and one name.
+    fn of_one(word: &str, policy: &'a str) -> Command<'a>
+        ensures { asked result ≡ command_of (word.now ∷ policy.now ∷ []) }
+    {
+        if word == "map" {
+            return Command::Map(policy);
+        }
+        if word == "flows" {
+            return Command::Flows(policy);
+        }
+        Command::Usage
+    }
+
+    // .. of a word and two names.
+    fn of_two(word: &str, first: &'a str, second: &'a str) -> Command<'a>
+        ensures { asked result ≡ command_of (word.now ∷ first.now ∷ second.now ∷ []) }
+    {
+        if word == "build" {
+            return Command::Build {
+                policy: first,
+                image: second,
+                tables: None,
+            };
+        }
+        if word == "boot" {
+            return Command::Boot {
+                policy: first,
+                inputs: second,
+            };
+        }
+        if word == "run" {
+            return Command::Run {
+                image: first,
+                inputs: second,
+                tables: None,
+            };
+        }
+        Command::Usage
+    }
+
+    // .. of a word and three names, the last of which is that of tables.
+    fn of_three(word: &str, first: &'a str, second: &'a str, tables: &'a str) -> Command<'a>
+        ensures { asked result ≡ command_of (word.now ∷ first.now ∷ second.now ∷ tables.now ∷ []) }
+    {
+        if word == "build" {
+            if second == tables {
+                return Command::Usage;
+            }
+            return Command::Build {
+                policy: first,
+                image: second,
+                tables: Some(tables),
+            };
+        }
+        if word == "run" {
+            return Command::Run {
+                image: first,
+                inputs: second,
+                tables: Some(tables),
+            };
+        }
+        Command::Usage
+    }
+
     /// The command that the words ask for.
     pub(crate) fn parse(words: &'a [String]) -> Command<'a>
         ensures { asked result ≡ command_of (map string_bytes words.now) }
     {
         match words {
-            [word, policy] => {
-                if word.as_str() == "map" {
-                    return Command::Map(policy.as_str());
-                }
-                if word.as_str() == "flows" {
-                    return Command::Flows(policy.as_str());
-                }
-                Command::Usage
-            }
+            [word, first] => Command::of_one(word.as_str(), first.as_str()),
             [word, first, second] => {
-                if word.as_str() == "build" {
-                    return Command::Build {
-                        policy: first.as_str(),
-                        image: second.as_str(),
-                        tables: None,
-                    };
-                }
-                if word.as_str() == "boot" {
-                    return Command::Boot {
-                        policy: first.as_str(),
-                        inputs: second.as_str(),
-                    };
-                }
-                if word.as_str() == "run" {
-                    return Command::Run {
-                        image: first.as_str(),
-                        inputs: second.as_str(),
-                        tables: None,
-                    };
-                }
-                Command::Usage
+                Command::of_two(word.as_str(), first.as_str(), second.as_str())
             }
-            [word, first, second, third] => {
-                if word.as_str() == "build" {
-                    if second.as_str() == third.as_str() {
-                        return Command::Usage;
-                    }
-                    return Command::Build {
-                        policy: first.as_str(),
-                        image: second.as_str(),
-                        tables: Some(third.as_str()),
-                    };
-                }
-                if word.as_str() == "run" {
-                    return Command::Run {
-                        image: first.as_str(),
-                        inputs: second.as_str(),
-                        tables: Some(third.as_str()),
-                    };
-                }
-                Command::Usage
-            }
+            [word, first, second, third] => Command::of_three(
+                word.as_str(),
+                first.as_str(),
+                second.as_str(),
+                third.as_str(),
+            ),
             _ => Command::Usage,
         }
     }

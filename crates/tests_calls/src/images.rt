@@ -58,3 +58,22 @@ fn each_call_on_files_fails(rt: HostRuntime) -> Result<(), Fail> {
     }
     Ok(())
 }
+
+// Call 1 writes the image, and call 2 the tables: where one fails, nothing more is written.
+#[test]
+fn each_write_fails(rt: HostRuntime) -> Result<(), Fail> {
+    let alloc = rt.alloc();
+    for (failing, want, image, tables) in [
+        ("1", "4 muen: file fault\n", false, false),
+        ("2", "4 muen: file fault\n", true, false),
+        ("3", "0 ", true, true),
+    ] {
+        let mut files = files(alloc, POLICY, failing)?;
+        let mut out = MemSink::make(alloc, 10, Vec::new(alloc), 0)?;
+        let ended = call(alloc, "build p image tables", &mut files, &mut out)?;
+        assert_eq!(rt; ended.answer(alloc)?.as_str(), want, "{failing}");
+        assert_eq!(rt; has_image(&files, "image"), image);
+        assert_eq!(rt; files.get("tables").is_some(), tables);
+    }
+    Ok(())
+}
