@@ -3,7 +3,7 @@
 use muen_outside::{MemFiles, MemSink};
 use std::alloc::Global;
 use std::test::Fail;
-use tests_support::{Ended, call, file};
+use tests_support::{Ended, call, file, numbers};
 
 // The device `nic` is in a domain with `buf` at its address 4096, and with `log`, to read, behind it.
 const NIC: &str = r#"{"processor":{"logicalCpus":1},
@@ -29,11 +29,17 @@ const LOADED: &str = "\n1 0 one 0000000000400008 r1=0000000000000007\n";
 
 const UNTOUCHED: &str = "\n1 0 one 0000000000400008 r1=0000000000000000\n";
 
-fn held(alloc: Global, record: &str) -> Result<MemFiles, Fail> {
+// The policy, the record and an empty file; the calls of these digits fail.
+fn failing(alloc: Global, record: &str, fails: &str) -> Result<MemFiles, Fail> {
     let mut held = Vec::new(alloc);
     held.push(file(alloc, "p", NIC.as_bytes())?)?;
     held.push(file(alloc, "r", record.as_bytes())?)?;
-    Ok(MemFiles::make(held, Vec::new(alloc)))
+    held.push(file(alloc, "empty", b"")?)?;
+    Ok(MemFiles::make(held, numbers(alloc, fails)?))
+}
+
+fn held(alloc: Global, record: &str) -> Result<MemFiles, Fail> {
+    failing(alloc, record, "")
 }
 
 // What is put by a call that ended well.
@@ -113,5 +119,85 @@ fn with_tables(rt: HostRuntime) -> Result<(), Fail> {
             "10 muen: dma refused at 0: magic\n"
         );
     }
+    Ok(())
+}
+
+// How the file of the tables of NIC begins; and the words in its six pages at base 0 that aren't 0, each
+// at its place in them.
+const FRONT: &[u8] =
+    b"MUENDMA1\x00\x00\x00\x00\x00\x00\x00\x00\x06\x00\x00\x00\x01\x00\x00\x00\x03nic";
+
+const WORDS: [(usize, u64); 8] = [
+    (0, 0x1001),
+    (4480, 0x2001),
+    (4488, 0x102),
+    (8192, 0x3003),
+    (12288, 0x4003),
+    (16384, 0x5003),
+    (20488, 0x107003),
+    (20496, 0x108001),
+];
+
+#[test]
+fn six_pages_at_zero(rt: HostRuntime) -> Result<(), Fail> {
+    let alloc = rt.alloc();
+    let mut pages = vec![in alloc; 0; 24576]?;
+    for (at, word) in WORDS {
+        for (old, byte) in pages.iter_mut().skip(at).zip(&word.to_le_bytes()) {
+            *old = *byte;
+        }
+    }
+    let mut tables = Vec::from_slice(alloc, FRONT)?;
+    tables.resize(88, 0)?;
+    tables.extend_from_slice(&[0, 24, 0, 0])?;
+    tables.extend_from_slice(&pages)?;
+    let mut files = held(alloc, "end 0\n")?;
+    let mut out = MemSink::make(alloc, 10, Vec::new(alloc), 0)?;
+    text_of(call(alloc, "build p i t", &mut files, &mut out)?)?;
+    assert!(rt; files.get("t") == Some(tables.as_slice()));
+    let ended = call(alloc, "run i r empty", &mut files, &mut out)?;
+    assert_eq!(rt;
+        ended.answer(alloc)?.as_str(),
+        "10 muen: dma refused at 0: short\n"
+    );
+    Ok(())
+}
+
+// Call 0 reads the policy, and the calls 1 and 2 write the image and the tables; 3, 4 and 5 read the
+// image, the tables and the record. Nothing is put before the last.
+#[test]
+fn each_call_on_files_fails(rt: HostRuntime) -> Result<(), Fail> {
+    let alloc = rt.alloc();
+    for (fails, built, ran) in [
+        ("0", "4 muen: file fault\n", "3 muen: missing file i\n"),
+        ("1", "4 muen: file fault\n", "3 muen: missing file i\n"),
+        ("2", "4 muen: file fault\n", "3 muen: missing file t\n"),
+        ("3", "0 ", "4 muen: file fault\n"),
+        ("4", "0 ", "4 muen: file fault\n"),
+        ("5", "0 ", "4 muen: file fault\n"),
+        ("6", "0 ", "0 "),
+    ] {
+        let mut files = failing(alloc, "end 0\n", fails)?;
+        let mut out = MemSink::make(alloc, 1000, Vec::new(alloc), 0)?;
+        let ended = call(alloc, "build p i t", &mut files, &mut out)?;
+        assert_eq!(rt; ended.answer(alloc)?.as_str(), built, "{fails}");
+        assert_eq!(rt; out.calls(), 0);
+        let ended = call(alloc, "run i r t", &mut files, &mut out)?;
+        assert_eq!(rt; ended.answer(alloc)?.as_str(), ran, "{fails}");
+        assert_eq!(rt; out.calls() == 0, ran != "0 ");
+    }
+    Ok(())
+}
+
+// A put that fails.
+#[test]
+fn the_put_fails(rt: HostRuntime) -> Result<(), Fail> {
+    let alloc = rt.alloc();
+    let mut files = held(alloc, "end 0\n")?;
+    let mut out = MemSink::make(alloc, 1000, numbers(alloc, "0")?, 3)?;
+    text_of(call(alloc, "build p i t", &mut files, &mut out)?)?;
+    let ended = call(alloc, "run i r t", &mut files, &mut out)?;
+    assert_eq!(rt; ended.answer(alloc)?.as_str(), "7 muen: output fault\n");
+    assert_eq!(rt; ended.out.as_str(), "end");
     Ok(())
 }
