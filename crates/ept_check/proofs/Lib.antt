@@ -1,0 +1,16 @@
+pub mod Sizes
+pub mod Firsts
+pub mod Anys
+pub mod Reading
+pub mod Comes
+pub mod Knowns
+pub mod Pieces
+pub mod Checks
+pub mod Leaving
+pub mod Steps
+pub mod Onward
+pub mod Sounds
+pub mod Marks
+pub mod Borders
+pub mod Loaded
+pub mod Given

@@ -1,0 +1,19 @@
+-- An entry of a table that memory has.
+use Rattle.std.proofs.Common.{◌≡◌, ℕ, ◌+◌, ◌*◌, ◌/◌, ◌%◌, ◌<◌, true, List, Option, Some, None, ap, ◌∙◌, refl, arith}
+use Rattle.std.specs.Prelude.{drop, is_some, option_map, take}
+use Rattle.machine_layout.specs.Memory.{Page, is_there, le_number, page_of}
+use Rattle.machine_layout.specs.PageFields.{number_at}
+use Rattle.machine_layout.specs.Walks.{entry_of}
+
+-- it is a word of the table's page
+pub entry_in : (m : List Page) (t i : ℕ) (bytes : List ℕ) → page_of m t ≡ Some bytes → i < 512 → entry_of m t i ≡ Some (number_at bytes (8 * i) 8)
+unfolding number_at
+entry_in m t i bytes h few =
+    let page : (4096 * t + 8 * i) / 4096 ≡ t = omega (arith, few) in
+    let offset : (4096 * t + 8 * i) % 4096 ≡ 8 * i = omega (arith, few) in
+    rw (page, offset) (rw h refl)
+
+-- so there is one
+there_some : (o : Option (List ℕ)) → is_some o ≡ true → (f : List ℕ → ℕ) → option_map f o ≡ None → ⊥
+there_some (Some bytes) h f none = cc
+there_some None h f none = cc

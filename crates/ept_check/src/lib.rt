@@ -1,0 +1,14 @@
+//! Whether EPT tables in a memory lead each subject's accesses where its windows do, and nowhere else
+//! (Intel SDM volume 3, the extended page table mechanism), however the tables point at one another:
+//! each is entered once.
+#![tactic(auto)]
+
+mod compare;
+mod entering;
+mod entries;
+mod looked;
+mod types;
+mod windows;
+
+pub use entering::check;
+pub use types::{Checked, FaultKind, SubjectTables, TableFault};
