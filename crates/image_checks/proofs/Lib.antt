@@ -1,1 +1,4 @@
-
+pub mod SpansOfNumbers
+pub mod Wanted
+pub mod Fitting
+pub mod Telling
