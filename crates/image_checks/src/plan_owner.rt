@@ -1,0 +1,52 @@
+//! What an image's plan and events first differ in from a policy's.
+ghost use Rattle.std.specs.Prelude.{IfOk};
+ghost use Rattle.image_checks.specs.PlanFault.{IsPlanFault};
+ghost use Rattle.policy_lawful.specs.Resolution.{source_of};
+
+use crate::devices::device_fault;
+use crate::events::subject_fault;
+use crate::plan::has_plan;
+use expand_kernel::Expanded;
+use image_pack::Parts;
+use muen_num::NoMemory;
+use std::alloc::Global;
+
+/// Of what an image's plan and events first differ from a policy's.
+#[derive(Clone, Copy, Debug, PartialEq, Eq)]
+pub enum PlanOwner {
+    /// There are not as many subjects, or the CPUs, the plan or the region of the scheduler differ.
+    Plan,
+    /// The subject at this index: its name, CPU or group, or what it raises.
+    Subject(usize),
+    /// The device at this index, in the image or in the policy.
+    Device(usize),
+}
+
+/// What an image's plan and events first differ in from the policy's: how many subjects there are,
+/// then each subject in order, then the CPUs, the plan and the region of the scheduler, then each
+/// device in order. `None` where they are the policy's.
+///
+/// # Errors
+/// Memory is refused.
+pub fn plan_fault(
+    alloc: Global,
+    expanded: &Expanded,
+    image: &Parts,
+) -> Result<Option<PlanOwner>, NoMemory>
+    ensures { IfOk result (IsPlanFault (source_of expanded.now.lawful) image.now) }
+{
+    let lawful = expanded.lawful();
+    if image.image().subjects.len() != lawful.resolved().subjects().len() {
+        return Ok(Some(PlanOwner::Plan));
+    }
+    if let Some(index) = subject_fault(alloc, expanded, image)? {
+        return Ok(Some(PlanOwner::Subject(index)));
+    }
+    if !has_plan(alloc, lawful, image)? {
+        return Ok(Some(PlanOwner::Plan));
+    }
+    match device_fault(alloc, expanded, image)? {
+        None => Ok(None),
+        Some(index) => Ok(Some(PlanOwner::Device(index))),
+    }
+}
