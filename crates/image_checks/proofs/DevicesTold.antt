@@ -1,7 +1,7 @@
 -- A device agrees with what the policy has at its index just where it is that of the policy.
 use Rattle.std.proofs.Common.{◌≡◌, ◌∙◌, refl, sym, ap, ap₂, subst, arith, ℕ, zero, suc, ◌+◌, ◌*◌, ◌<◌, Bool, List, [], ◌∷◌, length, map, get_or, Option, Some, None}
 use Rattle.std.specs.Prelude.{option_and_then, option_map, slice_index_or}
-use Rattle.std.specs.List.{AllZip, filter_map}
+use Rattle.std.specs.List.{AllZip, filter_map, sum_by}
 use Rattle.std.proofs.lemmas.Option.{same_Some}
 use Rattle.event_emit.specs.Tables.{AreDevices, IsDevice, IsIrq, irq_named, ports_ends, span_ends}
 use Rattle.image_checks.proofs.Equal.{decides_same}
@@ -23,6 +23,8 @@ use Rattle.image_soundness.specs.Targets.{target_index}
 use Rattle.muen_num.specs.declared.devices.PortSpan.{PortSpan}
 use Rattle.muen_num.specs.declared.limits.TheConstants.{PAGE}
 use Rattle.muen_num.specs.declared.tag.Tag.{Tag}
+use Rattle.policy_lawful.proofs.KeptLimits.{limits_kept}
+use Rattle.policy_lawful.specs.Lawful.{IsLawful}
 use Rattle.policy_lawful.specs.Resolution.{IsResolved, Resolution, source_of}
 use Rattle.policy_lawful.specs.Thing.{device_memory, thing_tag}
 use Rattle.policy_types.specs.declared.source.Device.{Device}
@@ -184,3 +186,15 @@ device_told r resolved i made are k low there d m q at_d at_m at_q b t =
     (subst (λ x. Holds x (get_or i.devices k q)) at_d (subst (Holds d) at_q (device_is r resolved i is.0 d m q here h))))
     (λ h. device_agrees r resolved i is.0 d m q here (subst (λ x. Holds x q) (sym at_d) (subst (Holds (get_or r.devices k d)) (sym at_q) (h d q))))
     t
+
+-- ---- the whole
+
+-- the devices of the source policy are those of the resolved one
+pub same_devices : (r : Resolution) → r.devices ≡ (source_of r).devices
+unfolding source_of
+same_devices r = refl
+
+-- a lawful policy has few windows of devices
+pub few_windows : (r : Resolution) → IsLawful (source_of r) → 0 + sum_by (λ d. length d.memory) r.devices < 65536
+unfolding source_of
+few_windows r h = let kept = (limits_kept (source_of r) h.rule_20).device_windows in omega (arith, kept)

@@ -1,7 +1,8 @@
 -- What holds at each place of two lists.
 use Rattle.std.proofs.Common.{◌≡◌, ◌∙◌, ℕ, zero, suc, ◌<◌, ◌≤◌, ◌⊎◌, inl, inr, Bool, true, false, List, [], ◌∷◌, length, map, get_or, Option, Some, None, refl, sym, ap, ap₂, subst, arith}
-use Rattle.std.specs.Prelude.{slice_index_or, slice_get}
+use Rattle.std.specs.Prelude.{min, slice_index_or}
 use Rattle.std.specs.List.{All, AllZip, find, zip}
+use Rattle.std.proofs.lemmas.Bool.{cases_lt}
 use Rattle.std.proofs.lemmas.List.{get_or_default}
 use Rattle.std.proofs.lemmas.Slice.Zip.{length-zip}
 use Rattle.image_checks.specs.Firsts.{FailsFirst, HoldsAt}
@@ -79,3 +80,22 @@ no_first R xs ys k d h =
       | inl l ↦ d.here l (omega (arith, l, many)) (at_place R xs ys h k l)
       | inr l ↦ let m : k < length xs = omega (arith, l, many) in d.here m l (at_place R xs ys h k m)
     ]
+
+-- the first place at which it fails, where both have something
+pub differs_there : {X Y : Type 0} (R : X → Y → Type 0) (xs : List X) (ys : List Y) (k : ℕ) → k < length xs → k < length ys → ((j : ℕ) → j < k → AgreesAt R xs ys j) → (AgreesAt R xs ys k → ⊥) → DiffersFirst R xs ys k
+differs_there R xs ys k l m before here = record {
+  there = inl l;
+  before = λ j low. (omega (arith, l, low), omega (arith, m, low), before j low);
+  here = λ _ _ h. here h;
+}
+
+-- or where one has nothing more
+pub differs_behind : {X Y : Type 0} (R : X → Y → Type 0) (xs : List X) (ys : List Y) (k : ℕ) → k ≡ min (length xs) (length ys) → (length xs ≡ length ys → ⊥) → ((j : ℕ) → j < k → AgreesAt R xs ys j) → DiffersFirst R xs ys k
+differs_behind R xs ys k is apart before = record {
+  there = elim (cases_lt (length xs) (length ys)) [
+    | inl l ↦ inr (omega (arith, is, l))
+    | inr l ↦ inl (omega (arith, is, l, apart))
+  ];
+  before = λ j low. (omega (arith, is, low), omega (arith, is, low), before j low);
+  here = λ l m _. absurd (omega (arith, is, l, m));
+}

@@ -66,8 +66,8 @@ module _ (i : Image) (n : ℕ) (many : length i.contents ≡ length i.spans) whe
         let is : tag_at i n ≡ Some s.tag = tag_told ∙ ap (λ ss. option_map (λ (s : SpanPart). s.tag) (find (λ s. s.number == n) ss)) (sym are) ∙ ap (option_map (λ (s : SpanPart). s.tag)) (sym found) in
         decides_same (s.tag ≡ t) (tag_at i n ≡ Some t) b (λ e. is ∙ ap Some e) (λ h. same_Some s.tag t (sym is ∙ h)) (decided b (s.tag ≡ t) tells)
 
-    pub some_size : (s : SpanPart) → Some s ≡ find (λ s. s.number == n) spans → (pages size : ℕ) → pages ≡ s.pages → Decides (size_at i n ≡ Some size) (PAGE * pages == size)
-    some_size s found pages size same =
-        let is : size_at i n ≡ Some (PAGE * pages) = size_told ∙ ap (λ ss. option_map (λ (s : SpanPart). PAGE * s.pages) (find (λ s. s.number == n) ss)) (sym are) ∙ ap (option_map (λ (s : SpanPart). PAGE * s.pages)) (sym found) ∙ ap (λ k. Some (PAGE * k)) (sym same) in
-        decides_same (PAGE * pages ≡ size) (size_at i n ≡ Some size) (PAGE * pages == size) (λ e. is ∙ ap Some e) (λ h. same_Some (PAGE * pages) size (sym is ∙ h))
-        (decided (PAGE * pages == size) (PAGE * pages ≡ size) (Decides-eqb (PAGE * pages) size))
+    pub some_size : (s : SpanPart) → Some s ≡ find (λ s. s.number == n) spans → (bytes size : ℕ) → bytes ≡ PAGE * s.pages → Decides (size_at i n ≡ Some size) (bytes == size)
+    some_size s found bytes size same =
+        let is : size_at i n ≡ Some bytes = size_told ∙ ap (λ ss. option_map (λ (s : SpanPart). PAGE * s.pages) (find (λ s. s.number == n) ss)) (sym are) ∙ ap (option_map (λ (s : SpanPart). PAGE * s.pages)) (sym found) ∙ ap Some (sym same) in
+        decides_same (bytes ≡ size) (size_at i n ≡ Some size) (bytes == size) (λ e. is ∙ ap Some e) (λ h. same_Some bytes size (sym is ∙ h))
+        (decided (bytes == size) (bytes ≡ size) (Decides-eqb bytes size))

@@ -99,7 +99,7 @@ fn first_other(lawful: &Lawful, image: &Image, made: &[DevicePart]) -> Option<us
 {
     let declared = lawful.resolved().devices().len();
     let there = image.devices.len();
-    let both = if declared < there { declared } else { there };
+    let both = declared.min(there);
     for index in 0..both {
         if !is_device(lawful, image, made, index) {
             return Some(index);

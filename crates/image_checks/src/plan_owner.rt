@@ -1,6 +1,6 @@
 //! What an image's plan and events first differ in from a policy's.
 ghost use Rattle.std.specs.Prelude.{IfOk};
-ghost use Rattle.image_checks.specs.PlanFault.{IsPlanFault};
+ghost use Rattle.image_checks.specs.PlanFault.{HasAsMany, HasSubjects, IsPlanFault};
 ghost use Rattle.policy_lawful.specs.Resolution.{source_of};
 
 use crate::devices::device_fault;
@@ -22,6 +22,25 @@ pub enum PlanOwner {
     Device(usize),
 }
 
+// What differs where there are as many subjects, and each is the policy's.
+fn beside_subjects(
+    alloc: Global,
+    expanded: &Expanded,
+    image: &Parts,
+) -> Result<Option<PlanOwner>, NoMemory>
+    requires many { HasAsMany (source_of expanded.now.lawful) image.now }
+    requires subjects { HasSubjects (source_of expanded.now.lawful) image.now }
+    ensures { IfOk result (IsPlanFault (source_of expanded.now.lawful) image.now) }
+{
+    if !has_plan(alloc, expanded.lawful(), image)? {
+        return Ok(Some(PlanOwner::Plan));
+    }
+    match device_fault(alloc, expanded, image)? {
+        None => Ok(None),
+        Some(index) => Ok(Some(PlanOwner::Device(index))),
+    }
+}
+
 /// What an image's plan and events first differ in from the policy's: how many subjects there are,
 /// then each subject in order, then the CPUs, the plan and the region of the scheduler, then each
 /// device in order. `None` where they are the policy's.
@@ -39,14 +58,8 @@ pub fn plan_fault(
     if image.image().subjects.len() != lawful.resolved().subjects().len() {
         return Ok(Some(PlanOwner::Plan));
     }
-    if let Some(index) = subject_fault(alloc, expanded, image)? {
-        return Ok(Some(PlanOwner::Subject(index)));
-    }
-    if !has_plan(alloc, lawful, image)? {
-        return Ok(Some(PlanOwner::Plan));
-    }
-    match device_fault(alloc, expanded, image)? {
-        None => Ok(None),
-        Some(index) => Ok(Some(PlanOwner::Device(index))),
+    match subject_fault(alloc, expanded, image)? {
+        None => beside_subjects(alloc, expanded, image),
+        Some(index) => Ok(Some(PlanOwner::Subject(index))),
     }
 }

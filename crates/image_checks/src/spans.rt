@@ -1,5 +1,5 @@
 //! The spans of an image by their numbers: their printed names and sizes.
-ghost use Rattle.std.specs.Prelude.{◌≡◌, ◌==◌, length, option_map, Some};
+ghost use Rattle.std.specs.Prelude.{◌≡◌, ◌*◌, ◌==◌, length, option_map, Some};
 ghost use Rattle.std.specs.List.{find};
 ghost use Rattle.image_checks.specs.Firsts.{Decides};
 ghost use Rattle.image_checks.specs.Agreement.{size_at};
@@ -14,6 +14,14 @@ fn span_at(spans: &[SpanPart], number: u16) -> Option<&SpanPart>
     ensures { option_map (λ s. s.now) result ≡ find (λ s. s.number == number) spans.now }
 {
     spans.iter().find(|span| span.number == number)
+}
+
+// How many bytes a span has.
+fn size_of(span: &SpanPart) -> u64
+    ensures { result ≡ PAGE * span.now.pages }
+{
+    let pages = span.pages;
+    PAGE * u64::from(pages)
 }
 
 /// Whether the span of a number has this printed name.
@@ -34,9 +42,6 @@ pub(crate) fn has_size(image: &Image, number: u16, size: u64) -> bool
 {
     match span_at(image.spans.items(), number) {
         None => false,
-        Some(span) => {
-            let pages = span.pages;
-            PAGE * u64::from(pages) == size
-        }
+        Some(span) => size_of(span) == size,
     }
 }

@@ -1,6 +1,10 @@
-use Rattle.std.proofs.Common.{arith}
+use Rattle.std.proofs.Common.{◌≡◌, ◌∙◌, ap, arith, get_or, subst}
 use Rattle.image_checks.proofs.DevicesTold.{device_told, made_long}
 use Rattle.image_checks.proofs.devices.is_device.Goals as goal
+use Rattle.image_pack.specs.declared.parts.DevicePart.{DevicePart}
+use Rattle.policy_lawful.specs.Resolution.{IsResolved, Resolution}
+use Rattle.policy_types.specs.declared.source.Device.{Device}
+use Rattle.std.proofs.Common.{List}
 
 pub bounds-made-index : goal.bounds-made-index
 bounds-made-index c =
@@ -9,4 +13,13 @@ bounds-made-index c =
     omega (arith, many, low)
 
 pub returns : goal.returns
-returns c = ?
+returns c =
+    let same = c.resolved-policy.ensures.value in
+    let devices = c.devices.ensures.value ∙ ap (λ (r : Resolution). r.devices) same in
+    device_told c.args.lawful.now (subst IsResolved same c.devices.ensures.resolved) c.args.image.now c.args.made.now c.requires.made
+    c.args.index c.requires.declared c.requires.there
+    c.index-devices-index.result c.index-made-index.result c.index-items-index.result
+    (c.index-devices-index.is ∙ ap (λ (ds : List Device). get_or ds c.args.index c.index-devices-index.result) devices)
+    c.index-made-index.is
+    (c.index-items-index.is ∙ ap (λ (qs : List DevicePart). get_or qs c.args.index c.index-items-index.result) c.items.ensures)
+    c.agrees.result c.agrees.ensures

@@ -8,4 +8,4 @@ returns-in-None c =
 pub returns-in-Some : goal.returns-in-Some
 returns-in-Some c =
     some_size c.args.image.now c.args.number c.requires c.items.result.now c.items.ensures c.in-Some.span.now (rw c.in-Some.is at c.span_at.ensures)
-    c.from.result c.args.size c.from.ensures
+    c.size_of.result c.args.size c.size_of.ensures
