@@ -1,13 +1,13 @@
 -- A device agrees with what the policy has at its index just where it is that of the policy.
 use Rattle.std.proofs.Common.{◌≡◌, ◌∙◌, refl, sym, ap, ap₂, subst, arith, ℕ, zero, suc, ◌+◌, ◌*◌, ◌<◌, Bool, List, [], ◌∷◌, length, map, get_or, Option, Some, None}
-use Rattle.std.specs.Prelude.{option_and_then, option_map, slice_index_or}
+use Rattle.std.specs.Prelude.{option_and_then, option_map}
 use Rattle.std.specs.List.{AllZip, filter_map, sum_by}
 use Rattle.std.proofs.lemmas.Option.{same_Some}
-use Rattle.event_emit.specs.Tables.{AreDevices, IsDevice, IsIrq, irq_named, ports_ends, span_ends}
+use Rattle.event_emit.specs.Tables.{AreDevices, IsDevice, IsIrq, span_ends}
 use Rattle.image_checks.proofs.Equal.{decides_same}
 use Rattle.image_checks.proofs.Places.{agrees_there, same_unmapped}
 use Rattle.image_checks.proofs.SubjectsTold.{one_target, same_reached}
-use Rattle.image_checks.specs.Agreement.{AreMade, DeviceAgrees, IsWindowOf, size_at}
+use Rattle.image_checks.specs.Agreement.{AreMade, DeviceAgrees, IsWindowOf}
 use Rattle.image_checks.specs.Firsts.{Decides}
 use Rattle.image_checks.specs.PlanFault.{AgreesAt}
 use Rattle.image_pack.specs.Codes.{part_name}
@@ -15,9 +15,8 @@ use Rattle.image_pack.specs.declared.parts.DevicePart.{DevicePart}
 use Rattle.image_pack.specs.declared.parts.Image.{Image}
 use Rattle.image_pack.specs.declared.parts.IrqPart.{IrqPart}
 use Rattle.image_pack.specs.declared.parts.WindowPart.{WindowPart}
-use Rattle.image_soundness.specs.Bench.{bench_device as device_of}
 use Rattle.image_soundness.specs.Memory.{Span, span_at}
-use Rattle.image_soundness.specs.Named.{bench_device, tag_at, window_memory}
+use Rattle.image_soundness.specs.Named.{tag_at, window_memory}
 use Rattle.image_soundness.specs.Sound.{IsDeviceOf, IsIrqOf}
 use Rattle.image_soundness.specs.Targets.{target_index}
 use Rattle.muen_num.specs.declared.devices.PortSpan.{PortSpan}

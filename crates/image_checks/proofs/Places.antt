@@ -1,7 +1,7 @@
 -- What holds at each place of two lists.
-use Rattle.std.proofs.Common.{◌≡◌, ◌∙◌, ℕ, zero, suc, ◌<◌, ◌≤◌, ◌⊎◌, inl, inr, Bool, true, false, List, [], ◌∷◌, length, map, get_or, Option, Some, None, refl, sym, ap, ap₂, subst, arith}
+use Rattle.std.proofs.Common.{◌≡◌, ℕ, zero, suc, ◌<◌, inl, inr, List, [], ◌∷◌, length, map, refl, ap, ap₂, subst, arith}
 use Rattle.std.specs.Prelude.{min, slice_index_or}
-use Rattle.std.specs.List.{All, AllZip, find, zip}
+use Rattle.std.specs.List.{All, AllZip, zip}
 use Rattle.std.proofs.lemmas.Bool.{cases_lt}
 use Rattle.std.proofs.lemmas.List.{get_or_default}
 use Rattle.std.proofs.lemmas.Slice.Zip.{length-zip}

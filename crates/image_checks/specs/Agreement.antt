@@ -1,5 +1,5 @@
 -- When a subject and a device of an image agree with what the policy has at their indexes.
-use Rattle.std.specs.Prelude.{◌≡◌, ℕ, ◌*◌, List, length, map, zip, Option, Some, option_map}
+use Rattle.std.specs.Prelude.{◌≡◌, ℕ, ◌*◌, List, length, zip, Option, Some, option_map}
 use Rattle.std.specs.List.{AllZip}
 use Rattle.event_emit.specs.Tables.{AreDevices}
 use Rattle.event_emit.specs.declared.event_tables.EventTables.{EventTables}

@@ -1,5 +1,5 @@
 -- What an image's plan and events first differ in from a policy's.
-use Rattle.std.specs.Prelude.{◌≡◌, ℕ, ◌<◌, ◌≢◌, ◌⊎◌, List, length, zip, slice_index_or, Option, Some, None, option_map}
+use Rattle.std.specs.Prelude.{◌≡◌, ℕ, ◌<◌, ◌⊎◌, List, length, zip, slice_index_or, Option, Some, None, option_map}
 use Rattle.std.specs.List.{AllZip}
 use Rattle.image_checks.specs.Firsts.{FailsFirst}
 use Rattle.image_checks.specs.declared.plan_owner.PlanOwner.{PlanOwner}

@@ -36,12 +36,7 @@ fn same_events(a: &[Option<EventPart>], b: &[Option<EventPart>]) -> bool
 }
 
 // Whether a subject has this name and CPU, is in this group and raises these events.
-fn agrees(
-    subject: &Subject,
-    group: Option<usize>,
-    tables: &EventTables,
-    part: &SubjectPart,
-) -> bool
+fn agrees(subject: &Subject, group: Option<usize>, tables: &EventTables, part: &SubjectPart) -> bool
     ensures { Decides (SubjectAgrees subject.now group tables.now part.now) result }
 {
     part.name == subject.name
@@ -52,12 +47,7 @@ fn agrees(
 }
 
 // Whether the subject at an index is that of the policy, which has these tables of events.
-fn is_subject(
-    lawful: &Lawful,
-    tables: &[EventTables],
-    parts: &[SubjectPart],
-    index: usize,
-) -> bool
+fn is_subject(lawful: &Lawful, tables: &[EventTables], parts: &[SubjectPart], index: usize) -> bool
     requires tables { AllZip (AreTables lawful.now) lawful.now.subjects tables.now }
     requires many { length parts.now ≡ length lawful.now.subjects }
     requires full { All IsFull parts.now }
@@ -66,7 +56,12 @@ fn is_subject(
 {
     let policy = lawful.resolved();
     let group = group_with(policy.scheduling().groups.items(), index);
-    agrees(&policy.subjects()[index], group, &tables[index], &parts[index])
+    agrees(
+        &policy.subjects()[index],
+        group,
+        &tables[index],
+        &parts[index],
+    )
 }
 
 // The first subject that is not that of the policy, which has these tables of events.

@@ -13,7 +13,6 @@ use plan_emit::plan;
 use policy_lawful::Lawful;
 use std::alloc::Global;
 
-
 fn same_groups(a: &[GroupPart], b: &[GroupPart]) -> bool
     ensures { Decides (a.now ≡ b.now) result }
 {
@@ -29,7 +28,8 @@ fn same_majors(a: &[Major], b: &[Major]) -> bool
 fn same_plan(a: &Plan, b: &Plan) -> bool
     ensures { Decides (a.now ≡ b.now) result }
 {
-    same_groups(a.groups.items(), b.groups.items()) && same_majors(a.majors.items(), b.majors.items())
+    same_groups(a.groups.items(), b.groups.items())
+        && same_majors(a.majors.items(), b.majors.items())
 }
 
 // Whether a plan is that of the policy.

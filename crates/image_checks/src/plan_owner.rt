@@ -11,7 +11,7 @@ use image_pack::Parts;
 use muen_num::NoMemory;
 use std::alloc::Global;
 
-/// Of what an image's plan and events first differ from a policy's.
+/// What an image's plan and events first differ in from a policy's.
 #[derive(Clone, Copy, Debug, PartialEq, Eq)]
 pub enum PlanOwner {
     /// There are not as many subjects, or the CPUs, the plan or the region of the scheduler differ.

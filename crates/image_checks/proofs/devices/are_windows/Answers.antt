@@ -1,4 +1,4 @@
-use Rattle.std.proofs.Common.{◌≡◌, ℕ, arith, below_more, get_or, subst, sym}
+use Rattle.std.proofs.Common.{arith, below_more, get_or, subst, sym}
 use Rattle.image_checks.proofs.Places.{agrees_there, as_many, at_place, of_places}
 use Rattle.image_checks.proofs.devices.are_windows.Goals as goal
 use Rattle.image_checks.specs.Agreement.{IsWindowOf}

@@ -1,4 +1,4 @@
-use Rattle.std.proofs.Common.{◌≡◌, ◌∙◌, ap, subst, sym, length, List}
+use Rattle.std.proofs.Common.{◌≡◌, subst, sym, length, List}
 use Rattle.image_checks.proofs.DevicesTold.{few_windows, same_devices}
 use Rattle.image_checks.proofs.SpansTold.{contents_many}
 use Rattle.image_checks.proofs.devices.device_fault.Goals as goal

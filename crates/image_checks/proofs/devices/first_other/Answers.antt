@@ -1,4 +1,4 @@
-use Rattle.std.proofs.Common.{◌≡◌, ◌∙◌, ap, arith, below_more, length, min, sym, List}
+use Rattle.std.proofs.Common.{◌∙◌, ap, arith, below_more, length, List}
 use Rattle.image_checks.proofs.Places.{differs_behind, differs_there, of_places}
 use Rattle.image_checks.proofs.devices.first_other.Goals as goal
 use Rattle.image_checks.specs.PlanFault.{AgreesAt}

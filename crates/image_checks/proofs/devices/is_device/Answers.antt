@@ -1,4 +1,4 @@
-use Rattle.std.proofs.Common.{◌≡◌, ◌∙◌, ap, arith, get_or, subst}
+use Rattle.std.proofs.Common.{◌∙◌, ap, arith, get_or, subst}
 use Rattle.image_checks.proofs.DevicesTold.{device_told, made_long}
 use Rattle.image_checks.proofs.devices.is_device.Goals as goal
 use Rattle.image_pack.specs.declared.parts.DevicePart.{DevicePart}

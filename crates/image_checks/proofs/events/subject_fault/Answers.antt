@@ -1,4 +1,4 @@
-use Rattle.std.proofs.Common.{◌≡◌, ◌∙◌, ap, subst, sym, List}
+use Rattle.std.proofs.Common.{◌∙◌, ap, subst, sym, List}
 use Rattle.std.specs.List.{All}
 use Rattle.image_checks.proofs.SubjectsTold.{are_full}
 use Rattle.image_checks.proofs.events.subject_fault.Goals as goal

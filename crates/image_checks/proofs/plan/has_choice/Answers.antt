@@ -1,4 +1,4 @@
-use Rattle.std.proofs.Common.{◌≡◌, ◌∙◌, sym, ap}
+use Rattle.std.proofs.Common.{◌∙◌, sym, ap}
 use Rattle.image_checks.proofs.PlanTold.{lacks_choice, no_choice, other_choice, some_choice}
 use Rattle.image_checks.proofs.plan.has_choice.Goals as goal
 use Rattle.policy_lawful.specs.Resolution.{Resolution}

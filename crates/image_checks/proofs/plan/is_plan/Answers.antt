@@ -1,4 +1,4 @@
-use Rattle.std.proofs.Common.{◌∙◌, subst}
+use Rattle.std.proofs.Common.{subst}
 use Rattle.image_checks.proofs.PlanTold.{plan_told}
 use Rattle.image_checks.proofs.plan.is_plan.Goals as goal
 use Rattle.policy_lawful.specs.Resolution.{IsResolved}

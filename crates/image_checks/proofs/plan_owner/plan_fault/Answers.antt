@@ -1,4 +1,4 @@
-use Rattle.std.proofs.Common.{◌≡◌, ◌∙◌, ap, arith, inl, length, List}
+use Rattle.std.proofs.Common.{◌∙◌, ap, arith, inl, length, List}
 use Rattle.image_checks.proofs.plan_owner.plan_fault.Goals as goal
 use Rattle.image_checks.specs.PlanFault.{HasAsMany}
 use Rattle.image_pack.specs.declared.parts.Image.{Image}
