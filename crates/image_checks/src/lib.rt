@@ -8,4 +8,4 @@ mod plan;
 mod plan_owner;
 mod spans;
 
-pub use plan_owner::{PlanOwner, plan_fault};
+pub use plan_owner::{PlanOwner, plan_fault, plan_faults_tell};

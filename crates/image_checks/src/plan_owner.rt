@@ -1,7 +1,11 @@
 //! What an image's plan and events first differ in from a policy's.
-ghost use Rattle.std.specs.Prelude.{IfOk};
+ghost use Rattle.std.specs.Prelude.{◌≡◌, IfOk, Option};
 ghost use Rattle.image_checks.specs.PlanFault.{HasAsMany, HasSubjects, IsPlanFault};
+ghost use Rattle.image_checks.specs.declared.plan_owner.PlanOwner.{PlanOwner};
+ghost use Rattle.image_pack.specs.declared.parts.Image.{Image};
+ghost use Rattle.image_soundness.specs.Sound.{HasPlanAndEvents};
 ghost use Rattle.policy_lawful.specs.Resolution.{source_of};
+ghost use Rattle.policy_types.specs.declared.source.Source.{Source};
 
 use crate::devices::device_fault;
 use crate::events::subject_fault;
@@ -63,3 +67,12 @@ pub fn plan_fault(
         Some(index) => Ok(Some(PlanOwner::Subject(index))),
     }
 }
+
+/// What an answer tells.
+#[tactic(auto, using(crate::proofs::PlanFaults::a_plan_fault_is_none_of_a_sound_image, crate::proofs::PlanFaults::one_plan_fault))]
+pub fn plan_faults_tell()
+    // Where an owner is found, plan and events are not the policy's.
+    ensures apart { (p : Source) (i : Image) (owner : PlanOwner) → IsPlanFault p i (Some owner) → HasPlanAndEvents p i → ⊥ }
+    // There is one answer for a policy and an image.
+    ensures one { (p : Source) (i : Image) (a b : Option PlanOwner) → IsPlanFault p i a → IsPlanFault p i b → a ≡ b }
+{}
