@@ -2,3 +2,11 @@ pub mod SpansOfNumbers
 pub mod Wanted
 pub mod Fitting
 pub mod Telling
+pub mod DevicesTold
+pub mod Equal
+pub mod OnePlan
+pub mod Places
+pub mod PlanFaults
+pub mod PlanTold
+pub mod SpansTold
+pub mod SubjectsTold

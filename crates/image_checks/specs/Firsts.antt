@@ -7,6 +7,10 @@ abbrev pub Decides : Type 0 → Bool → Type 0
 Decides P true = P
 Decides P false = P → ⊥
 
+-- it holds of what stands at an index
+abbrev pub HoldsAt : {X : Type 0} → (X → Type 0) → List X → ℕ → Type 0
+HoldsAt {X} P xs k = (d : X) → P (slice_index_or xs k d)
+
 -- it holds of all before this index, and not there
 pub record FailsFirst {X : Type 0} (P : X → Type 0) (xs : List X) (k : ℕ) : Type 0 where
   pub within : k < length xs

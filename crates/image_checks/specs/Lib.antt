@@ -1,2 +1,4 @@
+pub mod Agreement
 pub mod Firsts
 pub mod Contents
+pub mod PlanFault

@@ -5,3 +5,10 @@
 mod contents;
 
 pub use contents::contents_fault;
+mod devices;
+mod events;
+mod plan;
+mod plan_owner;
+mod spans;
+
+pub use plan_owner::{PlanOwner, plan_fault, plan_faults_tell};

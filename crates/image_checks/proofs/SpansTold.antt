@@ -1,0 +1,73 @@
+-- What the span of a number tells, where each span has its bytes.
+use Rattle.std.proofs.Common.{◌≡◌, ◌∙◌, ℕ, ◌*◌, Bool, true, false, cond, List, [], ◌∷◌, length, Some, None, refl, sym, ap, arith}
+use Rattle.std.specs.Prelude.{◌==◌, option_map}
+use Rattle.std.specs.List.{find, zip}
+use Rattle.std.specs.Bool.{Decides as Tells}
+use Rattle.std.proofs.lemmas.Bool.Decides.{Decides-eqb}
+use Rattle.std.proofs.lemmas.Option.{same_Some}
+use Rattle.std.proofs.lemmas.Slice.Zip.{AllZip-long}
+use Rattle.image_checks.proofs.Equal.{decided, decides_same}
+use Rattle.image_checks.specs.Agreement.{size_at}
+use Rattle.image_checks.specs.Firsts.{Decides}
+use Rattle.image_pack.proofs.PartsKeep.{parts_keep}
+use Rattle.image_pack.specs.ImageConditions.{IsContent}
+use Rattle.image_pack.specs.Parts.{IsParts}
+use Rattle.image_pack.specs.declared.parts.Image.{Image}
+use Rattle.image_pack.specs.declared.parts.SpanPart.{SpanPart}
+use Rattle.image_soundness.specs.Memory.{span_at}
+use Rattle.image_soundness.specs.Named.{tag_at}
+use Rattle.muen_num.proofs.Lists.{option_map-option_map}
+use Rattle.muen_num.specs.declared.tag.Tag.{Tag}
+use Rattle.muen_num.specs.declared.limits.TheConstants.{PAGE}
+
+-- each span has its bytes
+pub contents_many : (i : Image) → IsParts i → length i.contents ≡ length i.spans
+contents_many i h = AllZip-long IsContent i.spans i.contents (parts_keep i h).contents
+
+-- the first pair whose first passes has the first that passes
+first_found : {X Y : Type 0} (test : X → Bool) (xs : List X) (ys : List Y) → length ys ≡ length xs → option_map (λ (e : X × Y). e.0) (find (λ e. test e.0) (zip xs ys)) ≡ find test xs
+first_found test [] [] many = refl
+first_found test [] (y ∷ ys) many = absurd (omega (arith, many))
+first_found test (x ∷ xs) [] many = absurd (omega (arith, many))
+first_found {X} {Y} test (x ∷ xs) (y ∷ ys) many =
+    elim (test x) as (λ b. option_map (λ (e : X × Y). e.0) (cond b (Some (x, y)) (find (λ e. test e.0) (zip xs ys))) ≡ cond b (Some x) (find test xs)) [
+      | true ↦ refl
+      | false ↦ first_found test xs ys (omega (arith, many))
+    ]
+
+module _ (i : Image) (n : ℕ) (many : length i.contents ≡ length i.spans) where
+  told : {Y : Type 0} (f : SpanPart → Y) → option_map (λ e. f e.0) (span_at i n) ≡ option_map f (find (λ s. s.number == n) i.spans)
+  told f =
+      sym (option_map-option_map f (λ (e : SpanPart × List ℕ). e.0) (span_at i n))
+      ∙ ap (option_map f) (first_found (λ (s : SpanPart). s.number == n) i.spans i.contents many)
+
+  -- its printed name and its size
+  tag_told : tag_at i n ≡ option_map (λ s. s.tag) (find (λ s. s.number == n) i.spans)
+  tag_told = told (λ s. s.tag)
+
+  size_told : size_at i n ≡ option_map (λ s. PAGE * s.pages) (find (λ s. s.number == n) i.spans)
+  size_told = told (λ s. PAGE * s.pages)
+
+  module _ (spans : List SpanPart) (are : spans ≡ i.spans) where
+    -- where none has the number
+    pub no_tag : None ≡ find (λ s. s.number == n) spans → (t : Tag) → tag_at i n ≡ Some t → ⊥
+    no_tag found t h =
+        let e : None ≡ Some t = ap (option_map (λ (s : SpanPart). s.tag)) found ∙ ap (λ ss. option_map (λ (s : SpanPart). s.tag) (find (λ s. s.number == n) ss)) are ∙ sym tag_told ∙ h in
+        absurd (cc (e))
+
+    pub no_size : None ≡ find (λ s. s.number == n) spans → (size : ℕ) → size_at i n ≡ Some size → ⊥
+    no_size found size h =
+        let e : None ≡ Some size = ap (option_map (λ (s : SpanPart). PAGE * s.pages)) found ∙ ap (λ ss. option_map (λ (s : SpanPart). PAGE * s.pages) (find (λ s. s.number == n) ss)) are ∙ sym size_told ∙ h in
+        absurd (cc (e))
+
+    -- where one has it
+    pub some_tag : (s : SpanPart) → Some s ≡ find (λ s. s.number == n) spans → (t : Tag) (b : Bool) → Tells b (s.tag ≡ t) → Decides (tag_at i n ≡ Some t) b
+    some_tag s found t b tells =
+        let is : tag_at i n ≡ Some s.tag = tag_told ∙ ap (λ ss. option_map (λ (s : SpanPart). s.tag) (find (λ s. s.number == n) ss)) (sym are) ∙ ap (option_map (λ (s : SpanPart). s.tag)) (sym found) in
+        decides_same (s.tag ≡ t) (tag_at i n ≡ Some t) b (λ e. is ∙ ap Some e) (λ h. same_Some s.tag t (sym is ∙ h)) (decided b (s.tag ≡ t) tells)
+
+    pub some_size : (s : SpanPart) → Some s ≡ find (λ s. s.number == n) spans → (bytes size : ℕ) → bytes ≡ PAGE * s.pages → Decides (size_at i n ≡ Some size) (bytes == size)
+    some_size s found bytes size same =
+        let is : size_at i n ≡ Some bytes = size_told ∙ ap (λ ss. option_map (λ (s : SpanPart). PAGE * s.pages) (find (λ s. s.number == n) ss)) (sym are) ∙ ap (option_map (λ (s : SpanPart). PAGE * s.pages)) (sym found) ∙ ap Some (sym same) in
+        decides_same (bytes ≡ size) (size_at i n ≡ Some size) (bytes == size) (λ e. is ∙ ap Some e) (λ h. same_Some bytes size (sym is ∙ h))
+        (decided (bytes == size) (bytes ≡ size) (Decides-eqb bytes size))
