@@ -1,1 +1,3 @@
+pub mod Agree
 pub mod Firsts
+pub mod OwnPages
