@@ -7,7 +7,8 @@ use Rattle.std.proofs.lemmas.Bool.Decides.{nat_tests}
 use Rattle.std.proofs.lemmas.List.Folds.{list_all-append, list_any-append}
 use Rattle.std.proofs.lemmas.Map.Views.{any-filter_same}
 use Rattle.expand_grants.specs.Resources.{Msr, are_granted, has_port, is_granted, msr_grant, msrs_in, msrs_of, port_ranges_of, ports_of}
-use Rattle.image_checks.specs.Agree.{BitmapsAgree, MsrAgrees, MsrsAgree, PortsAgree, range_size}
+use Rattle.image_checks.specs.Agree.{BitmapsAgree, MsrAgrees, MsrsAgree, PortsAgree}
+use Rattle.image_checks.specs.declared.bitmaps.TheConstants.{RANGE_SIZE}
 use Rattle.image_pack.specs.declared.parts.Image.{Image}
 use Rattle.image_pack.specs.declared.parts.SubjectPart.{SubjectPart}
 use Rattle.image_soundness.specs.Memory.{page_at}
@@ -199,10 +200,10 @@ at_number bitmap msrs first count index write h low high =
     let same : first + (index - first) ≡ index = omega (arith, low) in
     subst (λ n. MsrAgrees bitmap msrs n write) same (h (index - first) write (omega (arith, low, high)))
 
-pub msrs_kept : (bitmap : List ℕ) (ranges : List Msrs) (msrs : List MsrGrant) → msrs ≡ map msr_grant ranges → list_all is_msr_range ranges ≡ true → MsrsAgree bitmap msrs 0 range_size → MsrsAgree bitmap msrs HIGH_MSR_FIRST range_size → (index : ℕ) (write : Bool) → MsrAgrees bitmap msrs index write
+pub msrs_kept : (bitmap : List ℕ) (ranges : List Msrs) (msrs : List MsrGrant) → msrs ≡ map msr_grant ranges → list_all is_msr_range ranges ≡ true → MsrsAgree bitmap msrs 0 RANGE_SIZE → MsrsAgree bitmap msrs HIGH_MSR_FIRST RANGE_SIZE → (index : ℕ) (write : Bool) → MsrAgrees bitmap msrs index write
 msrs_kept bitmap ranges msrs are covered low high index write =
     elim (cases_lt LOW_MSR_LAST index) [
-      | inr l ↦ at_number bitmap msrs 0 range_size index write low (omega arith) (omega (arith, l))
+      | inr l ↦ at_number bitmap msrs 0 RANGE_SIZE index write low (omega arith) (omega (arith, l))
       | inl above ↦
           let outside : (HIGH_MSR_FIRST ≤ index → index ≤ HIGH_MSR_LAST → ⊥) → MsrAgrees bitmap msrs index write = λ out. exits_outside bitmap index write above out ∙ sym (ap not (ap (λ g. is_msr_granted g index write) are ∙ none_outside ranges index write covered above out)) in
           elim (cases_lt index HIGH_MSR_FIRST) [
@@ -210,7 +211,7 @@ msrs_kept bitmap ranges msrs are covered low high index write =
             | inr f ↦
                 elim (cases_lt HIGH_MSR_LAST index) [
                   | inl l ↦ outside (λ a b. absurd (omega (arith, b, l)))
-                  | inr l ↦ at_number bitmap msrs HIGH_MSR_FIRST range_size index write high f (omega (arith, l))
+                  | inr l ↦ at_number bitmap msrs HIGH_MSR_FIRST RANGE_SIZE index write high f (omega (arith, l))
                 ]
           ]
     ]

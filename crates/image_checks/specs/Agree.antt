@@ -3,6 +3,7 @@ use Rattle.std.specs.Prelude.{◌≡◌, ℕ, ◌+◌, ◌-◌, ◌<◌, ◌≤�
 use Rattle.std.specs.List.{flat_map, list_any}
 use Rattle.std.specs.List.Sorted.{IsPermutation}
 use Rattle.expand_grants.specs.Resources.{has_port}
+use Rattle.image_checks.specs.declared.bitmaps.TheConstants.{RANGE_SIZE}
 use Rattle.machine_layout.specs.Exits.{area_index, area_value, msr_exits, port_exits}
 use Rattle.msrbm_emit.specs.Msrs.{is_granted}
 use Rattle.muen_num.specs.Range.{numbers_below}
@@ -24,15 +25,11 @@ MsrAgrees bitmap msrs index write = msr_exits bitmap index write ≡ not (is_gra
 abbrev pub MsrsAgree : List ℕ → List MsrGrant → ℕ → ℕ → Type 0
 MsrsAgree bitmap msrs first count = (k : ℕ) (write : Bool) → k < count → MsrAgrees bitmap msrs (first + k) write
 
--- how many MSRs each range of a bitmap has
-abbrev pub range_size : ℕ
-range_size = 0x2000
-
 -- I/O bitmaps A and B, and the MSR bitmap
 pub record BitmapsAgree (a b msr_bitmap : List ℕ) (ranges : List PortRange) (msrs : List MsrGrant) : Type 0 where
   pub ports : PortsAgree a b ranges
-  pub low : MsrsAgree msr_bitmap msrs 0 range_size
-  pub high : MsrsAgree msr_bitmap msrs HIGH_MSR_FIRST range_size
+  pub low : MsrsAgree msr_bitmap msrs 0 RANGE_SIZE
+  pub high : MsrsAgree msr_bitmap msrs HIGH_MSR_FIRST RANGE_SIZE
 
 -- ---- MSR areas
 
