@@ -10,3 +10,10 @@ pub mod PlanFaults
 pub mod PlanTold
 pub mod SpansTold
 pub mod SubjectsTold
+pub mod AreaLaws
+pub mod BitmapLaws
+pub mod Decided
+pub mod OwnPageLaws
+pub mod PageLaws
+pub mod SubjectAt
+pub mod SubjectTests

@@ -2,3 +2,6 @@ pub mod Agreement
 pub mod Firsts
 pub mod Contents
 pub mod PlanFault
+pub mod Agree
+pub mod Firsts
+pub mod OwnPages

@@ -1,0 +1,13 @@
+use Rattle.std.proofs.Common.{◌<◌, ℕ}
+use Rattle.std.specs.Prelude.{slice_index_or, zip}
+use Rattle.image_pack.specs.declared.parts.SubjectPart.{SubjectPart}
+use Rattle.image_soundness.specs.Sound.{HasArea}
+use Rattle.policy_lawful.specs.Resolution.{source_of}
+use Rattle.policy_types.specs.declared.source.Subject.{Subject}
+use Rattle.image_checks.proofs.areas.first_by_area.Given as goal
+
+-- those so far have their areas
+abbrev pub invariant-loop-index : goal.invariant-loop-index
+invariant-loop-index l =
+    (j : ℕ) (d : Subject × SubjectPart) → j < l.index
+    → HasArea l.fn.image (slice_index_or (zip (source_of l.fn.expanded.lawful).subjects l.fn.image.subjects) j d).0 (slice_index_or (zip (source_of l.fn.expanded.lawful).subjects l.fn.image.subjects) j d).1
