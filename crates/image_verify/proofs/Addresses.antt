@@ -1,11 +1,10 @@
 -- Where things lie in an image that has the contents of a policy: where the first span by number of their kind and name does.
-use Rattle.std.proofs.Common.{◌≡◌, ℕ, zero, suc, ◌+◌, Bool, true, false, cond, List, [], ◌∷◌, ◌++◌, length, map, Option, Some, None, refl, sym, ap, ap₂, subst, ◌∙◌, arith}
-use Rattle.std.specs.Prelude.{◌==◌, ◌&&◌, ◌||◌, not, option_and_then, option_map, slice_get}
+use Rattle.std.proofs.Common.{◌≡◌, ℕ, zero, suc, Bool, true, false, cond, List, [], ◌∷◌, ◌++◌, length, map, Option, Some, None, refl, sym, ap, ap₂, subst, ◌∙◌, arith}
+use Rattle.std.specs.Prelude.{◌==◌, not, option_and_then, option_map, slice_get}
 use Rattle.std.specs.Option.{option_map_or}
 use Rattle.std.specs.List.{AllZip, Contains, cons_option, filter, filter_map, find, flat_map, list_any, zip}
-use Rattle.std.specs.Str.{bytes_eq}
 use Rattle.std.proofs.lemmas.Bool.{or_parts, true≢false}
-use Rattle.std.proofs.lemmas.Option.{slice_get-map, slice_get_within}
+use Rattle.std.proofs.lemmas.Option.{slice_get-map}
 use Rattle.std.proofs.lemmas.Slice.Zip.{AllZip-long}
 use Rattle.image_pack.specs.ImageConditions.{IsContent, KeepsConditions}
 use Rattle.image_pack.specs.declared.parts.Image.{Image}
@@ -13,16 +12,16 @@ use Rattle.image_pack.specs.declared.parts.SpanKind.{SpanKind}
 use Rattle.image_pack.specs.declared.parts.SpanKind.TheVariants.{Own, Channel as ChannelSpan, Provided as ProvidedSpan, Device as DeviceSpan, Kernel}
 use Rattle.image_pack.specs.declared.parts.SpanPart.{SpanPart}
 use Rattle.image_pack.specs.declared.parts.SubjectPart.{SubjectPart}
-use Rattle.image_soundness.specs.Memory.{Span, address_at, by_number, span_at, spans_in}
-use Rattle.image_soundness.specs.Sound.{AreContents, IsSpanOf, address_of, addresses_of_things, is_kernel, kind_of, thing_spans}
-use Rattle.image_verify.specs.Windows.{is_named, is_span_of, numbered, shown_address, shown_span, spans_by_number, state_span}
+use Rattle.image_soundness.specs.Memory.{Span, address_at, by_number, span_at}
+use Rattle.image_soundness.specs.Sound.{AreContents, IsSpanOf, address_of, is_kernel, kind_of, thing_spans}
+use Rattle.image_verify.specs.Windows.{is_named, is_span_of, shown_address, shown_span, spans_by_number, state_span}
 use Rattle.muen_num.proofs.Lists.{find-map, map-map}
 use Rattle.muen_num.specs.Range.{numbers_below}
 use Rattle.muen_num.specs.declared.tag.TagPart.{TagPart}
 use Rattle.policy_lawful.proofs.UniqueNames.{subjects_unique}
 use Rattle.policy_lawful.proofs.WindowsByIndex.{name_there}
 use Rattle.policy_lawful.specs.Contents.{Held}
-use Rattle.policy_lawful.specs.Resolution.{IsResolved, Resolution, name_at, source_of, subject_named}
+use Rattle.policy_lawful.specs.Resolution.{IsResolved, Resolution, source_of, subject_named}
 use Rattle.policy_lawful.specs.Thing.{Thing, channel, component_by, device_memory, provided, provided_by, region, same_thing, state, thing_tag, things_of}
 use Rattle.policy_lawful.specs.Views.{thing_shown, views_of}
 use Rattle.policy_lawful.specs.declared.resolved.Subject.{Subject}

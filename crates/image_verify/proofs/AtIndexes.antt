@@ -1,5 +1,5 @@
 -- What policy and image both have, index by index.
-use Rattle.std.proofs.Common.{◌≡◌, ℕ, ◌<◌, All, List, length, map, get_or, Some, sym, ap, subst, ◌∙◌}
+use Rattle.std.proofs.Common.{◌≡◌, ℕ, List, map, get_or, Some, sym, ap, subst, ◌∙◌}
 use Rattle.std.specs.Prelude.{option_map, slice_get}
 use Rattle.std.specs.List.{zip}
 use Rattle.std.proofs.lemmas.Option.{get_or_from_slice_get, slice_get-map}

@@ -1,5 +1,5 @@
 -- The tables of an image are what its policy needs just where the check finds them sound.
-use Rattle.std.proofs.Common.{◌≡◌, ℕ, zero, suc, ◌+◌, ◌*◌, ◌/◌, ◌%◌, ◌^◌, ◌<◌, ◌≤◌, All, Bool, true, false, List, [], ◌∷◌, length, map, get_or, Option, Some, None, refl, sym, ap, subst, ◌∙◌, arith}
+use Rattle.std.proofs.Common.{◌≡◌, ℕ, zero, suc, ◌*◌, ◌/◌, ◌%◌, ◌<◌, ◌≤◌, All, true, false, List, [], ◌∷◌, length, map, get_or, Option, Some, None, sym, ap, subst, ◌∙◌, arith}
 use Rattle.std.specs.Prelude.{◌-◌, ◌&&◌, ◌||◌, not, if◌then◌else◌, nat_le, option_map, slice_get, slice_index, slice_index_or}
 use Rattle.std.specs.List.{zip}
 use Rattle.std.proofs.lemmas.Bool.{leb-true, and_parts}
@@ -7,7 +7,7 @@ use Rattle.std.proofs.lemmas.List.{length-map}
 use Rattle.std.proofs.lemmas.List.Elements.{All-cons, All-map, All-nil}
 use Rattle.std.proofs.lemmas.Option.{get_or_from_slice_get, slice_get-map, slice_get_within}
 use Rattle.ept_check.specs.Entries.{pages as pages_below}
-use Rattle.ept_check.specs.Known.{IsOnePath, Reads}
+use Rattle.ept_check.specs.Known.{Reads}
 use Rattle.ept_check.specs.Sound.{AreSound, AreWindows, CanBeChecked, HasOnePathPerTable}
 use Rattle.ept_check.specs.Tables.{Tables, addr_of, addresses, is_among, look_at, subject_of, table_read, tables_in, walk_at}
 use Rattle.ept_check.specs.declared.types.SubjectTables.{SubjectTables}
@@ -16,7 +16,6 @@ use Rattle.ept_emit.specs.Reads.{Reads as ReadsTable}
 use Rattle.expand_grants.specs.declared.granted.Grants.{Grants}
 use Rattle.expand_kernel.specs.Expansion.{Expansion}
 use Rattle.image_pack.proofs.PartsKeep.{parts_keep}
-use Rattle.image_pack.specs.Image.{is_between}
 use Rattle.image_pack.specs.declared.parts.Image.{Image}
 use Rattle.image_pack.specs.declared.parts.SubjectPart.{SubjectPart}
 use Rattle.image_soundness.specs.Memory.{memory_of}
@@ -25,11 +24,11 @@ use Rattle.image_verify.proofs.AtIndexes.{at_pair, each_pair, granted_of, is_at,
 use Rattle.image_verify.proofs.Leads.{are_windows, leads}
 use Rattle.image_verify.proofs.TablePages.{are_tables, entry_among}
 use Rattle.image_verify.specs.Filled.{IsAt, IsFilled}
+use Rattle.image_verify.specs.Stand.{StandForTables}
 use Rattle.image_verify.specs.TablePages.{pages_of_all}
 use Rattle.image_verify.specs.Windows.{WithPart, tables_of_subject, tables_of_subjects, windows_on}
 use Rattle.machine_layout.specs.Memory.{is_there}
 use Rattle.machine_layout.specs.Walks.{addresses_from, addresses_read, entry_address, entry_of, entry_size, goes_on, index_at, is_leaf, is_misconfigured, is_present, bits_of, root_of, walk_from, walk_of}
-use Rattle.machine_layout.specs.declared.walk.Walk.{Walk}
 use Rattle.muen_num.proofs.Lists.{there}
 use Rattle.muen_num.specs.Access.{kind_bit}
 use Rattle.muen_num.specs.declared.access.AccessKind.{AccessKind}
@@ -133,7 +132,7 @@ module _ (x : Expansion) (files : Held) (i : Image) (h : IsFilled x files i) (pa
       let most : i.header.subjects ≤ 32 = leb-true i.header.subjects MOST_SUBJECTS (and_parts (nat_le 1 i.header.subjects) (nat_le i.header.subjects MOST_SUBJECTS) counts.few_subjects).1 in
       few_subjects (length made) (length i.subjects) (omega (arith, many, outer, inner)) (omega (arith, same, most))
 
-  can_check : CanBeChecked (memory_of i) pages made
+  pub can_check : CanBeChecked (memory_of i) pages made
   can_check = record { tables = are_tables i h.parts pages is; windows = windows_each; few = few }
 
   -- ---- at an index
@@ -187,13 +186,13 @@ module _ (x : Expansion) (files : Held) (i : Image) (h : IsFilled x files i) (pa
 
   -- ---- both ways
 
-  walks_from : AreSound v → ForEachSubject p i (HasWalks p i)
+  pub walks_from : AreSound v → ForEachSubject p i (HasWalks p i)
   walks_from sound =
       each_pair x files i h (HasWalks p i)
       (λ k s g q at addr kind l.
       sym (walk_is k s g q addr kind at) ∙ sound.led k addr kind (below k s g q at) l ∙ look_is k s g q addr kind at)
 
-  reads_from : AreSound v → ForEachSubject p i (λ s q. ReadsTables i q)
+  pub reads_from : AreSound v → ForEachSubject p i (λ s q. ReadsTables i q)
   reads_from sound =
       each_pair x files i h (λ s q. ReadsTables i q)
       (λ k s g q at addr l j d low.
@@ -202,7 +201,7 @@ module _ (x : Expansion) (files : Held) (i : Image) (h : IsFilled x files i) (pa
       subst (λ root. All (λ n. is_among pages (n / 4096) ≡ true) (addresses_from (entry_of (memory_of i)) addr 3 root)) (root_is k s g q at) (sound.tables k addr (below k s g q at) l) in
       in_tables (get_or list j d) (entries_aligned (entry_of (memory_of i)) addr 3 (root_of q.eptp) j d low) ∙ reads j d low)
 
-  sound_from : ForEachSubject p i (HasWalks p i) → ForEachSubject p i (λ s q. ReadsTables i q) → AreSound v
+  pub sound_from : ForEachSubject p i (HasWalks p i) → ForEachSubject p i (λ s q. ReadsTables i q) → AreSound v
   sound_from walks reads = record {
     led = λ k addr kind b l.
         let e = row k b in
@@ -232,7 +231,7 @@ module _ (x : Expansion) (files : Held) (i : Image) (h : IsFilled x files i) (pa
         here = ap (λ n. n / 4096) (get_or_from_slice_get list (3 - m) f.0 0 f.1) ∙ f.2;
       }
 
-  paths_from : HasOnePath i → HasOnePathPerTable v
+  pub paths_from : HasOnePath i → HasOnePathPerTable v
   paths_from once a m b l t low high one other =
       let e = row (subject_of a) (subject_below a (length v.roots) low) in
       let f = row (subject_of b) (subject_below b (length v.roots) high) in
@@ -242,26 +241,19 @@ module _ (x : Expansion) (files : Held) (i : Image) (h : IsFilled x files i) (pa
 
 -- ---- over what a call has made
 
-module _ (x : Expansion) (files : Held) (i : Image) (h : IsFilled x files i) (pages : List ℕ) (is : pages ≡ pages_of_all i.spans) (subjects : List SubjectTables) (are : subjects ≡ tables_of_subjects x i) where
+module _ (x : Expansion) (i : Image) (subjects : List SubjectTables) (are : subjects ≡ tables_of_subjects x i) (files : Held) (pages : List ℕ) (h : IsFilled x files i) (is : pages ≡ pages_of_all i.spans) where
   are_made : map (tables_of_subject x.lawful i) (rows x files i h) ≡ subjects
   unfolding tables_of_subjects
   are_made = sym are
 
-  -- **they can be checked**
-  pub can_be_checked : CanBeChecked (memory_of i) pages subjects
-  can_be_checked = subst (CanBeChecked (memory_of i) pages) are_made (can_check x files i h pages is)
-
-  -- **sound tables** are those that the policy needs
-  pub sound_walks : AreSound (tables_in (memory_of i) pages subjects) → ForEachSubject (source_of x.lawful) i (HasWalks (source_of x.lawful) i)
-  sound_walks sound = walks_from x files i h pages is (subst (λ ts. AreSound (tables_in (memory_of i) pages ts)) (sym are_made) sound)
-
-  pub sound_reads : AreSound (tables_in (memory_of i) pages subjects) → ForEachSubject (source_of x.lawful) i (λ s q. ReadsTables i q)
-  sound_reads sound = reads_from x files i h pages is (subst (λ ts. AreSound (tables_in (memory_of i) pages ts)) (sym are_made) sound)
-
-  -- and those are sound
-  pub are_sound : ForEachSubject (source_of x.lawful) i (HasWalks (source_of x.lawful) i) → ForEachSubject (source_of x.lawful) i (λ s q. ReadsTables i q) → AreSound (tables_in (memory_of i) pages subjects)
-  are_sound walks reads = subst (λ ts. AreSound (tables_in (memory_of i) pages ts)) are_made (sound_from x files i h pages is walks reads)
-
-  -- what reads no table of the image on two paths doesn't here
-  pub has_one_path : HasOnePath i → HasOnePathPerTable (tables_in (memory_of i) pages subjects)
-  has_one_path once = subst (λ ts. HasOnePathPerTable (tables_in (memory_of i) pages ts)) are_made (paths_from x files i h pages is once)
+  -- **they stand** for what the policy needs
+  pub stand_for : StandForTables (source_of x.lawful) i pages subjects
+  stand_for =
+      subst (StandForTables (source_of x.lawful) i pages) are_made
+      (record {
+        checkable = can_check x files i h pages is;
+        walks = walks_from x files i h pages is;
+        reads = reads_from x files i h pages is;
+        sound = sound_from x files i h pages is;
+        one_path = paths_from x files i h pages is;
+      })

@@ -1,6 +1,6 @@
 -- What windows show lies whole in spans of the image.
-use Rattle.std.proofs.Common.{◌≡◌, ℕ, ◌+◌, ◌*◌, ◌/◌, ◌%◌, ◌<◌, ◌≤◌, All, Bool, true, false, List, length, map, get_or, Some, None, refl, sym, ap, subst, ◌∙◌, inl, inr, arith}
-use Rattle.std.specs.Prelude.{◌==◌, ◌&&◌, nat_le, nat_lt, not, option_map, slice_get}
+use Rattle.std.proofs.Common.{◌≡◌, ℕ, ◌+◌, ◌*◌, ◌/◌, ◌%◌, ◌<◌, ◌≤◌, All, true, List, length, map, get_or, Some, sym, ap, subst, ◌∙◌, inl, inr, arith}
+use Rattle.std.specs.Prelude.{◌&&◌, nat_le, nat_lt, not, option_map, slice_get}
 use Rattle.std.specs.Option.{option_map_or}
 use Rattle.std.specs.List.{find, list_any}
 use Rattle.std.proofs.lemmas.Bool.{and_parts, eqb-true, leb-true, true≢false}
@@ -12,10 +12,9 @@ use Rattle.ept_check.specs.Sound.{HasPages, IsWhole}
 use Rattle.ept_emit.specs.declared.window.Window.{Window as EptWindow}
 use Rattle.image_pack.proofs.PartsKeep.{parts_keep}
 use Rattle.image_pack.specs.ImageConditions.{KeepsConditions}
-use Rattle.image_pack.specs.SpanConditions.{IsSpan, end_of}
+use Rattle.image_pack.specs.SpanConditions.{IsSpan}
 use Rattle.image_pack.specs.declared.parts.Image.{Image}
 use Rattle.image_pack.specs.declared.parts.SpanPart.{SpanPart}
-use Rattle.image_pack.specs.declared.parts.SubjectPart.{SubjectPart}
 use Rattle.image_soundness.specs.Memory.{Span, bytes_of, by_number, memory_of, span_at}
 use Rattle.image_soundness.specs.Sound.{IsSpanOf, address_of, is_kernel, thing_spans}
 use Rattle.image_verify.proofs.Addresses.{HasSpan, address_shown, no_thing, passes_as, state_is, there_too, thing_beside}

@@ -1,6 +1,6 @@
 -- The pages of the spans that have tables: they rise, memory has them, and an entry lies on one just where it lies in such a span.
-use Rattle.std.proofs.Common.{◌≡◌, ℕ, zero, suc, ◌+◌, ◌*◌, ◌/◌, ◌%◌, ◌<◌, ◌≤◌, Bool, true, false, cond, List, [], ◌∷◌, ◌++◌, length, map, Some, refl, sym, ap, ap₂, subst, ◌∙◌, inl, inr, arith, append_assoc, append-nil, length-append, eq-eqb, ne_eqb}
-use Rattle.std.specs.Prelude.{◌==◌, ◌&&◌, ◌||◌, is_some, nat_le, nat_lt, slice_get, slice_index}
+use Rattle.std.proofs.Common.{◌≡◌, ℕ, zero, suc, ◌+◌, ◌*◌, ◌/◌, ◌%◌, ◌<◌, ◌≤◌, Bool, true, false, cond, List, [], ◌∷◌, ◌++◌, length, map, Some, refl, sym, ap, ap₂, subst, ◌∙◌, inl, inr, arith, append_assoc, length-append, eq-eqb}
+use Rattle.std.specs.Prelude.{◌==◌, ◌&&◌, ◌||◌, nat_le, nat_lt, slice_get, slice_index}
 use Rattle.std.specs.List.{All, AllPairs, list_any, sum_by}
 use Rattle.std.proofs.lemmas.Bool.{and_from, and_parts, cases_lt, le-leb, leb-true, lt-ltb, ltb-true, eqb-true, or_left, or_right}
 use Rattle.std.proofs.lemmas.List.{length-map, map-append}
@@ -13,7 +13,7 @@ use Rattle.image_pack.proofs.PartsKeep.{parts_keep}
 use Rattle.image_pack.specs.Codes.{is_device, part_code}
 use Rattle.image_pack.specs.ImageConditions.{KeepsConditions}
 use Rattle.image_pack.specs.Parts.{IsParts}
-use Rattle.image_pack.specs.SpanConditions.{AreSpans, IsSpan, end_of, pages_of}
+use Rattle.image_pack.specs.SpanConditions.{IsSpan, end_of, pages_of}
 use Rattle.image_pack.specs.declared.parts.Image.{Image}
 use Rattle.image_pack.specs.declared.parts.SpanKind.{SpanKind}
 use Rattle.image_pack.specs.declared.parts.SpanKind.TheVariants.{Own, Channel, Provided, Kernel, Device}
@@ -21,8 +21,7 @@ use Rattle.image_pack.specs.declared.parts.SpanPart.{SpanPart}
 use Rattle.image_soundness.specs.Memory.{memory_of}
 use Rattle.image_soundness.specs.Sound.{is_in_tables, is_kernel, is_tables}
 use Rattle.image_verify.proofs.InSpans.{in_span_there, same_bool}
-use Rattle.image_verify.specs.TablePages.{pages_of_all, pages_of_span, pages_of_tables}
-use Rattle.machine_layout.specs.Memory.{is_there}
+use Rattle.image_verify.specs.TablePages.{pages_of_all, pages_of_tables}
 use Rattle.muen_num.specs.Range.{numbers_below}
 use Rattle.muen_num.specs.declared.tag.TagPart.TheVariants.{Ept}
 use Rattle.muen_num.proofs.NumbersBelow.{length_numbers}

@@ -1,7 +1,12 @@
 //! Each subject's windows, where an image has what they show.
-ghost use Rattle.std.specs.Prelude.{◌≡◌, ◌==◌, ◌++◌, [], map, IfOk, OnOk, option_map};
+ghost use Rattle.std.specs.Prelude.{◌≡◌, ℕ, List, ◌==◌, ◌++◌, [], map, IfOk, OnOk, option_map};
 ghost use Rattle.std.specs.List.{cons_option, find};
+ghost use Rattle.image_verify.specs.Filled.{IsFilled};
+ghost use Rattle.image_verify.specs.Stand.{StandForTables};
+ghost use Rattle.image_verify.specs.TablePages.{pages_of_all};
 ghost use Rattle.image_verify.specs.Windows.{is_span_of, shown_span, spans_by_number, state_span, tables_of_subjects, window_on};
+ghost use Rattle.policy_lawful.specs.Contents.{Held};
+ghost use Rattle.policy_lawful.specs.Resolution.{source_of};
 ghost use Rattle.policy_lawful.specs.Thing.{region, channel, provided, device_memory};
 
 use ept_check::SubjectTables;
@@ -102,11 +107,7 @@ fn channel_span<'a>(spans: &'a [SpanPart], name: &Name) -> Option<&'a SpanPart>
     spans.iter().find(|span| is_channel(span, name))
 }
 
-fn provided_span<'a>(
-    spans: &'a [SpanPart],
-    subject: &Name,
-    logical: &Name,
-) -> Option<&'a SpanPart>
+fn provided_span<'a>(spans: &'a [SpanPart], subject: &Name, logical: &Name) -> Option<&'a SpanPart>
     ensures { option_map (λ s. s.now) result ≡ find (is_span_of (provided subject.now logical.now)) spans.now }
 {
     spans
@@ -114,11 +115,7 @@ fn provided_span<'a>(
         .find(|span| is_provided(span, subject, logical))
 }
 
-fn memory_span<'a>(
-    spans: &'a [SpanPart],
-    device: &Name,
-    memory: &Name,
-) -> Option<&'a SpanPart>
+fn memory_span<'a>(spans: &'a [SpanPart], device: &Name, memory: &Name) -> Option<&'a SpanPart>
     ensures { option_map (λ s. s.now) result ≡ find (is_span_of (device_memory device.now memory.now)) spans.now }
 {
     spans
@@ -215,7 +212,9 @@ pub fn subject_tables(
     expanded: &Expanded,
     image: &Parts,
 ) -> Result<Vec<SubjectTables>, NoMemory>
-    ensures { IfOk result (λ v. v.items ≡ tables_of_subjects expanded.now image.now) }
+    ensures tables { IfOk result (λ v. v.items ≡ tables_of_subjects expanded.now image.now) }
+    // over an image that has the contents of the policy they stand for the walks that it needs
+    ensures stand { IfOk result (λ v. (files : Held) (pages : List ℕ) → IsFilled expanded.now files image.now → pages ≡ pages_of_all image.now.spans → StandForTables (source_of expanded.now.lawful) image.now pages v.items) }
 {
     let policy = expanded.lawful().resolved();
     let subjects = policy.subjects();
