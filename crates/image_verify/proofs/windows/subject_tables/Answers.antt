@@ -1,6 +1,7 @@
-use Rattle.std.proofs.Common.{ap, sym, ◌∙◌, arith, map}
+use Rattle.std.proofs.Common.{◌≡◌, ap, sym, ◌∙◌, arith, map}
 use Rattle.std.specs.Prelude.{slice_index_or}
 use Rattle.std.specs.List.{zip}
+use Rattle.image_verify.proofs.Checked.{stand_for}
 use Rattle.image_verify.proofs.InTurn.{all_made, next_made}
 use Rattle.image_verify.specs.Windows.{spans_by_number, tables_of_subject, tables_of_subjects, window_on}
 use Rattle.image_verify.proofs.windows.subject_tables.Goals as goal
@@ -32,6 +33,8 @@ returns c =
     let image = c.image-image.ensures.same in
     let subjects = c.subjects-subjects.ensures.value ∙ ap (λ r. r.subjects) policy in
     let parts = c.items-parts.ensures ∙ ap (λ i. i.subjects) image in
+    let tables : c.loop-k.tables.items ≡ tables_of_subjects c.args.expanded.now c.args.image.now =
     all_made c.resolved-policy.result.now c.image-image.result.now c.subjects-subjects.result.now c.grants-grants.result.now c.items-parts.result.now c.loop-k.k
     c.loop-k.tables.items (λ x y z. omega (arith, a, m, n, x, y, z)) c.loop-k.invariant
-    ∙ (λ j. map (tables_of_subject (policy j) (image j)) (zip (subjects j) (zip (c.grants-grants.ensures.value j) (parts j))))
+    ∙ (λ j. map (tables_of_subject (policy j) (image j)) (zip (subjects j) (zip (c.grants-grants.ensures.value j) (parts j)))) in
+    record { tables = tables; stand = stand_for c.args.expanded.now c.args.image.now c.loop-k.tables.items tables }
