@@ -16,7 +16,6 @@ use image_pack::{Image, Parts, SpanKind, SpanPart};
 use muen_num::{Name, NoMemory, Seq, TagPart};
 use policy_lawful::{Resolved, Shown, View};
 use policy_types::Caching;
-use policy_types::source::Device;
 use std::alloc::Global;
 
 // ---- spans by number
