@@ -1,0 +1,143 @@
+-- The windows that are checked lead each access where the policy's do.
+use Rattle.std.proofs.Common.{◌≡◌, ℕ, ◌+◌, ◌-◌, ◌<◌, ◌≤◌, All, Bool, true, false, List, length, map, get_or, Option, Some, None, refl, sym, ap, subst, ◌∙◌, arith}
+use Rattle.std.specs.Prelude.{◌&&◌, nat_le, nat_lt, option_map, slice_get, if◌then◌else◌}
+use Rattle.std.specs.List.{AllPairs, find}
+use Rattle.std.specs.List.Sorted.{IsPermutation}
+use Rattle.std.proofs.lemmas.Bool.{and_parts, leb-true, ltb-true}
+use Rattle.std.proofs.lemmas.List.{get_or-map, length-map}
+use Rattle.std.proofs.lemmas.List.Elements.{All-map}
+use Rattle.std.proofs.lemmas.List.Sorted.{IsPermutation-map}
+use Rattle.std.proofs.lemmas.Option.{get_or_from_slice_get, slice_get_within}
+use Rattle.ept_check.specs.Sound.{AreWindows, HasPages, IsWhole}
+use Rattle.ept_emit.specs.Emitted.{holds as is_in, translation, translation_in, window_at}
+use Rattle.ept_emit.specs.declared.window.GuestRange.{GuestRange}
+use Rattle.ept_emit.specs.declared.window.Window.{Window as EptWindow}
+use Rattle.expand_grants.proofs.Ordered.{in_order_permutes}
+use Rattle.expand_grants.specs.Grants.{AreGrantsOf, is_lower}
+use Rattle.expand_grants.specs.declared.granted.Grants.{Grants}
+use Rattle.expand_kernel.proofs.Numbering.{can_map_granted}
+use Rattle.expand_kernel.specs.ByIndex.{CanMap, view_range}
+use Rattle.expand_kernel.specs.Expansion.{Expansion}
+use Rattle.image_pack.specs.declared.parts.Image.{Image}
+use Rattle.image_soundness.specs.Memory.{memory_of}
+use Rattle.image_soundness.specs.Sound.{address_of, led}
+use Rattle.image_verify.proofs.Addresses.{address_shown}
+use Rattle.image_verify.proofs.Rooms.{Fits, as_many, keeps, views_fit}
+use Rattle.image_verify.specs.Filled.{IsFilled}
+use Rattle.image_verify.specs.Windows.{shown_address, spans_by_number, window_on, windows_on}
+use Rattle.machine_layout.specs.Memory.{is_there}
+use Rattle.machine_layout.specs.declared.walk.Walk.TheVariants.{At, Violation}
+use Rattle.muen_num.proofs.Lists.{find-map, passes_at, there}
+use Rattle.muen_num.specs.declared.access.AccessKind.{AccessKind}
+use Rattle.policy_lawful.proofs.SourceElements.{parts_in_range}
+use Rattle.policy_lawful.proofs.WindowsByIndex.{windows_by_index}
+use Rattle.policy_lawful.specs.Contents.{Held}
+use Rattle.policy_lawful.specs.Resolution.{Resolution, source_of, subject_in_range, subject_named}
+use Rattle.policy_lawful.specs.Thing.{Thing}
+use Rattle.policy_lawful.specs.Views.{thing_shown, view_window, views_of}
+use Rattle.policy_lawful.specs.Windows.{access_by, access_of, byte, holds, violation, windows_of}
+use Rattle.policy_lawful.specs.declared.resolved.Subject.{Subject}
+use Rattle.policy_lawful.specs.declared.view.View.{View}
+use Rattle.policy_types.specs.Rights.{allows, rights_bits}
+use Rattle.policy_types.specs.declared.rights.Rights.{Rights}
+use Rattle.policy_types.specs.declared.source.Source.{Source}
+use Rattle.proof_build.proofs.WalksByWindow.{ArePassedOnce, found_contained, found_permuted}
+use Rattle.region_alloc.proofs.EachInTurn.{All-in_order}
+
+-- ---- pairs of a list that is mapped
+
+pairs_behind : {X Y : Type 0} (f : X → Y) (R : Y → Y → Type 0) (xs : List X) → AllPairs R (map f xs) → AllPairs (λ a b. R (f a) (f b)) xs
+pairs_behind f R xs h i j d p q =
+    let many = length-map xs f in
+    let l : i < length xs = omega (arith, p, q) in
+    subst (λ a. R a (f (get_or xs j d))) (get_or-map f xs i d (f d) l)
+    (subst (R (get_or (map f xs) i (f d))) (get_or-map f xs j d (f d) q) (h i j (f d) p (omega (arith, many, q))))
+
+pairs_onto : {X Y : Type 0} (f : X → Y) (R : Y → Y → Type 0) (xs : List X) → AllPairs (λ a b. R (f a) (f b)) xs → AllPairs R (map f xs)
+pairs_onto f R xs h i j d p q =
+    let many = length-map xs f in
+    let m : j < length xs = omega (arith, many, q) in
+    let l : i < length xs = omega (arith, p, m) in
+    let e = (there xs i l).0 in
+    rw (get_or-map f xs i e d l, get_or-map f xs j e d m) (h i j e p m)
+
+-- the view holds the address
+abbrev pub on_view : ℕ → View → Bool
+on_view addr v = nat_le v.guest addr && nat_lt addr (v.guest + v.size)
+
+not_both : (addr a m b n : ℕ) → a + m ≤ b → (nat_le a addr && nat_lt addr (a + m)) ≡ true → (nat_le b addr && nat_lt addr (b + n)) ≡ true → ⊥
+not_both addr a m b n apart p q =
+    let high = ltb-true addr (a + m) (and_parts (nat_le a addr) (nat_lt addr (a + m)) p).1 in
+    let low = leb-true b addr (and_parts (nat_le b addr) (nat_lt addr (b + n)) q).0 in
+    omega (arith, apart, high, low)
+
+-- a byte where there is the right, and the rights that were found where there isn't
+by_rights : (address : Thing → ℕ) (b : Bool) (x : Thing) (to offset : ℕ) (rights : Rights) → address x ≡ to → (if b then At (to + offset) else Violation (rights_bits rights)) ≡ led address (if b then byte x offset else violation (Some rights))
+by_rights address true x to offset rights e = ap (λ n. At (n + offset)) (sym e)
+by_rights address false x to offset rights e = refl
+
+abbrev ends_by : GuestRange → GuestRange → Type 0
+ends_by a b = a.guest + a.size ≤ b.guest
+
+abbrev is_behind : EptWindow → EptWindow → Type 0
+is_behind a b = a.guest + a.size ≤ b.guest
+
+module _ (x : Expansion) (files : Held) (i : Image) (h : IsFilled x files i) (k : ℕ) (s : Subject) (g : Grants) (at : slice_get x.lawful.subjects k ≡ Some s) (granted_there : slice_get x.grants k ≡ Some g) (granted : AreGrantsOf x.lawful s g) where
+  abbrev r : Resolution
+  r = x.lawful
+
+  abbrev p : Source
+  p = source_of r
+
+  abbrev on : View → EptWindow
+  on = window_on r i (spans_by_number i.spans) s.name
+
+  abbrev views : List View
+  views = views_of r s
+
+  apart : AllPairs is_behind (map on g.views)
+  apart =
+      let can : CanMap g.views =
+      subst (λ g. CanMap g.views) (get_or_from_slice_get x.grants k g g granted_there)
+      (can_map_granted r x.grants h.expanded.resolved h.expanded.lawful h.expanded.expansion.grants k g (slice_get_within x.grants k g granted_there)) in
+      pairs_onto on is_behind g.views (pairs_behind view_range ends_by g.views can.apart)
+
+  -- **the windows** can be checked
+  pub are_windows : AreWindows (is_there (memory_of i)) (windows_on r i s.name g.views)
+  are_windows =
+      let fit : All (Fits x files i h s) g.views = rw granted.views (All-in_order _ (Fits x files i h s) views (views_fit x files i h k s at)) in
+      record {
+        whole = All-map IsWhole on g.views (λ j d l. (fit j d l).whole);
+        pages = All-map (HasPages (is_there (memory_of i))) on g.views (λ j d l. (fit j d l).pages);
+        apart = apart;
+      }
+
+  -- no address is in two of them
+  once : (addr : ℕ) → ArePassedOnce (is_in addr) (map on g.views)
+  once addr = λ a b d l n y z. not_both addr _ _ _ _ (apart a b d l n) y z
+
+  shown_at : (addr : ℕ) → window_at (windows_on r i s.name g.views) addr ≡ option_map on (find (on_view addr) views)
+  shown_at addr =
+      let moved : IsPermutation views g.views = subst (IsPermutation views) (sym granted.views) (in_order_permutes is_lower views) in
+      sym (found_permuted (is_in addr) (map on views) (map on g.views) (IsPermutation-map on views g.views moved) (once addr))
+      ∙ find-map (is_in addr) on views
+
+  granted_at : (addr : ℕ) → find (λ w. holds w addr) (windows_of p (subject_named r s)) ≡ option_map (view_window r s.name) (find (on_view addr) views)
+  granted_at addr =
+      let in_range : subject_in_range r s ≡ true = passes_at (subject_in_range r) r.subjects k s (parts_in_range r h.expanded.resolved.in_range).subjects at in
+      ap (find (λ w. holds w addr)) (windows_by_index r s h.expanded.resolved in_range)
+      ∙ find-map (λ w. holds w addr) (view_window r s.name) views
+
+  led_by : (addr : ℕ) (kind : AccessKind) (o : Option View) → find (on_view addr) views ≡ o
+      → translation_in (option_map on o) addr kind ≡ led (address_of p i) (access_by (option_map (view_window r s.name) o) addr kind)
+  led_by addr kind None e = refl
+  led_by addr kind (Some v) e =
+      by_rights (address_of p i) (allows v.rights kind) (thing_shown r s.name v v.shows) (shown_address r i (spans_by_number i.spans) s.name v) (addr - v.guest) v.rights
+      (address_shown r files i (keeps x files i h) h.expanded.resolved h.contents (as_many x files i h) k s v at (found_contained (on_view addr) views v e))
+
+  -- **where they lead** an access, the policy's do
+  pub leads : (addr : ℕ) (kind : AccessKind) → translation (windows_on r i s.name g.views) addr kind ≡ led (address_of p i) (access_of (windows_of p (subject_named r s)) addr kind)
+  leads addr kind =
+      ap (λ o. translation_in o addr kind) (shown_at addr)
+      ∙ led_by addr kind (find (on_view addr) views) refl
+      ∙ ap (λ o. led (address_of p i) (access_by o addr kind)) (sym (granted_at addr))

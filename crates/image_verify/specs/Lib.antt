@@ -1,0 +1,4 @@
+pub mod Filled
+pub mod Stand
+pub mod TablePages
+pub mod Windows
