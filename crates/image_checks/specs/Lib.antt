@@ -3,5 +3,4 @@ pub mod Firsts
 pub mod Contents
 pub mod PlanFault
 pub mod Agree
-pub mod Firsts
 pub mod OwnPages
