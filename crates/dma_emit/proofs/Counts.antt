@@ -5,6 +5,7 @@ use Rattle.std.specs.Prelude.{◌||◌, filter, nat_lt}
 use Rattle.std.specs.List.{AllPairs, find, sum_by}
 use Rattle.std.specs.Option.{option_map_or}
 use Rattle.std.specs.Str.{bytes_eq}
+use Rattle.std.proofs.Math.Nat.{div-lt_iff_lt-mul, lt-mul-div-succ, lt_of_mul-lt-mul_left}
 use Rattle.std.proofs.lemmas.Bool.{and_parts, cases_Bool, ltb-true, not-true, true≢false}
 use Rattle.std.proofs.lemmas.List.Elements.{All-head, All-tail, filter_passes}
 use Rattle.std.proofs.lemmas.List.Filters.{sum_by-filter_both}
@@ -49,35 +50,26 @@ unfolding count
 count_none lo zero = refl
 count_none lo (suc n) = let before = count_none lo n in omega arith
 
--- the ranges of 2 MiB, of 1 GiB and of 512 GiB that a range touches
+-- the ranges of so many bytes that a range touches
 abbrev touched_by : ℕ → GuestRange → ℕ → Bool
 touched_by size r v = touches r (size * v) size
 
-small_count : (r : GuestRange) (n : ℕ) → count (touched_by (2 ^ 21) r) 0 n ≤ r.size / 2 ^ 21 + 2
-small_count r n =
-    let few = count_between (touched_by (2 ^ 21) r) (r.guest / 2 ^ 21) (r.guest / 2 ^ 21 + r.size / 2 ^ 21 + 2) n (λ v passes.
-    let both = and_parts (nat_lt r.guest (2 ^ 21 * v + 2 ^ 21)) (nat_lt (2 ^ 21 * v) (r.guest + r.size)) passes in
-    let low = ltb-true r.guest (2 ^ 21 * v + 2 ^ 21) both.0 in
-    let high = ltb-true (2 ^ 21 * v) (r.guest + r.size) both.1 in
-    (omega arith, omega arith)) in
-    omega arith
+begins : (size a v : ℕ) → 0 < size → a < size * v + size → a / size ≤ v
+begins size a v some l = let below : a / size < v + 1 = (div-lt_iff_lt-mul some).1 (omega (arith, l)) in omega arith
 
-middle_count : (r : GuestRange) (n : ℕ) → count (touched_by (2 ^ 30) r) 0 n ≤ r.size / 2 ^ 30 + 2
-middle_count r n =
-    let few = count_between (touched_by (2 ^ 30) r) (r.guest / 2 ^ 30) (r.guest / 2 ^ 30 + r.size / 2 ^ 30 + 2) n (λ v passes.
-    let both = and_parts (nat_lt r.guest (2 ^ 30 * v + 2 ^ 30)) (nat_lt (2 ^ 30 * v) (r.guest + r.size)) passes in
-    let low = ltb-true r.guest (2 ^ 30 * v + 2 ^ 30) both.0 in
-    let high = ltb-true (2 ^ 30 * v) (r.guest + r.size) both.1 in
-    (omega arith, omega arith)) in
-    omega arith
+ends : (size a b v : ℕ) → 0 < size → size * v < a + b → v < a / size + b / size + 2
+ends size a b v some l =
+    let first = lt-mul-div-succ a some in
+    let second = lt-mul-div-succ b some in
+    lt_of_mul-lt-mul_left size (omega (arith, l, first, second))
 
-great_count : (r : GuestRange) (n : ℕ) → count (touched_by (2 ^ 39) r) 0 n ≤ r.size / 2 ^ 39 + 2
-great_count r n =
-    let few = count_between (touched_by (2 ^ 39) r) (r.guest / 2 ^ 39) (r.guest / 2 ^ 39 + r.size / 2 ^ 39 + 2) n (λ v passes.
-    let both = and_parts (nat_lt r.guest (2 ^ 39 * v + 2 ^ 39)) (nat_lt (2 ^ 39 * v) (r.guest + r.size)) passes in
-    let low = ltb-true r.guest (2 ^ 39 * v + 2 ^ 39) both.0 in
-    let high = ltb-true (2 ^ 39 * v) (r.guest + r.size) both.1 in
-    (omega arith, omega arith)) in
+few_touched : (size : ℕ) → 0 < size → (n : ℕ) (r : GuestRange) → count (touched_by size r) 0 n ≤ r.size / size + 2
+few_touched size some n r =
+    let few = count_between (touched_by size r) (r.guest / size) (r.guest / size + r.size / size + 2) n (λ v passes.
+    let both = and_parts (nat_lt r.guest (size * v + size)) (nat_lt (size * v) (r.guest + r.size)) passes in
+    let low = ltb-true r.guest (size * v + size) both.0 in
+    let high = ltb-true (size * v) (r.guest + r.size) both.1 in
+    (begins size r.guest v some low, ends size r.guest r.size v some high)) in
     omega arith
 
 -- how many tables a range of so many bytes needs at most
@@ -106,9 +98,9 @@ sum_three f g h (r ∷ rs) =
 -- the tables of ranges
 pub few_tables : (rs : List GuestRange) → ept_pages rs ≤ 1 + sum_by (λ r. tables_for r.size) rs
 few_tables rs =
-    let great = few_taken (2 ^ 39) (2 ^ 9) (λ r. r.size / 2 ^ 39 + 2) (λ r. great_count r (2 ^ 9)) rs in
-    let middle = few_taken (2 ^ 30) (2 ^ 18) (λ r. r.size / 2 ^ 30 + 2) (λ r. middle_count r (2 ^ 18)) rs in
-    let small = few_taken (2 ^ 21) (2 ^ 27) (λ r. r.size / 2 ^ 21 + 2) (λ r. small_count r (2 ^ 27)) rs in
+    let great = few_taken (2 ^ 39) (2 ^ 9) (λ r. r.size / 2 ^ 39 + 2) (few_touched (2 ^ 39) (omega arith) (2 ^ 9)) rs in
+    let middle = few_taken (2 ^ 30) (2 ^ 18) (λ r. r.size / 2 ^ 30 + 2) (few_touched (2 ^ 30) (omega arith) (2 ^ 18)) rs in
+    let small = few_taken (2 ^ 21) (2 ^ 27) (λ r. r.size / 2 ^ 21 + 2) (few_touched (2 ^ 21) (omega arith) (2 ^ 27)) rs in
     let three = sum_three (λ r. r.size / 2 ^ 39 + 2) (λ r. r.size / 2 ^ 30 + 2) (λ r. r.size / 2 ^ 21 + 2) rs in
     let all = sum_by-le-sum_by (λ (r : GuestRange). r.size / 2 ^ 39 + 2 + (r.size / 2 ^ 30 + 2) + (r.size / 2 ^ 21 + 2)) (λ (r : GuestRange). tables_for r.size) rs (λ r. omega arith) in
     omega arith

@@ -13,13 +13,13 @@ use Rattle.std.proofs.lemmas.List.Sums.{sum_by-append, sum_by-cons, sum_by-le-su
 use Rattle.dma_emit.specs.declared.devices.DomainDevice.{DomainDevice}
 use Rattle.dma_emit.specs.declared.domains.Domains.{Domains}
 use Rattle.dma_emit.specs.Domains.{device_at, domain_device, domain_devices, domain_number, domains_of, is_lower, mapped, region_mapped, windows_of}
-use Rattle.dma_emit.specs.Layout.{buses, domain_pages, has_device, on_bus, page_count, windows_at}
+use Rattle.dma_emit.specs.Layout.{domain_pages, has_device, page_count, windows_at}
 use Rattle.dma_emit.specs.Ready.{AreWindows, HaveDifferentGuests, IsReady, same_place}
 use Rattle.dma_emit.proofs.Counts.{few_tables, found_weight, sum_found, tables_for}
 use Rattle.dma_emit.proofs.DomainRules.{DevicesKept, IsDomain, devices_kept, regions_once}
 use Rattle.dma_emit.proofs.DomainWindows.{are_windows, different, each_domain, laid_out}
 use Rattle.dma_emit.proofs.Found.{all_made, fewer_made, pairs_made, pairs_mapped}
-use Rattle.dma_emit.proofs.Layouts.{buses_are}
+use Rattle.dma_emit.proofs.Layouts.{few_buses}
 use Rattle.dma_emit.proofs.Lists.{listed}
 use Rattle.dma_emit.proofs.PlacesThere.{position_within, regions_are}
 use Rattle.dma_emit.proofs.TotalSize.{first_bytes, regions_bytes}
@@ -32,8 +32,6 @@ use Rattle.muen_num.specs.Search.{unless}
 use Rattle.muen_num.specs.declared.limits.TheConstants.{BDF_FUNCTIONS, MOST_DOMAINS, MOST_REGIONS, PAGE}
 use Rattle.muen_num.proofs.FirstPair.{pairs_at}
 use Rattle.muen_num.proofs.Lists.{sum_by-map}
-use Rattle.muen_num.proofs.Members.{filter_fits}
-use Rattle.muen_num.proofs.NumbersBelow.{length_numbers}
 use Rattle.muen_num.proofs.SearchLaws.{unless_none}
 use Rattle.policy_lawful.specs.Domains.{Listed, is_bdf, listed_regions, same_bdf}
 use Rattle.policy_lawful.specs.Offences.{alone}
@@ -142,17 +140,7 @@ weights (m ∷ ms) =
     let rest = weights ms in
     omega arith
 
--- ---- buses
-
-few_buses_of : (d : Domains) (n : ℕ) → n ≡ 256 → length (buses d) ≤ 256
-few_buses_of d n e =
-    let is = ap length (buses_are d n e) in
-    let few = filter_fits (on_bus d) (numbers_below n) in
-    let many = length_numbers n in
-    omega arith
-
-few_buses : (d : Domains) → length (buses d) ≤ 256
-few_buses d = few_buses_of d 256 refl
+-- ---- pages
 
 pages_at_most : (d : Domains) (n : ℕ) → domain_pages d n ≤ ept_pages (ranges_of (windows_at d n))
 pages_at_most d n = elim (has_device d n) as (λ b. (if b then ept_pages (ranges_of (windows_at d n)) else 0) ≤ ept_pages (ranges_of (windows_at d n))) [ true ↦ omega arith | false ↦ omega arith ]

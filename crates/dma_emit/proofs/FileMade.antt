@@ -4,11 +4,14 @@ use Rattle.std.proofs.lemmas.List.{length-map}
 use Rattle.std.proofs.lemmas.List.Elements.{All-weaker}
 use Rattle.binary_form.specs.Form.{IsBytes}
 use Rattle.dma_emit.specs.declared.devices.DomainDevice.{DomainDevice}
+use Rattle.dma_emit.specs.Base.{IsBase}
 use Rattle.dma_emit.specs.Domains.{domains_of}
 use Rattle.dma_emit.specs.Emitted.{ArePages, IsFileOf}
 use Rattle.dma_emit.specs.Layout.{page_count}
+use Rattle.dma_emit.specs.MadeFor.{IsMadeFor}
 use Rattle.dma_emit.specs.Ready.{IsReady}
 use Rattle.dma_emit.specs.declared.domains.Domains.{Domains}
+use Rattle.dma_emit.specs.declared.layout.TheConstants.{BUSES, DEVFNS}
 use Rattle.dma_emit.proofs.Declared.{declared_at, declares}
 use Rattle.dma_emit.proofs.DomainsReady.{ready}
 use Rattle.dma_emit.proofs.Layouts.{before_all}
@@ -20,6 +23,7 @@ use Rattle.dma_tables.specs.declared.file.DmaDevice.{DmaDevice}
 use Rattle.dma_tables.specs.declared.file.DmaFile.{DmaFile}
 use Rattle.muen_num.proofs.Lists.{map-map}
 use Rattle.muen_num.specs.declared.limits.TheConstants.{PAGE, PHYSICAL_END}
+use Rattle.policy_lawful.specs.Resolution.{source_of}
 use Rattle.region_alloc.specs.Placed.{IsPlaced, Placement}
 use Rattle.span_emit.proofs.PairLaws.{all_unmapped}
 
@@ -44,9 +48,9 @@ module _ (d : Domains) (is_ready : IsReady d) (t : DmaFile) (file : IsFileOf d t
         differ = rw (file.devices, map-map (λ (e : DmaDevice). e.name) (λ (v : DomainDevice). v.device) d.devices) is_ready.names;
       }
 
-  small : All (λ v. (v.device.bus < 256) × (v.device.devfn < 256)) d.devices
+  small : All (λ v. (v.device.bus < BUSES) × (v.device.devfn < DEVFNS)) d.devices
   small =
-      All-weaker (λ (v : DomainDevice). IsDmaDevice v.device) (λ v. (v.device.bus < 256) × (v.device.devfn < 256)) (λ v h. (h.bus, h.devfn)) d.devices
+      All-weaker (λ (v : DomainDevice). IsDmaDevice v.device) (λ v. (v.device.bus < BUSES) × (v.device.devfn < DEVFNS)) (λ v h. (h.bus, h.devfn)) d.devices
       (all_unmapped (λ (v : DomainDevice). v.device) IsDmaDevice d.devices (subst (All IsDmaDevice) file.devices are))
 
 -- of a placed policy
@@ -59,33 +63,27 @@ walks_as_declared x placed t file aligned low are device addr write =
 
 -- ---- from what the calls tell that make its parts
 
-pub record IsMadeOf (x : Placement) (t : DmaFile) : Type 0 where
-  pub placed : IsPlaced x
-  pub file : IsFileOf (domains_of x) t
-  pub aligned : t.base % PAGE ≡ 0
-  pub low : t.base + PAGE * page_count (domains_of x) ≤ PHYSICAL_END
-  pub are : All IsDmaDevice t.devices
-  pub bytes : IsBytes t.pages
+pub made_for : (x : Placement) (d : Domains) (count base : ℕ) (pages : List ℕ) (devices : List DmaDevice) (t : DmaFile) → IsPlaced x → d ≡ domains_of x → count ≡ page_count d → IsBase (source_of x.expanded.lawful) (PAGE * count) base → base + PAGE * count ≤ PHYSICAL_END
+    → ArePages d (base / PAGE) pages → devices ≡ map (λ v. v.device) d.devices → All IsDmaDevice devices → t ≡ record { base = base; pages = pages; devices = devices } → IsBytes t.pages → IsMadeFor x t
+made_for x d count base pages devices t placed is many lies low parts listed are same bytes =
+    let long : PAGE * count ≡ length pages = ap (λ n. PAGE * n) many ∙ sym (pages_long d (base / PAGE) pages parts) in
+    subst (IsMadeFor x) (sym same) (record {
+      placed = placed;
+      file = record {
+        pages = subst (λ (e : Domains). ArePages e (base / PAGE) pages) is parts;
+        devices = listed ∙ ap (λ (e : Domains). map (λ v. v.device) e.devices) is;
+      };
+      base = subst (λ n. IsBase (source_of x.expanded.lawful) n base) long lies;
+      low = subst (λ n. base + PAGE * n ≤ PHYSICAL_END) (many ∙ ap page_count is) low;
+      bytes = subst (λ (u : DmaFile). IsBytes u.pages) same bytes;
+      are = are;
+    })
 
-pub made_of : (x : Placement) (d : Domains) (base : ℕ) (pages out : List ℕ) (devices : List DmaDevice) → IsPlaced x → d ≡ domains_of x → base % PAGE ≡ 0 → base + PAGE * page_count d ≤ PHYSICAL_END → ArePages d (base / PAGE) pages → IsBytes pages
-    → out ≡ pages → devices ≡ map (λ v. v.device) d.devices → All IsDmaDevice devices → IsMadeOf x (record { base = base; pages = out; devices = devices })
-made_of x d base pages out devices placed is aligned low parts bytes same listed are = record {
-  placed = placed;
-  file = record {
-    pages = subst (λ (e : Domains). ArePages e (base / PAGE) out) is (subst (ArePages d (base / PAGE)) (sym same) parts);
-    devices = listed ∙ ap (λ (e : Domains). map (λ v. v.device) e.devices) is;
-  };
-  aligned = aligned;
-  low = subst (λ (e : Domains). base + PAGE * page_count e ≤ PHYSICAL_END) is low;
-  are = are;
-  bytes = subst IsBytes (sym same) bytes;
-}
+pub conditions_of : (x : Placement) (t : DmaFile) → IsMadeFor x t → KeepsConditions t
+conditions_of x t m = conditions (domains_of x) (ready x m.placed) t m.file m.base.aligned m.low m.are m.bytes
 
-pub conditions_of : (x : Placement) (t : DmaFile) → IsMadeOf x t → KeepsConditions t
-conditions_of x t m = conditions (domains_of x) (ready x m.placed) t m.file m.aligned m.low m.are m.bytes
+pub walk_of : (x : Placement) (t : DmaFile) → IsMadeFor x t → (device : List ℕ) (addr : ℕ) (write : Bool) → dma_walk t device addr write ≡ declared_at x device addr write
+walk_of x t m device addr write = walks_as_declared x m.placed t m.file m.base.aligned m.low m.are device addr write
 
-pub walk_of : (x : Placement) (t : DmaFile) → IsMadeOf x t → (device : List ℕ) (addr : ℕ) (write : Bool) → dma_walk t device addr write ≡ declared_at x device addr write
-walk_of x t m device addr write = walks_as_declared x m.placed t m.file m.aligned m.low m.are device addr write
-
-pub many_of : (x : Placement) (t : DmaFile) → IsMadeOf x t → length t.pages ≡ PAGE * page_count (domains_of x)
-many_of x t m = many (domains_of x) (ready x m.placed) t m.file m.aligned m.low m.are
+pub many_of : (x : Placement) (t : DmaFile) → IsMadeFor x t → length t.pages ≡ PAGE * page_count (domains_of x)
+many_of x t m = many (domains_of x) (ready x m.placed) t m.file m.base.aligned m.low m.are

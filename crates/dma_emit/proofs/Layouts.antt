@@ -6,24 +6,35 @@ use Rattle.std.proofs.lemmas.Bool.{eqb-true}
 use Rattle.std.proofs.lemmas.List.{get_or_default, length-map}
 use Rattle.std.proofs.lemmas.List.Elements.{All-map}
 use Rattle.dma_emit.specs.declared.domains.Domains.{Domains}
+use Rattle.dma_emit.specs.declared.layout.TheConstants.{BUSES}
 use Rattle.dma_emit.specs.Layout.{buses, buses_below, context_page, domain_pages, has_device, on_bus, page_count, tables_page, windows_at}
 use Rattle.dma_emit.specs.Ready.{AreWindows, IsReady}
-use Rattle.dma_emit.proofs.Lists.{filter_fits_numbers, filter_passes_next, length_one_more, numbered_at, sum_grows, sum_next, sum_rises}
+use Rattle.dma_emit.proofs.Lists.{filter_fits_numbers, filter_passes_next, length_pushed, numbered_at, sum_grows, sum_next, sum_rises}
 use Rattle.ept_emit.specs.Entries.{IsEmittable}
 use Rattle.ept_emit.specs.Pages.{IsMapped, ept_pages, range_of, ranges_of}
 use Rattle.ept_emit.specs.declared.window.Window.{Window}
 use Rattle.muen_num.specs.Range.{numbers_below}
-use Rattle.muen_num.proofs.Members.{all_in, any_some}
+use Rattle.muen_num.proofs.Members.{all_in, any_some, filter_fits}
 use Rattle.muen_num.proofs.NumbersBelow.{length_numbers}
 
 -- ---- buses
 
-pub buses_are : (d : Domains) (n : ℕ) → n ≡ 256 → buses d ≡ buses_below d n
+pub buses_are : (d : Domains) (n : ℕ) → n ≡ BUSES → buses d ≡ buses_below d n
 unfolding buses
 buses_are d n e = ap (buses_below d) (sym e)
 
 pub few_below : (d : Domains) (n m : ℕ) → n ≤ m → length (buses_below d n) ≤ length (buses_below d m)
 few_below d n m l = filter_fits_numbers (on_bus d) n m l
+
+few_buses_of : (d : Domains) (n : ℕ) → n ≡ BUSES → length (buses d) ≤ BUSES
+few_buses_of d n e =
+    let is = ap length (buses_are d n e) in
+    let few = filter_fits (on_bus d) (numbers_below n) in
+    let many = length_numbers n in
+    omega arith
+
+pub few_buses : (d : Domains) → length (buses d) ≤ BUSES
+few_buses d = few_buses_of d BUSES refl
 
 -- ---- pages
 
@@ -36,18 +47,18 @@ before_all d n l = pages_grow d n (length d.windows) l
 pub pages_next : (d : Domains) (n : ℕ) → n < length d.windows → tables_page d n + domain_pages d n ≤ page_count d
 pages_next d n l = let more = sum_rises (domain_pages d) n (length d.windows) l in omega arith
 
-pub contexts_first : (d : Domains) (bus : ℕ) → bus ≤ 256 → context_page d bus ≤ tables_page d 0
+pub contexts_first : (d : Domains) (bus : ℕ) → bus ≤ BUSES → context_page d bus ≤ tables_page d 0
 contexts_first d bus l =
-    let few = few_below d bus 256 l in
-    let all = ap length (buses_are d 256 refl) in
+    let few = few_below d bus BUSES l in
+    let all = ap length (buses_are d BUSES refl) in
     omega arith
 
 -- a bus with a device has one of the pages before the domains'
-pub context_fits : (d : Domains) (bus : ℕ) → bus < 256 → on_bus d bus ≡ true → context_page d bus < tables_page d 0
+pub context_fits : (d : Domains) (bus : ℕ) → bus < BUSES → on_bus d bus ≡ true → context_page d bus < tables_page d 0
 context_fits d bus l h =
-    let more = ap length (filter_passes_next (on_bus d) bus (bus + 1) refl h) ∙ length_one_more (buses_below d bus) bus in
-    let few = few_below d (bus + 1) 256 (omega arith) in
-    let all = ap length (buses_are d 256 refl) in
+    let more = ap length (filter_passes_next (on_bus d) bus (bus + 1) refl h) ∙ length_pushed (buses_below d bus) bus in
+    let few = few_below d (bus + 1) BUSES (omega arith) in
+    let all = ap length (buses_are d BUSES refl) in
     omega arith
 
 -- the pages as a list

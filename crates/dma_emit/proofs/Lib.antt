@@ -13,6 +13,7 @@ pub mod Walk
 pub mod DomainRules
 pub mod TotalSize
 pub mod Found
+pub mod MappedAt
 pub mod DomainWindows
 pub mod Counts
 pub mod DomainsReady

@@ -1,7 +1,7 @@
 -- Lists joined by number, and sums over numbers.
-use Rattle.std.proofs.Common.{◌≡◌, inl, inr, ℕ, zero, suc, ◌+◌, ◌*◌, ◌<◌, ◌≤◌, Bool, true, false, cond, List, [], ◌∷◌, ◌++◌, length, get_or, take, drop, map, Option, Some, None, refl, sym, ap, ◌∙◌, arith, append_assoc, length-append}
+use Rattle.std.proofs.Common.{◌≡◌, inl, inr, ℕ, zero, suc, ◌+◌, ◌*◌, ◌<◌, ◌≤◌, Bool, true, false, cond, List, [], ◌∷◌, ◌++◌, length, get_or, take, drop, map, refl, sym, ap, ◌∙◌, arith, append_assoc, length-append}
 use Rattle.std.specs.Prelude.{filter}
-use Rattle.std.specs.List.{concat, cons_option, filter_map, flat_map, sum_by}
+use Rattle.std.specs.List.{concat, flat_map, range_with_len, sum_by}
 use Rattle.std.proofs.lemmas.Bool.{cases_Bool, cases_eq}
 use Rattle.std.proofs.lemmas.List.{append-nil, get_or-map, get_or_default, length-map, map_push, same_lists, take_at, take_more}
 use Rattle.std.proofs.lemmas.List.Concat.{concat_is, flat_map-append, length-flat_map}
@@ -181,18 +181,16 @@ pub concat_more : (xss : List (List ℕ)) (i : ℕ) (d : List ℕ) → i < lengt
 concat_more xss i d l =
     ap concat (take_more xss i d l) ∙ (concat-append (take i xss) (get_or xss i d ∷ []) ∙ ap (λ t. concat (take i xss) ++ t) (append-nil (get_or xss i d)))
 
-pub filter_map-append : {X Y : Type 0} (f : X → Option Y) (xs ys : List X) → filter_map f (xs ++ ys) ≡ filter_map f xs ++ filter_map f ys
-filter_map-append f [] ys = refl
-filter_map-append f (x ∷ xs) ys =
-    let later = filter_map-append f xs ys in
-    elim (f x) as (λ o. cons_option o (filter_map f (xs ++ ys)) ≡ cons_option o (filter_map f xs) ++ filter_map f ys) [ None ↦ later | Some y ↦ ap (λ t. y ∷ t) later ]
+-- the numbers of a range
+range_more : (a n : ℕ) → range_with_len a (suc n) ≡ range_with_len a n ++ (a + n) ∷ []
+range_more a zero = let same : a ≡ a + 0 = omega arith in ap (λ k. k ∷ []) same
+range_more a (suc n) =
+    let same : a + 1 + n ≡ a + suc n = omega arith in
+    ap (λ t. a ∷ t) (range_more (a + 1) n ∙ ap (λ k. range_with_len (a + 1) n ++ k ∷ []) same)
 
-pub filter_map_more : {X Y : Type 0} (f : X → Option Y) (xs : List X) (i : ℕ) (d : X) → i < length xs → filter_map f (take (i + 1) xs) ≡ filter_map f (take i xs) ++ cons_option (f (get_or xs i d)) []
-filter_map_more f xs i d l = ap (filter_map f) (take_more xs i d l) ∙ filter_map-append f (take i xs) (get_or xs i d ∷ [])
-
-pub flat_map_next : {X Y : Type 0} (f : X → List Y) (xs : List X) (i : ℕ) (d : X) → i < length xs → flat_map f (take (i + 1) xs) ≡ flat_map f (take i xs) ++ f (get_or xs i d)
-flat_map_next f xs i d l =
-    ap (flat_map f) (take_more xs i d l) ∙ (flat_map-append f (take i xs) (get_or xs i d ∷ []) ∙ ap (λ t. flat_map f (take i xs) ++ t) (append-nil (f (get_or xs i d))))
+pub range_is : (n : ℕ) → range_with_len 0 n ≡ numbers_below n
+range_is zero = refl
+range_is (suc n) = let same : 0 + n ≡ n = omega arith in range_more 0 n ∙ (λ i. range_is n i ++ same i ∷ [])
 
 -- the numbers below one more
 pub numbers_next : (n m : ℕ) → m ≡ n + 1 → numbers_below m ≡ numbers_below n ++ n ∷ []
@@ -212,10 +210,6 @@ filter_fails_next p n m e h =
     ∙ (filter_push p (numbers_below n) n ∙ (ap (λ b. filter p (numbers_below n) ++ cond b (n ∷ []) []) h ∙ append-nil (filter p (numbers_below n))))
 
 -- ---- steps of loops
-
-pub filter_map_step : {X Y : Type 0} (f : X → Option Y) (xs : List X) (i : ℕ) (x : X) (old new : List Y) → i < length xs → x ≡ get_or xs i x → old ≡ filter_map f (take i xs) → new ≡ old ++ cons_option (f x) [] → new ≡ filter_map f (take (i + 1) xs)
-filter_map_step f xs i x old new l is before more =
-    more ∙ ((λ j. before j ++ cons_option (f (is j)) []) ∙ sym (filter_map_more f xs i x l))
 
 pub flat_step : {X : Type 0} (f : ℕ → List X) (n m : ℕ) (front old new : List X) → m ≡ n + 1 → old ≡ front ++ flat_map f (numbers_below n) → new ≡ old ++ f n → new ≡ front ++ flat_map f (numbers_below m)
 flat_step f n m front old new e before more =
@@ -255,9 +249,6 @@ filter_fits_numbers p n (suc m) l =
           let more = ap length (filter_push p (numbers_below m) m) ∙ length-append (filter p (numbers_below m)) (cond (p m) (m ∷ []) []) in
           omega arith
     ]
-
-pub length_one_more : (xs : List ℕ) (x : ℕ) → length (xs ++ x ∷ []) ≡ length xs + 1
-length_one_more xs x = length-append xs (x ∷ [])
 
 -- what is read at an index
 pub index_is : {X : Type 0} (xs ys : List X) (n : ℕ) (x d : X) → x ≡ get_or xs n x → xs ≡ ys → n < length ys → x ≡ get_or ys n d

@@ -4,6 +4,7 @@ use Rattle.std.specs.List.{concat, flat_map, sum_by}
 use Rattle.std.proofs.lemmas.Bool.{cases_Bool}
 use Rattle.std.proofs.lemmas.List.Concat.{length-flat_map}
 use Rattle.dma_emit.specs.declared.domains.Domains.{Domains}
+use Rattle.dma_emit.specs.declared.layout.TheConstants.{BUSES}
 use Rattle.dma_emit.specs.Emitted.{ArePages}
 use Rattle.dma_emit.specs.Entries.{context_entry, root_entry, table_bytes}
 use Rattle.dma_emit.specs.Layout.{buses, buses_below, context_page, domain_pages, has_device, on_bus, page_count, tables_page}
@@ -34,20 +35,20 @@ module _ (d : Domains) (root : ℕ) (pages : List ℕ) (are : ArePages d root pa
   context_long : (bus : ℕ) → length (context bus) ≡ 4096
   context_long bus = length-table (context_entry d root bus)
 
-  contexts_are : (n : ℕ) → n ≡ 256 → contexts ≡ flat_map (where_passes (on_bus d) context) (numbers_below n)
+  contexts_are : (n : ℕ) → n ≡ BUSES → contexts ≡ flat_map (where_passes (on_bus d) context) (numbers_below n)
   contexts_are n e = ap (flat_map context) (buses_are d n e) ∙ flat_filter (on_bus d) context (numbers_below n)
 
   contexts_size : (n : ℕ) → sum_by (λ k. length (where_passes (on_bus d) context k)) (numbers_below n) ≡ 4096 * length (buses_below d n)
   contexts_size n = filter_sizes (on_bus d) context 4096 context_long n
 
-  contexts_long_of : (n : ℕ) → n ≡ 256 → length contexts ≡ 4096 * length (buses d)
+  contexts_long_of : (n : ℕ) → n ≡ BUSES → length contexts ≡ 4096 * length (buses d)
   contexts_long_of n e =
       ap length (contexts_are n e)
       ∙ (length-flat_map (where_passes (on_bus d) context) (numbers_below n)
       ∙ (contexts_size n ∙ ap (λ ks. 4096 * length ks) (sym (buses_are d n e))))
 
   contexts_long : length contexts ≡ 4096 * length (buses d)
-  contexts_long = contexts_long_of 256 refl
+  contexts_long = contexts_long_of BUSES refl
 
   domain_long : (n : ℕ) → n < length d.windows → length (of_domain n) ≡ 4096 * domain_pages d n
   domain_long n l =
@@ -101,7 +102,7 @@ module _ (d : Domains) (root : ℕ) (pages : List ℕ) (are : ArePages d root pa
   passes_here : (bus : ℕ) → on_bus d bus ≡ true → where_passes (on_bus d) context bus ≡ context bus
   passes_here bus h = ap (λ b. cond b (context bus) []) h
 
-  context_room : (n bus : ℕ) → n ≡ 256 → bus < n → on_bus d bus ≡ true → 4096 * length (buses_below d bus) + 4096 ≤ length contexts
+  context_room : (n bus : ℕ) → n ≡ BUSES → bus < n → on_bus d bus ≡ true → 4096 * length (buses_below d bus) + 4096 ≤ length contexts
   context_room n bus e l h =
       let size : ℕ → ℕ = λ k. length (where_passes (on_bus d) context k) in
       let more = sum_rises size bus n l in
@@ -113,18 +114,18 @@ module _ (d : Domains) (root : ℕ) (pages : List ℕ) (are : ArePages d root pa
       omega arith
 
   -- of the context table of a bus
-  context_word_of : (n bus o : ℕ) → n ≡ 256 → bus < n → on_bus d bus ≡ true → o + 8 ≤ 4096 → word_in contexts (4096 * length (buses_below d bus) + o) ≡ word_in (context bus) o
+  context_word_of : (n bus o : ℕ) → n ≡ BUSES → bus < n → on_bus d bus ≡ true → o + 8 ≤ 4096 → word_in contexts (4096 * length (buses_below d bus) + o) ≡ word_in (context bus) o
   context_word_of n bus o e l h room =
       let many : length (where_passes (on_bus d) context bus) ≡ 4096 = ap length (passes_here bus h) ∙ context_long bus in
       ap (λ t. word_in t (4096 * length (buses_below d bus) + o)) (contexts_are n e)
       ∙ (ap (λ k. word_in (flat_map (where_passes (on_bus d) context) (numbers_below n)) (k + o)) (sym (contexts_size bus))
       ∙ (ap le_number (part_at (where_passes (on_bus d) context) n bus o 8 l (omega arith)) ∙ ap (λ t. word_in t o) (passes_here bus h)))
 
-  pub context_word : (bus o : ℕ) → bus < 256 → on_bus d bus ≡ true → o + 8 ≤ 4096 → word_in pages (4096 * context_page d bus + o) ≡ word_in (context bus) o
+  pub context_word : (bus o : ℕ) → bus < BUSES → on_bus d bus ≡ true → o + 8 ≤ 4096 → word_in pages (4096 * context_page d bus + o) ≡ word_in (context bus) o
   context_word bus o l h room =
       let below = 4096 * length (buses_below d bus) in
       let place : 4096 * context_page d bus + o ≡ 4096 + (below + o) = omega arith in
-      let within = context_room 256 bus refl l h in
+      let within = context_room BUSES bus refl l h in
       let front = front_long in
       let one = length-append root_table contexts in
       let first = root_long in
@@ -132,7 +133,7 @@ module _ (d : Domains) (root : ℕ) (pages : List ℕ) (are : ArePages d root pa
       ∙ (ap (λ t. word_in t (4096 + (below + o))) are.pages_are
       ∙ (ap le_number (part_left (root_table ++ contexts) (concat are.tables) (4096 + (below + o)) 8 (omega arith))
       ∙ (ap le_number (part_right root_table contexts 4096 (below + o) 8 root_long)
-      ∙ context_word_of 256 bus o refl l h room)))
+      ∙ context_word_of BUSES bus o refl l h room)))
 
   -- of the tables of a domain
   pub tables_word : (n o : ℕ) → n < length d.windows → o + 8 ≤ 4096 * domain_pages d n → word_in pages (4096 * tables_page d n + o) ≡ word_in (of_domain n) o

@@ -7,6 +7,7 @@ use Rattle.std.proofs.lemmas.Bool.{and_from, cases_Bool, eq-eqb, le-leb, lt-ltb,
 use Rattle.dma_emit.specs.declared.devices.DomainDevice.{DomainDevice}
 use Rattle.dma_emit.specs.declared.domains.Domains.{Domains}
 use Rattle.dma_emit.specs.declared.entries.WideEntry.{WideEntry}
+use Rattle.dma_emit.specs.declared.layout.TheConstants.{BUSES, DEVFNS}
 use Rattle.dma_emit.specs.Emitted.{IsFileOf}
 use Rattle.dma_emit.specs.Entries.{absent, context_entry, context_of, domain_word, refers_to, root_entry}
 use Rattle.dma_emit.specs.Layout.{context_page, domain_pages, has_device, on_bus, page_count, tables_page, windows_at}
@@ -91,7 +92,7 @@ module _ (d : Domains) (ready : IsReady d) (t : DmaFile) (file : IsFileOf d t) (
   some_page : 1 ≤ page_count d
   some_page = let all = before_all d 0 (omega arith) in omega arith
 
-  context_low : (bus : ℕ) → bus < 256 → on_bus d bus ≡ true → context_page d bus < page_count d
+  context_low : (bus : ℕ) → bus < BUSES → on_bus d bus ≡ true → context_page d bus < page_count d
   context_low bus l h =
       let room = context_fits d bus l h in
       let all = before_all d 0 (omega arith) in
@@ -100,7 +101,7 @@ module _ (d : Domains) (ready : IsReady d) (t : DmaFile) (file : IsFileOf d t) (
   root_is : (bus : ℕ) → on_bus d bus ≡ true → root_entry d root bus ≡ record { low = refers_to (root + context_page d bus); high = 0 }
   root_is bus h = ap (λ b. if b then record { low = refers_to (root + context_page d bus); high = 0 } else absent) h
 
-  context_found : (bus : ℕ) → bus < 256 → on_bus d bus ≡ true → context_table (word_of t) root bus ≡ Some (root + context_page d bus)
+  context_found : (bus : ℕ) → bus < BUSES → on_bus d bus ≡ true → context_table (word_of t) root bus ≡ Some (root + context_page d bus)
   context_found bus l h =
       let page = root + context_page d bus in
       let below = context_low bus l h in
@@ -124,7 +125,7 @@ module _ (d : Domains) (ready : IsReady d) (t : DmaFile) (file : IsFileOf d t) (
 
   -- ---- the context entry of a device
 
-  module _ (v : DomainDevice) (stands : In v d.devices) (bus_small : v.device.bus < 256) (devfn_small : v.device.devfn < 256) where
+  module _ (v : DomainDevice) (stands : In v d.devices) (bus_small : v.device.bus < BUSES) (devfn_small : v.device.devfn < DEVFNS) where
     abbrev n : ℕ
     n = v.domain
 
@@ -243,15 +244,15 @@ module _ (d : Domains) (ready : IsReady d) (t : DmaFile) (file : IsFileOf d t) (
 
   -- ---- a device by its name
 
-  by_name : (device : List ℕ) (addr : ℕ) (write : Bool) (bytes : All (λ v. (v.device.bus < 256) × (v.device.devfn < 256)) d.devices) (o : Option DomainDevice) → find (λ v. bytes_eq v.device.name device) d.devices ≡ o
+  by_name : (device : List ℕ) (addr : ℕ) (write : Bool) (bytes : All (λ v. (v.device.bus < BUSES) × (v.device.devfn < DEVFNS)) d.devices) (o : Option DomainDevice) → find (λ v. bytes_eq v.device.name device) d.devices ≡ o
       → option_and_then (λ e. device_walk t e addr write) (option_map (λ v. v.device) o) ≡ option_and_then (led_device d addr write) o
   by_name device addr write bytes None e = refl
   by_name device addr write bytes (Some v) e =
       let stands = (find_in (λ v. bytes_eq v.device.name device) d.devices v e).0 in
-      let small = all_in (λ v. (v.device.bus < 256) × (v.device.devfn < 256)) d.devices bytes v stands in
+      let small = all_in (λ v. (v.device.bus < BUSES) × (v.device.devfn < DEVFNS)) d.devices bytes v stands in
       device_walked v stands small.0 small.1 addr write
 
-  pub walks : All (λ v. (v.device.bus < 256) × (v.device.devfn < 256)) d.devices → (device : List ℕ) (addr : ℕ) (write : Bool) → dma_walk t device addr write ≡ by_domains d device addr write
+  pub walks : All (λ v. (v.device.bus < BUSES) × (v.device.devfn < DEVFNS)) d.devices → (device : List ℕ) (addr : ℕ) (write : Bool) → dma_walk t device addr write ≡ by_domains d device addr write
   unfolding dma_walk
   walks bytes device addr write =
       ap (λ ds. option_and_then (λ e. device_walk t e addr write) (find (λ e. bytes_eq e.name device) ds)) file.devices

@@ -4,6 +4,7 @@ use Rattle.std.specs.Int.{w64, to_le_bytes}
 use Rattle.std.specs.List.{flat_map, sum_by}
 use Rattle.std.proofs.lemmas.List.Concat.{length-flat_map}
 use Rattle.dma_emit.specs.declared.entries.WideEntry.{WideEntry}
+use Rattle.dma_emit.specs.declared.layout.TheConstants.{ENTRIES}
 use Rattle.dma_emit.specs.Entries.{entry_bytes, table_bytes}
 use Rattle.dma_emit.proofs.Lists.{part_at, part_left, part_of, part_right, sum_constant, sum_same}
 use Rattle.ept_emit.proofs.Bytes.{same_bytes}
@@ -51,28 +52,28 @@ module _ (entry : ℕ → WideEntry) where
   sizes n = sum_same (λ k. length (entry_bytes (entry k))) (λ k. 16) n (λ k l. length-entry (entry k)) ∙ sum_constant 16 n
 
   -- its entries are as many as that
-  pub table_is : (n : ℕ) → n ≡ 256 → table_bytes entry ≡ flat_map (λ i. entry_bytes (entry i)) (numbers_below n)
+  pub table_is : (n : ℕ) → n ≡ ENTRIES → table_bytes entry ≡ flat_map (λ i. entry_bytes (entry i)) (numbers_below n)
   unfolding table_bytes
   table_is n e = ap (λ k. flat_map (λ i. entry_bytes (entry i)) (numbers_below k)) (sym e)
 
-  length_of : (n : ℕ) → n ≡ 256 → length (table_bytes entry) ≡ 4096
+  length_of : (n : ℕ) → n ≡ ENTRIES → length (table_bytes entry) ≡ 4096
   length_of n e = ap length (table_is n e) ∙ (length-flat_map (λ i. entry_bytes (entry i)) (numbers_below n) ∙ (sizes n ∙ ap (λ k. 16 * k) e))
 
   pub length-table : length (table_bytes entry) ≡ 4096
-  length-table = length_of 256 refl
+  length-table = length_of ENTRIES refl
 
   -- the word at o of the entry of a number
-  word_of_entry : (n i o : ℕ) → n ≡ 256 → i < n → o + 8 ≤ 16 → word_in (table_bytes entry) (16 * i + o) ≡ word_in (entry_bytes (entry i)) o
+  word_of_entry : (n i o : ℕ) → n ≡ ENTRIES → i < n → o + 8 ≤ 16 → word_in (table_bytes entry) (16 * i + o) ≡ word_in (entry_bytes (entry i)) o
   word_of_entry n i o e l room =
       let many = length-entry (entry i) in
       ap (λ t. word_in t (16 * i + o)) (table_is n e)
       ∙ (ap (λ k. word_in (flat_map (λ i. entry_bytes (entry i)) (numbers_below n)) (k + o)) (sym (sizes i))
       ∙ ap le_number (part_at (λ k. entry_bytes (entry k)) n i o 8 l (omega (arith, many))))
 
-  pub low_of : (i : ℕ) → i < 256 → (entry i).low < 2 ^ 64 → word_in (table_bytes entry) (16 * i) ≡ (entry i).low
+  pub low_of : (i : ℕ) → i < ENTRIES → (entry i).low < 2 ^ 64 → word_in (table_bytes entry) (16 * i) ≡ (entry i).low
   low_of i l small =
       let here : 16 * i ≡ 16 * i + 0 = omega arith in
-      ap (word_in (table_bytes entry)) here ∙ (word_of_entry 256 i 0 refl l (omega arith) ∙ low_word (entry i) small)
+      ap (word_in (table_bytes entry)) here ∙ (word_of_entry ENTRIES i 0 refl l (omega arith) ∙ low_word (entry i) small)
 
-  pub high_of : (i : ℕ) → i < 256 → (entry i).high < 2 ^ 64 → word_in (table_bytes entry) (16 * i + 8) ≡ (entry i).high
-  high_of i l small = word_of_entry 256 i 8 refl l (omega arith) ∙ high_word (entry i) small
+  pub high_of : (i : ℕ) → i < ENTRIES → (entry i).high < 2 ^ 64 → word_in (table_bytes entry) (16 * i + 8) ≡ (entry i).high
+  high_of i l small = word_of_entry ENTRIES i 8 refl l (omega arith) ∙ high_word (entry i) small

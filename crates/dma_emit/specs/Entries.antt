@@ -6,18 +6,20 @@ use Rattle.std.specs.Option.{option_map_or}
 use Rattle.dma_emit.specs.declared.devices.DomainDevice.{DomainDevice}
 use Rattle.dma_emit.specs.declared.domains.Domains.{Domains}
 use Rattle.dma_emit.specs.declared.entries.WideEntry.{WideEntry}
+use Rattle.dma_emit.specs.declared.entries.TheConstants.{DOMAIN_UNIT, FOUR_LEVELS, PRESENT}
+use Rattle.dma_emit.specs.declared.layout.TheConstants.{ENTRIES}
 use Rattle.dma_emit.specs.Layout.{context_page, on_bus, tables_page}
 use Rattle.machine_layout.specs.Memory.{le_bytes}
 use Rattle.muen_num.specs.Range.{numbers_below}
 use Rattle.muen_num.specs.declared.limits.TheConstants.{PAGE}
 
--- ---- the bytes of a table of 256 entries of 16 bytes
+-- ---- the bytes of a table of entries of 16 bytes
 
 abbrev pub entry_bytes : WideEntry → List ℕ
 entry_bytes e = le_bytes 8 e.low ++ le_bytes 8 e.high
 
 unfoldable pub table_bytes : (ℕ → WideEntry) → List ℕ
-table_bytes entry = flat_map (λ i. entry_bytes (entry i)) (numbers_below 256)
+table_bytes entry = flat_map (λ i. entry_bytes (entry i)) (numbers_below ENTRIES)
 
 -- ---- entries
 
@@ -27,7 +29,7 @@ absent = record { low = 0; high = 0 }
 
 -- it is present, by bit 0, and refers to the table in this page
 abbrev pub refers_to : ℕ → ℕ
-refers_to page = PAGE * page + 1
+refers_to page = PAGE * page + PRESENT
 
 -- the root entry of a bus refers to its context table
 abbrev pub root_entry : Domains → ℕ → ℕ → WideEntry
@@ -36,7 +38,7 @@ root_entry d root bus =
 
 -- bits 66:64 are 2, four levels of tables, and bits 87:72 the identifier of the domain, which is its number plus 1
 abbrev pub domain_word : ℕ → ℕ
-domain_word number = 256 * (number + 1) + 2
+domain_word number = DOMAIN_UNIT * (number + 1) + FOUR_LEVELS
 
 -- the device of a bus and devfn
 abbrev pub device_on : Domains → ℕ → ℕ → Option DomainDevice

@@ -3,6 +3,7 @@
 use Rattle.std.specs.Prelude.{ℕ, ◌+◌, ◌==◌, Bool, List, [], filter, length, slice_index_or, if◌then◌else◌}
 use Rattle.std.specs.List.{list_any, sum_by}
 use Rattle.dma_emit.specs.declared.domains.Domains.{Domains}
+use Rattle.dma_emit.specs.declared.layout.TheConstants.{BUSES}
 use Rattle.ept_emit.specs.Pages.{ept_pages, ranges_of}
 use Rattle.ept_emit.specs.declared.window.Window.{Window}
 use Rattle.muen_num.specs.Range.{numbers_below}
@@ -20,7 +21,7 @@ abbrev pub buses_below : Domains → ℕ → List ℕ
 buses_below d end = filter (on_bus d) (numbers_below end)
 
 unfoldable pub buses : Domains → List ℕ
-buses d = buses_below d 256
+buses d = buses_below d BUSES
 
 -- the page of the context table of a bus
 abbrev pub context_page : Domains → ℕ → ℕ

@@ -1,52 +1,55 @@
 //! The lowest pages that no block of memory and no memory of a device has.
-ghost use Rattle.std.specs.Prelude.{◌≡◌, ◌+◌, ◌%◌, ◌<◌, ◌≤◌, ◌^◌, ◌||◌, ◌++◌, All, IfOk, OnOk, map, nat_le, not, option_map};
-ghost use Rattle.std.specs.List.{find, flat_map, sum_by};
+ghost use Rattle.std.specs.Prelude.{◌≡◌, ◌+◌, ◌*◌, ◌%◌, ◌<◌, ◌≤◌, ◌^◌, ◌||◌, All, IfOk, map, nat_le, not, option_map};
+ghost use Rattle.std.specs.List.{find, sum_by};
 ghost use Rattle.dma_emit.specs.Base.{IsBase, IsLowestFree, is_free};
+ghost use Rattle.dma_tables.specs.declared.file.TheConstants.{MOST_DMA_PAGES};
 ghost use Rattle.muen_num.specs.declared.limits.TheConstants.{PAGE, PHYSICAL_END};
 ghost use Rattle.policy_lawful.specs.Resolution.{source_of};
 ghost use Rattle.policy_lawful.specs.Rules.{extents_of};
 
+use muen_num::limits::PAGE;
 use policy_lawful::{Extent, Resolved};
-use policy_types::source::{Block, Device};
+use policy_types::source::{Block, DeviceMemory};
+use region_alloc::Placed;
 use std::alloc::{AllocError, Global};
 
-// Appends the ranges of blocks of memory.
-fn push_blocks(extents: &mut Vec<Extent>, blocks: &[Block]) -> Result<(), AllocError>
-    ensures { OnOk result (extents.new.items ≡ extents.old.items ++ map (λ b. record { name = b.name; address = b.physical_address; size = b.size }) blocks.now) }
+// The ranges of blocks of memory.
+fn block_extents(alloc: Global, blocks: &[Block]) -> Result<Vec<Extent>, AllocError>
+    ensures { IfOk result (λ v. v.items ≡ map (λ b. record { name = b.name; address = b.physical_address; size = b.size }) blocks.now) }
 {
-    for block in blocks {
-        extents.push(Extent {
+    blocks
+        .iter()
+        .map(|block| Extent {
             name: block.name,
             address: block.physical_address,
             size: block.size,
-        })?;
-    }
-    Ok(())
+        })
+        .collect(alloc)
 }
 
-// Appends the ranges of a device's memory.
-fn push_memory(extents: &mut Vec<Extent>, device: &Device) -> Result<(), AllocError>
-    ensures { OnOk result (extents.new.items ≡ extents.old.items ++ map (λ m. record { name = m.name; address = m.physical_address; size = m.size }) device.now.memory) }
+// The ranges of a device's memory.
+fn memory_extents(alloc: Global, memory: &[DeviceMemory]) -> Result<Vec<Extent>, AllocError>
+    ensures { IfOk result (λ v. v.items ≡ map (λ m. record { name = m.name; address = m.physical_address; size = m.size }) memory.now) }
 {
-    for memory in device.memory.items() {
-        extents.push(Extent {
-            name: memory.name,
-            address: memory.physical_address,
-            size: memory.size,
-        })?;
-    }
-    Ok(())
+    memory
+        .iter()
+        .map(|range| Extent {
+            name: range.name,
+            address: range.physical_address,
+            size: range.size,
+        })
+        .collect(alloc)
 }
 
-/// The ranges of physical memory that a policy has: its blocks, and its devices' memory.
+// The ranges of physical memory that a policy has: its blocks, and its devices' memory.
 #[tactic(auto, unfolding(policy_lawful::specs::Resolution::source_of))]
-pub(crate) fn extents_of(alloc: Global, policy: &Resolved) -> Result<Vec<Extent>, AllocError>
+fn extents_of(alloc: Global, policy: &Resolved) -> Result<Vec<Extent>, AllocError>
     ensures { IfOk result (λ v. v.items ≡ extents_of (source_of policy.now)) }
 {
-    let mut extents = Vec::new(alloc);
-    push_blocks(&mut extents, policy.memory_blocks())?;
+    let mut extents = block_extents(alloc, policy.memory_blocks())?;
     for device in policy.devices() {
-        push_memory(&mut extents, device)?;
+        let memory = memory_extents(alloc, device.memory.items())?;
+        extents.extend_from_slice(&memory)?;
     }
     Ok(extents)
 }
@@ -61,8 +64,8 @@ fn in_the_way(extents: &[Extent], bytes: u64, address: u64) -> Option<&Extent>
         || extent.address + extent.size <= address))
 }
 
-/// The lowest multiple of a page's size from which on so many bytes share none with these ranges.
-pub(crate) fn lowest_free(extents: &[Extent], bytes: u64) -> u64
+// The lowest multiple of a page's size from which on so many bytes share none with these ranges.
+fn lowest_free(extents: &[Extent], bytes: u64) -> u64
     requires some { 0 < bytes }
     requires aligned { All (λ e. (e.address + e.size) % PAGE ≡ 0) extents.now }
     requires ends { All (λ e. e.address + e.size ≤ PHYSICAL_END) extents.now }
@@ -75,4 +78,15 @@ pub(crate) fn lowest_free(extents: &[Extent], bytes: u64) -> u64
         base = extent.address + extent.size;
     }
     base
+}
+
+/// Where so many pages lie that share no address with the policy's blocks and devices' memory.
+pub(crate) fn base_of(alloc: Global, placed: &Placed, pages: u64) -> Result<u64, AllocError>
+    requires some { 0 < pages }
+    requires few { pages < MOST_DMA_PAGES }
+    ensures base { IfOk result (IsBase (source_of placed.now.expanded.lawful) (PAGE * pages)) }
+    ensures low { IfOk result (λ base. base + PAGE * pages ≤ PHYSICAL_END) }
+{
+    let extents = extents_of(alloc, placed.expanded().lawful().resolved())?;
+    Ok(lowest_free(&extents, PAGE * pages))
 }

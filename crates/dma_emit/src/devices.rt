@@ -1,17 +1,18 @@
 //! The devices that stand in domains.
-ghost use Rattle.std.specs.Prelude.{◌≡◌, ◌<◌, ◌++◌, [], true, All, IfOk, OnOk};
-ghost use Rattle.std.specs.List.{cons_option, filter_map, list_any};
+ghost use Rattle.std.specs.Prelude.{◌≡◌, ◌<◌, true, All, IfOk};
+ghost use Rattle.std.specs.List.{filter_map, list_any};
 ghost use Rattle.std.specs.Str.{bytes_eq};
 ghost use Rattle.dma_emit.specs.Domains.{devfn_of, domain_device, domain_devices, domain_number};
+ghost use Rattle.muen_num.specs.declared.limits.TheConstants.{BDF_DEVICES, BDF_FUNCTIONS};
 ghost use Rattle.policy_lawful.specs.Domains.{is_bdf};
 ghost use Rattle.policy_lawful.specs.Resolution.{source_of};
 
 use dma_tables::DmaDevice;
+use muen_num::Name;
 use muen_num::limits::BDF_FUNCTIONS;
-use muen_num::{Name, NoMemory, Seq};
 use policy_lawful::Resolved;
 use policy_types::source::{Bdf, Device, Domain};
-use std::alloc::Global;
+use std::alloc::{AllocError, Global};
 
 /// A device that stands in a domain.
 #[derive(Clone, Copy, Debug, PartialEq, Eq)]
@@ -41,8 +42,8 @@ fn domain_number(policy: &Resolved, device: &Name) -> Option<usize>
 
 // Its devfn.
 fn devfn_of(bdf: Bdf) -> u8
-    requires device { bdf.device < 32 }
-    requires function { bdf.function < 8 }
+    requires device { bdf.device < BDF_DEVICES }
+    requires function { bdf.function < BDF_FUNCTIONS }
     ensures { result ≡ devfn_of bdf }
 {
     (BDF_FUNCTIONS * bdf.device + bdf.function) as u8
@@ -65,27 +66,18 @@ fn domain_device(policy: &Resolved, device: &Device) -> Option<DomainDevice>
     })
 }
 
-// Appends a device, if there is one.
-fn push_some(devices: &mut Seq<DomainDevice>, device: Option<DomainDevice>) -> Result<(), NoMemory>
-    ensures { OnOk result (devices.new ≡ devices.old ++ cons_option device []) }
-{
-    if let Some(device) = device {
-        devices.push(device)?;
-    }
-    Ok(())
-}
-
 /// The devices that stand in a domain, in the order of the policy's devices.
+#[tactic(auto, unfolding(crate::specs::Domains::domain_devices, policy_lawful::specs::Resolution::source_of))]
 pub(crate) fn domain_devices(
     alloc: Global,
     policy: &Resolved,
-) -> Result<Seq<DomainDevice>, NoMemory>
+) -> Result<Vec<DomainDevice>, AllocError>
     requires { All (λ d. is_bdf d.bdf ≡ true) policy.now.devices }
-    ensures { IfOk result (λ devices. devices ≡ domain_devices (source_of policy.now)) }
+    ensures { IfOk result (λ v. v.items ≡ domain_devices (source_of policy.now)) }
 {
-    let mut devices = Seq::new(alloc);
-    for device in policy.devices() {
-        push_some(&mut devices, domain_device(policy, device))?;
-    }
-    Ok(devices)
+    policy
+        .devices()
+        .iter()
+        .filter_map(|device| domain_device(policy, device))
+        .collect(alloc)
 }

@@ -49,7 +49,7 @@ pub fn domains_of(alloc: Global, placed: &Placed) -> Result<Domains, NoMemory>
 {
     let policy = placed.expanded().lawful().resolved();
     Ok(Domains {
-        devices: domain_devices(alloc, policy)?,
+        devices: Seq::of(domain_devices(alloc, policy)?),
         windows: windows_of_each(alloc, placed, policy.device_domains())?,
     })
 }

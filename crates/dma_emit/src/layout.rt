@@ -1,8 +1,9 @@
 //! Which page of the file has which table. Pages are numbered from 0, the root table's.
 ghost use Rattle.std.specs.Prelude.{◌≡◌, ◌+◌, ◌==◌, ◌<◌, ◌≤◌, length, map, IfOk};
 ghost use Rattle.std.specs.List.{list_any};
-ghost use Rattle.dma_emit.specs.Layout.{buses, domain_pages, has_device, on_bus, page_count, tables_page, windows_at};
+ghost use Rattle.dma_emit.specs.Layout.{buses, buses_below, domain_pages, has_device, on_bus, page_count, tables_page, windows_at};
 ghost use Rattle.dma_emit.specs.Ready.{AreWindows, IsReady};
+ghost use Rattle.dma_emit.specs.declared.layout.TheConstants.{BUSES};
 ghost use Rattle.ept_emit.specs.Pages.{ept_pages, range_of, ranges_of};
 ghost use Rattle.muen_num.specs.Range.{numbers_below};
 
@@ -11,11 +12,14 @@ use ept_emit::{GuestRange, Window, pages};
 use muen_num::NoMemory;
 use std::alloc::{AllocError, Global};
 
-/// How many buses there are.
-pub(crate) const BUSES: u16 = 256;
+/// How many entries a root table or a context table has.
+pub(crate) const ENTRIES: u16 = 256;
 
-/// How many devices and functions there are on a bus.
-pub(crate) const DEVFNS: u16 = 256;
+/// How many buses there are: a root table has an entry for each.
+pub(crate) const BUSES: u16 = ENTRIES;
+
+/// How many devices and functions there are on a bus: a context table has an entry for each.
+pub(crate) const DEVFNS: u16 = ENTRIES;
 
 /// Whether a device of some domain is on this bus.
 pub(crate) fn on_bus(domains: &Domains, bus: u16) -> bool
@@ -39,18 +43,19 @@ pub(crate) fn has_device(domains: &Domains, number: usize) -> bool
         .any(|device| device.domain == number)
 }
 
-// How many buses have a context table.
+// How many buses below a number have a context table.
+fn count_below(domains: &Domains, end: u16) -> usize
+    ensures { result ≡ length (buses_below domains.now end) }
+{
+    (0..end).filter(|bus| on_bus(domains, *bus)).count()
+}
+
+// How many buses have one.
 fn bus_count(domains: &Domains) -> u64
     ensures value { result ≡ length (buses domains.now) }
-    ensures few { result ≤ 256 }
+    ensures few { result ≤ BUSES }
 {
-    let mut count = 0;
-    for bus in 0..BUSES {
-        if on_bus(domains, bus) {
-            count += 1;
-        }
-    }
-    count
+    count_below(domains, BUSES) as u64
 }
 
 // The addresses of windows.

@@ -1,9 +1,9 @@
 //! The windows of a domain.
-ghost use Rattle.std.specs.Prelude.{◌≡◌, ◌++◌, [], IfOk, OnOk, option_map, position};
-ghost use Rattle.std.specs.List.{cons_option, filter_map, find};
+ghost use Rattle.std.specs.Prelude.{◌≡◌, IfOk, position};
+ghost use Rattle.std.specs.List.{filter_map};
 ghost use Rattle.std.specs.List.Sorted.{IsNonDecreasingBy, IsPermutation};
 ghost use Rattle.std.specs.Str.{bytes_eq};
-ghost use Rattle.dma_emit.specs.Domains.{mapped, place_of, windows_of};
+ghost use Rattle.dma_emit.specs.Domains.{mapped, windows_of};
 ghost use Rattle.dma_emit.specs.Ready.{HaveDifferentGuests};
 
 use ept_emit::{Leaf, Window};
@@ -11,7 +11,7 @@ use muen_num::{Name, NoMemory, Seq};
 use policy_types::Caching;
 use policy_types::source::{Domain, Mapping, Region};
 use region_alloc::Placed;
-use std::alloc::Global;
+use std::alloc::{AllocError, Global};
 
 // The number of the region of this name.
 fn region_number(memory: &[Region], name: &Name) -> Option<usize>
@@ -20,59 +20,32 @@ fn region_number(memory: &[Region], name: &Name) -> Option<usize>
     memory.iter().position(|region| region.name == *name)
 }
 
-// Where the region of this name lies.
-fn place_of(placed: &Placed, name: &Name) -> u64
-    ensures { result ≡ place_of placed.now name.now }
-{
-    let memory = placed.expanded().lawful().resolved().memory();
-    match region_number(memory, name) {
-        None => 0,
-        Some(number) => placed.addresses()[number],
-    }
-}
-
-// The region of this name.
-fn region_named<'a>(memory: &'a [Region], name: &Name) -> Option<&'a Region>
-    ensures { option_map (λ r. r.now) result ≡ find (λ r. bytes_eq r.name name.now) memory.now }
-{
-    memory.iter().find(|region| region.name == *name)
-}
-
 // A window of a domain, where its region lies.
 fn mapped(placed: &Placed, mapping: &Mapping) -> Option<Window>
     ensures { result ≡ mapped placed.now mapping.now }
 {
     let memory = placed.expanded().lawful().resolved().memory();
-    let region = region_named(memory, &mapping.region)?;
+    let number = region_number(memory, &mapping.region)?;
     Some(Window {
         guest: mapping.virtual_address,
-        size: region.size,
-        address: place_of(placed, &mapping.region),
+        size: memory[number].size,
+        address: placed.addresses()[number],
         rights: mapping.rights,
         caching: Caching::Uc,
         leaf: Leaf::Small,
     })
 }
 
-// Appends a window, if there is one.
-fn push_some(windows: &mut Vec<Window>, window: Option<Window>) -> Result<(), NoMemory>
-    ensures { OnOk result (windows.new.items ≡ windows.old.items ++ cons_option window []) }
-{
-    if let Some(window) = window {
-        windows.push(window)?;
-    }
-    Ok(())
-}
-
 // The windows of a domain, as the policy has them.
-fn in_turn(alloc: Global, placed: &Placed, domain: &Domain) -> Result<Vec<Window>, NoMemory>
+fn in_turn(alloc: Global, placed: &Placed, domain: &Domain) -> Result<Vec<Window>, AllocError>
     ensures { IfOk result (λ v. v.items ≡ filter_map (mapped placed.now) domain.now.memory) }
 {
-    let mut windows = Vec::new(alloc);
-    for mapping in domain.memory.items() {
-        push_some(&mut windows, mapped(placed, mapping))?;
-    }
-    Ok(windows)
+    domain
+        .memory
+        .items()
+        .iter()
+        .filter_map(|mapping| mapped(placed, mapping))
+        .collect(alloc)
 }
 
 // These windows, none at a lower address than one before it.

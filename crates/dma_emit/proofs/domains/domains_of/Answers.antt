@@ -21,7 +21,7 @@ pub returns-clause-ready : goal.returns-clause-ready
 returns-clause-ready c =
     let x = c.args.placed.now in
     let is = c.resolved-policy.ensures.value ∙ c.lawful.ensures ∙ ap (λ x. x.lawful) c.expanded.ensures.value in
-    let devices = c.in_ok-domain_devices.ensures ∙ ap (λ r. domain_devices (source_of r)) is in
+    let devices = c.of.ensures ∙ c.in_ok-domain_devices.ensures ∙ ap (λ r. domain_devices (source_of r)) is in
     let windows = c.in_ok-windows_of_each.ensures ∙ ap (map (windows_of x)) (c.device_domains.ensures ∙ ap (λ r. r.device_domains) is) in
-    let same : record { devices = c.in_ok-domain_devices.field-0; windows = c.in_ok-windows_of_each.field-0 } ≡ domains_of x = λ i. record { devices = devices i; windows = windows i } in
+    let same : record { devices = c.of.result; windows = c.in_ok-windows_of_each.field-0 } ≡ domains_of x = λ i. record { devices = devices i; windows = windows i } in
     subst IsReady (sym same) (ready x c.expanded.ensures.placed)

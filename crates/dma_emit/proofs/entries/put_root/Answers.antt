@@ -2,7 +2,7 @@ use Rattle.std.proofs.Common.{◌+◌, ◌++◌, length, sym, ap, ◌∙◌, ref
 use Rattle.dma_emit.specs.Entries.{entry_bytes, root_entry}
 use Rattle.dma_emit.specs.Layout.{on_bus}
 use Rattle.dma_emit.proofs.Layouts.{before_all, contexts_first}
-use Rattle.dma_emit.proofs.Lists.{filter_fails_next, filter_passes_next, flat_step, length_one_more}
+use Rattle.dma_emit.proofs.Lists.{filter_fails_next, filter_passes_next, flat_step, length_pushed}
 use Rattle.dma_emit.proofs.Words.{table_is}
 use Rattle.dma_emit.proofs.entries.put_root.Goals as goal
 use Rattle.dma_emit.proofs.entries.put_root.Goals.{then-on_bus, else-on_bus}
@@ -21,7 +21,7 @@ loop-bus-preserved c =
     (c.in_ok-put_entry.ensures ∙ ap (λ e. c.loop-bus.out.items ++ entry_bytes e) c.root_entry.ensures) in
     elim c.if-on_bus.branch [
       | then-on_bus w ↦
-          let more = ap length (filter_passes_next (on_bus d) n (n + 1) refl (sym c.on_bus.ensures ∙ w.if-on_bus.true)) ∙ length_one_more _ n in
+          let more = ap length (filter_passes_next (on_bus d) n (n + 1) refl (sym c.on_bus.ensures ∙ w.if-on_bus.true)) ∙ length_pushed _ n in
           record { next = omega (arith, c.loop-bus.invariant.next); bytes = bytes }
       | else-on_bus w ↦
           let same = ap length (filter_fails_next (on_bus d) n (n + 1) refl (sym c.on_bus.ensures ∙ w.if-on_bus.false)) in
