@@ -1,9 +1,9 @@
 -- The first window that doesn't end by an address.
-use Rattle.std.proofs.Common.{◌≡◌, ℕ, zero, suc, ◌+◌, ◌<◌, ◌≤◌, Bool, true, false, List, [], ◌∷◌, length, Option, None, Some, refl, sym, ap, subst, inl, inr, arith, ◌∙◌}
-use Rattle.std.specs.Prelude.{◌&&◌, nat_le, slice_get, slice_index_or}
+use Rattle.std.proofs.Common.{◌≡◌, ℕ, zero, suc, ◌+◌, ◌<◌, ◌≤◌, Bool, true, false, List, [], ◌∷◌, length, None, Some, refl, sym, ap, subst, inl, inr, arith}
+use Rattle.std.specs.Prelude.{◌&&◌, nat_le, slice_index_or}
 use Rattle.std.specs.List.{All, find}
 use Rattle.std.specs.List.Sorted.{IsPartitionPoint}
-use Rattle.std.proofs.lemmas.Bool.{cases_lt, and_from, leb-true, leb-false, le-leb, lt-ltb, lt-leb, le-ltb, true≢false}
+use Rattle.std.proofs.lemmas.Bool.{cases_lt, and_from, leb-true, leb-false, le-leb, lt-ltb, lt-leb, le-ltb}
 use Rattle.ept_check.specs.Pieces.{Holds, IsApart}
 use Rattle.ept_check.specs.Sound.{AreApart, IsWhole}
 use Rattle.ept_emit.specs.Emitted.{holds, window_at}

@@ -9,7 +9,7 @@ use Rattle.ept_check.proofs.Sizes.{above_is, before_is, here_is, index_is, not_b
 use Rattle.ept_check.specs.Entries.{leads_on, pages}
 use Rattle.ept_check.specs.Faults.{is_clash, is_outside, is_twice, levels, same_path, same_table}
 use Rattle.ept_check.specs.Known.{IsBefore, IsOnePath, Known, Reads, by_entry, come}
-use Rattle.ept_check.specs.Tables.{Tables, addr_of, addresses, root_at, subject_of, table_read}
+use Rattle.ept_check.specs.Tables.{Tables, addr_of, addresses, root_at, table_read}
 use Rattle.machine_layout.specs.Walks.{addresses_from, bits_of, entry_size, goes_on, index_at}
 
 abbrev number_or : Option ℕ → ℕ

@@ -1,7 +1,7 @@
 -- An entry of a table that memory has.
-use Rattle.std.proofs.Common.{◌≡◌, ℕ, ◌+◌, ◌*◌, ◌/◌, ◌%◌, ◌<◌, true, List, Option, Some, None, ap, ◌∙◌, refl, arith}
-use Rattle.std.specs.Prelude.{drop, is_some, option_map, take}
-use Rattle.machine_layout.specs.Memory.{Page, is_there, le_number, page_of}
+use Rattle.std.proofs.Common.{◌≡◌, ℕ, ◌+◌, ◌*◌, ◌/◌, ◌%◌, ◌<◌, true, List, Option, Some, None, refl, arith}
+use Rattle.std.specs.Prelude.{is_some, option_map}
+use Rattle.machine_layout.specs.Memory.{Page, page_of}
 use Rattle.machine_layout.specs.PageFields.{number_at}
 use Rattle.machine_layout.specs.Walks.{entry_of}
 

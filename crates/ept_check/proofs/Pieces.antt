@@ -1,10 +1,10 @@
 -- An entry that references no table is compared once for each piece between borders of windows.
-use Rattle.std.proofs.Common.{◌≡◌, ℕ, zero, suc, ◌+◌, ◌-◌, ◌*◌, ◌/◌, ◌%◌, ◌<◌, ◌≤◌, ◌⊎◌, Bool, true, false, cond, List, [], ◌∷◌, Option, Some, None, refl, sym, ap, subst, ◌∙◌, inl, inr, arith}
+use Rattle.std.proofs.Common.{◌≡◌, ℕ, ◌+◌, ◌-◌, ◌*◌, ◌/◌, ◌%◌, ◌<◌, ◌≤◌, ◌⊎◌, Bool, true, false, cond, List, [], ◌∷◌, Option, Some, None, refl, sym, ap, subst, ◌∙◌, inl, inr, arith}
 use Rattle.std.specs.Prelude.{bit_and, not, ◌&&◌, ◌||◌, ◌==◌, nat_le, nat_lt}
 use Rattle.std.specs.List.{All, find, list_any}
 use Rattle.std.proofs.lemmas.Bool.{cases_Bool, and_parts, eqb-true, eq-eqb, leb-true, ltb-true, le-leb, lt-ltb, lt-leb, le-ltb}
 use Rattle.std.proofs.lemmas.List.Elements.{All-head, All-tail}
-use Rattle.ept_check.proofs.Sizes.{addr_on, subject_on, within}
+use Rattle.ept_check.proofs.Sizes.{addr_on, within}
 use Rattle.ept_check.specs.Entries.{ended, pages}
 use Rattle.ept_check.specs.Faults.{contents, fault, is_at, is_lack, is_leak, kinds, same}
 use Rattle.ept_check.specs.Pieces.{IsApart, led}
@@ -12,7 +12,7 @@ use Rattle.ept_check.specs.Search.{when}
 use Rattle.ept_check.specs.Sound.{AreWindows, HasPages, IsWhole}
 use Rattle.ept_check.specs.Tables.{addr_of}
 use Rattle.ept_check.specs.declared.types.FaultKind.TheVariants.{Lacks, Leak}
-use Rattle.ept_emit.specs.Emitted.{holds, translation, translation_in, window_at}
+use Rattle.ept_emit.specs.Emitted.{holds, translation, translation_in}
 use Rattle.ept_emit.specs.declared.window.Window.{Window}
 use Rattle.machine_layout.specs.Walks.{bits_of, entry_size, is_misconfigured, is_present, leaf_end}
 use Rattle.machine_layout.specs.declared.walk.Walk.{Walk}

@@ -1,5 +1,5 @@
 -- What an entry leads a walk to: on to a table, or to an end.
-use Rattle.std.proofs.Common.{◌≡◌, ℕ, zero, suc, ◌+◌, ◌*◌, ◌%◌, Bool, true, false, cond, Option, Some, None, refl}
+use Rattle.std.proofs.Common.{◌≡◌, ℕ, ◌+◌, ◌*◌, ◌%◌, Bool, true, false, cond, Some, refl}
 use Rattle.std.specs.Prelude.{◌&&◌, ◌||◌, bit_and, not}
 use Rattle.ept_check.specs.Entries.{ended, leads_on}
 use Rattle.machine_layout.specs.Walks.{bits_of, entry_size, is_leaf, is_misconfigured, is_present, leaf_end, reads}

@@ -1,6 +1,6 @@
 -- No fault, and soundness.
-use Rattle.std.proofs.Common.{◌≡◌, ℕ, zero, suc, ◌+◌, ◌*◌, ◌/◌, ◌%◌, ◌^◌, ◌<◌, ◌≤◌, Bool, true, false, List, [], ◌∷◌, Option, Some, None, IfSome, length, refl, sym, ap, subst, ◌∙◌, inl, inr, arith}
-use Rattle.std.specs.Prelude.{◌&&◌, not, slice_index, slice_index_or}
+use Rattle.std.proofs.Common.{◌≡◌, ℕ, suc, ◌+◌, ◌*◌, ◌/◌, ◌%◌, ◌^◌, ◌<◌, ◌≤◌, Bool, true, false, List, [], ◌∷◌, Option, Some, None, IfSome, length, refl, sym, ap, subst, ◌∙◌, inl, inr, arith}
+use Rattle.std.specs.Prelude.{not, slice_index, slice_index_or}
 use Rattle.std.specs.List.{All, list_any}
 use Rattle.std.proofs.lemmas.Bool.{cases_Bool, cases_lt, and_parts, and_from, eqb-true, true≢false}
 use Rattle.std.proofs.lemmas.Option.{slice_get-get_or, get_or_from_slice_get, slice_get_within}
@@ -16,7 +16,7 @@ use Rattle.ept_check.specs.Faults.{contents, fault, fault_at, is_clash, is_outsi
 use Rattle.ept_check.specs.Known.{IsOnePath, Reads}
 use Rattle.ept_check.specs.Search.{first_from, when}
 use Rattle.ept_check.specs.Sound.{AreSound, AreWindows, HasOnePathPerTable}
-use Rattle.ept_check.specs.Tables.{Tables, addr_of, addresses, look, look_at, root_at, subject_of, table_read, walk, walk_at, windows_at}
+use Rattle.ept_check.specs.Tables.{Tables, addr_of, addresses, look, look_at, root_at, subject_of, table_read, walk, walk_at}
 use Rattle.ept_check.specs.declared.types.FaultKind.{FaultKind}
 use Rattle.ept_check.specs.declared.types.FaultKind.TheVariants.{Outside, Twice}
 use Rattle.ept_check.specs.declared.types.TableFault.{TableFault}

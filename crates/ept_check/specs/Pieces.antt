@@ -1,5 +1,5 @@
 -- Parts of the work.
-use Rattle.std.specs.Prelude.{◌≡◌, Option, ℕ, ◌+◌, ◌/◌, ◌<◌, ◌≤◌, ◌⊎◌, not, Bool}
+use Rattle.std.specs.Prelude.{Option, ℕ, ◌+◌, ◌/◌, ◌<◌, ◌≤◌, ◌⊎◌, not, Bool}
 use Rattle.std.specs.List.{list_any}
 use Rattle.ept_check.specs.Entries.{ended}
 use Rattle.ept_check.specs.Sound.{IsWhole}

@@ -1,6 +1,6 @@
 -- A span that fits is that of the thing, and the other way.
-use Rattle.std.proofs.Common.{◌≡◌, ℕ, ◌*◌, ◌==◌, Bool, true, false, cond, List, Option, Some, None, refl, sym, ap, subst, ◌∙◌, arith}
-use Rattle.std.specs.Prelude.{◌&&◌, replicate}
+use Rattle.std.proofs.Common.{◌≡◌, ℕ, ◌*◌, true, false, List, Option, Some, None, refl, sym, ap, subst, ◌∙◌}
+use Rattle.std.specs.Prelude.{replicate}
 use Rattle.std.specs.Str.{bytes_eq}
 use Rattle.std.proofs.lemmas.Bool.{and_from, and_parts, eq-eqb, eqb-true}
 use Rattle.std.proofs.lemmas.Slice.Eq.{bytes_eq-Decides}
@@ -12,7 +12,6 @@ use Rattle.image_pack.specs.declared.parts.SpanKind.{SpanKind}
 use Rattle.image_pack.specs.declared.parts.SpanKind.TheVariants.{Own, Channel, Provided, Kernel, Device}
 use Rattle.image_pack.specs.declared.parts.SpanPart.{SpanPart}
 use Rattle.image_soundness.specs.Memory.{bytes_of}
-use Rattle.image_soundness.specs.Sizes.{declared_size}
 use Rattle.image_soundness.specs.Sound.{IsSpanOf}
 use Rattle.muen_num.specs.declared.limits.TheConstants.{PAGE}
 use Rattle.muen_num.specs.declared.tag.Tag.{Tag}
@@ -21,7 +20,7 @@ use Rattle.muen_num.specs.declared.tag.TagPart.TheVariants.{Whole, Named, State,
 use Rattle.policy_lawful.proofs.Indexes.{same_self}
 use Rattle.policy_lawful.specs.Contents.{Held, initial_bytes}
 use Rattle.policy_lawful.specs.Resolution.{Resolution, source_of}
-use Rattle.policy_lawful.specs.Thing.{Thing, thing_tag}
+use Rattle.policy_lawful.specs.Thing.{Thing}
 
 -- ---- parts of owners, and kinds
 

@@ -1,15 +1,15 @@
 -- Which thing is the first without its span.
-use Rattle.std.proofs.Common.{◌≡◌, ℕ, zero, suc, ◌+◌, ◌-◌, ◌<◌, ◌≤◌, true, false, All, List, [], ◌∷◌, length, map, get_or, Option, Some, None, refl, sym, ap, subst, ◌∙◌, inl, inr, arith}
+use Rattle.std.proofs.Common.{◌≡◌, ℕ, zero, suc, ◌<◌, ◌≤◌, true, false, All, List, [], ◌∷◌, length, Option, Some, None, refl, sym, ap, subst, ◌∙◌, arith}
 use Rattle.std.specs.Prelude.{option_map, slice_get, slice_index_or}
 use Rattle.std.specs.Option.{option_map_or}
 use Rattle.std.specs.List.{AllZip}
-use Rattle.std.proofs.lemmas.Bool.{cases_lt, true≢false}
+use Rattle.std.proofs.lemmas.Bool.{true≢false}
 use Rattle.std.proofs.lemmas.List.{length-map}
 use Rattle.std.proofs.lemmas.Option.{get_or_from_slice_get, slice_get-get_or, slice_get-map, slice_get_past, slice_get_within}
 use Rattle.image_checks.proofs.Fitting.{fits_from, span_from}
 use Rattle.image_checks.proofs.SpansOfNumbers.{as_many, no_span, span_of, thing_spans_are}
-use Rattle.image_checks.proofs.Wanted.{as_many_wanted, tag_of, wanted_at}
-use Rattle.image_checks.specs.Contents.{FitsAt, HasSpanAt, IsFirstOther, expected_of, fits, owner_at, thing_indexes}
+use Rattle.image_checks.proofs.Wanted.{as_many_wanted, wanted_at}
+use Rattle.image_checks.specs.Contents.{FitsAt, HasSpanAt, IsFirstOther, expected_of, fits, thing_indexes}
 use Rattle.image_checks.specs.declared.contents.ExpectedSpan.{ExpectedSpan}
 use Rattle.image_emit.specs.Made.{thing_bytes}
 use Rattle.image_pack.specs.Parts.{IsParts}
@@ -20,7 +20,7 @@ use Rattle.image_soundness.specs.Sound.{AreContents, IsSpanOf, thing_spans}
 use Rattle.muen_num.proofs.Lists.{there}
 use Rattle.policy_lawful.specs.Contents.{Held}
 use Rattle.policy_lawful.specs.Resolution.{IsResolved, Resolution, source_of}
-use Rattle.policy_lawful.specs.Thing.{Thing, thing_tag, things_of}
+use Rattle.policy_lawful.specs.Thing.{thing_tag, things_of}
 
 -- an element that is read
 pub got : {X : Type 0} (xs : List X) (k : ℕ) (x : X) → k < length xs → x ≡ slice_index_or xs k x → slice_get xs k ≡ Some x

@@ -1,6 +1,6 @@
-use Rattle.std.proofs.Common.{◌≡◌, Some, None, sym, ◌∙◌, arith}
+use Rattle.std.proofs.Common.{sym, ◌∙◌, arith}
 use Rattle.machine_layout.specs.Memory.{is_there}
-use Rattle.ept_check.proofs.Steps.{piece_end, piece_found, piece_here, piece_start, piece_step}
+use Rattle.ept_check.proofs.Steps.{piece_found, piece_here, piece_start, piece_step}
 use Rattle.ept_check.proofs.compare.compare.Goals as goal
 
 pub loop-at-init : goal.loop-at-init

@@ -1,11 +1,10 @@
-use Rattle.std.proofs.Common.{ℕ, ◌+◌, ◌<◌, ◌≤◌, ◌≡◌, List, Some, length, refl, sym, ap, subst, ◌∙◌, inl, inr, arith}
+use Rattle.std.proofs.Common.{ℕ, ◌<◌, ◌≡◌, List, Some, length, refl, sym, ap, subst, ◌∙◌, inl, inr, arith}
 use Rattle.std.specs.Prelude.{slice_get}
 use Rattle.std.proofs.lemmas.Bool.{cases_lt}
 use Rattle.std.proofs.lemmas.Option.{get_or_from_slice_get}
 use Rattle.image_checks.proofs.SpansOfNumbers.{as_many}
 use Rattle.image_checks.proofs.Telling.{IsGiven, fit_here, got, none_found, not_here, tell_none, tell_span, tell_thing}
-use Rattle.image_checks.specs.Contents.{FitsAt, IsFirstOther, expected_of, fits}
-use Rattle.image_pack.specs.Parts.{IsParts}
+use Rattle.image_checks.specs.Contents.{FitsAt, IsFirstOther, expected_of}
 use Rattle.image_pack.specs.declared.parts.Image.{Image}
 use Rattle.image_pack.specs.declared.parts.SpanPart.{SpanPart}
 use Rattle.policy_lawful.specs.Resolution.{IsResolved, Resolution, source_of}
