@@ -18,7 +18,7 @@ plan_of : (p : Source) (i : Image) → HasPlanAndEvents p i → HasPlan p i
 plan_of p i h = record { cpus = h.cpus; plan = h.plan; tau0 = h.tau0 }
 
 -- where each is that of the policy, none is the first that is not
-none_first : {X : Type 0} (P : X → Type 0) (xs : List X) (k : ℕ) → All P xs → FailsFirst P xs k → ⊥
+pub none_first : {X : Type 0} (P : X → Type 0) (xs : List X) (k : ℕ) → All P xs → FailsFirst P xs k → ⊥
 none_first P xs k h first = let x = there xs k first.within in first.here x.0 (h k x.0 first.within)
 
 -- **an owner that is found** shows that plan and events are not the policy's
@@ -48,7 +48,7 @@ module _ (p : Source) (i : Image) (many : HasAsMany p i) (subjects : HasSubjects
 -- ---- there is one answer
 
 -- two first elements for which it fails are one
-one_first : {X : Type 0} (P : X → Type 0) (xs : List X) (j k : ℕ) → FailsFirst P xs j → FailsFirst P xs k → j ≡ k
+pub one_first : {X : Type 0} (P : X → Type 0) (xs : List X) (j k : ℕ) → FailsFirst P xs j → FailsFirst P xs k → j ≡ k
 one_first P xs j k a b =
     elim (cases_order j k) [
       | inl e ↦ e

@@ -6,3 +6,5 @@ pub mod InTurn
 pub mod Leads
 pub mod Rooms
 pub mod TablePages
+pub mod Deciding
+pub mod VerdictLaws

@@ -2,3 +2,4 @@ pub mod Filled
 pub mod Stand
 pub mod TablePages
 pub mod Windows
+pub mod Verdict

@@ -1,9 +1,13 @@
-//! What the check of EPT tables needs to know of an image and its policy: the pages of its tables, and
-//! each subject's windows where the image has what they show.
+//! The verdict on an image, whoever made it: whether it is sound for a policy and its files, or what is
+//! the first that makes it unsound.
 #![tactic(auto)]
 
+mod fault;
 mod pages;
+mod verdict;
 mod windows;
 
+pub use fault::{Condition, Fault, Owner};
 pub use pages::table_pages;
+pub use verdict::{verdicts_tell, verify};
 pub use windows::subject_tables;

@@ -1,0 +1,235 @@
+-- What a verdict tells of an image, and that there is one.
+use Rattle.std.proofs.Common.{◌≡◌, ◌⊎◌, ℕ, zero, suc, ◌<◌, List, [], ◌∷◌, length, zip, Option, Some, None, refl, sym, ap, ◌∙◌, inl, inr, arith}
+use Rattle.std.specs.Prelude.{option_map, slice_get}
+use Rattle.std.specs.Option.{option_map_or}
+use Rattle.std.specs.List.{AllZip}
+use Rattle.std.proofs.lemmas.Bool.{cases_order}
+use Rattle.std.proofs.lemmas.Option.{slice_get_within}
+use Rattle.ept_check.proofs.Given.{all_fine}
+use Rattle.ept_check.proofs.Sounds.{no_faults, sound as tables_sound, unsound as tables_unsound}
+use Rattle.ept_check.specs.Faults.{table_fault}
+use Rattle.ept_check.specs.Sound.{AreSound}
+use Rattle.ept_check.specs.declared.types.FaultKind.TheVariants.{Twice as TwiceFault}
+use Rattle.ept_check.specs.declared.types.TableFault.{TableFault}
+use Rattle.expand_kernel.specs.Expansion.{Expansion, IsExpanded}
+use Rattle.image_checks.proofs.OwnPageLaws.{each_shares_none}
+use Rattle.image_checks.proofs.PlanFaults.{a_plan_fault_is_none_of_a_sound_image, none_first, one_first, one_plan_fault}
+use Rattle.image_checks.specs.Contents.{IsFirstOther, owner_at}
+use Rattle.image_checks.specs.OwnPages.{SharesWithNone}
+use Rattle.image_pack.specs.Parts.{IsParts}
+use Rattle.image_pack.specs.declared.parts.Image.{Image}
+use Rattle.image_pack.specs.declared.parts.SubjectPart.{SubjectPart}
+use Rattle.image_soundness.specs.Memory.{Span, memory_of}
+use Rattle.image_soundness.specs.Sound.{AreContents, ForEachSubject, HasArea, HasBitmaps, HasPlanAndEvents, HaveOwnPages, IsFresh, IsSound, IsSpanOf, thing_spans}
+use Rattle.image_verify.proofs.Checked.{stand_for}
+use Rattle.image_verify.specs.Filled.{IsFilled}
+use Rattle.image_verify.specs.Stand.{StandForTables}
+use Rattle.image_verify.specs.TablePages.{pages_of_all}
+use Rattle.image_verify.specs.Verdict.{FailsFirstFor, FirstOf, Holds, IsFailure, IsTableFault, IsTwice, IsVerdict, by_kind, common, in_order, named, plan_owner, subject_name, subject_owner, tables_of}
+use Rattle.image_verify.specs.Windows.{tables_of_subjects}
+use Rattle.image_verify.specs.declared.fault.Condition.{Condition}
+use Rattle.image_verify.specs.declared.fault.Condition.TheVariants.{Contents, Tables as TableEntries, Bitmaps, Areas, States, OwnPages, Plan}
+use Rattle.image_verify.specs.declared.fault.Fault.{Fault}
+use Rattle.image_verify.specs.declared.fault.Fault.TheVariants.{Fails}
+use Rattle.image_verify.specs.declared.fault.Owner.{Owner}
+use Rattle.image_verify.specs.declared.fault.Owner.TheVariants.{Named}
+use Rattle.machine_layout.specs.Memory.{is_there}
+use Rattle.muen_num.specs.Range.{numbers_below}
+use Rattle.policy_lawful.specs.Contents.{Held}
+use Rattle.policy_lawful.specs.Resolution.{Resolution, source_of}
+use Rattle.policy_lawful.specs.Thing.{Thing, thing_tag, things_of}
+use Rattle.policy_types.specs.declared.source.Source.{Source}
+use Rattle.policy_types.specs.declared.source.Subject.{Subject}
+use Rattle.proof_build.specs.Built.{HasOnePathPerTable}
+
+none_some : {X : Type 0} (x : X) → None ≡ Some x → ⊥
+none_some x h = absurd (cc)
+
+abbrev or_this : {X : Type 0} → X → Option X → X
+or_this d None = d
+or_this d (Some x) = x
+
+some_same : {X : Type 0} (x y : X) → Some x ≡ Some y → x ≡ y
+some_same x y h = ap (or_this x) h
+
+-- ---- contents
+
+-- what two lists have at an index
+record HasBoth {X Y : Type 0} (R : X → Y → Type 0) (xs : List X) (ys : List Y) (k : ℕ) : Type 0 where
+  one : X
+  other : Y
+  at : slice_get xs k ≡ Some one
+  beside : slice_get ys k ≡ Some other
+  is : R one other
+
+zip_there : {X Y : Type 0} (R : X → Y → Type 0) (xs : List X) (ys : List Y) → AllZip R xs ys → (k : ℕ) → (k < length xs) ⊎ (k < length ys) → HasBoth R xs ys k
+zip_there R [] [] h k (inl l) = absurd (omega (arith, l))
+zip_there R [] [] h k (inr l) = absurd (omega (arith, l))
+zip_there R [] (y ∷ ys) h k l = absurd h
+zip_there R (x ∷ xs) [] h k l = absurd h
+zip_there R (x ∷ xs) (y ∷ ys) h zero l = record { one = x; other = y; at = refl; beside = refl; is = h.0 }
+zip_there R (x ∷ xs) (y ∷ ys) h (suc k) (inl l) =
+    let b = zip_there R xs ys h.1 k (inl (omega (arith, l))) in record { one = b.one; other = b.other; at = b.at; beside = b.beside; is = b.is }
+zip_there R (x ∷ xs) (y ∷ ys) h (suc k) (inr l) =
+    let b = zip_there R xs ys h.1 k (inr (omega (arith, l))) in record { one = b.one; other = b.other; at = b.at; beside = b.beside; is = b.is }
+
+abbrev owner_of : Option Thing → Option Span → Option (List ℕ)
+owner_of o e = option_map_or (λ x. Some (thing_tag x).owner) o (option_map_or (λ (s : Span). Some s.0.tag.owner) e None)
+
+owner_there : (xs : List Thing) (es : List Span) (k : ℕ) (o : Option Thing) (e : Option Span) (owner : List ℕ) → slice_get xs k ≡ o → slice_get es k ≡ e → owner_of o e ≡ Some owner → (k < length xs) ⊎ (k < length es)
+owner_there xs es k (Some x) e owner a b h = inl (slice_get_within xs k x a)
+owner_there xs es k None (Some s) owner a b h = inr (slice_get_within es k s b)
+owner_there xs es k None None owner a b h = absurd (none_some owner h)
+
+-- where the contents are the policy's, none is the first that isn't
+no_other : (p : Source) (files : Held) (i : Image) (owner : List ℕ) → AreContents p files i → IsFirstOther p files i owner → ⊥
+no_other p files i owner all first =
+    let low = owner_there (things_of p) (thing_spans i) first.k (slice_get (things_of p) first.k) (slice_get (thing_spans i) first.k) owner refl refl first.is in
+    let b = zip_there (IsSpanOf p files) (things_of p) (thing_spans i) all first.k low in
+    first.here (record { thing = b.one; span = b.other; is = b.at; at = b.beside; of = b.is })
+
+one_other : (p : Source) (files : Held) (i : Image) (a b : List ℕ) → IsFirstOther p files i a → IsFirstOther p files i b → a ≡ b
+one_other p files i a b x y =
+    let same : x.k ≡ y.k =
+    elim (cases_order x.k y.k) [
+      | inl e ↦ e
+      | inr later ↦ elim later [
+        | inl l ↦ absurd (x.here (y.before x.k l))
+        | inr l ↦ absurd (y.here (x.before y.k l))
+      ]
+    ] in
+    some_same a b (sym x.is ∙ ap (owner_at p i) same ∙ y.is)
+
+-- ---- what the kernel keeps, and the plan
+
+-- a condition that holds doesn't fail
+fails_not : (r : Resolution) (i : Image) (c : Condition) (owner : Owner) → FailsFirstFor r i c owner → Holds (source_of r) i c → ⊥
+fails_not r i Bitmaps owner h all = none_first (λ (e : Subject × SubjectPart). HasBitmaps (source_of r) i e.0 e.1) (zip (source_of r).subjects i.subjects) h.k all h.first
+fails_not r i Areas owner h all = none_first (λ (e : Subject × SubjectPart). HasArea i e.0 e.1) (zip (source_of r).subjects i.subjects) h.k all h.first
+fails_not r i States owner h all = none_first (λ (e : Subject × SubjectPart). IsFresh i e.0 e.1) (zip (source_of r).subjects i.subjects) h.k all h.first
+fails_not r i OwnPages owner h all =
+    let parts = common (source_of r) i in
+    none_first (SharesWithNone parts) (numbers_below (length parts)) h.k (each_shares_none parts all) h.first
+fails_not r i Plan owner h all = a_plan_fault_is_none_of_a_sound_image (source_of r) i h.differs h.first all
+fails_not r i Contents owner h all = absurd h
+fails_not r i TableEntries owner h all = absurd h
+
+-- it fails first for one
+one_owner : (r : Resolution) (i : Image) (c : Condition) (a b : Owner) → FailsFirstFor r i c a → FailsFirstFor r i c b → a ≡ b
+one_owner r i Bitmaps a b x y = x.is ∙ ap (subject_owner r) (one_first (λ (e : Subject × SubjectPart). HasBitmaps (source_of r) i e.0 e.1) (zip (source_of r).subjects i.subjects) x.k y.k x.first y.first) ∙ sym y.is
+one_owner r i Areas a b x y = x.is ∙ ap (subject_owner r) (one_first (λ (e : Subject × SubjectPart). HasArea i e.0 e.1) (zip (source_of r).subjects i.subjects) x.k y.k x.first y.first) ∙ sym y.is
+one_owner r i States a b x y = x.is ∙ ap (subject_owner r) (one_first (λ (e : Subject × SubjectPart). IsFresh i e.0 e.1) (zip (source_of r).subjects i.subjects) x.k y.k x.first y.first) ∙ sym y.is
+one_owner r i OwnPages a b x y =
+    let parts = common (source_of r) i in
+    x.is ∙ ap (subject_owner r) (one_first (SharesWithNone parts) (numbers_below (length parts)) x.k y.k x.first y.first) ∙ sym y.is
+one_owner r i Plan a b x y =
+    x.is ∙ ap (plan_owner r i) (some_same x.differs y.differs (one_plan_fault (source_of r) i (Some x.differs) (Some y.differs) x.first y.first)) ∙ sym y.is
+one_owner r i Contents a b x y = absurd x
+one_owner r i TableEntries a b x y = absurd x
+
+-- there is one first
+one_in_order : (r : Resolution) (i : Image) (Rest : Option Fault → Type 0) → ((a b : Option Fault) → Rest a → Rest b → a ≡ b) → (cs : List Condition) (a b : Option Fault) → FirstOf r i Rest cs a → FirstOf r i Rest cs b → a ≡ b
+one_in_order r i Rest one [] a b x y = one a b x y
+one_in_order r i Rest one (c ∷ cs) a b (inl x) (inl y) = x.is ∙ ap (λ owner. Some (Fails c owner)) (one_owner r i c x.owner y.owner x.fails y.fails) ∙ sym y.is
+one_in_order r i Rest one (c ∷ cs) a b (inl x) (inr y) = absurd (fails_not r i c x.owner x.fails y.0)
+one_in_order r i Rest one (c ∷ cs) a b (inr x) (inl y) = absurd (fails_not r i c y.owner y.fails x.0)
+one_in_order r i Rest one (c ∷ cs) a b (inr x) (inr y) = one_in_order r i Rest one cs a b x.1 y.1
+
+-- where all hold the rest says what it is
+last_of : (r : Resolution) (i : Image) (Rest : Option Fault → Type 0) → ((c : Condition) → Holds (source_of r) i c) → (cs : List Condition) (o : Option Fault) → FirstOf r i Rest cs o → Rest o
+last_of r i Rest all [] o h = h
+last_of r i Rest all (c ∷ cs) o (inl h) = absurd (fails_not r i c h.owner h.fails (all c))
+last_of r i Rest all (c ∷ cs) o (inr h) = last_of r i Rest all cs o h.1
+
+each_holds : (r : Resolution) (files : Held) (i : Image) → IsSound (source_of r) files i → (c : Condition) → Holds (source_of r) i c
+each_holds r files i s Bitmaps = s.bitmaps
+each_holds r files i s Areas = s.msr_areas
+each_holds r files i s States = s.fresh_states
+each_holds r files i s OwnPages = s.own_pages
+each_holds r files i s Plan = s.plan_and_events
+each_holds r files i s Contents = tt
+each_holds r files i s TableEntries = tt
+
+no_failure : (r : Resolution) (i : Image) (c : Condition) → IsFailure r i c None → ⊥
+no_failure r i c h = none_some (Fails c h.owner) h.is
+
+-- what holds where none fails
+pub record AreKept (p : Source) (i : Image) : Type 0 where
+  pub bitmaps : ForEachSubject p i (HasBitmaps p i)
+  pub areas : ForEachSubject p i (HasArea i)
+  pub states : ForEachSubject p i (IsFresh i)
+  pub own : HaveOwnPages p i
+  pub plan : HasPlanAndEvents p i
+
+pub are_kept : (r : Resolution) (i : Image) (Rest : Option Fault → Type 0) → FirstOf r i Rest in_order None → AreKept (source_of r) i × Rest None
+are_kept r i Rest (inl h) = absurd (no_failure r i Bitmaps h)
+are_kept r i Rest (inr (b, inl h)) = absurd (no_failure r i Areas h)
+are_kept r i Rest (inr (b, inr (a, inl h))) = absurd (no_failure r i States h)
+are_kept r i Rest (inr (b, inr (a, inr (s, inl h)))) = absurd (no_failure r i OwnPages h)
+are_kept r i Rest (inr (b, inr (a, inr (s, inr (o, inl h))))) = absurd (no_failure r i Plan h)
+are_kept r i Rest (inr (b, inr (a, inr (s, inr (o, inr (plan, rest)))))) = (record { bitmaps = b; areas = a; states = s; own = o; plan = plan }, rest)
+
+-- ---- tables
+
+standing : (x : Expansion) (files : Held) (i : Image) → IsFilled x files i → StandForTables (source_of x.lawful) i (pages_of_all i.spans) (tables_of_subjects x i)
+standing x files i h = stand_for x i (tables_of_subjects x i) refl files (pages_of_all i.spans) h refl
+
+filled : (x : Expansion) (files : Held) (i : Image) → IsExpanded x → IsSound (source_of x.lawful) files i → IsFilled x files i
+filled x files i e s = record { expanded = e; parts = s.parts; contents = s.contents; many = s.plan_and_events.many }
+
+are_sound : (x : Expansion) (files : Held) (i : Image) → IsExpanded x → IsSound (source_of x.lawful) files i → AreSound (tables_of x i)
+are_sound x files i e s = (standing x files i (filled x files i e s)).sound s.walks s.tables
+
+none_found : (r : Resolution) (o : Option TableFault) → None ≡ option_map (named r) o → o ≡ None
+none_found r None h = refl
+none_found r (Some f) h = absurd (none_some (named r f) h)
+
+twice_found : (r : Resolution) (o : Option TableFault) (f : Fault) → Some f ≡ option_map (named r) o → ((t : TableFault) → Some t ≡ o → t.kind ≡ TwiceFault) → IsTwice f
+twice_found r None f h k = absurd (none_some f (sym h))
+twice_found r (Some t) f h k = record { subject = subject_name r t.subject; addr = t.addr; is = some_same f (named r t) h ∙ ap (by_kind r t) (k t refl) }
+
+-- ---- laws
+
+-- **without a fault** the image is sound
+pub no_fault_is_sound : (x : Expansion) (files : Held) (i : Image) → IsExpanded x → IsParts i → IsVerdict x files i None → IsSound (source_of x.lawful) files i
+no_fault_is_sound x files i e parts (inl h) = absurd (none_some _ h.is)
+no_fault_is_sound x files i e parts (inr (contents, first)) =
+    let k = are_kept x.lawful i (IsTableFault x i) first in
+    let stand = standing x files i (record { expanded = e; parts = parts; contents = contents; many = k.0.plan.many }) in
+    let none = none_found x.lawful (table_fault (tables_of x i)) k.1 in
+    let tables : AreSound (tables_of x i) = tables_sound (tables_of x i) (all_fine (is_there (memory_of i)) (tables_of_subjects x i) stand.checkable.windows) none in
+    record {
+      lawful = e.lawful;
+      parts = parts;
+      contents = contents;
+      walks = stand.walks tables;
+      tables = stand.reads tables;
+      bitmaps = k.0.bitmaps;
+      msr_areas = k.0.areas;
+      fresh_states = k.0.states;
+      own_pages = k.0.own;
+      plan_and_events = k.0.plan;
+    }
+
+-- of a sound image the verdict is that on its tables
+tables_only : (x : Expansion) (files : Held) (i : Image) (o : Option Fault) → IsSound (source_of x.lawful) files i → IsVerdict x files i o → IsTableFault x i o
+tables_only x files i o s (inl h) = absurd (no_other (source_of x.lawful) files i h.owner s.contents h.fails)
+tables_only x files i o s (inr h) = last_of x.lawful i (IsTableFault x i) (each_holds x.lawful files i s) in_order o h.1
+
+-- **any fault** but that a table is read on two paths tells that it isn't sound
+pub a_fault_is_none_of_a_sound_image : (x : Expansion) (files : Held) (i : Image) (f : Fault) → IsExpanded x → IsVerdict x files i (Some f) → IsSound (source_of x.lawful) files i → IsTwice f
+a_fault_is_none_of_a_sound_image x files i f e v s =
+    twice_found x.lawful (table_fault (tables_of x i)) f (tables_only x files i (Some f) s v) (λ t is. tables_unsound (tables_of x i) t is (are_sound x files i e s))
+
+-- **a sound image** no table of which is read on two paths has none
+pub a_sound_image_has_no_fault : (x : Expansion) (files : Held) (i : Image) (o : Option Fault) → IsExpanded x → IsVerdict x files i o → IsSound (source_of x.lawful) files i → HasOnePathPerTable i → o ≡ None
+a_sound_image_has_no_fault x files i o e v s once =
+    tables_only x files i o s v
+    ∙ ap (option_map (named x.lawful)) (no_faults (tables_of x i) (are_sound x files i e s) ((standing x files i (filled x files i e s)).one_path once))
+
+-- **there is one verdict**
+pub one_verdict : (x : Expansion) (files : Held) (i : Image) (a b : Option Fault) → IsVerdict x files i a → IsVerdict x files i b → a ≡ b
+one_verdict x files i a b (inl u) (inl v) = u.is ∙ ap (λ owner. Some (Fails Contents (Named owner))) (one_other (source_of x.lawful) files i u.owner v.owner u.fails v.fails) ∙ sym v.is
+one_verdict x files i a b (inl u) (inr v) = absurd (no_other (source_of x.lawful) files i u.owner v.0 u.fails)
+one_verdict x files i a b (inr u) (inl v) = absurd (no_other (source_of x.lawful) files i v.owner u.0 v.fails)
+one_verdict x files i a b (inr u) (inr v) = one_in_order x.lawful i (IsTableFault x i) (λ c d m n. m ∙ sym n) in_order a b u.1 v.1

@@ -1,0 +1,160 @@
+-- **The verdict** on an image, for a policy and files: the first condition of a sound image that fails, in order, and whose it is
+-- (this project's own).
+use Rattle.std.specs.Prelude.{◌≡◌, ◌⊎◌, ℕ, List, [], ◌∷◌, length, map, slice_index_or, take, zip, Option, Some, option_map}
+use Rattle.ept_check.specs.Faults.{table_fault}
+use Rattle.ept_check.specs.Tables.{Tables, tables_in}
+use Rattle.ept_check.specs.declared.types.FaultKind.{FaultKind}
+use Rattle.ept_check.specs.declared.types.FaultKind.TheVariants.{Lacks as LacksFault, Leak as LeakFault, Outside, Twice as TwiceFault}
+use Rattle.ept_check.specs.declared.types.TableFault.{TableFault}
+use Rattle.expand_kernel.specs.Expansion.{Expansion}
+use Rattle.image_checks.specs.Contents.{IsContentsFault}
+use Rattle.image_checks.specs.Firsts.{FailsFirst}
+use Rattle.image_checks.specs.OwnPages.{SharesWithNone}
+use Rattle.image_checks.specs.PlanFault.{IsPlanFault}
+use Rattle.image_checks.specs.declared.plan_owner.PlanOwner.{PlanOwner}
+use Rattle.image_checks.specs.declared.plan_owner.PlanOwner.TheVariants.{Plan as PlanItself, Subject as OfSubject, Device as OfDevice}
+use Rattle.image_emit.specs.Made.{thing_bytes}
+use Rattle.image_pack.specs.declared.parts.Image.{Image}
+use Rattle.image_soundness.specs.Memory.{memory_of}
+use Rattle.image_soundness.specs.Sound.{AreContents, ForEachSubject, HasArea, HasBitmaps, HasPlanAndEvents, HaveOwnPages, IsFresh}
+use Rattle.image_verify.specs.Filled.{IsFilled}
+use Rattle.image_verify.specs.TablePages.{pages_of_all}
+use Rattle.image_verify.specs.Windows.{tables_of_subjects}
+use Rattle.image_verify.specs.declared.fault.Condition.{Condition}
+use Rattle.image_verify.specs.declared.fault.Condition.TheVariants.{Contents, Tables as TableEntries, Bitmaps, Areas, States, OwnPages, Plan}
+use Rattle.image_verify.specs.declared.fault.Fault.{Fault}
+use Rattle.image_verify.specs.declared.fault.Fault.TheVariants.{Fails, Lacks, Leak, Twice}
+use Rattle.image_verify.specs.declared.fault.Owner.{Owner}
+use Rattle.image_verify.specs.declared.fault.Owner.TheVariants.{Named, Plan as WholePlan}
+use Rattle.muen_num.specs.Range.{numbers_below}
+use Rattle.policy_lawful.specs.Contents.{Held}
+use Rattle.policy_lawful.specs.Resolution.{Resolution, name_at, source_of}
+use Rattle.policy_types.specs.declared.source.Source.{Source}
+use Rattle.policy_types.specs.declared.source.Subject.{Subject}
+use Rattle.image_pack.specs.declared.parts.SubjectPart.{SubjectPart}
+
+-- ---- whose a condition is that fails
+
+abbrev pub subject_owner : Resolution → ℕ → Owner
+subject_owner r k = Named (name_at (map (λ s. s.name) r.subjects) k)
+
+abbrev pub named_or : List ℕ → List (List ℕ) → ℕ → List ℕ
+named_or other names k = slice_index_or names k other
+
+-- of a device: the policy's, where it has one there, else the image's
+abbrev pub device_owner : Resolution → Image → ℕ → Owner
+device_owner r i k = Named (named_or (name_at (map (λ d. d.name) i.devices) k) (map (λ d. d.name) r.devices) k)
+
+abbrev pub plan_owner : Resolution → Image → PlanOwner → Owner
+plan_owner r i PlanItself = WholePlan
+plan_owner r i (OfSubject k) = subject_owner r k
+plan_owner r i (OfDevice k) = device_owner r i k
+
+-- ---- conditions that hold, and that fail first for someone
+
+-- the subjects of an image that the policy has by number
+abbrev pub common : Source → Image → List SubjectPart
+common p i = take (length p.subjects) i.subjects
+
+-- those of what the kernel keeps, and of the plan
+abbrev pub Holds : Source → Image → Condition → Type 0
+Holds p i Bitmaps = ForEachSubject p i (HasBitmaps p i)
+Holds p i Areas = ForEachSubject p i (HasArea i)
+Holds p i States = ForEachSubject p i (IsFresh i)
+Holds p i OwnPages = HaveOwnPages p i
+Holds p i Plan = HasPlanAndEvents p i
+Holds p i Contents = Unit {0}
+Holds p i TableEntries = Unit {0}
+
+-- it fails for a subject, and for none before it
+pub record FailsFor (r : Resolution) {X : Type 0} (P : X → Type 0) (xs : List X) (owner : Owner) : Type 0 where
+  pub k : ℕ
+  pub first : FailsFirst P xs k
+  pub is : owner ≡ subject_owner r k
+
+pub record FailsInPlan (r : Resolution) (i : Image) (owner : Owner) : Type 0 where
+  pub differs : PlanOwner
+  pub first : IsPlanFault (source_of r) i (Some differs)
+  pub is : owner ≡ plan_owner r i differs
+
+abbrev pub FailsFirstFor : Resolution → Image → Condition → Owner → Type 0
+FailsFirstFor r i Bitmaps owner = FailsFor r (λ (e : Subject × SubjectPart). HasBitmaps (source_of r) i e.0 e.1) (zip (source_of r).subjects i.subjects) owner
+FailsFirstFor r i Areas owner = FailsFor r (λ (e : Subject × SubjectPart). HasArea i e.0 e.1) (zip (source_of r).subjects i.subjects) owner
+FailsFirstFor r i States owner = FailsFor r (λ (e : Subject × SubjectPart). IsFresh i e.0 e.1) (zip (source_of r).subjects i.subjects) owner
+FailsFirstFor r i OwnPages owner = FailsFor r (SharesWithNone (common (source_of r) i)) (numbers_below (length (common (source_of r) i))) owner
+FailsFirstFor r i Plan owner = FailsInPlan r i owner
+FailsFirstFor r i Contents owner = ⊥
+FailsFirstFor r i TableEntries owner = ⊥
+
+-- the fault is that this condition fails
+pub record IsFailure (r : Resolution) (i : Image) (c : Condition) (o : Option Fault) : Type 0 where
+  pub owner : Owner
+  pub is : o ≡ Some (Fails c owner)
+  pub fails : FailsFirstFor r i c owner
+
+-- it is that the first of these conditions fails that doesn't hold; where all hold, the rest says what it is
+abbrev pub FirstOf : Resolution → Image → (Option Fault → Type 0) → List Condition → Option Fault → Type 0
+FirstOf r i Rest [] o = Rest o
+FirstOf r i Rest (c ∷ cs) o = IsFailure r i c o ⊎ (Holds (source_of r) i c × FirstOf r i Rest cs o)
+
+abbrev pub in_order : List Condition
+in_order = Bitmaps ∷ Areas ∷ States ∷ OwnPages ∷ Plan ∷ []
+
+-- ---- tables
+
+-- the tables of the image, with the windows of the policy where the image has what they show
+abbrev pub tables_of : Expansion → Image → Tables
+tables_of x i = tables_in (memory_of i) (pages_of_all i.spans) (tables_of_subjects x i)
+
+abbrev pub subject_name : Resolution → ℕ → List ℕ
+subject_name r k = name_at (map (λ s. s.name) r.subjects) k
+
+abbrev pub by_kind : Resolution → TableFault → FaultKind → Fault
+by_kind r f Outside = Fails TableEntries (subject_owner r f.subject)
+by_kind r f TwiceFault = Twice (subject_name r f.subject) f.addr
+by_kind r f LeakFault = Leak (subject_name r f.subject) f.addr
+by_kind r f LacksFault = Lacks (subject_name r f.subject) f.addr
+
+abbrev pub named : Resolution → TableFault → Fault
+named r f = by_kind r f f.kind
+
+-- the first fault of tables
+abbrev pub IsTableFault : Expansion → Image → Option Fault → Type 0
+IsTableFault x i o = o ≡ option_map (named x.lawful) (table_fault (tables_of x i))
+
+-- ---- the whole
+
+-- the contents are another's
+pub record FailsInContents (r : Resolution) (files : Held) (i : Image) (o : Option Fault) : Type 0 where
+  pub owner : List ℕ
+  pub is : o ≡ Some (Fails Contents (Named owner))
+  pub fails : IsContentsFault (source_of r) files i (Some owner)
+
+-- **the verdict**: contents, then what the kernel keeps and the plan, then tables
+abbrev pub IsVerdict : Expansion → Held → Image → Option Fault → Type 0
+IsVerdict x files i o =
+    FailsInContents x.lawful files i o
+    ⊎ (AreContents (source_of x.lawful) files i × FirstOf x.lawful i (IsTableFault x i) in_order o)
+
+-- a table is read on two paths
+pub record IsTwice (f : Fault) : Type 0 where
+  pub subject : List ℕ
+  pub addr : ℕ
+  pub is : f ≡ Twice subject addr
+
+-- ---- what is given
+
+-- the bytes of things are those over some files
+pub record AreOfFiles (r : Resolution) (things : List (List ℕ)) : Type 0 where
+  pub files : Held
+  pub are : things ≡ thing_bytes files r
+
+-- the image has the policy's contents over some files
+pub record HasContents (p : Source) (i : Image) : Type 0 where
+  pub files : Held
+  pub contents : AreContents p files i
+
+-- .. and as many subjects
+pub record IsReadyFor (x : Expansion) (i : Image) : Type 0 where
+  pub files : Held
+  pub filled : IsFilled x files i

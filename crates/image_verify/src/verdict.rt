@@ -1,0 +1,186 @@
+//! The verdict on an image.
+ghost use Rattle.std.specs.Prelude.{◌≡◌, ◌<◌, ◌⊎◌, Option, None, Some, true, length, IfOk};
+ghost use Rattle.expand_kernel.specs.Expansion.{Expansion, IsExpanded};
+ghost use Rattle.image_checks.specs.PlanFault.{IsPlanFault};
+ghost use Rattle.image_emit.specs.Made.{thing_bytes};
+ghost use Rattle.image_pack.specs.Parts.{IsParts};
+ghost use Rattle.image_pack.specs.declared.parts.Image.{Image};
+ghost use Rattle.image_soundness.specs.Sound.{IsSound};
+ghost use Rattle.image_verify.specs.Verdict.{AreOfFiles, FirstOf, IsReadyFor, IsTableFault, IsTwice, IsVerdict, device_owner, in_order, named, plan_owner, subject_name, subject_owner};
+ghost use Rattle.image_verify.specs.declared.fault.Fault.{Fault};
+ghost use Rattle.image_verify.specs.declared.fault.Fault.TheVariants.{Fails};
+ghost use Rattle.image_verify.specs.declared.fault.Owner.TheVariants.{Named};
+ghost use Rattle.policy_lawful.specs.Contents.{Held};
+ghost use Rattle.policy_lawful.specs.Resolution.{source_of};
+ghost use Rattle.proof_build.specs.Built.{HasOnePathPerTable};
+
+use crate::fault::{Condition, Fault, Owner};
+use crate::pages::table_pages;
+use crate::windows::subject_tables;
+use ept_check::{FaultKind, TableFault, check};
+use expand_kernel::Expanded;
+use image_checks::{
+    PlanOwner, contents_fault, first_by_area, first_by_bitmaps, first_by_own_pages, first_by_state,
+    plan_fault,
+};
+use image_load::load;
+use image_pack::{Image, Parts};
+use muen_num::{Name, NoMemory, Seq};
+use policy_lawful::Resolved;
+use std::alloc::Global;
+
+fn policy_of(expanded: &Expanded) -> &Resolved
+    ensures { result.now ≡ expanded.now.lawful }
+{
+    expanded.lawful().resolved()
+}
+
+// Whether all stands that follows from a policy: it does, since its type says so.
+fn is_expanded(expanded: &Expanded) -> bool
+    ensures is { IsExpanded expanded.now }
+    ensures holds { result ≡ true }
+{
+    expanded.regions().len() <= usize::MAX
+}
+
+// The name of the subject at an index.
+fn subject_name(policy: &Resolved, index: usize) -> Name
+    requires { index < length policy.now.subjects }
+    ensures { result ≡ subject_name policy.now index }
+{
+    policy.subjects()[index].name
+}
+
+// That this condition fails for the subject at an index.
+fn fails_for(condition: Condition, policy: &Resolved, index: usize) -> Fault
+    requires { index < length policy.now.subjects }
+    ensures { result ≡ Fails condition (subject_owner policy.now index) }
+{
+    Fault::Fails {
+        condition,
+        owner: Owner::Named(subject_name(policy, index)),
+    }
+}
+
+// The device at an index: the policy's, where it has one there, else the image's.
+fn device_name(policy: &Resolved, image: &Image, index: usize) -> Name
+    requires { (index < length policy.now.devices) ⊎ (index < length image.now.devices) }
+    ensures { Named result ≡ device_owner policy.now image.now index }
+{
+    match policy.devices().get(index) {
+        Some(device) => device.name,
+        None => image.devices.items()[index].name,
+    }
+}
+
+// Whose it is that the plan or the events differ.
+fn plan_owner(policy: &Resolved, image: &Image, differs: PlanOwner) -> Owner
+    requires { IsPlanFault (source_of policy.now) image.now (Some differs) }
+    ensures { result ≡ plan_owner policy.now image.now differs }
+{
+    match differs {
+        PlanOwner::Plan => Owner::Plan,
+        PlanOwner::Subject(index) => Owner::Named(subject_name(policy, index)),
+        PlanOwner::Device(index) => Owner::Named(device_name(policy, image, index)),
+    }
+}
+
+// The first condition that fails of what the kernel keeps for each subject, and of the plan.
+fn kept_fault(alloc: Global, expanded: &Expanded, image: &Parts) -> Result<Option<Fault>, NoMemory>
+    ensures { IfOk result (FirstOf expanded.now.lawful image.now (λ o. o ≡ None) in_order) }
+{
+    let policy = policy_of(expanded);
+    if let Some(k) = first_by_bitmaps(alloc, expanded, image)? {
+        return Ok(Some(fails_for(Condition::Bitmaps, policy, k)));
+    }
+    if let Some(k) = first_by_area(alloc, expanded, image)? {
+        return Ok(Some(fails_for(Condition::Areas, policy, k)));
+    }
+    if let Some(k) = first_by_state(alloc, expanded, image)? {
+        return Ok(Some(fails_for(Condition::States, policy, k)));
+    }
+    if let Some(k) = first_by_own_pages(expanded, image) {
+        return Ok(Some(fails_for(Condition::OwnPages, policy, k)));
+    }
+    match plan_fault(alloc, expanded, image)? {
+        None => Ok(None),
+        Some(differs) => Ok(Some(Fault::Fails {
+            condition: Condition::Plan,
+            owner: plan_owner(policy, image.image(), differs),
+        })),
+    }
+}
+
+// A fault of tables, with the subject's name.
+fn of_tables(policy: &Resolved, fault: TableFault) -> Fault
+    requires { fault.subject < length policy.now.subjects }
+    ensures { result ≡ named policy.now fault }
+{
+    let subject = subject_name(policy, fault.subject);
+    let addr = fault.addr;
+    match fault.kind {
+        FaultKind::Outside => Fault::Fails {
+            condition: Condition::Tables,
+            owner: Owner::Named(subject),
+        },
+        FaultKind::Twice => Fault::Twice { subject, addr },
+        FaultKind::Leak => Fault::Leak { subject, addr },
+        FaultKind::Lacks => Fault::Lacks { subject, addr },
+    }
+}
+
+// The first fault of the tables of an image that has the contents of the policy and its subjects.
+fn tables_fault(alloc: Global, expanded: &Expanded, image: Parts) -> Result<Option<Fault>, NoMemory>
+    requires { IsReadyFor expanded.now image }
+    ensures { IfOk result (IsTableFault expanded.now image) }
+{
+    let pages = table_pages(alloc, &image)?;
+    let tables = subject_tables(alloc, expanded, &image)?;
+    let loaded = load(alloc, image)?;
+    let checked = check(alloc, &loaded.memory, &pages, &tables)?;
+    match checked.fault {
+        None => Ok(None),
+        Some(fault) => Ok(Some(of_tables(policy_of(expanded), fault))),
+    }
+}
+
+/// The verdict on an image, whoever made it, for a lawful policy whose regions hold these bytes at the
+/// start, by number: the first condition of a sound image that fails, and whose it is; `None` where none
+/// does. First the contents are asked, then for each subject its bitmaps, its area of MSRs, its state and
+/// that it has these for itself, then the plan and the events, and then the tables.
+///
+/// # Errors
+/// Memory is refused.
+pub fn verify(
+    alloc: Global,
+    expanded: &Expanded,
+    things: &[Seq<u8>],
+    image: Parts,
+) -> Result<Option<Fault>, NoMemory>
+    requires { AreOfFiles expanded.now.lawful things.now }
+    ensures verdict { IfOk result (λ o. (files : Held) → things.now ≡ thing_bytes files expanded.now.lawful → IsVerdict expanded.now files image o) }
+{
+    if let Some(owner) = contents_fault(alloc, expanded, things, &image)? {
+        return Ok(Some(Fault::Fails {
+            condition: Condition::Contents,
+            owner: Owner::Named(owner),
+        }));
+    }
+    if let Some(fault) = kept_fault(alloc, expanded, &image)? {
+        return Ok(Some(fault));
+    }
+    prove!(is_expanded(expanded));
+    tables_fault(alloc, expanded, image)
+}
+
+/// What a verdict tells.
+pub fn verdicts_tell()
+    // Without a fault the image is sound.
+    ensures sound { (x : Expansion) (files : Held) (i : Image) → IsExpanded x → IsParts i → IsVerdict x files i None → IsSound (source_of x.lawful) files i }
+    // Any fault but that a table is read on two paths tells that it isn't.
+    ensures unsound { (x : Expansion) (files : Held) (i : Image) (f : Fault) → IsExpanded x → IsVerdict x files i (Some f) → IsSound (source_of x.lawful) files i → IsTwice f }
+    // A sound image no table of which is read on two paths has no fault.
+    ensures complete { (x : Expansion) (files : Held) (i : Image) (o : Option Fault) → IsExpanded x → IsVerdict x files i o → IsSound (source_of x.lawful) files i → HasOnePathPerTable i → o ≡ None }
+    // There is one verdict.
+    ensures one { (x : Expansion) (files : Held) (i : Image) (a b : Option Fault) → IsVerdict x files i a → IsVerdict x files i b → a ≡ b }
+{}
