@@ -5,7 +5,7 @@ use Rattle.std.specs.Option.{option_map_or}
 use Rattle.std.specs.List.{AllZip}
 use Rattle.std.proofs.lemmas.Bool.{true≢false}
 use Rattle.std.proofs.lemmas.List.{length-map}
-use Rattle.std.proofs.lemmas.Option.{get_or_from_slice_get, slice_get-get_or, slice_get-map, slice_get_past, slice_get_within}
+use Rattle.std.proofs.lemmas.Option.{get_or_from_slice_get, none-some, slice_get-get_or, slice_get-map, slice_get_past, slice_get_within}
 use Rattle.image_checks.proofs.Fitting.{fits_from, span_from}
 use Rattle.image_checks.proofs.SpansOfNumbers.{as_many, no_span, span_of, thing_spans_are}
 use Rattle.image_checks.proofs.Wanted.{as_many_wanted, wanted_at}
@@ -30,7 +30,7 @@ abbrev or_this : {X : Type 0} → X → Option X → X
 or_this d None = d
 or_this d (Some x) = x
 
-one_of : {X : Type 0} (o : Option X) (x y : X) → o ≡ Some x → o ≡ Some y → x ≡ y
+pub one_of : {X : Type 0} (o : Option X) (x y : X) → o ≡ Some x → o ≡ Some y → x ≡ y
 one_of o x y a b = ap (or_this x) (sym a ∙ b)
 
 zip_from : {X Y : Type 0} (R : X → Y → Type 0) (xs : List X) (ys : List Y) → length xs ≡ length ys → ((k : ℕ) (x : X) (y : Y) → slice_get xs k ≡ Some x → slice_get ys k ≡ Some y → R x y) → AllZip R xs ys
@@ -38,9 +38,6 @@ zip_from R [] [] e h = tt
 zip_from R [] (y ∷ ys) e h = absurd (omega (arith, e))
 zip_from R (x ∷ xs) [] e h = absurd (omega (arith, e))
 zip_from R (x ∷ xs) (y ∷ ys) e h = (h zero x y refl refl, zip_from R xs ys (omega (arith, e)) (λ k u v a b. h (suc k) u v a b))
-
-none_some : {X : Type 0} (x : X) → None ≡ Some x → ⊥
-none_some x h = absurd (cc)
 
 -- a span at an index of those that aren't the kernel's
 record IsSpanAt (i : Image) (k : ℕ) (e : Span) : Type 0 where
@@ -140,7 +137,7 @@ module _ (r : Resolution) (q : IsResolved r) (i : Image) (parts : IsParts i) (lo
         record {
           k = k;
           before = λ j l. has_span j (before j l);
-          here = λ h. none_some h.thing (sym none ∙ h.is);
+          here = λ h. none-some h.thing (sym none ∙ h.is);
           is = ap (λ o. option_map_or (λ y. Some (thing_tag y).owner) o (option_map_or (λ (z : Span). Some z.0.tag.owner) (slice_get (thing_spans i) k) None)) none ∙ ap (λ o. option_map_or (λ (z : Span). Some z.0.tag.owner) o None) here;
         }
 

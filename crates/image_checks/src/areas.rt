@@ -151,7 +151,8 @@ fn area_agrees(
 /// The first subject, of those that both have, whose MSR area hasn't an entry for each MSR that the
 /// policy grants it, with the value 0, or has others.
 ///
-/// Answers `NoMemory` where memory was refused.
+/// # Errors
+/// Memory is refused.
 pub fn first_by_area(
     alloc: Global,
     expanded: &Expanded,

@@ -107,7 +107,8 @@ fn bitmaps_agree(
 /// The first subject, of those that both have, whose bitmaps let through other accesses of ports or
 /// MSRs than the policy grants it.
 ///
-/// Answers `NoMemory` where memory was refused.
+/// # Errors
+/// Memory is refused.
 pub fn first_by_bitmaps(
     alloc: Global,
     expanded: &Expanded,

@@ -200,14 +200,7 @@ fn same_part(thing: Option<Name>, span: TagPart) -> bool
 fn same_kind(thing: SpanKind, span: SpanKind) -> bool
     ensures { result ≡ same_kind thing span }
 {
-    match (thing, span) {
-        (SpanKind::Own, SpanKind::Own) => true,
-        (SpanKind::Channel, SpanKind::Channel) => true,
-        (SpanKind::Provided, SpanKind::Provided) => true,
-        (SpanKind::Kernel, SpanKind::Kernel) => true,
-        (SpanKind::Device, SpanKind::Device) => true,
-        _ => false,
-    }
+    thing == span
 }
 
 // Whether a span has the bytes of the thing of this number, where it has some.

@@ -1,21 +1,11 @@
 //! The pages of an image's spans, by the number of the span.
 ghost use Rattle.std.specs.Prelude.{◌≡◌, ◌*◌, IfOk, drop, option_map, replicate, take};
-ghost use Rattle.image_pack.specs.Codes.{is_device};
 ghost use Rattle.image_soundness.specs.Memory.{page_at, span_at};
 
-use image_pack::{Image, SpanKind, SpanPart};
+use image_pack::{Image, SpanPart};
 use muen_num::limits::PAGE;
 use muen_num::{NoMemory, Seq};
 use std::alloc::{AllocError, Global};
-
-fn is_device(kind: SpanKind) -> bool
-    ensures { result ≡ is_device kind }
-{
-    match kind {
-        SpanKind::Device => true,
-        _ => false,
-    }
-}
 
 // The span of this number, with its bytes in the image.
 fn span_at(image: &Image, number: u16) -> Option<(&SpanPart, &Seq<u8>)>
@@ -57,7 +47,8 @@ fn page_of_zeros(alloc: Global, pages: u32, page: u8) -> Result<Vec<u8>, AllocEr
 /// A page of the span of this number, as it stands at the start. It has less bytes where the span ends
 /// before it does, and none where there is no such span.
 ///
-/// Answers `NoMemory` where memory was refused.
+/// # Errors
+/// Memory is refused.
 pub(crate) fn page_at(
     alloc: Global,
     image: &Image,
@@ -69,7 +60,7 @@ pub(crate) fn page_at(
     let Some((span, bytes)) = span_at(image, number) else {
         return Ok(Vec::new(alloc));
     };
-    if is_device(span.kind) {
+    if span.kind.is_device() {
         return Ok(page_of_zeros(alloc, span.pages, page)?);
     }
     Ok(page_of(alloc, bytes.items(), page)?)

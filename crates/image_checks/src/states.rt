@@ -41,7 +41,8 @@ fn is_fresh(
 
 /// The first subject, of those that both have, whose state page isn't that of the state at the start.
 ///
-/// Answers `NoMemory` where memory was refused.
+/// # Errors
+/// Memory is refused.
 pub fn first_by_state(
     alloc: Global,
     expanded: &Expanded,

@@ -4,7 +4,7 @@ use Rattle.std.specs.Prelude.{option_map, slice_get}
 use Rattle.std.specs.Option.{option_map_or}
 use Rattle.std.specs.List.{AllZip}
 use Rattle.std.proofs.lemmas.Bool.{cases_order}
-use Rattle.std.proofs.lemmas.Option.{slice_get_within}
+use Rattle.std.proofs.lemmas.Option.{none-some, slice_get_within}
 use Rattle.ept_check.proofs.Given.{all_fine}
 use Rattle.ept_check.proofs.Sounds.{no_faults, sound as tables_sound, unsound as tables_unsound}
 use Rattle.ept_check.specs.Faults.{table_fault}
@@ -14,6 +14,7 @@ use Rattle.ept_check.specs.declared.types.TableFault.{TableFault}
 use Rattle.expand_kernel.specs.Expansion.{Expansion, IsExpanded}
 use Rattle.image_checks.proofs.OwnPageLaws.{each_shares_none}
 use Rattle.image_checks.proofs.PlanFaults.{a_plan_fault_is_none_of_a_sound_image, none_first, one_first, one_plan_fault}
+use Rattle.image_checks.proofs.Telling.{one_of}
 use Rattle.image_checks.specs.Contents.{IsFirstOther, owner_at}
 use Rattle.image_checks.specs.OwnPages.{SharesWithNone}
 use Rattle.image_pack.specs.Parts.{IsParts}
@@ -42,16 +43,6 @@ use Rattle.policy_types.specs.declared.source.Source.{Source}
 use Rattle.policy_types.specs.declared.source.Subject.{Subject}
 use Rattle.proof_build.specs.Built.{HasOnePathPerTable}
 
-none_some : {X : Type 0} (x : X) → None ≡ Some x → ⊥
-none_some x h = absurd (cc)
-
-abbrev or_this : {X : Type 0} → X → Option X → X
-or_this d None = d
-or_this d (Some x) = x
-
-some_same : {X : Type 0} (x y : X) → Some x ≡ Some y → x ≡ y
-some_same x y h = ap (or_this x) h
-
 -- ---- contents
 
 -- what two lists have at an index
@@ -79,7 +70,7 @@ owner_of o e = option_map_or (λ x. Some (thing_tag x).owner) o (option_map_or (
 owner_there : (xs : List Thing) (es : List Span) (k : ℕ) (o : Option Thing) (e : Option Span) (owner : List ℕ) → slice_get xs k ≡ o → slice_get es k ≡ e → owner_of o e ≡ Some owner → (k < length xs) ⊎ (k < length es)
 owner_there xs es k (Some x) e owner a b h = inl (slice_get_within xs k x a)
 owner_there xs es k None (Some s) owner a b h = inr (slice_get_within es k s b)
-owner_there xs es k None None owner a b h = absurd (none_some owner h)
+owner_there xs es k None None owner a b h = absurd (none-some owner h)
 
 -- where the contents are the policy's, none is the first that isn't
 no_other : (p : Source) (files : Held) (i : Image) (owner : List ℕ) → AreContents p files i → IsFirstOther p files i owner → ⊥
@@ -98,7 +89,7 @@ one_other p files i a b x y =
         | inr l ↦ absurd (y.here (x.before y.k l))
       ]
     ] in
-    some_same a b (sym x.is ∙ ap (owner_at p i) same ∙ y.is)
+    one_of (Some a) a b refl (sym x.is ∙ ap (owner_at p i) same ∙ y.is)
 
 -- ---- what the kernel keeps, and the plan
 
@@ -123,7 +114,7 @@ one_owner r i OwnPages a b x y =
     let parts = common (source_of r) i in
     x.is ∙ ap (subject_owner r) (one_first (SharesWithNone parts) (numbers_below (length parts)) x.k y.k x.first y.first) ∙ sym y.is
 one_owner r i Plan a b x y =
-    x.is ∙ ap (plan_owner r i) (some_same x.differs y.differs (one_plan_fault (source_of r) i (Some x.differs) (Some y.differs) x.first y.first)) ∙ sym y.is
+    x.is ∙ ap (plan_owner r i) (one_of (Some x.differs) x.differs y.differs refl (one_plan_fault (source_of r) i (Some x.differs) (Some y.differs) x.first y.first)) ∙ sym y.is
 one_owner r i Contents a b x y = absurd x
 one_owner r i TableEntries a b x y = absurd x
 
@@ -151,7 +142,7 @@ each_holds r files i s Contents = tt
 each_holds r files i s TableEntries = tt
 
 no_failure : (r : Resolution) (i : Image) (c : Condition) → IsFailure r i c None → ⊥
-no_failure r i c h = none_some (Fails c h.owner) h.is
+no_failure r i c h = none-some (Fails c h.owner) h.is
 
 -- what holds where none fails
 pub record AreKept (p : Source) (i : Image) : Type 0 where
@@ -182,17 +173,17 @@ are_sound x files i e s = (standing x files i (filled x files i e s)).sound s.wa
 
 none_found : (r : Resolution) (o : Option TableFault) → None ≡ option_map (named r) o → o ≡ None
 none_found r None h = refl
-none_found r (Some f) h = absurd (none_some (named r f) h)
+none_found r (Some f) h = absurd (none-some (named r f) h)
 
 twice_found : (r : Resolution) (o : Option TableFault) (f : Fault) → Some f ≡ option_map (named r) o → ((t : TableFault) → Some t ≡ o → t.kind ≡ TwiceFault) → IsTwice f
-twice_found r None f h k = absurd (none_some f (sym h))
-twice_found r (Some t) f h k = record { subject = subject_name r t.subject; addr = t.addr; is = some_same f (named r t) h ∙ ap (by_kind r t) (k t refl) }
+twice_found r None f h k = absurd (none-some f (sym h))
+twice_found r (Some t) f h k = record { subject = subject_name r t.subject; addr = t.addr; is = one_of (Some f) f (named r t) refl h ∙ ap (by_kind r t) (k t refl) }
 
 -- ---- laws
 
 -- **without a fault** the image is sound
 pub no_fault_is_sound : (x : Expansion) (files : Held) (i : Image) → IsExpanded x → IsParts i → IsVerdict x files i None → IsSound (source_of x.lawful) files i
-no_fault_is_sound x files i e parts (inl h) = absurd (none_some _ h.is)
+no_fault_is_sound x files i e parts (inl h) = absurd (none-some _ h.is)
 no_fault_is_sound x files i e parts (inr (contents, first)) =
     let k = are_kept x.lawful i (IsTableFault x i) first in
     let stand = standing x files i (record { expanded = e; parts = parts; contents = contents; many = k.0.plan.many }) in
