@@ -1,3 +1,4 @@
+pub mod FaultText
 pub mod Addresses
 pub mod AtIndexes
 pub mod Checked

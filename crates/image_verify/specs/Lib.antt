@@ -1,3 +1,4 @@
+pub mod FaultText
 pub mod Filled
 pub mod Stand
 pub mod TablePages

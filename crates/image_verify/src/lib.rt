@@ -3,11 +3,13 @@
 #![tactic(auto)]
 
 mod fault;
+mod fault_text;
 mod pages;
 mod verdict;
 mod windows;
 
 pub use fault::{Condition, Fault, Owner};
+pub use fault_text::AddressDigits;
 pub use pages::table_pages;
 pub use verdict::{verdicts_tell, verify};
 pub use windows::subject_tables;

@@ -1,49 +1,66 @@
 -- From a lawful policy whose contents are held against files to one that is accepted.
-use Rattle.std.proofs.Common.{◌≡◌, inl, inr, ℕ, true, List, [], Option, None, IfSome, Ok, Err, sym, ap, subst, ◌∙◌}
+use Rattle.std.proofs.Common.{◌≡◌, inl, inr, ℕ, true, List, [], ◌∷◌, Option, Some, None, IfSome, Ok, Err, refl, sym, ap, subst, ◌∙◌}
+use Rattle.std.specs.Prelude.{if◌then◌else◌}
 use Rattle.std.specs.List.{All}
 use Rattle.std.specs.FinMap.{insert}
 use Rattle.std.proofs.lemmas.List.Elements.{All-nil, All-weaker}
 use Rattle.muen_num.specs.Answers.{Answers, Explains}
 use Rattle.muen_outside.specs.Looks.{ShowAll}
 use Rattle.muen_outside.specs.States.{History, Look, looked}
-use Rattle.muen_outside.specs.Store.{Store}
+use Rattle.muen_outside.specs.Store.{Store, find_bytes}
 use Rattle.policy_types.specs.declared.refusal.Refusal.{Refusal}
 use Rattle.policy_types.specs.declared.refusal.Refusal.TheVariants.{NoMemory}
 use Rattle.policy_types.specs.declared.source.Source.{Source}
-use Rattle.muen_build.specs.Accepting.{Accepts, FailsWith, Files, Grows, IsAskedBy, Names, Passes, Refuses, RefusesDocument, Stops, looks_of, of_all}
+use Rattle.muen_build.specs.Accepting.{Accepts, FailsWith, Files, Grows, HasContents, IsAskedBy, LacksContents, LookedBeside, Names, Passes, Refuses, RefusesContents, RefusesDocument, Stops, looks_of, of_all}
 use Rattle.muen_build.specs.Looks.{IsAsked, Looked, names_file}
 use Rattle.muen_build.specs.Refusals.{contents_refused, filled_of, lawful_policy_of}
 use Rattle.muen_build.specs.declared.accepted.BuildError.{BuildError}
 use Rattle.muen_build.specs.declared.accepted.BuildError.TheVariants.{Refused}
+use Rattle.muen_build.specs.Reading.{things_read}
+use Rattle.muen_build.proofs.Held.{things_held}
+use Rattle.policy_lawful.specs.Resolution.{IsResolved, Resolution, source_of}
 use Rattle.region_alloc.specs.Placement.{no_room}
-use Rattle.muen_build.proofs.Looks.{grows_not, stops_so}
+use Rattle.muen_build.proofs.Looks.{grows_not, same_self, stops_so}
 use Rattle.muen_build.proofs.Refusing.{built_so, contents_first, not_lawful, room_last}
 
 -- ---- all looks of a call
 
-module _ (name : List ℕ) (held : Option Store) (old new : History) (looks : List Look) where
-  pub all_looked : (names : Names) → Grows name names held old new [] looks → Looked name held old new looks
-  all_looked names g = record {
+-- at files that contents name
+module _ (given : Files) (names : Names) (held : Option Store) (old new : History) (looks : List Look) (g : Grows given names held old new [] looks) where
+  pub all_beside : LookedBeside given held old new looks
+  all_beside = record {
     history = g.history ∙ ap (looked old) (sym g.grown);
     single = g.single tt;
-    others = g.others tt;
+    others = λ name bytes is. g.others name bytes is tt;
     told = subst (λ ls. IfSome held (λ m. ShowAll m ls)) (sym g.grown) g.told;
   }
 
-  pub all_asked : (document : List ℕ) (p : Source) → lawful_policy_of document ≡ Ok p → Grows name (names_file p) held old new [] looks → All (IsAsked document) looks
-  all_asked document p is g =
-      subst (All (IsAsked document)) (sym g.grown)
-      (All-weaker (IsAskedBy (names_file p)) (IsAsked document) (λ l asked. record { policy = p; lawful = is; names = asked.0; most = asked.1 }) g.more g.asked)
+  pub asked_by : All (IsAskedBy names) looks
+  asked_by = subst (All (IsAskedBy names)) (sym g.grown) g.asked
+
+-- the document stands for its name
+given_first : (name document : List ℕ) → find_bytes name ((name, document) ∷ []) ≡ Some document
+given_first name document = ap (λ b. if b then Some document else None) (same_self name)
+
+module _ (name document : List ℕ) (held : Option Store) (old new : History) (looks : List Look) where
+  pub all_looked : (names : Names) → Grows ((name, document) ∷ []) names held old new [] looks → Looked name held old new looks
+  all_looked names g =
+      let b = all_beside ((name, document) ∷ []) names held old new looks g in
+      record { history = b.history; single = b.single; others = b.others name document (given_first name document); told = b.told }
+
+  pub all_asked : (p : Source) → lawful_policy_of document ≡ Ok p → Grows ((name, document) ∷ []) (names_file p) held old new [] looks → All (IsAsked document) looks
+  all_asked p is g =
+      All-weaker (IsAskedBy (names_file p)) (IsAsked document) (λ l asked. record { policy = p; lawful = is; names = asked.0; most = asked.1 }) looks (asked_by ((name, document) ∷ []) (names_file p) held old new looks g)
 
 -- ---- how it ends
 
 -- it isn't lawful
 pub unlawful_fails : (name document : List ℕ) (held : Option Store) (h : History) (r : Refusal) → Answers NoMemory (lawful_policy_of document) (Err r) → FailsWith name document held h h (Refused r)
 unlawful_fails name document held h r answer =
-    let none = grows_not name (λ file. true) held h [] in
+    let none = grows_not ((name, document) ∷ []) (λ file. true) held h [] in
     record {
       looks = [];
-      looked = all_looked name held h h [] (λ file. true) none;
+      looked = all_looked name document held h h [] (λ file. true) none;
       asked = All-nil (IsAsked document);
       says = elim answer [
         | inl is ↦ inl is
@@ -54,29 +71,29 @@ unlawful_fails name document held h r answer =
 module _ (name document : List ℕ) (p : Source) (is : lawful_policy_of document ≡ Ok p) where
   -- its contents are refused, or a look at them failed
   module _ (held : Option Store) (old new : History) where
-    stops_fails : (error : BuildError) → Stops name document (names_file p) held old new [] (RefusesDocument document) error → FailsWith name document held old new error
+    stops_fails : (error : BuildError) → Stops ((name, document) ∷ []) (names_file p) held old new [] (RefusesDocument document) error → FailsWith name document held old new error
     stops_fails error e = record {
       looks = e.after;
-      looked = all_looked name held old new e.after (names_file p) e.grows;
-      asked = all_asked name held old new e.after document p is e.grows;
+      looked = all_looked name document held old new e.after (names_file p) e.grows;
+      asked = all_asked name document held old new e.after p is e.grows;
       says = e.says;
     }
 
-    pub contents_fail : (error : BuildError) → Stops name document (names_file p) held old new [] (Refuses (of_all (filled_of p))) error → FailsWith name document held old new error
+    pub contents_fail : (error : BuildError) → Stops ((name, document) ∷ []) (names_file p) held old new [] (Refuses (of_all (filled_of p))) error → FailsWith name document held old new error
     unfolding contents_refused
     contents_fail error e =
         stops_fails error
-        (stops_so name document (names_file p) (names_file p) held old new [] (Refuses (of_all (filled_of p))) (RefusesDocument document) error (λ file h. h)
+        (stops_so ((name, document) ∷ []) (names_file p) (names_file p) held old new [] (Refuses (of_all (filled_of p))) (RefusesDocument document) error (λ file h. h)
         (λ r after shows h files s. contents_first (insert files name document) document p r is (h files s)) e)
 
-  module _ (found : Files) (passes : Passes name document (looks_of found) (of_all (filled_of p))) where
+  module _ (found : Files) (passes : Passes ((name, document) ∷ []) (looks_of found) (of_all (filled_of p))) where
     -- there is no room
-    pub room_fails : (held : Option Store) (old new : History) (r : Refusal) → Grows name (names_file p) held old new [] (looks_of found) → Explains NoMemory (no_room p) r → FailsWith name document held old new (Refused r)
+    pub room_fails : (held : Option Store) (old new : History) (r : Refusal) → Grows ((name, document) ∷ []) (names_file p) held old new [] (looks_of found) → Explains NoMemory (no_room p) r → FailsWith name document held old new (Refused r)
     unfolding contents_refused
     room_fails held old new r grows h = record {
       looks = looks_of found;
-      looked = all_looked name held old new (looks_of found) (names_file p) grows;
-      asked = all_asked name held old new (looks_of found) document p is grows;
+      looked = all_looked name document held old new (looks_of found) (names_file p) grows;
+      asked = all_asked name document held old new (looks_of found) p is grows;
       says = elim h [
         | inl m ↦ inl m
         | inr e ↦ inr (λ files s. room_last (insert files name document) document p r is (passes files s) e)
@@ -87,3 +104,35 @@ module _ (name document : List ℕ) (p : Source) (is : lawful_policy_of document
     pub accepts : no_room p ≡ None → Accepts name (looks_of found) document p
     unfolding contents_refused
     accepts room files s = built_so (insert files name document) document p is (passes files s) room
+
+-- ---- contents alone
+
+module _ (given : Files) (r : Resolution) (resolved : IsResolved r) (held : Option Store) (old new : History) where
+  pub has_contents : (found : Files) (things : List (List ℕ)) → Grows given (names_file (source_of r)) held old new [] (looks_of found) → Passes given (looks_of found) (of_all (filled_of (source_of r)))
+      → things ≡ things_read given found r → HasContents given r held old new things
+  unfolding contents_refused
+  has_contents found things grows passes are = record {
+    looks = looks_of found;
+    looked = all_beside given (names_file (source_of r)) held old new (looks_of found) grows;
+    asked = asked_by given (names_file (source_of r)) held old new (looks_of found) grows;
+    fit = passes;
+    are = λ files s. are ∙ things_held given found r resolved passes files s;
+  }
+
+module _ (given : Files) (p : Source) (held : Option Store) (old new : History) where
+  pub lacks_contents : (error : BuildError) → Stops given (names_file p) held old new [] (Refuses (of_all (filled_of p))) error → LacksContents given p held old new error
+  unfolding contents_refused
+  lacks_contents error e = record {
+    looks = e.after;
+    looked = all_beside given (names_file p) held old new e.after e.grows;
+    asked = asked_by given (names_file p) held old new e.after e.grows;
+    says = e.says;
+  }
+
+  pub no_memory : (found : Files) → Grows given (names_file p) held old new [] (looks_of found) → LacksContents given p held old new (Refused NoMemory)
+  no_memory found grows = record {
+    looks = looks_of found;
+    looked = all_beside given (names_file p) held old new (looks_of found) grows;
+    asked = asked_by given (names_file p) held old new (looks_of found) grows;
+    says = inl refl;
+  }

@@ -1,7 +1,6 @@
 -- What holding one content, and all of them, comes to.
 use Rattle.std.proofs.Common.{◌≡◌, ℕ, ◌+◌, ◌<◌, Bool, true, false, ◌||◌, List, [], ◌∷◌, length, map, drop, get_or, Option, Some, None, Result, Ok, Err, IfOk, inr, refl, sym, ap, ◌∙◌}
 use Rattle.std.specs.Str.{bytes_eq}
-use Rattle.std.specs.FinMap.{insert}
 use Rattle.std.specs.Option.{option_or}
 use Rattle.std.specs.List.{flat_map, list_any}
 use Rattle.std.proofs.lemmas.List.Folds.{list_any-append, list_any_at}
@@ -13,7 +12,7 @@ use Rattle.muen_outside.specs.States.{History, Look}
 use Rattle.muen_outside.specs.Store.{Store}
 use Rattle.policy_types.specs.declared.refusal.Refusal.{Refusal}
 use Rattle.policy_types.specs.declared.source.Content.TheVariants.{File, Inline}
-use Rattle.muen_build.specs.Accepting.{Files, Grows, Known, Names, NotFound, Passes, Refuses, Stops, Why, all_names, brought_names, filled_names, looks_of, of_all, of_brought, of_filled, part_length}
+use Rattle.muen_build.specs.Accepting.{Files, insert_all, Grows, Known, Names, NotFound, Passes, Refuses, Stops, Why, all_names, brought_names, filled_names, looks_of, of_all, of_brought, of_filled, part_length}
 use Rattle.policy_lawful.specs.ByIndex.{provided_at}
 use Rattle.muen_build.specs.Filling.{brought_at, filled_provided, filled_region}
 use Rattle.muen_build.specs.Looks.{is_of_file, names_file}
@@ -37,37 +36,37 @@ none_is : (o : Option Refusal) → Ok tt ≡ as_refusal o → o ≡ None
 none_is None h = refl
 none_is (Some x) h = absurd (cc)
 
-module _ (name document : List ℕ) (f : Filled) where
+module _ (given : Files) (f : Filled) where
   pub inline_stops : (bytes : List ℕ) (held : Option Store) (h : History) (looks : List Look) (r : Refusal) → f.content ≡ Inline bytes → Err r ≡ as_refusal (too_long_for f (length bytes))
-      → Stops name document (filled_names f) held h h looks (Refuses (of_filled f)) (Refused r)
+      → Stops given (filled_names f) held h h looks (Refuses (of_filled f)) (Refused r)
   inline_stops bytes held h looks r is e =
       let long = refused_is (too_long_for f (length bytes)) r e in
-      stops_here name document (filled_names f) held h looks (Refuses (of_filled f)) r (λ files s. ap (content_refused (insert files name document) f) is ∙ long)
+      stops_here given (filled_names f) held h looks (Refuses (of_filled f)) r (λ files s. ap (content_refused (insert_all files given) f) is ∙ long)
 
-  pub inline_passes : (bytes : List ℕ) (looks : List Look) → f.content ≡ Inline bytes → Ok tt ≡ as_refusal (too_long_for f (length bytes)) → Passes name document looks (of_filled f)
-  inline_passes bytes looks is h files s = ap (content_refused (insert files name document) f) is ∙ none_is (too_long_for f (length bytes)) h
+  pub inline_passes : (bytes : List ℕ) (looks : List Look) → f.content ≡ Inline bytes → Ok tt ≡ as_refusal (too_long_for f (length bytes)) → Passes given looks (of_filled f)
+  inline_passes bytes looks is h files s = ap (content_refused (insert_all files given) f) is ∙ none_is (too_long_for f (length bytes)) h
 
   module _ (file : List ℕ) (offset : ℕ) (most : Option ℕ) (is : f.content ≡ File file offset most) where
     named : (n : List ℕ) → bytes_eq file n ≡ true → filled_names f n ≡ true
     named n h = ap (is_of_file n) is ∙ h
 
-    pub file_grows : (held : Option Store) (old new : History) (a b : List Look) → Grows name (bytes_eq file) held old new a b → Grows name (filled_names f) held old new a b
-    file_grows held old new a b g = grows_among name (bytes_eq file) (filled_names f) held old new a b named g
+    pub file_grows : (held : Option Store) (old new : History) (a b : List Look) → Grows given (bytes_eq file) held old new a b → Grows given (filled_names f) held old new a b
+    file_grows held old new a b g = grows_among given (bytes_eq file) (filled_names f) held old new a b named g
 
-    pub missing_stops : (held : Option Store) (old new : History) (looks : List Look) (error : BuildError) → Stops name document (bytes_eq file) held old new looks (NotFound file) error
-        → Stops name document (filled_names f) held old new looks (Refuses (of_filled f)) error
+    pub missing_stops : (held : Option Store) (old new : History) (looks : List Look) (error : BuildError) → Stops given (bytes_eq file) held old new looks (NotFound file) error
+        → Stops given (filled_names f) held old new looks (Refuses (of_filled f)) error
     missing_stops held old new looks error e =
-        stops_so name document (bytes_eq file) (filled_names f) held old new looks (NotFound file) (Refuses (of_filled f)) error named
-        (λ r after shows n files s. ap (content_refused (insert files name document) f) is ∙ file_fails f file offset most (insert files name document) r (n files s)) e
+        stops_so given (bytes_eq file) (filled_names f) held old new looks (NotFound file) (Refuses (of_filled f)) error named
+        (λ r after shows n files s. ap (content_refused (insert_all files given) f) is ∙ file_fails f file offset most (insert_all files given) r (n files s)) e
 
-    refused_as : (looks : List Look) (count : ℕ) → Known name document looks file count → (files : Store) → ShowAll files looks → content_refused (insert files name document) f f.content ≡ too_long_for f (part_length count offset most)
-    refused_as looks count known files s = ap (content_refused (insert files name document) f) is ∙ part_refused f file offset most count (insert files name document) (known files s)
+    refused_as : (looks : List Look) (count : ℕ) → Known given looks file count → (files : Store) → ShowAll files looks → content_refused (insert_all files given) f f.content ≡ too_long_for f (part_length count offset most)
+    refused_as looks count known files s = ap (content_refused (insert_all files given) f) is ∙ part_refused f file offset most count (insert_all files given) (known files s)
 
-    pub file_passes : (count : ℕ) (looks : List Look) → Known name document looks file count → Ok tt ≡ as_refusal (too_long_for f (part_length count offset most)) → Passes name document looks (of_filled f)
+    pub file_passes : (count : ℕ) (looks : List Look) → Known given looks file count → Ok tt ≡ as_refusal (too_long_for f (part_length count offset most)) → Passes given looks (of_filled f)
     file_passes count looks known h files s = refused_as looks count known files s ∙ none_is (too_long_for f (part_length count offset most)) h
 
-    pub long_stops : (before looks : List Look) (held : Option Store) (old new : History) (count : ℕ) (r : Refusal) → Grows name (bytes_eq file) held old new before looks → Known name document looks file count
-        → Err r ≡ as_refusal (too_long_for f (part_length count offset most)) → Stops name document (filled_names f) held old new before (Refuses (of_filled f)) (Refused r)
+    pub long_stops : (before looks : List Look) (held : Option Store) (old new : History) (count : ℕ) (r : Refusal) → Grows given (bytes_eq file) held old new before looks → Known given looks file count
+        → Err r ≡ as_refusal (too_long_for f (part_length count offset most)) → Stops given (filled_names f) held old new before (Refuses (of_filled f)) (Refused r)
     long_stops before looks held old new count r grows known h = record {
       after = looks;
       grows = file_grows held old new before looks grows;
@@ -81,41 +80,41 @@ abbrev pub any_names : {X : Type 0} → (X → Names) → List X → Names
 any_names asks all n = list_any (λ x. asks x n) all
 
 -- what is known while they are gone through: which looks were made, and that those passed aren't refused
-pub record Passing (X : Type 0) (why : X → Why) (asks : X → Names) (name document : List ℕ) (all : List X) (before : Files) (held now_held : Option Store) (old now : History) (found : Files) (i : ℕ) : Type 0 where
-  pub grows : Grows name (any_names asks all) held old now (looks_of before) (looks_of found)
-  pub rest : (files : Store) → ShowAll files (looks_of found) → first_in (λ x. why x (insert files name document)) (drop i all) ≡ first_in (λ x. why x (insert files name document)) all
+pub record Passing (X : Type 0) (why : X → Why) (asks : X → Names) (given : Files) (all : List X) (before : Files) (held now_held : Option Store) (old now : History) (found : Files) (i : ℕ) : Type 0 where
+  pub grows : Grows given (any_names asks all) held old now (looks_of before) (looks_of found)
+  pub rest : (files : Store) → ShowAll files (looks_of found) → first_in (λ x. why x (insert_all files given)) (drop i all) ≡ first_in (λ x. why x (insert_all files given)) all
   pub same : now_held ≡ held
 
-module _ {X : Type 0} (why : X → Why) (asks : X → Names) (name document : List ℕ) (all : List X) (before : Files) (held : Option Store) (old : History) where
-  pub passing_first : Passing X why asks name document all before held held old old before 0
-  passing_first = record { grows = grows_not name (any_names asks all) held old (looks_of before); rest = λ files s. refl; same = refl }
+module _ {X : Type 0} (why : X → Why) (asks : X → Names) (given : Files) (all : List X) (before : Files) (held : Option Store) (old : History) where
+  pub passing_first : Passing X why asks given all before held held old old before 0
+  passing_first = record { grows = grows_not given (any_names asks all) held old (looks_of before); rest = λ files s. refl; same = refl }
 
-  module _ (now_held : Option Store) (now : History) (found : Files) (i : ℕ) (p : Passing X why asks name document all before held now_held old now found i) where
-    pub passing_all : drop i all ≡ [] → Passes name document (looks_of found) (λ files. first_in (λ x. why x files) all)
-    passing_all end files s = sym (p.rest files s) ∙ ap (first_in (λ x. why x (insert files name document))) end
+  module _ (now_held : Option Store) (now : History) (found : Files) (i : ℕ) (p : Passing X why asks given all before held now_held old now found i) where
+    pub passing_all : drop i all ≡ [] → Passes given (looks_of found) (λ files. first_in (λ x. why x files) all)
+    passing_all end files s = sym (p.rest files s) ∙ ap (first_in (λ x. why x (insert_all files given))) end
 
     module _ (x : X) (within : i < length all) (is : x ≡ get_or all i x) where
       asked : (n : List ℕ) → asks x n ≡ true → any_names asks all n ≡ true
       asked n h = list_any_at (λ y. asks y n) all i x within (ap (λ y. asks y n) (sym is) ∙ h)
 
-      pub passing_on : (new_held : Option Store) (new : History) (after : Files) → Grows name (asks x) now_held now new (looks_of found) (looks_of after) → Passes name document (looks_of after) (why x) → new_held ≡ now_held
-          → Passing X why asks name document all before held new_held old new after (i + 1)
+      pub passing_on : (new_held : Option Store) (new : History) (after : Files) → Grows given (asks x) now_held now new (looks_of found) (looks_of after) → Passes given (looks_of after) (why x) → new_held ≡ now_held
+          → Passing X why asks given all before held new_held old new after (i + 1)
       passing_on new_held new after grows passes stays =
-          let more = grows_among name (asks x) (any_names asks all) now_held now new (looks_of found) (looks_of after) asked grows in
+          let more = grows_among given (asks x) (any_names asks all) now_held now new (looks_of found) (looks_of after) asked grows in
           record {
-            grows = grows_on name (any_names asks all) held now_held old now new (looks_of before) (looks_of found) (looks_of after) p.same p.grows more;
+            grows = grows_on given (any_names asks all) held now_held old now new (looks_of before) (looks_of found) (looks_of after) p.same p.grows more;
             rest = λ files s.
-                sym (first_step (λ x. why x (insert files name document)) all i x None within is (sym (passes files s)))
-                ∙ p.rest files (grows_shows name (asks x) now_held now new (looks_of found) (looks_of after) grows files s);
+                sym (first_step (λ x. why x (insert_all files given)) all i x None within is (sym (passes files s)))
+                ∙ p.rest files (grows_shows given (asks x) now_held now new (looks_of found) (looks_of after) grows files s);
             same = stays ∙ p.same;
           }
 
-      pub passing_stops : (new : History) (error : BuildError) → Stops name document (asks x) now_held now new (looks_of found) (Refuses (why x)) error
-          → Stops name document (any_names asks all) held old new (looks_of before) (Refuses (λ files. first_in (λ x. why x files) all)) error
+      pub passing_stops : (new : History) (error : BuildError) → Stops given (asks x) now_held now new (looks_of found) (Refuses (why x)) error
+          → Stops given (any_names asks all) held old new (looks_of before) (Refuses (λ files. first_in (λ x. why x files) all)) error
       passing_stops new error e =
-          stops_from name document (any_names asks all) held now_held old now new (looks_of before) (looks_of found) (Refuses (λ files. first_in (λ x. why x files) all)) error p.same p.grows
-          (stops_so name document (asks x) (any_names asks all) now_held now new (looks_of found) (Refuses (why x)) (Refuses (λ files. first_in (λ x. why x files) all)) error asked
-          (λ r after shows h files s. sym (p.rest files (shows files s)) ∙ first_step (λ x. why x (insert files name document)) all i x (Some r) within is (sym (h files s))) e)
+          stops_from given (any_names asks all) held now_held old now new (looks_of before) (looks_of found) (Refuses (λ files. first_in (λ x. why x files) all)) error p.same p.grows
+          (stops_so given (asks x) (any_names asks all) now_held now new (looks_of found) (Refuses (why x)) (Refuses (λ files. first_in (λ x. why x files) all)) error asked
+          (λ r after shows h files s. sym (p.rest files (shows files s)) ∙ first_step (λ x. why x (insert_all files given)) all i x (Some r) within is (sym (h files s))) e)
 
 -- ---- elements that are filled each for itself
 
@@ -123,41 +122,41 @@ list_any-map : {X Y : Type 0} (test : Y → Bool) (f : X → Y) (xs : List X) �
 list_any-map test f [] = refl
 list_any-map test f (x ∷ xs) = ap (λ b. test (f x) || b) (list_any-map test f xs)
 
-module _ {X : Type 0} (f : X → Filled) (xs : List X) (name document : List ℕ) where
+module _ {X : Type 0} (f : X → Filled) (xs : List X) (given : Files) where
   abbrev each_names : Names
   each_names = any_names (λ x. filled_names (f x)) xs
 
   mapped_names : (n : List ℕ) → each_names n ≡ true → all_names (map f xs) n ≡ true
   mapped_names n h = list_any-map (λ y. filled_names y n) f xs ∙ h
 
-  pub mapped_grows : (held : Option Store) (old new : History) (a b : List Look) → Grows name each_names held old new a b → Grows name (all_names (map f xs)) held old new a b
-  mapped_grows held old new a b g = grows_among name each_names (all_names (map f xs)) held old new a b mapped_names g
+  pub mapped_grows : (held : Option Store) (old new : History) (a b : List Look) → Grows given each_names held old new a b → Grows given (all_names (map f xs)) held old new a b
+  mapped_grows held old new a b g = grows_among given each_names (all_names (map f xs)) held old new a b mapped_names g
 
-  pub mapped_stops : (held : Option Store) (old new : History) (looks : List Look) (error : BuildError) → Stops name document each_names held old new looks (Refuses (λ files. first_in (λ x. of_filled (f x) files) xs)) error
-      → Stops name document (all_names (map f xs)) held old new looks (Refuses (of_all (map f xs))) error
+  pub mapped_stops : (held : Option Store) (old new : History) (looks : List Look) (error : BuildError) → Stops given each_names held old new looks (Refuses (λ files. first_in (λ x. of_filled (f x) files) xs)) error
+      → Stops given (all_names (map f xs)) held old new looks (Refuses (of_all (map f xs))) error
   mapped_stops held old new looks error e =
-      stops_so name document each_names (all_names (map f xs)) held old new looks (Refuses (λ files. first_in (λ x. of_filled (f x) files) xs)) (Refuses (of_all (map f xs))) error mapped_names
-      (λ r after shows h files s. first_over-map f (filled_refused (insert files name document)) xs ∙ h files s) e
+      stops_so given each_names (all_names (map f xs)) held old new looks (Refuses (λ files. first_in (λ x. of_filled (f x) files) xs)) (Refuses (of_all (map f xs))) error mapped_names
+      (λ r after shows h files s. first_over-map f (filled_refused (insert_all files given)) xs ∙ h files s) e
 
-  pub mapped_passes : (looks : List Look) → Passes name document looks (λ files. first_in (λ x. of_filled (f x) files) xs) → Passes name document looks (of_all (map f xs))
-  mapped_passes looks p files s = first_over-map f (filled_refused (insert files name document)) xs ∙ p files s
+  pub mapped_passes : (looks : List Look) → Passes given looks (λ files. first_in (λ x. of_filled (f x) files) xs) → Passes given looks (of_all (map f xs))
+  mapped_passes looks p files s = first_over-map f (filled_refused (insert_all files given)) xs ∙ p files s
 
 -- ---- what a subject's component brings along
 
-module _ (components : List Component) (s : Subject) (name document : List ℕ) where
+module _ (components : List Component) (s : Subject) (given : Files) where
   abbrev provided_all : List Filled
   provided_all = map (filled_provided s.name) (provided_at components s.component)
 
-  pub brought_by_grows : (held : Option Store) (old new : History) (a b : List Look) → Grows name (all_names provided_all) held old new a b → Grows name (all_names (brought_at components s)) held old new a b
+  pub brought_by_grows : (held : Option Store) (old new : History) (a b : List Look) → Grows given (all_names provided_all) held old new a b → Grows given (all_names (brought_at components s)) held old new a b
   unfolding brought_at
   brought_by_grows held old new a b g = g
 
-  pub brought_by_stops : (held : Option Store) (old new : History) (looks : List Look) (error : BuildError) → Stops name document (all_names provided_all) held old new looks (Refuses (of_all provided_all)) error
-      → Stops name document (all_names (brought_at components s)) held old new looks (Refuses (of_all (brought_at components s))) error
+  pub brought_by_stops : (held : Option Store) (old new : History) (looks : List Look) (error : BuildError) → Stops given (all_names provided_all) held old new looks (Refuses (of_all provided_all)) error
+      → Stops given (all_names (brought_at components s)) held old new looks (Refuses (of_all (brought_at components s))) error
   unfolding brought_at
   brought_by_stops held old new looks error e = e
 
-  pub brought_by_passes : (looks : List Look) → Passes name document looks (of_all provided_all) → Passes name document looks (of_all (brought_at components s))
+  pub brought_by_passes : (looks : List Look) → Passes given looks (of_all provided_all) → Passes given looks (of_all (brought_at components s))
   unfolding brought_at
   brought_by_passes looks p = p
 
@@ -203,34 +202,34 @@ module _ (r : Resolution) (h : IsResolved r) where
   of_components : (n : List ℕ) → brought_names r.components r.subjects n ≡ true → names_file (source_of r) n ≡ true
   of_components n is = names_are n ∙ or_right (all_names (map filled_region r.memory) n) (brought_names r.components r.subjects n) is
 
-  module _ (name document : List ℕ) (before between : Files) (held mid_held : Option Store) (old mid : History) where
-    pub memory_stops : (error : BuildError) → Stops name document (all_names (map filled_region r.memory)) held old mid (looks_of before) (Refuses (of_all (map filled_region r.memory))) error
-        → Stops name document (names_file (source_of r)) held old mid (looks_of before) (Refuses (of_all (filled_of (source_of r)))) error
+  module _ (given : Files) (before between : Files) (held mid_held : Option Store) (old mid : History) where
+    pub memory_stops : (error : BuildError) → Stops given (all_names (map filled_region r.memory)) held old mid (looks_of before) (Refuses (of_all (map filled_region r.memory))) error
+        → Stops given (names_file (source_of r)) held old mid (looks_of before) (Refuses (of_all (filled_of (source_of r)))) error
     memory_stops error e =
-        stops_so name document (all_names (map filled_region r.memory)) (names_file (source_of r)) held old mid (looks_of before) (Refuses (of_all (map filled_region r.memory))) (Refuses (of_all (filled_of (source_of r)))) error of_memory
-        (λ x after shows is files s. all_is (insert files name document) ∙ ap (λ o. option_or o (of_brought r.components r.subjects (insert files name document))) (is files s)) e
+        stops_so given (all_names (map filled_region r.memory)) (names_file (source_of r)) held old mid (looks_of before) (Refuses (of_all (map filled_region r.memory))) (Refuses (of_all (filled_of (source_of r)))) error of_memory
+        (λ x after shows is files s. all_is (insert_all files given) ∙ ap (λ o. option_or o (of_brought r.components r.subjects (insert_all files given))) (is files s)) e
 
-    module _ (grows : Grows name (all_names (map filled_region r.memory)) held old mid (looks_of before) (looks_of between)) (passes : Passes name document (looks_of between) (of_all (map filled_region r.memory))) (same : mid_held ≡ held) where
-      memory_grows : Grows name (names_file (source_of r)) held old mid (looks_of before) (looks_of between)
-      memory_grows = grows_among name (all_names (map filled_region r.memory)) (names_file (source_of r)) held old mid (looks_of before) (looks_of between) of_memory grows
+    module _ (grows : Grows given (all_names (map filled_region r.memory)) held old mid (looks_of before) (looks_of between)) (passes : Passes given (looks_of between) (of_all (map filled_region r.memory))) (same : mid_held ≡ held) where
+      memory_grows : Grows given (names_file (source_of r)) held old mid (looks_of before) (looks_of between)
+      memory_grows = grows_among given (all_names (map filled_region r.memory)) (names_file (source_of r)) held old mid (looks_of before) (looks_of between) of_memory grows
 
-      pub brought_stops : (new : History) (error : BuildError) → Stops name document (brought_names r.components r.subjects) mid_held mid new (looks_of between) (Refuses (of_brought r.components r.subjects)) error
-          → Stops name document (names_file (source_of r)) held old new (looks_of before) (Refuses (of_all (filled_of (source_of r)))) error
+      pub brought_stops : (new : History) (error : BuildError) → Stops given (brought_names r.components r.subjects) mid_held mid new (looks_of between) (Refuses (of_brought r.components r.subjects)) error
+          → Stops given (names_file (source_of r)) held old new (looks_of before) (Refuses (of_all (filled_of (source_of r)))) error
       brought_stops new error e =
-          stops_from name document (names_file (source_of r)) held mid_held old mid new (looks_of before) (looks_of between) (Refuses (of_all (filled_of (source_of r)))) error same memory_grows
-          (stops_so name document (brought_names r.components r.subjects) (names_file (source_of r)) mid_held mid new (looks_of between) (Refuses (of_brought r.components r.subjects)) (Refuses (of_all (filled_of (source_of r)))) error of_components
+          stops_from given (names_file (source_of r)) held mid_held old mid new (looks_of before) (looks_of between) (Refuses (of_all (filled_of (source_of r)))) error same memory_grows
+          (stops_so given (brought_names r.components r.subjects) (names_file (source_of r)) mid_held mid new (looks_of between) (Refuses (of_brought r.components r.subjects)) (Refuses (of_all (filled_of (source_of r)))) error of_components
           (λ x after shows is files s.
-          all_is (insert files name document) ∙ ap (λ o. option_or o (of_brought r.components r.subjects (insert files name document))) (passes files (shows files s)) ∙ is files s) e)
+          all_is (insert_all files given) ∙ ap (λ o. option_or o (of_brought r.components r.subjects (insert_all files given))) (passes files (shows files s)) ∙ is files s) e)
 
-      pub both_grow : (new : History) (after : Files) → Grows name (brought_names r.components r.subjects) mid_held mid new (looks_of between) (looks_of after)
-          → Grows name (names_file (source_of r)) held old new (looks_of before) (looks_of after)
+      pub both_grow : (new : History) (after : Files) → Grows given (brought_names r.components r.subjects) mid_held mid new (looks_of between) (looks_of after)
+          → Grows given (names_file (source_of r)) held old new (looks_of before) (looks_of after)
       both_grow new after g =
-          grows_on name (names_file (source_of r)) held mid_held old mid new (looks_of before) (looks_of between) (looks_of after) same memory_grows
-          (grows_among name (brought_names r.components r.subjects) (names_file (source_of r)) mid_held mid new (looks_of between) (looks_of after) of_components g)
+          grows_on given (names_file (source_of r)) held mid_held old mid new (looks_of before) (looks_of between) (looks_of after) same memory_grows
+          (grows_among given (brought_names r.components r.subjects) (names_file (source_of r)) mid_held mid new (looks_of between) (looks_of after) of_components g)
 
-      pub both_pass : (new : History) (after : Files) → Grows name (brought_names r.components r.subjects) mid_held mid new (looks_of between) (looks_of after) → Passes name document (looks_of after) (of_brought r.components r.subjects)
-          → Passes name document (looks_of after) (of_all (filled_of (source_of r)))
+      pub both_pass : (new : History) (after : Files) → Grows given (brought_names r.components r.subjects) mid_held mid new (looks_of between) (looks_of after) → Passes given (looks_of after) (of_brought r.components r.subjects)
+          → Passes given (looks_of after) (of_all (filled_of (source_of r)))
       both_pass new after g brought files s =
-          all_is (insert files name document)
-          ∙ ap (λ o. option_or o (of_brought r.components r.subjects (insert files name document))) (passes files (grows_shows name (brought_names r.components r.subjects) mid_held mid new (looks_of between) (looks_of after) g files s))
+          all_is (insert_all files given)
+          ∙ ap (λ o. option_or o (of_brought r.components r.subjects (insert_all files given))) (passes files (grows_shows given (brought_names r.components r.subjects) mid_held mid new (looks_of between) (looks_of after) g files s))
           ∙ brought files s

@@ -1,5 +1,5 @@
 -- The document in the place of its name.
-use Rattle.std.proofs.Common.{◌≡◌, ℕ, ◌≤◌, ◌<◌, Bool, true, false, cond, List, length, Option, Some, None, refl, sym, ap, ◌∙◌, arith}
+use Rattle.std.proofs.Common.{◌≡◌, ℕ, ◌≤◌, ◌<◌, Bool, true, false, cond, List, [], ◌∷◌, length, Option, Some, None, refl, sym, ap, ◌∙◌, arith}
 use Rattle.std.specs.Prelude.{nat_lt, if◌then◌else◌}
 use Rattle.std.specs.Str.{bytes_eq}
 use Rattle.std.specs.FinMap.{get, insert, get-insert, same_map, slice_cmp-IsAntisymmetric, nat_cmp-IsAntisymmetric}
@@ -8,8 +8,9 @@ use Rattle.std.proofs.lemmas.Bool.{lt-ltb}
 use Rattle.std.proofs.lemmas.Bool.Decides.{nat_tests}
 use Rattle.std.proofs.lemmas.Slice.Eq.{bytes_eq-Decides}
 use Rattle.muen_outside.specs.Looks.{Shows}
-use Rattle.muen_outside.specs.Store.{Store, whole, long, reading_of}
+use Rattle.muen_outside.specs.Store.{Store, whole, long, find_bytes, reading_of}
 use Rattle.muen_num.specs.declared.limits.TheConstants.{POLICY_MOST}
+use Rattle.muen_build.specs.Accepting.{Files, insert_all}
 use Rattle.muen_build.specs.Looks.{document_look}
 
 -- ---- what stands under a name
@@ -25,6 +26,24 @@ module _ (m : Store) (name document file : List ℕ) where
   -- under another
   pub other_bytes : bytes_eq file name ≡ false → get (insert m name document) file ≡ get m file
   other_bytes other = get-insert_bytes m name document file ∙ ap (λ t. cond t (Some document) (get m file)) other
+
+-- ---- under names that are given
+
+pub given_there : (m : Store) (given : Files) (file bytes : List ℕ) → find_bytes file given ≡ Some bytes → get (insert_all m given) file ≡ Some bytes
+given_there m [] file bytes h = absurd (cc)
+given_there m (e ∷ es) file bytes h =
+    (elim (bytes_eq file e.0) as (λ b. bytes_eq file e.0 ≡ b → (if b then Some e.1 else find_bytes file es) ≡ Some bytes → get (insert (insert_all m es) e.0 e.1) file ≡ Some bytes) [
+      | true ↦ λ same is. own_bytes (insert_all m es) e.0 e.1 file same ∙ is
+      | false ↦ λ other is. other_bytes (insert_all m es) e.0 e.1 file other ∙ given_there m es file bytes is
+    ]) refl h
+
+pub not_given : (m : Store) (given : Files) (file : List ℕ) → find_bytes file given ≡ None → get (insert_all m given) file ≡ get m file
+not_given m [] file h = refl
+not_given m (e ∷ es) file h =
+    (elim (bytes_eq file e.0) as (λ b. bytes_eq file e.0 ≡ b → (if b then Some e.1 else find_bytes file es) ≡ None → get (insert (insert_all m es) e.0 e.1) file ≡ get m file) [
+      | true ↦ λ same is. absurd (cc)
+      | false ↦ λ other is. other_bytes (insert_all m es) e.0 e.1 file other ∙ not_given m es file is
+    ]) refl h
 
 -- ---- files that hold the document
 

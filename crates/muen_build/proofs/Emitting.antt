@@ -1,5 +1,5 @@
 -- What an image is made of: its regions are filled, and it is sound for what was seen.
-use Rattle.std.proofs.Common.{◌≡◌, ℕ, List, sym, ap, subst, ◌∙◌}
+use Rattle.std.proofs.Common.{◌≡◌, ℕ, List, [], ◌∷◌, sym, ap, subst, ◌∙◌}
 use Rattle.std.specs.FinMap.{insert}
 use Rattle.std.specs.Prelude.{IfOk, Result}
 use Rattle.std.proofs.lemmas.Result.{IfOk-weaker}
@@ -14,21 +14,24 @@ use Rattle.region_alloc.specs.Placed.{IsPlaced, Placement}
 use Rattle.muen_build.specs.Accepting.{Accepts, Files, looks_of}
 use Rattle.muen_build.specs.Reading.{things_read}
 use Rattle.muen_build.proofs.Held.{things_held}
+use Rattle.muen_build.proofs.Refusing.{accepted_so}
 use Rattle.muen_build.proofs.Rooms.{things_filled}
+use Rattle.muen_build.specs.Refusals.{contents_refused}
 
 module _ (x : Placement) (placed : IsPlaced x) where
   -- of its policy, as it is reached
   module _ (expanded : Expansion) (of_placed : expanded ≡ x.expanded) (lawful r : Resolution) (of_expanded : lawful ≡ expanded.lawful) (of_lawful : r ≡ lawful)
-      (name document : List ℕ) (found : Files) (things : List (List ℕ)) (are_things : things ≡ things_read name document found r) where
-    things_are : things ≡ things_read name document found x.expanded.lawful
-    things_are = are_things ∙ ap (things_read name document found) (of_lawful ∙ of_expanded ∙ ap (λ p. p.lawful) of_placed)
+      (name document : List ℕ) (found : Files) (things : List (List ℕ)) (are_things : things ≡ things_read ((name, document) ∷ []) found r) where
+    things_are : things ≡ things_read ((name, document) ∷ []) found x.expanded.lawful
+    things_are = are_things ∙ ap (things_read ((name, document) ∷ []) found) (of_lawful ∙ of_expanded ∙ ap (λ p. p.lawful) of_placed)
 
     pub filled_so : IsFilled x things
-    filled_so = subst (IsFilled x) (sym things_are) (things_filled name document found x placed.resolved placed.expansion.regions placed.expansion.grants)
+    filled_so = subst (IsFilled x) (sym things_are) (things_filled ((name, document) ∷ []) found x placed.resolved placed.expansion.regions placed.expansion.grants)
 
     pub sound_so : {E : Type 0} (result : Result Image E) → Accepts name (looks_of found) document (source_of x.expanded.lawful)
         → IfOk result (λ i. (files : Store) → things ≡ thing_bytes files x.expanded.lawful → IsSound (source_of x.expanded.lawful) files i)
         → IfOk result (λ i. (files : Store) → ShowAll files (looks_of found) → IsSound (source_of x.expanded.lawful) (insert files name document) i)
+    unfolding contents_refused
     sound_so result accepts sound =
         IfOk-weaker result _ _
-        (λ i h files s. h (insert files name document) (things_are ∙ things_held name document found x.expanded.lawful placed.resolved accepts files s)) sound
+        (λ i h files s. h (insert files name document) (things_are ∙ things_held ((name, document) ∷ []) found x.expanded.lawful placed.resolved (λ m t. (accepted_so (insert m name document) document (source_of x.expanded.lawful) (accepts m t)).contents) files s)) sound

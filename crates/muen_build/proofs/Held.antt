@@ -4,7 +4,7 @@ use Rattle.std.specs.Prelude.{nat_le, nat_lt, replicate, unwrap_or, if◌then◌
 use Rattle.std.specs.Option.{option_map_or}
 use Rattle.std.specs.List.{flat_map}
 use Rattle.std.specs.Str.{bytes_eq}
-use Rattle.std.specs.FinMap.{get, get-remove, insert, remove}
+use Rattle.std.specs.FinMap.{get, get-remove, remove}
 use Rattle.std.specs.Cmp.Lexicographic.{nat_list_cmp_total, texts_ties}
 use Rattle.std.proofs.lemmas.List.{take_all}
 use Rattle.std.proofs.lemmas.Bool.Decides.{nat_tests}
@@ -16,7 +16,7 @@ use Rattle.muen_num.proofs.SearchLaws.{none_append, none_both}
 use Rattle.muen_outside.specs.Looks.{AreOthers, ShowAll, ShowsAnswer}
 use Rattle.muen_outside.specs.States.{Look}
 use Rattle.muen_outside.specs.Store.{Store, whole, long, reading_of, find_bytes}
-use Rattle.muen_build.specs.Accepting.{Accepts, Files, WithDocument, looks_of, of_all}
+use Rattle.muen_build.specs.Accepting.{Files, WithGiven, insert_all, looks_of, of_all}
 use Rattle.muen_build.specs.Filling.{brought_at, filled_at, filled_provided, filled_region}
 use Rattle.muen_build.specs.Reading.{content_read, read_bytes, sized, things_read}
 use Rattle.muen_build.specs.Refusals.{Filled, content_refused, contents_refused, file_refused, filled_refused, too_long_for}
@@ -29,9 +29,8 @@ use Rattle.policy_types.specs.declared.source.Component.{Component}
 use Rattle.policy_types.specs.declared.source.Content.{Content}
 use Rattle.policy_types.specs.declared.source.Content.TheVariants.{Zero, Fill, Inline, File}
 use Rattle.muen_build.proofs.FilledByIndex.{filled_by_index}
-use Rattle.muen_build.proofs.Documents.{other_bytes, own_bytes, whole_found}
+use Rattle.muen_build.proofs.Documents.{given_there, not_given, whole_found}
 use Rattle.muen_build.proofs.Looks.{other_way, same_self}
-use Rattle.muen_build.proofs.Refusing.{accepted_so}
 use Rattle.muen_build.proofs.Steps.{found_reads, others_found}
 
 -- ---- without a file
@@ -66,77 +65,76 @@ fitting f bytes h =
       | false ↦ λ fits is. absurd (cc)
     ]) refl h
 
-module _ (name document : List ℕ) (found : Files) where
+module _ (given found : Files) where
   -- so it is of all files that agree with the looks, with the document under its name
   abbrev Over : (Store → Type 0) → Type 0
-  Over Such = WithDocument name document (looks_of found) Such
+  Over Such = WithGiven given (looks_of found) Such
 
   -- a file that is named was read
   file_read : (f : Filled) (file : List ℕ) (offset : ℕ) (most : Option ℕ) → Over (λ files. content_refused files f (File file offset most) ≡ None)
-      → Over (λ files. reading_of (get files file) COMPONENT_FILE_MOST ≡ whole (read_bytes name document found file))
+      → Over (λ files. reading_of (get files file) COMPONENT_FILE_MOST ≡ whole (read_bytes given found file))
   file_read f file offset most passes files s =
-      elim (bytes_eq file name) as (λ b. bytes_eq file name ≡ b → reading_of (get (insert files name document) file) COMPONENT_FILE_MOST ≡ whole (if b then document else unwrap_or (find_bytes file found) [])) [
-        | true ↦ λ same.
-            let there = own_bytes files name document file same in
+      elim (find_bytes file given) as (λ o. find_bytes file given ≡ o → reading_of (get (insert_all files given) file) COMPONENT_FILE_MOST ≡ whole (unwrap_or o (unwrap_or (find_bytes file found) []))) [
+        | Some bytes ↦ λ is.
+            let there = given_there files given file bytes is in
             ap (λ o. reading_of o COMPONENT_FILE_MOST) there
-            ∙ own_whole f file offset most document (ap (λ o. file_refused f file offset most (reading_of o COMPONENT_FILE_MOST)) (sym there) ∙ passes files s)
-        | false ↦ λ other.
-            elim (find_bytes file found) as (λ o. find_bytes file found ≡ o → reading_of (get (insert files name document) file) COMPONENT_FILE_MOST ≡ whole (unwrap_or o [])) [
-              | Some bytes ↦ λ is. found_reads name document found file other bytes is files s
+            ∙ own_whole f file offset most bytes (ap (λ o. file_refused f file offset most (reading_of o COMPONENT_FILE_MOST)) (sym there) ∙ passes files s)
+        | None ↦ λ other.
+            elim (find_bytes file found) as (λ o. find_bytes file found ≡ o → reading_of (get (insert_all files given) file) COMPONENT_FILE_MOST ≡ whole (unwrap_or o [])) [
+              | Some bytes ↦ λ is. found_reads given found file other bytes is files s
               | None ↦ λ is.
                   let without = still_shown files file (looks_of found) (others_found found file is) s in
-                  let gone : get (insert (remove files file) name document) file ≡ None =
-                  other_bytes (remove files file) name document file other ∙ get-remove_bytes files file file ∙ ap (λ t. cond t None (get files file)) (same_self file) in
-                  let refused : content_refused (insert (remove files file) name document) f (File file offset most) ≡ Some (Missing file) = ap (λ o. file_refused f file offset most (reading_of o COMPONENT_FILE_MOST)) gone in
+                  let gone : get (insert_all (remove files file) given) file ≡ None =
+                  not_given (remove files file) given file other ∙ get-remove_bytes files file file ∙ ap (λ t. cond t None (get files file)) (same_self file) in
+                  let refused : content_refused (insert_all (remove files file) given) f (File file offset most) ≡ Some (Missing file) = ap (λ o. file_refused f file offset most (reading_of o COMPONENT_FILE_MOST)) gone in
                   let none = passes (remove files file) without in
                   absurd (cc)
             ] refl
       ] refl
 
-  content_same : (f : Filled) (c : Content) → Over (λ files. content_refused files f c ≡ None) → Over (λ files. content_read name document found f.size c ≡ content_bytes files f.size c)
+  content_same : (f : Filled) (c : Content) → Over (λ files. content_refused files f c ≡ None) → Over (λ files. content_read given found f.size c ≡ content_bytes files f.size c)
   content_same f Zero passes files s = refl
   content_same f (Fill b) passes files s = refl
   content_same f (Inline bytes) passes files s = fitting f bytes (passes files s)
   content_same f (File file offset most) passes files s =
-      let bytes = read_bytes name document found file in
+      let bytes = read_bytes given found file in
       let reads = file_read f file offset most passes files s in
-      let there : get (insert files name document) file ≡ Some bytes = whole_found COMPONENT_FILE_MOST bytes (get (insert files name document) file) reads in
+      let there : get (insert_all files given) file ≡ Some bytes = whole_found COMPONENT_FILE_MOST bytes (get (insert_all files given) file) reads in
       let fits : too_long_for f (length (file_part offset most bytes)) ≡ None = ap (file_refused f file offset most) (sym reads) ∙ passes files s in
       fitting f (file_part offset most bytes) fits ∙ ap (λ o. padded f.size (file_part offset most (option_map_or (λ b. b) o []))) (sym there)
 
   -- ---- all of them
 
   each_same : {X : Type 0} (g : X → Filled) (xs : List X) → Over (λ files. of_all (map g xs) files ≡ None)
-      → Over (λ files. map (λ x. content_read name document found (g x).size (g x).content) xs ≡ map (λ x. content_bytes files (g x).size (g x).content) xs)
+      → Over (λ files. map (λ x. content_read given found (g x).size (g x).content) xs ≡ map (λ x. content_bytes files (g x).size (g x).content) xs)
   each_same g [] passes files s = refl
   each_same g (x ∷ xs) passes files s =
       let both = λ (files : Store) (s : ShowAll files (looks_of found)).
-      none_both (filled_refused (insert files name document) (g x)) (of_all (map g xs) (insert files name document)) (passes files s) in
+      none_both (filled_refused (insert_all files given) (g x)) (of_all (map g xs) (insert_all files given)) (passes files s) in
       ap₂ (λ y ys. y ∷ ys) (content_same (g x) (g x).content (λ files s. (both files s).0) files s) (each_same g xs (λ files s. (both files s).1) files s)
 
   brought_same : (cs : List Component) (ss : List Subject) → Over (λ files. of_all (flat_map (brought_at cs) ss) files ≡ None)
-      → Over (λ files. flat_map (λ t. map (λ x. content_read name document found x.size x.content) (provided_at cs t.component)) ss
+      → Over (λ files. flat_map (λ t. map (λ x. content_read given found x.size x.content) (provided_at cs t.component)) ss
       ≡ flat_map (λ t. map (λ x. content_bytes files x.size x.content) (provided_at cs t.component)) ss)
   unfolding brought_at
   brought_same cs [] passes files s = refl
   brought_same cs (t ∷ ts) passes files s =
       let both = λ (files : Store) (s : ShowAll files (looks_of found)).
-      none_append (filled_refused (insert files name document)) (brought_at cs t) (flat_map (brought_at cs) ts) (passes files s) in
+      none_append (filled_refused (insert_all files given)) (brought_at cs t) (flat_map (brought_at cs) ts) (passes files s) in
       ap₂ (λ ys zs. ys ++ zs)
       (each_same (filled_provided t.name) (provided_at cs t.component) (λ files s. (both files s).0) files s)
       (brought_same cs ts (λ files s. (both files s).1) files s)
 
-  things_same : (r : Resolution) → Over (λ files. of_all (filled_at r) files ≡ None) → Over (λ files. things_read name document found r ≡ thing_bytes files r)
+  things_same : (r : Resolution) → Over (λ files. of_all (filled_at r) files ≡ None) → Over (λ files. things_read given found r ≡ thing_bytes files r)
   things_same r passes files s =
       let both = λ (files : Store) (s : ShowAll files (looks_of found)).
-      none_append (filled_refused (insert files name document)) (map filled_region r.memory) (flat_map (brought_at r.components) r.subjects) (passes files s) in
+      none_append (filled_refused (insert_all files given)) (map filled_region r.memory) (flat_map (brought_at r.components) r.subjects) (passes files s) in
       ap₂ (λ ys zs. ys ++ map (λ (c : Channel). replicate c.size 0) r.channels ++ zs)
       (each_same filled_region r.memory (λ files s. (both files s).0) files s)
       (brought_same r.components r.subjects (λ files s. (both files s).1) files s)
 
-  -- where the document is accepted
-  pub things_held : (r : Resolution) → IsResolved r → Accepts name (looks_of found) document (source_of r) → Over (λ files. things_read name document found r ≡ thing_bytes files r)
+  -- where no content is refused
+  pub things_held : (r : Resolution) → IsResolved r → Over (λ files. contents_refused files (source_of r) ≡ None) → Over (λ files. things_read given found r ≡ thing_bytes files r)
   unfolding contents_refused
-  things_held r resolved accepts files s =
-      things_same r
-      (λ files s. ap (first_in (filled_refused (insert files name document))) (filled_by_index r resolved) ∙ (accepted_so (insert files name document) document (source_of r) (accepts files s)).contents) files s
+  things_held r resolved passes files s =
+      things_same r (λ files s. ap (first_in (filled_refused (insert_all files given))) (filled_by_index r resolved) ∙ passes files s) files s

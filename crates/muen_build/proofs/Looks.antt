@@ -7,7 +7,7 @@ use Rattle.muen_outside.specs.Looks.{AreOthers, AreSingle, IsPossibleEnd, ShowAl
 use Rattle.muen_outside.specs.States.{History, Look, looked}
 use Rattle.muen_outside.specs.Store.{Store}
 use Rattle.policy_types.specs.declared.refusal.Refusal.{Refusal}
-use Rattle.muen_build.specs.Accepting.{ErrorSays, Grows, IsAskedBy, Names, Stops, WithDocument}
+use Rattle.muen_build.specs.Accepting.{ErrorSays, Files, Grows, IsAskedBy, Names, Stops, WithGiven}
 use Rattle.muen_build.specs.declared.accepted.BuildError.{BuildError}
 use Rattle.muen_build.specs.declared.accepted.BuildError.TheVariants.{FileFault, Refused}
 
@@ -65,33 +65,33 @@ no_look h = ap (λ looks. record { looks = looks; writes = h.writes }) (sym (app
 pub looked_both : (h : History) (ls more : List Look) → looked (looked h ls) more ≡ looked h (ls ++ more)
 looked_both h ls more = ap (λ looks. record { looks = looks; writes = h.writes }) (append_assoc h.looks ls more)
 
-pub grows_not : (name : List ℕ) (names : Names) (held : Option Store) (h : History) (a : List Look) → Grows name names held h h a a
-grows_not name names held h a = record {
+pub grows_not : (given : Files) (names : Names) (held : Option Store) (h : History) (a : List Look) → Grows given names held h h a a
+grows_not given names held h a = record {
   more = [];
   grown = sym (append-nil a);
   history = no_look h;
   told = told_none held;
   asked = All-nil (IsAskedBy names);
   single = λ s. s;
-  others = λ s. s;
+  others = λ name bytes is s. s;
 }
 
-pub grows_on : (name : List ℕ) (names : Names) (held held' : Option Store) (old mid new : History) (a b c : List Look)
-    → held' ≡ held → Grows name names held old mid a b → Grows name names held' mid new b c → Grows name names held old new a c
-grows_on name names held held' old mid new a b c same f g = record {
+pub grows_on : (given : Files) (names : Names) (held held' : Option Store) (old mid new : History) (a b c : List Look)
+    → held' ≡ held → Grows given names held old mid a b → Grows given names held' mid new b c → Grows given names held old new a c
+grows_on given names held held' old mid new a b c same f g = record {
   more = f.more ++ g.more;
   grown = g.grown ∙ ap (λ looks. looks ++ g.more) f.grown ∙ append_assoc a f.more g.more;
   history = g.history ∙ ap (λ h. looked h g.more) f.history ∙ looked_both old f.more g.more;
   told = told_both held f.more g.more f.told (subst (λ h. IfSome h (λ m. ShowAll m g.more)) same g.told);
   asked = All-append (IsAskedBy names) f.more g.more f.asked g.asked;
   single = λ s. g.single (f.single s);
-  others = λ s. g.others (f.others s);
+  others = λ name bytes is s. g.others name bytes is (f.others name bytes is s);
 }
 
 -- names that are asked for among more
-pub grows_among : (name : List ℕ) (names names' : Names) (held : Option Store) (old new : History) (a b : List Look)
-    → ((file : List ℕ) → names file ≡ true → names' file ≡ true) → Grows name names held old new a b → Grows name names' held old new a b
-grows_among name names names' held old new a b among g = record {
+pub grows_among : (given : Files) (names names' : Names) (held : Option Store) (old new : History) (a b : List Look)
+    → ((file : List ℕ) → names file ≡ true → names' file ≡ true) → Grows given names held old new a b → Grows given names' held old new a b
+grows_among given names names' held old new a b among g = record {
   more = g.more;
   grown = g.grown;
   history = g.history;
@@ -101,40 +101,40 @@ grows_among name names names' held old new a b among g = record {
   others = g.others;
 }
 
-pub grows_shows : (name : List ℕ) (names : Names) (held : Option Store) (old new : History) (a b : List Look) → Grows name names held old new a b → (files : Store) → ShowAll files b → ShowAll files a
-grows_shows name names held old new a b g files s = show_front files a g.more (subst (ShowAll files) g.grown s)
+pub grows_shows : (given : Files) (names : Names) (held : Option Store) (old new : History) (a b : List Look) → Grows given names held old new a b → (files : Store) → ShowAll files b → ShowAll files a
+grows_shows given names held old new a b g files s = show_front files a g.more (subst (ShowAll files) g.grown s)
 
 -- ---- how it fails
 
-says_so : (name document : List ℕ) (looks : List Look) (Refuses Refuses' : Store → Refusal → Type 0) (error : BuildError)
-    → ((r : Refusal) → WithDocument name document looks (λ files. Refuses files r) → WithDocument name document looks (λ files. Refuses' files r))
-    → ErrorSays name document Refuses looks error → ErrorSays name document Refuses' looks error
-says_so name document looks Refuses Refuses' (Refused r) so (inl is) = inl is
-says_so name document looks Refuses Refuses' (Refused r) so (inr e) = inr (so r e)
-says_so name document looks Refuses Refuses' FileFault so e = e
+says_so : (given : Files) (looks : List Look) (Refuses Refuses' : Store → Refusal → Type 0) (error : BuildError)
+    → ((r : Refusal) → WithGiven given looks (λ files. Refuses files r) → WithGiven given looks (λ files. Refuses' files r))
+    → ErrorSays given Refuses looks error → ErrorSays given Refuses' looks error
+says_so given looks Refuses Refuses' (Refused r) so (inl is) = inl is
+says_so given looks Refuses Refuses' (Refused r) so (inr e) = inr (so r e)
+says_so given looks Refuses Refuses' FileFault so e = e
 
-module _ (name document : List ℕ) where
+module _ (given : Files) where
   -- told from an earlier look on
   pub stops_from : (names : Names) (held held' : Option Store) (old mid new : History) (a b : List Look) (Refuses : Store → Refusal → Type 0) (error : BuildError)
-      → held' ≡ held → Grows name names held old mid a b → Stops name document names held' mid new b Refuses error → Stops name document names held old new a Refuses error
+      → held' ≡ held → Grows given names held old mid a b → Stops given names held' mid new b Refuses error → Stops given names held old new a Refuses error
   stops_from names held held' old mid new a b Refuses error same g e = record {
     after = e.after;
-    grows = grows_on name names held held' old mid new a b e.after same g e.grows;
+    grows = grows_on given names held held' old mid new a b e.after same g e.grows;
     says = e.says;
   }
 
   -- for more, and with names among more
   pub stops_so : (names names' : Names) (held : Option Store) (old new : History) (a : List Look) (Refuses Refuses' : Store → Refusal → Type 0) (error : BuildError)
       → ((file : List ℕ) → names file ≡ true → names' file ≡ true)
-      → ((r : Refusal) (looks : List Look) → ((files : Store) → ShowAll files looks → ShowAll files a) → WithDocument name document looks (λ files. Refuses files r) → WithDocument name document looks (λ files. Refuses' files r))
-      → Stops name document names held old new a Refuses error → Stops name document names' held old new a Refuses' error
+      → ((r : Refusal) (looks : List Look) → ((files : Store) → ShowAll files looks → ShowAll files a) → WithGiven given looks (λ files. Refuses files r) → WithGiven given looks (λ files. Refuses' files r))
+      → Stops given names held old new a Refuses error → Stops given names' held old new a Refuses' error
   stops_so names names' held old new a Refuses Refuses' error among so e = record {
     after = e.after;
-    grows = grows_among name names names' held old new a e.after among e.grows;
-    says = says_so name document e.after Refuses Refuses' error (λ r. so r e.after (grows_shows name names held old new a e.after e.grows)) e.says;
+    grows = grows_among given names names' held old new a e.after among e.grows;
+    says = says_so given e.after Refuses Refuses' error (λ r. so r e.after (grows_shows given names held old new a e.after e.grows)) e.says;
   }
 
   -- with no look more
   pub stops_here : (names : Names) (held : Option Store) (h : History) (a : List Look) (Refuses : Store → Refusal → Type 0) (r : Refusal)
-      → WithDocument name document a (λ files. Refuses files r) → Stops name document names held h h a Refuses (Refused r)
-  stops_here names held h a Refuses r so = record { after = a; grows = grows_not name names held h a; says = inr so }
+      → WithGiven given a (λ files. Refuses files r) → Stops given names held h h a Refuses (Refused r)
+  stops_here names held h a Refuses r so = record { after = a; grows = grows_not given names held h a; says = inr so }

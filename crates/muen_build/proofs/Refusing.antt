@@ -11,7 +11,7 @@ use Rattle.policy_types.specs.declared.refusal.Refusal.{Refusal}
 use Rattle.policy_types.specs.declared.refusal.Refusal.TheVariants.{NoMemory}
 use Rattle.policy_types.specs.declared.source.Source.{Source}
 use Rattle.region_alloc.specs.Placement.{no_room}
-use Rattle.muen_build.specs.Refusals.{accepted, accepted_policy_of, build_refused, contents_refused, laid, laid_policy_of, lawful_alone, lawful_policy_of, refusal_of, unlawful}
+use Rattle.muen_build.specs.Refusals.{accepted, accepted_policy_of, build_refused, contents_refused, fitting, fitting_policy_of, laid, laid_policy_of, lawful_alone, lawful_policy_of, refusal_of, unlawful}
 
 -- ---- one reason after another
 
@@ -133,3 +133,25 @@ not_laid bytes r h = refused_for (lawful_policy_of bytes) (laid_policy_of bytes)
 pub room_decides : (bytes : List ℕ) (q : Source) → lawful_policy_of bytes ≡ Ok q → laid_policy_of bytes ≡ kept_or q (no_room q)
 unfolding lawful_policy_of laid_policy_of
 room_decides bytes q e = laid_then (policy_of bytes) q e
+
+-- ---- the contents alone
+
+pub fits_not : (files : Held) (bytes : List ℕ) (r : Refusal) → lawful_policy_of bytes ≡ Err r → fitting_policy_of files bytes ≡ Err r
+unfolding fitting_policy_of
+fits_not files bytes r e = ap (fitting files) e
+
+pub fits_so : (files : Held) (bytes : List ℕ) (q : Source) → lawful_policy_of bytes ≡ Ok q → fitting_policy_of files bytes ≡ kept_or q (contents_refused files q)
+unfolding fitting_policy_of
+fits_so files bytes q e = ap (fitting files) e
+
+-- an accepted policy is one
+pub accepted_fits : (files : Held) (bytes : List ℕ) (q : Source) → accepted_policy_of files bytes ≡ Ok q → fitting_policy_of files bytes ≡ Ok q
+accepted_fits files bytes q e = let b = accepted_so files bytes q e in fits_so files bytes q b.lawful ∙ ap (kept_or q) b.contents
+
+fitting_lawful : (files : Held) (answer : Result Source Refusal) (q : Source) → fitting files answer ≡ Ok q → answer ≡ Ok q
+fitting_lawful files (Ok p) q e = ap Ok (kept_is p q (contents_refused files p) e).1
+fitting_lawful files (Err r) q e = absurd (cc)
+
+pub fits_lawful : (files : Held) (bytes : List ℕ) (q : Source) → fitting_policy_of files bytes ≡ Ok q → lawful_policy_of bytes ≡ Ok q
+unfolding fitting_policy_of
+fits_lawful files bytes q e = fitting_lawful files (lawful_policy_of bytes) q e

@@ -53,27 +53,27 @@ length-sized size bytes =
     ∙ ap (λ n. length (take size bytes) + n) (length-replicate (size - length (take size bytes)) 0)
     ∙ omega (arith, length-take size bytes)
 
-module _ (name document : List ℕ) (found : Files) where
+module _ (given found : Files) where
   -- a content fills its room
-  length-content : (size : ℕ) (c : Content) → length (content_read name document found size c) ≡ size
+  length-content : (size : ℕ) (c : Content) → length (content_read given found size c) ≡ size
   length-content size Zero = length-replicate size 0
   length-content size (Fill b) = length-replicate size b
   length-content size (Inline bytes) = length-sized size bytes
-  length-content size (File file offset most) = length-sized size (file_part offset most (read_bytes name document found file))
+  length-content size (File file offset most) = length-sized size (file_part offset most (read_bytes given found file))
 
   -- ---- all of them
 
   -- what a subject's component brings along
   brought_sized : (cs : List Component) (ss : List Subject)
-      → map (λ bytes. length bytes) (flat_map (λ s. map (λ x. content_read name document found x.size x.content) (provided_at cs s.component)) ss)
+      → map (λ bytes. length bytes) (flat_map (λ s. map (λ x. content_read given found x.size x.content) (provided_at cs s.component)) ss)
       ≡ map (λ (r : Region). r.size) (flat_map (brought_at cs) ss)
   unfolding brought_at
   brought_sized cs [] = refl
   brought_sized cs (s ∷ ss) =
       let own = provided_at cs s.component in
-      map-append (λ bytes. length bytes) (map (λ x. content_read name document found x.size x.content) own) (flat_map (λ s. map (λ x. content_read name document found x.size x.content) (provided_at cs s.component)) ss)
+      map-append (λ bytes. length bytes) (map (λ x. content_read given found x.size x.content) own) (flat_map (λ s. map (λ x. content_read given found x.size x.content) (provided_at cs s.component)) ss)
       ∙ ap₂ (λ ns ms. ns ++ ms)
-      (each_sized (λ (x : Provided). content_read name document found x.size x.content) (provided_region s.name) (λ (r : Region). r.size) (λ x. length-content x.size x.content) own)
+      (each_sized (λ (x : Provided). content_read given found x.size x.content) (provided_region s.name) (λ (r : Region). r.size) (λ x. length-content x.size x.content) own)
       (brought_sized cs ss)
       ∙ sym (map-append (λ (r : Region). r.size) (map (provided_region s.name) own) (flat_map (brought_at cs) ss))
 
@@ -81,15 +81,15 @@ module _ (name document : List ℕ) (found : Files) where
   abbrev first_regions : Resolution → List Region
   first_regions r = map own_region r.memory ++ map channel_region r.channels ++ flat_map (brought_at r.components) r.subjects
 
-  things_sized : (r : Resolution) → map (λ bytes. length bytes) (things_read name document found r) ≡ map (λ (r : Region). r.size) (first_regions r)
+  things_sized : (r : Resolution) → map (λ bytes. length bytes) (things_read given found r) ≡ map (λ (r : Region). r.size) (first_regions r)
   things_sized r =
-      let memory = map (λ (m : SourceRegion). content_read name document found m.size m.content) r.memory in
+      let memory = map (λ (m : SourceRegion). content_read given found m.size m.content) r.memory in
       let channels = map (λ (c : Channel). replicate c.size 0) r.channels in
-      let brought = flat_map (λ s. map (λ x. content_read name document found x.size x.content) (provided_at r.components s.component)) r.subjects in
+      let brought = flat_map (λ s. map (λ x. content_read given found x.size x.content) (provided_at r.components s.component)) r.subjects in
       map-append (λ bytes. length bytes) (memory ++ channels) brought
       ∙ ap (λ ns. ns ++ map (λ bytes. length bytes) brought) (map-append (λ bytes. length bytes) memory channels)
       ∙ (λ i.
-      each_sized (λ (m : SourceRegion). content_read name document found m.size m.content) own_region (λ (r : Region). r.size) (λ m. length-content m.size m.content) r.memory i
+      each_sized (λ (m : SourceRegion). content_read given found m.size m.content) own_region (λ (r : Region). r.size) (λ m. length-content m.size m.content) r.memory i
       ++ each_sized (λ (c : Channel). replicate c.size 0) channel_region (λ (r : Region). r.size) (λ c. length-replicate c.size 0) r.channels i
       ++ brought_sized r.components r.subjects i)
       ∙ ap (λ ns. ns ++ map (λ (r : Region). r.size) (flat_map (brought_at r.components) r.subjects)) (sym (map-append (λ (r : Region). r.size) (map own_region r.memory) (map channel_region r.channels)))
@@ -114,17 +114,17 @@ module _ (name document : List ℕ) (found : Files) where
       let whole = ap (λ ss. length (flat_map (λ s. provided_at r.components s.component) ss)) (take_all (length r.subjects) r.subjects (omega arith)) in
       omega (arith, a, b, c, d, e, whole)
 
-  many : (r : Resolution) → length (things_read name document found r) ≡ length (first_regions r)
+  many : (r : Resolution) → length (things_read given found r) ≡ length (first_regions r)
   many r =
-      sym (length-map (things_read name document found r) (λ bytes. length bytes))
+      sym (length-map (things_read given found r) (λ bytes. length bytes))
       ∙ ap length (things_sized r)
       ∙ length-map (first_regions r) (λ r. r.size)
 
   -- they have the sizes of the regions
-  pub things_filled : (x : Placement) → IsResolved x.expanded.lawful → x.expanded.regions ≡ regions_of (source_of x.expanded.lawful) → AreGrants x.expanded.lawful x.expanded.grants → IsFilled x (things_read name document found x.expanded.lawful)
+  pub things_filled : (x : Placement) → IsResolved x.expanded.lawful → x.expanded.regions ≡ regions_of (source_of x.expanded.lawful) → AreGrants x.expanded.lawful x.expanded.grants → IsFilled x (things_read given found x.expanded.lawful)
   things_filled x resolved are granted =
       let r = x.expanded.lawful in
       let regions : x.expanded.regions ≡ first_regions r ++ kernel_for_each r.subjects x.expanded.grants = are ∙ sym (regions_by_index r x.expanded.grants resolved granted) in
-      let front : take (length (things_read name document found r)) x.expanded.regions ≡ first_regions r =
+      let front : take (length (things_read given found r)) x.expanded.regions ≡ first_regions r =
       ap₂ (λ n rs. take n rs) (many r) regions ∙ take-append_seam (first_regions r) (kernel_for_each r.subjects x.expanded.grants) in
       record { many = many r ∙ first_many r; sizes = things_sized r ∙ ap (map (λ (r : Region). r.size)) (sym front) }

@@ -2,7 +2,7 @@
 use Rattle.std.proofs.Common.{◌≡◌, inl, inr, ℕ, ◌≤◌, ◌<◌, min, true, false, List, [], ◌∷◌, ◌++◌, length, drop, Option, Some, None, Result, Ok, refl, sym, ap, subst, ◌∙◌, arith}
 use Rattle.std.specs.Prelude.{option_map, if◌then◌else◌}
 use Rattle.std.specs.Str.{bytes_eq}
-use Rattle.std.specs.FinMap.{get, insert}
+use Rattle.std.specs.FinMap.{get}
 use Rattle.std.proofs.lemmas.List.{length-take, length-drop, map_push}
 use Rattle.std.proofs.lemmas.List.Elements.{All-cons, All-nil}
 use Rattle.std.proofs.lemmas.Slice.Eq.{bytes_eq-Decides}
@@ -14,33 +14,33 @@ use Rattle.muen_outside.specs.declared.files.FileError.{FileError}
 use Rattle.policy_lawful.specs.Contents.{file_part}
 use Rattle.policy_types.specs.declared.refusal.Refusal.{Refusal}
 use Rattle.policy_types.specs.declared.refusal.Refusal.TheVariants.{FileFit, Missing, NoMemory, NoRoom, NotJson, Rule, Shape, TooLong}
-use Rattle.muen_build.specs.Accepting.{ErrorSays, Files, GotSays, Grows, Has, IsAdded, IsAskedBy, Known, LooksAt, NotFound, NotRead, Stops, looks_of, part_length}
+use Rattle.muen_build.specs.Accepting.{ErrorSays, Files, GotSays, Grows, Has, insert_all, IsAdded, IsAskedBy, Known, LooksAt, NotFound, NotRead, Stops, looks_of, part_length}
 use Rattle.muen_build.specs.Looks.{file_look}
 use Rattle.muen_build.specs.Refusals.{Filled, file_refused, too_long_for}
 use Rattle.muen_build.specs.declared.accepted.BuildError.{BuildError}
 use Rattle.muen_build.specs.declared.accepted.BuildError.TheVariants.{FileFault, Refused}
-use Rattle.muen_build.proofs.Documents.{admitted, other_bytes, own_bytes, too_many}
+use Rattle.muen_build.proofs.Documents.{admitted, given_there, not_given, too_many}
 use Rattle.muen_build.proofs.Looks.{others_push, other_way, same_self, show_last, single_push, stops_here, told_one}
 
--- ---- the document's own name
+-- ---- a file that is given
 
-module _ (name document file : List ℕ) (same : bytes_eq file name ≡ true) where
-  own_reads : (reading : Reading) → reading_of (Some document) COMPONENT_FILE_MOST ≡ reading → (files : Store) → reading_of (get (insert files name document) file) COMPONENT_FILE_MOST ≡ reading
-  own_reads reading is files = ap (λ o. reading_of o COMPONENT_FILE_MOST) (own_bytes files name document file same) ∙ is
+module _ (given : Files) (file bytes : List ℕ) (is : find_bytes file given ≡ Some bytes) where
+  given_reads : (reading : Reading) → reading_of (Some bytes) COMPONENT_FILE_MOST ≡ reading → (files : Store) → reading_of (get (insert_all files given) file) COMPONENT_FILE_MOST ≡ reading
+  given_reads reading reads files = ap (λ o. reading_of o COMPONENT_FILE_MOST) (given_there files given file bytes is) ∙ reads
 
-  pub own_known : (looks : List Look) (count : ℕ) → count ≡ length document → count ≤ COMPONENT_FILE_MOST → Known name document looks file count
-  own_known looks count is few files s = record {
-    bytes = document;
-    reads = own_reads (whole document) (admitted COMPONENT_FILE_MOST document (omega (arith, is, few))) files;
-    many = is;
+  pub given_known : (looks : List Look) (count : ℕ) → count ≡ length bytes → count ≤ COMPONENT_FILE_MOST → Known given looks file count
+  given_known looks count many few files s = record {
+    bytes = bytes;
+    reads = given_reads (whole bytes) (admitted COMPONENT_FILE_MOST bytes (omega (arith, many, few))) files;
+    many = many;
   }
 
-  pub own_stops : (held : Option Store) (h : History) (looks : List Look) (error : BuildError) → error ≡ Refused (TooLong file (length document)) → COMPONENT_FILE_MOST < length document
-      → Stops name document (bytes_eq file) held h h looks (NotFound file) error
-  own_stops held h looks error is many =
-      subst (Stops name document (bytes_eq file) held h h looks (NotFound file)) (sym is)
-      (stops_here name document (bytes_eq file) held h looks (NotFound file) (TooLong file (length document))
-      (λ files s. (refl, own_reads (long (length document)) (too_many COMPONENT_FILE_MOST document many) files)))
+  pub given_stops : (held : Option Store) (h : History) (looks : List Look) (error : BuildError) → error ≡ Refused (TooLong file (length bytes)) → COMPONENT_FILE_MOST < length bytes
+      → Stops given (bytes_eq file) held h h looks (NotFound file) error
+  given_stops held h looks error long_one many =
+      subst (Stops given (bytes_eq file) held h h looks (NotFound file)) (sym long_one)
+      (stops_here given (bytes_eq file) held h looks (NotFound file) (TooLong file (length bytes))
+      (λ files s. (refl, given_reads (long (length bytes)) (too_many COMPONENT_FILE_MOST bytes many) files)))
 
 -- ---- a file that was read before
 
@@ -78,15 +78,15 @@ not_found found file h = none_length (find_bytes file found) h
 abbrev then_look : Files → List ℕ → Result Reading FileError → List Look
 then_look found file got = looks_of found ++ look file COMPONENT_FILE_MOST got ∷ []
 
-module _ (name document : List ℕ) (found : Files) (file : List ℕ) (other : bytes_eq file name ≡ false) where
-  -- what files show under another name than the document's
-  among : (reading : Reading) (files : Store) → reading_of (get files file) COMPONENT_FILE_MOST ≡ reading → reading_of (get (insert files name document) file) COMPONENT_FILE_MOST ≡ reading
-  among reading files h = ap (λ o. reading_of o COMPONENT_FILE_MOST) (other_bytes files name document file other) ∙ h
+module _ (given found : Files) (file : List ℕ) (other : find_bytes file given ≡ None) where
+  -- what files show under a name that isn't given
+  among : (reading : Reading) (files : Store) → reading_of (get files file) COMPONENT_FILE_MOST ≡ reading → reading_of (get (insert_all files given) file) COMPONENT_FILE_MOST ≡ reading
+  among reading files h = ap (λ o. reading_of o COMPONENT_FILE_MOST) (not_given files given file other) ∙ h
 
-  pub found_reads : (bytes : List ℕ) → find_bytes file found ≡ Some bytes → (files : Store) → ShowAll files (looks_of found) → reading_of (get (insert files name document) file) COMPONENT_FILE_MOST ≡ whole bytes
+  pub found_reads : (bytes : List ℕ) → find_bytes file found ≡ Some bytes → (files : Store) → ShowAll files (looks_of found) → reading_of (get (insert_all files given) file) COMPONENT_FILE_MOST ≡ whole bytes
   found_reads bytes is files s = among (whole bytes) files (shown_among files found file bytes s is)
 
-  pub of_found : (count : ℕ) → option_map (λ bytes. length bytes) (find_bytes file found) ≡ Some count → Known name document (looks_of found) file count
+  pub of_found : (count : ℕ) → option_map (λ bytes. length bytes) (find_bytes file found) ≡ Some count → Known given (looks_of found) file count
   of_found count h files s =
       let (bytes, is) = length_of (find_bytes file found) count h in
       record { bytes = bytes; reads = found_reads bytes is.0 files s; many = is.1 }
@@ -94,7 +94,15 @@ module _ (name document : List ℕ) (found : Files) (file : List ℕ) (other : b
   -- ---- one that is looked at now
 
   module _ (new_one : find_bytes file found ≡ None) (held : Option Store) (old new : History) where
-    grown : (got : Result Reading FileError) → LooksAt file got held old new → Grows name (bytes_eq file) held old new (looks_of found) (then_look found file got)
+    -- a name that is given is another
+    apart_name : (name bytes : List ℕ) → find_bytes name given ≡ Some bytes → bytes_eq name file ≡ false
+    apart_name name bytes is =
+        elim (bytes_eq name file) as (λ b. bytes_eq name file ≡ b → b ≡ false) [
+          | true ↦ λ same. let none : find_bytes name given ≡ None = ap (λ n. find_bytes n given) ((bytes_eq-Decides name file).0 same) ∙ other in absurd (cc)
+          | false ↦ λ ne. refl
+        ] refl
+
+    grown : (got : Result Reading FileError) → LooksAt file got held old new → Grows given (bytes_eq file) held old new (looks_of found) (then_look found file got)
     grown got l = record {
       more = look file COMPONENT_FILE_MOST got ∷ [];
       grown = refl;
@@ -102,27 +110,27 @@ module _ (name document : List ℕ) (found : Files) (file : List ℕ) (other : b
       told = told_one held (look file COMPONENT_FILE_MOST got) l.told;
       asked = All-cons (IsAskedBy (bytes_eq file)) (look file COMPONENT_FILE_MOST got) [] (same_self file, refl) (All-nil (IsAskedBy (bytes_eq file)));
       single = λ s. single_push (looks_of found) (look file COMPONENT_FILE_MOST got) s l.possible (others_found found file new_one);
-      others = λ s. others_push (looks_of found) name (look file COMPONENT_FILE_MOST got) s (other_way file name other);
+      others = λ name bytes is s. others_push (looks_of found) name (look file COMPONENT_FILE_MOST got) s (apart_name name bytes is);
     }
 
-    shows_got : (got : Result Reading FileError) (reading : Reading) → got ≡ Ok reading → (files : Store) → ShowAll files (then_look found file got) → reading_of (get (insert files name document) file) COMPONENT_FILE_MOST ≡ reading
+    shows_got : (got : Result Reading FileError) (reading : Reading) → got ≡ Ok reading → (files : Store) → ShowAll files (then_look found file got) → reading_of (get (insert_all files given) file) COMPONENT_FILE_MOST ≡ reading
     shows_got got reading is files s =
         among reading files (subst (ShowsAnswer (get files file) COMPONENT_FILE_MOST) is (show_last files (looks_of found) (look file COMPONENT_FILE_MOST got) s))
 
     looks_are : (after : Files) (bytes : List ℕ) → after ≡ found ++ (file, bytes) ∷ [] → then_look found file (Ok (whole bytes)) ≡ looks_of after
     looks_are after bytes is = sym (map_push file_look found (file, bytes)) ∙ ap looks_of (sym is)
 
-    pub new_grows : (after : Files) (count : ℕ) → IsAdded file found after count held old new → Grows name (bytes_eq file) held old new (looks_of found) (looks_of after)
-    new_grows after count a = subst (Grows name (bytes_eq file) held old new (looks_of found)) (looks_are after a.bytes a.added) (grown (Ok (whole a.bytes)) a.looks)
+    pub new_grows : (after : Files) (count : ℕ) → IsAdded file found after count held old new → Grows given (bytes_eq file) held old new (looks_of found) (looks_of after)
+    new_grows after count a = subst (Grows given (bytes_eq file) held old new (looks_of found)) (looks_are after a.bytes a.added) (grown (Ok (whole a.bytes)) a.looks)
 
-    pub new_known : (after : Files) (count : ℕ) → IsAdded file found after count held old new → Known name document (looks_of after) file count
+    pub new_known : (after : Files) (count : ℕ) → IsAdded file found after count held old new → Known given (looks_of after) file count
     new_known after count a files s = record {
       bytes = a.bytes;
       reads = shows_got (Ok (whole a.bytes)) (whole a.bytes) refl files (subst (ShowAll files) (sym (looks_are after a.bytes a.added)) s);
       many = a.many;
     }
 
-    got_says : (got : Result Reading FileError) (error : BuildError) → GotSays file got error → ErrorSays name document (NotFound file) (then_look found file got) error
+    got_says : (got : Result Reading FileError) (error : BuildError) → GotSays file got error → ErrorSays given (NotFound file) (then_look found file got) error
     got_says got (Refused (Missing n)) h = inr (λ files s. (h.0, shows_got got absent h.1 files s))
     got_says got (Refused (TooLong n k)) h = inr (λ files s. (h.0, shows_got got (long k) h.1 files s))
     got_says got (Refused NoMemory) h = inl refl
@@ -133,7 +141,7 @@ module _ (name document : List ℕ) (found : Files) (file : List ℕ) (other : b
     got_says got (Refused (FileFit a b d)) h = absurd h
     got_says got (Refused (NoRoom a b)) h = absurd h
 
-    pub new_stops : (error : BuildError) → NotRead file held old new error → Stops name document (bytes_eq file) held old new (looks_of found) (NotFound file) error
+    pub new_stops : (error : BuildError) → NotRead file held old new error → Stops given (bytes_eq file) held old new (looks_of found) (NotFound file) error
     new_stops error n = record { after = then_look found file n.got; grows = grown n.got n.looks; says = got_says n.got error n.says }
 
 -- ---- a content

@@ -2,24 +2,26 @@
 use Rattle.std.specs.Prelude.{◌≡◌, ◌⊎◌, ℕ, Bool, true, List, ◌∷◌, [], ◌++◌, ◌-◌, min, length, map, Option, Some, None, IfSome, Result, Ok, Err}
 use Rattle.std.specs.List.{All, list_any}
 use Rattle.std.specs.FinMap.{get, insert}
+use Rattle.image_emit.specs.Made.{thing_bytes}
 use Rattle.muen_num.specs.Search.{first_in}
 use Rattle.muen_num.specs.declared.limits.TheConstants.{COMPONENT_FILE_MOST}
 use Rattle.muen_outside.specs.Looks.{AreOthers, AreSingle, EndsInFault, IsPossibleEnd, ShowAll, Shows}
 use Rattle.muen_outside.specs.States.{History, Look, look, looked}
-use Rattle.muen_outside.specs.Store.{Store, Reading, whole, absent, long, reading_of}
+use Rattle.muen_outside.specs.Store.{Store, Reading, whole, absent, long, find_bytes, reading_of}
 use Rattle.muen_outside.specs.declared.files.FileError.{FileError}
 use Rattle.muen_outside.specs.declared.files.FileError.TheVariants.{Failed}
 use Rattle.policy_types.specs.declared.refusal.Refusal.{Refusal}
 use Rattle.policy_types.specs.declared.refusal.Refusal.TheVariants.{Missing, TooLong, NoMemory}
-use Rattle.policy_lawful.specs.Resolution.{source_of}
+use Rattle.policy_lawful.specs.Resolution.{Resolution, source_of}
 use Rattle.policy_lawful.specs.declared.resolved.Subject.{Subject}
 use Rattle.policy_types.specs.declared.source.Component.{Component}
 use Rattle.policy_types.specs.declared.source.Source.{Source}
 use Rattle.region_alloc.specs.Placed.{Placement}
 use Rattle.muen_build.specs.Filling.{brought_at}
-use Rattle.muen_build.specs.Looks.{IsAsked, Looked, file_look, is_of_file}
-use Rattle.muen_build.specs.Refusals.{Filled, accepted_policy_of, filled_refused}
+use Rattle.muen_build.specs.Looks.{IsAsked, Looked, file_look, is_of_file, names_file}
+use Rattle.muen_build.specs.Refusals.{Filled, accepted_policy_of, contents_refused, filled_refused}
 use Rattle.muen_build.specs.declared.accepted.BuildError.{BuildError}
+use Rattle.muen_build.specs.declared.given.Given.{Given}
 use Rattle.muen_build.specs.declared.accepted.BuildError.TheVariants.{FileFault, Refused}
 
 -- what a call that places has kept, as a source policy
@@ -29,19 +31,32 @@ placed_source (Err refusal) = Err refusal
 
 -- ---- what was read
 
--- the component files that were read, with what they hold
+-- files by their names, with what they hold
 abbrev pub Files : Type 0
 Files = List (List ℕ × List ℕ)
 
--- the looks that read them
+-- the files that are given
+abbrev pub given_files : List Given → Files
+given_files given = map (λ g. (g.name.now, g.bytes.now)) given
+
+-- the looks that read these
 abbrev pub looks_of : Files → List Look
 looks_of found = map file_look found
 
--- ---- the document stands for its name
+-- ---- what is given stands for its names
 
--- so it is of all files that agree with these looks, with the document under this name
+-- files with the bytes that are given put under their names, the first given last
+abbrev pub insert_all : Store → Files → Store
+insert_all files [] = files
+insert_all files (e ∷ es) = insert (insert_all files es) e.0 e.1
+
+-- so it is of all files that agree with these looks, with what is given in them
+abbrev pub WithGiven : Files → List Look → (Store → Type 0) → Type 0
+WithGiven given looks Such = (files : Store) → ShowAll files looks → Such (insert_all files given)
+
+-- .. with the document under this name
 abbrev pub WithDocument : List ℕ → List ℕ → List Look → (Store → Type 0) → Type 0
-WithDocument name document looks Such = (files : Store) → ShowAll files looks → Such (insert files name document)
+WithDocument name document looks Such = WithGiven ((name, document) ∷ []) looks Such
 
 -- the document is accepted as this policy
 abbrev pub Accepts : List ℕ → List Look → List ℕ → Source → Type 0
@@ -52,16 +67,16 @@ RefusesDocument document files r = accepted_policy_of files document ≡ Err r
 
 -- what an error says of these looks: in files that agree with them there is this refusal, or memory was refused; or the last of
 -- them failed
-abbrev pub ErrorSays : List ℕ → List ℕ → (Store → Refusal → Type 0) → List Look → BuildError → Type 0
-ErrorSays name document Refuses looks (Refused r) = (r ≡ NoMemory) ⊎ WithDocument name document looks (λ files. Refuses files r)
-ErrorSays name document Refuses looks FileFault = EndsInFault looks
+abbrev pub ErrorSays : Files → (Store → Refusal → Type 0) → List Look → BuildError → Type 0
+ErrorSays given Refuses looks (Refused r) = (r ≡ NoMemory) ⊎ WithGiven given looks (λ files. Refuses files r)
+ErrorSays given Refuses looks FileFault = EndsInFault looks
 
 -- looks were made, and this is why the document isn't accepted
 pub record FailsWith (name document : List ℕ) (held : Option Store) (old new : History) (error : BuildError) : Type 0 where
   pub looks : List Look
   pub looked : Looked name held old new looks
   pub asked : All (IsAsked document) looks
-  pub says : ErrorSays name document (RefusesDocument document) looks error
+  pub says : ErrorSays ((name, document) ∷ []) (RefusesDocument document) looks error
 
 -- ---- looks that grow
 
@@ -72,22 +87,50 @@ Names = List ℕ → Bool
 abbrev pub IsAskedBy : Names → Look → Type 0
 IsAskedBy names l = (names l.name ≡ true) × (l.most ≡ COMPONENT_FILE_MOST)
 
--- looks were made after these, at component files that are asked for; all are each at another name and none at this one, where
--- these are so
-pub record Grows (name : List ℕ) (names : Names) (held : Option Store) (old new : History) (before after : List Look) : Type 0 where
+-- looks were made after these, at component files that are asked for; all are each at another name and none at one that is given,
+-- where these are so
+pub record Grows (given : Files) (names : Names) (held : Option Store) (old new : History) (before after : List Look) : Type 0 where
   pub more : List Look
   pub grown : after ≡ before ++ more
   pub history : new ≡ looked old more
   pub told : IfSome held (λ m. ShowAll m more)
   pub asked : All (IsAskedBy names) more
   pub single : AreSingle before → AreSingle after
-  pub others : AreOthers before name → AreOthers after name
+  pub others : (name bytes : List ℕ) → find_bytes name given ≡ Some bytes → AreOthers before name → AreOthers after name
 
 -- looks were made after these, and this is what comes of them all
-pub record Stops (name document : List ℕ) (names : Names) (held : Option Store) (old new : History) (before : List Look) (Refuses : Store → Refusal → Type 0) (error : BuildError) : Type 0 where
+pub record Stops (given : Files) (names : Names) (held : Option Store) (old new : History) (before : List Look) (Refuses : Store → Refusal → Type 0) (error : BuildError) : Type 0 where
   pub after : List Look
-  pub grows : Grows name names held old new before after
-  pub says : ErrorSays name document Refuses after error
+  pub grows : Grows given names held old new before after
+  pub says : ErrorSays given Refuses after error
+
+-- ---- contents alone
+
+-- looks were made, each at another name and none at one that is given, and nothing was written; files that tell show them
+pub record LookedBeside (given : Files) (held : Option Store) (old new : History) (looks : List Look) : Type 0 where
+  pub history : new ≡ looked old looks
+  pub single : AreSingle looks
+  pub others : (name bytes : List ℕ) → find_bytes name given ≡ Some bytes → AreOthers looks name
+  pub told : IfSome held (λ m. ShowAll m looks)
+
+-- looks were made at component files that the policy names; over all files that agree with them its contents aren't refused, and
+-- these are the bytes of its regions
+pub record HasContents (given : Files) (r : Resolution) (held : Option Store) (old new : History) (things : List (List ℕ)) : Type 0 where
+  pub looks : List Look
+  pub looked : LookedBeside given held old new looks
+  pub asked : All (IsAskedBy (names_file (source_of r))) looks
+  pub fit : WithGiven given looks (λ files. contents_refused files (source_of r) ≡ None)
+  pub are : WithGiven given looks (λ files. things ≡ thing_bytes files r)
+
+-- .. they are refused
+abbrev pub RefusesContents : Source → Store → Refusal → Type 0
+RefusesContents p files r = contents_refused files p ≡ Some r
+
+pub record LacksContents (given : Files) (p : Source) (held : Option Store) (old new : History) (error : BuildError) : Type 0 where
+  pub looks : List Look
+  pub looked : LookedBeside given held old new looks
+  pub asked : All (IsAskedBy (names_file p)) looks
+  pub says : ErrorSays given (RefusesContents p) looks error
 
 -- ---- one file
 
@@ -98,8 +141,8 @@ pub record Has (files : Store) (name : List ℕ) (count : ℕ) : Type 0 where
   pub many : count ≡ length bytes
 
 -- the file is known to have so many bytes
-abbrev pub Known : List ℕ → List ℕ → List Look → List ℕ → ℕ → Type 0
-Known name document looks file count = WithDocument name document looks (λ files. Has files file count)
+abbrev pub Known : Files → List Look → List ℕ → ℕ → Type 0
+Known given looks file count = WithGiven given looks (λ files. Has files file count)
 
 -- one look at this component file, with what it came to
 pub record LooksAt (file : List ℕ) (got : Result Reading FileError) (held : Option Store) (old new : History) : Type 0 where
@@ -149,8 +192,8 @@ abbrev pub Refuses : Why → Store → Refusal → Type 0
 Refuses why files r = why files ≡ Some r
 
 -- nothing is
-abbrev pub Passes : List ℕ → List ℕ → List Look → Why → Type 0
-Passes name document looks why = WithDocument name document looks (λ files. why files ≡ None)
+abbrev pub Passes : Files → List Look → Why → Type 0
+Passes given looks why = WithGiven given looks (λ files. why files ≡ None)
 
 -- why one content is refused, and the first of several
 abbrev pub of_filled : Filled → Why

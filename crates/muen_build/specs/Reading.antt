@@ -1,7 +1,6 @@
 -- What regions hold of the files that were read (this project's own).
-use Rattle.std.specs.Prelude.{ℕ, List, [], ◌++◌, map, replicate, take, unwrap_or, if◌then◌else◌}
+use Rattle.std.specs.Prelude.{ℕ, List, [], ◌++◌, map, replicate, take, unwrap_or}
 use Rattle.std.specs.List.{flat_map}
-use Rattle.std.specs.Str.{bytes_eq}
 use Rattle.policy_lawful.specs.ByIndex.{provided_at}
 use Rattle.muen_build.specs.Accepting.{Files}
 use Rattle.muen_outside.specs.Store.{find_bytes}
@@ -10,25 +9,25 @@ use Rattle.policy_lawful.specs.Contents.{file_part, padded}
 use Rattle.policy_types.specs.declared.source.Content.{Content}
 use Rattle.policy_types.specs.declared.source.Content.TheVariants.{Zero, Fill, Inline, File}
 
--- the bytes of a file, of those that were read: the document's under its own name
-abbrev pub read_bytes : List ℕ → List ℕ → Files → List ℕ → List ℕ
-read_bytes name document found file = if bytes_eq file name then document else unwrap_or (find_bytes file found) []
+-- the bytes of a file: what is given under its name, else what was read
+abbrev pub read_bytes : Files → Files → List ℕ → List ℕ
+read_bytes given found file = unwrap_or (find_bytes file given) (unwrap_or (find_bytes file found) [])
 
 -- bytes in a room of this many: zeros behind them, and none of those that have no room
 abbrev pub sized : ℕ → List ℕ → List ℕ
 sized size bytes = padded size (take size bytes)
 
 -- a content in a room of this many bytes, with the files that were read
-abbrev pub content_read : List ℕ → List ℕ → Files → ℕ → Content → List ℕ
-content_read name document found size Zero = replicate size 0
-content_read name document found size (Fill b) = replicate size b
-content_read name document found size (Inline bytes) = sized size bytes
-content_read name document found size (File file offset most) =
-    sized size (file_part offset most (read_bytes name document found file))
+abbrev pub content_read : Files → Files → ℕ → Content → List ℕ
+content_read given found size Zero = replicate size 0
+content_read given found size (Fill b) = replicate size b
+content_read given found size (Inline bytes) = sized size bytes
+content_read given found size (File file offset most) =
+    sized size (file_part offset most (read_bytes given found file))
 
 -- the bytes of the regions that aren't the kernel's, by number, with the files that were read
-abbrev pub things_read : List ℕ → List ℕ → Files → Resolution → List (List ℕ)
-things_read name document found r =
-    map (λ m. content_read name document found m.size m.content) r.memory
+abbrev pub things_read : Files → Files → Resolution → List (List ℕ)
+things_read given found r =
+    map (λ m. content_read given found m.size m.content) r.memory
     ++ map (λ c. replicate c.size 0) r.channels
-    ++ flat_map (λ s. map (λ x. content_read name document found x.size x.content) (provided_at r.components s.component)) r.subjects
+    ++ flat_map (λ s. map (λ x. content_read given found x.size x.content) (provided_at r.components s.component)) r.subjects

@@ -80,6 +80,15 @@ filled_refused files f = content_refused files f f.content
 unfoldable pub contents_refused : Held → Source → Option Refusal
 contents_refused files p = first_in (filled_refused files) (filled_of p)
 
+abbrev pub fitting : Held → Result Source Refusal → Result Source Refusal
+fitting files (Ok p) = kept_or p (contents_refused files p)
+fitting files (Err refusal) = Err refusal
+
+-- the policy of a document, where it keeps every rule and its contents fit over files that hold this; else why not. Whether there is
+-- room for its regions is not asked
+unfoldable pub fitting_policy_of : Held → List ℕ → Result Source Refusal
+fitting_policy_of files bytes = fitting files (lawful_policy_of bytes)
+
 -- ---- the whole
 
 -- what a lawful policy is refused for over files that hold this: the first contents that are refused, else the first

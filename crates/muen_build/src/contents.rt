@@ -4,7 +4,7 @@ ghost use Rattle.std.specs.Str.{bytes_eq};
 ghost use Rattle.muen_num.specs.Search.{as_refusal};
 ghost use Rattle.muen_outside.specs.Store.{find_bytes, whole};
 ghost use Rattle.policy_lawful.specs.Resolution.{source_of};
-ghost use Rattle.muen_build.specs.Accepting.{Grows, IsAdded, Known, LooksAt, NotFound, NotRead, Passes, Refuses, Stops, all_names, brought_names, filled_names, looks_of, of_all, of_brought, of_filled, part_length};
+ghost use Rattle.muen_build.specs.Accepting.{Grows, IsAdded, Known, LooksAt, NotFound, NotRead, Passes, Refuses, Stops, all_names, brought_names, filled_names, given_files, looks_of, of_all, of_brought, of_filled, part_length};
 ghost use Rattle.muen_build.specs.Filling.{brought_at, filled, filled_provided, filled_region};
 ghost use Rattle.muen_build.specs.Looks.{names_file};
 ghost use Rattle.muen_build.specs.Refusals.{filled_of, too_long_for};
@@ -12,6 +12,7 @@ ghost use Rattle.muen_build.specs.declared.accepted.BuildError.TheVariants.{Refu
 ghost use Rattle.policy_types.specs.declared.refusal.Refusal.TheVariants.{TooLong};
 
 use crate::accepted::{BuildError, ComponentFiles};
+use crate::given::{Given, given_bytes};
 use muen_num::limits::COMPONENT_FILE_MOST;
 use muen_num::{Name, Seq, Tag, TagPart};
 use muen_outside::{FileError, Files, Found};
@@ -79,12 +80,12 @@ fn read_new<F: Files>(
     Ok(count)
 }
 
-// How many bytes the document has, where it stands for a component file of this name.
-fn own_length(file: Name, document: &[u8]) -> Result<u64, BuildError>
-    ensures ok { IfOk result (λ count. (count ≡ length document.now) × (count ≤ COMPONENT_FILE_MOST)) }
-    ensures err { IfErr result (λ error. (error ≡ Refused (TooLong file (length document.now))) × (COMPONENT_FILE_MOST < length document.now)) }
+// How many bytes these are, where they stand for a component file of this name.
+fn own_length(file: Name, bytes: &[u8]) -> Result<u64, BuildError>
+    ensures ok { IfOk result (λ count. (count ≡ length bytes.now) × (count ≤ COMPONENT_FILE_MOST)) }
+    ensures err { IfErr result (λ error. (error ≡ Refused (TooLong file (length bytes.now))) × (COMPONENT_FILE_MOST < length bytes.now)) }
 {
-    let length = document.len();
+    let length = bytes.len();
     if length > COMPONENT_FILE_MOST {
         return Err(BuildError::Refused(Refusal::TooLong {
             file,
@@ -94,24 +95,23 @@ fn own_length(file: Name, document: &[u8]) -> Result<u64, BuildError>
     Ok(length as u64)
 }
 
-// How many bytes the file of a content has: the document's, where the content names that, else
-// those of the file, which is read where it wasn't before. A document that is longer than a
-// component file may be is none.
+// How many bytes the file of a content has: those that are given under its name, else those of the
+// file, which is read where it wasn't before. Given bytes that are more than a component file may
+// have are none.
 fn file_length<F: Files>(
     alloc: Global,
-    name: &str,
-    document: &[u8],
+    given: &[Given<'_>],
     file: Name,
     found: &mut ComponentFiles,
     files: &mut F,
 ) -> Result<u64, BuildError>
-    ensures grows { IfOk result (λ _. Grows name.now (bytes_eq file) (F.held files.old) (F.history files.old) (F.history files.new) (looks_of found.old) (looks_of found.new)) }
-    ensures known { IfOk result (Known name.now document.now (looks_of found.new) file) }
-    ensures err { IfErr result (Stops name.now document.now (bytes_eq file) (F.held files.old) (F.history files.old) (F.history files.new) (looks_of found.old) (NotFound file)) }
+    ensures grows { IfOk result (λ _. Grows (given_files given.now) (bytes_eq file) (F.held files.old) (F.history files.old) (F.history files.new) (looks_of found.old) (looks_of found.new)) }
+    ensures known { IfOk result (Known (given_files given.now) (looks_of found.new) file) }
+    ensures err { IfErr result (Stops (given_files given.now) (bytes_eq file) (F.held files.old) (F.history files.old) (F.history files.new) (looks_of found.old) (NotFound file)) }
     ensures held { F.held files.new ≡ F.held files.old }
 {
-    if file.as_str() == name {
-        return own_length(file, document);
+    if let Some(bytes) = given_bytes(given, file) {
+        return own_length(file, bytes);
     }
     match found.length(file) {
         Some(length) => Ok(length as u64),
@@ -122,17 +122,16 @@ fn file_length<F: Files>(
 // Holds the content of a region against its room.
 fn check<F: Files>(
     alloc: Global,
-    name: &str,
-    document: &[u8],
+    given: &[Given<'_>],
     region: Tag,
     room: u64,
     content: &Content,
     found: &mut ComponentFiles,
     files: &mut F,
 ) -> Result<(), BuildError>
-    ensures grows { IfOk result (λ _. Grows name.now (filled_names (filled region room content.now)) (F.held files.old) (F.history files.old) (F.history files.new) (looks_of found.old) (looks_of found.new)) }
-    ensures passes { IfOk result (λ _. Passes name.now document.now (looks_of found.new) (of_filled (filled region room content.now))) }
-    ensures err { IfErr result (Stops name.now document.now (filled_names (filled region room content.now)) (F.held files.old) (F.history files.old) (F.history files.new) (looks_of found.old) (Refuses (of_filled (filled region room content.now)))) }
+    ensures grows { IfOk result (λ _. Grows (given_files given.now) (filled_names (filled region room content.now)) (F.held files.old) (F.history files.old) (F.history files.new) (looks_of found.old) (looks_of found.new)) }
+    ensures passes { IfOk result (λ _. Passes (given_files given.now) (looks_of found.new) (of_filled (filled region room content.now))) }
+    ensures err { IfErr result (Stops (given_files given.now) (filled_names (filled region room content.now)) (F.held files.old) (F.history files.old) (F.history files.new) (looks_of found.old) (Refuses (of_filled (filled region room content.now)))) }
     ensures held { F.held files.new ≡ F.held files.old }
 {
     match content {
@@ -143,7 +142,7 @@ fn check<F: Files>(
             offset,
             length,
         } => {
-            let count = file_length(alloc, name, document, *file, found, files)?;
+            let count = file_length(alloc, given, *file, found, files)?;
             Ok(fits(region, room, part_length(count, *offset, *length))?)
         }
     }
@@ -152,15 +151,14 @@ fn check<F: Files>(
 // The regions of memory, in order.
 fn check_memory<F: Files>(
     alloc: Global,
-    name: &str,
-    document: &[u8],
+    given: &[Given<'_>],
     memory: &[Region],
     found: &mut ComponentFiles,
     files: &mut F,
 ) -> Result<(), BuildError>
-    ensures grows { IfOk result (λ _. Grows name.now (all_names (map filled_region memory.now)) (F.held files.old) (F.history files.old) (F.history files.new) (looks_of found.old) (looks_of found.new)) }
-    ensures passes { IfOk result (λ _. Passes name.now document.now (looks_of found.new) (of_all (map filled_region memory.now))) }
-    ensures err { IfErr result (Stops name.now document.now (all_names (map filled_region memory.now)) (F.held files.old) (F.history files.old) (F.history files.new) (looks_of found.old) (Refuses (of_all (map filled_region memory.now)))) }
+    ensures grows { IfOk result (λ _. Grows (given_files given.now) (all_names (map filled_region memory.now)) (F.held files.old) (F.history files.old) (F.history files.new) (looks_of found.old) (looks_of found.new)) }
+    ensures passes { IfOk result (λ _. Passes (given_files given.now) (looks_of found.new) (of_all (map filled_region memory.now))) }
+    ensures err { IfErr result (Stops (given_files given.now) (all_names (map filled_region memory.now)) (F.held files.old) (F.history files.old) (F.history files.new) (looks_of found.old) (Refuses (of_all (map filled_region memory.now)))) }
     ensures held { F.held files.new ≡ F.held files.old }
 {
     for region in memory {
@@ -170,8 +168,7 @@ fn check_memory<F: Files>(
         };
         check(
             alloc,
-            name,
-            document,
+            given,
             tag,
             region.size,
             &region.content,
@@ -185,16 +182,15 @@ fn check_memory<F: Files>(
 // The regions that a component brings along for a subject, in order.
 fn check_provided<F: Files>(
     alloc: Global,
-    name: &str,
-    document: &[u8],
+    given: &[Given<'_>],
     subject: Name,
     provided: &[Provided],
     found: &mut ComponentFiles,
     files: &mut F,
 ) -> Result<(), BuildError>
-    ensures grows { IfOk result (λ _. Grows name.now (all_names (map (filled_provided subject) provided.now)) (F.held files.old) (F.history files.old) (F.history files.new) (looks_of found.old) (looks_of found.new)) }
-    ensures passes { IfOk result (λ _. Passes name.now document.now (looks_of found.new) (of_all (map (filled_provided subject) provided.now))) }
-    ensures err { IfErr result (Stops name.now document.now (all_names (map (filled_provided subject) provided.now)) (F.held files.old) (F.history files.old) (F.history files.new) (looks_of found.old) (Refuses (of_all (map (filled_provided subject) provided.now)))) }
+    ensures grows { IfOk result (λ _. Grows (given_files given.now) (all_names (map (filled_provided subject) provided.now)) (F.held files.old) (F.history files.old) (F.history files.new) (looks_of found.old) (looks_of found.new)) }
+    ensures passes { IfOk result (λ _. Passes (given_files given.now) (looks_of found.new) (of_all (map (filled_provided subject) provided.now))) }
+    ensures err { IfErr result (Stops (given_files given.now) (all_names (map (filled_provided subject) provided.now)) (F.held files.old) (F.history files.old) (F.history files.new) (looks_of found.old) (Refuses (of_all (map (filled_provided subject) provided.now)))) }
     ensures held { F.held files.new ≡ F.held files.old }
 {
     for x in provided {
@@ -202,7 +198,7 @@ fn check_provided<F: Files>(
             owner: subject,
             part: TagPart::Named(x.logical),
         };
-        check(alloc, name, document, tag, x.size, &x.content, found, files)?;
+        check(alloc, given, tag, x.size, &x.content, found, files)?;
     }
     Ok(())
 }
@@ -210,21 +206,20 @@ fn check_provided<F: Files>(
 // Those of all subjects, in order.
 fn check_subjects<F: Files>(
     alloc: Global,
-    name: &str,
-    document: &[u8],
+    given: &[Given<'_>],
     policy: &Resolved,
     subjects: &[Subject],
     found: &mut ComponentFiles,
     files: &mut F,
 ) -> Result<(), BuildError>
-    ensures grows { IfOk result (λ _. Grows name.now (brought_names policy.now.components subjects.now) (F.held files.old) (F.history files.old) (F.history files.new) (looks_of found.old) (looks_of found.new)) }
-    ensures passes { IfOk result (λ _. Passes name.now document.now (looks_of found.new) (of_brought policy.now.components subjects.now)) }
-    ensures err { IfErr result (Stops name.now document.now (brought_names policy.now.components subjects.now) (F.held files.old) (F.history files.old) (F.history files.new) (looks_of found.old) (Refuses (of_brought policy.now.components subjects.now))) }
+    ensures grows { IfOk result (λ _. Grows (given_files given.now) (brought_names policy.now.components subjects.now) (F.held files.old) (F.history files.old) (F.history files.new) (looks_of found.old) (looks_of found.new)) }
+    ensures passes { IfOk result (λ _. Passes (given_files given.now) (looks_of found.new) (of_brought policy.now.components subjects.now)) }
+    ensures err { IfErr result (Stops (given_files given.now) (brought_names policy.now.components subjects.now) (F.held files.old) (F.history files.old) (F.history files.new) (looks_of found.old) (Refuses (of_brought policy.now.components subjects.now))) }
     ensures held { F.held files.new ≡ F.held files.old }
 {
     for subject in subjects {
         let provided = policy.provided_by(subject);
-        check_provided(alloc, name, document, subject.name, provided, found, files)?;
+        check_provided(alloc, given, subject.name, provided, found, files)?;
     }
     Ok(())
 }
@@ -233,22 +228,20 @@ fn check_subjects<F: Files>(
 /// files that they name: those of memory, then those that each subject's component brings along.
 pub(crate) fn check_all<F: Files>(
     alloc: Global,
-    name: &str,
-    document: &[u8],
+    given: &[Given<'_>],
     policy: &Resolved,
     found: &mut ComponentFiles,
     files: &mut F,
 ) -> Result<(), BuildError>
-    ensures grows { IfOk result (λ _. Grows name.now (names_file (source_of policy.now)) (F.held files.old) (F.history files.old) (F.history files.new) (looks_of found.old) (looks_of found.new)) }
-    ensures passes { IfOk result (λ _. Passes name.now document.now (looks_of found.new) (of_all (filled_of (source_of policy.now)))) }
-    ensures err { IfErr result (Stops name.now document.now (names_file (source_of policy.now)) (F.held files.old) (F.history files.old) (F.history files.new) (looks_of found.old) (Refuses (of_all (filled_of (source_of policy.now))))) }
+    ensures grows { IfOk result (λ _. Grows (given_files given.now) (names_file (source_of policy.now)) (F.held files.old) (F.history files.old) (F.history files.new) (looks_of found.old) (looks_of found.new)) }
+    ensures passes { IfOk result (λ _. Passes (given_files given.now) (looks_of found.new) (of_all (filled_of (source_of policy.now)))) }
+    ensures err { IfErr result (Stops (given_files given.now) (names_file (source_of policy.now)) (F.held files.old) (F.history files.old) (F.history files.new) (looks_of found.old) (Refuses (of_all (filled_of (source_of policy.now))))) }
     ensures held { F.held files.new ≡ F.held files.old }
 {
-    check_memory(alloc, name, document, policy.memory(), found, files)?;
+    check_memory(alloc, given, policy.memory(), found, files)?;
     check_subjects(
         alloc,
-        name,
-        document,
+        given,
         policy,
         policy.subjects(),
         found,

@@ -13,6 +13,7 @@ ghost use Rattle.policy_lawful.specs.Resolution.{source_of};
 
 use crate::accept;
 use crate::accepted::{Accepted, BuildError, ComponentFiles};
+use crate::given::Given;
 use crate::things::things;
 use image_emit::emit;
 use image_pack::{Parts, pack};
@@ -42,7 +43,11 @@ fn parts(
 {
     let expanded = placed.expanded();
     let policy = expanded.lawful().resolved();
-    let things = things(alloc, name, document, found, policy)?;
+    let given = [Given {
+        name,
+        bytes: document,
+    }];
+    let things = things(alloc, &given, found, policy)?;
     emit(alloc, placed, things)
 }
 

@@ -9,24 +9,28 @@ ghost use Rattle.std.specs.List.{All};
 ghost use Rattle.muen_num.specs.Answers.{Answers, Explains};
 ghost use Rattle.muen_outside.specs.Store.{Store};
 ghost use Rattle.policy_lawful.specs.Resolution.{kept_source, source_of};
-ghost use Rattle.muen_build.specs.Accepting.{Accepts, FailsWith, Grows, Passes, Refuses, Stops, looks_of, of_all, placed_source};
+ghost use Rattle.muen_build.specs.Accepting.{Accepts, FailsWith, Grows, HasContents, LacksContents, Passes, Refuses, Stops, given_files, looks_of, of_all, placed_source};
 ghost use Rattle.muen_build.specs.Looks.{IsAsked, Looked, names_file};
 ghost use Rattle.muen_build.specs.Refusals.{filled_of, laid_policy_of, lawful_policy_of};
 ghost use Rattle.region_alloc.specs.Placement.{no_room};
 
 mod accepted;
 mod contents;
+mod given;
 mod image_bytes;
 mod things;
 
 pub use accepted::{Accepted, BuildError, ComponentFiles};
 use contents::check_all;
+pub use given::Given;
 pub use image_bytes::{build, image};
+use muen_num::Seq;
 use muen_outside::Files;
 use policy_lawful::Lawful;
 use policy_types::Refusal;
 use region_alloc::Placed;
 use std::alloc::Global;
+use things::things;
 
 /// The policy of a document, where it keeps every rule.
 ///
@@ -66,19 +70,42 @@ pub fn lay(alloc: Global, policy: &[u8]) -> Result<Placed, Refusal>
 // The component files that the contents of a policy name, which fit.
 fn read_contents<F: Files>(
     alloc: Global,
-    name: &str,
-    document: &[u8],
+    given: &[Given<'_>],
     policy: &Lawful,
     files: &mut F,
 ) -> Result<ComponentFiles, BuildError>
-    ensures grows { IfOk result (λ found. Grows name.now (names_file (source_of policy.now)) (F.held files.old) (F.history files.old) (F.history files.new) [] (looks_of found)) }
-    ensures passes { IfOk result (λ found. Passes name.now document.now (looks_of found) (of_all (filled_of (source_of policy.now)))) }
-    ensures err { IfErr result (Stops name.now document.now (names_file (source_of policy.now)) (F.held files.old) (F.history files.old) (F.history files.new) [] (Refuses (of_all (filled_of (source_of policy.now))))) }
+    ensures grows { IfOk result (λ found. Grows (given_files given.now) (names_file (source_of policy.now)) (F.held files.old) (F.history files.old) (F.history files.new) [] (looks_of found)) }
+    ensures passes { IfOk result (λ found. Passes (given_files given.now) (looks_of found) (of_all (filled_of (source_of policy.now)))) }
+    ensures err { IfErr result (Stops (given_files given.now) (names_file (source_of policy.now)) (F.held files.old) (F.history files.old) (F.history files.new) [] (Refuses (of_all (filled_of (source_of policy.now))))) }
     ensures held { F.held files.new ≡ F.held files.old }
 {
     let mut found = ComponentFiles::new(alloc);
-    check_all(alloc, name, document, policy.resolved(), &mut found, files)?;
+    check_all(alloc, given, policy.resolved(), &mut found, files)?;
     Ok(found)
+}
+
+/// What the regions of a policy that aren't the kernel's hold at the start, by number. The bytes that are
+/// given stand for their names; each other file that a content names is looked at once, where the first
+/// content names it, and nothing else is. Where regions lie is not asked.
+///
+/// # Errors
+/// For the first region by number whose contents are refused: `Missing` where there is no file of a
+/// content's name, `TooLong` where it is longer than `COMPONENT_FILE_MOST`, `FileFit` where what a content
+/// takes is longer than its region. `FileFault` where the last look at files failed; `NoMemory` where
+/// memory was refused.
+pub fn contents_of<F: Files>(
+    alloc: Global,
+    given: &[Given<'_>],
+    policy: &Lawful,
+    files: &mut F,
+) -> Result<Seq<Seq<u8>>, BuildError>
+    ensures ok { IfOk result (HasContents (given_files given.now) policy.now (F.held files.old) (F.history files.old) (F.history files.new)) }
+    ensures err { IfErr result (LacksContents (given_files given.now) (source_of policy.now) (F.held files.old) (F.history files.old) (F.history files.new)) }
+    ensures held { F.held files.new ≡ F.held files.old }
+{
+    let found = read_contents(alloc, given, policy, files)?;
+    let bytes = things(alloc, given, &found, policy.resolved())?;
+    Ok(bytes)
 }
 
 /// The policy of a document with the addresses of its regions, where it keeps every rule, its
@@ -109,7 +136,11 @@ pub fn accept<F: Files>(
     ensures held { F.held files.new ≡ F.held files.old }
 {
     let policy = lawful(alloc, document)?;
-    let files = read_contents(alloc, name, document, &policy, files)?;
+    let given = [Given {
+        name,
+        bytes: document,
+    }];
+    let files = read_contents(alloc, &given, &policy, files)?;
     let placed = place(alloc, policy)?;
     Ok(Accepted { placed, files })
 }

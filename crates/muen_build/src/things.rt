@@ -2,10 +2,12 @@
 ghost use Rattle.std.specs.Prelude.{◌≡◌, ◌++◌, IfOk, OnOk, map, replicate};
 ghost use Rattle.std.specs.List.{flat_map};
 ghost use Rattle.policy_lawful.specs.ByIndex.{provided_at};
+ghost use Rattle.muen_build.specs.Accepting.{given_files};
 ghost use Rattle.muen_build.specs.Reading.{content_read, read_bytes, sized, things_read};
 ghost use Rattle.policy_lawful.specs.Contents.{file_part};
 
 use crate::accepted::ComponentFiles;
+use crate::given::{Given, given_bytes};
 use muen_num::{Name, NoMemory, Seq};
 use policy_lawful::Resolved;
 use policy_lawful::resolved::Subject;
@@ -42,12 +44,12 @@ fn part(bytes: &[u8], offset: u64, most: Option<u64>) -> &[u8]
     }
 }
 
-// The bytes of a file: the document's, where it is named, else those that were read.
-fn file_bytes<'a>(name: &str, document: &'a [u8], found: &'a ComponentFiles, file: Name) -> &'a [u8]
-    ensures { result.now ≡ read_bytes name.now document.now found.now file }
+// The bytes of a file: those that are given under its name, else those that were read.
+fn file_bytes<'a>(given: &[Given<'a>], found: &'a ComponentFiles, file: Name) -> &'a [u8]
+    ensures { result.now ≡ read_bytes (given_files given.now) found.now file }
 {
-    if file.as_str() == name {
-        return document;
+    if let Some(bytes) = given_bytes(given, file) {
+        return bytes;
     }
     match found.bytes(file) {
         None => &[],
@@ -58,13 +60,12 @@ fn file_bytes<'a>(name: &str, document: &'a [u8], found: &'a ComponentFiles, fil
 // A content in a room of so many bytes.
 fn content(
     alloc: Global,
-    name: &str,
-    document: &[u8],
+    given: &[Given<'_>],
     found: &ComponentFiles,
     size: u64,
     content: &Content,
 ) -> Result<Seq<u8>, AllocError>
-    ensures { IfOk result (λ bytes. bytes ≡ content_read name.now document.now found.now size content.now) }
+    ensures { IfOk result (λ bytes. bytes ≡ content_read (given_files given.now) found.now size content.now) }
 {
     match content {
         Content::Zero => filled(alloc, size, 0),
@@ -75,7 +76,7 @@ fn content(
             offset,
             length,
         } => {
-            let bytes = file_bytes(name, document, found, *file);
+            let bytes = file_bytes(given, found, *file);
             sized(alloc, size, part(bytes, *offset, *length))
         }
     }
@@ -84,16 +85,15 @@ fn content(
 // The regions of memory, in order.
 fn put_memory(
     alloc: Global,
-    name: &str,
-    document: &[u8],
+    given: &[Given<'_>],
     found: &ComponentFiles,
     memory: &[Region],
     things: &mut Vec<Seq<u8>>,
 ) -> Result<(), AllocError>
-    ensures { OnOk result (things.new.items ≡ things.old.items ++ map (λ m. content_read name.now document.now found.now m.size m.content) memory.now) }
+    ensures { OnOk result (things.new.items ≡ things.old.items ++ map (λ m. content_read (given_files given.now) found.now m.size m.content) memory.now) }
 {
     for region in memory {
-        things.push(content(alloc, name, document, found, region.size, &region.content)?)?;
+        things.push(content(alloc, given, found, region.size, &region.content)?)?;
     }
     Ok(())
 }
@@ -115,16 +115,15 @@ fn put_channels(
 // The regions that a component brings along, in order.
 fn put_provided(
     alloc: Global,
-    name: &str,
-    document: &[u8],
+    given: &[Given<'_>],
     found: &ComponentFiles,
     provided: &[Provided],
     things: &mut Vec<Seq<u8>>,
 ) -> Result<(), AllocError>
-    ensures { OnOk result (things.new.items ≡ things.old.items ++ map (λ x. content_read name.now document.now found.now x.size x.content) provided.now) }
+    ensures { OnOk result (things.new.items ≡ things.old.items ++ map (λ x. content_read (given_files given.now) found.now x.size x.content) provided.now) }
 {
     for x in provided {
-        things.push(content(alloc, name, document, found, x.size, &x.content)?)?;
+        things.push(content(alloc, given, found, x.size, &x.content)?)?;
     }
     Ok(())
 }
@@ -132,41 +131,38 @@ fn put_provided(
 // Those of all subjects, in order.
 fn put_subjects(
     alloc: Global,
-    name: &str,
-    document: &[u8],
+    given: &[Given<'_>],
     found: &ComponentFiles,
     policy: &Resolved,
     subjects: &[Subject],
     things: &mut Vec<Seq<u8>>,
 ) -> Result<(), AllocError>
-    ensures { OnOk result (things.new.items ≡ things.old.items ++ flat_map (λ s. map (λ x. content_read name.now document.now found.now x.size x.content) (provided_at policy.now.components s.component)) subjects.now) }
+    ensures { OnOk result (things.new.items ≡ things.old.items ++ flat_map (λ s. map (λ x. content_read (given_files given.now) found.now x.size x.content) (provided_at policy.now.components s.component)) subjects.now) }
 {
     for subject in subjects {
         let provided = policy.provided_by(subject);
-        put_provided(alloc, name, document, found, provided, things)?;
+        put_provided(alloc, given, found, provided, things)?;
     }
     Ok(())
 }
 
 /// The bytes of a policy's regions that aren't the kernel's, by number: those of memory, the
 /// channels, then those that each subject's component brings along. Each has as many bytes as its
-/// size says. The document stands under this name, and the other files were found.
+/// size says. The other files were found.
 pub(crate) fn things(
     alloc: Global,
-    name: &str,
-    document: &[u8],
+    given: &[Given<'_>],
     found: &ComponentFiles,
     policy: &Resolved,
-) -> Result<Seq<Seq<u8>>, AllocError>
-    ensures { IfOk result (λ things. things ≡ things_read name.now document.now found.now policy.now) }
+) -> Result<Seq<Seq<u8>>, NoMemory>
+    ensures { IfOk result (λ things. things ≡ things_read (given_files given.now) found.now policy.now) }
 {
     let mut things = Vec::new(alloc);
-    put_memory(alloc, name, document, found, policy.memory(), &mut things)?;
+    put_memory(alloc, given, found, policy.memory(), &mut things)?;
     put_channels(alloc, policy.channels(), &mut things)?;
     put_subjects(
         alloc,
-        name,
-        document,
+        given,
         found,
         policy,
         policy.subjects(),

@@ -41,7 +41,7 @@ use Rattle.muen_top.specs.PolicyCommands.{StopsCommand}
 use Rattle.muen_top.specs.Runs.{OnlyMemory}
 use Rattle.muen_top.specs.CommandErrors.{error_of_build, error_of_image_fault}
 use Rattle.muen_top.specs.declared.outcome.CommandError.{CommandError}
-use Rattle.muen_top.specs.declared.outcome.CommandError.TheVariants.{Usage, Missing, TooLong, Refused, ImageRefused, DmaRefused, RecordRefused, FileFault, NoMemory}
+use Rattle.muen_top.specs.declared.outcome.CommandError.TheVariants.{Usage, Missing, TooLong, Refused, ImageRefused, DmaRefused, RecordRefused, NotSound, FileFault, NoMemory}
 use Rattle.muen_top.proofs.FilesSeen.{policy_known, saw_contents}
 use Rattle.muen_top.proofs.FirstFile.{AsksOn, RestsOn, fault_after, not_read, stops_refused}
 
@@ -115,7 +115,7 @@ module _ (policy : List ℕ) (held held' : Option Store) (old between : History)
     refused_so : (looks : List Look) (r : Refusal) → WithDocument policy document looks (λ m. RefusesDocument document m r) → OverLooks (document_look policy document ∷ looks) (λ m. boot_answer m policy name ≡ stops (refused_for r))
     refused_so looks r refuses m s = by_document m policy name document (Err r) s.0 (shown_so looks (Err r) refuses m s)
 
-    fails_so : (looks : List Look) (build_error : BuildError) (error : CommandError) → ErrorSays policy document (RefusesDocument document) looks build_error → error ≡ error_of_build build_error → Stops looks error
+    fails_so : (looks : List Look) (build_error : BuildError) (error : CommandError) → ErrorSays ((policy, document) ∷ []) (RefusesDocument document) looks build_error → error ≡ error_of_build build_error → Stops looks error
     fails_so looks (RefusedPolicy r) error (inl is) made = stops_refused (λ m. boot_answer m policy name) (document_look policy document ∷ looks) r error (inl is) made
     fails_so looks (RefusedPolicy r) error (inr h) made = stops_refused (λ m. boot_answer m policy name) (document_look policy document ∷ looks) r error (inr (refused_so looks r h)) made
     fails_so looks FaultOfFiles error h made = subst (Stops looks) (sym made) (inl (fault_after (document_look policy document) looks h, refl))
@@ -147,6 +147,7 @@ module _ (policy : List ℕ) (held held' : Option Store) (old between : History)
     only_memory name (ImageRefused f) h = absurd h
     only_memory name (DmaRefused f) h = absurd h
     only_memory name (RecordRefused r) h = absurd h
+    only_memory name (NotSound f) h = absurd h
     only_memory name FileFault h = absurd h
 
     parts_refused : (name : List ℕ) (error : CommandError) → WithDocument policy document (looks_of found) (λ files. OnlyMemory error) → StopsCommand (boot policy name) held old mid error

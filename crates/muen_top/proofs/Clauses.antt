@@ -19,23 +19,27 @@ use Rattle.policy_types.specs.declared.refusal.Refusal.{Refusal}
 use Rattle.record_text.specs.DeviceRecord.{DeviceRecord}
 use Rattle.record_text.specs.Reading.{record_of}
 use Rattle.image_soundness.specs.Bench.{devices_of}
-use Rattle.muen_build.specs.Refusals.{accepted_policy_of, laid_policy_of, lawful_policy_of}
+use Rattle.muen_build.specs.Refusals.{accepted_policy_of, fitting_policy_of, laid_policy_of, lawful_policy_of}
 use Rattle.record_text.specs.declared.fault.RecordFault.{RecordFault}
-use Rattle.muen_top.specs.Answers.{Reason, usage, missing, too_long, refused, image_refused, dma_refused, record_refused, Answer, prints, writes, stops, of_file, image_answer, build_answer, trace_answer, policy_answer, boot_answer, named_answer, dma_answer, tables_answer, input_answer, unpacked_answer, run_answer, map_answer, map_policy_answer, flows_answer, flows_policy_answer, answer_of}
+use Rattle.muen_top.specs.Answers.{Reason, usage, missing, too_long, refused, image_refused, dma_refused, record_refused, Answer, prints, writes, judges, stops, of_file, image_answer, build_answer, trace_answer, policy_answer, boot_answer, named_answer, dma_answer, tables_answer, input_answer, unpacked_answer, run_answer, map_answer, map_policy_answer, flows_answer, flows_policy_answer, judged_answer, verified_answer, verify_answer, answer_of}
 use Rattle.muen_top.specs.Asked.{Asks}
-use Rattle.muen_num.specs.declared.limits.TheConstants.{RECORD_MOST}
-use Rattle.muen_top.specs.Calls.{IsDone, Prints, StopsFor, OutcomeSays, FaultOfFiles, WantOfMemory, IsCallOf, IsFault, Answered, answer_to, DoesAnswer, PrintsFront, EndsAnswered, FilesFailed, MemoryRefused, RefusesPolicy, LacksFile, RefusesImage, RefusesDma, RefusesRecord}
-use Rattle.muen_top.specs.Commands.{Command, build, boot, run, map, flows, command_of}
+use Rattle.muen_num.specs.declared.limits.TheConstants.{POLICY_MOST, RECORD_MOST}
+use Rattle.muen_top.specs.Calls.{IsDone, Prints, StopsFor, OutcomeSays, FaultOfFiles, WantOfMemory, IsCallOf, IsFault, Answered, answer_to, DoesAnswer, PrintsFront, EndsAnswered, FilesFailed, MemoryRefused, RefusesPolicy, LacksFile, RefusesImage, RefusesDma, RefusesRecord, FindsFault}
+use Rattle.muen_top.specs.Commands.{Command, build, boot, run, map, flows, verify, command_of}
 use Rattle.muen_top.specs.FilesSeen.{OverLooks}
-use Rattle.muen_top.specs.Headline.{BuildWritesImage, PrintsText}
-use Rattle.muen_top.specs.Reports.{reason_status, reason_text, status_of, error_status, error_text, Told, Reported, Ends}
+use Rattle.muen_top.specs.Headline.{BuildWritesImage, HoldsBuilt, HoldsPolicy, PrintsText, VerifyAcceptsBuilt, VerifyTellsFault, VerifyTellsSound}
+use Rattle.muen_top.specs.Verdicts.{Finds}
+use Rattle.image_verify.specs.FaultText.{fault_text}
+use Rattle.image_verify.specs.declared.fault.Fault.{Fault}
+use Rattle.muen_top.specs.Reports.{reason_status, reason_text, sound_text, status_of, error_status, error_text, Told, Reported, Ends}
 use Rattle.muen_top.specs.declared.limits.TheConstants.{DMA_MOST}
 use Rattle.muen_top.specs.declared.outcome.Outcome.{Outcome}
 use Rattle.muen_top.specs.declared.outcome.Outcome.TheVariants.{Done, Stopped, OutputFault}
 use Rattle.muen_top.specs.declared.outcome.CommandError.{CommandError}
-use Rattle.muen_top.specs.declared.outcome.CommandError.TheVariants.{Usage, Missing, TooLong, Refused, ImageRefused, DmaRefused, RecordRefused, FileFault, NoMemory}
+use Rattle.muen_top.specs.declared.outcome.CommandError.TheVariants.{Usage, Missing, TooLong, Refused, ImageRefused, DmaRefused, RecordRefused, NotSound, FileFault, NoMemory}
 use Rattle.muen_top.specs.declared.status.Status.{Status}
 use Rattle.muen_top.specs.declared.status.Status.TheVariants as statuses
+use Rattle.muen_top.proofs.Verified.{built_judged, no_fault, tells_fault, tells_sound}
 use Rattle.muen_top.proofs.Written.{build_writes, differ}
 use Rattle.muen_top.proofs.Statuses.{is_of_reason, is_of_refusal}
 
@@ -46,6 +50,7 @@ data Comes (answer : Store → Answer) (looks : List Look) (ws : List Write) (ou
   done : status ≡ statuses.Done → OverLooks looks (λ m. IsDone (answer m) ws out out') → err' ≡ err → Comes answer looks ws out out' err err' status
   cut_off : status ≡ statuses.OutputFault → OverLooks looks (λ m. Prints (answer m) (λ text. Failed text out out')) → ws ≡ [] → Comes answer looks ws out out' err err' status
   stopped : (reason : Reason) → status ≡ reason_status reason → OverLooks looks (λ m. answer m ≡ stops reason) → ws ≡ [] → out' ≡ out → Told (reason_text reason) err err' → Comes answer looks ws out out' err err' status
+  condemned : (fault : Fault) → status ≡ statuses.NotSound → OverLooks looks (λ m. Finds (answer m) (Some fault)) → ws ≡ [] → out' ≡ out → Told (fault_text fault) err err' → Comes answer looks ws out out' err err' status
   failed : status ≡ statuses.FileFault → FaultOfFiles answer looks ws → out' ≡ out → Comes answer looks ws out out' err err' status
   no_memory : status ≡ statuses.NoMemory → WantOfMemory answer looks ws → out' ≡ out → Comes answer looks ws out out' err err' status
 
@@ -61,6 +66,7 @@ module _ (answer : Store → Answer) (looks : List Look) (ws : List Write) (out 
   of_error (ImageRefused fault) is says quiet told = stopped (image_refused fault) is says.0 says.1 quiet told
   of_error (DmaRefused fault) is says quiet told = stopped (dma_refused fault) is says.0 says.1 quiet told
   of_error (RecordRefused fault) is says quiet told = stopped (record_refused fault) is says.0 says.1 quiet told
+  of_error (NotSound fault) is says quiet told = condemned fault is says.0 says.1 quiet told
   of_error FileFault is says quiet told = failed is says quiet
   of_error NoMemory is says quiet told = no_memory is says quiet
 
@@ -175,8 +181,17 @@ no_usage_of_flows : (r : Result Source Refusal) → flows_policy_answer r ≡ st
 no_usage_of_flows (Ok p) e = cc
 no_usage_of_flows (Err refusal) e = cc
 
+no_usage_of_judged : (files : Store) (bytes : List ℕ) (i : Image) (r : Result Source Refusal) → judged_answer files bytes i r ≡ stops usage → ⊥
+no_usage_of_judged files bytes i (Ok p) e = cc
+no_usage_of_judged files bytes i (Err refusal) e = cc
+
+no_usage_of_verified : (files : Store) (policy bytes : List ℕ) (r : Result Image ImageFault) → verified_answer files policy bytes r ≡ stops usage → ⊥
+no_usage_of_verified files policy bytes (Ok i) e =
+    no_usage_of_file policy (λ document. judged_answer files bytes i (fitting_policy_of files document)) (reading_of (get files policy) POLICY_MOST) (λ document h. no_usage_of_judged files bytes i (fitting_policy_of files document) h) e
+no_usage_of_verified files policy bytes (Err fault) e = cc
+
 no_usage : (files : Store) (command : Option Command) → answer_of files command ≡ stops usage → command ≡ None
-unfolding build_answer boot_answer run_answer map_answer flows_answer
+unfolding build_answer boot_answer run_answer map_answer flows_answer verify_answer
 no_usage files None e = refl
 no_usage files (Some (build policy image dma)) e =
     absurd (no_usage_of_file policy _ _ (λ bytes h. no_usage_of_image files image dma (accepted_policy_of files bytes) h) e)
@@ -188,9 +203,14 @@ no_usage files (Some (map policy)) e =
     absurd (no_usage_of_file policy _ _ (λ bytes h. no_usage_of_map (laid_policy_of bytes) h) e)
 no_usage files (Some (flows policy)) e =
     absurd (no_usage_of_file policy _ _ (λ bytes h. no_usage_of_flows (lawful_policy_of bytes) h) e)
+no_usage files (Some (verify image policy)) e =
+    absurd (no_usage_of_file image _ _ (λ bytes h. no_usage_of_verified files policy bytes (unpacked image_form bytes) h) e)
 
 prints_not_stops : (text : List ℕ) (reason : Reason) → prints text ≡ stops reason → ⊥
 prints_not_stops text reason e = cc
+
+judges_not_stops : (p : Source) (files : Store) (bytes : List ℕ) (i : Image) (reason : Reason) → judges p files bytes i ≡ stops reason → ⊥
+judges_not_stops p files bytes i reason e = cc
 
 -- ---- the looks and the writes of a call
 
@@ -256,6 +276,7 @@ module _ (words : List (List ℕ)) (held held' : Option Store) (old new : Histor
         | done is did quiet ↦ did
         | cut_off is put none ↦ absurd (cc)
         | stopped reason is answers none quiet told ↦ absurd (is_of_reason reason statuses.Done (sym zero ∙ is))
+        | condemned fault is finds none quiet told ↦ absurd (cc)
         | failed is fault quiet ↦ absurd (cc)
         | no_memory is want quiet ↦ absurd (cc)
       ]
@@ -266,6 +287,7 @@ module _ (words : List (List ℕ)) (held held' : Option Store) (old new : Histor
         | done is did quiet ↦ absurd (cc)
         | cut_off is put none ↦ put
         | stopped reason is answers none quiet told ↦ absurd (is_of_reason reason statuses.OutputFault (sym seven ∙ is))
+        | condemned fault is finds none quiet told ↦ absurd (cc)
         | failed is fault quiet ↦ absurd (cc)
         | no_memory is want quiet ↦ absurd (cc)
       ]
@@ -277,6 +299,7 @@ module _ (words : List (List ℕ)) (held held' : Option Store) (old new : Histor
         | done is did quiet ↦ absurd (subst IsRefusal is refuses)
         | cut_off is put none ↦ absurd (subst IsRefusal is refuses)
         | stopped reason is answers none quiet told ↦ λ m s. subst Such (sym (answers m s)) (of_reason reason is told)
+        | condemned fault is finds none quiet told ↦ absurd (subst IsRefusal is refuses)
         | failed is fault quiet ↦ absurd (subst IsRefusal is refuses)
         | no_memory is want quiet ↦ absurd (subst IsRefusal is refuses)
       ]
@@ -299,7 +322,14 @@ module _ (words : List (List ℕ)) (held held' : Option Store) (old new : Histor
   ends_done : (answer : Answer) → IsDone answer ws out out' → status ≡ statuses.Done → err' ≡ err → Ends answer err err' status
   ends_done (prints text) did is quiet = (is, quiet)
   ends_done (writes image tables p files) did is quiet = (is, quiet)
+  ends_done (judges p files bytes i) did is quiet = inl (did.1, is, quiet)
   ends_done (stops reason) did is quiet = absurd did
+
+  ends_found : (answer : Answer) (fault : Fault) → Finds answer (Some fault) → status ≡ statuses.NotSound → Told (fault_text fault) err err' → Ends answer err err' status
+  ends_found (judges p files bytes i) fault finds is told = inr (fault, finds, is, told)
+  ends_found (prints text) fault finds is told = absurd finds
+  ends_found (writes image tables p files) fault finds is told = absurd finds
+  ends_found (stops reason) fault finds is told = absurd finds
 
   pub ends_clause : IsFault status ⊎ EndsAnswered words looks err err' status
   ends_clause =
@@ -307,6 +337,7 @@ module _ (words : List (List ℕ)) (held held' : Option Store) (old new : Histor
         | done is did quiet ↦ inr (λ m s. ends_done (answer_to words m) (did m s) is quiet)
         | cut_off is put none ↦ inl (inr (inl is))
         | stopped reason is answers none quiet told ↦ inr (λ m s. subst (λ a. Ends a err err' status) (sym (answers m s)) (is, told))
+        | condemned fault is finds none quiet told ↦ inr (λ m s. ends_found (answer_to words m) fault (finds m s) is told)
         | failed is fault quiet ↦ inl (inl is)
         | no_memory is want quiet ↦ inl (inr (inr is))
       ]
@@ -318,6 +349,7 @@ module _ (words : List (List ℕ)) (held held' : Option Store) (old new : Histor
         | done is did quiet ↦ absurd (cc)
         | cut_off is put none ↦ absurd (cc)
         | stopped reason is answers none quiet told ↦ no_usage there.0 (command_of words) (answers there.0 there.1 ∙ ap stops (is_usage reason (sym is ∙ one)))
+        | condemned fault is finds none quiet told ↦ absurd (cc)
         | failed is fault quiet ↦ absurd (cc)
         | no_memory is want quiet ↦ absurd (cc)
       ]
@@ -328,6 +360,7 @@ module _ (words : List (List ℕ)) (held held' : Option Store) (old new : Histor
         | done is did quiet ↦ absurd (cc)
         | cut_off is put none ↦ absurd (cc)
         | stopped reason is answers none quiet told ↦ absurd (is_of_reason reason statuses.FileFault (sym four ∙ is))
+        | condemned fault is finds none quiet told ↦ absurd (cc)
         | failed is fault quiet ↦ fault
         | no_memory is want quiet ↦ absurd (cc)
       ]
@@ -338,6 +371,7 @@ module _ (words : List (List ℕ)) (held held' : Option Store) (old new : Histor
         | done is did quiet ↦ absurd (cc)
         | cut_off is put none ↦ absurd (cc)
         | stopped reason is answers none quiet told ↦ inl none
+        | condemned fault is finds none quiet told ↦ absurd (cc)
         | failed is fault quiet ↦ absurd (cc)
         | no_memory is want quiet ↦ want
       ]
@@ -348,6 +382,7 @@ module _ (words : List (List ℕ)) (held held' : Option Store) (old new : Histor
         | done is did quiet ↦ absurd (zero is)
         | cut_off is put none ↦ none
         | stopped reason is answers none quiet told ↦ none
+        | condemned fault is finds none quiet told ↦ none
         | failed is fault quiet ↦ absurd (four is)
         | no_memory is want quiet ↦ absurd (eight is)
       ]
@@ -358,6 +393,7 @@ module _ (words : List (List ℕ)) (held held' : Option Store) (old new : Histor
         | done is did quiet ↦ absurd (zero is)
         | cut_off is put none ↦ absurd (seven is)
         | stopped reason is answers none quiet told ↦ quiet
+        | condemned fault is finds none quiet told ↦ quiet
         | failed is fault quiet ↦ quiet
         | no_memory is want quiet ↦ quiet
       ]
@@ -368,6 +404,7 @@ module _ (words : List (List ℕ)) (held held' : Option Store) (old new : Histor
         | done is did quiet ↦ quiet
         | cut_off is put none ↦ absurd (cc)
         | stopped reason is answers none quiet told ↦ absurd (is_of_reason reason statuses.Done (sym zero ∙ is))
+        | condemned fault is finds none quiet told ↦ absurd (cc)
         | failed is fault quiet ↦ absurd (cc)
         | no_memory is want quiet ↦ absurd (cc)
       ]
@@ -384,8 +421,44 @@ module _ (words : List (List ℕ)) (held held' : Option Store) (old new : Histor
   printed_as m text s eq (done is did quiet) = let put = subst (λ a. IsDone a ws out out') eq (did m s) in inr (is, put.1)
   printed_as m text s eq (cut_off is put none) = inl (inr (inl is))
   printed_as m text s eq (stopped reason is answers none quiet told) = absurd (prints_not_stops text reason (sym eq ∙ answers m s))
+  printed_as m text s eq (condemned fault is finds none quiet told) = absurd (subst (λ a. Finds a (Some fault)) eq (finds m s))
   printed_as m text s eq (failed is fault quiet) = inl (inl is)
   printed_as m text s eq (no_memory is want quiet) = inl (inr (inr is))
 
   pub prints_clause : (m : Store) (text : List ℕ) → ShowAll m looks → answer_to words m ≡ prints text → PrintsText text out out' status
   prints_clause m text s eq = printed_as m text s eq came
+
+  -- ---- where a verdict is asked for
+
+  found_as : CameTo → status ≡ statuses.NotSound → (fault : Fault) × OverLooks looks (λ m. Finds (answer_to words m) (Some fault)) × Told (fault_text fault) err err'
+  found_as (condemned fault is finds none quiet told) nine = (fault, finds, told)
+  found_as (done is did quiet) nine = absurd (cc)
+  found_as (cut_off is put none) nine = absurd (cc)
+  found_as (stopped reason is answers none quiet told) nine = absurd (is_of_reason reason statuses.NotSound (sym nine ∙ is))
+  found_as (failed is fault quiet) nine = absurd (cc)
+  found_as (no_memory is want quiet) nine = absurd (cc)
+
+  pub found_clause : status ≡ statuses.NotSound → Answered words looks (FindsFault err err')
+  found_clause nine = let f = found_as came nine in λ m s. (f.0, f.1 m s, f.2)
+
+  pub sound_clause : VerifyTellsSound words looks status
+  sound_clause m image policy s asked zero = tells_sound m image policy ws out out' (subst (λ command. IsDone (answer_of m command) ws out out') asked (done_clause zero m s))
+
+  pub unsound_clause : VerifyTellsFault words looks err err' status
+  unsound_clause m image policy s asked nine =
+      let f = found_as came nine in
+      (f.0, tells_fault m image policy f.0 (subst (λ command. Finds (answer_of m command) (Some f.0)) asked (f.1 m s)), f.2)
+
+  accepts_as : (m : Store) (image policy : List ℕ) (p : Source) → ShowAll m looks → command_of words ≡ Some (verify image policy) → HoldsPolicy m policy p → HoldsBuilt m image p m → CameTo → PrintsText sound_text out out' status
+  accepts_as m image policy p s asked accepted built (done is did quiet) =
+      let d = subst (λ a. IsDone a ws out out') (ap (answer_of m) asked ∙ built_judged m image policy p accepted built) (did m s) in inr (is, d.2)
+  accepts_as m image policy p s asked accepted built (cut_off is put none) = inl (inr (inl is))
+  accepts_as m image policy p s asked accepted built (stopped reason is answers none quiet told) =
+      absurd (judges_not_stops p m built.bytes built.built.parts reason (sym (ap (answer_of m) asked ∙ built_judged m image policy p accepted built) ∙ answers m s))
+  accepts_as m image policy p s asked accepted built (condemned fault is finds none quiet told) =
+      absurd (no_fault m image policy p accepted built fault (subst (λ command. Finds (answer_of m command) (Some fault)) asked (finds m s)))
+  accepts_as m image policy p s asked accepted built (failed is fault quiet) = inl (inl is)
+  accepts_as m image policy p s asked accepted built (no_memory is want quiet) = inl (inr (inr is))
+
+  pub accepts_clause : VerifyAcceptsBuilt words looks out out' status
+  accepts_clause m image policy p s asked accepted built = accepts_as m image policy p s asked accepted built came

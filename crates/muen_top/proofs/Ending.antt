@@ -13,11 +13,11 @@ use Rattle.muen_top.specs.Runs.{RunsTo}
 use Rattle.muen_top.specs.declared.outcome.Outcome.{Outcome}
 use Rattle.muen_top.specs.declared.outcome.Outcome.TheVariants.{Done, Stopped, OutputFault}
 use Rattle.muen_top.specs.declared.outcome.CommandError.{CommandError}
-use Rattle.muen_top.specs.declared.outcome.CommandError.TheVariants.{Usage, Missing, TooLong, Refused, ImageRefused, DmaRefused, RecordRefused, FileFault, NoMemory}
+use Rattle.muen_top.specs.declared.outcome.CommandError.TheVariants.{Usage, Missing, TooLong, Refused, ImageRefused, DmaRefused, RecordRefused, NotSound, FileFault, NoMemory}
 
 -- ---- what was done with files
 
-looked_alone : (old new : History) (looks : List Look) → new ≡ looked old looks → new ≡ went old looks []
+pub looked_alone : (old new : History) (looks : List Look) → new ≡ looked old looks → new ≡ went old looks []
 looked_alone old new looks is = is ∙ ap (λ ws. record { looks = old.looks ++ looks; writes = ws }) (sym (append-nil old.writes))
 
 pub looked_written : (old mid new : History) (looks : List Look) (ws : List Write) → mid ≡ looked old looks → new ≡ written mid ws → new ≡ went old looks ws
@@ -36,6 +36,7 @@ of_text answer looks out out' text is (Stopped (Refused r)) put = absurd put.0
 of_text answer looks out out' text is (Stopped (ImageRefused f)) put = absurd put.0
 of_text answer looks out out' text is (Stopped (DmaRefused f)) put = absurd put.0
 of_text answer looks out out' text is (Stopped (RecordRefused f)) put = absurd put.0
+of_text answer looks out out' text is (Stopped (NotSound f)) put = absurd put.0
 of_text answer looks out out' text is (Stopped FileFault) put = absurd put.0
 
 module _ (command : Command) (held held' : Option Store) (old new : History) (same : held' ≡ held) (out out' : SinkState) where

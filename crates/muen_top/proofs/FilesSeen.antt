@@ -20,7 +20,7 @@ use Rattle.muen_top.specs.Asked.{IsAtMost}
 use Rattle.muen_top.specs.FilesSeen.{OverLooks, Saw, SawAfter, known, not_copied, unknown}
 use Rattle.muen_top.specs.Loads.{AreKnown, GivesNone, IsKnown, NotRead, NotReadAfter, NotWithin, policy_looks}
 use Rattle.muen_top.specs.declared.outcome.CommandError.{CommandError}
-use Rattle.muen_top.specs.declared.outcome.CommandError.TheVariants.{Usage, Missing, TooLong, Refused, ImageRefused, DmaRefused, RecordRefused, FileFault, NoMemory}
+use Rattle.muen_top.specs.declared.outcome.CommandError.TheVariants.{Usage, Missing, TooLong, Refused, ImageRefused, DmaRefused, RecordRefused, NotSound, FileFault, NoMemory}
 
 -- ---- one look
 
@@ -117,6 +117,7 @@ gives_none name P Q f (Refused r) h = absurd h
 gives_none name P Q f (ImageRefused r) h = absurd h
 gives_none name P Q f (DmaRefused r) h = absurd h
 gives_none name P Q f (RecordRefused r) h = absurd h
+gives_none name P Q f (NotSound f) h = absurd h
 
 module _ (looks : List Look) (name : List ℕ) (most : ℕ) (held : Option Store) where
   -- of a name at which nothing was looked
@@ -135,6 +136,7 @@ module _ (looks : List Look) (name : List ℕ) (most : ℕ) (held : Option Store
   not_within h bytes there (ImageRefused f) x = absurd x
   not_within h bytes there (DmaRefused f) x = absurd x
   not_within h bytes there (RecordRefused r) x = absurd x
+  not_within h bytes there (NotSound f) x = absurd x
 
   -- of one of which they show it: a copy of that was read
   pub copy_known : (bytes copied : List ℕ) → whole copied ≡ whole bytes → OverLooks looks (λ m. get m name ≡ Some bytes) → OverLooks looks (λ m. get m name ≡ Some copied)

@@ -12,16 +12,20 @@ use Rattle.policy_types.specs.declared.refusal.Refusal.TheVariants.{NotJson, Sha
 use Rattle.policy_types.specs.declared.source.Source.{Source}
 use Rattle.record_text.specs.declared.fault.RecordFault.{RecordFault}
 use Rattle.record_text.specs.declared.fault.RecordFault.TheVariants.{NoMemory as NoMemoryForRecord}
-use Rattle.muen_top.specs.Answers.{Answer, stops, missing, too_long, refused, record_refused, of_file, answer_of}
+use Rattle.muen_top.specs.Answers.{Answer, stops, missing, too_long, refused, image_refused, record_refused, of_file, answer_of}
 use Rattle.muen_top.specs.Asked.{Asks, AsksFirst, GoesOn}
 use Rattle.muen_top.specs.Calls.{StopsFor}
 use Rattle.muen_top.specs.Commands.{Command}
 use Rattle.muen_top.specs.FilesSeen.{OverLooks, Saw}
 use Rattle.muen_top.specs.Loads.{GivesNone, NotRead}
 use Rattle.muen_top.specs.PolicyCommands.{HasRead, IsAnswered, StopsCommand}
-use Rattle.muen_top.specs.CommandErrors.{error_of_record_fault, error_of_refusal}
+use Rattle.binary_form.specs.Faults.{Tells, unpacked}
+use Rattle.binary_form.specs.declared.fault.ImageFault.{ImageFault}
+use Rattle.binary_form.specs.declared.fault.ImageFault.TheVariants.{Short, Bad, Trailing, NoMemory as NoMemoryForImage}
+use Rattle.image_pack.specs.Image.{image as image_form}
+use Rattle.muen_top.specs.CommandErrors.{error_of_image_fault, error_of_record_fault, error_of_refusal}
 use Rattle.muen_top.specs.declared.outcome.CommandError.{CommandError}
-use Rattle.muen_top.specs.declared.outcome.CommandError.TheVariants.{Usage, Missing, TooLong, Refused, ImageRefused, DmaRefused, RecordRefused, FileFault, NoMemory}
+use Rattle.muen_top.specs.declared.outcome.CommandError.TheVariants.{Usage, Missing, TooLong, Refused, ImageRefused, DmaRefused, RecordRefused, NotSound, FileFault, NoMemory}
 use Rattle.muen_top.proofs.FilesSeen.{gives_none}
 
 -- ---- a read that gives no bytes stops a command
@@ -72,6 +76,7 @@ module _ (command : Command) (held : Option Store) (old new : History) (name : L
   stopped_by (ImageRefused f) h = absurd h
   stopped_by (DmaRefused f) h = absurd h
   stopped_by (RecordRefused r) h = absurd h
+  stopped_by (NotSound f) h = absurd h
 
 -- ---- a policy that is refused stops it
 
@@ -168,3 +173,18 @@ module _ (most : ℕ) (name : List ℕ) (next : Store → List ℕ → Answer) (
       pub policy_refused : (wanted : Result Source Refusal) (r : Refusal) (error : CommandError) → Answers NoMemoryFor wanted (Err r) → (wanted ≡ Err r → (m : Store) → next m bytes ≡ stops (refused r)) → error ≡ error_of_refusal r → StopsCommand command held old new error
       policy_refused wanted r error h so made =
           stops_alone error (stops_refused (λ m. answer_of m (Some command)) (look name most (Ok (whole bytes)) ∷ []) r error (either wanted r h so) made)
+
+      -- the image in it is refused
+      module _ (so : (fault : ImageFault) → unpacked image_form bytes ≡ Err fault → (m : Store) → next m bytes ≡ stops (image_refused fault)) where
+        fault_says : (fault : ImageFault) → unpacked image_form bytes ≡ Err fault → OverLooks (look name most (Ok (whole bytes)) ∷ []) (λ m. answer_of m (Some command) ≡ stops (image_refused fault))
+        fault_says fault e m s = by_reading m (whole bytes) s.0 ∙ so fault e m
+
+        of_image_fault : (fault : ImageFault) → Tells (unpacked image_form bytes) (Err fault) → StopsFor (λ m. answer_of m (Some command)) (look name most (Ok (whole bytes)) ∷ []) [] (error_of_image_fault fault)
+        of_image_fault NoMemoryForImage h = inl refl
+        of_image_fault (Short at) h = (fault_says (Short at) h, refl)
+        of_image_fault (Bad at field) h = (fault_says (Bad at field) h, refl)
+        of_image_fault (Trailing at) h = (fault_says (Trailing at) h, refl)
+
+        pub image_refused_by : (fault : ImageFault) (error : CommandError) → Tells (unpacked image_form bytes) (Err fault) → error ≡ error_of_image_fault fault → StopsCommand command held old new error
+        image_refused_by fault error h made =
+            stops_alone error (subst (StopsFor (λ m. answer_of m (Some command)) (look name most (Ok (whole bytes)) ∷ []) []) (sym made) (of_image_fault fault h))

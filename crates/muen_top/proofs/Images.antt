@@ -32,7 +32,7 @@ use Rattle.muen_top.specs.Tables.{IsTablesFor}
 use Rattle.muen_top.specs.declared.outcome.Outcome.{Outcome}
 use Rattle.muen_top.specs.declared.outcome.Outcome.TheVariants.{Done, Stopped, OutputFault}
 use Rattle.muen_top.specs.declared.outcome.CommandError.{CommandError}
-use Rattle.muen_top.specs.declared.outcome.CommandError.TheVariants.{Usage, Missing, TooLong, Refused, ImageRefused, DmaRefused, RecordRefused, FileFault, NoMemory}
+use Rattle.muen_top.specs.declared.outcome.CommandError.TheVariants.{Usage, Missing, TooLong, Refused, ImageRefused, DmaRefused, RecordRefused, NotSound, FileFault, NoMemory}
 use Rattle.muen_top.proofs.Ending.{looked_written}
 use Rattle.muen_top.proofs.FilesSeen.{saw_contents}
 use Rattle.muen_top.proofs.FirstFile.{AsksOn, RestsOn, fault_after, not_read, stops_refused}
@@ -76,7 +76,7 @@ module _ (policy : List ℕ) (held held' : Option Store) (old between new : Hist
     refused_so looks r refuses m s =
         by_document m policy image dma document (Err r) s.0 (subst (λ k. accepted_policy_of k document ≡ Err r) (with_document m policy document s.0) (refuses m s.1))
 
-    fails_so : (looks : List Look) (build_error : BuildError) (error : CommandError) → ErrorSays policy document (RefusesDocument document) looks build_error → error ≡ error_of_build build_error → Stops looks error
+    fails_so : (looks : List Look) (build_error : BuildError) (error : CommandError) → ErrorSays ((policy, document) ∷ []) (RefusesDocument document) looks build_error → error ≡ error_of_build build_error → Stops looks error
     fails_so looks (RefusedPolicy r) error (inl is) made = stops_refused (λ m. build_answer m policy image dma) (document_look policy document ∷ looks) r error (inl is) made
     fails_so looks (RefusedPolicy r) error (inr h) made = stops_refused (λ m. build_answer m policy image dma) (document_look policy document ∷ looks) r error (inr (refused_so looks r h)) made
     fails_so looks FaultOfFiles error h made = subst (Stops looks) (sym made) (inl (fault_after (document_look policy document) looks h, refl))

@@ -28,7 +28,7 @@ use Rattle.muen_top.specs.declared.limits.TheConstants.{DMA_MOST}
 use Rattle.muen_top.specs.declared.outcome.CommandError.{CommandError}
 use Rattle.muen_top.specs.declared.run.TablesRead.{TablesRead}
 use Rattle.muen_top.proofs.FilesSeen.{SeenAfter, first_known, gives_none, known_too, seen_after}
-use Rattle.muen_top.proofs.FirstFile.{AsksOn, RestsOn, SaysOf, not_read, says_of, stopped_by, stops_alone}
+use Rattle.muen_top.proofs.FirstFile.{AsksOn, RestsOn, SaysOf, image_refused_by, not_read, says_of, stopped_by}
 
 -- ---- the answer
 
@@ -64,20 +64,10 @@ module _ (image : List ℕ) (held : Option Store) (old mid : History) (bytes : L
   abbrev first : List Look
   first = look image IMAGE_MOST (Ok (whole bytes)) ∷ []
 
-  module _ (name : List ℕ) (dma : Option (List ℕ)) where
-    fault_says : (fault : ImageFault) → unpacked image_form bytes ≡ Err fault → OverLooks first (λ m. run_answer m image name dma ≡ stops (image_refused fault))
-    fault_says fault is m s = by_image m image name dma bytes (Err fault) s.0 is
-
-    of_image_fault : (fault : ImageFault) → Tells (unpacked image_form bytes) (Err fault) → StopsFor (λ m. run_answer m image name dma) first [] (error_of_image_fault fault)
-    of_image_fault NoMemoryForImage h = inl refl
-    of_image_fault (Short at) h = (fault_says (Short at) h, refl)
-    of_image_fault (Bad at field) h = (fault_says (Bad at field) h, refl)
-    of_image_fault (Trailing at) h = (fault_says (Trailing at) h, refl)
-
-    pub image_refused_so : (fault : ImageFault) (error : CommandError) → Tells (unpacked image_form bytes) (Err fault) → error ≡ error_of_image_fault fault → StopsCommand (run image name dma) held old mid error
-    image_refused_so fault error h made =
-        stops_alone IMAGE_MOST image (run_next name dma) (AsksRecord image name dma) (run image name dma) (rests image name dma) (asks image name dma) held old mid bytes saw error
-        (subst (StopsFor (λ m. run_answer m image name dma) first []) (sym made) (of_image_fault fault h))
+  pub image_refused_so : (name : List ℕ) (dma : Option (List ℕ)) (fault : ImageFault) (error : CommandError) → Tells (unpacked image_form bytes) (Err fault) → error ≡ error_of_image_fault fault → StopsCommand (run image name dma) held old mid error
+  unfolding run_next
+  image_refused_so name dma fault error h made =
+      image_refused_by IMAGE_MOST image (run_next name dma) (AsksRecord image name dma) (run image name dma) (rests image name dma) (asks image name dma) held old mid bytes saw (λ fault e m. ap (unpacked_answer m name dma) e) fault error h made
 
   -- ---- the tables' file, where the image is one
 

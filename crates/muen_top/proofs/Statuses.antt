@@ -5,7 +5,7 @@ use Rattle.policy_types.specs.declared.refusal.Refusal.TheVariants.{NotJson, Sha
 use Rattle.muen_top.specs.Answers.{Reason, usage, missing, too_long, refused, image_refused, dma_refused, record_refused}
 use Rattle.muen_top.specs.Reports.{refusal_status, reason_status}
 use Rattle.muen_top.specs.declared.status.Status.{Status}
-use Rattle.muen_top.specs.declared.status.Status.TheVariants.{Done, Usage, PolicyRefused, FileMissing, FileFault, ImageRefused, RecordRefused, OutputFault, NoMemory, DmaRefused}
+use Rattle.muen_top.specs.declared.status.Status.TheVariants.{Done, Usage, PolicyRefused, FileMissing, FileFault, ImageRefused, RecordRefused, OutputFault, NoMemory, NotSound, DmaRefused}
 
 -- those of a refusal
 abbrev pub OfRefusal : Status → Type 0
@@ -27,11 +27,12 @@ refusal_statuses NoMemoryFor = tt
 pub is_of_refusal : (r : Refusal) (status : Status) → refusal_status r ≡ status → OfRefusal status
 is_of_refusal r status is = subst OfRefusal is (refusal_statuses r)
 
--- those of a reason: none that tells what is done, or of a fault
+-- those of a reason: none that tells what is done, of a fault, or of a verdict
 abbrev pub OfReason : Status → Type 0
 OfReason Done = ⊥
 OfReason FileFault = ⊥
 OfReason OutputFault = ⊥
+OfReason NotSound = ⊥
 OfReason _ = Unit {0}
 
 of_refusal : (status : Status) → OfRefusal status → OfReason status
@@ -44,6 +45,7 @@ of_refusal FileFault h = h
 of_refusal ImageRefused h = tt
 of_refusal RecordRefused h = tt
 of_refusal OutputFault h = h
+of_refusal NotSound h = h
 of_refusal DmaRefused h = tt
 
 reason_statuses : (reason : Reason) → OfReason (reason_status reason)

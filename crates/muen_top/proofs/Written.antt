@@ -15,7 +15,7 @@ use Rattle.policy_types.specs.declared.refusal.Refusal.{Refusal}
 use Rattle.policy_types.specs.declared.source.Source.{Source}
 use Rattle.muen_top.specs.Answers.{answer_of, build_answer, image_answer, of_file}
 use Rattle.muen_top.specs.Calls.{IsDone}
-use Rattle.muen_top.specs.Commands.{build, boot, run, map, flows, command_of}
+use Rattle.muen_top.specs.Commands.{build, boot, run, map, flows, verify, command_of}
 use Rattle.muen_top.specs.Headline.{HoldsBuilt, HoldsPolicy, HoldsWanted, WritesBuilt, after_writes}
 use Rattle.muen_top.specs.Images.{IsLast, Wrote, image_last, tables_last}
 use Rattle.muen_top.specs.Tables.{HoldsTablesFor, IsTablesFor}
@@ -35,12 +35,13 @@ differ_so same true policy image name a b c e false h = absurd (cc (h))
 differ_so same false policy image name a b c e false h = absurd (cc (h))
 
 -- words of another count ask for no tables
-three_so : (is_build is_boot is_run : Bool) (policy image name a b : List ℕ)
-    → (if is_build then Some (build a b None) else (if is_boot then Some (boot a b) else (if is_run then Some (run a b None) else None))) ≡ Some (build policy image (Some name)) → ⊥
-three_so true is_boot is_run policy image name a b h = cc (h)
-three_so false true is_run policy image name a b h = cc (h)
-three_so false false true policy image name a b h = cc (h)
-three_so false false false policy image name a b h = cc (h)
+three_so : (is_build is_boot is_run is_verify : Bool) (policy image name a b : List ℕ)
+    → (if is_build then Some (build a b None) else (if is_boot then Some (boot a b) else (if is_run then Some (run a b None) else (if is_verify then Some (verify a b) else None)))) ≡ Some (build policy image (Some name)) → ⊥
+three_so true is_boot is_run is_verify policy image name a b h = cc (h)
+three_so false true is_run is_verify policy image name a b h = cc (h)
+three_so false false true is_verify policy image name a b h = cc (h)
+three_so false false false true policy image name a b h = cc (h)
+three_so false false false false policy image name a b h = cc (h)
 
 two_so : (is_map is_flows : Bool) (policy image name a : List ℕ) → (if is_map then Some (map a) else (if is_flows then Some (flows a) else None)) ≡ Some (build policy image (Some name)) → ⊥
 two_so true is_flows policy image name a h = cc (h)
@@ -51,7 +52,7 @@ pub differ : (words : List (List ℕ)) (policy image name : List ℕ) → comman
 differ [] policy image name h = absurd (cc (h))
 differ (word ∷ []) policy image name h = absurd (cc (h))
 differ (word ∷ a ∷ []) policy image name h = absurd (two_so (bytes_eq word (codes "map")) (bytes_eq word (codes "flows")) policy image name a h)
-differ (word ∷ a ∷ b ∷ []) policy image name h = absurd (three_so (bytes_eq word (codes "build")) (bytes_eq word (codes "boot")) (bytes_eq word (codes "run")) policy image name a b h)
+differ (word ∷ a ∷ b ∷ []) policy image name h = absurd (three_so (bytes_eq word (codes "build")) (bytes_eq word (codes "boot")) (bytes_eq word (codes "run")) (bytes_eq word (codes "verify")) policy image name a b h)
 differ (word ∷ a ∷ b ∷ c ∷ []) policy image name h = differ_so (bytes_eq b c) (bytes_eq word (codes "run")) policy image name a b c refl (bytes_eq word (codes "build")) h
 differ (word ∷ a ∷ b ∷ c ∷ d ∷ rest) policy image name h = absurd (cc (h))
 

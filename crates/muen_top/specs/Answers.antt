@@ -17,10 +17,10 @@ use Rattle.policy_types.specs.declared.source.Source.{Source}
 use Rattle.record_text.specs.DeviceRecord.{DeviceRecord}
 use Rattle.subject_model.specs.Trace.{trace_of}
 use Rattle.muen_run.specs.RunText.{run_text}
-use Rattle.muen_top.specs.Commands.{Command, build, boot, run, map, flows}
+use Rattle.muen_top.specs.Commands.{Command, build, boot, run, map, flows, verify}
 use Rattle.record_text.specs.Reading.{record_of}
 use Rattle.image_soundness.specs.Bench.{devices_of}
-use Rattle.muen_build.specs.Refusals.{accepted_policy_of, laid_policy_of, lawful_policy_of}
+use Rattle.muen_build.specs.Refusals.{accepted_policy_of, fitting_policy_of, laid_policy_of, lawful_policy_of}
 use Rattle.binary_form.specs.declared.fault.ImageFault.{ImageFault}
 use Rattle.record_text.specs.declared.fault.RecordFault.{RecordFault}
 use Rattle.muen_top.specs.declared.limits.TheConstants.{DMA_MOST}
@@ -48,6 +48,8 @@ pub data Answer : Type 0 where
   -- an image that is sound for this policy over these files is written under this name and, where there is another, the tables of
   -- the policy's domains of devices under that one; nothing is printed
   writes : List ℕ → Option (List ℕ) → Source → Held → Answer
+  -- the verdict on the image of these bytes, for this policy over these files: where it has no fault, that it is sound is printed
+  judges : Source → Held → List ℕ → Image → Answer
   -- nothing is printed, for this reason
   stops : Reason → Answer
 
@@ -131,6 +133,24 @@ flows_policy_answer (Err refusal) = stops (refused refusal)
 unfoldable pub flows_answer : Held → List ℕ → Answer
 flows_answer files policy = of_file policy (λ bytes. flows_policy_answer (lawful_policy_of bytes)) (reading_of (get files policy) POLICY_MOST)
 
+-- ---- `verify`: the image's file, the image, the policy's file, the policy with its contents, the verdict
+
+abbrev pub judged_answer : Held → List ℕ → Image → Result Source Refusal → Answer
+judged_answer files bytes i (Ok p) = judges p files bytes i
+judged_answer files bytes i (Err refusal) = stops (refused refusal)
+
+abbrev pub document_answer : Held → List ℕ → List ℕ → Image → Answer
+document_answer files policy bytes i =
+    of_file policy (λ document. judged_answer files bytes i (fitting_policy_of files document)) (reading_of (get files policy) POLICY_MOST)
+
+abbrev pub verified_answer : Held → List ℕ → List ℕ → Result Image ImageFault → Answer
+verified_answer files policy bytes (Ok i) = document_answer files policy bytes i
+verified_answer files policy bytes (Err fault) = stops (image_refused fault)
+
+unfoldable pub verify_answer : Held → List ℕ → List ℕ → Answer
+verify_answer files image policy =
+    of_file image (λ bytes. verified_answer files policy bytes (unpacked image_form bytes)) (reading_of (get files image) IMAGE_MOST)
+
 -- ---- every command
 
 -- the answer to these words' command
@@ -141,3 +161,4 @@ answer_of files (Some (boot policy name)) = boot_answer files policy name
 answer_of files (Some (run image name dma)) = run_answer files image name dma
 answer_of files (Some (map policy)) = map_answer files policy
 answer_of files (Some (flows policy)) = flows_answer files policy
+answer_of files (Some (verify image policy)) = verify_answer files image policy

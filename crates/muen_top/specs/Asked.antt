@@ -1,5 +1,6 @@
 -- Which files each command looks at, in which order and with which limits.
 use Rattle.std.specs.Prelude.{◌≡◌, ◌⊎◌, ℕ, List, [], ◌∷◌, ◌++◌, Option, Some, None, Result, Ok, Err}
+use Rattle.std.specs.FinMap.{get}
 use Rattle.std.specs.List.{All}
 use Rattle.binary_form.specs.Faults.{unpacked}
 use Rattle.dma_tables.specs.declared.file.DmaFile.{DmaFile}
@@ -12,7 +13,7 @@ use Rattle.muen_outside.specs.States.{Look, look}
 use Rattle.muen_outside.specs.Store.{Reading, whole, absent, long}
 use Rattle.muen_outside.specs.declared.files.FileError.{FileError}
 use Rattle.policy_types.specs.declared.source.Source.{Source}
-use Rattle.muen_top.specs.Commands.{Command, build, boot, run, map, flows}
+use Rattle.muen_top.specs.Commands.{Command, build, boot, run, map, flows, verify}
 use Rattle.muen_top.specs.FilesSeen.{OverLooks}
 use Rattle.muen_top.specs.Tables.{HoldsTables}
 use Rattle.muen_top.specs.declared.limits.TheConstants.{DMA_MOST}
@@ -74,6 +75,19 @@ pub record AsksBoth (policy inputs document : List ℕ) (more : List Look) : Typ
   pub contents : AsksContents document components
   pub inputs_last : AsksInputs policy inputs document components last
 
+-- after the look at an image: for a policy's document, and then component files that its contents name, where these looks give it
+pub record AsksVerified (policy : List ℕ) (first : Look) (more : List Look) : Type 0 where
+  pub middle : List Look
+  pub last : List Look
+  pub is : more ≡ middle ++ last
+  pub document_first : IsAtMost policy POLICY_MOST middle
+  pub contents_last : (last ≡ []) ⊎ ((document : List ℕ) × OverLooks (first ∷ middle) (λ m. get m policy ≡ Some document) × AsksContents document last)
+
+-- after the bytes of an image: those, where they are an image
+abbrev pub AsksPolicy : List ℕ → List ℕ → List ℕ → List Look → Type 0
+AsksPolicy image policy bytes more =
+    (more ≡ []) ⊎ ((i : Image) × (unpacked image_form bytes ≡ Ok i) × AsksVerified policy (look image IMAGE_MOST (Ok (whole bytes))) more)
+
 -- the looks of a command; those of words with no command's form are none
 abbrev pub Asks : Option Command → List Look → Type 0
 Asks None looks = looks ≡ []
@@ -82,3 +96,4 @@ Asks (Some (boot policy inputs)) looks = AsksFirst policy POLICY_MOST (AsksBoth 
 Asks (Some (run image inputs dma)) looks = AsksFirst image IMAGE_MOST (AsksRecord image inputs dma) looks
 Asks (Some (map policy)) looks = AsksFirst policy POLICY_MOST (λ document more. more ≡ []) looks
 Asks (Some (flows policy)) looks = AsksFirst policy POLICY_MOST (λ document more. more ≡ []) looks
+Asks (Some (verify image policy)) looks = AsksFirst image IMAGE_MOST (AsksPolicy image policy) looks

@@ -1,21 +1,24 @@
 -- How a command has ended, and why; and what is promised of a whole call.
-use Rattle.std.specs.Prelude.{◌≡◌, ◌⊎◌, ℕ, List, [], Option, IfSome, Ok, Err}
+use Rattle.std.specs.Prelude.{◌≡◌, ◌⊎◌, ℕ, List, [], Option, Some, None, IfSome, Ok, Err}
 use Rattle.muen_outside.specs.Looks.{AreSingle, EndsInFault, HeldAfter, ShowAll, looks_since, writes_since}
 use Rattle.muen_outside.specs.Puts.{Appended, Failed}
 use Rattle.muen_outside.specs.States.{History, Look, SinkState, Write, went}
 use Rattle.muen_outside.specs.Store.{Store}
 use Rattle.muen_outside.specs.declared.files.FileError.{FileError}
 use Rattle.muen_outside.specs.declared.files.FileError.TheVariants.{Failed as FileFailed, NoMemory as FileMemory}
-use Rattle.muen_top.specs.Answers.{Reason, usage, missing, too_long, refused, image_refused, dma_refused, record_refused, Answer, prints, writes, stops, answer_of}
+use Rattle.muen_top.specs.Answers.{Reason, usage, missing, too_long, refused, image_refused, dma_refused, record_refused, Answer, prints, writes, judges, stops, answer_of}
 use Rattle.muen_top.specs.Asked.{Asks}
 use Rattle.muen_top.specs.Commands.{Command, command_of}
 use Rattle.muen_top.specs.FilesSeen.{OverLooks}
 use Rattle.muen_top.specs.Images.{Wrote}
-use Rattle.muen_top.specs.Reports.{Ends, reason_text, refusal_status, status_of, Told, Reported}
+use Rattle.image_verify.specs.FaultText.{fault_text}
+use Rattle.image_verify.specs.declared.fault.Fault.{Fault}
+use Rattle.muen_top.specs.Reports.{Ends, reason_text, refusal_status, sound_text, status_of, Told, Reported}
+use Rattle.muen_top.specs.Verdicts.{Finds, HasVerdict}
 use Rattle.muen_top.specs.declared.outcome.Outcome.{Outcome}
 use Rattle.muen_top.specs.declared.outcome.Outcome.TheVariants.{Done, Stopped, OutputFault}
 use Rattle.muen_top.specs.declared.outcome.CommandError.{CommandError}
-use Rattle.muen_top.specs.declared.outcome.CommandError.TheVariants.{Usage, Missing, TooLong, Refused, ImageRefused, DmaRefused, RecordRefused, FileFault, NoMemory}
+use Rattle.muen_top.specs.declared.outcome.CommandError.TheVariants.{Usage, Missing, TooLong, Refused, ImageRefused, DmaRefused, RecordRefused, NotSound, FileFault, NoMemory}
 use Rattle.muen_top.specs.declared.status.Status.{Status}
 use Rattle.muen_top.specs.declared.status.Status.TheVariants as statuses
 
@@ -24,13 +27,15 @@ use Rattle.muen_top.specs.declared.status.Status.TheVariants as statuses
 -- a text is printed, and this holds of it
 abbrev pub Prints : Answer → (List ℕ → Type 0) → Type 0
 Prints (prints text) Holds = Holds text
+Prints (judges p files bytes i) Holds = HasVerdict p files bytes i None × Holds sound_text
 Prints _ Holds = ⊥
 
--- it is done as it is answered: the text is put and nothing written, or an image, and its tables where they are wanted, are
--- written and nothing put
+-- it is done as it is answered: the text is put and nothing written, as it is where a verdict has no fault; or an image, and its
+-- tables where they are wanted, are written and nothing put
 abbrev pub IsDone : Answer → List Write → SinkState → SinkState → Type 0
 IsDone (prints text) ws out out' = (ws ≡ []) × Appended text out out'
 IsDone (writes image tables p files) ws out out' = Wrote image tables p files (Ok tt) ws × (out' ≡ out)
+IsDone (judges p files bytes i) ws out out' = (ws ≡ []) × HasVerdict p files bytes i None × Appended sound_text out out'
 IsDone (stops reason) ws out out' = ⊥
 
 -- the last write, of an image or of its tables, has ended in this error
@@ -60,6 +65,7 @@ StopsFor answer looks ws (Refused refusal) = IsStopped answer looks ws (refused 
 StopsFor answer looks ws (ImageRefused fault) = IsStopped answer looks ws (image_refused fault)
 StopsFor answer looks ws (DmaRefused fault) = IsStopped answer looks ws (dma_refused fault)
 StopsFor answer looks ws (RecordRefused fault) = IsStopped answer looks ws (record_refused fault)
+StopsFor answer looks ws (NotSound fault) = OverLooks looks (λ m. Finds (answer m) (Some fault)) × (ws ≡ [])
 StopsFor answer looks ws FileFault = FaultOfFiles answer looks ws
 StopsFor answer looks ws NoMemory = WantOfMemory answer looks ws
 
@@ -143,3 +149,7 @@ RefusesDma err err' _ = ⊥
 abbrev pub RefusesRecord : SinkState → SinkState → Answer → Type 0
 RefusesRecord err err' (stops (record_refused fault)) = Told (reason_text (record_refused fault)) err err'
 RefusesRecord err err' _ = ⊥
+
+-- the verdict has this fault
+abbrev pub FindsFault : SinkState → SinkState → Answer → Type 0
+FindsFault err err' answer = (fault : Fault) × Finds answer (Some fault) × Told (fault_text fault) err err'

@@ -15,6 +15,8 @@ pub data Command : Type 0 where
   map : List ℕ → Command
   -- a policy, by the name of its file: on whom each subject can depend is printed
   flows : List ℕ → Command
+  -- an image and a policy, by the names of their files: whether the image is sound for the policy and its files is told
+  verify : List ℕ → List ℕ → Command
 
 -- the command that the words after the program's name ask for; none where they have no command's form
 abbrev pub command_of : List (List ℕ) → Option Command
@@ -25,7 +27,8 @@ command_of (word ∷ a ∷ []) =
 command_of (word ∷ a ∷ b ∷ []) =
     if bytes_eq word (codes "build") then Some (build a b None)
     else (if bytes_eq word (codes "boot") then Some (boot a b)
-    else (if bytes_eq word (codes "run") then Some (run a b None) else None))
+    else (if bytes_eq word (codes "run") then Some (run a b None)
+    else (if bytes_eq word (codes "verify") then Some (verify a b) else None)))
 command_of (word ∷ a ∷ b ∷ c ∷ []) =
     if bytes_eq word (codes "build") then (if bytes_eq b c then None else Some (build a b (Some c)))
     else (if bytes_eq word (codes "run") then Some (run a b (Some c)) else None)

@@ -7,7 +7,10 @@ use Rattle.image_soundness.specs.Sound.{IsSound}
 use Rattle.image_pack.specs.Parts.{IsImage}
 use Rattle.image_pack.specs.declared.parts.Image.{Image}
 use Rattle.muen_build.specs.ImageFor.{IsImageFor}
-use Rattle.muen_build.specs.Refusals.{accepted_policy_of}
+use Rattle.image_verify.specs.FaultText.{fault_text}
+use Rattle.image_verify.specs.Verdict.{IsTwice}
+use Rattle.image_verify.specs.declared.fault.Fault.{Fault}
+use Rattle.muen_build.specs.Refusals.{accepted_policy_of, fitting_policy_of}
 use Rattle.muen_num.specs.declared.limits.TheConstants.{IMAGE_MOST, POLICY_MOST, RECORD_MOST}
 use Rattle.muen_outside.specs.Looks.{ShowAll}
 use Rattle.muen_outside.specs.Puts.{Appended}
@@ -20,7 +23,9 @@ use Rattle.record_text.specs.DeviceRecord.{DeviceRecord}
 use Rattle.record_text.specs.Reading.{record_of}
 use Rattle.subject_model.specs.Trace.{trace_of}
 use Rattle.muen_top.specs.Calls.{IsFault}
-use Rattle.muen_top.specs.Commands.{boot, build, run, command_of}
+use Rattle.muen_top.specs.Commands.{boot, build, run, verify, command_of}
+use Rattle.muen_top.specs.Reports.{Told, sound_text}
+use Rattle.muen_top.specs.Verdicts.{HasVerdict}
 use Rattle.muen_top.specs.Images.{Wrote}
 use Rattle.muen_top.specs.Tables.{HoldsTables, HoldsTablesFor}
 use Rattle.muen_top.specs.declared.status.Status.{Status}
@@ -31,6 +36,12 @@ pub record HoldsPolicy (m : Store) (name : List ℕ) (p : Source) : Type 0 where
   pub document : List ℕ
   pub read : reading_of (get m name) POLICY_MOST ≡ whole document
   pub accepted : accepted_policy_of m document ≡ Ok p
+
+-- .. a policy's document, which keeps every rule and whose contents fit over it, whether there is room for its regions or not
+pub record HoldsFitting (m : Store) (name : List ℕ) (p : Source) : Type 0 where
+  pub document : List ℕ
+  pub read : reading_of (get m name) POLICY_MOST ≡ whole document
+  pub fits : fitting_policy_of m document ≡ Ok p
 
 -- .. an image that is sound for this policy over files that hold this
 pub record HoldsSound (m : Store) (name : List ℕ) (p : Source) (files : Held) : Type 0 where
@@ -91,6 +102,23 @@ pub record HoldsWritten (m : Store) (policy image : List ℕ) (dma : Option (Lis
   pub written : HoldsBuilt new image p m
   pub tables : HoldsWanted new p dma
 
+-- the store holds a policy under the one name, and an image that is sound for it and the store's files under the other: so a `run`
+-- of the image prints the text of the policy's system
+pub record TellsSound (m : Store) (image policy : List ℕ) : Type 0 where
+  pub p : Source
+  pub fits : HoldsFitting m policy p
+  pub sound : HoldsSound m image p m
+
+-- .. and an image that has this fault: so it isn't sound, unless a table is read on two paths
+pub record TellsFault (m : Store) (image policy : List ℕ) (fault : Fault) : Type 0 where
+  pub p : Source
+  pub bytes : List ℕ
+  pub parts : Image
+  pub fits : HoldsFitting m policy p
+  pub read : reading_of (get m image) IMAGE_MOST ≡ whole bytes
+  pub verdict : HasVerdict p m bytes parts (Some fault)
+  pub unsound : IsSound p m parts → IsTwice fault
+
 -- a text is put, and the status is 0, but for a fault of files or of the output, or want of memory
 abbrev pub PrintsText : List ℕ → SinkState → SinkState → Status → Type 0
 PrintsText text out out' status = IsFault status ⊎ ((status ≡ statuses.Done) × Appended text out out')
@@ -134,6 +162,23 @@ abbrev pub BuildWritesImage : List (List ℕ) → List Look → List Write → S
 BuildWritesImage words looks ws status =
     (m : Store) (policy image : List ℕ) (dma : Option (List ℕ)) → ShowAll m looks → command_of words ≡ Some (build policy image dma) → status ≡ statuses.Done
     → WritesBuilt m policy image dma ws
+
+-- `verify`, where the status is 0
+abbrev pub VerifyTellsSound : List (List ℕ) → List Look → Status → Type 0
+VerifyTellsSound words looks status =
+    (m : Store) (image policy : List ℕ) → ShowAll m looks → command_of words ≡ Some (verify image policy) → status ≡ statuses.Done → TellsSound m image policy
+
+-- .. where it is 9, with the line of the fault
+abbrev pub VerifyTellsFault : List (List ℕ) → List Look → SinkState → SinkState → Status → Type 0
+VerifyTellsFault words looks err err' status =
+    (m : Store) (image policy : List ℕ) → ShowAll m looks → command_of words ≡ Some (verify image policy) → status ≡ statuses.NotSound
+    → (fault : Fault) × TellsFault m image policy fault × Told (fault_text fault) err err'
+
+-- .. where the store holds the image that `build` has written for the policy, and files that hold the same
+abbrev pub VerifyAcceptsBuilt : List (List ℕ) → List Look → SinkState → SinkState → Status → Type 0
+VerifyAcceptsBuilt words looks out out' status =
+    (m : Store) (image policy : List ℕ) (p : Source) → ShowAll m looks → command_of words ≡ Some (verify image policy) → HoldsPolicy m policy p → HoldsBuilt m image p m
+    → PrintsText sound_text out out' status
 
 -- ---- over what files tell that they hold
 

@@ -14,3 +14,5 @@ pub mod Reports
 pub mod Runs
 pub mod Statuses
 pub mod Tables
+pub mod Verdicts
+pub mod Verifying

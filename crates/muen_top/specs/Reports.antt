@@ -1,18 +1,21 @@
 -- The line that tells how a call ended, and its status (this project's own).
-use Rattle.std.specs.Prelude.{◌≡◌, ℕ, List, ◌++◌, ◌⊎◌, codes, decimal}
+use Rattle.std.specs.Prelude.{◌≡◌, ℕ, List, ◌++◌, ◌⊎◌, Some, None, codes, decimal}
 use Rattle.muen_outside.specs.States.{SinkState}
 use Rattle.muen_outside.specs.Puts.{Appended, Failed}
 use Rattle.binary_form.specs.FaultText.{image_fault_text}
 use Rattle.dma_tables.specs.DmaFaultText.{dma_fault_text}
+use Rattle.image_verify.specs.FaultText.{fault_text}
+use Rattle.image_verify.specs.declared.fault.Fault.{Fault}
 use Rattle.policy_types.specs.Refusals.{refusal_text}
 use Rattle.policy_types.specs.declared.refusal.Refusal.{Refusal}
 use Rattle.policy_types.specs.declared.refusal.Refusal.TheVariants.{NotJson, Shape, Rule, Missing as MissingFile, TooLong as TooLongFile, FileFit, NoRoom, NoMemory as NoMemoryFor}
-use Rattle.muen_top.specs.Answers.{Reason, usage, missing, too_long, refused, image_refused, dma_refused, record_refused, Answer, prints, writes, stops}
+use Rattle.muen_top.specs.Answers.{Reason, usage, missing, too_long, refused, image_refused, dma_refused, record_refused, Answer, prints, writes, judges, stops}
 use Rattle.record_text.specs.FaultTexts.{record_fault_text}
+use Rattle.muen_top.specs.Verdicts.{HasVerdict}
 use Rattle.muen_top.specs.declared.outcome.Outcome.{Outcome}
 use Rattle.muen_top.specs.declared.outcome.Outcome.TheVariants.{Done, Stopped, OutputFault}
 use Rattle.muen_top.specs.declared.outcome.CommandError.{CommandError}
-use Rattle.muen_top.specs.declared.outcome.CommandError.TheVariants.{Usage, Missing, TooLong, Refused, ImageRefused, DmaRefused, RecordRefused, FileFault, NoMemory}
+use Rattle.muen_top.specs.declared.outcome.CommandError.TheVariants.{Usage, Missing, TooLong, Refused, ImageRefused, DmaRefused, RecordRefused, NotSound, FileFault, NoMemory}
 use Rattle.muen_top.specs.declared.status.Status.{Status}
 use Rattle.muen_top.specs.declared.status.Status.TheVariants as statuses
 
@@ -26,6 +29,10 @@ missing_text name = codes "missing file " ++ name
 
 abbrev pub too_long_text : List ℕ → ℕ → List ℕ
 too_long_text name n = codes "file " ++ (name ++ (codes " has " ++ (decimal n ++ codes " bytes")))
+
+-- what is printed of an image without a fault
+abbrev pub sound_text : List ℕ
+sound_text = codes "sound\n"
 
 abbrev pub reason_text : Reason → List ℕ
 reason_text usage = usage_text
@@ -71,6 +78,9 @@ Told text old new = Appended (line_of text) old new ⊎ Failed (line_of text) ol
 abbrev pub Ends : Answer → SinkState → SinkState → Status → Type 0
 Ends (prints text) err err' status = (status ≡ statuses.Done) × (err' ≡ err)
 Ends (writes image tables p files) err err' status = (status ≡ statuses.Done) × (err' ≡ err)
+Ends (judges p files bytes i) err err' status =
+    (HasVerdict p files bytes i None × (status ≡ statuses.Done) × (err' ≡ err))
+    ⊎ ((fault : Fault) × HasVerdict p files bytes i (Some fault) × (status ≡ statuses.NotSound) × Told (fault_text fault) err err')
 Ends (stops reason) err err' status = (status ≡ reason_status reason) × Told (reason_text reason) err err'
 
 -- ---- of the outcome of a command
@@ -83,6 +93,7 @@ error_text (Refused refusal) = refusal_text refusal
 error_text (ImageRefused fault) = image_fault_text fault
 error_text (DmaRefused fault) = dma_fault_text fault
 error_text (RecordRefused fault) = record_fault_text fault
+error_text (NotSound fault) = fault_text fault
 error_text FileFault = codes "file fault"
 error_text NoMemory = codes "out of memory"
 
@@ -94,6 +105,7 @@ error_status (Refused refusal) = refusal_status refusal
 error_status (ImageRefused fault) = statuses.ImageRefused
 error_status (DmaRefused fault) = statuses.DmaRefused
 error_status (RecordRefused fault) = statuses.RecordRefused
+error_status (NotSound fault) = statuses.NotSound
 error_status FileFault = statuses.FileFault
 error_status NoMemory = statuses.NoMemory
 

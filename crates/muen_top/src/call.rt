@@ -11,6 +11,7 @@ use crate::policy_commands;
 use crate::report::{report, status};
 use crate::run::run;
 use crate::status::Status;
+use crate::verify::verify;
 use muen_outside::{Files, Sink};
 use std::alloc::Global;
 
@@ -40,6 +41,7 @@ fn work<'a, F: Files, S: Sink>(
         } => run(alloc, image, inputs, tables, files, out),
         Command::Map(policy) => policy_commands::map(alloc, policy, files, out),
         Command::Flows(policy) => policy_commands::flows(alloc, policy, files, out),
+        Command::Verify { image, policy } => verify(alloc, image, policy, files, out),
     }
 }
 

@@ -31,6 +31,11 @@ pub(crate) enum Command<'a> {
     Map(&'a str),
     /// On whom each subject of a policy can depend is printed.
     Flows(&'a str),
+    /// Whether an image is sound for a policy is told, both by the names of their files.
+    Verify {
+        image: &'a str,
+        policy: &'a str,
+    },
 }
 
 impl<'a> Command<'a> {
@@ -69,6 +74,12 @@ impl<'a> Command<'a> {
                 image: first,
                 inputs: second,
                 tables: None,
+            };
+        }
+        if word == "verify" {
+            return Command::Verify {
+                image: first,
+                policy: second,
             };
         }
         Command::Usage

@@ -5,9 +5,9 @@ ghost use Rattle.std.specs.Prelude.{◌≡◌, ◌≢◌, ◌⊎◌, [], IfSome,
 ghost use Rattle.muen_outside.specs.Looks.{AreSingle, HeldAfter, ShowAll, looks_since, writes_since};
 ghost use Rattle.muen_outside.specs.States.{went};
 ghost use Rattle.muen_top.specs.Asked.{Asks};
-ghost use Rattle.muen_top.specs.Calls.{Answered, DoesAnswer, EndsAnswered, FilesFailed, IsFault, LacksFile, MemoryRefused, PrintsFront, RefusesDma, RefusesImage, RefusesPolicy, RefusesRecord};
+ghost use Rattle.muen_top.specs.Calls.{Answered, DoesAnswer, EndsAnswered, FilesFailed, FindsFault, IsFault, LacksFile, MemoryRefused, PrintsFront, RefusesDma, RefusesImage, RefusesPolicy, RefusesRecord};
 ghost use Rattle.muen_top.specs.Commands.{command_of};
-ghost use Rattle.muen_top.specs.Headline.{BootPrintsSystem, BuildWritesImage, RunOfBuiltPrintsSystem, RunOfSoundPrintsSystem};
+ghost use Rattle.muen_top.specs.Headline.{BootPrintsSystem, BuildWritesImage, RunOfBuiltPrintsSystem, RunOfSoundPrintsSystem, VerifyAcceptsBuilt, VerifyTellsFault, VerifyTellsSound};
 ghost use Rattle.muen_top.specs.Reports.{Reported, status_of};
 ghost use Rattle.muen_top.specs.declared.outcome.Outcome.{Outcome};
 
@@ -24,6 +24,7 @@ mod report;
 mod run;
 mod status;
 mod tables;
+mod verify;
 
 use muen_outside::{Files, Sink};
 pub use over_held::muen_over_held;
@@ -41,8 +42,9 @@ use std::alloc::Global;
 /// device record for it, runs the image on the record, and puts the text of that run to `out`; `run IMAGE
 /// RECORD DMA` reads a file of tables too, and runs with them. Without tables no device reaches memory by
 /// itself. `map POLICY` puts where the policy's regions lie and what each subject
-/// sees, `flows POLICY` on whom each subject can depend; neither reads a component file. No other
-/// command is built. On every status but 0 one line that begins with `muen: ` is put to `err`; a fault
+/// sees, `flows POLICY` on whom each subject can depend; neither reads a component file. `verify IMAGE
+/// POLICY` reads an image, a policy and the files that it names, and puts `sound` to `out` where the image
+/// is sound for them; where regions lie is not asked. No other command is built. On every status but 0 one line that begins with `muen: ` is put to `err`; a fault
 /// of `err` changes no status.
 ///
 /// | Status | Comes | Line |
@@ -56,6 +58,7 @@ use std::alloc::Global;
 /// | 6 | the record is refused (`boot`, `run`) | `record refused at line LINE: WHY` |
 /// | 7 | a call on `out` failed; a front of the text was put | `output fault` |
 /// | 8 | memory was refused, before the first turn; where that was for the last write, of the image or of the tables, what stands under its name may have changed | `out of memory` |
+/// | 9 | the image isn't sound for the policy and its files (`verify`) | `not sound: FAULT` |
 /// | 10 | the tables are refused (`run`) | `dma refused at AT: FIELD` |
 pub fn muen<F: Files, S: Sink, E: Sink>(
     alloc: Global,
@@ -89,6 +92,14 @@ pub fn muen<F: Files, S: Sink, E: Sink>(
     // that text.
     ensures built { BuildWritesImage (map string_bytes words.now) (looks_since (F.history files.old) (F.history files.new)) (writes_since (F.history files.old) (F.history files.new)) result }
 
+    // `verify` with status 0 tells that every store that agrees with the looks holds an image that is sound for the policy
+    // over what it holds: so a `run` of it prints that text, whoever made it. With status 9 it tells the first fault; any but
+    // that a table is read on two paths says that the image isn't sound.
+    ensures verifies { VerifyTellsSound (map string_bytes words.now) (looks_since (F.history files.old) (F.history files.new)) result }
+    ensures condemns { VerifyTellsFault (map string_bytes words.now) (looks_since (F.history files.old) (F.history files.new)) (E.state err.old) (E.state err.new) result }
+    // What `build` has written has no fault, while files hold the same.
+    ensures acquits_built { VerifyAcceptsBuilt (map string_bytes words.now) (looks_since (F.history files.old) (F.history files.new)) (S.state out.old) (S.state out.new) result }
+
     // What is put or written is the words' answer, and nothing else is. For `boot` it is the text of the
     // policy's system. For `run` it is the text of the image's run on the record, as the record is read
     // for this image, on a machine with its kernel. For `build` it is the write of an image that is
@@ -102,6 +113,9 @@ pub fn muen<F: Files, S: Sink, E: Sink>(
     ensures refuses_image { result ≡ Status.ImageRefused → Answered (map string_bytes words.now) (looks_since (F.history files.old) (F.history files.new)) (RefusesImage (E.state err.old) (E.state err.new)) }
     ensures refuses_dma { result ≡ Status.DmaRefused → Answered (map string_bytes words.now) (looks_since (F.history files.old) (F.history files.new)) (RefusesDma (E.state err.old) (E.state err.new)) }
     ensures refuses_record { result ≡ Status.RecordRefused → Answered (map string_bytes words.now) (looks_since (F.history files.old) (F.history files.new)) (RefusesRecord (E.state err.old) (E.state err.new)) }
+
+    // With status 9 it is the verdict that the words are answered.
+    ensures finds_fault { result ≡ Status.NotSound → Answered (map string_bytes words.now) (looks_since (F.history files.old) (F.history files.new)) (FindsFault (E.state err.old) (E.state err.new)) }
 
     // The call ends as the words are answered, but for a fault or want of memory.
     ensures ends { IsFault result ⊎ EndsAnswered (map string_bytes words.now) (looks_since (F.history files.old) (F.history files.new)) (E.state err.old) (E.state err.new) result }

@@ -3,6 +3,7 @@ ghost use Rattle.std.specs.Prelude.{◌≡◌};
 ghost use Rattle.muen_top.specs.CommandErrors.{error_of_record_fault, error_of_refusal};
 
 use image_pack::ImageFault;
+use image_verify::Fault;
 use muen_build::BuildError;
 use muen_num::NoMemory;
 use policy_types::Refusal;
@@ -25,6 +26,8 @@ pub(crate) enum CommandError<'a> {
     DmaRefused(ImageFault),
     /// The device record is refused.
     RecordRefused(RecordFault),
+    /// The image isn't sound for the policy and its files.
+    NotSound(Fault),
     /// A call on files failed.
     FileFault,
     /// Memory was refused.

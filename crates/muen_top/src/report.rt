@@ -7,6 +7,7 @@ ghost use Rattle.muen_top.specs.Reports.{error_text, line_of, refusal_status, st
 use crate::outcome::{CommandError, Outcome};
 use crate::status::Status;
 use dma_tables::dma_fault_pieces;
+use image_verify::AddressDigits;
 use itoa::Buffer;
 use muen_num::Pieces;
 use muen_outside::{Sink, SinkFault, put_pieces};
@@ -21,7 +22,12 @@ fn usage() -> &'static str
 }
 
 // The text of an error in pieces.
-fn pieces<'a>(error: &'a CommandError<'_>, one: &'a mut Buffer, two: &'a mut Buffer) -> Pieces<'a>
+fn pieces<'a>(
+    error: &'a CommandError<'_>,
+    one: &'a mut Buffer,
+    two: &'a mut Buffer,
+    digits: &'a mut AddressDigits,
+) -> Pieces<'a>
     ensures { whole result ≡ error_text error.now }
 {
     match error {
@@ -35,6 +41,7 @@ fn pieces<'a>(error: &'a CommandError<'_>, one: &'a mut Buffer, two: &'a mut Buf
         CommandError::ImageRefused(fault) => fault.pieces(one),
         CommandError::DmaRefused(fault) => dma_fault_pieces(*fault, one),
         CommandError::RecordRefused(fault) => fault.pieces(one),
+        CommandError::NotSound(fault) => fault.pieces(digits),
         CommandError::FileFault => "file fault".into(),
         CommandError::NoMemory => "out of memory".into(),
     }
@@ -63,7 +70,8 @@ pub(crate) fn report<S: Sink>(outcome: &Outcome<'_>, err: &mut S)
         Outcome::Stopped(error) => {
             let mut one = Buffer::new();
             let mut two = Buffer::new();
-            let _ = put_line(&pieces(error, &mut one, &mut two), err);
+            let mut digits = AddressDigits::new();
+            let _ = put_line(&pieces(error, &mut one, &mut two, &mut digits), err);
         }
         Outcome::OutputFault => {
             let _ = put_line(&output_fault(), err);
@@ -99,6 +107,7 @@ pub(crate) fn status(outcome: &Outcome<'_>) -> Status
         Outcome::Stopped(CommandError::ImageRefused(_)) => Status::ImageRefused,
         Outcome::Stopped(CommandError::DmaRefused(_)) => Status::DmaRefused,
         Outcome::Stopped(CommandError::RecordRefused(_)) => Status::RecordRefused,
+        Outcome::Stopped(CommandError::NotSound(_)) => Status::NotSound,
         Outcome::OutputFault => Status::OutputFault,
         Outcome::Stopped(CommandError::NoMemory) => Status::NoMemory,
     }

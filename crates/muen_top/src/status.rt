@@ -22,6 +22,8 @@ pub enum Status {
     OutputFault,
     /// 8: memory was refused.
     NoMemory,
+    /// 9: the image isn't sound for the policy and its files.
+    NotSound,
     /// 10: the tables for direct memory access are refused.
     DmaRefused,
 }
@@ -43,6 +45,7 @@ impl From<Status> for u8 {
             Status::RecordRefused => 6,
             Status::OutputFault => 7,
             Status::NoMemory => 8,
+            Status::NotSound => 9,
             Status::DmaRefused => 10,
         }
     }

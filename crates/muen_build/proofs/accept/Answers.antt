@@ -22,11 +22,11 @@ returns-in_err-placed-clause-err g c =
     (room_fails c.args.name.now c.args.document.now (source_of c.in_ok-policy.policy) c.in_ok-policy.ensures _ c.in_ok-files.ensures.passes _ _ _ _ c.in_ok-files.ensures.grows c.in_err-placed.ensures.err)
 
 pub returns-clause-looked : goal.returns-clause-looked
-returns-clause-looked g c = all_looked c.args.name.now _ _ _ (looks_of c.in_ok-files.files) (names_file (source_of c.in_ok-policy.policy)) c.in_ok-files.ensures.grows
+returns-clause-looked g c = all_looked c.args.name.now c.args.document.now _ _ _ (looks_of c.in_ok-files.files) (names_file (source_of c.in_ok-policy.policy)) c.in_ok-files.ensures.grows
 
 pub returns-clause-asked : goal.returns-clause-asked
 returns-clause-asked g c =
-    all_asked c.args.name.now _ _ _ (looks_of c.in_ok-files.files) c.args.document.now (source_of c.in_ok-policy.policy) c.in_ok-policy.ensures c.in_ok-files.ensures.grows
+    all_asked c.args.name.now c.args.document.now _ _ _ (looks_of c.in_ok-files.files) (source_of c.in_ok-policy.policy) c.in_ok-policy.ensures c.in_ok-files.ensures.grows
 
 pub returns-clause-accepts : goal.returns-clause-accepts
 returns-clause-accepts g c =

@@ -1,6 +1,6 @@
 use Rattle.std.proofs.Common.{◌∙◌, ap}
 use Rattle.subject_model.specs.Trace.{trace_of}
-use Rattle.muen_top.proofs.Clauses.{history_clause, once_clause, agrees_clause, asked_clause, held_clause, done_clause, prefix_clause, policy_clause, file_clause, image_clause, dma_clause, record_clause, ends_clause, usage_clause, fault_clause, memory_clause, unwritten_clause, quiet_out_clause, quiet_err_clause, prints_clause, built_clause}
+use Rattle.muen_top.proofs.Clauses.{history_clause, once_clause, agrees_clause, asked_clause, held_clause, done_clause, prefix_clause, policy_clause, file_clause, image_clause, dma_clause, record_clause, ends_clause, usage_clause, fault_clause, memory_clause, unwritten_clause, quiet_out_clause, quiet_err_clause, prints_clause, built_clause, sound_clause, unsound_clause, accepts_clause, found_clause}
 use Rattle.muen_top.proofs.SoundRuns.{boot_prints, built_prints, sound_prints}
 use Rattle.muen_top.specs.Answers.{answer_of}
 use Rattle.muen_top.proofs.muen.Goals as goal
@@ -21,6 +21,9 @@ returns g c =
       runs_built = λ m image inputs dma q built_of r shows asked there hands says.
           prints_clause _ _ _ _ _ _ _ _ _ _ p m (trace_of q built_of r) shows (ap (answer_of m) asked ∙ built_prints m image inputs q r says built_of dma there hands);
       built = built_clause _ _ _ _ _ _ _ _ _ _ p;
+      verifies = sound_clause _ _ _ _ _ _ _ _ _ _ p;
+      condemns = unsound_clause _ _ _ _ _ _ _ _ _ _ p;
+      acquits_built = accepts_clause _ _ _ _ _ _ _ _ _ _ p;
       done = done_clause _ _ _ _ _ _ _ _ _ _ p;
       prefix = prefix_clause _ _ _ _ _ _ _ _ _ _ p;
       refuses_policy = policy_clause _ _ _ _ _ _ _ _ _ _ p;
@@ -28,6 +31,7 @@ returns g c =
       refuses_image = image_clause _ _ _ _ _ _ _ _ _ _ p;
       refuses_dma = dma_clause _ _ _ _ _ _ _ _ _ _ p;
       refuses_record = record_clause _ _ _ _ _ _ _ _ _ _ p;
+      finds_fault = found_clause _ _ _ _ _ _ _ _ _ _ p;
       ends = ends_clause _ _ _ _ _ _ _ _ _ _ p;
       usage = usage_clause _ _ _ _ _ _ _ _ _ _ p;
       no_command = c.call.ensures.no_command;

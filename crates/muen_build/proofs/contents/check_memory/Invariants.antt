@@ -6,4 +6,4 @@ use Rattle.muen_build.proofs.Checking.{Passing}
 use Rattle.muen_build.proofs.contents.check_memory.Given as goal
 
 abbrev pub invariant-loop-region : goal.invariant-loop-region
-invariant-loop-region g l = Passing Region (λ r. of_filled (filled_region r)) (λ r. filled_names (filled_region r)) l.name l.document l.memory l.fn.found (g.F.Files.held l.fn.files) (g.F.Files.held l.files) (g.F.Files.history l.fn.files) (g.F.Files.history l.files) l.found l.region-index
+invariant-loop-region g l = Passing Region (λ r. of_filled (filled_region r)) (λ r. filled_names (filled_region r)) (given_files l.given) l.memory l.fn.found (g.F.Files.held l.fn.files) (g.F.Files.held l.files) (g.F.Files.history l.fn.files) (g.F.Files.history l.files) l.found l.region-index

@@ -6,4 +6,4 @@ use Rattle.muen_build.proofs.Checking.{Passing}
 use Rattle.muen_build.proofs.contents.check_provided.Given as goal
 
 abbrev pub invariant-loop-x : goal.invariant-loop-x
-invariant-loop-x g l = Passing Provided (λ x. of_filled (filled_provided l.subject x)) (λ x. filled_names (filled_provided l.subject x)) l.name l.document l.provided l.fn.found (g.F.Files.held l.fn.files) (g.F.Files.held l.files) (g.F.Files.history l.fn.files) (g.F.Files.history l.files) l.found l.x-index
+invariant-loop-x g l = Passing Provided (λ x. of_filled (filled_provided l.subject x)) (λ x. filled_names (filled_provided l.subject x)) (given_files l.given) l.provided l.fn.found (g.F.Files.held l.fn.files) (g.F.Files.held l.files) (g.F.Files.history l.fn.files) (g.F.Files.history l.files) l.found l.x-index

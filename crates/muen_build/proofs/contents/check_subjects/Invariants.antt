@@ -7,4 +7,4 @@ use Rattle.muen_build.proofs.contents.check_subjects.Given as goal
 
 abbrev pub invariant-loop-subject : goal.invariant-loop-subject
 invariant-loop-subject g l =
-    Passing Subject (λ s. of_all (brought_at l.policy.components s)) (λ s. all_names (brought_at l.policy.components s)) l.name l.document l.subjects l.fn.found (g.F.Files.held l.fn.files) (g.F.Files.held l.files) (g.F.Files.history l.fn.files) (g.F.Files.history l.files) l.found l.subject-index
+    Passing Subject (λ s. of_all (brought_at l.policy.components s)) (λ s. all_names (brought_at l.policy.components s)) (given_files l.given) l.subjects l.fn.found (g.F.Files.held l.fn.files) (g.F.Files.held l.files) (g.F.Files.history l.fn.files) (g.F.Files.history l.files) l.found l.subject-index

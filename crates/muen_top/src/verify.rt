@@ -1,0 +1,179 @@
+// The command `verify`: an image and a policy are read, with the files that its contents name, and it is
+// told whether the image is sound for them.
+ghost use Rattle.std.specs.Prelude.{◌≡◌, List, ℕ, Ok, Some, IfOk, IfErr};
+ghost use Rattle.binary_form.specs.Faults.{unpacked};
+ghost use Rattle.image_pack.specs.Image.{image as image_form};
+ghost use Rattle.image_pack.specs.Parts.{IsImage};
+ghost use Rattle.image_verify.specs.Verdict.{AreOfFiles};
+ghost use Rattle.muen_top.specs.Calls.{ComesOfCommand};
+ghost use Rattle.muen_top.specs.Commands.{verify as verify_command};
+ghost use Rattle.muen_top.specs.FilesSeen.{Saw};
+ghost use Rattle.muen_top.specs.PolicyCommands.{StopsCommand};
+ghost use Rattle.muen_top.specs.Reports.{sound_text};
+ghost use Rattle.muen_top.specs.Verifying.{EndsFound, HasAllRead, HasLawful, IsFound, NotLawful, image_looks};
+ghost use Rattle.muen_outside.specs.Puts.{Puts};
+
+use crate::loading::{load, load_too};
+use crate::outcome::{CommandError, Outcome};
+use crate::run::known_as;
+use expand_kernel::{Expanded, expand};
+use image_pack::{Parts, unpack};
+use image_verify::Fault;
+use muen_build::{Given, contents_of, lawful};
+use muen_num::limits::{IMAGE_MOST, POLICY_MOST};
+use muen_num::{NoMemory, Seq};
+use muen_outside::{Files, Sink, SinkFault, put_pieces};
+use policy_lawful::Lawful;
+use std::alloc::Global;
+
+// An image, with the bytes of its file.
+#[derive(Drop)]
+struct ImageRead {
+    parts: Parts,
+    bytes: Seq<u8>,
+}
+
+// The image of this file.
+fn read_image<'a, F: Files>(
+    alloc: Global,
+    image: &'a str,
+    files: &mut F,
+) -> Result<ImageRead, CommandError<'a>>
+    ensures ok { IfOk result (λ x. Saw (F.held files.old) (F.history files.old) (F.history files.new) (image_looks image.now x.bytes)) }
+    ensures parts { IfOk result (λ x. IsImage x.bytes x.parts × (unpacked image_form x.bytes ≡ Ok x.parts)) }
+    ensures err { IfErr result (λ error. (policy : List ℕ) → StopsCommand (verify_command image.now policy) (F.held files.old) (F.history files.old) (F.history files.new) error) }
+    ensures held { F.held files.new ≡ F.held files.old }
+{
+    let bytes = load(alloc, image, IMAGE_MOST, files)?;
+    let parts = unpack(alloc, bytes.items())?;
+    Ok(ImageRead { parts, bytes })
+}
+
+// A lawful policy, with the bytes of its document.
+#[derive(Drop)]
+struct PolicyRead {
+    policy: Lawful,
+    document: Seq<u8>,
+}
+
+// The policy of this file, after the image of that one, whose bytes these are.
+fn read_policy<'a, F: Files>(
+    alloc: Global,
+    image: &str,
+    bytes: &[u8],
+    policy: &'a str,
+    files: &mut F,
+) -> Result<PolicyRead, CommandError<'a>>
+    ensures ok { IfOk result (λ x. HasLawful (image_looks image.now bytes.now) policy.now (F.held files.old) (F.history files.old) (F.history files.new) x.document x.policy) }
+    ensures err { IfErr result (NotLawful (image_looks image.now bytes.now) policy.now (F.held files.old) (F.history files.old) (F.history files.new)) }
+    ensures held { F.held files.new ≡ F.held files.old }
+{
+    let known = known_as(policy, image, bytes);
+    let document = load_too(alloc, known, policy, POLICY_MOST, files)?;
+    let policy = lawful(alloc, document.items())?;
+    Ok(PolicyRead { policy, document })
+}
+
+// What is judged: an image, for a lawful policy, whose regions hold this at the start.
+#[derive(Drop)]
+struct ToJudge {
+    parts: Parts,
+    policy: Lawful,
+    things: Seq<Seq<u8>>,
+}
+
+// The image of the one file, the policy of the other, and what its contents name.
+fn read_all<'a, F: Files>(
+    alloc: Global,
+    image: &'a str,
+    policy: &'a str,
+    files: &mut F,
+) -> Result<ToJudge, CommandError<'a>>
+    ensures ok { IfOk result (λ x. HasAllRead image.now policy.now (F.held files.old) (F.history files.old) (F.history files.new) x.parts x.policy x.things) }
+    ensures err { IfErr result (StopsCommand (verify_command image.now policy.now) (F.held files.old) (F.history files.old) (F.history files.new)) }
+    ensures held { F.held files.new ≡ F.held files.old }
+{
+    let ImageRead { parts, bytes } = read_image(alloc, image, files)?;
+    let read = read_policy(alloc, image, bytes.items(), policy, files)?;
+    let given = [
+        Given {
+            name: policy,
+            bytes: read.document.items(),
+        },
+        Given {
+            name: image,
+            bytes: bytes.items(),
+        },
+    ];
+    let things = contents_of(alloc, &given, &read.policy, files)?;
+    Ok(ToJudge {
+        parts,
+        policy: read.policy,
+        things,
+    })
+}
+
+// The verdict, for a policy with all that follows from it.
+fn verdict(
+    alloc: Global,
+    expanded: Expanded,
+    things: &[Seq<u8>],
+    parts: Parts,
+) -> Result<Option<Fault>, NoMemory>
+    requires { AreOfFiles expanded.lawful things.now }
+    ensures { IfOk result (IsFound parts expanded.lawful things.now) }
+{
+    image_verify::verify(alloc, &expanded, things, parts)
+}
+
+// .. for the policy.
+fn judged(alloc: Global, read: ToJudge) -> Result<Option<Fault>, NoMemory>
+    requires { AreOfFiles read.policy read.things }
+    ensures { IfOk result (IsFound read.parts read.policy read.things) }
+{
+    let ToJudge {
+        parts,
+        policy,
+        things,
+    } = read;
+    let expanded = expand(alloc, policy)?;
+    verdict(alloc, expanded, things.items(), parts)
+}
+
+fn put_sound<S: Sink>(out: &mut S) -> Result<(), SinkFault>
+    ensures { Puts sound_text (S.state out.old) (S.state out.new) result }
+{
+    put_pieces(&["sound\n"], out)
+}
+
+// Judges, and prints that the image is sound where it has no fault.
+fn judge<'a, S: Sink>(alloc: Global, read: ToJudge, out: &mut S) -> Outcome<'a>
+    requires { AreOfFiles read.policy read.things }
+    ensures { EndsFound (IsFound read.parts read.policy read.things) (S.state out.old) (S.state out.new) result }
+{
+    match judged(alloc, read) {
+        Ok(None) => match put_sound(out) {
+            Ok(()) => Outcome::Done,
+            Err(SinkFault) => Outcome::OutputFault,
+        },
+        Ok(Some(fault)) => Outcome::Stopped(CommandError::NotSound(fault)),
+        Err(NoMemory) => Outcome::Stopped(CommandError::NoMemory),
+    }
+}
+
+/// Reads the image, and the policy with the files that its contents name, and tells whether the image is
+/// sound for them.
+pub(crate) fn verify<'a, F: Files, S: Sink>(
+    alloc: Global,
+    image: &'a str,
+    policy: &'a str,
+    files: &mut F,
+    out: &mut S,
+) -> Outcome<'a>
+    ensures { ComesOfCommand (Some (verify_command image.now policy.now)) (F.held files.old) (F.held files.new) (F.history files.old) (F.history files.new) (S.state out.old) (S.state out.new) result }
+{
+    match read_all(alloc, image, policy, files) {
+        Ok(read) => judge(alloc, read, out),
+        Err(error) => Outcome::Stopped(error),
+    }
+}
