@@ -1,0 +1,10 @@
+use Rattle.std.proofs.lemmas.Result.{err_from_is_err_and}
+use Rattle.policy_lawful.specs.Resolution.{source_of}
+use Rattle.muen_build.specs.Accepting.{given_files}
+use Rattle.muen_build.proofs.Accepting.{has_contents, lacks_contents, no_memory}
+use Rattle.muen_build.proofs.contents_of.Goals as goal
+
+pub returns-in_err-found-clause-err : goal.returns-in_err-found-clause-err
+returns-in_err-found-clause-err g c =
+    let left = err_from_is_err_and c.from_residual.result c.from_residual.ensures.1 in
+    rw (left.1, left.2) (lacks_contents (given_files c.args.given.now) (source_of c.args.policy.now) _ _ _ c.in_err-found.field-0.0 c.in_err-found.ensures.err)
