@@ -29,6 +29,7 @@ use Rattle.policy_lawful.specs.Resolution.{source_of}
 use Rattle.policy_lawful.specs.Rules.{are_apart, is_alignment, is_fixed, is_laid, is_page_aligned, is_page_size}
 use Rattle.policy_lawful.proofs.KeptAddresses.{addresses_kept}
 use Rattle.policy_types.specs.declared.source.Domain.{Domain}
+use Rattle.policy_lawful.proofs.KeptRules.{rules_of}
 use Rattle.policy_types.specs.declared.source.Mapping.{Mapping}
 use Rattle.policy_types.specs.declared.source.Region.{Region as SourceRegion}
 use Rattle.region_alloc.specs.Placed.{IsPlaced, Placement}
@@ -89,7 +90,7 @@ module _ (x : Placement) (placed : IsPlaced x) where
 
   laid : list_all is_laid x.expanded.lawful.memory ≡ true
   unfolding source_of
-  laid = (addresses_kept (source_of x.expanded.lawful) placed.lawful.rule_4).regions
+  laid = (addresses_kept (source_of x.expanded.lawful) (rules_of placed.lawful).rule_4).regions
 
   size_is : (m : Mapping) (r : SourceRegion) → find (λ r. bytes_eq r.name m.region) x.expanded.lawful.memory ≡ Some r → region_size (source_of x.expanded.lawful) m.region ≡ r.size
   unfolding source_of
@@ -199,4 +200,4 @@ module _ (x : Placement) (placed : IsPlaced x) where
 
   pub each_domain : All (IsDomain (source_of x.expanded.lawful)) x.expanded.lawful.device_domains
   unfolding source_of
-  each_domain = domains_kept (source_of x.expanded.lawful) placed.lawful.rule_22
+  each_domain = domains_kept (source_of x.expanded.lawful) (rules_of placed.lawful).rule_22

@@ -18,6 +18,7 @@ use Rattle.policy_lawful.specs.Resolution.{IsResolved, Resolution, source_of, su
 use Rattle.policy_lawful.specs.Rules.{first_overlap, is_guest, offence_5, window_extents}
 use Rattle.policy_lawful.specs.declared.resolved.Subject.{Subject}
 use Rattle.policy_lawful.proofs.KeptAddresses.{addresses_kept}
+use Rattle.policy_lawful.proofs.KeptRules.{rules_of}
 use Rattle.policy_lawful.proofs.SourceElements.{parts_in_range}
 use Rattle.policy_types.specs.declared.source.Subject.{Subject as NamedSubject}
 
@@ -56,7 +57,7 @@ pub can_map_granted : (r : Resolution) (gs : List Grants) → IsResolved r → I
 unfolding offence_5 source_of
 can_map_granted r gs q lawful granted =
     All-from_recursion (λ g. CanMap g.views) gs
-    (can_map_each r q r.subjects gs granted (parts_in_range r q.in_range).subjects (addresses_kept (source_of r) lawful.rule_4).windows lawful.rule_5)
+    (can_map_each r q r.subjects gs granted (parts_in_range r q.in_range).subjects (addresses_kept (source_of r) (rules_of lawful).rule_4).windows (rules_of lawful).rule_5)
 
 -- the regions of a policy by number
 pub regions_by_index : (r : Resolution) (gs : List Grants) → IsResolved r → AreGrants r gs

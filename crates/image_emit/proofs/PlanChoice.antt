@@ -19,6 +19,7 @@ use Rattle.policy_lawful.specs.Offences.{two}
 use Rattle.policy_lawful.specs.Resolution.{source_of}
 use Rattle.policy_lawful.specs.Rules.{major_offence, majors_of, offence_16, tau0_offence}
 use Rattle.policy_lawful.specs.Thing.{component_by, region, thing_tag}
+use Rattle.policy_lawful.proofs.KeptRules.{rules_of}
 use Rattle.policy_types.specs.declared.source.Region.{Region as SourceRegion}
 use Rattle.policy_types.specs.declared.source.Source.{Source}
 use Rattle.policy_types.specs.declared.source.Tau0.{Tau0}
@@ -86,7 +87,7 @@ chosen m h t is =
     let memory = (policy_of m).memory in
     let test : SourceRegion → Bool = λ r. bytes_eq r.name t.region in
     let n = position_or_len test memory in
-    let low = first_index test memory (is_memory (source_of (policy_of m)) t is h.lawful.rule_16) in
+    let low = first_index test memory (is_memory (source_of (policy_of m)) t is (rules_of h.lawful).rule_16) in
     let found = there memory n low in
     let passes : test found.0 ≡ true =
     ap test (sym (get_or_from_slice_get memory n found.0 found.0 found.1)) ∙ passes_at_first test memory found.0 low in

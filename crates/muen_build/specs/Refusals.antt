@@ -9,7 +9,7 @@ use Rattle.muen_num.specs.declared.tag.TagPart.TheVariants.{Named, Whole}
 use Rattle.muen_num.specs.declared.tag.Tag.{Tag}
 use Rattle.muen_outside.specs.Store.{Reading, whole, absent, long, reading_of}
 use Rattle.policy_json.specs.Document.{policy_of}
-use Rattle.policy_lawful.specs.Lawful.{names_broken, rules_broken, kept_or}
+use Rattle.policy_lawful.specs.Lawful.{kept_or, unlawful}
 use Rattle.policy_lawful.specs.Contents.{Held, file_part}
 use Rattle.policy_lawful.specs.Thing.{component_by}
 use Rattle.policy_types.specs.declared.refusal.Refusal.{Refusal}
@@ -21,10 +21,6 @@ use Rattle.policy_types.specs.declared.source.Source.{Source}
 use Rattle.region_alloc.specs.Placement.{no_room}
 
 -- ---- rules
-
--- the least rule that a policy breaks
-abbrev pub unlawful : Source → Option Refusal
-unlawful p = first_of (names_broken p ∷ rules_broken p ∷ [])
 
 abbrev pub lawful_alone : Result Source Refusal → Result Source Refusal
 lawful_alone (Ok p) = kept_or p (unlawful p)

@@ -30,6 +30,7 @@ use Rattle.policy_types.specs.declared.source.Source.{Source}
 use Rattle.span_emit.specs.Spans.{device_span, memories_of, region_span, region_spans, span_kind}
 use Rattle.span_emit.specs.SpansOf.{spans_of}
 use Rattle.policy_lawful.proofs.KeptAddresses.{IsPhysical}
+use Rattle.policy_lawful.proofs.KeptRules.{rules_of}
 use Rattle.span_emit.proofs.KeptDevices.{devices_physical}
 use Rattle.span_emit.proofs.KeptRegions.{IsWhole}
 
@@ -224,7 +225,7 @@ looked m k b at = get_or_from_slice_get (region_bytes m) k b [] (get_left m.thin
 
 physical : (m : Made) → IsMade m → All (λ x. IsPhysical x.1) (memories_of (policy_of m).devices)
 unfolding source_of
-physical m h = devices_physical (source_of (policy_of m)) h.lawful.rule_4
+physical m h = devices_physical (source_of (policy_of m)) (rules_of h.lawful).rule_4
 
 -- **the contents**: the spans that aren't the kernel's are the things of the policy
 pub contents : (files : Held) (m : Made) → IsMade m → m.things ≡ thing_bytes files (policy_of m) → AreContents (source_of (policy_of m)) files (image_of m)

@@ -23,6 +23,7 @@ use Rattle.policy_lawful.specs.Offences.{two}
 use Rattle.policy_lawful.specs.Rules.{is_declared, is_page_aligned}
 use Rattle.policy_lawful.specs.Thing.{Thing, region}
 use Rattle.policy_lawful.specs.Windows.{Window, access_by, access_of, byte, holds, region_window, violation, window}
+use Rattle.policy_lawful.proofs.KeptRules.{rules_of}
 use Rattle.policy_types.specs.Rights.{allows}
 use Rattle.policy_types.specs.declared.rights.Rights.{Rights}
 use Rattle.policy_types.specs.declared.source.Domain.{Domain}
@@ -90,7 +91,7 @@ module _ (p : Source) (files : Held) (i : Image) (keeps : KeepsConditions i) (so
 
   domain_on : (o : Option Domain) (device : List ℕ) → domain_of p device ≡ o → AllByRecursion IsOnSpan (option_map_or (domain_windows p) o [])
   domain_on None device e = tt
-  domain_on (Some d) device e = windows_on d.memory (begin_pages p d (λ d. list_any (λ name. bytes_eq name device) d.devices) sound.lawful.rule_22 e)
+  domain_on (Some d) device e = windows_on d.memory (begin_pages p d (λ d. list_any (λ name. bytes_eq name device) d.devices) (rules_of sound.lawful).rule_22 e)
 
   -- each window of a device's domain
   pub all_on : (device : List ℕ) → AllByRecursion IsOnSpan (dma_windows p device)

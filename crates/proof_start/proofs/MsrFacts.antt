@@ -8,6 +8,7 @@ use Rattle.std.proofs.lemmas.List.{map-append}
 use Rattle.std.proofs.lemmas.List.Folds.{list_all-append, list_all-map, list_any-append}
 use Rattle.subject_model.specs.Alone.{is_in}
 use Rattle.policy_lawful.proofs.EachPasses.{all_flat}
+use Rattle.policy_lawful.proofs.KeptRules.{rules_of}
 use Rattle.expand_grants.specs.Resources.{Msr, is_granted, msrs_in, msrs_of}
 use Rattle.muen_num.proofs.Lists.{each_from, found, map-map, passes_at}
 use Rattle.muen_num.proofs.SearchLaws.{all_pass}
@@ -171,7 +172,7 @@ module _ (p : Source) (lawful : IsLawful p) where
   unfolding offence_11
   ranges_of s n at =
       let keeps : Subject → Bool = λ s. list_all is_msr_range s.msrs && msrs_apart s.msrs in
-      let both = and_parts (list_all is_msr_range n.msrs) (msrs_apart n.msrs) (passes_at keeps p.subjects s n (all_pass keeps (λ s. alone s.name) p.subjects lawful.rule_11) at) in
+      let both = and_parts (list_all is_msr_range n.msrs) (msrs_apart n.msrs) (passes_at keeps p.subjects s n (all_pass keeps (λ s. alone s.name) p.subjects (rules_of lawful).rule_11) at) in
       record { ranges = both.0; apart = both.1 }
 
   -- a granted MSR has a slot in an MSR file

@@ -6,6 +6,7 @@ use Rattle.std.specs.Str.{bytes_eq}
 use Rattle.std.proofs.lemmas.Bool.{eqb-true}
 use Rattle.std.proofs.lemmas.Option.{get_or_from_slice_get, slice_get_within}
 use Rattle.policy_lawful.proofs.Indexes.{same_name, same_self}
+use Rattle.policy_lawful.proofs.KeptRules.{rules_of}
 use Rattle.policy_lawful.proofs.UniqueNames.{logical_unique, parts_unique, unique, unique_parts}
 use Rattle.policy_lawful.specs.Lawful.{IsLawful}
 use Rattle.policy_lawful.specs.Rules.{logical_names, repeated}
@@ -138,7 +139,7 @@ provided_once p lawful subject (Some used) = by_component (component_by p (Some 
     by_component None e = tt
     by_component (Some c) e =
         let at = found_at (λ c. bytes_eq c.name used.used) p.components c e in
-        brought_once subject c (logical_unique p at.index c lawful.rule_1 at.here)
+        brought_once subject c (logical_unique p at.index c (rules_of lawful).rule_1 at.here)
 
 -- ---- a device's memories
 
@@ -155,7 +156,7 @@ memories_whose d e x i j =
 memories_once : (p : Source) → IsLawful p → (d : Device) → In d p.devices → Once (map (λ m. device_memory d.name m.name) d.memory)
 memories_once p lawful d i =
     let at = index_of_one p.devices d i in
-    once_map (λ m. m.name) (λ m. device_memory d.name m.name) d.memory (λ x z e. cc (e)) (once_names (map (λ m. m.name) d.memory) (parts_unique p at.0 d lawful.rule_1 at.1).memory)
+    once_map (λ m. m.name) (λ m. device_memory d.name m.name) d.memory (λ x z e. cc (e)) (once_names (map (λ m. m.name) d.memory) (parts_unique p at.0 d (rules_of lawful).rule_1 at.1).memory)
 
 -- ---- all things
 
@@ -163,7 +164,7 @@ memories_once p lawful d i =
 pub things_once : (p : Source) → IsLawful p → Once (things_of p)
 unfolding things_of
 things_once p lawful =
-    let names = unique p lawful.rule_1 in
+    let names = unique p (rules_of lawful).rule_1 in
     let regions : List Thing = map (λ r. region r.name) p.memory in
     let channels : List Thing = map (λ c. channel c.name) p.channels in
     let brought : List Thing = flat_map (λ s. provided_by s.name (component_by p s.component)) p.subjects in

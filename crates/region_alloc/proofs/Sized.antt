@@ -17,6 +17,7 @@ use Rattle.policy_lawful.specs.Resolution.{Resolution, source_of}
 use Rattle.policy_lawful.specs.Rules.{component_offence, is_alignment, is_fixed, is_guest, is_laid, is_page_aligned, is_page_size, is_physical, offence_4}
 use Rattle.policy_lawful.specs.Thing.{component_by}
 use Rattle.policy_lawful.specs.Windows.{windows_of}
+use Rattle.policy_lawful.proofs.KeptRules.{rules_of}
 use Rattle.policy_types.specs.declared.source.Block.{Block}
 use Rattle.policy_types.specs.declared.source.Channel.{Channel}
 use Rattle.policy_types.specs.declared.source.Component.{Component}
@@ -119,7 +120,7 @@ pub blocks_end : (r : Resolution) → IsLawful (source_of r) → All ends_well r
 unfolding offence_4 source_of
 blocks_end r h =
     let p = source_of r in
-    let blocks = none_both (first_in (λ b. unless (is_physical b.physical_address b.size) (alone b.name)) p.memory_blocks) _ h.rule_4 in
+    let blocks = none_both (first_in (λ b. unless (is_physical b.physical_address b.size) (alone b.name)) p.memory_blocks) _ (rules_of h).rule_4 in
     all_from (λ b. is_physical b.physical_address b.size) ends_well physical_end p.memory_blocks
     (all_pass (λ b. is_physical b.physical_address b.size) (λ b. alone b.name) p.memory_blocks blocks.0)
 
