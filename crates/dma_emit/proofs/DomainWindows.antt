@@ -25,15 +25,15 @@ use Rattle.expand_kernel.specs.declared.region.Region.{Region}
 use Rattle.muen_num.specs.declared.limits.TheConstants.{PAGE, PHYSICAL_END}
 use Rattle.muen_num.proofs.Lists.{found_among}
 use Rattle.policy_lawful.specs.Domains.{domain_extent, region_size}
+use Rattle.policy_lawful.specs.Ranges.{in_a_block}
 use Rattle.policy_lawful.specs.Resolution.{source_of}
 use Rattle.policy_lawful.specs.Rules.{are_apart, is_alignment, is_fixed, is_laid, is_page_aligned, is_page_size}
 use Rattle.policy_lawful.proofs.KeptAddresses.{addresses_kept}
-use Rattle.policy_types.specs.declared.source.Domain.{Domain}
 use Rattle.policy_lawful.proofs.KeptRules.{rules_of}
+use Rattle.policy_types.specs.declared.source.Domain.{Domain}
 use Rattle.policy_types.specs.declared.source.Mapping.{Mapping}
 use Rattle.policy_types.specs.declared.source.Region.{Region as SourceRegion}
 use Rattle.region_alloc.specs.Placed.{IsPlaced, Placement}
-use Rattle.region_alloc.specs.Placement.{in_a_block}
 use Rattle.region_alloc.proofs.Lowest.{ends_well}
 use Rattle.span_emit.proofs.DeviceSpans.{some_block}
 use Rattle.span_emit.proofs.Placed.{IsPlaced as IsLaidOut, is_placed}

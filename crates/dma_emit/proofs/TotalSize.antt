@@ -16,11 +16,11 @@ use Rattle.muen_num.specs.declared.limits.TheConstants.{MOST_BLOCK_BYTES, PAGE}
 use Rattle.policy_types.specs.declared.source.Block.{Block}
 use Rattle.policy_types.specs.declared.source.Device.{Device}
 use Rattle.policy_types.specs.declared.source.Region.{Region as SourceRegion}
-use Rattle.region_alloc.specs.Placement.{in_a_block}
 use Rattle.span_emit.specs.Spans.{region_span, region_spans}
 use Rattle.span_emit.proofs.Placed.{IsPlaced}
 use Rattle.span_emit.proofs.RegionSpans.{AreApart, IsRegionSpan, as_many, region_spans_apart, region_spans_are}
 use Rattle.span_emit.proofs.Room.{in_blocks}
+use Rattle.policy_lawful.specs.Ranges.{in_a_block}
 
 -- ---- spans that are apart
 

@@ -15,6 +15,7 @@ use Rattle.expand_kernel.specs.declared.region.Region.{Region}
 use Rattle.muen_num.specs.declared.tag.TagPart.TheVariants.{Named}
 use Rattle.muen_num.proofs.Lists.{there}
 use Rattle.policy_types.specs.declared.source.Block.{Block}
+use Rattle.policy_lawful.specs.Ranges.{in_a_block}
 use Rattle.policy_lawful.specs.Resolution.{IsResolved, Resolution, source_of, subject_named, subject_in_range}
 use Rattle.policy_lawful.specs.declared.resolved.Subject.{Subject}
 use Rattle.policy_lawful.proofs.SourceElements.{parts_in_range}
@@ -25,7 +26,7 @@ use Rattle.policy_lawful.specs.declared.view.Shown.{Shown}
 use Rattle.policy_lawful.specs.declared.view.Shown.TheVariants.{Memory, Channel, Provided, Device, State}
 use Rattle.policy_lawful.specs.declared.view.View.{View}
 use Rattle.policy_lawful.proofs.WindowsByIndex.{name_there, windows_by_index}
-use Rattle.region_alloc.specs.Placement.{in_a_block, placement_of}
+use Rattle.region_alloc.specs.Placement.{placement_of}
 use Rattle.region_alloc.specs.Placed.{AreInside}
 use Rattle.map_report.specs.MapText.{device_lines, map_text_at, map_text_of, region_lines, tag, text_where, window_line, window_lines}
 use Rattle.map_report.specs.Views.{all_view_lines, is_there, map_lines, shown_tag, shows_what_is_there, tagged_line, view_line, view_lines, views_at}

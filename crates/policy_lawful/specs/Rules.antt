@@ -8,6 +8,7 @@ use Rattle.muen_num.specs.Range.{numbers_below}
 use Rattle.muen_num.specs.declared.limits.TheConstants.{GUEST_END, KERNEL_REGIONS, LARGE_PAGE, MOST_BLOCK_BYTES, MOST_BLOCKS, MOST_CHANNELS, MOST_COMPONENTS, MOST_CPUS, MOST_DEVICE_BYTES, MOST_DEVICE_WINDOWS, MOST_DEVICES, MOST_EVENTS, MOST_LOGICAL_NAMES, MOST_MAJOR_FRAMES, MOST_MINOR_FRAMES, MOST_MSRS, MOST_PER_DEVICE, MOST_REGIONS, MOST_SUBJECTS, MOST_TICKS, MOST_WINDOWS, PAGE, PHYSICAL_END}
 use Rattle.muen_num.specs.Search.{first_of, first_in, first_after, first_pair, unless}
 use Rattle.policy_lawful.specs.Offences.{alone, two}
+use Rattle.policy_lawful.specs.Ranges.{share_none}
 use Rattle.muen_num.specs.declared.access.AccessKind.TheVariants.{Write}
 use Rattle.policy_types.specs.Rights.{allows}
 use Rattle.policy_meaning.specs.Thing.{Thing, region, channel, provided, device_memory, state, same_thing, component_by}
@@ -221,7 +222,7 @@ offence_4 p =
 
 -- two ranges of addresses share none
 abbrev pub are_apart : Extent → Extent → Bool
-are_apart a b = nat_le (a.address + a.size) b.address || nat_le (b.address + b.size) a.address
+are_apart a b = share_none a.address (a.address + a.size) b.address (b.address + b.size)
 
 abbrev pub overlapping : Extent → Extent → Option Offence
 overlapping a b = unless (are_apart a b) (two a.name b.name)
