@@ -20,7 +20,6 @@ use Rattle.ept_emit.specs.Pages.{range_of}
 use Rattle.ept_emit.specs.declared.window.GuestRange.{GuestRange}
 use Rattle.ept_emit.specs.declared.window.Window.{Window}
 use Rattle.expand_grants.proofs.Ordered.{in_order_permutes}
-use Rattle.expand_kernel.specs.Regions.{own_region}
 use Rattle.expand_kernel.specs.declared.region.Region.{Region}
 use Rattle.muen_num.specs.declared.limits.TheConstants.{PAGE, PHYSICAL_END}
 use Rattle.muen_num.proofs.Lists.{found_among}
@@ -37,6 +36,7 @@ use Rattle.region_alloc.specs.Placed.{IsPlaced, Placement}
 use Rattle.region_alloc.proofs.Lowest.{ends_well}
 use Rattle.span_emit.proofs.DeviceSpans.{some_block}
 use Rattle.span_emit.proofs.Placed.{IsPlaced as IsLaidOut, is_placed}
+use Rattle.expand_kernel.specs.ByIndex.{own_region}
 
 -- two windows share no address
 abbrev pub AreTwo : Window → Window → Type 0

@@ -12,12 +12,14 @@ use Rattle.policy_types.specs.declared.refusal.Refusal.TheVariants.{NoMemory}
 use Rattle.policy_types.specs.declared.source.Source.{Source}
 use Rattle.muen_build.specs.Accepting.{Accepts, FailsWith, Files, Grows, IsAskedBy, Names, Passes, Refuses, RefusesDocument, Stops, looks_of, of_all}
 use Rattle.muen_build.specs.Looks.{IsAsked, Looked, names_file}
-use Rattle.muen_build.specs.Refusals.{contents_refused, filled_of, lawful_policy_of}
+use Rattle.muen_build.specs.Refusals.{lawful_policy_of}
 use Rattle.muen_build.specs.declared.accepted.BuildError.{BuildError}
 use Rattle.muen_build.specs.declared.accepted.BuildError.TheVariants.{Refused}
 use Rattle.region_alloc.specs.Placement.{no_room}
+use Rattle.muen_build.proofs.FilledByIndex.{contents_filled}
 use Rattle.muen_build.proofs.Looks.{grows_not, stops_so}
 use Rattle.muen_build.proofs.Refusing.{built_so, contents_first, not_lawful, room_last}
+use Rattle.muen_build.specs.Filling.{filled_of}
 
 -- ---- all looks of a call
 
@@ -63,27 +65,24 @@ module _ (name document : List ℕ) (p : Source) (is : lawful_policy_of document
     }
 
     pub contents_fail : (error : BuildError) → Stops name document (names_file p) held old new [] (Refuses (of_all (filled_of p))) error → FailsWith name document held old new error
-    unfolding contents_refused
     contents_fail error e =
         stops_fails error
         (stops_so name document (names_file p) (names_file p) held old new [] (Refuses (of_all (filled_of p))) (RefusesDocument document) error (λ file h. h)
-        (λ r after shows h files s. contents_first (insert files name document) document p r is (h files s)) e)
+        (λ r after shows h files s. contents_first (insert files name document) document p r is (contents_filled (insert files name document) p ∙ h files s)) e)
 
   module _ (found : Files) (passes : Passes name document (looks_of found) (of_all (filled_of p))) where
     -- there is no room
     pub room_fails : (held : Option Store) (old new : History) (r : Refusal) → Grows name (names_file p) held old new [] (looks_of found) → Explains NoMemory (no_room p) r → FailsWith name document held old new (Refused r)
-    unfolding contents_refused
     room_fails held old new r grows h = record {
       looks = looks_of found;
       looked = all_looked name held old new (looks_of found) (names_file p) grows;
       asked = all_asked name held old new (looks_of found) document p is grows;
       says = elim h [
         | inl m ↦ inl m
-        | inr e ↦ inr (λ files s. room_last (insert files name document) document p r is (passes files s) e)
+        | inr e ↦ inr (λ files s. room_last (insert files name document) document p r is (contents_filled (insert files name document) p ∙ passes files s) e)
       ];
     }
 
     -- nothing is refused
     pub accepts : no_room p ≡ None → Accepts name (looks_of found) document p
-    unfolding contents_refused
-    accepts room files s = built_so (insert files name document) document p is (passes files s) room
+    accepts room files s = built_so (insert files name document) document p is (contents_filled (insert files name document) p ∙ passes files s) room

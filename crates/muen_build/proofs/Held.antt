@@ -17,9 +17,9 @@ use Rattle.muen_outside.specs.Looks.{AreOthers, ShowAll, ShowsAnswer}
 use Rattle.muen_outside.specs.States.{Look}
 use Rattle.muen_outside.specs.Store.{Store, whole, long, reading_of, find_bytes}
 use Rattle.muen_build.specs.Accepting.{Accepts, Files, WithDocument, looks_of, of_all}
-use Rattle.muen_build.specs.Filling.{brought_at, filled_at, filled_provided, filled_region}
+use Rattle.muen_build.specs.Filling.{Filled, brought_at, filled_at, filled_provided, filled_refused, filled_region}
 use Rattle.muen_build.specs.Reading.{content_read, read_bytes, sized, things_read}
-use Rattle.muen_build.specs.Refusals.{Filled, content_refused, contents_refused, file_refused, filled_refused, too_long_for}
+use Rattle.muen_build.specs.Refusals.{content_refused, contents_refused, file_refused, too_long_for}
 use Rattle.policy_lawful.specs.Resolution.{IsResolved, Resolution, source_of}
 use Rattle.policy_lawful.specs.declared.resolved.Subject.{Subject}
 use Rattle.policy_lawful.specs.Contents.{content_bytes, file_part, padded}
@@ -28,7 +28,7 @@ use Rattle.policy_types.specs.declared.source.Channel.{Channel}
 use Rattle.policy_types.specs.declared.source.Component.{Component}
 use Rattle.policy_types.specs.declared.source.Content.{Content}
 use Rattle.policy_types.specs.declared.source.Content.TheVariants.{Zero, Fill, Inline, File}
-use Rattle.muen_build.proofs.FilledByIndex.{filled_by_index}
+use Rattle.muen_build.proofs.FilledByIndex.{contents_filled, filled_by_index}
 use Rattle.muen_build.proofs.Documents.{other_bytes, own_bytes, whole_found}
 use Rattle.muen_build.proofs.Looks.{other_way, same_self}
 use Rattle.muen_build.proofs.Refusing.{accepted_so}
@@ -49,15 +49,15 @@ still_shown files file (l ∷ ls) others s =
 -- ---- one content
 
 -- a document that isn't refused is no longer than a component file may be
-own_whole : (f : Filled) (file : List ℕ) (offset : ℕ) (most : Option ℕ) (document : List ℕ) → file_refused f file offset most (reading_of (Some document) COMPONENT_FILE_MOST) ≡ None → reading_of (Some document) COMPONENT_FILE_MOST ≡ whole document
+own_whole : (f : Filled) (file : List ℕ) (offset : ℕ) (most : Option ℕ) (document : List ℕ) → file_refused f.tag f.size file offset most (reading_of (Some document) COMPONENT_FILE_MOST) ≡ None → reading_of (Some document) COMPONENT_FILE_MOST ≡ whole document
 own_whole f file offset most document h =
-    (elim (nat_lt COMPONENT_FILE_MOST (length document)) as (λ b. file_refused f file offset most (if b then long (length document) else whole document) ≡ None → (if b then long (length document) else whole document) ≡ whole document) [
+    (elim (nat_lt COMPONENT_FILE_MOST (length document)) as (λ b. file_refused f.tag f.size file offset most (if b then long (length document) else whole document) ≡ None → (if b then long (length document) else whole document) ≡ whole document) [
       | true ↦ λ is. absurd (cc)
       | false ↦ λ is. refl
     ]) h
 
 -- what isn't too long has room
-fitting : (f : Filled) (bytes : List ℕ) → too_long_for f (length bytes) ≡ None → sized f.size bytes ≡ padded f.size bytes
+fitting : (f : Filled) (bytes : List ℕ) → too_long_for f.tag f.size (length bytes) ≡ None → sized f.size bytes ≡ padded f.size bytes
 fitting f bytes h =
     (elim (nat_le (length bytes) f.size) as (λ b. nat_le (length bytes) f.size ≡ b → (if b then None else Some (FileFit f.tag f.size (length bytes))) ≡ None → sized f.size bytes ≡ padded f.size bytes) [
       | true ↦ λ fits is.
@@ -72,14 +72,14 @@ module _ (name document : List ℕ) (found : Files) where
   Over Such = WithDocument name document (looks_of found) Such
 
   -- a file that is named was read
-  file_read : (f : Filled) (file : List ℕ) (offset : ℕ) (most : Option ℕ) → Over (λ files. content_refused files f (File file offset most) ≡ None)
+  file_read : (f : Filled) (file : List ℕ) (offset : ℕ) (most : Option ℕ) → Over (λ files. content_refused files f.tag f.size (File file offset most) ≡ None)
       → Over (λ files. reading_of (get files file) COMPONENT_FILE_MOST ≡ whole (read_bytes name document found file))
   file_read f file offset most passes files s =
       elim (bytes_eq file name) as (λ b. bytes_eq file name ≡ b → reading_of (get (insert files name document) file) COMPONENT_FILE_MOST ≡ whole (if b then document else unwrap_or (find_bytes file found) [])) [
         | true ↦ λ same.
             let there = own_bytes files name document file same in
             ap (λ o. reading_of o COMPONENT_FILE_MOST) there
-            ∙ own_whole f file offset most document (ap (λ o. file_refused f file offset most (reading_of o COMPONENT_FILE_MOST)) (sym there) ∙ passes files s)
+            ∙ own_whole f file offset most document (ap (λ o. file_refused f.tag f.size file offset most (reading_of o COMPONENT_FILE_MOST)) (sym there) ∙ passes files s)
         | false ↦ λ other.
             elim (find_bytes file found) as (λ o. find_bytes file found ≡ o → reading_of (get (insert files name document) file) COMPONENT_FILE_MOST ≡ whole (unwrap_or o [])) [
               | Some bytes ↦ λ is. found_reads name document found file other bytes is files s
@@ -87,13 +87,13 @@ module _ (name document : List ℕ) (found : Files) where
                   let without = still_shown files file (looks_of found) (others_found found file is) s in
                   let gone : get (insert (remove files file) name document) file ≡ None =
                   other_bytes (remove files file) name document file other ∙ get-remove_bytes files file file ∙ ap (λ t. cond t None (get files file)) (same_self file) in
-                  let refused : content_refused (insert (remove files file) name document) f (File file offset most) ≡ Some (Missing file) = ap (λ o. file_refused f file offset most (reading_of o COMPONENT_FILE_MOST)) gone in
+                  let refused : content_refused (insert (remove files file) name document) f.tag f.size (File file offset most) ≡ Some (Missing file) = ap (λ o. file_refused f.tag f.size file offset most (reading_of o COMPONENT_FILE_MOST)) gone in
                   let none = passes (remove files file) without in
                   absurd (cc)
             ] refl
       ] refl
 
-  content_same : (f : Filled) (c : Content) → Over (λ files. content_refused files f c ≡ None) → Over (λ files. content_read name document found f.size c ≡ content_bytes files f.size c)
+  content_same : (f : Filled) (c : Content) → Over (λ files. content_refused files f.tag f.size c ≡ None) → Over (λ files. content_read name document found f.size c ≡ content_bytes files f.size c)
   content_same f Zero passes files s = refl
   content_same f (Fill b) passes files s = refl
   content_same f (Inline bytes) passes files s = fitting f bytes (passes files s)
@@ -101,7 +101,7 @@ module _ (name document : List ℕ) (found : Files) where
       let bytes = read_bytes name document found file in
       let reads = file_read f file offset most passes files s in
       let there : get (insert files name document) file ≡ Some bytes = whole_found COMPONENT_FILE_MOST bytes (get (insert files name document) file) reads in
-      let fits : too_long_for f (length (file_part offset most bytes)) ≡ None = ap (file_refused f file offset most) (sym reads) ∙ passes files s in
+      let fits : too_long_for f.tag f.size (length (file_part offset most bytes)) ≡ None = ap (file_refused f.tag f.size file offset most) (sym reads) ∙ passes files s in
       fitting f (file_part offset most bytes) fits ∙ ap (λ o. padded f.size (file_part offset most (option_map_or (λ b. b) o []))) (sym there)
 
   -- ---- all of them
@@ -136,7 +136,6 @@ module _ (name document : List ℕ) (found : Files) where
 
   -- where the document is accepted
   pub things_held : (r : Resolution) → IsResolved r → Accepts name (looks_of found) document (source_of r) → Over (λ files. things_read name document found r ≡ thing_bytes files r)
-  unfolding contents_refused
   things_held r resolved accepts files s =
       things_same r
-      (λ files s. ap (first_in (filled_refused (insert files name document))) (filled_by_index r resolved) ∙ (accepted_so (insert files name document) document (source_of r) (accepts files s)).contents) files s
+      (λ files s. ap (first_in (filled_refused (insert files name document))) (filled_by_index r resolved) ∙ sym (contents_filled (insert files name document) (source_of r)) ∙ (accepted_so (insert files name document) document (source_of r) (accepts files s)).contents) files s

@@ -8,7 +8,6 @@ use Rattle.std.proofs.lemmas.Bool.{and_parts, eqb-true, leb-true, ltb-true}
 use Rattle.dma_tables.proofs.ByPages.{both_same, same_le, same_lt}
 use Rattle.image_pack.specs.ImageConditions.{KeepsConditions}
 use Rattle.image_pack.specs.declared.parts.Image.{Image}
-use Rattle.image_soundness.specs.Sizes.{declared_size}
 use Rattle.image_soundness.specs.Sound.{IsSound}
 use Rattle.muen_num.proofs.Each.{found as each_found}
 use Rattle.muen_num.proofs.Lists.{found_among}
@@ -21,7 +20,7 @@ use Rattle.policy_lawful.specs.Dma.{dma_windows, domain_of, domain_windows}
 use Rattle.policy_lawful.specs.Domains.{each_window, offence_22}
 use Rattle.policy_lawful.specs.Offences.{two}
 use Rattle.policy_lawful.specs.Rules.{is_declared, is_page_aligned}
-use Rattle.policy_lawful.specs.Thing.{Thing, region}
+use Rattle.policy_lawful.specs.Thing.{Thing, declared_size, region, Item, region_item}
 use Rattle.policy_lawful.specs.Windows.{Window, access_by, access_of, byte, holds, region_window, violation, window}
 use Rattle.policy_lawful.proofs.KeptRules.{rules_of}
 use Rattle.policy_types.specs.Rights.{allows}
@@ -34,6 +33,7 @@ use Rattle.subject_model.proofs.PolicyFacts.{found_any, found_passes}
 use Rattle.proof_start.proofs.SpansOfThings.{ThingSpan, listed_span}
 use Rattle.proof_start.proofs.ThingFacts.{region_is_thing}
 use Rattle.proof_start.proofs.WindowFacts.{region_again}
+use Rattle.policy_meaning.proofs.Items.{item_of_region}
 
 -- ---- rule 22: windows begin with a page
 
@@ -61,7 +61,9 @@ module _ (p : Source) (files : Held) (i : Image) (keeps : KeepsConditions i) (so
 
   size_is : (name : List ℕ) (r : Region) (n : ℕ) → find (λ r. bytes_eq r.name name) p.memory ≡ Some r → declared_size p (region name) ≡ Some n → r.size ≡ n
   unfolding declared_size
-  size_is name r n found e = let some : Some r.size ≡ Some n = ap (option_map (λ (r : Region). r.size)) (sym found) ∙ e in cc
+  size_is name r n found e =
+      let some : Some r.size ≡ Some n = ap (option_map (λ (i : Item). i.size)) (sym (item_of_region p name ∙ ap (option_map region_item) found)) ∙ e in
+      cc
 
   window_on : (name : List ℕ) (guest : ℕ) (rights : Rights) (w : Window Thing) → guest % PAGE ≡ 0 → region_window p name guest rights ≡ Some w → IsOnSpan w
   window_on name guest rights w aligned h =

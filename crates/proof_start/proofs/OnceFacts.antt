@@ -10,13 +10,14 @@ use Rattle.policy_lawful.proofs.KeptRules.{rules_of}
 use Rattle.policy_lawful.proofs.UniqueNames.{logical_unique, parts_unique, unique, unique_parts}
 use Rattle.policy_lawful.specs.Lawful.{IsLawful}
 use Rattle.policy_lawful.specs.Rules.{logical_names, repeated}
-use Rattle.policy_lawful.specs.Thing.{Thing, region, channel, provided, device_memory, state, component_by, provided_by, things_of}
+use Rattle.policy_lawful.specs.Thing.{Thing, region, channel, provided, device_memory, state, component_by, things_of}
 use Rattle.policy_types.specs.declared.source.Component.{Component}
 use Rattle.policy_types.specs.declared.source.ComponentUse.{ComponentUse}
 use Rattle.policy_types.specs.declared.source.Device.{Device}
 use Rattle.policy_types.specs.declared.source.Source.{Source}
 use Rattle.muen_num.proofs.Members.{In, append_some, flat_some, map_in, map_some}
 use Rattle.proof_start.proofs.ListFacts.{found_at, same_some}
+use Rattle.policy_meaning.proofs.Items.{provided_by, things_are}
 
 -- ---- elements and indexes
 
@@ -162,7 +163,6 @@ memories_once p lawful d i =
 
 -- each thing of a lawful policy stands once
 pub things_once : (p : Source) → IsLawful p → Once (things_of p)
-unfolding things_of
 things_once p lawful =
     let names = unique p (rules_of lawful).rule_1 in
     let regions : List Thing = map (λ r. region r.name) p.memory in
@@ -181,6 +181,7 @@ things_once p lawful =
     (λ s i. provided_once p lawful s.name s.component)
     (λ s t x i j. provided_whose s.name t.name (component_by p s.component) (component_by p t.component) x i j))
     (λ x i. let f = flat_some (λ s. provided_by s.name (component_by p s.component)) p.subjects x i in provided_kind f.one.name (component_by p f.one.component) x f.part) in
+    subst Once (sym (things_are p))
     (joined 3 ((regions ++ channels) ++ brought) memories c
     (once_flat (λ d. d.name) (λ d. map (λ m. device_memory d.name m.name) d.memory) p.devices (once_names (map (λ d. d.name) p.devices) names.devices)
     (λ d i. memories_once p lawful d i)
