@@ -30,6 +30,7 @@ use Rattle.policy_lawful.specs.Resolution.{source_of}
 use Rattle.policy_lawful.specs.Thing.{Thing, region}
 use Rattle.policy_lawful.specs.Windows.{Window as Granted, access_by, access_of, byte, holds, region_window, violation, window}
 use Rattle.policy_lawful.proofs.Indexes.{same_self}
+use Rattle.policy_lawful.proofs.KeptRules.{rules_of}
 use Rattle.policy_types.specs.Rights.{allows}
 use Rattle.policy_types.specs.declared.source.Bdf.{Bdf}
 use Rattle.policy_types.specs.declared.source.Device.{Device}
@@ -147,7 +148,7 @@ module _ (x : Placement) (placed : IsPlaced x) where
       let same : name.one ≡ device = (bytes_eq-Decides name.one device).0 name.passes in
       let one : Listed = record { domain = d.name; name = name.one } in
       let listed = flat_in (λ (d : Domain). map (λ name. record { domain = d.name; name = name }) d.devices) p.device_domains d one here.0 (map_in (λ name. record { domain = d.name; name = name }) d.devices name.one name.within) in
-      let bdf = passes_in (λ x. device_has_bdf p x.name) (listed_devices p) (devices_kept p placed.lawful.rule_21).numbered one listed in
+      let bdf = passes_in (λ x. device_has_bdf p x.name) (listed_devices p) (devices_kept p (rules_of placed.lawful).rule_21).numbered one listed in
       let dev = numbered name.one bdf in
       let found_dev = find_in (λ d. bytes_eq d.name name.one) p.devices dev.0 dev.1 in
       let called : dev.0.name ≡ device = (bytes_eq-Decides dev.0.name name.one).0 found_dev.1 ∙ same in

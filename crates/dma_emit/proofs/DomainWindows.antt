@@ -20,22 +20,23 @@ use Rattle.ept_emit.specs.Pages.{range_of}
 use Rattle.ept_emit.specs.declared.window.GuestRange.{GuestRange}
 use Rattle.ept_emit.specs.declared.window.Window.{Window}
 use Rattle.expand_grants.proofs.Ordered.{in_order_permutes}
-use Rattle.expand_kernel.specs.Regions.{own_region}
 use Rattle.expand_kernel.specs.declared.region.Region.{Region}
 use Rattle.muen_num.specs.declared.limits.TheConstants.{PAGE, PHYSICAL_END}
 use Rattle.muen_num.proofs.Lists.{found_among}
 use Rattle.policy_lawful.specs.Domains.{domain_extent, region_size}
+use Rattle.policy_lawful.specs.Ranges.{in_a_block}
 use Rattle.policy_lawful.specs.Resolution.{source_of}
 use Rattle.policy_lawful.specs.Rules.{are_apart, is_alignment, is_fixed, is_laid, is_page_aligned, is_page_size}
 use Rattle.policy_lawful.proofs.KeptAddresses.{addresses_kept}
+use Rattle.policy_lawful.proofs.KeptRules.{rules_of}
 use Rattle.policy_types.specs.declared.source.Domain.{Domain}
 use Rattle.policy_types.specs.declared.source.Mapping.{Mapping}
 use Rattle.policy_types.specs.declared.source.Region.{Region as SourceRegion}
 use Rattle.region_alloc.specs.Placed.{IsPlaced, Placement}
-use Rattle.region_alloc.specs.Placement.{in_a_block}
 use Rattle.region_alloc.proofs.Lowest.{ends_well}
 use Rattle.span_emit.proofs.DeviceSpans.{some_block}
 use Rattle.span_emit.proofs.Placed.{IsPlaced as IsLaidOut, is_placed}
+use Rattle.expand_kernel.specs.ByIndex.{own_region}
 
 -- two windows share no address
 abbrev pub AreTwo : Window → Window → Type 0
@@ -89,7 +90,7 @@ module _ (x : Placement) (placed : IsPlaced x) where
 
   laid : list_all is_laid x.expanded.lawful.memory ≡ true
   unfolding source_of
-  laid = (addresses_kept (source_of x.expanded.lawful) placed.lawful.rule_4).regions
+  laid = (addresses_kept (source_of x.expanded.lawful) (rules_of placed.lawful).rule_4).regions
 
   size_is : (m : Mapping) (r : SourceRegion) → find (λ r. bytes_eq r.name m.region) x.expanded.lawful.memory ≡ Some r → region_size (source_of x.expanded.lawful) m.region ≡ r.size
   unfolding source_of
@@ -199,4 +200,4 @@ module _ (x : Placement) (placed : IsPlaced x) where
 
   pub each_domain : All (IsDomain (source_of x.expanded.lawful)) x.expanded.lawful.device_domains
   unfolding source_of
-  each_domain = domains_kept (source_of x.expanded.lawful) placed.lawful.rule_22
+  each_domain = domains_kept (source_of x.expanded.lawful) (rules_of placed.lawful).rule_22

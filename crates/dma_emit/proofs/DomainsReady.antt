@@ -37,6 +37,7 @@ use Rattle.policy_lawful.specs.Domains.{Listed, is_bdf, listed_regions, same_bdf
 use Rattle.policy_lawful.specs.Offences.{alone}
 use Rattle.policy_lawful.specs.Resolution.{source_of}
 use Rattle.policy_lawful.proofs.KeptLimits.{limits_kept}
+use Rattle.policy_lawful.proofs.KeptRules.{rules_of}
 use Rattle.policy_lawful.proofs.UniqueNames.{unique}
 use Rattle.policy_types.specs.declared.source.Bdf.{Bdf}
 use Rattle.policy_types.specs.declared.source.Device.{Device}
@@ -158,7 +159,7 @@ module _ (x : Placement) (placed : IsPlaced x) where
   domains = x.expanded.lawful.device_domains
 
   kept : DevicesKept p
-  kept = devices_kept p placed.lawful.rule_21
+  kept = devices_kept p (rules_of placed.lawful).rule_21
 
   -- ---- how many pages
 
@@ -212,11 +213,11 @@ module _ (x : Placement) (placed : IsPlaced x) where
   few_weights : sum_by (λ d. sum_by weight d.memory) domains ≤ 6240
   unfolding source_of
   few_weights =
-      let once = sum_found (λ (l : Listed). l.name) (λ (r : Region). r.name) (λ (r : Region). tables_for r.size) (listed_regions p) memory (regions_once p placed.lawful.rule_23) in
+      let once = sum_found (λ (l : Listed). l.name) (λ (r : Region). r.name) (λ (r : Region). tables_for r.size) (listed_regions p) memory (regions_once p (rules_of placed.lawful).rule_23) in
       let same = listed_are in
       let all = regions_are x placed in
       let bytes = first_bytes memory all.0 x.expanded.regions all.1 (regions_bytes x.expanded.lawful.memory_blocks x.expanded.lawful.devices x.expanded.regions x.addresses (laid_out x placed)) in
-      let many = (limits_kept p placed.lawful.rule_20).regions in
+      let many = (limits_kept p (rules_of placed.lawful).rule_20).regions in
       let few : length memory ≤ MOST_REGIONS = omega arith in
       let sum = weights memory in
       omega arith
@@ -284,7 +285,7 @@ module _ (x : Placement) (placed : IsPlaced x) where
   ready =
       let ds = x.expanded.lawful.devices in
       let few = fewer_made (domain_device p) ds in
-      let most = (limits_kept p placed.lawful.rule_20).most_devices in
+      let most = (limits_kept p (rules_of placed.lawful).rule_20).most_devices in
       let pages = few_pages in
       record {
         few_domains = few_domains;

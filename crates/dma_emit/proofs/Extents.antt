@@ -15,6 +15,7 @@ use Rattle.policy_lawful.specs.Rules.{at_most, extents_of, is_page_aligned, is_p
 use Rattle.policy_lawful.specs.declared.offence.Extent.{Extent}
 use Rattle.policy_lawful.proofs.KeptAddresses.{addresses_kept, is_memory}
 use Rattle.policy_lawful.proofs.KeptLimits.{limits_kept}
+use Rattle.policy_lawful.proofs.KeptRules.{rules_of}
 use Rattle.policy_types.specs.declared.source.Block.{Block}
 use Rattle.policy_types.specs.declared.source.Device.{Device}
 use Rattle.policy_types.specs.declared.source.DeviceMemory.{DeviceMemory}
@@ -51,7 +52,7 @@ devices_whole (d ∷ ds) h =
 
 pub all_whole : (p : Source) → IsLawful p → All IsWhole (extents_of p)
 all_whole p lawful =
-    let kept = addresses_kept p lawful.rule_4 in
+    let kept = addresses_kept p (rules_of lawful).rule_4 in
     All-append IsWhole (map block_extent p.memory_blocks) (flat_map (λ d. map memory_extent d.memory) p.devices)
     (All-map IsWhole block_extent p.memory_blocks (all_from (λ b. is_physical b.physical_address b.size) (λ b. IsWhole (block_extent b)) (λ b k. whole (block_extent b) k) p.memory_blocks kept.blocks))
     (devices_whole p.devices kept.devices)
@@ -95,7 +96,7 @@ pub room : (p : Source) (bytes : ℕ) → IsLawful p → bytes ≤ 2 ^ 26 → su
 room p bytes lawful small =
     let blocks = map block_extent p.memory_blocks in
     let memories = flat_map (λ (d : Device). map memory_extent d.memory) p.devices in
-    let kept = limits_kept p lawful.rule_20 in
+    let kept = limits_kept p (rules_of lawful).rule_20 in
     let sum = with_bytes bytes (blocks ++ memories) in
     let sizes = sum_by-append (λ (e : Extent). e.size) blocks memories in
     let many = length-append blocks memories in
@@ -103,7 +104,7 @@ room p bytes lawful small =
     let block_many = length-map p.memory_blocks block_extent in
     let memory_sizes = devices_size p.devices in
     let memory_many = devices_many p.devices in
-    let few = few_blocks p lawful.rule_20 in
+    let few = few_blocks p (rules_of lawful).rule_20 in
     let block_bytes = kept.block_bytes in
     let device_bytes = kept.device_bytes in
     let windows = kept.device_windows in

@@ -6,15 +6,17 @@ use Rattle.std.proofs.lemmas.Bool.{ltb-true}
 use Rattle.std.proofs.lemmas.List.{length-map}
 use Rattle.std.proofs.lemmas.Option.{slice_get-map, slice_get_within}
 use Rattle.std.proofs.lemmas.Slice.Zip.{AllZip-long}
-use Rattle.expand_kernel.specs.Regions.{channel_region, kernel_regions_of, own_region, provided_regions, regions_of}
+use Rattle.expand_kernel.specs.Regions.{kernel_regions_of, regions_of}
 use Rattle.expand_kernel.specs.declared.region.Region.{Region}
 use Rattle.muen_num.proofs.Lists.{get_left}
+use Rattle.policy_lawful.specs.Ranges.{in_a_block}
 use Rattle.policy_lawful.specs.Resolution.{source_of}
 use Rattle.policy_lawful.specs.Thing.{component_by}
 use Rattle.policy_types.specs.declared.source.Region.{Region as SourceRegion}
 use Rattle.policy_types.specs.declared.source.Source.{Source}
 use Rattle.region_alloc.specs.Placed.{IsPlaced, Placement}
-use Rattle.region_alloc.specs.Placement.{in_a_block}
+use Rattle.expand_kernel.specs.ByIndex.{channel_region, own_region, provided_regions}
+use Rattle.expand_kernel.proofs.ByKind.{regions_are}
 
 -- an index that is found is one of the list
 pub position_within : {X : Type 0} (p : X → Bool) (xs : List X) (n : ℕ) → position p xs ≡ Some n → n < length xs
@@ -29,13 +31,12 @@ position_within p xs n e =
 
 -- the regions of memory stand first
 first_regions : (p : Source) → (rest : List Region) × (regions_of p ≡ map own_region p.memory ++ rest)
-unfolding regions_of
 first_regions p =
     let own = map own_region p.memory in
     let a = map channel_region p.channels in
     let b = flat_map (λ s. provided_regions s.name (component_by p s.component)) p.subjects in
     let c = flat_map (kernel_regions_of p) p.subjects in
-    (a ++ (b ++ c), append_assoc (own ++ a) b c ∙ append_assoc own a (b ++ c))
+    (a ++ (b ++ c), regions_are p ∙ append_assoc (own ++ a) b c ∙ append_assoc own a (b ++ c))
 
 module _ (x : Placement) (placed : IsPlaced x) where
   pub regions_are : (rest : List Region) × (x.expanded.regions ≡ map own_region x.expanded.lawful.memory ++ rest)

@@ -9,6 +9,7 @@ use Rattle.std.proofs.lemmas.List.Folds.{list_all-map}
 use Rattle.event_emit.specs.ByIndex.{event_part, has_letters, has_name, irq_target}
 use Rattle.event_emit.specs.Tables.{IsEntry, IsIrqTarget}
 use Rattle.event_emit.proofs.KeptEvents.{irq_reaches, is_raised, is_routed, raised_reaches}
+use Rattle.policy_lawful.proofs.KeptRules.{rules_of}
 use Rattle.policy_lawful.proofs.KeptVectors.{is_free}
 use Rattle.expand_grants.specs.Grants.{AreRoutes, entry_raised, is_way, raised_named, route_for, target_named}
 use Rattle.expand_grants.specs.declared.granted.EventEntry.{EventEntry}
@@ -38,7 +39,7 @@ module _ (r : Resolution) (names : list_all has_name r.subjects ≡ true) (lawfu
 
   pub few_subjects : length r.subjects ≤ 32
   few_subjects =
-      let few : length (source_of r).subjects ≤ MOST_SUBJECTS = (limits_kept (source_of r) lawful.rule_20).most_subjects in
+      let few : length (source_of r).subjects ≤ MOST_SUBJECTS = (limits_kept (source_of r) (rules_of lawful).rule_20).most_subjects in
       let many = many_subjects r in
       omega (arith, few, many)
 
@@ -60,7 +61,7 @@ module _ (r : Resolution) (names : list_all has_name r.subjects ≡ true) (lawfu
       elim (find (λ e. is_way way e.way) entries) as (λ o. option_map_or is_raised (option_map (raised_named r) o) true ≡ true → IsEntry (length r.subjects) (option_map event_part o)) [
         | None ↦ λ _. tt
         | Some e ↦ λ h. entry_reaches e h
-      ] (ap (λ o. option_map_or is_raised o true) same ∙ raised_reaches (source_of r) source_names lawful.rule_6 lawful.rule_15 (subject_named r s) way)
+      ] (ap (λ o. option_map_or is_raised o true) same ∙ raised_reaches (source_of r) source_names (rules_of lawful).rule_6 (rules_of lawful).rule_15 (subject_named r s) way)
 
   route_reaches : (t : Route) → is_routed (target_named r t.subject (Some t.vector)) ≡ true → IsIrqTarget (length r.subjects) (Some (irq_target t))
   route_reaches t h =
@@ -76,4 +77,4 @@ module _ (r : Resolution) (names : list_all has_name r.subjects ≡ true) (lawfu
       elim (route_for routes device irq) as (λ o. option_map_or is_routed (option_map (λ (t : Route). target_named r t.subject (Some t.vector)) o) true ≡ true → IsIrqTarget (length r.subjects) (option_map irq_target o)) [
         | None ↦ λ _. tt
         | Some t ↦ λ h. route_reaches t h
-      ] (ap (λ o. option_map_or is_routed o true) (are.each device irq d i is in_it) ∙ irq_reaches (source_of r) source_names lawful.rule_6 lawful.rule_15 d.name i.name)
+      ] (ap (λ o. option_map_or is_routed o true) (are.each device irq d i is in_it) ∙ irq_reaches (source_of r) source_names (rules_of lawful).rule_6 (rules_of lawful).rule_15 d.name i.name)

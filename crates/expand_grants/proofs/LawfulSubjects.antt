@@ -8,6 +8,7 @@ use Rattle.muen_num.proofs.Lists.{passes_at}
 use Rattle.policy_lawful.specs.Lawful.{IsLawful}
 use Rattle.policy_lawful.specs.Resolution.{IsResolved, Resolution, source_of, subject_in_range}
 use Rattle.policy_lawful.specs.declared.resolved.Subject.{Subject}
+use Rattle.policy_lawful.proofs.KeptRules.{rules_of}
 use Rattle.policy_lawful.proofs.SourceElements.{parts_in_range}
 use Rattle.expand_grants.specs.ByIndex.{fits_device, fits_msrs, fits_uses}
 use Rattle.expand_grants.specs.Kept.{IsKept}
@@ -21,29 +22,29 @@ use Rattle.expand_grants.proofs.WindowsInOrder.{guests_differ}
 
 module _ (r : Resolution) (q : IsResolved r) (lawful : IsLawful (source_of r)) where
   pub targets_fit : list_all fits_targets r.subjects ≡ true
-  targets_fit = all_targets_fit r q lawful.rule_14 lawful.rule_15
+  targets_fit = all_targets_fit r q (rules_of lawful).rule_14 (rules_of lawful).rule_15
 
   pub channel_ends_fit : list_all (fits_channel_ends r) r.subjects ≡ true
-  channel_ends_fit = all_channel_ends_fit r q lawful.rule_14 lawful.rule_15
+  channel_ends_fit = all_channel_ends_fit r q (rules_of lawful).rule_14 (rules_of lawful).rule_15
 
   pub uses_fit : list_all fits_uses r.subjects ≡ true
-  uses_fit = all_uses_fit r q lawful.rule_14 lawful.rule_15
+  uses_fit = all_uses_fit r q (rules_of lawful).rule_14 (rules_of lawful).rule_15
 
   pub devices_fit : list_all fits_device r.devices ≡ true
-  devices_fit = ports_fit r lawful.rule_10
+  devices_fit = ports_fit r (rules_of lawful).rule_10
 
   -- of one of its subjects
   pub subject_kept : (k : ℕ) (s : Subject) → slice_get r.subjects k ≡ Some s → IsKept r s
   subject_kept k s at =
       let in_range = passes_at (subject_in_range r) r.subjects k s (parts_in_range r q.in_range).subjects at in
       record {
-        guests = guests_differ r k s q lawful.rule_4 lawful.rule_5 at in_range;
+        guests = guests_differ r k s q (rules_of lawful).rule_4 (rules_of lawful).rule_5 at in_range;
         ports = ports_by_index r s q in_range;
-        msrs = passes_at (λ s. list_all fits_msrs s.msrs) r.subjects k s (msrs_fit r lawful.rule_11) at;
-        sources = passes_at fits_sources r.subjects k s (all_sources_fit r q lawful.rule_14 lawful.rule_15) at;
+        msrs = passes_at (λ s. list_all fits_msrs s.msrs) r.subjects k s (msrs_fit r (rules_of lawful).rule_11) at;
+        sources = passes_at fits_sources r.subjects k s (all_sources_fit r q (rules_of lawful).rule_14 (rules_of lawful).rule_15) at;
         ends = passes_at (fits_channel_ends r) r.subjects k s channel_ends_fit at;
-        events = events_by_index r k s q lawful.rule_6 lawful.rule_12 at in_range;
-        once = entries_once r k s q lawful.rule_14 lawful.rule_15 at in_range;
+        events = events_by_index r k s q (rules_of lawful).rule_6 (rules_of lawful).rule_12 at in_range;
+        once = entries_once r k s q (rules_of lawful).rule_14 (rules_of lawful).rule_15 at in_range;
       }
 
   -- of one that is read off the list of them

@@ -18,6 +18,7 @@ use Rattle.policy_lawful.specs.declared.resolved.IrqUse.{IrqUse}
 use Rattle.policy_lawful.specs.declared.resolved.Subject.{Subject}
 use Rattle.policy_lawful.proofs.EachPasses.{all_flat}
 use Rattle.policy_lawful.proofs.Indexes.{same_name}
+use Rattle.policy_lawful.proofs.KeptRules.{rules_of}
 use Rattle.policy_lawful.proofs.SourceElements.{parts_in_range}
 use Rattle.policy_lawful.proofs.UniqueNames.{parts_unique, unique}
 use Rattle.policy_lawful.specs.Events.{Target, irq_of}
@@ -176,7 +177,7 @@ module _ (r : Resolution) (q : IsResolved r) (lawful : IsLawful (source_of r)) w
       there_is None is h = absurd (cc)
       there_is (Some d) is h =
           let i = there d.irqs irq (ltb-true irq (length d.irqs) h) in
-          irq_once r q device irq d i.0 is i.1 lawful.rule_9
+          irq_once r q device irq d i.0 is i.1 (rules_of lawful).rule_9
 
       by : (b : Bool) → is_interrupt r device irq ≡ b → count_by (λ t. is_route_of device irq t) (all_routes r.subjects) ≤ 1
       by true h = there_is (slice_get r.devices device) refl h

@@ -1,6 +1,6 @@
 -- What components bring along, by their names or by their indexes.
-use Rattle.std.proofs.Common.{◌≡◌, ℕ, ◌<◌, true, List, [], ◌∷◌, ◌++◌, length, map, Option, Some, None, refl, ap, ◌∙◌}
-use Rattle.std.specs.Prelude.{nat_lt, slice_get, option_map}
+use Rattle.std.proofs.Common.{◌≡◌, ℕ, ◌<◌, true, List, [], ◌∷◌, ◌++◌, length, map, Option, Some, None, refl, ap}
+use Rattle.std.specs.Prelude.{nat_lt, option_map}
 use Rattle.std.specs.Option.{option_map_or}
 use Rattle.std.specs.List.{flat_map, list_all}
 use Rattle.std.proofs.lemmas.Bool.{and_parts, ltb-true}
@@ -12,14 +12,8 @@ use Rattle.policy_lawful.proofs.UniqueNames.{unique}
 use Rattle.policy_lawful.specs.Thing.{component_by}
 use Rattle.policy_types.specs.declared.source.Component.{Component}
 use Rattle.policy_lawful.proofs.WindowsByIndex.{subject_parts}
-use Rattle.expand_kernel.specs.ByIndex.{brought_at}
+use Rattle.expand_kernel.specs.ByIndex.{brought_at, provided_region, provided_regions}
 use Rattle.policy_lawful.specs.ByIndex.{provided_at}
-use Rattle.expand_kernel.specs.Regions.{provided_region, provided_regions}
-
--- of the component that was found
-of_component : (name : List ℕ) (o : Option Component) → provided_regions name o ≡ map (provided_region name) (option_map_or (λ c. c.provides) o [])
-of_component name None = refl
-of_component name (Some c) = refl
 
 module _ (r : Resolution) (h : IsResolved r) where
   of_use : (name : List ℕ) (o : Option ComponentUse) → option_map_or (component_in_range r) o true ≡ true → provided_regions name (component_by (source_of r) (option_map (component_named r) o)) ≡ map (provided_region name) (provided_at r.components o)
@@ -28,7 +22,6 @@ module _ (r : Resolution) (h : IsResolved r) where
   of_use name (Some used) in_range =
       let there : used.used < length r.components = ltb-true _ _ (and_parts (nat_lt used.used (length r.components)) _ in_range).0 in
       ap (provided_regions name) (found_at_index (λ (c : Component). c.name) r.components used.used (unique (source_of r) h.names).components there)
-      ∙ of_component name (slice_get r.components used.used)
 
   of_subject : (s : Subject) → subject_in_range r s ≡ true → provided_regions s.name (component_by (source_of r) (subject_named r s).component) ≡ brought_at r.components s
   unfolding brought_at

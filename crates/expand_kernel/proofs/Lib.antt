@@ -1,4 +1,5 @@
 pub mod BroughtByIndex
+pub mod ByKind
 pub mod GrantedViews
 pub mod InTurn
 pub mod LowestFirst

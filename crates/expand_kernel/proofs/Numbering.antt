@@ -5,10 +5,11 @@ use Rattle.std.proofs.lemmas.Bool.{and_parts}
 use Rattle.std.proofs.lemmas.List.Elements.{All-from_recursion}
 use Rattle.expand_grants.specs.Grants.{AreGrants, AreGrantsOf}
 use Rattle.expand_grants.specs.declared.granted.Grants.{Grants}
-use Rattle.expand_kernel.specs.ByIndex.{CanMap, brought_at, kernel_for_each, view_ranges}
-use Rattle.expand_kernel.specs.Regions.{channel_region, kernel_regions, kernel_regions_of, own_region, regions_of}
+use Rattle.expand_kernel.specs.ByIndex.{CanMap, brought_at, channel_region, kernel_for_each, own_region, view_ranges}
+use Rattle.expand_kernel.specs.Regions.{kernel_regions, kernel_regions_of, regions_of}
 use Rattle.expand_kernel.specs.declared.region.Region.{Region}
 use Rattle.expand_kernel.proofs.BroughtByIndex.{brought_by_index}
+use Rattle.expand_kernel.proofs.ByKind.{regions_are}
 use Rattle.expand_kernel.proofs.GrantedViews.{can_map_views, pages_of_views}
 use Rattle.ept_emit.specs.Pages.{ept_pages}
 use Rattle.muen_num.specs.Search.{first_in}
@@ -18,6 +19,7 @@ use Rattle.policy_lawful.specs.Resolution.{IsResolved, Resolution, source_of, su
 use Rattle.policy_lawful.specs.Rules.{first_overlap, is_guest, offence_5, window_extents}
 use Rattle.policy_lawful.specs.declared.resolved.Subject.{Subject}
 use Rattle.policy_lawful.proofs.KeptAddresses.{addresses_kept}
+use Rattle.policy_lawful.proofs.KeptRules.{rules_of}
 use Rattle.policy_lawful.proofs.SourceElements.{parts_in_range}
 use Rattle.policy_types.specs.declared.source.Subject.{Subject as NamedSubject}
 
@@ -56,15 +58,16 @@ pub can_map_granted : (r : Resolution) (gs : List Grants) → IsResolved r → I
 unfolding offence_5 source_of
 can_map_granted r gs q lawful granted =
     All-from_recursion (λ g. CanMap g.views) gs
-    (can_map_each r q r.subjects gs granted (parts_in_range r q.in_range).subjects (addresses_kept (source_of r) lawful.rule_4).windows lawful.rule_5)
+    (can_map_each r q r.subjects gs granted (parts_in_range r q.in_range).subjects (addresses_kept (source_of r) (rules_of lawful).rule_4).windows (rules_of lawful).rule_5)
 
 -- the regions of a policy by number
 pub regions_by_index : (r : Resolution) (gs : List Grants) → IsResolved r → AreGrants r gs
     → map own_region r.memory ++ map channel_region r.channels ++ flat_map (brought_at r.components) r.subjects ++ kernel_for_each r.subjects gs ≡ regions_of (source_of r)
-unfolding regions_of source_of
+unfolding source_of
 regions_by_index r gs q granted =
     let in_range = (parts_in_range r q.in_range).subjects in
-    λ i. map own_region r.memory ++ map channel_region r.channels ++ sym (brought_by_index r q r.subjects in_range) i ++ kernel_by_index r q r.subjects gs granted in_range i
+    (λ i. map own_region r.memory ++ map channel_region r.channels ++ sym (brought_by_index r q r.subjects in_range) i ++ kernel_by_index r q r.subjects gs granted in_range i)
+    ∙ sym (regions_are (source_of r))
 
 -- the same, where they were joined one list after the other
 pub joined_by_index : (r : Resolution) (gs : List Grants) (memory channels provided kernel all : List Region) → IsResolved r → AreGrants r gs

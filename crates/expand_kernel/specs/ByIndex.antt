@@ -1,17 +1,35 @@
 -- The regions of a resolved policy by the indexes of components, and the kernel's by the windows that are granted.
-use Rattle.std.specs.Prelude.{List, map}
+use Rattle.std.specs.Prelude.{ℕ, List, [], map, Option}
+use Rattle.std.specs.Option.{option_map_or}
 use Rattle.std.specs.List.{All, flat_map, zip}
 use Rattle.ept_emit.specs.Pages.{AreApart, IsMapped, ept_pages}
 use Rattle.ept_emit.specs.declared.window.GuestRange.{GuestRange}
 use Rattle.expand_grants.specs.declared.granted.Grants.{Grants}
-use Rattle.expand_kernel.specs.Regions.{kernel_regions, provided_region}
+use Rattle.expand_kernel.specs.Regions.{kernel_regions, region_of}
 use Rattle.expand_kernel.specs.declared.region.Region.{Region}
 use Rattle.policy_lawful.specs.ByIndex.{provided_at}
+use Rattle.policy_lawful.specs.Thing.{channel_item, provided_item, region_item}
 use Rattle.policy_lawful.specs.declared.resolved.Subject.{Subject}
+use Rattle.policy_types.specs.declared.source.Channel.{Channel}
 use Rattle.policy_types.specs.declared.source.Component.{Component}
+use Rattle.policy_types.specs.declared.source.Provided.{Provided}
+use Rattle.policy_types.specs.declared.source.Region.{Region as SourceRegion}
 use Rattle.policy_lawful.specs.declared.view.View.{View}
 
--- ---- of components
+-- ---- of memory, of channels, of components
+
+abbrev pub own_region : SourceRegion → Region
+own_region r = region_of (region_item r)
+
+abbrev pub channel_region : Channel → Region
+channel_region c = region_of (channel_item c)
+
+abbrev pub provided_region : List ℕ → Provided → Region
+provided_region subject x = region_of (provided_item subject x)
+
+-- those that a component brings along for a subject of this name
+abbrev pub provided_regions : List ℕ → Option Component → List Region
+provided_regions subject c = map (provided_region subject) (option_map_or (λ c. c.provides) c [])
 
 unfoldable pub brought_at : List Component → Subject → List Region
 brought_at components s = map (provided_region s.name) (provided_at components s.component)

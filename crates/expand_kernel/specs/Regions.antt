@@ -1,6 +1,6 @@
 -- The regions of physical memory of a policy, in the order of their numbers (Muen system policy: memory regions; the kernel's
 -- own regions are this project's).
-use Rattle.std.specs.Prelude.{ℕ, ◌+◌, ◌*◌, List, [], ◌∷◌, ◌++◌, map, Option, Some, None}
+use Rattle.std.specs.Prelude.{ℕ, ◌+◌, ◌*◌, List, [], ◌∷◌, ◌++◌, map, None}
 use Rattle.std.specs.List.{flat_map}
 use Rattle.ept_emit.specs.Pages.{ept_pages}
 use Rattle.ept_emit.specs.declared.window.GuestRange.{GuestRange}
@@ -11,13 +11,9 @@ use Rattle.expand_kernel.specs.declared.region.RegionKind.{RegionKind}
 use Rattle.expand_kernel.specs.declared.region.RegionKind.TheVariants.{Own, Channel, Provided, Kernel}
 use Rattle.muen_num.specs.declared.limits.TheConstants.{PAGE}
 use Rattle.muen_num.specs.declared.tag.TagPart.{TagPart}
-use Rattle.muen_num.specs.declared.tag.TagPart.TheVariants.{Whole, Named, State, Ept, Iobm, Msrbm, Msrs}
-use Rattle.policy_lawful.specs.Thing.{component_by}
+use Rattle.muen_num.specs.declared.tag.TagPart.TheVariants.{State, Ept, Iobm, Msrbm, Msrs}
+use Rattle.policy_lawful.specs.Thing.{Item, Thing, channel, placed_items, provided, region, thing_tag}
 use Rattle.policy_lawful.specs.Windows.{Window, windows_of}
-use Rattle.policy_types.specs.declared.source.Channel.{Channel as SourceChannel}
-use Rattle.policy_types.specs.declared.source.Component.{Component}
-use Rattle.policy_types.specs.declared.source.Provided.{Provided as SourceProvided}
-use Rattle.policy_types.specs.declared.source.Region.{Region as SourceRegion}
 use Rattle.policy_types.specs.declared.source.Source.{Source}
 use Rattle.policy_types.specs.declared.source.Subject.{Subject}
 
@@ -26,27 +22,16 @@ abbrev pub anywhere : RegionKind → List ℕ → TagPart → ℕ → Region
 anywhere kind owner part size =
     record { tag = record { owner = owner; part = part }; kind = kind; size = size; alignment = PAGE; fixed = None }
 
--- ---- of memory, of channels, of components
+-- ---- of what the policy declares
 
-abbrev pub own_region : SourceRegion → Region
-own_region r = record {
-  tag = record { owner = r.name; part = Whole };
-  kind = Own;
-  size = r.size;
-  alignment = r.alignment;
-  fixed = r.physical_address;
-}
+abbrev pub region_kind : Thing → RegionKind
+region_kind (region name) = Own
+region_kind (channel name) = Channel
+region_kind (provided subject logical) = Provided
+region_kind _ = Kernel
 
-abbrev pub channel_region : SourceChannel → Region
-channel_region c = anywhere Channel c.name Whole c.size
-
-abbrev pub provided_region : List ℕ → SourceProvided → Region
-provided_region subject x = anywhere Provided subject (Named x.logical) x.size
-
--- those that a component brings along for a subject of this name
-abbrev pub provided_regions : List ℕ → Option Component → List Region
-provided_regions subject None = []
-provided_regions subject (Some c) = map (provided_region subject) c.provides
+abbrev pub region_of : Item → Region
+region_of i = record { tag = thing_tag i.thing; kind = region_kind i.thing; size = i.size; alignment = i.alignment; fixed = i.address }
 
 -- ---- of the kernel
 
@@ -89,10 +74,6 @@ kernel_regions_of p s = kernel_regions s.name (ept_pages (map window_range (wind
 
 -- ---- all
 
--- by number: memory, channels, what each subject's component brings along, the kernel's for each subject
+-- by number: what is placed of the policy's things, the kernel's for each subject
 unfoldable pub regions_of : Source → List Region
-regions_of p =
-    map own_region p.memory
-    ++ map channel_region p.channels
-    ++ flat_map (λ s. provided_regions s.name (component_by p s.component)) p.subjects
-    ++ flat_map (kernel_regions_of p) p.subjects
+regions_of p = map region_of (placed_items p) ++ flat_map (kernel_regions_of p) p.subjects

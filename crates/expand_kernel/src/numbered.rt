@@ -2,8 +2,8 @@
 //! the subjects' components bring along.
 ghost use Rattle.std.specs.Prelude.{◌≡◌, map, IfOk};
 ghost use Rattle.std.specs.List.{flat_map};
-ghost use Rattle.expand_kernel.specs.ByIndex.{brought_at};
-ghost use Rattle.expand_kernel.specs.Regions.{anywhere, channel_region, own_region, provided_region};
+ghost use Rattle.expand_kernel.specs.ByIndex.{brought_at, channel_region, own_region, provided_region};
+ghost use Rattle.expand_kernel.specs.Regions.{anywhere};
 
 use crate::region::{Region, RegionKind};
 use muen_num::limits::PAGE;

@@ -23,6 +23,7 @@ use Rattle.muen_num.specs.declared.devices.PortSpan.{PortSpan}
 use Rattle.muen_num.specs.declared.limits.TheConstants.{PAGE}
 use Rattle.muen_num.specs.declared.tag.Tag.{Tag}
 use Rattle.policy_lawful.proofs.KeptLimits.{limits_kept}
+use Rattle.policy_lawful.proofs.KeptRules.{rules_of}
 use Rattle.policy_lawful.specs.Lawful.{IsLawful}
 use Rattle.policy_lawful.specs.Resolution.{IsResolved, Resolution, source_of}
 use Rattle.policy_lawful.specs.Thing.{device_memory, thing_tag}
@@ -196,4 +197,4 @@ same_devices r = refl
 -- a lawful policy has few windows of devices
 pub few_windows : (r : Resolution) → IsLawful (source_of r) → 0 + sum_by (λ d. length d.memory) r.devices < 65536
 unfolding source_of
-few_windows r h = let kept = (limits_kept (source_of r) h.rule_20).device_windows in omega (arith, kept)
+few_windows r h = let kept = (limits_kept (source_of r) (rules_of h).rule_20).device_windows in omega (arith, kept)

@@ -11,7 +11,6 @@ use Rattle.image_checks.specs.declared.contents.ExpectedSpan.{ExpectedSpan}
 use Rattle.image_emit.specs.Made.{thing_bytes}
 use Rattle.image_pack.specs.Codes.{is_device}
 use Rattle.image_pack.specs.declared.parts.SpanKind.TheVariants.{Device as DeviceSpan}
-use Rattle.image_soundness.specs.Sizes.{declared_size}
 use Rattle.image_soundness.specs.Sound.{kind_of}
 use Rattle.muen_num.proofs.Lists.{get_left, get_right, map-map}
 use Rattle.muen_num.specs.declared.tag.Tag.{Tag}
@@ -20,7 +19,7 @@ use Rattle.muen_num.specs.declared.tag.TagPart.TheVariants.{Named, Whole}
 use Rattle.policy_lawful.specs.ByIndex.{provided_at}
 use Rattle.policy_lawful.specs.Contents.{Held, initial_bytes}
 use Rattle.policy_lawful.specs.Resolution.{IsResolved, Resolution, source_of}
-use Rattle.policy_lawful.specs.Thing.{Thing, channel, provided, region, thing_tag, things_of}
+use Rattle.policy_lawful.specs.Thing.{Thing, channel, declared_size, provided, region, thing_tag, things_of}
 use Rattle.policy_types.specs.declared.source.DeviceMemory.{DeviceMemory}
 use Rattle.proof_build.proofs.PiecesOfLists.{flat_map_at, map_pieces, zip_append, zip_map_both, zip_pieces}
 use Rattle.proof_build.proofs.ThingBytes.{memory_bytes_are, memory_sizes_are, region_bytes_are, region_sizes_are}

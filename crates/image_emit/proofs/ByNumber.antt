@@ -9,7 +9,6 @@ use Rattle.std.proofs.lemmas.Slice.Zip.{AllZip-long}
 use Rattle.std.proofs.lemmas.List.{length-map}
 use Rattle.std.proofs.lemmas.List.FromFn.{length-enumerate_from}
 use Rattle.image_emit.proofs.AtIndexes.{looked_up, mapped_there, none_missing}
-use Rattle.region_alloc.specs.Placement.{in_a_block}
 use Rattle.image_emit.specs.Made.{IsMade, Made, content_at, image_of, policy_of}
 use Rattle.image_soundness.specs.Memory.{Span, by_number, span_at}
 use Rattle.image_pack.specs.declared.parts.SpanPart.{SpanPart}
@@ -17,6 +16,7 @@ use Rattle.muen_num.proofs.Lists.{find-map, get_left, get_right}
 use Rattle.muen_num.specs.Range.{numbers_below}
 use Rattle.span_emit.specs.Spans.{device_span, device_spans, memories_of, region_span, region_spans}
 use Rattle.span_emit.specs.SpansOf.{spans_of}
+use Rattle.policy_lawful.specs.Ranges.{in_a_block}
 
 -- ---- lists in which no two have one number
 

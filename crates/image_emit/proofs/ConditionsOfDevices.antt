@@ -27,6 +27,7 @@ use Rattle.muen_num.proofs.Lists.{get_left, get_right, passes_at}
 use Rattle.muen_num.specs.Naming.{is_name}
 use Rattle.muen_num.specs.Range.{numbers_below}
 use Rattle.muen_num.specs.declared.limits.TheConstants.{LAST_PORT, MOST_PER_DEVICE}
+use Rattle.policy_lawful.proofs.KeptRules.{rules_of}
 use Rattle.policy_lawful.proofs.UniqueNames.{UniqueParts, parts_unique, unique}
 use Rattle.policy_lawful.specs.Resolution.{Resolution, source_of}
 use Rattle.policy_types.specs.declared.source.Device.{Device}
@@ -138,11 +139,11 @@ module _ (m : Made) (h : IsMade m) where
   module _ (j : ℕ) (q : DevicePart) (d : Device) (first : ℕ) (at : slice_get (policy_of m).devices j ≡ Some d) (is : IsDeviceFrom (policy_of m) first d q) (has : HaveMemory (spans_of m.placed) first (named_memory d)) where
     few : has_few_parts d ≡ true
     unfolding source_of
-    few = passes_at has_few_parts (policy_of m).devices j d (limits_kept (source_of (policy_of m)) h.lawful.rule_20).device_parts at
+    few = passes_at has_few_parts (policy_of m).devices j d (limits_kept (source_of (policy_of m)) (rules_of h.lawful).rule_20).device_parts at
 
     ranges : list_all is_range d.io_ports ≡ true
     unfolding source_of
-    ranges = passes_at (λ d. list_all is_range d.io_ports) (policy_of m).devices j d (ports_kept (source_of (policy_of m)) h.lawful.rule_10) at
+    ranges = passes_at (λ d. list_all is_range d.io_ports) (policy_of m).devices j d (ports_kept (source_of (policy_of m)) (rules_of h.lawful).rule_10) at
 
     parts_differ : UniqueParts d
     unfolding source_of

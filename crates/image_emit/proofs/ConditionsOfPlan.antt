@@ -8,7 +8,6 @@ use Rattle.std.proofs.lemmas.List.{get_or_default, length-map}
 use Rattle.std.proofs.lemmas.List.Sorted.{Contains-permutation, length_permutation}
 use Rattle.std.proofs.lemmas.List.Sums.{AllPass-from_list_all}
 use Rattle.std.proofs.lemmas.Option.{get_or_from_slice_get, slice_get_within}
-use Rattle.expand_kernel.specs.Regions.{own_region}
 use Rattle.image_emit.proofs.PlanChoice.{first_index, is_memory, own_at}
 use Rattle.image_emit.proofs.PlanSubjects.{names_in_image, position_there}
 use Rattle.image_emit.proofs.SpansAt.{region_at}
@@ -27,6 +26,7 @@ use Rattle.muen_num.specs.declared.limits.TheConstants.{MOST_CPUS, MOST_MAJOR_FR
 use Rattle.policy_lawful.proofs.KeptCpus.{cpus_kept}
 use Rattle.policy_lawful.proofs.KeptLimits.{limits_kept}
 use Rattle.policy_lawful.proofs.KeptMembers.{members_kept}
+use Rattle.policy_lawful.proofs.KeptRules.{rules_of}
 use Rattle.policy_lawful.proofs.SourceElements.{many_subjects}
 use Rattle.policy_lawful.specs.Resolution.{Resolution, source_of}
 use Rattle.policy_lawful.specs.Rules.{times_listed}
@@ -38,6 +38,7 @@ use Rattle.policy_types.specs.declared.source.Subject.{Subject}
 use Rattle.policy_types.specs.declared.source.Tau0.{Tau0}
 use Rattle.span_emit.specs.Spans.{region_span}
 use Rattle.span_emit.specs.SpansOf.{spans_of}
+use Rattle.expand_kernel.specs.ByIndex.{own_region}
 
 pub between : (low high n : ℕ) → low ≤ n → n ≤ high → is_between low high n ≡ true
 between low high n a b = and_from (nat_le low n) (nat_le n high) (le-leb low n a) (le-leb n high b)
@@ -107,11 +108,11 @@ module _ (m : Made) (h : IsMade m) where
 
   few_cpus : is_between 1 MOST_CPUS (policy_of m).processor.logical_cpus ≡ true
   unfolding source_of
-  few_cpus = let k = cpus_kept (source_of (policy_of m)) h.lawful.rule_3 in between 1 MOST_CPUS (policy_of m).processor.logical_cpus k.some k.most
+  few_cpus = let k = cpus_kept (source_of (policy_of m)) (rules_of h.lawful).rule_3 in between 1 MOST_CPUS (policy_of m).processor.logical_cpus k.some k.most
 
   few_subjects : is_between 1 MOST_SUBJECTS (length (image_of m).subjects) ≡ true
   few_subjects =
-      let k = limits_kept (source_of (policy_of m)) h.lawful.rule_20 in
+      let k = limits_kept (source_of (policy_of m)) (rules_of h.lawful).rule_20 in
       let some = k.some_subjects in
       let most : length (source_of (policy_of m)).subjects ≤ 32 = k.most_subjects in
       let many = many_subjects (policy_of m) in
@@ -121,8 +122,8 @@ module _ (m : Made) (h : IsMade m) where
   few_groups : is_between 1 MOST_SUBJECTS (length m.plan.groups) ≡ true
   few_groups =
       let p = source_of (policy_of m) in
-      let k = limits_kept p h.lawful.rule_20 in
-      let kept = members_kept p h.lawful.rule_17 in
+      let k = limits_kept p (rules_of h.lawful).rule_20 in
+      let kept = members_kept p (rules_of h.lawful).rule_17 in
       let most : length p.subjects ≤ 32 = k.most_subjects in
       let fewer = kept.few in
       let many = groups_many m h in
@@ -138,7 +139,7 @@ module _ (m : Made) (h : IsMade m) where
   few_parts : length m.devices ≤ 32
   unfolding source_of
   few_parts =
-      let most : length (policy_of m).devices ≤ 32 = (limits_kept (source_of (policy_of m)) h.lawful.rule_20).most_devices in
+      let most : length (policy_of m).devices ≤ 32 = (limits_kept (source_of (policy_of m)) (rules_of h.lawful).rule_20).most_devices in
       let many = devices_many m h in
       omega (arith, most, many)
 
@@ -211,7 +212,7 @@ chosen_kept m h t is =
     let memory = (policy_of m).memory in
     let test : SourceRegion → Bool = λ r. bytes_eq r.name t.region in
     let n = position_or_len test memory in
-    let low = first_index test memory (is_memory (source_of (policy_of m)) t is h.lawful.rule_16) in
+    let low = first_index test memory (is_memory (source_of (policy_of m)) t is (rules_of h.lawful).rule_16) in
     let found = there memory n low in
     subst (IsChoice m.spans) (sym (position_there test memory low)) (own_span m h n found.0 found.1)
 

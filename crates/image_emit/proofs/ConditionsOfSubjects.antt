@@ -32,6 +32,7 @@ use Rattle.muen_num.specs.declared.limits.TheConstants.{MOST_MSRS, PAGE, PHYSICA
 use Rattle.muen_num.specs.declared.tag.TagPart.TheVariants.{Iobm, Msrbm, Msrs, State}
 use Rattle.msrbm_emit.specs.Area.{count_of}
 use Rattle.policy_lawful.proofs.KeptCpus.{cpus_kept}
+use Rattle.policy_lawful.proofs.KeptRules.{rules_of}
 use Rattle.policy_lawful.specs.Resolution.{source_of, subject_named}
 use Rattle.policy_lawful.specs.declared.resolved.Subject.{Subject}
 use Rattle.policy_types.specs.declared.source.SourceWay.TheVariants.{Call, Trap}
@@ -96,7 +97,7 @@ module _ (m : Made) (h : IsMade m) where
         let r = policy_of m in
         let has : Subject → Bool = λ x. nat_lt x.cpu r.processor.logical_cpus in
         let all : list_all has r.subjects ≡ true =
-        sym (list_all-map (λ x. nat_lt x.cpu r.processor.logical_cpus) (subject_named r) r.subjects) ∙ (cpus_kept (source_of r) h.lawful.rule_3).subjects in
+        sym (list_all-map (λ x. nat_lt x.cpu r.processor.logical_cpus) (subject_named r) r.subjects) ∙ (cpus_kept (source_of r) (rules_of h.lawful).rule_3).subjects in
         ltb-true s.cpu r.processor.logical_cpus (passes_at has r.subjects k s all at)
 
     few : count_of g.msrs ≤ MOST_MSRS
@@ -135,8 +136,8 @@ module _ (m : Made) (h : IsMade m) where
       area = kernel_span 4 (anywhere Kernel s.name Msrs PAGE) (part_code Msrs) 1 refl refl refl;
       eptp = pointer;
       called = called;
-      calls = events t.calls (table_kept (policy_of m) s Call t.calls h.lawful.rule_15 tables.calls);
-      traps = events t.traps (table_kept (policy_of m) s Trap t.traps h.lawful.rule_15 tables.traps);
+      calls = events t.calls (table_kept (policy_of m) s Call t.calls (rules_of h.lawful).rule_15 tables.calls);
+      traps = events t.traps (table_kept (policy_of m) s Trap t.traps (rules_of h.lawful).rule_15 tables.traps);
     }
 
   -- **the subjects** of the image

@@ -16,6 +16,7 @@ use Rattle.image_pack.specs.ImageConditions.{FillsSpan, IsContent}
 use Rattle.image_pack.specs.declared.parts.SpanPart.{SpanPart}
 use Rattle.muen_num.specs.declared.limits.TheConstants.{PAGE}
 use Rattle.policy_lawful.specs.Resolution.{source_of}
+use Rattle.policy_lawful.proofs.KeptRules.{rules_of}
 use Rattle.span_emit.specs.Spans.{span_kind}
 use Rattle.span_emit.specs.SpansOf.{spans_of}
 use Rattle.span_emit.proofs.KeptRegions.{IsWhole, regions_whole}
@@ -23,7 +24,7 @@ use Rattle.span_emit.proofs.KeptRegions.{IsWhole, regions_whole}
 -- ---- regions are whole pages
 
 pub whole_regions : (m : Made) → IsMade m → All IsWhole m.placed.expanded.regions
-whole_regions m h = subst (All IsWhole) (sym h.expansion.regions) (regions_whole (source_of (policy_of m)) h.lawful.rule_4)
+whole_regions m h = subst (All IsWhole) (sym h.expansion.regions) (regions_whole (source_of (policy_of m)) (rules_of h.lawful).rule_4)
 
 pub all_at : {X : Type 0} (P : X → Type 0) (xs : List X) (n : ℕ) (x : X) → All P xs → slice_get xs n ≡ Some x → P x
 all_at P xs n x all at = subst P (get_or_from_slice_get xs n x x at) (all n x (slice_get_within xs n x at))

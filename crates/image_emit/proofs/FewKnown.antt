@@ -12,6 +12,7 @@ use Rattle.image_emit.specs.Fitting.{AreFew}
 use Rattle.msrbm_emit.specs.Area.{count_of}
 use Rattle.muen_num.proofs.Lists.{each_from, there}
 use Rattle.policy_lawful.proofs.KeptPlan.{PlanKept, plan_kept}
+use Rattle.policy_lawful.proofs.KeptRules.{rules_of}
 use Rattle.policy_lawful.specs.Rules.{offence_20}
 use Rattle.policy_lawful.specs.Resolution.{Resolution, source_of, subject_named}
 use Rattle.policy_lawful.specs.declared.resolved.Subject.{Subject}
@@ -63,7 +64,7 @@ are_few x k =
     let r = x.expanded.lawful in
     let plan = plan_kept r k.resolved k.lawful in
     let addresses = has_addresses x k in
-    let sums = sums_kept (source_of r) k.lawful.rule_20 in
+    let sums = sums_kept (source_of r) (rules_of k.lawful).rule_20 in
     let few_regions = sums.regions in
     let regions = ap length k.expansion.regions in
     let grants : length x.expanded.grants ≡ length r.subjects = AllZip-long (AreGrantsOf r) r.subjects x.expanded.grants k.expansion.grants in
@@ -80,14 +81,14 @@ are_few x k =
       tables = λ n low. (tables_placed x k n low).1;
       whole = λ n low. (tables_placed x k n low).0;
       cpus = cpus_small r plan;
-      msrs = msrs_from r k.lawful.rule_20 r.subjects x.expanded.grants (λ j s e. (j, e)) k.expansion.grants;
+      msrs = msrs_from r (rules_of k.lawful).rule_20 r.subjects x.expanded.grants (λ j s e. (j, e)) k.expansion.grants;
       grants = grants;
     }
 
 -- there are few regions, and few spans with those of devices' memory
 pub regions_few : (x : Placement) → IsPlaced x → length x.expanded.regions ≤ 1024
 regions_few x k =
-    let few = (sums_kept (source_of x.expanded.lawful) k.lawful.rule_20).regions in
+    let few = (sums_kept (source_of x.expanded.lawful) (rules_of k.lawful).rule_20).regions in
     let regions = ap length k.expansion.regions in
     omega (arith, few, regions)
 
@@ -98,7 +99,7 @@ same_devices r = refl
 pub spans_few : (x : Placement) → IsPlaced x → length x.expanded.regions + sum_by (λ d. length d.memory) x.expanded.lawful.devices < 65536
 spans_few x k =
     let few = regions_few x k in
-    let windows = (sums_kept (source_of x.expanded.lawful) k.lawful.rule_20).windows in
+    let windows = (sums_kept (source_of x.expanded.lawful) (rules_of k.lawful).rule_20).windows in
     let same = ap (λ ds. length (memories_of ds)) (same_devices x.expanded.lawful) in
     let many = windows_length x.expanded.lawful.devices in
     omega (arith, few, windows, same, many)

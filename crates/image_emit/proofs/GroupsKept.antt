@@ -16,6 +16,7 @@ use Rattle.frame_clock.specs.declared.plan.GroupPart.{GroupPart}
 use Rattle.muen_num.proofs.Lists.{passes_at, there}
 use Rattle.policy_lawful.proofs.KeptMembers.{members_kept}
 use Rattle.policy_lawful.proofs.Indexes.{found_at_index, same_self}
+use Rattle.policy_lawful.proofs.KeptRules.{rules_of}
 use Rattle.policy_lawful.proofs.UniqueNames.{names_of_subjects, subject_names, unique}
 use Rattle.policy_lawful.specs.Resolution.{name_at, source_of, subject_named}
 use Rattle.policy_lawful.specs.Rules.{is_group, is_on, subject_cpu, times_listed}
@@ -126,7 +127,7 @@ module _ (m : Made) (h : IsMade m) (k : ℕ) (s : Subject) (at : slice_get (poli
       }
 
   kept_groups : list_all (is_group (source_of (policy_of m))) groups ≡ true
-  kept_groups = (members_kept (source_of (policy_of m)) h.lawful.rule_17).groups
+  kept_groups = (members_kept (source_of (policy_of m)) (rules_of h.lawful).rule_17).groups
 
   source_at : slice_get (source_of (policy_of m)).subjects k ≡ Some (subject_named (policy_of m) s)
   unfolding source_of
@@ -171,7 +172,7 @@ module _ (m : Made) (h : IsMade m) (k : ℕ) (s : Subject) (at : slice_get (poli
   listed_once : times_listed (source_of (policy_of m)) s.name ≡ 1
   listed_once =
       let p = source_of (policy_of m) in
-      let kept = members_kept p h.lawful.rule_17 in
+      let kept = members_kept p (rules_of h.lawful).rule_17 in
       eqb-true (times_listed p s.name) 1 (passes_at (λ x. times_listed p x.name == 1) p.subjects k (subject_named (policy_of m) s) kept.once source_at)
 
   -- a group that lists it is this one

@@ -6,7 +6,7 @@ use Rattle.std.specs.Str.{bytes_eq}
 use Rattle.std.proofs.lemmas.List.Sums.{passes_at_first}
 use Rattle.std.proofs.lemmas.Option.{get_or_from_slice_get, slice_get-map, slice_get_within}
 use Rattle.std.proofs.lemmas.Slice.Eq.{bytes_eq-Decides}
-use Rattle.expand_kernel.specs.Regions.{channel_region, kernel_regions_of, own_region, provided_regions, regions_of}
+use Rattle.expand_kernel.specs.Regions.{kernel_regions_of, regions_of}
 use Rattle.image_emit.proofs.ByNumber.{span_numbered}
 use Rattle.image_emit.proofs.PlanSubjects.{position_there}
 use Rattle.image_emit.proofs.SpansAt.{region_at}
@@ -19,10 +19,13 @@ use Rattle.policy_lawful.specs.Offences.{two}
 use Rattle.policy_lawful.specs.Resolution.{source_of}
 use Rattle.policy_lawful.specs.Rules.{major_offence, majors_of, offence_16, tau0_offence}
 use Rattle.policy_lawful.specs.Thing.{component_by, region, thing_tag}
+use Rattle.policy_lawful.proofs.KeptRules.{rules_of}
 use Rattle.policy_types.specs.declared.source.Region.{Region as SourceRegion}
 use Rattle.policy_types.specs.declared.source.Source.{Source}
 use Rattle.policy_types.specs.declared.source.Tau0.{Tau0}
 use Rattle.span_emit.specs.Spans.{region_span}
+use Rattle.expand_kernel.specs.ByIndex.{channel_region, own_region, provided_regions}
+use Rattle.expand_kernel.proofs.ByKind.{regions_are}
 
 -- where some element passes a test, the first that does has an index
 pub first_index : {X : Type 0} (test : X → Bool) (xs : List X) → list_any test xs ≡ true → position_or_len test xs < length xs
@@ -55,7 +58,6 @@ is_memory p t is h =
 
 -- the regions begin with those of memory
 pub own_at : (p : Source) (n : ℕ) (r : SourceRegion) → slice_get p.memory n ≡ Some r → slice_get (regions_of p) n ≡ Some (own_region r)
-unfolding regions_of
 own_at p n r at =
     let front = map own_region p.memory in
     let channels = map channel_region p.channels in
@@ -65,7 +67,8 @@ own_at p n r at =
     let in_front = slice_get_within front n (own_region r) here in
     let within : n < length (front ++ channels) = let e = length-append front channels in omega (arith, e, in_front) in
     let more : n < length ((front ++ channels) ++ provided) = let e = length-append (front ++ channels) provided in omega (arith, e, within) in
-    get_left ((front ++ channels) ++ provided) kernel n more
+    ap (λ rs. slice_get rs n) (regions_are p)
+    ∙ get_left ((front ++ channels) ++ provided) kernel n more
     ∙ get_left (front ++ channels) provided n within
     ∙ get_left front channels n in_front
     ∙ here
@@ -86,7 +89,7 @@ chosen m h t is =
     let memory = (policy_of m).memory in
     let test : SourceRegion → Bool = λ r. bytes_eq r.name t.region in
     let n = position_or_len test memory in
-    let low = first_index test memory (is_memory (source_of (policy_of m)) t is h.lawful.rule_16) in
+    let low = first_index test memory (is_memory (source_of (policy_of m)) t is (rules_of h.lawful).rule_16) in
     let found = there memory n low in
     let passes : test found.0 ≡ true =
     ap test (sym (get_or_from_slice_get memory n found.0 found.0 found.1)) ∙ passes_at_first test memory found.0 low in

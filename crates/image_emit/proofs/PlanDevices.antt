@@ -28,6 +28,7 @@ use Rattle.policy_types.specs.declared.source.Device.{Device as SourceDevice}
 use Rattle.policy_types.specs.declared.source.DeviceMemory.{DeviceMemory}
 use Rattle.policy_types.specs.declared.source.Irq.{Irq}
 use Rattle.policy_lawful.proofs.KeptAddresses.{IsPhysical}
+use Rattle.policy_lawful.proofs.KeptRules.{rules_of}
 use Rattle.span_emit.proofs.KeptDevices.{devices_physical}
 use Rattle.span_emit.specs.Spans.{device_span, device_spans, memories_of, region_spans}
 use Rattle.span_emit.specs.SpansOf.{spans_of}
@@ -51,7 +52,7 @@ named_memory d = map (λ m. (d.name, m)) d.memory
 
 kept_memories : (m : Made) → IsMade m → All (λ x. IsPhysical x.1) (memories_of (policy_of m).devices)
 unfolding source_of
-kept_memories m h = devices_physical (source_of (policy_of m)) h.lawful.rule_4
+kept_memories m h = devices_physical (source_of (policy_of m)) (rules_of h.lawful).rule_4
 
 -- by number, the memory of all devices stands behind the regions
 pub memory_there : (m : Made) → IsMade m → (k : ℕ) (x : List ℕ × DeviceMemory) → slice_get (memories_of (policy_of m).devices) k ≡ Some x

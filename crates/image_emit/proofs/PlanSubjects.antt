@@ -23,6 +23,7 @@ use Rattle.muen_num.proofs.Lists.{list_any-map, passes_at, position-map}
 use Rattle.muen_num.specs.declared.limits.TheConstants.{MOST_CALLS}
 use Rattle.policy_lawful.proofs.KeptMembers.{members_kept}
 use Rattle.policy_lawful.proofs.Indexes.{position_is, same_name}
+use Rattle.policy_lawful.proofs.KeptRules.{rules_of}
 use Rattle.policy_lawful.proofs.SourceElements.{parts_in_range}
 use Rattle.policy_lawful.proofs.UniqueNames.{subject_names, subjects_unique}
 use Rattle.policy_lawful.specs.Resolution.{Resolution, group_named, group_in_range, name_at, source_of, subject_named}
@@ -95,7 +96,7 @@ in_group m h k s at =
     let has : ResolvedGroup → Bool = λ g. list_any (λ n. n == k) g.subjects in
     let unique = subjects_unique r h.resolved.names in
     let within = slice_get_within r.subjects k s at in
-    let kept = members_kept (source_of r) h.lawful.rule_17 in
+    let kept = members_kept (source_of r) (rules_of h.lawful).rule_17 in
     let once : times_listed (source_of r) s.name ≡ 1 =
     eqb-true (times_listed (source_of r) s.name) 1
     (passes_at (λ x. times_listed (source_of r) x.name == 1) (source_of r).subjects k (subject_named r s) kept.once (slice_get-map (subject_named r) r.subjects k ∙ ap (option_map (subject_named r)) at)) in

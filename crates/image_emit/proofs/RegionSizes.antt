@@ -8,9 +8,8 @@ use Rattle.std.proofs.lemmas.List.Sums.{sum_by-cons}
 use Rattle.std.proofs.lemmas.Option.{get_or_from_slice_get, slice_get-map}
 use Rattle.ept_emit.specs.Pages.{ept_pages}
 use Rattle.expand_grants.specs.declared.granted.Grants.{Grants}
-use Rattle.expand_kernel.specs.ByIndex.{brought_at, kernel_for, kernel_for_each, view_ranges}
+use Rattle.expand_kernel.specs.ByIndex.{brought_at, channel_region, kernel_for, kernel_for_each, own_region, provided_region, view_ranges}
 use Rattle.policy_lawful.specs.ByIndex.{provided_at}
-use Rattle.expand_kernel.specs.Regions.{channel_region, own_region, provided_region}
 use Rattle.expand_kernel.specs.declared.region.Region.{Region}
 use Rattle.expand_kernel.proofs.Numbering.{regions_by_index}
 use Rattle.image_emit.specs.Made.{IsMade, Made, kernel_bytes, policy_of, region_bytes}

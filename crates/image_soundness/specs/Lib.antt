@@ -1,6 +1,5 @@
 pub mod Bench
 pub mod Memory
 pub mod Named
-pub mod Sizes
 pub mod Sound
 pub mod Targets

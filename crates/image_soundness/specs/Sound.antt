@@ -6,7 +6,6 @@ use Rattle.std.specs.List.Sorted.{IsPermutation}
 use Rattle.expand_grants.specs.Resources.{are_granted, is_granted, msrs_of, ports_of}
 use Rattle.image_soundness.specs.Memory.{Span, bytes_at, bytes_of, by_number, memory_of, page_at, address_at}
 use Rattle.image_soundness.specs.Named.{bench_device, tag_at}
-use Rattle.image_soundness.specs.Sizes.{declared_size}
 use Rattle.image_soundness.specs.Targets.{entry_event, event_index, irq_target, target_index}
 use Rattle.image_pack.specs.Codes.{part_code}
 use Rattle.image_pack.specs.Parts.{IsParts}
@@ -30,7 +29,7 @@ use Rattle.plan_emit.specs.PlanOf.{IsPlanOf}
 use Rattle.policy_lawful.specs.Lawful.{IsLawful}
 use Rattle.policy_lawful.specs.Contents.{Held, initial_bytes}
 use Rattle.policy_lawful.specs.Events.{event_of, irq_of}
-use Rattle.policy_lawful.specs.Thing.{Thing, region, channel, provided, device_memory, state, same_thing, things_of, thing_tag}
+use Rattle.policy_lawful.specs.Thing.{Thing, channel, declared_size, device_memory, provided, region, same_thing, state, thing_tag, things_of}
 use Rattle.policy_lawful.specs.Windows.{Access, access_of, byte, violation, windows_of}
 use Rattle.policy_types.specs.Rights.{found_bits}
 use Rattle.policy_types.specs.declared.source.Device.{Device as SourceDevice}

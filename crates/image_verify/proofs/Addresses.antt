@@ -22,7 +22,7 @@ use Rattle.policy_lawful.proofs.UniqueNames.{subjects_unique}
 use Rattle.policy_lawful.proofs.WindowsByIndex.{name_there}
 use Rattle.policy_lawful.specs.Contents.{Held}
 use Rattle.policy_lawful.specs.Resolution.{IsResolved, Resolution, source_of, subject_named}
-use Rattle.policy_lawful.specs.Thing.{Thing, channel, component_by, device_memory, provided, provided_by, region, same_thing, state, thing_tag, things_of}
+use Rattle.policy_lawful.specs.Thing.{Thing, channel, component_by, device_memory, provided, region, same_thing, state, thing_tag, things_of}
 use Rattle.policy_lawful.specs.Views.{thing_shown, views_of}
 use Rattle.policy_lawful.specs.declared.resolved.Subject.{Subject}
 use Rattle.policy_lawful.specs.declared.view.Shown.{Shown}
@@ -35,6 +35,7 @@ use Rattle.policy_types.specs.declared.source.Subject.{Subject as NamedSubject}
 use Rattle.proof_build.proofs.FirstIndexes.{IsFirstAt, beside_first, first_mapped, first_named, none_joined, none_mapped, none_pieces}
 use Rattle.proof_build.proofs.NamedViews.{shown_name, view_called}
 use Rattle.subject_emit.proofs.Pieces.{from_some}
+use Rattle.policy_meaning.proofs.Items.{provided_by, things_are}
 
 -- ---- by kind and name
 
@@ -203,14 +204,14 @@ module _ (p : Source) (files : Held) (i : Image) (keeps : KeepsConditions i) (co
   no_provided name subject (Some c) = none_mapped (λ t. same_thing t (state name)) (λ x. provided subject x.logical) c.provides (λ x. refl)
 
   pub no_thing : (name : List ℕ) → list_any (λ t. same_thing t (state name)) (things_of p) ≡ false
-  unfolding things_of
   no_thing name =
       let test : Thing → Bool = λ t. same_thing t (state name) in
       let regions = map (λ r. region r.name) p.memory in
       let channels = map (λ c. channel c.name) p.channels in
       let brought = flat_map (λ s. provided_by s.name (component_by p s.component)) p.subjects in
       let devices = flat_map (λ d. map (λ m. device_memory d.name m.name) d.memory) p.devices in
-      none_joined test ((regions ++ channels) ++ brought) devices
+      ap (list_any test) (things_are p)
+      ∙ none_joined test ((regions ++ channels) ++ brought) devices
       (none_joined test (regions ++ channels) brought
       (none_joined test regions channels (none_mapped test (λ r. region r.name) p.memory (λ r. refl)) (none_mapped test (λ c. channel c.name) p.channels (λ c. refl)))
       (none_pieces test (λ s. provided_by s.name (component_by p s.component)) p.subjects (λ s. no_provided name s.name (component_by p s.component))))

@@ -1,10 +1,11 @@
 -- The lines by indexes are the text by names.
-use Rattle.std.proofs.Common.{◌≡◌, ℕ, suc, ◌+◌, Bool, true, false, List, [], ◌∷◌, ◌++◌, length, Some, Ok, refl, sym, ap, ◌∙◌, arith}
+use Rattle.std.proofs.Common.{◌≡◌, ℕ, suc, ◌+◌, Bool, true, false, List, [], ◌∷◌, ◌++◌, length, map, Some, Ok, refl, sym, ap, ◌∙◌, arith}
 use Rattle.std.specs.Prelude.{nat_le, slice_get, option_map, if◌then◌else◌}
 use Rattle.std.specs.Option.{option_map_or}
 use Rattle.std.specs.List.{AllZip, enumerate_from, flat_map, list_all}
 use Rattle.std.proofs.lemmas.Bool.{and_from, and_parts, ltb-true}
 use Rattle.std.proofs.lemmas.List.Folds.{flat_map-map}
+use Rattle.std.proofs.lemmas.Grind.{flat_map-append}
 use Rattle.std.proofs.lemmas.Slice.Zip.{AllZip-long}
 use Rattle.expand_grants.specs.Grants.{AreGrants, AreGrantsOf, is_lower}
 use Rattle.expand_grants.specs.Ordered.{in_order, inserted}
@@ -15,20 +16,22 @@ use Rattle.expand_kernel.specs.declared.region.Region.{Region}
 use Rattle.muen_num.specs.declared.tag.TagPart.TheVariants.{Named}
 use Rattle.muen_num.proofs.Lists.{there}
 use Rattle.policy_types.specs.declared.source.Block.{Block}
+use Rattle.policy_lawful.specs.Ranges.{in_a_block}
+use Rattle.policy_types.specs.declared.source.Device.{Device as SourceDevice}
 use Rattle.policy_lawful.specs.Resolution.{IsResolved, Resolution, source_of, subject_named, subject_in_range}
 use Rattle.policy_lawful.specs.declared.resolved.Subject.{Subject}
 use Rattle.policy_lawful.proofs.SourceElements.{parts_in_range}
-use Rattle.policy_lawful.specs.Thing.{Thing, thing_tag}
+use Rattle.policy_lawful.specs.Thing.{Thing, device_item, device_items, thing_tag}
 use Rattle.policy_lawful.specs.Windows.{Window}
 use Rattle.policy_lawful.specs.Views.{thing_shown, view_window, views_of}
 use Rattle.policy_lawful.specs.declared.view.Shown.{Shown}
 use Rattle.policy_lawful.specs.declared.view.Shown.TheVariants.{Memory, Channel, Provided, Device, State}
 use Rattle.policy_lawful.specs.declared.view.View.{View}
 use Rattle.policy_lawful.proofs.WindowsByIndex.{name_there, windows_by_index}
-use Rattle.region_alloc.specs.Placement.{in_a_block, placement_of}
+use Rattle.region_alloc.specs.Placement.{placement_of}
 use Rattle.region_alloc.specs.Placed.{AreInside}
-use Rattle.map_report.specs.MapText.{device_lines, map_text_at, map_text_of, region_lines, tag, text_where, window_line, window_lines}
-use Rattle.map_report.specs.Views.{all_view_lines, is_there, map_lines, shown_tag, shows_what_is_there, tagged_line, view_line, view_lines, views_at}
+use Rattle.map_report.specs.MapText.{device_line, map_text_at, map_text_of, region_lines, text_where, window_line, window_lines}
+use Rattle.map_report.specs.Views.{all_view_lines, device_lines, is_there, map_lines, memory_line, shown_tag, shows_what_is_there, tag, tagged_line, view_line, view_lines, views_at}
 use Rattle.map_report.proofs.Views.{views_there}
 
 -- ---- what passes still passes in order
@@ -107,9 +110,16 @@ windows_named r q gs zip =
 
 -- ---- the whole
 
-devices_named : (r : Resolution) → device_lines r.devices ≡ device_lines (source_of r).devices
-unfolding source_of
-devices_named r = refl
+lines_of_devices : (ds : List SourceDevice) → device_lines ds ≡ flat_map device_line (flat_map (λ d. map (device_item d.name) d.memory) ds)
+lines_of_devices [] = refl
+lines_of_devices (d ∷ ds) =
+    ap (λ text. flat_map (memory_line d.name) d.memory ++ text) (lines_of_devices ds)
+    ∙ ap (λ text. text ++ flat_map device_line (flat_map (λ d. map (device_item d.name) d.memory) ds)) (sym (flat_map-map device_line (device_item d.name) d.memory))
+    ∙ sym (flat_map-append device_line (map (device_item d.name) d.memory) (flat_map (λ d. map (device_item d.name) d.memory) ds))
+
+devices_named : (r : Resolution) → device_lines r.devices ≡ flat_map device_line (device_items (source_of r))
+unfolding source_of device_items
+devices_named r = lines_of_devices r.devices
 
 pub text_is : (r : Resolution) (addresses : List ℕ) (regions : List Region) (gs : List Grants) → IsResolved r → regions ≡ regions_of (source_of r) → placement_of (source_of r) ≡ Ok addresses → AreGrants r gs
     → map_lines r addresses regions gs ≡ map_text_of (source_of r)
@@ -117,7 +127,7 @@ unfolding map_text_of map_text_at
 text_is r addresses regions gs q is at zip =
     ap (λ rs. region_lines addresses rs ++ device_lines r.devices ++ all_view_lines r gs 0 r.subjects) is
     ∙ ap (λ text. region_lines addresses (regions_of (source_of r)) ++ text ++ all_view_lines r gs 0 r.subjects) (devices_named r)
-    ∙ ap (λ text. region_lines addresses (regions_of (source_of r)) ++ device_lines (source_of r).devices ++ text) (windows_named r q gs zip)
+    ∙ ap (λ text. region_lines addresses (regions_of (source_of r)) ++ flat_map device_line (device_items (source_of r)) ++ text) (windows_named r q gs zip)
     ∙ sym (ap (text_where (source_of r)) at)
 
 -- there is an address for each region

@@ -1,28 +1,22 @@
 -- What `map` prints (this project's own).
 use Rattle.std.specs.Prelude.{ℕ, List, [], ◌++◌, codes, nat_le, Result, Ok, Err, slice_index, if◌then◌else◌}
 use Rattle.std.specs.List.{enumerate_from, flat_map}
+use Rattle.std.specs.Option.{option_map_or}
 use Rattle.expand_grants.specs.Ordered.{in_order}
 use Rattle.expand_kernel.specs.Regions.{regions_of}
 use Rattle.expand_kernel.specs.declared.region.Region.{Region}
 use Rattle.muen_num.specs.Fixed.{hex16}
 use Rattle.muen_num.specs.Tag.{tag_text}
-use Rattle.muen_num.specs.declared.tag.TagPart.{TagPart}
-use Rattle.muen_num.specs.declared.tag.TagPart.TheVariants.{Named, State, Whole}
 use Rattle.muen_num.specs.declared.tag.Tag.{Tag}
-use Rattle.policy_lawful.specs.Thing.{thing_tag}
+use Rattle.policy_lawful.specs.Thing.{Item, device_items, thing_tag}
 use Rattle.policy_lawful.specs.Windows.{windows_of}
 use Rattle.policy_types.specs.declared.rights.Rights.{Rights}
 use Rattle.policy_types.specs.declared.rights.Rights.TheVariants.{R, Rw, Rx, Rwx}
-use Rattle.policy_types.specs.declared.source.Device.{Device}
-use Rattle.policy_types.specs.declared.source.DeviceMemory.{DeviceMemory}
 use Rattle.policy_types.specs.declared.source.Source.{Source}
 use Rattle.policy_types.specs.declared.source.Subject.{Subject}
 use Rattle.region_alloc.specs.Placement.{placement_of}
 
--- ---- names and rights
-
-abbrev pub tag : List ℕ → TagPart → Tag
-tag owner part = record { owner = owner; part = part }
+-- ---- rights
 
 abbrev pub rights_text : Rights → List ℕ
 rights_text R = codes "r"
@@ -49,12 +43,9 @@ abbrev pub region_lines : List ℕ → List Region → List ℕ
 region_lines addresses regions =
     flat_map (λ x. region_line (codes "region") (slice_index addresses x.0) x.1.size x.1.tag) (enumerate_from 0 regions)
 
-abbrev pub memory_line : List ℕ → DeviceMemory → List ℕ
-memory_line device m = region_line (codes "device") m.physical_address m.size (tag device (Named m.name))
-
--- the devices' memory
-abbrev pub device_lines : List Device → List ℕ
-device_lines devices = flat_map (λ d. flat_map (memory_line d.name) d.memory) devices
+-- memory of a device, where it has to be
+abbrev pub device_line : Item → List ℕ
+device_line i = option_map_or (λ address. region_line (codes "device") address i.size (thing_tag i.thing)) i.address []
 
 -- the windows of a subject, by guest address
 abbrev pub window_lines : Source → Subject → List ℕ
@@ -65,7 +56,7 @@ window_lines p s =
 -- where the regions are at these addresses
 unfoldable pub map_text_at : Source → List ℕ → List ℕ
 map_text_at p addresses =
-    region_lines addresses (regions_of p) ++ device_lines p.devices ++ flat_map (window_lines p) p.subjects
+    region_lines addresses (regions_of p) ++ flat_map device_line (device_items p) ++ flat_map (window_lines p) p.subjects
 
 abbrev pub text_where : Source → Result (List ℕ) Region → List ℕ
 text_where p (Ok addresses) = map_text_at p addresses

@@ -4,7 +4,8 @@ use Rattle.std.specs.Option.{option_map_or}
 use Rattle.std.specs.List.{enumerate_from, flat_map}
 use Rattle.expand_grants.specs.declared.granted.Grants.{Grants}
 use Rattle.expand_kernel.specs.declared.region.Region.{Region}
-use Rattle.map_report.specs.MapText.{device_lines, region_lines, tag, window_line}
+use Rattle.map_report.specs.MapText.{device_line, region_lines, window_line}
+use Rattle.muen_num.specs.declared.tag.TagPart.{TagPart}
 use Rattle.muen_num.specs.declared.tag.TagPart.TheVariants.{Named, State as States, Whole}
 use Rattle.muen_num.specs.declared.tag.Tag.{Tag}
 use Rattle.policy_lawful.specs.Resolution.{Resolution}
@@ -12,6 +13,12 @@ use Rattle.policy_lawful.specs.declared.resolved.Subject.{Subject}
 use Rattle.policy_lawful.specs.declared.view.Shown.{Shown}
 use Rattle.policy_lawful.specs.declared.view.Shown.TheVariants.{Memory, Channel, Provided, Device, State}
 use Rattle.policy_lawful.specs.declared.view.View.{View}
+use Rattle.policy_lawful.specs.Thing.{device_item}
+use Rattle.policy_types.specs.declared.source.Device.{Device}
+use Rattle.policy_types.specs.declared.source.DeviceMemory.{DeviceMemory}
+
+abbrev pub tag : List ℕ → TagPart → Tag
+tag owner part = record { owner = owner; part = part }
 
 -- the printed name of what a view shows to the subject of this name, where that is there
 abbrev pub shown_tag : Resolution → List ℕ → List ℕ → Shown → Option Tag
@@ -39,6 +46,14 @@ views_at grants index = option_map_or (λ g. g.views) (slice_get grants index) [
 abbrev pub all_view_lines : Resolution → List Grants → ℕ → List Subject → List ℕ
 all_view_lines r grants first subjects =
     flat_map (λ x. view_lines r x.1.name (views_at grants x.0)) (enumerate_from first subjects)
+
+-- memory of a device
+abbrev pub memory_line : List ℕ → DeviceMemory → List ℕ
+memory_line device m = device_line (device_item device m)
+
+-- that of all devices
+abbrev pub device_lines : List Device → List ℕ
+device_lines devices = flat_map (λ d. flat_map (memory_line d.name) d.memory) devices
 
 -- the whole text, by indexes
 abbrev pub map_lines : Resolution → List ℕ → List Region → List Grants → List ℕ

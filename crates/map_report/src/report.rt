@@ -4,8 +4,8 @@ ghost use Rattle.std.specs.List.{flat_map};
 ghost use Rattle.muen_outside.specs.Prints.{Prints};
 ghost use Rattle.muen_outside.specs.Puts.{Puts};
 ghost use Rattle.policy_lawful.specs.Resolution.{IsResolved, source_of};
-ghost use Rattle.map_report.specs.MapText.{device_lines, map_text_of, memory_line, region_lines};
-ghost use Rattle.map_report.specs.Views.{all_view_lines, map_lines, view_line, view_lines, views_at};
+ghost use Rattle.map_report.specs.MapText.{map_text_of, region_lines};
+ghost use Rattle.map_report.specs.Views.{all_view_lines, device_lines, map_lines, memory_line, view_line, view_lines, views_at};
 
 use crate::lines::{Laid, RegionLine, WindowLine};
 use crate::shown::tag;

@@ -1,7 +1,6 @@
 //! The printed names of what views show.
 ghost use Rattle.std.specs.Prelude.{◌≡◌};
-ghost use Rattle.map_report.specs.MapText.{tag};
-ghost use Rattle.map_report.specs.Views.{shown_tag};
+ghost use Rattle.map_report.specs.Views.{shown_tag, tag};
 
 use muen_num::{Name, Tag, TagPart};
 use policy_lawful::{Resolved, Shown, View};

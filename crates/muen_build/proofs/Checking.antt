@@ -14,15 +14,15 @@ use Rattle.policy_types.specs.declared.refusal.Refusal.{Refusal}
 use Rattle.policy_types.specs.declared.source.Content.TheVariants.{File, Inline}
 use Rattle.muen_build.specs.Accepting.{Files, insert_all, Grows, Known, Names, NotFound, Passes, Refuses, Stops, Why, all_names, brought_names, filled_names, looks_of, of_all, of_brought, of_filled, part_length}
 use Rattle.policy_lawful.specs.ByIndex.{provided_at}
-use Rattle.muen_build.specs.Filling.{brought_at, filled_provided, filled_region}
+use Rattle.muen_build.specs.Filling.{Filled, brought_at, filled_of, filled_provided, filled_refused, filled_region}
 use Rattle.muen_build.specs.Looks.{is_of_file, names_file}
-use Rattle.muen_build.specs.Refusals.{Filled, content_refused, filled_of, filled_refused, too_long_for}
+use Rattle.muen_build.specs.Refusals.{content_refused, too_long_for}
 use Rattle.muen_build.specs.declared.accepted.BuildError.{BuildError}
 use Rattle.muen_build.specs.declared.accepted.BuildError.TheVariants.{Refused}
 use Rattle.policy_lawful.specs.declared.resolved.Subject.{Subject}
 use Rattle.policy_types.specs.declared.source.Component.{Component}
 use Rattle.policy_lawful.specs.Resolution.{IsResolved, Resolution, source_of}
-use Rattle.muen_build.proofs.FilledByIndex.{filled_by_index}
+use Rattle.muen_build.proofs.FilledByIndex.{filled_by_index, names_filled}
 use Rattle.muen_build.proofs.Looks.{grows_among, grows_not, grows_on, grows_shows, stops_from, stops_here, stops_so}
 use Rattle.muen_build.proofs.Steps.{file_fails, part_refused}
 
@@ -37,14 +37,14 @@ none_is None h = refl
 none_is (Some x) h = absurd (cc)
 
 module _ (given : Files) (f : Filled) where
-  pub inline_stops : (bytes : List ℕ) (held : Option Store) (h : History) (looks : List Look) (r : Refusal) → f.content ≡ Inline bytes → Err r ≡ as_refusal (too_long_for f (length bytes))
+  pub inline_stops : (bytes : List ℕ) (held : Option Store) (h : History) (looks : List Look) (r : Refusal) → f.content ≡ Inline bytes → Err r ≡ as_refusal (too_long_for f.tag f.size (length bytes))
       → Stops given (filled_names f) held h h looks (Refuses (of_filled f)) (Refused r)
   inline_stops bytes held h looks r is e =
-      let long = refused_is (too_long_for f (length bytes)) r e in
-      stops_here given (filled_names f) held h looks (Refuses (of_filled f)) r (λ files s. ap (content_refused (insert_all files given) f) is ∙ long)
+      let long = refused_is (too_long_for f.tag f.size (length bytes)) r e in
+      stops_here given (filled_names f) held h looks (Refuses (of_filled f)) r (λ files s. ap (content_refused (insert_all files given) f.tag f.size) is ∙ long)
 
-  pub inline_passes : (bytes : List ℕ) (looks : List Look) → f.content ≡ Inline bytes → Ok tt ≡ as_refusal (too_long_for f (length bytes)) → Passes given looks (of_filled f)
-  inline_passes bytes looks is h files s = ap (content_refused (insert_all files given) f) is ∙ none_is (too_long_for f (length bytes)) h
+  pub inline_passes : (bytes : List ℕ) (looks : List Look) → f.content ≡ Inline bytes → Ok tt ≡ as_refusal (too_long_for f.tag f.size (length bytes)) → Passes given looks (of_filled f)
+  inline_passes bytes looks is h files s = ap (content_refused (insert_all files given) f.tag f.size) is ∙ none_is (too_long_for f.tag f.size (length bytes)) h
 
   module _ (file : List ℕ) (offset : ℕ) (most : Option ℕ) (is : f.content ≡ File file offset most) where
     named : (n : List ℕ) → bytes_eq file n ≡ true → filled_names f n ≡ true
@@ -57,20 +57,20 @@ module _ (given : Files) (f : Filled) where
         → Stops given (filled_names f) held old new looks (Refuses (of_filled f)) error
     missing_stops held old new looks error e =
         stops_so given (bytes_eq file) (filled_names f) held old new looks (NotFound file) (Refuses (of_filled f)) error named
-        (λ r after shows n files s. ap (content_refused (insert_all files given) f) is ∙ file_fails f file offset most (insert_all files given) r (n files s)) e
+        (λ r after shows n files s. ap (content_refused (insert_all files given) f.tag f.size) is ∙ file_fails f file offset most (insert_all files given) r (n files s)) e
 
-    refused_as : (looks : List Look) (count : ℕ) → Known given looks file count → (files : Store) → ShowAll files looks → content_refused (insert_all files given) f f.content ≡ too_long_for f (part_length count offset most)
-    refused_as looks count known files s = ap (content_refused (insert_all files given) f) is ∙ part_refused f file offset most count (insert_all files given) (known files s)
+    refused_as : (looks : List Look) (count : ℕ) → Known given looks file count → (files : Store) → ShowAll files looks → content_refused (insert_all files given) f.tag f.size f.content ≡ too_long_for f.tag f.size (part_length count offset most)
+    refused_as looks count known files s = ap (content_refused (insert_all files given) f.tag f.size) is ∙ part_refused f file offset most count (insert_all files given) (known files s)
 
-    pub file_passes : (count : ℕ) (looks : List Look) → Known given looks file count → Ok tt ≡ as_refusal (too_long_for f (part_length count offset most)) → Passes given looks (of_filled f)
-    file_passes count looks known h files s = refused_as looks count known files s ∙ none_is (too_long_for f (part_length count offset most)) h
+    pub file_passes : (count : ℕ) (looks : List Look) → Known given looks file count → Ok tt ≡ as_refusal (too_long_for f.tag f.size (part_length count offset most)) → Passes given looks (of_filled f)
+    file_passes count looks known h files s = refused_as looks count known files s ∙ none_is (too_long_for f.tag f.size (part_length count offset most)) h
 
     pub long_stops : (before looks : List Look) (held : Option Store) (old new : History) (count : ℕ) (r : Refusal) → Grows given (bytes_eq file) held old new before looks → Known given looks file count
-        → Err r ≡ as_refusal (too_long_for f (part_length count offset most)) → Stops given (filled_names f) held old new before (Refuses (of_filled f)) (Refused r)
+        → Err r ≡ as_refusal (too_long_for f.tag f.size (part_length count offset most)) → Stops given (filled_names f) held old new before (Refuses (of_filled f)) (Refused r)
     long_stops before looks held old new count r grows known h = record {
       after = looks;
       grows = file_grows held old new before looks grows;
-      says = inr (λ files s. refused_as looks count known files s ∙ refused_is (too_long_for f (part_length count offset most)) r h);
+      says = inr (λ files s. refused_as looks count known files s ∙ refused_is (too_long_for f.tag f.size (part_length count offset most)) r h);
     }
 
 -- ---- several
@@ -192,7 +192,8 @@ module _ (r : Resolution) (h : IsResolved r) where
 
   names_are : (n : List ℕ) → names_file (source_of r) n ≡ (all_names (map filled_region r.memory) n || brought_names r.components r.subjects n)
   names_are n =
-      ap (list_any (λ f. filled_names f n)) (sym (filled_by_index r h))
+      names_filled (source_of r) n
+      ∙ ap (list_any (λ f. filled_names f n)) (sym (filled_by_index r h))
       ∙ list_any-append (λ f. filled_names f n) (map filled_region r.memory) (flat_map (brought_at r.components) r.subjects)
       ∙ ap (λ b. all_names (map filled_region r.memory) n || b) (list_any-flat_map (λ f. filled_names f n) (brought_at r.components) r.subjects)
 

@@ -17,9 +17,9 @@ use Rattle.muen_outside.specs.Looks.{AreOthers, ShowAll, ShowsAnswer}
 use Rattle.muen_outside.specs.States.{Look}
 use Rattle.muen_outside.specs.Store.{Store, whole, long, reading_of, find_bytes}
 use Rattle.muen_build.specs.Accepting.{Files, WithGiven, insert_all, looks_of, of_all}
-use Rattle.muen_build.specs.Filling.{brought_at, filled_at, filled_provided, filled_region}
+use Rattle.muen_build.specs.Filling.{Filled, brought_at, filled_at, filled_provided, filled_refused, filled_region}
 use Rattle.muen_build.specs.Reading.{content_read, read_bytes, sized, things_read}
-use Rattle.muen_build.specs.Refusals.{Filled, content_refused, contents_refused, file_refused, filled_refused, too_long_for}
+use Rattle.muen_build.specs.Refusals.{content_refused, contents_refused, file_refused, too_long_for}
 use Rattle.policy_lawful.specs.Resolution.{IsResolved, Resolution, source_of}
 use Rattle.policy_lawful.specs.declared.resolved.Subject.{Subject}
 use Rattle.policy_lawful.specs.Contents.{content_bytes, file_part, padded}
@@ -28,7 +28,7 @@ use Rattle.policy_types.specs.declared.source.Channel.{Channel}
 use Rattle.policy_types.specs.declared.source.Component.{Component}
 use Rattle.policy_types.specs.declared.source.Content.{Content}
 use Rattle.policy_types.specs.declared.source.Content.TheVariants.{Zero, Fill, Inline, File}
-use Rattle.muen_build.proofs.FilledByIndex.{filled_by_index}
+use Rattle.muen_build.proofs.FilledByIndex.{contents_filled, filled_by_index}
 use Rattle.muen_build.proofs.Documents.{given_there, not_given, whole_found}
 use Rattle.muen_build.proofs.Looks.{other_way, same_self}
 use Rattle.muen_build.proofs.Steps.{found_reads, others_found}
@@ -48,15 +48,15 @@ still_shown files file (l ∷ ls) others s =
 -- ---- one content
 
 -- a document that isn't refused is no longer than a component file may be
-own_whole : (f : Filled) (file : List ℕ) (offset : ℕ) (most : Option ℕ) (document : List ℕ) → file_refused f file offset most (reading_of (Some document) COMPONENT_FILE_MOST) ≡ None → reading_of (Some document) COMPONENT_FILE_MOST ≡ whole document
+own_whole : (f : Filled) (file : List ℕ) (offset : ℕ) (most : Option ℕ) (document : List ℕ) → file_refused f.tag f.size file offset most (reading_of (Some document) COMPONENT_FILE_MOST) ≡ None → reading_of (Some document) COMPONENT_FILE_MOST ≡ whole document
 own_whole f file offset most document h =
-    (elim (nat_lt COMPONENT_FILE_MOST (length document)) as (λ b. file_refused f file offset most (if b then long (length document) else whole document) ≡ None → (if b then long (length document) else whole document) ≡ whole document) [
+    (elim (nat_lt COMPONENT_FILE_MOST (length document)) as (λ b. file_refused f.tag f.size file offset most (if b then long (length document) else whole document) ≡ None → (if b then long (length document) else whole document) ≡ whole document) [
       | true ↦ λ is. absurd (cc)
       | false ↦ λ is. refl
     ]) h
 
 -- what isn't too long has room
-fitting : (f : Filled) (bytes : List ℕ) → too_long_for f (length bytes) ≡ None → sized f.size bytes ≡ padded f.size bytes
+fitting : (f : Filled) (bytes : List ℕ) → too_long_for f.tag f.size (length bytes) ≡ None → sized f.size bytes ≡ padded f.size bytes
 fitting f bytes h =
     (elim (nat_le (length bytes) f.size) as (λ b. nat_le (length bytes) f.size ≡ b → (if b then None else Some (FileFit f.tag f.size (length bytes))) ≡ None → sized f.size bytes ≡ padded f.size bytes) [
       | true ↦ λ fits is.
@@ -71,14 +71,14 @@ module _ (given found : Files) where
   Over Such = WithGiven given (looks_of found) Such
 
   -- a file that is named was read
-  file_read : (f : Filled) (file : List ℕ) (offset : ℕ) (most : Option ℕ) → Over (λ files. content_refused files f (File file offset most) ≡ None)
+  file_read : (f : Filled) (file : List ℕ) (offset : ℕ) (most : Option ℕ) → Over (λ files. content_refused files f.tag f.size (File file offset most) ≡ None)
       → Over (λ files. reading_of (get files file) COMPONENT_FILE_MOST ≡ whole (read_bytes given found file))
   file_read f file offset most passes files s =
       elim (find_bytes file given) as (λ o. find_bytes file given ≡ o → reading_of (get (insert_all files given) file) COMPONENT_FILE_MOST ≡ whole (unwrap_or o (unwrap_or (find_bytes file found) []))) [
         | Some bytes ↦ λ is.
             let there = given_there files given file bytes is in
             ap (λ o. reading_of o COMPONENT_FILE_MOST) there
-            ∙ own_whole f file offset most bytes (ap (λ o. file_refused f file offset most (reading_of o COMPONENT_FILE_MOST)) (sym there) ∙ passes files s)
+            ∙ own_whole f file offset most bytes (ap (λ o. file_refused f.tag f.size file offset most (reading_of o COMPONENT_FILE_MOST)) (sym there) ∙ passes files s)
         | None ↦ λ other.
             elim (find_bytes file found) as (λ o. find_bytes file found ≡ o → reading_of (get (insert_all files given) file) COMPONENT_FILE_MOST ≡ whole (unwrap_or o [])) [
               | Some bytes ↦ λ is. found_reads given found file other bytes is files s
@@ -86,13 +86,13 @@ module _ (given found : Files) where
                   let without = still_shown files file (looks_of found) (others_found found file is) s in
                   let gone : get (insert_all (remove files file) given) file ≡ None =
                   not_given (remove files file) given file other ∙ get-remove_bytes files file file ∙ ap (λ t. cond t None (get files file)) (same_self file) in
-                  let refused : content_refused (insert_all (remove files file) given) f (File file offset most) ≡ Some (Missing file) = ap (λ o. file_refused f file offset most (reading_of o COMPONENT_FILE_MOST)) gone in
+                  let refused : content_refused (insert_all (remove files file) given) f.tag f.size (File file offset most) ≡ Some (Missing file) = ap (λ o. file_refused f.tag f.size file offset most (reading_of o COMPONENT_FILE_MOST)) gone in
                   let none = passes (remove files file) without in
                   absurd (cc)
             ] refl
       ] refl
 
-  content_same : (f : Filled) (c : Content) → Over (λ files. content_refused files f c ≡ None) → Over (λ files. content_read given found f.size c ≡ content_bytes files f.size c)
+  content_same : (f : Filled) (c : Content) → Over (λ files. content_refused files f.tag f.size c ≡ None) → Over (λ files. content_read given found f.size c ≡ content_bytes files f.size c)
   content_same f Zero passes files s = refl
   content_same f (Fill b) passes files s = refl
   content_same f (Inline bytes) passes files s = fitting f bytes (passes files s)
@@ -100,7 +100,7 @@ module _ (given found : Files) where
       let bytes = read_bytes given found file in
       let reads = file_read f file offset most passes files s in
       let there : get (insert_all files given) file ≡ Some bytes = whole_found COMPONENT_FILE_MOST bytes (get (insert_all files given) file) reads in
-      let fits : too_long_for f (length (file_part offset most bytes)) ≡ None = ap (file_refused f file offset most) (sym reads) ∙ passes files s in
+      let fits : too_long_for f.tag f.size (length (file_part offset most bytes)) ≡ None = ap (file_refused f.tag f.size file offset most) (sym reads) ∙ passes files s in
       fitting f (file_part offset most bytes) fits ∙ ap (λ o. padded f.size (file_part offset most (option_map_or (λ b. b) o []))) (sym there)
 
   -- ---- all of them
@@ -135,6 +135,7 @@ module _ (given found : Files) where
 
   -- where no content is refused
   pub things_held : (r : Resolution) → IsResolved r → Over (λ files. contents_refused files (source_of r) ≡ None) → Over (λ files. things_read given found r ≡ thing_bytes files r)
-  unfolding contents_refused
   things_held r resolved passes files s =
-      things_same r (λ files s. ap (first_in (filled_refused (insert_all files given))) (filled_by_index r resolved) ∙ passes files s) files s
+      things_same r
+      (λ files s.
+      ap (first_in (filled_refused (insert_all files given))) (filled_by_index r resolved) ∙ sym (contents_filled (insert_all files given) (source_of r)) ∙ passes files s) files s

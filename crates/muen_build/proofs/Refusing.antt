@@ -5,13 +5,15 @@ use Rattle.muen_num.specs.Answers.{Answers}
 use Rattle.muen_num.specs.Search.{first_of}
 use Rattle.muen_num.proofs.SearchLaws.{none_both, option_or-None}
 use Rattle.policy_json.specs.Document.{policy_of}
-use Rattle.policy_lawful.specs.Lawful.{kept_or, names_broken, rules_broken}
+use Rattle.policy_lawful.specs.Lawful.{kept_or, unlawful}
+use Rattle.policy_names.specs.Names.{names_broken}
+use Rattle.policy_names.proofs.Resolved.{names_first}
 use Rattle.policy_lawful.specs.Contents.{Held}
 use Rattle.policy_types.specs.declared.refusal.Refusal.{Refusal}
 use Rattle.policy_types.specs.declared.refusal.Refusal.TheVariants.{NoMemory}
 use Rattle.policy_types.specs.declared.source.Source.{Source}
 use Rattle.region_alloc.specs.Placement.{no_room}
-use Rattle.muen_build.specs.Refusals.{accepted, accepted_policy_of, build_refused, contents_refused, fitting, fitting_policy_of, laid, laid_policy_of, lawful_alone, lawful_policy_of, refusal_of, unlawful}
+use Rattle.muen_build.specs.Refusals.{accepted, accepted_policy_of, build_refused, contents_refused, fitting, fitting_policy_of, laid, laid_policy_of, lawful_alone, lawful_policy_of, refusal_of}
 
 -- ---- one reason after another
 
@@ -22,6 +24,10 @@ refused_for wanted wanted' r f h = elim h [ inl m ↦ inl m | inr e ↦ inr (f e
 kept_is : (p q : Source) (o : Option Refusal) → kept_or p o ≡ Ok q → (o ≡ None) × (p ≡ q)
 kept_is p q None e = (refl, cc)
 kept_is p q (Some x) e = absurd (cc)
+
+is_refused : (p : Source) (o : Option Refusal) (r : Refusal) → kept_or p o ≡ Err r → o ≡ Some r
+is_refused p None r e = absurd (cc)
+is_refused p (Some x) r e = cc
 
 -- the first reason stays the first
 first_stays : (p : Source) (a b : Option Refusal) (r : Refusal) → kept_or p a ≡ Err r → kept_or p (first_of (a ∷ b ∷ [])) ≡ Err r
@@ -44,12 +50,12 @@ pub not_resolved : (bytes : List ℕ) (p : Source) (r : Refusal) → policy_of b
 unfolding lawful_policy_of
 not_resolved bytes p r read h =
     refused_for (kept_or p (names_broken p)) (lawful_alone (policy_of bytes)) r
-    (λ e. ap lawful_alone read ∙ first_stays p (names_broken p) (rules_broken p) r e) h
+    (λ e. ap lawful_alone read ∙ ap (kept_or p) (names_first p r (is_refused p (names_broken p) r e))) h
 
--- where names are resolved, the other rules decide
-pub rules_decide : (bytes : List ℕ) (p q : Source) → policy_of bytes ≡ Ok p → kept_or p (names_broken p) ≡ Ok q → lawful_policy_of bytes ≡ kept_or q (rules_broken q)
+-- where names are resolved, the rules decide
+pub rules_decide : (bytes : List ℕ) (p q : Source) → policy_of bytes ≡ Ok p → kept_or p (names_broken p) ≡ Ok q → lawful_policy_of bytes ≡ kept_or q (unlawful q)
 unfolding lawful_policy_of
-rules_decide bytes p q read kept = ap lawful_alone read ∙ second_decides p q (names_broken p) rules_broken kept
+rules_decide bytes p q read kept = ap lawful_alone read ∙ ap (λ x. kept_or x (unlawful x)) (kept_is p q (names_broken p) kept).1
 
 -- ---- the contents and the room
 

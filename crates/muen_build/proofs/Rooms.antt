@@ -7,9 +7,9 @@ use Rattle.std.proofs.lemmas.Grind.{flat_map-append}
 use Rattle.std.proofs.lemmas.List.{length-map, length-replicate, length-take, map-append, take_all, take_more}
 use Rattle.std.proofs.lemmas.List.Concat.{flat_map-cons}
 use Rattle.expand_grants.specs.Grants.{AreGrants}
-use Rattle.expand_kernel.specs.ByIndex.{brought_at, kernel_for_each}
+use Rattle.expand_kernel.specs.ByIndex.{brought_at, channel_region, kernel_for_each, own_region, provided_region}
 use Rattle.policy_lawful.specs.ByIndex.{provided_at}
-use Rattle.expand_kernel.specs.Regions.{channel_region, own_region, provided_region, regions_of}
+use Rattle.expand_kernel.specs.Regions.{regions_of}
 use Rattle.expand_kernel.specs.declared.region.Region.{Region}
 use Rattle.expand_kernel.proofs.Numbering.{regions_by_index}
 use Rattle.image_emit.specs.Made.{IsFilled}

@@ -16,11 +16,12 @@ use Rattle.policy_types.specs.declared.refusal.Refusal.{Refusal}
 use Rattle.policy_types.specs.declared.refusal.Refusal.TheVariants.{FileFit, Missing, NoMemory, NoRoom, NotJson, Rule, Shape, TooLong}
 use Rattle.muen_build.specs.Accepting.{ErrorSays, Files, GotSays, Grows, Has, insert_all, IsAdded, IsAskedBy, Known, LooksAt, NotFound, NotRead, Stops, looks_of, part_length}
 use Rattle.muen_build.specs.Looks.{file_look}
-use Rattle.muen_build.specs.Refusals.{Filled, file_refused, too_long_for}
+use Rattle.muen_build.specs.Refusals.{file_refused, too_long_for}
 use Rattle.muen_build.specs.declared.accepted.BuildError.{BuildError}
 use Rattle.muen_build.specs.declared.accepted.BuildError.TheVariants.{FileFault, Refused}
 use Rattle.muen_build.proofs.Documents.{admitted, given_there, not_given, too_many}
 use Rattle.muen_build.proofs.Looks.{others_push, other_way, same_self, show_last, single_push, stops_here, told_one}
+use Rattle.muen_build.specs.Filling.{Filled}
 
 -- ---- a file that is given
 
@@ -151,13 +152,13 @@ length_part : (bytes : List ℕ) (offset : ℕ) (most : Option ℕ) → length (
 length_part bytes offset None = length-drop offset bytes
 length_part bytes offset (Some most) = length-take most (drop offset bytes) ∙ ap (min most) (length-drop offset bytes) ∙ omega arith
 
-pub part_refused : (f : Filled) (file : List ℕ) (offset : ℕ) (most : Option ℕ) (count : ℕ) (files : Store) → Has files file count → file_refused f file offset most (reading_of (get files file) COMPONENT_FILE_MOST) ≡ too_long_for f (part_length count offset most)
+pub part_refused : (f : Filled) (file : List ℕ) (offset : ℕ) (most : Option ℕ) (count : ℕ) (files : Store) → Has files file count → file_refused f.tag f.size file offset most (reading_of (get files file) COMPONENT_FILE_MOST) ≡ too_long_for f.tag f.size (part_length count offset most)
 part_refused f file offset most count files k =
-    ap (file_refused f file offset most) k.reads ∙ ap (too_long_for f) (length_part k.bytes offset most ∙ ap (λ n. part_length n offset most) (sym k.many))
+    ap (file_refused f.tag f.size file offset most) k.reads ∙ ap (too_long_for f.tag f.size) (length_part k.bytes offset most ∙ ap (λ n. part_length n offset most) (sym k.many))
 
-pub file_fails : (f : Filled) (file : List ℕ) (offset : ℕ) (most : Option ℕ) (files : Store) (r : Refusal) → NotFound file files r → file_refused f file offset most (reading_of (get files file) COMPONENT_FILE_MOST) ≡ Some r
-file_fails f file offset most files (Missing n) h = ap (file_refused f file offset most) h.1 ∙ ap (λ n. Some (Missing n)) (sym h.0)
-file_fails f file offset most files (TooLong n k) h = ap (file_refused f file offset most) h.1 ∙ ap (λ n. Some (TooLong n k)) (sym h.0)
+pub file_fails : (f : Filled) (file : List ℕ) (offset : ℕ) (most : Option ℕ) (files : Store) (r : Refusal) → NotFound file files r → file_refused f.tag f.size file offset most (reading_of (get files file) COMPONENT_FILE_MOST) ≡ Some r
+file_fails f file offset most files (Missing n) h = ap (file_refused f.tag f.size file offset most) h.1 ∙ ap (λ n. Some (Missing n)) (sym h.0)
+file_fails f file offset most files (TooLong n k) h = ap (file_refused f.tag f.size file offset most) h.1 ∙ ap (λ n. Some (TooLong n k)) (sym h.0)
 file_fails f file offset most files NotJson h = absurd h
 file_fails f file offset most files (Shape a b) h = absurd h
 file_fails f file offset most files (Rule a b c) h = absurd h

@@ -17,9 +17,9 @@ use Rattle.policy_lawful.specs.declared.resolved.Subject.{Subject}
 use Rattle.policy_types.specs.declared.source.Component.{Component}
 use Rattle.policy_types.specs.declared.source.Source.{Source}
 use Rattle.region_alloc.specs.Placed.{Placement}
-use Rattle.muen_build.specs.Filling.{brought_at}
+use Rattle.muen_build.specs.Filling.{Filled, brought_at, filled_refused}
 use Rattle.muen_build.specs.Looks.{IsAsked, Looked, file_look, is_of_file, names_file}
-use Rattle.muen_build.specs.Refusals.{Filled, accepted_policy_of, contents_refused, filled_refused}
+use Rattle.muen_build.specs.Refusals.{accepted_policy_of, contents_refused}
 use Rattle.muen_build.specs.declared.accepted.BuildError.{BuildError}
 use Rattle.muen_build.specs.declared.given.Given.{Given}
 use Rattle.muen_build.specs.declared.accepted.BuildError.TheVariants.{FileFault, Refused}

@@ -1,5 +1,6 @@
--- The regions of a resolved policy that have a content, by indexes.
-use Rattle.std.specs.Prelude.{ℕ, List, ◌++◌, map}
+-- The regions of a policy that have a content, by indexes and by names.
+use Rattle.std.specs.Prelude.{ℕ, List, [], ◌++◌, map, Option}
+use Rattle.std.specs.Option.{option_map_or}
 use Rattle.std.specs.List.{flat_map}
 use Rattle.policy_lawful.specs.ByIndex.{provided_at}
 use Rattle.muen_num.specs.declared.tag.TagPart.TheVariants.{Named, Whole}
@@ -8,9 +9,22 @@ use Rattle.policy_lawful.specs.declared.resolved.Subject.{Subject}
 use Rattle.policy_types.specs.declared.source.Component.{Component}
 use Rattle.policy_types.specs.declared.source.Provided.{Provided}
 use Rattle.policy_types.specs.declared.source.Region.{Region}
-use Rattle.muen_build.specs.Refusals.{Filled}
 use Rattle.muen_num.specs.declared.tag.Tag.{Tag}
 use Rattle.policy_types.specs.declared.source.Content.{Content}
+use Rattle.muen_build.specs.Refusals.{content_refused}
+use Rattle.policy_lawful.specs.Contents.{Held}
+use Rattle.policy_lawful.specs.Thing.{component_by}
+use Rattle.policy_types.specs.declared.refusal.Refusal.{Refusal}
+use Rattle.policy_types.specs.declared.source.Source.{Source}
+
+-- a region that is filled at the start: its printed name, its size, its content
+pub record Filled : Type 0 where
+  pub tag : Tag
+  pub size : ℕ
+  pub content : Content
+
+abbrev pub filled_refused : Held → Filled → Option Refusal
+filled_refused files f = content_refused files f.tag f.size f.content
 
 -- a region with this name and size, and what it holds
 abbrev pub filled : Tag → ℕ → Content → Filled
@@ -27,3 +41,13 @@ brought_at components s = map (filled_provided s.name) (provided_at components s
 
 abbrev pub filled_at : Resolution → List Filled
 filled_at r = map filled_region r.memory ++ flat_map (brought_at r.components) r.subjects
+
+-- ---- by names
+
+-- the regions that a component brings along for a subject of this name
+abbrev pub filled_by : List ℕ → Option Component → List Filled
+filled_by subject c = map (filled_provided subject) (option_map_or (λ c. c.provides) c [])
+
+-- the regions with a content, by number: those of memory, then those that each subject's component brings along
+unfoldable pub filled_of : Source → List Filled
+filled_of p = map filled_region p.memory ++ flat_map (λ s. filled_by s.name (component_by p s.component)) p.subjects

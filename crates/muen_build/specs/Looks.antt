@@ -6,7 +6,8 @@ use Rattle.muen_num.specs.declared.limits.TheConstants.{COMPONENT_FILE_MOST, POL
 use Rattle.muen_outside.specs.Looks.{AreOthers, AreSingle, ShowAll}
 use Rattle.muen_outside.specs.States.{History, Look, look, looked}
 use Rattle.muen_outside.specs.Store.{Store, whole}
-use Rattle.muen_build.specs.Refusals.{filled_of, lawful_policy_of}
+use Rattle.muen_build.specs.Refusals.{lawful_policy_of}
+use Rattle.policy_lawful.specs.Thing.{items_of}
 use Rattle.policy_types.specs.declared.source.Content.{Content}
 use Rattle.policy_types.specs.declared.source.Content.TheVariants.{Zero, Fill, Inline, File}
 use Rattle.policy_types.specs.declared.source.Source.{Source}
@@ -37,7 +38,7 @@ is_of_file name (File file offset most) = bytes_eq file name
 
 -- whether a content of the policy is
 abbrev pub names_file : Source → List ℕ → Bool
-names_file p name = list_any (λ f. is_of_file name f.content) (filled_of p)
+names_file p name = list_any (λ i. is_of_file name i.content) (items_of p)
 
 -- this look is at a component file that the policy of the document names
 pub record IsAsked (document : List ℕ) (l : Look) : Type 0 where

@@ -1,30 +1,23 @@
 -- What a policy with its files is refused for (this project's own order): it is no JSON text, it breaks the schema, it
 -- breaks a rule, then contents are missing or don't fit, then there is no room for a region.
-use Rattle.std.specs.Prelude.{ℕ, List, [], ◌∷◌, ◌++◌, length, map, nat_le, Option, Some, None, Result, Ok, Err, if◌then◌else◌}
-use Rattle.std.specs.List.{flat_map}
+use Rattle.std.specs.Prelude.{ℕ, List, [], ◌∷◌, length, nat_le, Option, Some, None, Result, Ok, Err, if◌then◌else◌}
 use Rattle.std.specs.FinMap.{get}
 use Rattle.muen_num.specs.Search.{first_in, first_of}
 use Rattle.muen_num.specs.declared.limits.TheConstants.{COMPONENT_FILE_MOST}
-use Rattle.muen_num.specs.declared.tag.TagPart.TheVariants.{Named, Whole}
 use Rattle.muen_num.specs.declared.tag.Tag.{Tag}
 use Rattle.muen_outside.specs.Store.{Reading, whole, absent, long, reading_of}
 use Rattle.policy_json.specs.Document.{policy_of}
-use Rattle.policy_lawful.specs.Lawful.{names_broken, rules_broken, kept_or}
+use Rattle.policy_lawful.specs.Lawful.{kept_or, unlawful}
 use Rattle.policy_lawful.specs.Contents.{Held, file_part}
-use Rattle.policy_lawful.specs.Thing.{component_by}
+use Rattle.policy_lawful.specs.Thing.{Item, items_of, thing_tag}
 use Rattle.policy_types.specs.declared.refusal.Refusal.{Refusal}
 use Rattle.policy_types.specs.declared.refusal.Refusal.TheVariants.{Missing, TooLong, FileFit}
-use Rattle.policy_types.specs.declared.source.Component.{Component}
 use Rattle.policy_types.specs.declared.source.Content.{Content}
 use Rattle.policy_types.specs.declared.source.Content.TheVariants.{Zero, Fill, Inline, File}
 use Rattle.policy_types.specs.declared.source.Source.{Source}
 use Rattle.region_alloc.specs.Placement.{no_room}
 
 -- ---- rules
-
--- the least rule that a policy breaks
-abbrev pub unlawful : Source → Option Refusal
-unlawful p = first_of (names_broken p ∷ rules_broken p ∷ [])
 
 abbrev pub lawful_alone : Result Source Refusal → Result Source Refusal
 lawful_alone (Ok p) = kept_or p (unlawful p)
@@ -34,51 +27,31 @@ lawful_alone (Err refusal) = Err refusal
 unfoldable pub lawful_policy_of : List ℕ → Result Source Refusal
 lawful_policy_of bytes = lawful_alone (policy_of bytes)
 
--- ---- what is filled
-
--- a region that is filled at the start: its printed name, its size, its content
-pub record Filled : Type 0 where
-  pub tag : Tag
-  pub size : ℕ
-  pub content : Content
-
--- the regions that a component brings along for a subject of this name
-abbrev pub filled_by : List ℕ → Option Component → List Filled
-filled_by subject None = []
-filled_by subject (Some c) =
-    map (λ x. record { tag = record { owner = subject; part = Named x.logical }; size = x.size; content = x.content }) c.provides
-
--- the regions with a content, by number: those of memory, then those that each subject's component brings along
-unfoldable pub filled_of : Source → List Filled
-filled_of p =
-    map (λ r. record { tag = record { owner = r.name; part = Whole }; size = r.size; content = r.content }) p.memory
-    ++ flat_map (λ s. filled_by s.name (component_by p s.component)) p.subjects
-
 -- ---- contents
 
--- so many bytes for a region are more than it has room for
-abbrev pub too_long_for : Filled → ℕ → Option Refusal
-too_long_for f count = if nat_le count f.size then None else Some (FileFit f.tag f.size count)
+-- so many bytes for a region of this size are more than it has room for
+abbrev pub too_long_for : Tag → ℕ → ℕ → Option Refusal
+too_long_for tag size count = if nat_le count size then None else Some (FileFit tag size count)
 
-abbrev pub file_refused : Filled → List ℕ → ℕ → Option ℕ → Reading → Option Refusal
-file_refused f name offset most (whole bytes) = too_long_for f (length (file_part offset most bytes))
-file_refused f name offset most absent = Some (Missing name)
-file_refused f name offset most (long n) = Some (TooLong name n)
+abbrev pub file_refused : Tag → ℕ → List ℕ → ℕ → Option ℕ → Reading → Option Refusal
+file_refused tag size name offset most (whole bytes) = too_long_for tag size (length (file_part offset most bytes))
+file_refused tag size name offset most absent = Some (Missing name)
+file_refused tag size name offset most (long n) = Some (TooLong name n)
 
 -- a content over files that hold this: its file isn't there or is too long, or its bytes don't fit
-abbrev pub content_refused : Held → Filled → Content → Option Refusal
-content_refused files f Zero = None
-content_refused files f (Fill byte) = None
-content_refused files f (Inline bytes) = too_long_for f (length bytes)
-content_refused files f (File name offset most) =
-    file_refused f name offset most (reading_of (get files name) COMPONENT_FILE_MOST)
+abbrev pub content_refused : Held → Tag → ℕ → Content → Option Refusal
+content_refused files tag size Zero = None
+content_refused files tag size (Fill byte) = None
+content_refused files tag size (Inline bytes) = too_long_for tag size (length bytes)
+content_refused files tag size (File name offset most) =
+    file_refused tag size name offset most (reading_of (get files name) COMPONENT_FILE_MOST)
 
-abbrev pub filled_refused : Held → Filled → Option Refusal
-filled_refused files f = content_refused files f f.content
+abbrev pub item_refused : Held → Item → Option Refusal
+item_refused files i = content_refused files (thing_tag i.thing) i.size i.content
 
 -- the first region, by number, whose contents are refused
 unfoldable pub contents_refused : Held → Source → Option Refusal
-contents_refused files p = first_in (filled_refused files) (filled_of p)
+contents_refused files p = first_in (item_refused files) (items_of p)
 
 abbrev pub fitting : Held → Result Source Refusal → Result Source Refusal
 fitting files (Ok p) = kept_or p (contents_refused files p)

@@ -5,9 +5,9 @@ ghost use Rattle.muen_num.specs.Search.{as_refusal};
 ghost use Rattle.muen_outside.specs.Store.{find_bytes, whole};
 ghost use Rattle.policy_lawful.specs.Resolution.{source_of};
 ghost use Rattle.muen_build.specs.Accepting.{Grows, IsAdded, Known, LooksAt, NotFound, NotRead, Passes, Refuses, Stops, all_names, brought_names, filled_names, given_files, looks_of, of_all, of_brought, of_filled, part_length};
-ghost use Rattle.muen_build.specs.Filling.{brought_at, filled, filled_provided, filled_region};
+ghost use Rattle.muen_build.specs.Filling.{brought_at, filled, filled_of, filled_provided, filled_region};
 ghost use Rattle.muen_build.specs.Looks.{names_file};
-ghost use Rattle.muen_build.specs.Refusals.{filled_of, too_long_for};
+ghost use Rattle.muen_build.specs.Refusals.{too_long_for};
 ghost use Rattle.muen_build.specs.declared.accepted.BuildError.TheVariants.{Refused};
 ghost use Rattle.policy_types.specs.declared.refusal.Refusal.TheVariants.{TooLong};
 
@@ -24,7 +24,7 @@ use std::alloc::Global;
 
 // That so many bytes have room in a region.
 fn fits(region: Tag, room: u64, count: u64) -> Result<(), Refusal>
-    ensures { (content : Content) → result ≡ as_refusal (too_long_for (filled region room content) count) }
+    ensures { result ≡ as_refusal (too_long_for region room count) }
 {
     if count <= room {
         return Ok(());

@@ -11,8 +11,9 @@ ghost use Rattle.muen_outside.specs.Store.{Store};
 ghost use Rattle.policy_lawful.specs.Resolution.{kept_source, source_of};
 ghost use Rattle.muen_build.specs.Accepting.{Accepts, FailsWith, Grows, HasContents, LacksContents, Passes, Refuses, Stops, given_files, looks_of, of_all, placed_source};
 ghost use Rattle.muen_build.specs.Looks.{IsAsked, Looked, names_file};
-ghost use Rattle.muen_build.specs.Refusals.{filled_of, laid_policy_of, lawful_policy_of};
+ghost use Rattle.muen_build.specs.Refusals.{laid_policy_of, lawful_policy_of};
 ghost use Rattle.region_alloc.specs.Placement.{no_room};
+ghost use Rattle.muen_build.specs.Filling.{filled_of};
 
 mod accepted;
 mod contents;

@@ -10,6 +10,7 @@ use Rattle.policy_lawful.proofs.KeptCpus.{CpusKept, cpus_kept}
 use Rattle.policy_lawful.proofs.KeptLimits.{LimitsKept, limits_kept}
 use Rattle.policy_lawful.proofs.KeptMajors.{MajorsKept, majors_kept}
 use Rattle.policy_lawful.proofs.KeptMembers.{MembersKept, members_kept}
+use Rattle.policy_lawful.proofs.KeptRules.{rules_of}
 
 pub record PlanKept (r : Resolution) : Type 0 where
   pub cpus : CpusKept (source_of r)
@@ -24,10 +25,10 @@ pub plan_kept : (r : Resolution) → IsResolved r → IsLawful (source_of r) →
 plan_kept r resolved kept =
     let in_range = parts_in_range r resolved.in_range in
     record {
-      cpus = cpus_kept (source_of r) kept.rule_3;
-      limits = limits_kept (source_of r) kept.rule_20;
-      majors = majors_kept (source_of r) kept.rule_16;
-      members = members_kept (source_of r) kept.rule_17;
+      cpus = cpus_kept (source_of r) (rules_of kept).rule_3;
+      limits = limits_kept (source_of r) (rules_of kept).rule_20;
+      majors = majors_kept (source_of r) (rules_of kept).rule_16;
+      members = members_kept (source_of r) (rules_of kept).rule_17;
       unique = groups_unique r resolved.names;
       groups_in_range = in_range.groups;
       majors_in_range = in_range.majors;

@@ -11,6 +11,7 @@ pub mod Keeps
 pub mod Lawful
 pub mod MoreRules
 pub mod Offences
+pub mod Ranges
 pub mod Resolution
 pub mod Rules
 pub mod Views

@@ -9,6 +9,7 @@ use Rattle.muen_num.specs.declared.mode.EventMode.TheVariants.{Own, Switch}
 use Rattle.muen_num.specs.declared.limits.TheConstants.{FIRST_VECTOR, HIGH_MSR_FIRST, HIGH_MSR_LAST, LAST_PORT, LAST_VECTOR, LOW_MSR_LAST, MOST_CALLS}
 use Rattle.muen_num.specs.Search.{first_of, first_in, first_after, unless}
 use Rattle.policy_lawful.specs.Offences.{alone, two}
+use Rattle.policy_lawful.specs.Ranges.{in_a_block, share_none}
 use Rattle.policy_lawful.specs.Rules.{are_apart}
 use Rattle.policy_meaning.specs.Thing.{component_by}
 use Rattle.policy_meaning.specs.Events.{ChannelEnd, channel_ends, traps_of}
@@ -137,7 +138,7 @@ abbrev pub device_ports : Source → List Ports
 device_ports p = flat_map (λ d. d.io_ports) p.devices
 
 abbrev pub ports_apart : Ports → Ports → Bool
-ports_apart a b = nat_lt a.end b.start || nat_lt b.end a.start
+ports_apart a b = share_none a.start (a.end + 1) b.start (b.end + 1)
 
 -- a range by itself, then against each before it
 abbrev pub ports_offence : List Ports → Ports → Option Offence
@@ -157,7 +158,7 @@ is_msr_range x =
 
 abbrev pub msrs_apart : List Msrs → Bool
 msrs_apart [] = true
-msrs_apart (x ∷ xs) = list_all (λ y. nat_lt x.end y.start || nat_lt y.end x.start) xs && msrs_apart xs
+msrs_apart (x ∷ xs) = list_all (λ y. share_none x.start (x.end + 1) y.start (y.end + 1)) xs && msrs_apart xs
 
 unfoldable pub offence_11 : Source → Option Offence
 offence_11 p = first_in (λ s. unless (list_all is_msr_range s.msrs && msrs_apart s.msrs) (alone s.name)) p.subjects
@@ -242,14 +243,10 @@ offence_15 p =
 abbrev pub fixed_extent : Region → Option Extent
 fixed_extent r = option_map (λ address. record { name = r.name; address = address; size = r.size }) r.physical_address
 
-abbrev pub is_inside : Source → Extent → Bool
-is_inside p e =
-    list_any (λ b. nat_le b.physical_address e.address && nat_le (e.address + e.size) (b.physical_address + b.size)) p.memory_blocks
-
 -- a fixed region by itself, then against each before it
 abbrev pub fixed_offence : Source → List Extent → Extent → Option Offence
 fixed_offence p before x =
-    option_or (unless (is_inside p x) (alone x.name))
+    option_or (unless (in_a_block p.memory_blocks x.address x.size) (alone x.name))
     (first_in (λ b. unless (are_apart b x) (two b.name x.name)) before)
 
 unfoldable pub offence_19 : Source → Option Offence

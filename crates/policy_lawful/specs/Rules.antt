@@ -8,6 +8,7 @@ use Rattle.muen_num.specs.Range.{numbers_below}
 use Rattle.muen_num.specs.declared.limits.TheConstants.{GUEST_END, KERNEL_REGIONS, LARGE_PAGE, MOST_BLOCK_BYTES, MOST_BLOCKS, MOST_CHANNELS, MOST_COMPONENTS, MOST_CPUS, MOST_DEVICE_BYTES, MOST_DEVICE_WINDOWS, MOST_DEVICES, MOST_EVENTS, MOST_LOGICAL_NAMES, MOST_MAJOR_FRAMES, MOST_MINOR_FRAMES, MOST_MSRS, MOST_PER_DEVICE, MOST_REGIONS, MOST_SUBJECTS, MOST_TICKS, MOST_WINDOWS, PAGE, PHYSICAL_END}
 use Rattle.muen_num.specs.Search.{first_of, first_in, first_after, first_pair, unless}
 use Rattle.policy_lawful.specs.Offences.{alone, two}
+use Rattle.policy_lawful.specs.Ranges.{share_none}
 use Rattle.muen_num.specs.declared.access.AccessKind.TheVariants.{Write}
 use Rattle.policy_types.specs.Rights.{allows}
 use Rattle.policy_meaning.specs.Thing.{Thing, region, channel, provided, device_memory, state, same_thing, component_by}
@@ -71,17 +72,13 @@ offence_1 p = first_in repeated (kinds_of_names p)
 abbrev pub is_declared : List (List ℕ) → List ℕ → Bool
 is_declared names name = list_any (λ n. bytes_eq n name) names
 
--- a reference: who makes it, the name, and the names that are declared
-pub record Reference : Type 0 where
-  pub by : List ℕ
-  pub name : List ℕ
-  pub among : List (List ℕ)
+-- a reference: the names that are declared, and the name
+abbrev pub Reference : Type 0
+Reference = List (List ℕ) × List ℕ
 
-abbrev pub refers : List ℕ → List (List ℕ) → List ℕ → Reference
-refers by among name = record { by = by; name = name; among = among }
-
-abbrev pub undeclared : Reference → Option Offence
-undeclared r = unless (is_declared r.among r.name) (two r.by r.name)
+-- whoever makes it is named first
+abbrev pub undeclared : List ℕ → Reference → Option Offence
+undeclared by r = unless (is_declared r.0 r.1) (two by r.1)
 
 -- the logical names of a component that want a region, and those that want a channel
 abbrev pub wanted_regions : Option Component → List (List ℕ)
@@ -97,51 +94,50 @@ abbrev pub physical_names : Source → Option Component → List ℕ → List (L
 physical_names p c logical =
     if is_declared (wanted_channels c) logical then map (λ x. x.name) p.channels else map (λ r. r.name) p.memory
 
-abbrev pub entry_references : Source → List ℕ → Option Component → MapEntry → List Reference
-entry_references p by c e =
-    refers by (wanted_regions c ++ wanted_channels c) e.logical
-    ∷ refers by (physical_names p c e.logical) e.physical
-    ∷ []
+abbrev pub entry_references : Source → Option Component → MapEntry → List Reference
+entry_references p c e = (wanted_regions c ++ wanted_channels c, e.logical) ∷ (physical_names p c e.logical, e.physical) ∷ []
 
-abbrev pub component_references : Source → List ℕ → Option ComponentUse → List Reference
-component_references p by None = []
-component_references p by (Some used) =
-    refers by (map (λ c. c.name) p.components) used.used
-    ∷ flat_map (entry_references p by (component_by p (Some used))) used.map
+abbrev pub component_references : Source → Option ComponentUse → List Reference
+component_references p None = []
+component_references p (Some used) =
+    (map (λ c. c.name) p.components, used.used) ∷ flat_map (entry_references p (component_by p (Some used))) used.map
 
 -- the device of a use, and of it these names
 abbrev pub device_names : Source → (Device → List (List ℕ)) → List ℕ → List (List ℕ)
 device_names p names_of name = option_map_or names_of (find (λ d. bytes_eq d.name name) p.devices) []
 
-abbrev pub device_references : Source → List ℕ → DeviceUse → List Reference
-device_references p by d =
-    refers by (map (λ d. d.name) p.devices) d.device
-    ∷ map (λ m. refers by (device_names p (λ d. map (λ m. m.name) d.memory) d.device) m.memory) d.memory
-    ++ map (refers by (device_names p (λ d. map (λ x. x.name) d.io_ports) d.device)) d.io_ports
-    ++ map (λ i. refers by (device_names p (λ d. map (λ i. i.name) d.irqs) d.device) i.irq) d.irqs
+abbrev pub device_references : Source → DeviceUse → List Reference
+device_references p d =
+    (map (λ d. d.name) p.devices, d.device)
+    ∷ map (λ m. (device_names p (λ d. map (λ m. m.name) d.memory) d.device, m.memory)) d.memory
+    ++ map (λ x. (device_names p (λ d. map (λ x. x.name) d.io_ports) d.device, x)) d.io_ports
+    ++ map (λ i. (device_names p (λ d. map (λ i. i.name) d.irqs) d.device, i.irq)) d.irqs
 
 abbrev pub subject_references : Source → Subject → List Reference
 subject_references p s =
-    component_references p s.name s.component
-    ++ map (λ m. refers s.name (map (λ r. r.name) p.memory) m.region) s.memory
-    ++ map (λ c. refers s.name (map (λ c. c.name) p.channels) c.channel) s.channels
-    ++ flat_map (device_references p s.name) s.devices
-    ++ map (λ e. refers s.name (map (λ e. e.name) p.events) e.event) s.sources
-    ++ map (λ e. refers s.name (map (λ e. e.name) p.events) e.event) s.targets
-    ++ map (λ m. refers s.name (map (λ s. s.name) p.subjects) m.subject) s.monitors
+    component_references p s.component
+    ++ map (λ m. (map (λ r. r.name) p.memory, m.region)) s.memory
+    ++ map (λ c. (map (λ c. c.name) p.channels, c.channel)) s.channels
+    ++ flat_map (device_references p) s.devices
+    ++ map (λ e. (map (λ e. e.name) p.events, e.event)) s.sources
+    ++ map (λ e. (map (λ e. e.name) p.events, e.event)) s.targets
+    ++ map (λ m. (map (λ s. s.name) p.subjects, m.subject)) s.monitors
 
 abbrev pub group_references : Source → Group → List Reference
-group_references p g = map (refers g.name (map (λ s. s.name) p.subjects)) g.subjects
+group_references p g = map (λ name. (map (λ s. s.name) p.subjects, name)) g.subjects
 
-abbrev pub frame_references : Source → ℕ × MajorFrame → List Reference
-frame_references p (k, m) =
-    flat_map (λ c. map (λ f. refers (major_name k) (map (λ g. g.name) p.scheduling.groups) f.group) c.minor_frames) m.cpus
+abbrev pub frame_references : Source → MajorFrame → List Reference
+frame_references p m = flat_map (λ c. map (λ f. (map (λ g. g.name) p.scheduling.groups, f.group)) c.minor_frames) m.cpus
 
 -- each subject's, then the groups' members, then the frames' groups
 unfoldable pub offence_2 : Source → Option Offence
 offence_2 p =
-    first_in undeclared
-    (flat_map (subject_references p) p.subjects ++ flat_map (group_references p) p.scheduling.groups ++ flat_map (frame_references p) (majors_of p))
+    first_of (
+    first_in (λ s. first_in (undeclared s.name) (subject_references p s)) p.subjects
+    ∷ first_in (λ g. first_in (undeclared g.name) (group_references p g)) p.scheduling.groups
+    ∷ first_in (λ m. first_in (undeclared (major_name m.0)) (frame_references p m.1)) (majors_of p)
+    ∷ []
+    )
 
 -- ---- rule 3: CPUs
 
@@ -226,7 +222,7 @@ offence_4 p =
 
 -- two ranges of addresses share none
 abbrev pub are_apart : Extent → Extent → Bool
-are_apart a b = nat_le (a.address + a.size) b.address || nat_le (b.address + b.size) a.address
+are_apart a b = share_none a.address (a.address + a.size) b.address (b.address + b.size)
 
 abbrev pub overlapping : Extent → Extent → Option Offence
 overlapping a b = unless (are_apart a b) (two a.name b.name)

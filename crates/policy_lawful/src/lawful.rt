@@ -1,7 +1,7 @@
 //! Policies that keep every rule.
-ghost use Rattle.std.specs.Prelude.{◌≡◌, None};
+ghost use Rattle.std.specs.Prelude.{◌≡◌};
 ghost use Rattle.policy_lawful.specs.Resolution.{source_of};
-ghost use Rattle.policy_lawful.specs.Lawful.{IsLawful, rules_broken};
+ghost use Rattle.policy_lawful.specs.Lawful.{IsLawful};
 
 use crate::resolved::Resolved;
 use std::marker::Model;
@@ -24,10 +24,9 @@ impl Model for Lawful {
 }
 
 impl Lawful {
-    /// The policy, in which no rule from 3 on is broken.
-    #[tactic(auto, using(crate::proofs::KeptRules::is_lawful))]
+    /// The policy, in which no rule is broken.
     pub fn make(resolved: Resolved) -> Lawful
-        requires { rules_broken (source_of resolved) ≡ None }
+        requires { IsLawful (source_of resolved) }
         ensures { result ≡ resolved }
     {
         Lawful { resolved }

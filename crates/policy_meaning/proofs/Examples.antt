@@ -8,7 +8,7 @@ use Rattle.policy_meaning.specs.Contents.{Held, initial_bytes}
 use Rattle.policy_meaning.specs.Dma.{dma_access}
 use Rattle.policy_meaning.specs.Events.{event_of, irq_of, traps_of}
 use Rattle.policy_meaning.specs.Frames.{frames_of}
-use Rattle.policy_meaning.specs.Thing.{Thing, region, channel, provided, device_memory, things_of}
+use Rattle.policy_meaning.specs.Thing.{Thing, region, channel, provided, device_memory, device_items, item_of, items_of, placed_items, things_of}
 use Rattle.policy_meaning.specs.Windows.{Window, window, windows_of, access_of, byte, violation}
 use Rattle.policy_types.specs.declared.rights.Rights.TheVariants.{R, Rw, Rx}
 use Rattle.policy_types.specs.declared.rights.Caching.TheVariants.{Wb}
@@ -143,7 +143,7 @@ things : things_of system ≡
     region (codes "code") ∷ region (codes "fill") ∷ region (codes "file") ∷ region (codes "rest") ∷ region (codes "none")
     ∷ channel (codes "job") ∷ channel (codes "key") ∷ provided (codes "black") (codes "text")
     ∷ device_memory (codes "net") (codes "ring") ∷ device_memory (codes "net") (codes "spare") ∷ []
-unfolding things_of
+unfolding things_of items_of placed_items device_items
 things = refl
 
 -- the entry of `table` has rights of its own, that of `seed` has none, and `unmapped` has no entry
@@ -186,37 +186,37 @@ written_device = refl
 -- ---- contents
 
 inline_padded : (files : Held) → initial_bytes system files (region (codes "code")) ≡ 1 ∷ 2 ∷ 3 ∷ 0 ∷ 0 ∷ 0 ∷ 0 ∷ 0 ∷ []
-unfolding initial_bytes
+unfolding initial_bytes item_of items_of placed_items device_items
 inline_padded files = refl
 
 filled : (files : Held) → initial_bytes system files (region (codes "fill")) ≡ 7 ∷ 7 ∷ 7 ∷ 7 ∷ []
-unfolding initial_bytes
+unfolding initial_bytes item_of items_of placed_items device_items
 filled files = refl
 
 zeros : (files : Held) → initial_bytes system files (region (codes "none")) ≡ 0 ∷ 0 ∷ 0 ∷ 0 ∷ []
-unfolding initial_bytes
+unfolding initial_bytes item_of items_of placed_items device_items
 zeros files = refl
 
 empty_channel : (files : Held) → initial_bytes system files (channel (codes "key")) ≡ 0 ∷ 0 ∷ 0 ∷ 0 ∷ 0 ∷ 0 ∷ 0 ∷ 0 ∷ []
-unfolding initial_bytes
+unfolding initial_bytes item_of items_of placed_items device_items
 empty_channel files = refl
 
 provided_padded : (files : Held) → initial_bytes system files (provided (codes "black") (codes "text")) ≡ 9 ∷ 0 ∷ 0 ∷ 0 ∷ []
-unfolding initial_bytes
+unfolding initial_bytes item_of items_of placed_items device_items
 provided_padded files = refl
 
 device_zeros : (files : Held) → initial_bytes system files (device_memory (codes "net") (codes "ring")) ≡ 0 ∷ 0 ∷ 0 ∷ 0 ∷ []
-unfolding initial_bytes
+unfolding initial_bytes item_of items_of placed_items device_items
 device_zeros files = refl
 
 -- from offset 1, two bytes
 file_part : (files : Held) → get files (codes "f.bin") ≡ Some (11 ∷ 12 ∷ 13 ∷ 14 ∷ 15 ∷ []) → initial_bytes system files (region (codes "file")) ≡ 12 ∷ 13 ∷ 0 ∷ 0 ∷ []
-unfolding initial_bytes
+unfolding initial_bytes item_of items_of placed_items device_items
 file_part files held = rw held refl
 
 -- from offset 2, as many as there are
 file_rest : (files : Held) → get files (codes "f.bin") ≡ Some (11 ∷ 12 ∷ 13 ∷ 14 ∷ 15 ∷ []) → initial_bytes system files (region (codes "rest")) ≡ 13 ∷ 14 ∷ 15 ∷ 0 ∷ []
-unfolding initial_bytes
+unfolding initial_bytes item_of items_of placed_items device_items
 file_rest files held = rw held refl
 
 -- ---- events

@@ -1,12 +1,10 @@
 -- What memory holds at the start (Muen system policy: memory regions and their content).
-use Rattle.std.specs.Prelude.{ℕ, ◌-◌, List, [], ◌++◌, length, take, drop, replicate, Option, Some, None, option_and_then}
+use Rattle.std.specs.Prelude.{ℕ, ◌-◌, List, [], ◌++◌, length, take, drop, replicate, Option, Some, None}
 use Rattle.std.specs.Option.{option_map_or}
-use Rattle.std.specs.List.{find}
-use Rattle.std.specs.Str.{bytes_eq}
 use Rattle.std.specs.Ordering.{nat_cmp}
 use Rattle.std.specs.Cmp.Lexicographic.{slice_cmp}
 use Rattle.std.specs.FinMap.{FinMap, from_entries, get}
-use Rattle.policy_meaning.specs.Thing.{Thing, region, channel, provided, device_memory, state, component_by}
+use Rattle.policy_meaning.specs.Thing.{Thing, item_of}
 use Rattle.policy_types.specs.declared.source.Source.{Source}
 use Rattle.policy_types.specs.declared.source.Content.{Content}
 use Rattle.policy_types.specs.declared.source.Content.TheVariants.{Zero, Fill, Inline, File}
@@ -38,20 +36,7 @@ content_bytes files size (Inline bytes) = padded size bytes
 content_bytes files size (File name offset most) =
     padded size (file_part offset most (option_map_or (λ bytes. bytes) (get files name) []))
 
--- the bytes of a thing at the start; a channel and a device's memory hold zeros. A state page isn't among the things that
--- a policy gives bytes: what it holds is its subject's state
+-- the bytes of a thing at the start. A state page isn't among the things that a policy gives bytes: what it holds is its
+-- subject's state
 unfoldable pub initial_bytes : Source → Held → Thing → List ℕ
-initial_bytes p files (region name) =
-    option_map_or (λ r. content_bytes files r.size r.content) (find (λ r. bytes_eq r.name name) p.memory) []
-initial_bytes p files (channel name) =
-    option_map_or (λ c. replicate c.size 0) (find (λ c. bytes_eq c.name name) p.channels) []
-initial_bytes p files (provided subject logical) =
-    option_map_or (λ x. content_bytes files x.size x.content)
-    (option_and_then (λ s. option_and_then (λ c. find (λ x. bytes_eq x.logical logical) c.provides) (component_by p s.component))
-    (find (λ s. bytes_eq s.name subject) p.subjects))
-    []
-initial_bytes p files (device_memory device name) =
-    option_map_or (λ m. replicate m.size 0)
-    (option_and_then (λ d. find (λ m. bytes_eq m.name name) d.memory) (find (λ d. bytes_eq d.name device) p.devices))
-    []
-initial_bytes p files (state subject) = []
+initial_bytes p files thing = option_map_or (λ i. content_bytes files i.size i.content) (item_of p thing) []

@@ -1,13 +1,21 @@
--- What a window shows: a thing, by its kind and its names in the source policy (Muen system policy: memory, channels,
--- components, devices).
-use Rattle.std.specs.Prelude.{ℕ, ◌&&◌, Bool, true, false, List, [], ◌++◌, map, Option, Some, None}
+-- What has memory: each thing of a policy, by its kind and its names, with what is declared of it (Muen system policy: memory,
+-- channels, components, devices).
+use Rattle.std.specs.Prelude.{ℕ, ◌&&◌, Bool, true, false, List, [], ◌++◌, map, Option, Some, None, option_map}
 use Rattle.std.specs.List.{find, flat_map}
+use Rattle.std.specs.Option.{option_map_or}
 use Rattle.std.specs.Str.{bytes_eq}
+use Rattle.muen_num.specs.declared.limits.TheConstants.{PAGE}
 use Rattle.muen_num.specs.declared.tag.TagPart.TheVariants.{Whole, Named, State}
 use Rattle.muen_num.specs.declared.tag.Tag.{Tag}
-use Rattle.policy_types.specs.declared.source.Source.{Source}
+use Rattle.policy_types.specs.declared.source.Channel.{Channel}
 use Rattle.policy_types.specs.declared.source.Component.{Component}
 use Rattle.policy_types.specs.declared.source.ComponentUse.{ComponentUse}
+use Rattle.policy_types.specs.declared.source.Content.{Content}
+use Rattle.policy_types.specs.declared.source.Content.TheVariants.{Zero}
+use Rattle.policy_types.specs.declared.source.DeviceMemory.{DeviceMemory}
+use Rattle.policy_types.specs.declared.source.Provided.{Provided}
+use Rattle.policy_types.specs.declared.source.Region.{Region}
+use Rattle.policy_types.specs.declared.source.Source.{Source}
 
 pub data Thing : Type 0 where
   -- a region of memory
@@ -47,16 +55,56 @@ abbrev pub component_by : Source → Option ComponentUse → Option Component
 component_by p None = None
 component_by p (Some used) = find (λ c. bytes_eq c.name used.used) p.components
 
--- the regions that a component brings along for this subject
-abbrev pub provided_by : List ℕ → Option Component → List Thing
-provided_by subject None = []
-provided_by subject (Some c) = map (λ x. provided subject x.logical) c.provides
+-- ---- what has memory
 
--- all things of a policy but the state pages, in the order of their numbers: regions, channels, each subject's provided
--- regions, the devices' memory
+-- a thing with its size, what it holds at the start, its alignment, and where it has to be, if anywhere
+pub record Item : Type 0 where
+  pub thing : Thing
+  pub size : ℕ
+  pub content : Content
+  pub alignment : ℕ
+  pub address : Option ℕ
+
+abbrev pub region_item : Region → Item
+region_item r = record { thing = region r.name; size = r.size; content = r.content; alignment = r.alignment; address = r.physical_address }
+
+abbrev pub channel_item : Channel → Item
+channel_item c = record { thing = channel c.name; size = c.size; content = Zero; alignment = PAGE; address = None }
+
+abbrev pub provided_item : List ℕ → Provided → Item
+provided_item subject x =
+    record { thing = provided subject x.logical; size = x.size; content = x.content; alignment = PAGE; address = None }
+
+abbrev pub device_item : List ℕ → DeviceMemory → Item
+device_item device m =
+    record { thing = device_memory device m.name; size = m.size; content = Zero; alignment = PAGE; address = Some m.physical_address }
+
+-- those that a component brings along for this subject
+abbrev pub provided_items : List ℕ → Option Component → List Item
+provided_items subject c = map (provided_item subject) (option_map_or (λ c. c.provides) c [])
+
+-- what is placed, by number: regions, channels, each subject's provided regions
+unfoldable pub placed_items : Source → List Item
+placed_items p =
+    map region_item p.memory
+    ++ map channel_item p.channels
+    ++ flat_map (λ s. provided_items s.name (component_by p s.component)) p.subjects
+
+-- the devices' memory
+unfoldable pub device_items : Source → List Item
+device_items p = flat_map (λ d. map (device_item d.name) d.memory) p.devices
+
+-- all that has memory but the state pages, by number
+unfoldable pub items_of : Source → List Item
+items_of p = placed_items p ++ device_items p
+
+unfoldable pub item_of : Source → Thing → Option Item
+item_of p thing = find (λ i. same_thing i.thing thing) (items_of p)
+
+-- all things of a policy but the state pages, in the order of their numbers
 unfoldable pub things_of : Source → List Thing
-things_of p =
-    map (λ r. region r.name) p.memory
-    ++ map (λ c. channel c.name) p.channels
-    ++ flat_map (λ s. provided_by s.name (component_by p s.component)) p.subjects
-    ++ flat_map (λ d. map (λ m. device_memory d.name m.name) d.memory) p.devices
+things_of p = map (λ i. i.thing) (items_of p)
+
+-- the declared size of a thing, whatever the length of its contents
+unfoldable pub declared_size : Source → Thing → Option ℕ
+declared_size p thing = option_map (λ i. i.size) (item_of p thing)

@@ -13,7 +13,7 @@ use Rattle.muen_num.proofs.SearchLaws.{option_or-None}
 use Rattle.policy_lawful.specs.Keeps.{Keeps}
 use Rattle.policy_lawful.specs.Offences.{broken, two}
 use Rattle.policy_lawful.specs.Resolution.{component_in_range, component_named, entry_in_range, entry_named, name_at}
-use Rattle.policy_lawful.specs.Rules.{component_references, entry_references, is_declared, offence_1, refers, undeclared}
+use Rattle.policy_lawful.specs.Rules.{component_references, entry_references, is_declared, offence_1, undeclared}
 use Rattle.policy_lawful.proofs.Offences.{none_broken}
 use Rattle.policy_lawful.proofs.Indexes.{found_at_index}
 use Rattle.policy_lawful.proofs.UniqueNames.{unique as names_unique}
@@ -44,20 +44,20 @@ either true false o at xs ys = option_or-None (at ys)
 either false true o at xs ys = option_or-None (at xs)
 either false false o at xs ys = refl
 
-entry_of : (p : Source) (by : List ℕ) (c : Component) (e : MapEntry) → first_in undeclared (entry_references p by (Some c) e) ≡ entry_offence p (names_of_wanted c) by e
+entry_of : (p : Source) (by : List ℕ) (c : Component) (e : MapEntry) → first_in (undeclared by) (entry_references p (Some c) e) ≡ entry_offence p (names_of_wanted c) by e
 entry_of p by c e =
     let regions = map (λ x. x.logical) c.memory in
     let channels = map (λ x. x.logical) c.channels in
-    let at : List (List ℕ) → Option Offence = λ names. undeclared (refers by names e.physical) in
+    let at : List (List ℕ) → Option Offence = λ names. undeclared by (names, e.physical) in
     ap (λ b. option_or (unless b (two by e.logical)) (option_or (at (if is_declared channels e.logical then map (λ x. x.name) p.channels else map (λ r. r.name) p.memory)) None)) (list_any-append (λ n. bytes_eq n e.logical) regions channels)
     ∙ either (is_declared channels e.logical) (is_declared regions e.logical) (two by e.logical) at (map (λ r. r.name) p.memory) (map (λ x. x.name) p.channels)
 
 same_names : (c : Component) (names : WantedNames) → Some (names_of_wanted c) ≡ Some names → names_of_wanted c ≡ names
 same_names c names h = ap (λ o. unwrap_or o names) h
 
-entry_over : (p : Source) (by : List ℕ) (e : MapEntry) (names : WantedNames) (o : Option Component) → option_map names_of_wanted o ≡ Some names → first_in undeclared (entry_references p by o e) ≡ entry_offence p names by e
+entry_over : (p : Source) (by : List ℕ) (e : MapEntry) (names : WantedNames) (o : Option Component) → option_map names_of_wanted o ≡ Some names → first_in (undeclared by) (entry_references p o e) ≡ entry_offence p names by e
 entry_over p by e names None h = absurd (cc)
-entry_over p by e names (Some c) h = subst (λ n. first_in undeclared (entry_references p by (Some c) e) ≡ entry_offence p n by e) (same_names c names h) (entry_of p by c e)
+entry_over p by e names (Some c) h = subst (λ n. first_in (undeclared by) (entry_references p (Some c) e) ≡ entry_offence p n by e) (same_names c names h) (entry_of p by c e)
 
 -- a list of what is there
 part : (f : WantedNames → List (List ℕ)) (o : Option Component) (names : WantedNames) → option_map names_of_wanted o ≡ Some names → option_map_or (λ c. f (names_of_wanted c)) o [] ≡ f names
@@ -84,20 +84,20 @@ module _ (p : Source) (by : List ℕ) (e : MapEntry) (index : ℕ) (names : Want
 
   -- what is told of an entry among the names of its component
   pub entry_resolved : (result : Result ResolvedEntry Refusal) → Keeps (broken 2 (entry_offence p names by e)) (StandsFor (λ r. entry_among p names r.logical r) (λ r. entry_there p names r.logical r.physical) e) result
-      → Keeps (broken 2 (first_in undeclared (entry_references p by (slice_get p.components index) e))) (StandsFor (λ r. entry_named (outline p) index r.logical r) (λ r. entry_in_range (outline p) index r.logical r.physical) e) result
+      → Keeps (broken 2 (first_in (undeclared by) (entry_references p (slice_get p.components index) e))) (StandsFor (λ r. entry_named (outline p) index r.logical r) (λ r. entry_in_range (outline p) index r.logical r.physical) e) result
   entry_resolved result keeps =
       keeps_as (StandsFor (λ r. entry_among p names r.logical r) (λ r. entry_there p names r.logical r.physical) e) (StandsFor (λ r. entry_named (outline p) index r.logical r) (λ r. entry_in_range (outline p) index r.logical r.physical) e)
-      (broken 2 (entry_offence p names by e)) (broken 2 (first_in undeclared (entry_references p by (slice_get p.components index) e)))
+      (broken 2 (entry_offence p names by e)) (broken 2 (first_in (undeclared by) (entry_references p (slice_get p.components index) e)))
       (ap (broken 2) (entry_over p by e names (slice_get p.components index) at_index))
       (λ r h. record { same = entry_same r.logical r ∙ h.same; there = there_same r.logical r.physical ∙ h.there })
       result keeps
 
-none_over : (p : Source) (by : List ℕ) (e : MapEntry) (o : Option Component) → option_map names_of_wanted o ≡ None → first_in undeclared (entry_references p by o e) ≡ Some (two by e.logical)
+none_over : (p : Source) (by : List ℕ) (e : MapEntry) (o : Option Component) → option_map names_of_wanted o ≡ None → first_in (undeclared by) (entry_references p o e) ≡ Some (two by e.logical)
 none_over p by e None h = refl
 none_over p by e (Some c) h = absurd (cc)
 
 -- where there is no component, nothing is declared
-pub no_component : (p : Source) (by : List ℕ) (e : MapEntry) (index : ℕ) → slice_get (map names_of_wanted p.components) index ≡ None → first_in undeclared (entry_references p by (slice_get p.components index) e) ≡ Some (two by e.logical)
+pub no_component : (p : Source) (by : List ℕ) (e : MapEntry) (index : ℕ) → slice_get (map names_of_wanted p.components) index ≡ None → first_in (undeclared by) (entry_references p (slice_get p.components index) e) ≡ Some (two by e.logical)
 no_component p by e index at = none_over p by e (slice_get p.components index) (sym (slice_get-map names_of_wanted p.components index) ∙ at)
 
 -- ---- a use of a component
@@ -116,12 +116,12 @@ module _ (p : Source) (by : List ℕ) (c : ComponentUse) (index : ℕ)
       ∙ found_at_index (λ c. c.name) p.components index (names_unique p unique).components (omega (arith, many, within))
 
   -- its references, one behind another
-  in_turn : first_in undeclared (component_references p by (Some c))
-      ≡ option_or (undeclared (refers by (map (λ c. c.name) p.components) c.used)) (first_in (λ e. first_in undeclared (entry_references p by (slice_get p.components index) e)) c.map)
+  in_turn : first_in (undeclared by) (component_references p (Some c))
+      ≡ option_or (undeclared by (map (λ c. c.name) p.components, c.used)) (first_in (λ e. first_in (undeclared by) (entry_references p (slice_get p.components index) e)) c.map)
   in_turn =
-      ap (option_or (undeclared (refers by (map (λ c. c.name) p.components) c.used)))
-      (first_in-flat_map undeclared (entry_references p by (find (λ x. bytes_eq x.name c.used) p.components)) c.map
-      ∙ ap (λ o. first_in (λ e. first_in undeclared (entry_references p by o e)) c.map) found)
+      ap (option_or (undeclared by (map (λ c. c.name) p.components, c.used)))
+      (first_in-flat_map (undeclared by) (entry_references p (find (λ x. bytes_eq x.name c.used) p.components)) c.map
+      ∙ ap (λ o. first_in (λ e. first_in (undeclared by) (entry_references p o e)) c.map) found)
 
   -- the use with indexes stands for it
   use_stands : (r : ResolvedUse) → EntriesStand p index c r → StandsFor (component_named (outline p)) (component_in_range (outline p)) c r
@@ -136,11 +136,11 @@ module _ (p : Source) (by : List ℕ) (c : ComponentUse) (index : ℕ)
       }
 
   -- so what is told of its entries tells all of it
-  pub resolved : (result : Result ResolvedUse Refusal) → broken 2 (undeclared (refers by (map (λ c. c.name) p.components) c.used)) ≡ None
-      → Keeps (broken 2 (first_in (λ e. first_in undeclared (entry_references p by (slice_get p.components index) e)) c.map)) (EntriesStand p index c) result
-      → Keeps (broken 2 (first_in undeclared (component_references p by (Some c)))) (StandsFor (component_named (outline p)) (component_in_range (outline p)) c) result
+  pub resolved : (result : Result ResolvedUse Refusal) → broken 2 (undeclared by (map (λ c. c.name) p.components, c.used)) ≡ None
+      → Keeps (broken 2 (first_in (λ e. first_in (undeclared by) (entry_references p (slice_get p.components index) e)) c.map)) (EntriesStand p index c) result
+      → Keeps (broken 2 (first_in (undeclared by) (component_references p (Some c)))) (StandsFor (component_named (outline p)) (component_in_range (outline p)) c) result
   resolved result declared keeps =
-      let rest = first_in (λ e. first_in undeclared (entry_references p by (slice_get p.components index) e)) c.map in
-      let same : broken 2 (first_in undeclared (component_references p by (Some c))) ≡ broken 2 rest =
-      ap (broken 2) in_turn ∙ ap (λ o. broken 2 (option_or o rest)) (none_broken 2 (undeclared (refers by (map (λ c. c.name) p.components) c.used)) declared) in
-      keeps_as (EntriesStand p index c) (StandsFor (component_named (outline p)) (component_in_range (outline p)) c) (broken 2 rest) (broken 2 (first_in undeclared (component_references p by (Some c)))) same use_stands result keeps
+      let rest = first_in (λ e. first_in (undeclared by) (entry_references p (slice_get p.components index) e)) c.map in
+      let same : broken 2 (first_in (undeclared by) (component_references p (Some c))) ≡ broken 2 rest =
+      ap (broken 2) in_turn ∙ ap (λ o. broken 2 (option_or o rest)) (none_broken 2 (undeclared by (map (λ c. c.name) p.components, c.used)) declared) in
+      keeps_as (EntriesStand p index c) (StandsFor (component_named (outline p)) (component_in_range (outline p)) c) (broken 2 rest) (broken 2 (first_in (undeclared by) (component_references p (Some c)))) same use_stands result keeps

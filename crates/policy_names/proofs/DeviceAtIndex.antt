@@ -12,7 +12,7 @@ use Rattle.muen_num.proofs.SearchLaws.{first_in-append, first_over-map, option_o
 use Rattle.policy_lawful.specs.Keeps.{Keeps}
 use Rattle.policy_lawful.specs.Offences.{broken}
 use Rattle.policy_lawful.specs.Resolution.{device_in_range, device_named, name_at}
-use Rattle.policy_lawful.specs.Rules.{Reference, device_references, offence_1, refers, undeclared}
+use Rattle.policy_lawful.specs.Rules.{Reference, device_references, offence_1, undeclared}
 use Rattle.policy_lawful.proofs.Offences.{none_broken}
 use Rattle.policy_lawful.proofs.Indexes.{found_at_index}
 use Rattle.policy_lawful.proofs.UniqueNames.{unique as names_unique}
@@ -36,11 +36,11 @@ part f None names h = absurd (cc)
 part f (Some d) names h = ap (λ o. option_map_or f o []) h
 
 -- three lists of references, one after another
-three : (a b c : List Reference) → first_in undeclared ((a ++ b) ++ c) ≡ option_or (first_in undeclared a) (option_or (first_in undeclared b) (first_in undeclared c))
-three a b c =
-    first_in-append undeclared (a ++ b) c
-    ∙ ap (λ o. option_or o (first_in undeclared c)) (first_in-append undeclared a b)
-    ∙ option_or_assoc (first_in undeclared a) (first_in undeclared b) (first_in undeclared c)
+three : (by : List ℕ) (a b c : List Reference) → first_in (undeclared by) ((a ++ b) ++ c) ≡ option_or (first_in (undeclared by) a) (option_or (first_in (undeclared by) b) (first_in (undeclared by) c))
+three by a b c =
+    first_in-append (undeclared by) (a ++ b) c
+    ∙ ap (λ o. option_or o (first_in (undeclared by) c)) (first_in-append (undeclared by) a b)
+    ∙ option_or_assoc (first_in (undeclared by) a) (first_in (undeclared by) b) (first_in (undeclared by) c)
 
 -- the device that is found by its name
 device_found : (p : Source) (index : ℕ) (name : List ℕ) → offence_1 p ≡ None → StandsFor (name_at (map (λ d. d.name) p.devices)) (λ k. nat_lt k (length (map (λ d. d.name) p.devices))) name index
@@ -76,16 +76,16 @@ module _ (p : Source) (by : List ℕ) (d : DeviceUse) (index : ℕ) (names : Dev
   found = device_found p index d.device unique stands
 
   -- the references of the use, one kind after another
-  in_turn : first_in undeclared (device_references p by d) ≡ option_or (undeclared (refers by (map (λ d. d.name) p.devices) d.device)) (parts_offence names by d)
+  in_turn : first_in (undeclared by) (device_references p d) ≡ option_or (undeclared by (map (λ d. d.name) p.devices, d.device)) (parts_offence names by d)
   in_turn =
       let memory : option_map_or (λ d. map (λ m. m.name) d.memory) (find (λ x. bytes_eq x.name d.device) p.devices) [] ≡ names.memory = ap (λ o. option_map_or (λ (d : Device). map (λ m. m.name) d.memory) o []) found ∙ memory_at in
       let ports : option_map_or (λ d. map (λ x. x.name) d.io_ports) (find (λ x. bytes_eq x.name d.device) p.devices) [] ≡ names.io_ports = ap (λ o. option_map_or (λ (d : Device). map (λ x. x.name) d.io_ports) o []) found ∙ ports_at in
       let irqs : option_map_or (λ d. map (λ i. i.name) d.irqs) (find (λ x. bytes_eq x.name d.device) p.devices) [] ≡ names.irqs = ap (λ o. option_map_or (λ (d : Device). map (λ q. q.name) d.irqs) o []) found ∙ irqs_at in
-      let device = refers by (map (λ d. d.name) p.devices) d.device in
-      let by_names : first_in undeclared (device_references p by d) ≡ first_in undeclared (device ∷ map (λ m. refers by names.memory m.memory) d.memory ++ map (refers by names.io_ports) d.io_ports ++ map (λ q. refers by names.irqs q.irq) d.irqs) =
-      λ i. first_in undeclared (device ∷ map (λ m. refers by (memory i) m.memory) d.memory ++ map (refers by (ports i)) d.io_ports ++ map (λ q. refers by (irqs i) q.irq) d.irqs) in
-      by_names ∙ ap (option_or (undeclared device)) (three (map (λ m. refers by names.memory m.memory) d.memory) (map (refers by names.io_ports) d.io_ports) (map (λ q. refers by names.irqs q.irq) d.irqs)
-      ∙ rw (first_over-map (λ m. refers by names.memory m.memory) undeclared d.memory, first_over-map (refers by names.io_ports) undeclared d.io_ports, first_over-map (λ q. refers by names.irqs q.irq) undeclared d.irqs) refl)
+      let device : Reference = (map (λ d. d.name) p.devices, d.device) in
+      let by_names : first_in (undeclared by) (device_references p d) ≡ first_in (undeclared by) (device ∷ map (λ m. (names.memory, m.memory)) d.memory ++ map (λ x. (names.io_ports, x)) d.io_ports ++ map (λ q. (names.irqs, q.irq)) d.irqs) =
+      λ i. first_in (undeclared by) (device ∷ map (λ m. (memory i, m.memory)) d.memory ++ map (λ x. (ports i, x)) d.io_ports ++ map (λ q. (irqs i, q.irq)) d.irqs) in
+      by_names ∙ ap (option_or (undeclared by device)) (three by (map (λ m. (names.memory, m.memory)) d.memory) (map (λ x. (names.io_ports, x)) d.io_ports) (map (λ q. (names.irqs, q.irq)) d.irqs)
+      ∙ rw (first_over-map (λ m. (names.memory, m.memory)) (undeclared by) d.memory, first_over-map (λ x. (names.io_ports, x)) (undeclared by) d.io_ports, first_over-map (λ q. (names.irqs, q.irq)) (undeclared by) d.irqs) refl)
 
   -- the use with indexes stands for it
   use_stands : (r : ResolvedUse) → PartsStand names index d r → StandsFor (device_named (outline p)) (device_in_range (outline p)) d r
@@ -111,10 +111,10 @@ module _ (p : Source) (by : List ℕ) (d : DeviceUse) (index : ℕ) (names : Dev
       }
 
   -- so what is told of its parts tells all of it
-  pub resolved : (result : Result ResolvedUse Refusal) → broken 2 (undeclared (refers by (map (λ d. d.name) p.devices) d.device)) ≡ None
+  pub resolved : (result : Result ResolvedUse Refusal) → broken 2 (undeclared by (map (λ d. d.name) p.devices, d.device)) ≡ None
       → Keeps (broken 2 (parts_offence names by d)) (PartsStand names index d) result
-      → Keeps (broken 2 (first_in undeclared (device_references p by d))) (StandsFor (device_named (outline p)) (device_in_range (outline p)) d) result
+      → Keeps (broken 2 (first_in (undeclared by) (device_references p d))) (StandsFor (device_named (outline p)) (device_in_range (outline p)) d) result
   resolved result declared keeps =
-      let same : broken 2 (first_in undeclared (device_references p by d)) ≡ broken 2 (parts_offence names by d) =
-      ap (broken 2) in_turn ∙ ap (λ o. broken 2 (option_or o (parts_offence names by d))) (none_broken 2 (undeclared (refers by (map (λ d. d.name) p.devices) d.device)) declared) in
-      keeps_as (PartsStand names index d) (StandsFor (device_named (outline p)) (device_in_range (outline p)) d) (broken 2 (parts_offence names by d)) (broken 2 (first_in undeclared (device_references p by d))) same use_stands result keeps
+      let same : broken 2 (first_in (undeclared by) (device_references p d)) ≡ broken 2 (parts_offence names by d) =
+      ap (broken 2) in_turn ∙ ap (λ o. broken 2 (option_or o (parts_offence names by d))) (none_broken 2 (undeclared by (map (λ d. d.name) p.devices, d.device)) declared) in
+      keeps_as (PartsStand names index d) (StandsFor (device_named (outline p)) (device_in_range (outline p)) d) (broken 2 (parts_offence names by d)) (broken 2 (first_in (undeclared by) (device_references p d))) same use_stands result keeps

@@ -11,7 +11,7 @@ use Rattle.std.proofs.lemmas.Slice.Eq.{bytes_eq-Decides}
 use Rattle.muen_num.specs.Search.{unless}
 use Rattle.policy_lawful.specs.Offences.{broken, two}
 use Rattle.policy_lawful.specs.Resolution.{name_at}
-use Rattle.policy_lawful.specs.Rules.{is_declared, refers, undeclared}
+use Rattle.policy_lawful.specs.Rules.{is_declared, undeclared}
 use Rattle.policy_lawful.proofs.NameSets.{after_is, repeated_after}
 use Rattle.policy_names.specs.Parts.{repeats, repeats_behind}
 use Rattle.policy_names.specs.Indexes.{StandsFor}
@@ -49,7 +49,7 @@ has_index names name =
 
 -- what a reference offends against, as the search for its index tells
 pub offends : (by : List ℕ) (names : List (List ℕ)) (name : List ℕ) (o : Option ℕ) → o ≡ position (λ n. bytes_eq n name) names
-    → broken 2 (undeclared (refers by names name)) ≡ cond (is_some o) None (Some (Rule 2 by name))
+    → broken 2 (undeclared by (names, name)) ≡ cond (is_some o) None (Some (Rule 2 by name))
 offends by names name o h =
     ap (λ b. broken 2 (unless b (two by name))) (sym (ap is_some h ∙ has_index names name)) ∙ refused (is_some o)
   where

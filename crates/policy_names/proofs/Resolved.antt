@@ -1,40 +1,38 @@
 -- The resolved policy, from its elements with indexes.
-use Rattle.std.proofs.Common.{◌≡◌, true, List, ◌++◌, length, None, Err, refl, sym, ap, subst, ◌∙◌}
+use Rattle.std.proofs.Common.{◌≡◌, true, List, length, Option, Some, None, Err, refl, sym, ap, subst, ◌∙◌}
 use Rattle.std.specs.Prelude.{map, nat_lt}
-use Rattle.std.specs.List.{flat_map, list_all}
+use Rattle.std.specs.List.{list_all}
 use Rattle.std.specs.Option.{option_or}
 use Rattle.std.proofs.lemmas.List.{length-map}
 use Rattle.muen_num.specs.Answers.{Answers, Explains}
 use Rattle.muen_num.specs.Search.{first_in}
 use Rattle.muen_num.proofs.Lists.{map-map}
-use Rattle.muen_num.proofs.SearchLaws.{first_in-append, option_or-None, option_or_assoc}
-use Rattle.policy_lawful.specs.Lawful.{kept_or, names_broken}
+use Rattle.muen_num.proofs.SearchLaws.{option_or-None}
+use Rattle.policy_lawful.specs.Lawful.{kept_or, offences, unlawful}
 use Rattle.policy_lawful.specs.Offences.{broken}
 use Rattle.policy_lawful.proofs.Keeps.{refused}
 use Rattle.policy_lawful.proofs.Offences.{none_broken}
 use Rattle.policy_lawful.specs.Resolution.{IsResolved, Resolution, are_in_range, group_in_range, group_named, major_in_range, major_named, name_at, source_of, subject_in_range, subject_in_range_among, subject_named, subject_named_among}
-use Rattle.policy_lawful.specs.Rules.{frame_references, group_references, majors_of, offence_1, offence_2, subject_references, undeclared}
+use Rattle.policy_lawful.specs.Rules.{frame_references, group_references, major_name, majors_of, offence_1, offence_2, subject_references, undeclared}
 use Rattle.policy_lawful.specs.declared.resolved.Group.{Group}
 use Rattle.policy_lawful.specs.declared.resolved.MajorFrame.{MajorFrame}
 use Rattle.policy_lawful.specs.declared.resolved.Subject.{Subject}
 use Rattle.policy_types.specs.declared.refusal.Refusal.{Refusal}
 use Rattle.policy_types.specs.declared.refusal.Refusal.TheVariants.{NoMemory}
 use Rattle.policy_types.specs.declared.source.Source.{Source}
+use Rattle.policy_names.specs.Names.{names_broken}
 use Rattle.policy_names.specs.Outline.{bare_group, bare_subject, outline, with_resolved}
 use Rattle.policy_names.specs.Indexes.{StandsFor}
-use Rattle.policy_names.proofs.Refusals.{first_in-flat_map, one_behind_another}
+use Rattle.policy_names.proofs.Refusals.{one_behind_another}
 
 -- ---- its elements
 
 -- rule 2, of one kind of elements after another
 pub offence_2_in_turn : (p : Source) → offence_2 p
-    ≡ option_or (first_in (λ s. first_in undeclared (subject_references p s)) p.subjects)
-    (option_or (first_in (λ g. first_in undeclared (group_references p g)) p.scheduling.groups) (first_in (λ m. first_in undeclared (frame_references p m)) (majors_of p)))
+    ≡ option_or (first_in (λ s. first_in (undeclared s.name) (subject_references p s)) p.subjects)
+    (option_or (first_in (λ g. first_in (undeclared g.name) (group_references p g)) p.scheduling.groups) (first_in (λ m. first_in (undeclared (major_name m.0)) (frame_references p m.1)) (majors_of p)))
 unfolding offence_2
-offence_2_in_turn p =
-    let s = flat_map (subject_references p) p.subjects in
-    let g = flat_map (group_references p) p.scheduling.groups in
-    rw (first_in-append undeclared (s ++ g), first_in-append undeclared s g, first_in-flat_map undeclared (subject_references p), first_in-flat_map undeclared (group_references p), first_in-flat_map undeclared (frame_references p), option_or_assoc) refl
+offence_2_in_turn p = rw (option_or-None (first_in (λ m. first_in (undeclared (major_name m.0)) (frame_references p m.1)) (majors_of p))) refl
 
 pub ruleset in_turn = (offence_2_in_turn, one_behind_another)
 
@@ -110,5 +108,15 @@ refused_by_2 p e one h =
 pub resolved : (p : Source) (r : Resolution) → broken 1 (offence_1 p) ≡ None → broken 2 (offence_2 p) ≡ None → StandsFor source_of are_in_range p r → IsResolved r
 resolved p r one two stands =
     record { names = rw stands.same (none_broken 1 (offence_1 p) one); references = rw stands.same (none_broken 2 (offence_2 p) two); in_range = stands.there }
+
+first_of_more : {O : Type 0} (a b c : Option O) (r : O) → option_or a (option_or b None) ≡ Some r → option_or a (option_or b c) ≡ Some r
+first_of_more None None c r h = absurd (cc)
+first_of_more None (Some x) c r h = h
+first_of_more (Some x) b c r h = h
+
+-- their refusal is that of all rules
+pub names_first : (p : Source) (r : Refusal) → names_broken p ≡ Some r → unlawful p ≡ Some r
+unfolding names_broken unlawful offences
+names_first p r h = first_of_more (broken 1 (offence_1 p)) (broken 2 (offence_2 p)) _ r h
 
 pub ruleset resolution = (names_in_turn, one_behind_another, resolved)

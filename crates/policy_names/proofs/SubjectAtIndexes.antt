@@ -10,7 +10,7 @@ use Rattle.muen_num.proofs.Lists.{map-map}
 use Rattle.muen_num.proofs.SearchLaws.{first_in-append, first_over-map, option_or_assoc}
 use Rattle.policy_lawful.specs.Offences.{broken}
 use Rattle.policy_lawful.specs.Resolution.{component_named, component_in_range, subject_named, subject_in_range, name_at}
-use Rattle.policy_lawful.specs.Rules.{component_references, device_references, refers, subject_references, undeclared}
+use Rattle.policy_lawful.specs.Rules.{Reference, component_references, device_references, subject_references, undeclared}
 use Rattle.policy_lawful.specs.declared.offence.Offence.{Offence}
 use Rattle.policy_lawful.specs.declared.resolved.EventSource.{EventSource as ResolvedSource}
 use Rattle.policy_lawful.specs.declared.resolved.EventTarget.{EventTarget as ResolvedTarget}
@@ -42,11 +42,11 @@ below index f ys xs h = sym (ap (λ n. all_below index n xs) (length-map ys f)) 
 
 -- events and subjects, each list found among their names
 pub signals_resolved : (p : Source) (s : Subject) (raised : List ResolvedSource) (heard : List ResolvedTarget) (watched : List ResolvedMonitor)
-    → (broken 2 (first_in (λ e. undeclared (refers s.name (map (λ x. x.name) p.events) e.event)) s.sources) ≡ None)
+    → (broken 2 (first_in (λ e. undeclared s.name (map (λ x. x.name) p.events, e.event)) s.sources) ≡ None)
     × StandsFor {X = List ResolvedSource} {Y = List EventSource} (map (λ e. record { event = name_at (map (λ x. x.name) p.events) e.event; way = e.way })) (all_below (λ e. e.event) (length (map (λ x. x.name) p.events))) s.sources raised
-    → (broken 2 (first_in (λ e. undeclared (refers s.name (map (λ x. x.name) p.events) e.event)) s.targets) ≡ None)
+    → (broken 2 (first_in (λ e. undeclared s.name (map (λ x. x.name) p.events, e.event)) s.targets) ≡ None)
     × StandsFor {X = List ResolvedTarget} {Y = List EventTarget} (map (λ e. record { event = name_at (map (λ x. x.name) p.events) e.event; vector = e.vector })) (all_below (λ e. e.event) (length (map (λ x. x.name) p.events))) s.targets heard
-    → (broken 2 (first_in (λ m. undeclared (refers s.name (map (λ x. x.name) p.subjects) m.subject)) s.monitors) ≡ None)
+    → (broken 2 (first_in (λ m. undeclared s.name (map (λ x. x.name) p.subjects, m.subject)) s.monitors) ≡ None)
     × StandsFor {X = List ResolvedMonitor} {Y = List Monitor} (map (λ m. record { subject = name_at (map (λ x. x.name) p.subjects) m.subject; virtual_address = m.virtual_address; rights = m.rights })) (all_below (λ m. m.subject) (length (map (λ x. x.name) p.subjects))) s.monitors watched
     → (broken 2 (signals_offence p s) ≡ None) × SignalsStand p s raised heard watched
 unfolding signals_offence
@@ -62,30 +62,30 @@ signals_resolved p s raised heard watched sources targets monitors = (
 -- ---- the whole subject
 
 -- rule 2, of one kind of a subject's references after another
-pub in_turn : (p : Source) (s : Subject) → first_in undeclared (subject_references p s)
-    ≡ option_or (first_in undeclared (component_references p s.name s.component)) (option_or (windows_offence p s) (signals_offence p s))
+pub in_turn : (p : Source) (s : Subject) → first_in (undeclared s.name) (subject_references p s)
+    ≡ option_or (first_in (undeclared s.name) (component_references p s.component)) (option_or (windows_offence p s) (signals_offence p s))
 unfolding windows_offence signals_offence
 in_turn p s =
-    let component = component_references p s.name s.component in
-    let regions = map (λ m. refers s.name (map (λ r. r.name) p.memory) m.region) s.memory in
-    let channels = map (λ c. refers s.name (map (λ c. c.name) p.channels) c.channel) s.channels in
-    let devices = flat_map (device_references p s.name) s.devices in
-    let sources = map (λ e. refers s.name (map (λ e. e.name) p.events) e.event) s.sources in
-    let targets = map (λ e. refers s.name (map (λ e. e.name) p.events) e.event) s.targets in
-    let monitors = map (λ m. refers s.name (map (λ s. s.name) p.subjects) m.subject) s.monitors in
+    let component = component_references p s.component in
+    let regions : List Reference = map (λ m. (map (λ r. r.name) p.memory, m.region)) s.memory in
+    let channels : List Reference = map (λ c. (map (λ c. c.name) p.channels, c.channel)) s.channels in
+    let devices : List Reference = flat_map (device_references p) s.devices in
+    let sources : List Reference = map (λ e. (map (λ e. e.name) p.events, e.event)) s.sources in
+    let targets : List Reference = map (λ e. (map (λ e. e.name) p.events, e.event)) s.targets in
+    let monitors : List Reference = map (λ m. (map (λ s. s.name) p.subjects, m.subject)) s.monitors in
     rw (
-      first_in-append undeclared (((((component ++ regions) ++ channels) ++ devices) ++ sources) ++ targets) monitors,
-      first_in-append undeclared ((((component ++ regions) ++ channels) ++ devices) ++ sources) targets,
-      first_in-append undeclared (((component ++ regions) ++ channels) ++ devices) sources,
-      first_in-append undeclared ((component ++ regions) ++ channels) devices,
-      first_in-append undeclared (component ++ regions) channels,
-      first_in-append undeclared component regions,
-      first_over-map (λ m. refers s.name (map (λ r. r.name) p.memory) m.region) undeclared s.memory,
-      first_over-map (λ c. refers s.name (map (λ c. c.name) p.channels) c.channel) undeclared s.channels,
-      first_in-flat_map undeclared (device_references p s.name) s.devices,
-      first_over-map (λ e. refers s.name (map (λ e. e.name) p.events) e.event) undeclared s.sources,
-      first_over-map (λ e. refers s.name (map (λ e. e.name) p.events) e.event) undeclared s.targets,
-      first_over-map (λ m. refers s.name (map (λ s. s.name) p.subjects) m.subject) undeclared s.monitors,
+      first_in-append (undeclared s.name) (((((component ++ regions) ++ channels) ++ devices) ++ sources) ++ targets) monitors,
+      first_in-append (undeclared s.name) ((((component ++ regions) ++ channels) ++ devices) ++ sources) targets,
+      first_in-append (undeclared s.name) (((component ++ regions) ++ channels) ++ devices) sources,
+      first_in-append (undeclared s.name) ((component ++ regions) ++ channels) devices,
+      first_in-append (undeclared s.name) (component ++ regions) channels,
+      first_in-append (undeclared s.name) component regions,
+      first_over-map (λ m. (map (λ r. r.name) p.memory, m.region)) (undeclared s.name) s.memory,
+      first_over-map (λ c. (map (λ c. c.name) p.channels, c.channel)) (undeclared s.name) s.channels,
+      first_in-flat_map (undeclared s.name) (device_references p) s.devices,
+      first_over-map (λ e. (map (λ e. e.name) p.events, e.event)) (undeclared s.name) s.sources,
+      first_over-map (λ e. (map (λ e. e.name) p.events, e.event)) (undeclared s.name) s.targets,
+      first_over-map (λ m. (map (λ s. s.name) p.subjects, m.subject)) (undeclared s.name) s.monitors,
     )
     (simp (option_or_assoc) refl)
 

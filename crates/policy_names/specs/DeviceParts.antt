@@ -4,7 +4,7 @@ use Rattle.std.specs.Option.{option_or}
 use Rattle.std.specs.List.{list_all}
 use Rattle.muen_num.specs.Search.{first_in}
 use Rattle.policy_lawful.specs.Resolution.{name_at}
-use Rattle.policy_lawful.specs.Rules.{refers, undeclared}
+use Rattle.policy_lawful.specs.Rules.{undeclared}
 use Rattle.policy_lawful.specs.declared.offence.Offence.{Offence}
 use Rattle.policy_lawful.specs.declared.resolved.DeviceMapping.{DeviceMapping as ResolvedMapping}
 use Rattle.policy_lawful.specs.declared.resolved.DeviceUse.{DeviceUse as ResolvedUse}
@@ -18,8 +18,8 @@ use Rattle.policy_names.specs.declared.parts.DeviceNames.{DeviceNames}
 -- the first reference to a part that isn't there
 abbrev pub parts_offence : DeviceNames → List ℕ → DeviceUse → Option Offence
 parts_offence names by d =
-    option_or (first_in (λ m. undeclared (refers by names.memory m.memory)) d.memory)
-    (option_or (first_in (λ x. undeclared (refers by names.io_ports x)) d.io_ports) (first_in (λ i. undeclared (refers by names.irqs i.irq)) d.irqs))
+    option_or (first_in (λ m. undeclared by (names.memory, m.memory)) d.memory)
+    (option_or (first_in (λ x. undeclared by (names.io_ports, x)) d.io_ports) (first_in (λ i. undeclared by (names.irqs, i.irq)) d.irqs))
 
 -- the parts of a use stand for those of another, and its device stands at this index
 pub record PartsStand (names : DeviceNames) (index : ℕ) (d : DeviceUse) (r : ResolvedUse) : Type 0 where

@@ -4,7 +4,7 @@ use Rattle.std.specs.List.{list_all}
 use Rattle.std.specs.Option.{option_or}
 use Rattle.muen_num.specs.Search.{first_in}
 use Rattle.policy_lawful.specs.Resolution.{entry_in_range, entry_named, name_at}
-use Rattle.policy_lawful.specs.Rules.{entry_references, is_declared, refers, undeclared}
+use Rattle.policy_lawful.specs.Rules.{entry_references, is_declared, undeclared}
 use Rattle.policy_lawful.specs.declared.offence.Offence.{Offence}
 use Rattle.policy_lawful.specs.declared.resolved.ComponentUse.{ComponentUse as ResolvedUse}
 use Rattle.policy_lawful.specs.declared.resolved.MapEntry.{MapEntry as ResolvedEntry}
@@ -21,8 +21,8 @@ use Rattle.policy_names.specs.declared.parts.WantedNames.{WantedNames}
 -- regions
 abbrev pub entry_offence : Source → WantedNames → List ℕ → MapEntry → Option Offence
 entry_offence p names by e =
-    if is_declared names.channels e.logical then undeclared (refers by (map (λ c. c.name) p.channels) e.physical)
-    else option_or (undeclared (refers by names.regions e.logical)) (undeclared (refers by (map (λ r. r.name) p.memory) e.physical))
+    if is_declared names.channels e.logical then undeclared by (map (λ c. c.name) p.channels, e.physical)
+    else option_or (undeclared by (names.regions, e.logical)) (undeclared by (map (λ r. r.name) p.memory, e.physical))
 
 -- the entry that has these names
 abbrev pub entry_among : Source → WantedNames → Wanted → ResolvedEntry → MapEntry
@@ -48,7 +48,7 @@ EntryStands p names = StandsFor (λ e. entry_among p names e.logical e) (λ e. e
 
 -- the first name in the entries of a use that isn't declared, in a subject that has this name
 abbrev pub entries_offence : Source → List ℕ → ℕ → ComponentUse → Option Offence
-entries_offence p by index c = first_in (λ e. first_in undeclared (entry_references p by (slice_get p.components index) e)) c.map
+entries_offence p by index c = first_in (λ e. first_in (undeclared by) (entry_references p (slice_get p.components index) e)) c.map
 
 -- the entries of a use stand for those of another, and its component stands at this index
 pub record EntriesStand (p : Source) (index : ℕ) (c : ComponentUse) (r : ResolvedUse) : Type 0 where

@@ -4,7 +4,7 @@ use Rattle.std.specs.List.{enumerate_from, list_all}
 use Rattle.std.specs.Option.{option_map_or}
 use Rattle.muen_num.specs.Search.{first_in}
 use Rattle.policy_lawful.specs.Resolution.{Resolution, component_in_range, component_named, major_in_range, major_named}
-use Rattle.policy_lawful.specs.Rules.{frame_references, undeclared}
+use Rattle.policy_lawful.specs.Rules.{frame_references, major_name, undeclared}
 use Rattle.policy_lawful.specs.declared.offence.Offence.{Offence}
 use Rattle.policy_lawful.specs.declared.resolved.ComponentUse.{ComponentUse as ResolvedUse}
 use Rattle.policy_lawful.specs.declared.resolved.Group.{Group as ResolvedGroup}
@@ -73,4 +73,4 @@ abbrev pub majors_in_range : Source → List ResolvedMajor → Bool
 majors_in_range p majors = list_all (major_in_range (outline p)) majors
 
 abbrev pub majors_undeclared : Source → List MajorFrame → Option Offence
-majors_undeclared p majors = first_in (λ m. first_in undeclared (frame_references p m)) (enumerate_from 0 majors)
+majors_undeclared p majors = first_in (λ m. first_in (undeclared (major_name m.0)) (frame_references p m.1)) (enumerate_from 0 majors)

@@ -4,7 +4,7 @@ use Rattle.std.specs.Option.{option_or}
 use Rattle.std.specs.List.{list_all}
 use Rattle.muen_num.specs.Search.{first_in}
 use Rattle.policy_lawful.specs.Resolution.{channel_named, device_in_range, device_named, mapping_named, name_at}
-use Rattle.policy_lawful.specs.Rules.{device_references, refers, undeclared}
+use Rattle.policy_lawful.specs.Rules.{device_references, undeclared}
 use Rattle.policy_lawful.specs.declared.offence.Offence.{Offence}
 use Rattle.policy_lawful.specs.declared.resolved.ChannelUse.{ChannelUse as ResolvedChannel}
 use Rattle.policy_lawful.specs.declared.resolved.DeviceUse.{DeviceUse as ResolvedDevice}
@@ -26,9 +26,9 @@ use Rattle.policy_names.specs.Indexes.{StandsFor}
 -- the first region, channel, device or part of a device that isn't there
 unfoldable pub windows_offence : Source → Subject → Option Offence
 windows_offence p s =
-    option_or (first_in (λ m. undeclared (refers s.name (map (λ r. r.name) p.memory) m.region)) s.memory)
-    (option_or (first_in (λ c. undeclared (refers s.name (map (λ c. c.name) p.channels) c.channel)) s.channels)
-    (first_in (λ d. first_in undeclared (device_references p s.name d)) s.devices))
+    option_or (first_in (λ m. undeclared s.name (map (λ r. r.name) p.memory, m.region)) s.memory)
+    (option_or (first_in (λ c. undeclared s.name (map (λ c. c.name) p.channels, c.channel)) s.channels)
+    (first_in (λ d. first_in (undeclared s.name) (device_references p d)) s.devices))
 
 -- these stand for the subject's mappings, channels and devices
 pub record WindowsStand (p : Source) (s : Subject) (windows : List ResolvedMapping) (ends : List ResolvedChannel) (grants : List ResolvedDevice) : Type 0 where
@@ -39,9 +39,9 @@ pub record WindowsStand (p : Source) (s : Subject) (windows : List ResolvedMappi
 -- the first event or monitored subject that isn't there
 unfoldable pub signals_offence : Source → Subject → Option Offence
 signals_offence p s =
-    option_or (first_in (λ e. undeclared (refers s.name (map (λ e. e.name) p.events) e.event)) s.sources)
-    (option_or (first_in (λ e. undeclared (refers s.name (map (λ e. e.name) p.events) e.event)) s.targets)
-    (first_in (λ m. undeclared (refers s.name (map (λ s. s.name) p.subjects) m.subject)) s.monitors))
+    option_or (first_in (λ e. undeclared s.name (map (λ e. e.name) p.events, e.event)) s.sources)
+    (option_or (first_in (λ e. undeclared s.name (map (λ e. e.name) p.events, e.event)) s.targets)
+    (first_in (λ m. undeclared s.name (map (λ s. s.name) p.subjects, m.subject)) s.monitors))
 
 -- these stand for the subject's sources, targets and monitors
 pub record SignalsStand (p : Source) (s : Subject) (raised : List ResolvedSource) (heard : List ResolvedTarget) (watched : List ResolvedMonitor) : Type 0 where

@@ -33,7 +33,7 @@ impl Refers for source::MapEntry {
 
     type Resolved = resolved::MapEntry;
 
-    ghost offence = { λ p u e. first_in undeclared (entry_references p u.subject (slice_get p.components u.component) e) };
+    ghost offence = { λ p u e. first_in (undeclared u.subject) (entry_references p (slice_get p.components u.component) e) };
 
     ghost named = { λ p u e. entry_named (outline p) u.component e.logical e };
 
@@ -79,7 +79,7 @@ impl Refers for source::ComponentUse {
 
     ghost use Rattle.std.specs.Prelude.{Some};
 
-    ghost offence = { λ p by c. first_in undeclared (component_references p by (Some c)) };
+    ghost offence = { λ p by c. first_in (undeclared by) (component_references p (Some c)) };
 
     ghost named = { λ p _. component_named (outline p) };
 

@@ -3,7 +3,7 @@ ghost use Rattle.std.specs.Prelude.{◌≡◌, ◌++◌, length, map, nat_lt, is
 ghost use Rattle.policy_lawful.specs.Keeps.{Keeps};
 ghost use Rattle.policy_lawful.specs.Offences.{broken};
 ghost use Rattle.policy_lawful.specs.Resolution.{name_at};
-ghost use Rattle.policy_lawful.specs.Rules.{is_declared, refers, undeclared};
+ghost use Rattle.policy_lawful.specs.Rules.{is_declared, undeclared};
 ghost use Rattle.policy_names.specs.Parts.{repeats, repeats_behind};
 ghost use Rattle.policy_names.specs.Indexes.{StandsFor};
 ghost use Rattle.policy_types.specs.declared.refusal.Refusal.TheVariants.{Rule};
@@ -68,7 +68,7 @@ pub fn find(names: &NameSet, name: Name) -> Option<usize>
 /// The index of a name that an element refers to; where it isn't declared, the refusal by rule 2 of
 /// the element, which has the name `by`.
 pub fn refer(names: &NameSet, by: Name, name: Name) -> Result<usize, Refusal>
-    ensures { Keeps (broken 2 (undeclared (refers by names.now name))) (StandsFor (name_at names.now) (λ index. nat_lt index (length names.now)) name) result }
+    ensures { Keeps (broken 2 (undeclared by (names.now, name))) (StandsFor (name_at names.now) (λ index. nat_lt index (length names.now)) name) result }
 {
     match names.index_of(&name) {
         Some(index) => Ok(index),

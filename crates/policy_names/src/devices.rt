@@ -22,7 +22,7 @@ impl Refers for source::DeviceUse {
 
     type Resolved = resolved::DeviceUse;
 
-    ghost offence = { λ p by d. first_in undeclared (device_references p by d) };
+    ghost offence = { λ p by d. first_in (undeclared by) (device_references p d) };
 
     ghost named = { λ p _. device_named (outline p) };
 

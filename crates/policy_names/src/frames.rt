@@ -5,7 +5,7 @@ ghost use Rattle.muen_num.specs.Search.{first_in};
 ghost use Rattle.policy_lawful.specs.Keeps.{Keeps};
 ghost use Rattle.policy_lawful.specs.Offences.{broken};
 ghost use Rattle.policy_lawful.specs.Resolution.{cpu_named, major_in_range, major_named};
-ghost use Rattle.policy_lawful.specs.Rules.{frame_references, refers, undeclared};
+ghost use Rattle.policy_lawful.specs.Rules.{frame_references, major_name, undeclared};
 ghost use Rattle.policy_names.specs.Outline.{majors_in_range, majors_named, majors_undeclared, outline};
 ghost use Rattle.policy_names.specs.Indexes.{StandsFor};
 
@@ -23,7 +23,7 @@ impl Refers for source::CpuFrames {
 
     type Resolved = resolved::CpuFrames;
 
-    ghost offence = { λ p by c. first_in undeclared (map (λ f. refers by (map (λ g. g.name) p.scheduling.groups) f.group) c.minor_frames) };
+    ghost offence = { λ p by c. first_in (undeclared by) (map (λ f. (map (λ g. g.name) p.scheduling.groups, f.group)) c.minor_frames) };
 
     ghost named = { λ p _. cpu_named (outline p) };
 
@@ -49,7 +49,7 @@ impl Refers for source::MajorFrame {
 
     type Resolved = resolved::MajorFrame;
 
-    ghost offence = { λ p index m. first_in undeclared (frame_references p (index, m)) };
+    ghost offence = { λ p index m. first_in (undeclared (major_name index)) (frame_references p m) };
 
     ghost named = { λ p _. major_named (outline p) };
 

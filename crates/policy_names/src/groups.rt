@@ -15,7 +15,7 @@ impl Refers for source::Group {
 
     type Resolved = resolved::Group;
 
-    ghost offence = { λ p _ g. first_in undeclared (group_references p g) };
+    ghost offence = { λ p _ g. first_in (undeclared g.name) (group_references p g) };
 
     ghost named = { λ p _. group_named (outline p) };
 

@@ -5,12 +5,13 @@
 ghost use Rattle.std.specs.Prelude.{◌≡◌};
 ghost use Rattle.muen_num.specs.Answers.{Answers};
 ghost use Rattle.policy_lawful.specs.Keeps.{Keeps};
-ghost use Rattle.policy_lawful.specs.Lawful.{names_broken, kept_or};
+ghost use Rattle.policy_lawful.specs.Lawful.{kept_or};
 ghost use Rattle.policy_lawful.specs.Offences.{broken};
 ghost use Rattle.policy_lawful.specs.Resolution.{IsResolved, are_in_range, kept_source, source_of};
 ghost use Rattle.policy_lawful.specs.Rules.{offence_2};
 ghost use Rattle.policy_names.specs.Outline.{with_resolved};
 ghost use Rattle.policy_names.specs.Indexes.{StandsFor};
+ghost use Rattle.policy_names.specs.Names.{names_broken};
 ghost use Rattle.policy_types.specs.declared.refusal.Refusal.TheVariants.{NoMemory};
 
 mod components;

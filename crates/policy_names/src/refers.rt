@@ -4,7 +4,7 @@ ghost use Rattle.std.specs.List.{list_all};
 ghost use Rattle.muen_num.specs.Search.{first_in};
 ghost use Rattle.policy_lawful.specs.Keeps.{Keeps};
 ghost use Rattle.policy_lawful.specs.Offences.{broken};
-ghost use Rattle.policy_lawful.specs.Rules.{refers, undeclared};
+ghost use Rattle.policy_lawful.specs.Rules.{undeclared};
 ghost use Rattle.policy_names.specs.Indexes.{StandsFor, all_below};
 
 use crate::scope::Scope;
@@ -32,7 +32,7 @@ pub trait Reference {
     /// Finds the index. Where the name isn't there, answers the refusal by rule 2 of the element
     /// that has the name `by`.
     fn resolve_in(&self, names: &NameSet, by: Name) -> Result<Self::Resolved, Refusal>
-        ensures { Keeps (broken 2 (undeclared (refers by names.now (name self.now)))) (StandsFor (named names.now) (λ x. nat_lt (index x) (length names.now)) self.now) result };
+        ensures { Keeps (broken 2 (undeclared by (names.now, name self.now))) (StandsFor (named names.now) (λ x. nat_lt (index x) (length names.now)) self.now) result };
 }
 
 /// Finds the indexes of all elements of a list, which stand in the element that has the name `by`.
@@ -45,7 +45,7 @@ pub fn resolve_all_in<T: Reference>(
     by: Name,
     items: &[T],
 ) -> Result<Seq<T::Resolved>, Refusal>
-    ensures { let n = names.now in Keeps (broken 2 (first_in (λ x. undeclared (refers by n (T.name x))) items.now)) (StandsFor (map (T.named n)) (all_below T.index (length n)) items.now) result }
+    ensures { let n = names.now in Keeps (broken 2 (first_in (λ x. undeclared by (n, T.name x)) items.now)) (StandsFor (map (T.named n)) (all_below T.index (length n)) items.now) result }
 {
     let mut resolved = Seq::new(alloc);
     for item in items {

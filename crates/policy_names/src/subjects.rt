@@ -22,7 +22,7 @@ impl Refers for source::Subject {
 
     type Resolved = resolved::Subject;
 
-    ghost offence = { λ p _ s. first_in undeclared (subject_references p s) };
+    ghost offence = { λ p _ s. first_in (undeclared s.name) (subject_references p s) };
 
     ghost named = { λ p _. subject_named (outline p) };
 
@@ -56,7 +56,7 @@ fn resolve_component(
     by: Name,
     component: &Option<source::ComponentUse>,
 ) -> Result<Option<resolved::ComponentUse>, Refusal>
-    ensures { let p = scope.now.source.now in Keeps (broken 2 (first_in undeclared (component_references p by component.now))) (StandsFor (use_named p) (use_in_range p) component.now) result }
+    ensures { let p = scope.now.source.now in Keeps (broken 2 (first_in (undeclared by) (component_references p component.now))) (StandsFor (use_named p) (use_in_range p) component.now) result }
 {
     match component {
         Some(used) => Ok(Some(used.resolve(alloc, scope, by)?)),

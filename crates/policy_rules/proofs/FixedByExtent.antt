@@ -15,13 +15,15 @@ use Rattle.rules_extents.specs.Inside as inside
 use Rattle.rules_extents.specs.AddressRange.{range_of}
 use Rattle.rules_extents.proofs.OwnThenPairs.{breaks_at_first, first_fault_is}
 use Rattle.policy_lawful.specs.ByIndex.{block_extent}
-use Rattle.policy_lawful.specs.MoreRules.{is_inside, offence_19}
+use Rattle.policy_lawful.specs.MoreRules.{offence_19}
 use Rattle.policy_lawful.specs.Offences.{alone}
+use Rattle.policy_lawful.specs.Ranges.{in_a_block}
 use Rattle.policy_lawful.specs.Resolution.{Resolution, source_of}
 use Rattle.policy_lawful.specs.Rules.{first_overlap, is_alignment, is_fixed, is_laid, is_page_aligned, is_page_size, offence_4, offence_18, overlapping}
 use Rattle.policy_lawful.specs.declared.offence.Extent.{Extent}
 use Rattle.policy_lawful.proofs.KeptAddresses.{addresses_kept}
 use Rattle.policy_types.specs.declared.source.Region.{Region}
+use Rattle.policy_types.specs.declared.source.Source.{Source}
 use Rattle.policy_rules.specs.Windows.{device_extents}
 use Rattle.policy_rules.proofs.RangesByIndex.{blocks_sized}
 use Rattle.policy_rules.specs.Fixed.{block_extents, fixed_extents}
@@ -75,6 +77,9 @@ fixed_front_sized r n h = front_sized (fixed_extents r.memory) n (fixed_sized r 
 same_position : (p q : Extent → Bool) → ((x : Extent) → p x ≡ q x) → (xs : List Extent) → position_or_len (λ e. not (p e)) xs ≡ position_or_len (λ e. not (q e)) xs
 same_position p q same [] = refl
 same_position p q same (x ∷ xs) = λ i. cond (not (not (same x i))) (1 + same_position p q same xs i) 0
+
+abbrev is_inside : Source → Extent → Bool
+is_inside p e = in_a_block p.memory_blocks e.address e.size
 
 pub fixed_by_extent : (r : Resolution) (n : ℕ) → n ≡ position_or_len (λ e. not (inside.is_inside (block_extents r.memory_blocks) e)) (fixed_extents r.memory)
     → option_or (first_overlap (take n (fixed_extents r.memory))) (option_map (λ e. alone e.name) (slice_get (fixed_extents r.memory) n)) ≡ offence_19 (source_of r)

@@ -5,7 +5,7 @@ ghost use Rattle.muen_num.specs.Answers.{Answers};
 ghost use Rattle.muen_num.specs.Search.{as_refusal};
 ghost use Rattle.policy_types.specs.declared.refusal.Refusal.TheVariants.{NoMemory as OutOfMemory};
 ghost use Rattle.policy_lawful.specs.Keeps.{Keeps};
-ghost use Rattle.policy_lawful.specs.Lawful.{kept_or, rules_broken};
+ghost use Rattle.policy_lawful.specs.Lawful.{kept_or, unlawful};
 ghost use Rattle.policy_lawful.specs.Offences.{broken};
 ghost use Rattle.policy_lawful.specs.Resolution.{kept_source, source_of};
 ghost use Rattle.policy_lawful.specs.Rules.{offence_4};
@@ -99,12 +99,13 @@ fn all_rules(alloc: Global, policy: &Resolved) -> Result<(), Refusal>
     domains_rules(alloc, policy)
 }
 
-/// The policy, where it keeps every rule from 3 on; else the least rule that is broken, with its two
-/// names, or `NoMemory`. A refused policy is dropped.
+/// The policy, where it keeps every rule; else the least rule that is broken, with its two names, or
+/// `NoMemory`. A refused policy is dropped.
 #[tactic(auto, using(crate::proofs::RulesJoined::rules_joined, policy_lawful::proofs::Keeps::refused))]
 pub fn check(alloc: Global, policy: Resolved) -> Result<Lawful, Refusal>
-    ensures { Answers OutOfMemory (kept_or (source_of policy) (rules_broken (source_of policy))) (kept_source result) }
+    ensures { Answers OutOfMemory (kept_or (source_of policy) (unlawful (source_of policy))) (kept_source result) }
 {
+    let _subjects = policy.subjects();
     match all_rules(alloc, &policy) {
         Ok(()) => Ok(Lawful::make(policy)),
         Err(refusal) => Err(refusal),

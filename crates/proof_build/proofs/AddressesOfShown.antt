@@ -11,7 +11,7 @@ use Rattle.ept_emit.specs.Emitted.{HasAddresses}
 use Rattle.expand_grants.specs.Grants.{AreGrantsOf}
 use Rattle.expand_grants.specs.declared.granted.Grants.{Grants}
 use Rattle.policy_lawful.specs.ByIndex.{provided_at}
-use Rattle.expand_kernel.specs.Regions.{anywhere, channel_region, own_region, provided_region}
+use Rattle.expand_kernel.specs.Regions.{anywhere}
 use Rattle.expand_kernel.specs.declared.region.Region.{Region}
 use Rattle.expand_kernel.specs.declared.region.RegionKind.TheVariants.{Kernel}
 use Rattle.image_emit.specs.Made.{IsMade, Made, image_of, policy_of}
@@ -40,6 +40,7 @@ use Rattle.subject_emit.proofs.Numbered.{channel_at, kernel_at_index, memory_at,
 use Rattle.subject_emit.proofs.Pieces.{at_piece, from_some, other_at}
 use Rattle.subject_emit.proofs.AddressesFit.{shown_at}
 use Rattle.subject_emit.proofs.ShownViews.{granted_shown}
+use Rattle.expand_kernel.specs.ByIndex.{channel_region, own_region, provided_region}
 
 -- each page of so many bytes from an address on is there
 abbrev pub AreThere : Made → ℕ → ℕ → Type 0

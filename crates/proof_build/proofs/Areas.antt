@@ -31,6 +31,7 @@ use Rattle.muen_num.specs.declared.tag.TagPart.TheVariants.{Msrs as MsrsPart}
 use Rattle.machine_layout.specs.PageFields.{padded}
 use Rattle.policy_lawful.specs.Resolution.{Resolution, source_of, subject_named}
 use Rattle.policy_lawful.specs.declared.resolved.Subject.{Subject}
+use Rattle.policy_lawful.proofs.KeptRules.{rules_of}
 use Rattle.policy_types.specs.declared.resources.MsrGrant.{MsrGrant}
 use Rattle.policy_types.specs.declared.source.Msrs.{Msrs}
 use Rattle.subject_emit.specs.Mapped.{kernel_first}
@@ -153,7 +154,7 @@ areas m h =
     let r = policy_of m in
     let bytes = bytes_at (image_of m) (kernel_first r k + 4) in
     let held : bytes ≡ padded PAGE (area_bytes (area_of g.msrs)) = kernel_bytes_at m h k s g t q at 4 PAGE MsrsPart q.area refl refl ∙ at.pages.area in
-    let covered = msrs_covered r k s g at.subject at.grants h.lawful.rule_11 in
+    let covered = msrs_covered r k s g at.subject at.grants (rules_of h.lawful).rule_11 in
     let msrs = at.grants.msrs in
     let same : map (λ (m : Msr). m.index) (msrs_of (subject_named r s)) ≡ map (area_index bytes) (numbers_below (count_of g.msrs)) = sym (indices r s g.msrs bytes msrs covered held) in
     record {

@@ -5,9 +5,8 @@ use Rattle.std.specs.List.{AllZip, enumerate_from, filter, flat_map, zip}
 use Rattle.std.proofs.lemmas.List.{map-append}
 use Rattle.std.proofs.lemmas.List.Elements.{All-append, All-cons, All-from_recursion, All-head, All-map, All-nil, All-tail, filter-append}
 use Rattle.std.proofs.lemmas.Option.{get_or_from_slice_get, slice_get_within}
-use Rattle.expand_kernel.specs.ByIndex.{brought_at, kernel_for, kernel_for_each}
+use Rattle.expand_kernel.specs.ByIndex.{brought_at, channel_region, kernel_for, kernel_for_each, own_region, provided_region}
 use Rattle.policy_lawful.specs.ByIndex.{provided_at}
-use Rattle.expand_kernel.specs.Regions.{channel_region, own_region, provided_region}
 use Rattle.expand_kernel.specs.declared.region.Region.{Region}
 use Rattle.image_emit.specs.Made.{IsMade, Made, content_at, image_of, kernel_bytes, policy_of, region_bytes, thing_bytes}
 use Rattle.image_emit.proofs.ByNumber.{as_many_addresses, by_number_is}
@@ -17,19 +16,19 @@ use Rattle.image_emit.proofs.RegionSizes.{first_regions, last_regions, regions_a
 use Rattle.proof_build.proofs.ThingBytes.{memory_bytes_are, memory_sizes_are, region_bytes_are, region_sizes_are}
 use Rattle.proof_build.proofs.ThingsInOrder.{memory_thing, memory_things, provided_things, region_things, things_are}
 use Rattle.image_soundness.specs.Memory.{Span}
-use Rattle.image_soundness.specs.Sizes.{declared_size}
 use Rattle.image_soundness.specs.Sound.{AreContents, IsSpanOf, is_kernel, kind_of, thing_spans}
 use Rattle.image_pack.specs.declared.parts.SpanPart.{SpanPart}
 use Rattle.muen_num.proofs.Lists.{get_left, map-map}
 use Rattle.muen_num.specs.declared.limits.TheConstants.{PAGE}
 use Rattle.policy_lawful.specs.Resolution.{source_of}
 use Rattle.policy_lawful.specs.Contents.{Held, initial_bytes}
-use Rattle.policy_lawful.specs.Thing.{Thing, channel, region, thing_tag}
+use Rattle.policy_lawful.specs.Thing.{Thing, channel, declared_size, region, thing_tag}
 use Rattle.policy_types.specs.declared.source.DeviceMemory.{DeviceMemory}
 use Rattle.policy_types.specs.declared.source.Source.{Source}
 use Rattle.span_emit.specs.Spans.{device_span, memories_of, region_span, region_spans, span_kind}
 use Rattle.span_emit.specs.SpansOf.{spans_of}
 use Rattle.policy_lawful.proofs.KeptAddresses.{IsPhysical}
+use Rattle.policy_lawful.proofs.KeptRules.{rules_of}
 use Rattle.span_emit.proofs.KeptDevices.{devices_physical}
 use Rattle.span_emit.proofs.KeptRegions.{IsWhole}
 
@@ -224,7 +223,7 @@ looked m k b at = get_or_from_slice_get (region_bytes m) k b [] (get_left m.thin
 
 physical : (m : Made) → IsMade m → All (λ x. IsPhysical x.1) (memories_of (policy_of m).devices)
 unfolding source_of
-physical m h = devices_physical (source_of (policy_of m)) h.lawful.rule_4
+physical m h = devices_physical (source_of (policy_of m)) (rules_of h.lawful).rule_4
 
 -- **the contents**: the spans that aren't the kernel's are the things of the policy
 pub contents : (files : Held) (m : Made) → IsMade m → m.things ≡ thing_bytes files (policy_of m) → AreContents (source_of (policy_of m)) files (image_of m)

@@ -1,14 +1,13 @@
 -- What a policy declares of things, by number: what each name stands for is found at its index. So what they hold at the
 -- start, and how many bytes each has.
 use Rattle.std.proofs.Common.{◌≡◌, ℕ, List, [], ◌++◌, map, Option, Some, None, refl, sym, ap, ◌∙◌}
-use Rattle.std.specs.Prelude.{option_and_then, option_map, replicate, slice_get}
+use Rattle.std.specs.Prelude.{option_map, replicate, slice_get}
 use Rattle.std.specs.Option.{option_map_or}
 use Rattle.std.specs.List.{find, flat_map}
 use Rattle.std.specs.Str.{bytes_eq}
 use Rattle.std.proofs.lemmas.List.{map-append}
 use Rattle.policy_lawful.specs.ByIndex.{provided_at}
 use Rattle.image_emit.specs.Made.{thing_bytes}
-use Rattle.image_soundness.specs.Sizes.{declared_size}
 use Rattle.proof_build.proofs.PiecesOfLists.{flat_map_at, found_by_name, map_at, map_pieces}
 use Rattle.proof_build.proofs.ThingsInOrder.{component_is, memory_thing, memory_things, provided_things, region_things, used_component}
 use Rattle.muen_num.proofs.Lists.{find-map, map-map}
@@ -18,7 +17,8 @@ use Rattle.policy_lawful.specs.declared.resolved.ComponentUse.{ComponentUse}
 use Rattle.policy_lawful.specs.declared.resolved.Subject.{Subject}
 use Rattle.policy_lawful.proofs.UniqueNames.{logical_unique, parts_unique, subjects_unique, unique, unique_parts}
 use Rattle.policy_lawful.specs.Contents.{Held, content_bytes, initial_bytes}
-use Rattle.policy_lawful.specs.Thing.{Thing, channel, component_by, device_memory, provided, region, state}
+use Rattle.policy_lawful.specs.Thing.{Item, Thing, channel, channel_item, declared_size, device_item, device_memory, item_of, provided, provided_item, region, region_item}
+use Rattle.policy_meaning.proofs.Items.{item_of_channel, item_of_device, item_of_provided, item_of_region}
 use Rattle.policy_types.specs.declared.source.Channel.{Channel}
 use Rattle.policy_types.specs.declared.source.Component.{Component}
 use Rattle.policy_types.specs.declared.source.Content.{Content}
@@ -42,39 +42,24 @@ provided_unique c h =
 -- which index has a component that brings something along
 provided_found : (r : Resolution) (o : Option ComponentUse) → ((k : ℕ) (c : Component) → slice_get r.components k ≡ Some c → repeated (logical_names c) ≡ None)
     → (j : ℕ) (x : Provided) → slice_get (provided_at r.components o) j ≡ Some x
-    → option_and_then (λ c. find (λ y. bytes_eq y.logical x.logical) c.provides) (used_component r o) ≡ Some x
+    → (c : Component) × ((used_component r o ≡ Some c) × (find (λ y. bytes_eq y.logical x.logical) c.provides ≡ Some x))
 provided_found r None names j x at = absurd cc
 provided_found r (Some used) names j x at =
-    elim (slice_get r.components used.used) as (λ o. slice_get r.components used.used ≡ o → slice_get (option_map_or (λ (c : Component). c.provides) o []) j ≡ Some x → option_and_then (λ (c : Component). find (λ y. bytes_eq y.logical x.logical) c.provides) o ≡ Some x) [
+    elim (slice_get r.components used.used) as (λ o. slice_get r.components used.used ≡ o → slice_get (option_map_or (λ (c : Component). c.provides) o []) j ≡ Some x → (c : Component) × ((slice_get r.components used.used ≡ Some c) × (find (λ y. bytes_eq y.logical x.logical) c.provides ≡ Some x))) [
       | None ↦ λ e h. absurd cc
-      | Some c ↦ λ e h. found_by_name (λ (y : Provided). y.logical) c.provides (provided_unique c (names used.used c e)) j x h
+      | Some c ↦ λ e h. (c, (e, found_by_name (λ (y : Provided). y.logical) c.provides (provided_unique c (names used.used c e)) j x h))
     ] refl at
 
 -- ---- what a policy declares of a thing
 
--- what is made of its size and its content, by its names; a channel and a device's memory hold zeros
+-- what is made of its size and its content
 abbrev pub declared : {A : Type 0} → (ℕ → Content → A) → A → Source → Thing → A
-declared made none p (region name) = option_map_or (λ r. made r.size r.content) (find (λ r. bytes_eq r.name name) p.memory) none
-declared made none p (channel name) = option_map_or (λ c. made c.size Zero) (find (λ c. bytes_eq c.name name) p.channels) none
-declared made none p (provided subject logical) =
-    option_map_or (λ x. made x.size x.content)
-    (option_and_then (λ s. option_and_then (λ c. find (λ x. bytes_eq x.logical logical) c.provides) (component_by p s.component))
-    (find (λ s. bytes_eq s.name subject) p.subjects))
-    none
-declared made none p (device_memory device name) =
-    option_map_or (λ m. made m.size Zero)
-    (option_and_then (λ d. find (λ m. bytes_eq m.name name) d.memory) (find (λ d. bytes_eq d.name device) p.devices))
-    none
-declared made none p (state subject) = none
+declared made none p x = option_map_or (λ i. made i.size i.content) (item_of p x) none
 
 -- its bytes at the start are
 bytes_declared : (files : Held) (p : Source) (x : Thing) → initial_bytes p files x ≡ declared (content_bytes files) [] p x
 unfolding initial_bytes
-bytes_declared files p (region name) = refl
-bytes_declared files p (channel name) = refl
-bytes_declared files p (provided subject logical) = refl
-bytes_declared files p (device_memory device name) = refl
-bytes_declared files p (state subject) = refl
+bytes_declared files p x = refl
 
 mapped_or : {X : Type 0} (f : X → ℕ) (o : Option X) → option_map f o ≡ option_map_or (λ x. Some (f x)) o None
 mapped_or f None = refl
@@ -83,15 +68,7 @@ mapped_or f (Some x) = refl
 -- and so is its size
 size_declared : (p : Source) (x : Thing) → declared_size p x ≡ declared (λ size content. Some size) None p x
 unfolding declared_size
-size_declared p (region name) = mapped_or (λ (r : Region). r.size) (find (λ r. bytes_eq r.name name) p.memory)
-size_declared p (channel name) = mapped_or (λ (c : Channel). c.size) (find (λ c. bytes_eq c.name name) p.channels)
-size_declared p (provided subject logical) =
-    mapped_or (λ (x : Provided). x.size)
-    (option_and_then (λ s. option_and_then (λ c. find (λ x. bytes_eq x.logical logical) c.provides) (component_by p s.component))
-    (find (λ s. bytes_eq s.name subject) p.subjects))
-size_declared p (device_memory device name) =
-    mapped_or (λ (m : DeviceMemory). m.size) (option_and_then (λ d. find (λ m. bytes_eq m.name name) d.memory) (find (λ d. bytes_eq d.name device) p.devices))
-size_declared p (state subject) = refl
+size_declared p x = mapped_or (λ (i : Item). i.size) (item_of p x)
 
 -- ---- of all things
 
@@ -99,19 +76,22 @@ module _ {A : Type 0} (made : ℕ → Content → A) (none : A) (r : Resolution)
   abbrev look : Thing → A
   look = declared made none (source_of r)
 
+  look_of : (x : Thing) (i : Item) → item_of (source_of r) x ≡ Some i → look x ≡ made i.size i.content
+  look_of x i is = ap (λ o. option_map_or (λ (i : Item). made i.size i.content) o none) is
+
   of_memory : map look (map (λ x. region x.name) r.memory) ≡ map (λ m. made m.size m.content) r.memory
   unfolding source_of
   of_memory =
       map-map look (λ x. region x.name) r.memory
       ∙ map_at (λ x. look (region x.name)) (λ m. made m.size m.content) r.memory
-      (λ k x at. ap (λ o. option_map_or (λ (m : Region). made m.size m.content) o none) (found_by_name (λ (m : Region). m.name) r.memory (unique (source_of r) q.names).regions k x at))
+      (λ k x at. look_of (region x.name) (region_item x) (item_of_region (source_of r) x.name ∙ ap (option_map region_item) (found_by_name (λ (m : Region). m.name) r.memory (unique (source_of r) q.names).regions k x at)))
 
   of_channels : map look (map (λ c. channel c.name) r.channels) ≡ map (λ c. made c.size Zero) r.channels
   unfolding source_of
   of_channels =
       map-map look (λ c. channel c.name) r.channels
       ∙ map_at (λ c. look (channel c.name)) (λ c. made c.size Zero) r.channels
-      (λ k x at. ap (λ o. option_map_or (λ (c : Channel). made c.size Zero) o none) (found_by_name (λ (c : Channel). c.name) r.channels (unique (source_of r) q.names).channels k x at))
+      (λ k x at. look_of (channel x.name) (channel_item x) (item_of_channel (source_of r) x.name ∙ ap (option_map channel_item) (found_by_name (λ (c : Channel). c.name) r.channels (unique (source_of r) q.names).channels k x at)))
 
   subject_found : (k : ℕ) (s : Subject) → slice_get r.subjects k ≡ Some s → find (λ t. bytes_eq t.name s.name) (source_of r).subjects ≡ Some (subject_named r s)
   unfolding source_of
@@ -125,11 +105,9 @@ module _ {A : Type 0} (made : ℕ → Content → A) (none : A) (r : Resolution)
 
   provided_one : (k : ℕ) (s : Subject) → slice_get r.subjects k ≡ Some s → (j : ℕ) (x : Provided) → slice_get (provided_at r.components s.component) j ≡ Some x → look (provided s.name x.logical) ≡ made x.size x.content
   provided_one k s at j x here =
-      let in_use : option_and_then (λ c. find (λ y. bytes_eq y.logical x.logical) c.provides) (component_by (source_of r) (subject_named r s).component) ≡ Some x =
-      ap (option_and_then (λ c. find (λ y. bytes_eq y.logical x.logical) c.provides)) (component_is r q k s at)
-      ∙ provided_found r s.component component_names j x here in
-      ap (λ o. option_map_or (λ (x : Provided). made x.size x.content) (option_and_then (λ (t : NamedSubject). option_and_then (λ c. find (λ y. bytes_eq y.logical x.logical) c.provides) (component_by (source_of r) t.component)) o) none) (subject_found k s at)
-      ∙ ap (λ o. option_map_or (λ (x : Provided). made x.size x.content) o none) in_use
+      let c = provided_found r s.component component_names j x here in
+      look_of (provided s.name x.logical) (provided_item s.name x)
+      (item_of_provided (source_of r) s.name x.logical (subject_named r s) c.0 x (subject_found k s at) (component_is r q k s at ∙ c.1.0) c.1.1)
 
   of_provided : map look (flat_map (provided_things r.components) r.subjects) ≡ flat_map (λ s. map (λ x. made x.size x.content) (provided_at r.components s.component)) r.subjects
   of_provided =
@@ -152,8 +130,9 @@ module _ {A : Type 0} (made : ℕ → Content → A) (none : A) (r : Resolution)
   memory_one : (k : ℕ) (d : Device) → slice_get r.devices k ≡ Some d → (j : ℕ) (m : DeviceMemory) → slice_get d.memory j ≡ Some m → look (device_memory d.name m.name) ≡ made m.size Zero
   unfolding source_of
   memory_one k d at j m here =
-      ap (λ o. option_map_or (λ (m : DeviceMemory). made m.size Zero) (option_and_then (λ (d : Device). find (λ y. bytes_eq y.name m.name) d.memory) o) none) (found_by_name (λ (d : Device). d.name) r.devices (unique (source_of r) q.names).devices k d at)
-      ∙ ap (λ o. option_map_or (λ (m : DeviceMemory). made m.size Zero) o none) (found_by_name (λ (m : DeviceMemory). m.name) d.memory (parts_unique (source_of r) k d q.names at).memory j m here)
+      look_of (device_memory d.name m.name) (device_item d.name m)
+      (item_of_device (source_of r) d.name m.name d m (found_by_name (λ (d : Device). d.name) r.devices (unique (source_of r) q.names).devices k d at)
+      (found_by_name (λ (m : DeviceMemory). m.name) d.memory (parts_unique (source_of r) k d q.names at).memory j m here))
 
   -- of the memory of devices
   of_devices : map (λ x. made x.1.size Zero) (memories_of r.devices) ≡ map look (memory_things r)

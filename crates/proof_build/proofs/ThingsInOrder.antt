@@ -14,13 +14,14 @@ use Rattle.policy_lawful.specs.declared.resolved.Subject.{Subject}
 use Rattle.policy_lawful.proofs.Indexes.{found_at_index}
 use Rattle.policy_lawful.proofs.SourceElements.{parts_in_range}
 use Rattle.policy_lawful.proofs.UniqueNames.{unique}
-use Rattle.policy_lawful.specs.Thing.{Thing, channel, component_by, device_memory, provided, provided_by, region, things_of}
+use Rattle.policy_lawful.specs.Thing.{Thing, channel, component_by, device_memory, provided, region, things_of}
 use Rattle.policy_types.specs.declared.source.Component.{Component}
 use Rattle.policy_types.specs.declared.source.Device.{Device}
 use Rattle.policy_types.specs.declared.source.DeviceMemory.{DeviceMemory}
 use Rattle.policy_types.specs.declared.source.Subject.{Subject as NamedSubject}
 use Rattle.policy_lawful.proofs.WindowsByIndex.{subject_parts}
 use Rattle.span_emit.specs.Spans.{memories_of}
+use Rattle.policy_meaning.proofs.Items.{provided_by, things_are as by_kind}
 
 -- ---- in the order of their numbers
 
@@ -53,10 +54,6 @@ pub brings : (r : Resolution) (o : Option ComponentUse) → provided_at r.compon
 brings r None = refl
 brings r (Some used) = refl
 
-provided_of : (name : List ℕ) (o : Option Component) → provided_by name o ≡ map (λ x. provided name x.logical) (option_map_or (λ c. c.provides) o [])
-provided_of name None = refl
-provided_of name (Some c) = refl
-
 module _ (r : Resolution) (q : IsResolved r) where
   use_by_name : (o : Option ComponentUse) → option_map_or (component_in_range r) o true ≡ true → component_by (source_of r) (option_map (component_named r) o) ≡ used_component r o
   unfolding source_of
@@ -74,7 +71,6 @@ module _ (r : Resolution) (q : IsResolved r) where
   provided_are : (k : ℕ) (s : Subject) → slice_get r.subjects k ≡ Some s → provided_by s.name (component_by (source_of r) (subject_named r s).component) ≡ provided_things r.components s
   provided_are k s at =
       ap (provided_by s.name) (component_is k s at)
-      ∙ provided_of s.name (used_component r s.component)
       ∙ ap (map (λ x. provided s.name x.logical)) (sym (brings r s.component))
 
   provided_all : flat_map (λ (s : NamedSubject). provided_by s.name (component_by (source_of r) s.component)) (map (subject_named r) r.subjects) ≡ flat_map (provided_things r.components) r.subjects
@@ -88,5 +84,5 @@ module _ (r : Resolution) (q : IsResolved r) where
       ∙ sym (map_pieces memory_thing (λ d. map (λ m. (d.name, m)) d.memory) ds)
 
   pub things_are : things_of (source_of r) ≡ region_things r ++ memory_things r
-  unfolding things_of source_of
-  things_are = λ i. map (λ x. region x.name) r.memory ++ map (λ c. channel c.name) r.channels ++ provided_all i ++ memories_all r.devices i
+  unfolding source_of
+  things_are = by_kind (source_of r) ∙ (λ i. map (λ x. region x.name) r.memory ++ map (λ c. channel c.name) r.channels ++ provided_all i ++ memories_all r.devices i)

@@ -3,7 +3,7 @@ use Rattle.std.proofs.Common.{◌≡◌, ◌∙◌, ℕ, zero, suc, ◌+◌, ◌
 use Rattle.std.specs.Prelude.{not, option_map, slice_get}
 use Rattle.std.specs.List.{enumerate_from, flat_map}
 use Rattle.std.proofs.lemmas.Option.{slice_get-map}
-use Rattle.expand_kernel.specs.Regions.{channel_region, kernel_regions_of, own_region, provided_regions, regions_of}
+use Rattle.expand_kernel.specs.Regions.{kernel_regions_of, regions_of}
 use Rattle.image_pack.specs.ImageConditions.{KeepsConditions}
 use Rattle.image_pack.specs.declared.parts.Image.{Image}
 use Rattle.image_pack.specs.declared.parts.SpanPart.{SpanPart}
@@ -11,7 +11,7 @@ use Rattle.image_soundness.specs.Memory.{Span, by_number}
 use Rattle.image_soundness.specs.Sound.{IsSound, address_of, is_kernel, thing_spans}
 use Rattle.policy_lawful.specs.Contents.{Held}
 use Rattle.policy_lawful.specs.Resolution.{source_of}
-use Rattle.policy_lawful.specs.Thing.{channel, component_by, device_memory, provided_by, region, same_thing, things_of}
+use Rattle.policy_lawful.specs.Thing.{channel, component_by, device_memory, region, same_thing, things_of}
 use Rattle.policy_types.specs.declared.source.Region.{Region as SourceRegion}
 use Rattle.policy_types.specs.declared.source.Source.{Source}
 use Rattle.proof_build.specs.Built.{HasSpans}
@@ -21,6 +21,9 @@ use Rattle.proof_start.proofs.SpansOfThings.{listed_span}
 use Rattle.region_alloc.specs.Placed.{IsPlaced, Placement}
 use Rattle.span_emit.specs.Spans.{device_spans, region_span, region_spans}
 use Rattle.subject_model.proofs.KeyLaws.{same_thing_self}
+use Rattle.expand_kernel.specs.ByIndex.{channel_region, own_region, provided_regions}
+use Rattle.policy_meaning.proofs.Items.{provided_by, things_are}
+use Rattle.expand_kernel.proofs.ByKind.{regions_are}
 
 -- ---- lists
 
@@ -70,9 +73,9 @@ module _ (x : Placement) (placed : IsPlaced x) (files : Held) (i : Image) (keeps
   same_addresses = let e : Ok spans.addresses ≡ Ok x.addresses = sym spans.are ∙ placed.placement in cc (e)
 
   region_at : (k : ℕ) (r : SourceRegion) → slice_get p.memory k ≡ Some r → slice_get (regions_of p) k ≡ Some (own_region r)
-  unfolding regions_of
   region_at k r e =
-      front_of_four (map own_region p.memory) (map channel_region p.channels) (flat_map (λ s. provided_regions s.name (component_by p s.component)) p.subjects) (flat_map (kernel_regions_of p) p.subjects) k (own_region r)
+      ap (λ rs. slice_get rs k) (regions_are p)
+      ∙ front_of_four (map own_region p.memory) (map channel_region p.channels) (flat_map (λ s. provided_regions s.name (component_by p s.component)) p.subjects) (flat_map (kernel_regions_of p) p.subjects) k (own_region r)
       (mapped_at own_region p.memory k r e)
 
   -- the span of a region of memory, among those by number
@@ -112,9 +115,9 @@ module _ (x : Placement) (placed : IsPlaced x) (files : Held) (i : Image) (keeps
       record { one = a.span; here = a.here; passes = ap not a.own }
 
   thing_at : (k : ℕ) (r : SourceRegion) → slice_get p.memory k ≡ Some r → slice_get (things_of p) k ≡ Some (region r.name)
-  unfolding things_of
   thing_at k r e =
-      front_of_four (map (λ (r : SourceRegion). region r.name) p.memory) (map (λ c. channel c.name) p.channels)
+      ap (λ xs. slice_get xs k) (things_are p)
+      ∙ front_of_four (map (λ (r : SourceRegion). region r.name) p.memory) (map (λ c. channel c.name) p.channels)
       (flat_map (λ s. provided_by s.name (component_by p s.component)) p.subjects) (flat_map (λ d. map (λ m. device_memory d.name m.name) d.memory) p.devices) k (region r.name)
       (mapped_at (λ (r : SourceRegion). region r.name) p.memory k r e)
 

@@ -12,6 +12,7 @@ use Rattle.muen_num.specs.declared.mode.EventMode.{EventMode}
 use Rattle.muen_num.specs.declared.mode.EventMode.TheVariants.{Asap, Async, Own as OwnMode, Switch}
 use Rattle.policy_lawful.proofs.KeptMembers.{members_kept}
 use Rattle.policy_lawful.proofs.Indexes.{same_self}
+use Rattle.policy_lawful.proofs.KeptRules.{rules_of}
 use Rattle.policy_lawful.specs.Lawful.{IsLawful}
 use Rattle.policy_lawful.specs.MoreRules.{fits_mode, some_group_lists}
 use Rattle.policy_lawful.specs.Events.{Raised, Target, event_of}
@@ -65,7 +66,7 @@ module _ (p : Source) (lawful : IsLawful p) (cpu tick : ℕ) (y : System) (slot 
   to_group : (e : Raised) → e.mode ≡ Switch → fits_mode p e.mode u.name e.target.subject ≡ true → group_of p e.target.subject ≡ Some slot.group
   to_group e mode fit =
       let fits : fits_mode p Switch u.name e.target.subject ≡ true = subst (λ m. fits_mode p m u.name e.target.subject ≡ true) mode fit in
-      group_by_name p (members_kept p lawful.rule_17) u at.within e.target.subject (and_parts (not (bytes_eq u.name e.target.subject)) (some_group_lists p u.name e.target.subject) fits).1 ∙ at.its
+      group_by_name p (members_kept p (rules_of lawful).rule_17) u at.within e.target.subject (and_parts (not (bytes_eq u.name e.target.subject)) (some_group_lists p u.name e.target.subject) fits).1 ∙ at.its
 
   -- of a group of that number, the active member is the target
   handed_in : (t : List ℕ) (z : System) → z.active ≡ y.active → slice_get (change_at slot.group (λ _. t) z.active) slot.group ≡ Some t

@@ -13,6 +13,7 @@ use Rattle.muen_num.proofs.Members.{find_in}
 use Rattle.muen_num.specs.declared.mode.EventMode.{EventMode}
 use Rattle.muen_num.specs.declared.mode.EventMode.TheVariants.{Asap, Async, Own as OwnMode, Switch}
 use Rattle.policy_lawful.proofs.KeptMembers.{members_kept}
+use Rattle.policy_lawful.proofs.KeptRules.{rules_of}
 use Rattle.policy_lawful.specs.Lawful.{IsLawful}
 use Rattle.policy_lawful.specs.Contents.{Held}
 use Rattle.policy_lawful.specs.Events.{Raised, event_of}
@@ -108,8 +109,8 @@ module _ (p q : Source) (lawful : IsLawful p) (lawful_too : IsLawful q) (members
             let name = same_name p q s w.0 (agree.each s w.0 inside found w.1).own in
             let in_s = (find_in (λ x. bytes_eq x.name s.name) p.subjects s found).0 in
             let in_w = (find_in (λ x. bytes_eq x.name s.name) q.subjects w.0 w.1).0 in
-            let left = by_raised_event p lawful (members_kept p lawful.rule_17) u s at.within in_s ne y slot.group at.group at.there at.listed at.acts way (event_of p u way) refl (λ k. true≢false (sym k ∙ out)) y' same in
-            let right = by_raised_event q lawful_too (members_kept q lawful_too.rule_17) v w.0 at'.within in_w (λ e. ne (called ∙ e ∙ sym name)) z slot'.group at'.group at'.there at'.listed at'.acts way (event_of q v way) refl (λ k. out' (subst (λ n. reaches (event_of q v way) n ≡ true) (sym name) k)) z' same' in
+            let left = by_raised_event p lawful (members_kept p (rules_of lawful).rule_17) u s at.within in_s ne y slot.group at.group at.there at.listed at.acts way (event_of p u way) refl (λ k. true≢false (sym k ∙ out)) y' same in
+            let right = by_raised_event q lawful_too (members_kept q (rules_of lawful_too).rule_17) v w.0 at'.within in_w (λ e. ne (called ∙ e ∙ sym name)) z slot'.group at'.group at'.there at'.listed at'.acts way (event_of q v way) refl (λ k. out' (subst (λ n. reaches (event_of q v way) n ≡ true) (sym name) k)) z' same' in
             left ∙ (h s inside found).active ∙ subst (λ n. is_active q z n ≡ is_active q (happens q (event_of q v way) z') n) (sym name) (sym right)
 
         itself : u.name ≡ s.name → is_active p (happens p (event_of p u way) y') s.name ≡ is_active q (happens q (event_of q v way) z') s.name

@@ -15,6 +15,7 @@ use Rattle.policy_lawful.specs.Offences.{alone, two}
 use Rattle.policy_lawful.specs.Events.{ChannelEnd, channel_ends, reads_from}
 use Rattle.policy_lawful.specs.Thing.{Thing, channel, device_memory, provided, region, same_thing, state}
 use Rattle.policy_lawful.specs.Windows.{Window, role_rights, windows_of}
+use Rattle.policy_lawful.proofs.KeptRules.{rules_of}
 use Rattle.policy_types.specs.Rights.{allows}
 use Rattle.policy_types.specs.declared.rights.Rights.{Rights}
 use Rattle.policy_types.specs.declared.rights.Role.{Role}
@@ -61,7 +62,7 @@ connected_all p h = all_pass (is_connected p) (λ c. alone c.name) p.channels h
 
 writers_once : (p : Source) → IsLawful p → (c : Channel) → In c p.channels → length (writers_of p c.name) ≡ 1
 writers_once p lawful c declared =
-    let all = passes_in (is_connected p) p.channels (connected_all p lawful.rule_6) c declared in
+    let all = passes_in (is_connected p) p.channels (connected_all p (rules_of lawful).rule_6) c declared in
     let apart = list_all (λ w. list_all (λ r. not (bytes_eq r.0 w.0)) (readers_of p c.name)) (writers_of p c.name) in
     let first = and_parts ((length (writers_of p c.name) == 1) && nat_le 1 (length (readers_of p c.name)) && apart) (fits_event (writers_of p c.name) (readers_of p c.name) c.has_event) all in
     let second = and_parts ((length (writers_of p c.name) == 1) && nat_le 1 (length (readers_of p c.name))) apart first.0 in
@@ -101,7 +102,7 @@ times_by p device memory s = sum_by (λ d. count_by (λ n. bytes_eq n memory) (m
 granted_few : (p : Source) → IsLawful p → (d : Device) → In d p.devices → (x : DeviceMemory) → In x d.memory → sum_by (times_by p d.name x.name) p.subjects ≤ 1
 unfolding times_by
 granted_few p lawful d declared x has =
-    let own = none_in (device_offence p) p.devices (device_rule p lawful.rule_9) d declared in
+    let own = none_in (device_offence p) p.devices (device_rule p (rules_of lawful).rule_9) d declared in
     let memory = none_both (first_in (λ x. granted_once p d (λ u. map (λ m. m.memory) u.memory) x.name) d.memory) _ own in
     let one = none_in (λ (x : DeviceMemory). granted_once p d (λ u. map (λ m. m.memory) u.memory) x.name) d.memory memory.0 x has in
     leb-true (times_granted p d.name (λ u. map (λ m. m.memory) u.memory) x.name) 1 (unless_none (nat_le (times_granted p d.name (λ u. map (λ m. m.memory) u.memory) x.name) 1) (two d.name x.name) one)

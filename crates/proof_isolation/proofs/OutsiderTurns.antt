@@ -14,6 +14,7 @@ use Rattle.muen_num.specs.Search.{first_after, first_in, unless}
 use Rattle.muen_num.specs.declared.access.AccessKind.TheVariants.{Write}
 use Rattle.policy_lawful.proofs.KeptMajors.{majors_kept}
 use Rattle.policy_lawful.proofs.KeptMembers.{members_kept}
+use Rattle.policy_lawful.proofs.KeptRules.{rules_of}
 use Rattle.policy_lawful.specs.Domains.{is_monitor, monitor_offence, offence_24}
 use Rattle.policy_lawful.specs.Lawful.{IsLawful}
 use Rattle.policy_lawful.specs.Offences.{two}
@@ -61,7 +62,7 @@ monitors_rule p h = h
 
 watched : (p : Source) → IsLawful p → (s : Subject) → In s p.subjects → (name : List ℕ) → list_any (λ m. bytes_eq m.subject name) s.monitors ≡ true → Named p name
 watched p lawful s in_s name seen =
-    let own = none_in (monitor_offence p) p.subjects (monitors_rule p lawful.rule_24) s in_s in
+    let own = none_in (monitor_offence p) p.subjects (monitors_rule p (rules_of lawful).rule_24) s in_s in
     let m = any_some (λ m. bytes_eq m.subject name) s.monitors seen in
     let kept = after_in (λ before m. unless (is_monitor p s before m) (two s.name m.subject)) [] s.monitors own m.one m.within in
     let all = unless_none (is_monitor p s kept.0 m.one) (two s.name m.one.subject) kept.1 in
@@ -130,7 +131,7 @@ module _ (p : Source) (lawful : IsLawful p) (members : List (List ℕ)) (closed 
         msrs = sym stays.msrs;
         now = sym (pending.now ∙ before.now ∙ ap (λ sets. named sets s.name) (left.now));
         later = sym (pending.later ∙ before.later ∙ ap (λ sets. named sets s.name) (left.later));
-        active = sym (raised_active p lawful (members_kept p lawful.rule_17) u s in_u in_s apart y k g there listed acts a.raised no_event taken (left.active));
+        active = sym (raised_active p lawful (members_kept p (rules_of lawful).rule_17) u s in_u in_s apart y k g there listed acts a.raised no_event taken (left.active));
         shown = λ x shown. sym (ap (λ things. thing_in things x) rest.things ∙ store_unseen x shown a.stored writes own ∙ value_other same_thing (state u.name) x (λ _. page_bytes a.state) y.things (things_apart (state u.name) x (unwatched x shown)));
         ports = λ n _. ap (λ ports. slice_get ports n) (sym (rest.ports ∙ left.ports));
       }
@@ -150,7 +151,7 @@ module _ (p : Source) (lawful : IsLawful p) (members : List (List ℕ)) (closed 
   outsider_acted slot name u st values has outside = λ s member is.
       let in_s = (find_in (λ q. bytes_eq q.name s.name) p.subjects s is).0 in
       let in_u = (find_in (λ q. bytes_eq q.name name) p.subjects u has.is).0 in
-      let at = there_is (slice_get p.scheduling.groups slot.group) cpu (slot_here p cpu (majors_kept p lawful.rule_16) y.frame tick slot has.in_slot) in
+      let at = there_is (slice_get p.scheduling.groups slot.group) cpu (slot_here p cpu (majors_kept p (rules_of lawful).rule_16) y.frame tick slot has.in_slot) in
       let acts : slice_get y.active slot.group ≡ Some u.name = has.active ∙ ap Some (sym (named_so p name u has.is)) in
       outsider_answer p lawful members closed u s in_u in_s member outside (record { state = st; msrs = values }) (inbox_of p y u slot.first tick) y slot.group at.0 at.1 (listed slot.group u.name at.0 acts at.1) acts
 

@@ -13,6 +13,7 @@ use Rattle.policy_lawful.specs.Lawful.{IsLawful}
 use Rattle.policy_lawful.specs.MoreRules.{channel_mode_offence, ends_of_channel, fits_mode, is_writer as writes_it, mode_offence, offence_13, readers_of, sources_of, targets_of, writers_of}
 use Rattle.policy_lawful.specs.Offences.{two}
 use Rattle.policy_lawful.specs.Events.{ChannelEnd, Raised, Target, channel_ends, channel_event, channel_targets, event_of, event_targets, named_event, reads_from, same_way, writes_by}
+use Rattle.policy_lawful.proofs.KeptRules.{rules_of}
 use Rattle.policy_types.specs.declared.rights.Role.{Role}
 use Rattle.policy_types.specs.declared.rights.Role.TheVariants.{Reader, Writer}
 use Rattle.policy_types.specs.declared.source.Channel.{Channel}
@@ -59,7 +60,7 @@ module _ (p : Source) (lawful : IsLawful p) (u : Subject) (in_u : In u p.subject
           flat_in (λ s. map (λ e. s.name) (filter (λ e. bytes_eq e.event source.event) s.sources)) p.subjects u u.name in_u
           (map_in (λ (e : EventSource). u.name) (filter (λ e. bytes_eq e.event source.event) u.sources) source (filter_in (λ e. bytes_eq e.event source.event) u.sources source its ((bytes_eq-Decides source.event source.event).1 refl))) in
           let none : mode_offence p ev.mode ev.name (sources_of p source.event) (targets_of p source.event) ≡ None =
-          subst (λ n. mode_offence p ev.mode ev.name (sources_of p n) (targets_of p n) ≡ None) called (none_in (λ e. mode_offence p e.mode e.name (sources_of p e.name) (targets_of p e.name)) p.events (event_modes p lawful.rule_13) ev declared) in
+          subst (λ n. mode_offence p ev.mode ev.name (sources_of p n) (targets_of p n) ≡ None) called (none_in (λ e. mode_offence p e.mode e.name (sources_of p e.name) (targets_of p e.name)) p.events (event_modes p (rules_of lawful).rule_13) ev declared) in
           let fit = fits p ev.mode ev.name (sources_of p source.event) (targets_of p source.event) u.name to.one.name none mine target in
           subst (λ r. fits_mode p r.mode u.name r.target.subject ≡ true) same (subst (λ n. fits_mode p ev.mode u.name n ≡ true) (ap (λ t. t.subject) entry.image) fit)
 
@@ -100,7 +101,7 @@ module _ (p : Source) (lawful : IsLawful p) (u : Subject) (in_u : In u p.subject
           (map_in (λ e. (u.name, e)) (filter (λ e. bytes_eq e.channel channel_end.channel) (channel_ends p u)) channel_end (filter_in (λ e. bytes_eq e.channel channel_end.channel) (channel_ends p u) channel_end its ((bytes_eq-Decides channel_end.channel channel_end.channel).1 refl))) in
           let mine : In u.name (map (λ e. e.0) (writers_of p channel_end.channel)) =
           map_in (λ (e : List ℕ × ChannelEnd). e.0) (writers_of p channel_end.channel) (u.name, channel_end) (filter_in (λ e. writes_it e.1.role) (ends_of_channel p channel_end.channel) (u.name, channel_end) own_channel_end writes) in
-          let own : channel_mode_offence p c c.has_event ≡ None = none_in (λ c. channel_mode_offence p c c.has_event) p.channels (channel_modes p lawful.rule_13) c declared in
+          let own : channel_mode_offence p c c.has_event ≡ None = none_in (λ c. channel_mode_offence p c c.has_event) p.channels (channel_modes p (rules_of lawful).rule_13) c declared in
           let none : mode_offence p m c.name (map (λ e. e.0) (writers_of p channel_end.channel)) (map (λ e. e.0) (readers_of p channel_end.channel)) ≡ None =
           subst (λ n. mode_offence p m c.name (map (λ e. e.0) (writers_of p n)) (map (λ e. e.0) (readers_of p n)) ≡ None) called (subst (λ o. channel_mode_offence p c o ≡ None) has own) in
           let fit = fits p m c.name (map (λ e. e.0) (writers_of p channel_end.channel)) (map (λ e. e.0) (readers_of p channel_end.channel)) u.name to.one.name none mine target in

@@ -11,6 +11,7 @@ use Rattle.muen_num.proofs.Members.{In, find_in}
 use Rattle.policy_lawful.proofs.KeptMajors.{majors_kept}
 use Rattle.policy_lawful.proofs.KeptMembers.{members_kept}
 use Rattle.policy_lawful.proofs.Indexes.{same_self}
+use Rattle.policy_lawful.proofs.KeptRules.{rules_of}
 use Rattle.policy_lawful.specs.Lawful.{IsLawful}
 use Rattle.policy_lawful.specs.Frames.{frames_of, group_of}
 use Rattle.policy_types.specs.declared.source.Group.{Group}
@@ -110,11 +111,11 @@ turner_acts p lawful cpu tick y listed slot u turn =
     let has = turn.has in
     let within = (find_in (λ s. bytes_eq s.name turn.member) p.subjects u has.is).0 in
     let name = named_so p turn.member u has.is in
-    let on = turn_on p (majors_kept p lawful.rule_16) (members_kept p lawful.rule_17) cpu tick y listed slot turn.member u has in
-    let at = there_is (slice_get p.scheduling.groups slot.group) cpu (slot_here p cpu (majors_kept p lawful.rule_16) y.frame tick slot has.in_slot) in
+    let on = turn_on p (majors_kept p (rules_of lawful).rule_16) (members_kept p (rules_of lawful).rule_17) cpu tick y listed slot turn.member u has in
+    let at = there_is (slice_get p.scheduling.groups slot.group) cpu (slot_here p cpu (majors_kept p (rules_of lawful).rule_16) y.frame tick slot has.in_slot) in
     let acts : slice_get y.active slot.group ≡ Some u.name = has.active ∙ ap Some (sym name) in
     let listed_it = listed slot.group u.name at.0 acts at.1 in
-    let its = own_group p (members_kept p lawful.rule_17) u within slot.group at.0 at.1 listed_it in
+    let its = own_group p (members_kept p (rules_of lawful).rule_17) u within slot.group at.0 at.1 listed_it in
     record {
       within = within;
       named = found_so p turn.member u has.is;

@@ -17,6 +17,7 @@ use Rattle.muen_num.proofs.Members.{In, all_in, any_in, any_some, find_in}
 use Rattle.muen_num.specs.Range.{numbers_below}
 use Rattle.muen_num.specs.declared.access.AccessKind.TheVariants.{Write}
 use Rattle.policy_lawful.proofs.KeptMembers.{members_kept}
+use Rattle.policy_lawful.proofs.KeptRules.{rules_of}
 use Rattle.policy_lawful.proofs.UniqueNames.{unique}
 use Rattle.policy_lawful.specs.Lawful.{IsLawful}
 use Rattle.policy_lawful.specs.Rules.{major_offence, majors_of, offence_16, tau0_offence, writes}
@@ -151,7 +152,7 @@ filter_through test cpu kept (c ∷ cs) =
 chooser : (p : Source) → IsLawful p → (t : Tau0) → p.scheduling.tau0 ≡ Some t → list_any (λ s. bytes_eq s.name t.subject && writes p t.region s) p.subjects ≡ true
 unfolding offence_16
 chooser p lawful t is =
-    let last = none_both (first_in (major_offence p) (majors_of p)) (tau0_offence p p.scheduling.tau0) lawful.rule_16 in
+    let last = none_both (first_in (major_offence p) (majors_of p)) (tau0_offence p p.scheduling.tau0) (rules_of lawful).rule_16 in
     let of : tau0_offence p (Some t) ≡ None = ap (tau0_offence p) (sym is) ∙ last.1 in
     let declared = none_both _ _ of in
     let memory = none_both _ _ declared.1 in
@@ -178,7 +179,7 @@ module _ (p : Source) (lawful : IsLawful p) (members : List (List ℕ)) (closed 
 
   -- who has a name is found by it
   itself : (s : Subject) → In s p.subjects → subject_named p s.name ≡ Some s
-  itself s within = let at = its_index p.subjects s within in found_by_name (λ (s : Subject). s.name) p.subjects (unique p lawful.rule_1).subjects at.0 s at.1
+  itself s within = let at = its_index p.subjects s within in found_by_name (λ (s : Subject). s.name) p.subjects (unique p (rules_of lawful).rule_1).subjects at.0 s at.1
 
   its_chooser : (t : Tau0) → p.scheduling.tau0 ≡ Some t → Chooser t
   its_chooser t is =
@@ -231,8 +232,8 @@ module _ (p q : Source) (lawful : IsLawful p) (lawful_too : IsLawful q) (members
   ready n low h at =
       let slots = (begun_slots agree.frames n low (run_p n) (run_q n) h at).0 in
       record {
-        listed = begun_listed p f (members_kept p lawful.rule_17) (inputs_at r) (order_at p r) n;
-        listed_too = begun_listed q g (members_kept q lawful_too.rule_17) (inputs_at t) (order_at q t) n;
+        listed = begun_listed p f (members_kept p (rules_of lawful).rule_17) (inputs_at r) (order_at p r) n;
+        listed_too = begun_listed q g (members_kept q (rules_of lawful_too).rule_17) (inputs_at t) (order_at q t) n;
         alike = inputs_both p q members f g r t ends agree (inputs_at r n) (inputs_at t n) (begins p n (run_p n)) (begins q n (run_q n)) (agree.inputs n low) (recursion_from_All (WritesTheSame members p q) (filter (touches p q members) (inputs_at r n)) (agree.writes n low)) (begun_alike n (run_p n) (run_q n) h);
         slots = λ s w inside is is'.
             ap (λ at. own_slot p s at n) (inputs_frame p (inputs_at r n) (begins p n (run_p n)))

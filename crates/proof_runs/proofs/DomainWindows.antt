@@ -8,7 +8,6 @@ use Rattle.std.proofs.lemmas.Bool.{and_parts, eqb-true, leb-true, ltb-true}
 use Rattle.dma_tables.proofs.ByPages.{both_same, same_le, same_lt}
 use Rattle.image_pack.specs.ImageConditions.{KeepsConditions}
 use Rattle.image_pack.specs.declared.parts.Image.{Image}
-use Rattle.image_soundness.specs.Sizes.{declared_size}
 use Rattle.image_soundness.specs.Sound.{IsSound}
 use Rattle.muen_num.proofs.Each.{found as each_found}
 use Rattle.muen_num.proofs.Lists.{found_among}
@@ -21,8 +20,9 @@ use Rattle.policy_lawful.specs.Dma.{dma_windows, domain_of, domain_windows}
 use Rattle.policy_lawful.specs.Domains.{each_window, offence_22}
 use Rattle.policy_lawful.specs.Offences.{two}
 use Rattle.policy_lawful.specs.Rules.{is_declared, is_page_aligned}
-use Rattle.policy_lawful.specs.Thing.{Thing, region}
+use Rattle.policy_lawful.specs.Thing.{Thing, declared_size, region, Item, region_item}
 use Rattle.policy_lawful.specs.Windows.{Window, access_by, access_of, byte, holds, region_window, violation, window}
+use Rattle.policy_lawful.proofs.KeptRules.{rules_of}
 use Rattle.policy_types.specs.Rights.{allows}
 use Rattle.policy_types.specs.declared.rights.Rights.{Rights}
 use Rattle.policy_types.specs.declared.source.Domain.{Domain}
@@ -33,6 +33,7 @@ use Rattle.subject_model.proofs.PolicyFacts.{found_any, found_passes}
 use Rattle.proof_start.proofs.SpansOfThings.{ThingSpan, listed_span}
 use Rattle.proof_start.proofs.ThingFacts.{region_is_thing}
 use Rattle.proof_start.proofs.WindowFacts.{region_again}
+use Rattle.policy_meaning.proofs.Items.{item_of_region}
 
 -- ---- rule 22: windows begin with a page
 
@@ -60,7 +61,9 @@ module _ (p : Source) (files : Held) (i : Image) (keeps : KeepsConditions i) (so
 
   size_is : (name : List ℕ) (r : Region) (n : ℕ) → find (λ r. bytes_eq r.name name) p.memory ≡ Some r → declared_size p (region name) ≡ Some n → r.size ≡ n
   unfolding declared_size
-  size_is name r n found e = let some : Some r.size ≡ Some n = ap (option_map (λ (r : Region). r.size)) (sym found) ∙ e in cc
+  size_is name r n found e =
+      let some : Some r.size ≡ Some n = ap (option_map (λ (i : Item). i.size)) (sym (item_of_region p name ∙ ap (option_map region_item) found)) ∙ e in
+      cc
 
   window_on : (name : List ℕ) (guest : ℕ) (rights : Rights) (w : Window Thing) → guest % PAGE ≡ 0 → region_window p name guest rights ≡ Some w → IsOnSpan w
   window_on name guest rights w aligned h =
@@ -90,7 +93,7 @@ module _ (p : Source) (files : Held) (i : Image) (keeps : KeepsConditions i) (so
 
   domain_on : (o : Option Domain) (device : List ℕ) → domain_of p device ≡ o → AllByRecursion IsOnSpan (option_map_or (domain_windows p) o [])
   domain_on None device e = tt
-  domain_on (Some d) device e = windows_on d.memory (begin_pages p d (λ d. list_any (λ name. bytes_eq name device) d.devices) sound.lawful.rule_22 e)
+  domain_on (Some d) device e = windows_on d.memory (begin_pages p d (λ d. list_any (λ name. bytes_eq name device) d.devices) (rules_of sound.lawful).rule_22 e)
 
   -- each window of a device's domain
   pub all_on : (device : List ℕ) → AllByRecursion IsOnSpan (dma_windows p device)

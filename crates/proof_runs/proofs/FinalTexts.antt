@@ -1,5 +1,5 @@
 -- The final lines of an image's run are those of the abstract system.
-use Rattle.std.proofs.Common.{◌≡◌, ◌∙◌, refl, ap, ℕ, zero, suc, ◌/◌, ◌==◌, Bool, true, false, List, [], ◌∷◌, ◌++◌, length, map, Option, Some, None}
+use Rattle.std.proofs.Common.{◌≡◌, ◌∙◌, refl, ap, ℕ, zero, suc, ◌/◌, ◌==◌, Bool, true, false, List, [], ◌∷◌, ◌++◌, length, map, Option, Some, None, sym}
 use Rattle.std.specs.Prelude.{not, option_map, slice_get, if◌then◌else◌}
 use Rattle.std.specs.List.{AllZip, find, flat_map}
 use Rattle.sha2.specs.Sha256.{sha256}
@@ -18,7 +18,7 @@ use Rattle.image_pack.specs.declared.parts.SubjectPart.{SubjectPart}
 use Rattle.image_soundness.specs.Memory.{Span, by_number, span_at}
 use Rattle.image_soundness.specs.Sound.{AreContents, IsSpanOf, is_kernel, kind_of, thing_spans}
 use Rattle.policy_meaning.specs.Contents.{Held}
-use Rattle.policy_meaning.specs.Thing.{Thing, region, channel, provided, device_memory, component_by, provided_by, things_of, thing_tag}
+use Rattle.policy_meaning.specs.Thing.{Thing, region, channel, provided, device_memory, component_by, things_of, thing_tag}
 use Rattle.policy_types.specs.declared.source.Component.{Component}
 use Rattle.policy_types.specs.declared.source.Source.{Source}
 use Rattle.policy_types.specs.declared.source.Subject.{Subject}
@@ -31,6 +31,7 @@ use Rattle.subject_model.specs.System.{System, state_of}
 use Rattle.subject_model.specs.Trace.{final_text as system_text, state_text, subject_text, thing_text}
 use Rattle.muen_run.specs.RunText.{bytes_from, final_text, numbered_span_text, numbered_subject_text, prints_as, span_text, spans_text, states_text, subject_text as part_text}
 use Rattle.proof_runs.proofs.FlatLists.{AllMadeBy, each_made, first_pass, flat_kept, flat_looked, flat_numbers, flat_same, found_beside, joined_made, mapped_made, no_items, second_pass}
+use Rattle.policy_meaning.proofs.Items.{provided_by, things_are}
 
 -- ---- the states
 
@@ -118,7 +119,6 @@ provided_first y subject (Some c) = mapped_made (told false y) (told true y) (th
 
 -- both passes together print each thing in order
 in_two_passes : (p : Source) (y : System) → flat_map (told false y) (things_of p) ++ flat_map (told true y) (things_of p) ≡ flat_map (thing_text y) (things_of p)
-unfolding things_of
 in_two_passes p y =
     let first = told false y in
     let second = told true y in
@@ -127,7 +127,8 @@ in_two_passes p y =
     let channels = map (λ c. channel c.name) p.channels in
     let brought = flat_map (λ s. provided_by s.name (component_by p s.component)) p.subjects in
     let devices = flat_map (λ d. map (λ m. device_memory d.name m.name) d.memory) p.devices in
-    first_pass first second text ((regions ++ channels) ++ brought) devices
+    (λ i. flat_map first (things_are p i) ++ flat_map second (things_are p i))
+    ∙ first_pass first second text ((regions ++ channels) ++ brought) devices
     (joined_made first second text (regions ++ channels) brought
     (joined_made first second text regions channels
     (mapped_made first second text (λ r. region r.name) (λ r. refl) (λ r. refl) p.memory)
@@ -135,6 +136,7 @@ in_two_passes p y =
     (each_made first second text (λ s. provided_by s.name (component_by p s.component)) (λ s. provided_first y s.name (component_by p s.component)) p.subjects))
     (second_pass first second text devices
     (each_made second first text (λ d. map (λ m. device_memory d.name m.name) d.memory) (λ d. mapped_made second first text (λ m. device_memory d.name m.name) (λ m. refl) (λ m. refl) d.memory) p.devices))
+    ∙ ap (flat_map text) (sym (things_are p))
 
 -- ---- the whole
 

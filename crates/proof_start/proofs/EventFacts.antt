@@ -10,15 +10,16 @@ use Rattle.std.proofs.lemmas.List.Folds.{list_all-append}
 use Rattle.std.proofs.lemmas.Slice.Eq.{bytes_eq-Decides}
 use Rattle.expand_grants.proofs.Elements.{first_there, lengths_same, none_there, some-map}
 use Rattle.policy_lawful.proofs.EachPasses.{all_some}
+use Rattle.policy_lawful.proofs.KeptRules.{rules_of}
 use Rattle.muen_num.proofs.Lists.{found_among, list_any-map, passes_at}
-use Rattle.muen_num.proofs.SearchLaws.{all_pass, none_append, unless_none}
+use Rattle.muen_num.proofs.SearchLaws.{all_pass, none_append, none_both, unless_none}
 use Rattle.muen_num.specs.Search.{first_in}
 use Rattle.muen_num.specs.declared.limits.TheConstants.{MOST_CALLS}
 use Rattle.subject_model.specs.Alone.{has_trap}
 use Rattle.policy_lawful.specs.Lawful.{IsLawful}
 use Rattle.policy_lawful.specs.MoreRules.{are_distinct, are_numbers, call_number, calls_of, offence_12, offence_14, sources_of, targets_of}
 use Rattle.policy_lawful.specs.Offences.{alone, two}
-use Rattle.policy_lawful.specs.Rules.{Reference, component_references, device_references, frame_references, group_references, is_declared, majors_of, offence_2, refers, subject_references, undeclared}
+use Rattle.policy_lawful.specs.Rules.{Reference, component_references, device_references, is_declared, offence_2, subject_references, undeclared}
 use Rattle.policy_lawful.specs.Events.{ChannelEnd, Raised, Target, channel_ends, channel_event, event_of, event_targets, is_call, named_event, same_way, trap_number, traps_of, writes_by}
 use Rattle.policy_types.specs.declared.rights.Role.{Role}
 use Rattle.policy_types.specs.declared.rights.Role.TheVariants.{Reader, Writer}
@@ -114,7 +115,7 @@ module _ (p : Source) (lawful : IsLawful p) where
   unfolding offence_14 is_small
   small_of s n at =
       let keeps : Subject → Bool = λ s. are_numbers (calls_of p s) && are_numbers (filter_map (λ e. trap_number e.way) s.sources) in
-      let both = and_parts (are_numbers (calls_of p n)) (are_numbers (filter_map (λ e. trap_number e.way) n.sources)) (passes_at keeps p.subjects s n (all_pass keeps (λ s. alone s.name) p.subjects lawful.rule_14) at) in
+      let both = and_parts (are_numbers (calls_of p n)) (are_numbers (filter_map (λ e. trap_number e.way) n.sources)) (passes_at keeps p.subjects s n (all_pass keeps (λ s. alone s.name) p.subjects (rules_of lawful).rule_14) at) in
       let low : ℕ → Bool = λ k. nat_lt k MOST_CALLS in
       let a = filter_map (λ e. call_number e.way) n.sources in
       let b = filter_map (λ e. e.call) (channel_ends p n) in
@@ -152,42 +153,40 @@ module _ (p : Source) (lawful : IsLawful p) where
   -- ---- the events of traps
 
   -- rule 2 of the references of a subject
-  references : (s : ℕ) (n : Subject) → slice_get p.subjects s ≡ Some n → first_in undeclared (subject_references p n) ≡ None
+  references : (s : ℕ) (n : Subject) → slice_get p.subjects s ≡ Some n → first_in (undeclared n.name) (subject_references p n) ≡ None
   unfolding offence_2
   references s n at =
-      let ours = flat_map (subject_references p) p.subjects in
-      let groups = flat_map (group_references p) p.scheduling.groups in
-      let frames = flat_map (frame_references p) (majors_of p) in
-      none_of p.subjects s n (none_append undeclared ours groups (none_append undeclared (ours ++ groups) frames lawful.rule_2).0).0 at
+      let subjects = first_in (λ s. first_in (undeclared s.name) (subject_references p s)) p.subjects in
+      none_of p.subjects s n (none_both subjects _ (rules_of lawful).rule_2).0 at
     where
-      none_of : (ns : List Subject) (k : ℕ) (n : Subject) → first_in undeclared (flat_map (subject_references p) ns) ≡ None → slice_get ns k ≡ Some n → first_in undeclared (subject_references p n) ≡ None
+      none_of : (ns : List Subject) (k : ℕ) (n : Subject) → first_in (λ s. first_in (undeclared s.name) (subject_references p s)) ns ≡ None → slice_get ns k ≡ Some n → first_in (undeclared n.name) (subject_references p n) ≡ None
       none_of [] k n h at = absurd (cc)
-      none_of (x ∷ xs) zero n h at = let same : x ≡ n = cc in ap (λ n. first_in undeclared (subject_references p n)) (sym same) ∙ (none_append undeclared (subject_references p x) (flat_map (subject_references p) xs) h).0
-      none_of (x ∷ xs) (suc k) n h at = none_of xs k n (none_append undeclared (subject_references p x) (flat_map (subject_references p) xs) h).1 at
+      none_of (x ∷ xs) zero n h at = let same : x ≡ n = cc in ap (λ n. first_in (undeclared n.name) (subject_references p n)) (sym same) ∙ (none_both (first_in (undeclared x.name) (subject_references p x)) _ h).0
+      none_of (x ∷ xs) (suc k) n h at = none_of xs k n (none_both (first_in (undeclared x.name) (subject_references p x)) _ h).1 at
 
   -- the event that a source names is declared
   source_declared : (s : ℕ) (n : Subject) (e : EventSource) (i : ℕ) → slice_get p.subjects s ≡ Some n → slice_get n.sources i ≡ Some e → list_any (λ x. bytes_eq x.name e.event) p.events ≡ true
   source_declared s n e i at in_it =
-      let components = component_references p n.name n.component in
-      let memory = map (λ m. refers n.name (map (λ r. r.name) p.memory) m.region) n.memory in
-      let channels = map (λ c. refers n.name (map (λ c. c.name) p.channels) c.channel) n.channels in
-      let devices = flat_map (device_references p n.name) n.devices in
-      let source : EventSource → Reference = λ e. refers n.name (map (λ e. e.name) p.events) e.event in
+      let components = component_references p n.component in
+      let memory : List Reference = map (λ m. (map (λ r. r.name) p.memory, m.region)) n.memory in
+      let channels : List Reference = map (λ c. (map (λ c. c.name) p.channels, c.channel)) n.channels in
+      let devices : List Reference = flat_map (device_references p) n.devices in
+      let source : EventSource → Reference = λ e. (map (λ e. e.name) p.events, e.event) in
       let sources = map source n.sources in
-      let targets = map (λ e. refers n.name (map (λ e. e.name) p.events) e.event) n.targets in
-      let monitors = map (λ m. refers n.name (map (λ s. s.name) p.subjects) m.subject) n.monitors in
-      let without_monitors = (none_append undeclared (components ++ memory ++ channels ++ devices ++ sources ++ targets) monitors (references s n at)).0 in
-      let without_targets = (none_append undeclared (components ++ memory ++ channels ++ devices ++ sources) targets without_monitors).0 in
-      let here = (none_append undeclared (components ++ memory ++ channels ++ devices) sources without_targets).1 in
+      let targets : List Reference = map (λ e. (map (λ e. e.name) p.events, e.event)) n.targets in
+      let monitors : List Reference = map (λ m. (map (λ s. s.name) p.subjects, m.subject)) n.monitors in
+      let without_monitors = (none_append (undeclared n.name) (components ++ memory ++ channels ++ devices ++ sources ++ targets) monitors (references s n at)).0 in
+      let without_targets = (none_append (undeclared n.name) (components ++ memory ++ channels ++ devices ++ sources) targets without_monitors).0 in
+      let here = (none_append (undeclared n.name) (components ++ memory ++ channels ++ devices) sources without_targets).1 in
       sym (list_any-map (λ x. bytes_eq x e.event) (λ (x : Event). x.name) p.events)
-      ∙ unless_none (is_declared (map (λ e. e.name) p.events) e.event) (two n.name e.event) (none_there undeclared source n.sources i e here in_it)
+      ∙ unless_none (is_declared (map (λ e. e.name) p.events) e.event) (two n.name e.event) (none_there (undeclared n.name) source n.sources i e here in_it)
 
   -- a declared event has a target
   has_target : (name : List ℕ) (e : Event) → find (λ e. bytes_eq e.name name) p.events ≡ Some e → is_some (slice_get (event_targets p name) 0) ≡ true
   unfolding offence_12
   has_target name e is =
       let keeps : Event → Bool = λ e. nat_le 1 (length (sources_of p e.name)) && (length (targets_of p e.name) == 1) in
-      let kept = found_among (λ e. bytes_eq e.name name) keeps p.events e is (all_pass keeps (λ e. alone e.name) p.events lawful.rule_12) in
+      let kept = found_among (λ e. bytes_eq e.name name) keeps p.events e is (all_pass keeps (λ e. alone e.name) p.events (rules_of lawful).rule_12) in
       let named : e.name ≡ name = (bytes_eq-Decides e.name name).0 (found_passes (λ e. bytes_eq e.name name) p.events e is) in
       let one : (length (targets_of p name) == 1) ≡ true = ap (λ n. length (targets_of p n) == 1) (sym named) ∙ (and_parts (nat_le 1 (length (sources_of p e.name))) (length (targets_of p e.name) == 1) kept).1 in
       let by_name : (s : Subject) → length (map (λ e. s.name) (filter (λ e. bytes_eq e.event name) s.targets)) ≡ length (map (λ (e : EventTarget). record { subject = s.name; vector = e.vector }) (filter (λ e. bytes_eq e.event name) s.targets)) = λ s.

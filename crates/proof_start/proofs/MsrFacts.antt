@@ -1,6 +1,6 @@
 -- The MSRs of a lawful policy: each that is granted is one of an MSR file, and none is granted twice to a subject.
 use Rattle.std.proofs.Common.{◌≡◌, ℕ, zero, suc, ◌+◌, ◌-◌, ◌<◌, ◌≤◌, inl, inr, Bool, true, false, List, [], ◌∷◌, ◌++◌, map, Some, None, refl, sym, ap, ◌∙◌, arith, subst, true≢false}
-use Rattle.std.specs.Prelude.{◌==◌, ◌&&◌, ◌||◌, is_some, nat_le, nat_lt, if◌then◌else◌, slice_get}
+use Rattle.std.specs.Prelude.{◌==◌, ◌&&◌, ◌||◌, is_some, nat_le, if◌then◌else◌, slice_get}
 use Rattle.std.specs.List.{flat_map, list_all, list_any}
 use Rattle.std.proofs.lemmas.Bool.{and_from, and_parts, eqb-true, false_from_ne_true, le-leb, leb-true, ne_eqb, or_cases, or_from, or_left, or_right}
 use Rattle.std.proofs.lemmas.Bool.Decides.{nat_tests}
@@ -8,6 +8,7 @@ use Rattle.std.proofs.lemmas.List.{map-append}
 use Rattle.std.proofs.lemmas.List.Folds.{list_all-append, list_all-map, list_any-append}
 use Rattle.subject_model.specs.Alone.{is_in}
 use Rattle.policy_lawful.proofs.EachPasses.{all_flat}
+use Rattle.policy_lawful.proofs.KeptRules.{rules_of}
 use Rattle.expand_grants.specs.Resources.{Msr, is_granted, msrs_in, msrs_of}
 use Rattle.muen_num.proofs.Lists.{each_from, found, map-map, passes_at}
 use Rattle.muen_num.proofs.SearchLaws.{all_pass}
@@ -16,6 +17,7 @@ use Rattle.muen_num.specs.declared.limits.TheConstants.{LOW_MSR_LAST, HIGH_MSR_F
 use Rattle.policy_lawful.specs.Lawful.{IsLawful}
 use Rattle.policy_lawful.specs.MoreRules.{is_msr_range, msrs_apart, offence_11}
 use Rattle.policy_lawful.specs.Offences.{alone}
+use Rattle.policy_lawful.specs.Ranges.{share_none}
 use Rattle.policy_types.specs.declared.source.Msrs.{Msrs}
 use Rattle.policy_types.specs.declared.source.Source.{Source}
 use Rattle.policy_types.specs.declared.source.Subject.{Subject}
@@ -135,7 +137,7 @@ in_ranges (x ∷ xs) i h =
     ]
 
 apart_from : Msrs → Msrs → Bool
-apart_from x y = nat_lt x.end y.start || nat_lt y.end x.start
+apart_from x y = share_none x.start (x.end + 1) y.start (y.end + 1)
 
 not_both : (x y : Msrs) (i : ℕ) → apart_from x y ≡ true → is_between x i ≡ true → is_between y i ≡ false
 unfolding apart_from is_between
@@ -171,7 +173,7 @@ module _ (p : Source) (lawful : IsLawful p) where
   unfolding offence_11
   ranges_of s n at =
       let keeps : Subject → Bool = λ s. list_all is_msr_range s.msrs && msrs_apart s.msrs in
-      let both = and_parts (list_all is_msr_range n.msrs) (msrs_apart n.msrs) (passes_at keeps p.subjects s n (all_pass keeps (λ s. alone s.name) p.subjects lawful.rule_11) at) in
+      let both = and_parts (list_all is_msr_range n.msrs) (msrs_apart n.msrs) (passes_at keeps p.subjects s n (all_pass keeps (λ s. alone s.name) p.subjects (rules_of lawful).rule_11) at) in
       record { ranges = both.0; apart = both.1 }
 
   -- a granted MSR has a slot in an MSR file

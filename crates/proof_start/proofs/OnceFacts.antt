@@ -6,16 +6,18 @@ use Rattle.std.specs.Str.{bytes_eq}
 use Rattle.std.proofs.lemmas.Bool.{eqb-true}
 use Rattle.std.proofs.lemmas.Option.{get_or_from_slice_get, slice_get_within}
 use Rattle.policy_lawful.proofs.Indexes.{same_name, same_self}
+use Rattle.policy_lawful.proofs.KeptRules.{rules_of}
 use Rattle.policy_lawful.proofs.UniqueNames.{logical_unique, parts_unique, unique, unique_parts}
 use Rattle.policy_lawful.specs.Lawful.{IsLawful}
 use Rattle.policy_lawful.specs.Rules.{logical_names, repeated}
-use Rattle.policy_lawful.specs.Thing.{Thing, region, channel, provided, device_memory, state, component_by, provided_by, things_of}
+use Rattle.policy_lawful.specs.Thing.{Thing, region, channel, provided, device_memory, state, component_by, things_of}
 use Rattle.policy_types.specs.declared.source.Component.{Component}
 use Rattle.policy_types.specs.declared.source.ComponentUse.{ComponentUse}
 use Rattle.policy_types.specs.declared.source.Device.{Device}
 use Rattle.policy_types.specs.declared.source.Source.{Source}
 use Rattle.muen_num.proofs.Members.{In, append_some, flat_some, map_in, map_some}
 use Rattle.proof_start.proofs.ListFacts.{found_at, same_some}
+use Rattle.policy_meaning.proofs.Items.{provided_by, things_are}
 
 -- ---- elements and indexes
 
@@ -138,7 +140,7 @@ provided_once p lawful subject (Some used) = by_component (component_by p (Some 
     by_component None e = tt
     by_component (Some c) e =
         let at = found_at (λ c. bytes_eq c.name used.used) p.components c e in
-        brought_once subject c (logical_unique p at.index c lawful.rule_1 at.here)
+        brought_once subject c (logical_unique p at.index c (rules_of lawful).rule_1 at.here)
 
 -- ---- a device's memories
 
@@ -155,15 +157,14 @@ memories_whose d e x i j =
 memories_once : (p : Source) → IsLawful p → (d : Device) → In d p.devices → Once (map (λ m. device_memory d.name m.name) d.memory)
 memories_once p lawful d i =
     let at = index_of_one p.devices d i in
-    once_map (λ m. m.name) (λ m. device_memory d.name m.name) d.memory (λ x z e. cc (e)) (once_names (map (λ m. m.name) d.memory) (parts_unique p at.0 d lawful.rule_1 at.1).memory)
+    once_map (λ m. m.name) (λ m. device_memory d.name m.name) d.memory (λ x z e. cc (e)) (once_names (map (λ m. m.name) d.memory) (parts_unique p at.0 d (rules_of lawful).rule_1 at.1).memory)
 
 -- ---- all things
 
 -- each thing of a lawful policy stands once
 pub things_once : (p : Source) → IsLawful p → Once (things_of p)
-unfolding things_of
 things_once p lawful =
-    let names = unique p lawful.rule_1 in
+    let names = unique p (rules_of lawful).rule_1 in
     let regions : List Thing = map (λ r. region r.name) p.memory in
     let channels : List Thing = map (λ c. channel c.name) p.channels in
     let brought : List Thing = flat_map (λ s. provided_by s.name (component_by p s.component)) p.subjects in
@@ -180,6 +181,7 @@ things_once p lawful =
     (λ s i. provided_once p lawful s.name s.component)
     (λ s t x i j. provided_whose s.name t.name (component_by p s.component) (component_by p t.component) x i j))
     (λ x i. let f = flat_some (λ s. provided_by s.name (component_by p s.component)) p.subjects x i in provided_kind f.one.name (component_by p f.one.component) x f.part) in
+    subst Once (sym (things_are p))
     (joined 3 ((regions ++ channels) ++ brought) memories c
     (once_flat (λ d. d.name) (λ d. map (λ m. device_memory d.name m.name) d.memory) p.devices (once_names (map (λ d. d.name) p.devices) names.devices)
     (λ d i. memories_once p lawful d i)

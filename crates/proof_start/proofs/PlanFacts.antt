@@ -14,6 +14,7 @@ use Rattle.muen_num.specs.Frame.{Frame}
 use Rattle.muen_num.specs.Search.{first_in}
 use Rattle.policy_lawful.proofs.KeptAddresses.{addresses_kept}
 use Rattle.policy_lawful.proofs.KeptCpus.{cpus_kept}
+use Rattle.policy_lawful.proofs.KeptRules.{rules_of}
 use Rattle.policy_lawful.specs.Lawful.{IsLawful}
 use Rattle.policy_lawful.specs.Offences.{two}
 use Rattle.policy_lawful.specs.Rules.{is_alignment, is_fixed, is_laid, is_page_aligned, is_page_size, major_offence, majors_of, offence_16, tau0_offence}
@@ -76,13 +77,13 @@ module _ (p : Source) (lawful : IsLawful p) where
   pub no_slots : (cpu : ℕ) (frame : FrameAt) (tick : ℕ) → p.processor.logical_cpus ≤ cpu → slot_in (frames_of p cpu) frame tick ≡ None
   unfolding frames_of
   no_slots cpu frame tick l =
-      ap (λ frames. slot_in frames frame tick) (no_frames p cpu p.scheduling.major_frames l (cpus_kept p lawful.rule_3).majors) ∙ no_slot p.scheduling.major_frames frame tick
+      ap (λ frames. slot_in frames frame tick) (no_frames p cpu p.scheduling.major_frames l (cpus_kept p (rules_of lawful).rule_3).majors) ∙ no_slot p.scheduling.major_frames frame tick
 
   -- the region that chooses frames is declared
   pub tau0_memory : (t : Tau0) → p.scheduling.tau0 ≡ Some t → list_any (λ r. bytes_eq r.name t.region) p.memory ≡ true
   unfolding offence_16
   tau0_memory t is =
-      let last = none_both (first_in (major_offence p) (majors_of p)) (tau0_offence p p.scheduling.tau0) lawful.rule_16 in
+      let last = none_both (first_in (major_offence p) (majors_of p)) (tau0_offence p p.scheduling.tau0) (rules_of lawful).rule_16 in
       let of : tau0_offence p (Some t) ≡ None = ap (tau0_offence p) (sym is) ∙ last.1 in
       let declared = none_both _ _ of in
       let memory = none_both _ _ declared.1 in
@@ -97,7 +98,7 @@ module _ (p : Source) (lawful : IsLawful p) where
   pub tau0_bytes : (files : Held) (t : Tau0) → p.scheduling.tau0 ≡ Some t → 0 < length (initial_bytes p files (region t.region))
   tau0_bytes files t is =
       let r = found (λ (r : Region). bytes_eq r.name t.region) p.memory (tau0_memory t is) in
-      let laid = r.among is_laid (addresses_kept p lawful.rule_4).regions in
+      let laid = r.among is_laid (addresses_kept p (rules_of lawful).rule_4).regions in
       let size = (and_parts (is_page_size r.item.size) (is_alignment r.item.alignment) (and_parts (is_page_size r.item.size && is_alignment r.item.alignment) (is_fixed r.item r.item.physical_address) laid).0).0 in
       let some : 0 < r.item.size = ltb-true 0 r.item.size (and_parts (is_page_aligned r.item.size) (nat_lt 0 r.item.size) size).1 in
       let long = region_long p files t.region r.item r.is in

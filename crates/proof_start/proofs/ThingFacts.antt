@@ -1,6 +1,6 @@
 -- The things of a policy, and how many bytes each has at the start.
 use Rattle.std.proofs.Common.{◌≡◌, ℕ, zero, suc, ◌-◌, ◌≤◌, Bool, true, List, [], ◌∷◌, ◌++◌, length, map, Option, Some, sym, ap, subst, ◌∙◌, arith, length-append}
-use Rattle.std.specs.Prelude.{option_and_then, replicate, slice_get}
+use Rattle.std.specs.Prelude.{replicate, slice_get, option_map}
 use Rattle.std.specs.Option.{option_map_or}
 use Rattle.std.specs.List.{find, flat_map, list_any}
 use Rattle.std.specs.Str.{bytes_eq}
@@ -10,7 +10,7 @@ use Rattle.std.proofs.lemmas.List.Folds.{list_any-append}
 use Rattle.muen_num.proofs.Lists.{list_any-map}
 use Rattle.policy_lawful.proofs.Indexes.{same_self}
 use Rattle.policy_lawful.specs.Contents.{Held, content_bytes, initial_bytes, padded}
-use Rattle.policy_lawful.specs.Thing.{Thing, channel, component_by, device_memory, provided, provided_by, region, same_thing, things_of}
+use Rattle.policy_lawful.specs.Thing.{Thing, channel, component_by, device_memory, provided, region, same_thing, things_of, Item, channel_item, device_item, item_of, provided_item, region_item}
 use Rattle.policy_types.specs.declared.source.Channel.{Channel}
 use Rattle.policy_types.specs.declared.source.Component.{Component}
 use Rattle.policy_types.specs.declared.source.Content.{Content}
@@ -22,6 +22,7 @@ use Rattle.policy_types.specs.declared.source.Region.{Region}
 use Rattle.policy_types.specs.declared.source.Source.{Source}
 use Rattle.policy_types.specs.declared.source.Subject.{Subject}
 use Rattle.subject_model.proofs.PolicyFacts.{passes_any}
+use Rattle.policy_meaning.proofs.Items.{provided_by, item_of_channel, item_of_device, item_of_provided, item_of_region, things_are}
 
 -- ---- which things there are
 
@@ -48,11 +49,11 @@ module _ (p : Source) where
 
   -- a region of memory is a thing
   pub region_is_thing : (name : List ℕ) → list_any (λ r. bytes_eq r.name name) p.memory ≡ true → list_any (λ x. same_thing x (region name)) (things_of p) ≡ true
-  unfolding things_of
   region_is_thing name h =
       let test : Thing → Bool = λ x. same_thing x (region name) in
       let here : list_any test regions ≡ true = list_any-map test (λ (r : Region). region r.name) p.memory ∙ h in
-      list_any-append test ((regions ++ channels) ++ brought) devices
+      ap (list_any test) (things_are p)
+      ∙ list_any-append test ((regions ++ channels) ++ brought) devices
       ∙ or_left (list_any test ((regions ++ channels) ++ brought)) (list_any test devices)
       (list_any-append test (regions ++ channels) brought
       ∙ or_left (list_any test (regions ++ channels)) (list_any test brought)
@@ -60,11 +61,11 @@ module _ (p : Source) where
 
   -- so is a channel
   pub channel_is_thing : (name : List ℕ) → list_any (λ c. bytes_eq c.name name) p.channels ≡ true → list_any (λ x. same_thing x (channel name)) (things_of p) ≡ true
-  unfolding things_of
   channel_is_thing name h =
       let test : Thing → Bool = λ x. same_thing x (channel name) in
       let here : list_any test channels ≡ true = list_any-map test (λ (c : Channel). channel c.name) p.channels ∙ h in
-      list_any-append test ((regions ++ channels) ++ brought) devices
+      ap (list_any test) (things_are p)
+      ∙ list_any-append test ((regions ++ channels) ++ brought) devices
       ∙ or_left (list_any test ((regions ++ channels) ++ brought)) (list_any test devices)
       (list_any-append test (regions ++ channels) brought
       ∙ or_left (list_any test (regions ++ channels)) (list_any test brought)
@@ -81,18 +82,17 @@ module _ (p : Source) where
   -- so is a region that a component brings along
   pub provided_is_thing : (s : ℕ) (n : Subject) (c : Component) (j : ℕ) (x : Provided) → slice_get p.subjects s ≡ Some n → component_by p n.component ≡ Some c → slice_get c.provides j ≡ Some x
       → list_any (λ y. same_thing y (provided n.name x.logical)) (things_of p) ≡ true
-  unfolding things_of
   provided_is_thing s n c j x at is in_it =
       let test : Thing → Bool = λ y. same_thing y (provided n.name x.logical) in
       let here : list_any test brought ≡ true = any_flat test (λ (s : Subject). provided_by s.name (component_by p s.component)) p.subjects s n at (any_provided n.name (component_by p n.component) c j x is in_it) in
-      list_any-append test ((regions ++ channels) ++ brought) devices
+      ap (list_any test) (things_are p)
+      ∙ list_any-append test ((regions ++ channels) ++ brought) devices
       ∙ or_left (list_any test ((regions ++ channels) ++ brought)) (list_any test devices)
       (list_any-append test (regions ++ channels) brought ∙ or_right (list_any test (regions ++ channels)) (list_any test brought) here)
 
   -- so is memory of a device
   pub device_is_thing : (k : ℕ) (d : Device) (j : ℕ) (m : DeviceMemory) → slice_get p.devices k ≡ Some d → slice_get d.memory j ≡ Some m
       → list_any (λ y. same_thing y (device_memory d.name m.name)) (things_of p) ≡ true
-  unfolding things_of
   device_is_thing k d j m at in_it =
       let test : Thing → Bool = λ y. same_thing y (device_memory d.name m.name) in
       let of_device : list_any test (map (λ m. device_memory d.name m.name) d.memory) ≡ true =
@@ -100,7 +100,7 @@ module _ (p : Source) where
       ∙ passes_any (λ y. same_thing (device_memory d.name y.name) (device_memory d.name m.name)) d.memory j m in_it
       (and_from (bytes_eq d.name d.name) (bytes_eq m.name m.name) (same_self d.name) (same_self m.name)) in
       let here : list_any test devices ≡ true = any_flat test (λ (d : Device). map (λ m. device_memory d.name m.name) d.memory) p.devices k d at of_device in
-      list_any-append test ((regions ++ channels) ++ brought) devices ∙ or_right (list_any test ((regions ++ channels) ++ brought)) (list_any test devices) here
+      ap (list_any test) (things_are p) ∙ list_any-append test ((regions ++ channels) ++ brought) devices ∙ or_right (list_any test ((regions ++ channels) ++ brought)) (list_any test devices) here
 
 -- ---- how many bytes each has
 
@@ -121,33 +121,25 @@ content_long files size (Inline bytes) = padded_long size bytes
 content_long files size (File name offset most) = padded_long size _
 
 module _ (p : Source) (files : Held) where
-  pub region_long : (name : List ℕ) (r : Region) → find (λ r. bytes_eq r.name name) p.memory ≡ Some r → r.size ≤ length (initial_bytes p files (region name))
+  item_long : (x : Thing) (i : Item) → item_of p x ≡ Some i → i.size ≤ length (initial_bytes p files x)
   unfolding initial_bytes
+  item_long x i is =
+      subst (λ o. i.size ≤ length {A = ℕ} (option_map_or (λ (i : Item). content_bytes files i.size i.content) o [])) (sym is) (content_long files i.size i.content)
+
+  pub region_long : (name : List ℕ) (r : Region) → find (λ r. bytes_eq r.name name) p.memory ≡ Some r → r.size ≤ length (initial_bytes p files (region name))
   region_long name r is =
-      subst (λ o. r.size ≤ length {A = ℕ} (option_map_or (λ (r : Region). content_bytes files r.size r.content) o [])) (sym is) (content_long files r.size r.content)
+      item_long (region name) (region_item r) (item_of_region p name ∙ ap (option_map region_item) is)
 
   pub channel_long : (name : List ℕ) (c : Channel) → find (λ c. bytes_eq c.name name) p.channels ≡ Some c → c.size ≤ length (initial_bytes p files (channel name))
-  unfolding initial_bytes
   channel_long name c is =
-      subst (λ o. c.size ≤ length {A = ℕ} (option_map_or (λ (c : Channel). replicate c.size 0) o [])) (sym is) (zeros_long c.size 0)
-
-  provided_found : (logical : List ℕ) (s : Option Subject) (n : Subject) (c : Component) (x : Provided) → s ≡ Some n → component_by p n.component ≡ Some c → find (λ y. bytes_eq y.logical logical) c.provides ≡ Some x
-      → option_and_then (λ s. option_and_then (λ c. find (λ x. bytes_eq x.logical logical) c.provides) (component_by p s.component)) s ≡ Some x
-  provided_found logical s n c x is used found =
-      ap (option_and_then (λ (s : Subject). option_and_then (λ (c : Component). find (λ x. bytes_eq x.logical logical) c.provides) (component_by p s.component))) is
-      ∙ ap (option_and_then (λ (c : Component). find (λ x. bytes_eq x.logical logical) c.provides)) used
-      ∙ found
+      item_long (channel name) (channel_item c) (item_of_channel p name ∙ ap (option_map channel_item) is)
 
   pub provided_long : (subject logical : List ℕ) (n : Subject) (c : Component) (x : Provided) → find (λ s. bytes_eq s.name subject) p.subjects ≡ Some n → component_by p n.component ≡ Some c → find (λ y. bytes_eq y.logical logical) c.provides ≡ Some x
       → x.size ≤ length (initial_bytes p files (provided subject logical))
-  unfolding initial_bytes
   provided_long subject logical n c x is used found =
-      subst (λ o. x.size ≤ length {A = ℕ} (option_map_or (λ (x : Provided). content_bytes files x.size x.content) o []))
-      (sym (provided_found logical (find (λ s. bytes_eq s.name subject) p.subjects) n c x is used found)) (content_long files x.size x.content)
+      item_long (provided subject logical) (provided_item n.name x) (item_of_provided p subject logical n c x is used found)
 
   pub device_long : (device name : List ℕ) (d : Device) (m : DeviceMemory) → find (λ d. bytes_eq d.name device) p.devices ≡ Some d → find (λ m. bytes_eq m.name name) d.memory ≡ Some m
       → m.size ≤ length (initial_bytes p files (device_memory device name))
-  unfolding initial_bytes
   device_long device name d m is found =
-      subst (λ o. m.size ≤ length {A = ℕ} (option_map_or (λ (m : DeviceMemory). replicate m.size 0) o []))
-      (sym (ap (option_and_then (λ (d : Device). find (λ m. bytes_eq m.name name) d.memory)) is ∙ found)) (zeros_long m.size 0)
+      item_long (device_memory device name) (device_item d.name m) (item_of_device p device name d m is found)

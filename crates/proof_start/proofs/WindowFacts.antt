@@ -15,6 +15,7 @@ use Rattle.muen_num.specs.declared.access.AccessKind.{AccessKind}
 use Rattle.muen_num.specs.declared.limits.TheConstants.{GUEST_END}
 use Rattle.policy_lawful.proofs.KeptAddresses.{addresses_kept}
 use Rattle.policy_lawful.proofs.Indexes.{same_self}
+use Rattle.policy_lawful.proofs.KeptRules.{rules_of}
 use Rattle.policy_lawful.proofs.UniqueNames.{logical_unique, unique_parts}
 use Rattle.policy_lawful.specs.Domains.{is_monitor, monitor_offence, offence_24}
 use Rattle.policy_lawful.specs.Lawful.{IsLawful}
@@ -199,7 +200,7 @@ module _ (p : Source) (lawful : IsLawful p) (s : ℕ) (n : Subject) (at : slice_
   on_provided : (c : Component) (j : ℕ) (x : Provided) → component_by p n.component ≡ Some c → slice_get c.provides j ≡ Some x → IsOnThing p (window x.virtual_address x.size x.rights (provided n.name x.logical))
   on_provided c j x used in_it =
       let index = component_index p n.component c used in
-      let names = provided_names c (logical_unique p index.0 c lawful.rule_1 index.1) in
+      let names = provided_names c (logical_unique p index.0 c (rules_of lawful).rule_1 index.1) in
       record {
         declared = provided_is_thing p s n c j x at used in_it;
         bytes = λ files. provided_long p files n.name x.logical n c x (found_again p lawful s n at) used (found_by_name (λ (y : Provided). y.logical) c.provides names j x in_it);
@@ -236,7 +237,7 @@ module _ (p : Source) (lawful : IsLawful p) (s : ℕ) (n : Subject) (at : slice_
 
   monitors_kept : monitor_offence p n ≡ None
   unfolding offence_24
-  monitors_kept = none_kept p.subjects s lawful.rule_24 at
+  monitors_kept = none_kept p.subjects s (rules_of lawful).rule_24 at
     where
       none_kept : (ns : List Subject) (k : ℕ) → first_in (monitor_offence p) ns ≡ None → slice_get ns k ≡ Some n → monitor_offence p n ≡ None
       none_kept [] k h e = absurd (cc)
@@ -285,7 +286,7 @@ module _ (p : Source) (lawful : IsLawful p) (s : ℕ) (n : Subject) (at : slice_
   pub windows_aligned : list_all (λ w. w.guest % 4096 == 0) (windows_of p n) ≡ true
   unfolding window_extents
   windows_aligned =
-      let all = passes_at (λ s. list_all (λ e. is_guest e.address e.size) (window_extents p s)) p.subjects s n (addresses_kept p lawful.rule_4).windows at in
+      let all = passes_at (λ s. list_all (λ e. is_guest e.address e.size) (window_extents p s)) p.subjects s n (addresses_kept p (rules_of lawful).rule_4).windows at in
       each_from (λ (w : Window Thing). is_guest w.guest w.size) (λ w. w.guest % 4096 == 0)
       (λ w h. (and_parts (is_page_aligned w.guest) (is_page_size w.size) (and_parts (is_page_aligned w.guest && is_page_size w.size) (nat_le (w.guest + w.size) GUEST_END) h).0).0)
       (windows_of p n)

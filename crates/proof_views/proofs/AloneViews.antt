@@ -15,6 +15,7 @@ use Rattle.muen_num.specs.Range.{numbers_below}
 use Rattle.policy_lawful.proofs.KeptCpus.{cpus_kept}
 use Rattle.policy_lawful.proofs.KeptMajors.{MajorsKept, majors_kept}
 use Rattle.policy_lawful.proofs.KeptMembers.{MembersKept, members_kept}
+use Rattle.policy_lawful.proofs.KeptRules.{rules_of}
 use Rattle.policy_lawful.specs.Lawful.{IsLawful}
 use Rattle.policy_lawful.specs.Contents.{Held}
 use Rattle.policy_lawful.specs.Frames.{frames_of}
@@ -169,18 +170,18 @@ started_own p s is files =
 module _ (p : Source) (s : Subject) (is : subject_named p s.name ≡ Some s) (none : is_altered p s ≡ false) (lawful : IsLawful p) (files : Held) (r : DeviceRecord) (orders : AllByRecursion (λ (e : ℕ × List ℕ). NamesEachOnce p.processor.logical_cpus e.1) r.orders) where
   own_number : s.cpu < p.processor.logical_cpus
   own_number =
-      ltb-true s.cpu p.processor.logical_cpus (found_among (λ q. bytes_eq q.name s.name) (λ q. nat_lt q.cpu p.processor.logical_cpus) p.subjects s is (cpus_kept p lawful.rule_3).subjects)
+      ltb-true s.cpu p.processor.logical_cpus (found_among (λ q. bytes_eq q.name s.name) (λ q. nat_lt q.cpu p.processor.logical_cpus) p.subjects s is (cpus_kept p (rules_of lawful).rule_3).subjects)
 
   abbrev alone_after : ℕ → OwnState
   alone_after n = alone_to (own_of p s) (reaching_at p files r s) n (started_alone s)
 
   in_tick : (n : ℕ) (mine : OwnState) → IsOwn s (run_to (system p) (inputs_at r) (order_at p r) n (start_of p files)).state mine
-      → IsAloneIn p s is none (majors_kept p lawful.rule_16) (members_kept p lawful.rule_17) n (reaching_at p files r s n) mine (through s.cpu (order_at p r n)) (order_at p r n) (begun (system p) n (inputs_at r n) (run_to (system p) (inputs_at r) (order_at p r) n (start_of p files)).state)
+      → IsAloneIn p s is none (majors_kept p (rules_of lawful).rule_16) (members_kept p (rules_of lawful).rule_17) n (reaching_at p files r s n) mine (through s.cpu (order_at p r n)) (order_at p r n) (begun (system p) n (inputs_at r n) (run_to (system p) (inputs_at r) (order_at p r) n (start_of p files)).state)
   in_tick n mine h =
       let y = begun (system p) n (inputs_at r n) (run_to (system p) (inputs_at r) (order_at p r) n (start_of p files)).state in
       let there = orders_there p (find (λ e. e.0 == n) r.orders) (found (λ (e : ℕ × List ℕ). NamesEachOnce p.processor.logical_cpus e.1) (λ e. e.0 == n) r.orders orders) s.cpu own_number in
-      in_turns p s is none (majors_kept p lawful.rule_16) (members_kept p lawful.rule_17) n (order_at p r n) y mine
-      (begun_listed p files (members_kept p lawful.rule_17) (inputs_at r) (order_at p r) n)
+      in_turns p s is none (majors_kept p (rules_of lawful).rule_16) (members_kept p (rules_of lawful).rule_17) n (order_at p r n) y mine
+      (begun_listed p files (members_kept p (rules_of lawful).rule_17) (inputs_at r) (order_at p r) n)
       (begun_stays p s n (inputs_at r n) (run_to (system p) (inputs_at r) (order_at p r) n (start_of p files)).state mine h) there.0 there.1
 
   run_alone : (n : ℕ) → IsOwn s (run_to (system p) (inputs_at r) (order_at p r) n (start_of p files)).state (alone_after n)

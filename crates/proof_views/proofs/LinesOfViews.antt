@@ -11,6 +11,7 @@ use Rattle.std.proofs.lemmas.List.Folds.{list_any-append}
 use Rattle.muen_num.specs.Range.{numbers_below}
 use Rattle.policy_lawful.proofs.KeptMajors.{MajorsKept, majors_kept}
 use Rattle.policy_lawful.proofs.KeptMembers.{MembersKept, members_kept}
+use Rattle.policy_lawful.proofs.KeptRules.{rules_of}
 use Rattle.policy_lawful.specs.Lawful.{IsLawful}
 use Rattle.policy_lawful.specs.Contents.{Held}
 use Rattle.policy_types.specs.declared.source.Source.{Source}
@@ -131,4 +132,4 @@ pub lines_of_views : (p : Source) (files : Held) (r : DeviceRecord) (s : Subject
     → lines_of s.name (run_of p files r).lines ≡ filter_map (λ v. v.line) (view_of p files r s)
 unfolding run_of view_of
 lines_of_views p files r s lawful is once =
-    lines_to p (majors_kept p lawful.rule_16) (members_kept p lawful.rule_17) s is files r (recursion_from_All (λ (e : ℕ × List ℕ). IsTrue (are_distinct e.1)) r.orders once) r.end
+    lines_to p (majors_kept p (rules_of lawful).rule_16) (members_kept p (rules_of lawful).rule_17) s is files r (recursion_from_All (λ (e : ℕ × List ℕ). IsTrue (are_distinct e.1)) r.orders once) r.end

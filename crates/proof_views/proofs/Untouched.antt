@@ -10,7 +10,7 @@ use Rattle.std.proofs.lemmas.Slice.Eq.{bytes_eq-Decides}
 use Rattle.guest_isa.specs.Step.{Answer, Stored, step}
 use Rattle.guest_isa.specs.declared.reach.Reach.TheVariants.{Reached}
 use Rattle.muen_num.specs.declared.access.AccessKind.TheVariants.{Write}
-use Rattle.policy_lawful.specs.Thing.{Thing, channel, component_by, device_memory, provided, provided_by, region, same_thing, state, things_of}
+use Rattle.policy_lawful.specs.Thing.{Thing, channel, component_by, device_memory, provided, region, same_thing, state, things_of}
 use Rattle.policy_lawful.specs.Windows.{Access, Window, access_by, access_of, byte, channel_window, component_channel_window, component_windows, device_window, entry_of, holds, monitor_window, region_window, required_window, role_rights, violation, window, windows_of}
 use Rattle.policy_types.specs.Rights.{allows}
 use Rattle.policy_types.specs.declared.rights.Rights.{Rights}
@@ -39,6 +39,7 @@ use Rattle.subject_model.proofs.KeyLaws.{same_things}
 use Rattle.guest_isa.proofs.StepLaws.{step_stored}
 use Rattle.muen_num.proofs.Each.{chained, each_append, each_flat, each_map, each_some, found, mapped}
 use Rattle.proof_views.specs.AloneRun.{alters, is_altered}
+use Rattle.policy_meaning.proofs.Items.{provided_by, things_are}
 
 -- it is the state page of no subject
 abbrev pub NoPage : Thing → Type 0
@@ -59,20 +60,20 @@ no_provided name None = tt
 no_provided name (Some c) = each_map NoPage (λ (x : Provided). provided name x.logical) (λ x n e. cc (e)) c.provides
 
 things_no_page : (p : Source) → AllByRecursion NoPage (things_of p)
-unfolding things_of
 things_no_page p =
     let regions = map (λ (r : Region). region r.name) p.memory in
     let channels = map (λ (c : Channel). channel c.name) p.channels in
     let brought = flat_map (λ (s : Subject). provided_by s.name (component_by p s.component)) p.subjects in
     let devices = flat_map (λ (d : Device). map (λ (m : DeviceMemory). device_memory d.name m.name) d.memory) p.devices in
-    each_append NoPage (regions ++ channels ++ brought) devices
+    subst (AllByRecursion NoPage) (sym (things_are p))
+    (each_append NoPage (regions ++ channels ++ brought) devices
     (each_append NoPage (regions ++ channels) brought
     (each_append NoPage regions channels
     (each_map NoPage (λ (r : Region). region r.name) (λ r n e. cc (e)) p.memory)
     (each_map NoPage (λ (c : Channel). channel c.name) (λ c n e. cc (e)) p.channels))
     (each_flat NoPage (λ (s : Subject). provided_by s.name (component_by p s.component)) (λ s. no_provided s.name (component_by p s.component)) p.subjects))
     (each_flat NoPage (λ (d : Device). map (λ (m : DeviceMemory). device_memory d.name m.name) d.memory)
-    (λ d. each_map NoPage (λ (m : DeviceMemory). device_memory d.name m.name) (λ m n e. cc (e)) d.memory) p.devices)
+    (λ d. each_map NoPage (λ (m : DeviceMemory). device_memory d.name m.name) (λ m n e. cc (e)) d.memory) p.devices))
 
 none_same : (name : List ℕ) (xs : List Thing) → AllByRecursion NoPage xs → list_any (λ y. same_thing y (state name)) xs ≡ false
 none_same name [] h = refl

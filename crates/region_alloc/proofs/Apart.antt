@@ -14,10 +14,11 @@ use Rattle.expand_kernel.specs.declared.region.Region.{Region}
 use Rattle.muen_num.proofs.Lists.{found}
 use Rattle.muen_num.proofs.NumbersBelow.{length_numbers}
 use Rattle.muen_num.specs.Range.{numbers_below}
+use Rattle.policy_lawful.specs.Ranges.{in_a_block}
 use Rattle.policy_lawful.specs.Resolution.{Resolution, source_of}
 use Rattle.policy_types.specs.declared.source.Block.{Block}
 use Rattle.region_alloc.specs.Placed.{AreDisjoint, AreInside, IsPlaced}
-use Rattle.region_alloc.specs.Placement.{address_in, by_number, in_a_block, in_turn, placed_after, placement_in, placement_of}
+use Rattle.region_alloc.specs.Placement.{address_in, by_number, in_turn, placed_after, placement_in, placement_of}
 use Rattle.region_alloc.specs.declared.spot.Spot.{Spot}
 use Rattle.region_alloc.proofs.EachInTurn.{each_from_turns, each_in_turn, each_numbered, numbered_at}
 use Rattle.region_alloc.proofs.Sized.{placement_is}

@@ -9,9 +9,10 @@ use Rattle.muen_num.proofs.Lists.{list_any-map}
 use Rattle.policy_types.specs.declared.source.Block.{Block}
 use Rattle.expand_kernel.specs.declared.region.Region.{Region}
 use Rattle.region_alloc.specs.Gaps.{gap_of, has_room, holds, remaining_of, some_gap}
-use Rattle.region_alloc.specs.Placement.{in_a_block, is_apart, is_room, suits}
+use Rattle.region_alloc.specs.Placement.{is_apart, is_room, suits}
 use Rattle.region_alloc.specs.declared.gaps.Gap.{Gap}
 use Rattle.region_alloc.specs.declared.spot.Spot.{Spot}
+use Rattle.policy_lawful.specs.Ranges.{in_a_block}
 
 -- some gap holds so many bytes from the address on
 abbrev pub is_free : List Gap → ℕ → ℕ → Bool

@@ -7,11 +7,12 @@ use Rattle.expand_kernel.specs.declared.region.Region.{Region}
 use Rattle.muen_num.specs.declared.limits.TheConstants.{PHYSICAL_END}
 use Rattle.policy_types.specs.declared.source.Block.{Block}
 use Rattle.region_alloc.specs.Gaps.{IsLeast, has_room}
-use Rattle.region_alloc.specs.Placement.{in_a_block, is_apart, is_room, lowest, suits}
+use Rattle.region_alloc.specs.Placement.{is_apart, is_room, lowest, suits}
 use Rattle.region_alloc.specs.declared.gaps.Gap.{Gap}
 use Rattle.region_alloc.specs.declared.spot.Spot.{Spot}
 use Rattle.region_alloc.proofs.Carving.{AreRemaining, room_is}
 use Rattle.region_alloc.proofs.Least.{least_is, least_same}
+use Rattle.policy_lawful.specs.Ranges.{in_a_block}
 
 abbrev pub ends_well : Block → Type 0
 ends_well b = b.physical_address + b.size ≤ PHYSICAL_END

@@ -1,12 +1,12 @@
 -- The blocks of a lawful policy end where physical memory does, and each of its regions has bytes and an alignment.
-use Rattle.std.proofs.Common.{◌≡◌, ℕ, ◌<◌, inl, inr, Bool, true, All, List, [], ◌∷◌, map, Option, Some, None, refl, ap, arith}
+use Rattle.std.proofs.Common.{◌≡◌, ℕ, ◌<◌, inl, inr, Bool, true, All, List, [], ◌∷◌, map, Option, Some, None, refl, ap, arith, sym, subst}
 use Rattle.std.specs.Prelude.{◌&&◌, ◌==◌, nat_lt}
 use Rattle.std.specs.List.{flat_map, list_all}
 use Rattle.std.specs.Str.{bytes_eq}
 use Rattle.std.proofs.lemmas.Bool.{and_parts, eqb-true, leb-true, ltb-true, or_cases}
 use Rattle.std.proofs.lemmas.List.Elements.{All-append, All-cons, All-from_recursion, All-map, All-nil}
 use Rattle.ept_emit.specs.Pages.{ept_pages}
-use Rattle.expand_kernel.specs.Regions.{channel_region, kernel_regions, kernel_regions_of, window_range, own_region, provided_region, provided_regions, regions_of}
+use Rattle.expand_kernel.specs.Regions.{kernel_regions, kernel_regions_of, window_range, regions_of}
 use Rattle.muen_num.proofs.Lists.{found_among}
 use Rattle.muen_num.proofs.SearchLaws.{all_none, all_pass, none_both}
 use Rattle.muen_num.specs.Search.{first_in, unless}
@@ -17,6 +17,7 @@ use Rattle.policy_lawful.specs.Resolution.{Resolution, source_of}
 use Rattle.policy_lawful.specs.Rules.{component_offence, is_alignment, is_fixed, is_guest, is_laid, is_page_aligned, is_page_size, is_physical, offence_4}
 use Rattle.policy_lawful.specs.Thing.{component_by}
 use Rattle.policy_lawful.specs.Windows.{windows_of}
+use Rattle.policy_lawful.proofs.KeptRules.{rules_of}
 use Rattle.policy_types.specs.declared.source.Block.{Block}
 use Rattle.policy_types.specs.declared.source.Channel.{Channel}
 use Rattle.policy_types.specs.declared.source.Component.{Component}
@@ -28,6 +29,8 @@ use Rattle.policy_types.specs.declared.source.Subject.{Subject}
 use Rattle.region_alloc.specs.Placement.{no_room, no_room_for, placement_in, placement_of}
 use Rattle.region_alloc.proofs.Lowest.{ends_well}
 use Rattle.region_alloc.proofs.Placing.{IsSized}
+use Rattle.expand_kernel.specs.ByIndex.{channel_region, own_region, provided_region, provided_regions}
+use Rattle.expand_kernel.proofs.ByKind.{regions_are}
 
 all_from : {X : Type 0} (p : X → Bool) (P : X → Type 0) → ((x : X) → p x ≡ true → P x) → (xs : List X) → list_all p xs ≡ true → All P xs
 all_from p P h [] k = All-nil P
@@ -98,7 +101,7 @@ kernel_sized_of p s = kernel_sized s.name (ept_pages (map window_range (windows_
 -- ---- all
 
 pub regions_sized : (p : Source) → offence_4 p ≡ None → All IsSized (regions_of p)
-unfolding offence_4 regions_of
+unfolding offence_4
 regions_sized p h =
     let blocks = none_both (first_in (λ b. unless (is_physical b.physical_address b.size) (alone b.name)) p.memory_blocks) _ h in
     let devices = none_both (first_in (λ d. first_in (λ m. unless (is_physical m.physical_address m.size) (two d.name m.name)) d.memory) p.devices) _ blocks.1 in
@@ -110,16 +113,17 @@ regions_sized p h =
     let ends = All-map IsSized channel_region p.channels (all_from (λ c. is_page_size c.size) (λ c. IsSized (channel_region c)) sized_channel p.channels (all_pass (λ c. is_page_size c.size) (λ c. alone c.name) p.channels channels.0)) in
     let provided = all_flat IsSized (λ s. provided_regions s.name (component_by p s.component)) (λ s. provided_sized s.name (component_by p s.component) (used_brings p s.component brought)) p.subjects in
     let kernel = all_flat IsSized (kernel_regions_of p) (kernel_sized_of p) p.subjects in
-    All-append IsSized _ (flat_map (kernel_regions_of p) p.subjects)
+    subst (All IsSized) (sym (regions_are p))
+    (All-append IsSized _ (flat_map (kernel_regions_of p) p.subjects)
     (All-append IsSized _ (flat_map (λ s. provided_regions s.name (component_by p s.component)) p.subjects)
     (All-append IsSized (map own_region p.memory) (map channel_region p.channels) own ends) provided)
-    kernel
+    kernel)
 
 pub blocks_end : (r : Resolution) → IsLawful (source_of r) → All ends_well r.memory_blocks
 unfolding offence_4 source_of
 blocks_end r h =
     let p = source_of r in
-    let blocks = none_both (first_in (λ b. unless (is_physical b.physical_address b.size) (alone b.name)) p.memory_blocks) _ h.rule_4 in
+    let blocks = none_both (first_in (λ b. unless (is_physical b.physical_address b.size) (alone b.name)) p.memory_blocks) _ (rules_of h).rule_4 in
     all_from (λ b. is_physical b.physical_address b.size) ends_well physical_end p.memory_blocks
     (all_pass (λ b. is_physical b.physical_address b.size) (λ b. alone b.name) p.memory_blocks blocks.0)
 

@@ -4,9 +4,10 @@ use Rattle.std.specs.List.{AllZip}
 use Rattle.expand_kernel.specs.Expansion.{Expansion, IsExpansion}
 use Rattle.expand_kernel.specs.declared.region.Region.{Region}
 use Rattle.policy_lawful.specs.Lawful.{IsLawful}
+use Rattle.policy_lawful.specs.Ranges.{in_a_block}
 use Rattle.policy_lawful.specs.Resolution.{IsResolved, source_of}
 use Rattle.policy_types.specs.declared.source.Block.{Block}
-use Rattle.region_alloc.specs.Placement.{in_a_block, placement_of}
+use Rattle.region_alloc.specs.Placement.{placement_of}
 
 pub record Placement : Type 0 where
   pub expanded : Expansion

@@ -1,13 +1,14 @@
 -- Where the regions of a policy are placed in its memory blocks (Muen system policy: physical addresses and alignments; the
 -- order and the choice are this project's own).
-use Rattle.std.specs.Prelude.{ℕ, zero, suc, ◌+◌, ◌%◌, ◌==◌, ◌&&◌, ◌||◌, Bool, true, false, not, List, [], ◌∷◌, ◌++◌, map, filter, length, nat_le, Option, Some, None, Result, Ok, Err, if◌then◌else◌}
+use Rattle.std.specs.Prelude.{ℕ, zero, suc, ◌+◌, ◌%◌, ◌==◌, ◌&&◌, Bool, true, false, not, List, [], ◌∷◌, ◌++◌, map, filter, length, nat_le, Option, Some, None, Result, Ok, Err, if◌then◌else◌}
 use Rattle.std.specs.Option.{option_map_or, option_or}
-use Rattle.std.specs.List.{enumerate_from, find, list_all, list_any}
+use Rattle.std.specs.List.{enumerate_from, find, list_all}
 use Rattle.expand_grants.specs.Ordered.{in_order}
 use Rattle.expand_kernel.specs.Regions.{regions_of}
 use Rattle.expand_kernel.specs.declared.region.Region.{Region}
 use Rattle.muen_num.specs.Range.{numbers_below}
 use Rattle.muen_num.specs.declared.limits.TheConstants.{PHYSICAL_END}
+use Rattle.policy_lawful.specs.Ranges.{in_a_block, share_none}
 use Rattle.policy_types.specs.declared.refusal.Refusal.{Refusal}
 use Rattle.policy_types.specs.declared.refusal.Refusal.TheVariants.{NoRoom}
 use Rattle.policy_types.specs.declared.source.Block.{Block}
@@ -31,13 +32,9 @@ in_turn regions =
 
 -- ---- one region
 
--- so many bytes from an address on lie inside one block
-abbrev pub in_a_block : List Block → ℕ → ℕ → Bool
-in_a_block blocks address size = list_any (λ b. nat_le b.physical_address address && nat_le (address + size) (b.physical_address + b.size)) blocks
-
 -- they share none with what is placed
 abbrev pub is_apart : List Spot → ℕ → ℕ → Bool
-is_apart spots address size = list_all (λ q. nat_le (address + size) q.address || nat_le (q.address + q.size) address) spots
+is_apart spots address size = list_all (λ q. share_none address (address + size) q.address (q.address + q.size)) spots
 
 -- the address is the region's own, where it has one, and else a multiple of its alignment
 abbrev pub suits : Region → Option ℕ → ℕ → Bool

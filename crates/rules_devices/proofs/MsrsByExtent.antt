@@ -3,7 +3,6 @@ use Rattle.std.proofs.Common.{◌≡◌, ℕ, zero, suc, ◌+◌, ◌-◌, ◌<�
 use Rattle.std.specs.Prelude.{◌||◌, ◌&&◌, nat_lt, nat_le}
 use Rattle.std.specs.List.{list_all, AllPairs}
 use Rattle.std.proofs.lemmas.Bool.{and_parts, and_from, leb-true, lt-ltb, or_cases}
-use Rattle.std.proofs.lemmas.Bool.Decides.{nat_tests}
 use Rattle.std.proofs.lemmas.List.{length-map, get_or-map}
 use Rattle.muen_num.specs.declared.limits.TheConstants.{HIGH_MSR_FIRST, HIGH_MSR_LAST, LOW_MSR_LAST}
 use Rattle.muen_num.specs.Search.{first_in, unless}
@@ -11,6 +10,7 @@ use Rattle.muen_num.proofs.FirstPair.{pairs_at, pairs_from}
 use Rattle.muen_num.proofs.SearchLaws.{first_over-map, unless_none}
 use Rattle.policy_lawful.specs.MoreRules.{is_msr_range, msrs_apart, offence_11}
 use Rattle.policy_lawful.specs.Offences.{alone, two}
+use Rattle.policy_lawful.specs.Ranges.{share_none}
 use Rattle.policy_lawful.specs.Resolution.{Resolution, source_of, subject_named}
 use Rattle.policy_lawful.specs.Rules.{are_apart, overlapping, first_overlap}
 use Rattle.policy_lawful.specs.declared.offence.Offence.{Offence}
@@ -37,18 +37,18 @@ pub msrs_sized : (name : List ℕ) (xs : List Msrs) → list_all (λ e. nat_lt 0
 msrs_sized name [] = refl
 msrs_sized name (x ∷ xs) = and_from _ _ (sized name x) (msrs_sized name xs)
 
-below : (a b n : ℕ) → a ≤ b → b ≤ HIGH_MSR_LAST → nat_le (a + min 18446744073709551615 (b - a + 1)) n ≡ nat_lt b n
+below : (a b n : ℕ) → a ≤ b → b ≤ HIGH_MSR_LAST → nat_le (a + min 18446744073709551615 (b - a + 1)) n ≡ nat_le (b + 1) n
 below a b n l most =
     let e : a + min 18446744073709551615 (b - a + 1) ≡ b + 1 = omega arith in
-    ap (λ m. nat_le m n) e ∙ grind (arith, nat_tests)
+    ap (λ m. nat_le m n) e
 
 abbrev apart : Msrs → Msrs → Bool
-apart x y = nat_lt x.end y.start || nat_lt y.end x.start
+apart x y = share_none x.start (x.end + 1) y.start (y.end + 1)
 
 apart_same : (name : List ℕ) (x y : Msrs) → is_msr_range x ≡ true → is_msr_range y ≡ true → are_apart (msr_extent name x) (msr_extent name y) ≡ apart x y
 apart_same name x y a b =
     ap (λ t. t || nat_le (y.start + min 18446744073709551615 (y.end - y.start + 1)) x.start) (below x.start x.end y.start (in_order x a) (ends_low x a))
-    ∙ ap (λ t. nat_lt x.end y.start || t) (below y.start y.end x.start (in_order y b) (ends_low y b))
+    ∙ ap (λ t. nat_le (x.end + 1) y.start || t) (below y.start y.end x.start (in_order y b) (ends_low y b))
 
 -- ---- of all
 
@@ -65,14 +65,14 @@ pairs_apart : (xs : List Msrs) → msrs_apart xs ≡ true → AllPairs (λ x y. 
 pairs_apart [] h i j d l m = absurd (omega arith)
 pairs_apart (x ∷ xs) h i zero d l m = absurd (omega arith)
 pairs_apart (x ∷ xs) h zero (suc j) d l m =
-    each_at (λ y. nat_lt x.end y.start || nat_lt y.end x.start) xs j d (and_parts (list_all (λ y. nat_lt x.end y.start || nat_lt y.end x.start) xs) (msrs_apart xs) h).0 (omega arith)
+    each_at (apart x) xs j d (and_parts (list_all (apart x) xs) (msrs_apart xs) h).0 (omega arith)
 pairs_apart (x ∷ xs) h (suc i) (suc j) d l m =
-    pairs_apart xs (and_parts (list_all (λ y. nat_lt x.end y.start || nat_lt y.end x.start) xs) (msrs_apart xs) h).1 i j d (omega arith) (omega arith)
+    pairs_apart xs (and_parts (list_all (apart x) xs) (msrs_apart xs) h).1 i j d (omega arith) (omega arith)
 
 apart_pairs : (xs : List Msrs) → AllPairs (λ x y. apart x y ≡ true) xs → msrs_apart xs ≡ true
 apart_pairs [] h = refl
 apart_pairs (x ∷ xs) h =
-    and_from _ _ (each_by (λ y. nat_lt x.end y.start || nat_lt y.end x.start) xs (λ k d l. h 0 (suc k) d (omega arith) (omega arith)))
+    and_from _ _ (each_by (apart x) xs (λ k d l. h 0 (suc k) d (omega arith) (omega arith)))
     (apart_pairs xs (λ i j d l m. h (suc i) (suc j) d (omega arith) (omega arith)))
 
 extent_at : (name : List ℕ) (xs : List Msrs) (k : ℕ) (d : Msrs) → k < length xs → get_or (map (msr_extent name) xs) k (msr_extent name d) ≡ msr_extent name (get_or xs k d)

@@ -61,12 +61,12 @@ sized : (x : Ports) (b : Bool) → is_port_range x ≡ b → nat_lt 0 (port_exte
 sized x true e = ap (nat_lt 0) (size_is x e) ∙ lt-ltb 0 (x.end - x.start + 1) (omega arith)
 sized x false e = ap (λ b. nat_lt 0 (cond b (x.end - x.start + 1) 0)) e
 
-below_same : (a b n : ℕ) → a ≤ b → nat_le (a + (b - a + 1)) n ≡ nat_lt b n
+below_same : (a b n : ℕ) → a ≤ b → nat_le (a + (b - a + 1)) n ≡ nat_le (b + 1) n
 below_same a b n l =
     let e : a + (b - a + 1) ≡ b + 1 = omega arith in
-    ap (λ m. nat_le m n) e ∙ grind (arith, nat_tests)
+    ap (λ m. nat_le m n) e
 
-below : (a b : Ports) → is_port_range a ≡ true → nat_le ((port_extent a).address + (port_extent a).size) (port_extent b).address ≡ nat_lt a.end b.start
+below : (a b : Ports) → is_port_range a ≡ true → nat_le ((port_extent a).address + (port_extent a).size) (port_extent b).address ≡ nat_le (a.end + 1) b.start
 below a b sound =
     let l = leb-true a.start a.end (and_parts (nat_le a.start a.end) (nat_le a.end LAST_PORT) sound).0 in
     ap (λ n. nat_le (a.start + n) b.start) (size_is a sound) ∙ below_same a.start a.end b.start l
@@ -74,7 +74,7 @@ below a b sound =
 apart_same : (b x : Ports) → is_port_range x ≡ true → is_port_range b ≡ true → overlapping (port_extent b) (port_extent x) ≡ unless (ports_apart b x) (two b.name x.name)
 apart_same b x sound other =
     ap (λ t. unless (t || nat_le ((port_extent x).address + (port_extent x).size) (port_extent b).address) (two b.name x.name)) (below b x other)
-    ∙ ap (λ t. unless (nat_lt b.end x.start || t) (two b.name x.name)) (below x b sound)
+    ∙ ap (λ t. unless (nat_le (b.end + 1) x.start || t) (two b.name x.name)) (below x b sound)
 
 -- a range by itself, then against each before it
 abbrev extent_offence : List Extent → Extent → Option Offence

@@ -12,12 +12,12 @@ use Rattle.image_pack.specs.declared.parts.SpanPart.{SpanPart}
 use Rattle.muen_num.specs.declared.limits.TheConstants.{PAGE, PHYSICAL_END}
 use Rattle.policy_types.specs.declared.source.Block.{Block}
 use Rattle.policy_types.specs.declared.source.DeviceMemory.{DeviceMemory}
-use Rattle.region_alloc.specs.Placement.{in_a_block}
 use Rattle.span_emit.specs.Spans.{device_span}
 use Rattle.policy_lawful.proofs.KeptAddresses.{IsPhysical}
 use Rattle.span_emit.proofs.KeptDevices.{AreTwo}
 use Rattle.span_emit.proofs.PairLaws.{pairs_head, pairs_nil, pairs_tail}
 use Rattle.span_emit.proofs.RegionSpans.{AreApart, IsRegionSpan, less_pages}
+use Rattle.policy_lawful.specs.Ranges.{in_a_block}
 
 pub record IsDeviceSpan (s : SpanPart) : Type 0 where
   pub bytes : is_device s.kind ≡ true

@@ -18,7 +18,6 @@ use Rattle.muen_num.specs.declared.limits.TheConstants.{PAGE, PHYSICAL_END}
 use Rattle.policy_types.specs.declared.source.Block.{Block}
 use Rattle.policy_types.specs.declared.source.Device.{Device}
 use Rattle.region_alloc.proofs.Lowest.{ends_well}
-use Rattle.region_alloc.specs.Placement.{in_a_block}
 use Rattle.span_emit.specs.ByAddress.{AreSpansByAddress, HasNames}
 use Rattle.span_emit.specs.Spans.{device_span, device_spans, memories_of, region_spans}
 use Rattle.span_emit.proofs.DeviceSpans.{IsDeviceSpan, beside_regions, device_pages_are, device_spans_apart, device_spans_are, some_block}
@@ -27,6 +26,7 @@ use Rattle.span_emit.proofs.Pages.{no_device_pages, pages_within}
 use Rattle.span_emit.proofs.PairLaws.{ascend, pairs_append, pairs_permuted, pairs_weaker}
 use Rattle.span_emit.proofs.Placed.{IsPlaced}
 use Rattle.span_emit.proofs.RegionSpans.{AreApart, IsRegionSpan, as_many, many_spans, region_spans_apart, region_spans_are}
+use Rattle.policy_lawful.specs.Ranges.{in_a_block}
 
 -- ---- tests that tell two spans apart
 

@@ -1,11 +1,11 @@
 -- Rule 4: the regions of a lawful policy are whole pages, and may be only where pages begin.
-use Rattle.std.proofs.Common.{◌≡◌, ℕ, ◌%◌, inl, inr, true, All, List, [], ◌∷◌, map, Option, Some, None, refl, sym, ap, ◌∙◌, arith}
+use Rattle.std.proofs.Common.{◌≡◌, ℕ, ◌%◌, inl, inr, true, All, List, [], ◌∷◌, map, Option, Some, None, refl, sym, ap, ◌∙◌, arith, subst}
 use Rattle.std.specs.Prelude.{◌&&◌, ◌==◌, nat_lt}
 use Rattle.std.specs.List.{flat_map}
 use Rattle.std.proofs.lemmas.Bool.{and_parts, eqb-true, or_cases}
 use Rattle.std.proofs.lemmas.List.Elements.{All-append, All-from_recursion, All-map, All-nil}
 use Rattle.ept_emit.specs.Pages.{ept_pages}
-use Rattle.expand_kernel.specs.Regions.{channel_region, kernel_regions, kernel_regions_of, window_range, own_region, provided_region, provided_regions, regions_of}
+use Rattle.expand_kernel.specs.Regions.{kernel_regions, kernel_regions_of, window_range, regions_of}
 use Rattle.expand_kernel.specs.declared.region.Region.{Region}
 use Rattle.image_pack.specs.Codes.{is_part, part_code}
 use Rattle.muen_num.specs.declared.limits.TheConstants.{LARGE_PAGE, PAGE}
@@ -22,6 +22,8 @@ use Rattle.region_alloc.specs.Placement.{suits}
 use Rattle.span_emit.specs.Spans.{span_kind}
 use Rattle.span_emit.proofs.PairLaws.{all_from}
 use Rattle.policy_lawful.proofs.KeptAddresses.{addresses_kept, brings, used_brings}
+use Rattle.expand_kernel.specs.ByIndex.{channel_region, own_region, provided_region, provided_regions}
+use Rattle.expand_kernel.proofs.ByKind.{regions_are}
 
 -- a region of whole pages, that is a part which a region of its kind may be, and that may be only where a page begins
 pub record IsWhole (r : Region) : Type 0 where
@@ -99,14 +101,14 @@ kernel_whole_of p s = kernel_whole s.name (ept_pages (map window_range (windows_
 -- ---- all
 
 pub regions_whole : (p : Source) → offence_4 p ≡ None → All IsWhole (regions_of p)
-unfolding regions_of
 regions_whole p h =
     let kept = addresses_kept p h in
     let own = All-map IsWhole own_region p.memory (all_from is_laid (λ r. IsWhole (own_region r)) whole_laid p.memory kept.regions) in
     let ends = All-map IsWhole channel_region p.channels (all_from (λ c. is_page_size c.size) (λ c. IsWhole (channel_region c)) whole_channel p.channels kept.channels) in
     let provided = all_flat IsWhole (λ s. provided_regions s.name (component_by p s.component)) (λ s. provided_whole s.name (component_by p s.component) (used_brings p s.component kept.components)) p.subjects in
     let kernel = all_flat IsWhole (kernel_regions_of p) (kernel_whole_of p) p.subjects in
-    All-append IsWhole _ (flat_map (kernel_regions_of p) p.subjects)
+    subst (All IsWhole) (sym (regions_are p))
+    (All-append IsWhole _ (flat_map (kernel_regions_of p) p.subjects)
     (All-append IsWhole _ (flat_map (λ s. provided_regions s.name (component_by p s.component)) p.subjects)
     (All-append IsWhole (map own_region p.memory) (map channel_region p.channels) own ends) provided)
-    kernel
+    kernel)

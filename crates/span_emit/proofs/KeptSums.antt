@@ -5,7 +5,7 @@ use Rattle.std.specs.Option.{option_map_or}
 use Rattle.std.proofs.lemmas.List.{length-map}
 use Rattle.std.proofs.lemmas.List.Concat.{length-flat_map}
 use Rattle.std.proofs.lemmas.List.Sums.{sum_by-append, sum_by-cons}
-use Rattle.expand_kernel.specs.Regions.{channel_region, kernel_regions_of, own_region, provided_region, provided_regions, regions_of}
+use Rattle.expand_kernel.specs.Regions.{kernel_regions_of, regions_of}
 use Rattle.muen_num.proofs.Lists.{sum_by-map}
 use Rattle.muen_num.specs.declared.limits.TheConstants.{KERNEL_REGIONS, MOST_BLOCK_BYTES, MOST_DEVICE_BYTES, MOST_DEVICE_WINDOWS, MOST_REGIONS}
 use Rattle.policy_lawful.specs.Rules.{offence_20, regions_for}
@@ -17,6 +17,8 @@ use Rattle.policy_types.specs.declared.source.Source.{Source}
 use Rattle.policy_types.specs.declared.source.Subject.{Subject}
 use Rattle.span_emit.specs.Spans.{memories_of}
 use Rattle.policy_lawful.proofs.KeptLimits.{limits_kept}
+use Rattle.expand_kernel.specs.ByIndex.{channel_region, own_region, provided_region, provided_regions}
+use Rattle.expand_kernel.proofs.ByKind.{regions_are}
 
 -- ---- how many regions
 
@@ -42,12 +44,12 @@ sums_for p (s ∷ ss) =
     omega arith
 
 regions_length : (p : Source) → length (regions_of p) ≡ length p.memory + length p.channels + sum_by (regions_for p) p.subjects
-unfolding regions_of
 regions_length p =
     let own = map own_region p.memory in
     let ends = map channel_region p.channels in
     let provided = flat_map (λ s. provided_regions s.name (component_by p s.component)) p.subjects in
     let kernel = flat_map (kernel_regions_of p) p.subjects in
+    let all = ap length (regions_are p) in
     let three = length-append ((own ++ ends) ++ provided) kernel in
     let two = length-append (own ++ ends) provided in
     let one = length-append own ends in

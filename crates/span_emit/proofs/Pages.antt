@@ -11,8 +11,8 @@ use Rattle.image_pack.specs.SpanConditions.{Ascend, device_pages_of, end_of, pag
 use Rattle.image_pack.specs.declared.parts.SpanPart.{SpanPart}
 use Rattle.muen_num.specs.declared.limits.TheConstants.{PAGE}
 use Rattle.policy_types.specs.declared.source.Block.{Block}
-use Rattle.region_alloc.specs.Placement.{in_a_block}
 use Rattle.span_emit.proofs.Room.{in_blocks}
+use Rattle.policy_lawful.specs.Ranges.{in_a_block}
 
 abbrev has_bytes : SpanPart → Bool
 has_bytes s = not (is_device s.kind)

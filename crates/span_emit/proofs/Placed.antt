@@ -22,6 +22,7 @@ use Rattle.span_emit.specs.Spans.{device_spans, memories_of, region_spans}
 use Rattle.span_emit.specs.SpansOf.{spans_of}
 use Rattle.span_emit.proofs.DeviceSpans.{some_block}
 use Rattle.policy_lawful.proofs.KeptAddresses.{IsPhysical}
+use Rattle.policy_lawful.proofs.KeptRules.{rules_of}
 use Rattle.span_emit.proofs.KeptDevices.{AreApart, devices_apart, devices_physical}
 use Rattle.span_emit.proofs.KeptRegions.{IsWhole, regions_whole}
 use Rattle.span_emit.proofs.KeptSums.{sums_kept}
@@ -46,17 +47,17 @@ pub is_placed : (r : Resolution) (regions : List Region) (addresses : List ℕ) 
     → AreInside r.memory_blocks regions addresses → AreDisjoint regions addresses → IsPlaced r.memory_blocks r.devices regions addresses
 unfolding source_of
 is_placed r regions addresses lawful all e inside disjoint =
-    let whole = regions_whole (source_of r) lawful.rule_4 in
-    let sums = sums_kept (source_of r) lawful.rule_20 in
+    let whole = regions_whole (source_of r) (rules_of lawful).rule_4 in
+    let sums = sums_kept (source_of r) (rules_of lawful).rule_20 in
     record {
       whole = subst (All IsWhole) (sym all) whole;
-      sized = subst (All IsSized) (sym all) (regions_sized (source_of r) lawful.rule_4);
+      sized = subst (All IsSized) (sym all) (regions_sized (source_of r) (rules_of lawful).rule_4);
       aligned = addresses_aligned (source_of r) addresses e whole;
       inside = inside;
       disjoint = disjoint;
       ends = blocks_end r lawful;
-      physical = devices_physical (source_of r) lawful.rule_4;
-      apart = devices_apart (source_of r) lawful.rule_18;
+      physical = devices_physical (source_of r) (rules_of lawful).rule_4;
+      apart = devices_apart (source_of r) (rules_of lawful).rule_18;
       few = subst (λ (rs : List Region). length rs ≤ MOST_REGIONS) (sym all) sums.regions;
       block_bytes = sums.block_bytes;
       windows = sums.windows;

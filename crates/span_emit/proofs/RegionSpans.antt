@@ -17,10 +17,10 @@ use Rattle.muen_num.specs.declared.limits.TheConstants.{PAGE}
 use Rattle.policy_types.specs.declared.source.Block.{Block}
 use Rattle.region_alloc.proofs.Placing.{IsSized}
 use Rattle.region_alloc.specs.Placed.{AreDisjoint, AreInside}
-use Rattle.region_alloc.specs.Placement.{in_a_block}
 use Rattle.span_emit.specs.Spans.{region_span, region_spans, span_kind}
 use Rattle.span_emit.proofs.KeptRegions.{IsWhole}
 use Rattle.span_emit.proofs.PairLaws.{pairs_nil}
+use Rattle.policy_lawful.specs.Ranges.{in_a_block}
 
 -- they share no address
 abbrev pub AreApart : SpanPart → SpanPart → Type 0

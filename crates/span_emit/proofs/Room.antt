@@ -8,8 +8,8 @@ use Rattle.std.proofs.lemmas.List.Filters.{sum_by-filter_both}
 use Rattle.std.proofs.lemmas.List.Kept.{AllPairs-filter}
 use Rattle.std.proofs.lemmas.List.Sums.{sum_by-cons}
 use Rattle.policy_types.specs.declared.source.Block.{Block}
-use Rattle.region_alloc.specs.Placement.{in_a_block}
 use Rattle.span_emit.proofs.PairLaws.{pairs_head, pairs_tail}
+use Rattle.policy_lawful.specs.Ranges.{in_a_block}
 
 other_one : (p q : Bool) → (p || q) ≡ true → not p ≡ true → q ≡ true
 other_one true q a b = absurd (cc)

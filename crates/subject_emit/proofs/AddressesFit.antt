@@ -8,13 +8,14 @@ use Rattle.std.proofs.lemmas.Option.{get_or_from_slice_get}
 use Rattle.ept_emit.specs.Pages.{ept_pages}
 use Rattle.expand_grants.specs.Grants.{AreGrantsOf}
 use Rattle.expand_grants.specs.declared.granted.Grants.{Grants}
-use Rattle.expand_kernel.specs.ByIndex.{view_ranges}
+use Rattle.expand_kernel.specs.ByIndex.{channel_region, own_region, provided_region, view_ranges}
 use Rattle.policy_lawful.specs.ByIndex.{provided_at}
-use Rattle.expand_kernel.specs.Regions.{anywhere, channel_region, own_region, provided_region}
+use Rattle.expand_kernel.specs.Regions.{anywhere}
 use Rattle.expand_kernel.specs.declared.region.Region.{Region}
 use Rattle.expand_kernel.specs.declared.region.RegionKind.TheVariants.{Kernel}
 use Rattle.muen_num.specs.declared.limits.TheConstants.{LARGE_PAGE, PAGE, PHYSICAL_END}
 use Rattle.muen_num.specs.declared.tag.TagPart.TheVariants.{State as StatePart, Ept}
+use Rattle.policy_lawful.specs.Ranges.{in_a_block}
 use Rattle.policy_lawful.specs.Rules.{is_alignment, is_fixed, is_laid, is_page_aligned, is_page_size, is_physical}
 use Rattle.policy_lawful.specs.declared.resolved.Subject.{Subject}
 use Rattle.policy_types.specs.declared.source.Block.{Block}
@@ -24,7 +25,7 @@ use Rattle.policy_types.specs.declared.source.Region.{Region as SourceRegion}
 use Rattle.policy_lawful.specs.declared.view.Shown.{Shown}
 use Rattle.policy_lawful.specs.declared.view.Shown.TheVariants.{Memory, Channel, Provided, Device, State}
 use Rattle.region_alloc.specs.Placed.{IsPlaced, Placement}
-use Rattle.region_alloc.specs.Placement.{in_a_block, suits}
+use Rattle.region_alloc.specs.Placement.{suits}
 use Rattle.region_alloc.proofs.Apart.{policy_inside}
 use Rattle.region_alloc.proofs.Lowest.{ends_well}
 use Rattle.region_alloc.proofs.Sized.{blocks_end}

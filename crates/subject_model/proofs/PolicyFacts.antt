@@ -11,6 +11,7 @@ use Rattle.policy_lawful.specs.Lawful.{IsLawful}
 use Rattle.policy_lawful.specs.Resolution.{name_at}
 use Rattle.policy_lawful.specs.Rules.{repeated}
 use Rattle.policy_lawful.proofs.Indexes.{found_at_index, position_is}
+use Rattle.policy_lawful.proofs.KeptRules.{rules_of}
 use Rattle.policy_lawful.proofs.UniqueNames.{unique}
 use Rattle.policy_types.specs.declared.source.Source.{Source}
 use Rattle.policy_types.specs.declared.source.Subject.{Subject}
@@ -76,8 +77,8 @@ module _ {X : Type 0} (f : X → List ℕ) (xs : List X) (names : repeated (map 
 module _ (p : Source) (lawful : IsLawful p) where
   -- two subjects with the same name are the same
   pub names_differ : (s t : ℕ) (n m : Subject) → slice_get p.subjects s ≡ Some n → slice_get p.subjects t ≡ Some m → n.name ≡ m.name → s ≡ t
-  names_differ s t n m at_s at_t same = same_index (λ (x : Subject). x.name) p.subjects (unique p lawful.rule_1).subjects s t n m at_s at_t same
+  names_differ s t n m at_s at_t same = same_index (λ (x : Subject). x.name) p.subjects (unique p (rules_of lawful).rule_1).subjects s t n m at_s at_t same
 
   -- a subject is found by its name
   pub found_again : (s : ℕ) (n : Subject) → slice_get p.subjects s ≡ Some n → subject_named p n.name ≡ Some n
-  found_again s n at = found_by_name (λ (x : Subject). x.name) p.subjects (unique p lawful.rule_1).subjects s n at
+  found_again s n at = found_by_name (λ (x : Subject). x.name) p.subjects (unique p (rules_of lawful).rule_1).subjects s n at

@@ -9,12 +9,13 @@ use Rattle.expand_grants.specs.ByIndex.{fits_device}
 use Rattle.expand_grants.proofs.PortsByIndex.{ports_fit}
 use Rattle.policy_lawful.specs.Lawful.{IsLawful}
 use Rattle.policy_lawful.specs.Resolution.{Resolution, source_of}
+use Rattle.policy_lawful.proofs.KeptRules.{rules_of}
 
 pub device_parts-requires-clause-ports : goal.device_parts-requires-clause-ports
 device_parts-requires-clause-ports c =
     let same = c.resolved-policy.ensures.value ∙ c.lawful.ensures in
     let lawful = subst (λ (r : Resolution). IsLawful (source_of r)) c.lawful.ensures c.resolved-policy.ensures.lawful in
-    ap (list_all fits_device) (c.devices.ensures.value ∙ ap (λ (r : Resolution). r.devices) same) ∙ ports_fit c.args.expanded.now.lawful lawful.rule_10
+    ap (list_all fits_device) (c.devices.ensures.value ∙ ap (λ (r : Resolution). r.devices) same) ∙ ports_fit c.args.expanded.now.lawful (rules_of lawful).rule_10
 
 pub device_parts-requires-clause-routes : goal.device_parts-requires-clause-routes
 device_parts-requires-clause-routes c =

@@ -1,7 +1,6 @@
 use Rattle.std.proofs.Common.{◌++◌, map, ap, ◌∙◌, subst}
 use Rattle.std.specs.List.{flat_map}
-use Rattle.expand_kernel.specs.ByIndex.{brought_at, kernel_for_each}
-use Rattle.expand_kernel.specs.Regions.{channel_region, own_region}
+use Rattle.expand_kernel.specs.ByIndex.{brought_at, channel_region, kernel_for_each, own_region}
 use Rattle.expand_kernel.proofs.Numbering.{can_map_granted, joined_by_index}
 use Rattle.expand_kernel.proofs.expanded.regions_by_number.Goals as goal
 use Rattle.policy_lawful.specs.Resolution.{IsResolved, Resolution}

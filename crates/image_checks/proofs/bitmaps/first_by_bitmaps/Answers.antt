@@ -8,6 +8,7 @@ use Rattle.image_pack.specs.declared.parts.SubjectPart.{SubjectPart}
 use Rattle.image_soundness.specs.Sound.{HasBitmaps}
 use Rattle.policy_lawful.specs.MoreRules.{offence_11}
 use Rattle.policy_lawful.specs.Resolution.{Resolution, source_of}
+use Rattle.policy_lawful.proofs.KeptRules.{rules_of}
 use Rattle.policy_types.specs.declared.source.Subject.{Subject}
 use Rattle.image_checks.proofs.bitmaps.first_by_bitmaps.Goals as goal
 
@@ -19,7 +20,7 @@ returns-then-not-branch c =
     let gs = c.grants-grants.result.now in
     let qs = c.items-parts.result.now in
     let same : qs ≡ i.subjects = c.items-parts.ensures ∙ ap (λ (x : Image). x.subjects) c.image-image.ensures.same in
-    let rule : offence_11 (source_of r) ≡ None = subst (λ (x : Resolution). offence_11 (source_of x) ≡ None) c.lawful.ensures c.resolved.ensures.lawful.rule_11 in
+    let rule : offence_11 (source_of r) ≡ None = subst (λ (x : Resolution). offence_11 (source_of x) ≡ None) c.lawful.ensures (rules_of c.resolved.ensures.lawful).rule_11 in
     let l : k < length gs = omega (arith, c.min-index-end.ensures) in
     let m : k < length qs = omega (arith, c.min-index-end.ensures) in
     let within : k < length (zip (source_of r).subjects i.subjects) = omega (arith, pairs_many r i.subjects, grants_many r gs c.grants-grants.ensures.grants, ap length same) in
@@ -33,7 +34,7 @@ loop-index-preserved c =
     let k = c.loop-index.index in
     let gs = c.grants-grants.result.now in
     let qs = c.items-parts.result.now in
-    let rule : offence_11 (source_of r) ≡ None = subst (λ (x : Resolution). offence_11 (source_of x) ≡ None) c.lawful.ensures c.resolved.ensures.lawful.rule_11 in
+    let rule : offence_11 (source_of r) ≡ None = subst (λ (x : Resolution). offence_11 (source_of x) ≡ None) c.lawful.ensures (rules_of c.resolved.ensures.lawful).rule_11 in
     let l : k < length gs = omega (arith, c.min-index-end.ensures) in
     let m : k < length qs = omega (arith, c.min-index-end.ensures) in
     holds_here (λ (e : Subject × SubjectPart). HasBitmaps (source_of r) i e.0 e.1) (zip (source_of r).subjects i.subjects) k c.in_ok-bitmaps_agree.field-0 c.loop-index.invariant (search rules)

@@ -1,5 +1,5 @@
 use Rattle.std.proofs.Common.{ap, arith, length, get_or, ◌∙◌, rules}
-use Rattle.map_report.specs.MapText.{memory_line}
+use Rattle.map_report.specs.Views.{memory_line}
 use Rattle.muen_outside.proofs.Buffered.{item_exit}
 use Rattle.map_report.proofs.report.put_device.Goals as goal
 

@@ -1,6 +1,6 @@
 use Rattle.std.proofs.Common.{ap, arith, rules}
 use Rattle.std.specs.List.{flat_map}
-use Rattle.map_report.specs.MapText.{memory_line}
+use Rattle.map_report.specs.Views.{memory_line}
 use Rattle.muen_outside.proofs.Buffered.{item_exit}
 use Rattle.map_report.proofs.report.put_devices.Goals as goal
 

@@ -1,7 +1,7 @@
 use Rattle.std.proofs.Common.{take}
 use Rattle.std.specs.List.{flat_map}
 use Rattle.muen_outside.specs.Prints.{Printed}
-use Rattle.map_report.specs.MapText.{memory_line}
+use Rattle.map_report.specs.Views.{memory_line}
 use Rattle.map_report.proofs.report.put_devices.Given as goal
 
 abbrev pub invariant-loop-device : goal.invariant-loop-device

@@ -1,7 +1,7 @@
 use Rattle.std.proofs.Common.{rules}
 use Rattle.std.specs.Prelude.{◌++◌}
-use Rattle.map_report.specs.MapText.{device_lines, region_lines}
-use Rattle.map_report.specs.Views.{all_view_lines}
+use Rattle.map_report.specs.MapText.{region_lines}
+use Rattle.map_report.specs.Views.{all_view_lines, device_lines}
 use Rattle.muen_outside.proofs.Buffered.{given_then, gives_exit, gives_then, lost_after, lost_first}
 use Rattle.map_report.proofs.report.put_map.Goals as goal
 

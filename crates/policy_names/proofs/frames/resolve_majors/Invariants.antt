@@ -3,7 +3,7 @@ use Rattle.std.specs.Prelude.{map, take, drop}
 use Rattle.std.specs.List.{list_all, enumerate_from}
 use Rattle.muen_num.specs.Search.{first_in}
 use Rattle.policy_lawful.specs.Resolution.{major_in_range, major_named}
-use Rattle.policy_lawful.specs.Rules.{frame_references, undeclared}
+use Rattle.policy_lawful.specs.Rules.{frame_references, major_name, undeclared}
 use Rattle.policy_types.specs.declared.source.MajorFrame.{MajorFrame}
 use Rattle.policy_names.specs.Outline.{outline}
 use Rattle.policy_names.proofs.frames.resolve_majors.Given as goal
@@ -11,7 +11,7 @@ use Rattle.policy_names.proofs.frames.resolve_majors.Given as goal
 abbrev pub invariant-loop-index : goal.invariant-loop-index
 invariant-loop-index l =
     let p = l.scope.source.now in
-    let offence = λ (m : ℕ × MajorFrame). first_in undeclared (frame_references p m) in
+    let offence = λ (m : ℕ × MajorFrame). first_in (undeclared (major_name m.0)) (frame_references p m.1) in
     record {
       same : map (major_named (outline p)) l.resolved_majors ≡ take l.index l.majors;
       there : list_all (major_in_range (outline p)) l.resolved_majors ≡ true;

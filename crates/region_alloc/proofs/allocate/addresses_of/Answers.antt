@@ -2,6 +2,7 @@ use Rattle.std.proofs.Common.{subst}
 use Rattle.std.proofs.lemmas.Result.{IfOk-weaker}
 use Rattle.policy_lawful.specs.Lawful.{IsLawful}
 use Rattle.policy_lawful.specs.Resolution.{source_of}
+use Rattle.policy_lawful.proofs.KeptRules.{rules_of}
 use Rattle.region_alloc.proofs.Apart.{placed_so}
 use Rattle.region_alloc.proofs.Sized.{blocks_end, no_room_is, placement_is, regions_sized}
 use Rattle.region_alloc.proofs.allocate.addresses_of.Goals as goal
@@ -13,7 +14,7 @@ addresses_in-requires-clause-blocks c =
 pub addresses_in-requires-clause-regions : goal.addresses_in-requires-clause-regions
 addresses_in-requires-clause-regions c =
     let lawful : IsLawful (source_of c.args.expanded.now.lawful) = subst (λ r. IsLawful (source_of r)) c.lawful.ensures c.resolved-policy.ensures.lawful in
-    rw c.regions.ensures.regions (regions_sized (source_of c.args.expanded.now.lawful) lawful.rule_4)
+    rw c.regions.ensures.regions (regions_sized (source_of c.args.expanded.now.lawful) (rules_of lawful).rule_4)
 
 pub returns-clause-ok : goal.returns-clause-ok
 returns-clause-ok c =
