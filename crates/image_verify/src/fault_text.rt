@@ -14,6 +14,15 @@ pub struct AddressDigits {
     digits: [u8; 16],
 }
 
+// An address in sixteen hexadecimal digits, in lower case.
+fn digits_of(addr: u64) -> [u8; 16]
+    ensures { result ≡ hex16 addr }
+{
+    let mut digits = [0u8; 16];
+    let _ = hex::encode_to_slice(addr.to_be_bytes(), &mut digits);
+    digits
+}
+
 impl AddressDigits {
     pub fn new() -> AddressDigits {
         AddressDigits {
@@ -21,12 +30,11 @@ impl AddressDigits {
         }
     }
 
-    // The address in sixteen hexadecimal digits, in lower case.
-    #[tactic(auto, using(crate::proofs::FaultText::hex_is_text))]
+    // The digits of this address.
     fn format(&mut self, addr: u64) -> &str
         ensures { result.now ≡ hex16 addr }
     {
-        let _ = hex::encode_to_slice(addr.to_be_bytes(), &mut self.digits);
+        self.digits = digits_of(addr);
         str::from_utf8(&self.digits).unwrap()
     }
 }

@@ -16,7 +16,6 @@ use Rattle.muen_build.specs.Reading.{things_read}
 use Rattle.muen_build.proofs.Held.{things_held}
 use Rattle.muen_build.proofs.Refusing.{accepted_so}
 use Rattle.muen_build.proofs.Rooms.{things_filled}
-use Rattle.muen_build.specs.Refusals.{contents_refused}
 
 module _ (x : Placement) (placed : IsPlaced x) where
   -- of its policy, as it is reached
@@ -31,7 +30,6 @@ module _ (x : Placement) (placed : IsPlaced x) where
     pub sound_so : {E : Type 0} (result : Result Image E) → Accepts name (looks_of found) document (source_of x.expanded.lawful)
         → IfOk result (λ i. (files : Store) → things ≡ thing_bytes files x.expanded.lawful → IsSound (source_of x.expanded.lawful) files i)
         → IfOk result (λ i. (files : Store) → ShowAll files (looks_of found) → IsSound (source_of x.expanded.lawful) (insert files name document) i)
-    unfolding contents_refused
     sound_so result accepts sound =
         IfOk-weaker result _ _
         (λ i h files s. h (insert files name document) (things_are ∙ things_held ((name, document) ∷ []) found x.expanded.lawful placed.resolved (λ m t. (accepted_so (insert m name document) document (source_of x.expanded.lawful) (accepts m t)).contents) files s)) sound
