@@ -13,7 +13,7 @@ use Rattle.policy_lawful.specs.declared.resolved.Subject.{Subject}
 use Rattle.policy_lawful.specs.declared.view.Shown.{Shown}
 use Rattle.policy_lawful.specs.declared.view.Shown.TheVariants.{Memory, Channel, Provided, Device, State}
 use Rattle.policy_lawful.specs.declared.view.View.{View}
-use Rattle.policy_types.specs.declared.source.Device.{Device}
+use Rattle.policy_types.specs.declared.source.Device.{Device as SourceDevice}
 use Rattle.policy_types.specs.declared.source.DeviceMemory.{DeviceMemory}
 
 abbrev pub tag : List ℕ → TagPart → Tag
@@ -51,7 +51,7 @@ abbrev pub memory_line : List ℕ → DeviceMemory → List ℕ
 memory_line device m = region_line (codes "device") m.physical_address m.size (tag device (Named m.name))
 
 -- that of all devices
-abbrev pub device_lines : List Device → List ℕ
+abbrev pub device_lines : List SourceDevice → List ℕ
 device_lines devices = flat_map (λ d. flat_map (memory_line d.name) d.memory) devices
 
 -- the whole text, by indexes
