@@ -1,5 +1,5 @@
 -- What `map` prints (this project's own).
-use Rattle.std.specs.Prelude.{ℕ, List, [], ◌++◌, codes, nat_le, Result, Ok, Err, slice_index, if◌then◌else◌}
+use Rattle.std.specs.Prelude.{ℕ, List, [], ◌++◌, codes, nat_le, Result, Ok, Err, slice_index}
 use Rattle.std.specs.List.{enumerate_from, flat_map}
 use Rattle.std.specs.Option.{option_map_or}
 use Rattle.expand_grants.specs.Ordered.{in_order}

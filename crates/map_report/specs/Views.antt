@@ -1,10 +1,10 @@
 -- The lines of windows, by indexes.
-use Rattle.std.specs.Prelude.{ℕ, Bool, true, List, [], ◌++◌, length, nat_lt, slice_get, Option, Some, None, option_map}
+use Rattle.std.specs.Prelude.{ℕ, Bool, true, List, [], ◌++◌, codes, length, nat_lt, slice_get, Option, Some, None, option_map}
 use Rattle.std.specs.Option.{option_map_or}
 use Rattle.std.specs.List.{enumerate_from, flat_map}
 use Rattle.expand_grants.specs.declared.granted.Grants.{Grants}
 use Rattle.expand_kernel.specs.declared.region.Region.{Region}
-use Rattle.map_report.specs.MapText.{device_line, region_lines, window_line}
+use Rattle.map_report.specs.MapText.{region_line, region_lines, window_line}
 use Rattle.muen_num.specs.declared.tag.TagPart.{TagPart}
 use Rattle.muen_num.specs.declared.tag.TagPart.TheVariants.{Named, State as States, Whole}
 use Rattle.muen_num.specs.declared.tag.Tag.{Tag}
@@ -13,8 +13,7 @@ use Rattle.policy_lawful.specs.declared.resolved.Subject.{Subject}
 use Rattle.policy_lawful.specs.declared.view.Shown.{Shown}
 use Rattle.policy_lawful.specs.declared.view.Shown.TheVariants.{Memory, Channel, Provided, Device, State}
 use Rattle.policy_lawful.specs.declared.view.View.{View}
-use Rattle.policy_lawful.specs.Thing.{device_item}
-use Rattle.policy_types.specs.declared.source.Device.{Device}
+use Rattle.policy_types.specs.declared.source.Device.{Device as SourceDevice}
 use Rattle.policy_types.specs.declared.source.DeviceMemory.{DeviceMemory}
 
 abbrev pub tag : List ℕ → TagPart → Tag
@@ -49,10 +48,10 @@ all_view_lines r grants first subjects =
 
 -- memory of a device
 abbrev pub memory_line : List ℕ → DeviceMemory → List ℕ
-memory_line device m = device_line (device_item device m)
+memory_line device m = region_line (codes "device") m.physical_address m.size (tag device (Named m.name))
 
 -- that of all devices
-abbrev pub device_lines : List Device → List ℕ
+abbrev pub device_lines : List SourceDevice → List ℕ
 device_lines devices = flat_map (λ d. flat_map (memory_line d.name) d.memory) devices
 
 -- the whole text, by indexes

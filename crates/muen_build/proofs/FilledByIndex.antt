@@ -71,10 +71,13 @@ pub contents_filled : (files : Held) (p : Source) → contents_refused files p �
 unfolding contents_refused
 contents_filled files p = first_filled (filled_refused files) p (λ tag size. refl)
 
--- an element that passes is the first answer of a search
-any_first_in : {X : Type 0} (test : X → Bool) (xs : List X) → list_any test xs ≡ is_some (first_in (λ x. if test x then Some 0 else None) xs)
+-- an element that passes is an answer of a search
+abbrev passing : {X : Type 0} → (X → Bool) → X → Option ℕ
+passing test x = if test x then Some 0 else None
+
+any_first_in : {X : Type 0} (test : X → Bool) (xs : List X) → list_any test xs ≡ is_some (first_in (passing test) xs)
 any_first_in test [] = refl
-any_first_in test (x ∷ xs) = elim (test x) as (λ b. (b || list_any test xs) ≡ is_some (option_or (if b then Some 0 else None) (first_in (λ x. if test x then Some 0 else None) xs))) [
+any_first_in test (x ∷ xs) = elim (test x) as (λ b. (b || list_any test xs) ≡ is_some {T = ℕ} (option_or (if b then Some 0 else None) (first_in (passing test) xs))) [
   | true ↦ refl
   | false ↦ any_first_in test xs
 ]
@@ -82,7 +85,7 @@ any_first_in test (x ∷ xs) = elim (test x) as (λ b. (b || list_any test xs) �
 pub names_filled : (p : Source) (name : List ℕ) → names_file p name ≡ list_any (λ f. is_of_file name f.content) (filled_of p)
 names_filled p name =
     any_first_in (λ i. is_of_file name i.content) (items_of p)
-    ∙ ap is_some (first_filled (λ f. if is_of_file name f.content then Some 0 else None) p (λ tag size. refl))
+    ∙ ap is_some (first_filled (passing (λ f. is_of_file name f.content)) p (λ tag size. refl))
     ∙ sym (any_first_in (λ f. is_of_file name f.content) (filled_of p))
 
 -- ---- by indexes
