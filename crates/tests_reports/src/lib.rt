@@ -14,3 +14,5 @@ mod run_systems;
 mod runs;
 #[cfg(test)]
 mod systems;
+#[cfg(test)]
+mod verdicts;
