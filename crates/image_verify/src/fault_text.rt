@@ -25,9 +25,7 @@ fn digits_of(addr: u64) -> [u8; 16]
 
 impl AddressDigits {
     pub fn new() -> AddressDigits {
-        AddressDigits {
-            digits: [b'0'; 16],
-        }
+        AddressDigits { digits: [b'0'; 16] }
     }
 
     // The digits of this address.

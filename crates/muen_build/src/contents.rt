@@ -239,12 +239,5 @@ pub(crate) fn check_all<F: Files>(
     ensures held { F.held files.new ≡ F.held files.old }
 {
     check_memory(alloc, given, policy.memory(), found, files)?;
-    check_subjects(
-        alloc,
-        given,
-        policy,
-        policy.subjects(),
-        found,
-        files,
-    )
+    check_subjects(alloc, given, policy, policy.subjects(), found, files)
 }

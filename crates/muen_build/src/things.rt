@@ -160,13 +160,6 @@ pub(crate) fn things(
     let mut things = Vec::new(alloc);
     put_memory(alloc, given, found, policy.memory(), &mut things)?;
     put_channels(alloc, policy.channels(), &mut things)?;
-    put_subjects(
-        alloc,
-        given,
-        found,
-        policy,
-        policy.subjects(),
-        &mut things,
-    )?;
+    put_subjects(alloc, given, found, policy, policy.subjects(), &mut things)?;
     Ok(Seq::of(things))
 }

@@ -29,7 +29,8 @@ const TWO: &str = r#"{"processor":{"logicalCpus":1},
 "majorFrames":[{"cpus":[{"cpu":0,"minorFrames":[{"group":"ga","ticks":2},{"group":"gb","ticks":2}]}]}]}}"#;
 
 // `b` monitors `a`.
-const MONITORS: &str = r#""name":"b","cpu":0,=>"name":"b","cpu":0,"monitors":[{"subject":"a","virtualAddress":6291456,"rights":"r"}],"#;
+const MONITORS: &str =
+    r#""name":"b","cpu":0,=>"name":"b","cpu":0,"monitors":[{"subject":"a","virtualAddress":6291456,"rights":"r"}],"#;
 
 // An image, a policy and a short file; the calls of these digits fail.
 fn held(alloc: Global, image: &[u8], policy: &str, fails: &str) -> Result<MemFiles, Fail> {
@@ -82,14 +83,25 @@ fn judged(alloc: Global, image: &[u8], policy: &str) -> Result<String, Fail> {
 fn built_images_are_sound(rt: HostRuntime) -> Result<(), Fail> {
     let alloc = rt.alloc();
     let reads = changed(alloc, TWO, MONITORS)?;
-    let writes = changed(alloc, reads.as_str(), "6291456,\"rights\":\"r\"=>6291456,\"rights\":\"rw\"")?;
+    let writes = changed(
+        alloc,
+        reads.as_str(),
+        "6291456,\"rights\":\"r\"=>6291456,\"rights\":\"rw\"",
+    )?;
     for policy in [ONE, TWO, reads.as_str(), writes.as_str(), GATEWAY] {
         let image = built(alloc, policy, &[])?;
         assert_eq!(rt; judged(alloc, &image, policy)?.as_str(), "sound\n");
     }
-    let other = changed(alloc, GATEWAY, "012000000010600001900000f0fe3f00=>022000000010600001900000f0fe3f00")?;
+    let other = changed(
+        alloc,
+        GATEWAY,
+        "012000000010600001900000f0fe3f00=>022000000010600001900000f0fe3f00",
+    )?;
     let image = built(alloc, GATEWAY, &[])?;
-    assert_eq!(rt; judged(alloc, &image, other.as_str())?.as_str(), "9 muen: not sound: section a black_code");
+    assert_eq!(rt;
+        judged(alloc, &image, other.as_str())?.as_str(),
+        "9 muen: not sound: section a black_code"
+    );
     Ok(())
 }
 
@@ -101,7 +113,11 @@ fn words_of_tables_are_changed(rt: HostRuntime) -> Result<(), Fail> {
         (TWO, &[(17856, 0x10f031)][..], "leak a 0000000000500000"),
         (ONE, &[(9832, 0x103007)], "twice one 0000000000600000"),
         (ONE, &[(13904, 0)], "lacks one 0000000000400000"),
-        (maps.as_str(), &[(13912, 0x103033), (13920, 0x107031)], "leak one 0000000000401000"),
+        (
+            maps.as_str(),
+            &[(13912, 0x103033), (13920, 0x107031)],
+            "leak one 0000000000401000",
+        ),
     ] {
         let image = built(alloc, policy, words)?;
         let mut line = String::from_str(alloc, "9 muen: not sound: ")?;
@@ -117,24 +133,55 @@ fn another_policy(rt: HostRuntime) -> Result<(), Fail> {
     let alloc = rt.alloc();
     let image = built(alloc, ONE, &[])?;
     for (change, want) in [
-        ("\"hex\":\"0110=>\"hex\":\"0210", "9 muen: not sound: section a code"),
-        ("}}],\n\"subjects\"=>}},{\"name\":\"more\",\"size\":4096}],\n\"subjects\"", "9 muen: not sound: section a more"),
+        (
+            "\"hex\":\"0110=>\"hex\":\"0210",
+            "9 muen: not sound: section a code",
+        ),
+        (
+            "}}],\n\"subjects\"=>}},{\"name\":\"more\",\"size\":4096}],\n\"subjects\"",
+            "9 muen: not sound: section a more",
+        ),
         (
             "\"cpu\":0,\"entry\"=>\"cpu\":0,\"msrs\":[{\"start\":1,\"end\":1,\"rights\":\"r\"}],\"entry\"",
             "9 muen: not sound: section d one",
         ),
-        ("\"entry\":4194304=>\"entry\":4194312", "9 muen: not sound: section f one"),
-        ("\"ticks\":10=>\"ticks\":7", "9 muen: not sound: section h plan"),
-        ("\"rights\":\"rx\"=>\"rights\":\"r\"", "9 muen: not sound: leak one 0000000000400000"),
-        ("\"rights\":\"rx\"=>\"rights\":\"rwx\"", "9 muen: not sound: lacks one 0000000000400000"),
+        (
+            "\"entry\":4194304=>\"entry\":4194312",
+            "9 muen: not sound: section f one",
+        ),
+        (
+            "\"ticks\":10=>\"ticks\":7",
+            "9 muen: not sound: section h plan",
+        ),
+        (
+            "\"rights\":\"rx\"=>\"rights\":\"r\"",
+            "9 muen: not sound: leak one 0000000000400000",
+        ),
+        (
+            "\"rights\":\"rx\"=>\"rights\":\"rwx\"",
+            "9 muen: not sound: lacks one 0000000000400000",
+        ),
         ("\"size\":65536=>\"size\":4096", "sound\n"),
-        ("\"physicalAddress\":1048576=>\"physicalAddress\":2097152", "sound\n"),
-        ("\"group\":\"g\"=>\"group\":\"f\" | \"name\":\"g\"=>\"name\":\"f\"", "sound\n"),
+        (
+            "\"physicalAddress\":1048576=>\"physicalAddress\":2097152",
+            "sound\n",
+        ),
+        (
+            "\"group\":\"g\"=>\"group\":\"f\" | \"name\":\"g\"=>\"name\":\"f\"",
+            "sound\n",
+        ),
         ("{\"processor\"=>{\"processor", "2 muen: not JSON"),
-        ("\"subjects\":[\"one\"]=>\"subjects\":[\"two\"]", "2 muen: rule 2: g two"),
+        (
+            "\"subjects\":[\"one\"]=>\"subjects\":[\"two\"]",
+            "2 muen: rule 2: g two",
+        ),
     ] {
         let policy = changed(alloc, ONE, change)?;
-        assert_eq!(rt; judged(alloc, &image, policy.as_str())?.as_str(), want, "{change}");
+        assert_eq!(rt;
+            judged(alloc, &image, policy.as_str())?.as_str(),
+            want,
+            "{change}"
+        );
     }
     Ok(())
 }
@@ -144,8 +191,16 @@ fn another_policy(rt: HostRuntime) -> Result<(), Fail> {
 #[test]
 fn files_of_contents(rt: HostRuntime) -> Result<(), Fail> {
     let alloc = rt.alloc();
-    let short = changed(alloc, ONE, "\"hex\":\"01100000050000001700000000000000\"=>\"file\":\"short\"")?;
-    let own = changed(alloc, ONE, "\"hex\":\"01100000050000001700000000000000\"=>\"file\":\"i\",\"length\":8")?;
+    let short = changed(
+        alloc,
+        ONE,
+        "\"hex\":\"01100000050000001700000000000000\"=>\"file\":\"short\"",
+    )?;
+    let own = changed(
+        alloc,
+        ONE,
+        "\"hex\":\"01100000050000001700000000000000\"=>\"file\":\"i\",\"length\":8",
+    )?;
     let image = built(alloc, short.as_str(), &[])?;
     for (policy, words, fails, want) in [
         (short.as_str(), "verify i p", "0", "4 muen: file fault"),
@@ -155,13 +210,22 @@ fn files_of_contents(rt: HostRuntime) -> Result<(), Fail> {
         (own.as_str(), "verify i p", "2", "sound\n"),
         (ONE, "verify i p", "", "9 muen: not sound: section a code"),
         (ONE, "verify none p", "", "3 muen: missing file none"),
-        (ONE, "verify short p", "", "5 muen: image refused at 8: short"),
+        (
+            ONE,
+            "verify short p",
+            "",
+            "5 muen: image refused at 8: short",
+        ),
         (ONE, "verify p p", "", "5 muen: image refused at 0: magic"),
         (ONE, "verify i i", "", "2 muen: not JSON"),
         (ONE, "verify i none", "", "3 muen: missing file none"),
     ] {
         let mut files = held(alloc, &image, policy, fails)?;
-        assert_eq!(rt; verdict(alloc, words, &mut files)?.as_str(), want, "{words} {fails}");
+        assert_eq!(rt;
+            verdict(alloc, words, &mut files)?.as_str(),
+            want,
+            "{words} {fails}"
+        );
     }
     Ok(())
 }
