@@ -19,7 +19,7 @@ use Rattle.muen_outside.specs.Store.{Store, whole, long, reading_of, find_bytes}
 use Rattle.muen_build.specs.Accepting.{Files, WithGiven, insert_all, looks_of, of_all}
 use Rattle.muen_build.specs.Filling.{Filled, brought_at, filled_at, filled_provided, filled_refused, filled_region}
 use Rattle.muen_build.specs.Reading.{content_read, read_bytes, sized, things_read}
-use Rattle.muen_build.specs.Refusals.{content_refused, file_refused, too_long_for}
+use Rattle.muen_build.specs.Refusals.{content_refused, contents_refused, file_refused, too_long_for}
 use Rattle.policy_lawful.specs.Resolution.{IsResolved, Resolution, source_of}
 use Rattle.policy_lawful.specs.declared.resolved.Subject.{Subject}
 use Rattle.policy_lawful.specs.Contents.{content_bytes, file_part, padded}

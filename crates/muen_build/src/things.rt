@@ -5,6 +5,7 @@ ghost use Rattle.policy_lawful.specs.ByIndex.{provided_at};
 ghost use Rattle.muen_build.specs.Accepting.{given_files};
 ghost use Rattle.muen_build.specs.Reading.{content_read, read_bytes, sized, things_read};
 ghost use Rattle.policy_lawful.specs.Contents.{file_part};
+ghost use Rattle.policy_lawful.specs.Resolution.{IsResolved};
 
 use crate::accepted::ComponentFiles;
 use crate::given::{Given, given_bytes};
@@ -155,7 +156,8 @@ pub(crate) fn things(
     found: &ComponentFiles,
     policy: &Resolved,
 ) -> Result<Seq<Seq<u8>>, NoMemory>
-    ensures { IfOk result (λ things. things ≡ things_read (given_files given.now) found.now policy.now) }
+    ensures things { IfOk result (λ things. things ≡ things_read (given_files given.now) found.now policy.now) }
+    ensures resolved { IfOk result (λ _. IsResolved policy.now) }
 {
     let mut things = Vec::new(alloc);
     put_memory(alloc, given, found, policy.memory(), &mut things)?;

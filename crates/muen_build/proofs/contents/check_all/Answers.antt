@@ -1,4 +1,5 @@
 use Rattle.std.proofs.lemmas.Result.{IfErr-weaker, IfOk-weaker, err_from_is_err_and}
+use Rattle.muen_build.specs.Accepting.{given_files}
 use Rattle.muen_build.proofs.Checking.{both_grow, both_pass, brought_stops, memory_stops, ok_both}
 use Rattle.muen_build.proofs.contents.check_all.Goals as goal
 

@@ -1,6 +1,6 @@
 -- What is known while they are gone through.
 use Rattle.policy_lawful.specs.declared.resolved.Subject.{Subject}
-use Rattle.muen_build.specs.Accepting.{all_names, of_all}
+use Rattle.muen_build.specs.Accepting.{all_names, of_all, given_files}
 use Rattle.muen_build.specs.Filling.{brought_at}
 use Rattle.muen_build.proofs.Checking.{Passing}
 use Rattle.muen_build.proofs.contents.check_subjects.Given as goal

@@ -6,13 +6,13 @@ use Rattle.muen_build.proofs.image_bytes.parts.Goals as goal
 pub emit-requires : goal.emit-requires
 emit-requires c = record {
   filled = filled_so c.args.placed.now c.expanded-expanded.ensures.placed c.expanded-expanded.result.now c.expanded-expanded.ensures.value c.lawful.result.now c.resolved-policy.result.now c.lawful.ensures c.resolved-policy.ensures.value
-      c.args.name.now c.args.document.now c.args.found.now c.in_ok-things.things c.in_ok-things.ensures;
+      c.args.name.now c.args.document.now c.args.found.now c.in_ok-things.things c.in_ok-things.ensures.things;
 }
 
 pub returns-clause-sound : goal.returns-clause-sound
 returns-clause-sound c =
     sound_so c.args.placed.now c.expanded-expanded.ensures.placed c.expanded-expanded.result.now c.expanded-expanded.ensures.value c.lawful.result.now c.resolved-policy.result.now c.lawful.ensures c.resolved-policy.ensures.value
-    c.args.name.now c.args.document.now c.args.found.now c.in_ok-things.things c.in_ok-things.ensures c.emit.result c.requires.accepts (IfOk-weaker c.emit.result _ _ (λ i emitted files e. is_sound c.args.placed.now c.in_ok-things.things i emitted files e) c.emit.ensures)
+    c.args.name.now c.args.document.now c.args.found.now c.in_ok-things.things c.in_ok-things.ensures.things c.emit.result c.requires.accepts (IfOk-weaker c.emit.result _ _ (λ i emitted files e. is_sound c.args.placed.now c.in_ok-things.things i emitted files e) c.emit.ensures)
 
 pub returns-clause-spans : goal.returns-clause-spans
 returns-clause-spans c = IfOk-weaker c.emit.result _ _ (λ i emitted. has_spans c.args.placed.now c.in_ok-things.things i emitted.made) c.emit.ensures

@@ -1,5 +1,6 @@
 -- What has been put there so far.
 use Rattle.std.proofs.Common.{◌≡◌, ◌++◌, map, take}
+use Rattle.muen_build.specs.Accepting.{given_files}
 use Rattle.muen_build.specs.Reading.{content_read}
 use Rattle.muen_build.proofs.things.put_memory.Given as goal
 

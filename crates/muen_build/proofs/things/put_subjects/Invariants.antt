@@ -2,6 +2,7 @@
 use Rattle.std.proofs.Common.{◌≡◌, ◌++◌, map, take}
 use Rattle.std.specs.List.{flat_map}
 use Rattle.policy_lawful.specs.ByIndex.{provided_at}
+use Rattle.muen_build.specs.Accepting.{given_files}
 use Rattle.muen_build.specs.Reading.{content_read}
 use Rattle.muen_build.proofs.things.put_subjects.Given as goal
 
