@@ -28,6 +28,7 @@ use Rattle.policy_types.specs.declared.source.DeviceMemory.{DeviceMemory}
 use Rattle.policy_types.specs.declared.source.Provided.{Provided}
 use Rattle.policy_types.specs.declared.source.Region.{Region}
 use Rattle.policy_types.specs.declared.source.Source.{Source}
+use Rattle.policy_types.specs.declared.source.Subject.{Subject as NamedSubject}
 use Rattle.span_emit.specs.Spans.{memories_of}
 
 -- the logical names of what a component brings along are unique
