@@ -16,7 +16,7 @@ use Rattle.policy_types.specs.declared.source.Region.{Region as SourceRegion}
 use Rattle.policy_types.specs.declared.source.Source.{Source}
 use Rattle.region_alloc.specs.Placed.{IsPlaced, Placement}
 use Rattle.expand_kernel.specs.ByIndex.{channel_region, own_region, provided_regions}
-use Rattle.expand_kernel.proofs.ByKind.{regions_are}
+use Rattle.expand_kernel.proofs.ByKind.{regions_are as by_kind}
 
 -- an index that is found is one of the list
 pub position_within : {X : Type 0} (p : X → Bool) (xs : List X) (n : ℕ) → position p xs ≡ Some n → n < length xs
@@ -36,7 +36,7 @@ first_regions p =
     let a = map channel_region p.channels in
     let b = flat_map (λ s. provided_regions s.name (component_by p s.component)) p.subjects in
     let c = flat_map (kernel_regions_of p) p.subjects in
-    (a ++ (b ++ c), regions_are p ∙ append_assoc (own ++ a) b c ∙ append_assoc own a (b ++ c))
+    (a ++ (b ++ c), by_kind p ∙ append_assoc (own ++ a) b c ∙ append_assoc own a (b ++ c))
 
 module _ (x : Placement) (placed : IsPlaced x) where
   pub regions_are : (rest : List Region) × (x.expanded.regions ≡ map own_region x.expanded.lawful.memory ++ rest)
