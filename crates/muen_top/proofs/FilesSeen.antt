@@ -117,7 +117,7 @@ gives_none name P Q f (Refused r) h = absurd h
 gives_none name P Q f (ImageRefused r) h = absurd h
 gives_none name P Q f (DmaRefused r) h = absurd h
 gives_none name P Q f (RecordRefused r) h = absurd h
-gives_none name P Q f (NotSound f) h = absurd h
+gives_none name P Q f (NotSound x) h = absurd h
 
 module _ (looks : List Look) (name : List ℕ) (most : ℕ) (held : Option Store) where
   -- of a name at which nothing was looked
@@ -147,7 +147,7 @@ module _ (looks : List Look) (name : List ℕ) (most : ℕ) (held : Option Store
 
 -- ---- what is known of names
 
-others_both : (ls more : List Look) (name : List ℕ) → AreOthers ls name → AreOthers more name → AreOthers (ls ++ more) name
+pub others_both : (ls more : List Look) (name : List ℕ) → AreOthers ls name → AreOthers more name → AreOthers (ls ++ more) name
 others_both [] more name a b = b
 others_both (l ∷ ls) more name a b = (a.0, others_both ls more name a.1 b)
 

@@ -198,6 +198,7 @@ module _ (policy image bytes : List ℕ) (dma tables : Option (List ℕ)) (held 
   image_failed (Stopped (ImageRefused f)) failed w = absurd w
   image_failed (Stopped (DmaRefused f)) failed w = absurd w
   image_failed (Stopped (RecordRefused f)) failed w = absurd w
+  image_failed (Stopped (NotSound f)) failed w = absurd w
   image_failed OutputFault failed w = absurd w
 
   -- the tables after it
@@ -233,6 +234,7 @@ module _ (policy image bytes : List ℕ) (dma tables : Option (List ℕ)) (held 
       tables_written (Stopped (ImageRefused f)) w = absurd w
       tables_written (Stopped (DmaRefused f)) w = absurd w
       tables_written (Stopped (RecordRefused f)) w = absurd w
+      tables_written (Stopped (NotSound f)) w = absurd w
       tables_written OutputFault w = absurd w
 
     tables_so : (outcome : Outcome) (d t : Option (List ℕ)) → dma ≡ d → tables ≡ t → is_some t ≡ is_some d → EndsTables d t held_between held'' after new outcome → Comes outcome

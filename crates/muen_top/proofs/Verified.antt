@@ -1,5 +1,5 @@
 -- What a verdict that is answered tells of what a store holds.
-use Rattle.std.proofs.Common.{◌≡◌, ⊥, ℕ, List, Option, Some, None, Result, Ok, Err, refl, sym, ap, subst, ◌∙◌}
+use Rattle.std.proofs.Common.{◌≡◌, ℕ, List, Option, Some, None, Result, Ok, Err, refl, sym, ap, subst, ◌∙◌}
 use Rattle.std.specs.FinMap.{get}
 use Rattle.binary_form.specs.Faults.{unpacked}
 use Rattle.binary_form.specs.declared.fault.ImageFault.{ImageFault}

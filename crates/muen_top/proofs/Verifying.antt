@@ -288,20 +288,20 @@ module _ (image : List ℕ) (held held' : Option Store) (old mid : History) (byt
 
 -- ---- the verdict
 
-module _ (image policy : List ℕ) (held held' : Option Store) (old new : History) (i : Image) (r : Resolution) (things : List (List ℕ)) (read : HasAllRead image policy held old new i r things) where
+module _ (image policy : List ℕ) (held : Option Store) (old new : History) (i : Image) (r : Resolution) (things : List (List ℕ)) (read : HasAllRead image policy held old new i r things) where
   -- the policy's regions hold this over some files
   pub are_of_files : AreOfFiles r things
   are_of_files = let there = explained read.looks read.saw.single in record { files = there.0; are = (read.says.over there.0 there.1).things_are }
 
-  module _ (same : held' ≡ held) (out out' : SinkState) where
-    abbrev answer : Store → Answer
-    answer m = verify_answer m image policy
+  module _ (held' : Option Store) (same : held' ≡ held) (out out' : SinkState) where
+    abbrev reply : Store → Answer
+    reply m = verify_answer m image policy
 
     abbrev Says : Outcome → Type 0
-    Says outcome = OutcomeSays answer read.looks [] out out' outcome
+    Says outcome = OutcomeSays reply read.looks [] out out' outcome
 
     -- what is found is found over every store that agrees with the looks
-    over : (o : Option Fault) → IsFound i r things o → (Such : Answer → Type 0) → ((m : Store) → HasVerdict (source_of r) m read.says.bytes i o → Such (judges (source_of r) m read.says.bytes i)) → OverLooks read.looks (λ m. Such (answer m))
+    over : (o : Option Fault) → IsFound i r things o → (Such : Answer → Type 0) → ((m : Store) → HasVerdict (source_of r) m read.says.bytes i o → Such (judges (source_of r) m read.says.bytes i)) → OverLooks read.looks (λ m. Such (reply m))
     over o found Such so m shows =
         let a = read.says.over m shows in
         subst Such (sym a.answer) (so m (found m read.says.bytes a.things_are read.says.image_is))

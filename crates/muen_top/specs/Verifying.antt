@@ -4,7 +4,9 @@ use Rattle.image_emit.specs.Made.{thing_bytes}
 use Rattle.image_pack.specs.Parts.{IsImage}
 use Rattle.image_pack.specs.declared.parts.Image.{Image}
 use Rattle.image_verify.specs.declared.fault.Fault.{Fault}
+use Rattle.muen_build.specs.Accepting.{Files, LacksContents}
 use Rattle.muen_build.specs.Refusals.{lawful_policy_of}
+use Rattle.muen_build.specs.declared.accepted.BuildError.{BuildError}
 use Rattle.muen_num.specs.Answers.{Answers}
 use Rattle.muen_num.specs.declared.limits.TheConstants.{IMAGE_MOST, POLICY_MOST}
 use Rattle.muen_outside.specs.Puts.{Appended, Failed}
@@ -15,7 +17,8 @@ use Rattle.policy_lawful.specs.Resolution.{Resolution, source_of}
 use Rattle.policy_types.specs.declared.refusal.Refusal.{Refusal}
 use Rattle.policy_types.specs.declared.refusal.Refusal.TheVariants.{NoMemory as NoMemoryFor}
 use Rattle.muen_top.specs.Answers.{judges, verify_answer}
-use Rattle.muen_top.specs.CommandErrors.{error_of_refusal}
+use Rattle.policy_types.specs.declared.source.Source.{Source}
+use Rattle.muen_top.specs.CommandErrors.{error_of_build, error_of_refusal}
 use Rattle.muen_top.specs.Commands.{verify}
 use Rattle.muen_top.specs.FilesSeen.{OverLooks, Saw, SawAfter}
 use Rattle.muen_top.specs.Loads.{NotReadAfter}
@@ -44,6 +47,14 @@ pub data NotLawful (looks : List Look) (policy : List ℕ) (held : Option Store)
   unread : NotReadAfter looks policy POLICY_MOST held old new error → NotLawful looks policy held old new error
   unlawful : (document : List ℕ) (r : Refusal) → SawAfter looks policy POLICY_MOST (Ok (whole document)) held old new → Answers NoMemoryFor (lawful_policy_of document) (Err r)
       → error ≡ error_of_refusal r → NotLawful looks policy held old new error
+
+-- ---- the contents
+
+-- why there are none: they are refused, or a look failed, or memory was refused
+pub record LacksAny (given : Files) (p : Source) (held : Option Store) (old new : History) (error : CommandError) : Type 0 where
+  pub build_error : BuildError
+  pub lacks : LacksContents given p held old new build_error
+  pub made : error ≡ error_of_build build_error
 
 -- ---- all that is read
 

@@ -1,16 +1,18 @@
 // The command `verify`: an image and a policy are read, with the files that its contents name, and it is
 // told whether the image is sound for them.
-ghost use Rattle.std.specs.Prelude.{◌≡◌, List, ℕ, Ok, Some, IfOk, IfErr};
+ghost use Rattle.std.specs.Prelude.{◌≡◌, [], ◌∷◌, List, ℕ, Ok, Some, IfOk, IfErr};
 ghost use Rattle.binary_form.specs.Faults.{unpacked};
 ghost use Rattle.image_pack.specs.Image.{image as image_form};
 ghost use Rattle.image_pack.specs.Parts.{IsImage};
 ghost use Rattle.image_verify.specs.Verdict.{AreOfFiles};
+ghost use Rattle.muen_build.specs.Accepting.{HasContents};
+ghost use Rattle.policy_lawful.specs.Resolution.{source_of};
 ghost use Rattle.muen_top.specs.Calls.{ComesOfCommand};
 ghost use Rattle.muen_top.specs.Commands.{verify as verify_command};
 ghost use Rattle.muen_top.specs.FilesSeen.{Saw};
 ghost use Rattle.muen_top.specs.PolicyCommands.{StopsCommand};
 ghost use Rattle.muen_top.specs.Reports.{sound_text};
-ghost use Rattle.muen_top.specs.Verifying.{EndsFound, HasAllRead, HasLawful, IsFound, NotLawful, image_looks};
+ghost use Rattle.muen_top.specs.Verifying.{EndsFound, HasAllRead, HasLawful, IsFound, LacksAny, NotLawful, image_looks};
 ghost use Rattle.muen_outside.specs.Puts.{Puts};
 
 use crate::loading::{load, load_too};
@@ -74,6 +76,31 @@ fn read_policy<'a, F: Files>(
     Ok(PolicyRead { policy, document })
 }
 
+// What the regions of a policy hold, after its document and an image, whose files' bytes these are.
+fn read_contents<'a, F: Files>(
+    alloc: Global,
+    image: &str,
+    bytes: &[u8],
+    policy: &str,
+    document: &[u8],
+    lawful: &Lawful,
+    files: &mut F,
+) -> Result<Seq<Seq<u8>>, CommandError<'a>>
+    ensures ok { IfOk result (HasContents ((policy.now, document.now) ∷ (image.now, bytes.now) ∷ []) lawful.now (F.held files.old) (F.history files.old) (F.history files.new)) }
+    ensures err { IfErr result (LacksAny ((policy.now, document.now) ∷ (image.now, bytes.now) ∷ []) (source_of lawful.now) (F.held files.old) (F.history files.old) (F.history files.new)) }
+    ensures held { F.held files.new ≡ F.held files.old }
+{
+    let given = [
+        Given {
+            name: policy,
+            bytes: document,
+        },
+        Given { name: image, bytes },
+    ];
+    let things = contents_of(alloc, &given, lawful, files)?;
+    Ok(things)
+}
+
 // What is judged: an image, for a lawful policy, whose regions hold this at the start.
 #[derive(Drop)]
 struct ToJudge {
@@ -94,21 +121,22 @@ fn read_all<'a, F: Files>(
     ensures held { F.held files.new ≡ F.held files.old }
 {
     let ImageRead { parts, bytes } = read_image(alloc, image, files)?;
-    let read = read_policy(alloc, image, bytes.items(), policy, files)?;
-    let given = [
-        Given {
-            name: policy,
-            bytes: read.document.items(),
-        },
-        Given {
-            name: image,
-            bytes: bytes.items(),
-        },
-    ];
-    let things = contents_of(alloc, &given, &read.policy, files)?;
+    let PolicyRead {
+        policy: lawful,
+        document,
+    } = read_policy(alloc, image, bytes.items(), policy, files)?;
+    let things = read_contents(
+        alloc,
+        image,
+        bytes.items(),
+        policy,
+        document.items(),
+        &lawful,
+        files,
+    )?;
     Ok(ToJudge {
         parts,
-        policy: read.policy,
+        policy: lawful,
         things,
     })
 }
