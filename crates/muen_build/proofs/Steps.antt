@@ -20,7 +20,7 @@ use Rattle.muen_build.specs.Refusals.{file_refused, too_long_for}
 use Rattle.muen_build.specs.declared.accepted.BuildError.{BuildError}
 use Rattle.muen_build.specs.declared.accepted.BuildError.TheVariants.{FileFault, Refused}
 use Rattle.muen_build.proofs.Documents.{admitted, given_there, not_given, too_many}
-use Rattle.muen_build.proofs.Looks.{others_push, other_way, same_self, show_last, single_push, stops_here, told_one}
+use Rattle.muen_build.proofs.Looks.{others_push, same_self, show_last, single_push, stops_here, told_one}
 use Rattle.muen_build.specs.Filling.{Filled}
 
 -- ---- a file that is given

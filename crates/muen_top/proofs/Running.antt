@@ -16,7 +16,7 @@ use Rattle.muen_outside.specs.declared.files.FileError.{FileError}
 use Rattle.muen_outside.specs.Looks.{ShowAll}
 use Rattle.muen_outside.specs.States.{History, Look, look}
 use Rattle.muen_outside.specs.Store.{Store, Reading, whole, reading_of}
-use Rattle.muen_top.specs.Answers.{Answer, stops, dma_refused, image_refused, of_file, dma_answer, unpacked_answer, run_answer}
+use Rattle.muen_top.specs.Answers.{Answer, stops, dma_refused, of_file, dma_answer, unpacked_answer, run_answer}
 use Rattle.muen_top.specs.Asked.{Asks, AsksRecord, IsAtMost}
 use Rattle.muen_top.specs.Calls.{StopsFor}
 use Rattle.muen_top.specs.Commands.{run}

@@ -1,5 +1,5 @@
 -- What a verdict that is answered tells of what a store holds.
-use Rattle.std.proofs.Common.{◌≡◌, ℕ, List, Option, Some, None, Result, Ok, Err, refl, sym, ap, subst, ◌∙◌}
+use Rattle.std.proofs.Common.{◌≡◌, ℕ, List, Some, None, Result, Ok, Err, refl, sym, ap, subst, ◌∙◌}
 use Rattle.std.specs.FinMap.{get}
 use Rattle.binary_form.specs.Faults.{unpacked}
 use Rattle.binary_form.specs.declared.fault.ImageFault.{ImageFault}
@@ -9,7 +9,6 @@ use Rattle.image_pack.specs.declared.parts.Image.{Image}
 use Rattle.image_pack.proofs.ImageLaws.{image_laws}
 use Rattle.image_soundness.specs.Sound.{IsSound}
 use Rattle.image_verify.proofs.VerdictLaws.{a_fault_is_none_of_a_sound_image, a_sound_image_has_no_fault, no_fault_is_sound}
-use Rattle.image_verify.specs.Verdict.{IsTwice}
 use Rattle.image_verify.specs.declared.fault.Fault.{Fault}
 use Rattle.muen_build.specs.Refusals.{fitting_policy_of}
 use Rattle.muen_build.proofs.Refusing.{accepted_fits}
@@ -18,7 +17,7 @@ use Rattle.muen_outside.specs.States.{SinkState, Write}
 use Rattle.muen_outside.specs.Store.{Reading, Store, whole, absent, long, reading_of}
 use Rattle.policy_types.specs.declared.refusal.Refusal.{Refusal}
 use Rattle.policy_types.specs.declared.source.Source.{Source}
-use Rattle.muen_top.specs.Answers.{Answer, Reason, missing, too_long, refused, image_refused, judges, stops, of_file, judged_answer, document_answer, verified_answer, verify_answer}
+use Rattle.muen_top.specs.Answers.{Answer, Reason, missing, too_long, refused, image_refused, judges, stops, of_file, judged_answer, verified_answer, verify_answer}
 use Rattle.muen_top.specs.Calls.{IsDone}
 use Rattle.muen_top.specs.Headline.{HoldsBuilt, HoldsPolicy, TellsFault, TellsSound}
 use Rattle.muen_top.specs.Verdicts.{Finds, HasVerdict}

@@ -25,14 +25,14 @@ use Rattle.muen_num.specs.declared.limits.TheConstants.{IMAGE_MOST, POLICY_MOST}
 use Rattle.muen_outside.proofs.Explained.{explained}
 use Rattle.muen_outside.specs.declared.files.FileError.{FileError}
 use Rattle.muen_outside.specs.Looks.{AreOthers, AreSingle, EndsInFault, ShowAll}
-use Rattle.muen_outside.specs.States.{History, Look, SinkState, look, looked}
+use Rattle.muen_outside.specs.States.{History, Look, SinkState, looked}
 use Rattle.muen_outside.specs.Store.{Store, Reading, whole, find_bytes, reading_of}
 use Rattle.policy_lawful.specs.Lawful.{kept_or}
 use Rattle.policy_lawful.specs.Resolution.{Resolution, source_of}
 use Rattle.policy_types.specs.declared.refusal.Refusal.{Refusal}
 use Rattle.policy_types.specs.declared.refusal.Refusal.TheVariants.{NoMemory as NoMemoryFor}
 use Rattle.policy_types.specs.declared.source.Source.{Source}
-use Rattle.muen_top.specs.Answers.{Answer, stops, refused, image_refused, judges, of_file, judged_answer, document_answer, verified_answer, verify_answer}
+use Rattle.muen_top.specs.Answers.{Answer, stops, refused, judges, of_file, judged_answer, verified_answer, verify_answer}
 use Rattle.muen_top.specs.Asked.{Asks, AsksPolicy, IsAtMost}
 use Rattle.image_verify.specs.declared.fault.Fault.{Fault}
 use Rattle.muen_outside.specs.Puts.{Failed}
@@ -43,7 +43,7 @@ use Rattle.muen_top.specs.Commands.{verify}
 use Rattle.muen_top.specs.FilesSeen.{OverLooks, Saw, SawAfter}
 use Rattle.muen_top.specs.Loads.{NotRead, NotReadAfter}
 use Rattle.muen_top.specs.PolicyCommands.{HasRead, StopsCommand}
-use Rattle.muen_top.specs.Verifying.{EndsFound, HasAllRead, HasLawful, IsAskedFor, IsFound, IsToJudge, NotLawful, unread, unlawful, image_looks}
+use Rattle.muen_top.specs.Verifying.{EndsFound, HasAllRead, HasLawful, IsFound, NotLawful, unread, unlawful, image_looks}
 use Rattle.muen_top.specs.declared.outcome.CommandError.{CommandError}
 use Rattle.muen_top.specs.declared.outcome.CommandError.TheVariants.{Usage, Missing, TooLong, Refused, ImageRefused, DmaRefused, RecordRefused, NotSound, FileFault, NoMemory}
 use Rattle.muen_top.specs.declared.outcome.Outcome.{Outcome}

@@ -20,7 +20,7 @@ use Rattle.muen_top.specs.Answers.{judges, verify_answer}
 use Rattle.policy_types.specs.declared.source.Source.{Source}
 use Rattle.muen_top.specs.CommandErrors.{error_of_build, error_of_refusal}
 use Rattle.muen_top.specs.Commands.{verify}
-use Rattle.muen_top.specs.FilesSeen.{OverLooks, Saw, SawAfter}
+use Rattle.muen_top.specs.FilesSeen.{OverLooks, SawAfter}
 use Rattle.muen_top.specs.Loads.{NotReadAfter}
 use Rattle.muen_top.specs.PolicyCommands.{HasRead}
 use Rattle.muen_top.specs.Reports.{sound_text}

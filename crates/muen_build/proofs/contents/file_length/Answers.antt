@@ -1,5 +1,4 @@
-use Rattle.std.proofs.Common.{sym, ap, ◌∙◌}
-use Rattle.std.specs.Prelude.{List, ℕ, Some, None, option_map}
+use Rattle.std.proofs.Common.{sym}
 use Rattle.std.proofs.lemmas.Result.{IfErr-weaker, IfOk-weaker}
 use Rattle.muen_build.specs.Accepting.{given_files, looks_of}
 use Rattle.muen_build.proofs.Looks.{grows_not}
