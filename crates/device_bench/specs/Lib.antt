@@ -1,1 +1,2 @@
+pub use Rattle.record_text.specs.declared.record
 pub mod Devices

@@ -6,3 +6,4 @@ mod effect;
 
 pub use bench::Bench;
 pub use effect::Effect;
+pub use record_text::{Record, TickInput, TickOrder};

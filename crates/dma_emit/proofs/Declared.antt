@@ -21,7 +21,7 @@ use Rattle.dma_emit.proofs.Unordered.{found_moved}
 use Rattle.dma_emit.proofs.Walk.{by_domains, led, led_device}
 use Rattle.ept_emit.specs.Emitted.{holds as is_in, window_at}
 use Rattle.ept_emit.specs.declared.window.Window.{Window}
-use Rattle.expand_grants.proofs.Ordered.{in_order_permutes}
+use Rattle.expand_kernel.proofs.Ordered.{in_order_permutes}
 use Rattle.muen_num.proofs.Lists.{found, there}
 use Rattle.muen_num.proofs.Members.{In, all_in, any_in, any_some, filter_map_in, find_in, left_in, map_in, passes_in, right_in}
 use Rattle.policy_lawful.specs.Dma.{dma_access, domain_of, domain_windows}
@@ -31,13 +31,13 @@ use Rattle.policy_lawful.specs.Thing.{Thing, region}
 use Rattle.policy_lawful.specs.Windows.{Window as Granted, access_by, access_of, byte, holds, region_window, violation, window}
 use Rattle.policy_lawful.proofs.Indexes.{same_self}
 use Rattle.policy_lawful.proofs.KeptRules.{rules_of}
-use Rattle.policy_types.specs.Rights.{allows}
-use Rattle.policy_types.specs.declared.source.Bdf.{Bdf}
-use Rattle.policy_types.specs.declared.source.Device.{Device}
-use Rattle.policy_types.specs.declared.source.Domain.{Domain}
-use Rattle.policy_types.specs.declared.source.Mapping.{Mapping}
-use Rattle.policy_types.specs.declared.source.Region.{Region}
-use Rattle.policy_types.specs.declared.source.Source.{Source}
+use Rattle.policy_lawful.specs.Rights.{allows}
+use Rattle.policy_lawful.specs.source.Bdf.{Bdf}
+use Rattle.policy_lawful.specs.source.Device.{Device}
+use Rattle.policy_lawful.specs.source.Domain.{Domain}
+use Rattle.policy_lawful.specs.source.Mapping.{Mapping}
+use Rattle.policy_lawful.specs.source.Region.{Region}
+use Rattle.policy_lawful.specs.source.Source.{Source}
 use Rattle.region_alloc.specs.Placed.{IsPlaced, Placement}
 
 -- where a device reads or writes by an address, by the policy's declaration

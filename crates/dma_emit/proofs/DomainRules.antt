@@ -15,10 +15,10 @@ use Rattle.policy_lawful.specs.Domains.{Listed, device_has_bdf, domain_extent, d
 use Rattle.policy_lawful.specs.Offences.{alone, two}
 use Rattle.policy_lawful.specs.Rules.{are_apart, at_most, is_declared, is_page_aligned, repeated}
 use Rattle.policy_lawful.specs.declared.offence.Offence.{Offence}
-use Rattle.policy_types.specs.Rights.{may_execute}
-use Rattle.policy_types.specs.declared.source.Domain.{Domain}
-use Rattle.policy_types.specs.declared.source.Mapping.{Mapping}
-use Rattle.policy_types.specs.declared.source.Source.{Source}
+use Rattle.policy_lawful.specs.Rights.{may_execute}
+use Rattle.policy_lawful.specs.source.Domain.{Domain}
+use Rattle.policy_lawful.specs.source.Mapping.{Mapping}
+use Rattle.policy_lawful.specs.source.Source.{Source}
 use Rattle.span_emit.proofs.PairLaws.{pairs_unmapped, pairs_weaker}
 
 -- ---- rule 21

@@ -26,7 +26,7 @@ use Rattle.dma_emit.proofs.TotalSize.{first_bytes, regions_bytes}
 use Rattle.ept_emit.specs.Pages.{ept_pages, range_of, ranges_of}
 use Rattle.ept_emit.specs.declared.window.GuestRange.{GuestRange}
 use Rattle.ept_emit.specs.declared.window.Window.{Window}
-use Rattle.expand_grants.proofs.Ordered.{in_order_permutes}
+use Rattle.expand_kernel.proofs.Ordered.{in_order_permutes}
 use Rattle.muen_num.specs.Range.{numbers_below}
 use Rattle.muen_num.specs.Search.{unless}
 use Rattle.muen_num.specs.declared.limits.TheConstants.{BDF_FUNCTIONS, MOST_DOMAINS, MOST_REGIONS, PAGE}
@@ -39,12 +39,12 @@ use Rattle.policy_lawful.specs.Resolution.{source_of}
 use Rattle.policy_lawful.proofs.KeptLimits.{limits_kept}
 use Rattle.policy_lawful.proofs.KeptRules.{rules_of}
 use Rattle.policy_lawful.proofs.UniqueNames.{unique}
-use Rattle.policy_types.specs.declared.source.Bdf.{Bdf}
-use Rattle.policy_types.specs.declared.source.Device.{Device}
-use Rattle.policy_types.specs.declared.source.Domain.{Domain}
-use Rattle.policy_types.specs.declared.source.Mapping.{Mapping}
-use Rattle.policy_types.specs.declared.source.Region.{Region}
-use Rattle.policy_types.specs.declared.source.Source.{Source}
+use Rattle.policy_lawful.specs.source.Bdf.{Bdf}
+use Rattle.policy_lawful.specs.source.Device.{Device}
+use Rattle.policy_lawful.specs.source.Domain.{Domain}
+use Rattle.policy_lawful.specs.source.Mapping.{Mapping}
+use Rattle.policy_lawful.specs.source.Region.{Region}
+use Rattle.policy_lawful.specs.source.Source.{Source}
 use Rattle.region_alloc.specs.Placed.{IsPlaced, Placement}
 use Rattle.span_emit.proofs.PairLaws.{all_from, pairs_unmapped, pairs_weaker}
 

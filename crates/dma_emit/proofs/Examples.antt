@@ -16,14 +16,14 @@ use Rattle.ept_emit.specs.declared.window.GuestRange.{GuestRange}
 use Rattle.ept_emit.specs.declared.window.Leaf.TheVariants.{Small}
 use Rattle.ept_emit.specs.declared.window.Window.{Window}
 use Rattle.ept_emit.proofs.Tallies.{tally_end, tally_start, tally_step}
-use Rattle.expand_grants.specs.Ordered.{in_order, inserted}
+use Rattle.expand_kernel.specs.Ordered.{in_order, inserted}
 use Rattle.muen_num.specs.declared.access.AccessKind.TheVariants.{Read, Write}
 use Rattle.policy_lawful.specs.Dma.{dma_access}
 use Rattle.policy_lawful.specs.Resolution.{Resolution, source_of}
 use Rattle.policy_lawful.specs.Rules.{extents_of}
-use Rattle.policy_types.specs.declared.rights.Caching.TheVariants.{Uc, Wb}
-use Rattle.policy_types.specs.declared.rights.Rights.TheVariants.{Rw}
-use Rattle.policy_types.specs.declared.source.Content.TheVariants.{Zero}
+use Rattle.policy_lawful.specs.rights.Caching.TheVariants.{Uc, Wb}
+use Rattle.policy_lawful.specs.rights.Rights.TheVariants.{Rw}
+use Rattle.policy_lawful.specs.source.Content.TheVariants.{Zero}
 use Rattle.region_alloc.specs.Placed.{Placement}
 
 -- ---- the policy

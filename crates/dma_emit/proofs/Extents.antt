@@ -16,10 +16,10 @@ use Rattle.policy_lawful.specs.declared.offence.Extent.{Extent}
 use Rattle.policy_lawful.proofs.KeptAddresses.{addresses_kept, is_memory}
 use Rattle.policy_lawful.proofs.KeptLimits.{limits_kept}
 use Rattle.policy_lawful.proofs.KeptRules.{rules_of}
-use Rattle.policy_types.specs.declared.source.Block.{Block}
-use Rattle.policy_types.specs.declared.source.Device.{Device}
-use Rattle.policy_types.specs.declared.source.DeviceMemory.{DeviceMemory}
-use Rattle.policy_types.specs.declared.source.Source.{Source}
+use Rattle.policy_lawful.specs.source.Block.{Block}
+use Rattle.policy_lawful.specs.source.Device.{Device}
+use Rattle.policy_lawful.specs.source.DeviceMemory.{DeviceMemory}
+use Rattle.policy_lawful.specs.source.Source.{Source}
 use Rattle.span_emit.proofs.PairLaws.{all_from}
 
 -- whole pages of physical memory

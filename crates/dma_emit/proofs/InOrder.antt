@@ -6,8 +6,8 @@ use Rattle.std.proofs.lemmas.Bool.Decides.{nat_tests}
 use Rattle.dma_emit.specs.Domains.{is_lower}
 use Rattle.dma_emit.specs.Ready.{HaveDifferentGuests, same_guest}
 use Rattle.ept_emit.specs.declared.window.Window.{Window}
-use Rattle.expand_grants.specs.Ordered.{in_order}
-use Rattle.expand_grants.proofs.Ordered.{ordered_is}
+use Rattle.expand_kernel.specs.Ordered.{in_order}
+use Rattle.expand_kernel.proofs.Ordered.{ordered_is}
 use Rattle.span_emit.proofs.PairLaws.{pairs_permuted}
 
 pub flips : (a b : ℕ) → (a == b) ≡ (b == a)

@@ -10,9 +10,9 @@ use Rattle.dma_emit.proofs.Found.{found_by_position}
 use Rattle.dma_emit.proofs.PlacesThere.{position_within}
 use Rattle.ept_emit.specs.declared.window.Leaf.TheVariants.{Small}
 use Rattle.muen_num.proofs.Lists.{there}
-use Rattle.policy_types.specs.declared.rights.Caching.TheVariants.{Uc}
-use Rattle.policy_types.specs.declared.source.Mapping.{Mapping}
-use Rattle.policy_types.specs.declared.source.Region.{Region}
+use Rattle.policy_lawful.specs.rights.Caching.TheVariants.{Uc}
+use Rattle.policy_lawful.specs.source.Mapping.{Mapping}
+use Rattle.policy_lawful.specs.source.Region.{Region}
 use Rattle.region_alloc.specs.Placed.{Placement}
 
 pub mapped_at : (x : Placement) (m : Mapping) (memory : List Region) (addresses : List ℕ) (n : ℕ) (d : Region) → memory ≡ x.expanded.lawful.memory → addresses ≡ x.addresses → position (λ r. bytes_eq r.name m.region) memory ≡ Some n

@@ -12,8 +12,8 @@ use Rattle.muen_num.proofs.Lists.{get_left}
 use Rattle.policy_lawful.specs.Ranges.{in_a_block}
 use Rattle.policy_lawful.specs.Resolution.{source_of}
 use Rattle.policy_lawful.specs.Thing.{component_by}
-use Rattle.policy_types.specs.declared.source.Region.{Region as SourceRegion}
-use Rattle.policy_types.specs.declared.source.Source.{Source}
+use Rattle.policy_lawful.specs.source.Region.{Region as SourceRegion}
+use Rattle.policy_lawful.specs.source.Source.{Source}
 use Rattle.region_alloc.specs.Placed.{IsPlaced, Placement}
 use Rattle.expand_kernel.specs.ByIndex.{channel_region, own_region, provided_regions}
 use Rattle.expand_kernel.proofs.ByKind.{regions_are as by_kind}

@@ -6,8 +6,8 @@ use Rattle.std.specs.List.Sorted.{IsNonDecreasingBy, IsPermutation}
 use Rattle.std.proofs.lemmas.Bool.{cases_Bool, le-leb, leb-false, leb-true, or_cases}
 use Rattle.std.proofs.lemmas.List.Elements.{All-cons, All-nil, All-weaker}
 use Rattle.std.proofs.lemmas.List.Sorted.{All-permutation}
-use Rattle.expand_grants.specs.Ordered.{in_order, inserted}
-use Rattle.expand_grants.proofs.Ordered.{in_order_permutes}
+use Rattle.expand_kernel.specs.Ordered.{in_order, inserted}
+use Rattle.expand_kernel.proofs.Ordered.{in_order_permutes}
 use Rattle.region_alloc.proofs.EachInTurn.{All-inserted}
 use Rattle.span_emit.proofs.PairLaws.{ascend, pairs_permuted, pairs_weaker}
 

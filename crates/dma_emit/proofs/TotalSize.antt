@@ -6,15 +6,15 @@ use Rattle.std.proofs.lemmas.List.Elements.{All-weaker}
 use Rattle.std.proofs.lemmas.List.Sorted.{All-permutation, sum_by-IsPermutation}
 use Rattle.std.proofs.lemmas.List.Sums.{sum_by-append, sum_by-cons}
 use Rattle.dma_emit.proofs.Ranges.{ascending, before}
-use Rattle.expand_grants.specs.Ordered.{in_order}
-use Rattle.expand_grants.proofs.Ordered.{in_order_permutes}
+use Rattle.expand_kernel.specs.Ordered.{in_order}
+use Rattle.expand_kernel.proofs.Ordered.{in_order_permutes}
 use Rattle.expand_kernel.specs.declared.region.Region.{Region}
 use Rattle.image_pack.specs.declared.parts.SpanPart.{SpanPart}
 use Rattle.muen_num.proofs.Lists.{sum_by-map}
 use Rattle.muen_num.specs.declared.limits.TheConstants.{MOST_BLOCK_BYTES, PAGE}
-use Rattle.policy_types.specs.declared.source.Block.{Block}
-use Rattle.policy_types.specs.declared.source.Device.{Device}
-use Rattle.policy_types.specs.declared.source.Region.{Region as SourceRegion}
+use Rattle.policy_lawful.specs.source.Block.{Block}
+use Rattle.policy_lawful.specs.source.Device.{Device}
+use Rattle.policy_lawful.specs.source.Region.{Region as SourceRegion}
 use Rattle.span_emit.specs.Spans.{region_span, region_spans}
 use Rattle.span_emit.proofs.Placed.{IsPlaced}
 use Rattle.span_emit.proofs.RegionSpans.{AreApart, IsRegionSpan, as_many, region_spans_apart, region_spans_are}

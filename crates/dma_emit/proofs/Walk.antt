@@ -31,7 +31,7 @@ use Rattle.machine_layout.specs.PageFields.{number_at}
 use Rattle.machine_layout.specs.Walks.{bits_of}
 use Rattle.muen_num.proofs.Lists.{find-map}
 use Rattle.muen_num.proofs.Members.{In, all_in, any_in, find_in}
-use Rattle.policy_types.specs.Rights.{allows}
+use Rattle.policy_lawful.specs.Rights.{allows}
 
 -- where a window leads an access, where it has the right
 abbrev pub led : Option Window → ℕ → Bool → Option ℕ

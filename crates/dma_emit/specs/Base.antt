@@ -4,7 +4,7 @@ use Rattle.std.specs.List.{list_all}
 use Rattle.muen_num.specs.declared.limits.TheConstants.{PAGE}
 use Rattle.policy_lawful.specs.Rules.{extents_of}
 use Rattle.policy_lawful.specs.declared.offence.Extent.{Extent}
-use Rattle.policy_types.specs.declared.source.Source.{Source}
+use Rattle.policy_lawful.specs.source.Source.{Source}
 
 -- so many bytes from an address on share none with any of these ranges
 abbrev pub is_free : List Extent → ℕ → ℕ → Bool

@@ -8,16 +8,16 @@ use Rattle.dma_emit.specs.declared.devices.DomainDevice.{DomainDevice}
 use Rattle.dma_emit.specs.declared.domains.Domains.{Domains}
 use Rattle.ept_emit.specs.declared.window.Leaf.TheVariants.{Small}
 use Rattle.ept_emit.specs.declared.window.Window.{Window}
-use Rattle.expand_grants.specs.Ordered.{in_order}
+use Rattle.expand_kernel.specs.Ordered.{in_order}
 use Rattle.muen_num.specs.declared.limits.TheConstants.{BDF_FUNCTIONS}
 use Rattle.policy_lawful.specs.Resolution.{source_of}
-use Rattle.policy_types.specs.declared.rights.Caching.TheVariants.{Uc}
-use Rattle.policy_types.specs.declared.source.Bdf.{Bdf}
-use Rattle.policy_types.specs.declared.source.Device.{Device}
-use Rattle.policy_types.specs.declared.source.Domain.{Domain}
-use Rattle.policy_types.specs.declared.source.Mapping.{Mapping}
-use Rattle.policy_types.specs.declared.source.Region.{Region}
-use Rattle.policy_types.specs.declared.source.Source.{Source}
+use Rattle.policy_lawful.specs.rights.Caching.TheVariants.{Uc}
+use Rattle.policy_lawful.specs.source.Bdf.{Bdf}
+use Rattle.policy_lawful.specs.source.Device.{Device}
+use Rattle.policy_lawful.specs.source.Domain.{Domain}
+use Rattle.policy_lawful.specs.source.Mapping.{Mapping}
+use Rattle.policy_lawful.specs.source.Region.{Region}
+use Rattle.policy_lawful.specs.source.Source.{Source}
 use Rattle.region_alloc.specs.Placed.{Placement}
 
 -- ---- devices

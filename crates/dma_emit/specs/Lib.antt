@@ -1,3 +1,4 @@
+pub use Rattle.region_alloc.specs.Placed
 pub mod Base
 pub mod Domains
 pub mod Emitted

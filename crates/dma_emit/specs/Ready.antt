@@ -11,8 +11,8 @@ use Rattle.ept_emit.specs.Pages.{AreApart, ranges_of}
 use Rattle.ept_emit.specs.declared.window.Leaf.TheVariants.{Small}
 use Rattle.ept_emit.specs.declared.window.Window.{Window}
 use Rattle.muen_num.specs.declared.limits.TheConstants.{MOST_DEVICES, MOST_DOMAINS}
-use Rattle.policy_types.specs.Rights.{may_execute}
-use Rattle.policy_types.specs.declared.rights.Caching.TheVariants.{Uc}
+use Rattle.policy_lawful.specs.Rights.{may_execute}
+use Rattle.policy_lawful.specs.rights.Caching.TheVariants.{Uc}
 
 abbrev pub same_guest : Window → Window → Bool
 same_guest a b = a.guest == b.guest

@@ -8,8 +8,8 @@ ghost use Rattle.policy_lawful.specs.Resolution.{source_of};
 ghost use Rattle.policy_lawful.specs.Rules.{extents_of};
 
 use muen_num::limits::PAGE;
+use policy_lawful::source::{Block, DeviceMemory};
 use policy_lawful::{Extent, Resolved};
-use policy_types::source::{Block, DeviceMemory};
 use region_alloc::Placed;
 use std::alloc::{AllocError, Global};
 

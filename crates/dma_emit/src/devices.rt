@@ -11,7 +11,7 @@ use dma_tables::DmaDevice;
 use muen_num::Name;
 use muen_num::limits::BDF_FUNCTIONS;
 use policy_lawful::Resolved;
-use policy_types::source::{Bdf, Device, Domain};
+use policy_lawful::source::{Bdf, Device, Domain};
 use std::alloc::{AllocError, Global};
 
 /// A device that stands in a domain.

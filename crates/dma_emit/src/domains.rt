@@ -9,7 +9,7 @@ use crate::devices::{DomainDevice, domain_devices};
 use crate::windows::windows_of;
 use ept_emit::Window;
 use muen_num::{NoMemory, Seq};
-use policy_types::source::Domain;
+use policy_lawful::source::Domain;
 use region_alloc::Placed;
 use std::alloc::Global;
 

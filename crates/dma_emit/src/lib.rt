@@ -16,3 +16,4 @@ mod windows;
 pub use devices::DomainDevice;
 pub use domains::{Domains, domains_of};
 pub use emitted::emit;
+pub use region_alloc::Placed;

@@ -12,7 +12,7 @@ use crate::layout::has_device;
 use ept_emit::{Window, write_tables};
 use muen_num::limits::PAGE;
 use muen_num::{NoMemory, Seq};
-use policy_types::Rights;
+use policy_lawful::Rights;
 use std::alloc::{AllocError, Global};
 
 // The tables of these windows, so many pages, of which the first is this one of physical memory.

@@ -8,8 +8,8 @@ ghost use Rattle.dma_emit.specs.Ready.{HaveDifferentGuests};
 
 use ept_emit::{Leaf, Window};
 use muen_num::{Name, NoMemory, Seq};
-use policy_types::Caching;
-use policy_types::source::{Domain, Mapping, Region};
+use policy_lawful::Caching;
+use policy_lawful::source::{Domain, Mapping, Region};
 use region_alloc::Placed;
 use std::alloc::{AllocError, Global};
 

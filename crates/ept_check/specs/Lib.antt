@@ -1,3 +1,9 @@
+pub use Rattle.ept_emit.specs.Emitted
+pub use Rattle.ept_emit.specs.Reads
+pub use Rattle.ept_emit.specs.declared.window
+pub use Rattle.machine_layout.specs.Memory
+pub use Rattle.machine_layout.specs.Walks
+pub use Rattle.machine_layout.specs.declared.walk
 pub mod Entries
 pub mod Search
 pub mod Tables

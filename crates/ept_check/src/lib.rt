@@ -11,4 +11,5 @@ mod types;
 mod windows;
 
 pub use entering::check;
+pub use ept_emit::{Leaf, Window};
 pub use types::{Checked, FaultKind, SubjectTables, TableFault};

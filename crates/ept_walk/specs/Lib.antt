@@ -1,1 +1,2 @@
+pub use Rattle.machine_layout.specs.Memory
 pub mod Fits

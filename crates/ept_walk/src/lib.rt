@@ -4,5 +4,6 @@
 mod plain;
 mod translation;
 
+pub use phys_mem::PhysMem;
 pub use plain::PlainWalk;
 pub use translation::Translate;

@@ -12,8 +12,8 @@ use Rattle.muen_num.specs.Range.{numbers_below}
 use Rattle.muen_num.proofs.Lists.{map-map, option_map-option_map, there}
 use Rattle.policy_lawful.specs.Lawful.{IsLawful}
 use Rattle.policy_lawful.specs.Resolution.{Resolution, source_of}
-use Rattle.policy_types.specs.declared.source.Device.{Device}
-use Rattle.policy_types.specs.declared.source.Irq.{Irq}
+use Rattle.policy_lawful.specs.source.Device.{Device}
+use Rattle.policy_lawful.specs.source.Irq.{Irq}
 
 module _ (r : Resolution) (names : list_all has_name r.subjects ≡ true) (lawful : IsLawful (source_of r)) (routes : List Route) (are : AreRoutes r routes) where
   -- ---- interrupts of a device

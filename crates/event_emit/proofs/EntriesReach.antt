@@ -22,9 +22,9 @@ use Rattle.policy_lawful.specs.declared.resolved.Subject.{Subject}
 use Rattle.policy_lawful.proofs.KeptLimits.{limits_kept}
 use Rattle.policy_lawful.proofs.SourceElements.{many_subjects}
 use Rattle.policy_lawful.specs.Events.{event_of}
-use Rattle.policy_types.specs.declared.source.Device.{Device}
-use Rattle.policy_types.specs.declared.source.Irq.{Irq}
-use Rattle.policy_types.specs.declared.source.SourceWay.{SourceWay}
+use Rattle.policy_lawful.specs.source.Device.{Device}
+use Rattle.policy_lawful.specs.source.Irq.{Irq}
+use Rattle.policy_lawful.specs.source.SourceWay.{SourceWay}
 
 -- where a name isn't empty, it stands at an index that is there
 named_within : (names : List (List ℕ)) (k : ℕ) → has_letters (name_at names k) ≡ true → k < length names

@@ -18,16 +18,16 @@ use Rattle.muen_num.specs.declared.mode.EventMode.TheVariants.{Asap, Async, Own,
 use Rattle.policy_lawful.specs.MoreRules.{fits_event, has_vector, is_connected, is_switch, is_writer, offence_15, offence_6, readers_of, writers_of}
 use Rattle.policy_lawful.specs.Offences.{alone}
 use Rattle.policy_lawful.specs.Events.{ChannelEnd, Raised, Target, channel_ends, channel_event, channel_targets, event_of, event_targets, irq_of, named_event, reads_from, same_way, writes_by}
-use Rattle.policy_types.specs.declared.rights.Role.{Role}
-use Rattle.policy_types.specs.declared.rights.Role.TheVariants.{Reader, Writer}
-use Rattle.policy_types.specs.declared.source.Channel.{Channel}
-use Rattle.policy_types.specs.declared.source.DeviceUse.{DeviceUse}
-use Rattle.policy_types.specs.declared.source.Event.{Event}
-use Rattle.policy_types.specs.declared.source.EventTarget.{EventTarget}
-use Rattle.policy_types.specs.declared.source.IrqUse.{IrqUse}
-use Rattle.policy_types.specs.declared.source.Source.{Source}
-use Rattle.policy_types.specs.declared.source.SourceWay.{SourceWay}
-use Rattle.policy_types.specs.declared.source.Subject.{Subject}
+use Rattle.policy_lawful.specs.rights.Role.{Role}
+use Rattle.policy_lawful.specs.rights.Role.TheVariants.{Reader, Writer}
+use Rattle.policy_lawful.specs.source.Channel.{Channel}
+use Rattle.policy_lawful.specs.source.DeviceUse.{DeviceUse}
+use Rattle.policy_lawful.specs.source.Event.{Event}
+use Rattle.policy_lawful.specs.source.EventTarget.{EventTarget}
+use Rattle.policy_lawful.specs.source.IrqUse.{IrqUse}
+use Rattle.policy_lawful.specs.source.Source.{Source}
+use Rattle.policy_lawful.specs.source.SourceWay.{SourceWay}
+use Rattle.policy_lawful.specs.source.Subject.{Subject}
 use Rattle.policy_lawful.proofs.KeptVectors.{each_keeps_vectors, is_free, is_free_if_any, keeps_vectors, vectors_kept}
 
 -- ---- vectors

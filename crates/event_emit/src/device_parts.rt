@@ -11,7 +11,7 @@ use expand_grants::Route;
 use expand_kernel::Expanded;
 use image_pack::{DevicePart, IrqPart, WindowPart};
 use muen_num::{IrqTarget, NoMemory, PortSpan, Seq};
-use policy_types::source::{Device, Irq, Ports};
+use policy_lawful::source::{Device, Irq, Ports};
 use std::alloc::Global;
 
 fn port_span(ports: &Ports) -> PortSpan

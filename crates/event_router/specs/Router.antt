@@ -3,7 +3,7 @@ use Rattle.std.specs.Prelude.{ℕ, Bool, false, ◌||◌, List, map, slice_get, 
 use Rattle.muen_num.specs.ListChange.{change_at}
 use Rattle.image_pack.specs.declared.parts.EventPart.{EventPart}
 use Rattle.image_pack.specs.declared.parts.SubjectPart.{SubjectPart}
-use Rattle.frame_clock.specs.declared.plan.GroupPart.{GroupPart}
+use Rattle.image_pack.specs.plan.GroupPart.{GroupPart}
 use Rattle.muen_num.specs.declared.mode.EventMode.{EventMode}
 use Rattle.muen_num.specs.declared.mode.EventMode.TheVariants.{Asap, Async, Own, Switch}
 use Rattle.event_router.specs.Vectors.{no_vectors, has, with_vector, without_vector, delivered}

@@ -5,8 +5,7 @@ ghost use Rattle.event_router.specs.Vectors.{no_vectors, with_vector, without_ve
 ghost use Rattle.event_router.specs.Router.{started, pends, pends_now, with_active, raised, delivered_by, deliverable, taken, is_pending, has_in};
 
 use crate::vectors::{VectorSet, delivered};
-use frame_clock::GroupPart;
-use image_pack::{EventPart, SubjectPart};
+use image_pack::{EventPart, GroupPart, SubjectPart};
 use muen_num::{EventMode, NoMemory};
 use std::alloc::{AllocError, Global};
 use std::marker::Model;

@@ -12,12 +12,12 @@ use Rattle.policy_lawful.specs.Resolution.{IsResolved, Resolution, name_at, sour
 use Rattle.policy_lawful.specs.declared.resolved.EventSource.{EventSource}
 use Rattle.policy_lawful.specs.declared.resolved.Subject.{Subject}
 use Rattle.policy_lawful.specs.Events.{ChannelEnd, channel_event, event_of, is_call, named_event, same_way, writes_by}
-use Rattle.policy_types.specs.declared.rights.Role.{Role}
-use Rattle.policy_types.specs.declared.rights.Role.TheVariants.{Reader, Writer}
-use Rattle.policy_types.specs.declared.source.Event.{Event}
-use Rattle.policy_types.specs.declared.source.EventSource.{EventSource as NamedSource}
-use Rattle.policy_types.specs.declared.source.SourceWay.{SourceWay}
-use Rattle.policy_types.specs.declared.source.SourceWay.TheVariants.{Call as SourceCall, Trap as SourceTrap}
+use Rattle.policy_lawful.specs.rights.Role.{Role}
+use Rattle.policy_lawful.specs.rights.Role.TheVariants.{Reader, Writer}
+use Rattle.policy_lawful.specs.source.Event.{Event}
+use Rattle.policy_lawful.specs.source.EventSource.{EventSource as NamedSource}
+use Rattle.policy_lawful.specs.source.SourceWay.{SourceWay}
+use Rattle.policy_lawful.specs.source.SourceWay.TheVariants.{Call as SourceCall, Trap as SourceTrap}
 use Rattle.policy_lawful.specs.Views.{channel_end_named, channel_ends_of}
 use Rattle.policy_lawful.specs.declared.view.IndexedEnd.{IndexedEnd}
 use Rattle.policy_lawful.proofs.EndsByIndex.{ends_by_index, ends_in_range}

@@ -11,13 +11,13 @@ use Rattle.policy_lawful.specs.MoreRules.{are_distinct, are_numbers, call_number
 use Rattle.policy_lawful.specs.Resolution.{IsResolved, Resolution, source_of, subject_named, subject_in_range}
 use Rattle.policy_lawful.specs.declared.resolved.Subject.{Subject}
 use Rattle.policy_lawful.specs.Events.{ChannelEnd, channel_ends, is_call, same_way, writes_by, trap_number}
-use Rattle.policy_types.specs.declared.rights.Role.{Role}
-use Rattle.policy_types.specs.declared.rights.Role.TheVariants.{Reader, Writer}
-use Rattle.policy_types.specs.declared.source.EventSource.{EventSource as NamedSource}
-use Rattle.policy_types.specs.declared.source.Source.{Source}
-use Rattle.policy_types.specs.declared.source.SourceWay.{SourceWay}
-use Rattle.policy_types.specs.declared.source.SourceWay.TheVariants.{Call, Trap}
-use Rattle.policy_types.specs.declared.source.Subject.{Subject as NamedSubject}
+use Rattle.policy_lawful.specs.rights.Role.{Role}
+use Rattle.policy_lawful.specs.rights.Role.TheVariants.{Reader, Writer}
+use Rattle.policy_lawful.specs.source.EventSource.{EventSource as NamedSource}
+use Rattle.policy_lawful.specs.source.Source.{Source}
+use Rattle.policy_lawful.specs.source.SourceWay.{SourceWay}
+use Rattle.policy_lawful.specs.source.SourceWay.TheVariants.{Call, Trap}
+use Rattle.policy_lawful.specs.source.Subject.{Subject as NamedSubject}
 use Rattle.policy_lawful.specs.Views.{channel_end_named, channel_ends_of}
 use Rattle.policy_lawful.proofs.EndsByIndex.{ends_by_index}
 use Rattle.expand_grants.specs.Grants.{is_way}

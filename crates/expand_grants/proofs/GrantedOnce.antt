@@ -13,12 +13,12 @@ use Rattle.muen_num.proofs.SearchLaws.{all_none, all_pass, none_both}
 use Rattle.policy_lawful.specs.MoreRules.{device_offence, granted_once, offence_9, times_granted}
 use Rattle.policy_lawful.specs.Offences.{two}
 use Rattle.policy_lawful.specs.Events.{Target}
-use Rattle.policy_types.specs.declared.source.Device.{Device}
-use Rattle.policy_types.specs.declared.source.DeviceUse.{DeviceUse}
-use Rattle.policy_types.specs.declared.source.Irq.{Irq}
-use Rattle.policy_types.specs.declared.source.IrqUse.{IrqUse}
-use Rattle.policy_types.specs.declared.source.Source.{Source}
-use Rattle.policy_types.specs.declared.source.Subject.{Subject}
+use Rattle.policy_lawful.specs.source.Device.{Device}
+use Rattle.policy_lawful.specs.source.DeviceUse.{DeviceUse}
+use Rattle.policy_lawful.specs.source.Irq.{Irq}
+use Rattle.policy_lawful.specs.source.IrqUse.{IrqUse}
+use Rattle.policy_lawful.specs.source.Source.{Source}
+use Rattle.policy_lawful.specs.source.Subject.{Subject}
 use Rattle.expand_grants.proofs.Counted.{none_kept, sum_kept}
 
 -- the names of the interrupts that a use of a device grants

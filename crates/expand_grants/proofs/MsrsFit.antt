@@ -10,7 +10,7 @@ use Rattle.muen_num.proofs.SearchLaws.{all_pass}
 use Rattle.policy_lawful.specs.MoreRules.{is_msr_range, msrs_apart, offence_11}
 use Rattle.policy_lawful.specs.Offences.{alone}
 use Rattle.policy_lawful.specs.Resolution.{Resolution, source_of, subject_named}
-use Rattle.policy_types.specs.declared.source.Msrs.{Msrs}
+use Rattle.policy_lawful.specs.source.Msrs.{Msrs}
 use Rattle.expand_grants.specs.ByIndex.{fits_msrs}
 use Rattle.std.proofs.Common.{sym, ◌∙◌}
 

@@ -19,12 +19,12 @@ use Rattle.policy_lawful.specs.declared.resolved.IrqUse.{IrqUse}
 use Rattle.policy_lawful.specs.declared.resolved.Subject.{Subject}
 use Rattle.policy_lawful.proofs.SourceElements.{parts_in_range}
 use Rattle.policy_lawful.specs.Events.{channel_ends, trap_number}
-use Rattle.policy_types.specs.declared.source.EventSource.{EventSource as NamedSource}
-use Rattle.policy_types.specs.declared.source.EventTarget.{EventTarget as NamedTarget}
-use Rattle.policy_types.specs.declared.source.IrqUse.{IrqUse as NamedIrq}
-use Rattle.policy_types.specs.declared.source.SourceWay.{SourceWay}
-use Rattle.policy_types.specs.declared.source.SourceWay.TheVariants.{Call, Trap}
-use Rattle.policy_types.specs.declared.source.Subject.{Subject as NamedSubject}
+use Rattle.policy_lawful.specs.source.EventSource.{EventSource as NamedSource}
+use Rattle.policy_lawful.specs.source.EventTarget.{EventTarget as NamedTarget}
+use Rattle.policy_lawful.specs.source.IrqUse.{IrqUse as NamedIrq}
+use Rattle.policy_lawful.specs.source.SourceWay.{SourceWay}
+use Rattle.policy_lawful.specs.source.SourceWay.TheVariants.{Call, Trap}
+use Rattle.policy_lawful.specs.source.Subject.{Subject as NamedSubject}
 use Rattle.policy_lawful.specs.Views.{channel_end_named, channel_ends_of}
 use Rattle.policy_lawful.proofs.EndsByIndex.{ends_by_index}
 use Rattle.expand_grants.specs.ByIndex.{fits_irq, fits_use, fits_uses}

@@ -19,8 +19,8 @@ use Rattle.policy_lawful.specs.declared.resolved.DeviceUse.{DeviceUse}
 use Rattle.policy_lawful.specs.declared.resolved.Subject.{Subject}
 use Rattle.policy_lawful.proofs.Indexes.{found_at_index}
 use Rattle.policy_lawful.proofs.UniqueNames.{parts_unique, unique}
-use Rattle.policy_types.specs.declared.source.Device.{Device}
-use Rattle.policy_types.specs.declared.source.Ports.{Ports}
+use Rattle.policy_lawful.specs.source.Device.{Device}
+use Rattle.policy_lawful.specs.source.Ports.{Ports}
 use Rattle.policy_lawful.proofs.WindowsByIndex.{subject_parts}
 use Rattle.expand_grants.specs.ByIndex.{fits_device, fits_ports, range_at, ranges_at}
 use Rattle.expand_grants.specs.Resources.{device_ranges, port_ranges_of, range_of}

@@ -18,10 +18,10 @@ use Rattle.policy_lawful.proofs.Indexes.{found_at_index, same_name, same_self}
 use Rattle.policy_lawful.proofs.SourceElements.{parts_in_range}
 use Rattle.policy_lawful.proofs.UniqueNames.{unique}
 use Rattle.policy_lawful.specs.Events.{ChannelEnd, channel_ends, channel_event, channel_targets, reads_from}
-use Rattle.policy_types.specs.declared.rights.Role.{Role}
-use Rattle.policy_types.specs.declared.rights.Role.TheVariants.{Reader, Writer}
-use Rattle.policy_types.specs.declared.source.Channel.{Channel}
-use Rattle.policy_types.specs.declared.source.Subject.{Subject as NamedSubject}
+use Rattle.policy_lawful.specs.rights.Role.{Role}
+use Rattle.policy_lawful.specs.rights.Role.TheVariants.{Reader, Writer}
+use Rattle.policy_lawful.specs.source.Channel.{Channel}
+use Rattle.policy_lawful.specs.source.Subject.{Subject as NamedSubject}
 use Rattle.policy_lawful.specs.Views.{channel_end_named, channel_ends_of}
 use Rattle.policy_lawful.specs.declared.view.IndexedEnd.{IndexedEnd}
 use Rattle.policy_lawful.proofs.EndsByIndex.{ends_by_index, ends_in_range}

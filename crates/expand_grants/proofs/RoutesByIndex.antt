@@ -22,9 +22,9 @@ use Rattle.policy_lawful.proofs.KeptRules.{rules_of}
 use Rattle.policy_lawful.proofs.SourceElements.{parts_in_range}
 use Rattle.policy_lawful.proofs.UniqueNames.{parts_unique, unique}
 use Rattle.policy_lawful.specs.Events.{Target, irq_of}
-use Rattle.policy_types.specs.declared.source.Device.{Device}
-use Rattle.policy_types.specs.declared.source.Irq.{Irq}
-use Rattle.policy_types.specs.declared.source.IrqUse.{IrqUse as NamedIrq}
+use Rattle.policy_lawful.specs.source.Device.{Device}
+use Rattle.policy_lawful.specs.source.Irq.{Irq}
+use Rattle.policy_lawful.specs.source.IrqUse.{IrqUse as NamedIrq}
 use Rattle.policy_lawful.proofs.WindowsByIndex.{name_there, subject_parts, within_names}
 use Rattle.expand_grants.specs.ByIndex.{all_routes, device_routes, route, subject_routes}
 use Rattle.expand_grants.specs.Grants.{AreRoutes, is_interrupt, is_route_of, routed, target_named}

@@ -15,9 +15,9 @@ use Rattle.policy_lawful.proofs.Indexes.{found_at_index, same_name}
 use Rattle.policy_lawful.proofs.SourceElements.{parts_in_range}
 use Rattle.policy_lawful.proofs.UniqueNames.{unique}
 use Rattle.policy_lawful.specs.Events.{Target, event_targets, named_event}
-use Rattle.policy_types.specs.declared.source.Event.{Event}
-use Rattle.policy_types.specs.declared.source.EventTarget.{EventTarget as NamedTarget}
-use Rattle.policy_types.specs.declared.source.Subject.{Subject as NamedSubject}
+use Rattle.policy_lawful.specs.source.Event.{Event}
+use Rattle.policy_lawful.specs.source.EventTarget.{EventTarget as NamedTarget}
+use Rattle.policy_lawful.specs.source.Subject.{Subject as NamedSubject}
 use Rattle.policy_lawful.proofs.WindowsByIndex.{name_there}
 use Rattle.expand_grants.specs.Grants.{raised_named, target_named}
 use Rattle.expand_grants.specs.Raising.{all_targets, entry, first_reached, subject_targets, target_reached}

@@ -8,7 +8,7 @@ use Rattle.expand_grants.specs.Resources.{port_ranges_of}
 use Rattle.policy_lawful.specs.Resolution.{Resolution, source_of, subject_named}
 use Rattle.policy_lawful.specs.declared.resolved.Subject.{Subject}
 use Rattle.policy_lawful.specs.Events.{event_of}
-use Rattle.policy_types.specs.declared.source.SourceWay.{SourceWay}
+use Rattle.policy_lawful.specs.source.SourceWay.{SourceWay}
 use Rattle.policy_lawful.specs.Views.{views_of}
 use Rattle.policy_lawful.specs.declared.view.View.{View}
 

@@ -2,15 +2,15 @@
 use Rattle.std.specs.Prelude.{ℕ, ◌+◌, ◌-◌, ◌==◌, ◌&&◌, if◌then◌else◌, Bool, List, map, filter, nat_le, option_and_then, option_map}
 use Rattle.std.specs.List.{filter_map, find, flat_map, list_all, list_any}
 use Rattle.std.specs.Str.{bytes_eq}
-use Rattle.policy_types.specs.declared.resources.MsrGrant.{MsrGrant}
-use Rattle.policy_types.specs.declared.resources.PortRange.{PortRange}
+use Rattle.policy_lawful.specs.resources.MsrGrant.{MsrGrant}
+use Rattle.policy_lawful.specs.resources.PortRange.{PortRange}
 use Rattle.muen_num.specs.Range.{numbers_below}
 use Rattle.muen_num.specs.declared.limits.TheConstants.{LAST_PORT}
-use Rattle.policy_types.specs.declared.source.DeviceUse.{DeviceUse}
-use Rattle.policy_types.specs.declared.source.Msrs.{Msrs}
-use Rattle.policy_types.specs.declared.source.Ports.{Ports}
-use Rattle.policy_types.specs.declared.source.Source.{Source}
-use Rattle.policy_types.specs.declared.source.Subject.{Subject}
+use Rattle.policy_lawful.specs.source.DeviceUse.{DeviceUse}
+use Rattle.policy_lawful.specs.source.Msrs.{Msrs}
+use Rattle.policy_lawful.specs.source.Ports.{Ports}
+use Rattle.policy_lawful.specs.source.Source.{Source}
+use Rattle.policy_lawful.specs.source.Subject.{Subject}
 
 -- ---- ports
 

@@ -8,9 +8,8 @@ use crate::granted::{EventEntry, Way};
 use crate::reached::{Reached, first_reached, small};
 use muen_num::{EventMode, NoMemory, Seq};
 use policy_lawful::resolved::{EventSource, Subject};
-use policy_lawful::{IndexedEnd, Resolved};
-use policy_types::Role;
-use policy_types::source::{Channel, Event, SourceWay};
+use policy_lawful::source::{Channel, Event, SourceWay};
+use policy_lawful::{IndexedEnd, Resolved, Role};
 use std::alloc::Global;
 
 fn way_of(way: SourceWay) -> Way

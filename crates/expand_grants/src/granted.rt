@@ -1,7 +1,6 @@
 //! What is granted to a subject, and routes of interrupts.
 use muen_num::{EventMode, Seq};
-use policy_lawful::View;
-use policy_types::{MsrGrant, PortRange};
+use policy_lawful::{MsrGrant, PortRange, View};
 
 /// The way in which a subject raises an event.
 #[derive(Clone, Copy, Debug, PartialEq, Eq)]

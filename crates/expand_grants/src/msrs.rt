@@ -5,8 +5,8 @@ ghost use Rattle.expand_grants.specs.ByIndex.{fits_msrs};
 ghost use Rattle.expand_grants.specs.Resources.{msr_grant};
 
 use muen_num::{NoMemory, Seq};
-use policy_types::MsrGrant;
-use policy_types::source::Msrs;
+use policy_lawful::MsrGrant;
+use policy_lawful::source::Msrs;
 use std::alloc::Global;
 
 fn msr_grant(msrs: &Msrs) -> MsrGrant

@@ -6,9 +6,9 @@ ghost use Rattle.expand_grants.specs.Resources.{range_of};
 
 use crate::append::push_some;
 use muen_num::{NoMemory, Seq};
+use policy_lawful::PortRange;
 use policy_lawful::resolved::DeviceUse;
-use policy_types::PortRange;
-use policy_types::source::{Device, Ports};
+use policy_lawful::source::{Device, Ports};
 use std::alloc::Global;
 
 fn range(ports: &Ports) -> PortRange

@@ -7,8 +7,7 @@ ghost use Rattle.expand_grants.specs.Raising.{all_readers, all_targets, first_re
 use crate::append::push_some;
 use muen_num::NoMemory;
 use policy_lawful::resolved::{EventTarget, Subject};
-use policy_lawful::{IndexedEnd, Resolved};
-use policy_types::Role;
+use policy_lawful::{IndexedEnd, Resolved, Role};
 use std::alloc::Global;
 
 /// A subject that is reached.

@@ -10,7 +10,7 @@ use Rattle.policy_lawful.specs.declared.resolved.Subject.{Subject}
 use Rattle.policy_lawful.proofs.Indexes.{found_at_index}
 use Rattle.policy_lawful.proofs.UniqueNames.{unique}
 use Rattle.policy_lawful.specs.Thing.{component_by}
-use Rattle.policy_types.specs.declared.source.Component.{Component}
+use Rattle.policy_lawful.specs.source.Component.{Component}
 use Rattle.policy_lawful.proofs.WindowsByIndex.{subject_parts}
 use Rattle.expand_kernel.specs.ByIndex.{brought_at, provided_region, provided_regions}
 use Rattle.policy_lawful.specs.ByIndex.{provided_at}

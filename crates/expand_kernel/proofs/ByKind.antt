@@ -4,8 +4,8 @@ use Rattle.std.specs.List.{flat_map}
 use Rattle.expand_kernel.specs.ByIndex.{channel_region, own_region, provided_regions}
 use Rattle.expand_kernel.specs.Regions.{kernel_regions_of, region_of, regions_of}
 use Rattle.policy_lawful.specs.Thing.{component_by}
-use Rattle.policy_meaning.proofs.Items.{map_placed}
-use Rattle.policy_types.specs.declared.source.Source.{Source}
+use Rattle.policy_lawful.proofs.Items.{map_placed}
+use Rattle.policy_lawful.specs.source.Source.{Source}
 
 -- memory, channels, what each subject's component brings along, the kernel's for each subject
 pub regions_are : (p : Source) → regions_of p ≡

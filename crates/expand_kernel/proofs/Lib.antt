@@ -1,3 +1,6 @@
+pub use Rattle.expand_grants.proofs.Counted
+pub use Rattle.expand_grants.proofs.LawfulSubjects
+pub use Rattle.expand_grants.proofs.Ordered
 pub mod BroughtByIndex
 pub mod ByKind
 pub mod GrantedViews

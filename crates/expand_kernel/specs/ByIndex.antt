@@ -10,10 +10,10 @@ use Rattle.expand_kernel.specs.declared.region.Region.{Region}
 use Rattle.policy_lawful.specs.ByIndex.{provided_at}
 use Rattle.policy_lawful.specs.Thing.{channel_item, provided_item, region_item}
 use Rattle.policy_lawful.specs.declared.resolved.Subject.{Subject}
-use Rattle.policy_types.specs.declared.source.Channel.{Channel}
-use Rattle.policy_types.specs.declared.source.Component.{Component}
-use Rattle.policy_types.specs.declared.source.Provided.{Provided}
-use Rattle.policy_types.specs.declared.source.Region.{Region as SourceRegion}
+use Rattle.policy_lawful.specs.source.Channel.{Channel}
+use Rattle.policy_lawful.specs.source.Component.{Component}
+use Rattle.policy_lawful.specs.source.Provided.{Provided}
+use Rattle.policy_lawful.specs.source.Region.{Region as SourceRegion}
 use Rattle.policy_lawful.specs.declared.view.View.{View}
 
 -- ---- of memory, of channels, of components

@@ -14,8 +14,8 @@ use Rattle.muen_num.specs.declared.tag.TagPart.{TagPart}
 use Rattle.muen_num.specs.declared.tag.TagPart.TheVariants.{State, Ept, Iobm, Msrbm, Msrs}
 use Rattle.policy_lawful.specs.Thing.{Item, Thing, channel, placed_items, provided, region, thing_tag}
 use Rattle.policy_lawful.specs.Windows.{Window, windows_of}
-use Rattle.policy_types.specs.declared.source.Source.{Source}
-use Rattle.policy_types.specs.declared.source.Subject.{Subject}
+use Rattle.policy_lawful.specs.source.Source.{Source}
+use Rattle.policy_lawful.specs.source.Subject.{Subject}
 
 -- a region that may be at any page
 abbrev pub anywhere : RegionKind → List ℕ → TagPart → ℕ → Region

@@ -6,6 +6,7 @@ mod kernel;
 mod numbered;
 mod region;
 
+pub use expand_grants::Grants;
 pub use expanded::{Expanded, expand};
 pub use kernel::KernelRegion;
 pub use region::{Region, RegionKind};

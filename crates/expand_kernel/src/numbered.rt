@@ -10,7 +10,7 @@ use muen_num::limits::PAGE;
 use muen_num::{Name, NoMemory, Tag, TagPart};
 use policy_lawful::Resolved;
 use policy_lawful::resolved::Subject;
-use policy_types::source::{Channel, Provided, Region as Memory};
+use policy_lawful::source::{Channel, Provided, Region as Memory};
 use std::alloc::{AllocError, Global};
 
 // A region that may be at any page.

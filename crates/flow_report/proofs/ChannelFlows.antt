@@ -13,8 +13,8 @@ use Rattle.policy_lawful.specs.declared.resolved.Subject.{Subject}
 use Rattle.policy_lawful.proofs.Indexes.{same_name}
 use Rattle.policy_lawful.proofs.UniqueNames.{unique}
 use Rattle.policy_lawful.specs.Events.{ChannelEnd, channel_ends, reads_from}
-use Rattle.policy_types.specs.declared.rights.Role.{Role}
-use Rattle.policy_types.specs.declared.rights.Role.TheVariants.{Writer, Reader}
+use Rattle.policy_lawful.specs.rights.Role.{Role}
+use Rattle.policy_lawful.specs.rights.Role.TheVariants.{Writer, Reader}
 use Rattle.policy_lawful.specs.Views.{channel_end_named, channel_ends_of}
 use Rattle.policy_lawful.specs.declared.view.IndexedEnd.{IndexedEnd}
 use Rattle.policy_lawful.proofs.EndsByIndex.{ends_by_index, ends_in_range}

@@ -19,11 +19,11 @@ use Rattle.policy_lawful.proofs.Indexes.{found_at_index, same_name}
 use Rattle.policy_lawful.proofs.SourceElements.{parts_in_range}
 use Rattle.policy_lawful.proofs.UniqueNames.{unique}
 use Rattle.policy_lawful.specs.Events.{Target, event_targets, named_event, same_way}
-use Rattle.policy_types.specs.declared.source.Event.{Event}
-use Rattle.policy_types.specs.declared.source.EventSource.{EventSource}
-use Rattle.policy_types.specs.declared.source.EventTarget.{EventTarget}
-use Rattle.policy_types.specs.declared.source.SourceWay.{SourceWay}
-use Rattle.policy_types.specs.declared.source.Subject.{Subject as NamedSubject}
+use Rattle.policy_lawful.specs.source.Event.{Event}
+use Rattle.policy_lawful.specs.source.EventSource.{EventSource}
+use Rattle.policy_lawful.specs.source.EventTarget.{EventTarget}
+use Rattle.policy_lawful.specs.source.SourceWay.{SourceWay}
+use Rattle.policy_lawful.specs.source.Subject.{Subject as NamedSubject}
 use Rattle.policy_lawful.proofs.WindowsByIndex.{name_there}
 use Rattle.flow_report.specs.Flows.{reaches}
 use Rattle.flow_report.proofs.EventWays.{by_source}

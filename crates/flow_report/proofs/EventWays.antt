@@ -5,13 +5,13 @@ use Rattle.std.specs.Option.{option_or}
 use Rattle.std.specs.List.{filter_map, find}
 use Rattle.std.proofs.lemmas.Bool.{eqb-true}
 use Rattle.policy_lawful.specs.Events.{ChannelEnd, Raised, channel_ends, channel_event, event_of, is_call, named_event, same_way, writes_by}
-use Rattle.policy_types.specs.declared.rights.Role.{Role}
-use Rattle.policy_types.specs.declared.rights.Role.TheVariants.{Writer, Reader}
-use Rattle.policy_types.specs.declared.source.EventSource.{EventSource}
-use Rattle.policy_types.specs.declared.source.Source.{Source}
-use Rattle.policy_types.specs.declared.source.SourceWay.{SourceWay}
-use Rattle.policy_types.specs.declared.source.SourceWay.TheVariants.{Call, Trap}
-use Rattle.policy_types.specs.declared.source.Subject.{Subject}
+use Rattle.policy_lawful.specs.rights.Role.{Role}
+use Rattle.policy_lawful.specs.rights.Role.TheVariants.{Writer, Reader}
+use Rattle.policy_lawful.specs.source.EventSource.{EventSource}
+use Rattle.policy_lawful.specs.source.Source.{Source}
+use Rattle.policy_lawful.specs.source.SourceWay.{SourceWay}
+use Rattle.policy_lawful.specs.source.SourceWay.TheVariants.{Call, Trap}
+use Rattle.policy_lawful.specs.source.Subject.{Subject}
 use Rattle.flow_report.specs.Flows.{by_event, reaches, ways_of}
 use Rattle.muen_num.proofs.Members.{In, any_in, filter_map_in, find_in, left_in, map_in, right_in}
 

@@ -8,7 +8,7 @@ use Rattle.std.proofs.lemmas.Option.{slice_get_within}
 use Rattle.muen_num.proofs.Lists.{map-map}
 use Rattle.policy_lawful.specs.Resolution.{IsResolved, Resolution, source_of, subject_named}
 use Rattle.policy_lawful.specs.declared.resolved.Subject.{Subject}
-use Rattle.policy_types.specs.declared.source.Subject.{Subject as NamedSubject}
+use Rattle.policy_lawful.specs.source.Subject.{Subject as NamedSubject}
 use Rattle.flow_report.specs.Flows.{closure_of, flows_to}
 use Rattle.muen_num.proofs.Members.{In, map_agree}
 use Rattle.flow_report.specs.ByIndex.{all_contacts_of, contacts_of, flows_between, rows_of}

@@ -14,8 +14,8 @@ use Rattle.policy_lawful.specs.declared.resolved.Subject.{Subject}
 use Rattle.policy_lawful.proofs.Indexes.{same_name, same_self}
 use Rattle.policy_lawful.proofs.SourceElements.{parts_in_range}
 use Rattle.policy_lawful.proofs.UniqueNames.{subject_names, subjects_unique}
-use Rattle.policy_types.specs.declared.source.Source.{Source}
-use Rattle.policy_types.specs.declared.source.Subject.{Subject as NamedSubject}
+use Rattle.policy_lawful.specs.source.Source.{Source}
+use Rattle.policy_lawful.specs.source.Subject.{Subject as NamedSubject}
 use Rattle.policy_lawful.proofs.WindowsByIndex.{name_there}
 use Rattle.muen_num.proofs.Members.{In}
 use Rattle.flow_report.proofs.MarkedSets.{HasUniqueNames}

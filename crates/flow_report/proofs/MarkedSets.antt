@@ -4,8 +4,8 @@ use Rattle.std.specs.Prelude.{◌&&◌, ◌||◌}
 use Rattle.std.specs.List.{AllZip, list_any, zip}
 use Rattle.std.specs.Str.{bytes_eq}
 use Rattle.std.proofs.lemmas.Bool.Decides.{same_from_decides}
-use Rattle.policy_types.specs.declared.source.Source.{Source}
-use Rattle.policy_types.specs.declared.source.Subject.{Subject}
+use Rattle.policy_lawful.specs.source.Source.{Source}
+use Rattle.policy_lawful.specs.source.Subject.{Subject}
 use Rattle.flow_report.specs.Flows.{IsLeastClosed, closure_of, flows_to, is_member, rounds}
 use Rattle.flow_report.specs.Marks.{after_rounds, round, touches}
 use Rattle.flow_report.specs.Sets.{AreFlows, AreLeastClosed, marked, members_of}

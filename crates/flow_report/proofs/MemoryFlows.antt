@@ -13,7 +13,7 @@ use Rattle.policy_lawful.specs.Rules.{maps}
 use Rattle.policy_lawful.specs.declared.resolved.Subject.{Subject}
 use Rattle.policy_lawful.specs.Thing.{Thing, region, channel, provided, device_memory, state, same_thing}
 use Rattle.policy_lawful.specs.Windows.{Window, windows_of}
-use Rattle.policy_types.specs.Rights.{allows}
+use Rattle.policy_lawful.specs.Rights.{allows}
 use Rattle.policy_lawful.specs.Views.{is_on_region, thing_shown, view_window, views_of}
 use Rattle.policy_lawful.specs.declared.view.Shown.{Shown}
 use Rattle.policy_lawful.specs.declared.view.Shown.TheVariants.{Memory, Channel, Provided as Given, Device, State}

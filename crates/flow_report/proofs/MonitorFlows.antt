@@ -11,8 +11,8 @@ use Rattle.policy_lawful.specs.Resolution.{IsResolved, Resolution, name_at, sour
 use Rattle.policy_lawful.specs.declared.resolved.Monitor.{Monitor}
 use Rattle.policy_lawful.specs.declared.resolved.Subject.{Subject}
 use Rattle.policy_lawful.proofs.UniqueNames.{subject_names}
-use Rattle.policy_types.specs.Rights.{allows}
-use Rattle.policy_types.specs.declared.source.Monitor.{Monitor as NamedMonitor}
+use Rattle.policy_lawful.specs.Rights.{allows}
+use Rattle.policy_lawful.specs.source.Monitor.{Monitor as NamedMonitor}
 use Rattle.policy_lawful.proofs.WindowsByIndex.{subject_parts}
 use Rattle.flow_report.specs.Flows.{by_change, by_plan, by_sight}
 use Rattle.muen_num.proofs.Members.{any_agree, passes_in}

@@ -1,7 +1,7 @@
 -- What `flows` prints (this project's own).
 use Rattle.std.specs.Prelude.{ℕ, List, ◌++◌, codes}
 use Rattle.std.specs.List.{flat_map}
-use Rattle.policy_types.specs.declared.source.Source.{Source}
+use Rattle.policy_lawful.specs.source.Source.{Source}
 use Rattle.flow_report.specs.Flows.{closure_of}
 
 -- the line of the subject of this name: it, and all that reach it, in the policy's order

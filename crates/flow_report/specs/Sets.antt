@@ -1,7 +1,7 @@
 -- For each subject of a policy the set of those that can reach it, by indexes.
 use Rattle.std.specs.Prelude.{◌≡◌, ℕ, Bool, true, false, List, [], ◌∷◌, map}
 use Rattle.std.specs.List.{AllZip}
-use Rattle.policy_types.specs.declared.source.Source.{Source}
+use Rattle.policy_lawful.specs.source.Source.{Source}
 use Rattle.flow_report.specs.Flows.{IsLeastClosed, closure_of}
 
 -- those elements whose index is marked

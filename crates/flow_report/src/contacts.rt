@@ -7,9 +7,8 @@ ghost use Rattle.flow_report.specs.ByIndex.{all_contacts_of, channel_read, chann
 
 use muen_num::{AccessKind, Name, NoMemory, Seq};
 use policy_lawful::resolved::{EventSource, Monitor, Subject};
-use policy_lawful::{IndexedEnd, Resolved, Shown, View};
-use policy_types::Role;
-use policy_types::source::{SourceWay, Tau0};
+use policy_lawful::source::{SourceWay, Tau0};
+use policy_lawful::{IndexedEnd, Resolved, Role, Shown, View};
 use std::alloc::{AllocError, Global};
 
 /// A subject's index, and by indexes what it gives to others and takes from them.

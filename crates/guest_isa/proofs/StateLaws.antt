@@ -7,8 +7,8 @@ use Rattle.std.proofs.lemmas.List.Elements.{All-nil, All-cons, All-head, All-tai
 use Rattle.std.proofs.Math.Nat.{one-le-pow, pow-suc}
 use Rattle.muen_num.specs.Range.{numbers_below}
 use Rattle.muen_num.specs.declared.limits.TheConstants.{PAGE}
-use Rattle.machine_layout.specs.Memory.{over, le_bytes, le_number}
-use Rattle.machine_layout.specs.PageFields.{number_at, padded}
+use Rattle.state_page.specs.Memory.{over, le_bytes, le_number}
+use Rattle.state_page.specs.PageFields.{number_at, padded}
 use Rattle.state_page.specs.StatePage.{flag, flags_of, page_bytes, registers_in, state_in, interrupts_bit, halted_bit, stopped_bit, exited_bit}
 use Rattle.state_page.proofs.PageLaws.{state_back}
 use Rattle.state_page.specs.States.{started}

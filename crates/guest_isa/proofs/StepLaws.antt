@@ -13,7 +13,7 @@ use Rattle.muen_num.specs.AccessSize.{bytes_of as count}
 use Rattle.muen_num.specs.declared.access.AccessKind.TheVariants.{Read, Write, Fetch}
 use Rattle.muen_num.specs.declared.access.AccessSize.{AccessSize}
 use Rattle.muen_num.specs.declared.limits.TheConstants.{EXIT_EPT_VIOLATION, EXIT_EXCEPTION, GUEST_END}
-use Rattle.machine_layout.specs.Memory.{le_bytes}
+use Rattle.state_page.specs.Memory.{le_bytes}
 use Rattle.state_page.specs.declared.state.SubjectState.{SubjectState}
 use Rattle.guest_isa.specs.GuestIsa.{fields_of, size_of, port_size_of, system_instruction_of, instruction_of, decode_of, register, advanced, with_register, extended, offset_by, low_bytes, port_of, passed, set_register, jumped, jumped_if, effect_of}
 use Rattle.guest_isa.specs.declared.instr.Asked.{Asked}

@@ -1,3 +1,8 @@
+pub use Rattle.machine_layout.specs.Memory
+pub use Rattle.machine_layout.specs.Pending
+pub use Rattle.state_page.specs.StatePage
+pub use Rattle.state_page.specs.States
+pub use Rattle.state_page.specs.declared.state
 pub mod GuestIsa
 pub mod Finish
 pub mod Named

@@ -9,7 +9,7 @@ use Rattle.muen_num.specs.declared.limits.TheConstants.{EXIT_EPT_VIOLATION, EXIT
 use Rattle.muen_num.specs.declared.access.AccessKind.{AccessKind}
 use Rattle.muen_num.specs.declared.access.AccessKind.TheVariants.{Read, Write, Fetch}
 use Rattle.muen_num.specs.declared.access.AccessSize.{AccessSize}
-use Rattle.machine_layout.specs.Memory.{le_number, le_bytes}
+use Rattle.state_page.specs.Memory.{le_number, le_bytes}
 use Rattle.state_page.specs.declared.state.SubjectState.{SubjectState}
 use Rattle.guest_isa.specs.GuestIsa.{decode_of, effect_of, with_register}
 use Rattle.guest_isa.specs.declared.instr.Instr.{Instr}

@@ -19,4 +19,5 @@ pub use finish::{Finish, inject};
 pub use instr::{Asked, Instr, Wish};
 pub use reach::Reach;
 pub use spelling::{decode, encode};
+pub use state_page::SubjectState;
 pub use step_laws::alike_worlds_step_alike;

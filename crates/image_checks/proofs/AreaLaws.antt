@@ -9,7 +9,7 @@ use Rattle.std.proofs.lemmas.Bool.{cases_lt, eq-eqb, eqb-true, false_from_ne_tru
 use Rattle.std.proofs.lemmas.List.{length-map, map-append, take-append-drop}
 use Rattle.std.proofs.lemmas.List.Sorted.{IsPermutation-append_right, IsPermutation-middle, IsPermutation-sym, IsPermutation-trans, sum_by-IsPermutation}
 use Rattle.std.proofs.lemmas.List.Sums.{sum_by-append}
-use Rattle.expand_grants.specs.Resources.{Msr, msr_grant, msrs_in, msrs_of}
+use Rattle.expand_kernel.specs.Resources.{Msr, msr_grant, msrs_in, msrs_of}
 use Rattle.image_checks.proofs.PageLaws.{within_page}
 use Rattle.image_checks.proofs.Decided.{decided}
 use Rattle.image_checks.specs.Firsts.{Decides}
@@ -22,9 +22,9 @@ use Rattle.machine_layout.specs.Exits.{area_index, area_value, entry_size}
 use Rattle.machine_layout.specs.Memory.{le_number}
 use Rattle.muen_num.proofs.Lists.{map-map}
 use Rattle.muen_num.specs.Range.{numbers_below}
-use Rattle.policy_types.specs.declared.resources.MsrGrant.{MsrGrant}
-use Rattle.policy_types.specs.declared.source.Msrs.{Msrs}
-use Rattle.policy_types.specs.declared.source.Subject.{Subject}
+use Rattle.policy_lawful.specs.resources.MsrGrant.{MsrGrant}
+use Rattle.policy_lawful.specs.source.Msrs.{Msrs}
+use Rattle.policy_lawful.specs.source.Subject.{Subject}
 
 -- ---- numbers
 

@@ -6,7 +6,7 @@ use Rattle.std.proofs.lemmas.Bool.{and_parts, cases_lt, eqb-true, eq-eqb, false_
 use Rattle.std.proofs.lemmas.Bool.Decides.{nat_tests}
 use Rattle.std.proofs.lemmas.List.Folds.{list_all-append, list_any-append}
 use Rattle.std.proofs.lemmas.Map.Views.{any-filter_same}
-use Rattle.expand_grants.specs.Resources.{Msr, are_granted, has_port, is_granted, msr_grant, msrs_in, msrs_of, port_ranges_of, ports_of}
+use Rattle.expand_kernel.specs.Resources.{Msr, are_granted, has_port, is_granted, msr_grant, msrs_in, msrs_of, port_ranges_of, ports_of}
 use Rattle.image_checks.specs.Agree.{BitmapsAgree, MsrAgrees, MsrsAgree, PortsAgree}
 use Rattle.image_checks.specs.declared.bitmaps.TheConstants.{RANGE_SIZE}
 use Rattle.image_pack.specs.declared.parts.Image.{Image}
@@ -21,11 +21,11 @@ use Rattle.muen_num.proofs.Members.{In, any_some, append_some, passes_in}
 use Rattle.muen_num.specs.Range.{numbers_below}
 use Rattle.muen_num.specs.declared.limits.TheConstants.{HIGH_MSR_FIRST, HIGH_MSR_LAST, LAST_PORT, LOW_MSR_LAST}
 use Rattle.policy_lawful.specs.MoreRules.{is_msr_range}
-use Rattle.policy_types.specs.declared.resources.MsrGrant.{MsrGrant}
-use Rattle.policy_types.specs.declared.resources.PortRange.{PortRange}
-use Rattle.policy_types.specs.declared.source.Msrs.{Msrs}
-use Rattle.policy_types.specs.declared.source.Source.{Source}
-use Rattle.policy_types.specs.declared.source.Subject.{Subject}
+use Rattle.policy_lawful.specs.resources.MsrGrant.{MsrGrant}
+use Rattle.policy_lawful.specs.resources.PortRange.{PortRange}
+use Rattle.policy_lawful.specs.source.Msrs.{Msrs}
+use Rattle.policy_lawful.specs.source.Source.{Source}
+use Rattle.policy_lawful.specs.source.Subject.{Subject}
 
 -- ---- ports
 

@@ -7,9 +7,9 @@ use Rattle.std.specs.Str.{bytes_eq}
 use Rattle.std.specs.Cmp.Lexicographic.{pointwise}
 use Rattle.std.proofs.lemmas.Bool.Decides.{Decides-and, Decides-eqb, Decides-like}
 use Rattle.std.proofs.lemmas.Slice.Eq.{bytes_eq-Decides, slice_eq-Decides}
-use Rattle.frame_clock.specs.declared.plan.GroupPart.{GroupPart}
-use Rattle.frame_clock.specs.declared.plan.Major.{Major}
-use Rattle.frame_clock.specs.declared.plan.Minor.{Minor}
+use Rattle.image_pack.specs.plan.GroupPart.{GroupPart}
+use Rattle.image_pack.specs.plan.Major.{Major}
+use Rattle.image_pack.specs.plan.Minor.{Minor}
 use Rattle.image_checks.specs.Firsts.{Decides}
 use Rattle.image_pack.specs.declared.parts.EventPart.{EventPart}
 use Rattle.image_pack.specs.declared.parts.IrqPart.{IrqPart}

@@ -5,11 +5,11 @@ use Rattle.std.specs.List.{enumerate_from, list_all, sum_by}
 use Rattle.std.proofs.lemmas.Bool.{and_parts, eqb-true, ltb-true}
 use Rattle.std.proofs.lemmas.List.{get_or_default, length-map}
 use Rattle.std.proofs.lemmas.Slice.Eq.{bytes_eq-Decides}
-use Rattle.frame_clock.specs.Plan.{cpus_of, frame_of, frames_in, is_cpu, is_major, is_minor, is_plan}
-use Rattle.frame_clock.specs.declared.plan.GroupPart.{GroupPart}
-use Rattle.frame_clock.specs.declared.plan.Major.{Major}
-use Rattle.frame_clock.specs.declared.plan.Minor.{Minor}
-use Rattle.frame_clock.specs.declared.plan.Plan.{Plan}
+use Rattle.image_pack.specs.Plan.{cpus_of, frame_of, frames_in, is_cpu, is_major, is_minor, is_plan}
+use Rattle.image_pack.specs.plan.GroupPart.{GroupPart}
+use Rattle.image_pack.specs.plan.Major.{Major}
+use Rattle.image_pack.specs.plan.Minor.{Minor}
+use Rattle.image_pack.specs.plan.Plan.{Plan}
 use Rattle.image_checks.proofs.Places.{same_places, same_unmapped}
 use Rattle.muen_num.specs.Frame.{Frame}
 use Rattle.muen_num.specs.declared.limits.TheConstants.{MOST_MAJOR_FRAMES, MOST_MINOR_FRAMES, MOST_TICKS}
@@ -17,7 +17,7 @@ use Rattle.plan_emit.specs.PlanOf.{IsPlanOf}
 use Rattle.policy_lawful.proofs.Indexes.{same_name}
 use Rattle.policy_lawful.specs.Resolution.{name_at}
 use Rattle.policy_lawful.specs.Rules.{repeated}
-use Rattle.policy_types.specs.declared.source.Source.{Source}
+use Rattle.policy_lawful.specs.source.Source.{Source}
 
 -- ---- groups
 

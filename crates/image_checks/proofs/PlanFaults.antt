@@ -11,7 +11,7 @@ use Rattle.image_checks.specs.declared.plan_owner.PlanOwner.TheVariants.{Plan, S
 use Rattle.image_pack.specs.declared.parts.Image.{Image}
 use Rattle.image_soundness.specs.Sound.{HasPlanAndEvents, IsDeviceOf, IsSubjectOf}
 use Rattle.muen_num.proofs.Lists.{there}
-use Rattle.policy_types.specs.declared.source.Source.{Source}
+use Rattle.policy_lawful.specs.source.Source.{Source}
 
 -- the plan of an image whose plan and events are the policy's
 plan_of : (p : Source) (i : Image) → HasPlanAndEvents p i → HasPlan p i

@@ -2,7 +2,7 @@
 use Rattle.std.proofs.Common.{◌≡◌, ◌∙◌, ℕ, Bool, Option, Some, None, refl, sym, ap, subst}
 use Rattle.std.specs.Prelude.{option_map}
 use Rattle.std.proofs.lemmas.Option.{same_Some}
-use Rattle.frame_clock.specs.declared.plan.Plan.{Plan}
+use Rattle.image_pack.specs.plan.Plan.{Plan}
 use Rattle.image_checks.proofs.Equal.{decides_same}
 use Rattle.image_checks.proofs.OnePlan.{one_plan}
 use Rattle.image_checks.specs.Firsts.{Decides}
@@ -14,7 +14,7 @@ use Rattle.plan_emit.specs.PlanOf.{IsPlanOf}
 use Rattle.policy_lawful.proofs.UniqueNames.{unique}
 use Rattle.policy_lawful.specs.Resolution.{IsResolved, Resolution, source_of}
 use Rattle.policy_lawful.specs.Thing.{region, thing_tag}
-use Rattle.policy_types.specs.declared.source.Tau0.{Tau0}
+use Rattle.policy_lawful.specs.source.Tau0.{Tau0}
 
 -- the plan that is made, and one that is given
 pub plan_told : (r : Resolution) → IsResolved r → (made given : Plan) → IsPlanOf (source_of r) made → (b : Bool) → Decides (made ≡ given) b → Decides (IsPlanOf (source_of r) given) b

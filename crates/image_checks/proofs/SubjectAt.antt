@@ -6,15 +6,15 @@ use Rattle.std.specs.List.{zip}
 use Rattle.std.proofs.lemmas.List.{length-map}
 use Rattle.std.proofs.lemmas.Option.{get_or_from_slice_get, slice_get-get_or, slice_get-map, slice_get_within}
 use Rattle.std.proofs.lemmas.Slice.Zip.{AllZip-left, AllZip-long, get_or-zip, length-zip}
-use Rattle.expand_grants.specs.Grants.{AreGrants, AreGrantsOf}
-use Rattle.expand_grants.specs.declared.granted.Grants.{Grants}
+use Rattle.expand_kernel.specs.Grants.{AreGrants, AreGrantsOf}
+use Rattle.expand_kernel.specs.granted.Grants.{Grants}
 use Rattle.image_checks.proofs.Decided.{decided}
 use Rattle.image_checks.specs.Firsts.{Decides}
 use Rattle.image_pack.specs.declared.parts.SubjectPart.{SubjectPart}
 use Rattle.muen_num.proofs.Lists.{there}
 use Rattle.policy_lawful.specs.Resolution.{Resolution, source_of, subject_named}
 use Rattle.policy_lawful.specs.declared.resolved.Subject.{Subject as ResolvedSubject}
-use Rattle.policy_types.specs.declared.source.Subject.{Subject}
+use Rattle.policy_lawful.specs.source.Subject.{Subject}
 
 -- what is read at an index stands there
 pub read_at : {X : Type 0} (read xs : List X) (k : ℕ) (x : X) → read ≡ xs → k < length read → x ≡ get_or read k x → slice_get xs k ≡ Some x

@@ -3,8 +3,8 @@ use Rattle.std.proofs.Common.{◌≡◌, ℕ, ◌<◌, Bool, true, List, length,
 use Rattle.std.specs.Prelude.{slice_get}
 use Rattle.std.specs.List.{list_all, zip}
 use Rattle.std.proofs.lemmas.Bool.{and_parts}
-use Rattle.expand_grants.specs.Grants.{AreGrants}
-use Rattle.expand_grants.specs.declared.granted.Grants.{Grants}
+use Rattle.expand_kernel.specs.Grants.{AreGrants}
+use Rattle.expand_kernel.specs.granted.Grants.{Grants}
 use Rattle.image_checks.proofs.AreaLaws.{area_back, area_kept}
 use Rattle.image_checks.proofs.BitmapLaws.{bitmaps_back, bitmaps_kept}
 use Rattle.image_checks.proofs.SubjectAt.{granted_to, pair_decided, read_at, subject_at}
@@ -19,7 +19,7 @@ use Rattle.policy_lawful.proofs.KeptMsrs.{has_ranges, msrs_kept}
 use Rattle.policy_lawful.specs.MoreRules.{is_msr_range, msrs_apart, offence_11}
 use Rattle.policy_lawful.specs.Resolution.{Resolution, source_of, subject_named}
 use Rattle.policy_lawful.specs.declared.resolved.Subject.{Subject as ResolvedSubject}
-use Rattle.policy_types.specs.declared.source.Subject.{Subject}
+use Rattle.policy_lawful.specs.source.Subject.{Subject}
 use Rattle.state_page.specs.StatePage.{page_bytes}
 use Rattle.state_page.specs.States.{started}
 

@@ -11,8 +11,8 @@ use Rattle.std.proofs.lemmas.Slice.Zip.{get_or-zip}
 use Rattle.std.proofs.lemmas.Option.{get_or_from_slice_get, same_Some, slice_get-map, slice_get_within}
 use Rattle.event_emit.specs.Tables.{AreTables, IsEntry, IsIrqTarget, IsTable, irq_named, part_raised}
 use Rattle.event_emit.specs.declared.event_tables.EventTables.{EventTables}
-use Rattle.expand_grants.specs.Grants.{target_named}
-use Rattle.expand_grants.proofs.Counted.{uncounted}
+use Rattle.expand_kernel.specs.Grants.{target_named}
+use Rattle.expand_kernel.proofs.Counted.{uncounted}
 use Rattle.image_checks.proofs.Equal.{decides_same}
 use Rattle.image_checks.proofs.Places.{at_place, holds_there, many_pairs, same_places}
 use Rattle.image_checks.specs.Agreement.{IsFull, SubjectAgrees, subjects_of_both}
@@ -40,10 +40,10 @@ use Rattle.policy_lawful.specs.Resolution.{IsResolved, Resolution, group_named, 
 use Rattle.policy_lawful.specs.Rules.{repeated, times_listed}
 use Rattle.policy_lawful.specs.declared.resolved.Group.{Group as ResolvedGroup}
 use Rattle.policy_lawful.specs.declared.resolved.Subject.{Subject}
-use Rattle.policy_types.specs.declared.source.Group.{Group}
-use Rattle.policy_types.specs.declared.source.SourceWay.{SourceWay}
-use Rattle.policy_types.specs.declared.source.Subject.{Subject as SourceSubject}
-use Rattle.policy_types.specs.declared.source.SourceWay.TheVariants.{Call, Trap}
+use Rattle.policy_lawful.specs.source.Group.{Group}
+use Rattle.policy_lawful.specs.source.SourceWay.{SourceWay}
+use Rattle.policy_lawful.specs.source.Subject.{Subject as SourceSubject}
+use Rattle.policy_lawful.specs.source.SourceWay.TheVariants.{Call, Trap}
 
 -- ---- the first that passes
 

@@ -20,7 +20,7 @@ use Rattle.policy_lawful.specs.ByIndex.{provided_at}
 use Rattle.policy_lawful.specs.Contents.{Held, initial_bytes}
 use Rattle.policy_lawful.specs.Resolution.{IsResolved, Resolution, source_of}
 use Rattle.policy_lawful.specs.Thing.{Thing, channel, declared_size, provided, region, thing_tag, things_of}
-use Rattle.policy_types.specs.declared.source.DeviceMemory.{DeviceMemory}
+use Rattle.policy_lawful.specs.source.DeviceMemory.{DeviceMemory}
 use Rattle.proof_build.proofs.PiecesOfLists.{flat_map_at, map_pieces, zip_append, zip_map_both, zip_pieces}
 use Rattle.proof_build.proofs.ThingBytes.{memory_bytes_are, memory_sizes_are, region_bytes_are, region_sizes_are}
 use Rattle.proof_build.proofs.ThingsInOrder.{memory_thing, memory_things, provided_things, region_things, things_are}

@@ -9,7 +9,7 @@ use Rattle.image_soundness.specs.Named.{tag_at}
 use Rattle.image_soundness.specs.Sound.{ForEachSubject, HasPlanAndEvents, IsDeviceOf, IsSubjectOf}
 use Rattle.plan_emit.specs.PlanOf.{IsPlanOf}
 use Rattle.policy_lawful.specs.Thing.{region, thing_tag}
-use Rattle.policy_types.specs.declared.source.Source.{Source}
+use Rattle.policy_lawful.specs.source.Source.{Source}
 
 -- ---- two lists
 

@@ -11,12 +11,11 @@ ghost use Rattle.muen_num.specs.Range.{numbers_below};
 ghost use Rattle.policy_lawful.specs.Resolution.{source_of};
 
 use crate::span_pages::page_at;
-use expand_grants::Grants;
-use expand_kernel::Expanded;
+use expand_kernel::{Expanded, Grants};
 use image_pack::{Image, Parts, SubjectPart};
 use machine_layout::{AREA_ENTRY, AREA_VALUE};
 use muen_num::NoMemory;
-use policy_types::MsrGrant;
+use policy_lawful::MsrGrant;
 use std::alloc::{AllocError, Global};
 
 // The byte at an index, and 0 past the end.

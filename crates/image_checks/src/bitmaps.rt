@@ -1,7 +1,7 @@
 //! The bitmaps of each subject.
 ghost use Rattle.std.specs.Prelude.{◌≡◌, ◌≤◌, ◌+◌, ◌^◌, ◌&&◌, IfOk, zip};
 ghost use Rattle.std.specs.List.{list_any};
-ghost use Rattle.expand_grants.specs.Resources.{has_port};
+ghost use Rattle.expand_kernel.specs.Resources.{has_port};
 ghost use Rattle.image_checks.specs.Agree.{BitmapsAgree, MsrAgrees, MsrsAgree, PortsAgree};
 ghost use Rattle.image_checks.specs.Firsts.{Decides, IsFirstFailing};
 ghost use Rattle.image_soundness.specs.Memory.{page_at};
@@ -10,13 +10,12 @@ ghost use Rattle.msrbm_emit.specs.Msrs.{allows, has_msr, is_granted};
 ghost use Rattle.policy_lawful.specs.Resolution.{source_of};
 
 use crate::span_pages::page_at;
-use expand_grants::Grants;
-use expand_kernel::Expanded;
+use expand_kernel::{Expanded, Grants};
 use image_pack::{Image, Parts, SubjectPart};
 use machine_layout::{msr_exits, port_exits};
 use muen_num::limits::{HIGH_MSR_FIRST, LAST_PORT};
 use muen_num::{AccessSize, NoMemory};
-use policy_types::{MsrGrant, PortRange};
+use policy_lawful::{MsrGrant, PortRange};
 use std::alloc::Global;
 
 /// How many MSRs each of the two ranges of an MSR bitmap has (Intel SDM volume 3, MSR-bitmap address).

@@ -13,7 +13,7 @@ use muen_num::limits::PAGE;
 use muen_num::{Name, NoMemory, Seq, TagPart};
 use policy_lawful::Resolved;
 use policy_lawful::resolved::Subject;
-use policy_types::source::{Channel, Device, DeviceMemory, Provided, Region};
+use policy_lawful::source::{Channel, Device, DeviceMemory, Provided, Region};
 use std::alloc::{AllocError, Global};
 
 /// What the span of a thing has to be.

@@ -13,7 +13,7 @@ use expand_kernel::Expanded;
 use image_pack::{DevicePart, Image, IrqPart, Parts, WindowPart};
 use muen_num::{Name, NoMemory, PortSpan, Tag, TagPart};
 use policy_lawful::Lawful;
-use policy_types::source::{Device, DeviceMemory};
+use policy_lawful::source::{Device, DeviceMemory};
 use std::alloc::Global;
 
 fn same_ports(a: &[PortSpan], b: &[PortSpan]) -> bool

@@ -6,8 +6,7 @@ ghost use Rattle.plan_emit.specs.PlanOf.{IsPlanOf};
 ghost use Rattle.policy_lawful.specs.Resolution.{source_of};
 
 use crate::spans::has_tag;
-use frame_clock::{GroupPart, Major, Plan};
-use image_pack::{Image, Parts};
+use image_pack::{GroupPart, Image, Major, Parts, Plan};
 use muen_num::{NoMemory, Tag, TagPart};
 use plan_emit::plan;
 use policy_lawful::Lawful;

@@ -5,7 +5,7 @@ ghost use Rattle.image_checks.specs.declared.plan_owner.PlanOwner.{PlanOwner};
 ghost use Rattle.image_pack.specs.declared.parts.Image.{Image};
 ghost use Rattle.image_soundness.specs.Sound.{HasPlanAndEvents};
 ghost use Rattle.policy_lawful.specs.Resolution.{source_of};
-ghost use Rattle.policy_types.specs.declared.source.Source.{Source};
+ghost use Rattle.policy_lawful.specs.source.Source.{Source};
 
 use crate::devices::device_fault;
 use crate::events::subject_fault;

@@ -30,10 +30,10 @@ use Rattle.muen_num.specs.declared.limits.TheConstants.{LAST_PORT, MOST_PER_DEVI
 use Rattle.policy_lawful.proofs.KeptRules.{rules_of}
 use Rattle.policy_lawful.proofs.UniqueNames.{UniqueParts, parts_unique, unique}
 use Rattle.policy_lawful.specs.Resolution.{Resolution, source_of}
-use Rattle.policy_types.specs.declared.source.Device.{Device}
-use Rattle.policy_types.specs.declared.source.DeviceMemory.{DeviceMemory}
-use Rattle.policy_types.specs.declared.source.Irq.{Irq}
-use Rattle.policy_types.specs.declared.source.Ports.{Ports}
+use Rattle.policy_lawful.specs.source.Device.{Device}
+use Rattle.policy_lawful.specs.source.DeviceMemory.{DeviceMemory}
+use Rattle.policy_lawful.specs.source.Irq.{Irq}
+use Rattle.policy_lawful.specs.source.Ports.{Ports}
 use Rattle.span_emit.specs.Spans.{device_span, memories_of}
 use Rattle.span_emit.specs.SpansOf.{spans_of}
 use Rattle.subject_emit.proofs.Pieces.{from_some}

@@ -17,8 +17,8 @@ use Rattle.image_pack.specs.Image.{is_between}
 use Rattle.image_pack.specs.ImageConditions.{AreCounted, IsChoice, IsGroup}
 use Rattle.image_pack.specs.SpanConditions.{HaveDifferentNumbers}
 use Rattle.image_pack.specs.declared.parts.SpanPart.{SpanPart}
-use Rattle.frame_clock.specs.Plan.{cpus_of, is_major, is_plan}
-use Rattle.frame_clock.specs.declared.plan.Plan.{Plan}
+use Rattle.image_pack.specs.Plan.{cpus_of, is_major, is_plan}
+use Rattle.image_pack.specs.plan.Plan.{Plan}
 use Rattle.event_emit.specs.Tables.{AreDevices}
 use Rattle.image_pack.specs.declared.parts.DevicePart.{DevicePart}
 use Rattle.muen_num.proofs.Lists.{there}
@@ -30,12 +30,12 @@ use Rattle.policy_lawful.proofs.KeptRules.{rules_of}
 use Rattle.policy_lawful.proofs.SourceElements.{many_subjects}
 use Rattle.policy_lawful.specs.Resolution.{Resolution, source_of}
 use Rattle.policy_lawful.specs.Rules.{times_listed}
-use Rattle.policy_types.specs.declared.source.Device.{Device}
-use Rattle.policy_types.specs.declared.source.Group.{Group}
-use Rattle.policy_types.specs.declared.source.Region.{Region as SourceRegion}
-use Rattle.policy_types.specs.declared.source.Source.{Source}
-use Rattle.policy_types.specs.declared.source.Subject.{Subject}
-use Rattle.policy_types.specs.declared.source.Tau0.{Tau0}
+use Rattle.policy_lawful.specs.source.Device.{Device}
+use Rattle.policy_lawful.specs.source.Group.{Group}
+use Rattle.policy_lawful.specs.source.Region.{Region as SourceRegion}
+use Rattle.policy_lawful.specs.source.Source.{Source}
+use Rattle.policy_lawful.specs.source.Subject.{Subject}
+use Rattle.policy_lawful.specs.source.Tau0.{Tau0}
 use Rattle.span_emit.specs.Spans.{region_span}
 use Rattle.span_emit.specs.SpansOf.{spans_of}
 use Rattle.expand_kernel.specs.ByIndex.{own_region}

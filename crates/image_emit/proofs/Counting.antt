@@ -4,7 +4,7 @@ use Rattle.std.specs.List.{sum_by}
 use Rattle.std.proofs.Math.Seq.{take-suc}
 use Rattle.std.proofs.lemmas.List.Sums.{sum_by-take-le, sum_by_push}
 use Rattle.msrbm_emit.specs.Area.{count_of, size_of}
-use Rattle.policy_types.specs.declared.resources.MsrGrant.{MsrGrant}
+use Rattle.policy_lawful.specs.resources.MsrGrant.{MsrGrant}
 
 pub count_none : 0 ≡ count_of []
 unfolding count_of

@@ -14,7 +14,7 @@ use Rattle.muen_num.specs.declared.mode.EventMode.{EventMode}
 use Rattle.policy_lawful.specs.MoreRules.{offence_15}
 use Rattle.policy_lawful.specs.Resolution.{Resolution, source_of, subject_named}
 use Rattle.policy_lawful.specs.declared.resolved.Subject.{Subject}
-use Rattle.policy_types.specs.declared.source.SourceWay.{SourceWay}
+use Rattle.policy_lawful.specs.source.SourceWay.{SourceWay}
 
 vector_kept : (mode : EventMode) (v : Option ℕ) → is_vector mode (vector_code v) ≡ true → is_free_if_any v ≡ true → IsVector mode v
 vector_kept mode None h free = h

@@ -6,8 +6,8 @@ use Rattle.std.proofs.lemmas.Bool.{ltb-true, lt-ltb}
 use Rattle.std.proofs.lemmas.List.{length-map}
 use Rattle.std.proofs.lemmas.List.Folds.{list_all-map}
 use Rattle.std.proofs.lemmas.Slice.Zip.{AllZip-long}
-use Rattle.expand_grants.specs.Grants.{AreGrantsOf}
-use Rattle.expand_grants.specs.declared.granted.Grants.{Grants}
+use Rattle.expand_kernel.specs.Grants.{AreGrantsOf}
+use Rattle.expand_kernel.specs.granted.Grants.{Grants}
 use Rattle.image_emit.specs.Fitting.{AreFew}
 use Rattle.msrbm_emit.specs.Area.{count_of}
 use Rattle.muen_num.proofs.Lists.{each_from, there}
@@ -16,7 +16,7 @@ use Rattle.policy_lawful.proofs.KeptRules.{rules_of}
 use Rattle.policy_lawful.specs.Rules.{offence_20}
 use Rattle.policy_lawful.specs.Resolution.{Resolution, source_of, subject_named}
 use Rattle.policy_lawful.specs.declared.resolved.Subject.{Subject}
-use Rattle.region_alloc.specs.Placed.{IsPlaced, Placement}
+use Rattle.span_emit.specs.Placed.{IsPlaced, Placement}
 use Rattle.span_emit.proofs.KeptSums.{sums_kept, windows_length}
 use Rattle.span_emit.specs.Spans.{memories_of}
 use Rattle.subject_emit.proofs.KeptMsrs.{msrs_few}

@@ -11,8 +11,8 @@ use Rattle.std.proofs.lemmas.Slice.Eq.{bytes_eq-Decides}
 use Rattle.image_emit.proofs.PlanSubjects.{in_group, name_of}
 use Rattle.image_emit.specs.Made.{IsMade, Made, group_at, policy_of}
 use Rattle.image_pack.specs.Image.{is_first_here}
-use Rattle.frame_clock.specs.Plan.{is_group_on}
-use Rattle.frame_clock.specs.declared.plan.GroupPart.{GroupPart}
+use Rattle.image_pack.specs.Plan.{is_group_on}
+use Rattle.image_pack.specs.plan.GroupPart.{GroupPart}
 use Rattle.muen_num.proofs.Lists.{passes_at, there}
 use Rattle.policy_lawful.proofs.KeptMembers.{members_kept}
 use Rattle.policy_lawful.proofs.Indexes.{found_at_index, same_self}
@@ -22,9 +22,9 @@ use Rattle.policy_lawful.specs.Resolution.{name_at, source_of, subject_named}
 use Rattle.policy_lawful.specs.Rules.{is_group, is_on, subject_cpu, times_listed}
 use Rattle.policy_lawful.specs.declared.resolved.Subject.{Subject}
 use Rattle.policy_lawful.specs.Frames.{first_member}
-use Rattle.policy_types.specs.declared.source.Group.{Group}
-use Rattle.policy_types.specs.declared.source.Source.{Source}
-use Rattle.policy_types.specs.declared.source.Subject.{Subject as SourceSubject}
+use Rattle.policy_lawful.specs.source.Group.{Group}
+use Rattle.policy_lawful.specs.source.Source.{Source}
+use Rattle.policy_lawful.specs.source.Subject.{Subject as SourceSubject}
 
 -- ---- lists
 

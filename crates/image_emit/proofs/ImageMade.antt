@@ -16,10 +16,10 @@ use Rattle.image_pack.specs.declared.parts.DevicePart.{DevicePart}
 use Rattle.image_pack.specs.declared.parts.Image.{Image}
 use Rattle.image_pack.specs.declared.parts.SpanPart.{SpanPart}
 use Rattle.image_pack.specs.declared.parts.SubjectPart.{SubjectPart}
-use Rattle.frame_clock.specs.declared.plan.Plan.{Plan}
+use Rattle.image_pack.specs.plan.Plan.{Plan}
 use Rattle.plan_emit.specs.PlanOf.{IsPlanOf}
 use Rattle.policy_lawful.specs.Resolution.{source_of}
-use Rattle.region_alloc.specs.Placed.{IsPlaced, Placement}
+use Rattle.span_emit.specs.Placed.{IsPlaced, Placement}
 use Rattle.span_emit.specs.SpansOf.{spans_of}
 
 module _ (x : Placement) (things : List (List ℕ)) (spans : List SpanPart) (held : List (List ℕ)) (parts : List SubjectPart) (plan : Plan) (devices : List DevicePart)

@@ -10,7 +10,7 @@ use Rattle.image_emit.proofs.AtIndexes.{mapped_there, zipped_there}
 use Rattle.image_emit.proofs.ByNumber.{region_spans_length}
 use Rattle.image_pack.specs.declared.parts.SpanPart.{SpanPart}
 use Rattle.muen_num.proofs.Lists.{get_left, get_right}
-use Rattle.policy_types.specs.declared.source.DeviceMemory.{DeviceMemory}
+use Rattle.policy_lawful.specs.source.DeviceMemory.{DeviceMemory}
 use Rattle.span_emit.specs.Spans.{device_span, device_spans, memories_of, region_span, region_spans}
 use Rattle.span_emit.specs.SpansOf.{spans_of}
 

@@ -6,11 +6,11 @@ use Rattle.std.proofs.lemmas.Option.{get_or_from_slice_get, slice_get-get_or, sl
 use Rattle.std.proofs.lemmas.List.{take_all}
 use Rattle.std.proofs.lemmas.List.FromFn.{length-enumerate_from}
 use Rattle.image_emit.proofs.ByNumber.{zip_length}
-use Rattle.expand_grants.proofs.LawfulSubjects.{zip_more}
-use Rattle.expand_grants.specs.declared.granted.Grants.{Grants}
+use Rattle.expand_kernel.proofs.LawfulSubjects.{zip_more}
+use Rattle.expand_kernel.specs.granted.Grants.{Grants}
 use Rattle.image_emit.proofs.SpansAt.{at_number, zip_at}
 use Rattle.policy_lawful.specs.declared.resolved.Subject.{Subject}
-use Rattle.region_alloc.specs.Placed.{Placement}
+use Rattle.span_emit.specs.Placed.{Placement}
 use Rattle.subject_emit.specs.Pages.{ArePages}
 use Rattle.subject_emit.specs.declared.subject_pages.SubjectPages.{SubjectPages}
 

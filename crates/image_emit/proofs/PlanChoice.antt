@@ -20,9 +20,9 @@ use Rattle.policy_lawful.specs.Resolution.{source_of}
 use Rattle.policy_lawful.specs.Rules.{major_offence, majors_of, offence_16, tau0_offence}
 use Rattle.policy_lawful.specs.Thing.{component_by, region, thing_tag}
 use Rattle.policy_lawful.proofs.KeptRules.{rules_of}
-use Rattle.policy_types.specs.declared.source.Region.{Region as SourceRegion}
-use Rattle.policy_types.specs.declared.source.Source.{Source}
-use Rattle.policy_types.specs.declared.source.Tau0.{Tau0}
+use Rattle.policy_lawful.specs.source.Region.{Region as SourceRegion}
+use Rattle.policy_lawful.specs.source.Source.{Source}
+use Rattle.policy_lawful.specs.source.Tau0.{Tau0}
 use Rattle.span_emit.specs.Spans.{region_span}
 use Rattle.expand_kernel.specs.ByIndex.{channel_region, own_region, provided_regions}
 use Rattle.expand_kernel.proofs.ByKind.{regions_are}

@@ -24,9 +24,9 @@ use Rattle.muen_num.specs.Range.{numbers_below}
 use Rattle.muen_num.specs.declared.limits.TheConstants.{PAGE}
 use Rattle.policy_lawful.specs.Resolution.{Resolution, source_of}
 use Rattle.policy_lawful.specs.Thing.{device_memory, thing_tag}
-use Rattle.policy_types.specs.declared.source.Device.{Device as SourceDevice}
-use Rattle.policy_types.specs.declared.source.DeviceMemory.{DeviceMemory}
-use Rattle.policy_types.specs.declared.source.Irq.{Irq}
+use Rattle.policy_lawful.specs.source.Device.{Device as SourceDevice}
+use Rattle.policy_lawful.specs.source.DeviceMemory.{DeviceMemory}
+use Rattle.policy_lawful.specs.source.Irq.{Irq}
 use Rattle.policy_lawful.proofs.KeptAddresses.{IsPhysical}
 use Rattle.policy_lawful.proofs.KeptRules.{rules_of}
 use Rattle.span_emit.proofs.KeptDevices.{devices_physical}

@@ -7,28 +7,28 @@ use Rattle.std.proofs.lemmas.List.{length-map, length-replicate, map-append, tak
 use Rattle.std.proofs.lemmas.List.Sums.{sum_by-cons}
 use Rattle.std.proofs.lemmas.Option.{get_or_from_slice_get, slice_get-map}
 use Rattle.ept_emit.specs.Pages.{ept_pages}
-use Rattle.expand_grants.specs.declared.granted.Grants.{Grants}
+use Rattle.expand_kernel.specs.granted.Grants.{Grants}
 use Rattle.expand_kernel.specs.ByIndex.{brought_at, channel_region, kernel_for, kernel_for_each, own_region, provided_region, view_ranges}
 use Rattle.policy_lawful.specs.ByIndex.{provided_at}
 use Rattle.expand_kernel.specs.declared.region.Region.{Region}
 use Rattle.expand_kernel.proofs.Numbering.{regions_by_index}
 use Rattle.image_emit.specs.Made.{IsMade, Made, kernel_bytes, policy_of, region_bytes}
-use Rattle.machine_layout.specs.Exits.{area_bytes}
+use Rattle.image_soundness.specs.Exits.{area_bytes}
 use Rattle.msrbm_emit.specs.Area.{area_of, count_of, entries_of, entry_of, size_of}
 use Rattle.msrbm_emit.proofs.AreaLaws.{length-area}
 use Rattle.muen_num.specs.Range.{numbers_below}
 use Rattle.muen_num.specs.declared.limits.TheConstants.{PAGE}
-use Rattle.machine_layout.specs.PageFields.{padded}
+use Rattle.image_soundness.specs.PageFields.{padded}
 use Rattle.policy_lawful.specs.declared.resolved.Subject.{Subject}
-use Rattle.policy_types.specs.declared.resources.MsrGrant.{MsrGrant}
-use Rattle.policy_types.specs.declared.source.Component.{Component}
-use Rattle.region_alloc.specs.Placed.{Placement}
-use Rattle.state_page.specs.StatePage.{page_bytes}
+use Rattle.policy_lawful.specs.resources.MsrGrant.{MsrGrant}
+use Rattle.policy_lawful.specs.source.Component.{Component}
+use Rattle.span_emit.specs.Placed.{Placement}
+use Rattle.image_soundness.specs.StatePage.{page_bytes}
 use Rattle.subject_emit.specs.Mapped.{kernel_first}
 use Rattle.subject_emit.specs.Pages.{ArePages}
 use Rattle.subject_emit.specs.declared.subject_pages.SubjectPages.{SubjectPages}
 use Rattle.subject_emit.proofs.SamePages.{pages_same}
-use Rattle.state_page.specs.States.{started}
+use Rattle.image_soundness.specs.States.{started}
 
 -- ---- pages of the kernel
 

@@ -6,7 +6,7 @@ use Rattle.std.specs.List.Sorted.{IsPermutation}
 use Rattle.ept_emit.specs.Emitted.{eptp_of}
 use Rattle.event_emit.specs.Tables.{AreDevices, AreTables}
 use Rattle.event_emit.specs.declared.event_tables.EventTables.{EventTables}
-use Rattle.expand_grants.specs.declared.granted.Grants.{Grants}
+use Rattle.expand_kernel.specs.granted.Grants.{Grants}
 use Rattle.policy_lawful.specs.ByIndex.{provided_at}
 use Rattle.expand_kernel.specs.Expansion.{IsExpansion}
 use Rattle.expand_kernel.specs.Regions.{kernel_number}
@@ -17,7 +17,7 @@ use Rattle.image_pack.specs.declared.parts.DevicePart.{DevicePart}
 use Rattle.image_pack.specs.declared.parts.Image.{Image}
 use Rattle.image_pack.specs.declared.parts.SpanPart.{SpanPart}
 use Rattle.image_pack.specs.declared.parts.SubjectPart.{SubjectPart}
-use Rattle.frame_clock.specs.declared.plan.Plan.{Plan}
+use Rattle.image_pack.specs.plan.Plan.{Plan}
 use Rattle.msrbm_emit.specs.Area.{count_of}
 use Rattle.muen_num.specs.Naming.{is_name}
 use Rattle.plan_emit.specs.PlanOf.{IsPlanOf}
@@ -25,7 +25,7 @@ use Rattle.policy_lawful.specs.Lawful.{IsLawful}
 use Rattle.policy_lawful.specs.Resolution.{IsResolved, Resolution, source_of}
 use Rattle.policy_lawful.specs.declared.resolved.Subject.{Subject}
 use Rattle.policy_lawful.specs.Contents.{Held, content_bytes}
-use Rattle.region_alloc.specs.Placed.{AreDisjoint, AreInside, IsPlacement, Placement}
+use Rattle.span_emit.specs.Placed.{AreDisjoint, AreInside, IsPlacement, Placement}
 use Rattle.span_emit.specs.SpansOf.{spans_of}
 use Rattle.subject_emit.specs.Mapped.{kernel_first}
 use Rattle.subject_emit.specs.Pages.{ArePages, tables_at}

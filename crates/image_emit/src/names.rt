@@ -6,7 +6,7 @@ ghost use Rattle.muen_num.specs.Naming.{is_name};
 
 use policy_lawful::Resolved;
 use policy_lawful::resolved::Subject;
-use policy_types::source::{Device, Irq};
+use policy_lawful::source::{Device, Irq};
 
 // Whether the names of subjects are some: they are, since their type says so. So for what follows.
 #[tactic(auto, unfolding(muen_num::specs::Naming::is_name))]

@@ -9,16 +9,14 @@ ghost use Rattle.msrbm_emit.specs.Area.{count_of, size_of};
 
 use ept_emit::eptp;
 use event_emit::EventTables;
-use expand_grants::Grants;
-use expand_kernel::KernelRegion;
+use expand_kernel::{Grants, KernelRegion};
 use image_pack::SubjectPart;
 use muen_num::limits::{KERNEL_REGIONS, MOST_MSRS, MOST_REGIONS};
 use muen_num::{Name, NoMemory, Seq};
-use policy_lawful::Resolved;
 use policy_lawful::resolved::{Group, Subject};
-use policy_types::MsrGrant;
-use policy_types::source::Region;
-use region_alloc::Placed;
+use policy_lawful::source::Region;
+use policy_lawful::{MsrGrant, Resolved};
+use span_emit::Placed;
 use std::alloc::Global;
 use subject_emit::{kernel_first, tables_at};
 

@@ -3,7 +3,7 @@ use Rattle.std.specs.Prelude.{ℕ, ◌*◌, ◌/◌, ◌==◌, if◌then◌else�
 use Rattle.std.specs.Option.{option_map_or}
 use Rattle.std.specs.List.{find}
 use Rattle.muen_num.specs.declared.limits.TheConstants.{PAGE}
-use Rattle.machine_layout.specs.Memory.{Page}
+use Rattle.vmx_machine.specs.Memory.{Page}
 use Rattle.phys_mem.specs.Spans.{pages_of_spans}
 use Rattle.phys_mem.specs.declared.spans.MemorySpan.{MemorySpan}
 use Rattle.image_pack.specs.Codes.{is_device}

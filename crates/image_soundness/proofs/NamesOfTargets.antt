@@ -13,8 +13,8 @@ use Rattle.image_soundness.specs.Named.{raised, reached, subject_name, target}
 use Rattle.image_soundness.specs.Targets.{IndexedEvent, IndexedTarget, at_index, entry_event, event_index, irq_target, subject_index, target_index}
 use Rattle.muen_num.specs.declared.devices.IrqTarget.{IrqTarget}
 use Rattle.policy_lawful.specs.Events.{Raised, Target}
-use Rattle.policy_types.specs.declared.source.Source.{Source}
-use Rattle.policy_types.specs.declared.source.Subject.{Subject}
+use Rattle.policy_lawful.specs.source.Source.{Source}
+use Rattle.policy_lawful.specs.source.Subject.{Subject}
 
 -- the index of a name has this name
 name_there : (ss : List Subject) (name : List ℕ) (k : ℕ) → position (λ (s : Subject). bytes_eq s.name name) ss ≡ Some k → slice_index_or (map (λ (s : Subject). s.name) ss) k [] ≡ name

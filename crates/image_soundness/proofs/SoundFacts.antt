@@ -10,9 +10,9 @@ use Rattle.image_soundness.specs.Bench.{bench_device as device_of, devices_of}
 use Rattle.image_soundness.specs.Named.{bench_device, bench_of}
 use Rattle.image_soundness.specs.Sound.{ForEachSubject, HasArea, HasBitmaps, HasWalks, IsDeviceOf, IsFresh, IsSound, IsSubjectOf, ReadsTables, ShareNoSpan}
 use Rattle.policy_lawful.specs.Contents.{Held}
-use Rattle.policy_types.specs.declared.source.Device.{Device}
-use Rattle.policy_types.specs.declared.source.Source.{Source}
-use Rattle.policy_types.specs.declared.source.Subject.{Subject}
+use Rattle.policy_lawful.specs.source.Device.{Device}
+use Rattle.policy_lawful.specs.source.Source.{Source}
+use Rattle.policy_lawful.specs.source.Subject.{Subject}
 
 names_are : (p : Source) (ss : List Subject) (qs : List SubjectPart) → AllZip (IsSubjectOf p) ss qs → map (λ (q : SubjectPart). q.name) qs ≡ map (λ (s : Subject). s.name) ss
 names_are p [] [] h = refl

@@ -1,7 +1,7 @@
 -- What a device record may name of a policy's system.
 use Rattle.std.specs.Prelude.{map}
-use Rattle.policy_types.specs.declared.source.Device.{Device}
-use Rattle.policy_types.specs.declared.source.Source.{Source}
+use Rattle.policy_lawful.specs.source.Device.{Device}
+use Rattle.policy_lawful.specs.source.Source.{Source}
 use Rattle.record_text.specs.Bench.{Bench, BenchDevice}
 
 abbrev pub bench_device : Device → BenchDevice

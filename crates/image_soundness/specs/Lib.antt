@@ -1,3 +1,10 @@
+pub use Rattle.machine_layout.specs.Exits
+pub use Rattle.machine_layout.specs.PageFields
+pub use Rattle.phys_mem.specs.Frames
+pub use Rattle.phys_mem.specs.Spans
+pub use Rattle.phys_mem.specs.declared.spans
+pub use Rattle.state_page.specs.StatePage
+pub use Rattle.state_page.specs.States
 pub mod Bench
 pub mod Memory
 pub mod Named

@@ -31,12 +31,12 @@ use Rattle.policy_lawful.specs.Contents.{Held, initial_bytes}
 use Rattle.policy_lawful.specs.Events.{event_of, irq_of}
 use Rattle.policy_lawful.specs.Thing.{Thing, channel, declared_size, device_memory, provided, region, same_thing, state, thing_tag, things_of}
 use Rattle.policy_lawful.specs.Windows.{Access, access_of, byte, violation, windows_of}
-use Rattle.policy_types.specs.Rights.{found_bits}
-use Rattle.policy_types.specs.declared.source.Device.{Device as SourceDevice}
-use Rattle.policy_types.specs.declared.source.Irq.{Irq}
-use Rattle.policy_types.specs.declared.source.Source.{Source}
-use Rattle.policy_types.specs.declared.source.SourceWay.TheVariants.{Call, Trap}
-use Rattle.policy_types.specs.declared.source.Subject.{Subject}
+use Rattle.policy_lawful.specs.Rights.{found_bits}
+use Rattle.policy_lawful.specs.source.Device.{Device as SourceDevice}
+use Rattle.policy_lawful.specs.source.Irq.{Irq}
+use Rattle.policy_lawful.specs.source.Source.{Source}
+use Rattle.policy_lawful.specs.source.SourceWay.TheVariants.{Call, Trap}
+use Rattle.policy_lawful.specs.source.Subject.{Subject}
 use Rattle.state_page.specs.StatePage.{page_bytes}
 use Rattle.image_soundness.specs.Bench.{bench_device as device_of}
 use Rattle.policy_lawful.specs.Frames.{group_of}

@@ -5,7 +5,7 @@ use Rattle.image_pack.specs.declared.parts.EventPart.{EventPart}
 use Rattle.muen_num.specs.declared.devices.IrqTarget.{IrqTarget}
 use Rattle.muen_num.specs.declared.mode.EventMode.{EventMode}
 use Rattle.policy_lawful.specs.Events.{Raised, Target}
-use Rattle.policy_types.specs.declared.source.Source.{Source}
+use Rattle.policy_lawful.specs.source.Source.{Source}
 
 -- the index of the subject that is reached, none where there is no such subject, and the vector
 pub record IndexedTarget : Type 0 where

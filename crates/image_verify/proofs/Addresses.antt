@@ -28,14 +28,14 @@ use Rattle.policy_lawful.specs.declared.resolved.Subject.{Subject}
 use Rattle.policy_lawful.specs.declared.view.Shown.{Shown}
 use Rattle.policy_lawful.specs.declared.view.Shown.TheVariants.{Memory, Channel, Provided, Device, State}
 use Rattle.policy_lawful.specs.declared.view.View.{View}
-use Rattle.policy_types.specs.declared.source.Component.{Component}
-use Rattle.policy_types.specs.declared.source.Device.{Device as SourceDevice}
-use Rattle.policy_types.specs.declared.source.Source.{Source}
-use Rattle.policy_types.specs.declared.source.Subject.{Subject as NamedSubject}
+use Rattle.policy_lawful.specs.source.Component.{Component}
+use Rattle.policy_lawful.specs.source.Device.{Device as SourceDevice}
+use Rattle.policy_lawful.specs.source.Source.{Source}
+use Rattle.policy_lawful.specs.source.Subject.{Subject as NamedSubject}
 use Rattle.proof_build.proofs.FirstIndexes.{IsFirstAt, beside_first, first_mapped, first_named, none_joined, none_mapped, none_pieces}
 use Rattle.proof_build.proofs.NamedViews.{shown_name, view_called}
 use Rattle.subject_emit.proofs.Pieces.{from_some}
-use Rattle.policy_meaning.proofs.Items.{provided_by, things_are}
+use Rattle.policy_lawful.proofs.Items.{provided_by, things_are}
 
 -- ---- by kind and name
 

@@ -11,9 +11,9 @@ use Rattle.ept_check.specs.Known.{Reads}
 use Rattle.ept_check.specs.Sound.{AreSound, AreWindows, CanBeChecked, HasOnePathPerTable}
 use Rattle.ept_check.specs.Tables.{Tables, addr_of, addresses, is_among, look_at, subject_of, table_read, tables_in, walk_at}
 use Rattle.ept_check.specs.declared.types.SubjectTables.{SubjectTables}
-use Rattle.ept_emit.specs.Emitted.{translation}
-use Rattle.ept_emit.specs.Reads.{Reads as ReadsTable}
-use Rattle.expand_grants.specs.declared.granted.Grants.{Grants}
+use Rattle.ept_check.specs.Emitted.{translation}
+use Rattle.ept_check.specs.Reads.{Reads as ReadsTable}
+use Rattle.expand_kernel.specs.granted.Grants.{Grants}
 use Rattle.expand_kernel.specs.Expansion.{Expansion}
 use Rattle.image_pack.proofs.PartsKeep.{parts_keep}
 use Rattle.image_pack.specs.declared.parts.Image.{Image}
@@ -27,8 +27,8 @@ use Rattle.image_verify.specs.Filled.{IsAt, IsFilled}
 use Rattle.image_verify.specs.Stand.{StandForTables}
 use Rattle.image_verify.specs.TablePages.{pages_of_all}
 use Rattle.image_verify.specs.Windows.{WithPart, tables_of_subject, tables_of_subjects, windows_on}
-use Rattle.machine_layout.specs.Memory.{is_there}
-use Rattle.machine_layout.specs.Walks.{addresses_from, addresses_read, entry_address, entry_of, entry_size, goes_on, index_at, is_leaf, is_misconfigured, is_present, bits_of, root_of, walk_from, walk_of}
+use Rattle.ept_check.specs.Memory.{is_there}
+use Rattle.ept_check.specs.Walks.{addresses_from, addresses_read, entry_address, entry_of, entry_size, goes_on, index_at, is_leaf, is_misconfigured, is_present, bits_of, root_of, walk_from, walk_of}
 use Rattle.muen_num.proofs.Lists.{there}
 use Rattle.muen_num.specs.Access.{kind_bit}
 use Rattle.muen_num.specs.declared.access.AccessKind.{AccessKind}
@@ -37,7 +37,7 @@ use Rattle.policy_lawful.specs.Contents.{Held}
 use Rattle.policy_lawful.specs.Resolution.{Resolution, source_of, subject_named}
 use Rattle.policy_lawful.specs.Windows.{access_of, windows_of}
 use Rattle.policy_lawful.specs.declared.resolved.Subject.{Subject}
-use Rattle.policy_types.specs.declared.source.Source.{Source}
+use Rattle.policy_lawful.specs.source.Source.{Source}
 use Rattle.proof_build.specs.Built.{HasOnePathPerTable as HasOnePath, IsOnePath as IsSamePath}
 use Rattle.subject_emit.proofs.Pieces.{from_some}
 

@@ -22,8 +22,8 @@ use Rattle.image_verify.specs.Windows.{tables_of_subject, tables_of_subjects}
 use Rattle.image_verify.specs.declared.fault.Condition.TheVariants.{Plan}
 use Rattle.image_verify.specs.declared.fault.Fault.TheVariants.{Fails}
 use Rattle.image_verify.specs.declared.fault.Owner.{Owner}
-use Rattle.machine_layout.specs.Memory.{Page}
-use Rattle.machine_layout.specs.Walks.{root_of}
+use Rattle.ept_check.specs.Memory.{Page}
+use Rattle.ept_check.specs.Walks.{root_of}
 use Rattle.muen_num.proofs.NumbersBelow.{length_numbers}
 use Rattle.muen_num.specs.Range.{numbers_below}
 use Rattle.muen_num.specs.Search.{first_of}

@@ -5,8 +5,8 @@ use Rattle.std.specs.List.{cons_option, find, zip}
 use Rattle.std.proofs.lemmas.List.{map-append}
 use Rattle.std.proofs.lemmas.List.Elements.{filter_map-append}
 use Rattle.ept_check.specs.declared.types.SubjectTables.{SubjectTables}
-use Rattle.ept_emit.specs.declared.window.Window.{Window}
-use Rattle.expand_grants.specs.declared.granted.Grants.{Grants}
+use Rattle.ept_check.specs.window.Window.{Window}
+use Rattle.expand_kernel.specs.granted.Grants.{Grants}
 use Rattle.image_pack.specs.declared.parts.Image.{Image}
 use Rattle.image_pack.specs.declared.parts.SpanPart.{SpanPart}
 use Rattle.image_pack.specs.declared.parts.SubjectPart.{SubjectPart}

@@ -9,12 +9,12 @@ use Rattle.std.proofs.lemmas.List.Elements.{All-map}
 use Rattle.std.proofs.lemmas.List.Sorted.{IsPermutation-map}
 use Rattle.std.proofs.lemmas.Option.{get_or_from_slice_get, slice_get_within}
 use Rattle.ept_check.specs.Sound.{AreWindows, HasPages, IsWhole}
-use Rattle.ept_emit.specs.Emitted.{holds as is_in, translation, translation_in, window_at}
-use Rattle.ept_emit.specs.declared.window.GuestRange.{GuestRange}
-use Rattle.ept_emit.specs.declared.window.Window.{Window as EptWindow}
-use Rattle.expand_grants.proofs.Ordered.{in_order_permutes}
-use Rattle.expand_grants.specs.Grants.{AreGrantsOf, is_lower}
-use Rattle.expand_grants.specs.declared.granted.Grants.{Grants}
+use Rattle.ept_check.specs.Emitted.{holds as is_in, translation, translation_in, window_at}
+use Rattle.ept_check.specs.window.GuestRange.{GuestRange}
+use Rattle.ept_check.specs.window.Window.{Window as EptWindow}
+use Rattle.expand_kernel.proofs.Ordered.{in_order_permutes}
+use Rattle.expand_kernel.specs.Grants.{AreGrantsOf, is_lower}
+use Rattle.expand_kernel.specs.granted.Grants.{Grants}
 use Rattle.expand_kernel.proofs.Numbering.{can_map_granted}
 use Rattle.expand_kernel.specs.ByIndex.{CanMap, view_range}
 use Rattle.expand_kernel.specs.Expansion.{Expansion}
@@ -25,8 +25,8 @@ use Rattle.image_verify.proofs.Addresses.{address_shown}
 use Rattle.image_verify.proofs.Rooms.{Fits, as_many, keeps, views_fit}
 use Rattle.image_verify.specs.Filled.{IsFilled}
 use Rattle.image_verify.specs.Windows.{shown_address, spans_by_number, window_on, windows_on}
-use Rattle.machine_layout.specs.Memory.{is_there}
-use Rattle.machine_layout.specs.declared.walk.Walk.TheVariants.{At, Violation}
+use Rattle.ept_check.specs.Memory.{is_there}
+use Rattle.ept_check.specs.walk.Walk.TheVariants.{At, Violation}
 use Rattle.muen_num.proofs.Lists.{find-map, passes_at, there}
 use Rattle.muen_num.specs.declared.access.AccessKind.{AccessKind}
 use Rattle.policy_lawful.proofs.SourceElements.{parts_in_range}
@@ -38,9 +38,9 @@ use Rattle.policy_lawful.specs.Views.{thing_shown, view_window, views_of}
 use Rattle.policy_lawful.specs.Windows.{access_by, access_of, byte, holds, violation, windows_of}
 use Rattle.policy_lawful.specs.declared.resolved.Subject.{Subject}
 use Rattle.policy_lawful.specs.declared.view.View.{View}
-use Rattle.policy_types.specs.Rights.{allows, rights_bits}
-use Rattle.policy_types.specs.declared.rights.Rights.{Rights}
-use Rattle.policy_types.specs.declared.source.Source.{Source}
+use Rattle.policy_lawful.specs.Rights.{allows, rights_bits}
+use Rattle.policy_lawful.specs.rights.Rights.{Rights}
+use Rattle.policy_lawful.specs.source.Source.{Source}
 use Rattle.proof_build.proofs.WalksByWindow.{ArePassedOnce, found_contained, found_permuted}
 use Rattle.region_alloc.proofs.EachInTurn.{All-in_order}
 

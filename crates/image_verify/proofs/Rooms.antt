@@ -9,7 +9,7 @@ use Rattle.std.proofs.lemmas.List.Elements.{All-contains_itself, All-from_recurs
 use Rattle.std.proofs.lemmas.List.Sums.{AllPass-from_list_all}
 use Rattle.std.proofs.lemmas.Option.{slice_get-map}
 use Rattle.ept_check.specs.Sound.{HasPages, IsWhole}
-use Rattle.ept_emit.specs.declared.window.Window.{Window as EptWindow}
+use Rattle.ept_check.specs.window.Window.{Window as EptWindow}
 use Rattle.image_pack.proofs.PartsKeep.{parts_keep}
 use Rattle.image_pack.specs.ImageConditions.{KeepsConditions}
 use Rattle.image_pack.specs.SpanConditions.{IsSpan}
@@ -22,7 +22,7 @@ use Rattle.image_verify.proofs.InSpans.{in_span_there}
 use Rattle.image_verify.specs.Filled.{IsFilled}
 use Rattle.image_verify.specs.Windows.{is_span_of, shown_address, spans_by_number, window_on}
 use Rattle.expand_kernel.specs.Expansion.{Expansion}
-use Rattle.machine_layout.specs.Memory.{is_there}
+use Rattle.ept_check.specs.Memory.{is_there}
 use Rattle.muen_num.proofs.Lists.{passes_at}
 use Rattle.muen_num.specs.Range.{numbers_below}
 use Rattle.muen_num.specs.declared.limits.TheConstants.{GUEST_END}
@@ -37,8 +37,8 @@ use Rattle.policy_lawful.specs.Views.{thing_shown, view_window, views_of}
 use Rattle.policy_lawful.specs.Windows.{Window, windows_of}
 use Rattle.policy_lawful.specs.declared.resolved.Subject.{Subject}
 use Rattle.policy_lawful.specs.declared.view.View.{View}
-use Rattle.policy_types.specs.declared.source.Source.{Source}
-use Rattle.policy_types.specs.declared.source.Subject.{Subject as NamedSubject}
+use Rattle.policy_lawful.specs.source.Source.{Source}
+use Rattle.policy_lawful.specs.source.Subject.{Subject as NamedSubject}
 use Rattle.proof_start.proofs.ListFacts.{all_at, any_passing, filtered_at, first_at, found_at, found_some, kept_at, other_at}
 use Rattle.proof_start.proofs.MemoryFacts.{span_by}
 use Rattle.proof_start.proofs.SubjectFacts.{subject_spans}

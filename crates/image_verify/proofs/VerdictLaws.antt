@@ -34,13 +34,13 @@ use Rattle.image_verify.specs.declared.fault.Fault.{Fault}
 use Rattle.image_verify.specs.declared.fault.Fault.TheVariants.{Fails}
 use Rattle.image_verify.specs.declared.fault.Owner.{Owner}
 use Rattle.image_verify.specs.declared.fault.Owner.TheVariants.{Named}
-use Rattle.machine_layout.specs.Memory.{is_there}
+use Rattle.ept_check.specs.Memory.{is_there}
 use Rattle.muen_num.specs.Range.{numbers_below}
 use Rattle.policy_lawful.specs.Contents.{Held}
 use Rattle.policy_lawful.specs.Resolution.{Resolution, source_of}
 use Rattle.policy_lawful.specs.Thing.{Thing, thing_tag, things_of}
-use Rattle.policy_types.specs.declared.source.Source.{Source}
-use Rattle.policy_types.specs.declared.source.Subject.{Subject}
+use Rattle.policy_lawful.specs.source.Source.{Source}
+use Rattle.policy_lawful.specs.source.Subject.{Subject}
 use Rattle.proof_build.specs.Built.{HasOnePathPerTable}
 
 -- ---- contents

@@ -1,6 +1,6 @@
 -- What is known of an image when its tables are looked at.
 use Rattle.std.specs.Prelude.{◌≡◌, ℕ, length, slice_get, Some}
-use Rattle.expand_grants.specs.declared.granted.Grants.{Grants}
+use Rattle.expand_kernel.specs.granted.Grants.{Grants}
 use Rattle.expand_kernel.specs.Expansion.{Expansion, IsExpanded}
 use Rattle.image_pack.specs.Parts.{IsParts}
 use Rattle.image_pack.specs.declared.parts.Image.{Image}

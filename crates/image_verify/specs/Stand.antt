@@ -6,7 +6,7 @@ use Rattle.ept_check.specs.declared.types.SubjectTables.{SubjectTables}
 use Rattle.image_pack.specs.declared.parts.Image.{Image}
 use Rattle.image_soundness.specs.Memory.{memory_of}
 use Rattle.image_soundness.specs.Sound.{ForEachSubject, HasWalks, ReadsTables}
-use Rattle.policy_types.specs.declared.source.Source.{Source}
+use Rattle.policy_lawful.specs.source.Source.{Source}
 use Rattle.proof_build.specs.Built.{HasOnePathPerTable as HasOnePath}
 
 -- these, with these pages as tables

@@ -4,9 +4,9 @@ use Rattle.std.specs.List.{filter_map, find, zip}
 use Rattle.std.specs.Option.{option_map_or}
 use Rattle.std.specs.Str.{bytes_eq}
 use Rattle.ept_check.specs.declared.types.SubjectTables.{SubjectTables}
-use Rattle.ept_emit.specs.declared.window.Leaf.TheVariants.{Small}
-use Rattle.ept_emit.specs.declared.window.Window.{Window}
-use Rattle.expand_grants.specs.declared.granted.Grants.{Grants}
+use Rattle.ept_check.specs.window.Leaf.TheVariants.{Small}
+use Rattle.ept_check.specs.window.Window.{Window}
+use Rattle.expand_kernel.specs.granted.Grants.{Grants}
 use Rattle.expand_kernel.specs.Expansion.{Expansion}
 use Rattle.image_pack.specs.declared.parts.Image.{Image}
 use Rattle.image_pack.specs.declared.parts.SpanKind.{SpanKind}
@@ -22,7 +22,7 @@ use Rattle.policy_lawful.specs.declared.resolved.Subject.{Subject}
 use Rattle.policy_lawful.specs.declared.view.Shown.{Shown}
 use Rattle.policy_lawful.specs.declared.view.Shown.TheVariants.{Memory, Channel, Provided, Device, State}
 use Rattle.policy_lawful.specs.declared.view.View.{View}
-use Rattle.policy_types.specs.declared.rights.Caching.TheVariants.{Wb}
+use Rattle.policy_lawful.specs.rights.Caching.TheVariants.{Wb}
 
 -- ---- spans by number, without what they have
 

@@ -9,13 +9,11 @@ ghost use Rattle.policy_lawful.specs.Contents.{Held};
 ghost use Rattle.policy_lawful.specs.Resolution.{source_of};
 ghost use Rattle.policy_lawful.specs.Thing.{region, channel, provided, device_memory};
 
-use ept_check::SubjectTables;
-use ept_emit::{Leaf, Window};
+use ept_check::{Leaf, SubjectTables, Window};
 use expand_kernel::Expanded;
 use image_pack::{Image, Parts, SpanKind, SpanPart};
 use muen_num::{Name, NoMemory, Seq, TagPart};
-use policy_lawful::{Resolved, Shown, View};
-use policy_types::Caching;
+use policy_lawful::{Caching, Resolved, Shown, View};
 use std::alloc::Global;
 
 // ---- spans by number

@@ -8,8 +8,8 @@ use Rattle.muen_num.specs.Range.{numbers_below}
 use Rattle.muen_num.proofs.NumbersBelow.{length_numbers}
 use Rattle.device_bench.specs.Devices.{IsLow, inputs_at}
 use Rattle.device_bench.specs.declared.effect.Effect.{Effect}
-use Rattle.record_text.specs.declared.record.Record.{Record}
-use Rattle.record_text.specs.declared.record.TickInput.{TickInput}
+use Rattle.device_bench.specs.record.Record.{Record}
+use Rattle.device_bench.specs.record.TickInput.{TickInput}
 use Rattle.frame_clock.specs.Run.{all_taken}
 use Rattle.vmx_machine.specs.Machine.{MachineState, left}
 use Rattle.kernel_core.specs.Kernel.{Live}

@@ -1,8 +1,8 @@
 -- The kernel over a run: how a tick begins, what inputs do, and how all ends (this project's own).
 use Rattle.std.specs.Prelude.{ℕ, List, [], ◌∷◌, map, replicate, slice_get, slice_set, Option, Some, None, option_and_then, unwrap_or}
 use Rattle.muen_num.specs.Range.{numbers_below}
-use Rattle.machine_layout.specs.Memory.{Page}
-use Rattle.record_text.specs.declared.record.Record.{Record}
+use Rattle.vmx_machine.specs.Memory.{Page}
+use Rattle.device_bench.specs.record.Record.{Record}
 use Rattle.device_bench.specs.Devices.{inputs_at, order_at, no_inputs}
 use Rattle.device_bench.specs.declared.effect.Effect.{Effect}
 use Rattle.device_bench.specs.declared.effect.Effect.TheVariants.{Port, Mem, Irq}

@@ -3,17 +3,15 @@ ghost use Rattle.std.specs.Prelude.{◌≡◌, ◌+◌, ◌*◌, ◌<◌, ◌≤
 ghost use Rattle.muen_num.specs.Range.{numbers_below};
 ghost use Rattle.device_bench.specs.Devices.{order_at};
 ghost use Rattle.frame_clock.specs.Run.{all_taken, begun};
-ghost use Rattle.state_page.specs.StatePage.{state_in};
+ghost use Rattle.guest_isa.specs.StatePage.{state_in};
 ghost use Rattle.vmx_machine.specs.Machine.{page_at};
 ghost use Rattle.kernel_core.specs.Ticks.{all_left, begins, ended, kernel, pick_of, takes_any, tick_inputs, tick_order};
 
 use crate::kernel::{Kernel, control_at};
-use device_bench::Effect;
-use ept_walk::Translate;
+use device_bench::{Effect, TickInput};
+use ept_walk::{PhysMem, Translate};
 use frame_clock::advance;
-use phys_mem::PhysMem;
-use record_text::TickInput;
-use state_page::SubjectState;
+use guest_isa::SubjectState;
 use vmx_machine::Machine;
 
 // The first byte of a page, by its number.

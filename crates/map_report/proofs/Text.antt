@@ -7,17 +7,17 @@ use Rattle.std.proofs.lemmas.Bool.{and_from, and_parts, ltb-true}
 use Rattle.std.proofs.lemmas.List.Folds.{flat_map-map}
 use Rattle.std.proofs.lemmas.Grind.{flat_map-append}
 use Rattle.std.proofs.lemmas.Slice.Zip.{AllZip-long}
-use Rattle.expand_grants.specs.Grants.{AreGrants, AreGrantsOf, is_lower}
-use Rattle.expand_grants.specs.Ordered.{in_order, inserted}
-use Rattle.expand_grants.specs.declared.granted.Grants.{Grants}
-use Rattle.expand_grants.proofs.Ordered.{map_in_order}
+use Rattle.expand_kernel.specs.Grants.{AreGrants, AreGrantsOf, is_lower}
+use Rattle.expand_kernel.specs.Ordered.{in_order, inserted}
+use Rattle.expand_kernel.specs.granted.Grants.{Grants}
+use Rattle.expand_kernel.proofs.Ordered.{map_in_order}
 use Rattle.expand_kernel.specs.Regions.{regions_of}
 use Rattle.expand_kernel.specs.declared.region.Region.{Region}
 use Rattle.muen_num.specs.declared.tag.TagPart.TheVariants.{Named}
 use Rattle.muen_num.proofs.Lists.{there}
-use Rattle.policy_types.specs.declared.source.Block.{Block}
+use Rattle.policy_lawful.specs.source.Block.{Block}
 use Rattle.policy_lawful.specs.Ranges.{in_a_block}
-use Rattle.policy_types.specs.declared.source.Device.{Device as SourceDevice}
+use Rattle.policy_lawful.specs.source.Device.{Device as SourceDevice}
 use Rattle.policy_lawful.specs.Resolution.{IsResolved, Resolution, source_of, subject_named, subject_in_range}
 use Rattle.policy_lawful.specs.declared.resolved.Subject.{Subject}
 use Rattle.policy_lawful.proofs.SourceElements.{parts_in_range}

@@ -2,7 +2,7 @@
 use Rattle.std.specs.Prelude.{ℕ, List, [], ◌++◌, codes, nat_le, Result, Ok, Err, slice_index}
 use Rattle.std.specs.List.{enumerate_from, flat_map}
 use Rattle.std.specs.Option.{option_map_or}
-use Rattle.expand_grants.specs.Ordered.{in_order}
+use Rattle.expand_kernel.specs.Ordered.{in_order}
 use Rattle.expand_kernel.specs.Regions.{regions_of}
 use Rattle.expand_kernel.specs.declared.region.Region.{Region}
 use Rattle.muen_num.specs.Fixed.{hex16}
@@ -10,10 +10,10 @@ use Rattle.muen_num.specs.Tag.{tag_text}
 use Rattle.muen_num.specs.declared.tag.Tag.{Tag}
 use Rattle.policy_lawful.specs.Thing.{Item, device_items, thing_tag}
 use Rattle.policy_lawful.specs.Windows.{windows_of}
-use Rattle.policy_types.specs.declared.rights.Rights.{Rights}
-use Rattle.policy_types.specs.declared.rights.Rights.TheVariants.{R, Rw, Rx, Rwx}
-use Rattle.policy_types.specs.declared.source.Source.{Source}
-use Rattle.policy_types.specs.declared.source.Subject.{Subject}
+use Rattle.policy_lawful.specs.rights.Rights.{Rights}
+use Rattle.policy_lawful.specs.rights.Rights.TheVariants.{R, Rw, Rx, Rwx}
+use Rattle.policy_lawful.specs.source.Source.{Source}
+use Rattle.policy_lawful.specs.source.Subject.{Subject}
 use Rattle.region_alloc.specs.Placement.{placement_of}
 
 -- ---- rights

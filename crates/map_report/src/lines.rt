@@ -6,7 +6,7 @@ ghost use Rattle.map_report.specs.MapText.{rights_text};
 use muen_num::text::{append, append_hex16};
 use muen_num::{Name, Tag};
 use muen_outside::PrintedLine;
-use policy_types::Rights;
+use policy_lawful::Rights;
 
 fn rights_text(rights: Rights) -> &'static [u8]
     ensures value { result.now ≡ rights_text rights }

@@ -9,13 +9,12 @@ ghost use Rattle.map_report.specs.Views.{all_view_lines, device_lines, map_lines
 
 use crate::lines::{Laid, RegionLine, WindowLine};
 use crate::shown::tag;
-use expand_grants::Grants;
-use expand_kernel::Region;
+use expand_kernel::{Grants, Region};
 use muen_num::{Name, Tag, TagPart};
 use muen_outside::{Buffer, BufferedSink, Sink, SinkFault};
 use policy_lawful::resolved::Subject;
+use policy_lawful::source::{Device, DeviceMemory};
 use policy_lawful::{Resolved, View};
-use policy_types::source::{Device, DeviceMemory};
 use region_alloc::Placed;
 
 // The regions at these addresses.

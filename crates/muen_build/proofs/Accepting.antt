@@ -8,9 +8,9 @@ use Rattle.muen_num.specs.Answers.{Answers, Explains}
 use Rattle.muen_outside.specs.Looks.{ShowAll}
 use Rattle.muen_outside.specs.States.{History, Look, looked}
 use Rattle.muen_outside.specs.Store.{Store, find_bytes}
-use Rattle.policy_types.specs.declared.refusal.Refusal.{Refusal}
-use Rattle.policy_types.specs.declared.refusal.Refusal.TheVariants.{NoMemory}
-use Rattle.policy_types.specs.declared.source.Source.{Source}
+use Rattle.policy_lawful.specs.refusal.Refusal.{Refusal}
+use Rattle.policy_lawful.specs.refusal.Refusal.TheVariants.{NoMemory}
+use Rattle.policy_lawful.specs.source.Source.{Source}
 use Rattle.muen_build.specs.Accepting.{Accepts, FailsWith, Files, Grows, HasContents, IsAskedBy, LacksContents, LookedBeside, Names, Passes, Refuses, RefusesContents, RefusesDocument, Stops, insert_all, looks_of, of_all}
 use Rattle.muen_build.specs.Looks.{IsAsked, Looked, names_file}
 use Rattle.muen_build.specs.Refusals.{lawful_policy_of}

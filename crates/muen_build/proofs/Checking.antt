@@ -10,8 +10,8 @@ use Rattle.muen_num.proofs.SearchLaws.{first_in-append, first_over-map}
 use Rattle.muen_outside.specs.Looks.{ShowAll}
 use Rattle.muen_outside.specs.States.{History, Look}
 use Rattle.muen_outside.specs.Store.{Store}
-use Rattle.policy_types.specs.declared.refusal.Refusal.{Refusal}
-use Rattle.policy_types.specs.declared.source.Content.TheVariants.{File, Inline}
+use Rattle.policy_lawful.specs.refusal.Refusal.{Refusal}
+use Rattle.policy_lawful.specs.source.Content.TheVariants.{File, Inline}
 use Rattle.muen_build.specs.Accepting.{Files, insert_all, Grows, Known, Names, NotFound, Passes, Refuses, Stops, Why, all_names, brought_names, filled_names, looks_of, of_all, of_brought, of_filled, part_length}
 use Rattle.policy_lawful.specs.ByIndex.{provided_at}
 use Rattle.muen_build.specs.Filling.{Filled, brought_at, filled_of, filled_provided, filled_refused, filled_region}
@@ -20,7 +20,7 @@ use Rattle.muen_build.specs.Refusals.{content_refused, too_long_for}
 use Rattle.muen_build.specs.declared.accepted.BuildError.{BuildError}
 use Rattle.muen_build.specs.declared.accepted.BuildError.TheVariants.{Refused}
 use Rattle.policy_lawful.specs.declared.resolved.Subject.{Subject}
-use Rattle.policy_types.specs.declared.source.Component.{Component}
+use Rattle.policy_lawful.specs.source.Component.{Component}
 use Rattle.policy_lawful.specs.Resolution.{IsResolved, Resolution, source_of}
 use Rattle.muen_build.proofs.FilledByIndex.{filled_by_index, names_filled}
 use Rattle.muen_build.proofs.Looks.{grows_among, grows_not, grows_on, grows_shows, stops_from, stops_here, stops_so}

@@ -12,14 +12,14 @@ use Rattle.policy_lawful.proofs.SourceElements.{parts_in_range}
 use Rattle.policy_lawful.proofs.UniqueNames.{unique}
 use Rattle.policy_lawful.specs.Contents.{Held}
 use Rattle.policy_lawful.specs.Thing.{Item, channel_item, component_by, device_item, items_of, thing_tag}
-use Rattle.policy_meaning.proofs.Items.{map_items}
-use Rattle.policy_types.specs.declared.source.Content.TheVariants.{Zero}
-use Rattle.policy_types.specs.declared.source.Source.{Source}
+use Rattle.policy_lawful.proofs.Items.{map_items}
+use Rattle.policy_lawful.specs.source.Content.TheVariants.{Zero}
+use Rattle.policy_lawful.specs.source.Source.{Source}
 use Rattle.muen_num.specs.Search.{first_in}
 use Rattle.muen_num.specs.declared.tag.TagPart.TheVariants.{Named, Whole}
 use Rattle.muen_num.specs.declared.tag.Tag.{Tag}
 use Rattle.muen_num.proofs.SearchLaws.{first_in-append, first_over-map}
-use Rattle.policy_types.specs.declared.source.Component.{Component}
+use Rattle.policy_lawful.specs.source.Component.{Component}
 use Rattle.policy_lawful.specs.ByIndex.{provided_at}
 use Rattle.muen_build.specs.Filling.{Filled, brought_at, filled, filled_at, filled_by, filled_of, filled_provided, filled_refused, filled_region}
 use Rattle.muen_build.specs.Looks.{is_of_file, names_file}

@@ -23,11 +23,11 @@ use Rattle.muen_build.specs.Refusals.{content_refused, contents_refused, file_re
 use Rattle.policy_lawful.specs.Resolution.{IsResolved, Resolution, source_of}
 use Rattle.policy_lawful.specs.declared.resolved.Subject.{Subject}
 use Rattle.policy_lawful.specs.Contents.{content_bytes, file_part, padded}
-use Rattle.policy_types.specs.declared.refusal.Refusal.TheVariants.{FileFit, Missing}
-use Rattle.policy_types.specs.declared.source.Channel.{Channel}
-use Rattle.policy_types.specs.declared.source.Component.{Component}
-use Rattle.policy_types.specs.declared.source.Content.{Content}
-use Rattle.policy_types.specs.declared.source.Content.TheVariants.{Zero, Fill, Inline, File}
+use Rattle.policy_lawful.specs.refusal.Refusal.TheVariants.{FileFit, Missing}
+use Rattle.policy_lawful.specs.source.Channel.{Channel}
+use Rattle.policy_lawful.specs.source.Component.{Component}
+use Rattle.policy_lawful.specs.source.Content.{Content}
+use Rattle.policy_lawful.specs.source.Content.TheVariants.{Zero, Fill, Inline, File}
 use Rattle.muen_build.proofs.FilledByIndex.{contents_filled, filled_by_index}
 use Rattle.muen_build.proofs.Documents.{given_there, not_given, whole_found}
 use Rattle.muen_build.proofs.Looks.{other_way, same_self}

@@ -6,7 +6,7 @@ use Rattle.std.proofs.lemmas.List.Elements.{All-append, All-nil, All-weaker}
 use Rattle.muen_outside.specs.Looks.{AreOthers, AreSingle, IsPossibleEnd, ShowAll, Shows}
 use Rattle.muen_outside.specs.States.{History, Look, looked}
 use Rattle.muen_outside.specs.Store.{Store}
-use Rattle.policy_types.specs.declared.refusal.Refusal.{Refusal}
+use Rattle.policy_lawful.specs.refusal.Refusal.{Refusal}
 use Rattle.muen_build.specs.Accepting.{ErrorSays, Files, Grows, IsAskedBy, Names, Stops, WithGiven}
 use Rattle.muen_build.specs.declared.accepted.BuildError.{BuildError}
 use Rattle.muen_build.specs.declared.accepted.BuildError.TheVariants.{FileFault, Refused}

@@ -4,8 +4,8 @@ use Rattle.std.specs.Prelude.{IfOk, IfErr}
 use Rattle.muen_num.specs.Answers.{Answers, Explains}
 use Rattle.policy_lawful.specs.Lawful.{kept_or}
 use Rattle.policy_lawful.specs.Resolution.{Resolution, source_of}
-use Rattle.policy_types.specs.declared.refusal.Refusal.{Refusal}
-use Rattle.policy_types.specs.declared.refusal.Refusal.TheVariants.{NoMemory}
+use Rattle.policy_lawful.specs.refusal.Refusal.{Refusal}
+use Rattle.policy_lawful.specs.refusal.Refusal.TheVariants.{NoMemory}
 use Rattle.region_alloc.specs.Placed.{Placement}
 use Rattle.region_alloc.specs.Placement.{no_room}
 use Rattle.muen_build.specs.Accepting.{placed_source}

@@ -9,9 +9,9 @@ use Rattle.policy_lawful.specs.Lawful.{kept_or, unlawful}
 use Rattle.policy_names.specs.Names.{names_broken}
 use Rattle.policy_names.proofs.Resolved.{names_first}
 use Rattle.policy_lawful.specs.Contents.{Held}
-use Rattle.policy_types.specs.declared.refusal.Refusal.{Refusal}
-use Rattle.policy_types.specs.declared.refusal.Refusal.TheVariants.{NoMemory}
-use Rattle.policy_types.specs.declared.source.Source.{Source}
+use Rattle.policy_lawful.specs.refusal.Refusal.{Refusal}
+use Rattle.policy_lawful.specs.refusal.Refusal.TheVariants.{NoMemory}
+use Rattle.policy_lawful.specs.source.Source.{Source}
 use Rattle.region_alloc.specs.Placement.{no_room}
 use Rattle.muen_build.specs.Refusals.{accepted, accepted_policy_of, build_refused, contents_refused, fitting, fitting_policy_of, laid, laid_policy_of, lawful_alone, lawful_policy_of, refusal_of}
 

@@ -6,7 +6,7 @@ use Rattle.std.proofs.Math.Seq.{take-append_seam}
 use Rattle.std.proofs.lemmas.Grind.{flat_map-append}
 use Rattle.std.proofs.lemmas.List.{length-map, length-replicate, length-take, map-append, take_all, take_more}
 use Rattle.std.proofs.lemmas.List.Concat.{flat_map-cons}
-use Rattle.expand_grants.specs.Grants.{AreGrants}
+use Rattle.expand_kernel.specs.Grants.{AreGrants}
 use Rattle.expand_kernel.specs.ByIndex.{brought_at, channel_region, kernel_for_each, own_region, provided_region}
 use Rattle.policy_lawful.specs.ByIndex.{provided_at}
 use Rattle.expand_kernel.specs.Regions.{regions_of}
@@ -18,12 +18,12 @@ use Rattle.muen_build.specs.Reading.{content_read, read_bytes, sized, things_rea
 use Rattle.policy_lawful.specs.Resolution.{IsResolved, Resolution, source_of}
 use Rattle.policy_lawful.specs.declared.resolved.Subject.{Subject}
 use Rattle.policy_lawful.specs.Contents.{file_part}
-use Rattle.policy_types.specs.declared.source.Channel.{Channel}
-use Rattle.policy_types.specs.declared.source.Component.{Component}
-use Rattle.policy_types.specs.declared.source.Content.{Content}
-use Rattle.policy_types.specs.declared.source.Content.TheVariants.{Zero, Fill, Inline, File}
-use Rattle.policy_types.specs.declared.source.Provided.{Provided}
-use Rattle.policy_types.specs.declared.source.Region.{Region as SourceRegion}
+use Rattle.policy_lawful.specs.source.Channel.{Channel}
+use Rattle.policy_lawful.specs.source.Component.{Component}
+use Rattle.policy_lawful.specs.source.Content.{Content}
+use Rattle.policy_lawful.specs.source.Content.TheVariants.{Zero, Fill, Inline, File}
+use Rattle.policy_lawful.specs.source.Provided.{Provided}
+use Rattle.policy_lawful.specs.source.Region.{Region as SourceRegion}
 use Rattle.region_alloc.specs.Placed.{Placement}
 use Rattle.subject_emit.specs.Mapped.{kernel_first}
 

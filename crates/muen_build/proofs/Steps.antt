@@ -12,8 +12,8 @@ use Rattle.muen_outside.specs.States.{History, Look, look}
 use Rattle.muen_outside.specs.Store.{Store, Reading, whole, absent, long, reading_of, find_bytes}
 use Rattle.muen_outside.specs.declared.files.FileError.{FileError}
 use Rattle.policy_lawful.specs.Contents.{file_part}
-use Rattle.policy_types.specs.declared.refusal.Refusal.{Refusal}
-use Rattle.policy_types.specs.declared.refusal.Refusal.TheVariants.{FileFit, Missing, NoMemory, NoRoom, NotJson, Rule, Shape, TooLong}
+use Rattle.policy_lawful.specs.refusal.Refusal.{Refusal}
+use Rattle.policy_lawful.specs.refusal.Refusal.TheVariants.{FileFit, Missing, NoMemory, NoRoom, NotJson, Rule, Shape, TooLong}
 use Rattle.muen_build.specs.Accepting.{ErrorSays, Files, GotSays, Grows, Has, insert_all, IsAdded, IsAskedBy, Known, LooksAt, NotFound, NotRead, Stops, looks_of, part_length}
 use Rattle.muen_build.specs.Looks.{file_look}
 use Rattle.muen_build.specs.Refusals.{file_refused, too_long_for}

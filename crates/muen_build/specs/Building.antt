@@ -7,7 +7,7 @@ use Rattle.muen_build.specs.Looks.{IsAsked, Looked}
 use Rattle.muen_build.specs.Refusals.{accepted_policy_of}
 use Rattle.muen_outside.specs.States.{History, Look}
 use Rattle.muen_outside.specs.Store.{Store}
-use Rattle.policy_types.specs.declared.source.Source.{Source}
+use Rattle.policy_lawful.specs.source.Source.{Source}
 
 -- over files that hold this a document is accepted as some policy, and the bytes are an image for it
 pub record IsBuilt (document : List ℕ) (files : Store) (bytes : List ℕ) : Type 0 where

@@ -6,16 +6,16 @@ use Rattle.policy_lawful.specs.ByIndex.{provided_at}
 use Rattle.muen_num.specs.declared.tag.TagPart.TheVariants.{Named, Whole}
 use Rattle.policy_lawful.specs.Resolution.{Resolution}
 use Rattle.policy_lawful.specs.declared.resolved.Subject.{Subject}
-use Rattle.policy_types.specs.declared.source.Component.{Component}
-use Rattle.policy_types.specs.declared.source.Provided.{Provided}
-use Rattle.policy_types.specs.declared.source.Region.{Region}
+use Rattle.policy_lawful.specs.source.Component.{Component}
+use Rattle.policy_lawful.specs.source.Provided.{Provided}
+use Rattle.policy_lawful.specs.source.Region.{Region}
 use Rattle.muen_num.specs.declared.tag.Tag.{Tag}
-use Rattle.policy_types.specs.declared.source.Content.{Content}
+use Rattle.policy_lawful.specs.source.Content.{Content}
 use Rattle.muen_build.specs.Refusals.{content_refused}
 use Rattle.policy_lawful.specs.Contents.{Held}
 use Rattle.policy_lawful.specs.Thing.{component_by}
-use Rattle.policy_types.specs.declared.refusal.Refusal.{Refusal}
-use Rattle.policy_types.specs.declared.source.Source.{Source}
+use Rattle.policy_lawful.specs.refusal.Refusal.{Refusal}
+use Rattle.policy_lawful.specs.source.Source.{Source}
 
 -- a region that is filled at the start: its printed name, its size, its content
 pub record Filled : Type 0 where

@@ -5,7 +5,7 @@ use Rattle.image_soundness.specs.Sound.{ForEachSubject, IsSound}
 use Rattle.image_pack.specs.Parts.{IsImage}
 use Rattle.image_pack.specs.declared.parts.Image.{Image}
 use Rattle.muen_outside.specs.Store.{Store}
-use Rattle.policy_types.specs.declared.source.Source.{Source}
+use Rattle.policy_lawful.specs.source.Source.{Source}
 
 -- bytes are the image of parts that are sound for this policy over these files; its spans are the policy's regions where the
 -- policy's placement has them, and the devices' memory; the spans that a subject's part numbers are the kernel's for it, and

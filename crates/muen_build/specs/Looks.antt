@@ -8,9 +8,9 @@ use Rattle.muen_outside.specs.States.{History, Look, look, looked}
 use Rattle.muen_outside.specs.Store.{Store, whole}
 use Rattle.muen_build.specs.Refusals.{lawful_policy_of}
 use Rattle.policy_lawful.specs.Thing.{items_of}
-use Rattle.policy_types.specs.declared.source.Content.{Content}
-use Rattle.policy_types.specs.declared.source.Content.TheVariants.{Zero, Fill, Inline, File}
-use Rattle.policy_types.specs.declared.source.Source.{Source}
+use Rattle.policy_lawful.specs.source.Content.{Content}
+use Rattle.policy_lawful.specs.source.Content.TheVariants.{Zero, Fill, Inline, File}
+use Rattle.policy_lawful.specs.source.Source.{Source}
 
 -- these looks were made, each at another name and none at this one, and nothing was written; files that tell show them
 pub record Looked (name : List ℕ) (held : Option Store) (old new : History) (looks : List Look) : Type 0 where

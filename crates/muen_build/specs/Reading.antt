@@ -6,8 +6,8 @@ use Rattle.muen_build.specs.Accepting.{Files}
 use Rattle.muen_outside.specs.Store.{find_bytes}
 use Rattle.policy_lawful.specs.Resolution.{Resolution}
 use Rattle.policy_lawful.specs.Contents.{file_part, padded}
-use Rattle.policy_types.specs.declared.source.Content.{Content}
-use Rattle.policy_types.specs.declared.source.Content.TheVariants.{Zero, Fill, Inline, File}
+use Rattle.policy_lawful.specs.source.Content.{Content}
+use Rattle.policy_lawful.specs.source.Content.TheVariants.{Zero, Fill, Inline, File}
 
 -- the bytes of a file: what is given under its name, else what was read
 abbrev pub read_bytes : Files → Files → List ℕ → List ℕ

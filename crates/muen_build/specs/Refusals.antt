@@ -10,11 +10,11 @@ use Rattle.policy_json.specs.Document.{policy_of}
 use Rattle.policy_lawful.specs.Lawful.{kept_or, unlawful}
 use Rattle.policy_lawful.specs.Contents.{Held, file_part}
 use Rattle.policy_lawful.specs.Thing.{Item, items_of, thing_tag}
-use Rattle.policy_types.specs.declared.refusal.Refusal.{Refusal}
-use Rattle.policy_types.specs.declared.refusal.Refusal.TheVariants.{Missing, TooLong, FileFit}
-use Rattle.policy_types.specs.declared.source.Content.{Content}
-use Rattle.policy_types.specs.declared.source.Content.TheVariants.{Zero, Fill, Inline, File}
-use Rattle.policy_types.specs.declared.source.Source.{Source}
+use Rattle.policy_lawful.specs.refusal.Refusal.{Refusal}
+use Rattle.policy_lawful.specs.refusal.Refusal.TheVariants.{Missing, TooLong, FileFit}
+use Rattle.policy_lawful.specs.source.Content.{Content}
+use Rattle.policy_lawful.specs.source.Content.TheVariants.{Zero, Fill, Inline, File}
+use Rattle.policy_lawful.specs.source.Source.{Source}
 use Rattle.region_alloc.specs.Placement.{no_room}
 
 -- ---- rules

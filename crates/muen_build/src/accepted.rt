@@ -4,7 +4,7 @@ ghost use Rattle.muen_outside.specs.Store.{find_bytes};
 
 use indexmap::IndexMap;
 use muen_num::{Name, NoMemory, Seq};
-use policy_types::Refusal;
+use policy_lawful::Refusal;
 use region_alloc::Placed;
 use std::alloc::{AllocError, Global};
 use std::marker::Model;
@@ -31,7 +31,7 @@ impl From<Refusal> for BuildError {
 
 impl From<NoMemory> for BuildError {
     ghost use Rattle.std.specs.Prelude.{◌≡◌};
-    ghost use Rattle.policy_types.specs.declared.refusal.Refusal.TheVariants.{NoMemory};
+    ghost use Rattle.policy_lawful.specs.refusal.Refusal.TheVariants.{NoMemory};
     ghost use Rattle.muen_build.specs.declared.accepted.BuildError.TheVariants.{Refused};
 
     ghost from_gives = { λ _ error. error ≡ Refused NoMemory };

@@ -9,17 +9,16 @@ ghost use Rattle.muen_build.specs.Filling.{brought_at, filled, filled_of, filled
 ghost use Rattle.muen_build.specs.Looks.{names_file};
 ghost use Rattle.muen_build.specs.Refusals.{too_long_for};
 ghost use Rattle.muen_build.specs.declared.accepted.BuildError.TheVariants.{Refused};
-ghost use Rattle.policy_types.specs.declared.refusal.Refusal.TheVariants.{TooLong};
+ghost use Rattle.policy_lawful.specs.refusal.Refusal.TheVariants.{TooLong};
 
 use crate::accepted::{BuildError, ComponentFiles};
 use crate::given::{Given, given_bytes};
 use muen_num::limits::COMPONENT_FILE_MOST;
 use muen_num::{Name, Seq, Tag, TagPart};
 use muen_outside::{FileError, Files, Found};
-use policy_lawful::Resolved;
 use policy_lawful::resolved::Subject;
-use policy_types::Refusal;
-use policy_types::source::{Content, Provided, Region};
+use policy_lawful::source::{Content, Provided, Region};
+use policy_lawful::{Refusal, Resolved};
 use std::alloc::Global;
 
 // That so many bytes have room in a region.

@@ -12,7 +12,7 @@ use crate::given::{Given, given_bytes};
 use muen_num::{Name, NoMemory, Seq};
 use policy_lawful::Resolved;
 use policy_lawful::resolved::Subject;
-use policy_types::source::{Channel, Content, Provided, Region};
+use policy_lawful::source::{Channel, Content, Provided, Region};
 use std::alloc::{AllocError, Global};
 
 // So many bytes of this value.

@@ -5,9 +5,9 @@ use Rattle.std.specs.List.{flat_map}
 use Rattle.std.proofs.lemmas.Grind.{flat_map-append}
 use Rattle.std.proofs.lemmas.Option.{none-some}
 use Rattle.muen_num.specs.Range.{numbers_below}
-use Rattle.machine_layout.specs.Memory.{Page}
-use Rattle.state_page.specs.StatePage.{state_in}
-use Rattle.state_page.specs.declared.state.SubjectState.{SubjectState}
+use Rattle.ept_walk.specs.Memory.{Page}
+use Rattle.view_text.specs.StatePage.{state_in}
+use Rattle.view_text.specs.state.SubjectState.{SubjectState}
 use Rattle.view_text.specs.ViewText.{rows_text}
 use Rattle.image_pack.specs.declared.parts.SubjectPart.{SubjectPart}
 use Rattle.kernel_core.specs.Machine.{page_at}

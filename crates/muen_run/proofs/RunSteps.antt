@@ -8,7 +8,7 @@ use Rattle.muen_outside.specs.Buffered.{OutState, Given, Lost, Gives}
 use Rattle.muen_outside.proofs.Buffered.{given_step, step_exit}
 use Rattle.view_text.specs.ViewText.{turn_text}
 use Rattle.view_text.specs.declared.TurnLine.{TurnLine}
-use Rattle.frame_clock.specs.Run.{Turned, Ran}
+use Rattle.kernel_core.specs.Run.{Turned, Ran}
 use Rattle.kernel_core.specs.Kernel.{Live}
 use Rattle.kernel_core.specs.Ticks.{KernelState, with_live}
 use Rattle.muen_run.specs.Turns.{at_tick, order_of, tick_in, ticks_in, turn_at, turns_in}

@@ -5,8 +5,8 @@ use Rattle.std.specs.List.{find, flat_map}
 use Rattle.sha2.specs.Sha256.{sha256}
 use Rattle.muen_num.specs.Range.{numbers_below}
 use Rattle.muen_num.specs.declared.limits.TheConstants.{PAGE}
-use Rattle.machine_layout.specs.Memory.{Page}
-use Rattle.state_page.specs.StatePage.{state_in}
+use Rattle.ept_walk.specs.Memory.{Page}
+use Rattle.view_text.specs.StatePage.{state_in}
 use Rattle.image_pack.specs.declared.parts.Image.{Image}
 use Rattle.image_pack.specs.declared.parts.SpanKind.{SpanKind}
 use Rattle.image_pack.specs.declared.parts.SpanKind.TheVariants.{Own, Channel, Provided, Kernel as OfKernel, Device}
@@ -21,7 +21,7 @@ use Rattle.view_text.specs.ViewText.{rows_text, turn_text, region_text}
 use Rattle.view_text.specs.declared.TurnLine.{TurnLine}
 use Rattle.kernel_core.specs.Machine.{page_at}
 use Rattle.kernel_core.specs.Control.{Control}
-use Rattle.frame_clock.specs.Run.{Ran}
+use Rattle.kernel_core.specs.Run.{Ran}
 use Rattle.kernel_core.specs.Kernel.{Live}
 use Rattle.kernel_core.specs.Ticks.{kernel_run_to, ended}
 use Rattle.kernel_core.specs.declared.setup.Setup.{Setup}

@@ -1,7 +1,7 @@
 -- Turns and ticks of a kernel.
 use Rattle.std.specs.Prelude.{ℕ, List, Option, Some, None}
 use Rattle.view_text.specs.declared.TurnLine.{TurnLine}
-use Rattle.frame_clock.specs.Run.{Turned, Ran, turns, tick_ran, run_to}
+use Rattle.kernel_core.specs.Run.{Turned, Ran, turns, tick_ran, run_to}
 use Rattle.kernel_core.specs.Kernel.{Live, turn_of}
 use Rattle.kernel_core.specs.Ticks.{KernelState, kernel, tick_inputs, tick_order}
 

@@ -8,10 +8,10 @@ ghost use Rattle.view_text.specs.ViewText.{region_text};
 ghost use Rattle.image_load.specs.Loading.{AreLow, IsLow};
 ghost use Rattle.muen_run.specs.RunText.{bytes_from, digest_in, numbered_span_text, prints_as, spans_text};
 
+use ept_walk::PhysMem;
 use image_pack::{SpanKind, SpanPart};
 use muen_num::limits::PAGE;
 use muen_outside::{BufferedSink, Sink, SinkFault};
-use phys_mem::PhysMem;
 use sha2::{Digest, Sha256};
 use view_text::region_line;
 

@@ -5,14 +5,12 @@ ghost use Rattle.muen_outside.specs.Prints.{Prints};
 ghost use Rattle.view_text.specs.ViewText.{rows_text};
 ghost use Rattle.muen_run.specs.RunText.{numbered_subject_text, states_text};
 
-use ept_walk::Translate;
+use ept_walk::{PhysMem, Translate};
 use image_pack::SubjectPart;
 use kernel_core::Kernel;
 use muen_num::Name;
 use muen_outside::{BufferedSink, PrintedLine, Sink, SinkFault};
-use phys_mem::PhysMem;
-use state_page::SubjectState;
-use view_text::state_line;
+use view_text::{SubjectState, state_line};
 
 // A row of a subject's final state.
 #[derive(Clone, Copy, Debug, PartialEq, Eq)]

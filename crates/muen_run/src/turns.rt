@@ -6,10 +6,9 @@ ghost use Rattle.view_text.specs.ViewText.{turn_text};
 ghost use Rattle.kernel_core.specs.Ticks.{with_live};
 ghost use Rattle.muen_run.specs.Turns.{at_tick, order_of, tick_in, ticks_in, turn_at, turns_in};
 
-use ept_walk::Translate;
+use ept_walk::{PhysMem, Translate};
 use kernel_core::Kernel;
 use muen_outside::{BufferedSink, Sink, SinkFault};
-use phys_mem::PhysMem;
 use view_text::{TurnLine, turn_line};
 
 // The line of a turn, if it has one.

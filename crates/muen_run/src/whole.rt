@@ -9,11 +9,10 @@ ghost use Rattle.muen_run.specs.Turns.{ticks_in};
 use crate::digests::put_spans;
 use crate::states::put_states;
 use crate::turns::put_ticks;
-use ept_walk::Translate;
+use ept_walk::{PhysMem, Translate};
 use image_pack::SpanPart;
 use kernel_core::Kernel;
 use muen_outside::{Buffer, BufferedSink, Sink, SinkFault};
-use phys_mem::PhysMem;
 
 // The digests of all regions, and of all devices' memories.
 #[tactic(auto, using(muen_outside::proofs::Buffered::gives))]

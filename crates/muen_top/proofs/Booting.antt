@@ -23,8 +23,8 @@ use Rattle.muen_num.specs.declared.limits.TheConstants.{POLICY_MOST, RECORD_MOST
 use Rattle.muen_outside.proofs.Explained.{explained}
 use Rattle.muen_outside.specs.States.{History, Look}
 use Rattle.muen_outside.specs.Store.{Store, Reading, whole, absent, long, reading_of}
-use Rattle.policy_types.specs.declared.refusal.Refusal.{Refusal}
-use Rattle.policy_types.specs.declared.source.Source.{Source}
+use Rattle.policy_lawful.specs.refusal.Refusal.{Refusal}
+use Rattle.policy_lawful.specs.source.Source.{Source}
 use Rattle.record_text.specs.DeviceRecord.{DeviceRecord}
 use Rattle.record_text.specs.Reading.{record_of}
 use Rattle.record_text.specs.declared.fault.RecordFault.{RecordFault}

@@ -14,8 +14,8 @@ use Rattle.muen_outside.specs.Looks.{AreSingle, HeldAfter, ShowAll, looks_since,
 use Rattle.muen_outside.specs.Puts.{Failed}
 use Rattle.muen_outside.specs.States.{History, Look, SinkState, Write, went}
 use Rattle.muen_outside.specs.Store.{Store, Reading, whole, absent, long, reading_of}
-use Rattle.policy_types.specs.declared.source.Source.{Source}
-use Rattle.policy_types.specs.declared.refusal.Refusal.{Refusal}
+use Rattle.policy_lawful.specs.source.Source.{Source}
+use Rattle.policy_lawful.specs.refusal.Refusal.{Refusal}
 use Rattle.record_text.specs.DeviceRecord.{DeviceRecord}
 use Rattle.record_text.specs.Reading.{record_of}
 use Rattle.image_soundness.specs.Bench.{devices_of}

@@ -7,9 +7,9 @@ use Rattle.muen_outside.specs.declared.files.FileError.TheVariants.{Failed as Fi
 use Rattle.muen_outside.specs.Looks.{EndsInFault, ShowAll, ShowsAnswer}
 use Rattle.muen_outside.specs.States.{History, Look, look}
 use Rattle.muen_outside.specs.Store.{Store, Reading, whole, absent, long, reading_of}
-use Rattle.policy_types.specs.declared.refusal.Refusal.{Refusal}
-use Rattle.policy_types.specs.declared.refusal.Refusal.TheVariants.{NotJson, Shape, Rule, Missing as MissingFile, TooLong as TooLongFile, FileFit, NoRoom, NoMemory as NoMemoryFor}
-use Rattle.policy_types.specs.declared.source.Source.{Source}
+use Rattle.policy_lawful.specs.refusal.Refusal.{Refusal}
+use Rattle.policy_lawful.specs.refusal.Refusal.TheVariants.{NotJson, Shape, Rule, Missing as MissingFile, TooLong as TooLongFile, FileFit, NoRoom, NoMemory as NoMemoryFor}
+use Rattle.policy_lawful.specs.source.Source.{Source}
 use Rattle.record_text.specs.declared.fault.RecordFault.{RecordFault}
 use Rattle.record_text.specs.declared.fault.RecordFault.TheVariants.{NoMemory as NoMemoryForRecord}
 use Rattle.muen_top.specs.Answers.{Answer, stops, missing, too_long, refused, image_refused, record_refused, of_file, answer_of}

@@ -16,8 +16,8 @@ use Rattle.muen_outside.specs.declared.files.FileError.TheVariants.{Failed as Fi
 use Rattle.muen_outside.specs.Looks.{HeldAfter, ShowAll, WriteLeaves}
 use Rattle.muen_outside.specs.States.{History, Look, SinkState, Write, write, written}
 use Rattle.muen_outside.specs.Store.{Store, whole, reading_of}
-use Rattle.policy_types.specs.declared.refusal.Refusal.{Refusal}
-use Rattle.policy_types.specs.declared.source.Source.{Source}
+use Rattle.policy_lawful.specs.refusal.Refusal.{Refusal}
+use Rattle.policy_lawful.specs.source.Source.{Source}
 use Rattle.muen_top.specs.Answers.{Answer, stops, refused, of_file, image_answer, build_answer}
 use Rattle.muen_top.specs.Asked.{Asks, AsksContents}
 use Rattle.muen_top.specs.Calls.{ComesOfCommand, IsDone, OutcomeSays, StopsFor, Unwritten}

@@ -4,7 +4,7 @@ use Rattle.std.specs.FinMap.{insert}
 use Rattle.muen_outside.specs.Looks.{HeldAfter, ShowAll}
 use Rattle.muen_outside.specs.States.{Look, Write, write}
 use Rattle.muen_outside.specs.Store.{Store, insert_known}
-use Rattle.policy_types.specs.declared.source.Source.{Source}
+use Rattle.policy_lawful.specs.source.Source.{Source}
 use Rattle.muen_top.specs.FilesSeen.{OverLooks}
 use Rattle.muen_top.specs.Headline.{HoldsWritten, WritesBuilt, after_writes}
 use Rattle.muen_top.specs.Images.{Wrote, image_last, tables_last}

@@ -5,9 +5,9 @@ use Rattle.muen_num.specs.declared.limits.TheConstants.{POLICY_MOST}
 use Rattle.muen_build.specs.Refusals.{laid_policy_of, lawful_policy_of}
 use Rattle.muen_outside.specs.States.{History, Look, look}
 use Rattle.muen_outside.specs.Store.{Store, whole}
-use Rattle.policy_types.specs.declared.refusal.Refusal.{Refusal}
-use Rattle.policy_types.specs.declared.refusal.Refusal.TheVariants.{NoMemory as NoMemoryFor}
-use Rattle.policy_types.specs.declared.source.Source.{Source}
+use Rattle.policy_lawful.specs.refusal.Refusal.{Refusal}
+use Rattle.policy_lawful.specs.refusal.Refusal.TheVariants.{NoMemory as NoMemoryFor}
+use Rattle.policy_lawful.specs.source.Source.{Source}
 use Rattle.flow_report.specs.FlowText.{flow_text_of}
 use Rattle.map_report.specs.MapText.{map_text_of}
 use Rattle.muen_top.specs.Answers.{Answer, prints, map_answer, map_policy_answer, flows_answer, flows_policy_answer}

@@ -12,7 +12,7 @@ use Rattle.image_pack.proofs.ImageLaws.{image_laws}
 use Rattle.muen_build.specs.Refusals.{accepted_policy_of}
 use Rattle.muen_outside.specs.Store.{Store}
 use Rattle.policy_lawful.specs.Contents.{Held}
-use Rattle.policy_types.specs.declared.source.Source.{Source}
+use Rattle.policy_lawful.specs.source.Source.{Source}
 use Rattle.record_text.specs.DeviceRecord.{DeviceRecord}
 use Rattle.record_text.specs.Reading.{record_of}
 use Rattle.proof_runs.proofs.ImageRuns.{image_bench_is, image_runs}

@@ -12,7 +12,7 @@ use Rattle.dma_tables.proofs.ConditionsHold.{conditions_kept}
 use Rattle.dma_tables.specs.DmaFile.{after_device, device, dma_file, mark_bytes}
 use Rattle.dma_tables.specs.Tables.{device_size}
 use Rattle.dma_tables.specs.declared.file.DmaFile.{DmaFile}
-use Rattle.policy_types.specs.declared.source.Source.{Source}
+use Rattle.policy_lawful.specs.source.Source.{Source}
 use Rattle.muen_top.specs.Tables.{IsTablesFor}
 use Rattle.muen_top.specs.declared.limits.TheConstants.{DMA_MOST}
 

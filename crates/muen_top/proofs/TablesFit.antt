@@ -13,11 +13,11 @@ use Rattle.muen_num.specs.declared.limits.TheConstants.{PAGE}
 use Rattle.policy_lawful.specs.Contents.{Held}
 use Rattle.policy_lawful.specs.Dma.{dma_access}
 use Rattle.policy_lawful.specs.Resolution.{source_of}
-use Rattle.policy_types.specs.declared.source.Source.{Source}
+use Rattle.policy_lawful.specs.source.Source.{Source}
 use Rattle.proof_build.specs.Built.{HasSpans}
 use Rattle.proof_domains.proofs.Fitting.{fits}
 use Rattle.proof_runs.specs.Fit.{Fit}
-use Rattle.region_alloc.specs.Placed.{IsPlaced, Placement}
+use Rattle.dma_emit.specs.Placed.{IsPlaced, Placement}
 use Rattle.muen_top.specs.Tables.{AreTablesFor}
 
 pub tables_fit : (p : Source) (t : DmaFile) → AreTablesFor p t → (files : Held) (i : Image) → IsSound p files i → HasSpans p i → Fit p i (Some t)

@@ -15,8 +15,8 @@ use Rattle.muen_build.proofs.Refusing.{accepted_fits}
 use Rattle.muen_num.specs.declared.limits.TheConstants.{IMAGE_MOST, POLICY_MOST}
 use Rattle.muen_outside.specs.States.{SinkState, Write}
 use Rattle.muen_outside.specs.Store.{Reading, Store, whole, absent, long, reading_of}
-use Rattle.policy_types.specs.declared.refusal.Refusal.{Refusal}
-use Rattle.policy_types.specs.declared.source.Source.{Source}
+use Rattle.policy_lawful.specs.refusal.Refusal.{Refusal}
+use Rattle.policy_lawful.specs.source.Source.{Source}
 use Rattle.muen_top.specs.Answers.{Answer, Reason, missing, too_long, refused, image_refused, judges, stops, of_file, judged_answer, verified_answer, verify_answer}
 use Rattle.muen_top.specs.Calls.{IsDone}
 use Rattle.muen_top.specs.Headline.{HoldsBuilt, HoldsPolicy, TellsFault, TellsSound}

@@ -29,9 +29,9 @@ use Rattle.muen_outside.specs.States.{History, Look, SinkState, looked}
 use Rattle.muen_outside.specs.Store.{Store, Reading, whole, find_bytes, reading_of}
 use Rattle.policy_lawful.specs.Lawful.{kept_or}
 use Rattle.policy_lawful.specs.Resolution.{Resolution, source_of}
-use Rattle.policy_types.specs.declared.refusal.Refusal.{Refusal}
-use Rattle.policy_types.specs.declared.refusal.Refusal.TheVariants.{NoMemory as NoMemoryFor}
-use Rattle.policy_types.specs.declared.source.Source.{Source}
+use Rattle.policy_lawful.specs.refusal.Refusal.{Refusal}
+use Rattle.policy_lawful.specs.refusal.Refusal.TheVariants.{NoMemory as NoMemoryFor}
+use Rattle.policy_lawful.specs.source.Source.{Source}
 use Rattle.muen_top.specs.Answers.{Answer, stops, refused, judges, of_file, judged_answer, verified_answer, verify_answer}
 use Rattle.muen_top.specs.Asked.{Asks, AsksPolicy, IsAtMost}
 use Rattle.image_verify.specs.declared.fault.Fault.{Fault}

@@ -11,8 +11,8 @@ use Rattle.muen_build.specs.Refusals.{accepted_policy_of}
 use Rattle.muen_num.specs.declared.limits.TheConstants.{IMAGE_MOST, POLICY_MOST}
 use Rattle.muen_outside.specs.States.{SinkState, Write}
 use Rattle.muen_outside.specs.Store.{Reading, Store, absent, long, reading_of, whole}
-use Rattle.policy_types.specs.declared.refusal.Refusal.{Refusal}
-use Rattle.policy_types.specs.declared.source.Source.{Source}
+use Rattle.policy_lawful.specs.refusal.Refusal.{Refusal}
+use Rattle.policy_lawful.specs.source.Source.{Source}
 use Rattle.muen_top.specs.Answers.{answer_of, build_answer, image_answer, of_file}
 use Rattle.muen_top.specs.Calls.{IsDone}
 use Rattle.muen_top.specs.Commands.{build, boot, run, map, flows, verify, command_of}

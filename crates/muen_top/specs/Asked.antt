@@ -12,7 +12,7 @@ use Rattle.muen_num.specs.declared.limits.TheConstants.{IMAGE_MOST, POLICY_MOST,
 use Rattle.muen_outside.specs.States.{Look, look}
 use Rattle.muen_outside.specs.Store.{Reading, whole, absent, long}
 use Rattle.muen_outside.specs.declared.files.FileError.{FileError}
-use Rattle.policy_types.specs.declared.source.Source.{Source}
+use Rattle.policy_lawful.specs.source.Source.{Source}
 use Rattle.muen_top.specs.Commands.{Command, build, boot, run, map, flows, verify}
 use Rattle.muen_top.specs.FilesSeen.{OverLooks}
 use Rattle.muen_top.specs.Tables.{HoldsTables}

@@ -1,7 +1,7 @@
 -- The error that a refusal, or the fault of an image, of tables or of a record, makes.
 use Rattle.std.specs.Prelude.{if◌then◌else◌}
-use Rattle.policy_types.specs.Refusals.{is_no_memory}
-use Rattle.policy_types.specs.declared.refusal.Refusal.{Refusal}
+use Rattle.policy_lawful.specs.Refusals.{is_no_memory}
+use Rattle.policy_lawful.specs.refusal.Refusal.{Refusal}
 use Rattle.muen_build.specs.declared.accepted.BuildError.{BuildError}
 use Rattle.muen_build.specs.declared.accepted.BuildError.TheVariants.{Refused as RefusedPolicy, FileFault as FaultOfFiles}
 use Rattle.binary_form.specs.declared.fault.ImageFault.{ImageFault}

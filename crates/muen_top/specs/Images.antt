@@ -4,7 +4,7 @@ use Rattle.muen_build.specs.ImageFor.{IsImageFor}
 use Rattle.muen_outside.specs.States.{History, Look, Write, write}
 use Rattle.muen_outside.specs.Store.{Store}
 use Rattle.muen_outside.specs.declared.files.FileError.{FileError}
-use Rattle.policy_types.specs.declared.source.Source.{Source}
+use Rattle.policy_lawful.specs.source.Source.{Source}
 use Rattle.muen_top.specs.Answers.{writes, build_answer}
 use Rattle.muen_top.specs.Asked.{Asks}
 use Rattle.muen_top.specs.Commands.{build}

@@ -18,7 +18,7 @@ use Rattle.muen_outside.specs.States.{History, Look, look}
 use Rattle.muen_outside.specs.Store.{Store, Reading, whole, absent, long, find_bytes, reading_of}
 use Rattle.muen_outside.specs.declared.files.FileError.{FileError}
 use Rattle.muen_outside.specs.declared.files.FileError.TheVariants.{Failed as FileFailed, NoMemory as FileMemory}
-use Rattle.policy_types.specs.declared.source.Source.{Source}
+use Rattle.policy_lawful.specs.source.Source.{Source}
 use Rattle.proof_runs.specs.Fit.{Fit}
 use Rattle.muen_top.specs.Answers.{answer_of, input_answer}
 use Rattle.muen_top.specs.Asked.{Asks, IsAtMost}

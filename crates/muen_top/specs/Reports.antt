@@ -6,9 +6,9 @@ use Rattle.binary_form.specs.FaultText.{image_fault_text}
 use Rattle.dma_tables.specs.DmaFaultText.{dma_fault_text}
 use Rattle.image_verify.specs.FaultText.{fault_text}
 use Rattle.image_verify.specs.declared.fault.Fault.{Fault}
-use Rattle.policy_types.specs.Refusals.{refusal_text}
-use Rattle.policy_types.specs.declared.refusal.Refusal.{Refusal}
-use Rattle.policy_types.specs.declared.refusal.Refusal.TheVariants.{NotJson, Shape, Rule, Missing as MissingFile, TooLong as TooLongFile, FileFit, NoRoom, NoMemory as NoMemoryFor}
+use Rattle.policy_lawful.specs.Refusals.{refusal_text}
+use Rattle.policy_lawful.specs.refusal.Refusal.{Refusal}
+use Rattle.policy_lawful.specs.refusal.Refusal.TheVariants.{NotJson, Shape, Rule, Missing as MissingFile, TooLong as TooLongFile, FileFit, NoRoom, NoMemory as NoMemoryFor}
 use Rattle.muen_top.specs.Answers.{Reason, usage, missing, too_long, refused, image_refused, dma_refused, record_refused, Answer, prints, writes, judges, stops}
 use Rattle.record_text.specs.FaultTexts.{record_fault_text}
 use Rattle.muen_top.specs.Verdicts.{HasVerdict}

@@ -13,8 +13,8 @@ use Rattle.muen_num.specs.declared.limits.TheConstants.{PAGE}
 use Rattle.muen_outside.specs.Store.{Store, reading_of, whole}
 use Rattle.policy_lawful.specs.Dma.{dma_access}
 use Rattle.policy_lawful.specs.Resolution.{source_of}
-use Rattle.policy_types.specs.declared.source.Source.{Source}
-use Rattle.region_alloc.specs.Placed.{IsPlaced, Placement}
+use Rattle.policy_lawful.specs.source.Source.{Source}
+use Rattle.dma_emit.specs.Placed.{IsPlaced, Placement}
 use Rattle.muen_top.specs.declared.limits.TheConstants.{DMA_MOST}
 
 -- under this name the store holds a file of these tables

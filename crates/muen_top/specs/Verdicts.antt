@@ -7,7 +7,7 @@ use Rattle.image_verify.specs.Verdict.{IsVerdict}
 use Rattle.image_verify.specs.declared.fault.Fault.{Fault}
 use Rattle.policy_lawful.specs.Contents.{Held}
 use Rattle.policy_lawful.specs.Resolution.{source_of}
-use Rattle.policy_types.specs.declared.source.Source.{Source}
+use Rattle.policy_lawful.specs.source.Source.{Source}
 use Rattle.muen_top.specs.Answers.{Answer, judges}
 
 -- these bytes are the image of these parts, and this is its first fault for the policy over these files, or none

@@ -14,10 +14,10 @@ use Rattle.muen_outside.specs.States.{History, Look, SinkState, look}
 use Rattle.muen_outside.specs.Store.{Store, whole}
 use Rattle.policy_lawful.specs.Contents.{Held}
 use Rattle.policy_lawful.specs.Resolution.{Resolution, source_of}
-use Rattle.policy_types.specs.declared.refusal.Refusal.{Refusal}
-use Rattle.policy_types.specs.declared.refusal.Refusal.TheVariants.{NoMemory as NoMemoryFor}
+use Rattle.policy_lawful.specs.refusal.Refusal.{Refusal}
+use Rattle.policy_lawful.specs.refusal.Refusal.TheVariants.{NoMemory as NoMemoryFor}
 use Rattle.muen_top.specs.Answers.{judges, verify_answer}
-use Rattle.policy_types.specs.declared.source.Source.{Source}
+use Rattle.policy_lawful.specs.source.Source.{Source}
 use Rattle.muen_top.specs.CommandErrors.{error_of_build, error_of_refusal}
 use Rattle.muen_top.specs.Commands.{verify}
 use Rattle.muen_top.specs.FilesSeen.{OverLooks, SawAfter}

@@ -23,6 +23,7 @@ use crate::loading::{load, load_too};
 use crate::outcome::{CommandError, Outcome};
 use crate::run::{Loaded, run_image};
 use crate::tables::tables_of;
+use dma_emit::Placed;
 use dma_tables::DmaTables;
 use image_load::read_record;
 use image_pack::{Parts, unpack};
@@ -30,7 +31,6 @@ use muen_build::{Accepted, ComponentFiles, accept, image};
 use muen_num::Seq;
 use muen_num::limits::{POLICY_MOST, RECORD_MOST};
 use muen_outside::{Files, Sink};
-use region_alloc::Placed;
 use std::alloc::Global;
 
 // The parts of the image of these bytes.

@@ -13,11 +13,11 @@ ghost use Rattle.muen_top.specs.Tables.{IsTablesFor};
 use crate::loading::load;
 use crate::outcome::{CommandError, Outcome};
 use crate::tables::tables_file;
+use dma_emit::Placed;
 use muen_build::{Accepted, accept, image};
 use muen_num::NoMemory;
 use muen_num::limits::POLICY_MOST;
 use muen_outside::{FileError, Files};
-use region_alloc::Placed;
 use std::alloc::Global;
 
 // What is written for a policy: the bytes of its image, and those of its tables, if they are wanted.

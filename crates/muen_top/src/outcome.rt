@@ -6,7 +6,7 @@ use image_pack::ImageFault;
 use image_verify::Fault;
 use muen_build::BuildError;
 use muen_num::NoMemory;
-use policy_types::Refusal;
+use policy_lawful::Refusal;
 use record_text::RecordFault;
 
 /// Why nothing was printed, and not all was written whole.

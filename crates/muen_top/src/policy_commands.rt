@@ -11,12 +11,12 @@ ghost use Rattle.muen_top.specs.Runs.{RunsTo};
 
 use crate::loading::load;
 use crate::outcome::{CommandError, Outcome};
+use dma_emit::Placed;
 use flow_report::flow_text;
 use map_report::map_text;
 use muen_num::limits::POLICY_MOST;
 use muen_outside::{Buffer, Files, Sink, SinkFault};
 use policy_lawful::Lawful;
-use region_alloc::Placed;
 use std::alloc::Global;
 
 // The policy of this file, with the addresses of its regions.

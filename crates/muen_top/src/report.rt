@@ -11,7 +11,7 @@ use image_verify::AddressDigits;
 use itoa::Buffer;
 use muen_num::Pieces;
 use muen_outside::{Sink, SinkFault, put_pieces};
-use policy_types::Refusal;
+use policy_lawful::Refusal;
 
 // Words that are too long for the search among others.
 #[tactic(auto, unfolding(crate::specs::Reports::usage_text))]

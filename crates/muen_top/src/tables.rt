@@ -1,13 +1,12 @@
 // The tables by which the devices of a policy access memory, of its domains.
 ghost use Rattle.std.specs.Prelude.{◌≡◌, IfOk, true};
 ghost use Rattle.policy_lawful.specs.Resolution.{source_of};
-ghost use Rattle.region_alloc.specs.Placed.{IsPlaced};
+ghost use Rattle.dma_emit.specs.Placed.{IsPlaced};
 ghost use Rattle.muen_top.specs.Tables.{AreTablesFor, IsTablesFor};
 
-use dma_emit::emit;
+use dma_emit::{Placed, emit};
 use dma_tables::{DmaTables, pack};
 use muen_num::NoMemory;
-use region_alloc::Placed;
 use std::alloc::Global;
 
 // Whether the policy is placed: it is, since its type says so.

@@ -4,7 +4,7 @@ use Rattle.std.specs.List.{list_all}
 use Rattle.frame_clock.specs.Plan.{cpus_of, frames_in, is_plan}
 use Rattle.frame_clock.specs.declared.plan.Plan.{Plan}
 use Rattle.policy_lawful.specs.Frames.{first_member, frames_of}
-use Rattle.policy_types.specs.declared.source.Source.{Source}
+use Rattle.policy_lawful.specs.source.Source.{Source}
 
 -- a plan is that of a policy
 pub record IsPlanOf (p : Source) (plan : Plan) : Type 0 where

@@ -1,3 +1,4 @@
+pub use Rattle.policy_meaning.proofs.Items
 pub mod ChosenEntries
 pub mod EachPasses
 pub mod EachView

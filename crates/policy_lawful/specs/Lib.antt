@@ -4,6 +4,12 @@ pub use Rattle.policy_meaning.specs.Events
 pub use Rattle.policy_meaning.specs.Frames
 pub use Rattle.policy_meaning.specs.Thing
 pub use Rattle.policy_meaning.specs.Windows
+pub use Rattle.policy_types.specs.Refusals
+pub use Rattle.policy_types.specs.Rights
+pub use Rattle.policy_types.specs.declared.refusal
+pub use Rattle.policy_types.specs.declared.resources
+pub use Rattle.policy_types.specs.declared.rights
+pub use Rattle.policy_types.specs.declared.source
 pub mod ByIndex
 pub mod Counts
 pub mod Domains

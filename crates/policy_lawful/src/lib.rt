@@ -16,5 +16,8 @@ pub use lawful::Lawful;
 pub use name_set::NameSet;
 pub use named::Named;
 pub use offence::{Extent, Offence};
+pub use policy_types::{
+    Caching, MsrGrant, MsrRights, PortRange, Refusal, Rights, Role, Source, source,
+};
 pub use resolved::{Elements, Resolved};
 pub use view::{IndexedEnd, Seen, Shown, View};

@@ -22,11 +22,11 @@ use Rattle.policy_lawful.specs.declared.resolved.MapEntry.{MapEntry as ResolvedE
 use Rattle.policy_lawful.specs.declared.resolved.ComponentUse.{ComponentUse as ResolvedUse}
 use Rattle.policy_lawful.specs.declared.resolved.Wanted.{Wanted}
 use Rattle.policy_lawful.specs.declared.resolved.Wanted.TheVariants.{Memory as WantedMemory, Channel as WantedChannel}
-use Rattle.policy_types.specs.declared.refusal.Refusal.{Refusal}
-use Rattle.policy_types.specs.declared.source.Component.{Component}
-use Rattle.policy_types.specs.declared.source.ComponentUse.{ComponentUse}
-use Rattle.policy_types.specs.declared.source.MapEntry.{MapEntry}
-use Rattle.policy_types.specs.declared.source.Source.{Source}
+use Rattle.policy_lawful.specs.refusal.Refusal.{Refusal}
+use Rattle.policy_lawful.specs.source.Component.{Component}
+use Rattle.policy_lawful.specs.source.ComponentUse.{ComponentUse}
+use Rattle.policy_lawful.specs.source.MapEntry.{MapEntry}
+use Rattle.policy_lawful.specs.source.Source.{Source}
 use Rattle.policy_names.specs.Entries.{EntriesStand, entry_among, entry_offence, entry_there}
 use Rattle.policy_names.specs.Outline.{outline}
 use Rattle.policy_names.specs.Parts.{names_of_wanted}

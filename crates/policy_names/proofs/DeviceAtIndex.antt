@@ -19,10 +19,10 @@ use Rattle.policy_lawful.proofs.UniqueNames.{unique as names_unique}
 use Rattle.policy_lawful.specs.declared.resolved.DeviceMapping.{DeviceMapping as ResolvedMapping}
 use Rattle.policy_lawful.specs.declared.resolved.DeviceUse.{DeviceUse as ResolvedUse}
 use Rattle.policy_lawful.specs.declared.resolved.IrqUse.{IrqUse as ResolvedIrq}
-use Rattle.policy_types.specs.declared.refusal.Refusal.{Refusal}
-use Rattle.policy_types.specs.declared.source.Device.{Device}
-use Rattle.policy_types.specs.declared.source.DeviceUse.{DeviceUse}
-use Rattle.policy_types.specs.declared.source.Source.{Source}
+use Rattle.policy_lawful.specs.refusal.Refusal.{Refusal}
+use Rattle.policy_lawful.specs.source.Device.{Device}
+use Rattle.policy_lawful.specs.source.DeviceUse.{DeviceUse}
+use Rattle.policy_lawful.specs.source.Source.{Source}
 use Rattle.policy_names.specs.DeviceParts.{PartsStand, parts_offence}
 use Rattle.policy_names.specs.Outline.{outline}
 use Rattle.policy_names.specs.Parts.{names_of_device}

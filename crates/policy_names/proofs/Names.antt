@@ -15,7 +15,7 @@ use Rattle.policy_lawful.specs.Rules.{is_declared, undeclared}
 use Rattle.policy_lawful.proofs.NameSets.{after_is, repeated_after}
 use Rattle.policy_names.specs.Parts.{repeats, repeats_behind}
 use Rattle.policy_names.specs.Indexes.{StandsFor}
-use Rattle.policy_types.specs.declared.refusal.Refusal.TheVariants.{Rule}
+use Rattle.policy_lawful.specs.refusal.Refusal.TheVariants.{Rule}
 
 -- ---- a name that is sought
 

@@ -9,7 +9,7 @@ use Rattle.muen_num.proofs.SearchLaws.{option_or-None}
 use Rattle.policy_lawful.specs.Offences.{alone}
 use Rattle.policy_lawful.proofs.UniqueNames.{unique_parts}
 use Rattle.policy_lawful.specs.Rules.{logical_names}
-use Rattle.policy_types.specs.declared.source.Component.{Component}
+use Rattle.policy_lawful.specs.source.Component.{Component}
 use Rattle.policy_names.specs.Parts.{repeats, repeats_behind}
 use Rattle.policy_names.proofs.Refusals.{one_behind_another}
 

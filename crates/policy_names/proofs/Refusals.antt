@@ -12,10 +12,10 @@ use Rattle.policy_lawful.specs.Keeps.{Keeps}
 use Rattle.policy_lawful.specs.Offences.{broken}
 use Rattle.policy_lawful.specs.Rules.{device_kinds, kinds_of_names, logical_names, offence_1}
 use Rattle.policy_lawful.specs.declared.offence.Offence.{Offence}
-use Rattle.policy_types.specs.declared.refusal.Refusal.{Refusal}
-use Rattle.policy_types.specs.declared.source.Source.{Source}
+use Rattle.policy_lawful.specs.refusal.Refusal.{Refusal}
+use Rattle.policy_lawful.specs.source.Source.{Source}
 use Rattle.policy_names.specs.Parts.{components_repeat, hardware_repeats, members_repeat, repeats}
-use Rattle.policy_types.specs.declared.refusal.Refusal.TheVariants.{NoMemory}
+use Rattle.policy_lawful.specs.refusal.Refusal.TheVariants.{NoMemory}
 
 -- ---- one offence behind another
 

@@ -17,9 +17,9 @@ use Rattle.policy_lawful.specs.Rules.{frame_references, group_references, major_
 use Rattle.policy_lawful.specs.declared.resolved.Group.{Group}
 use Rattle.policy_lawful.specs.declared.resolved.MajorFrame.{MajorFrame}
 use Rattle.policy_lawful.specs.declared.resolved.Subject.{Subject}
-use Rattle.policy_types.specs.declared.refusal.Refusal.{Refusal}
-use Rattle.policy_types.specs.declared.refusal.Refusal.TheVariants.{NoMemory}
-use Rattle.policy_types.specs.declared.source.Source.{Source}
+use Rattle.policy_lawful.specs.refusal.Refusal.{Refusal}
+use Rattle.policy_lawful.specs.refusal.Refusal.TheVariants.{NoMemory}
+use Rattle.policy_lawful.specs.source.Source.{Source}
 use Rattle.policy_names.specs.Names.{names_broken}
 use Rattle.policy_names.specs.Outline.{bare_group, bare_subject, outline, with_resolved}
 use Rattle.policy_names.specs.Indexes.{StandsFor}

@@ -16,11 +16,11 @@ use Rattle.policy_lawful.specs.declared.resolved.EventSource.{EventSource as Res
 use Rattle.policy_lawful.specs.declared.resolved.EventTarget.{EventTarget as ResolvedTarget}
 use Rattle.policy_lawful.specs.declared.resolved.Monitor.{Monitor as ResolvedMonitor}
 use Rattle.policy_lawful.specs.declared.resolved.Subject.{Subject as ResolvedSubject}
-use Rattle.policy_types.specs.declared.source.EventSource.{EventSource}
-use Rattle.policy_types.specs.declared.source.EventTarget.{EventTarget}
-use Rattle.policy_types.specs.declared.source.Monitor.{Monitor}
-use Rattle.policy_types.specs.declared.source.Source.{Source}
-use Rattle.policy_types.specs.declared.source.Subject.{Subject}
+use Rattle.policy_lawful.specs.source.EventSource.{EventSource}
+use Rattle.policy_lawful.specs.source.EventTarget.{EventTarget}
+use Rattle.policy_lawful.specs.source.Monitor.{Monitor}
+use Rattle.policy_lawful.specs.source.Source.{Source}
+use Rattle.policy_lawful.specs.source.Subject.{Subject}
 use Rattle.policy_names.specs.Outline.{bare_subject, outline}
 use Rattle.policy_names.specs.Indexes.{StandsFor, all_below}
 use Rattle.policy_names.specs.SubjectParts.{SignalsStand, WindowsStand, signals_offence, windows_offence}

@@ -9,9 +9,9 @@ use Rattle.policy_lawful.specs.declared.offence.Offence.{Offence}
 use Rattle.policy_lawful.specs.declared.resolved.DeviceMapping.{DeviceMapping as ResolvedMapping}
 use Rattle.policy_lawful.specs.declared.resolved.DeviceUse.{DeviceUse as ResolvedUse}
 use Rattle.policy_lawful.specs.declared.resolved.IrqUse.{IrqUse as ResolvedIrq}
-use Rattle.policy_types.specs.declared.source.DeviceMapping.{DeviceMapping}
-use Rattle.policy_types.specs.declared.source.DeviceUse.{DeviceUse}
-use Rattle.policy_types.specs.declared.source.IrqUse.{IrqUse}
+use Rattle.policy_lawful.specs.source.DeviceMapping.{DeviceMapping}
+use Rattle.policy_lawful.specs.source.DeviceUse.{DeviceUse}
+use Rattle.policy_lawful.specs.source.IrqUse.{IrqUse}
 use Rattle.policy_names.specs.Indexes.{StandsFor}
 use Rattle.policy_names.specs.declared.parts.DeviceNames.{DeviceNames}
 

@@ -10,9 +10,9 @@ use Rattle.policy_lawful.specs.declared.resolved.ComponentUse.{ComponentUse as R
 use Rattle.policy_lawful.specs.declared.resolved.MapEntry.{MapEntry as ResolvedEntry}
 use Rattle.policy_lawful.specs.declared.resolved.Wanted.{Wanted}
 use Rattle.policy_lawful.specs.declared.resolved.Wanted.TheVariants.{Memory as WantedMemory, Channel as WantedChannel}
-use Rattle.policy_types.specs.declared.source.ComponentUse.{ComponentUse}
-use Rattle.policy_types.specs.declared.source.MapEntry.{MapEntry}
-use Rattle.policy_types.specs.declared.source.Source.{Source}
+use Rattle.policy_lawful.specs.source.ComponentUse.{ComponentUse}
+use Rattle.policy_lawful.specs.source.MapEntry.{MapEntry}
+use Rattle.policy_lawful.specs.source.Source.{Source}
 use Rattle.policy_names.specs.Outline.{outline}
 use Rattle.policy_names.specs.Indexes.{StandsFor}
 use Rattle.policy_names.specs.declared.parts.WantedNames.{WantedNames}

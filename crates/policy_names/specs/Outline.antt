@@ -11,11 +11,11 @@ use Rattle.policy_lawful.specs.declared.resolved.Group.{Group as ResolvedGroup}
 use Rattle.policy_lawful.specs.declared.resolved.MajorFrame.{MajorFrame as ResolvedMajor}
 use Rattle.policy_lawful.specs.declared.resolved.Scheduling.{Scheduling as ResolvedScheduling}
 use Rattle.policy_lawful.specs.declared.resolved.Subject.{Subject as ResolvedSubject}
-use Rattle.policy_types.specs.declared.source.ComponentUse.{ComponentUse}
-use Rattle.policy_types.specs.declared.source.Group.{Group}
-use Rattle.policy_types.specs.declared.source.MajorFrame.{MajorFrame}
-use Rattle.policy_types.specs.declared.source.Source.{Source}
-use Rattle.policy_types.specs.declared.source.Subject.{Subject}
+use Rattle.policy_lawful.specs.source.ComponentUse.{ComponentUse}
+use Rattle.policy_lawful.specs.source.Group.{Group}
+use Rattle.policy_lawful.specs.source.MajorFrame.{MajorFrame}
+use Rattle.policy_lawful.specs.source.Source.{Source}
+use Rattle.policy_lawful.specs.source.Subject.{Subject}
 
 -- the policy with these in place of its subjects and its scheduling plan
 abbrev pub with_resolved : Source → List ResolvedSubject → ResolvedScheduling → Resolution

@@ -6,9 +6,9 @@ use Rattle.muen_num.specs.Search.{first_in, first_after, unless}
 use Rattle.policy_lawful.specs.Offences.{alone}
 use Rattle.policy_lawful.specs.Rules.{device_kinds, logical_names, repeated}
 use Rattle.policy_lawful.specs.declared.offence.Offence.{Offence}
-use Rattle.policy_types.specs.declared.source.Component.{Component}
-use Rattle.policy_types.specs.declared.source.Device.{Device}
-use Rattle.policy_types.specs.declared.source.Source.{Source}
+use Rattle.policy_lawful.specs.source.Component.{Component}
+use Rattle.policy_lawful.specs.source.Device.{Device}
+use Rattle.policy_lawful.specs.source.Source.{Source}
 use Rattle.policy_names.specs.declared.parts.DeviceNames.{DeviceNames}
 use Rattle.policy_names.specs.declared.parts.WantedNames.{WantedNames}
 

@@ -15,7 +15,7 @@ use crate::refers::{Refers, resolve_all};
 use crate::scope::Scope;
 use muen_num::Name;
 use policy_lawful::resolved::{self, Wanted};
-use policy_types::{Refusal, source};
+use policy_lawful::{Refusal, source};
 use std::alloc::Global;
 
 /// A subject's use of a component.

@@ -6,11 +6,10 @@ ghost use Rattle.policy_lawful.specs.Resolution.{name_at};
 ghost use Rattle.policy_lawful.specs.Rules.{is_declared, undeclared};
 ghost use Rattle.policy_names.specs.Parts.{repeats, repeats_behind};
 ghost use Rattle.policy_names.specs.Indexes.{StandsFor};
-ghost use Rattle.policy_types.specs.declared.refusal.Refusal.TheVariants.{Rule};
+ghost use Rattle.policy_lawful.specs.refusal.Refusal.TheVariants.{Rule};
 
 use muen_num::Name;
-use policy_lawful::{NameSet, Named};
-use policy_types::Refusal;
+use policy_lawful::{NameSet, Named, Refusal};
 use std::alloc::Global;
 
 /// The refusal by rule 2 of the element that has the name `by` and refers to `name`.

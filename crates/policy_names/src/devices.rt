@@ -12,8 +12,7 @@ use crate::parts::DeviceNames;
 use crate::refers::{Refers, resolve_all_in};
 use crate::scope::Scope;
 use muen_num::Name;
-use policy_lawful::resolved;
-use policy_types::{Refusal, source};
+use policy_lawful::{Refusal, resolved, source};
 use std::alloc::Global;
 
 /// A use of the subject that has this name.

@@ -13,8 +13,7 @@ use crate::refers::{Refers, resolve_all, resolve_all_in};
 use crate::scope::Scope;
 use muen_num::{Name, Seq};
 use policy_lawful::frame_names::major_name;
-use policy_lawful::resolved;
-use policy_types::{Refusal, source};
+use policy_lawful::{Refusal, resolved, source};
 use std::alloc::Global;
 
 /// The minor frames of a CPU in the major frame that has this name.

@@ -6,8 +6,7 @@ ghost use Rattle.policy_names.specs.Outline.{outline};
 
 use crate::refers::{Refers, resolve_all_in};
 use crate::scope::Scope;
-use policy_lawful::resolved;
-use policy_types::{Refusal, source};
+use policy_lawful::{Refusal, resolved, source};
 use std::alloc::Global;
 
 impl Refers for source::Group {

@@ -12,7 +12,7 @@ ghost use Rattle.policy_lawful.specs.Rules.{offence_2};
 ghost use Rattle.policy_names.specs.Outline.{with_resolved};
 ghost use Rattle.policy_names.specs.Indexes.{StandsFor};
 ghost use Rattle.policy_names.specs.Names.{names_broken};
-ghost use Rattle.policy_types.specs.declared.refusal.Refusal.TheVariants.{NoMemory};
+ghost use Rattle.policy_lawful.specs.refusal.Refusal.TheVariants.{NoMemory};
 
 mod components;
 mod declared;
@@ -30,8 +30,7 @@ use crate::refers::resolve_all;
 use crate::scope::Scope;
 use muen_num::Seq;
 use policy_lawful::resolved::{Scheduling, Subject};
-use policy_lawful::{Elements, Resolved};
-use policy_types::{Refusal, Source};
+use policy_lawful::{Elements, Refusal, Resolved, Source};
 use policy_views::seen;
 use std::alloc::Global;
 

@@ -8,9 +8,8 @@ ghost use Rattle.policy_names.specs.Parts.{component_repeats, device_repeats, na
 
 use crate::declared::{declare, names_of};
 use muen_num::Seq;
-use policy_lawful::{NameSet, Named};
-use policy_types::Refusal;
-use policy_types::source::{Component, Device};
+use policy_lawful::source::{Component, Device};
+use policy_lawful::{NameSet, Named, Refusal};
 use std::alloc::Global;
 
 /// The names of a device's memory, ports and interrupt lines.

@@ -4,8 +4,7 @@ ghost use Rattle.policy_lawful.specs.Resolution.{name_at};
 use crate::declared::refer;
 use crate::refers::Reference;
 use muen_num::Name;
-use policy_lawful::{NameSet, resolved};
-use policy_types::{Refusal, source};
+use policy_lawful::{NameSet, Refusal, resolved, source};
 
 /// A mapping of a region.
 impl Reference for source::Mapping {

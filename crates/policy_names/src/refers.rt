@@ -9,8 +9,7 @@ ghost use Rattle.policy_names.specs.Indexes.{StandsFor, all_below};
 
 use crate::scope::Scope;
 use muen_num::{Name, Seq};
-use policy_lawful::NameSet;
-use policy_types::Refusal;
+use policy_lawful::{NameSet, Refusal};
 use std::alloc::Global;
 
 /// An element that refers to one name.
@@ -58,7 +57,7 @@ pub fn resolve_all_in<T: Reference>(
 pub trait Refers: Drop {
     ghost use Rattle.std.specs.Prelude.{Bool, Option};
     ghost use Rattle.policy_lawful.specs.declared.offence.Offence.{Offence};
-    ghost use Rattle.policy_types.specs.declared.source.Source.{Source};
+    ghost use Rattle.policy_lawful.specs.source.Source.{Source};
 
     /// What tells who it is that refers.
     type By: Copy;

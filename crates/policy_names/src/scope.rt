@@ -9,8 +9,7 @@ ghost use Rattle.policy_names.specs.Parts.{AreComponentNames, AreMemberNames, co
 use crate::declared::names_of;
 use crate::parts::{DeviceNames, WantedNames, collect_all, collect_both};
 use muen_num::Seq;
-use policy_lawful::NameSet;
-use policy_types::{Refusal, Source};
+use policy_lawful::{NameSet, Refusal, Source};
 use std::alloc::Global;
 
 /// A policy whose names are unique for each kind, and those of its names that elements may refer to.

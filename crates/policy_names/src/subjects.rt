@@ -12,9 +12,8 @@ ghost use Rattle.policy_names.specs.SubjectParts.{SignalsStand, WindowsStand, si
 use crate::refers::{Refers, resolve_all, resolve_all_in};
 use crate::scope::Scope;
 use muen_num::{Name, NoMemory, Seq};
-use policy_lawful::resolved;
-use policy_types::source::Msrs;
-use policy_types::{Refusal, source};
+use policy_lawful::source::Msrs;
+use policy_lawful::{Refusal, resolved, source};
 use std::alloc::Global;
 
 impl Refers for source::Subject {

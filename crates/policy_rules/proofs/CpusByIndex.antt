@@ -8,7 +8,7 @@ use Rattle.policy_lawful.specs.Rules.{major_name, cpu_name, offence_3}
 use Rattle.policy_lawful.specs.Resolution.{Resolution, cpu_named, major_named, source_of}
 use Rattle.policy_lawful.specs.declared.offence.Offence.{Offence}
 use Rattle.policy_lawful.specs.declared.resolved.MajorFrame.{MajorFrame}
-use Rattle.policy_types.specs.declared.source.CpuFrames.{CpuFrames as NamedCpu}
+use Rattle.policy_lawful.specs.source.CpuFrames.{CpuFrames as NamedCpu}
 use Rattle.policy_rules.specs.Cpus.{cpus_offence}
 use Rattle.muen_num.proofs.SameAnswers.{both_named}
 

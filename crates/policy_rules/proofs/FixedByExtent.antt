@@ -22,8 +22,8 @@ use Rattle.policy_lawful.specs.Resolution.{Resolution, source_of}
 use Rattle.policy_lawful.specs.Rules.{first_overlap, is_alignment, is_fixed, is_laid, is_page_aligned, is_page_size, offence_4, offence_18, overlapping}
 use Rattle.policy_lawful.specs.declared.offence.Extent.{Extent}
 use Rattle.policy_lawful.proofs.KeptAddresses.{addresses_kept}
-use Rattle.policy_types.specs.declared.source.Region.{Region}
-use Rattle.policy_types.specs.declared.source.Source.{Source}
+use Rattle.policy_lawful.specs.source.Region.{Region}
+use Rattle.policy_lawful.specs.source.Source.{Source}
 use Rattle.policy_rules.specs.Windows.{device_extents}
 use Rattle.policy_rules.proofs.RangesByIndex.{blocks_sized}
 use Rattle.policy_rules.specs.Fixed.{block_extents, fixed_extents}

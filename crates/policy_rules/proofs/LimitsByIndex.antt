@@ -21,9 +21,9 @@ use Rattle.policy_lawful.specs.declared.resolved.MajorFrame.{MajorFrame}
 use Rattle.policy_lawful.specs.declared.resolved.Subject.{Subject}
 use Rattle.policy_lawful.proofs.SourceElements.{parts_in_range, ticks_named}
 use Rattle.policy_lawful.specs.Thing.{component_by}
-use Rattle.policy_types.specs.declared.source.Component.{Component}
-use Rattle.policy_types.specs.declared.source.Device.{Device}
-use Rattle.policy_types.specs.declared.source.MinorFrame.{MinorFrame}
+use Rattle.policy_lawful.specs.source.Component.{Component}
+use Rattle.policy_lawful.specs.source.Device.{Device}
+use Rattle.policy_lawful.specs.source.MinorFrame.{MinorFrame}
 use Rattle.policy_lawful.specs.Views.{view_extent, views_of}
 use Rattle.policy_lawful.proofs.ExtentsByIndex.{extents_by_index}
 use Rattle.policy_lawful.proofs.WindowsByIndex.{component_at, component_there, subject_parts}

@@ -15,9 +15,9 @@ use Rattle.policy_lawful.specs.Rules.{component_offence, first_overlap, is_guest
 use Rattle.policy_lawful.specs.declared.offence.Extent.{Extent}
 use Rattle.policy_lawful.specs.declared.resolved.Subject.{Subject}
 use Rattle.policy_lawful.proofs.SourceElements.{parts_in_range}
-use Rattle.policy_types.specs.declared.source.Block.{Block}
-use Rattle.policy_types.specs.declared.source.Component.{Component}
-use Rattle.policy_types.specs.declared.source.Device.{Device}
+use Rattle.policy_lawful.specs.source.Block.{Block}
+use Rattle.policy_lawful.specs.source.Component.{Component}
+use Rattle.policy_lawful.specs.source.Device.{Device}
 use Rattle.policy_lawful.specs.Views.{view_extent, views_of}
 use Rattle.policy_lawful.specs.declared.view.View.{View}
 use Rattle.policy_lawful.proofs.ExtentsByIndex.{extents_by_index}

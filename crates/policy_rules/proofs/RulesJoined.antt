@@ -9,7 +9,7 @@ use Rattle.policy_lawful.specs.Offences.{broken}
 use Rattle.policy_lawful.specs.Rules.{offence_2, offence_3, offence_4, offence_5, offence_8, offence_16, offence_17, offence_18, offence_20}
 use Rattle.muen_num.specs.Search.{first_of}
 use Rattle.muen_num.proofs.SearchLaws.{option_or_assoc}
-use Rattle.policy_types.specs.declared.refusal.Refusal.{Refusal}
+use Rattle.policy_lawful.specs.refusal.Refusal.{Refusal}
 use Rattle.policy_rules.specs.InTurn.{memory_broken, grants_broken, plan_broken, domains_broken}
 
 first_of-append : {O : Type 0} (xs ys : List (Option O)) → first_of (xs ++ ys) ≡ option_or (first_of xs) (first_of ys)

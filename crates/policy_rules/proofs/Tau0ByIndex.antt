@@ -14,9 +14,9 @@ use Rattle.policy_lawful.specs.Rules.{tau0_offence, writes}
 use Rattle.policy_lawful.specs.declared.resolved.Subject.{Subject}
 use Rattle.policy_lawful.proofs.SourceElements.{parts_in_range}
 use Rattle.policy_lawful.specs.Thing.{region, same_thing}
-use Rattle.policy_types.specs.Rights.{allows}
-use Rattle.policy_types.specs.declared.source.Subject.{Subject as NamedSubject}
-use Rattle.policy_types.specs.declared.source.Tau0.{Tau0}
+use Rattle.policy_lawful.specs.Rights.{allows}
+use Rattle.policy_lawful.specs.source.Subject.{Subject as NamedSubject}
+use Rattle.policy_lawful.specs.source.Tau0.{Tau0}
 use Rattle.policy_lawful.specs.Views.{thing_shown, view_window, views_of}
 use Rattle.policy_lawful.specs.declared.view.Shown.{Shown}
 use Rattle.policy_lawful.specs.declared.view.Shown.TheVariants.{Memory, Channel, Provided, Device, State}

@@ -4,8 +4,8 @@ use Rattle.std.specs.List.{filter_map}
 use Rattle.policy_lawful.specs.ByIndex.{block_extent}
 use Rattle.policy_lawful.specs.MoreRules.{fixed_extent}
 use Rattle.policy_lawful.specs.declared.offence.Extent.{Extent}
-use Rattle.policy_types.specs.declared.source.Block.{Block}
-use Rattle.policy_types.specs.declared.source.Region.{Region}
+use Rattle.policy_lawful.specs.source.Block.{Block}
+use Rattle.policy_lawful.specs.source.Region.{Region}
 
 abbrev pub fixed_extents : List Region → List Extent
 fixed_extents memory = filter_map fixed_extent memory

@@ -10,8 +10,8 @@ use Rattle.policy_lawful.specs.Resolution.{Resolution}
 use Rattle.policy_lawful.specs.Rules.{is_declared}
 use Rattle.policy_lawful.specs.declared.offence.Offence.{Offence}
 use Rattle.policy_lawful.specs.declared.resolved.Subject.{Subject}
-use Rattle.policy_types.specs.Rights.{allows}
-use Rattle.policy_types.specs.declared.source.Region.{Region}
+use Rattle.policy_lawful.specs.Rights.{allows}
+use Rattle.policy_lawful.specs.source.Region.{Region}
 use Rattle.policy_lawful.specs.Views.{is_on_region, views_of}
 use Rattle.policy_lawful.specs.declared.view.View.{View}
 use Rattle.policy_rules.specs.declared.writers.User.{User}

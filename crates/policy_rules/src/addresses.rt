@@ -11,7 +11,7 @@ use muen_num::limits::{GUEST_END, LARGE_PAGE, PAGE, PHYSICAL_END};
 use muen_num::{Name, first};
 use policy_lawful::Offence;
 use policy_lawful::resolved::Resolved;
-use policy_types::source::{
+use policy_lawful::source::{
     Block, Channel, Component, ComponentChannel, Device, Provided, Region, Required,
 };
 

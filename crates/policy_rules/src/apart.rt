@@ -11,8 +11,8 @@ ghost use Rattle.policy_rules.specs.Windows.{device_extent, device_extents, outs
 use crate::windows::view_extents;
 use muen_num::NoMemory;
 use policy_lawful::resolved::Subject;
+use policy_lawful::source::{Block, Device, DeviceMemory};
 use policy_lawful::{Extent, Offence, Resolved, View};
-use policy_types::source::{Block, Device, DeviceMemory};
 use rules_extents::first_overlap;
 use std::alloc::{AllocError, Global};
 

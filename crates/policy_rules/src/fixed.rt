@@ -7,8 +7,8 @@ ghost use Rattle.policy_rules.specs.Fixed.{block_extents, fixed_extents};
 
 use crate::apart::block_extents;
 use muen_num::NoMemory;
+use policy_lawful::source::Region;
 use policy_lawful::{Extent, Offence, Resolved};
-use policy_types::source::Region;
 use rules_extents::{count_inside, first_fault};
 use std::alloc::{AllocError, Global};
 

@@ -18,8 +18,8 @@ use muen_num::limits::{
 use muen_num::{NoMemory, first, first_numbered};
 use policy_lawful::frame_names::major_name;
 use policy_lawful::resolved::{CpuFrames, MajorFrame, Subject};
+use policy_lawful::source::{Block, Channel, Component, Device, Event, Msrs};
 use policy_lawful::{Extent, Offence, Resolved, View};
-use policy_types::source::{Block, Channel, Component, Device, Event, Msrs};
 use std::alloc::Global;
 
 // ---- what is declared before the subjects

@@ -3,7 +3,7 @@ ghost use Rattle.std.specs.Prelude.{◌≡◌, ⊤, None};
 ghost use Rattle.std.specs.Option.{option_or};
 ghost use Rattle.muen_num.specs.Answers.{Answers};
 ghost use Rattle.muen_num.specs.Search.{as_refusal};
-ghost use Rattle.policy_types.specs.declared.refusal.Refusal.TheVariants.{NoMemory as OutOfMemory};
+ghost use Rattle.policy_lawful.specs.refusal.Refusal.TheVariants.{NoMemory as OutOfMemory};
 ghost use Rattle.policy_lawful.specs.Keeps.{Keeps};
 ghost use Rattle.policy_lawful.specs.Lawful.{kept_or, unlawful};
 ghost use Rattle.policy_lawful.specs.Offences.{broken};
@@ -19,8 +19,7 @@ use crate::groups::groups;
 use crate::limits::limits;
 use crate::major_frames::major_frames;
 use crate::writers::writers;
-use policy_lawful::{Lawful, Offence, Resolved};
-use policy_types::Refusal;
+use policy_lawful::{Lawful, Offence, Refusal, Resolved};
 use rules_devices::{
     domain_devices, domain_windows, granted_once, msr_ranges, port_ranges, regions_in_one_domain,
 };

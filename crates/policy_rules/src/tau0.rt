@@ -9,8 +9,8 @@ ghost use Rattle.policy_rules.specs.Tau0.{chooser_offence, is_chooser, is_choose
 use crate::keys::Key;
 use muen_num::{AccessKind, Name};
 use policy_lawful::resolved::Subject;
+use policy_lawful::source::{Region, Tau0};
 use policy_lawful::{Offence, Resolved, Shown, View};
-use policy_types::source::{Region, Tau0};
 
 // Whether it shows a region of this name.
 fn is_on_named(name: Name, view: &View) -> bool

@@ -10,8 +10,8 @@ ghost use Rattle.policy_rules.specs.Names.{HasAll};
 ghost use Rattle.policy_rules.specs.Writers.{HasUsers, added, fault_at, not_shared, other_among, sharing_fault, stranger_among, user_of, users_fault, with_user};
 
 use muen_num::{AccessKind, Name, NoMemory, Seq};
+use policy_lawful::source::Region;
 use policy_lawful::{NameSet, Offence, Resolved, Shown, View};
-use policy_types::source::Region;
 use std::alloc::{AllocError, Global};
 
 // A subject that has a window on a region, and whether it may write by that.

@@ -9,8 +9,8 @@ use Rattle.policy_lawful.specs.Resolution.{Resolution}
 use Rattle.policy_lawful.specs.declared.resolved.MapEntry.{MapEntry}
 use Rattle.policy_lawful.specs.declared.resolved.Wanted.{Wanted}
 use Rattle.policy_lawful.specs.declared.resolved.Wanted.TheVariants.{Memory as WantedMemory, Channel as WantedChannel}
-use Rattle.policy_types.specs.declared.source.ComponentChannel.{ComponentChannel}
-use Rattle.policy_types.specs.declared.source.Required.{Required}
+use Rattle.policy_lawful.specs.source.ComponentChannel.{ComponentChannel}
+use Rattle.policy_lawful.specs.source.Required.{Required}
 use Rattle.policy_views.specs.Entries.{HasChoices, choice_of, chosen_channel, chosen_end, chosen_region, index_among, noted, wanted_at}
 use Rattle.policy_lawful.specs.Views.{channel_view, component_channel_view, component_end, entry_for, region_view, required_view, same_wanted}
 use Rattle.policy_views.specs.declared.entries.Choice.{Choice}

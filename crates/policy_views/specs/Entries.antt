@@ -5,8 +5,8 @@ use Rattle.policy_lawful.specs.Resolution.{Resolution}
 use Rattle.policy_lawful.specs.declared.resolved.MapEntry.{MapEntry}
 use Rattle.policy_lawful.specs.declared.resolved.Wanted.{Wanted}
 use Rattle.policy_lawful.specs.declared.resolved.Wanted.TheVariants.{Memory as WantedMemory, Channel as WantedChannel}
-use Rattle.policy_types.specs.declared.source.ComponentChannel.{ComponentChannel}
-use Rattle.policy_types.specs.declared.source.Required.{Required}
+use Rattle.policy_lawful.specs.source.ComponentChannel.{ComponentChannel}
+use Rattle.policy_lawful.specs.source.Required.{Required}
 use Rattle.policy_lawful.specs.Views.{channel_view, entry_for, region_view}
 use Rattle.policy_views.specs.declared.entries.Choice.{Choice}
 use Rattle.policy_views.specs.declared.entries.Wants.{Wants}

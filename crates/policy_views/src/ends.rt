@@ -7,8 +7,8 @@ ghost use Rattle.policy_lawful.specs.Views.{component_end, channel_ends_of, use_
 use crate::entries::{Choice, Wants, choices};
 use muen_num::NoMemory;
 use policy_lawful::resolved::{ChannelUse, ComponentUse, MapEntry, Subject};
+use policy_lawful::source::ComponentChannel;
 use policy_lawful::{Elements, IndexedEnd};
-use policy_types::source::ComponentChannel;
 use std::alloc::{AllocError, Global};
 
 fn component_end(

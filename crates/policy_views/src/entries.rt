@@ -4,8 +4,8 @@ ghost use Rattle.policy_views.specs.Entries.{HasChoices, choice_of, index_among,
 ghost use Rattle.policy_lawful.specs.Views.{same_wanted};
 
 use muen_num::NoMemory;
+use policy_lawful::Rights;
 use policy_lawful::resolved::{MapEntry, Wanted};
-use policy_types::Rights;
 use std::alloc::Global;
 
 /// A kind of logical names that want something.

@@ -11,9 +11,8 @@ use muen_num::limits::PAGE;
 use policy_lawful::resolved::{
     ChannelUse, ComponentUse, DeviceMapping, DeviceUse, MapEntry, Mapping, Monitor, Subject,
 };
-use policy_lawful::{Elements, Shown, View};
-use policy_types::source::{Component, ComponentChannel, Provided, Required};
-use policy_types::{Rights, Role};
+use policy_lawful::source::{Component, ComponentChannel, Provided, Required};
+use policy_lawful::{Elements, Rights, Role, Shown, View};
 use std::alloc::{AllocError, Global};
 
 // A writer may read and write its channel, a reader may read it.

@@ -8,8 +8,8 @@ use Rattle.std.proofs.lemmas.List.Elements.{All-map}
 use Rattle.std.proofs.lemmas.Option.{slice_get-map}
 use Rattle.ept_emit.specs.declared.window.Window.{Window}
 use Rattle.ept_emit.specs.Emitted.{HasAddresses}
-use Rattle.expand_grants.specs.Grants.{AreGrantsOf}
-use Rattle.expand_grants.specs.declared.granted.Grants.{Grants}
+use Rattle.expand_kernel.specs.Grants.{AreGrantsOf}
+use Rattle.expand_kernel.specs.granted.Grants.{Grants}
 use Rattle.policy_lawful.specs.ByIndex.{provided_at}
 use Rattle.expand_kernel.specs.Regions.{anywhere}
 use Rattle.expand_kernel.specs.declared.region.Region.{Region}
@@ -27,8 +27,8 @@ use Rattle.muen_num.specs.declared.limits.TheConstants.{GUEST_END, PAGE}
 use Rattle.muen_num.specs.declared.tag.TagPart.TheVariants.{State as StatePart}
 use Rattle.policy_lawful.specs.Rules.{is_guest, is_page_aligned, is_page_size}
 use Rattle.policy_lawful.specs.declared.resolved.Subject.{Subject}
-use Rattle.policy_types.specs.declared.source.Device.{Device as SomeDevice}
-use Rattle.policy_types.specs.declared.source.DeviceMemory.{DeviceMemory}
+use Rattle.policy_lawful.specs.source.Device.{Device as SomeDevice}
+use Rattle.policy_lawful.specs.source.DeviceMemory.{DeviceMemory}
 use Rattle.policy_lawful.specs.declared.view.Shown.{Shown}
 use Rattle.policy_lawful.specs.declared.view.Shown.TheVariants.{Memory, Channel, Provided, Device, State}
 use Rattle.span_emit.specs.Spans.{device_span, device_spans, memories_of, region_span, region_spans}

@@ -8,7 +8,7 @@ use Rattle.std.proofs.lemmas.List.{get_or-take, length-map, length-take, map-app
 use Rattle.std.proofs.lemmas.Option.{slice_get-get_or, slice_get-map}
 use Rattle.std.proofs.lemmas.Slice.Zip.{AllZip-long}
 use Rattle.event_emit.specs.Tables.{AreTables}
-use Rattle.expand_grants.specs.Grants.{AreGrantsOf}
+use Rattle.expand_kernel.specs.Grants.{AreGrantsOf}
 use Rattle.policy_lawful.specs.ByIndex.{provided_at}
 use Rattle.expand_kernel.specs.declared.region.Region.{Region}
 use Rattle.image_emit.specs.Made.{IsMade, Made, image_of, policy_of, subject_part, subject_parts}
@@ -34,11 +34,11 @@ use Rattle.policy_lawful.specs.declared.resolved.Subject.{Subject}
 use Rattle.policy_lawful.proofs.Indexes.{same_self}
 use Rattle.policy_lawful.proofs.UniqueNames.{logical_unique, parts_unique, subjects_unique, unique}
 use Rattle.policy_lawful.specs.Thing.{Thing, channel, device_memory, provided, region, same_thing, state}
-use Rattle.policy_types.specs.declared.source.Component.{Component}
-use Rattle.policy_types.specs.declared.source.Device.{Device as SourceDevice}
-use Rattle.policy_types.specs.declared.source.DeviceMemory.{DeviceMemory}
-use Rattle.policy_types.specs.declared.source.Provided.{Provided as Brought}
-use Rattle.policy_types.specs.declared.source.Subject.{Subject as NamedSubject}
+use Rattle.policy_lawful.specs.source.Component.{Component}
+use Rattle.policy_lawful.specs.source.Device.{Device as SourceDevice}
+use Rattle.policy_lawful.specs.source.DeviceMemory.{DeviceMemory}
+use Rattle.policy_lawful.specs.source.Provided.{Provided as Brought}
+use Rattle.policy_lawful.specs.source.Subject.{Subject as NamedSubject}
 use Rattle.policy_lawful.specs.Views.{thing_shown, views_of}
 use Rattle.policy_lawful.specs.declared.view.Shown.{Shown}
 use Rattle.policy_lawful.specs.declared.view.Shown.TheVariants.{Memory, Channel, Provided, Device, State}

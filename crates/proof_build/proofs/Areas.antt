@@ -12,7 +12,7 @@ use Rattle.std.proofs.lemmas.List.Elements.{All-append, All-map, All-nil}
 use Rattle.std.proofs.lemmas.List.Sorted.{IsPermutation-refl}
 use Rattle.std.proofs.lemmas.List.Sums.{sum_by-cons}
 use Rattle.std.proofs.lemmas.Option.{get_or_from_slice_get, slice_get_within}
-use Rattle.expand_grants.specs.Resources.{Msr, msr_grant, msrs_in, msrs_of}
+use Rattle.expand_kernel.specs.Resources.{Msr, msr_grant, msrs_in, msrs_of}
 use Rattle.image_emit.specs.Made.{IsMade, Made, image_of, policy_of}
 use Rattle.image_emit.proofs.AtIndexes.{looked_up}
 use Rattle.image_emit.proofs.BySubject.{each_subject}
@@ -32,8 +32,8 @@ use Rattle.machine_layout.specs.PageFields.{padded}
 use Rattle.policy_lawful.specs.Resolution.{Resolution, source_of, subject_named}
 use Rattle.policy_lawful.specs.declared.resolved.Subject.{Subject}
 use Rattle.policy_lawful.proofs.KeptRules.{rules_of}
-use Rattle.policy_types.specs.declared.resources.MsrGrant.{MsrGrant}
-use Rattle.policy_types.specs.declared.source.Msrs.{Msrs}
+use Rattle.policy_lawful.specs.resources.MsrGrant.{MsrGrant}
+use Rattle.policy_lawful.specs.source.Msrs.{Msrs}
 use Rattle.subject_emit.specs.Mapped.{kernel_first}
 use Rattle.subject_emit.proofs.KeptMsrs.{msrs_covered}
 

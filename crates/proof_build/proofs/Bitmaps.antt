@@ -6,7 +6,7 @@ use Rattle.std.proofs.lemmas.Bool.{cases_Bool, leb-true, lt-ltb}
 use Rattle.std.proofs.lemmas.Bool.Decides.{nat_tests}
 use Rattle.std.proofs.lemmas.List.{take_all}
 use Rattle.std.proofs.lemmas.List.Folds.{list_all-append, list_any-append}
-use Rattle.expand_grants.specs.Resources.{Msr, are_granted, is_granted, msr_grant, msrs_in, msrs_of, port_ranges_of, ports_of}
+use Rattle.expand_kernel.specs.Resources.{Msr, are_granted, is_granted, msr_grant, msrs_in, msrs_of, port_ranges_of, ports_of}
 use Rattle.image_emit.specs.Made.{IsMade, Made, image_of, policy_of}
 use Rattle.image_emit.proofs.BySubject.{each_subject}
 use Rattle.image_emit.proofs.SpansOfKernel.{kernel_bytes_at}
@@ -22,10 +22,10 @@ use Rattle.muen_num.specs.declared.limits.TheConstants.{LAST_PORT, PAGE}
 use Rattle.muen_num.specs.declared.tag.TagPart.TheVariants.{Iobm, Msrbm}
 use Rattle.policy_lawful.specs.Resolution.{Resolution, source_of, subject_named}
 use Rattle.policy_lawful.specs.declared.resolved.Subject.{Subject as ResolvedSubject}
-use Rattle.policy_types.specs.declared.resources.PortRange.{PortRange}
-use Rattle.policy_types.specs.declared.source.Msrs.{Msrs}
-use Rattle.policy_types.specs.declared.source.Source.{Source}
-use Rattle.policy_types.specs.declared.source.Subject.{Subject}
+use Rattle.policy_lawful.specs.resources.PortRange.{PortRange}
+use Rattle.policy_lawful.specs.source.Msrs.{Msrs}
+use Rattle.policy_lawful.specs.source.Source.{Source}
+use Rattle.policy_lawful.specs.source.Subject.{Subject}
 use Rattle.subject_emit.specs.Mapped.{kernel_first}
 
 -- ---- ports

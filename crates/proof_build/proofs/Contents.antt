@@ -23,8 +23,8 @@ use Rattle.muen_num.specs.declared.limits.TheConstants.{PAGE}
 use Rattle.policy_lawful.specs.Resolution.{source_of}
 use Rattle.policy_lawful.specs.Contents.{Held, initial_bytes}
 use Rattle.policy_lawful.specs.Thing.{Thing, channel, declared_size, region, thing_tag}
-use Rattle.policy_types.specs.declared.source.DeviceMemory.{DeviceMemory}
-use Rattle.policy_types.specs.declared.source.Source.{Source}
+use Rattle.policy_lawful.specs.source.DeviceMemory.{DeviceMemory}
+use Rattle.policy_lawful.specs.source.Source.{Source}
 use Rattle.span_emit.specs.Spans.{device_span, memories_of, region_span, region_spans, span_kind}
 use Rattle.span_emit.specs.SpansOf.{spans_of}
 use Rattle.policy_lawful.proofs.KeptAddresses.{IsPhysical}

@@ -3,8 +3,8 @@
 use Rattle.std.proofs.Common.{◌≡◌, ℕ, List, refl}
 use Rattle.ept_emit.specs.Entries.{type_of}
 use Rattle.policy_lawful.specs.Thing.{channel, device_memory, provided, state}
-use Rattle.policy_types.specs.declared.rights.Caching.TheVariants.{Uc, Wc, Wt, Wp, Wb}
-use Rattle.policy_types.specs.declared.source.Source.{Source}
+use Rattle.policy_lawful.specs.rights.Caching.TheVariants.{Uc, Wc, Wt, Wp, Wb}
+use Rattle.policy_lawful.specs.source.Source.{Source}
 use Rattle.proof_build.specs.Built.{thing_caching}
 
 uncached : type_of Uc ≡ 0

@@ -12,9 +12,9 @@ use Rattle.ept_emit.specs.declared.window.Leaf.TheVariants.{Small, Large, Huge}
 use Rattle.ept_emit.specs.Emitted.{IsGreatestSize, eptp_of}
 use Rattle.ept_emit.specs.Entries.{level_of}
 use Rattle.event_emit.specs.declared.event_tables.EventTables.{EventTables}
-use Rattle.expand_grants.specs.Grants.{is_lower}
-use Rattle.expand_grants.specs.declared.granted.Grants.{Grants}
-use Rattle.expand_grants.proofs.Ordered.{in_order_permutes}
+use Rattle.expand_kernel.specs.Grants.{is_lower}
+use Rattle.expand_kernel.specs.granted.Grants.{Grants}
+use Rattle.expand_kernel.proofs.Ordered.{in_order_permutes}
 use Rattle.proof_build.specs.Built.{HasGreatestPages, IsGreatestPage}
 use Rattle.image_emit.specs.Made.{IsMade, Made, image_of, policy_of, subject_part}
 use Rattle.image_emit.proofs.BySubject.{IsAtIndex, each_subject}

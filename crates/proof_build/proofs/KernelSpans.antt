@@ -3,7 +3,7 @@ use Rattle.std.proofs.Common.{◌≡◌, ℕ, ◌+◌, ◌*◌, Some, refl, ap, 
 use Rattle.std.specs.Prelude.{option_map, slice_get}
 use Rattle.ept_emit.specs.Pages.{ept_pages}
 use Rattle.event_emit.specs.declared.event_tables.EventTables.{EventTables}
-use Rattle.expand_grants.specs.declared.granted.Grants.{Grants}
+use Rattle.expand_kernel.specs.granted.Grants.{Grants}
 use Rattle.expand_kernel.specs.ByIndex.{view_ranges}
 use Rattle.expand_kernel.specs.Regions.{anywhere, kernel_regions}
 use Rattle.expand_kernel.specs.declared.region.RegionKind.TheVariants.{Kernel}

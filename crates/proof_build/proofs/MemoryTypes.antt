@@ -9,7 +9,7 @@ use Rattle.ept_emit.specs.Emitted.{eptp_of}
 use Rattle.ept_emit.specs.Entries.{type_of}
 use Rattle.ept_emit.specs.declared.window.Window.{Window as MappedWindow}
 use Rattle.event_emit.specs.declared.event_tables.EventTables.{EventTables}
-use Rattle.expand_grants.specs.declared.granted.Grants.{Grants}
+use Rattle.expand_kernel.specs.granted.Grants.{Grants}
 use Rattle.image_emit.specs.Made.{IsMade, Made, image_of, policy_of, subject_part}
 use Rattle.image_emit.proofs.BySubject.{IsAtIndex, each_subject}
 use Rattle.image_soundness.specs.Memory.{memory_of}
@@ -26,8 +26,8 @@ use Rattle.policy_lawful.specs.declared.view.View.{View}
 use Rattle.policy_lawful.proofs.Indexes.{found_at_index}
 use Rattle.policy_lawful.proofs.UniqueNames.{unique}
 use Rattle.policy_lawful.proofs.WindowsByIndex.{name_there}
-use Rattle.policy_types.specs.declared.rights.Caching.TheVariants.{Wb}
-use Rattle.policy_types.specs.declared.source.Region.{Region}
+use Rattle.policy_lawful.specs.rights.Caching.TheVariants.{Wb}
+use Rattle.policy_lawful.specs.source.Region.{Region}
 use Rattle.proof_build.specs.Built.{HasMemoryTypes, thing_caching}
 use Rattle.proof_build.proofs.NamedViews.{shown_name, view_called}
 use Rattle.proof_build.proofs.Tables.{has_tables}

@@ -5,7 +5,7 @@ use Rattle.std.specs.List.{enumerate_from, list_any, zip}
 use Rattle.std.proofs.lemmas.List.{take_all}
 use Rattle.std.proofs.lemmas.Option.{slice_get-get_or}
 use Rattle.event_emit.specs.declared.event_tables.EventTables.{EventTables}
-use Rattle.expand_grants.specs.declared.granted.Grants.{Grants}
+use Rattle.expand_kernel.specs.granted.Grants.{Grants}
 use Rattle.image_emit.proofs.AtIndexes.{mapped_there}
 use Rattle.image_emit.proofs.ConditionsOfPlan.{subjects_many}
 use Rattle.image_emit.specs.Made.{IsMade, Made, image_of, policy_of, subject_part}

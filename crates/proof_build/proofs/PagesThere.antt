@@ -18,8 +18,8 @@ use Rattle.image_pack.specs.declared.parts.SpanPart.{SpanPart}
 use Rattle.machine_layout.specs.Memory.{page_of}
 use Rattle.muen_num.proofs.Lists.{map-map, there}
 use Rattle.muen_num.specs.declared.limits.TheConstants.{PAGE}
-use Rattle.phys_mem.specs.Spans.{AreSpans, IsSpan, pages_of_spans}
-use Rattle.phys_mem.specs.declared.spans.MemorySpan.{MemorySpan}
+use Rattle.image_soundness.specs.Spans.{AreSpans, IsSpan, pages_of_spans}
+use Rattle.image_soundness.specs.spans.MemorySpan.{MemorySpan}
 use Rattle.span_emit.specs.SpansOf.{spans_of}
 
 -- a span has as many bytes at the start as its pages

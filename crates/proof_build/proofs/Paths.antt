@@ -10,7 +10,7 @@ use Rattle.ept_emit.specs.Pages.{ept_pages}
 use Rattle.ept_emit.specs.Emitted.{eptp_of}
 use Rattle.ept_emit.specs.Reads.{Reads}
 use Rattle.event_emit.specs.declared.event_tables.EventTables.{EventTables}
-use Rattle.expand_grants.specs.declared.granted.Grants.{Grants}
+use Rattle.expand_kernel.specs.granted.Grants.{Grants}
 use Rattle.expand_kernel.specs.ByIndex.{view_ranges}
 use Rattle.expand_kernel.specs.Regions.{anywhere}
 use Rattle.expand_kernel.specs.declared.region.RegionKind.TheVariants.{Kernel}

@@ -22,7 +22,7 @@ use Rattle.image_pack.specs.declared.parts.Image.{Image}
 use Rattle.image_soundness.specs.Sound.{ForEachSubject, IsSound}
 use Rattle.policy_lawful.specs.Contents.{Held}
 use Rattle.policy_lawful.specs.Resolution.{source_of}
-use Rattle.policy_types.specs.declared.source.Source.{Source}
+use Rattle.policy_lawful.specs.source.Source.{Source}
 use Rattle.region_alloc.specs.Placed.{Placement}
 
 of_made : (files : Held) (m : Made) → IsMade m → m.things ≡ thing_bytes files (policy_of m) → IsParts (image_of m) → IsSound (source_of (policy_of m)) files (image_of m)

@@ -6,7 +6,7 @@ use Rattle.ept_emit.specs.Emitted.{IsReadBy, eptp_of}
 use Rattle.ept_emit.specs.Entries.{word_at}
 use Rattle.ept_emit.specs.Pages.{ept_pages}
 use Rattle.event_emit.specs.declared.event_tables.EventTables.{EventTables}
-use Rattle.expand_grants.specs.declared.granted.Grants.{Grants}
+use Rattle.expand_kernel.specs.granted.Grants.{Grants}
 use Rattle.expand_kernel.specs.ByIndex.{view_ranges}
 use Rattle.image_emit.specs.Made.{IsMade, Made, content_at, image_of, policy_of, subject_part}
 use Rattle.image_emit.proofs.ByNumber.{span_numbered}

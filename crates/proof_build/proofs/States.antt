@@ -9,9 +9,9 @@ use Rattle.image_soundness.specs.Sound.{ForEachSubject, IsFresh}
 use Rattle.muen_num.specs.declared.limits.TheConstants.{PAGE}
 use Rattle.muen_num.specs.declared.tag.TagPart.TheVariants.{State}
 use Rattle.policy_lawful.specs.Resolution.{source_of}
-use Rattle.state_page.specs.StatePage.{page_bytes}
+use Rattle.image_soundness.specs.StatePage.{page_bytes}
 use Rattle.subject_emit.specs.Mapped.{kernel_first}
-use Rattle.state_page.specs.States.{started}
+use Rattle.image_soundness.specs.States.{started}
 
 fresh_length : (entry : ℕ) → length (page_bytes (started entry)) ≡ PAGE
 unfolding page_bytes started

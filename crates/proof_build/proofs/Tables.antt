@@ -6,7 +6,7 @@ use Rattle.std.proofs.lemmas.Bool.{and_from}
 use Rattle.ept_emit.specs.Pages.{ept_pages}
 use Rattle.ept_emit.specs.Emitted.{HasTables, eptp_of}
 use Rattle.event_emit.specs.declared.event_tables.EventTables.{EventTables}
-use Rattle.expand_grants.specs.declared.granted.Grants.{Grants}
+use Rattle.expand_kernel.specs.granted.Grants.{Grants}
 use Rattle.expand_kernel.specs.ByIndex.{view_ranges}
 use Rattle.image_emit.specs.Made.{IsMade, Made, image_of, policy_of}
 use Rattle.proof_build.proofs.PagesThere.{page_there}

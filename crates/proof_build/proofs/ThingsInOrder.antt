@@ -15,13 +15,13 @@ use Rattle.policy_lawful.proofs.Indexes.{found_at_index}
 use Rattle.policy_lawful.proofs.SourceElements.{parts_in_range}
 use Rattle.policy_lawful.proofs.UniqueNames.{unique}
 use Rattle.policy_lawful.specs.Thing.{Thing, channel, component_by, device_memory, provided, region, things_of}
-use Rattle.policy_types.specs.declared.source.Component.{Component}
-use Rattle.policy_types.specs.declared.source.Device.{Device}
-use Rattle.policy_types.specs.declared.source.DeviceMemory.{DeviceMemory}
-use Rattle.policy_types.specs.declared.source.Subject.{Subject as NamedSubject}
+use Rattle.policy_lawful.specs.source.Component.{Component}
+use Rattle.policy_lawful.specs.source.Device.{Device}
+use Rattle.policy_lawful.specs.source.DeviceMemory.{DeviceMemory}
+use Rattle.policy_lawful.specs.source.Subject.{Subject as NamedSubject}
 use Rattle.policy_lawful.proofs.WindowsByIndex.{subject_parts}
 use Rattle.span_emit.specs.Spans.{memories_of}
-use Rattle.policy_meaning.proofs.Items.{provided_by, things_are as by_kind}
+use Rattle.policy_lawful.proofs.Items.{provided_by, things_are as by_kind}
 
 -- ---- in the order of their numbers
 

@@ -7,9 +7,9 @@ use Rattle.std.proofs.lemmas.List.Sorted.{IsPermutation-map}
 use Rattle.std.proofs.lemmas.Bool.{and_parts, leb-true, ltb-true}
 use Rattle.std.proofs.lemmas.Option.{get_or_from_slice_get, slice_get_within}
 use Rattle.ept_emit.specs.Emitted.{holds as is_in, translation, translation_in, window_at}
-use Rattle.expand_grants.specs.Grants.{AreGrantsOf, is_lower}
-use Rattle.expand_grants.specs.declared.granted.Grants.{Grants}
-use Rattle.expand_grants.proofs.Ordered.{in_order_permutes}
+use Rattle.expand_kernel.specs.Grants.{AreGrantsOf, is_lower}
+use Rattle.expand_kernel.specs.granted.Grants.{Grants}
+use Rattle.expand_kernel.proofs.Ordered.{in_order_permutes}
 use Rattle.expand_kernel.specs.ByIndex.{CanMap}
 use Rattle.expand_kernel.proofs.Numbering.{can_map_granted}
 use Rattle.image_emit.specs.Made.{IsMade, Made, image_of, policy_of}
@@ -28,8 +28,8 @@ use Rattle.policy_lawful.specs.declared.resolved.Subject.{Subject}
 use Rattle.policy_lawful.proofs.SourceElements.{parts_in_range}
 use Rattle.policy_lawful.specs.Thing.{Thing}
 use Rattle.policy_lawful.specs.Windows.{access_by, access_of, byte, holds, violation, windows_of}
-use Rattle.policy_types.specs.Rights.{allows, rights_bits}
-use Rattle.policy_types.specs.declared.rights.Rights.{Rights}
+use Rattle.policy_lawful.specs.Rights.{allows, rights_bits}
+use Rattle.policy_lawful.specs.rights.Rights.{Rights}
 use Rattle.policy_lawful.specs.Views.{thing_shown, view_window, views_of}
 use Rattle.policy_lawful.specs.declared.view.View.{View}
 use Rattle.policy_lawful.proofs.WindowsByIndex.{windows_by_index}

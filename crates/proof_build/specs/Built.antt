@@ -22,10 +22,10 @@ use Rattle.muen_num.specs.declared.tag.TagPart.{TagPart}
 use Rattle.muen_num.specs.declared.tag.TagPart.TheVariants.{State, Ept, Iobm, Msrbm, Msrs}
 use Rattle.policy_lawful.specs.Thing.{Thing, region, channel, provided, device_memory, state}
 use Rattle.policy_lawful.specs.Windows.{Window, holds, windows_of}
-use Rattle.policy_types.specs.declared.rights.Caching.{Caching}
-use Rattle.policy_types.specs.declared.rights.Caching.TheVariants.{Uc, Wb}
-use Rattle.policy_types.specs.declared.source.Source.{Source}
-use Rattle.policy_types.specs.declared.source.Subject.{Subject}
+use Rattle.policy_lawful.specs.rights.Caching.{Caching}
+use Rattle.policy_lawful.specs.rights.Caching.TheVariants.{Uc, Wb}
+use Rattle.policy_lawful.specs.source.Source.{Source}
+use Rattle.policy_lawful.specs.source.Subject.{Subject}
 use Rattle.region_alloc.specs.Placement.{placement_of}
 use Rattle.span_emit.specs.Spans.{device_spans, region_spans}
 

@@ -19,14 +19,14 @@ use Rattle.policy_lawful.specs.Dma.{dma_access}
 use Rattle.policy_lawful.specs.Resolution.{source_of}
 use Rattle.policy_lawful.specs.Thing.{Thing, region, channel, provided, device_memory, state}
 use Rattle.policy_lawful.specs.Windows.{Access, byte, violation}
-use Rattle.policy_types.specs.declared.source.Region.{Region}
-use Rattle.policy_types.specs.declared.source.Source.{Source}
+use Rattle.policy_lawful.specs.source.Region.{Region}
+use Rattle.policy_lawful.specs.source.Source.{Source}
 use Rattle.proof_build.specs.Built.{HasSpans}
 use Rattle.proof_runs.proofs.DmaLines.{numbered_found}
 use Rattle.proof_runs.proofs.DomainWindows.{lands}
 use Rattle.proof_runs.proofs.SameInputs.{found_number}
 use Rattle.proof_runs.specs.Fit.{Fit, place_of}
-use Rattle.region_alloc.specs.Placed.{IsPlaced, Placement}
+use Rattle.dma_emit.specs.Placed.{IsPlaced, Placement}
 use Rattle.proof_domains.proofs.Places.{placed_there}
 
 module _ (x : Placement) (placed : IsPlaced x) (files : Held) (i : Image) (keeps : KeepsConditions i) (sound : IsSound (source_of x.expanded.lawful) files i) (spans : HasSpans (source_of x.expanded.lawful) i) where

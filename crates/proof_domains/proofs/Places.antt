@@ -12,17 +12,17 @@ use Rattle.image_soundness.specs.Sound.{IsSound, address_of, is_kernel, thing_sp
 use Rattle.policy_lawful.specs.Contents.{Held}
 use Rattle.policy_lawful.specs.Resolution.{source_of}
 use Rattle.policy_lawful.specs.Thing.{channel, component_by, device_memory, region, same_thing, things_of}
-use Rattle.policy_types.specs.declared.source.Region.{Region as SourceRegion}
-use Rattle.policy_types.specs.declared.source.Source.{Source}
+use Rattle.policy_lawful.specs.source.Region.{Region as SourceRegion}
+use Rattle.policy_lawful.specs.source.Source.{Source}
 use Rattle.proof_build.specs.Built.{HasSpans}
 use Rattle.proof_start.proofs.ListFacts.{any_at, from_some, other_at, same_at, zipped_at}
 use Rattle.proof_start.proofs.OnceFacts.{thing_once}
 use Rattle.proof_start.proofs.SpansOfThings.{listed_span}
-use Rattle.region_alloc.specs.Placed.{IsPlaced, Placement}
+use Rattle.dma_emit.specs.Placed.{IsPlaced, Placement}
 use Rattle.span_emit.specs.Spans.{device_spans, region_span, region_spans}
 use Rattle.subject_model.proofs.KeyLaws.{same_thing_self}
 use Rattle.expand_kernel.specs.ByIndex.{channel_region, own_region, provided_regions}
-use Rattle.policy_meaning.proofs.Items.{provided_by, things_are}
+use Rattle.policy_lawful.proofs.Items.{provided_by, things_are}
 use Rattle.expand_kernel.proofs.ByKind.{regions_are}
 
 -- ---- lists

@@ -14,7 +14,7 @@ ghost use Rattle.policy_lawful.specs.Dma.{dma_access};
 ghost use Rattle.policy_lawful.specs.Resolution.{source_of};
 ghost use Rattle.proof_build.specs.Built.{HasSpans};
 ghost use Rattle.proof_runs.specs.Fit.{Fit};
-ghost use Rattle.region_alloc.specs.Placed.{IsPlaced, Placement};
+ghost use Rattle.dma_emit.specs.Placed.{IsPlaced, Placement};
 
 /// Tables that lead each write of a device where a placed policy declares it, as `emit` of `dma_emit`
 /// makes them, fit (`Fit`) each image that is sound for the policy and has the policy's regions where

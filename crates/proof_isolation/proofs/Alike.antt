@@ -7,8 +7,8 @@ use Rattle.subject_model.specs.Resources.{ports_of}
 use Rattle.policy_lawful.specs.Contents.{Held}
 use Rattle.policy_lawful.specs.Thing.{state}
 use Rattle.policy_lawful.specs.Windows.{windows_of}
-use Rattle.policy_types.specs.declared.source.Source.{Source}
-use Rattle.policy_types.specs.declared.source.Subject.{Subject}
+use Rattle.policy_lawful.specs.source.Source.{Source}
+use Rattle.policy_lawful.specs.source.Subject.{Subject}
 use Rattle.subject_model.specs.DeviceRecord.{DeviceRecord}
 use Rattle.flow_report.specs.Flows.{is_member}
 use Rattle.subject_model.specs.Alone.{own_of, thing_in}

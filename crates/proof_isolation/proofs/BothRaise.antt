@@ -18,10 +18,10 @@ use Rattle.policy_lawful.specs.MoreRules.{fits_mode, some_group_lists}
 use Rattle.policy_lawful.specs.Events.{Raised, Target, event_of}
 use Rattle.policy_lawful.specs.Frames.{group_of}
 use Rattle.policy_lawful.specs.Thing.{Thing, same_thing}
-use Rattle.policy_types.specs.declared.source.Source.{Source}
-use Rattle.policy_types.specs.declared.source.SourceWay.{SourceWay}
-use Rattle.policy_types.specs.declared.source.Subject.{Subject}
-use Rattle.frame_clock.specs.Slot.{Slot}
+use Rattle.policy_lawful.specs.source.Source.{Source}
+use Rattle.policy_lawful.specs.source.SourceWay.{SourceWay}
+use Rattle.policy_lawful.specs.source.Subject.{Subject}
+use Rattle.subject_model.specs.Slot.{Slot}
 use Rattle.subject_model.proofs.KeyLaws.{cases_thing, names_apart, things_apart, value_changed, value_other}
 use Rattle.subject_model.specs.Alone.{Things, thing_in}
 use Rattle.subject_model.specs.System.{Named, System, change_named, change_thing, happens, happens_as, named, pends_now, with_active}

@@ -6,7 +6,7 @@ use Rattle.std.specs.Str.{bytes_eq}
 use Rattle.std.proofs.lemmas.Bool.{cases_Bool}
 use Rattle.std.proofs.lemmas.Slice.Eq.{bytes_eq-Decides}
 use Rattle.guest_isa.specs.Step.{Stored}
-use Rattle.frame_clock.specs.Slot.{Slot}
+use Rattle.subject_model.specs.Slot.{Slot}
 use Rattle.subject_model.specs.Memory.{over}
 use Rattle.subject_model.specs.Pending.{without}
 use Rattle.muen_num.proofs.Members.{find_in}
@@ -20,13 +20,13 @@ use Rattle.policy_lawful.specs.Events.{Raised, event_of}
 use Rattle.policy_lawful.specs.Frames.{group_of}
 use Rattle.policy_lawful.specs.Thing.{Thing, state}
 use Rattle.policy_lawful.specs.Windows.{windows_of}
-use Rattle.policy_types.specs.declared.source.Source.{Source}
-use Rattle.policy_types.specs.declared.source.SourceWay.{SourceWay}
-use Rattle.policy_types.specs.declared.source.Subject.{Subject}
+use Rattle.policy_lawful.specs.source.Source.{Source}
+use Rattle.policy_lawful.specs.source.SourceWay.{SourceWay}
+use Rattle.policy_lawful.specs.source.Subject.{Subject}
 use Rattle.subject_model.specs.DeviceRecord.{DeviceRecord}
 use Rattle.subject_model.specs.StatePage.{page_bytes, state_in}
 use Rattle.subject_model.specs.SubjectState.{SubjectState}
-use Rattle.frame_clock.specs.Run.{Turned}
+use Rattle.subject_model.specs.Run.{Turned}
 use Rattle.subject_model.specs.TurnLine.{TurnLine}
 use Rattle.flow_report.specs.Flows.{is_member, reaches}
 use Rattle.subject_model.specs.Alone.{MsrValues, OwnState, TurnAnswer, own_of, solo_turn, thing_in}

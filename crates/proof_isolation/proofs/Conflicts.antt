@@ -16,15 +16,15 @@ use Rattle.policy_lawful.specs.Events.{ChannelEnd, channel_ends, reads_from}
 use Rattle.policy_lawful.specs.Thing.{Thing, channel, device_memory, provided, region, same_thing, state}
 use Rattle.policy_lawful.specs.Windows.{Window, role_rights, windows_of}
 use Rattle.policy_lawful.proofs.KeptRules.{rules_of}
-use Rattle.policy_types.specs.Rights.{allows}
-use Rattle.policy_types.specs.declared.rights.Rights.{Rights}
-use Rattle.policy_types.specs.declared.rights.Role.{Role}
-use Rattle.policy_types.specs.declared.rights.Role.TheVariants.{Reader, Writer}
-use Rattle.policy_types.specs.declared.source.Channel.{Channel}
-use Rattle.policy_types.specs.declared.source.Device.{Device}
-use Rattle.policy_types.specs.declared.source.DeviceMemory.{DeviceMemory}
-use Rattle.policy_types.specs.declared.source.Source.{Source}
-use Rattle.policy_types.specs.declared.source.Subject.{Subject}
+use Rattle.policy_lawful.specs.Rights.{allows}
+use Rattle.policy_lawful.specs.rights.Rights.{Rights}
+use Rattle.policy_lawful.specs.rights.Role.{Role}
+use Rattle.policy_lawful.specs.rights.Role.TheVariants.{Reader, Writer}
+use Rattle.policy_lawful.specs.source.Channel.{Channel}
+use Rattle.policy_lawful.specs.source.Device.{Device}
+use Rattle.policy_lawful.specs.source.DeviceMemory.{DeviceMemory}
+use Rattle.policy_lawful.specs.source.Source.{Source}
+use Rattle.policy_lawful.specs.source.Subject.{Subject}
 use Rattle.flow_report.specs.Flows.{by_change, by_channel, by_event, by_memory, by_plan, by_sight, flows_to, is_region}
 use Rattle.subject_model.proofs.KeyLaws.{same_thing_self}
 use Rattle.proof_isolation.proofs.Counts.{flat_in, one_counted, passing_counted, single, two_counted}

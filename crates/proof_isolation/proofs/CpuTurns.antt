@@ -4,13 +4,13 @@ use Rattle.std.specs.List.{cons_option, find}
 use Rattle.std.specs.Option.{IfSome, option_map_or}
 use Rattle.std.specs.Str.{bytes_eq}
 use Rattle.std.proofs.lemmas.Bool.{cases_Bool}
-use Rattle.frame_clock.specs.Slot.{Slot}
+use Rattle.subject_model.specs.Slot.{Slot}
 use Rattle.policy_lawful.specs.Lawful.{IsLawful}
 use Rattle.policy_lawful.specs.Contents.{Held}
-use Rattle.policy_types.specs.declared.source.Source.{Source}
-use Rattle.policy_types.specs.declared.source.Subject.{Subject}
+use Rattle.policy_lawful.specs.source.Source.{Source}
+use Rattle.policy_lawful.specs.source.Subject.{Subject}
 use Rattle.subject_model.specs.DeviceRecord.{DeviceRecord}
-use Rattle.frame_clock.specs.Run.{Turned}
+use Rattle.subject_model.specs.Run.{Turned}
 use Rattle.subject_model.specs.TurnLine.{TurnLine}
 use Rattle.flow_report.specs.Flows.{IsClosed, is_member}
 use Rattle.subject_model.specs.Alone.{own_of, solo_turn}

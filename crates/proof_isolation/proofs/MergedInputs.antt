@@ -14,10 +14,10 @@ use Rattle.muen_num.proofs.Members.{In, any_in, any_some, find_in}
 use Rattle.policy_lawful.specs.Contents.{Held}
 use Rattle.policy_lawful.specs.Events.{Target, irq_of}
 use Rattle.policy_lawful.specs.Thing.{device_memory}
-use Rattle.policy_types.specs.declared.source.Source.{Source}
-use Rattle.policy_types.specs.declared.source.Subject.{Subject}
+use Rattle.policy_lawful.specs.source.Source.{Source}
+use Rattle.policy_lawful.specs.source.Subject.{Subject}
 use Rattle.subject_model.specs.DeviceRecord.{DeviceRecord, NamedInput, port_input, memory_input, irq_input, dma_input}
-use Rattle.frame_clock.specs.Run.{all_taken}
+use Rattle.subject_model.specs.Run.{all_taken}
 use Rattle.flow_report.specs.Flows.{is_member}
 use Rattle.subject_model.proofs.KeyLaws.{names_apart, value_other}
 use Rattle.subject_model.specs.Clock.{irq_reaches, system, takes}

@@ -22,14 +22,14 @@ use Rattle.policy_lawful.specs.Rules.{is_on, subject_cpu}
 use Rattle.policy_lawful.specs.Events.{event_of}
 use Rattle.policy_lawful.specs.Thing.{Thing, same_thing, state}
 use Rattle.policy_lawful.specs.Windows.{windows_of}
-use Rattle.policy_types.specs.Rights.{allows, may_execute}
-use Rattle.policy_types.specs.declared.source.Group.{Group}
-use Rattle.policy_types.specs.declared.source.Source.{Source}
-use Rattle.policy_types.specs.declared.source.SourceWay.{SourceWay}
-use Rattle.policy_types.specs.declared.source.Subject.{Subject}
+use Rattle.policy_lawful.specs.Rights.{allows, may_execute}
+use Rattle.policy_lawful.specs.source.Group.{Group}
+use Rattle.policy_lawful.specs.source.Source.{Source}
+use Rattle.policy_lawful.specs.source.SourceWay.{SourceWay}
+use Rattle.policy_lawful.specs.source.Subject.{Subject}
 use Rattle.subject_model.specs.StatePage.{page_bytes}
 use Rattle.subject_model.specs.SubjectState.{SubjectState}
-use Rattle.frame_clock.specs.Slot.{Slot}
+use Rattle.subject_model.specs.Slot.{Slot}
 use Rattle.flow_report.proofs.EventWays.{way_counts}
 use Rattle.flow_report.specs.Flows.{IsClosed, by_change, by_sight, flows_to, is_member, reaches}
 use Rattle.subject_model.specs.Alone.{Inbox, MsrValues, OwnState, TurnAnswer, own_of, solo_turn, thing_in}

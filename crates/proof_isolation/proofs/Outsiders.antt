@@ -23,11 +23,11 @@ use Rattle.policy_lawful.specs.Events.{Raised, event_of}
 use Rattle.policy_lawful.specs.Frames.{group_of}
 use Rattle.policy_lawful.specs.Thing.{Thing}
 use Rattle.policy_lawful.specs.Windows.{Window, access_by, byte, holds, violation}
-use Rattle.policy_types.specs.Rights.{allows}
-use Rattle.policy_types.specs.declared.source.Group.{Group}
-use Rattle.policy_types.specs.declared.source.Source.{Source}
-use Rattle.policy_types.specs.declared.source.SourceWay.{SourceWay}
-use Rattle.policy_types.specs.declared.source.Subject.{Subject}
+use Rattle.policy_lawful.specs.Rights.{allows}
+use Rattle.policy_lawful.specs.source.Group.{Group}
+use Rattle.policy_lawful.specs.source.Source.{Source}
+use Rattle.policy_lawful.specs.source.SourceWay.{SourceWay}
+use Rattle.policy_lawful.specs.source.Subject.{Subject}
 use Rattle.flow_report.specs.Flows.{IsClosed, flows_to, is_member, reaches}
 use Rattle.subject_model.proofs.DeviceWrites.{IsWritable}
 use Rattle.subject_model.proofs.KeyLaws.{names_apart, value_other}

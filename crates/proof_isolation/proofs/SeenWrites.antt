@@ -11,8 +11,8 @@ use Rattle.policy_lawful.specs.Contents.{Held}
 use Rattle.policy_lawful.specs.Dma.{dma_windows}
 use Rattle.policy_lawful.specs.Thing.{Thing, same_thing, state}
 use Rattle.policy_lawful.specs.Windows.{windows_of}
-use Rattle.policy_types.specs.declared.source.Source.{Source}
-use Rattle.policy_types.specs.declared.source.Subject.{Subject}
+use Rattle.policy_lawful.specs.source.Source.{Source}
+use Rattle.policy_lawful.specs.source.Subject.{Subject}
 use Rattle.subject_model.specs.DeviceRecord.{DeviceRecord, dma_input}
 use Rattle.flow_report.specs.Flows.{is_member}
 use Rattle.subject_model.proofs.DeviceWrites.{line_spares, line_things, no_page, page_stays, written}

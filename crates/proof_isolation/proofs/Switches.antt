@@ -14,15 +14,15 @@ use Rattle.policy_lawful.specs.MoreRules.{channel_mode_offence, ends_of_channel,
 use Rattle.policy_lawful.specs.Offences.{two}
 use Rattle.policy_lawful.specs.Events.{ChannelEnd, Raised, Target, channel_ends, channel_event, channel_targets, event_of, event_targets, named_event, reads_from, same_way, writes_by}
 use Rattle.policy_lawful.proofs.KeptRules.{rules_of}
-use Rattle.policy_types.specs.declared.rights.Role.{Role}
-use Rattle.policy_types.specs.declared.rights.Role.TheVariants.{Reader, Writer}
-use Rattle.policy_types.specs.declared.source.Channel.{Channel}
-use Rattle.policy_types.specs.declared.source.Event.{Event}
-use Rattle.policy_types.specs.declared.source.EventSource.{EventSource}
-use Rattle.policy_types.specs.declared.source.EventTarget.{EventTarget}
-use Rattle.policy_types.specs.declared.source.Source.{Source}
-use Rattle.policy_types.specs.declared.source.SourceWay.{SourceWay}
-use Rattle.policy_types.specs.declared.source.Subject.{Subject}
+use Rattle.policy_lawful.specs.rights.Role.{Role}
+use Rattle.policy_lawful.specs.rights.Role.TheVariants.{Reader, Writer}
+use Rattle.policy_lawful.specs.source.Channel.{Channel}
+use Rattle.policy_lawful.specs.source.Event.{Event}
+use Rattle.policy_lawful.specs.source.EventSource.{EventSource}
+use Rattle.policy_lawful.specs.source.EventTarget.{EventTarget}
+use Rattle.policy_lawful.specs.source.Source.{Source}
+use Rattle.policy_lawful.specs.source.SourceWay.{SourceWay}
+use Rattle.policy_lawful.specs.source.Subject.{Subject}
 use Rattle.flow_report.proofs.EventWays.{by_channel_end, by_source, event_is}
 use Rattle.proof_isolation.proofs.Conflicts.{none_in}
 use Rattle.proof_isolation.proofs.Counts.{flat_in, in_at}

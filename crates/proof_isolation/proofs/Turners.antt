@@ -5,8 +5,8 @@ use Rattle.std.specs.Option.{option_map_or}
 use Rattle.std.specs.Str.{bytes_eq}
 use Rattle.std.proofs.lemmas.Bool.{eq-eqb, eqb-true}
 use Rattle.std.proofs.lemmas.Slice.Eq.{bytes_eq-Decides}
-use Rattle.frame_clock.specs.Frames.{slot_in}
-use Rattle.frame_clock.specs.Slot.{Slot}
+use Rattle.subject_model.specs.Frames.{slot_in}
+use Rattle.subject_model.specs.Slot.{Slot}
 use Rattle.muen_num.proofs.Members.{In, find_in}
 use Rattle.policy_lawful.proofs.KeptMajors.{majors_kept}
 use Rattle.policy_lawful.proofs.KeptMembers.{members_kept}
@@ -14,10 +14,10 @@ use Rattle.policy_lawful.proofs.Indexes.{same_self}
 use Rattle.policy_lawful.proofs.KeptRules.{rules_of}
 use Rattle.policy_lawful.specs.Lawful.{IsLawful}
 use Rattle.policy_lawful.specs.Frames.{frames_of, group_of}
-use Rattle.policy_types.specs.declared.source.Group.{Group}
-use Rattle.policy_types.specs.declared.source.Source.{Source}
-use Rattle.policy_types.specs.declared.source.Subject.{Subject}
-use Rattle.frame_clock.specs.Run.{Turned}
+use Rattle.policy_lawful.specs.source.Group.{Group}
+use Rattle.policy_lawful.specs.source.Source.{Source}
+use Rattle.policy_lawful.specs.source.Subject.{Subject}
+use Rattle.subject_model.specs.Run.{Turned}
 use Rattle.subject_model.specs.TurnLine.{TurnLine}
 use Rattle.subject_model.specs.System.{System, idle, named, state_of, subject_named, system_turn, turn_from, turn_in_slot, turn_of_member, turn_of_subject}
 use Rattle.proof_views.specs.Members.{AreListed, HasTurn, lists}

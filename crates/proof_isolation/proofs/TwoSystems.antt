@@ -10,8 +10,8 @@ use Rattle.std.proofs.lemmas.List.Elements.{recursion_from_All}
 use Rattle.std.proofs.lemmas.Option.{slice_get-map, slice_get_within}
 use Rattle.std.proofs.lemmas.Slice.Eq.{bytes_eq-Decides}
 use Rattle.subject_model.specs.Resources.{msrs_of}
-use Rattle.frame_clock.specs.Frames.{first_frame, frame_at_tick}
-use Rattle.frame_clock.specs.declared.frame_at.FrameAt.{FrameAt}
+use Rattle.subject_model.specs.Frames.{first_frame, frame_at_tick}
+use Rattle.subject_model.specs.frame_at.FrameAt.{FrameAt}
 use Rattle.muen_num.proofs.NumbersBelow.{length_numbers, number_at}
 use Rattle.muen_num.proofs.Members.{In, all_in, any_in, any_some, find_in}
 use Rattle.muen_num.specs.Range.{numbers_below}
@@ -26,15 +26,15 @@ use Rattle.policy_lawful.specs.Events.{irq_of}
 use Rattle.policy_lawful.specs.Frames.{first_member, group_of}
 use Rattle.policy_lawful.specs.Thing.{Thing, region, same_thing, state}
 use Rattle.policy_lawful.specs.Windows.{Window, windows_of}
-use Rattle.policy_types.specs.Rights.{allows}
-use Rattle.policy_types.specs.declared.source.Group.{Group}
-use Rattle.policy_types.specs.declared.source.Source.{Source}
-use Rattle.policy_types.specs.declared.source.Subject.{Subject}
-use Rattle.policy_types.specs.declared.source.Tau0.{Tau0}
+use Rattle.policy_lawful.specs.Rights.{allows}
+use Rattle.policy_lawful.specs.source.Group.{Group}
+use Rattle.policy_lawful.specs.source.Source.{Source}
+use Rattle.policy_lawful.specs.source.Subject.{Subject}
+use Rattle.policy_lawful.specs.source.Tau0.{Tau0}
 use Rattle.subject_model.specs.DeviceRecord.{DeviceRecord, NamedInput, port_input, memory_input, irq_input, dma_input}
 use Rattle.subject_model.specs.StatePage.{page_bytes, state_in}
 use Rattle.subject_model.specs.States.{started}
-use Rattle.frame_clock.specs.Run.{all_taken, begun, run_to, turns}
+use Rattle.subject_model.specs.Run.{all_taken, begun, run_to, turns}
 use Rattle.flow_report.specs.Flows.{IsClosed, by_plan, closure_of, is_member}
 use Rattle.flow_report.proofs.Closures.{closure_is_least}
 use Rattle.muen_num.proofs.SearchLaws.{none_both, unless_none}

@@ -7,8 +7,8 @@ use Rattle.std.proofs.lemmas.List.Elements.{filter_map-append}
 use Rattle.muen_num.specs.Range.{numbers_below}
 use Rattle.policy_lawful.specs.Lawful.{IsLawful}
 use Rattle.policy_lawful.specs.Contents.{Held}
-use Rattle.policy_types.specs.declared.source.Source.{Source}
-use Rattle.policy_types.specs.declared.source.Subject.{Subject}
+use Rattle.policy_lawful.specs.source.Source.{Source}
+use Rattle.policy_lawful.specs.source.Subject.{Subject}
 use Rattle.subject_model.specs.DeviceRecord.{DeviceRecord}
 use Rattle.subject_model.specs.Reading.{are_distinct}
 use Rattle.flow_report.specs.Flows.{IsClosed, is_member}

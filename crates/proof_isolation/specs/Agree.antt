@@ -5,8 +5,8 @@ use Rattle.std.specs.Option.{option_map_or}
 use Rattle.std.specs.Str.{bytes_eq}
 use Rattle.subject_model.specs.Resources.{ports_of}
 use Rattle.flow_report.specs.Flows.{is_member, reaches}
-use Rattle.frame_clock.specs.Frames.{slot_in}
-use Rattle.frame_clock.specs.declared.frame_at.FrameAt.{FrameAt}
+use Rattle.subject_model.specs.Frames.{slot_in}
+use Rattle.subject_model.specs.frame_at.FrameAt.{FrameAt}
 use Rattle.policy_lawful.specs.MoreRules.{is_switch}
 use Rattle.policy_lawful.specs.Contents.{Held}
 use Rattle.policy_lawful.specs.Dma.{dma_windows}
@@ -14,10 +14,10 @@ use Rattle.policy_lawful.specs.Events.{Raised, Target, event_of, irq_of}
 use Rattle.policy_lawful.specs.Frames.{first_member, frames_of, group_of}
 use Rattle.policy_lawful.specs.Thing.{Thing, device_memory}
 use Rattle.policy_lawful.specs.Windows.{windows_of}
-use Rattle.policy_types.specs.declared.source.Source.{Source}
-use Rattle.policy_types.specs.declared.source.SourceWay.{SourceWay}
-use Rattle.policy_types.specs.declared.source.Subject.{Subject}
-use Rattle.policy_types.specs.declared.source.Tau0.{Tau0}
+use Rattle.policy_lawful.specs.source.Source.{Source}
+use Rattle.policy_lawful.specs.source.SourceWay.{SourceWay}
+use Rattle.policy_lawful.specs.source.Subject.{Subject}
+use Rattle.policy_lawful.specs.source.Tau0.{Tau0}
 use Rattle.subject_model.specs.DeviceRecord.{DeviceRecord, NamedInput, port_input, memory_input, irq_input, dma_input}
 use Rattle.subject_model.specs.Alone.{own_of, thing_in}
 use Rattle.subject_model.specs.Clock.{ByteWrite, inputs_at, line_writes, order_at, ticks_of_majors}

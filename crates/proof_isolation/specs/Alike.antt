@@ -8,8 +8,8 @@ use Rattle.flow_report.specs.Flows.{is_member}
 use Rattle.policy_lawful.specs.Frames.{group_of}
 use Rattle.policy_lawful.specs.Thing.{Thing, state}
 use Rattle.policy_lawful.specs.Windows.{windows_of}
-use Rattle.policy_types.specs.declared.source.Source.{Source}
-use Rattle.policy_types.specs.declared.source.Subject.{Subject}
+use Rattle.policy_lawful.specs.source.Source.{Source}
+use Rattle.policy_lawful.specs.source.Subject.{Subject}
 use Rattle.subject_model.specs.Alone.{thing_in}
 use Rattle.subject_model.specs.System.{System, is_shown, named, subject_named}
 use Rattle.subject_model.specs.View.{Seen}

@@ -8,11 +8,11 @@
 
 ghost use Rattle.std.specs.Prelude.{◌≡◌, ℕ, List, Some, All, IsTrue, false, min, slice_get, true};
 ghost use Rattle.flow_report.specs.Flows.{IsClosed, closure_of, is_member};
-ghost use Rattle.frame_clock.specs.Slot.{Slot};
+ghost use Rattle.subject_model.specs.Slot.{Slot};
 ghost use Rattle.policy_lawful.specs.Lawful.{IsLawful};
 ghost use Rattle.policy_lawful.specs.Contents.{Held};
-ghost use Rattle.policy_types.specs.declared.source.Source.{Source};
-ghost use Rattle.policy_types.specs.declared.source.Subject.{Subject};
+ghost use Rattle.policy_lawful.specs.source.Source.{Source};
+ghost use Rattle.policy_lawful.specs.source.Subject.{Subject};
 ghost use Rattle.subject_model.specs.DeviceRecord.{DeviceRecord};
 ghost use Rattle.subject_model.specs.Reading.{are_distinct};
 ghost use Rattle.subject_model.specs.Clock.{run_of};

@@ -23,11 +23,11 @@ use Rattle.image_pack.specs.declared.parts.SpanKind.TheVariants.{Own, Channel as
 use Rattle.image_pack.specs.declared.parts.SpanPart.{SpanPart}
 use Rattle.image_pack.specs.declared.parts.WindowPart.{WindowPart}
 use Rattle.muen_num.specs.declared.tag.Tag.{Tag}
-use Rattle.policy_meaning.specs.Contents.{Held}
-use Rattle.policy_meaning.specs.Thing.{Thing, device_memory, same_thing, things_of, thing_tag}
-use Rattle.policy_types.specs.declared.source.Device.{Device}
-use Rattle.policy_types.specs.declared.source.DeviceMemory.{DeviceMemory}
-use Rattle.policy_types.specs.declared.source.Source.{Source}
+use Rattle.policy_lawful.specs.Contents.{Held}
+use Rattle.policy_lawful.specs.Thing.{Thing, device_memory, same_thing, things_of, thing_tag}
+use Rattle.policy_lawful.specs.source.Device.{Device}
+use Rattle.policy_lawful.specs.source.DeviceMemory.{DeviceMemory}
+use Rattle.policy_lawful.specs.source.Source.{Source}
 use Rattle.record_text.specs.Bench.{BenchDevice}
 use Rattle.subject_model.proofs.KeyLaws.{same_thing_self}
 use Rattle.proof_start.specs.GroundOf.{ground_of}

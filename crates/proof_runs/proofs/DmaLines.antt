@@ -25,7 +25,7 @@ use Rattle.policy_lawful.specs.Contents.{Held}
 use Rattle.policy_lawful.specs.Dma.{dma_access}
 use Rattle.policy_lawful.specs.Thing.{Thing}
 use Rattle.policy_lawful.specs.Windows.{Access, byte, violation}
-use Rattle.policy_types.specs.declared.source.Source.{Source}
+use Rattle.policy_lawful.specs.source.Source.{Source}
 use Rattle.proof_runs.proofs.DomainWindows.{lands, next_lands}
 use Rattle.proof_runs.specs.Fit.{place_of, write_by}
 use Rattle.proof_start.proofs.ListFacts.{all_at}

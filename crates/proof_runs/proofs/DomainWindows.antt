@@ -23,17 +23,17 @@ use Rattle.policy_lawful.specs.Rules.{is_declared, is_page_aligned}
 use Rattle.policy_lawful.specs.Thing.{Thing, declared_size, region, Item, region_item}
 use Rattle.policy_lawful.specs.Windows.{Window, access_by, access_of, byte, holds, region_window, violation, window}
 use Rattle.policy_lawful.proofs.KeptRules.{rules_of}
-use Rattle.policy_types.specs.Rights.{allows}
-use Rattle.policy_types.specs.declared.rights.Rights.{Rights}
-use Rattle.policy_types.specs.declared.source.Domain.{Domain}
-use Rattle.policy_types.specs.declared.source.Mapping.{Mapping}
-use Rattle.policy_types.specs.declared.source.Region.{Region}
-use Rattle.policy_types.specs.declared.source.Source.{Source}
+use Rattle.policy_lawful.specs.Rights.{allows}
+use Rattle.policy_lawful.specs.rights.Rights.{Rights}
+use Rattle.policy_lawful.specs.source.Domain.{Domain}
+use Rattle.policy_lawful.specs.source.Mapping.{Mapping}
+use Rattle.policy_lawful.specs.source.Region.{Region}
+use Rattle.policy_lawful.specs.source.Source.{Source}
 use Rattle.subject_model.proofs.PolicyFacts.{found_any, found_passes}
 use Rattle.proof_start.proofs.SpansOfThings.{ThingSpan, listed_span}
 use Rattle.proof_start.proofs.ThingFacts.{region_is_thing}
 use Rattle.proof_start.proofs.WindowFacts.{region_again}
-use Rattle.policy_meaning.proofs.Items.{item_of_region}
+use Rattle.policy_lawful.proofs.Items.{item_of_region}
 
 -- ---- rule 22: windows begin with a page
 

@@ -17,11 +17,11 @@ use Rattle.image_pack.specs.declared.parts.SpanPart.{SpanPart}
 use Rattle.image_pack.specs.declared.parts.SubjectPart.{SubjectPart}
 use Rattle.image_soundness.specs.Memory.{Span, by_number, span_at}
 use Rattle.image_soundness.specs.Sound.{AreContents, IsSpanOf, is_kernel, kind_of, thing_spans}
-use Rattle.policy_meaning.specs.Contents.{Held}
-use Rattle.policy_meaning.specs.Thing.{Thing, region, channel, provided, device_memory, component_by, things_of, thing_tag}
-use Rattle.policy_types.specs.declared.source.Component.{Component}
-use Rattle.policy_types.specs.declared.source.Source.{Source}
-use Rattle.policy_types.specs.declared.source.Subject.{Subject}
+use Rattle.policy_lawful.specs.Contents.{Held}
+use Rattle.policy_lawful.specs.Thing.{Thing, region, channel, provided, device_memory, component_by, things_of, thing_tag}
+use Rattle.policy_lawful.specs.source.Component.{Component}
+use Rattle.policy_lawful.specs.source.Source.{Source}
+use Rattle.policy_lawful.specs.source.Subject.{Subject}
 use Rattle.subject_model.specs.ViewText.{rows_text, region_text}
 use Rattle.kernel_core.specs.Machine.{page_at}
 use Rattle.kernel_core.specs.Control.{Control}
@@ -31,7 +31,7 @@ use Rattle.subject_model.specs.System.{System, state_of}
 use Rattle.subject_model.specs.Trace.{final_text as system_text, state_text, subject_text, thing_text}
 use Rattle.muen_run.specs.RunText.{bytes_from, final_text, numbered_span_text, numbered_subject_text, prints_as, span_text, spans_text, states_text, subject_text as part_text}
 use Rattle.proof_runs.proofs.FlatLists.{AllMadeBy, each_made, first_pass, flat_kept, flat_looked, flat_numbers, flat_same, found_beside, joined_made, mapped_made, no_items, second_pass}
-use Rattle.policy_meaning.proofs.Items.{provided_by, things_are}
+use Rattle.policy_lawful.proofs.Items.{provided_by, things_are}
 
 -- ---- the states
 

@@ -20,9 +20,9 @@ use Rattle.device_bench.specs.declared.effect.Effect.{Effect}
 use Rattle.dma_tables.specs.Lowered.{lowered}
 use Rattle.dma_tables.specs.declared.file.DmaFile.{DmaFile}
 use Rattle.muen_run.specs.RunText.{bytes_from, final_text, image_text, run_text}
-use Rattle.policy_meaning.specs.Contents.{Held, initial_bytes}
-use Rattle.policy_meaning.specs.Thing.{Thing, same_thing, state, things_of}
-use Rattle.policy_types.specs.declared.source.Source.{Source}
+use Rattle.policy_lawful.specs.Contents.{Held, initial_bytes}
+use Rattle.policy_lawful.specs.Thing.{Thing, same_thing, state, things_of}
+use Rattle.policy_lawful.specs.source.Source.{Source}
 use Rattle.record_text.specs.DeviceRecord.{DeviceRecord}
 use Rattle.record_text.specs.Reading.{record_of}
 use Rattle.record_text.specs.declared.record.Record.{Record}

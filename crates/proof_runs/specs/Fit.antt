@@ -9,7 +9,7 @@ use Rattle.muen_num.specs.declared.access.AccessKind.TheVariants.{Write}
 use Rattle.policy_lawful.specs.Dma.{dma_access}
 use Rattle.policy_lawful.specs.Thing.{Thing}
 use Rattle.policy_lawful.specs.Windows.{Access, byte, violation}
-use Rattle.policy_types.specs.declared.source.Source.{Source}
+use Rattle.policy_lawful.specs.source.Source.{Source}
 
 -- where the byte lies that an access may touch
 abbrev pub place_of : (Thing → ℕ) → Access Thing → Option ℕ

@@ -17,16 +17,16 @@ use Rattle.image_pack.specs.ImageConditions.{KeepsConditions}
 use Rattle.image_pack.specs.SpanConditions.{IsSpan}
 use Rattle.image_pack.specs.declared.parts.Image.{Image}
 use Rattle.image_pack.specs.declared.parts.SubjectPart.{SubjectPart}
-use Rattle.machine_layout.specs.Exits.{msr_exits, port_exits}
-use Rattle.machine_layout.specs.Walks.{walk_of}
+use Rattle.vmx_machine.specs.Exits.{msr_exits, port_exits}
+use Rattle.vmx_machine.specs.Walks.{walk_of}
 use Rattle.muen_num.specs.Range.{numbers_below}
 use Rattle.muen_num.specs.declared.access.AccessKind.{AccessKind}
 use Rattle.muen_num.specs.declared.limits.TheConstants.{GUEST_END, PAGE}
 use Rattle.policy_lawful.specs.Contents.{Held}
 use Rattle.policy_lawful.specs.Thing.{Thing, state, same_thing, things_of}
 use Rattle.policy_lawful.specs.Windows.{Access, access_of, byte, violation, windows_of}
-use Rattle.policy_types.specs.declared.source.Source.{Source}
-use Rattle.policy_types.specs.declared.source.Subject.{Subject}
+use Rattle.policy_lawful.specs.source.Source.{Source}
+use Rattle.policy_lawful.specs.source.Subject.{Subject}
 use Rattle.proof_turns.specs.Ground.{page_and_offset}
 use Rattle.vmx_machine.specs.Machine.{look_in, msr_exits_in, page_at, ports_exit, reach_by as reach_by_walk}
 use Rattle.vmx_machine.specs.declared.control.Control.{Control}

@@ -21,15 +21,15 @@ use Rattle.policy_lawful.specs.MoreRules.{are_distinct, are_numbers, call_number
 use Rattle.policy_lawful.specs.Offences.{alone, two}
 use Rattle.policy_lawful.specs.Rules.{Reference, component_references, device_references, is_declared, offence_2, subject_references, undeclared}
 use Rattle.policy_lawful.specs.Events.{ChannelEnd, Raised, Target, channel_ends, channel_event, event_of, event_targets, is_call, named_event, same_way, trap_number, traps_of, writes_by}
-use Rattle.policy_types.specs.declared.rights.Role.{Role}
-use Rattle.policy_types.specs.declared.rights.Role.TheVariants.{Reader, Writer}
-use Rattle.policy_types.specs.declared.source.Event.{Event}
-use Rattle.policy_types.specs.declared.source.EventSource.{EventSource}
-use Rattle.policy_types.specs.declared.source.EventTarget.{EventTarget}
-use Rattle.policy_types.specs.declared.source.Source.{Source}
-use Rattle.policy_types.specs.declared.source.SourceWay.{SourceWay}
-use Rattle.policy_types.specs.declared.source.SourceWay.TheVariants.{Call, Trap}
-use Rattle.policy_types.specs.declared.source.Subject.{Subject}
+use Rattle.policy_lawful.specs.rights.Role.{Role}
+use Rattle.policy_lawful.specs.rights.Role.TheVariants.{Reader, Writer}
+use Rattle.policy_lawful.specs.source.Event.{Event}
+use Rattle.policy_lawful.specs.source.EventSource.{EventSource}
+use Rattle.policy_lawful.specs.source.EventTarget.{EventTarget}
+use Rattle.policy_lawful.specs.source.Source.{Source}
+use Rattle.policy_lawful.specs.source.SourceWay.{SourceWay}
+use Rattle.policy_lawful.specs.source.SourceWay.TheVariants.{Call, Trap}
+use Rattle.policy_lawful.specs.source.Subject.{Subject}
 use Rattle.subject_model.proofs.PolicyFacts.{found_any, found_index, found_passes}
 
 -- ---- the numbers of calls and traps

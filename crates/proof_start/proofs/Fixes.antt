@@ -20,10 +20,10 @@ use Rattle.policy_lawful.specs.Contents.{Held, initial_bytes}
 use Rattle.policy_lawful.specs.Events.{Raised, event_of}
 use Rattle.policy_lawful.specs.Thing.{Thing, region, state}
 use Rattle.policy_lawful.specs.Windows.{access_of, byte, windows_of}
-use Rattle.policy_types.specs.declared.source.Source.{Source}
-use Rattle.policy_types.specs.declared.source.SourceWay.TheVariants.{Call, Trap}
-use Rattle.policy_types.specs.declared.source.Subject.{Subject}
-use Rattle.policy_types.specs.declared.source.Tau0.{Tau0}
+use Rattle.policy_lawful.specs.source.Source.{Source}
+use Rattle.policy_lawful.specs.source.SourceWay.TheVariants.{Call, Trap}
+use Rattle.policy_lawful.specs.source.Subject.{Subject}
+use Rattle.policy_lawful.specs.source.Tau0.{Tau0}
 use Rattle.vmx_machine.specs.declared.control.Control.{Control}
 use Rattle.proof_turns.specs.Ground.{Ground, IsSubject, Joined, name_at, raised_of}
 use Rattle.proof_turns.specs.Fixed.{IsFixed, Sees, Watches}

@@ -10,13 +10,13 @@ use Rattle.image_pack.specs.declared.parts.SubjectPart.{SubjectPart}
 use Rattle.image_soundness.proofs.SoundFacts.{subjects_of, walks_of}
 use Rattle.image_soundness.specs.Memory.{address_at}
 use Rattle.image_soundness.specs.Sound.{ForEachSubject, HasWalks, IsSound, IsSubjectOf, address_of, led}
-use Rattle.machine_layout.specs.declared.walk.Walk.TheVariants.{At}
+use Rattle.vmx_machine.specs.walk.Walk.TheVariants.{At}
 use Rattle.muen_num.specs.declared.access.AccessKind.{AccessKind}
 use Rattle.policy_lawful.specs.Contents.{Held, initial_bytes}
 use Rattle.policy_lawful.specs.Thing.{Thing}
 use Rattle.policy_lawful.specs.Windows.{Access, access_of, byte, violation, windows_of}
-use Rattle.policy_types.specs.declared.source.Source.{Source}
-use Rattle.policy_types.specs.declared.source.Subject.{Subject}
+use Rattle.policy_lawful.specs.source.Source.{Source}
+use Rattle.policy_lawful.specs.source.Subject.{Subject}
 use Rattle.subject_model.proofs.PolicyFacts.{names_differ}
 use Rattle.proof_start.specs.GroundOf.{ground_of}
 use Rattle.proof_start.specs.Reaching.{IsInMonitored, IsInThing, ReachesNoKernelRegion}

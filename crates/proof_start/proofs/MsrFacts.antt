@@ -18,9 +18,9 @@ use Rattle.policy_lawful.specs.Lawful.{IsLawful}
 use Rattle.policy_lawful.specs.MoreRules.{is_msr_range, msrs_apart, offence_11}
 use Rattle.policy_lawful.specs.Offences.{alone}
 use Rattle.policy_lawful.specs.Ranges.{share_none}
-use Rattle.policy_types.specs.declared.source.Msrs.{Msrs}
-use Rattle.policy_types.specs.declared.source.Source.{Source}
-use Rattle.policy_types.specs.declared.source.Subject.{Subject}
+use Rattle.policy_lawful.specs.source.Msrs.{Msrs}
+use Rattle.policy_lawful.specs.source.Source.{Source}
+use Rattle.policy_lawful.specs.source.Subject.{Subject}
 use Rattle.proof_turns.specs.Held.{AreDistinct}
 use Rattle.vmx_machine.specs.MsrFile.{slot_of}
 

@@ -11,13 +11,13 @@ use Rattle.policy_lawful.proofs.UniqueNames.{logical_unique, parts_unique, uniqu
 use Rattle.policy_lawful.specs.Lawful.{IsLawful}
 use Rattle.policy_lawful.specs.Rules.{logical_names, repeated}
 use Rattle.policy_lawful.specs.Thing.{Thing, region, channel, provided, device_memory, state, component_by, things_of}
-use Rattle.policy_types.specs.declared.source.Component.{Component}
-use Rattle.policy_types.specs.declared.source.ComponentUse.{ComponentUse}
-use Rattle.policy_types.specs.declared.source.Device.{Device}
-use Rattle.policy_types.specs.declared.source.Source.{Source}
+use Rattle.policy_lawful.specs.source.Component.{Component}
+use Rattle.policy_lawful.specs.source.ComponentUse.{ComponentUse}
+use Rattle.policy_lawful.specs.source.Device.{Device}
+use Rattle.policy_lawful.specs.source.Source.{Source}
 use Rattle.muen_num.proofs.Members.{In, append_some, flat_some, map_in, map_some}
 use Rattle.proof_start.proofs.ListFacts.{found_at, same_some}
-use Rattle.policy_meaning.proofs.Items.{provided_by, things_are}
+use Rattle.policy_lawful.proofs.Items.{provided_by, things_are}
 
 -- ---- elements and indexes
 

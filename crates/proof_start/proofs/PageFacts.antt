@@ -14,14 +14,14 @@ use Rattle.image_pack.specs.SpanConditions.{IsSpan, end_of}
 use Rattle.image_pack.specs.declared.parts.Image.{Image}
 use Rattle.image_pack.specs.declared.parts.SpanPart.{SpanPart}
 use Rattle.image_pack.specs.declared.parts.SubjectPart.{SubjectPart}
-use Rattle.machine_layout.specs.Memory.{page_of}
-use Rattle.machine_layout.specs.Walks.{addresses_read}
+use Rattle.vmx_machine.specs.Memory.{page_of}
+use Rattle.vmx_machine.specs.Walks.{addresses_read}
 use Rattle.muen_num.specs.declared.limits.TheConstants.{GUEST_END}
 use Rattle.muen_num.specs.declared.tag.TagPart.TheVariants.{State, Ept, Iobm, Msrbm, Msrs}
 use Rattle.policy_lawful.specs.Contents.{Held, initial_bytes}
 use Rattle.policy_lawful.specs.Thing.{Thing}
-use Rattle.policy_types.specs.declared.source.Source.{Source}
-use Rattle.policy_types.specs.declared.source.Subject.{Subject}
+use Rattle.policy_lawful.specs.source.Source.{Source}
+use Rattle.policy_lawful.specs.source.Subject.{Subject}
 use Rattle.proof_turns.specs.Ground.{part}
 use Rattle.guest_isa.specs.Words.{IsByte}
 use Rattle.subject_model.specs.StatePage.{page_bytes}

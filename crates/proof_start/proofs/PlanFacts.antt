@@ -21,11 +21,11 @@ use Rattle.policy_lawful.specs.Rules.{is_alignment, is_fixed, is_laid, is_page_a
 use Rattle.policy_lawful.specs.Contents.{Held, initial_bytes}
 use Rattle.policy_lawful.specs.Frames.{frames_of, major_frames_of}
 use Rattle.policy_lawful.specs.Thing.{region, same_thing, things_of}
-use Rattle.policy_types.specs.declared.source.CpuFrames.{CpuFrames}
-use Rattle.policy_types.specs.declared.source.MajorFrame.{MajorFrame}
-use Rattle.policy_types.specs.declared.source.Region.{Region}
-use Rattle.policy_types.specs.declared.source.Source.{Source}
-use Rattle.policy_types.specs.declared.source.Tau0.{Tau0}
+use Rattle.policy_lawful.specs.source.CpuFrames.{CpuFrames}
+use Rattle.policy_lawful.specs.source.MajorFrame.{MajorFrame}
+use Rattle.policy_lawful.specs.source.Region.{Region}
+use Rattle.policy_lawful.specs.source.Source.{Source}
+use Rattle.policy_lawful.specs.source.Tau0.{Tau0}
 use Rattle.proof_start.proofs.ThingFacts.{region_is_thing, region_long}
 
 -- ---- CPUs that aren't there

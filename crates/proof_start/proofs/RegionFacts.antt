@@ -18,8 +18,8 @@ use Rattle.muen_num.proofs.NumbersBelow.{number_at}
 use Rattle.muen_num.specs.Range.{numbers_below}
 use Rattle.policy_lawful.specs.Contents.{Held}
 use Rattle.policy_lawful.specs.Thing.{region, same_thing, things_of, thing_tag}
-use Rattle.policy_types.specs.declared.source.Source.{Source}
-use Rattle.policy_types.specs.declared.source.Tau0.{Tau0}
+use Rattle.policy_lawful.specs.source.Source.{Source}
+use Rattle.policy_lawful.specs.source.Tau0.{Tau0}
 use Rattle.subject_model.proofs.KeyLaws.{same_thing_self}
 use Rattle.proof_start.specs.GroundOf.{ground_of}
 use Rattle.proof_start.proofs.ListFacts.{any_at, filtered_there, first_at, kept_there, same_at, same_some}

@@ -24,7 +24,7 @@ use Rattle.muen_num.proofs.Lists.{each_from, passes_at}
 use Rattle.muen_num.specs.Frame.{Frame}
 use Rattle.policy_lawful.specs.Contents.{Held}
 use Rattle.policy_lawful.specs.Frames.{frames_of}
-use Rattle.policy_types.specs.declared.source.Source.{Source}
+use Rattle.policy_lawful.specs.source.Source.{Source}
 use Rattle.proof_start.proofs.PlanFacts.{no_slots}
 use Rattle.frame_clock.proofs.SlotGroups.{at_slot}
 use Rattle.proof_start.proofs.SubjectFacts.{subject_kept}

@@ -11,7 +11,7 @@ use Rattle.image_pack.specs.declared.parts.Image.{Image}
 use Rattle.muen_num.specs.Range.{numbers_below}
 use Rattle.policy_lawful.specs.Contents.{Held, initial_bytes}
 use Rattle.policy_lawful.specs.Thing.{Thing, region, channel, provided, device_memory, state, same_thing, things_of, thing_tag}
-use Rattle.policy_types.specs.declared.source.Source.{Source}
+use Rattle.policy_lawful.specs.source.Source.{Source}
 use Rattle.subject_model.proofs.KeyLaws.{same_things}
 use Rattle.proof_start.specs.GroundOf.{ground_of, pages_in}
 use Rattle.proof_start.proofs.ListFacts.{any_passing, both_at, filtered_at, found_at, found_changed, found_some, kept_at, other_at, zipped_at, zipped_both}

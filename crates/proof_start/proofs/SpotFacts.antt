@@ -12,7 +12,7 @@ use Rattle.image_pack.specs.declared.parts.SubjectPart.{SubjectPart}
 use Rattle.muen_num.specs.declared.tag.TagPart.TheVariants.{State, Msrs}
 use Rattle.policy_lawful.specs.Contents.{Held}
 use Rattle.policy_lawful.specs.Thing.{Thing}
-use Rattle.policy_types.specs.declared.source.Source.{Source}
+use Rattle.policy_lawful.specs.source.Source.{Source}
 use Rattle.proof_turns.specs.Ground.{Spot, thing_at, state_at, area_at, IsAt}
 use Rattle.proof_start.specs.GroundOf.{ground_of, is_kept}
 use Rattle.proof_start.proofs.SpanFacts.{HasPage, KernelSpan, first_page_in, kernel_kind, page_in, page_not_kept, same_span}

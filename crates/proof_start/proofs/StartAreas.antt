@@ -10,11 +10,11 @@ use Rattle.std.proofs.lemmas.List.Sums.{sum_by-cons}
 use Rattle.std.proofs.lemmas.Option.{slice_get-map, slice_get_within}
 use Rattle.subject_model.specs.Alone.{is_in, msr_value}
 use Rattle.expand_grants.specs.Resources.{Msr, is_granted, msrs_of}
-use Rattle.machine_layout.specs.Exits.{AreaEntry, area_index, area_value}
-use Rattle.machine_layout.specs.Memory.{le_number}
+use Rattle.vmx_machine.specs.Exits.{AreaEntry, area_index, area_value}
+use Rattle.vmx_machine.specs.Memory.{le_number}
 use Rattle.muen_num.proofs.NumbersBelow.{length_numbers, number_at}
 use Rattle.muen_num.specs.Range.{numbers_below}
-use Rattle.policy_types.specs.declared.source.Subject.{Subject}
+use Rattle.policy_lawful.specs.source.Subject.{Subject}
 use Rattle.proof_turns.specs.Held.{AreDistinct, AreEntries, HasMsr, entry_value, indices}
 use Rattle.vmx_machine.specs.Machine.{entries_in}
 use Rattle.proof_start.proofs.ListFacts.{from_some, same_some}

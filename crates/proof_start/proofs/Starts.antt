@@ -17,12 +17,12 @@ use Rattle.image_pack.specs.ImageConditions.{KeepsConditions, IsSubject as IsIma
 use Rattle.image_pack.specs.declared.parts.Image.{Image}
 use Rattle.image_pack.specs.declared.parts.SubjectPart.{SubjectPart}
 use Rattle.kernel_core.specs.Ticks.{live_started}
-use Rattle.machine_layout.specs.Memory.{page_of}
+use Rattle.vmx_machine.specs.Memory.{page_of}
 use Rattle.muen_num.specs.declared.limits.TheConstants.{LAST_PORT}
 use Rattle.policy_lawful.specs.Contents.{Held as HeldFiles, initial_bytes}
 use Rattle.policy_lawful.specs.Thing.{Thing, same_thing, state, things_of}
-use Rattle.policy_types.specs.declared.source.Source.{Source}
-use Rattle.policy_types.specs.declared.source.Subject.{Subject}
+use Rattle.policy_lawful.specs.source.Source.{Source}
+use Rattle.policy_lawful.specs.source.Subject.{Subject}
 use Rattle.subject_model.specs.StatePage.{page_bytes}
 use Rattle.subject_model.specs.States.{started}
 use Rattle.proof_turns.proofs.Holds.{held_off}

@@ -12,8 +12,8 @@ use Rattle.image_pack.specs.declared.parts.Image.{Image}
 use Rattle.image_pack.specs.declared.parts.SubjectPart.{SubjectPart}
 use Rattle.policy_lawful.specs.Contents.{Held}
 use Rattle.policy_lawful.specs.Thing.{Thing, state, same_thing, things_of}
-use Rattle.policy_types.specs.declared.source.Source.{Source}
-use Rattle.policy_types.specs.declared.source.Subject.{Subject}
+use Rattle.policy_lawful.specs.source.Source.{Source}
+use Rattle.policy_lawful.specs.source.Subject.{Subject}
 use Rattle.subject_model.proofs.KeyLaws.{same_things, same_thing_self, state_names}
 use Rattle.vmx_machine.specs.declared.control.Control.{Control}
 use Rattle.proof_start.specs.GroundOf.{ground_of}

@@ -11,7 +11,7 @@ use Rattle.image_pack.specs.ImageConditions.{IsSubject, KeepsConditions}
 use Rattle.image_pack.specs.declared.parts.Image.{Image}
 use Rattle.image_pack.specs.declared.parts.SubjectPart.{SubjectPart}
 use Rattle.muen_num.specs.declared.tag.TagPart.TheVariants.{State, Iobm, Msrbm, Msrs}
-use Rattle.policy_types.specs.declared.source.Source.{Source}
+use Rattle.policy_lawful.specs.source.Source.{Source}
 use Rattle.vmx_machine.specs.declared.control.Control.{Control}
 use Rattle.proof_start.specs.GroundOf.{ground_of}
 use Rattle.proof_start.proofs.ListFacts.{all_at, any_at, enumerated_at, from_some, pairs_at}

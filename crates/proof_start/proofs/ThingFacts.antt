@@ -11,18 +11,18 @@ use Rattle.muen_num.proofs.Lists.{list_any-map}
 use Rattle.policy_lawful.proofs.Indexes.{same_self}
 use Rattle.policy_lawful.specs.Contents.{Held, content_bytes, initial_bytes, padded}
 use Rattle.policy_lawful.specs.Thing.{Thing, channel, component_by, device_memory, provided, region, same_thing, things_of, Item, channel_item, device_item, item_of, provided_item, region_item}
-use Rattle.policy_types.specs.declared.source.Channel.{Channel}
-use Rattle.policy_types.specs.declared.source.Component.{Component}
-use Rattle.policy_types.specs.declared.source.Content.{Content}
-use Rattle.policy_types.specs.declared.source.Content.TheVariants.{Zero, Fill, Inline, File}
-use Rattle.policy_types.specs.declared.source.Device.{Device}
-use Rattle.policy_types.specs.declared.source.DeviceMemory.{DeviceMemory}
-use Rattle.policy_types.specs.declared.source.Provided.{Provided}
-use Rattle.policy_types.specs.declared.source.Region.{Region}
-use Rattle.policy_types.specs.declared.source.Source.{Source}
-use Rattle.policy_types.specs.declared.source.Subject.{Subject}
+use Rattle.policy_lawful.specs.source.Channel.{Channel}
+use Rattle.policy_lawful.specs.source.Component.{Component}
+use Rattle.policy_lawful.specs.source.Content.{Content}
+use Rattle.policy_lawful.specs.source.Content.TheVariants.{Zero, Fill, Inline, File}
+use Rattle.policy_lawful.specs.source.Device.{Device}
+use Rattle.policy_lawful.specs.source.DeviceMemory.{DeviceMemory}
+use Rattle.policy_lawful.specs.source.Provided.{Provided}
+use Rattle.policy_lawful.specs.source.Region.{Region}
+use Rattle.policy_lawful.specs.source.Source.{Source}
+use Rattle.policy_lawful.specs.source.Subject.{Subject}
 use Rattle.subject_model.proofs.PolicyFacts.{passes_any}
-use Rattle.policy_meaning.proofs.Items.{provided_by, item_of_channel, item_of_device, item_of_provided, item_of_region, things_are}
+use Rattle.policy_lawful.proofs.Items.{provided_by, item_of_channel, item_of_device, item_of_provided, item_of_region, things_are}
 
 -- ---- which things there are
 

@@ -10,7 +10,7 @@ use Rattle.image_pack.specs.declared.parts.SpanPart.{SpanPart}
 use Rattle.muen_num.specs.declared.limits.TheConstants.{PAGE}
 use Rattle.muen_num.specs.declared.tag.TagPart.TheVariants.{Ept, Iobm, Msrbm}
 use Rattle.policy_lawful.specs.Thing.{Thing, same_thing, things_of}
-use Rattle.policy_types.specs.declared.source.Source.{Source}
+use Rattle.policy_lawful.specs.source.Source.{Source}
 use Rattle.proof_turns.specs.Ground.{Ground}
 use Rattle.guest_isa.specs.Words.{IsByte}
 

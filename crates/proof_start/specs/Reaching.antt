@@ -9,12 +9,12 @@ use Rattle.image_pack.specs.declared.parts.SpanPart.{SpanPart}
 use Rattle.image_pack.specs.declared.parts.SubjectPart.{SubjectPart}
 use Rattle.image_soundness.specs.Memory.{address_at, memory_of}
 use Rattle.image_soundness.specs.Sound.{is_kernel}
-use Rattle.machine_layout.specs.Walks.{walk_of}
-use Rattle.machine_layout.specs.declared.walk.Walk.TheVariants.{At}
+use Rattle.vmx_machine.specs.Walks.{walk_of}
+use Rattle.vmx_machine.specs.walk.Walk.TheVariants.{At}
 use Rattle.muen_num.specs.declared.access.AccessKind.{AccessKind}
 use Rattle.muen_num.specs.declared.limits.TheConstants.{GUEST_END, PAGE}
-use Rattle.policy_types.specs.declared.source.Source.{Source}
-use Rattle.policy_types.specs.declared.source.Subject.{Subject}
+use Rattle.policy_lawful.specs.source.Source.{Source}
+use Rattle.policy_lawful.specs.source.Subject.{Subject}
 
 -- an address lies in a span that isn't the kernel's
 pub record IsInThing (i : Image) (address : ℕ) : Type 0 where

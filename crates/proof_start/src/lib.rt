@@ -11,7 +11,7 @@ ghost use Rattle.image_soundness.specs.Sound.{ForEachSubject, IsSound};
 ghost use Rattle.image_pack.specs.declared.parts.Image.{Image};
 ghost use Rattle.kernel_core.specs.Ticks.{live_started};
 ghost use Rattle.policy_lawful.specs.Contents.{Held};
-ghost use Rattle.policy_types.specs.declared.source.Source.{Source};
+ghost use Rattle.policy_lawful.specs.source.Source.{Source};
 ghost use Rattle.proof_turns.specs.Fixed.{IsFixed};
 ghost use Rattle.proof_turns.specs.Stands.{StandsFor};
 ghost use Rattle.proof_start.specs.GroundOf.{ground_of};

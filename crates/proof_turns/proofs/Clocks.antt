@@ -9,7 +9,7 @@ use Rattle.frame_clock.specs.Frames.{frame_at_tick}
 use Rattle.machine_layout.specs.Memory.{Page, page_of, change, over, store_of}
 use Rattle.policy_meaning.specs.Thing.{Thing, region, device_memory, same_thing}
 use Rattle.policy_types.specs.declared.source.Tau0.{Tau0}
-use Rattle.record_text.specs.DeviceRecord.{NamedInput, port_input, memory_input, irq_input, dma_input}
+use Rattle.subject_model.specs.DeviceRecord.{NamedInput, port_input, memory_input, irq_input, dma_input}
 use Rattle.device_bench.specs.declared.effect.Effect.{Effect}
 use Rattle.device_bench.specs.declared.effect.Effect.TheVariants.{Irq}
 use Rattle.frame_clock.specs.Run.{all_taken}

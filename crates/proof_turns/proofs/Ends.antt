@@ -22,7 +22,7 @@ use Rattle.policy_meaning.specs.Thing.{Thing, device_memory, same_thing, state}
 use Rattle.policy_types.specs.declared.source.Source.{Source}
 use Rattle.policy_types.specs.declared.source.SourceWay.{SourceWay}
 use Rattle.policy_types.specs.declared.source.Subject.{Subject}
-use Rattle.record_text.specs.DeviceRecord.{NamedInput, port_input, memory_input, irq_input, dma_input}
+use Rattle.subject_model.specs.DeviceRecord.{NamedInput, port_input, memory_input, irq_input, dma_input}
 use Rattle.frame_clock.specs.Frames.{slot_in}
 use Rattle.subject_model.specs.StatePage.{page_bytes, state_in}
 use Rattle.subject_model.specs.SubjectState.{SubjectState}

@@ -5,7 +5,7 @@ use Rattle.device_bench.specs.declared.effect.Effect.{Effect}
 use Rattle.device_bench.specs.declared.effect.Effect.TheVariants.{Port, Mem, Irq}
 use Rattle.policy_meaning.specs.Events.{irq_of}
 use Rattle.policy_meaning.specs.Thing.{Thing, device_memory}
-use Rattle.record_text.specs.DeviceRecord.{NamedInput, port_input, memory_input, irq_input, dma_input}
+use Rattle.subject_model.specs.DeviceRecord.{NamedInput, port_input, memory_input, irq_input, dma_input}
 use Rattle.subject_model.specs.Clock.{ByteWrite, line_writes}
 use Rattle.proof_turns.specs.Ground.{Ground, IsSubject, name_at}
 use Rattle.guest_isa.specs.Words.{IsByte}

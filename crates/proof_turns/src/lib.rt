@@ -11,7 +11,7 @@ ghost use Rattle.subject_model.specs.Clock.{begins as system_begins, takes as sy
 ghost use Rattle.subject_model.specs.System.{System, system_turn};
 ghost use Rattle.kernel_core.specs.Kernel.{Live, turn_of};
 ghost use Rattle.kernel_core.specs.Ticks.{begins, ended, kernel};
-ghost use Rattle.record_text.specs.DeviceRecord.{NamedInput};
+ghost use Rattle.subject_model.specs.DeviceRecord.{NamedInput};
 ghost use Rattle.device_bench.specs.declared.effect.Effect.{Effect};
 ghost use Rattle.frame_clock.specs.Alike.{AreAlikeTurns};
 ghost use Rattle.frame_clock.specs.Run.{all_taken};

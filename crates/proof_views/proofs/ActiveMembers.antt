@@ -18,11 +18,11 @@ use Rattle.policy_lawful.specs.Contents.{Held}
 use Rattle.policy_lawful.specs.Events.{Raised, Target, event_of, irq_of}
 use Rattle.policy_lawful.specs.Frames.{first_member, group_of}
 use Rattle.policy_lawful.specs.Thing.{Thing}
-use Rattle.policy_types.specs.declared.source.Group.{Group}
-use Rattle.policy_types.specs.declared.source.Source.{Source}
-use Rattle.policy_types.specs.declared.source.SourceWay.{SourceWay}
-use Rattle.policy_types.specs.declared.source.Subject.{Subject}
-use Rattle.record_text.specs.DeviceRecord.{NamedInput, port_input, memory_input, irq_input, dma_input}
+use Rattle.policy_lawful.specs.source.Group.{Group}
+use Rattle.policy_lawful.specs.source.Source.{Source}
+use Rattle.policy_lawful.specs.source.SourceWay.{SourceWay}
+use Rattle.policy_lawful.specs.source.Subject.{Subject}
+use Rattle.subject_model.specs.DeviceRecord.{NamedInput, port_input, memory_input, irq_input, dma_input}
 use Rattle.policy_lawful.proofs.KeptMembers.{MembersKept}
 use Rattle.proof_views.specs.Members.{AreListed, lists}
 use Rattle.proof_views.proofs.Kept.{begun_keeps, run_keeps, turn_keeps}

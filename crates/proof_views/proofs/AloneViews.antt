@@ -19,11 +19,11 @@ use Rattle.policy_lawful.proofs.KeptRules.{rules_of}
 use Rattle.policy_lawful.specs.Lawful.{IsLawful}
 use Rattle.policy_lawful.specs.Contents.{Held}
 use Rattle.policy_lawful.specs.Frames.{frames_of}
-use Rattle.policy_types.specs.declared.source.Source.{Source}
-use Rattle.policy_types.specs.declared.source.Subject.{Subject}
-use Rattle.record_text.specs.DeviceRecord.{DeviceRecord}
-use Rattle.record_text.specs.Law.{NamesEachOnce}
-use Rattle.record_text.specs.Reading.{are_distinct}
+use Rattle.policy_lawful.specs.source.Source.{Source}
+use Rattle.policy_lawful.specs.source.Subject.{Subject}
+use Rattle.subject_model.specs.DeviceRecord.{DeviceRecord}
+use Rattle.subject_model.specs.Law.{NamesEachOnce}
+use Rattle.subject_model.specs.Reading.{are_distinct}
 use Rattle.subject_model.specs.SubjectState.{SubjectState}
 use Rattle.frame_clock.specs.Run.{Turned, begun, run_to, turns}
 use Rattle.view_text.specs.declared.TurnLine.{TurnLine}

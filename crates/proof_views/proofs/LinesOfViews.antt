@@ -14,10 +14,10 @@ use Rattle.policy_lawful.proofs.KeptMembers.{MembersKept, members_kept}
 use Rattle.policy_lawful.proofs.KeptRules.{rules_of}
 use Rattle.policy_lawful.specs.Lawful.{IsLawful}
 use Rattle.policy_lawful.specs.Contents.{Held}
-use Rattle.policy_types.specs.declared.source.Source.{Source}
-use Rattle.policy_types.specs.declared.source.Subject.{Subject}
-use Rattle.record_text.specs.DeviceRecord.{DeviceRecord}
-use Rattle.record_text.specs.Reading.{are_distinct}
+use Rattle.policy_lawful.specs.source.Source.{Source}
+use Rattle.policy_lawful.specs.source.Subject.{Subject}
+use Rattle.subject_model.specs.DeviceRecord.{DeviceRecord}
+use Rattle.subject_model.specs.Reading.{are_distinct}
 use Rattle.frame_clock.specs.Run.{begun, run_to, tick_ran, turns}
 use Rattle.view_text.specs.declared.TurnLine.{TurnLine}
 use Rattle.subject_model.specs.Clock.{inputs_at, order_at, run_of, system}

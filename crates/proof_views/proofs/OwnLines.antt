@@ -11,9 +11,9 @@ use Rattle.muen_num.proofs.Lists.{passes_at}
 use Rattle.policy_lawful.proofs.KeptMajors.{MajorsKept}
 use Rattle.policy_lawful.proofs.KeptMembers.{MembersKept}
 use Rattle.policy_lawful.specs.Rules.{is_group, is_on, subject_cpu}
-use Rattle.policy_types.specs.declared.source.Group.{Group}
-use Rattle.policy_types.specs.declared.source.Source.{Source}
-use Rattle.policy_types.specs.declared.source.Subject.{Subject}
+use Rattle.policy_lawful.specs.source.Group.{Group}
+use Rattle.policy_lawful.specs.source.Source.{Source}
+use Rattle.policy_lawful.specs.source.Subject.{Subject}
 use Rattle.view_text.specs.declared.TurnLine.{TurnLine}
 use Rattle.view_text.specs.declared.TurnAction.{TurnAction}
 use Rattle.subject_model.proofs.PolicyFacts.{found_passes}

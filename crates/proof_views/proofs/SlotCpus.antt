@@ -16,11 +16,11 @@ use Rattle.muen_num.specs.Range.{numbers_below}
 use Rattle.policy_lawful.proofs.KeptMajors.{MajorsKept, first_ticks, has_frames, is_major_kept, is_named}
 use Rattle.policy_lawful.specs.Rules.{group_cpu, is_frame, is_on, ticks_in}
 use Rattle.policy_lawful.specs.Frames.{entry_frames, frame_of, frames_of, major_frames_of}
-use Rattle.policy_types.specs.declared.source.CpuFrames.{CpuFrames}
-use Rattle.policy_types.specs.declared.source.Group.{Group}
-use Rattle.policy_types.specs.declared.source.MajorFrame.{MajorFrame}
-use Rattle.policy_types.specs.declared.source.MinorFrame.{MinorFrame}
-use Rattle.policy_types.specs.declared.source.Source.{Source}
+use Rattle.policy_lawful.specs.source.CpuFrames.{CpuFrames}
+use Rattle.policy_lawful.specs.source.Group.{Group}
+use Rattle.policy_lawful.specs.source.MajorFrame.{MajorFrame}
+use Rattle.policy_lawful.specs.source.MinorFrame.{MinorFrame}
+use Rattle.policy_lawful.specs.source.Source.{Source}
 use Rattle.subject_model.proofs.PolicyFacts.{found_passes}
 use Rattle.frame_clock.proofs.SlotGroups.{at_slot}
 

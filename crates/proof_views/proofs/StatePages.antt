@@ -6,9 +6,9 @@ use Rattle.machine_layout.specs.Memory.{over}
 use Rattle.policy_lawful.specs.Contents.{Held, initial_bytes}
 use Rattle.policy_lawful.specs.Events.{irq_of}
 use Rattle.policy_lawful.specs.Thing.{Thing, device_memory, same_thing, state, things_of}
-use Rattle.policy_types.specs.declared.source.Source.{Source}
-use Rattle.policy_types.specs.declared.source.Subject.{Subject}
-use Rattle.record_text.specs.DeviceRecord.{NamedInput, port_input, memory_input, irq_input, dma_input}
+use Rattle.policy_lawful.specs.source.Source.{Source}
+use Rattle.policy_lawful.specs.source.Subject.{Subject}
+use Rattle.subject_model.specs.DeviceRecord.{NamedInput, port_input, memory_input, irq_input, dma_input}
 use Rattle.subject_model.specs.StatePage.{page_bytes}
 use Rattle.subject_model.specs.States.{started}
 use Rattle.subject_model.specs.SubjectState.{SubjectState}

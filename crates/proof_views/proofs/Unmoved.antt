@@ -4,9 +4,9 @@ use Rattle.muen_num.specs.declared.mode.EventMode.{EventMode}
 use Rattle.muen_num.specs.declared.mode.EventMode.TheVariants.{Asap, Async, Own as OwnMode, Switch}
 use Rattle.policy_lawful.specs.Events.{Raised, Target, event_of}
 use Rattle.policy_lawful.specs.Frames.{group_of}
-use Rattle.policy_types.specs.declared.source.Source.{Source}
-use Rattle.policy_types.specs.declared.source.SourceWay.{SourceWay}
-use Rattle.policy_types.specs.declared.source.Subject.{Subject}
+use Rattle.policy_lawful.specs.source.Source.{Source}
+use Rattle.policy_lawful.specs.source.SourceWay.{SourceWay}
+use Rattle.policy_lawful.specs.source.Subject.{Subject}
 use Rattle.subject_model.specs.Clock.{irq_reaches}
 use Rattle.subject_model.specs.System.{System, happens, happens_as, pends_now, raised_by, with_active}
 

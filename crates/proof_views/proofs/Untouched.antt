@@ -12,25 +12,25 @@ use Rattle.guest_isa.specs.declared.reach.Reach.TheVariants.{Reached}
 use Rattle.muen_num.specs.declared.access.AccessKind.TheVariants.{Write}
 use Rattle.policy_lawful.specs.Thing.{Thing, channel, component_by, device_memory, provided, region, same_thing, state, things_of}
 use Rattle.policy_lawful.specs.Windows.{Access, Window, access_by, access_of, byte, channel_window, component_channel_window, component_windows, device_window, entry_of, holds, monitor_window, region_window, required_window, role_rights, violation, window, windows_of}
-use Rattle.policy_types.specs.Rights.{allows}
-use Rattle.policy_types.specs.declared.rights.Rights.{Rights}
-use Rattle.policy_types.specs.declared.rights.Role.{Role}
-use Rattle.policy_types.specs.declared.source.Channel.{Channel}
-use Rattle.policy_types.specs.declared.source.ChannelUse.{ChannelUse}
-use Rattle.policy_types.specs.declared.source.Component.{Component}
-use Rattle.policy_types.specs.declared.source.ComponentChannel.{ComponentChannel}
-use Rattle.policy_types.specs.declared.source.Device.{Device}
-use Rattle.policy_types.specs.declared.source.DeviceMapping.{DeviceMapping}
-use Rattle.policy_types.specs.declared.source.DeviceMemory.{DeviceMemory}
-use Rattle.policy_types.specs.declared.source.DeviceUse.{DeviceUse}
-use Rattle.policy_types.specs.declared.source.MapEntry.{MapEntry}
-use Rattle.policy_types.specs.declared.source.Mapping.{Mapping}
-use Rattle.policy_types.specs.declared.source.Monitor.{Monitor}
-use Rattle.policy_types.specs.declared.source.Provided.{Provided}
-use Rattle.policy_types.specs.declared.source.Region.{Region}
-use Rattle.policy_types.specs.declared.source.Required.{Required}
-use Rattle.policy_types.specs.declared.source.Source.{Source}
-use Rattle.policy_types.specs.declared.source.Subject.{Subject}
+use Rattle.policy_lawful.specs.Rights.{allows}
+use Rattle.policy_lawful.specs.rights.Rights.{Rights}
+use Rattle.policy_lawful.specs.rights.Role.{Role}
+use Rattle.policy_lawful.specs.source.Channel.{Channel}
+use Rattle.policy_lawful.specs.source.ChannelUse.{ChannelUse}
+use Rattle.policy_lawful.specs.source.Component.{Component}
+use Rattle.policy_lawful.specs.source.ComponentChannel.{ComponentChannel}
+use Rattle.policy_lawful.specs.source.Device.{Device}
+use Rattle.policy_lawful.specs.source.DeviceMapping.{DeviceMapping}
+use Rattle.policy_lawful.specs.source.DeviceMemory.{DeviceMemory}
+use Rattle.policy_lawful.specs.source.DeviceUse.{DeviceUse}
+use Rattle.policy_lawful.specs.source.MapEntry.{MapEntry}
+use Rattle.policy_lawful.specs.source.Mapping.{Mapping}
+use Rattle.policy_lawful.specs.source.Monitor.{Monitor}
+use Rattle.policy_lawful.specs.source.Provided.{Provided}
+use Rattle.policy_lawful.specs.source.Region.{Region}
+use Rattle.policy_lawful.specs.source.Required.{Required}
+use Rattle.policy_lawful.specs.source.Source.{Source}
+use Rattle.policy_lawful.specs.source.Subject.{Subject}
 use Rattle.subject_model.specs.SubjectState.{SubjectState}
 use Rattle.subject_model.specs.Alone.{Inbox, Own, OwnState, alone, own_of, reach_by, solo_turn, stepped, unless_delivered, vector_for, waits}
 use Rattle.subject_model.specs.Laws.{StoresElsewhere}
@@ -39,7 +39,7 @@ use Rattle.subject_model.proofs.KeyLaws.{same_things}
 use Rattle.guest_isa.proofs.StepLaws.{step_stored}
 use Rattle.muen_num.proofs.Each.{chained, each_append, each_flat, each_map, each_some, found, mapped}
 use Rattle.proof_views.specs.AloneRun.{alters, is_altered}
-use Rattle.policy_meaning.proofs.Items.{provided_by, things_are}
+use Rattle.policy_lawful.proofs.Items.{provided_by, things_are}
 
 -- it is the state page of no subject
 abbrev pub NoPage : Thing → Type 0

@@ -9,11 +9,11 @@ use Rattle.muen_num.specs.Range.{numbers_below}
 use Rattle.muen_num.specs.declared.access.AccessKind.TheVariants.{Write}
 use Rattle.policy_lawful.specs.Contents.{Held}
 use Rattle.policy_lawful.specs.Frames.{frames_of}
-use Rattle.policy_types.specs.Rights.{allows}
-use Rattle.policy_types.specs.declared.source.Monitor.{Monitor}
-use Rattle.policy_types.specs.declared.source.Source.{Source}
-use Rattle.policy_types.specs.declared.source.Subject.{Subject}
-use Rattle.record_text.specs.DeviceRecord.{DeviceRecord}
+use Rattle.policy_lawful.specs.Rights.{allows}
+use Rattle.policy_lawful.specs.source.Monitor.{Monitor}
+use Rattle.policy_lawful.specs.source.Source.{Source}
+use Rattle.policy_lawful.specs.source.Subject.{Subject}
+use Rattle.subject_model.specs.DeviceRecord.{DeviceRecord}
 use Rattle.subject_model.specs.StatePage.{page_bytes, state_in}
 use Rattle.subject_model.specs.States.{started}
 use Rattle.subject_model.specs.SubjectState.{SubjectState}

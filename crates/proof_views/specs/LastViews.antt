@@ -1,7 +1,7 @@
 -- What a system shows a subject when nothing runs any more.
 use Rattle.std.specs.Prelude.{None}
-use Rattle.policy_types.specs.declared.source.Source.{Source}
-use Rattle.policy_types.specs.declared.source.Subject.{Subject}
+use Rattle.policy_lawful.specs.source.Source.{Source}
+use Rattle.policy_lawful.specs.source.Subject.{Subject}
 use Rattle.subject_model.specs.System.{System, named, pending, shown_to, state_of}
 use Rattle.subject_model.specs.View.{Seen}
 

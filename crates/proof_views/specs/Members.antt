@@ -5,9 +5,9 @@ use Rattle.std.specs.Str.{bytes_eq}
 use Rattle.frame_clock.specs.Frames.{slot_in}
 use Rattle.frame_clock.specs.Slot.{Slot}
 use Rattle.policy_lawful.specs.Frames.{frames_of}
-use Rattle.policy_types.specs.declared.source.Group.{Group}
-use Rattle.policy_types.specs.declared.source.Source.{Source}
-use Rattle.policy_types.specs.declared.source.Subject.{Subject}
+use Rattle.policy_lawful.specs.source.Group.{Group}
+use Rattle.policy_lawful.specs.source.Source.{Source}
+use Rattle.policy_lawful.specs.source.Subject.{Subject}
 use Rattle.subject_model.specs.System.{System, subject_named}
 
 -- whether a group lists a name

@@ -16,7 +16,7 @@ use Rattle.muen_num.proofs.NumbersBelow.{length_numbers}
 use Rattle.muen_num.specs.Range.{numbers_below}
 use Rattle.policy_lawful.specs.Ranges.{in_a_block}
 use Rattle.policy_lawful.specs.Resolution.{Resolution, source_of}
-use Rattle.policy_types.specs.declared.source.Block.{Block}
+use Rattle.policy_lawful.specs.source.Block.{Block}
 use Rattle.region_alloc.specs.Placed.{AreDisjoint, AreInside, IsPlaced}
 use Rattle.region_alloc.specs.Placement.{address_in, by_number, in_turn, placed_after, placement_in, placement_of}
 use Rattle.region_alloc.specs.declared.spot.Spot.{Spot}

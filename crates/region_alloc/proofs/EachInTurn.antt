@@ -4,7 +4,7 @@ use Rattle.std.specs.Prelude.{filter, nat_le, not, slice_get}
 use Rattle.std.specs.List.{enumerate_from}
 use Rattle.std.proofs.lemmas.Bool.{cases_Bool}
 use Rattle.std.proofs.lemmas.List.Elements.{All-append, All-cons, All-filter, All-head, All-nil, All-tail}
-use Rattle.expand_grants.specs.Ordered.{in_order, inserted}
+use Rattle.expand_kernel.specs.Ordered.{in_order, inserted}
 use Rattle.expand_kernel.specs.declared.region.Region.{Region}
 use Rattle.region_alloc.specs.Placement.{in_turn, is_fixed}
 

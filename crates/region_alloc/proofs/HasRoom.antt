@@ -1,6 +1,6 @@
 -- Policies with room for their regions.
 use Rattle.std.proofs.Common.{◌≡◌, ℕ, List, None, Ok, ap}
-use Rattle.policy_types.specs.declared.source.Source.{Source}
+use Rattle.policy_lawful.specs.source.Source.{Source}
 use Rattle.region_alloc.specs.Placement.{no_room, no_room_for, placement_of}
 
 -- a policy whose regions are placed has room for them

@@ -5,7 +5,7 @@ use Rattle.std.specs.List.{flat_map}
 use Rattle.std.proofs.lemmas.List.{drop_all}
 use Rattle.expand_kernel.specs.declared.region.Region.{Region}
 use Rattle.muen_num.specs.declared.limits.TheConstants.{PHYSICAL_END}
-use Rattle.policy_types.specs.declared.source.Block.{Block}
+use Rattle.policy_lawful.specs.source.Block.{Block}
 use Rattle.region_alloc.specs.Gaps.{IsLeast, gap_of, has_room, remaining_of}
 use Rattle.region_alloc.specs.Placement.{if_placed, lowest, placed_after, spot}
 use Rattle.region_alloc.specs.declared.gaps.Gap.{Gap}

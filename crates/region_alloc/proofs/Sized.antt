@@ -5,7 +5,7 @@ use Rattle.std.specs.List.{flat_map, list_all}
 use Rattle.std.specs.Str.{bytes_eq}
 use Rattle.std.proofs.lemmas.Bool.{and_parts, eqb-true, leb-true, ltb-true, or_cases}
 use Rattle.std.proofs.lemmas.List.Elements.{All-append, All-cons, All-from_recursion, All-map, All-nil}
-use Rattle.ept_emit.specs.Pages.{ept_pages}
+use Rattle.expand_kernel.specs.Pages.{ept_pages}
 use Rattle.expand_kernel.specs.Regions.{kernel_regions, kernel_regions_of, window_range, regions_of}
 use Rattle.muen_num.proofs.Lists.{found_among}
 use Rattle.muen_num.proofs.SearchLaws.{all_none, all_pass, none_both}
@@ -18,14 +18,14 @@ use Rattle.policy_lawful.specs.Rules.{component_offence, is_alignment, is_fixed,
 use Rattle.policy_lawful.specs.Thing.{component_by}
 use Rattle.policy_lawful.specs.Windows.{windows_of}
 use Rattle.policy_lawful.proofs.KeptRules.{rules_of}
-use Rattle.policy_types.specs.declared.source.Block.{Block}
-use Rattle.policy_types.specs.declared.source.Channel.{Channel}
-use Rattle.policy_types.specs.declared.source.Component.{Component}
-use Rattle.policy_types.specs.declared.source.ComponentUse.{ComponentUse}
-use Rattle.policy_types.specs.declared.source.Provided.{Provided}
-use Rattle.policy_types.specs.declared.source.Region.{Region as SourceRegion}
-use Rattle.policy_types.specs.declared.source.Source.{Source}
-use Rattle.policy_types.specs.declared.source.Subject.{Subject}
+use Rattle.policy_lawful.specs.source.Block.{Block}
+use Rattle.policy_lawful.specs.source.Channel.{Channel}
+use Rattle.policy_lawful.specs.source.Component.{Component}
+use Rattle.policy_lawful.specs.source.ComponentUse.{ComponentUse}
+use Rattle.policy_lawful.specs.source.Provided.{Provided}
+use Rattle.policy_lawful.specs.source.Region.{Region as SourceRegion}
+use Rattle.policy_lawful.specs.source.Source.{Source}
+use Rattle.policy_lawful.specs.source.Subject.{Subject}
 use Rattle.region_alloc.specs.Placement.{no_room, no_room_for, placement_in, placement_of}
 use Rattle.region_alloc.proofs.Lowest.{ends_well}
 use Rattle.region_alloc.proofs.Placing.{IsSized}

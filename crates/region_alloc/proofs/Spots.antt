@@ -8,7 +8,7 @@ use Rattle.std.proofs.lemmas.List.Elements.{All-cons, All-head, All-nil, All-pus
 use Rattle.std.proofs.lemmas.List.Folds.{list_any-append}
 use Rattle.expand_kernel.specs.declared.region.Region.{Region}
 use Rattle.muen_num.specs.declared.limits.TheConstants.{PHYSICAL_END}
-use Rattle.policy_types.specs.declared.source.Block.{Block}
+use Rattle.policy_lawful.specs.source.Block.{Block}
 use Rattle.region_alloc.specs.Placement.{if_placed, is_apart, is_room, least_below, lowest, placed_after, spot, suits}
 use Rattle.region_alloc.specs.declared.spot.Spot.{Spot}
 use Rattle.policy_lawful.specs.Ranges.{in_a_block}

@@ -2,7 +2,7 @@
 use Rattle.std.specs.Prelude.{◌≡◌, ℕ, ◌+◌, ◌%◌, ◌<◌, ◌==◌, ◌&&◌, Bool, true, false, List, [], ◌∷◌, ◌++◌, min, max, nat_le, nat_lt, Option, Some, None, if◌then◌else◌}
 use Rattle.std.specs.List.{list_any}
 use Rattle.expand_kernel.specs.declared.region.Region.{Region}
-use Rattle.policy_types.specs.declared.source.Block.{Block}
+use Rattle.policy_lawful.specs.source.Block.{Block}
 use Rattle.region_alloc.specs.Placement.{suits}
 use Rattle.region_alloc.specs.declared.gaps.Gap.{Gap}
 use Rattle.region_alloc.specs.declared.spot.Spot.{Spot}

@@ -6,7 +6,7 @@ use Rattle.expand_kernel.specs.declared.region.Region.{Region}
 use Rattle.policy_lawful.specs.Lawful.{IsLawful}
 use Rattle.policy_lawful.specs.Ranges.{in_a_block}
 use Rattle.policy_lawful.specs.Resolution.{IsResolved, source_of}
-use Rattle.policy_types.specs.declared.source.Block.{Block}
+use Rattle.policy_lawful.specs.source.Block.{Block}
 use Rattle.region_alloc.specs.Placement.{placement_of}
 
 pub record Placement : Type 0 where

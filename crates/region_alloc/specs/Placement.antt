@@ -3,16 +3,16 @@
 use Rattle.std.specs.Prelude.{ℕ, zero, suc, ◌+◌, ◌%◌, ◌==◌, ◌&&◌, Bool, true, false, not, List, [], ◌∷◌, ◌++◌, map, filter, length, nat_le, Option, Some, None, Result, Ok, Err, if◌then◌else◌}
 use Rattle.std.specs.Option.{option_map_or, option_or}
 use Rattle.std.specs.List.{enumerate_from, find, list_all}
-use Rattle.expand_grants.specs.Ordered.{in_order}
+use Rattle.expand_kernel.specs.Ordered.{in_order}
 use Rattle.expand_kernel.specs.Regions.{regions_of}
 use Rattle.expand_kernel.specs.declared.region.Region.{Region}
 use Rattle.muen_num.specs.Range.{numbers_below}
 use Rattle.muen_num.specs.declared.limits.TheConstants.{PHYSICAL_END}
 use Rattle.policy_lawful.specs.Ranges.{in_a_block, share_none}
-use Rattle.policy_types.specs.declared.refusal.Refusal.{Refusal}
-use Rattle.policy_types.specs.declared.refusal.Refusal.TheVariants.{NoRoom}
-use Rattle.policy_types.specs.declared.source.Block.{Block}
-use Rattle.policy_types.specs.declared.source.Source.{Source}
+use Rattle.policy_lawful.specs.refusal.Refusal.{Refusal}
+use Rattle.policy_lawful.specs.refusal.Refusal.TheVariants.{NoRoom}
+use Rattle.policy_lawful.specs.source.Block.{Block}
+use Rattle.policy_lawful.specs.source.Source.{Source}
 use Rattle.region_alloc.specs.declared.spot.Spot.{Spot}
 
 -- ---- the order

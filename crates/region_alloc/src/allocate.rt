@@ -15,8 +15,8 @@ use crate::spot::Spot;
 use crate::turns::in_turn;
 use expand_kernel::{Expanded, Region};
 use muen_num::{NoMemory, Seq};
-use policy_types::Refusal;
-use policy_types::source::Block;
+use policy_lawful::Refusal;
+use policy_lawful::source::Block;
 use std::alloc::Global;
 
 // These regions, one after another: where each is placed.

@@ -5,7 +5,7 @@ ghost use Rattle.region_alloc.specs.Gaps.{IsLeast, fits, gap_of, has_room, holds
 
 use crate::spot::Spot;
 use expand_kernel::Region;
-use policy_types::source::Block;
+use policy_lawful::source::Block;
 use std::alloc::{AllocError, Global};
 
 /// Bytes that no region has: those from the address `start` on, before the address `end`.

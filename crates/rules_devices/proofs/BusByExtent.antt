@@ -15,8 +15,8 @@ use Rattle.policy_lawful.specs.Offences.{alone, two}
 use Rattle.policy_lawful.specs.Rules.{overlapping, first_overlap}
 use Rattle.policy_lawful.specs.declared.offence.Extent.{Extent}
 use Rattle.policy_lawful.specs.declared.offence.Offence.{Offence}
-use Rattle.policy_types.specs.declared.source.Bdf.{Bdf}
-use Rattle.policy_types.specs.declared.source.Device.{Device}
+use Rattle.policy_lawful.specs.source.Bdf.{Bdf}
+use Rattle.policy_lawful.specs.source.Device.{Device}
 use Rattle.rules_devices.specs.Domains.{bus_extent}
 
 abbrev extent_of : Device → Option Extent

@@ -17,7 +17,7 @@ use Rattle.policy_lawful.specs.Resolution.{Resolution, IsResolved, source_of}
 use Rattle.policy_lawful.specs.Rules.{is_declared, repeated}
 use Rattle.policy_lawful.specs.declared.offence.Offence.{Offence}
 use Rattle.policy_lawful.proofs.UniqueNames.{unique}
-use Rattle.policy_types.specs.declared.source.Domain.{Domain}
+use Rattle.policy_lawful.specs.source.Domain.{Domain}
 use Rattle.rules_devices.specs.Domains.{domain_itself, domain_devices, domain_regions, first_repeat, has_bdf, domains_offence}
 use Rattle.rules_devices.specs.declared.listed.Listed.{Listed}
 

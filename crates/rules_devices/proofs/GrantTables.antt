@@ -9,7 +9,7 @@ use Rattle.std.proofs.lemmas.List.Sums.{sum_by_push}
 use Rattle.std.proofs.lemmas.Option.{slice_get_within, get_or_from_slice_get}
 use Rattle.policy_lawful.specs.declared.resolved.DeviceUse.{DeviceUse}
 use Rattle.policy_lawful.specs.declared.resolved.Subject.{Subject}
-use Rattle.policy_types.specs.declared.source.Device.{Device}
+use Rattle.policy_lawful.specs.source.Device.{Device}
 use Rattle.policy_lawful.specs.Counts.{Adds, times_among}
 use Rattle.rules_devices.specs.Grants.{AreTimes, TableAdds, counts_at, indexes_granted, part_names, times_by_index, times_by_subject, times_by_use}
 use Rattle.rules_devices.specs.declared.resource.Resource.{Resource}

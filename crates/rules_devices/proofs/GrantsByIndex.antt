@@ -24,8 +24,8 @@ use Rattle.policy_lawful.specs.declared.resolved.Subject.{Subject}
 use Rattle.policy_lawful.proofs.Indexes.{same_name}
 use Rattle.policy_lawful.proofs.SourceElements.{parts_in_range}
 use Rattle.policy_lawful.proofs.UniqueNames.{parts_unique, unique}
-use Rattle.policy_types.specs.declared.source.Device.{Device}
-use Rattle.policy_types.specs.declared.source.DeviceUse.{DeviceUse as NamedUse}
+use Rattle.policy_lawful.specs.source.Device.{Device}
+use Rattle.policy_lawful.specs.source.DeviceUse.{DeviceUse as NamedUse}
 use Rattle.policy_lawful.specs.Counts.{times_among}
 use Rattle.rules_devices.specs.Grants.{AreTimes, IsOnDevices, counted, counts_at, device_counted, indexes_granted, part_names, times_by_index, times_by_subject, times_by_use}
 use Rattle.rules_devices.specs.declared.resource.Resource.{Resource}

@@ -14,7 +14,7 @@ use Rattle.policy_lawful.specs.Ranges.{share_none}
 use Rattle.policy_lawful.specs.Resolution.{Resolution, source_of, subject_named}
 use Rattle.policy_lawful.specs.Rules.{are_apart, overlapping, first_overlap}
 use Rattle.policy_lawful.specs.declared.offence.Offence.{Offence}
-use Rattle.policy_types.specs.declared.source.Msrs.{Msrs}
+use Rattle.policy_lawful.specs.source.Msrs.{Msrs}
 use Rattle.rules_devices.specs.Ranges.{msr_extent, msrs_offence}
 
 -- ---- of each

@@ -14,9 +14,9 @@ use Rattle.muen_num.proofs.Lists.{list_any-map, position-map}
 use Rattle.policy_lawful.specs.Offences.{alone}
 use Rattle.policy_lawful.specs.Rules.{is_declared, repeated}
 use Rattle.policy_lawful.specs.declared.offence.Offence.{Offence}
-use Rattle.policy_types.specs.declared.source.Device.{Device}
-use Rattle.policy_types.specs.declared.source.Domain.{Domain}
-use Rattle.policy_types.specs.declared.source.Region.{Region}
+use Rattle.policy_lawful.specs.source.Device.{Device}
+use Rattle.policy_lawful.specs.source.Domain.{Domain}
+use Rattle.policy_lawful.specs.source.Region.{Region}
 use Rattle.rules_devices.specs.Domains.{first_repeat}
 use Rattle.rules_devices.specs.declared.listed.Listed.{Listed}
 use Rattle.policy_lawful.proofs.NameSets.{declared_is}

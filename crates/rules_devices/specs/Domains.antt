@@ -10,9 +10,9 @@ use Rattle.policy_lawful.specs.Offences.{alone, two}
 use Rattle.policy_lawful.specs.Rules.{at_most, is_declared, repeated}
 use Rattle.policy_lawful.specs.declared.offence.Extent.{Extent}
 use Rattle.policy_lawful.specs.declared.offence.Offence.{Offence}
-use Rattle.policy_types.specs.declared.source.Bdf.{Bdf}
-use Rattle.policy_types.specs.declared.source.Device.{Device}
-use Rattle.policy_types.specs.declared.source.Domain.{Domain}
+use Rattle.policy_lawful.specs.source.Bdf.{Bdf}
+use Rattle.policy_lawful.specs.source.Device.{Device}
+use Rattle.policy_lawful.specs.source.Domain.{Domain}
 use Rattle.rules_devices.specs.declared.listed.Listed.{Listed}
 
 -- a domain under its own name; its devices; the regions of its windows

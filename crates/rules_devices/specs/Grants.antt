@@ -8,7 +8,7 @@ use Rattle.policy_lawful.specs.Offences.{two}
 use Rattle.policy_lawful.specs.declared.offence.Offence.{Offence}
 use Rattle.policy_lawful.specs.declared.resolved.DeviceUse.{DeviceUse}
 use Rattle.policy_lawful.specs.declared.resolved.Subject.{Subject}
-use Rattle.policy_types.specs.declared.source.Device.{Device}
+use Rattle.policy_lawful.specs.source.Device.{Device}
 use Rattle.rules_devices.specs.declared.resource.Resource.{Resource}
 use Rattle.rules_devices.specs.declared.resource.Resource.TheVariants.{Memory, IoPorts, Irqs}
 

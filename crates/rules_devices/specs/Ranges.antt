@@ -8,8 +8,8 @@ use Rattle.policy_lawful.specs.Offences.{alone}
 use Rattle.policy_lawful.specs.declared.offence.Extent.{Extent}
 use Rattle.policy_lawful.specs.declared.offence.Offence.{Offence}
 use Rattle.policy_lawful.specs.declared.resolved.Subject.{Subject}
-use Rattle.policy_types.specs.declared.source.Msrs.{Msrs}
-use Rattle.policy_types.specs.declared.source.Ports.{Ports}
+use Rattle.policy_lawful.specs.source.Msrs.{Msrs}
+use Rattle.policy_lawful.specs.source.Ports.{Ports}
 
 abbrev pub is_port_range : Ports → Bool
 is_port_range x = nat_le x.start x.end && nat_le x.end LAST_PORT

@@ -10,10 +10,10 @@ use Rattle.policy_lawful.specs.Offences.{two}
 use Rattle.policy_lawful.specs.Rules.{is_declared, is_page_aligned}
 use Rattle.policy_lawful.specs.declared.offence.Extent.{Extent}
 use Rattle.policy_lawful.specs.declared.offence.Offence.{Offence}
-use Rattle.policy_types.specs.Rights.{may_execute}
-use Rattle.policy_types.specs.declared.source.Domain.{Domain}
-use Rattle.policy_types.specs.declared.source.Mapping.{Mapping}
-use Rattle.policy_types.specs.declared.source.Region.{Region}
+use Rattle.policy_lawful.specs.Rights.{may_execute}
+use Rattle.policy_lawful.specs.source.Domain.{Domain}
+use Rattle.policy_lawful.specs.source.Mapping.{Mapping}
+use Rattle.policy_lawful.specs.source.Region.{Region}
 
 -- the size of the region of this name
 abbrev pub size_among : List Region → List ℕ → ℕ

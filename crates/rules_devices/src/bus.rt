@@ -8,8 +8,8 @@ ghost use Rattle.rules_devices.specs.Domains.{bus_extent, bus_offence};
 
 use muen_num::limits::{BDF_DEVICES, BDF_FUNCTIONS};
 use muen_num::{NoMemory, first};
+use policy_lawful::source::{Bdf, Device};
 use policy_lawful::{Extent, Offence};
-use policy_types::source::{Bdf, Device};
 use rules_extents::first_overlap;
 use std::alloc::{AllocError, Global};
 

@@ -7,8 +7,8 @@ ghost use Rattle.rules_devices.specs.Windows.{size_among};
 ghost use Rattle.rules_devices.specs.Domains.{has_bdf};
 
 use muen_num::{Name, NoMemory};
+use policy_lawful::source::{Device, Region};
 use policy_lawful::{NameSet, Named};
-use policy_types::source::{Device, Region};
 use std::alloc::Global;
 
 /// Elements that can be looked up by their names.

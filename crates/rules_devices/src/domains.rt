@@ -14,8 +14,8 @@ use crate::declared::Declared;
 use crate::listed::{Listed, devices_of, first_repeat, names_of};
 use muen_num::limits::MOST_DOMAINS;
 use muen_num::{Name, NoMemory, first};
+use policy_lawful::source::{Device, Domain};
 use policy_lawful::{Offence, Resolved};
-use policy_types::source::{Device, Domain};
 use std::alloc::Global;
 
 // The key of the domains.

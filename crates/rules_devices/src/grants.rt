@@ -12,8 +12,8 @@ ghost use Rattle.rules_devices.specs.declared.resource.Resource.TheVariants.{Mem
 use crate::resource::Resource;
 use muen_num::{Name, NoMemory, first_numbered};
 use policy_lawful::resolved::{DeviceUse, Subject};
+use policy_lawful::source::Device;
 use policy_lawful::{Counts, Offence, Resolved};
-use policy_types::source::Device;
 use std::alloc::{AllocError, Global};
 
 // Counts of all devices, none of whose parts was met.

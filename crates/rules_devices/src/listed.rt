@@ -5,8 +5,8 @@ ghost use Rattle.policy_lawful.specs.Offences.{two};
 ghost use Rattle.rules_devices.specs.Domains.{domain_devices, domain_regions, domain_itself, first_repeat};
 
 use muen_num::{Name, NoMemory};
+use policy_lawful::source::Domain;
 use policy_lawful::{NameSet, Offence};
-use policy_types::source::Domain;
 use std::alloc::{AllocError, Global};
 
 /// A name in a domain.

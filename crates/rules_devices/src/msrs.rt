@@ -11,8 +11,8 @@ ghost use Rattle.rules_devices.specs.Ranges.{msr_extent, msrs_offence};
 use muen_num::limits::{HIGH_MSR_FIRST, HIGH_MSR_LAST, LOW_MSR_LAST};
 use muen_num::{Name, NoMemory};
 use policy_lawful::resolved::Subject;
+use policy_lawful::source::Msrs;
 use policy_lawful::{Extent, Offence, Resolved};
-use policy_types::source::Msrs;
 use rules_extents::first_overlap;
 use std::alloc::{AllocError, Global};
 

@@ -7,8 +7,8 @@ ghost use Rattle.rules_devices.specs.Ranges.{is_port_range, port_extent};
 
 use muen_num::NoMemory;
 use muen_num::limits::LAST_PORT;
+use policy_lawful::source::{Device, Ports};
 use policy_lawful::{Extent, Offence, Resolved};
-use policy_types::source::{Device, Ports};
 use rules_extents::first_fault;
 use std::alloc::Global;
 

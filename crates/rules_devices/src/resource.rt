@@ -4,7 +4,7 @@ ghost use Rattle.rules_devices.specs.Grants.{indexes_granted, part_names};
 ghost use Rattle.rules_devices.specs.declared.resource.Resource.TheVariants.{Memory, IoPorts, Irqs};
 
 use policy_lawful::resolved::DeviceUse;
-use policy_types::source::Device;
+use policy_lawful::source::Device;
 use std::alloc::{AllocError, Global};
 
 /// A kind of what a device has.

@@ -12,8 +12,8 @@ ghost use Rattle.rules_devices.specs.Windows.{undeclared_in, unaligned_in, outsi
 use crate::declared::Declared;
 use muen_num::limits::{GUEST_END, PAGE};
 use muen_num::{Name, NoMemory, first};
+use policy_lawful::source::{Domain, Mapping, Region};
 use policy_lawful::{Extent, Offence, Resolved};
-use policy_types::source::{Domain, Mapping, Region};
 use rules_extents::first_overlap;
 use std::alloc::{AllocError, Global};
 

@@ -16,7 +16,7 @@ use Rattle.policy_lawful.specs.MoreRules.{is_switch, offence_6, readers_of, writ
 use Rattle.policy_lawful.specs.Offences.{alone}
 use Rattle.policy_lawful.specs.Resolution.{Resolution, IsResolved, name_at, source_of}
 use Rattle.policy_lawful.specs.Events.{ChannelEnd}
-use Rattle.policy_types.specs.declared.source.Channel.{Channel}
+use Rattle.policy_lawful.specs.source.Channel.{Channel}
 use Rattle.rules_events.specs.ByIndex.{AreItems}
 use Rattle.rules_events.specs.Channels.{channel_fault, fits_event, has_call, has_neither, is_apart, is_connected}
 use Rattle.rules_events.specs.ChannelEnds.{all_readers, all_writers}

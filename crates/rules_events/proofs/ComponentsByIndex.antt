@@ -22,12 +22,12 @@ use Rattle.policy_lawful.proofs.Indexes.{found_at_index}
 use Rattle.policy_lawful.proofs.SourceElements.{parts_in_range}
 use Rattle.policy_lawful.proofs.UniqueNames.{logical_unique, unique}
 use Rattle.policy_lawful.specs.Thing.{component_by}
-use Rattle.policy_types.specs.declared.source.Component.{Component}
-use Rattle.policy_types.specs.declared.source.ComponentChannel.{ComponentChannel}
-use Rattle.policy_types.specs.declared.source.MapEntry.{MapEntry as NamedEntry}
-use Rattle.policy_types.specs.declared.source.Channel.{Channel}
-use Rattle.policy_types.specs.declared.source.Region.{Region}
-use Rattle.policy_types.specs.declared.source.Required.{Required}
+use Rattle.policy_lawful.specs.source.Component.{Component}
+use Rattle.policy_lawful.specs.source.ComponentChannel.{ComponentChannel}
+use Rattle.policy_lawful.specs.source.MapEntry.{MapEntry as NamedEntry}
+use Rattle.policy_lawful.specs.source.Channel.{Channel}
+use Rattle.policy_lawful.specs.source.Region.{Region}
+use Rattle.policy_lawful.specs.source.Required.{Required}
 use Rattle.policy_lawful.specs.Views.{same_wanted}
 use Rattle.policy_lawful.proofs.ChosenEntries.{entry_found}
 use Rattle.policy_lawful.proofs.WindowsByIndex.{component_at, component_there, name_there, subject_parts, within_names}

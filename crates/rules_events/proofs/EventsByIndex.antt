@@ -18,9 +18,9 @@ use Rattle.policy_lawful.specs.declared.resolved.EventTarget.{EventTarget as Res
 use Rattle.policy_lawful.proofs.Indexes.{same_name}
 use Rattle.policy_lawful.proofs.SourceElements.{parts_in_range}
 use Rattle.policy_lawful.proofs.UniqueNames.{unique}
-use Rattle.policy_types.specs.declared.source.Event.{Event}
-use Rattle.policy_types.specs.declared.source.EventSource.{EventSource}
-use Rattle.policy_types.specs.declared.source.EventTarget.{EventTarget}
+use Rattle.policy_lawful.specs.source.Event.{Event}
+use Rattle.policy_lawful.specs.source.EventSource.{EventSource}
+use Rattle.policy_lawful.specs.source.EventTarget.{EventTarget}
 use Rattle.rules_events.specs.ByIndex.{AreItems}
 use Rattle.rules_events.specs.Events.{event_fault}
 use Rattle.rules_events.specs.Parties.{party, source_parties, target_parties, sources_at, targets_at}

@@ -26,8 +26,8 @@ use Rattle.policy_lawful.specs.declared.resolved.Subject.{Subject as ResolvedSub
 use Rattle.policy_lawful.proofs.Indexes.{same_name, same_self}
 use Rattle.policy_lawful.proofs.SourceElements.{parts_in_range}
 use Rattle.policy_lawful.proofs.UniqueNames.{subject_names, subjects_unique}
-use Rattle.policy_types.specs.declared.source.Channel.{Channel}
-use Rattle.policy_types.specs.declared.source.Event.{Event}
+use Rattle.policy_lawful.specs.source.Channel.{Channel}
+use Rattle.policy_lawful.specs.source.Event.{Event}
 use Rattle.policy_lawful.specs.Views.{channel_ends_of}
 use Rattle.rules_events.specs.ByIndex.{AreItems, items_at}
 use Rattle.rules_events.specs.Listings.{all_memberships, memberships, share, stands_in}

@@ -21,7 +21,7 @@ use Rattle.policy_lawful.specs.declared.resolved.Subject.{Subject as ResolvedSub
 use Rattle.policy_lawful.proofs.Indexes.{found_at_index, same_name}
 use Rattle.policy_lawful.proofs.SourceElements.{parts_in_range}
 use Rattle.policy_lawful.proofs.UniqueNames.{subject_names, subjects_unique}
-use Rattle.policy_types.specs.declared.source.Monitor.{Monitor}
+use Rattle.policy_lawful.specs.source.Monitor.{Monitor}
 use Rattle.rules_events.specs.Monitors.{monitor_offence, monitors_offence, is_monitored}
 
 -- a search where each element is held against those before it, over elements that all pass

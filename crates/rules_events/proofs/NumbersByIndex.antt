@@ -16,7 +16,7 @@ use Rattle.policy_lawful.specs.MoreRules.{are_distinct, are_numbers, are_vectors
 use Rattle.policy_lawful.specs.Offences.{alone}
 use Rattle.policy_lawful.specs.Resolution.{Resolution, IsResolved, device_named, device_part, name_at, source_of, subject_named, subject_in_range}
 use Rattle.policy_lawful.specs.declared.resolved.IrqUse.{IrqUse as ResolvedIrq}
-use Rattle.policy_types.specs.declared.source.IrqUse.{IrqUse}
+use Rattle.policy_lawful.specs.source.IrqUse.{IrqUse}
 use Rattle.policy_lawful.specs.declared.resolved.EventSource.{EventSource as ResolvedSource}
 use Rattle.policy_lawful.specs.declared.resolved.EventTarget.{EventTarget as ResolvedTarget}
 use Rattle.policy_lawful.specs.declared.resolved.Subject.{Subject as ResolvedSubject}
@@ -24,8 +24,8 @@ use Rattle.policy_lawful.proofs.Indexes.{found_at_index}
 use Rattle.policy_lawful.proofs.SourceElements.{parts_in_range}
 use Rattle.policy_lawful.proofs.UniqueNames.{unique}
 use Rattle.policy_lawful.specs.Events.{channel_ends, trap_number}
-use Rattle.policy_types.specs.declared.source.EventSource.{EventSource}
-use Rattle.policy_types.specs.declared.source.EventTarget.{EventTarget}
+use Rattle.policy_lawful.specs.source.EventSource.{EventSource}
+use Rattle.policy_lawful.specs.source.EventTarget.{EventTarget}
 use Rattle.policy_lawful.specs.Views.{channel_end_named, channel_ends_of}
 use Rattle.policy_lawful.proofs.EndsByIndex.{ends_by_index}
 use Rattle.rules_events.specs.Calls.{calls_at, traps_at, call_offence}

@@ -7,7 +7,7 @@ use Rattle.muen_num.specs.declared.mode.EventMode.{EventMode}
 use Rattle.policy_lawful.specs.MoreRules.{is_switch}
 use Rattle.policy_lawful.specs.Offences.{alone}
 use Rattle.policy_lawful.specs.declared.offence.Offence.{Offence}
-use Rattle.policy_types.specs.declared.source.Channel.{Channel}
+use Rattle.policy_lawful.specs.source.Channel.{Channel}
 use Rattle.rules_events.specs.declared.channel_ends.Met.{Met}
 
 -- none of the readers is the writer's subject

@@ -12,11 +12,11 @@ use Rattle.policy_lawful.specs.declared.resolved.MapEntry.{MapEntry}
 use Rattle.policy_lawful.specs.declared.resolved.Subject.{Subject}
 use Rattle.policy_lawful.specs.declared.resolved.Wanted.{Wanted}
 use Rattle.policy_lawful.specs.declared.resolved.Wanted.TheVariants.{Memory as WantedMemory, Channel as WantedChannel}
-use Rattle.policy_types.specs.declared.source.Channel.{Channel}
-use Rattle.policy_types.specs.declared.source.Component.{Component}
-use Rattle.policy_types.specs.declared.source.ComponentChannel.{ComponentChannel}
-use Rattle.policy_types.specs.declared.source.Region.{Region}
-use Rattle.policy_types.specs.declared.source.Required.{Required}
+use Rattle.policy_lawful.specs.source.Channel.{Channel}
+use Rattle.policy_lawful.specs.source.Component.{Component}
+use Rattle.policy_lawful.specs.source.ComponentChannel.{ComponentChannel}
+use Rattle.policy_lawful.specs.source.Region.{Region}
+use Rattle.policy_lawful.specs.source.Required.{Required}
 use Rattle.rules_events.specs.ByIndex.{items_at}
 use Rattle.rules_events.specs.declared.components.Grant.{Grant}
 

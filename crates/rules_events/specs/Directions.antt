@@ -7,8 +7,8 @@ use Rattle.muen_num.specs.declared.mode.EventMode.{EventMode}
 use Rattle.muen_num.specs.declared.mode.EventMode.TheVariants.{Own, Switch}
 use Rattle.policy_lawful.specs.Offences.{two}
 use Rattle.policy_lawful.specs.declared.offence.Offence.{Offence}
-use Rattle.policy_types.specs.declared.source.Channel.{Channel}
-use Rattle.policy_types.specs.declared.source.Event.{Event}
+use Rattle.policy_lawful.specs.source.Channel.{Channel}
+use Rattle.policy_lawful.specs.source.Event.{Event}
 use Rattle.policy_lawful.specs.Resolution.{Resolution}
 use Rattle.rules_events.specs.ByIndex.{items_at}
 use Rattle.rules_events.specs.ChannelEnds.{all_readers, all_writers}

@@ -3,7 +3,7 @@ use Rattle.std.specs.Prelude.{ℕ, ◌==◌, ◌&&◌, not, List, [], length, sl
 use Rattle.muen_num.specs.Search.{unless}
 use Rattle.policy_lawful.specs.Offences.{alone}
 use Rattle.policy_lawful.specs.declared.offence.Offence.{Offence}
-use Rattle.policy_types.specs.declared.source.Event.{Event}
+use Rattle.policy_lawful.specs.source.Event.{Event}
 use Rattle.rules_events.specs.declared.parties.Party.{Party}
 
 -- an event with its index, where so many sources and targets are noted

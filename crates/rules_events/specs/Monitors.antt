@@ -7,7 +7,7 @@ use Rattle.policy_lawful.specs.Offences.{two}
 use Rattle.policy_lawful.specs.declared.offence.Offence.{Offence}
 use Rattle.policy_lawful.specs.declared.resolved.Monitor.{Monitor}
 use Rattle.policy_lawful.specs.declared.resolved.Subject.{Subject}
-use Rattle.policy_types.specs.Rights.{may_execute}
+use Rattle.policy_lawful.specs.Rights.{may_execute}
 
 -- the other subject is another one on the same CPU, that wasn't monitored before, and there is no right to execute
 abbrev pub is_monitor_of : Subject → Subject → Monitor → Bool → Bool

@@ -11,8 +11,7 @@ use crate::by_index::by_index;
 use crate::parties::Party;
 use muen_num::{NoMemory, Seq};
 use policy_lawful::resolved::Subject;
-use policy_lawful::{IndexedEnd, Resolved};
-use policy_types::Role;
+use policy_lawful::{IndexedEnd, Resolved, Role};
 use std::alloc::{AllocError, Global};
 
 /// An end of a channel with its subject.

@@ -11,8 +11,8 @@ use crate::by_index::at;
 use crate::channel_ends::{Met, readers_by_channel, writers_by_channel};
 use crate::interrupts::is_switch;
 use muen_num::{EventMode, NoMemory, Seq, first_numbered};
+use policy_lawful::source::Channel;
 use policy_lawful::{Offence, Resolved};
-use policy_types::source::Channel;
 use std::alloc::Global;
 
 // Whether none of these readers is this writer's subject.

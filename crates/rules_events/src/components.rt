@@ -11,9 +11,8 @@ ghost use Rattle.rules_events.specs.Components.{memory_grant, channel_grant, giv
 use crate::by_index::{at, by_index};
 use muen_num::{Name, NoMemory, Seq, first_numbered};
 use policy_lawful::resolved::{ComponentUse, MapEntry, Subject, Wanted};
-use policy_lawful::{Offence, Resolved};
-use policy_types::Rights;
-use policy_types::source::{Channel, Component, ComponentChannel, Region, Required};
+use policy_lawful::source::{Channel, Component, ComponentChannel, Region, Required};
+use policy_lawful::{Offence, Resolved, Rights};
 use std::alloc::{AllocError, Global};
 
 /// What an entry gives to a logical name.

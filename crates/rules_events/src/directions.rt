@@ -13,8 +13,8 @@ use crate::channel_ends::{Met, readers_by_channel, writers_by_channel};
 use crate::listings::Listings;
 use crate::parties::{Party, sources_by_event, targets_by_event};
 use muen_num::{EventMode, Name, NoMemory, Seq, first_numbered};
+use policy_lawful::source::{Channel, Event};
 use policy_lawful::{Offence, Resolved};
-use policy_types::source::{Channel, Event};
 use std::alloc::{AllocError, Global};
 
 // Whether an event of this mode may join these subjects, of which the groups are noted.

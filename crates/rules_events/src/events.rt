@@ -9,8 +9,8 @@ ghost use Rattle.rules_events.specs.Events.{event_fault};
 use crate::by_index::at;
 use crate::parties::{Party, sources_by_event, targets_by_event};
 use muen_num::{NoMemory, Seq, first_numbered};
+use policy_lawful::source::Event;
 use policy_lawful::{Offence, Resolved};
-use policy_types::source::Event;
 use std::alloc::Global;
 
 // The first event without sources, or that hasn't one target.

@@ -11,8 +11,8 @@ use crate::numbers::are_distinct_in;
 use muen_num::NoMemory;
 use muen_num::limits::MOST_CALLS;
 use policy_lawful::resolved::{EventSource, Subject};
+use policy_lawful::source::SourceWay;
 use policy_lawful::{IndexedEnd, Offence, Resolved};
-use policy_types::source::SourceWay;
 use std::alloc::{AllocError, Global};
 
 fn call_number(way: SourceWay) -> Option<u64>

@@ -10,8 +10,8 @@ use crate::numbers::are_distinct_in;
 use muen_num::limits::{FIRST_VECTOR, LAST_VECTOR};
 use muen_num::{EventMode, NoMemory};
 use policy_lawful::resolved::{DeviceUse, EventTarget, IrqUse, Subject};
+use policy_lawful::source::Event;
 use policy_lawful::{IndexedEnd, Offence, Resolved};
-use policy_types::source::Event;
 use std::alloc::{AllocError, Global};
 
 /// Whether the target also becomes active.

@@ -9,8 +9,8 @@ use Rattle.expand_kernel.specs.Regions.{regions_of}
 use Rattle.expand_kernel.specs.declared.region.Region.{Region}
 use Rattle.muen_num.specs.Range.{numbers_below}
 use Rattle.muen_num.specs.declared.limits.TheConstants.{PAGE, PHYSICAL_END}
-use Rattle.policy_types.specs.declared.source.Block.{Block}
-use Rattle.policy_types.specs.declared.source.Source.{Source}
+use Rattle.policy_lawful.specs.source.Block.{Block}
+use Rattle.policy_lawful.specs.source.Source.{Source}
 use Rattle.region_alloc.proofs.EachInTurn.{regions_in_turn}
 use Rattle.region_alloc.specs.Placement.{address_in, by_number, if_placed, in_turn, is_apart, is_room, least_below, lowest, placed_after, placement_in, placement_of, spot, suits}
 use Rattle.span_emit.proofs.KeptRegions.{IsWhole}

@@ -10,8 +10,8 @@ use Rattle.image_pack.specs.Codes.{is_device, is_part, part_code}
 use Rattle.image_pack.specs.SpanConditions.{device_pages_of, end_of}
 use Rattle.image_pack.specs.declared.parts.SpanPart.{SpanPart}
 use Rattle.muen_num.specs.declared.limits.TheConstants.{PAGE, PHYSICAL_END}
-use Rattle.policy_types.specs.declared.source.Block.{Block}
-use Rattle.policy_types.specs.declared.source.DeviceMemory.{DeviceMemory}
+use Rattle.policy_lawful.specs.source.Block.{Block}
+use Rattle.policy_lawful.specs.source.DeviceMemory.{DeviceMemory}
 use Rattle.span_emit.specs.Spans.{device_span}
 use Rattle.policy_lawful.proofs.KeptAddresses.{IsPhysical}
 use Rattle.span_emit.proofs.KeptDevices.{AreTwo}

@@ -15,8 +15,8 @@ use Rattle.image_pack.specs.Codes.{is_device, is_part, part_code}
 use Rattle.image_pack.specs.SpanConditions.{AreSpans, Ascend, HaveDifferentNumbers, HaveRoom, device_pages_of, end_of}
 use Rattle.image_pack.specs.declared.parts.SpanPart.{SpanPart}
 use Rattle.muen_num.specs.declared.limits.TheConstants.{PAGE, PHYSICAL_END}
-use Rattle.policy_types.specs.declared.source.Block.{Block}
-use Rattle.policy_types.specs.declared.source.Device.{Device}
+use Rattle.policy_lawful.specs.source.Block.{Block}
+use Rattle.policy_lawful.specs.source.Device.{Device}
 use Rattle.region_alloc.proofs.Lowest.{ends_well}
 use Rattle.span_emit.specs.ByAddress.{AreSpansByAddress, HasNames}
 use Rattle.span_emit.specs.Spans.{device_span, device_spans, memories_of, region_spans}

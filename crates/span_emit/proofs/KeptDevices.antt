@@ -12,10 +12,10 @@ use Rattle.muen_num.proofs.SearchLaws.{unless_none}
 use Rattle.policy_lawful.specs.Offences.{two}
 use Rattle.policy_lawful.specs.Rules.{are_apart, first_overlap, offence_4, offence_18, overlapping}
 use Rattle.policy_lawful.specs.declared.offence.Extent.{Extent}
-use Rattle.policy_types.specs.declared.source.Block.{Block}
-use Rattle.policy_types.specs.declared.source.Device.{Device}
-use Rattle.policy_types.specs.declared.source.DeviceMemory.{DeviceMemory}
-use Rattle.policy_types.specs.declared.source.Source.{Source}
+use Rattle.policy_lawful.specs.source.Block.{Block}
+use Rattle.policy_lawful.specs.source.Device.{Device}
+use Rattle.policy_lawful.specs.source.DeviceMemory.{DeviceMemory}
+use Rattle.policy_lawful.specs.source.Source.{Source}
 use Rattle.span_emit.specs.Spans.{memories_of}
 use Rattle.span_emit.proofs.PairLaws.{all_from, all_unmapped, pairs_across, pairs_second, pairs_unmapped, pairs_weaker}
 use Rattle.policy_lawful.proofs.KeptAddresses.{IsPhysical, addresses_kept, is_memory, physical}

@@ -4,7 +4,7 @@ use Rattle.std.specs.Prelude.{◌&&◌, ◌==◌, nat_lt}
 use Rattle.std.specs.List.{flat_map}
 use Rattle.std.proofs.lemmas.Bool.{and_parts, eqb-true, or_cases}
 use Rattle.std.proofs.lemmas.List.Elements.{All-append, All-from_recursion, All-map, All-nil}
-use Rattle.ept_emit.specs.Pages.{ept_pages}
+use Rattle.expand_kernel.specs.Pages.{ept_pages}
 use Rattle.expand_kernel.specs.Regions.{kernel_regions, kernel_regions_of, window_range, regions_of}
 use Rattle.expand_kernel.specs.declared.region.Region.{Region}
 use Rattle.image_pack.specs.Codes.{is_part, part_code}
@@ -12,12 +12,12 @@ use Rattle.muen_num.specs.declared.limits.TheConstants.{LARGE_PAGE, PAGE}
 use Rattle.policy_lawful.specs.Rules.{is_alignment, is_fixed, is_guest, is_laid, is_page_aligned, is_page_size, is_physical, offence_4}
 use Rattle.policy_lawful.specs.Thing.{component_by}
 use Rattle.policy_lawful.specs.Windows.{windows_of}
-use Rattle.policy_types.specs.declared.source.Channel.{Channel}
-use Rattle.policy_types.specs.declared.source.Component.{Component}
-use Rattle.policy_types.specs.declared.source.Provided.{Provided}
-use Rattle.policy_types.specs.declared.source.Region.{Region as SourceRegion}
-use Rattle.policy_types.specs.declared.source.Source.{Source}
-use Rattle.policy_types.specs.declared.source.Subject.{Subject}
+use Rattle.policy_lawful.specs.source.Channel.{Channel}
+use Rattle.policy_lawful.specs.source.Component.{Component}
+use Rattle.policy_lawful.specs.source.Provided.{Provided}
+use Rattle.policy_lawful.specs.source.Region.{Region as SourceRegion}
+use Rattle.policy_lawful.specs.source.Source.{Source}
+use Rattle.policy_lawful.specs.source.Subject.{Subject}
 use Rattle.region_alloc.specs.Placement.{suits}
 use Rattle.span_emit.specs.Spans.{span_kind}
 use Rattle.span_emit.proofs.PairLaws.{all_from}

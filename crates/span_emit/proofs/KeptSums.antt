@@ -10,11 +10,11 @@ use Rattle.muen_num.proofs.Lists.{sum_by-map}
 use Rattle.muen_num.specs.declared.limits.TheConstants.{KERNEL_REGIONS, MOST_BLOCK_BYTES, MOST_DEVICE_BYTES, MOST_DEVICE_WINDOWS, MOST_REGIONS}
 use Rattle.policy_lawful.specs.Rules.{offence_20, regions_for}
 use Rattle.policy_lawful.specs.Thing.{component_by}
-use Rattle.policy_types.specs.declared.source.Component.{Component}
-use Rattle.policy_types.specs.declared.source.Device.{Device}
-use Rattle.policy_types.specs.declared.source.DeviceMemory.{DeviceMemory}
-use Rattle.policy_types.specs.declared.source.Source.{Source}
-use Rattle.policy_types.specs.declared.source.Subject.{Subject}
+use Rattle.policy_lawful.specs.source.Component.{Component}
+use Rattle.policy_lawful.specs.source.Device.{Device}
+use Rattle.policy_lawful.specs.source.DeviceMemory.{DeviceMemory}
+use Rattle.policy_lawful.specs.source.Source.{Source}
+use Rattle.policy_lawful.specs.source.Subject.{Subject}
 use Rattle.span_emit.specs.Spans.{memories_of}
 use Rattle.policy_lawful.proofs.KeptLimits.{limits_kept}
 use Rattle.expand_kernel.specs.ByIndex.{channel_region, own_region, provided_region, provided_regions}

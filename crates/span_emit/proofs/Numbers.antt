@@ -7,7 +7,7 @@ use Rattle.std.proofs.lemmas.List.Elements.{All-cons, All-nil, All-weaker}
 use Rattle.std.proofs.lemmas.List.Kept.{AllPairs-cons}
 use Rattle.expand_kernel.specs.declared.region.Region.{Region}
 use Rattle.image_pack.specs.declared.parts.SpanPart.{SpanPart}
-use Rattle.policy_types.specs.declared.source.DeviceMemory.{DeviceMemory}
+use Rattle.policy_lawful.specs.source.DeviceMemory.{DeviceMemory}
 use Rattle.span_emit.specs.Spans.{device_span, region_span}
 use Rattle.span_emit.proofs.PairLaws.{pairs_nil}
 

@@ -10,7 +10,7 @@ use Rattle.image_pack.specs.Codes.{is_device}
 use Rattle.image_pack.specs.SpanConditions.{Ascend, device_pages_of, end_of, pages_of}
 use Rattle.image_pack.specs.declared.parts.SpanPart.{SpanPart}
 use Rattle.muen_num.specs.declared.limits.TheConstants.{PAGE}
-use Rattle.policy_types.specs.declared.source.Block.{Block}
+use Rattle.policy_lawful.specs.source.Block.{Block}
 use Rattle.span_emit.proofs.Room.{in_blocks}
 use Rattle.policy_lawful.specs.Ranges.{in_a_block}
 

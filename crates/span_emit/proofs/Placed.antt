@@ -10,9 +10,9 @@ use Rattle.image_pack.specs.declared.parts.SpanPart.{SpanPart}
 use Rattle.muen_num.specs.declared.limits.TheConstants.{MOST_BLOCK_BYTES, MOST_DEVICE_BYTES, MOST_DEVICE_WINDOWS, MOST_REGIONS, PAGE}
 use Rattle.policy_lawful.specs.Lawful.{IsLawful}
 use Rattle.policy_lawful.specs.Resolution.{Resolution, source_of}
-use Rattle.policy_types.specs.declared.source.Block.{Block}
-use Rattle.policy_types.specs.declared.source.Device.{Device}
-use Rattle.policy_types.specs.declared.source.DeviceMemory.{DeviceMemory}
+use Rattle.policy_lawful.specs.source.Block.{Block}
+use Rattle.policy_lawful.specs.source.Device.{Device}
+use Rattle.policy_lawful.specs.source.DeviceMemory.{DeviceMemory}
 use Rattle.region_alloc.proofs.Lowest.{ends_well}
 use Rattle.region_alloc.proofs.Placing.{IsSized}
 use Rattle.region_alloc.proofs.Sized.{blocks_end, regions_sized}

@@ -14,7 +14,7 @@ use Rattle.image_pack.specs.Codes.{is_device, is_part, part_code}
 use Rattle.image_pack.specs.SpanConditions.{end_of}
 use Rattle.image_pack.specs.declared.parts.SpanPart.{SpanPart}
 use Rattle.muen_num.specs.declared.limits.TheConstants.{PAGE}
-use Rattle.policy_types.specs.declared.source.Block.{Block}
+use Rattle.policy_lawful.specs.source.Block.{Block}
 use Rattle.region_alloc.proofs.Placing.{IsSized}
 use Rattle.region_alloc.specs.Placed.{AreDisjoint, AreInside}
 use Rattle.span_emit.specs.Spans.{region_span, region_spans, span_kind}

@@ -7,7 +7,7 @@ use Rattle.std.proofs.lemmas.List.Elements.{All-filter, All-head, All-tail, All-
 use Rattle.std.proofs.lemmas.List.Filters.{sum_by-filter_both}
 use Rattle.std.proofs.lemmas.List.Kept.{AllPairs-filter}
 use Rattle.std.proofs.lemmas.List.Sums.{sum_by-cons}
-use Rattle.policy_types.specs.declared.source.Block.{Block}
+use Rattle.policy_lawful.specs.source.Block.{Block}
 use Rattle.span_emit.proofs.PairLaws.{pairs_head, pairs_tail}
 use Rattle.policy_lawful.specs.Ranges.{in_a_block}
 

@@ -7,7 +7,7 @@ use Rattle.image_pack.specs.declared.parts.SpanPart.{SpanPart}
 use Rattle.muen_num.specs.Naming.{is_name}
 use Rattle.muen_num.specs.declared.tag.TagPart.TheVariants.{Named}
 use Rattle.muen_num.specs.declared.tag.Tag.{Tag}
-use Rattle.policy_types.specs.declared.source.DeviceMemory.{DeviceMemory}
+use Rattle.policy_lawful.specs.source.DeviceMemory.{DeviceMemory}
 
 -- the tag of memory of the device of this name
 abbrev pub memory_tag : List ℕ → DeviceMemory → Tag

@@ -9,8 +9,8 @@ use Rattle.image_pack.specs.declared.parts.SpanKind.TheVariants.{Own, Channel, P
 use Rattle.image_pack.specs.declared.parts.SpanPart.{SpanPart}
 use Rattle.muen_num.specs.declared.limits.TheConstants.{PAGE}
 use Rattle.muen_num.specs.declared.tag.TagPart.TheVariants.{Named}
-use Rattle.policy_types.specs.declared.source.Device.{Device as SourceDevice}
-use Rattle.policy_types.specs.declared.source.DeviceMemory.{DeviceMemory}
+use Rattle.policy_lawful.specs.source.Device.{Device as SourceDevice}
+use Rattle.policy_lawful.specs.source.DeviceMemory.{DeviceMemory}
 
 abbrev pub span_kind : RegionKind → SpanKind
 span_kind OwnRegion = Own

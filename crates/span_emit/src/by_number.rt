@@ -10,7 +10,7 @@ use expand_kernel::{Region, RegionKind};
 use image_pack::{SpanKind, SpanPart};
 use muen_num::limits::PAGE;
 use muen_num::{Name, NoMemory, Tag, TagPart};
-use policy_types::source::{Device, DeviceMemory};
+use policy_lawful::source::{Device, DeviceMemory};
 use region_alloc::Placed;
 use std::alloc::{AllocError, Global};
 

@@ -5,3 +5,4 @@ mod by_address;
 mod by_number;
 
 pub use by_address::spans;
+pub use region_alloc::Placed;

@@ -6,8 +6,8 @@ use Rattle.std.proofs.lemmas.Bool.{and_parts, eqb-true, leb-true, or_cases}
 use Rattle.std.proofs.lemmas.List.Elements.{All-head, All-tail}
 use Rattle.std.proofs.lemmas.Option.{get_or_from_slice_get}
 use Rattle.ept_emit.specs.Pages.{ept_pages}
-use Rattle.expand_grants.specs.Grants.{AreGrantsOf}
-use Rattle.expand_grants.specs.declared.granted.Grants.{Grants}
+use Rattle.expand_kernel.specs.Grants.{AreGrantsOf}
+use Rattle.expand_kernel.specs.granted.Grants.{Grants}
 use Rattle.expand_kernel.specs.ByIndex.{channel_region, own_region, provided_region, view_ranges}
 use Rattle.policy_lawful.specs.ByIndex.{provided_at}
 use Rattle.expand_kernel.specs.Regions.{anywhere}
@@ -18,10 +18,10 @@ use Rattle.muen_num.specs.declared.tag.TagPart.TheVariants.{State as StatePart, 
 use Rattle.policy_lawful.specs.Ranges.{in_a_block}
 use Rattle.policy_lawful.specs.Rules.{is_alignment, is_fixed, is_laid, is_page_aligned, is_page_size, is_physical}
 use Rattle.policy_lawful.specs.declared.resolved.Subject.{Subject}
-use Rattle.policy_types.specs.declared.source.Block.{Block}
-use Rattle.policy_types.specs.declared.source.Device.{Device as SomeDevice}
-use Rattle.policy_types.specs.declared.source.DeviceMemory.{DeviceMemory}
-use Rattle.policy_types.specs.declared.source.Region.{Region as SourceRegion}
+use Rattle.policy_lawful.specs.source.Block.{Block}
+use Rattle.policy_lawful.specs.source.Device.{Device as SomeDevice}
+use Rattle.policy_lawful.specs.source.DeviceMemory.{DeviceMemory}
+use Rattle.policy_lawful.specs.source.Region.{Region as SourceRegion}
 use Rattle.policy_lawful.specs.declared.view.Shown.{Shown}
 use Rattle.policy_lawful.specs.declared.view.Shown.TheVariants.{Memory, Channel, Provided, Device, State}
 use Rattle.region_alloc.specs.Placed.{IsPlaced, Placement}

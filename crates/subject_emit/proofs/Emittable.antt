@@ -6,7 +6,7 @@ use Rattle.std.proofs.lemmas.List.Elements.{All-map}
 use Rattle.ept_emit.specs.declared.window.Leaf.{Leaf}
 use Rattle.ept_emit.specs.declared.window.Leaf.TheVariants.{Small, Large, Huge}
 use Rattle.ept_emit.specs.Entries.{IsEmittable, level_of}
-use Rattle.expand_grants.specs.declared.granted.Grants.{Grants}
+use Rattle.expand_kernel.specs.granted.Grants.{Grants}
 use Rattle.machine_layout.specs.Walks.{entry_size}
 use Rattle.policy_lawful.specs.Rules.{is_guest, is_page_aligned, is_page_size}
 use Rattle.policy_lawful.specs.declared.view.View.{View}

@@ -4,9 +4,9 @@ use Rattle.std.specs.Prelude.{nat_le, slice_get}
 use Rattle.std.specs.List.{list_all, sum_by}
 use Rattle.std.proofs.lemmas.Bool.{and_parts, leb-true}
 use Rattle.std.proofs.lemmas.List.Folds.{list_all-map}
-use Rattle.expand_grants.specs.Grants.{AreGrantsOf}
-use Rattle.expand_grants.specs.Resources.{msr_grant}
-use Rattle.expand_grants.specs.declared.granted.Grants.{Grants}
+use Rattle.expand_kernel.specs.Grants.{AreGrantsOf}
+use Rattle.expand_kernel.specs.Resources.{msr_grant}
+use Rattle.expand_kernel.specs.granted.Grants.{Grants}
 use Rattle.msrbm_emit.specs.Area.{count_of, size_of}
 use Rattle.msrbm_emit.specs.Msrs.{is_covered}
 use Rattle.muen_num.proofs.Lists.{passes_at, sum_by-map}

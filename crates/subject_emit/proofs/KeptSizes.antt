@@ -1,8 +1,8 @@
 -- Rule 4: the views that are granted are ranges of guest addresses.
 use Rattle.std.proofs.Common.{◌≡◌, ℕ, true, All, Some}
 use Rattle.std.specs.Prelude.{slice_get}
-use Rattle.expand_grants.specs.Grants.{AreGrantsOf}
-use Rattle.expand_grants.specs.declared.granted.Grants.{Grants}
+use Rattle.expand_kernel.specs.Grants.{AreGrantsOf}
+use Rattle.expand_kernel.specs.granted.Grants.{Grants}
 use Rattle.policy_lawful.specs.Lawful.{IsLawful}
 use Rattle.policy_lawful.specs.Resolution.{IsResolved, Resolution, source_of}
 use Rattle.policy_lawful.specs.Rules.{is_guest}

@@ -6,8 +6,8 @@ use Rattle.std.proofs.lemmas.List.{length-map, take_all}
 use Rattle.std.proofs.lemmas.Option.{slice_get-map, slice_get_within}
 use Rattle.std.proofs.lemmas.Slice.Zip.{AllZip-long}
 use Rattle.ept_emit.specs.Pages.{ept_pages}
-use Rattle.expand_grants.specs.Grants.{AreGrantsOf}
-use Rattle.expand_grants.specs.declared.granted.Grants.{Grants}
+use Rattle.expand_kernel.specs.Grants.{AreGrantsOf}
+use Rattle.expand_kernel.specs.granted.Grants.{Grants}
 use Rattle.expand_kernel.specs.ByIndex.{brought_at, channel_region, kernel_for, kernel_for_each, own_region, provided_region, view_ranges}
 use Rattle.policy_lawful.specs.ByIndex.{provided_at}
 use Rattle.expand_kernel.specs.Regions.{kernel_regions}
@@ -15,10 +15,10 @@ use Rattle.expand_kernel.specs.declared.region.Region.{Region}
 use Rattle.expand_kernel.proofs.Numbering.{regions_by_index}
 use Rattle.muen_num.proofs.Lists.{get_left, get_right}
 use Rattle.policy_lawful.specs.declared.resolved.Subject.{Subject}
-use Rattle.policy_types.specs.declared.source.Channel.{Channel}
-use Rattle.policy_types.specs.declared.source.Component.{Component}
-use Rattle.policy_types.specs.declared.source.Provided.{Provided}
-use Rattle.policy_types.specs.declared.source.Region.{Region as SourceRegion}
+use Rattle.policy_lawful.specs.source.Channel.{Channel}
+use Rattle.policy_lawful.specs.source.Component.{Component}
+use Rattle.policy_lawful.specs.source.Provided.{Provided}
+use Rattle.policy_lawful.specs.source.Region.{Region as SourceRegion}
 use Rattle.region_alloc.specs.Placed.{IsPlaced, Placement}
 use Rattle.region_alloc.proofs.Apart.{policy_inside}
 use Rattle.subject_emit.specs.Mapped.{brought_before, kernel_first}

@@ -2,14 +2,14 @@
 use Rattle.std.proofs.Common.{◌≡◌, ℕ, All, [], Some, ap, ◌∙◌}
 use Rattle.std.specs.Prelude.{option_and_then, option_map, slice_get}
 use Rattle.std.specs.Option.{option_map_or}
-use Rattle.expand_grants.specs.Grants.{AreGrantsOf}
-use Rattle.expand_grants.specs.declared.granted.Grants.{Grants}
+use Rattle.expand_kernel.specs.Grants.{AreGrantsOf}
+use Rattle.expand_kernel.specs.granted.Grants.{Grants}
 use Rattle.policy_lawful.specs.ByIndex.{provided_at}
 use Rattle.muen_num.specs.declared.limits.TheConstants.{PAGE}
 use Rattle.policy_lawful.specs.Resolution.{Resolution}
 use Rattle.policy_lawful.specs.declared.resolved.Subject.{Subject}
-use Rattle.policy_types.specs.declared.source.Device.{Device as SomeDevice}
-use Rattle.policy_types.specs.declared.source.DeviceMemory.{DeviceMemory}
+use Rattle.policy_lawful.specs.source.Device.{Device as SomeDevice}
+use Rattle.policy_lawful.specs.source.DeviceMemory.{DeviceMemory}
 use Rattle.policy_lawful.specs.Views.{views_of}
 use Rattle.policy_lawful.specs.declared.view.View.{View}
 use Rattle.policy_lawful.proofs.EachView.{each_view}

@@ -14,7 +14,7 @@ use Rattle.muen_num.proofs.Lists.{found}
 use Rattle.muen_num.proofs.NumbersBelow.{length_numbers}
 use Rattle.muen_num.specs.Range.{numbers_below}
 use Rattle.muen_num.specs.declared.limits.TheConstants.{PHYSICAL_END}
-use Rattle.policy_types.specs.declared.source.Block.{Block}
+use Rattle.policy_lawful.specs.source.Block.{Block}
 use Rattle.region_alloc.specs.Placed.{IsPlaced, Placement}
 use Rattle.region_alloc.specs.Placement.{address_in, by_number, if_placed, in_turn, is_room, least_below, lowest, placed_after, placement_in, spot, suits}
 use Rattle.region_alloc.proofs.EachInTurn.{each_from_turns, each_in_turn, each_numbered, numbered_at}

@@ -5,12 +5,12 @@ use Rattle.std.specs.Option.{option_map_or}
 use Rattle.ept_emit.specs.declared.window.Leaf.{Leaf}
 use Rattle.ept_emit.specs.declared.window.Leaf.TheVariants.{Small, Large, Huge}
 use Rattle.ept_emit.specs.declared.window.Window.{Window}
-use Rattle.expand_grants.specs.declared.granted.Grants.{Grants}
+use Rattle.expand_kernel.specs.granted.Grants.{Grants}
 use Rattle.policy_lawful.specs.ByIndex.{provided_at}
 use Rattle.muen_num.specs.declared.limits.TheConstants.{KERNEL_REGIONS}
 use Rattle.policy_lawful.specs.Resolution.{Resolution}
-use Rattle.policy_types.specs.declared.rights.Caching.{Caching}
-use Rattle.policy_types.specs.declared.rights.Caching.TheVariants.{Uc, Wb}
+use Rattle.policy_lawful.specs.rights.Caching.{Caching}
+use Rattle.policy_lawful.specs.rights.Caching.TheVariants.{Uc, Wb}
 use Rattle.policy_lawful.specs.declared.view.Shown.{Shown}
 use Rattle.policy_lawful.specs.declared.view.Shown.TheVariants.{Memory, Channel, Provided, Device, State}
 use Rattle.policy_lawful.specs.declared.view.View.{View}

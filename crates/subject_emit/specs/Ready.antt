@@ -3,7 +3,7 @@ use Rattle.std.specs.Prelude.{◌≡◌, ℕ, ◌+◌, ◌*◌, ◌%◌, ◌<◌
 use Rattle.std.specs.List.{All}
 use Rattle.ept_emit.specs.Pages.{AreApart, ept_pages, ranges_of}
 use Rattle.ept_emit.specs.Entries.{IsEmittable}
-use Rattle.expand_grants.specs.declared.granted.Grants.{Grants}
+use Rattle.expand_kernel.specs.granted.Grants.{Grants}
 use Rattle.muen_num.specs.declared.limits.TheConstants.{PAGE, PHYSICAL_END}
 use Rattle.region_alloc.specs.Placed.{Placement}
 use Rattle.subject_emit.specs.Mapped.{mapped_windows}

@@ -4,7 +4,7 @@ use Rattle.std.specs.Option.{option_map_or}
 use Rattle.policy_lawful.specs.ByIndex.{provided_at}
 use Rattle.muen_num.specs.declared.limits.TheConstants.{PAGE}
 use Rattle.policy_lawful.specs.Resolution.{Resolution}
-use Rattle.policy_types.specs.declared.source.Provided.{Provided as Brought}
+use Rattle.policy_lawful.specs.source.Provided.{Provided as Brought}
 use Rattle.policy_lawful.specs.declared.view.Shown.{Shown}
 use Rattle.policy_lawful.specs.declared.view.Shown.TheVariants.{Memory, Channel, Provided, Device, State}
 use Rattle.policy_lawful.specs.declared.view.View.{View}

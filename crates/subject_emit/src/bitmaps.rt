@@ -11,7 +11,7 @@ ghost use Rattle.state_page.specs.States.{started};
 
 use muen_num::limits::{MOST_MSRS, PAGE};
 use muen_num::{NoMemory, Seq};
-use policy_types::{MsrGrant, PortRange};
+use policy_lawful::{MsrGrant, PortRange};
 use state_page::SubjectState;
 use std::alloc::{AllocError, Global};
 

@@ -9,9 +9,8 @@ use ept_emit::{Leaf, Window};
 use machine_layout::entries::HUGE_PAGE;
 use muen_num::NoMemory;
 use muen_num::limits::LARGE_PAGE;
-use policy_lawful::{Shown, View};
-use policy_types::Caching;
-use policy_types::source::{Device, Region};
+use policy_lawful::source::{Device, Region};
+use policy_lawful::{Caching, Shown, View};
 use region_alloc::Placed;
 use std::alloc::Global;
 

@@ -4,7 +4,7 @@ ghost use Rattle.subject_emit.specs.Pages.{ArePages};
 
 use crate::bitmaps::{first_state, msr_area, msr_bitmap, port_bitmaps};
 use crate::tables::tables;
-use expand_grants::Grants;
+use expand_kernel::Grants;
 use muen_num::{NoMemory, Seq};
 use policy_lawful::resolved::Subject;
 use region_alloc::Placed;

@@ -7,18 +7,18 @@ use Rattle.std.specs.Option.{option_map_or}
 use Rattle.std.specs.Str.{bytes_eq}
 use Rattle.std.proofs.lemmas.Bool.{and_from, true≢false}
 use Rattle.std.proofs.lemmas.List.Elements.{All-from_recursion}
-use Rattle.machine_layout.specs.Memory.{over}
+use Rattle.guest_isa.specs.Memory.{over}
 use Rattle.muen_num.proofs.Each.{each_some, mapped}
 use Rattle.muen_num.proofs.Members.{In, all_in, any_in, find_in, map_some}
 use Rattle.muen_num.specs.declared.access.AccessKind.TheVariants.{Write}
 use Rattle.policy_lawful.specs.Dma.{dma_access, dma_windows, domain_of, domain_windows}
 use Rattle.policy_lawful.specs.Thing.{Thing, region, same_thing, state}
 use Rattle.policy_lawful.specs.Windows.{Window, access_by, byte, holds, region_window, violation, window}
-use Rattle.policy_types.specs.Rights.{allows}
-use Rattle.policy_types.specs.declared.source.Domain.{Domain}
-use Rattle.policy_types.specs.declared.source.Mapping.{Mapping}
-use Rattle.policy_types.specs.declared.source.Region.{Region}
-use Rattle.policy_types.specs.declared.source.Source.{Source}
+use Rattle.policy_lawful.specs.Rights.{allows}
+use Rattle.policy_lawful.specs.source.Domain.{Domain}
+use Rattle.policy_lawful.specs.source.Mapping.{Mapping}
+use Rattle.policy_lawful.specs.source.Region.{Region}
+use Rattle.policy_lawful.specs.source.Source.{Source}
 use Rattle.record_text.specs.DeviceRecord.{dma_input}
 use Rattle.subject_model.specs.Alone.{thing_in}
 use Rattle.subject_model.specs.Clock.{ByteWrite, line_writes, takes, with_byte, with_each, with_line, write_to}

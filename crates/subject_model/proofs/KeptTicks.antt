@@ -2,10 +2,10 @@
 use Rattle.std.proofs.Common.{◌≡◌, ℕ, Bool, true, List, [], ◌∷◌, Some, None, refl, ap, ◌∙◌, inl, inr}
 use Rattle.std.specs.Str.{bytes_eq}
 use Rattle.std.proofs.lemmas.Bool.{cases_Bool}
-use Rattle.machine_layout.specs.Pending.{without}
-use Rattle.policy_types.specs.declared.source.Source.{Source}
-use Rattle.policy_types.specs.declared.source.Subject.{Subject}
-use Rattle.state_page.specs.declared.state.SubjectState.{SubjectState}
+use Rattle.guest_isa.specs.Pending.{without}
+use Rattle.policy_lawful.specs.source.Source.{Source}
+use Rattle.policy_lawful.specs.source.Subject.{Subject}
+use Rattle.guest_isa.specs.state.SubjectState.{SubjectState}
 use Rattle.subject_model.specs.Alone.{own_of, solo_turn, vector_for, waits}
 use Rattle.subject_model.specs.ByKey.{change_of}
 use Rattle.subject_model.specs.Laws.{IsTurnOf, with_page}

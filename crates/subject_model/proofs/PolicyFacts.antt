@@ -13,8 +13,8 @@ use Rattle.policy_lawful.specs.Rules.{repeated}
 use Rattle.policy_lawful.proofs.Indexes.{found_at_index, position_is}
 use Rattle.policy_lawful.proofs.KeptRules.{rules_of}
 use Rattle.policy_lawful.proofs.UniqueNames.{unique}
-use Rattle.policy_types.specs.declared.source.Source.{Source}
-use Rattle.policy_types.specs.declared.source.Subject.{Subject}
+use Rattle.policy_lawful.specs.source.Source.{Source}
+use Rattle.policy_lawful.specs.source.Subject.{Subject}
 
 -- ---- what is found
 

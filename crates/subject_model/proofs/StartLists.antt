@@ -8,7 +8,7 @@ use Rattle.std.proofs.lemmas.Bool.Decides.{nat_tests}
 use Rattle.subject_model.specs.Alone.{thing_in}
 use Rattle.subject_model.specs.System.{named}
 use Rattle.policy_lawful.specs.Thing.{Thing, state, same_thing}
-use Rattle.policy_types.specs.declared.source.Subject.{Subject}
+use Rattle.policy_lawful.specs.source.Subject.{Subject}
 use Rattle.subject_model.proofs.KeyLaws.{same_things}
 
 -- ---- one value, over and over

@@ -5,22 +5,22 @@ use Rattle.std.specs.Str.{bytes_eq}
 use Rattle.expand_grants.specs.Resources.{are_granted}
 use Rattle.guest_isa.specs.Step.{MsrWrite, Stored, World, step}
 use Rattle.guest_isa.specs.declared.reach.Reach.TheVariants.{Reached}
-use Rattle.machine_layout.specs.Memory.{le_number}
+use Rattle.guest_isa.specs.Memory.{le_number}
 use Rattle.muen_num.specs.Range.{numbers_below}
 use Rattle.muen_num.proofs.ChangeLaws.{element_changes}
-use Rattle.machine_layout.specs.Pending.{with_vector}
+use Rattle.guest_isa.specs.Pending.{with_vector}
 use Rattle.muen_num.specs.declared.access.AccessKind.{AccessKind}
 use Rattle.muen_num.specs.declared.mode.EventMode.{EventMode}
 use Rattle.muen_num.specs.declared.mode.EventMode.TheVariants.{Asap, Async, Own as OwnMode, Switch}
 use Rattle.policy_lawful.specs.Events.{Raised, Target, event_of}
 use Rattle.policy_lawful.specs.Thing.{Thing, state, same_thing}
 use Rattle.policy_lawful.specs.Windows.{Access, access_of, byte, violation}
-use Rattle.policy_types.specs.declared.source.Source.{Source}
-use Rattle.policy_types.specs.declared.source.SourceWay.{SourceWay}
-use Rattle.policy_types.specs.declared.source.Subject.{Subject}
-use Rattle.state_page.specs.StatePage.{page_bytes}
+use Rattle.policy_lawful.specs.source.Source.{Source}
+use Rattle.policy_lawful.specs.source.SourceWay.{SourceWay}
+use Rattle.policy_lawful.specs.source.Subject.{Subject}
+use Rattle.guest_isa.specs.StatePage.{page_bytes}
 use Rattle.policy_lawful.specs.Frames.{group_of}
-use Rattle.state_page.specs.declared.state.SubjectState.{SubjectState}
+use Rattle.guest_isa.specs.state.SubjectState.{SubjectState}
 use Rattle.subject_model.specs.Alone.{Inbox, MsrValues, Own, OwnState, TurnAnswer, alone, bytes_in, delivered, input_byte, input_of, reach_by, solo_turn, stepped, thing_in, unless_delivered, vector_for, waits}
 use Rattle.subject_model.specs.Laws.{AreOthers, KeepsOthers, StoresElsewhere}
 use Rattle.subject_model.specs.System.{System, answered, happens, happens_as, named, pends_now, raised_by, took, with_active, with_own, with_store, with_write}

@@ -10,7 +10,7 @@ use Rattle.guest_isa.specs.declared.end.StepEnd.{StepEnd}
 use Rattle.guest_isa.specs.declared.end.StepEnd.TheVariants as ends
 use Rattle.guest_isa.specs.declared.reach.Reach.{Reach}
 use Rattle.guest_isa.specs.declared.reach.Reach.TheVariants.{Reached, Refused}
-use Rattle.machine_layout.specs.Memory.{le_number}
+use Rattle.guest_isa.specs.Memory.{le_number}
 use Rattle.muen_num.specs.Access.{kind_bit}
 use Rattle.muen_num.specs.Range.{numbers_below}
 use Rattle.muen_num.specs.declared.access.AccessKind.{AccessKind}
@@ -18,12 +18,12 @@ use Rattle.muen_num.specs.declared.limits.TheConstants.{EXIT_EPT_VIOLATION, EXIT
 use Rattle.policy_lawful.specs.Events.{traps_of}
 use Rattle.policy_lawful.specs.Thing.{Thing, same_thing}
 use Rattle.policy_lawful.specs.Windows.{Window, Access, byte, violation, access_of, windows_of}
-use Rattle.policy_types.specs.Rights.{found_bits}
-use Rattle.policy_types.specs.declared.source.Source.{Source}
-use Rattle.policy_types.specs.declared.source.SourceWay.{SourceWay}
-use Rattle.policy_types.specs.declared.source.SourceWay.TheVariants.{Call, Trap}
-use Rattle.policy_types.specs.declared.source.Subject.{Subject}
-use Rattle.state_page.specs.declared.state.SubjectState.{SubjectState}
+use Rattle.policy_lawful.specs.Rights.{found_bits}
+use Rattle.policy_lawful.specs.source.Source.{Source}
+use Rattle.policy_lawful.specs.source.SourceWay.{SourceWay}
+use Rattle.policy_lawful.specs.source.SourceWay.TheVariants.{Call, Trap}
+use Rattle.policy_lawful.specs.source.Subject.{Subject}
+use Rattle.guest_isa.specs.state.SubjectState.{SubjectState}
 use Rattle.view_text.specs.declared.ExitEnd.{ExitEnd}
 use Rattle.view_text.specs.declared.ExitEnd.TheVariants.{On, Halt, Trap as Trapped, Stop}
 use Rattle.view_text.specs.declared.TurnAction.{TurnAction}

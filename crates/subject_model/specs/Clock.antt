@@ -11,8 +11,8 @@ use Rattle.policy_lawful.specs.Events.{Target, irq_of}
 use Rattle.policy_lawful.specs.Frames.{frames_of}
 use Rattle.policy_lawful.specs.Thing.{Thing, region, device_memory}
 use Rattle.policy_lawful.specs.Windows.{Access, byte, violation}
-use Rattle.policy_types.specs.declared.source.Source.{Source}
-use Rattle.policy_types.specs.declared.source.Tau0.{Tau0}
+use Rattle.policy_lawful.specs.source.Source.{Source}
+use Rattle.policy_lawful.specs.source.Tau0.{Tau0}
 use Rattle.record_text.specs.DeviceRecord.{DeviceRecord, NamedInput, port_input, memory_input, irq_input, dma_input}
 use Rattle.frame_clock.specs.Run.{Clocked, Ran, run_to}
 use Rattle.view_text.specs.declared.TurnLine.{TurnLine}

@@ -8,10 +8,10 @@ use Rattle.frame_clock.specs.Slot.{Slot}
 use Rattle.muen_num.specs.Frame.{Frame}
 use Rattle.policy_lawful.specs.Frames.{frames_of}
 use Rattle.policy_lawful.specs.Thing.{Thing, state}
-use Rattle.policy_types.specs.declared.source.Source.{Source}
-use Rattle.policy_types.specs.declared.source.Subject.{Subject}
-use Rattle.state_page.specs.StatePage.{page_bytes}
-use Rattle.state_page.specs.declared.state.SubjectState.{SubjectState}
+use Rattle.policy_lawful.specs.source.Source.{Source}
+use Rattle.policy_lawful.specs.source.Subject.{Subject}
+use Rattle.guest_isa.specs.StatePage.{page_bytes}
+use Rattle.guest_isa.specs.state.SubjectState.{SubjectState}
 use Rattle.subject_model.specs.Alone.{MsrValues}
 use Rattle.subject_model.specs.System.{System, change_thing, named, state_of, subject_named}
 

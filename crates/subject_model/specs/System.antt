@@ -10,8 +10,8 @@ use Rattle.frame_clock.specs.declared.frame_at.FrameAt.{FrameAt}
 use Rattle.guest_isa.specs.Step.{Stored, MsrWrite}
 use Rattle.frame_clock.specs.Slot.{Slot}
 use Rattle.muen_num.specs.ListChange.{change_at}
-use Rattle.machine_layout.specs.Memory.{over}
-use Rattle.machine_layout.specs.Pending.{without, with_vector}
+use Rattle.guest_isa.specs.Memory.{over}
+use Rattle.guest_isa.specs.Pending.{without, with_vector}
 use Rattle.muen_num.specs.declared.limits.TheConstants.{LAST_PORT}
 use Rattle.muen_num.specs.declared.mode.EventMode.{EventMode}
 use Rattle.muen_num.specs.declared.mode.EventMode.TheVariants.{Asap, Async, Own as OwnMode, Switch}
@@ -20,12 +20,12 @@ use Rattle.policy_lawful.specs.Events.{Raised, Target, event_of}
 use Rattle.policy_lawful.specs.Frames.{first_member, frames_of, group_of}
 use Rattle.policy_lawful.specs.Thing.{Thing, state, same_thing, things_of}
 use Rattle.policy_lawful.specs.Windows.{Window, windows_of}
-use Rattle.policy_types.specs.declared.source.Source.{Source}
-use Rattle.policy_types.specs.declared.source.SourceWay.{SourceWay}
-use Rattle.policy_types.specs.declared.source.Subject.{Subject}
-use Rattle.state_page.specs.StatePage.{page_bytes, state_in}
-use Rattle.state_page.specs.States.{started}
-use Rattle.state_page.specs.declared.state.SubjectState.{SubjectState}
+use Rattle.policy_lawful.specs.source.Source.{Source}
+use Rattle.policy_lawful.specs.source.SourceWay.{SourceWay}
+use Rattle.policy_lawful.specs.source.Subject.{Subject}
+use Rattle.guest_isa.specs.StatePage.{page_bytes, state_in}
+use Rattle.guest_isa.specs.States.{started}
+use Rattle.guest_isa.specs.state.SubjectState.{SubjectState}
 use Rattle.frame_clock.specs.Run.{Turned}
 use Rattle.view_text.specs.declared.TurnLine.{TurnLine}
 use Rattle.view_text.specs.declared.TurnAction.{TurnAction}

@@ -4,11 +4,11 @@ use Rattle.std.specs.List.{flat_map}
 use Rattle.sha2.specs.Sha256.{sha256}
 use Rattle.policy_lawful.specs.Contents.{Held}
 use Rattle.policy_lawful.specs.Thing.{Thing, things_of, is_device, thing_tag}
-use Rattle.policy_types.specs.declared.source.Source.{Source}
-use Rattle.policy_types.specs.declared.source.Subject.{Subject}
+use Rattle.policy_lawful.specs.source.Source.{Source}
+use Rattle.policy_lawful.specs.source.Subject.{Subject}
 use Rattle.record_text.specs.DeviceRecord.{DeviceRecord}
 use Rattle.view_text.specs.ViewText.{rows_text, turn_text, region_text}
-use Rattle.state_page.specs.declared.state.SubjectState.{SubjectState}
+use Rattle.guest_isa.specs.state.SubjectState.{SubjectState}
 use Rattle.subject_model.specs.Alone.{bytes_in}
 use Rattle.subject_model.specs.System.{System, state_of}
 use Rattle.subject_model.specs.Clock.{run_of}

@@ -5,10 +5,10 @@ use Rattle.std.specs.List.{find}
 use Rattle.std.specs.Str.{bytes_eq}
 use Rattle.muen_num.specs.Range.{numbers_below}
 use Rattle.policy_lawful.specs.Contents.{Held}
-use Rattle.policy_types.specs.declared.source.Source.{Source}
-use Rattle.policy_types.specs.declared.source.Subject.{Subject}
+use Rattle.policy_lawful.specs.source.Source.{Source}
+use Rattle.policy_lawful.specs.source.Subject.{Subject}
 use Rattle.record_text.specs.DeviceRecord.{DeviceRecord}
-use Rattle.state_page.specs.declared.state.SubjectState.{SubjectState}
+use Rattle.guest_isa.specs.state.SubjectState.{SubjectState}
 use Rattle.frame_clock.specs.Run.{Ran, run_to, tick_ran}
 use Rattle.view_text.specs.declared.TurnLine.{TurnLine}
 use Rattle.subject_model.specs.Alone.{MsrValues, Things}

@@ -1,6 +1,6 @@
 //! Documents, with the text of the first place that breaks the schema, or with none.
 use policy_json::read;
-use policy_types::Refusal;
+use policy_lawful::Refusal;
 use std::alloc::Global;
 use std::test::Fail;
 

@@ -1,5 +1,5 @@
 //! The rights against the bits of an EPT entry.
-use policy_types::Rights;
+use policy_lawful::Rights;
 
 #[test]
 fn has_the_bits_of_an_ept_entry(rt: HostRuntime) {

@@ -1,6 +1,6 @@
 //! Values, with what they stand for.
 use muen_num::EventMode;
-use policy_types::{MsrRights, Role};
+use policy_lawful::{MsrRights, Role};
 use policy_values::{byte_of, mode_of, msr_rights_of, number_of, rights_of, role_of};
 use serde_json::Value;
 use std::alloc::Global;

@@ -2,9 +2,8 @@
 ghost use Rattle.std.specs.Prelude.{◌≡◌, IfOk};
 ghost use Rattle.device_bench.specs.Devices.{IsInOrder};
 
-use device_bench::{Bench, Effect};
+use device_bench::{Bench, Effect, Record, TickInput, TickOrder};
 use muen_num::{AccessSize, Seq};
-use record_text::{Record, TickInput, TickOrder};
 use std::alloc::Global;
 use std::test::Fail;
 

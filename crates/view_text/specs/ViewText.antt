@@ -8,7 +8,7 @@ use Rattle.muen_num.specs.Fixed.{hex4, hex8, hex16}
 use Rattle.muen_num.specs.AccessSize.{bytes_of}
 use Rattle.muen_num.specs.Tag.{tag_text}
 use Rattle.muen_num.specs.declared.tag.Tag.{Tag}
-use Rattle.state_page.specs.declared.state.SubjectState.{SubjectState}
+use Rattle.guest_isa.specs.state.SubjectState.{SubjectState}
 use Rattle.view_text.specs.declared.TurnLine.{TurnLine}
 use Rattle.view_text.specs.declared.TurnAction.{TurnAction}
 use Rattle.view_text.specs.declared.TurnAction.TheVariants.{Ran, Inject, Exit}

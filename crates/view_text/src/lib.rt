@@ -4,12 +4,11 @@
 ghost use Rattle.std.specs.Prelude.{◌≡◌, ◌+◌, ◌≤◌, ◌++◌, length, take};
 ghost use Rattle.view_text.specs.ViewText.{turn_text, what_text, change_text, exit_end_text, flags_of, state_text, end_line_text, registers_text, region_text, kind_word};
 
-use guest_isa::Change;
+use guest_isa::{Change, SubjectState};
 use muen_num::text::{
     append, append_decimal8, append_decimal32, append_hex4, append_hex8, append_hex16, append_hex32,
 };
 use muen_num::{AccessSize, Name, Tag};
-use state_page::SubjectState;
 
 /// The line of a turn.
 #[derive(Clone, Copy, Debug, PartialEq, Eq)]
@@ -282,3 +281,5 @@ fn kind_word(device: bool) -> &'static [u8]
 {
     if device { b"device" } else { b"region" }
 }
+
+pub use state_page::SubjectState;

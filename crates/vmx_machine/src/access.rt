@@ -9,14 +9,13 @@ use crate::bus::Bus;
 use crate::control::Control;
 use crate::msr_file::MsrFile;
 use device_bench::Bench;
-use ept_walk::Translate;
+use ept_walk::{PhysMem, Translate};
 use guest_isa::Reach;
 use machine_layout::{Walk, msr_exits, port_exits};
 use muen_num::limits::{
     EXIT_EPT_MISCONFIGURATION, EXIT_EPT_VIOLATION, EXIT_EXCEPTION, GUEST_END, PAGE,
 };
 use muen_num::{AccessKind, AccessSize};
-use phys_mem::PhysMem;
 
 /// The bit of an EPT violation's qualification at which the rights found begin.
 const FOUND: u64 = 1 << 3;

@@ -11,11 +11,10 @@ ghost use Rattle.vmx_machine.specs.Within.{IsWithin};
 
 use crate::cpu::Entered;
 use crate::msr_file::MsrFile;
-use ept_walk::Translate;
+use ept_walk::{PhysMem, Translate};
 use machine_layout::{AREA_ENTRY, AREA_VALUE};
 use muen_num::AccessSize;
 use muen_num::limits::PAGE;
-use phys_mem::PhysMem;
 use state_page::SubjectState;
 use std::marker::Model;
 

@@ -6,10 +6,9 @@ ghost use Rattle.vmx_machine.specs.Machine.{fresh, put_on, put_off_by, with_stat
 use crate::bus::Bus;
 use crate::control::Control;
 use crate::msr_file::MsrFile;
-use ept_walk::Translate;
+use ept_walk::{PhysMem, Translate};
 use guest_isa::{Finish, inject};
 use muen_num::NoMemory;
-use phys_mem::PhysMem;
 use state_page::SubjectState;
 use std::alloc::Global;
 

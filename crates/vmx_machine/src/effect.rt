@@ -5,11 +5,10 @@ ghost use Rattle.vmx_machine.specs.Machine.{load_answer, store_answer, with_stor
 
 use crate::bus::Bus;
 use crate::cpu::Entered;
-use ept_walk::Translate;
+use ept_walk::{PhysMem, Translate};
 use guest_isa::{Change, Reach, StepEnd, with_register};
 use muen_num::limits::{EXIT_IO, EXIT_RDMSR};
 use muen_num::{AccessKind, AccessSize};
-use phys_mem::PhysMem;
 use state_page::SubjectState;
 
 /// The bit of the qualification of a port access for input.

@@ -9,11 +9,10 @@ use crate::effect::{
     Done, exits, faulted, load, msr_read, port_qualification, port_read, sets, store, went_on,
 };
 use device_bench::Bench;
-use ept_walk::Translate;
+use ept_walk::{PhysMem, Translate};
 use guest_isa::{Asked, Change, Reach, StepEnd, Wish, ask, decode};
 use muen_num::limits::{EXIT_EXCEPTION, EXIT_HLT, EXIT_IO, EXIT_VMCALL, EXIT_WRMSR};
 use muen_num::{AccessKind, AccessSize};
-use phys_mem::PhysMem;
 
 impl Cpu {
     // An instruction's wish is met, or it exits.

@@ -2,7 +2,7 @@ use Rattle.std.proofs.Common.{sym, subst}
 use Rattle.std.proofs.lemmas.Result.{err_from_is_err_and}
 use Rattle.muen_num.specs.Answers.{Answers}
 use Rattle.policy_lawful.specs.Resolution.{kept_source, source_of}
-use Rattle.policy_types.specs.declared.refusal.Refusal.TheVariants.{NoMemory}
+use Rattle.policy_lawful.specs.refusal.Refusal.TheVariants.{NoMemory}
 use Rattle.muen_build.proofs.Refusing.{not_read, not_resolved, rules_decide}
 use Rattle.muen_build.proofs.lawful.Goals as goal
 

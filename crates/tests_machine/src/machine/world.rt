@@ -3,12 +3,11 @@
 //! state page and the MSR area of another subject. A device's page is at 2 GiB.
 ghost use Rattle.std.specs.Prelude.{◌≡◌, ◌<◌, ◌^◌, length, IfOk};
 
-use device_bench::Bench;
+use device_bench::{Bench, Record};
 use ept_walk::PlainWalk;
 use guest_isa::{Change, StepEnd};
 use muen_num::{AccessSize, Seq};
 use phys_mem::{MemorySpan, PhysMem, RegionMem};
-use record_text::Record;
 use std::alloc::Global;
 use std::test::Fail;
 use vmx_machine::{Control, Machine};

@@ -7,7 +7,7 @@ use Rattle.image_soundness.specs.Memory.{bytes_at}
 use Rattle.machine_layout.specs.Exits.{area_index, area_value}
 use Rattle.muen_num.specs.Range.{numbers_below}
 use Rattle.muen_num.specs.declared.limits.TheConstants.{PAGE}
-use Rattle.policy_types.specs.declared.resources.MsrGrant.{MsrGrant}
+use Rattle.policy_lawful.specs.resources.MsrGrant.{MsrGrant}
 use Rattle.image_checks.proofs.areas.area_agrees.Goals as goal
 
 pub returns-then-not-are_zeros : goal.returns-then-not-are_zeros

@@ -7,7 +7,7 @@ use Rattle.image_pack.specs.declared.parts.Image.{Image}
 use Rattle.image_pack.specs.declared.parts.SubjectPart.{SubjectPart}
 use Rattle.image_soundness.specs.Sound.{HasArea}
 use Rattle.policy_lawful.specs.Resolution.{source_of}
-use Rattle.policy_types.specs.declared.source.Subject.{Subject}
+use Rattle.policy_lawful.specs.source.Subject.{Subject}
 use Rattle.image_checks.proofs.areas.first_by_area.Goals as goal
 
 pub returns-then-not-branch : goal.returns-then-not-branch

@@ -3,7 +3,7 @@ use Rattle.std.specs.Prelude.{slice_index_or, zip}
 use Rattle.image_pack.specs.declared.parts.SubjectPart.{SubjectPart}
 use Rattle.image_soundness.specs.Sound.{HasArea}
 use Rattle.policy_lawful.specs.Resolution.{source_of}
-use Rattle.policy_types.specs.declared.source.Subject.{Subject}
+use Rattle.policy_lawful.specs.source.Subject.{Subject}
 use Rattle.image_checks.proofs.areas.first_by_area.Given as goal
 
 -- those so far have their areas

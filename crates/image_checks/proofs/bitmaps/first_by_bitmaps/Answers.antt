@@ -9,7 +9,7 @@ use Rattle.image_soundness.specs.Sound.{HasBitmaps}
 use Rattle.policy_lawful.specs.MoreRules.{offence_11}
 use Rattle.policy_lawful.specs.Resolution.{Resolution, source_of}
 use Rattle.policy_lawful.proofs.KeptRules.{rules_of}
-use Rattle.policy_types.specs.declared.source.Subject.{Subject}
+use Rattle.policy_lawful.specs.source.Subject.{Subject}
 use Rattle.image_checks.proofs.bitmaps.first_by_bitmaps.Goals as goal
 
 pub returns-then-not-branch : goal.returns-then-not-branch

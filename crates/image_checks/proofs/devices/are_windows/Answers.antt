@@ -4,7 +4,7 @@ use Rattle.image_checks.proofs.devices.are_windows.Goals as goal
 use Rattle.image_checks.specs.Agreement.{IsWindowOf}
 use Rattle.image_checks.specs.PlanFault.{AgreesAt}
 use Rattle.image_pack.specs.declared.parts.WindowPart.{WindowPart}
-use Rattle.policy_types.specs.declared.source.DeviceMemory.{DeviceMemory}
+use Rattle.policy_lawful.specs.source.DeviceMemory.{DeviceMemory}
 
 pub returns-then-memories-windows : goal.returns-then-memories-windows
 returns-then-memories-windows c =

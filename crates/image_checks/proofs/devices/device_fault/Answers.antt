@@ -7,7 +7,7 @@ use Rattle.image_pack.specs.declared.parts.Image.{Image}
 use Rattle.image_soundness.specs.Sound.{IsDeviceOf}
 use Rattle.policy_lawful.specs.Lawful.{IsLawful}
 use Rattle.policy_lawful.specs.Resolution.{Resolution, source_of}
-use Rattle.policy_types.specs.declared.source.Device.{Device}
+use Rattle.policy_lawful.specs.source.Device.{Device}
 
 pub devices-requires : goal.devices-requires
 devices-requires c =

@@ -4,7 +4,7 @@ use Rattle.image_checks.proofs.devices.first_other.Goals as goal
 use Rattle.image_checks.specs.PlanFault.{AgreesAt}
 use Rattle.image_soundness.specs.Sound.{IsDeviceOf}
 use Rattle.policy_lawful.specs.Resolution.{Resolution, source_of}
-use Rattle.policy_types.specs.declared.source.Device.{Device}
+use Rattle.policy_lawful.specs.source.Device.{Device}
 
 pub returns-then-not-is_device : goal.returns-then-not-is_device
 returns-then-not-is_device c =

@@ -3,7 +3,7 @@ use Rattle.image_checks.proofs.DevicesTold.{device_told, made_long}
 use Rattle.image_checks.proofs.devices.is_device.Goals as goal
 use Rattle.image_pack.specs.declared.parts.DevicePart.{DevicePart}
 use Rattle.policy_lawful.specs.Resolution.{IsResolved, Resolution}
-use Rattle.policy_types.specs.declared.source.Device.{Device}
+use Rattle.policy_lawful.specs.source.Device.{Device}
 use Rattle.std.proofs.Common.{List}
 
 pub bounds-made-index : goal.bounds-made-index

@@ -6,7 +6,7 @@ use Rattle.image_checks.specs.Agreement.{subjects_of_both}
 use Rattle.image_pack.specs.declared.parts.SubjectPart.{SubjectPart}
 use Rattle.image_soundness.specs.Sound.{IsSubjectOf}
 use Rattle.policy_lawful.specs.Resolution.{source_of}
-use Rattle.policy_types.specs.declared.source.Subject.{Subject}
+use Rattle.policy_lawful.specs.source.Subject.{Subject}
 
 pub returns-then-not-is_subject : goal.returns-then-not-is_subject
 returns-then-not-is_subject c =

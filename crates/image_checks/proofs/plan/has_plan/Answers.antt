@@ -7,7 +7,7 @@ use Rattle.image_checks.specs.PlanFault.{HasChoice}
 use Rattle.image_pack.specs.declared.parts.Image.{Image}
 use Rattle.plan_emit.specs.PlanOf.{IsPlanOf}
 use Rattle.policy_lawful.specs.Resolution.{Resolution, source_of}
-use Rattle.policy_types.specs.declared.source.Processor.{Processor}
+use Rattle.policy_lawful.specs.source.Processor.{Processor}
 
 pub returns-then-from-cpus : goal.returns-then-from-cpus
 returns-then-from-cpus c =

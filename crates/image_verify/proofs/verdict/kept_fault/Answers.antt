@@ -9,7 +9,7 @@ use Rattle.image_verify.proofs.Deciding.{all_hold, in_common, in_zip, plan_fails
 use Rattle.image_verify.specs.Verdict.{common, plan_owner}
 use Rattle.muen_num.specs.Range.{numbers_below}
 use Rattle.policy_lawful.specs.Resolution.{Resolution, source_of}
-use Rattle.policy_types.specs.declared.source.Subject.{Subject}
+use Rattle.policy_lawful.specs.source.Subject.{Subject}
 use Rattle.image_verify.proofs.verdict.kept_fault.Goals as goal
 
 pub fails_for-requires : goal.fails_for-requires

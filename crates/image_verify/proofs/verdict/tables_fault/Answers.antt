@@ -6,7 +6,7 @@ use Rattle.ept_check.specs.declared.types.SubjectTables.{SubjectTables}
 use Rattle.image_soundness.specs.Memory.{memory_of}
 use Rattle.image_verify.proofs.Deciding.{fault_within, same_tables}
 use Rattle.image_verify.specs.Verdict.{named, tables_of}
-use Rattle.machine_layout.specs.Memory.{Page}
+use Rattle.ept_check.specs.Memory.{Page}
 use Rattle.phys_mem.specs.Found.{pages_kept}
 use Rattle.policy_lawful.specs.Resolution.{Resolution}
 use Rattle.proof_start.proofs.MemoryFacts.{same_memory}

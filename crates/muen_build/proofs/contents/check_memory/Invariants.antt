@@ -1,5 +1,5 @@
 -- What is known while they are gone through.
-use Rattle.policy_types.specs.declared.source.Region.{Region}
+use Rattle.policy_lawful.specs.source.Region.{Region}
 use Rattle.muen_build.specs.Accepting.{filled_names, of_filled, given_files}
 use Rattle.muen_build.specs.Filling.{filled_region}
 use Rattle.muen_build.proofs.Checking.{Passing}

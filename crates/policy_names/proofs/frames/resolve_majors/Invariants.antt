@@ -4,7 +4,7 @@ use Rattle.std.specs.List.{list_all, enumerate_from}
 use Rattle.muen_num.specs.Search.{first_in}
 use Rattle.policy_lawful.specs.Resolution.{major_in_range, major_named}
 use Rattle.policy_lawful.specs.Rules.{frame_references, major_name, undeclared}
-use Rattle.policy_types.specs.declared.source.MajorFrame.{MajorFrame}
+use Rattle.policy_lawful.specs.source.MajorFrame.{MajorFrame}
 use Rattle.policy_names.specs.Outline.{outline}
 use Rattle.policy_names.proofs.frames.resolve_majors.Given as goal
 

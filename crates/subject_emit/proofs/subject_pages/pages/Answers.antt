@@ -1,6 +1,6 @@
 use Rattle.std.proofs.Common.{◌≤◌, not, sym, ap, subst, ◌∙◌}
 use Rattle.std.specs.List.{list_all}
-use Rattle.expand_grants.specs.Grants.{AreGrantsOf}
+use Rattle.expand_kernel.specs.Grants.{AreGrantsOf}
 use Rattle.iobm_emit.specs.Ports.{is_granted_access}
 use Rattle.machine_layout.specs.Exits.{area_bytes}
 use Rattle.msrbm_emit.specs.Area.{area_of, count_of}

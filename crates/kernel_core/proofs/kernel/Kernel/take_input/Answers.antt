@@ -2,7 +2,7 @@ use Rattle.std.proofs.Common.{◌∙◌, List, Some, length, map, sym, ap, arith
 use Rattle.std.specs.Prelude.{option_map, slice_get}
 use Rattle.device_bench.specs.declared.effect.Effect.{Effect}
 use Rattle.device_bench.specs.declared.effect.Effect.TheVariants.{Mem}
-use Rattle.record_text.specs.declared.record.TickInput.{TickInput}
+use Rattle.device_bench.specs.record.TickInput.{TickInput}
 use Rattle.kernel_core.proofs.Orders.{low_input}
 use Rattle.kernel_core.proofs.kernel.Kernel.take_input.Goals as goal
 
