@@ -281,5 +281,3 @@ fn kind_word(device: bool) -> &'static [u8]
 {
     if device { b"device" } else { b"region" }
 }
-
-pub use state_page::SubjectState;
