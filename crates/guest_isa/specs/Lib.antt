@@ -1,5 +1,3 @@
-pub use Rattle.machine_layout.specs.Memory
-pub use Rattle.machine_layout.specs.Pending
 pub use Rattle.state_page.specs.StatePage
 pub use Rattle.state_page.specs.States
 pub use Rattle.state_page.specs.declared.state

@@ -7,7 +7,7 @@ use Rattle.std.specs.Option.{option_map_or}
 use Rattle.std.specs.Str.{bytes_eq}
 use Rattle.std.proofs.lemmas.Bool.{and_from, true≢false}
 use Rattle.std.proofs.lemmas.List.Elements.{All-from_recursion}
-use Rattle.guest_isa.specs.Memory.{over}
+use Rattle.machine_layout.specs.Memory.{over}
 use Rattle.muen_num.proofs.Each.{each_some, mapped}
 use Rattle.muen_num.proofs.Members.{In, all_in, any_in, find_in, map_some}
 use Rattle.muen_num.specs.declared.access.AccessKind.TheVariants.{Write}

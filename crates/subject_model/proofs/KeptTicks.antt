@@ -2,7 +2,7 @@
 use Rattle.std.proofs.Common.{◌≡◌, ℕ, Bool, true, List, [], ◌∷◌, Some, None, refl, ap, ◌∙◌, inl, inr}
 use Rattle.std.specs.Str.{bytes_eq}
 use Rattle.std.proofs.lemmas.Bool.{cases_Bool}
-use Rattle.guest_isa.specs.Pending.{without}
+use Rattle.machine_layout.specs.Pending.{without}
 use Rattle.policy_lawful.specs.source.Source.{Source}
 use Rattle.policy_lawful.specs.source.Subject.{Subject}
 use Rattle.guest_isa.specs.state.SubjectState.{SubjectState}

@@ -5,10 +5,10 @@ use Rattle.std.specs.Str.{bytes_eq}
 use Rattle.expand_grants.specs.Resources.{are_granted}
 use Rattle.guest_isa.specs.Step.{MsrWrite, Stored, World, step}
 use Rattle.guest_isa.specs.declared.reach.Reach.TheVariants.{Reached}
-use Rattle.guest_isa.specs.Memory.{le_number}
+use Rattle.machine_layout.specs.Memory.{le_number}
 use Rattle.muen_num.specs.Range.{numbers_below}
 use Rattle.muen_num.proofs.ChangeLaws.{element_changes}
-use Rattle.guest_isa.specs.Pending.{with_vector}
+use Rattle.machine_layout.specs.Pending.{with_vector}
 use Rattle.muen_num.specs.declared.access.AccessKind.{AccessKind}
 use Rattle.muen_num.specs.declared.mode.EventMode.{EventMode}
 use Rattle.muen_num.specs.declared.mode.EventMode.TheVariants.{Asap, Async, Own as OwnMode, Switch}

@@ -10,7 +10,7 @@ use Rattle.guest_isa.specs.declared.end.StepEnd.{StepEnd}
 use Rattle.guest_isa.specs.declared.end.StepEnd.TheVariants as ends
 use Rattle.guest_isa.specs.declared.reach.Reach.{Reach}
 use Rattle.guest_isa.specs.declared.reach.Reach.TheVariants.{Reached, Refused}
-use Rattle.guest_isa.specs.Memory.{le_number}
+use Rattle.machine_layout.specs.Memory.{le_number}
 use Rattle.muen_num.specs.Access.{kind_bit}
 use Rattle.muen_num.specs.Range.{numbers_below}
 use Rattle.muen_num.specs.declared.access.AccessKind.{AccessKind}

@@ -1,5 +1,5 @@
-pub use Rattle.guest_isa.specs.Memory
-pub use Rattle.guest_isa.specs.Pending
+pub use Rattle.machine_layout.specs.Memory
+pub use Rattle.machine_layout.specs.Pending
 pub use Rattle.record_text.specs.DeviceRecord
 pub use Rattle.record_text.specs.Reading
 pub use Rattle.expand_grants.specs.Resources

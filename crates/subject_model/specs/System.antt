@@ -10,8 +10,8 @@ use Rattle.frame_clock.specs.declared.frame_at.FrameAt.{FrameAt}
 use Rattle.guest_isa.specs.Step.{Stored, MsrWrite}
 use Rattle.frame_clock.specs.Slot.{Slot}
 use Rattle.muen_num.specs.ListChange.{change_at}
-use Rattle.guest_isa.specs.Memory.{over}
-use Rattle.guest_isa.specs.Pending.{without, with_vector}
+use Rattle.machine_layout.specs.Memory.{over}
+use Rattle.machine_layout.specs.Pending.{without, with_vector}
 use Rattle.muen_num.specs.declared.limits.TheConstants.{LAST_PORT}
 use Rattle.muen_num.specs.declared.mode.EventMode.{EventMode}
 use Rattle.muen_num.specs.declared.mode.EventMode.TheVariants.{Asap, Async, Own as OwnMode, Switch}

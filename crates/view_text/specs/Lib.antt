@@ -1,3 +1,3 @@
-pub use Rattle.state_page.specs.StatePage
-pub use Rattle.state_page.specs.declared.state
+pub use Rattle.guest_isa.specs.StatePage
+pub use Rattle.guest_isa.specs.state
 pub mod ViewText
