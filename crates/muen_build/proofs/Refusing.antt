@@ -5,7 +5,7 @@ use Rattle.muen_num.specs.Answers.{Answers}
 use Rattle.muen_num.specs.Search.{first_of}
 use Rattle.muen_num.proofs.SearchLaws.{none_both, option_or-None}
 use Rattle.policy_json.specs.Document.{policy_of}
-use Rattle.policy_lawful.specs.Lawful.{kept_or, unlawful}
+use Rattle.policy_lawful.specs.Lawful.{IsLawful, kept_or, unlawful}
 use Rattle.policy_names.specs.Names.{names_broken}
 use Rattle.policy_names.proofs.Resolved.{names_first}
 use Rattle.policy_lawful.specs.Contents.{Held}
@@ -91,6 +91,18 @@ accepted_reads files (Ok p) q e =
 accepted_built : (files : Held) (bytes : List ℕ) (q : Source) → accepted_policy_of files bytes ≡ Ok q → (lawful_policy_of bytes ≡ Ok q) × (build_refused files q ≡ None)
 unfolding lawful_policy_of accepted_policy_of
 accepted_built files bytes q e = accepted_reads files (policy_of bytes) q e
+
+lawful_reads : (files : Held) (answer : Result Source Refusal) (q : Source) → accepted files answer ≡ Ok q → IsLawful q
+unfolding refusal_of
+lawful_reads files (Err r) q e = absurd (cc)
+lawful_reads files (Ok p) q e =
+    let k = kept_is p q (first_of (unlawful p ∷ build_refused files p ∷ [])) e in
+    ap unlawful (sym k.1) ∙ (none_both (unlawful p) (option_or (build_refused files p) None) k.0).0
+
+-- a policy that is accepted keeps every rule
+pub accepted_lawful : (files : Held) (bytes : List ℕ) (q : Source) → accepted_policy_of files bytes ≡ Ok q → IsLawful q
+unfolding accepted_policy_of
+accepted_lawful files bytes q e = lawful_reads files (policy_of bytes) q e
 
 -- a policy that is accepted is lawful, its contents fit, and there is room for it
 pub record IsBuilt (files : Held) (bytes : List ℕ) (q : Source) : Type 0 where

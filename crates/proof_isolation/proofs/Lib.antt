@@ -16,3 +16,4 @@ mod MergedInputs
 mod MergedTurns
 mod TwoSystems
 mod TwoTexts
+pub mod TwoEnds

@@ -46,14 +46,14 @@ use Rattle.subject_model.proofs.DeviceWrites.{line_things}
 use Rattle.subject_model.proofs.PolicyFacts.{found_by_name}
 use Rattle.subject_model.proofs.StartLists.{named_map}
 use Rattle.subject_model.specs.Alone.{own_of, thing_in}
-use Rattle.subject_model.specs.Clock.{begins, inputs_at, line_writes, order_at, pick_in, system, takes, ticks_of_majors}
+use Rattle.subject_model.specs.Clock.{begins, inputs_at, line_writes, order_at, pick_in, run_of, system, takes, ticks_of_majors}
 use Rattle.subject_model.specs.System.{System, is_shown, named, start_of, subject_named, system_turn}
 use Rattle.subject_model.specs.View.{Seen, ran_through, seen_in, through, view_of}
 use Rattle.proof_views.proofs.ActiveMembers.{begun_listed}
 use Rattle.proof_views.proofs.StatePages.{first_paged}
 use Rattle.proof_views.proofs.Unmoved.{by_irq}
 use Rattle.proof_isolation.specs.Agree.{Agree, AgreeOnFrames, WritesTheSame, chosen, holds_member, is_first, own_slot, plain_frame, touches, unchosen}
-use Rattle.proof_isolation.specs.Alike.{AreAlike, AreSameViews, is_active}
+use Rattle.proof_isolation.specs.Alike.{AreAlike, AreAlikeFor, AreSameViews, is_active}
 use Rattle.proof_isolation.proofs.Alike.{same_cpu, same_entry, same_member, same_name, same_windows}
 use Rattle.proof_isolation.proofs.CpuTurns.{SameSlots}
 use Rattle.proof_isolation.proofs.Inboxes.{shown_alike}
@@ -317,6 +317,13 @@ same_views p q f g r t members lawful lawful_too closed closed_too agree s w mem
     let same_b : seen_in q w (ran_through q g t w.cpu n) ≡ b = cc (right) in
     subst (λ v. AreSameViews v b) same_a (subst (AreSameViews (seen_in p s (ran_through p f r s.cpu n))) same_b
     (in_tick p q lawful lawful_too members closed closed_too f g r t (min r.end t.end) agree s member found n under w is))
+
+-- after as many ticks they are alike
+pub ends_alike : (p q : Source) → IsLawful p → IsLawful q → (members : List (List ℕ)) → IsClosed p members → IsClosed q members → (f g : Held) (r t : DeviceRecord) → Agree members p q f g r t r.end → t.end ≡ r.end → AreAlike p q members (run_of p f r).state (run_of q g t).state
+unfolding run_of
+ends_alike p q lawful lawful_too members closed closed_too f g r t agree ends m member found =
+    subst (λ n. AreAlikeFor p q m (run_of p f r).state (run_to (system q) (inputs_at t) (order_at q t) n (start_of q g)).state) (sym ends)
+    ((runs p q lawful lawful_too members closed closed_too f g r t r.end agree m member found r.end (omega arith)).0 m member found)
 
 -- the set of a subject has it and is closed
 pub same_by_flows : (p q : Source) (f g : Held) (r t : DeviceRecord) (s w : Subject) → IsLawful p → IsLawful q → subject_named p s.name ≡ Some s → subject_named q s.name ≡ Some w → IsClosed q (closure_of p s.name) → Agree (closure_of p s.name) p q f g r t (min r.end t.end) → (n : ℕ) (a b : Seen)

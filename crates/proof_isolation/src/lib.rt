@@ -22,6 +22,7 @@ ghost use Rattle.proof_views.specs.LinesOf.{lines_of};
 ghost use Rattle.proof_views.specs.Members.{AreListed, HasTurn};
 ghost use Rattle.proof_isolation.specs.Agree.{Agree};
 ghost use Rattle.proof_isolation.specs.Alike.{AreAlike, AreSameViews};
+ghost use Rattle.proof_isolation.specs.TwoTexts.{HasDistinctOrders, PrintsMembersAlike};
 
 /// A turn that no member of a closed set has changes nothing that a member has or sees: no own state, no
 /// MSR, no pending event, not which member is active, no byte that a window shows, no input byte of a granted
@@ -52,11 +53,8 @@ pub fn sets_of_flows_are_enough()
         → (n : ℕ) (a b : Seen) → slice_get (view_of p f r s) n ≡ Some a → slice_get (view_of q g t w) n ≡ Some b → AreSameViews a b }
 {}
 
-/// And so are the lines that are printed of a member, where both runs have as many ticks and no order of a
-/// record names a CPU twice.
+/// And so is all that is printed of a member, where both runs have as many ticks and no order of a record names
+/// a CPU twice: the lines of its turns, its final state, and the digest of each thing that its windows show.
 pub fn members_print_the_same()
-    ensures { (p q : Source) (f g : Held) (r t : DeviceRecord) (members : List (List ℕ)) → IsLawful p → IsLawful q → IsClosed p members → IsClosed q members
-        → Agree members p q f g r t (min r.end t.end) → r.end ≡ t.end → All (λ o. IsTrue (are_distinct o.1)) r.orders → All (λ o. IsTrue (are_distinct o.1)) t.orders
-        → (s w : Subject) → is_member members s ≡ true → subject_named p s.name ≡ Some s → subject_named q s.name ≡ Some w
-        → lines_of s.name (run_of p f r).lines ≡ lines_of s.name (run_of q g t).lines }
+    ensures { (p : Source) (f : Held) (r : DeviceRecord) → IsLawful p → HasDistinctOrders r → PrintsMembersAlike p f r }
 {}
