@@ -16,7 +16,7 @@ use Rattle.policy_lawful.proofs.KeptRules.{rules_of}
 use Rattle.policy_lawful.specs.Rules.{offence_20}
 use Rattle.policy_lawful.specs.Resolution.{Resolution, source_of, subject_named}
 use Rattle.policy_lawful.specs.declared.resolved.Subject.{Subject}
-use Rattle.span_emit.specs.Placed.{IsPlaced, Placement}
+use Rattle.region_alloc.specs.Placed.{IsPlaced, Placement}
 use Rattle.span_emit.proofs.KeptSums.{sums_kept, windows_length}
 use Rattle.span_emit.specs.Spans.{memories_of}
 use Rattle.subject_emit.proofs.KeptMsrs.{msrs_few}

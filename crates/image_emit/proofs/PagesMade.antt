@@ -10,7 +10,7 @@ use Rattle.expand_kernel.proofs.LawfulSubjects.{zip_more}
 use Rattle.expand_kernel.specs.granted.Grants.{Grants}
 use Rattle.image_emit.proofs.SpansAt.{at_number, zip_at}
 use Rattle.policy_lawful.specs.declared.resolved.Subject.{Subject}
-use Rattle.span_emit.specs.Placed.{Placement}
+use Rattle.region_alloc.specs.Placed.{Placement}
 use Rattle.subject_emit.specs.Pages.{ArePages}
 use Rattle.subject_emit.specs.declared.subject_pages.SubjectPages.{SubjectPages}
 

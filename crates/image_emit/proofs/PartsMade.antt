@@ -12,7 +12,7 @@ use Rattle.image_emit.specs.Parting.{IsParting, parts_from}
 use Rattle.image_pack.specs.declared.parts.SubjectPart.{SubjectPart}
 use Rattle.msrbm_emit.specs.Area.{count_of}
 use Rattle.policy_lawful.specs.declared.resolved.Subject.{Subject}
-use Rattle.span_emit.specs.Placed.{Placement}
+use Rattle.region_alloc.specs.Placed.{Placement}
 
 pub none_made : (x : Placement) (events : List EventTables) → IsParting x events events []
 none_made x events = record { whole = refl; many = omega arith }

@@ -34,7 +34,7 @@ use Rattle.policy_lawful.specs.Events.{event_of}
 use Rattle.policy_lawful.specs.source.Group.{Group}
 use Rattle.policy_lawful.specs.source.SourceWay.{SourceWay}
 use Rattle.policy_lawful.specs.source.SourceWay.TheVariants.{Call, Trap}
-use Rattle.span_emit.specs.Placed.{Placement}
+use Rattle.region_alloc.specs.Placed.{Placement}
 use Rattle.policy_lawful.specs.Frames.{group_of}
 
 -- ---- the first that passes

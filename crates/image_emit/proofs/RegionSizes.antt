@@ -22,7 +22,7 @@ use Rattle.image_soundness.specs.PageFields.{padded}
 use Rattle.policy_lawful.specs.declared.resolved.Subject.{Subject}
 use Rattle.policy_lawful.specs.resources.MsrGrant.{MsrGrant}
 use Rattle.policy_lawful.specs.source.Component.{Component}
-use Rattle.span_emit.specs.Placed.{Placement}
+use Rattle.region_alloc.specs.Placed.{Placement}
 use Rattle.image_soundness.specs.StatePage.{page_bytes}
 use Rattle.subject_emit.specs.Mapped.{kernel_first}
 use Rattle.subject_emit.specs.Pages.{ArePages}

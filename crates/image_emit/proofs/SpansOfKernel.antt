@@ -21,7 +21,7 @@ use Rattle.muen_num.proofs.Lists.{get_right}
 use Rattle.muen_num.specs.declared.tag.TagPart.{TagPart}
 use Rattle.image_soundness.specs.PageFields.{padded}
 use Rattle.policy_lawful.specs.declared.resolved.Subject.{Subject}
-use Rattle.span_emit.specs.Placed.{IsPlaced}
+use Rattle.region_alloc.specs.Placed.{IsPlaced}
 use Rattle.span_emit.specs.Spans.{region_span}
 use Rattle.span_emit.specs.SpansOf.{spans_of}
 use Rattle.subject_emit.specs.Mapped.{kernel_first}

@@ -3,7 +3,7 @@ use Rattle.std.specs.Prelude.{◌≡◌, ℕ, ◌%◌, ◌<◌, ◌≤◌, true,
 use Rattle.std.specs.List.{list_all}
 use Rattle.muen_num.specs.declared.limits.TheConstants.{MOST_CPUS, MOST_MSRS, MOST_REGIONS, MOST_SUBJECTS, PAGE, PHYSICAL_END}
 use Rattle.msrbm_emit.specs.Area.{count_of}
-use Rattle.span_emit.specs.Placed.{Placement}
+use Rattle.region_alloc.specs.Placed.{Placement}
 use Rattle.subject_emit.specs.Mapped.{kernel_first}
 use Rattle.subject_emit.specs.Pages.{tables_at}
 use Rattle.subject_emit.specs.Shows.{HasAddresses}

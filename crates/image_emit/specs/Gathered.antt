@@ -7,7 +7,7 @@ use Rattle.event_emit.specs.declared.event_tables.EventTables.{EventTables}
 use Rattle.image_emit.specs.Made.{kernel_bytes, subject_part}
 use Rattle.image_pack.specs.declared.parts.SpanPart.{SpanPart}
 use Rattle.image_pack.specs.declared.parts.SubjectPart.{SubjectPart}
-use Rattle.span_emit.specs.Placed.{Placement}
+use Rattle.region_alloc.specs.Placed.{Placement}
 use Rattle.subject_emit.specs.Pages.{ArePages}
 use Rattle.subject_emit.specs.declared.subject_pages.SubjectPages.{SubjectPages}
 

@@ -25,7 +25,7 @@ use Rattle.policy_lawful.specs.Lawful.{IsLawful}
 use Rattle.policy_lawful.specs.Resolution.{IsResolved, Resolution, source_of}
 use Rattle.policy_lawful.specs.declared.resolved.Subject.{Subject}
 use Rattle.policy_lawful.specs.Contents.{Held, content_bytes}
-use Rattle.span_emit.specs.Placed.{AreDisjoint, AreInside, IsPlacement, Placement}
+use Rattle.region_alloc.specs.Placed.{AreDisjoint, AreInside, IsPlacement, Placement}
 use Rattle.span_emit.specs.SpansOf.{spans_of}
 use Rattle.subject_emit.specs.Mapped.{kernel_first}
 use Rattle.subject_emit.specs.Pages.{ArePages, tables_at}

@@ -4,7 +4,7 @@ use Rattle.std.specs.List.{enumerate_from}
 use Rattle.event_emit.specs.declared.event_tables.EventTables.{EventTables}
 use Rattle.image_emit.specs.Made.{subject_part}
 use Rattle.image_pack.specs.declared.parts.SubjectPart.{SubjectPart}
-use Rattle.span_emit.specs.Placed.{Placement}
+use Rattle.region_alloc.specs.Placed.{Placement}
 
 -- the subjects from an index on, with what these raise
 abbrev pub parts_from : Placement → ℕ → List EventTables → List SubjectPart

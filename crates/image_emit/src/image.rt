@@ -13,7 +13,8 @@ use image_pack::{Parts, SpanPart, SubjectPart};
 use muen_num::{NoMemory, Seq};
 use plan_emit::plan;
 use policy_lawful::Resolved;
-use span_emit::{Placed, spans};
+use region_alloc::Placed;
+use span_emit::spans;
 use std::alloc::Global;
 use subject_emit::{SubjectPages, pages};
 

@@ -16,7 +16,7 @@ use muen_num::{Name, NoMemory, Seq};
 use policy_lawful::resolved::{Group, Subject};
 use policy_lawful::source::Region;
 use policy_lawful::{MsrGrant, Resolved};
-use span_emit::Placed;
+use region_alloc::Placed;
 use std::alloc::Global;
 use subject_emit::{kernel_first, tables_at};
 

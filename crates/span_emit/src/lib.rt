@@ -5,4 +5,3 @@ mod by_address;
 mod by_number;
 
 pub use by_address::spans;
-pub use region_alloc::Placed;
