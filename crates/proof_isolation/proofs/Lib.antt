@@ -14,5 +14,5 @@ mod CpuTurns
 mod SeenWrites
 mod MergedInputs
 mod MergedTurns
-mod TwoSystems
+pub mod TwoSystems
 mod TwoTexts
