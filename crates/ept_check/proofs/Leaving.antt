@@ -1,5 +1,5 @@
 -- Whether a walk reads outside the tables, from a table on.
-use Rattle.std.proofs.Common.{◌≡◌, ℕ, zero, suc, ◌-◌, ◌/◌, Bool, true, false, List, [], ◌∷◌, Option, Some, refl, sym, ap, ◌∙◌, arith}
+use Rattle.std.proofs.Common.{◌≡◌, ℕ, zero, suc, ◌-◌, ◌/◌, ◌≤◌, Bool, true, false, List, [], ◌∷◌, Option, Some, refl, sym, ap, ◌∙◌, arith}
 use Rattle.std.specs.Prelude.{not, ◌||◌}
 use Rattle.std.specs.List.{list_any}
 use Rattle.std.proofs.lemmas.Bool.{true≢false}
@@ -7,6 +7,11 @@ use Rattle.ept_check.proofs.Reading.{lowest}
 use Rattle.ept_check.specs.Entries.{leads_on}
 use Rattle.ept_check.specs.Pieces.{leaves}
 use Rattle.machine_layout.specs.Walks.{addresses_from, bits_of, entry_address, goes_on, index_at}
+
+-- an entry of a table of the lowest level references none
+pub some_level : (l e : ℕ) → leads_on l e ≡ true → 1 ≤ l
+some_level zero e on = absurd (true≢false (sym on ∙ lowest e))
+some_level (suc l) e on = omega arith
 
 module _ (entry : ℕ → ℕ → Option ℕ) (is_table : ℕ → Bool) (addr : ℕ) where
   abbrev rest : ℕ → ℕ → List ℕ

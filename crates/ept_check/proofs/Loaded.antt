@@ -1,6 +1,5 @@
 -- An entry of a table that memory has.
-use Rattle.std.proofs.Common.{◌≡◌, ℕ, ◌+◌, ◌*◌, ◌/◌, ◌%◌, ◌<◌, true, List, Option, Some, None, refl, arith}
-use Rattle.std.specs.Prelude.{is_some, option_map}
+use Rattle.std.proofs.Common.{◌≡◌, ℕ, ◌+◌, ◌*◌, ◌/◌, ◌%◌, ◌<◌, List, Some, refl, arith}
 use Rattle.machine_layout.specs.Memory.{Page, page_of}
 use Rattle.machine_layout.specs.PageFields.{number_at}
 use Rattle.machine_layout.specs.Walks.{entry_of}
@@ -12,8 +11,3 @@ entry_in m t i bytes h few =
     let page : (4096 * t + 8 * i) / 4096 ≡ t = omega (arith, few) in
     let offset : (4096 * t + 8 * i) % 4096 ≡ 8 * i = omega (arith, few) in
     rw (page, offset) (rw h refl)
-
--- so there is one
-there_some : (o : Option (List ℕ)) → is_some o ≡ true → (f : List ℕ → ℕ) → option_map f o ≡ None → ⊥
-there_some (Some bytes) h f none = cc
-there_some None h f none = cc

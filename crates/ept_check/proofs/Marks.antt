@@ -82,8 +82,8 @@ module _ (ns : List ℕ) (rising : IsRising ns) (old : Looked) (long : length ol
   again b = mark_set ns old.entered.items t i long h.within h.here b
 
   -- with the mark set
-  pub now : (new : Looked) → slice_index_or old.entered.items i false ≡ false → new.entered.items ≡ slice_set old.entered.items i true → length new.entered.items ≡ length ns → new.entries ≡ old.entries → IsNow ns old new t
-  now new b fs far same =
+  pub now : (new : Looked) → slice_index_or old.entered.items i false ≡ false → new.entered.items ≡ slice_set old.entered.items i true → length new.entered.items ≡ length ns → IsNow ns old new t
+  now new b fs far =
       let both = λ (u : ℕ). ap (λ bs. marked ns bs u) fs in
       record {
         is = some_has ns t i h.within h.here;
@@ -91,7 +91,6 @@ module _ (ns : List ℕ) (rising : IsRising ns) (old : Looked) (long : length ol
         after = mark_set ns new.entered.items t i far h.within h.here (ap (λ bs. slice_index_or bs i false) fs ∙ get_or-set_same old.entered.items i true false (omega (arith, long, h.within)));
         others = λ u ne. both u ∙ mark_others ns old.entered.items t i u h.here h.within long ne;
         one = ap (λ bs. count_by not bs + 1) fs ∙ one_less old.entered.items i (omega (arith, long, h.within)) b;
-        entries = same;
       }
 
 -- an element that is read

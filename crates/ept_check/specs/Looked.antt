@@ -25,7 +25,6 @@ pub record IsNow (pages : List ℕ) (old new : Looked) (t : ℕ) : Type 0 where
   pub after : is_entered pages new t ≡ true
   pub others : (u : ℕ) → u ≢ t → is_entered pages new u ≡ is_entered pages old u
   pub one : left new + 1 ≡ left old
-  pub entries : new.entries ≡ old.entries
 
 abbrev pub Enters : List ℕ → Looked → Looked → ℕ → Entering → Type 0
 Enters pages old new t Outside = (is_among pages t ≡ false) × (new ≡ old)

@@ -10,13 +10,13 @@ ghost use Rattle.ept_emit.specs.Emitted.{translation, translation_in};
 ghost use Rattle.machine_layout.specs.Memory.{is_there};
 
 use crate::entries::{ended, pages};
+use crate::entry_reads::Entries;
 use crate::types::{FaultKind, TableFault};
 use crate::windows::{piece_from, translation};
 use ept_emit::Window;
 use machine_layout::Walk;
 use muen_num::AccessKind;
 use muen_num::limits::{GUEST_END, PAGE};
-use phys_mem::PhysMem;
 
 /// How many pages of guest addresses a subject has.
 pub(crate) const SUBJECT_PAGES: u64 = GUEST_END / PAGE;
@@ -73,8 +73,8 @@ fn lacks(walked: Walk, told: Walk) -> bool
 }
 
 // The fault of contents at a position.
-fn compare_at<M: PhysMem>(
-    mem: &M,
+fn compare_at<E: Entries>(
+    entries: &E,
     window: Option<Window>,
     level: u32,
     entry: u64,
@@ -83,11 +83,11 @@ fn compare_at<M: PhysMem>(
 ) -> Option<TableFault>
     requires level { level < 4 }
     requires window { IfSome window (Holds (addr_of at)) }
-    ensures { result ≡ contents (led (is_there (M.pages mem.now)) level entry rights) (λ q kind. translation_in window (addr_of q) kind) at }
+    ensures { result ≡ contents (led (is_there (E.pages entries.now)) level entry rights) (λ q kind. translation_in window (addr_of q) kind) at }
 {
     let addr = addr_of(at);
     let walked_read = ended(
-        mem,
+        entries,
         level,
         entry,
         addr,
@@ -95,7 +95,7 @@ fn compare_at<M: PhysMem>(
         rights,
     );
     let walked_write = ended(
-        mem,
+        entries,
         level,
         entry,
         addr,
@@ -103,7 +103,7 @@ fn compare_at<M: PhysMem>(
         rights,
     );
     let walked_fetch = ended(
-        mem,
+        entries,
         level,
         entry,
         addr,
@@ -130,26 +130,26 @@ fn compare_at<M: PhysMem>(
 
 /// The first fault of contents among the positions for which an entry stands that references no table,
 /// from its first position on. Between borders of windows one look is enough.
-pub(crate) fn compare<M: PhysMem>(
-    mem: &M,
+pub(crate) fn compare<E: Entries>(
+    entries: &E,
     windows: &[Window],
     level: u32,
     entry: u64,
     rights: u64,
     first: u64,
 ) -> Option<TableFault>
-    requires windows { AreWindows (is_there (M.pages mem.now)) windows.now }
+    requires windows { AreWindows (is_there (E.pages entries.now)) windows.now }
     requires level { level < 4 }
     requires first { first % pages level ≡ 0 }
     requires small { first < 2 ^ 60 }
-    ensures { result ≡ first_from (contents (led (is_there (M.pages mem.now)) level entry rights) (λ q kind. translation windows.now (addr_of q) kind)) first (pages level) }
+    ensures { result ≡ first_from (contents (led (is_there (E.pages entries.now)) level entry rights) (λ q kind. translation windows.now (addr_of q) kind)) first (pages level) }
 {
     let end = first + pages(level);
     let mut at = first;
     while at < end {
         let addr = addr_of(at);
         let piece = piece_from(windows, addr, addr + PAGE * (end - at));
-        if let Some(fault) = compare_at(mem, piece.window, level, entry, rights, at) {
+        if let Some(fault) = compare_at(entries, piece.window, level, entry, rights, at) {
             return Some(fault);
         }
         at += (piece.end - addr) / PAGE;

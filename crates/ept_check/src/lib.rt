@@ -6,10 +6,14 @@
 mod compare;
 mod entering;
 mod entries;
+mod entry_reads;
 mod looked;
+mod memory_entries;
 mod types;
 mod windows;
 
 pub use entering::check;
+pub use entry_reads::Entries;
 pub use ept_emit::{Leaf, Window};
-pub use types::{Checked, FaultKind, SubjectTables, TableFault};
+pub use memory_entries::MemoryEntries;
+pub use types::{FaultKind, SubjectTables, TableFault};

@@ -1,4 +1,4 @@
-//! What was looked at.
+//! Which tables were entered.
 ghost use Rattle.std.specs.Prelude.{◌≡◌, length, MatchOption};
 ghost use Rattle.phys_mem.specs.Frames.{IsFirst, IsRising, NoneBelow};
 ghost use Rattle.ept_check.specs.Tables.{is_among};
@@ -17,12 +17,11 @@ pub(crate) enum Entering {
     Now,
 }
 
-/// Which of the tables were entered, and how many entries were looked at.
+/// Which of the tables were entered.
 #[derive(Debug, Drop)]
 pub(crate) struct Looked {
     /// Of each table, by its index.
     pub(crate) entered: Vec<bool>,
-    pub(crate) entries: u64,
 }
 
 // The index of a number among numbers that rise.
@@ -49,7 +48,7 @@ impl Looked {
     ghost use Rattle.phys_mem.specs.Frames.{IsRising};
     ghost use Rattle.ept_check.specs.Looked.{Enters, is_entered, left};
 
-    /// None of so many tables was entered, and no entry looked at.
+    /// None of so many tables was entered.
     ///
     /// # Errors
     /// Memory is refused.
@@ -57,13 +56,9 @@ impl Looked {
         ensures long { IfOk result (λ l. vec_len l.entered ≡ tables) }
         ensures none { IfOk result (λ l. (pages : List ℕ) (t : ℕ) → is_entered pages l t ≡ false) }
         ensures left { IfOk result (λ l. left l ≡ tables) }
-        ensures entries { IfOk result (λ l. l.entries ≡ 0) }
     {
         let entered = vec![in alloc; false; tables]?;
-        Ok(Looked {
-            entered,
-            entries: 0,
-        })
+        Ok(Looked { entered })
     }
 
     /// Enters the table in a page, where it is one of these and wasn't entered before.

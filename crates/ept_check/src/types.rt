@@ -34,12 +34,3 @@ pub struct TableFault {
     /// The guest address of the page.
     pub addr: u64,
 }
-
-/// What came of a check.
-#[derive(Clone, Copy, Debug)]
-pub struct Checked {
-    /// The first fault, if there is one.
-    pub fault: Option<TableFault>,
-    /// How many entries of tables were looked at.
-    pub entries: u64,
-}

@@ -18,7 +18,7 @@ use Rattle.policy_lawful.specs.rights.Role.TheVariants.{Writer, Reader}
 use Rattle.policy_lawful.specs.Views.{channel_end_named, channel_ends_of}
 use Rattle.policy_lawful.specs.declared.view.IndexedEnd.{IndexedEnd}
 use Rattle.policy_lawful.proofs.EndsByIndex.{ends_by_index, ends_in_range}
-use Rattle.flow_report.specs.Flows.{by_channel, is_writer}
+use Rattle.policy_flows.specs.Flows.{by_channel, is_writer}
 use Rattle.muen_num.proofs.Members.{any_agree, passes_in}
 use Rattle.flow_report.specs.ByIndex.{channel_read, channel_written, has, meet}
 use Rattle.flow_report.proofs.IndexesOfSubjects.{any_filter_map}

@@ -25,11 +25,11 @@ use Rattle.policy_lawful.specs.source.EventTarget.{EventTarget}
 use Rattle.policy_lawful.specs.source.SourceWay.{SourceWay}
 use Rattle.policy_lawful.specs.source.Subject.{Subject as NamedSubject}
 use Rattle.policy_lawful.proofs.WindowsByIndex.{name_there}
-use Rattle.flow_report.specs.Flows.{reaches}
-use Rattle.flow_report.proofs.EventWays.{by_source}
+use Rattle.policy_flows.specs.Flows.{reaches}
+use Rattle.policy_flows.proofs.EventWays.{by_source}
 use Rattle.muen_num.proofs.Members.{any_agree}
 use Rattle.flow_report.specs.ByIndex.{first_target, has, reached_by}
-use Rattle.flow_report.proofs.EventWaysFlow.{by_sources}
+use Rattle.policy_flows.proofs.EventWaysFlow.{by_sources}
 use Rattle.flow_report.proofs.IndexesOfSubjects.{At, any_filter_map, same_subject}
 
 abbrev event_names : Resolution → List (List ℕ)

@@ -9,10 +9,10 @@ use Rattle.muen_num.proofs.Lists.{map-map}
 use Rattle.policy_lawful.specs.Resolution.{IsResolved, Resolution, source_of, subject_named}
 use Rattle.policy_lawful.specs.declared.resolved.Subject.{Subject}
 use Rattle.policy_lawful.specs.source.Subject.{Subject as NamedSubject}
-use Rattle.flow_report.specs.Flows.{closure_of, flows_to}
+use Rattle.policy_flows.specs.Flows.{closure_of, flows_to}
 use Rattle.muen_num.proofs.Members.{In, map_agree}
 use Rattle.flow_report.specs.ByIndex.{all_contacts_of, contacts_of, flows_between, rows_of}
-use Rattle.flow_report.specs.Marks.{after_rounds, alone_marked, sets_of}
+use Rattle.flow_report.specs.Marks.{after_rounds, alone_marked, sets_after}
 use Rattle.flow_report.specs.Sets.{AreFlows, members_of}
 use Rattle.flow_report.specs.declared.contacts.Contacts.{Contacts}
 use Rattle.flow_report.proofs.DirectFlows.{flows_same, names_unique}
@@ -77,7 +77,7 @@ module _ (r : Resolution) (q : IsResolved r) where
   set_same : (x : ℕ × Subject) → In x numbered → members_of (source_of r) (after_rounds (rows_of (all_contacts_of r)) (alone_marked (all_contacts_of r) (contacts_of r x).index) (length (all_contacts_of r))) ≡ closure_of (source_of r) (named x).name
   set_same (j, s) h = members_are (source_of r) (names_unique r q) s.name (rows_of (all_contacts_of r)) (alone_marked (all_contacts_of r) j) rows_same (alone_same (j, s) h) (length (all_contacts_of r)) as_many
 
-  pub flows_are : AreFlows (source_of r) (sets_of (all_contacts_of r))
+  pub flows_are : AreFlows (source_of r) (sets_after (all_contacts_of r) (length (all_contacts_of r)))
   flows_are =
       let set : Contacts → List Bool = λ f. after_rounds (rows_of (all_contacts_of r)) (alone_marked (all_contacts_of r) f.index) (length (all_contacts_of r)) in
       ap (map (members_of (source_of r))) (map-map set (contacts_of r) numbered)

@@ -1,10 +1,8 @@
+pub use Rattle.proof_isolation.proofs.TwoEnds
 pub mod ChannelFlows
-pub mod Closures
 pub mod ContactsByIndex
 pub mod DirectFlows
 pub mod EventFlows
-pub mod EventWays
-pub mod EventWaysFlow
 pub mod FlowsByIndex
 pub mod IndexesOfSubjects
 pub mod MarkedSets
@@ -12,4 +10,5 @@ pub mod MemoryFlows
 pub mod MonitorFlows
 pub mod NumberedTexts
 pub mod Rounds
+pub mod SetsApart
 pub mod TextOfFlows

@@ -6,10 +6,11 @@ use Rattle.std.specs.Str.{bytes_eq}
 use Rattle.std.proofs.lemmas.Bool.Decides.{same_from_decides}
 use Rattle.policy_lawful.specs.source.Source.{Source}
 use Rattle.policy_lawful.specs.source.Subject.{Subject}
-use Rattle.flow_report.specs.Flows.{IsLeastClosed, closure_of, flows_to, is_member, rounds}
+use Rattle.policy_flows.specs.Flows.{IsLeastClosed, closure_of, flows_to, is_member, rounds}
 use Rattle.flow_report.specs.Marks.{after_rounds, round, touches}
 use Rattle.flow_report.specs.Sets.{AreFlows, AreLeastClosed, marked, members_of}
-use Rattle.flow_report.proofs.Closures.{after_by_test, after_in, after_some, closure_after, closure_is_least, joins, members_after, test_after}
+use Rattle.policy_flows.proofs.UniqueSubjects.{HasUniqueNames}
+use Rattle.policy_flows.proofs.Closures.{after_by_test, after_in, after_some, closure_after, closure_is_least, joins, members_after, test_after}
 use Rattle.muen_num.proofs.Members.{In, any_agree, map_agree}
 
 -- ---- marks that are a test's
@@ -39,10 +40,6 @@ marked_by test f (x ∷ xs) =
     ]
 
 -- ---- where names are unique
-
--- no two subjects have the same name
-pub record HasUniqueNames (p : Source) : Type 0 where
-  pub same : (a b : Subject) → In a p.subjects → In b p.subjects → a.name ≡ b.name → a ≡ b
 
 module _ (p : Source) (unique : HasUniqueNames p) (name : List ℕ) where
   -- a member is one that passes

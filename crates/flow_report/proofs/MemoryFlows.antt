@@ -20,7 +20,7 @@ use Rattle.policy_lawful.specs.declared.view.Shown.TheVariants.{Memory, Channel,
 use Rattle.policy_lawful.specs.declared.view.View.{View}
 use Rattle.policy_lawful.proofs.RegionsByIndex.{has_name, is_named, maps_at, index_there, views_named}
 use Rattle.policy_lawful.proofs.WindowsByIndex.{windows_by_index}
-use Rattle.flow_report.specs.Flows.{by_memory, is_region}
+use Rattle.policy_flows.specs.Flows.{by_memory, is_region}
 use Rattle.muen_num.proofs.Members.{any_agree, passes_in}
 use Rattle.flow_report.specs.ByIndex.{has, meet, region_changed, region_shown}
 use Rattle.flow_report.proofs.IndexesOfSubjects.{any_filter_map}

@@ -14,7 +14,7 @@ use Rattle.policy_lawful.proofs.UniqueNames.{subject_names}
 use Rattle.policy_lawful.specs.Rights.{allows}
 use Rattle.policy_lawful.specs.source.Monitor.{Monitor as NamedMonitor}
 use Rattle.policy_lawful.proofs.WindowsByIndex.{subject_parts}
-use Rattle.flow_report.specs.Flows.{by_change, by_plan, by_sight}
+use Rattle.policy_flows.specs.Flows.{by_change, by_plan, by_sight}
 use Rattle.muen_num.proofs.Members.{any_agree, passes_in}
 use Rattle.flow_report.specs.ByIndex.{has, is_chooser, subject_changed}
 use Rattle.flow_report.proofs.IndexesOfSubjects.{At, any_filter_map, is_in_range, same_subject}

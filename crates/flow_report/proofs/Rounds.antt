@@ -1,6 +1,6 @@
 -- One round more.
 use Rattle.std.proofs.Common.{◌≡◌, ℕ, ◌+◌, Bool, List, refl, ap, add-one}
-use Rattle.flow_report.specs.Flows.{rounds}
+use Rattle.policy_flows.specs.Flows.{rounds}
 use Rattle.flow_report.specs.Marks.{after_rounds, round}
 
 -- no round

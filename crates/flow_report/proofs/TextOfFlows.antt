@@ -8,7 +8,7 @@ use Rattle.policy_lawful.specs.Resolution.{Resolution, source_of, subject_named}
 use Rattle.policy_lawful.specs.declared.resolved.Subject.{Subject}
 use Rattle.policy_lawful.proofs.UniqueNames.{names_of_subjects, subject_names}
 use Rattle.policy_lawful.specs.source.Subject.{Subject as NamedSubject}
-use Rattle.flow_report.specs.Flows.{closure_of}
+use Rattle.policy_flows.specs.Flows.{closure_of}
 use Rattle.muen_num.proofs.Members.{In}
 use Rattle.flow_report.specs.FlowText.{flow_line, flow_text_of}
 use Rattle.flow_report.specs.Sets.{AreFlows, marked, members_of}

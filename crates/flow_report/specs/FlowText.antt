@@ -2,7 +2,7 @@
 use Rattle.std.specs.Prelude.{ℕ, List, ◌++◌, codes}
 use Rattle.std.specs.List.{flat_map}
 use Rattle.policy_lawful.specs.source.Source.{Source}
-use Rattle.flow_report.specs.Flows.{closure_of}
+use Rattle.policy_flows.specs.Flows.{closure_of}
 
 -- the line of the subject of this name: it, and all that reach it, in the policy's order
 abbrev pub flow_line : List ℕ → List (List ℕ) → List ℕ

@@ -1,7 +1,7 @@
 -- Sets of indexes by marks, and the rounds that close them.
-use Rattle.std.specs.Prelude.{ℕ, ◌==◌, ◌&&◌, ◌||◌, Bool, List, length, map}
+use Rattle.std.specs.Prelude.{ℕ, ◌==◌, ◌&&◌, ◌||◌, Bool, List, map}
 use Rattle.std.specs.List.{list_any, zip}
-use Rattle.flow_report.specs.Flows.{rounds}
+use Rattle.policy_flows.specs.Flows.{rounds}
 use Rattle.flow_report.specs.ByIndex.{rows_of}
 use Rattle.flow_report.specs.declared.contacts.Contacts.{Contacts}
 
@@ -21,6 +21,6 @@ after_rounds rows marks n = rounds n (round rows) marks
 abbrev pub alone_marked : List Contacts → ℕ → List Bool
 alone_marked all_contacts index = map (λ f. f.index == index) all_contacts
 
--- for each subject's contacts the closed set
-abbrev pub sets_of : List Contacts → List (List Bool)
-sets_of all_contacts = map (λ f. after_rounds (rows_of all_contacts) (alone_marked all_contacts f.index) (length all_contacts)) all_contacts
+-- for each subject's contacts the set after so many rounds
+abbrev pub sets_after : List Contacts → ℕ → List (List Bool)
+sets_after all_contacts n = map (λ f. after_rounds (rows_of all_contacts) (alone_marked all_contacts f.index) n) all_contacts

@@ -1,8 +1,9 @@
 -- For each subject of a policy the set of those that can reach it, by indexes.
 use Rattle.std.specs.Prelude.{◌≡◌, ℕ, Bool, true, false, List, [], ◌∷◌, map}
-use Rattle.std.specs.List.{AllZip}
+use Rattle.std.specs.List.{All, AllZip}
 use Rattle.policy_lawful.specs.source.Source.{Source}
-use Rattle.flow_report.specs.Flows.{IsLeastClosed, closure_of}
+use Rattle.policy_flows.specs.Flows.{IsLeastClosed, closure_of}
+use Rattle.proof_isolation.specs.TwoSystems.{DependOnMembersAlone}
 
 -- those elements whose index is marked
 unfoldable pub marked : {X : Type 0} → List Bool → List X → List X
@@ -22,3 +23,8 @@ AreFlows p sets = map (members_of p) sets ≡ map (λ s. closure_of p s.name) p.
 -- for each subject the least closed set with it
 abbrev pub AreLeastClosed : Source → List (List Bool) → Type 0
 AreLeastClosed p sets = AllZip (λ s set. IsLeastClosed p s.name (members_of p set)) p.subjects sets
+
+-- the members of each set are apart from all others: in every second lawful policy in which the set is closed and that agrees on what
+-- reaches them, with any files and records, each member has at each tick below both ends the same view
+abbrev pub AreApart : Source → List (List Bool) → Type 0
+AreApart p sets = All (λ set. DependOnMembersAlone p (members_of p set)) sets

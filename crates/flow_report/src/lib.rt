@@ -4,8 +4,6 @@
 mod contacts;
 mod sets;
 mod text;
-mod ways;
 
 pub use sets::{FlowSets, flows};
 pub use text::flow_text;
-pub use ways::every_way_counts;

@@ -1,9 +1,9 @@
 //! The closed sets of subjects.
-ghost use Rattle.std.specs.Prelude.{◌≡◌, map, length, IfOk};
+ghost use Rattle.std.specs.Prelude.{◌≡◌, map, IfOk};
 ghost use Rattle.policy_lawful.specs.Resolution.{source_of};
 ghost use Rattle.flow_report.specs.ByIndex.{flows_between, rows_of};
-ghost use Rattle.flow_report.specs.Marks.{after_rounds, alone_marked, round, sets_of, touches};
-ghost use Rattle.flow_report.specs.Sets.{AreFlows, AreLeastClosed};
+ghost use Rattle.flow_report.specs.Marks.{after_rounds, alone_marked, round, sets_after, touches};
+ghost use Rattle.flow_report.specs.Sets.{AreApart, AreFlows, AreLeastClosed};
 
 use crate::contacts::{Contacts, all_contacts, flows_between};
 use muen_num::{NoMemory, Seq};
@@ -87,30 +87,37 @@ fn alone_marked(
         .collect(alloc)
 }
 
-// The set of those that can reach the subject at an index: as many rounds as there are subjects.
+// The set of those that reach the subject at an index over so many flows at most.
 #[tactic(auto, using(crate::proofs::Rounds::by_rounds))]
-fn closed_set(
+fn set_after(
     alloc: Global,
     all_contacts: &[Contacts],
     rows: &[Seq<bool>],
     index: usize,
+    rounds: usize,
 ) -> Result<Vec<bool>, NoMemory>
-    ensures { IfOk result (λ v. v.items ≡ after_rounds rows.now (alone_marked all_contacts.now index) (length all_contacts.now)) }
+    ensures { IfOk result (λ v. v.items ≡ after_rounds rows.now (alone_marked all_contacts.now index) rounds) }
 {
     let mut marks = alone_marked(alloc, all_contacts, index)?;
-    for _ in 0..all_contacts.len() {
+    for _ in 0..rounds {
         marks = round(alloc, rows, &marks)?;
     }
     Ok(marks)
 }
 
-fn closed_sets(alloc: Global, all_contacts: &[Contacts]) -> Result<Seq<Seq<bool>>, NoMemory>
-    ensures { IfOk result (λ s. s ≡ sets_of all_contacts.now) }
+// For each subject the set of those that reach it over so many flows at most.
+fn sets_after(
+    alloc: Global,
+    all_contacts: &[Contacts],
+    rounds: usize,
+) -> Result<Seq<Seq<bool>>, NoMemory>
+    ensures { IfOk result (λ s. s ≡ sets_after all_contacts.now rounds) }
 {
     let rows = rows(alloc, all_contacts)?;
     let mut sets = Seq::new(alloc);
     for contacts in all_contacts {
-        sets.push(Seq::of(closed_set(alloc, all_contacts, &rows, contacts.index)?))?;
+        let set = set_after(alloc, all_contacts, &rows, contacts.index, rounds)?;
+        sets.push(Seq::of(set))?;
     }
     Ok(sets)
 }
@@ -118,12 +125,19 @@ fn closed_sets(alloc: Global, all_contacts: &[Contacts]) -> Result<Seq<Seq<bool>
 /// For each subject all that can reach it: itself, and the direct sources of those that do, by
 /// channels, shared memory, events, monitors, and the choice of major frames.
 ///
+/// These members are enough. Take any second policy that keeps the rules and in which the set is closed,
+/// and any files and records that the two have, where they agree on what reaches the members (`Agree` of
+/// `proof_isolation`): then each member has the same view in both at every tick below both ends. So it is
+/// whatever the programs, contents, devices and plans of all others are in either.
+///
 /// Answers `NoMemory` where memory was refused.
 pub fn flows(alloc: Global, policy: &Lawful) -> Result<FlowSets, NoMemory>
     ensures sets { IfOk result (AreFlows (source_of policy.now)) }
     ensures least { IfOk result (AreLeastClosed (source_of policy.now)) }
+    // And nothing else reaches the members of these sets.
+    ensures apart { IfOk result (AreApart (source_of policy.now)) }
 {
     let all_contacts = all_contacts(alloc, policy.resolved())?;
-    let sets = closed_sets(alloc, &all_contacts)?;
+    let sets = sets_after(alloc, &all_contacts, all_contacts.len())?;
     Ok(FlowSets { sets })
 }

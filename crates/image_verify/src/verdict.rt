@@ -17,7 +17,7 @@ ghost use Rattle.proof_build.specs.Built.{HasOnePathPerTable};
 use crate::fault::{Condition, Fault, Owner};
 use crate::pages::table_pages;
 use crate::windows::subject_tables;
-use ept_check::{FaultKind, TableFault, check};
+use ept_check::{FaultKind, MemoryEntries, TableFault, check};
 use expand_kernel::Expanded;
 use image_checks::{
     PlanOwner, contents_fault, first_by_area, first_by_bitmaps, first_by_own_pages, first_by_state,
@@ -137,8 +137,9 @@ fn tables_fault(alloc: Global, expanded: &Expanded, image: Parts) -> Result<Opti
     let pages = table_pages(alloc, &image)?;
     let tables = subject_tables(alloc, expanded, &image)?;
     let loaded = load(alloc, image)?;
-    let checked = check(alloc, &loaded.memory, &pages, &tables)?;
-    match checked.fault {
+    let mut entries = MemoryEntries::of(&loaded.memory);
+    let found = check(alloc, &mut entries, &pages, &tables)?;
+    match found {
         None => Ok(None),
         Some(fault) => Ok(Some(of_tables(policy_of(expanded), fault))),
     }

@@ -18,8 +18,8 @@ use Rattle.policy_lawful.specs.source.Source.{Source}
 use Rattle.record_text.specs.DeviceRecord.{DeviceRecord}
 use Rattle.record_text.specs.Reading.{record_of}
 use Rattle.proof_runs.proofs.ImageRuns.{image_bench_is, image_runs}
-use Rattle.proof_isolation.specs.TwoTexts.{HasDistinctOrders, PrintsMembersAlike}
-use Rattle.proof_isolation.proofs.TwoEnds.{printed_alike}
+use Rattle.flow_report.specs.TwoTexts.{HasDistinctOrders, PrintsMembersAlike}
+use Rattle.flow_report.proofs.TwoEnds.{printed_alike}
 use Rattle.proof_runs.specs.Fit.{Fit}
 use Rattle.proof_runs.proofs.RecordFacts.{record_is_read}
 use Rattle.subject_model.specs.Trace.{trace_of}

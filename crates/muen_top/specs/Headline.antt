@@ -18,7 +18,7 @@ use Rattle.muen_outside.specs.States.{Look, SinkState, Write}
 use Rattle.muen_outside.specs.Store.{Store, reading_of, whole}
 use Rattle.policy_lawful.specs.Contents.{Held}
 use Rattle.policy_lawful.specs.source.Source.{Source}
-use Rattle.proof_isolation.specs.TwoTexts.{PrintsMembersAlike}
+use Rattle.flow_report.specs.TwoTexts.{PrintsMembersAlike}
 use Rattle.proof_runs.specs.Fit.{Fit}
 use Rattle.record_text.specs.DeviceRecord.{DeviceRecord}
 use Rattle.record_text.specs.Reading.{record_of}

@@ -10,7 +10,7 @@ use Rattle.policy_lawful.specs.Windows.{windows_of}
 use Rattle.policy_lawful.specs.source.Source.{Source}
 use Rattle.policy_lawful.specs.source.Subject.{Subject}
 use Rattle.subject_model.specs.DeviceRecord.{DeviceRecord}
-use Rattle.flow_report.specs.Flows.{is_member}
+use Rattle.policy_flows.specs.Flows.{is_member}
 use Rattle.subject_model.specs.Alone.{own_of, thing_in}
 use Rattle.subject_model.specs.System.{System, is_shown, named, subject_named}
 use Rattle.proof_isolation.specs.Agree.{Agree}

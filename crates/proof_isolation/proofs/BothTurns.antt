@@ -28,7 +28,7 @@ use Rattle.subject_model.specs.StatePage.{page_bytes, state_in}
 use Rattle.subject_model.specs.SubjectState.{SubjectState}
 use Rattle.subject_model.specs.Run.{Turned}
 use Rattle.subject_model.specs.TurnLine.{TurnLine}
-use Rattle.flow_report.specs.Flows.{is_member, reaches}
+use Rattle.policy_flows.specs.Flows.{is_member, reaches}
 use Rattle.subject_model.specs.Alone.{MsrValues, OwnState, TurnAnswer, own_of, solo_turn, thing_in}
 use Rattle.subject_model.specs.System.{System, answered, happens, happens_as, inbox_of, is_shown, line_at, named, raised_by, state_of, subject_named, took, turn_from, with_own, with_store, with_write}
 use Rattle.subject_model.specs.Resources.{ports_of}

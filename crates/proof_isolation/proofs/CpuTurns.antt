@@ -12,7 +12,7 @@ use Rattle.policy_lawful.specs.source.Subject.{Subject}
 use Rattle.subject_model.specs.DeviceRecord.{DeviceRecord}
 use Rattle.subject_model.specs.Run.{Turned}
 use Rattle.subject_model.specs.TurnLine.{TurnLine}
-use Rattle.flow_report.specs.Flows.{IsClosed, is_member}
+use Rattle.policy_flows.specs.Flows.{IsClosed, is_member}
 use Rattle.subject_model.specs.Alone.{own_of, solo_turn}
 use Rattle.subject_model.specs.System.{System, inbox_of, subject_named, system_turn}
 use Rattle.proof_views.specs.Members.{AreListed, HasTurn}

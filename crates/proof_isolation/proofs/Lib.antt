@@ -14,6 +14,6 @@ mod CpuTurns
 mod SeenWrites
 mod MergedInputs
 mod MergedTurns
-mod TwoSystems
+pub mod TwoSystems
 mod TwoTexts
 pub mod TwoEnds

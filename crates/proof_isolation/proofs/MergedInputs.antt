@@ -18,7 +18,7 @@ use Rattle.policy_lawful.specs.source.Source.{Source}
 use Rattle.policy_lawful.specs.source.Subject.{Subject}
 use Rattle.subject_model.specs.DeviceRecord.{DeviceRecord, NamedInput, port_input, memory_input, irq_input, dma_input}
 use Rattle.subject_model.specs.Run.{all_taken}
-use Rattle.flow_report.specs.Flows.{is_member}
+use Rattle.policy_flows.specs.Flows.{is_member}
 use Rattle.subject_model.proofs.KeyLaws.{names_apart, value_other}
 use Rattle.subject_model.specs.Clock.{irq_reaches, system, takes}
 use Rattle.subject_model.specs.System.{System, subject_named}

@@ -30,8 +30,8 @@ use Rattle.policy_lawful.specs.source.Subject.{Subject}
 use Rattle.subject_model.specs.StatePage.{page_bytes}
 use Rattle.subject_model.specs.SubjectState.{SubjectState}
 use Rattle.subject_model.specs.Slot.{Slot}
-use Rattle.flow_report.proofs.EventWays.{way_counts}
-use Rattle.flow_report.specs.Flows.{IsClosed, by_change, by_sight, flows_to, is_member, reaches}
+use Rattle.policy_flows.proofs.EventWays.{way_counts}
+use Rattle.policy_flows.specs.Flows.{IsClosed, by_change, by_sight, flows_to, is_member, reaches}
 use Rattle.subject_model.specs.Alone.{Inbox, MsrValues, OwnState, TurnAnswer, own_of, solo_turn, thing_in}
 use Rattle.subject_model.specs.System.{System, answered, inbox_of, is_shown, named, subject_named, system_turn, took, with_own, with_store}
 use Rattle.subject_model.proofs.DeviceWrites.{IsWritable}

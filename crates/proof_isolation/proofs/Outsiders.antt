@@ -28,7 +28,7 @@ use Rattle.policy_lawful.specs.source.Group.{Group}
 use Rattle.policy_lawful.specs.source.Source.{Source}
 use Rattle.policy_lawful.specs.source.SourceWay.{SourceWay}
 use Rattle.policy_lawful.specs.source.Subject.{Subject}
-use Rattle.flow_report.specs.Flows.{IsClosed, flows_to, is_member, reaches}
+use Rattle.policy_flows.specs.Flows.{IsClosed, flows_to, is_member, reaches}
 use Rattle.subject_model.proofs.DeviceWrites.{IsWritable}
 use Rattle.subject_model.proofs.KeyLaws.{names_apart, value_other}
 use Rattle.subject_model.proofs.SystemLaws.{raised_alone}

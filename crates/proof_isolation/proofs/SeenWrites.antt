@@ -14,7 +14,7 @@ use Rattle.policy_lawful.specs.Windows.{windows_of}
 use Rattle.policy_lawful.specs.source.Source.{Source}
 use Rattle.policy_lawful.specs.source.Subject.{Subject}
 use Rattle.subject_model.specs.DeviceRecord.{DeviceRecord, dma_input}
-use Rattle.flow_report.specs.Flows.{is_member}
+use Rattle.policy_flows.specs.Flows.{is_member}
 use Rattle.subject_model.proofs.DeviceWrites.{line_spares, line_things, no_page, page_stays, written}
 use Rattle.subject_model.proofs.KeyLaws.{things_apart, value_other}
 use Rattle.subject_model.specs.Alone.{thing_in}

@@ -23,7 +23,7 @@ use Rattle.policy_lawful.specs.source.EventTarget.{EventTarget}
 use Rattle.policy_lawful.specs.source.Source.{Source}
 use Rattle.policy_lawful.specs.source.SourceWay.{SourceWay}
 use Rattle.policy_lawful.specs.source.Subject.{Subject}
-use Rattle.flow_report.proofs.EventWays.{by_channel_end, by_source, event_is}
+use Rattle.policy_flows.proofs.EventWays.{by_channel_end, by_source, event_is}
 use Rattle.proof_isolation.proofs.Conflicts.{none_in}
 use Rattle.proof_isolation.proofs.Counts.{flat_in, in_at}
 

@@ -3,7 +3,7 @@ use Rattle.std.proofs.Common.{◌≡◌, ℕ, true, List, min, Option, Some, ref
 use Rattle.std.specs.List.{flat_map}
 use Rattle.std.specs.Option.{option_map_or}
 use Rattle.std.specs.Prelude.{option_map}
-use Rattle.flow_report.specs.Flows.{IsClosed, is_member}
+use Rattle.policy_flows.specs.Flows.{IsClosed, is_member}
 use Rattle.policy_lawful.specs.Contents.{Held}
 use Rattle.policy_lawful.specs.Lawful.{IsLawful}
 use Rattle.policy_lawful.specs.Thing.{Thing, is_device, state, thing_tag}
@@ -16,7 +16,7 @@ use Rattle.subject_model.specs.DeviceRecord.{DeviceRecord}
 use Rattle.subject_model.specs.StatePage.{state_in}
 use Rattle.subject_model.specs.System.{is_shown, subject_named}
 use Rattle.subject_model.specs.Trace.{state_text, subject_text, thing_text}
-use Rattle.view_text.specs.ViewText.{region_text, turn_text}
+use Rattle.proof_views.specs.ViewText.{region_text, turn_text}
 use Rattle.proof_views.specs.LinesOf.{lines_of}
 use Rattle.proof_isolation.specs.Agree.{Agree}
 use Rattle.proof_isolation.specs.Alike.{AreAlike}

@@ -13,7 +13,7 @@ use Rattle.subject_model.specs.Resources.{msrs_of}
 use Rattle.subject_model.specs.Frames.{first_frame, frame_at_tick}
 use Rattle.subject_model.specs.frame_at.FrameAt.{FrameAt}
 use Rattle.muen_num.proofs.NumbersBelow.{length_numbers, number_at}
-use Rattle.muen_num.proofs.Members.{In, all_in, any_in, any_some, find_in}
+use Rattle.muen_num.proofs.Members.{In, any_in, any_some, find_in}
 use Rattle.muen_num.specs.Range.{numbers_below}
 use Rattle.muen_num.specs.declared.access.AccessKind.TheVariants.{Write}
 use Rattle.policy_lawful.proofs.KeptMembers.{members_kept}
@@ -35,8 +35,8 @@ use Rattle.subject_model.specs.DeviceRecord.{DeviceRecord, NamedInput, port_inpu
 use Rattle.subject_model.specs.StatePage.{page_bytes, state_in}
 use Rattle.subject_model.specs.States.{started}
 use Rattle.subject_model.specs.Run.{all_taken, begun, run_to, turns}
-use Rattle.flow_report.specs.Flows.{IsClosed, by_plan, closure_of, is_member}
-use Rattle.flow_report.proofs.Closures.{closure_is_least}
+use Rattle.policy_flows.specs.Flows.{IsClosed, by_plan, closure_of, is_member}
+use Rattle.policy_flows.proofs.Closures.{closure_is_least}
 use Rattle.muen_num.proofs.SearchLaws.{none_both, unless_none}
 use Rattle.muen_num.specs.Search.{first_in}
 use Rattle.policy_lawful.specs.Offences.{two}
@@ -48,12 +48,13 @@ use Rattle.subject_model.proofs.StartLists.{named_map}
 use Rattle.subject_model.specs.Alone.{own_of, thing_in}
 use Rattle.subject_model.specs.Clock.{begins, inputs_at, line_writes, order_at, pick_in, run_of, system, takes, ticks_of_majors}
 use Rattle.subject_model.specs.System.{System, is_shown, named, start_of, subject_named, system_turn}
-use Rattle.subject_model.specs.View.{Seen, ran_through, seen_in, through, view_of}
+use Rattle.subject_model.specs.View.{ran_through, seen_in, through, view_of}
 use Rattle.proof_views.proofs.ActiveMembers.{begun_listed}
 use Rattle.proof_views.proofs.StatePages.{first_paged}
 use Rattle.proof_views.proofs.Unmoved.{by_irq}
 use Rattle.proof_isolation.specs.Agree.{Agree, AgreeOnFrames, WritesTheSame, chosen, holds_member, is_first, own_slot, plain_frame, touches, unchosen}
 use Rattle.proof_isolation.specs.Alike.{AreAlike, AreAlikeFor, AreSameViews, is_active}
+use Rattle.proof_isolation.specs.TwoSystems.{DependOnMembersAlone}
 use Rattle.proof_isolation.proofs.Alike.{same_cpu, same_entry, same_member, same_name, same_windows}
 use Rattle.proof_isolation.proofs.CpuTurns.{SameSlots}
 use Rattle.proof_isolation.proofs.Inboxes.{shown_alike}
@@ -298,10 +299,9 @@ module _ (p q : Source) (lawful : IsLawful p) (lawful_too : IsLawful q) (members
         things = λ x. shown_alike (windows_of p m) (ran_through p f r m.cpu n).state.things end_q.things a.shown x ∙ ap (λ windows. thing_in (filter (λ e. is_shown windows e.0) end_q.things) x) (same_windows p q m w pair.own);
       }
 
-pub same_views : (p q : Source) (f g : Held) (r t : DeviceRecord) (members : List (List ℕ)) → IsLawful p → IsLawful q → IsClosed p members → IsClosed q members → Agree members p q f g r t (min r.end t.end) → (s w : Subject) → is_member members s ≡ true → subject_named p s.name ≡ Some s
-    → subject_named q s.name ≡ Some w → (n : ℕ) (a b : Seen) → slice_get (view_of p f r s) n ≡ Some a → slice_get (view_of q g t w) n ≡ Some b → AreSameViews a b
+pub same_views : (p : Source) (members : List (List ℕ)) → IsLawful p → IsClosed p members → DependOnMembersAlone p members
 unfolding view_of
-same_views p q f g r t members lawful lawful_too closed closed_too agree s w member found is n a b at at' =
+same_views p members lawful closed q f g r t lawful_too closed_too agree s w member found is n a b at at' =
     let many = length-map (numbers_below r.end) (λ tick. seen_in p s (ran_through p f r s.cpu tick)) in
     let few = length-map (numbers_below t.end) (λ tick. seen_in q w (ran_through q g t w.cpu tick)) in
     let within = slice_get_within (map (λ tick. seen_in p s (ran_through p f r s.cpu tick)) (numbers_below r.end)) n a at in
@@ -325,11 +325,6 @@ ends_alike p q lawful lawful_too members closed closed_too f g r t agree ends m 
     subst (λ n. AreAlikeFor p q m (run_of p f r).state (run_to (system q) (inputs_at t) (order_at q t) n (start_of q g)).state) (sym ends)
     ((runs p q lawful lawful_too members closed closed_too f g r t r.end agree m member found r.end (omega arith)).0 m member found)
 
--- the set of a subject has it and is closed
-pub same_by_flows : (p q : Source) (f g : Held) (r t : DeviceRecord) (s w : Subject) → IsLawful p → IsLawful q → subject_named p s.name ≡ Some s → subject_named q s.name ≡ Some w → IsClosed q (closure_of p s.name) → Agree (closure_of p s.name) p q f g r t (min r.end t.end) → (n : ℕ) (a b : Seen)
-    → slice_get (view_of p f r s) n ≡ Some a → slice_get (view_of q g t w) n ≡ Some b → AreSameViews a b
-same_by_flows p q f g r t s w lawful lawful_too found is closed_too agree n a b at at' =
-    let least = closure_is_least p s.name in
-    let in_s = (find_in (λ x. bytes_eq x.name s.name) p.subjects s found).0 in
-    let member = all_in (λ x. bytes_eq x.name s.name ≡ true → is_member (closure_of p s.name) x ≡ true) p.subjects least.has s in_s ((bytes_eq-Decides s.name s.name).1 refl) in
-    same_views p q f g r t (closure_of p s.name) lawful lawful_too least.closed closed_too agree s w member found is n a b at at'
+-- the set of a subject is closed
+pub same_by_flows : (p : Source) (name : List ℕ) → IsLawful p → DependOnMembersAlone p (closure_of p name)
+same_by_flows p name lawful = same_views p (closure_of p name) lawful (closure_is_least p name).closed

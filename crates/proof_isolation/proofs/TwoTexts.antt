@@ -11,7 +11,7 @@ use Rattle.policy_lawful.specs.source.Source.{Source}
 use Rattle.policy_lawful.specs.source.Subject.{Subject}
 use Rattle.subject_model.specs.DeviceRecord.{DeviceRecord}
 use Rattle.subject_model.specs.Reading.{are_distinct}
-use Rattle.flow_report.specs.Flows.{IsClosed, is_member}
+use Rattle.policy_flows.specs.Flows.{IsClosed, is_member}
 use Rattle.subject_model.specs.Clock.{run_of}
 use Rattle.subject_model.specs.System.{subject_named}
 use Rattle.subject_model.specs.View.{Seen, ran_through, seen_in, view_of}

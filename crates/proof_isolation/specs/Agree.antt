@@ -4,7 +4,7 @@ use Rattle.std.specs.List.{All, list_any}
 use Rattle.std.specs.Option.{option_map_or}
 use Rattle.std.specs.Str.{bytes_eq}
 use Rattle.subject_model.specs.Resources.{ports_of}
-use Rattle.flow_report.specs.Flows.{is_member, reaches}
+use Rattle.policy_flows.specs.Flows.{is_member, reaches}
 use Rattle.subject_model.specs.Frames.{slot_in}
 use Rattle.subject_model.specs.frame_at.FrameAt.{FrameAt}
 use Rattle.policy_lawful.specs.MoreRules.{is_switch}

@@ -4,7 +4,7 @@ use Rattle.std.specs.List.{list_any}
 use Rattle.std.specs.Option.{option_map_or}
 use Rattle.std.specs.Str.{bytes_eq}
 use Rattle.subject_model.specs.Resources.{ports_of}
-use Rattle.flow_report.specs.Flows.{is_member}
+use Rattle.policy_flows.specs.Flows.{is_member}
 use Rattle.policy_lawful.specs.Frames.{group_of}
 use Rattle.policy_lawful.specs.Thing.{Thing, state}
 use Rattle.policy_lawful.specs.Windows.{windows_of}

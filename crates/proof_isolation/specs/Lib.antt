@@ -1,3 +1,4 @@
 pub mod Alike
 pub mod Agree
 pub mod TwoTexts
+pub mod TwoSystems

@@ -1,7 +1,7 @@
 -- What is printed of a subject in two runs (this project's own).
 use Rattle.std.specs.Prelude.{◌≡◌, true, List, ℕ, IsTrue, Some}
 use Rattle.std.specs.List.{All, flat_map}
-use Rattle.flow_report.specs.Flows.{IsClosed, is_member}
+use Rattle.policy_flows.specs.Flows.{IsClosed, is_member}
 use Rattle.policy_lawful.specs.Contents.{Held}
 use Rattle.policy_lawful.specs.Lawful.{IsLawful}
 use Rattle.policy_lawful.specs.Thing.{Thing}
@@ -15,7 +15,7 @@ use Rattle.subject_model.specs.DeviceRecord.{DeviceRecord}
 use Rattle.subject_model.specs.Reading.{are_distinct}
 use Rattle.subject_model.specs.System.{is_shown, subject_named}
 use Rattle.subject_model.specs.Trace.{subject_text, thing_text}
-use Rattle.view_text.specs.ViewText.{turn_text}
+use Rattle.proof_views.specs.ViewText.{turn_text}
 
 -- the same bytes are printed of a subject in both: the lines of its turns, its final state, and the digest of each thing that a
 -- window of it shows

@@ -1,13 +1,14 @@
 //! Laws of isolation: what is outside a closed set of subjects changes nothing for its members.
 //!
 //! A set is closed where each subject that can reach a member is a member (`flows_to`, `IsClosed` of
-//! `flow_report`); `flows` prints the least such set with a subject. What the laws speak of stands in specs/:
-//! systems that are alike for members (`Alike`), and policies, files and records that agree on what reaches
-//! them (`Agree`). The functions here carry the laws; no command calls one.
+//! `policy_flows`). What the laws speak of stands in specs/: systems that are alike for members (`Alike`), policies,
+//! files and records that agree on what reaches them (`Agree`), and what is the same in two such systems
+//! (`DependOnMembersAlone`). The functions here carry the laws; no command calls one, but what `flows` answers is
+//! proved by them.
 #![tactic(auto)]
 
-ghost use Rattle.std.specs.Prelude.{◌≡◌, ℕ, List, Some, All, IsTrue, false, min, slice_get, true};
-ghost use Rattle.flow_report.specs.Flows.{IsClosed, closure_of, is_member};
+ghost use Rattle.std.specs.Prelude.{◌≡◌, ℕ, List, Some, All, IsTrue, false, min, true};
+ghost use Rattle.policy_flows.specs.Flows.{IsClosed, closure_of, is_member};
 ghost use Rattle.subject_model.specs.Slot.{Slot};
 ghost use Rattle.policy_lawful.specs.Lawful.{IsLawful};
 ghost use Rattle.policy_lawful.specs.Contents.{Held};
@@ -17,11 +18,11 @@ ghost use Rattle.subject_model.specs.DeviceRecord.{DeviceRecord};
 ghost use Rattle.subject_model.specs.Reading.{are_distinct};
 ghost use Rattle.subject_model.specs.Clock.{run_of};
 ghost use Rattle.subject_model.specs.System.{System, subject_named, system_turn};
-ghost use Rattle.subject_model.specs.View.{Seen, view_of};
 ghost use Rattle.proof_views.specs.LinesOf.{lines_of};
 ghost use Rattle.proof_views.specs.Members.{AreListed, HasTurn};
 ghost use Rattle.proof_isolation.specs.Agree.{Agree};
-ghost use Rattle.proof_isolation.specs.Alike.{AreAlike, AreSameViews};
+ghost use Rattle.proof_isolation.specs.Alike.{AreAlike};
+ghost use Rattle.proof_isolation.specs.TwoSystems.{DependOnMembersAlone};
 ghost use Rattle.proof_isolation.specs.TwoTexts.{HasDistinctOrders, PrintsMembersAlike};
 
 /// A turn that no member of a closed set has changes nothing that a member has or sees: no own state, no
@@ -40,17 +41,13 @@ pub fn outsiders_change_nothing()
 /// device counts where its domain maps, in either policy, what a member sees: its lines of direct memory access
 /// are the same in both records, and do the same to what members see.
 pub fn members_see_the_same()
-    ensures { (p q : Source) (f g : Held) (r t : DeviceRecord) (members : List (List ℕ)) → IsLawful p → IsLawful q → IsClosed p members → IsClosed q members
-        → Agree members p q f g r t (min r.end t.end) → (s w : Subject) → is_member members s ≡ true → subject_named p s.name ≡ Some s → subject_named q s.name ≡ Some w
-        → (n : ℕ) (a b : Seen) → slice_get (view_of p f r s) n ≡ Some a → slice_get (view_of q g t w) n ≡ Some b → AreSameViews a b }
+    ensures { (p : Source) (members : List (List ℕ)) → IsLawful p → IsClosed p members → DependOnMembersAlone p members }
 {}
 
-/// So it is for each subject with the set that `flows` prints of it (`closure_of`): whoever isn't in this set
-/// changes nothing of what the subject sees.
+/// So it is for the set of each subject (`closure_of`), which `flows` prints. The subject is in it
+/// (`closures_are_least` of `policy_flows`).
 pub fn sets_of_flows_are_enough()
-    ensures { (p q : Source) (f g : Held) (r t : DeviceRecord) (s w : Subject) → IsLawful p → IsLawful q → subject_named p s.name ≡ Some s → subject_named q s.name ≡ Some w
-        → IsClosed q (closure_of p s.name) → Agree (closure_of p s.name) p q f g r t (min r.end t.end)
-        → (n : ℕ) (a b : Seen) → slice_get (view_of p f r s) n ≡ Some a → slice_get (view_of q g t w) n ≡ Some b → AreSameViews a b }
+    ensures { (p : Source) (name : List ℕ) → IsLawful p → DependOnMembersAlone p (closure_of p name) }
 {}
 
 /// And so is all that is printed of a member, where both runs have as many ticks and no order of a record names

@@ -302,14 +302,34 @@ fn lines_of<'a>(alloc: Global, text: &'a str, name: &str) -> Result<Vec<&'a str>
     Ok(lines)
 }
 
+// A further region of `black`, which comes before the others.
+const PAD: &str =
+    r#""memory":[{"name":"black_code"=>"memory":[{"name":"pad","size":"16#0010_0000#"},{"name":"black_code" | "memory":[{"region":"black_code"=>"memory":[{"region":"pad","virtualAddress":"16#0080_0000#","rights":"rw"},{"region":"black_code""#;
+
+// The lines of `map` that end with this name.
+fn mapped(alloc: Global, policy: &str, name: &str) -> Result<String, Fail> {
+    let mut files = held(alloc, policy, "")?;
+    let mut out = MemSink::make(alloc, 100_000, Vec::new(alloc), 0)?;
+    let text = text_of(call(alloc, "map p", &mut files, &mut out)?)?;
+    let mut lines = String::new(alloc);
+    for line in text.as_str().split('\n') {
+        if line.ends_with(name) {
+            lines.push_str(line)?;
+        }
+    }
+    Ok(lines)
+}
+
 // Nothing leads from `black` to the other four. So they, and the channels that they write, are the same
-// where it does something else: here it only halts.
+// where it does something else, which here is to halt; and where it has more memory, which moves theirs.
 #[test]
-fn black_does_something_else(rt: HostRuntime) -> Result<(), Fail> {
+fn black_is_another(rt: HostRuntime) -> Result<(), Fail> {
     let alloc = rt.alloc();
     let idle = GATEWAY.replacen(alloc, BLACK_CODE, "1700000000000000", 1)?;
-    let whole = text_of(booted(alloc, GATEWAY, GATEWAY_RECORD)?)?;
-    let other = text_of(booted(alloc, idle.as_str(), GATEWAY_RECORD)?)?;
+    let more = changed(alloc, GATEWAY, PAD)?;
+    let whole = text_of(built_and_ran(alloc, GATEWAY, GATEWAY_RECORD)?)?;
+    let idles = text_of(built_and_ran(alloc, idle.as_str(), GATEWAY_RECORD)?)?;
+    let has_more = text_of(built_and_ran(alloc, more.as_str(), GATEWAY_RECORD)?)?;
     // Each round has a line for each tick of a subject; then come five final lines of it.
     let cases = [
         ("plain", 6 * 30 + 5),
@@ -323,16 +343,19 @@ fn black_does_something_else(rt: HostRuntime) -> Result<(), Fail> {
     ];
     for (name, count) in cases {
         let lines = lines_of(alloc, whole.as_str(), name)?;
-        let others = lines_of(alloc, other.as_str(), name)?;
         assert_eq!(rt; lines.len(), count, "{name}");
-        assert_eq!(rt; lines.as_slice(), others.as_slice(), "{name}");
+        for other in [idles.as_str(), has_more.as_str()] {
+            let others = lines_of(alloc, other, name)?;
+            assert_eq!(rt; lines.as_slice(), others.as_slice(), "{name}");
+        }
     }
-    let black = lines_of(alloc, other.as_str(), "black")?;
+    let black = lines_of(alloc, idles.as_str(), "black")?;
     let halts = "30 0 black 0000000000400000 exit 12 0000000000000000 0000000000000000 halt";
     assert_eq!(rt; black.len(), 6);
     assert_eq!(rt; black.first(), Some(&halts));
     let before = lines_of(alloc, whole.as_str(), "black")?;
     assert!(rt; before.contains(&"34 0 black 0000000000400020 inject 40"));
     assert!(rt; before.as_slice() != black.as_slice());
+    assert!(rt; mapped(alloc, GATEWAY, " job")? != mapped(alloc, more.as_str(), " job")?);
     Ok(())
 }

@@ -13,7 +13,7 @@ invariant-loop-at t l =
     record {
       from : l.first ≤ l.at;
       to : l.at ≤ l.end;
-      none : first_from (contents (led (is_there (t.M.PhysMem.pages l.mem)) l.level l.entry l.rights) (λ q kind. translation l.windows (addr_of q) kind)) l.first (l.at - l.first) ≡ None;
+      none : first_from (contents (led (is_there (t.E.Entries.pages l.entries)) l.level l.entry l.rights) (λ q kind. translation l.windows (addr_of q) kind)) l.first (l.at - l.first) ≡ None;
     }
 
 abbrev pub decreases-loop-at : goal.decreases-loop-at

@@ -10,9 +10,11 @@ use Rattle.ept_check.proofs.entering.first_fault.Given as goal
 -- the subjects so far
 abbrev pub invariant-loop-subject : goal.invariant-loop-subject
 invariant-loop-subject t l =
+    let m = t.E.Entries.pages l.fn.entries in
     record {
-      none : first_from (fault_at (tables_in (t.M.PhysMem.pages l.mem) l.tables l.subjects)) 0 (2 ^ 36 * l.subject) ≡ None;
-      work : l.looked.entries + 512 * left l.looked ≤ l.fn.looked.entries + 512 * left l.fn.looked;
+      none : first_from (fault_at (tables_in m l.tables l.subjects)) 0 (2 ^ 36 * l.subject) ≡ None;
+      kept : t.E.Entries.pages l.entries ≡ m;
+      work : t.E.Entries.reads l.entries + 512 * left l.looked ≤ t.E.Entries.reads l.fn.entries + 512 * left l.fn.looked;
       long : vec_len l.looked.entered ≡ length l.tables;
-      known : Known (tables_in (t.M.PhysMem.pages l.mem) l.tables l.subjects) (is_entered l.tables l.looked) (2 ^ 36 * l.subject) (2 ^ 36 * l.subject) 4;
+      known : Known (tables_in m l.tables l.subjects) (is_entered l.tables l.looked) (2 ^ 36 * l.subject) (2 ^ 36 * l.subject) 4;
     }

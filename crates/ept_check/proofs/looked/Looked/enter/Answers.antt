@@ -20,4 +20,4 @@ returns-clause-enters c =
     let long : length old.entered.items ≡ length c.args.pages.now = omega (arith, c.requires.long, old.entered.ok.0) in
     let first = c.in-Some.ensures in
     let far : length (slice_set old.entered.items c.in-Some.i true) ≡ length c.args.pages.now = omega (arith, c.requires.long, (with_item old.entered c.in-Some.i true).ok.0) in
-    now c.args.pages.now c.requires.rising old long c.args.page c.in-Some.i first _ (value_is old.entered.items c.in-Some.i c.index.result.now false (omega (arith, long, first.within)) c.index.ensures c.if-index.false) refl far refl
+    now c.args.pages.now c.requires.rising old long c.args.page c.in-Some.i first _ (value_is old.entered.items c.in-Some.i c.index.result.now false (omega (arith, long, first.within)) c.index.ensures c.if-index.false) refl far

@@ -8,7 +8,7 @@ use Rattle.std.proofs.lemmas.Slice.Eq.{bytes_eq-Decides}
 use Rattle.policy_lawful.proofs.Indexes.{same_self}
 use Rattle.policy_lawful.specs.source.Source.{Source}
 use Rattle.policy_lawful.specs.source.Subject.{Subject}
-use Rattle.flow_report.specs.Flows.{IsClosed, IsLeastClosed, closure_of, flows_to, is_member, rounds, with_sources}
+use Rattle.policy_flows.specs.Flows.{IsClosed, IsLeastClosed, closure_of, flows_to, is_member, rounds, with_sources}
 use Rattle.muen_num.proofs.Members.{In, all_from, all_in, any_in, any_some, filter_fits, filter_grows, filter_in, filter_some, map_in, map_some}
 
 -- ---- members by a test

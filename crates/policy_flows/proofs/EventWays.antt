@@ -12,7 +12,7 @@ use Rattle.policy_lawful.specs.source.Source.{Source}
 use Rattle.policy_lawful.specs.source.SourceWay.{SourceWay}
 use Rattle.policy_lawful.specs.source.SourceWay.TheVariants.{Call, Trap}
 use Rattle.policy_lawful.specs.source.Subject.{Subject}
-use Rattle.flow_report.specs.Flows.{by_event, reaches, ways_of}
+use Rattle.policy_flows.specs.Flows.{by_event, reaches, ways_of}
 use Rattle.muen_num.proofs.Members.{In, any_in, filter_map_in, find_in, left_in, map_in, right_in}
 
 -- ---- the two parts

@@ -1,7 +1,0 @@
-use Rattle.std.proofs.Common.{◌≡◌, map, take, length}
-use Rattle.flow_report.specs.ByIndex.{rows_of}
-use Rattle.flow_report.specs.Marks.{after_rounds, alone_marked}
-use Rattle.flow_report.proofs.sets.closed_sets.Given as goal
-
-abbrev pub invariant-loop-contacts : goal.invariant-loop-contacts
-invariant-loop-contacts l = l.sets ≡ map (λ f. after_rounds (rows_of l.all_contacts) (alone_marked l.all_contacts f.index) (length l.all_contacts)) (take l.contacts-index l.all_contacts)

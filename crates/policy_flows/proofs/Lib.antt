@@ -1,0 +1,4 @@
+pub mod Closures
+pub mod EventWays
+pub mod EventWaysFlow
+pub mod UniqueSubjects
